@@ -1,0 +1,10 @@
+-- Laws of lists that proofs of loops cite, counting, and the rules that settle a test.
+pub mod Cases
+pub mod Tests
+pub mod Front
+pub mod Rows
+pub mod Fill
+pub mod Count
+pub mod All
+pub mod Places
+pub mod Numbers

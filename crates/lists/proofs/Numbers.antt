@@ -1,0 +1,103 @@
+-- Lists of numbers: below a bound, membership, distinctness.
+use mathlib.Core.Path.{_≡_, refl, sym, _∙_}
+use mathlib.Core.Logic.{_⊎_, inl, inr, ⊎-elim}
+use mathlib.Core.Bool.{Bool, true, false, _&&_, _||_, not, false≢true, true≢false, and-eq-true-iff, or-true}
+use mathlib.Core.List.{List, [], _∷_}
+use Prim.Native.Nat.{ℕ, suc, _<_}
+use native.Mathlib.Omega.{arith}
+use lib.Dec.{eqb, ltb}
+use lib.ListN.{length}
+use borrow.Author.Tests.{lt-ltb, ne-eqb, eq-eqb, ltb-true, eqb-true, not-true}
+use Rattle.lists.specs.Numbers.{allBelow, isIn, distinct}
+use Rattle.lists.proofs.All.{All, All-imp, Distinct}
+use Rattle.lists.proofs.Places.{Places}
+use Rattle.lists.proofs.Cases.{or-right-false}
+
+-- a list whose first number and rest are below n, taken apart
+pub below-cons : (n i : ℕ) (is : List ℕ) → allBelow n (i ∷ is) ≡ true → (i < n) × (allBelow n is ≡ true)
+unfolding allBelow isIn distinct
+below-cons n i is h =
+    let a = and-eq-true-iff (ltb i n) (allBelow n is) .0 h in
+    (ltb-true i n (a .0), a .1)
+
+-- and put together
+pub cons-below : (n i : ℕ) (is : List ℕ) → i < n → allBelow n is ≡ true → allBelow n (i ∷ is) ≡ true
+unfolding allBelow isIn distinct
+cons-below n i is l h = and-eq-true-iff (ltb i n) (allBelow n is) .1 (lt-ltb i n l, h)
+
+-- below n, so below n + 1
+pub below-weaken : (n : ℕ) (is : List ℕ) → allBelow n is ≡ true → allBelow (suc n) is ≡ true
+unfolding allBelow isIn distinct
+below-weaken n [] h = refl
+below-weaken n (i ∷ is) h =
+    let a = below-cons n i is h in
+    cons-below (suc n) i is (omega arith) (below-weaken n is (a .1))
+
+-- a number is not among those below it
+pub fresh : (n : ℕ) (is : List ℕ) → allBelow n is ≡ true → isIn n is ≡ false
+unfolding allBelow isIn distinct
+fresh n [] h = refl
+fresh n (i ∷ is) h =
+    let a = below-cons n i is h in
+    rw (ne-eqb n i (λ e. omega arith), fresh n is (a .1))
+
+-- what is in a list is its first or in its rest
+pub isIn-cons : (i n : ℕ) (is : List ℕ) → isIn i (n ∷ is) ≡ true → (i ≡ n) ⊎ (isIn i is ≡ true)
+unfolding allBelow isIn distinct
+isIn-cons i n is h = go (eqb i n) refl h
+  where
+    go : (t : Bool) → eqb i n ≡ t → (t || isIn i is) ≡ true → (i ≡ n) ⊎ (isIn i is ≡ true)
+    go true e h = inl (eqb-true i n e)
+    go false e h = inr h
+
+-- what is among numbers below n is below n
+pub isIn-below : (n i : ℕ) (is : List ℕ) → allBelow n is ≡ true → isIn i is ≡ true → i < n
+unfolding allBelow isIn distinct
+isIn-below n i [] h m = absurd (false≢true m)
+isIn-below n i (x ∷ is) h m =
+    let a = below-cons n x is h in
+    ⊎-elim (λ e. omega arith) (λ m. isIn-below n i is (a .1) m) (isIn-cons i x is m)
+
+-- the test of the bound says what it should
+pub below-all : (n : ℕ) (js : List ℕ) → allBelow n js ≡ true → All (λ j. j < n) js
+below-all n [] h = tt
+below-all n (j ∷ js) h =
+    let a = below-cons n j js h in
+    (a .0, below-all n js (a .1))
+
+pub all-below : (n : ℕ) (js : List ℕ) → All (λ j. j < n) js → allBelow n js ≡ true
+unfolding allBelow
+all-below n [] h = refl
+all-below n (j ∷ js) h = cons-below n j js (h .0) (all-below n js (h .1))
+
+-- a number that is not in a list differs from each of it
+not-in-all : (j : ℕ) (js : List ℕ) → isIn j js ≡ false → All (λ i. j ≡ i → ⊥) js
+unfolding isIn
+not-in-all j [] h = tt
+not-in-all j (i ∷ js) h = (
+  λ e. true≢false (sym (rw (eq-eqb j i e) refl) ∙ h),
+  not-in-all j js (or-right-false (eqb j i) (isIn j js) h),
+)
+
+-- and the other way round
+all-not-in : (j : ℕ) (js : List ℕ) → All (λ i. j ≡ i → ⊥) js → isIn j js ≡ false
+unfolding isIn
+all-not-in j [] h = refl
+all-not-in j (i ∷ js) h = rw (ne-eqb j i (h .0), all-not-in j js (h .1))
+
+-- the test of distinctness says what it should
+pub distinct-all : (js : List ℕ) → distinct js ≡ true → Distinct js
+unfolding distinct
+distinct-all [] h = tt
+distinct-all (j ∷ js) h =
+    let c = and-eq-true-iff (not (isIn j js)) (distinct js) .0 h in
+    (not-in-all j js (not-true _ (c .0)), distinct-all js (c .1))
+
+pub all-distinct : (js : List ℕ) → Distinct js → distinct js ≡ true
+unfolding distinct
+all-distinct [] h = refl
+all-distinct (j ∷ js) h = rw (all-not-in j js (h .0), all-distinct js (h .1))
+
+-- k numbers that pass both tests are places
+pub places : (n k : ℕ) (js : List ℕ) → length js ≡ k → allBelow n js ≡ true → distinct js ≡ true → Places n k js
+places n k js size below different = record { low = below-all n js below; distinct = distinct-all js different; size = size }

@@ -1,0 +1,16 @@
+-- How many numbers of a stretch pass a test, and at how many places two lists differ.
+use mathlib.Core.Bool.{Bool, not}
+use mathlib.Core.List.{List}
+use Prim.Native.Nat.{ℕ, zero, suc, _+_}
+use lib.Dec.{eqb}
+use lib.ListN.{length, getD}
+use Rattle.lists.specs.Choice.{when}
+
+-- of the f numbers from i on, those that pass
+unfoldable pub countFrom : ℕ → ℕ → (ℕ → Bool) → ℕ
+countFrom zero i p = 0
+countFrom (suc f) i p = when (p i) 1 + countFrom f (i + 1) p
+
+-- the places of s at which t holds another number
+unfoldable pub differ : List ℕ → List ℕ → ℕ
+differ s t = countFrom (length s) 0 (λ i. not (eqb (getD s i 0) (getD t i 0)))

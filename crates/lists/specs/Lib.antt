@@ -1,0 +1,6 @@
+-- Definitions that contracts of several crates name: choices, lists by index, padding, counts, tests of lists of numbers.
+pub mod Choice
+pub mod Rows
+pub mod Padded
+pub mod Counting
+pub mod Numbers

@@ -1,0 +1,1 @@
+// Theory only: definitions and laws of lists and counts.
