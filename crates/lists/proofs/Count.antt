@@ -1,8 +1,8 @@
 -- Counting the numbers of a stretch that pass a test.
-use mathlib.Core.Path.{_≡_, refl, sym, ap, ap₂, _∙_}
-use mathlib.Core.Bool.{Bool, true, false, _&&_, not}
+use mathlib.Core.Path.{_≡_, refl, ap, ap₂, _∙_}
+use mathlib.Core.Bool.{Bool, true, false, _&&_, not, true≢false}
 use mathlib.Core.Logic.{⊎-elim}
-use Prim.Native.Nat.{ℕ, zero, suc, _+_, _-_, _*_, _≤_, _<_}
+use Prim.Native.Nat.{ℕ, zero, suc, _+_, _-_, _*_, _≤_, _<_, zero-le}
 use native.Mathlib.Nat.{zero-add, add-zero, suc-add, zero-mul, suc-mul, eq-or-lt-of-le}
 use native.Mathlib.Omega.{arith}
 use lib.Dec.{eqb}
@@ -41,6 +41,10 @@ count-last n i p =
     let e : suc n ≡ n + 1 = omega arith in
     ap (λ (f : ℕ). countFrom f i p) e ∙ count-add n 1 i p ∙ omega arith
 
+-- the numbers below n + 1 are n and those below n
+pub count-below : (n : ℕ) (p : ℕ → Bool) → countFrom (suc n) 0 p ≡ when (p n) 1 + countFrom n 0 p
+count-below n p = rw zero-add at (count-last n 0 p)
+
 -- a stretch moved by c, the test moved along
 pub count-move : (f i c : ℕ) (p : ℕ → Bool) → countFrom f (i + c) p ≡ countFrom f i (λ j. p (j + c))
 unfolding countFrom
@@ -70,6 +74,18 @@ count-not (suc f) i p = omega (arith, count-not f (i + 1) p, one (p i))
     one : (t : Bool) → when t 1 + when (not t) 1 ≡ 1
     one true = refl
     one false = refl
+
+-- what fails both q and r fails p: at most as many pass p as pass the two together
+pub count-either : (f i : ℕ) (p q r : ℕ → Bool) → ((j : ℕ) → i ≤ j → j < i + f → q j ≡ false → r j ≡ false → p j ≡ false) → countFrom f i p ≤ countFrom f i q + countFrom f i r
+unfolding countFrom
+count-either zero i p q r h = zero-le
+count-either (suc f) i p q r h = omega (arith, count-either f (i + 1) p q r (λ j l m. h j (omega arith) (omega arith)), one (p i) (q i) (r i) (h i (omega arith) (omega arith)))
+  where
+    one : (a b c : Bool) → (b ≡ false → c ≡ false → a ≡ false) → when a 1 ≤ when b 1 + when c 1
+    one true true c g = omega arith
+    one true false true g = omega arith
+    one true false false g = absurd (true≢false (g refl refl))
+    one false b c g = zero-le
 
 -- a test of period c
 module _ (c : ℕ) (p : ℕ → Bool) (period : (j : ℕ) → p (j + c) ≡ p j) where

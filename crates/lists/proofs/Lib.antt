@@ -8,3 +8,4 @@ pub mod Count
 pub mod All
 pub mod Places
 pub mod Numbers
+pub mod Chosen

@@ -1,5 +1,0 @@
--- The two kinds of field: the definitions that the contracts cite.
-pub mod Primes
-pub mod Bytes
-pub mod Fields
-pub mod Kinds
