@@ -1,5 +1,5 @@
 -- Lists whose elements all have a property, and lists of pairwise distinct elements.
-use mathlib.Core.Path.{_≡_, refl, ap}
+use mathlib.Core.Path.{_≡_, refl, sym, ap}
 use mathlib.Core.List.{List, [], _∷_, map}
 use Prim.Native.Nat.{ℕ, zero, suc, _<_}
 use native.Mathlib.Omega.{arith}
@@ -55,6 +55,14 @@ module _ {A : Type 0} where
     Distinct-of d xs (λ i j l k e. let z : suc i ≡ suc j = h (suc i) (suc j) (omega arith) (omega arith) e in omega arith),
   )
 
+  -- And of distinct elements, equal ones stand at equal indices.
+  pub Distinct-at : (d : A) (xs : List A) → Distinct xs → (i j : ℕ) → i < length xs → j < length xs → getD xs i d ≡ getD xs j d → i ≡ j
+  Distinct-at d [] u i j l k e = absurd (omega arith)
+  Distinct-at d (x ∷ xs) u zero zero l k e = refl
+  Distinct-at d (x ∷ xs) u zero (suc j) l k e = absurd (All-at (λ y. x ≡ y → ⊥) d xs (u .0) j (omega arith) e)
+  Distinct-at d (x ∷ xs) u (suc i) zero l k e = absurd (All-at (λ y. x ≡ y → ⊥) d xs (u .0) i (omega arith) (sym e))
+  Distinct-at d (x ∷ xs) u (suc i) (suc j) l k e = ap suc (Distinct-at d xs (u .1) i j (omega arith) (omega arith) e)
+
   pub All-replicate : (P : A → Type 0) (n : ℕ) (x : A) → P x → All P (replicate n x)
   All-replicate P zero x h = tt
   All-replicate P (suc n) x h = (h, All-replicate P n x h)
@@ -107,3 +115,9 @@ module _ {A B : Type 0} where
   pub agree-map : (f g : A → B) (xs : List A) → map f xs ≡ map g xs → All (λ x. f x ≡ g x) xs
   agree-map f g [] e = tt
   agree-map f g (x ∷ xs) e = (cc, agree-map f g xs (cc))
+
+  -- The image at an index.
+  pub getD-map : (f : A → B) (d : A) (e : B) (xs : List A) (i : ℕ) → i < length xs → getD (map f xs) i e ≡ f (getD xs i d)
+  getD-map f d e [] i l = absurd (omega arith)
+  getD-map f d e (x ∷ xs) zero l = refl
+  getD-map f d e (x ∷ xs) (suc i) l = getD-map f d e xs i (omega arith)

@@ -1,6 +1,9 @@
 -- Cases on a test, and the parts of a test that is put together from others.
 use mathlib.Core.Path.{_≡_, refl, sym}
-use mathlib.Core.Bool.{Bool, true, false, _&&_, _||_, true≢false}
+use mathlib.Core.Bool.{Bool, true, false, _&&_, _||_, not, true≢false}
+use Prim.Native.Nat.{ℕ, zero, suc}
+use native.Mathlib.Omega.{arith}
+use Rattle.lists.specs.Choice.{firstOf, when}
 
 -- by cases on a test
 pub by-test {ℓ} : {A : Type ℓ} (b : Bool) → (b ≡ true → A) → (b ≡ false → A) → A
@@ -36,3 +39,18 @@ or-right-false false b h = h
 
 pub neither : {a b : Bool} → a ≡ false → b ≡ false → (a || b) ≡ false
 neither p q = simp (p, q)
+
+-- a test refused twice
+pub not-not : (t : Bool) → not (not t) ≡ t
+not-not true = refl
+not-not false = refl
+
+-- the parts of a first number that is 0
+pub first-zero : (a b : ℕ) → firstOf a b ≡ 0 → (a ≡ 0) × (b ≡ 0)
+first-zero zero b e = (refl, e)
+first-zero (suc a) b e = absurd (omega arith)
+
+-- a number that is not given: its condition fails
+pub when-zero : (t : Bool) (n : ℕ) → when t (suc n) ≡ 0 → t ≡ false
+when-zero true n e = absurd (omega arith)
+when-zero false n e = refl

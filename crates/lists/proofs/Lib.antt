@@ -9,3 +9,4 @@ pub mod All
 pub mod Places
 pub mod Numbers
 pub mod Chosen
+pub mod Passing

@@ -1,0 +1,19 @@
+-- Linear algebra and polynomials over every field.
+pub mod Ring
+pub mod Sums
+pub mod Combinations
+pub mod Changes
+pub mod Powers
+pub mod Poly
+pub mod Product
+pub mod Coefficients
+pub mod LagrangeBasis
+pub mod Lagrange
+pub mod Interpolation
+pub mod Vandermonde
+pub mod BasePolynomial
+pub mod Dilations
+pub mod ShiftedBasis
+pub mod Nodes
+pub mod Recovery
+pub mod Parity

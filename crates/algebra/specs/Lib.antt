@@ -1,0 +1,3 @@
+-- The laws of a field.
+pub mod Field
+pub mod Powers

@@ -1,0 +1,1 @@
+// Theory only: linear algebra and polynomials over every field.
