@@ -10,3 +10,4 @@ pub mod Places
 pub mod Numbers
 pub mod Chosen
 pub mod Passing
+pub mod Lanes

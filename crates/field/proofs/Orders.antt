@@ -1,0 +1,72 @@
+-- What the search for the order of a symbol finds is its order in the field.
+use mathlib.Core.Path.{_≡_, sym, ap, _∙_}
+use mathlib.Core.Bool.{true}
+use mathlib.Core.Logic.{⊎-elim}
+use Prim.Native.Nat.{ℕ, zero, suc, _+_, _≤_, _<_}
+use native.Mathlib.Omega.{arith}
+use native.Mathlib.Numerals.{add-one}
+use native.Mathlib.Nat.{eq-or-lt-of-le}
+use borrow.Author.Tests.{eqb-true, eqb-false, eq-eqb, ne-eqb}
+use lib.Dec.{eqb}
+use Rattle.lists.proofs.Cases.{by-test}
+use Rattle.algebra.specs.Powers.{Order}
+use Rattle.field.specs.Fields.{isField, sizeOf, mul, power, orderFrom, orderOf}
+use Rattle.field.proofs.BothKinds.{arithmetic}
+use Rattle.field.specs.Symbols.{Symbol}
+use Rattle.field.proofs.Symbols.{symbol-below, symbol-path}
+use Rattle.field.proofs.FieldOf.{fieldOf, number-pow}
+
+module _ (p a : ℕ) where
+  -- the n-th power is 1, and none before it from the e-th on
+  record FirstFrom (e n : ℕ) : Type 0 where
+    from : e ≤ n
+    one : power p a n ≡ 1
+    before : (i : ℕ) → e ≤ i → i < n → power p a i ≡ 1 → ⊥
+
+  order-from : (f e x n : ℕ) → power p a e ≡ x → 1 ≤ n → orderFrom f e p a x ≡ n → FirstFrom e n
+  unfolding orderFrom power
+  order-from zero e x n at pos found = absurd (omega arith)
+  order-from (suc f) e x n at pos found =
+      by-test (eqb x 1)
+      (λ t. let here : e ≡ n = rw t at found in
+      record {
+        from = omega arith;
+        one = ap (power p a) (sym here) ∙ at ∙ eqb-true x 1 t;
+        before = λ i low high h. omega arith;
+      })
+      (λ t. let later : FirstFrom (e + 1) n =
+      order-from f (e + 1) (mul p a x) n (ap (power p a) (add-one e) ∙ ap (mul p a) at) pos (rw t at found) in
+      record {
+        from = omega (arith, later .from);
+        one = later .one;
+        before = λ i low high h.
+            ⊎-elim
+            (λ q. eqb-false x 1 t (sym at ∙ ap (power p a) q ∙ h))
+            (λ l. later .before i (omega arith) high h)
+            (eq-or-lt-of-le low);
+      })
+
+  -- one step of the search: it ends where x is 1, else goes on with the next power, and ends with 0 after the last exponent
+  pub order-stop : (f e x : ℕ) → 0 < f → x ≡ 1 → orderFrom f e p a x ≡ e
+  unfolding orderFrom
+  order-stop zero e x pos h = absurd (omega arith)
+  order-stop (suc f) e x pos h = rw (eq-eqb x 1 h)
+
+  pub order-step : (f g e x : ℕ) → f ≡ suc g → (x ≡ 1 → ⊥) → orderFrom f e p a x ≡ orderFrom g (e + 1) p a (mul p a x)
+  unfolding orderFrom
+  order-step f g e x more h = rw (more, ne-eqb x 1 h)
+
+  pub order-end : (f e x : ℕ) → f ≡ 0 → orderFrom f e p a x ≡ 0
+  unfolding orderFrom
+  order-end f e x h = rw h
+
+-- an order that is not 0 is the order in the field
+pub order-is : (p : ℕ) (v : isField p ≡ true) (a : Symbol (sizeOf p)) (n : ℕ) → orderOf p (a .0) ≡ n → 1 ≤ n → Order (fieldOf p v) a n
+unfolding orderOf power
+order-is p v a n found pos =
+    let first = order-from p (a .0) 256 1 (a .0) n (arithmetic p v .mul-one (a .0) (symbol-below (sizeOf p) a)) pos found in
+    record {
+      positive = pos;
+      returns = symbol-path (sizeOf p) (number-pow p v a n ∙ first .one);
+      least = λ e low high h. first .before e low high (sym (number-pow p v a e) ∙ ap (λ (s : Symbol (sizeOf p)). s .0) h);
+    }

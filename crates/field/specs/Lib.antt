@@ -1,0 +1,6 @@
+-- The two kinds of field: the definitions that the contracts cite.
+pub mod Primes
+pub mod Bytes
+pub mod Fields
+pub mod Kinds
+pub mod Symbols

@@ -1,0 +1,122 @@
+// The two kinds of field, and the type that is one or the other. Symbols are numbers below the field's size.
+ghost use mathlib.Core.Path.{_≡_};
+ghost use mathlib.Core.Bool.{true, _&&_};
+ghost use Prim.Native.Nat.{_<_};
+ghost use lib.Dec.{leb};
+ghost use Rattle.field.specs.Fields.{isField, sizeOf, add, sub, mul, power, inverse, orderOf};
+ghost use Rattle.field.specs.Kinds.{modulus, usable};
+
+mod gf256;
+mod prime;
+
+pub use gf256::Gf256;
+pub use prime::PrimeField;
+pub use prime::is_prime;
+
+pub enum Field {
+    Prime(PrimeField),
+    Binary(Gf256),
+}
+
+impl Field {
+    pub const ZERO: u32 = 0;
+
+    pub const ONE: u32 = 1;
+
+    // The field that p names: of p elements, or of 256 for 0.
+    pub fn new(p: u32) -> Self
+        ensures { λ r. ⌜ (modulus r ≡ p) × (usable r ≡ (leb p 65521 && isField p)) ⌝ }
+    {
+        if p == 0 {
+            Field::Binary(Gf256::new())
+        } else {
+            Field::Prime(PrimeField::new(p))
+        }
+    }
+
+    pub fn size(self) -> u32
+        requires { ⌜ usable self ≡ true ⌝ }
+        ensures { λ r. ⌜ r ≡ sizeOf (modulus self) ⌝ }
+    {
+        match self {
+            Field::Prime(f) => f.p,
+            Field::Binary(_) => 256,
+        }
+    }
+
+    pub fn add(self, a: u32, b: u32) -> u32
+        requires { ⌜ (usable self ≡ true) × (a < sizeOf (modulus self)) × (b < sizeOf (modulus self)) ⌝ }
+        ensures { λ r. ⌜ r ≡ add (modulus self) a b ⌝ }
+    {
+        match self {
+            Field::Prime(f) => f.add(a, b),
+            Field::Binary(g) => g.add(a, b),
+        }
+    }
+
+    pub fn sub(self, a: u32, b: u32) -> u32
+        requires { ⌜ (usable self ≡ true) × (a < sizeOf (modulus self)) × (b < sizeOf (modulus self)) ⌝ }
+        ensures { λ r. ⌜ r ≡ sub (modulus self) a b ⌝ }
+    {
+        match self {
+            Field::Prime(f) => f.sub(a, b),
+            Field::Binary(g) => g.sub(a, b),
+        }
+    }
+
+    pub fn mul(self, a: u32, b: u32) -> u32
+        requires { ⌜ (usable self ≡ true) × (a < sizeOf (modulus self)) × (b < sizeOf (modulus self)) ⌝ }
+        ensures { λ r. ⌜ r ≡ mul (modulus self) a b ⌝ }
+    {
+        match self {
+            Field::Prime(f) => f.mul(a, b),
+            Field::Binary(g) => g.mul(a, b),
+        }
+    }
+
+    // The symbol whose product with a is 1; 0 for 0.
+    pub fn inverse(self, a: u32) -> u32
+        requires { ⌜ (usable self ≡ true) × (a < sizeOf (modulus self)) ⌝ }
+        ensures { λ r. ⌜ r ≡ inverse (modulus self) a ⌝ }
+    {
+        match self {
+            Field::Prime(f) => f.inverse(a),
+            Field::Binary(g) => g.inverse(a),
+        }
+    }
+
+    // By squaring: the result so far times base^k is the power.
+    pub fn power(self, a: u32, e: u32) -> u32
+        requires { ⌜ (usable self ≡ true) × (a < sizeOf (modulus self)) ⌝ }
+        ensures { λ r. ⌜ r ≡ power (modulus self) a e ⌝ }
+    {
+        let mut base = a;
+        let mut k = e;
+        let mut r = Self::ONE;
+        while k > 0 {
+            if k % 2 == 1 {
+                r = self.mul(r, base);
+            }
+            base = self.mul(base, base);
+            k = k / 2;
+        }
+        r
+    }
+
+    // The first exponent from 1 to 256 whose power of a is 1; 0 where there is none.
+    pub fn order(self, a: u32) -> u32
+        requires { ⌜ (usable self ≡ true) × (a < sizeOf (modulus self)) ⌝ }
+        ensures { λ r. ⌜ r ≡ orderOf (modulus self) a ⌝ }
+    {
+        let mut e: u32 = 1;
+        let mut x = a;
+        while e <= 256 {
+            if x == Self::ONE {
+                return e;
+            }
+            x = self.mul(a, x);
+            e += 1;
+        }
+        0
+    }
+}
