@@ -1,0 +1,86 @@
+-- What a record that no number turns away holds.
+use mathlib.Core.Path.{_≡_, refl, sym, ap, _∙_, subst}
+use mathlib.Core.Bool.{Bool, true, false, _&&_, _||_, not, true≢false}
+use mathlib.Core.List.{List}
+use Prim.Native.Nat.{ℕ, zero, suc, _+_, _-_, _*_, _%_, _≤_, _<_}
+use native.Mathlib.Omega.{arith}
+use native.Mathlib.Nat.{le-refl}
+use borrow.Author.Tests.{ltb-true, ltb-false, leb-true, le-leb, eqb-true, eqb-false, not-false}
+use lib.Dec.{eqb, ltb, leb}
+use lib.ListN.{length, getD}
+use Rattle.lists.specs.Choice.{pick, firstOf, when}
+use Rattle.lists.proofs.Cases.{by-test, and-left, and-right, both-true, or-left-false, or-right-false, first-zero, when-zero}
+use Rattle.field.specs.declared.Field.the-variants.{Prime, Binary}
+use Rattle.field.specs.Primes.{isPrime}
+use Rattle.field.specs.Fields.{sizeOf, orderOf}
+use Rattle.field.specs.Kinds.{primeOf, gf256, modulus, usable}
+use Rattle.field.proofs.Meanings.{prime-size}
+use Rattle.field.proofs.KindLaws.{usable-field}
+use Rattle.generator.specs.declared.Header.{Header}
+use Rattle.generator.specs.declared.Record.{Record}
+use Rattle.generator.specs.declared.Record.the-variants.{Holds, Meets}
+use Rattle.generator.specs.Records.{headerOf, prime, size, weight, kindBad, bodyBad, fieldBad, sizeBad, rootBad, unevenBad, headerFault, recordFault, judged, recordOf, Sound}
+
+-- a header that numbers 4 to 6 pass
+pub header-sound : (h : Header) → usable (h .field) ≡ true → size h ≤ 256 → headerFault h ≡ 0 → Sound h
+unfolding headerFault sizeBad rootBad unevenBad
+header-sound h u small-field e =
+    let (four, rest) = first-zero (when (sizeBad h) 4) (firstOf (when (rootBad h) 5) (when (unevenBad h) 6)) e in
+    let (five, six) = first-zero (when (rootBad h) 5) (when (unevenBad h) 6) rest in
+    let sizes : (ltb (h .n) 2 || (eqb (h .k) 0 || ltb (h .n) (h .k))) ≡ false = when-zero (sizeBad h) 3 four in
+    let small : (eqb (h .k) 0 || ltb (h .n) (h .k)) ≡ false = or-right-false (ltb (h .n) 2) _ sizes in
+    let some : h .k ≡ 0 → ⊥ = eqb-false (h .k) 0 (or-left-false _ (ltb (h .n) (h .k)) small) in
+    let root : (ltb (h .root) (size h) && eqb (orderOf (prime h) (h .root)) (h .n)) ≡ true = not-false _ (when-zero (rootBad h) 4 five) in
+    record {
+      usable-field = u;
+      field = usable-field (h .field) u;
+      bytes = small-field;
+      two = ltb-false (h .n) 2 (or-left-false _ (eqb (h .k) 0 || ltb (h .n) (h .k)) sizes);
+      some = omega arith;
+      fits = ltb-false (h .n) (h .k) (or-right-false (eqb (h .k) 0) _ small);
+      root-below = ltb-true (h .root) (size h) (and-left _ (eqb (orderOf (prime h) (h .root)) (h .n)) root);
+      order = eqb-true (orderOf (prime h) (h .root)) (h .n) (and-right (ltb (h .root) (size h)) _ root);
+      even = eqb-true (h .k * weight h % h .n) 0 (not-false _ (when-zero (unevenBad h) 5 six));
+    }
+
+-- the symbols of the field of 256 elements are bytes
+byte-fits : sizeOf 0 ≤ 256
+unfolding sizeOf
+byte-fits = le-refl 256
+
+-- a field that number 3 passes is usable, and its symbols are bytes
+pub field-usable : (rec : List ℕ) → fieldBad rec ≡ false → (usable (headerOf rec .field) ≡ true) × (size (headerOf rec) ≤ 256)
+unfolding fieldBad headerOf usable modulus
+field-usable rec e = go (eqb (getD rec 0 0) 1) refl
+  where
+    Fits : Header → Type 0
+    Fits h = (usable (h .field) ≡ true) × (size h ≤ 256)
+
+    go : (t : Bool) → eqb (getD rec 0 0) 1 ≡ t → Fits (pick {A = Header} t (record { field = Prime (primeOf (getD rec 1 0)); root = getD rec 2 0; n = getD rec 3 0; k = getD rec 4 0 }) (record { field = Binary gf256; root = getD rec 1 0; n = getD rec 2 0; k = getD rec 3 0 }))
+    go true t =
+        let fit : (leb 3 (getD rec 1 0) && (leb (getD rec 1 0) 251 && isPrime (getD rec 1 0))) ≡ true = not-false _ (rw t at e) in
+        let low : (leb (getD rec 1 0) 251 && isPrime (getD rec 1 0)) ≡ true = and-right (leb 3 (getD rec 1 0)) _ fit in
+        let bound : getD rec 1 0 ≤ 251 = leb-true (getD rec 1 0) 251 (and-left _ (isPrime (getD rec 1 0)) low) in
+        let prime-p : isPrime (getD rec 1 0) ≡ true = and-right (leb (getD rec 1 0) 251) _ low in
+        (both-true (le-leb (getD rec 1 0) 65521 (omega arith)) prime-p, rw (prime-size (getD rec 1 0) prime-p) (omega arith))
+    go false t = (refl, byte-fits)
+
+-- a record that holds a header meets no number, and the header is its own
+pub held-header : (rec : List ℕ) (h : Header) → recordOf rec ≡ Holds h → (recordFault rec ≡ 0) × (headerOf rec ≡ h)
+unfolding recordOf judged
+held-header rec h e = go (recordFault rec) refl
+  where
+    go : (f : ℕ) → recordFault rec ≡ f → (recordFault rec ≡ 0) × (headerOf rec ≡ h)
+    go zero q = (q, let w : judged zero (headerOf rec) ≡ Holds h = rw q at e in cc)
+    go (suc f) q = let w : judged (suc f) (headerOf rec) ≡ Holds h = rw q at e in let z : _≡_ {A = ℕ} 0 1 = cc in absurd (omega arith)
+
+-- such a header is sound
+pub accepted-sound : (rec : List ℕ) (h : Header) → recordOf rec ≡ Holds h → Sound h
+unfolding recordFault
+accepted-sound rec h e =
+    let (none, same) = held-header rec h e in
+    let (one, after-one) = first-zero (when (kindBad rec) 1) (firstOf (when (bodyBad rec) 2) (firstOf (when (fieldBad rec) 3) (headerFault (headerOf rec)))) none in
+    let (two, after-two) = first-zero (when (bodyBad rec) 2) (firstOf (when (fieldBad rec) 3) (headerFault (headerOf rec))) after-one in
+    let (three, rest) = first-zero (when (fieldBad rec) 3) (headerFault (headerOf rec)) after-two in
+    let (good, small) = field-usable rec (when-zero (fieldBad rec) 2 three) in
+    subst Sound same (header-sound (headerOf rec) good small rest)

@@ -1,0 +1,16 @@
+-- Laws of records, shifts, the generator and codewords, and what holds of every accepted plan.
+pub mod Gcd
+pub mod Windows
+pub mod Shifts
+pub mod ShiftsAgreement
+pub mod Sound
+pub mod Bridge
+pub mod Entries
+pub mod Recovery
+pub mod Words
+pub mod Changes
+pub mod Costs
+pub mod SchemeOf
+pub mod Accepts
+pub mod Claims
+pub mod Notebook

@@ -1,0 +1,42 @@
+-- The test for an entry that is not zero, (j + s) mod n < d, for any shift s.
+use mathlib.Core.Path.{_≡_, refl, sym, _∙_}
+use mathlib.Core.Bool.{Bool, true, _&&_, and-true, and-false}
+use Prim.Native.Nat.{ℕ, _+_, _-_, _%_, _≤_, _<_}
+use native.Mathlib.Nat.{add-comm, add-assoc, add-mod-left, add-mod-right, mod-add-mod, mod-eq-of-lt, mod-lt}
+use native.Mathlib.Omega.{arith}
+use lib.Dec.{ltb}
+use borrow.Author.Tests.{lt-ltb, le-ltb}
+use Rattle.lists.specs.Counting.{countFrom}
+use Rattle.lists.proofs.Count.{count-add, count-ext, count-all, count-none, count-period}
+
+-- the test comes round with n
+pub below-period : (n d j i : ℕ) → ltb ((j + (i + n)) % n) d ≡ ltb ((j + i) % n) d
+below-period n d j i = rw (← add-assoc, add-mod-right)
+
+-- where j + x is n, a number i of the n from x on is i − x modulo n, moved by j
+mod-stretch : (n j x i : ℕ) → j + x ≡ n → x ≤ i → i < x + n → (j + i) % n ≡ i - x
+mod-stretch n j x i e l m =
+    let moved : j + i ≡ n + (i - x) = omega arith in
+    rw (moved, add-mod-left) (mod-eq-of-lt (omega arith))
+
+-- where j + x is n, the numbers of a round from x on that pass both tests are those of its first d that pass the first
+pub count-stretch : (n d j x : ℕ) (p : ℕ → Bool) → d ≤ n → j + x ≡ n → countFrom n x (λ i. p i && ltb ((j + i) % n) d) ≡ countFrom d x p
+count-stretch n d j x p l e =
+    let q : ℕ → Bool = λ i. p i && ltb ((j + i) % n) d in
+    let inside : countFrom d x q ≡ countFrom d x p =
+    count-ext d x q p (λ i u v. rw (mod-stretch n j x i e u (omega arith), lt-ltb (i - x) d (omega arith)) (and-true (p i))) in
+    let outside : countFrom (n - d) (x + d) q ≡ 0 =
+    count-none (n - d) (x + d) q (λ i u v. rw (mod-stretch n j x i e (omega arith) (omega arith), le-ltb (i - x) d (omega arith)) (and-false (p i))) in
+    let whole : d + (n - d) ≡ n = omega arith in
+    rw whole at (count-add d (n - d) x q) ∙ omega arith
+
+-- a row of any shift lies on d nodes
+pub row-nodes : (n d s : ℕ) → 0 < n → d ≤ n → countFrom n 0 (λ j. ltb ((j + s) % n) d) ≡ d
+row-nodes n d s pos small =
+    let b = s % n in
+    let less = mod-lt s pos in
+    let moved : (j : ℕ) → ltb ((j + s) % n) d ≡ ltb ((b + j) % n) d = λ j. rw (mod-add-mod, add-comm s j) in
+    count-ext n 0 (λ j. ltb ((j + s) % n) d) (λ j. ltb ((b + j) % n) d) (λ j u v. moved j)
+    ∙ sym (count-period n (λ j. ltb ((b + j) % n) d) (below-period n d b) (n - b))
+    ∙ count-stretch n d b (n - b) (λ j. true) small (omega arith)
+    ∙ count-all d (n - b) (λ j. true) (λ j u v. refl)

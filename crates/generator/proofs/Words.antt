@@ -1,0 +1,109 @@
+-- The words of the code: zero check sums, values of polynomials of degree below k, encodings of messages.
+use mathlib.Core.Path.{_≡_, refl, sym, ap, _∙_}
+use mathlib.Core.Logic.{_↔_}
+use mathlib.Core.Bool.{true, _&&_}
+use mathlib.Core.List.{List, map}
+use Prim.Native.Nat.{ℕ, zero, suc, _+_, _-_, _≤_, _<_}
+use native.Mathlib.Omega.{arith}
+use native.Mathlib.Nat.{le-suc-iff}
+use mathlib.Core.Logic.{⊎-elim}
+use borrow.Author.Tests.{eqb-true, eq-eqb}
+use lib.Dec.{eqb}
+use lib.ListN.{length}
+use Rattle.lists.specs.Rows.{range}
+use Rattle.lists.specs.Numbers.{allBelow}
+use Rattle.lists.proofs.Cases.{and-left, and-right, both-true}
+use Rattle.algebra.specs.Field.{Field}
+use Rattle.algebra.proofs.Poly.{values}
+use Rattle.algebra.proofs.Nodes.{node, words}
+use Rattle.algebra.proofs.Parity.{check, parity}
+use Rattle.field.specs.Symbols.{Symbol, numbers}
+use Rattle.field.proofs.Symbols.{numbers-below, length-numbers, numbers-path, symbol-path}
+use Rattle.field.proofs.FieldOf.{size-pos}
+use Rattle.generator.specs.declared.Header.{Header}
+use Rattle.generator.specs.Records.{prime, size, Sound}
+use Rattle.generator.specs.Shifts.{shifts}
+use Rattle.generator.specs.Codewords.{encoding, valuesOf, checkFrom, checksFrom, isWord}
+use Rattle.generator.specs.Claims.{isMessage}
+use Rattle.generator.proofs.Sound.{fieldFor, rootFor, root-order}
+use Rattle.generator.proofs.Bridge.{valuesOf-is, checkFrom-is, encoding-map}
+use Rattle.generator.proofs.Recovery.{the-code, lifted, lifted-numbers, length-lifted, message-size, message-below, numbers-message, held}
+
+-- the test says that each check sum from 1 to e is zero
+pub checks-zero : (e : ℕ) (h : Header) (ws : List ℕ) → checksFrom e h ws ≡ true → (i : ℕ) → 0 < i → i ≤ e → checkFrom h i 0 ws ≡ 0
+unfolding checksFrom
+checks-zero zero h ws t i pos low = absurd (omega arith)
+checks-zero (suc e) h ws t i pos low =
+    ⊎-elim
+    (λ l. checks-zero e h ws (and-right (eqb (checkFrom h (suc e) 0 ws) 0) _ t) i pos l)
+    (λ q. rw q (eqb-true _ 0 (and-left _ (checksFrom e h ws) t)))
+    (le-suc-iff .0 low)
+
+pub zero-checks : (e : ℕ) (h : Header) (ws : List ℕ) → ((i : ℕ) → 0 < i → i ≤ e → checkFrom h i 0 ws ≡ 0) → checksFrom e h ws ≡ true
+unfolding checksFrom
+zero-checks zero h ws z = refl
+zero-checks (suc e) h ws z = both-true (eq-eqb _ 0 (z (suc e) (omega arith) (omega arith))) (zero-checks e h ws (λ i p l. z i p (omega arith)))
+
+module _ (h : Header) (s : Sound h) where
+  -- the polynomial's values, in the algebra's terms
+  abbrev Polynomial : List (Symbol (size h)) → Type 0
+  Polynomial ws = (f : List (Symbol (size h))) × (length f ≡ h .k) × (values (fieldFor h s) (rootFor h s) f (range 0 (h .n)) ≡ ws)
+
+  -- the test by check sums, in the algebra's terms
+  word-polynomial : (ws : List (Symbol (size h))) → length ws ≡ h .n → (isWord h (numbers (size h) ws) ≡ true) ↔ Polynomial ws
+  unfolding isWord
+  word-polynomial ws l = (
+    λ t. both .0 (λ e p q. symbol-path (size h) (sym (sum e) ∙ checks-zero (h .n - h .k) h (numbers (size h) ws) t e p q)),
+    λ f. zero-checks (h .n - h .k) h (numbers (size h) ws) (λ e p q. sum e ∙ ap (λ (x : Symbol (size h)). x .0) (both .1 f e p q)),
+  )
+    where
+      both : ((e : ℕ) → 0 < e → e ≤ h .n - h .k → check (fieldFor h s) (rootFor h s) e ws (range 0 (h .n)) ≡ fieldFor h s .0f) ↔ Polynomial ws
+      both = parity (fieldFor h s) (rootFor h s) (h .n) (root-order h s) (h .k) (h .n - h .k) (omega (arith, s .fits)) ws l
+
+      sum : (e : ℕ) → checkFrom h e 0 (numbers (size h) ws) ≡ check (fieldFor h s) (rootFor h s) e ws (range 0 (h .n)) .0
+      sum e = checkFrom-is h s e 0 ws ∙ ap (λ (x : ℕ). check (fieldFor h s) (rootFor h s) e ws (range 0 x) .0) l
+
+  -- words are the values of polynomials of degree below k
+  pub words-poly : (ws : List ℕ) → length ws ≡ h .n → allBelow (size h) ws ≡ true → (isWord h ws ≡ true) ↔ ((cs : List ℕ) × (length cs ≡ h .k) × (allBelow (size h) cs ≡ true) × (valuesOf h cs ≡ ws))
+  words-poly ws l b = (to, back)
+    where
+      is : numbers (size h) (lifted h s ws) ≡ ws
+      is = lifted-numbers h s ws b
+
+      test : (isWord h (numbers (size h) (lifted h s ws)) ≡ true) ↔ Polynomial (lifted h s ws)
+      test = word-polynomial (lifted h s ws) (length-lifted h s ws ∙ l)
+
+      to : isWord h ws ≡ true → (cs : List ℕ) × (length cs ≡ h .k) × (allBelow (size h) cs ≡ true) × (valuesOf h cs ≡ ws)
+      to t =
+          let (f, size-is, at) = test .0 (ap (isWord h) is ∙ t) in
+          (numbers (size h) f, length-numbers (size h) f ∙ size-is, numbers-below (size h) f, valuesOf-is h s f ∙ ap (numbers (size h)) at ∙ is)
+
+      back : (cs : List ℕ) × (length cs ≡ h .k) × (allBelow (size h) cs ≡ true) × (valuesOf h cs ≡ ws) → isWord h ws ≡ true
+      back (cs, size-is, low, at) =
+          ap (isWord h) (sym is)
+          ∙ test .1 (lifted h s cs, length-lifted h s cs ∙ size-is, numbers-path (size h) (size-pos (prime h) (s .field)) _ (lifted h s ws) (sym (valuesOf-is h s (lifted h s cs)) ∙ ap (valuesOf h) (lifted-numbers h s cs low) ∙ at ∙ sym is))
+
+  -- words are the encodings of messages
+  pub words-encode : (ws : List ℕ) → length ws ≡ h .n → allBelow (size h) ws ≡ true → (isWord h ws ≡ true) ↔ ((ms : List ℕ) × (isMessage h ms ≡ true) × (encoding h ms ≡ ws))
+  words-encode ws l b = (to, back)
+    where
+      is : numbers (size h) (lifted h s ws) ≡ ws
+      is = lifted-numbers h s ws b
+
+      test : (isWord h (numbers (size h) (lifted h s ws)) ≡ true) ↔ Polynomial (lifted h s ws)
+      test = word-polynomial (lifted h s ws) (length-lifted h s ws ∙ l)
+
+      both : ((ms : List (Symbol (size h))) × (length ms ≡ h .k) × (map (node (fieldFor h s) (rootFor h s) (h .k - 1) (h .k - 1) (shifts h) ms) (range 0 (h .n)) ≡ lifted h s ws)) ↔ Polynomial (lifted h s ws)
+      both = words (fieldFor h s) (the-code h s) (h .k - 1) (range 0 (h .n)) (lifted h s ws)
+
+      to : isWord h ws ≡ true → (ms : List ℕ) × (isMessage h ms ≡ true) × (encoding h ms ≡ ws)
+      to t =
+          let (ms, size-is, at) = both .1 (test .0 (ap (isWord h) is ∙ t)) in
+          (numbers (size h) ms, numbers-message h s ms size-is, encoding-map h s (numbers (size h) ms) ∙ held h s ms (range 0 (h .n)) size-is ∙ ap (numbers (size h)) at ∙ is)
+
+      back : (ms : List ℕ) × (isMessage h ms ≡ true) × (encoding h ms ≡ ws) → isWord h ws ≡ true
+      back (ms, m, at) =
+          let M = lifted h s ms in
+          let lm : length M ≡ h .k = length-lifted h s ms ∙ message-size h ms m in
+          ap (isWord h) (sym is)
+          ∙ test .1 (both .0 (M, lm, numbers-path (size h) (size-pos (prime h) (s .field)) _ (lifted h s ws) (sym (held h s M (range 0 (h .n)) lm) ∙ sym (encoding-map h s (numbers (size h) M)) ∙ ap (encoding h) (lifted-numbers h s ms (message-below h ms m)) ∙ at ∙ sym is)))

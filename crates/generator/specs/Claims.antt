@@ -1,0 +1,76 @@
+-- What holds of every accepted plan.
+use mathlib.Core.Path.{_≡_}
+use mathlib.Core.Logic.{_↔_}
+use mathlib.Core.Bool.{Bool, true, false, _&&_, not}
+use mathlib.Core.List.{List, map}
+use Prim.Native.Nat.{ℕ, _+_, _*_, _/_, _%_, _<_, Fin}
+use lib.Dec.{eqb, ltb}
+use lib.ListN.{length, getD, set}
+use Rattle.lists.specs.Counting.{countFrom, differ}
+use Rattle.lists.specs.Numbers.{allBelow, distinct}
+use Rattle.field.specs.Symbols.{Symbol, numbers}
+use Rattle.scheme.specs.Messages.{Message, symbols}
+use Rattle.scheme.specs.Schemes.{Scheme}
+use Rattle.scheme.specs.Costs.{Tight, CostsAtLeast}
+use Rattle.generator.specs.declared.Header.{Header}
+use Rattle.generator.specs.declared.Record.{Record}
+use Rattle.generator.specs.declared.Record.the-variants.{Holds, Meets}
+use Rattle.generator.specs.Records.{size, weight}
+use Rattle.generator.specs.Shifts.{shifts}
+use Rattle.generator.specs.Generator.{entry, baseWord}
+use Rattle.generator.specs.Codewords.{nodeOf, encoding, valuesOf, isWord}
+
+-- k symbols of the field
+unfoldable pub isMessage : Header → List ℕ → Bool
+isMessage h ms = eqb (length ms) (h .k) && allBelow (size h) ms
+
+-- k different nodes
+unfoldable pub areNodes : Header → List ℕ → Bool
+areNodes h js = eqb (length js) (h .k) && (allBelow (h .n) js && distinct js)
+
+-- what the listed nodes hold for a message
+abbrev pub atNodes : Header → List ℕ → List ℕ → List ℕ
+atNodes h ms js = map (nodeOf h ms) js
+
+-- how many symbols have an entry at node j that is not zero
+unfoldable pub reads : Header → ℕ → ℕ
+reads h j = countFrom (h .k) 0 (λ r. not (eqb (entry h r j) 0))
+
+-- the code of the plan: recovery, words, weights
+pub record Ours (h : Header) : Type 0 where
+  -- any k symbols on k nodes are of exactly one message
+  pub some-message : (js ys : List ℕ) → areNodes h js ≡ true → length ys ≡ h .k → allBelow (size h) ys ≡ true → (ms : List ℕ) × (isMessage h ms ≡ true) × (atNodes h ms js ≡ ys)
+  pub one-message : (js ms us : List ℕ) → areNodes h js ≡ true → isMessage h ms ≡ true → isMessage h us ≡ true → atNodes h ms js ≡ atNodes h us js → ms ≡ us
+  -- words are the values of polynomials of degree below k, and the encodings of messages
+  pub words-poly : (ws : List ℕ) → length ws ≡ h .n → allBelow (size h) ws ≡ true → (isWord h ws ≡ true) ↔ ((cs : List ℕ) × (length cs ≡ h .k) × (allBelow (size h) cs ≡ true) × (valuesOf h cs ≡ ws))
+  pub words-encode : (ws : List ℕ) → length ws ≡ h .n → allBelow (size h) ws ≡ true → (isWord h ws ≡ true) ↔ ((ms : List ℕ) × (isMessage h ms ≡ true) × (encoding h ms ≡ ws))
+  -- an entry is not zero exactly where (j + shift) modulo n lies below d
+  pub row-weight : (r j : ℕ) → r < h .k → j < h .n → eqb (entry h r j) 0 ≡ not (ltb ((j + getD (shifts h) r 0) % h .n) (weight h))
+  -- each change of one symbol alters exactly d nodes
+  pub alters : (ms : List ℕ) (r x : ℕ) → isMessage h ms ≡ true → r < h .k → x < size h → (x ≡ getD ms r 0 → ⊥) → differ (encoding h ms) (encoding h (set ms r x)) ≡ weight h
+  -- each node depends on exactly b = k·d / n symbols, a whole number
+  pub depends : (j : ℕ) → j < h .n → reads h j ≡ h .k * weight h / h .n
+  pub whole : h .n * (h .k * weight h / h .n) ≡ h .k * weight h
+  -- a node depends on a symbol exactly where the entry is not zero
+  pub depends-means : (r j : ℕ) → r < h .k → j < h .n → (eqb (entry h r j) 0 ≡ false) ↔ ((ms : List ℕ) × (z : ℕ) × (isMessage h ms ≡ true) × (z < size h) × (eqb (nodeOf h ms j) (nodeOf h (set ms r z) j) ≡ false))
+  -- row r at j is the base word at (j + shift) modulo n; the first shift is 0
+  pub rows-base : (r j : ℕ) → r < h .k → j < h .n → entry h r j ≡ getD (baseWord h) ((j + getD (shifts h) r 0) % h .n) 0
+  pub first-shift : getD (shifts h) 0 0 ≡ 0
+
+-- the scheme of the plan: it takes the field's symbols and has node j hold the sum of symbol r times entry (r, j)
+pub record OurScheme (h : Header) : Type 0 where
+  pub scheme : Scheme (h .k) (h .n) (Symbol (size h)) (λ j. ℕ)
+  pub holds-is : (m : Message (Symbol (size h)) (h .k)) (j : Fin (h .n)) → scheme .holds m j ≡ nodeOf h (numbers (size h) (symbols (h .k) m)) (j .0)
+  -- each change alters exactly d nodes, each node depends on exactly k·d / n symbols
+  pub tight : Tight scheme
+  -- every scheme of numbers for the same k and n costs at least as much
+  pub least : (s : Scheme (h .k) (h .n) ℕ (λ j. ℕ)) → CostsAtLeast s scheme
+
+-- what is promised of a record that was read
+pub record Accepted (h : Header) : Type 0 where
+  pub code : Ours h
+  pub scheme : OurScheme h
+
+unfoldable pub Promised : Record → Type 0
+Promised (Holds h) = Accepted h
+Promised (Meets f) = Unit {0}

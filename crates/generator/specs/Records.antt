@@ -1,0 +1,90 @@
+-- Records: what one holds, and the numbers 1 to 6 that turn one away.
+use mathlib.Core.Path.{_≡_}
+use mathlib.Core.Bool.{Bool, true, false, _&&_, _||_, not}
+use mathlib.Core.List.{List}
+use Prim.Native.Nat.{ℕ, zero, suc, _+_, _-_, _*_, _%_, _≤_, _<_}
+use lib.Dec.{eqb, ltb, leb}
+use lib.ListN.{length, getD}
+use Rattle.lists.specs.Choice.{pick, firstOf, when}
+use Rattle.field.specs.declared.Field.the-variants.{Prime, Binary}
+use Rattle.field.specs.Primes.{isPrime}
+use Rattle.field.specs.Fields.{isField, sizeOf, orderOf}
+use Rattle.field.specs.Kinds.{primeOf, gf256, modulus, usable}
+use Rattle.generator.specs.declared.Header.{Header}
+use Rattle.generator.specs.declared.Record.{Record}
+use Rattle.generator.specs.declared.Record.the-variants.{Holds, Meets}
+
+-- kind 1: p, root, n, k; kind 2: root, n, k
+unfoldable pub headerOf : List ℕ → Header
+headerOf s =
+    pick (eqb (getD s 0 0) 1)
+    (record { field = Prime (primeOf (getD s 1 0)); root = getD s 2 0; n = getD s 3 0; k = getD s 4 0 })
+    (record { field = Binary gf256; root = getD s 1 0; n = getD s 2 0; k = getD s 3 0 })
+
+-- the prime of the record's field, or 0 for the field of 256 elements
+abbrev pub prime : Header → ℕ
+prime h = modulus (h .field)
+
+-- the number of the field's symbols
+abbrev pub size : Header → ℕ
+size h = sizeOf (prime h)
+
+-- d = n − k + 1, the number of nodes that each row of the generator lies on
+unfoldable pub weight : Header → ℕ
+weight h = h .n - h .k + 1
+
+-- number 1: empty, or of neither kind
+unfoldable pub kindBad : List ℕ → Bool
+kindBad s = eqb (length s) 0 || not (eqb (getD s 0 0) 1 || eqb (getD s 0 0) 2)
+
+-- number 2: a body of another length than the kind's
+unfoldable pub bodyBad : List ℕ → Bool
+bodyBad s = not (eqb (length s) (pick (eqb (getD s 0 0) 1) 5 4))
+
+-- number 3: kind 1, and p is no prime from 3 to 251
+unfoldable pub fieldBad : List ℕ → Bool
+fieldBad s = eqb (getD s 0 0) 1 && not (leb 3 (getD s 1 0) && (leb (getD s 1 0) 251 && isPrime (getD s 1 0)))
+
+-- number 4: n below 2, k zero, or k above n
+unfoldable pub sizeBad : Header → Bool
+sizeBad h = ltb (h .n) 2 || (eqb (h .k) 0 || ltb (h .n) (h .k))
+
+-- number 5: the root is no symbol of order exactly n
+unfoldable pub rootBad : Header → Bool
+rootBad h = not (ltb (h .root) (size h) && eqb (orderOf (prime h) (h .root)) (h .n))
+
+-- number 6: n does not divide k·d
+unfoldable pub unevenBad : Header → Bool
+unevenBad h = not (eqb (h .k * weight h % h .n) 0)
+
+-- numbers 4 to 6
+unfoldable pub headerFault : Header → ℕ
+headerFault h = firstOf (when (sizeBad h) 4) (firstOf (when (rootBad h) 5) (when (unevenBad h) 6))
+
+-- the lowest number that holds, or 0
+unfoldable pub recordFault : List ℕ → ℕ
+recordFault s =
+    firstOf (when (kindBad s) 1)
+    (firstOf (when (bodyBad s) 2)
+    (firstOf (when (fieldBad s) 3) (headerFault (headerOf s))))
+
+-- a header where the number is 0, else the number
+unfoldable pub judged : ℕ → Header → Record
+judged zero h = Holds h
+judged (suc f) h = Meets (suc f)
+
+-- a record as it is read
+unfoldable pub recordOf : List ℕ → Record
+recordOf s = judged (recordFault s) (headerOf s)
+
+-- what is known of a header that numbers 3 to 6 pass
+pub record Sound (h : Header) : Type 0 where
+  pub usable-field : usable (h .field) ≡ true
+  pub field : isField (prime h) ≡ true
+  pub bytes : size h ≤ 256
+  pub two : 2 ≤ h .n
+  pub some : 0 < h .k
+  pub fits : h .k ≤ h .n
+  pub root-below : h .root < size h
+  pub order : orderOf (prime h) (h .root) ≡ h .n
+  pub even : h .k * weight h % h .n ≡ 0
