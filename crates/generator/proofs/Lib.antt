@@ -2,10 +2,10 @@
 pub mod Gcd
 pub mod Windows
 pub mod Shifts
-pub mod ShiftsAgreement
 pub mod Sound
 pub mod Bridge
 pub mod Entries
+pub mod Bounds
 pub mod Recovery
 pub mod Words
 pub mod Changes
@@ -14,3 +14,7 @@ pub mod SchemeOf
 pub mod Accepts
 pub mod Claims
 pub mod Notebook
+-- The same definitions as document 03 has them.
+pub mod RecordsAgreement
+pub mod ShiftsAgreement
+pub mod Agreement

@@ -1,0 +1,71 @@
+-- Records as document 03 states them (specs/Fields.antt), and that ours are the same.
+-- Its text stands here but for the marks: what it has as `abbrev` is `unfoldable`. Its arithmetic is quoted in the crate `field`; its `pick`, `firstOf` and `when` are those of `lists`.
+use mathlib.Core.Path.{_≡_, refl, sym, ap, _∙_}
+use mathlib.Core.Bool.{_&&_, _||_, not}
+use mathlib.Core.List.{List}
+use Prim.Native.Nat.{ℕ, _+_, _-_, _*_, _%_}
+use borrow.Author.Tests.{ltb-true}
+use lib.Dec.{eqb, ltb, leb}
+use lib.ListN.{length, getD}
+use Rattle.lists.specs.Choice.{pick, firstOf, when}
+use Rattle.lists.proofs.Cases.{by-test}
+use Rattle.field.specs.Kinds.{modulus}
+use Rattle.field.proofs.Agreement.{rest, sizeOf, isPrime, orderOf, rest-agrees, sizeOf-agrees, isPrime-agrees, orderOf-agrees}
+use Rattle.generator.specs.declared.Header as Own
+use Rattle.generator.specs.Records as Ours
+use Rattle.generator.proofs.Accepts.{accepted-sound}
+
+-- document 03's definitions
+pub record Header : Type 0 where
+  pub p : ℕ
+  pub root : ℕ
+  pub n : ℕ
+  pub k : ℕ
+
+unfoldable pub headerOf : List ℕ → Header
+headerOf s = pick (eqb (getD s 0 0) 1) (record { p = getD s 1 0; root = getD s 2 0; n = getD s 3 0; k = getD s 4 0 }) (record { p = 0; root = getD s 1 0; n = getD s 2 0; k = getD s 3 0 })
+
+unfoldable pub weight : Header → ℕ
+weight h = h .n - h .k + 1
+
+unfoldable pub recordFault : List ℕ → ℕ
+recordFault s = let b = getD s 0 0 in let h = headerOf s in firstOf (when (eqb (length s) 0 || not (eqb b 1 || eqb b 2)) 1) (firstOf (when (not (eqb (length s) (pick (eqb b 1) 5 4))) 2) (firstOf (when (eqb b 1 && not (leb 3 (h .p) && (leb (h .p) 251 && isPrime (h .p)))) 3) (firstOf (when (ltb (h .n) 2 || (eqb (h .k) 0 || ltb (h .n) (h .k))) 4) (firstOf (when (not (ltb (h .root) (sizeOf (h .p)) && eqb (orderOf (h .p) (h .root)) (h .n))) 5) (when (not (eqb (rest (h .k * weight h) (h .n)) 0)) 6)))))
+
+-- its header made from ours
+abbrev pub given : Own.Header → Header
+given h = record { p = Ours.prime h; root = h .root; n = h .n; k = h .k }
+
+pub headerOf-agrees : (s : List ℕ) → headerOf s ≡ given (Ours.headerOf s)
+unfolding headerOf Ours.headerOf modulus
+headerOf-agrees s = by-test (eqb (getD s 0 0) 1) (λ t. rw t) (λ t. rw t)
+
+pub weight-agrees : (h : Own.Header) → weight (given h) ≡ Ours.weight h
+unfolding weight Ours.weight
+weight-agrees h = refl
+
+-- number 3
+field-agrees : (s : List ℕ) → (eqb (getD s 0 0) 1 && not (leb 3 (given (Ours.headerOf s) .p) && (leb (given (Ours.headerOf s) .p) 251 && isPrime (given (Ours.headerOf s) .p)))) ≡ Ours.fieldBad s
+unfolding Ours.headerOf Ours.fieldBad modulus
+field-agrees s = by-test (eqb (getD s 0 0) 1) (λ t. rw (t, isPrime-agrees (getD s 1 0))) (λ t. rw t)
+
+-- number 5: the order is asked of symbols alone
+root-agrees : (h : Own.Header) → not (ltb (h .root) (sizeOf (Ours.prime h)) && eqb (orderOf (Ours.prime h) (h .root)) (h .n)) ≡ Ours.rootBad h
+unfolding Ours.rootBad
+root-agrees h =
+    rw (sizeOf-agrees (Ours.prime h))
+    (by-test (ltb (h .root) (Ours.size h)) (λ t. rw (orderOf-agrees (Ours.prime h) (h .root) (ltb-true _ _ t))) (λ t. rw t))
+
+-- number 6
+uneven-agrees : (h : Own.Header) → not (eqb (rest (h .k * weight (given h)) (h .n)) 0) ≡ Ours.unevenBad h
+unfolding Ours.unevenBad
+uneven-agrees h = ap (λ (x : ℕ). not (eqb x 0)) (rest-agrees (h .k * weight (given h)) (h .n) ∙ ap (λ (d : ℕ). h .k * d % h .n) (weight-agrees h))
+
+-- the number of every record, whatever it holds
+pub recordFault-agrees : (s : List ℕ) → recordFault s ≡ Ours.recordFault s
+unfolding recordFault Ours.recordFault Ours.kindBad Ours.bodyBad Ours.headerFault Ours.sizeBad
+recordFault-agrees s = rw (headerOf-agrees s, field-agrees s, root-agrees (Ours.headerOf s), uneven-agrees (Ours.headerOf s))
+
+-- its domain: what it accepts has a sound header
+pub given-sound : (s : List ℕ) → recordFault s ≡ 0 → Ours.Sound (Ours.headerOf s)
+unfolding Ours.recordOf Ours.judged
+given-sound s e = accepted-sound s (Ours.headerOf s) (rw (sym (recordFault-agrees s) ∙ e))
