@@ -12,6 +12,7 @@ pub mod Lagrange
 pub mod Interpolation
 pub mod Vandermonde
 pub mod BasePolynomial
+pub mod BaseRecurrence
 pub mod Dilations
 pub mod ShiftedBasis
 pub mod Nodes

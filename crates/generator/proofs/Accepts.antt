@@ -43,6 +43,15 @@ header-sound h u small-field e =
       even = eqb-true (h .k * weight h % h .n) 0 (not-false _ (when-zero (unevenBad h) 5 six));
     }
 
+-- a prime from 3 to 251 names a usable field, whose symbols are bytes
+pub byte-prime : (p : ℕ) → (leb 3 p && (leb p 251 && isPrime p)) ≡ true → (usable (Prime (primeOf p)) ≡ true) × (sizeOf p ≤ 256)
+unfolding usable
+byte-prime p e =
+    let low : (leb p 251 && isPrime p) ≡ true = and-right (leb 3 p) _ e in
+    let bound : p ≤ 251 = leb-true p 251 (and-left _ (isPrime p) low) in
+    let prime-p : isPrime p ≡ true = and-right (leb p 251) _ low in
+    (both-true (le-leb p 65521 (omega arith)) prime-p, rw (prime-size p prime-p) (omega arith))
+
 -- the symbols of the field of 256 elements are bytes
 byte-fits : sizeOf 0 ≤ 256
 unfolding sizeOf
@@ -57,12 +66,7 @@ field-usable rec e = go (eqb (getD rec 0 0) 1) refl
     Fits h = (usable (h .field) ≡ true) × (size h ≤ 256)
 
     go : (t : Bool) → eqb (getD rec 0 0) 1 ≡ t → Fits (pick {A = Header} t (record { field = Prime (primeOf (getD rec 1 0)); root = getD rec 2 0; n = getD rec 3 0; k = getD rec 4 0 }) (record { field = Binary gf256; root = getD rec 1 0; n = getD rec 2 0; k = getD rec 3 0 }))
-    go true t =
-        let fit : (leb 3 (getD rec 1 0) && (leb (getD rec 1 0) 251 && isPrime (getD rec 1 0))) ≡ true = not-false _ (rw t at e) in
-        let low : (leb (getD rec 1 0) 251 && isPrime (getD rec 1 0)) ≡ true = and-right (leb 3 (getD rec 1 0)) _ fit in
-        let bound : getD rec 1 0 ≤ 251 = leb-true (getD rec 1 0) 251 (and-left _ (isPrime (getD rec 1 0)) low) in
-        let prime-p : isPrime (getD rec 1 0) ≡ true = and-right (leb (getD rec 1 0) 251) _ low in
-        (both-true (le-leb (getD rec 1 0) 65521 (omega arith)) prime-p, rw (prime-size (getD rec 1 0) prime-p) (omega arith))
+    go true t = byte-prime (getD rec 1 0) (not-false _ (rw t at e))
     go false t = (refl, byte-fits)
 
 -- a record that holds a header meets no number, and the header is its own

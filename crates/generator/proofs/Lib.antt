@@ -6,6 +6,7 @@ pub mod Sound
 pub mod Bridge
 pub mod Entries
 pub mod Bounds
+pub mod BaseWord
 pub mod Recovery
 pub mod Words
 pub mod Changes

@@ -1,14 +1,13 @@
 -- Places: distinct numbers below n; the numbers of a stretch in order, and those below n from the largest down.
-use mathlib.Core.Path.{_≡_, refl, sym, ap, ap₂, _∙_, subst}
+use mathlib.Core.Path.{_≡_, refl, ap, subst}
 use mathlib.Core.List.{List, [], _∷_, _++_, map}
 use Prim.Native.Nat.{ℕ, zero, suc, _+_, _≤_, _<_}
-use native.Mathlib.Nat as Nat
 use native.Mathlib.Decide.{decLt}
 use native.Mathlib.Omega.{arith}
 use lib.ListN.{length}
 use Rattle.lists.specs.Rows.{from, range}
 use Rattle.lists.proofs.All.{All, Distinct}
-use Rattle.lists.proofs.Rows.{length-from}
+use Rattle.lists.proofs.Rows.{length-from, from-append}
 
 -- k distinct numbers below n
 pub record Places (n k : ℕ) (js : List ℕ) : Type 0 where
@@ -27,11 +26,7 @@ length-range i n = length-from (λ x. x) i n
 
 -- two stretches end to end
 pub range-append : (i m n : ℕ) → range i (m + n) ≡ range i m ++ range (i + m) n
-unfolding from
-range-append i zero n = ap₂ range (sym (Nat.add-zero i)) (Nat.zero-add n)
-range-append i (suc m) n =
-    let e : i + 1 + m ≡ i + suc m = omega arith in
-    ap (range i) (Nat.suc-add m n) ∙ ap (λ l. i ∷ l) (range-append (i + 1) m n ∙ ap (λ k. range (i + 1) m ++ range k n) e)
+range-append i m n = from-append (λ x. x) i m n
 
 -- what holds of each number of a stretch holds of all
 pub All-range : (P : ℕ → Type 0) (s n : ℕ) → ((i : ℕ) → s ≤ i → i < s + n → P i) → All P (range s n)

@@ -1,0 +1,2 @@
+-- Laws of plans.
+pub mod Plans

@@ -1,0 +1,45 @@
+-- What is read from the plan of a sound header.
+use mathlib.Core.Path.{_≡_, sym}
+use mathlib.Core.List.{List}
+use Prim.Native.Nat.{ℕ, _+_, _%_, _<_}
+use native.Mathlib.Omega.{arith}
+use native.Mathlib.Nat.{mod-lt}
+use borrow.Author.Tests.{lt-ltb}
+use lib.ListN.{length, getD, List·getD-append}
+use Rattle.lists.specs.Padded.{padded}
+use Rattle.lists.proofs.Rows.{length-from}
+use Rattle.generator.specs.declared.Header.{Header}
+use Rattle.generator.specs.declared.Record.the-variants.{Holds}
+use Rattle.generator.specs.Records.{Sound}
+use Rattle.generator.specs.Shifts.{shifts}
+use Rattle.generator.specs.Generator.{entryAt, entry, baseWord}
+use Rattle.plan.specs.Plans.{planFor, entryIn}
+use Rattle.generator.proofs.Shifts.{shifts-length}
+use Rattle.generator.proofs.Entries.{rows-base}
+
+-- padding changes no element
+getD-padded : (n : ℕ) (xs : List ℕ) (i : ℕ) → i < length xs → getD (padded n xs) i 0 ≡ getD xs i 0
+unfolding padded
+getD-padded n xs i h = List·getD-append xs _ 0 i h
+
+length-base : (h : Header) → length (baseWord h) ≡ h .n
+unfolding baseWord
+length-base h = length-from (entryAt h 0) 0 (h .n)
+
+module _ (h : Header) (s : Sound h) where
+  -- the shifts and the base word in a plan
+  pub shift-in : (r : ℕ) → r < h .k → getD (planFor (Holds h) .shifts) r 0 ≡ getD (shifts h) r 0
+  unfolding planFor
+  shift-in r row = getD-padded 255 (shifts h) r (omega (arith, shifts-length (h .n) (h .k) (s .some) (s .fits)))
+
+  pub base-in : (i : ℕ) → i < h .n → getD (planFor (Holds h) .base) i 0 ≡ getD (baseWord h) i 0
+  unfolding planFor
+  base-in i low = getD-padded 255 (baseWord h) i (omega (arith, length-base h))
+
+  -- an entry that is read from a plan is the generator's
+  pub entry-in : (r j : ℕ) → r < h .k → j < h .n → entryIn (planFor (Holds h)) r j ≡ entry h r j
+  unfolding entryIn planFor
+  entry-in r j row node =
+      let place : (j + getD (shifts h) r 0) % h .n < h .n = mod-lt (j + getD (shifts h) r 0) (omega arith) in
+      rw (lt-ltb r (h .k) row, lt-ltb j (h .n) node, shift-in r row, base-in _ place)
+      (sym (rows-base h s r j))

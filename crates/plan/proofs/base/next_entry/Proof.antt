@@ -1,0 +1,79 @@
+-- `next_entry` meets its contract, by the recurrence of p.
+use mathlib.Core.Path.{sym, _∙_}
+use Prim.Native.Nat.{_<_}
+use native.Mathlib.Omega.{arith}
+use Rattle.field.proofs.Bounds.{sub-below, mul-below, power-below}
+use Rattle.field.proofs.Inverse.{inverse-below}
+use Rattle.generator.specs.Records.{size}
+use Rattle.generator.proofs.Bounds.{baseAt-below}
+use Rattle.generator.proofs.BaseWord.{baseAt-next}
+use Rattle.plan.proofs.base.next_entry.Statement.{statement}
+use Rattle.plan.proofs.base.next_entry.Tie as tie
+
+-- the arguments are symbols
+symbols : (c : tie.Start)
+    → let q = size (c .args .h) in
+    (c .args .scale < q) × (c .args .pole < q) × (c .args .x < q) × (c .args .entry < q)
+symbols c =
+    let (s, scale, pole, low, apart, entry) = c .pre in
+    (rw scale (power-below _ (s .field) _ (s .root-below)), rw pole (power-below _ (s .field) _ (s .root-below)), low, rw entry (baseAt-below _ s low))
+
+mul-requires : tie.Need-mul-requires
+mul-requires c κs = let t = symbols c in (c .pre .0 .usable-field, omega arith, omega arith)
+
+sub-requires : tie.Need-sub-requires
+sub-requires c κs =
+    let s = c .before .pre .0 in
+    let t = symbols (c .before) in
+    (s .usable-field, rw (c .mul .ensures) (mul-below _ (s .field) (omega arith) (omega arith)), t .1)
+
+sub-requires-2 : tie.Need-sub-requires-2
+sub-requires-2 c κs = let t = symbols (c .before .before) in (c .before .before .pre .0 .usable-field, omega arith, omega arith)
+
+-- both differences are symbols
+differences : (c : tie.After-sub2)
+    → let q = size (c .before .before .before .args .h) in
+    (c .before .sub .result < q) × (c .sub2 .result < q)
+differences c =
+    let v = c .before .before .before .pre .0 .field in
+    let t = symbols (c .before .before .before) in (
+      rw (c .before .sub .ensures, c .before .before .mul .ensures) (sub-below _ v (mul-below _ v (omega arith) (omega arith)) (omega arith)),
+      rw (c .sub2 .ensures) (sub-below _ v (omega arith) (omega arith)),
+    )
+
+mul-requires-2 : tie.Need-mul-requires-2
+mul-requires-2 c κs =
+    let t = symbols (c .before .before .before) in
+    let d = differences c in
+    (c .before .before .before .pre .0 .usable-field, omega arith, omega arith)
+
+inverse-requires : tie.Need-inverse-requires
+inverse-requires c κs = let d = differences (c .before) in (c .before .before .before .before .pre .0 .usable-field, omega arith)
+
+mul-requires-3 : tie.Need-mul-requires-3
+mul-requires-3 c κs =
+    let s = c .before .before .before .before .before .pre .0 in
+    let t = symbols (c .before .before .before .before .before) in
+    let d = differences (c .before .before) in (
+      s .usable-field,
+      rw (c .before .mul2 .ensures) (mul-below _ (s .field) (omega arith) (omega arith)),
+      rw (c .inverse .ensures) (inverse-below _ (s .field) (omega arith)),
+    )
+
+returns : tie.Need-returns
+returns c =
+    let a = c .before .before .before .before .before .before .args in
+    let (s, scale, pole, low, apart, entry) = c .before .before .before .before .before .before .pre in
+    cc (baseAt-next (a .h) s (a .x) low (λ q. apart (q ∙ sym pole)))
+
+pub next-entry-spec : {M : Type 1} → statement M
+next-entry-spec =
+    tie.close
+    (tie.spec
+    mul-requires
+    sub-requires
+    sub-requires-2
+    mul-requires-2
+    inverse-requires
+    mul-requires-3
+    returns)

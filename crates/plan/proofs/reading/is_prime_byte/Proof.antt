@@ -1,0 +1,30 @@
+-- `is_prime_byte` meets its contract.
+use mathlib.Core.Path.{_≡_, sym, _∙_}
+use mathlib.Core.Bool.{true≢false}
+use mathlib.Core.Logic.{⊎-elim}
+use borrow.Author.Needs.{needs}
+use borrow.Author.Tests.{le-leb, lt-leb}
+use Rattle.plan.proofs.reading.is_prime_byte.Statement.{statement}
+use Rattle.plan.proofs.reading.is_prime_byte.Tie as tie
+
+is-prime-requires : tie.Need-is-prime-requires
+is-prime-requires c κs = search needs
+
+returns : tie.Need-returns
+returns c =
+    let both = c .before .if2 .taken in
+    ⊎-elim
+    (λ w. rw (le-leb 3 _ (w .0 .taken), sym (w .1) ∙ both) (c .is-prime .ensures))
+    (λ w. absurd (true≢false (sym both ∙ w .1 ∙ lt-leb 3 _ (w .0 .left))))
+    (c .before .before .if1 .came)
+
+returns-2 : tie.Need-returns-2
+returns-2 c =
+    let none = c .if2 .left in
+    ⊎-elim
+    (λ w. rw (le-leb 3 _ (w .0 .taken), sym (w .1) ∙ none) none)
+    (λ w. rw (lt-leb 3 _ (w .0 .left)) none)
+    (c .before .if1 .came)
+
+pub is-prime-byte-spec : {M : Type 1} → statement M
+is-prime-byte-spec = tie.close (tie.spec is-prime-requires returns returns-2)

@@ -1,0 +1,72 @@
+// Plans: the numbers, the shifts and the base word that a record stands for.
+ghost use mathlib.Core.Path.{_≡_};
+ghost use Rattle.generator.specs.Records.{Sound};
+ghost use Rattle.plan.specs.Plans.{planFor, PlanSays};
+use generator::Header;
+use generator::Record;
+
+mod base;
+mod entries;
+mod reading;
+mod shift;
+
+pub use entries::entry;
+pub use reading::read_record;
+
+// A plan; all places hold 0 beside a number.
+pub struct Plan {
+    pub number: u8,
+    pub n: u8,
+    pub k: u8,
+    pub d: u8,
+    pub b: u8,
+    pub shifts: [u8; 255],
+    pub base: [u8; 255],
+}
+
+// What stands in a plan's place beside a number.
+fn refused(number: u8) -> Plan
+    ensures { λ r. ⌜ r ≡ planFor (Record.Meets number) ⌝ }
+{
+    Plan {
+        number: number,
+        n: 0,
+        k: 0,
+        d: 0,
+        b: 0,
+        shifts: [0; 255],
+        base: [0; 255],
+    }
+}
+
+// The plan of what an accepted record holds.
+pub fn plan_of(h: Header) -> Plan
+    requires { ⌜ Sound h ⌝ }
+    ensures { λ r. ⌜ r ≡ planFor (Record.Holds h) ⌝ }
+{
+    let n = h.n;
+    let k = h.k;
+    let d = n - k + 1;
+    let b = (k as u32 * d as u32 / n as u32) as u8;
+    let shifts = shift::fill_shifts(n, k);
+    let base = base::fill_base(h);
+    Plan {
+        number: 0,
+        n: n,
+        k: k,
+        d: d,
+        b: b,
+        shifts: shifts,
+        base: base,
+    }
+}
+
+// The plan of a record, or the number that turns it away.
+pub fn build_plan(rec: &[u8]) -> Plan
+    ensures { λ r. ⌜ PlanSays (now (rec .entry)) r ⌝ }
+{
+    match reading::read_record(rec) {
+        Record::Holds(h) => plan_of(h),
+        Record::Meets(number) => refused(number),
+    }
+}

@@ -1,0 +1,83 @@
+// Records as they are read: what one holds, or the lowest number that turns it away.
+ghost use mathlib.Core.Path.{_≡_};
+ghost use mathlib.Core.Bool.{true, _&&_};
+ghost use lib.Dec.{leb};
+ghost use Rattle.field.specs.Primes.{isPrime};
+ghost use Rattle.field.specs.Kinds.{usable};
+ghost use Rattle.generator.specs.Records.{headerFault, judged, recordOf};
+use field::Field;
+use field::Gf256;
+use field::PrimeField;
+use field::is_prime;
+use generator::Header;
+use generator::Record;
+
+// A prime from 3 to 251.
+fn is_prime_byte(p: u32) -> bool
+    ensures { λ r. ⌜ r ≡ (leb 3 p && (leb p 251 && isPrime p)) ⌝ }
+{
+    3 <= p && p <= 251 && is_prime(p)
+}
+
+// Numbers 4 to 6.
+fn judge(h: Header) -> Record
+    requires { ⌜ usable (h .field) ≡ true ⌝ }
+    ensures { λ r. ⌜ r ≡ judged (headerFault h) h ⌝ }
+{
+    let f = h.field;
+    let root = h.root;
+    let n = h.n as u32;
+    let k = h.k as u32;
+    if n < 2 || k == 0 || n < k {
+        return Record::Meets(4);
+    }
+    if root >= f.size() || f.order(root) != n {
+        return Record::Meets(5);
+    }
+    let d = n - k + 1;
+    if k * d % n != 0 {
+        return Record::Meets(6);
+    }
+    Record::Holds(h)
+}
+
+// The kind byte chooses the body's length and the field.
+pub fn read_record(rec: &[u8]) -> Record
+    ensures { λ r. ⌜ r ≡ recordOf (now (rec .entry)) ⌝ }
+{
+    if rec.len() == 0 {
+        return Record::Meets(1);
+    }
+    let kind = rec[0];
+    match kind {
+        1 => {
+            if rec.len() != 5 {
+                return Record::Meets(2);
+            }
+            let p = rec[1] as u32;
+            if !is_prime_byte(p) {
+                return Record::Meets(3);
+            }
+            let field = Field::Prime(PrimeField::new(p));
+            judge(Header {
+                field,
+                root: rec[2] as u32,
+                n: rec[3],
+                k: rec[4],
+            })
+        }
+        2 => {
+            if rec.len() != 4 {
+                return Record::Meets(2);
+            }
+            let field = Field::Binary(Gf256::new());
+            judge(Header {
+                field,
+                root: rec[1] as u32,
+                n: rec[2],
+                k: rec[3],
+            })
+        }
+        _ => Record::Meets(1),
+    }
+}
