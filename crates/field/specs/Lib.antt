@@ -4,3 +4,4 @@ pub mod Bytes
 pub mod Fields
 pub mod Kinds
 pub mod Symbols
+pub mod Sums

@@ -1,15 +1,15 @@
 -- What a record that no number turns away holds.
-use mathlib.Core.Path.{_≡_, refl, sym, ap, _∙_, subst}
-use mathlib.Core.Bool.{Bool, true, false, _&&_, _||_, not, true≢false}
+use mathlib.Core.Path.{_≡_, refl, subst}
+use mathlib.Core.Bool.{Bool, true, false, _&&_}
 use mathlib.Core.List.{List}
-use Prim.Native.Nat.{ℕ, zero, suc, _+_, _-_, _*_, _%_, _≤_, _<_}
+use Prim.Native.Nat.{ℕ, zero, suc, _*_, _%_, _≤_}
 use native.Mathlib.Omega.{arith}
 use native.Mathlib.Nat.{le-refl}
-use borrow.Author.Tests.{ltb-true, ltb-false, leb-true, le-leb, eqb-true, eqb-false, not-false}
+use borrow.Author.Tests.{ltb-true, leb-true, le-leb, eqb-true, not-false}
 use lib.Dec.{eqb, ltb, leb}
-use lib.ListN.{length, getD}
+use lib.ListN.{getD}
 use Rattle.lists.specs.Choice.{pick, firstOf, when}
-use Rattle.lists.proofs.Cases.{by-test, and-left, and-right, both-true, or-left-false, or-right-false, first-zero, when-zero}
+use Rattle.lists.proofs.Cases.{and-left, and-right, both-true, first-zero, when-zero}
 use Rattle.field.specs.declared.Field.the-variants.{Prime, Binary}
 use Rattle.field.specs.Primes.{isPrime}
 use Rattle.field.specs.Fields.{sizeOf, orderOf}
@@ -17,27 +17,25 @@ use Rattle.field.specs.Kinds.{primeOf, gf256, modulus, usable}
 use Rattle.field.proofs.Meanings.{prime-size}
 use Rattle.field.proofs.KindLaws.{usable-field}
 use Rattle.generator.specs.declared.Header.{Header}
-use Rattle.generator.specs.declared.Record.{Record}
-use Rattle.generator.specs.declared.Record.the-variants.{Holds, Meets}
+use Rattle.generator.specs.declared.Record.the-variants.{Holds}
 use Rattle.generator.specs.Records.{headerOf, prime, size, weight, kindBad, bodyBad, fieldBad, sizeBad, rootBad, unevenBad, headerFault, recordFault, judged, recordOf, Sound}
+use Rattle.generator.proofs.Faults.{sizes}
 
 -- a header that numbers 4 to 6 pass
 pub header-sound : (h : Header) → usable (h .field) ≡ true → size h ≤ 256 → headerFault h ≡ 0 → Sound h
-unfolding headerFault sizeBad rootBad unevenBad
+unfolding headerFault rootBad unevenBad
 header-sound h u small-field e =
     let (four, rest) = first-zero (when (sizeBad h) 4) (firstOf (when (rootBad h) 5) (when (unevenBad h) 6)) e in
     let (five, six) = first-zero (when (rootBad h) 5) (when (unevenBad h) 6) rest in
-    let sizes : (ltb (h .n) 2 || (eqb (h .k) 0 || ltb (h .n) (h .k))) ≡ false = when-zero (sizeBad h) 3 four in
-    let small : (eqb (h .k) 0 || ltb (h .n) (h .k)) ≡ false = or-right-false (ltb (h .n) 2) _ sizes in
-    let some : h .k ≡ 0 → ⊥ = eqb-false (h .k) 0 (or-left-false _ (ltb (h .n) (h .k)) small) in
+    let (two, some, fits) = sizes h (when-zero (sizeBad h) 3 four) in
     let root : (ltb (h .root) (size h) && eqb (orderOf (prime h) (h .root)) (h .n)) ≡ true = not-false _ (when-zero (rootBad h) 4 five) in
     record {
       usable-field = u;
       field = usable-field (h .field) u;
       bytes = small-field;
-      two = ltb-false (h .n) 2 (or-left-false _ (eqb (h .k) 0 || ltb (h .n) (h .k)) sizes);
-      some = omega arith;
-      fits = ltb-false (h .n) (h .k) (or-right-false (eqb (h .k) 0) _ small);
+      two = two;
+      some = some;
+      fits = fits;
       root-below = ltb-true (h .root) (size h) (and-left _ (eqb (orderOf (prime h) (h .root)) (h .n)) root);
       order = eqb-true (orderOf (prime h) (h .root)) (h .n) (and-right (ltb (h .root) (size h)) _ root);
       even = eqb-true (h .k * weight h % h .n) 0 (not-false _ (when-zero (unevenBad h) 5 six));

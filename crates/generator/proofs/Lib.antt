@@ -12,6 +12,7 @@ pub mod Words
 pub mod Changes
 pub mod Costs
 pub mod SchemeOf
+pub mod Faults
 pub mod Accepts
 pub mod Claims
 pub mod Notebook

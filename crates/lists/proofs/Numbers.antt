@@ -6,10 +6,10 @@ use mathlib.Core.List.{List, [], _∷_}
 use Prim.Native.Nat.{ℕ, suc, _<_}
 use native.Mathlib.Omega.{arith}
 use lib.Dec.{eqb, ltb}
-use lib.ListN.{length}
+use lib.ListN.{length, getD}
 use borrow.Author.Tests.{lt-ltb, ne-eqb, eq-eqb, ltb-true, eqb-true, not-true}
 use Rattle.lists.specs.Numbers.{allBelow, isIn, distinct}
-use Rattle.lists.proofs.All.{All, All-imp, Distinct}
+use Rattle.lists.proofs.All.{All, All-imp, All-at, All-of, Distinct}
 use Rattle.lists.proofs.Places.{Places}
 use Rattle.lists.proofs.Cases.{or-right-false}
 
@@ -69,6 +69,13 @@ pub all-below : (n : ℕ) (js : List ℕ) → All (λ j. j < n) js → allBelow 
 unfolding allBelow
 all-below n [] h = refl
 all-below n (j ∷ js) h = cons-below n j js (h .0) (all-below n js (h .1))
+
+-- the bound at an index, and at every index
+pub below-at : (n : ℕ) (js : List ℕ) → allBelow n js ≡ true → (i : ℕ) → i < length js → getD js i 0 < n
+below-at n js h = All-at (λ j. j < n) 0 js (below-all n js h)
+
+pub at-below : (n : ℕ) (js : List ℕ) → ((i : ℕ) → i < length js → getD js i 0 < n) → allBelow n js ≡ true
+at-below n js h = all-below n js (All-of (λ j. j < n) 0 js h)
 
 -- a number that is not in a list differs from each of it
 not-in-all : (j : ℕ) (js : List ℕ) → isIn j js ≡ false → All (λ i. j ≡ i → ⊥) js

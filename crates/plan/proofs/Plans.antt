@@ -5,9 +5,9 @@ use Prim.Native.Nat.{ℕ, _+_, _%_, _<_}
 use native.Mathlib.Omega.{arith}
 use native.Mathlib.Nat.{mod-lt}
 use borrow.Author.Tests.{lt-ltb}
-use lib.ListN.{length, getD, List·getD-append}
-use Rattle.lists.specs.Padded.{padded}
+use lib.ListN.{length, getD}
 use Rattle.lists.proofs.Rows.{length-from}
+use Rattle.lists.proofs.Fill.{getD-padded}
 use Rattle.generator.specs.declared.Header.{Header}
 use Rattle.generator.specs.declared.Record.the-variants.{Holds}
 use Rattle.generator.specs.Records.{Sound}
@@ -16,11 +16,6 @@ use Rattle.generator.specs.Generator.{entryAt, entry, baseWord}
 use Rattle.plan.specs.Plans.{planFor, entryIn}
 use Rattle.generator.proofs.Shifts.{shifts-length}
 use Rattle.generator.proofs.Entries.{rows-base}
-
--- padding changes no element
-getD-padded : (n : ℕ) (xs : List ℕ) (i : ℕ) → i < length xs → getD (padded n xs) i 0 ≡ getD xs i 0
-unfolding padded
-getD-padded n xs i h = List·getD-append xs _ 0 i h
 
 length-base : (h : Header) → length (baseWord h) ≡ h .n
 unfolding baseWord

@@ -1,16 +1,16 @@
 // Records as they are read: what one holds, or the lowest number that turns it away.
 ghost use mathlib.Core.Path.{_≡_};
-ghost use mathlib.Core.Bool.{true, _&&_};
+ghost use mathlib.Core.Bool.{true, false, _&&_};
 ghost use lib.Dec.{leb};
 ghost use Rattle.field.specs.Primes.{isPrime};
 ghost use Rattle.field.specs.Kinds.{usable};
-ghost use Rattle.generator.specs.Records.{headerFault, judged, recordOf};
+ghost use Rattle.generator.specs.Records.{sizeBad, rootBad, unevenBad, headerFault, judged, recordOf};
+use generator::Header;
+use generator::Record;
 use field::Field;
 use field::Gf256;
 use field::PrimeField;
 use field::is_prime;
-use generator::Header;
-use generator::Record;
 
 // A prime from 3 to 251.
 fn is_prime_byte(p: u32) -> bool
@@ -19,23 +19,49 @@ fn is_prime_byte(p: u32) -> bool
     3 <= p && p <= 251 && is_prime(p)
 }
 
+// Number 4: n below 2, k zero, or k above n.
+fn size_bad(h: Header) -> bool
+    ensures { λ r. ⌜ r ≡ sizeBad h ⌝ }
+{
+    let n = h.n;
+    let k = h.k;
+    n < 2 || k == 0 || n < k
+}
+
+// Number 5: the root is no symbol of order exactly n.
+fn root_bad(h: Header) -> bool
+    requires { ⌜ usable (h .field) ≡ true ⌝ }
+    ensures { λ r. ⌜ r ≡ rootBad h ⌝ }
+{
+    let f = h.field;
+    let root = h.root;
+    let n = h.n as u32;
+    root >= f.size() || f.order(root) != n
+}
+
+// Number 6: n does not divide k·d.
+fn uneven_bad(h: Header) -> bool
+    requires { ⌜ sizeBad h ≡ false ⌝ }
+    ensures { λ r. ⌜ r ≡ unevenBad h ⌝ }
+{
+    let n = h.n as u32;
+    let k = h.k as u32;
+    let d = n - k + 1;
+    k * d % n != 0
+}
+
 // Numbers 4 to 6.
 fn judge(h: Header) -> Record
     requires { ⌜ usable (h .field) ≡ true ⌝ }
     ensures { λ r. ⌜ r ≡ judged (headerFault h) h ⌝ }
 {
-    let f = h.field;
-    let root = h.root;
-    let n = h.n as u32;
-    let k = h.k as u32;
-    if n < 2 || k == 0 || n < k {
+    if size_bad(h) {
         return Record::Meets(4);
     }
-    if root >= f.size() || f.order(root) != n {
+    if root_bad(h) {
         return Record::Meets(5);
     }
-    let d = n - k + 1;
-    if k * d % n != 0 {
+    if uneven_bad(h) {
         return Record::Meets(6);
     }
     Record::Holds(h)

@@ -1,7 +1,7 @@
 -- `entry` meets its contract.
-use Prim.Native.Nat.{_+_, _%_, _<_}
+use Prim.Native.Nat.{_<_}
 use mathlib.Core.Logic.{⊎-elim}
-use native.Mathlib.Nat.{mod-lt}
+use native.Mathlib.Nat.{mod-lt, lt-of-lt-of-le}
 use native.Mathlib.Omega.{arith}
 use mir.Syntax.{w8}
 use mir.Val.{Fits}
@@ -15,10 +15,6 @@ use Rattle.plan.proofs.entries.entry.Tie as tie
 -- the node is below n
 node : (c : tie.Else2) → c .before .before .args .j < c .before .before .args .t1 .n
 node c = leb-false _ _ (c .if2 .left)
-
--- and so is the place in the base word
-place : (c : tie.After-shift) → (c .before .before .before .args .j + getD (c .before .before .before .args .t1 .shifts) (c .before .before .before .args .r) 0) % c .before .before .before .args .t1 .n < c .before .before .before .args .t1 .n
-place c = mod-lt _ (omega (arith, node (c .before)))
 
 cast-n : tie.Need-cast-n
 cast-n c = search needs
@@ -50,10 +46,10 @@ rem-place : tie.Need-rem-place
 rem-place c = omega (arith, node (c .before))
 
 cast-result : tie.Need-cast-result
-cast-result c = omega (arith, place c)
+cast-result c = record { fits = lt-of-lt-of-le (mod-lt _ (omega (arith, node (c .before)))) (omega arith) }
 
 element-copy-out-result : tie.Need-element-copy-out-result
-element-copy-out-result c = omega (arith, place c)
+element-copy-out-result c = lt-of-lt-of-le (mod-lt _ (omega (arith, node (c .before)))) (omega arith)
 
 returns-2 : tie.Need-returns-2
 unfolding entryIn

@@ -88,7 +88,8 @@ judge-requires-2 c κs = refl
 returns-5 : tie.Need-returns-5
 unfolding recordOf recordFault kindBad bodyBad fieldBad headerOf
 returns-5 c =
-    simp (c .before .before .before .before .before .before .before .before .before .match .keys1, c .before .before .before .before .before .before .before .before .if2 .left, prime (c .before .before .before .before .before))
+    let passed = c .before .before .before .before .before in
+    simp (passed .before .before .before .before .match .keys1, passed .before .before .before .if2 .left, prime passed)
     (rw (c .before .before .before .before .new .ensures) at (c .judge .ensures))
 
 returns-6 : tie.Need-returns-6

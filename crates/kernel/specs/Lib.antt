@@ -1,0 +1,2 @@
+-- What the operations over lanes make of their slices.
+pub mod Lanes

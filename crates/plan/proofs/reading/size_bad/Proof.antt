@@ -1,0 +1,27 @@
+-- `size_bad` meets its contract.
+use mathlib.Core.Path.{sym, _∙_}
+use mathlib.Core.Bool.{true≢false}
+use mathlib.Core.Logic.{⊎-elim}
+use borrow.Author.Tests.{lt-ltb, le-ltb}
+use Rattle.generator.specs.Records.{sizeBad}
+use Rattle.plan.proofs.reading.size_bad.Statement.{statement}
+use Rattle.plan.proofs.reading.size_bad.Tie as tie
+
+returns : tie.Need-returns
+unfolding sizeBad
+returns c =
+    ⊎-elim
+    (λ w. rw (lt-ltb _ 2 (w .0 .taken)) (c .if2 .taken))
+    (λ w. rw (le-ltb _ 2 (w .0 .left), sym (w .1) ∙ c .if2 .taken) (c .if2 .taken))
+    (c .before .if1 .came)
+
+returns-2 : tie.Need-returns-2
+unfolding sizeBad
+returns-2 c =
+    ⊎-elim
+    (λ w. absurd (true≢false (sym (lt-ltb _ 2 (w .0 .taken)) ∙ sym (w .1) ∙ c .if2 .left)))
+    (λ w. rw (le-ltb _ 2 (w .0 .left), sym (w .1) ∙ c .if2 .left))
+    (c .before .if1 .came)
+
+pub size-bad-spec : {M : Type 1} → statement M
+size-bad-spec = tie.close (tie.spec returns returns-2)
