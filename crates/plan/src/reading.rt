@@ -5,12 +5,12 @@ ghost use lib.Dec.{leb};
 ghost use Rattle.field.specs.Primes.{isPrime};
 ghost use Rattle.field.specs.Kinds.{usable};
 ghost use Rattle.generator.specs.Records.{sizeBad, rootBad, unevenBad, headerFault, judged, recordOf};
-use generator::Header;
-use generator::Record;
 use field::Field;
 use field::Gf256;
 use field::PrimeField;
 use field::is_prime;
+use generator::Header;
+use generator::Record;
 
 // A prime from 3 to 251.
 fn is_prime_byte(p: u32) -> bool
