@@ -8,6 +8,7 @@ pub mod Poly
 pub mod Product
 pub mod Coefficients
 pub mod LagrangeBasis
+pub mod Others
 pub mod Lagrange
 pub mod Interpolation
 pub mod Vandermonde

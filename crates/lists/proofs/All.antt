@@ -3,7 +3,7 @@ use mathlib.Core.Path.{_≡_, refl, sym, ap}
 use mathlib.Core.List.{List, [], _∷_, map}
 use Prim.Native.Nat.{ℕ, zero, suc, _<_}
 use native.Mathlib.Omega.{arith}
-use lib.ListN.{length, getD, replicate}
+use lib.ListN.{length, getD, take, drop, replicate}
 
 module _ {A : Type 0} where
   -- Every element has the property P.
@@ -121,3 +121,14 @@ module _ {A B : Type 0} where
   getD-map f d e [] i l = absurd (omega arith)
   getD-map f d e (x ∷ xs) zero l = refl
   getD-map f d e (x ∷ xs) (suc i) l = getD-map f d e xs i (omega arith)
+
+  -- the images of a part
+  pub map-take : (f : A → B) (i : ℕ) (xs : List A) → map f (take i xs) ≡ take i (map f xs)
+  map-take f zero xs = refl
+  map-take f (suc i) [] = refl
+  map-take f (suc i) (x ∷ xs) = ap (λ l. f x ∷ l) (map-take f i xs)
+
+  pub map-drop : (f : A → B) (i : ℕ) (xs : List A) → map f (drop i xs) ≡ drop i (map f xs)
+  map-drop f zero xs = refl
+  map-drop f (suc i) [] = refl
+  map-drop f (suc i) (x ∷ xs) = map-drop f i xs

@@ -8,6 +8,7 @@ pub mod Count
 pub mod All
 pub mod Places
 pub mod Numbers
+pub mod Padding
 pub mod Chosen
 pub mod Passing
 pub mod Lanes

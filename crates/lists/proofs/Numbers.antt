@@ -2,11 +2,11 @@
 use mathlib.Core.Path.{_≡_, refl, sym, _∙_}
 use mathlib.Core.Logic.{_⊎_, inl, inr, ⊎-elim}
 use mathlib.Core.Bool.{Bool, true, false, _&&_, _||_, not, false≢true, true≢false, and-eq-true-iff, or-true}
-use mathlib.Core.List.{List, [], _∷_}
-use Prim.Native.Nat.{ℕ, suc, _<_}
+use mathlib.Core.List.{List, [], _∷_, _++_}
+use Prim.Native.Nat.{ℕ, zero, suc, _<_}
 use native.Mathlib.Omega.{arith}
 use lib.Dec.{eqb, ltb}
-use lib.ListN.{length, getD}
+use lib.ListN.{length, getD, take, drop}
 use borrow.Author.Tests.{lt-ltb, ne-eqb, eq-eqb, ltb-true, eqb-true, not-true}
 use Rattle.lists.specs.Numbers.{allBelow, isIn, distinct}
 use Rattle.lists.proofs.All.{All, All-imp, All-at, All-of, Distinct}
@@ -76,6 +76,22 @@ below-at n js h = All-at (λ j. j < n) 0 js (below-all n js h)
 
 pub at-below : (n : ℕ) (js : List ℕ) → ((i : ℕ) → i < length js → getD js i 0 < n) → allBelow n js ≡ true
 at-below n js h = all-below n js (All-of (λ j. j < n) 0 js h)
+
+-- the bound of parts, and of lists that are joined
+pub below-take : (n i : ℕ) (js : List ℕ) → allBelow n js ≡ true → allBelow n (take i js) ≡ true
+unfolding allBelow
+below-take n zero js h = refl
+below-take n (suc i) [] h = refl
+below-take n (suc i) (j ∷ js) h = let a = below-cons n j js h in cons-below n j (take i js) (a .0) (below-take n i js (a .1))
+
+pub below-drop : (n i : ℕ) (js : List ℕ) → allBelow n js ≡ true → allBelow n (drop i js) ≡ true
+below-drop n zero js h = h
+below-drop n (suc i) [] h = h
+below-drop n (suc i) (j ∷ js) h = below-drop n i js (below-cons n j js h .1)
+
+pub below-append : (n : ℕ) (js ks : List ℕ) → allBelow n js ≡ true → allBelow n ks ≡ true → allBelow n (js ++ ks) ≡ true
+below-append n [] ks h k = k
+below-append n (j ∷ js) ks h k = let a = below-cons n j js h in cons-below n j (js ++ ks) (a .0) (below-append n js ks (a .1) k)
 
 -- a number that is not in a list differs from each of it
 not-in-all : (j : ℕ) (js : List ℕ) → isIn j js ≡ false → All (λ i. j ≡ i → ⊥) js

@@ -7,7 +7,7 @@ use native.Mathlib.Nat.{mod-lt}
 use borrow.Author.Tests.{lt-ltb}
 use lib.ListN.{length, getD}
 use Rattle.lists.proofs.Rows.{length-from}
-use Rattle.lists.proofs.Fill.{getD-padded}
+use Rattle.lists.proofs.Padding.{getD-padded}
 use Rattle.generator.specs.declared.Header.{Header}
 use Rattle.generator.specs.declared.Record.the-variants.{Holds}
 use Rattle.generator.specs.Records.{Sound}

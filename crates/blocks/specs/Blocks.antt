@@ -1,0 +1,70 @@
+-- Lanes and shares of a block, and an update of one lane.
+use mathlib.Core.Path.{_≡_}
+use mathlib.Core.Bool.{Bool, true, false}
+use mathlib.Core.List.{List, map}
+use Prim.Native.Nat.{ℕ, zero, suc, _+_, _*_, _≤_, _<_}
+use lib.ListN.{length, getD, set}
+use Rattle.lists.specs.Choice.{pick}
+use Rattle.lists.specs.Rows.{from, rowsFrom}
+use Rattle.lists.specs.Numbers.{allBelow}
+use Rattle.field.specs.declared.Field.{Field}
+use Rattle.field.specs.Fields.{sizeOf, add, sub, mul}
+use Rattle.field.specs.Kinds.{modulus, usable}
+use Rattle.field.specs.Sums.{dot}
+use Rattle.generator.specs.declared.Header.{Header}
+use Rattle.generator.specs.Records.{prime, size}
+use Rattle.generator.specs.Generator.{entry}
+use Rattle.generator.specs.Codewords.{nodeOf, isWord}
+use Rattle.generator.specs.Claims.{atNodes}
+
+-- where row i of lane t stands in a buffer of rows of l bytes
+unfoldable pub placeOf : ℕ → ℕ → ℕ → ℕ
+placeOf l i t = i * l + t
+
+-- lane t of a buffer of so many rows
+unfoldable pub laneOf : ℕ → ℕ → ℕ → List ℕ → List ℕ
+laneOf rows l t s = from (λ i. getD s (placeOf l i t) 0) 0 rows
+
+-- in each lane the sum of the rows' symbols times the weights
+unfoldable pub combined : ℕ → ℕ → ℕ → List ℕ → List ℕ → List ℕ
+combined p rows l ws s = from (λ t. dot p (laneOf rows l t s) ws) 0 l
+
+-- node j's share: what it holds in each lane
+unfoldable pub shareOf : Header → ℕ → List ℕ → ℕ → List ℕ
+shareOf h l s j = from (λ t. nodeOf h (laneOf (h .k) l t s) j) 0 l
+
+-- the shares of all nodes, one after the other
+unfoldable pub sharesOf : Header → ℕ → List ℕ → List ℕ
+sharesOf h l s = rowsFrom (shareOf h l s) 0 (h .n)
+
+-- x times row r of the generator added to lane t, at the f nodes from j on
+unfoldable pub updatedFrom : ℕ → ℕ → Header → ℕ → ℕ → ℕ → ℕ → List ℕ → List ℕ
+updatedFrom zero j h l r t x s = s
+updatedFrom (suc f) j h l r t x s = updatedFrom f (j + 1) h l r t x (set s (placeOf l j t) (add (prime h) (getD s (placeOf l j t) 0) (mul (prime h) x (entry h r j))))
+
+-- (new − old) times row r added to lane t
+unfoldable pub updated : Header → ℕ → ℕ → ℕ → ℕ → ℕ → List ℕ → List ℕ
+updated h l r t old new s = updatedFrom (h .n) 0 h l r t (sub (prime h) new old) s
+
+-- of the f lanes from t on, the smallest that is no word of the code, plus 1; 0 where all are
+unfoldable pub wrongFrom : ℕ → ℕ → Header → ℕ → List ℕ → ℕ
+wrongFrom zero t h l s = 0
+wrongFrom (suc f) t h l s = pick (isWord h (laneOf (h .n) l t s)) (wrongFrom f (t + 1) h l s) (t + 1)
+
+-- m holds, in each lane, the message whose encoding has the listed shares' symbols at the listed nodes
+pub record MessageFor (h : Header) (l : ℕ) (nodes shares m : List ℕ) : Type 0 where
+  pub size-is : length m ≡ h .k * l
+  pub symbols : allBelow (size h) m ≡ true
+  pub lanes : (t : ℕ) → t < l → atNodes h (laneOf (h .k) l t m) nodes ≡ laneOf (h .k) l t shares
+
+-- what combining rows rests on: symbols of a field whose symbols are bytes, a weight for each row
+pub record Rows (field : Field) (rows l : ℕ) (ws s : List ℕ) (out : ℕ) : Type 0 where
+  pub usable-field : usable field ≡ true
+  pub bytes : sizeOf (modulus field) ≤ 256
+  pub weights : rows ≤ length ws
+  pub weights-below : allBelow (sizeOf (modulus field)) ws ≡ true
+  pub long : length s ≡ rows * l
+  pub symbols : allBelow (sizeOf (modulus field)) s ≡ true
+  pub out-long : out ≡ l
+  pub few : rows ≤ 255
+  pub narrow : l ≤ 4096

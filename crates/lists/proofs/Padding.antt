@@ -1,0 +1,36 @@
+-- Lists that are padded with zeros: their length, elements and parts.
+use mathlib.Core.Path.{_≡_, refl, _∙_}
+use mathlib.Core.Bool.{true}
+use mathlib.Core.List.{List}
+use Prim.Native.Nat.{ℕ, zero, suc, _-_, _≤_, _<_}
+use native.Mathlib.Omega.{arith}
+use lib.ListN.{length, getD, take, length-append, List·getD-append}
+use lib.Seq.{take-at}
+use Rattle.lists.specs.Numbers.{allBelow}
+use Rattle.lists.specs.Padded.{zeros, padded}
+use Rattle.lists.proofs.Fill.{length-zeros}
+use Rattle.lists.proofs.Numbers.{cons-below, below-append}
+
+pub length-padded : (n : ℕ) (xs : List ℕ) → length xs ≤ n → length (padded n xs) ≡ n
+unfolding padded
+length-padded n xs h = length-append xs (zeros (n - length xs)) ∙ omega (arith, length-zeros (n - length xs))
+
+-- padding changes no element
+pub getD-padded : (n : ℕ) (xs : List ℕ) (i : ℕ) → i < length xs → getD (padded n xs) i 0 ≡ getD xs i 0
+unfolding padded
+getD-padded n xs i h = List·getD-append xs _ 0 i h
+
+-- the list without the padding
+pub take-padded : (n m : ℕ) (xs : List ℕ) → length xs ≡ m → take m (padded n xs) ≡ xs
+unfolding padded
+take-padded n m xs h = take-at xs (zeros (n - length xs)) m h
+
+-- zeros keep a bound
+below-zeros : (q n : ℕ) → 0 < q → allBelow q (zeros n) ≡ true
+unfolding zeros allBelow
+below-zeros q zero h = refl
+below-zeros q (suc n) h = cons-below q 0 (zeros n) h (below-zeros q n h)
+
+pub below-padded : (q n : ℕ) (xs : List ℕ) → 0 < q → allBelow q xs ≡ true → allBelow q (padded n xs) ≡ true
+unfolding padded
+below-padded q n xs pos h = below-append q xs (zeros (n - length xs)) h (below-zeros q (n - length xs) pos)

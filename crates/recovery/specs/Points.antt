@@ -1,0 +1,21 @@
+-- Lists of points: powers of the root, symbols of a field whose symbols are bytes.
+use mathlib.Core.Path.{_≡_}
+use mathlib.Core.Bool.{true}
+use mathlib.Core.List.{List, map}
+use Prim.Native.Nat.{ℕ, _+_, _≤_}
+use lib.ListN.{length}
+use Rattle.lists.specs.Numbers.{allBelow}
+use Rattle.field.specs.declared.Field.{Field}
+use Rattle.field.specs.Fields.{sizeOf, power}
+use Rattle.field.specs.Kinds.{modulus, usable}
+
+-- at most 255 symbols of a field whose symbols are bytes
+pub record ByteSymbols (f : Field) (xs : List ℕ) : Type 0 where
+  pub usable-field : usable f ≡ true
+  pub bytes : sizeOf (modulus f) ≤ 256
+  pub below : allBelow (sizeOf (modulus f)) xs ≡ true
+  pub short : length xs ≤ 255
+
+-- root^(j + e) for each j of the list
+unfoldable pub pointsOf : ℕ → ℕ → ℕ → List ℕ → List ℕ
+pointsOf p root e js = map (λ j. power p root (j + e)) js
