@@ -1,0 +1,55 @@
+-- The sheet of the plan of a record says what the definitions of the generator say.
+use mathlib.Core.Path.{_≡_, refl, ap, ap₂, _∙_}
+use mathlib.Core.List.{List, [], _∷_, _++_, append-nil}
+use Prim.Native.Nat.{ℕ, zero, suc, _+_, _*_, _/_, _≤_, _<_}
+use native.Mathlib.Omega.{arith}
+use borrow.Author.Tests.{ne-eqb}
+use lib.ListN.{getD}
+use Rattle.lists.specs.Rows.{from, rowsFrom}
+use Rattle.lists.proofs.Rows.{from-ext}
+use Rattle.generator.specs.declared.Header.{Header}
+use Rattle.generator.specs.declared.Record.{Record}
+use Rattle.generator.specs.declared.Record.the-variants.{Holds, Meets}
+use Rattle.generator.specs.Records.{weight, recordFault, headerOf, judged, recordOf, Sound}
+use Rattle.generator.specs.Shifts.{shifts}
+use Rattle.generator.specs.Generator.{entry}
+use Rattle.plan.specs.Plans.{planFor, entryIn}
+use Rattle.plan.proofs.Plans.{shift-in, entry-in}
+use Rattle.generator.proofs.Accepts.{accepted-sound}
+use Rattle.sheet_text.specs.Text.{ascii, line, headLine, rowLine, sheetOf, sheetFor}
+
+-- rows that agree where they are asked give the same text
+rows-ext : (f g : ℕ → List ℕ) (i n : ℕ) → ((k : ℕ) → i ≤ k → k < i + n → f k ≡ g k) → rowsFrom f i n ≡ rowsFrom g i n
+unfolding rowsFrom
+rows-ext f g i zero h = refl
+rows-ext f g i (suc n) h =
+    ap₂ _++_ (h i (omega arith) (omega arith))
+    (rows-ext f g (i + 1) n (λ k a b. h k (omega arith) (omega arith)))
+
+-- the line of a row of a sound header
+row-is : (h : Header) → Sound h → (r : ℕ) → r < h .k → rowLine (planFor (Holds h)) r ≡ line (ascii "row") (r ∷ getD (shifts h) r 0 ∷ from (entry h r) 0 (h .n))
+unfolding rowLine planFor
+row-is h s r row =
+    ap₂ (λ (t : ℕ) (xs : List ℕ). line (ascii "row") (r ∷ t ∷ xs)) (shift-in h s r row)
+    (from-ext (entryIn (planFor (Holds h)) r) (entry h r) 0 (h .n) (λ j a node. entry-in h s r j row (omega arith)))
+
+-- the sheet of a sound header
+pub sheet-holds : (h : Header) → Sound h → sheetOf (planFor (Holds h)) ≡ sheetFor (Holds h)
+unfolding sheetOf headLine sheetFor planFor
+sheet-holds h s =
+    ap (λ (xs : List ℕ). line (ascii "plan") (h .n ∷ h .k ∷ weight h ∷ (h .k * weight h / h .n) ∷ []) ++ xs)
+    (rows-ext (rowLine (planFor (Holds h))) _ 0 (h .k) (λ r a row. row-is h s r (omega arith)))
+
+-- the sheet of a record that was turned away
+sheet-meets : (f : ℕ) → sheetOf (planFor (Meets (suc f))) ≡ sheetFor (Meets (suc f))
+unfolding sheetOf headLine sheetFor planFor
+sheet-meets f = rw (ne-eqb (suc f) 0 (λ e. omega arith)) (append-nil (line (ascii "refused") (suc f ∷ [])))
+
+-- the sheet of every record
+pub sheet-is : (rec : List ℕ) → sheetOf (planFor (recordOf rec)) ≡ sheetFor (recordOf rec)
+unfolding recordOf judged
+sheet-is rec = go (recordFault rec) refl
+  where
+    go : (f : ℕ) → recordFault rec ≡ f → sheetOf (planFor (judged f (headerOf rec))) ≡ sheetFor (judged f (headerOf rec))
+    go zero e = sheet-holds (headerOf rec) (accepted-sound rec (headerOf rec) (ap (λ (f : ℕ). judged f (headerOf rec)) e))
+    go (suc f) e = sheet-meets f

@@ -1,0 +1,141 @@
+// The plan sheet as text.
+use plan::Plan;
+use plan::build_plan;
+use plan::entry;
+ghost use mathlib.Core.Path.{_≡_};
+ghost use mathlib.Core.List.{[], _∷_, _++_};
+ghost use Prim.Native.Nat.{_+_, _≤_, _<_};
+ghost use lib.ListN.{length, take, drop};
+ghost use Rattle.lists.specs.Rows.{from};
+ghost use Rattle.generator.specs.Records.{recordOf};
+ghost use Rattle.plan.specs.Plans.{entryIn};
+ghost use Rattle.sheet_text.specs.Text.{field, fields, headLine, rowLine, sheetOf, sheetFor};
+ghost use Rattle.sheet_text.specs.Writing.{Puts};
+
+// Each `put_` function puts its text at a place of a buffer that has room for it, and gives the next place.
+
+fn put_byte(out: &mut [u8], at: usize, b: u8) -> usize
+    requires { ⌜ at < length (now out) ⌝ }
+    ensures { λ r. ⌜ Puts (now (out .entry)) (now (out .exit)) at r (b ∷ []) ⌝ }
+{
+    out[at] = b;
+    at + 1
+}
+
+fn put_word(out: &mut [u8], at: usize, word: &[u8]) -> usize
+    requires { ⌜ at + length (now word) ≤ length (now out) ⌝ }
+    ensures { λ r. ⌜ Puts (now (out .entry)) (now (out .exit)) at r (now (word .entry)) ⌝ }
+{
+    let mut place = at;
+    let mut i = 0;
+    while i < word.len() {
+        out[place] = word[i];
+        place += 1;
+        i += 1;
+    }
+    place
+}
+
+// A space and a number in base ten.
+fn put_field(out: &mut [u8], at: usize, x: u8) -> usize
+    requires { ⌜ at + 4 ≤ length (now out) ⌝ }
+    ensures { λ r. ⌜ Puts (now (out .entry)) (now (out .exit)) at r (field x) ⌝ }
+    ensures { λ r. ⌜ r ≤ at + 4 ⌝ }
+{
+    let first = put_byte(out, at, b' ');
+    if x < 10 {
+        return put_byte(out, first, b'0' + x);
+    }
+    if x < 100 {
+        let second = put_byte(out, first, b'0' + x / 10);
+        return put_byte(out, second, b'0' + x % 10);
+    }
+    let second = put_byte(out, first, b'0' + x / 100);
+    let third = put_byte(out, second, b'0' + x / 10 % 10);
+    put_byte(out, third, b'0' + x % 10)
+}
+
+// The first line.
+fn put_head(out: &mut [u8], at: usize, plan: Plan) -> usize
+    requires { ⌜ at + 21 ≤ length (now out) ⌝ }
+    ensures { λ r. ⌜ Puts (now (out .entry)) (now (out .exit)) at r (headLine plan) ⌝ }
+    ensures { λ r. ⌜ r ≤ at + 21 ⌝ }
+{
+    let number = plan.number;
+    if number != 0 {
+        let named = put_word(out, at, b"refused");
+        let numbered = put_field(out, named, number);
+        return put_byte(out, numbered, b'\n');
+    }
+    let named = put_word(out, at, b"plan");
+    let after_n = put_field(out, named, plan.n);
+    let after_k = put_field(out, after_n, plan.k);
+    let after_d = put_field(out, after_k, plan.d);
+    let after_b = put_field(out, after_d, plan.b);
+    put_byte(out, after_b, b'\n')
+}
+
+// The entries of row r, and the line feed.
+fn put_entries(out: &mut [u8], at: usize, plan: Plan, r: u8) -> usize
+    requires { ⌜ at + 1021 ≤ length (now out) ⌝ }
+    ensures { λ x. ⌜ Puts (now (out .entry)) (now (out .exit)) at x (fields (from (entryIn plan r) 0 (plan .n))) ⌝ }
+    ensures { λ x. ⌜ x ≤ at + 1021 ⌝ }
+{
+    let n = plan.n;
+    let mut place = at;
+    let mut j: u8 = 0;
+    while j < n {
+        let x = entry(plan, r as u32, j as u32);
+        place = put_field(out, place, x);
+        j += 1;
+    }
+    put_byte(out, place, b'\n')
+}
+
+// The line of row r.
+fn put_row(out: &mut [u8], at: usize, plan: Plan, r: u8) -> usize
+    requires { ⌜ (r < plan .k) × (at + 1032 ≤ length (now out)) ⌝ }
+    ensures { λ x. ⌜ Puts (now (out .entry)) (now (out .exit)) at x (rowLine plan r) ⌝ }
+    ensures { λ x. ⌜ x ≤ at + 1032 ⌝ }
+{
+    let named = put_word(out, at, b"row");
+    let numbered = put_field(out, named, r);
+    let shifted = put_field(out, numbered, plan.shifts[r as usize]);
+    put_entries(out, shifted, plan, r)
+}
+
+// The sheet of a plan: the first line has at most 21 bytes, and each of at most 255 rows has at most 1,032.
+fn put_sheet(out: &mut [u8], at: usize, plan: Plan) -> usize
+    requires { ⌜ at + 263181 ≤ length (now out) ⌝ }
+    ensures { λ r. ⌜ Puts (now (out .entry)) (now (out .exit)) at r (sheetOf plan) ⌝ }
+{
+    let number = plan.number;
+    let k = plan.k;
+    let mut place = put_head(out, at, plan);
+    if number != 0 {
+        return place;
+    }
+    let mut r: u8 = 0;
+    while r < k {
+        place = put_row(out, place, plan, r);
+        r += 1;
+    }
+    place
+}
+
+// An empty page, with room for any sheet.
+pub fn page() -> [u8; 263181]
+    ensures { λ r. ⌜ 263181 ≡ length r ⌝ }
+{
+    [0; 263181]
+}
+
+// Puts the sheet of a record at the front of a page, and gives its length. `fits` follows from the other two, and is what a
+// caller needs to lend `&out[..r]`.
+pub fn sheet(rec: &[u8], out: &mut [u8; 263181]) -> usize
+    ensures text { λ r. ⌜ now (out .exit) ≡ sheetFor (recordOf (now (rec .entry))) ++ drop r (now (out .entry)) ⌝ }
+    ensures size { λ r. ⌜ r ≡ length (sheetFor (recordOf (now (rec .entry)))) ⌝ }
+    ensures fits { λ r. ⌜ (r ≤ length (now (out .exit))) × (r ≡ length (take r (now (out .exit)))) ⌝ }
+{
+    put_sheet(out, 0, build_plan(rec))
+}
