@@ -20,6 +20,11 @@ pub getD-padded : (n : ℕ) (xs : List ℕ) (i : ℕ) → i < length xs → getD
 unfolding padded
 getD-padded n xs i h = List·getD-append xs _ 0 i h
 
+-- and takes no place away
+pub in-padded : (n : ℕ) (xs : List ℕ) (i : ℕ) → i < length xs → i < length (padded n xs)
+unfolding padded
+in-padded n xs i h = simp length-append (omega arith)
+
 -- the list without the padding
 pub take-padded : (n m : ℕ) (xs : List ℕ) → length xs ≡ m → take m (padded n xs) ≡ xs
 unfolding padded

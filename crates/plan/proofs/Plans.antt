@@ -1,20 +1,19 @@
 -- What is read from the plan of a sound header.
 use mathlib.Core.Path.{_≡_, sym}
-use mathlib.Core.List.{List}
 use Prim.Native.Nat.{ℕ, _+_, _%_, _<_}
 use native.Mathlib.Omega.{arith}
 use native.Mathlib.Nat.{mod-lt}
 use borrow.Author.Tests.{lt-ltb}
 use lib.ListN.{length, getD}
 use Rattle.lists.proofs.Rows.{length-from}
-use Rattle.lists.proofs.Padding.{getD-padded}
+use Rattle.lists.proofs.Padding.{getD-padded, in-padded}
 use Rattle.generator.specs.declared.Header.{Header}
 use Rattle.generator.specs.declared.Record.the-variants.{Holds}
 use Rattle.generator.specs.Records.{Sound}
 use Rattle.generator.specs.Shifts.{shifts}
 use Rattle.generator.specs.Generator.{entryAt, entry, baseWord}
 use Rattle.plan.specs.Plans.{planFor, entryIn}
-use Rattle.generator.proofs.Shifts.{shifts-length}
+use Rattle.generator.proofs.Shifts.{shifts-length, shifts-below}
 use Rattle.generator.proofs.Entries.{rows-base}
 
 length-base : (h : Header) → length (baseWord h) ≡ h .n
@@ -27,14 +26,31 @@ module _ (h : Header) (s : Sound h) where
   unfolding planFor
   shift-in r row = getD-padded 255 (shifts h) r (omega (arith, shifts-length (h .n) (h .k) (s .some) (s .fits)))
 
+  -- a shift is below n
+  pub shift-below : (r : ℕ) → r < h .k → getD (planFor (Holds h) .shifts) r 0 < h .n
+  shift-below r row = rw (shift-in r row) (shifts-below (h .n) (h .k) (s .some) (s .fits) r row)
+
   pub base-in : (i : ℕ) → i < h .n → getD (planFor (Holds h) .base) i 0 ≡ getD (baseWord h) i 0
   unfolding planFor
   base-in i low = getD-padded 255 (baseWord h) i (omega (arith, length-base h))
 
-  -- an entry that is read from a plan is the generator's
+  -- their places
+  pub shift-place : (r : ℕ) → r < h .k → r < length (planFor (Holds h) .shifts)
+  unfolding planFor
+  shift-place r row = in-padded 255 (shifts h) r (omega (arith, shifts-length (h .n) (h .k) (s .some) (s .fits)))
+
+  pub base-place : (i : ℕ) → i < h .n → i < length (planFor (Holds h) .base)
+  unfolding planFor
+  base-place i low = in-padded 255 (baseWord h) i (omega (arith, length-base h))
+
+  -- what stands in the base word where the shift of row r leads is the generator's entry
+  pub entry-read : (r j : ℕ) → r < h .k → j < h .n → getD (planFor (Holds h) .base) ((j + getD (planFor (Holds h) .shifts) r 0) % h .n) 0 ≡ entry h r j
+  entry-read r j row node =
+      let place : (j + getD (shifts h) r 0) % h .n < h .n = mod-lt (j + getD (shifts h) r 0) (omega arith) in
+      rw (shift-in r row, base-in _ place)
+      (sym (rows-base h s r j))
+
+  -- so is an entry that is read from a plan
   pub entry-in : (r j : ℕ) → r < h .k → j < h .n → entryIn (planFor (Holds h)) r j ≡ entry h r j
   unfolding entryIn planFor
-  entry-in r j row node =
-      let place : (j + getD (shifts h) r 0) % h .n < h .n = mod-lt (j + getD (shifts h) r 0) (omega arith) in
-      rw (lt-ltb r (h .k) row, lt-ltb j (h .n) node, shift-in r row, base-in _ place)
-      (sym (rows-base h s r j))
+  entry-in r j row node = rw (lt-ltb r (h .k) row, lt-ltb j (h .n) node) (entry-read r j row node)

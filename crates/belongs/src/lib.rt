@@ -1,0 +1,127 @@
+// Belongs: whether every lane of a block is a word of the code.
+ghost use mathlib.Core.Path.{_≡_};
+ghost use mathlib.Core.Bool.{true};
+ghost use Prim.Native.Nat.{_*_, _%_, _≤_, min};
+ghost use lib.Dec.{eqb};
+ghost use lib.ListN.{length, getD};
+ghost use Rattle.lists.specs.Rows.{from};
+ghost use Rattle.field.specs.Fields.{power};
+ghost use Rattle.field.specs.Kinds.{usable};
+ghost use Rattle.generator.specs.Records.{prime, Sound};
+ghost use Rattle.generator.specs.Codewords.{checkFrom, isWord};
+ghost use Rattle.blocks.specs.Blocks.{laneOf, wrongFrom};
+ghost use Rattle.blocks.specs.Faults.{belongsFault};
+ghost use Rattle.blocks.specs.Answers.{testOf};
+ghost use Rattle.blocks.specs.Promises.{BelongsSays};
+ghost use Rattle.belongs.specs.Search.{firstFalse};
+ghost use Rattle.belongs.specs.Ready.{IsBlock};
+use blocks::Test;
+use generator::Header;
+use generator::Record;
+
+// Node j's factor in check sum e: root^(j·e), the exponent modulo n.
+fn factor(h: Header, e: u32, j: u32) -> u32
+    requires { ⌜ Sound h × (j * e ≤ 65025) ⌝ }
+    ensures { λ r. ⌜ r ≡ power (prime h) (h .root) (j * e % h .n) ⌝ }
+{
+    let field = h.field;
+    let root = h.root;
+    let n = h.n as u32;
+    field.power(root, j * e % n)
+}
+
+// Check sum e of each lane. Each node's term is added to the sum over the nodes after it, so the last node comes first.
+fn lane_sums(h: Header, e: u32, lanes: usize, shares: &[u8], sums: &mut [u8])
+    requires { ⌜ IsBlock h lanes (now shares) × (e ≤ 255) × (length (now sums) ≡ lanes) ⌝ }
+    ensures { λ r. ⌜ now (sums .exit) ≡ from (λ t. checkFrom h e 0 (laneOf (h .n) lanes t (now (shares .entry)))) 0 lanes ⌝ }
+{
+    let field = h.field;
+    kernel::clear(sums);
+    let mut j = h.n as u32;
+    while 0 < j {
+        j -= 1;
+        let c = factor(h, e, j);
+        let start = j as usize * lanes;
+        let end = start + lanes;
+        kernel::add_scaled(field, c, &shares[start..end], sums);
+    }
+}
+
+// The first place whose byte is not 0, or the length.
+fn first_nonzero(sums: &[u8]) -> usize
+    ensures { λ r. ⌜ r ≡ firstFalse (length (now (sums .entry))) 0 (λ t. eqb (getD (now (sums .entry)) t 0) 0) ⌝ }
+{
+    let mut t = 0;
+    while t < sums.len() && sums[t] == 0 {
+        t += 1;
+    }
+    t
+}
+
+fn smaller(a: usize, b: usize) -> usize
+    ensures { λ r. ⌜ r ≡ min a b ⌝ }
+{
+    if a < b { a } else { b }
+}
+
+// The smallest lane that is no word of the code, or the number of lanes.
+fn first_wrong(h: Header, lanes: usize, shares: &[u8]) -> usize
+    requires { ⌜ IsBlock h lanes (now shares) ⌝ }
+    ensures { λ r. ⌜ r ≡ firstFalse lanes 0 (λ t. isWord h (laneOf (h .n) lanes t (now (shares .entry)))) ⌝ }
+{
+    let checks = (h.n - h.k) as u32;
+    let mut sums = [0u8; 4096];
+    let mut best = lanes;
+    let mut e: u32 = 0;
+    while e < checks {
+        lane_sums(h, e + 1, lanes, shares, &mut sums[..lanes]);
+        best = smaller(best, first_nonzero(&sums[..lanes]));
+        e += 1;
+    }
+    best
+}
+
+// The first of numbers 7, 8 and 11 that the test meets, or 0.
+fn belongs_fault(h: Header, lanes: usize, shares: &[u8]) -> u8
+    requires { ⌜ usable (h .field) ≡ true ⌝ }
+    ensures { λ r. ⌜ r ≡ belongsFault h lanes (now (shares .entry)) ⌝ }
+{
+    let field = h.field;
+    let n = h.n as usize;
+    if lanes == 0 || 4096 < lanes {
+        return 7;
+    }
+    if shares.len() != n * lanes {
+        return 8;
+    }
+    if !kernel::all_below(field.size(), shares) {
+        return 11;
+    }
+    0
+}
+
+// Tests a block over an accepted record's header.
+fn test_accepted(h: Header, lanes: usize, shares: &[u8]) -> Test
+    requires { ⌜ Sound h ⌝ }
+    ensures { λ r. ⌜ r ≡ testOf (belongsFault h lanes (now (shares .entry))) (wrongFrom lanes 0 h lanes (now (shares .entry))) ⌝ }
+{
+    let number = belongs_fault(h, lanes, shares);
+    if number != 0 {
+        return Test::Refused(number);
+    }
+    let wrong = first_wrong(h, lanes, shares);
+    if wrong == lanes {
+        return Test::Yes;
+    }
+    Test::No(wrong as u32)
+}
+
+// Whether every lane is a word of the code: yes, the smallest lane that is none, or the number that turns the call away.
+pub fn block_belongs(rec: &[u8], lanes: u32, shares: &[u8]) -> Test
+    ensures { λ r. ⌜ BelongsSays (now (rec .entry)) lanes (now (shares .entry)) r ⌝ }
+{
+    match plan::read_record(rec) {
+        Record::Holds(h) => test_accepted(h, lanes as usize, shares),
+        Record::Meets(number) => Test::Refused(number),
+    }
+}

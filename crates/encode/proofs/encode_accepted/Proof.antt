@@ -1,0 +1,51 @@
+-- `encode_accepted` meets its contract: shares are filled only where no number is met.
+use mathlib.Core.Path.{sym, ap, _∙_}
+use borrow.Author.Needs.{needs}
+use Rattle.blocks.specs.Answers.{outcomeOf}
+use Rattle.blocks.proofs.Accepts.{outcome-refused, refused-value}
+use Rattle.plan.specs.declared.Plan.{Plan}
+use Rattle.encode.proofs.Accepts.{accepts}
+use Rattle.encode.proofs.encode_accepted.Statement.{statement}
+use Rattle.encode.proofs.encode_accepted.Tie as tie
+
+encode-fault-requires : tie.Need-encode-fault-requires
+encode-fault-requires c κs = search needs
+
+returns : tie.Need-returns
+returns c =
+    let number = c .before .encode-fault .ensures in
+    record {
+      answer = rw (← number) (sym (outcome-refused _ (c .if1 .taken)));
+      written = rw (← number) (sym (refused-value _ _ _ (c .if1 .taken)));
+    }
+
+plan-of-requires : tie.Need-plan-of-requires
+plan-of-requires c κs = search needs
+
+fill-shares-requires : tie.Need-fill-shares-requires
+fill-shares-requires c κs =
+    let s = c .before .before .before .before .before .before .before .before .before .before .before in
+    let none = sym (c .before .before .before .before .before .before .before .before .encode-fault .ensures) ∙ c .before .before .before .before .before .before .before .if1 .left in
+    let a = accepts (s .args .h) (s .args .lanes) _ (s .args .message .now) none in
+    let plan = c .before .before .before .before .before .before .plan-of .ensures in
+    (record { sound = s .pre; shifts-are = ap (λ (p : Plan). p .shifts) plan; base-is = ap (λ (p : Plan). p .base) plan }, a .0, a .1)
+
+same-length : tie.Need-same-length
+same-length c = search needs
+
+returns-2 : tie.Need-returns-2
+unfolding outcomeOf
+returns-2 c =
+    let none = sym (c .before .before .before .before .before .before .before .before .before .before .before .encode-fault .ensures) ∙ c .before .before .before .before .before .before .before .before .before .before .if1 .left in
+    record { answer = rw none; written = rw none (c .before .before .fill-shares .ensures) }
+
+pub encode-accepted-spec : {M : Type 1} → statement M
+encode-accepted-spec =
+    tie.close
+    (tie.spec
+    encode-fault-requires
+    returns
+    plan-of-requires
+    fill-shares-requires
+    same-length
+    returns-2)

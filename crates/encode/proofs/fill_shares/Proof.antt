@@ -1,0 +1,106 @@
+-- `fill_shares` meets its contract. The loop's invariant: the shares of the nodes below `node` are written, and the others are to come.
+use Prim.Native.Nat.{_+_, _-_, _*_, _≤_}
+use native.Mathlib.Nat.{sub-zero, zero-mul, mul-le-mul, le-refl}
+use native.Mathlib.Omega.{arith}
+use borrow.Author.Needs.{needs}
+use lib.ListN.{length}
+use Rattle.lists.specs.Rows.{rowsFrom}
+use Rattle.lists.proofs.Rows.{rows-next, rows-end, row-after, row-inside, part-size, part-length}
+use Rattle.lists.proofs.Fill.{Fills, fills-start, fills-part, fills-all}
+use Rattle.blocks.specs.Blocks.{shareOf, sharesOf}
+use Rattle.blocks.proofs.Shares.{length-share}
+use Rattle.encode.proofs.fill_shares.Statement.{statement}
+use Rattle.encode.proofs.fill_shares.Tie as tie
+
+abbrev Inv-loop : tie.InvT-loop
+Inv-loop h shifts base lanes message out₀ n node₀ out node =
+    (node ≤ h .n) × Fills out₀ out (node * lanes) (rowsFrom (shareOf h lanes message) node (h .n - node)) (sharesOf h lanes message)
+
+abbrev μ-loop : tie.MeasureT-loop
+μ-loop h shifts base lanes message out₀ n node₀ out node = h .n - node
+
+-- a node's share lies within the buffer
+share-in : (c : tie.In-loop Inv-loop μ-loop) → let a = c .before .before .before .before .before .before .before .args in c .before .loop .node * a .lanes + a .lanes ≤ length (a .out .now)
+share-in c =
+    let s = c .before .before .before .before .before .before .before in
+    rw (s .pre .2) (row-inside (s .args .h .n) (c .before .loop .node) (s .args .lanes) (c .loop-test .taken))
+
+cast-n : tie.Need-cast-n Inv-loop μ-loop
+cast-n c = search needs
+
+loop-holds : tie.Need-loop-holds Inv-loop μ-loop
+unfolding sharesOf
+loop-holds c = (omega arith, rw (sub-zero, zero-mul) (fills-start _ _))
+
+mul-start : tie.Need-mul-start Inv-loop μ-loop
+mul-start c = omega (arith, share-in c)
+
+add-end : tie.Need-add-end Inv-loop μ-loop
+add-end c = omega (arith, share-in c)
+
+sub-fill-share : tie.Need-sub-fill-share Inv-loop μ-loop
+sub-fill-share c = omega arith
+
+part-fill-share-start : tie.Need-part-fill-share-start Inv-loop μ-loop
+part-fill-share-start c = omega arith
+
+part-fill-share-end : tie.Need-part-fill-share-end Inv-loop μ-loop
+part-fill-share-end c = omega (arith, share-in c)
+
+fill-share-requires : tie.Need-fill-share-requires Inv-loop μ-loop
+fill-share-requires c κs =
+    let now = c .before .before .loop in
+    let s = c .before .before .before .before .before .before .before .before in
+    let l = s .args .lanes in (
+      s .pre .0,
+      s .pre .1,
+      c .before .loop-test .taken,
+      part-length (now .node * l) l (now .out) (omega (arith, now .inv .1 .long, share-in (c .before))),
+    )
+
+add-node : tie.Need-add-node Inv-loop μ-loop
+add-node c = omega arith
+
+loop-less : tie.Need-loop-less Inv-loop μ-loop
+loop-less c = omega arith
+
+loop-again : tie.Need-loop-again Inv-loop μ-loop
+loop-again c =
+    let old = c .before .before .before .before in
+    let a = old .before .before .before .before .before .before .before .args in
+    let node = old .before .loop .node in (
+      omega arith,
+      rw (row-after, part-size, c .before .before .fill-share .ensures)
+          (fills-part (shareOf (a .h) (a .lanes) (a .message .now) node) (a .lanes)
+          (rw (rows-next _ _ _ (old .loop-test .taken)) at (old .before .loop .inv .1))
+          (length-share (a .h) (a .lanes) (a .message .now) node)
+          (share-in old)),
+    )
+
+same-length : tie.Need-same-length Inv-loop μ-loop
+same-length c = c .before .loop .inv .1 .long
+
+returns : tie.Need-returns Inv-loop μ-loop
+returns c =
+    fills-all (rw (rows-end _ _ _ (c .loop-test .left)) at (c .before .loop .inv .1))
+    (rw (c .before .before .before .before .before .before .before .pre .2) (mul-le-mul (c .loop-test .left) (le-refl _)))
+
+pub fill-shares-spec : {M : Type 1} → statement M
+fill-shares-spec =
+    tie.close
+    (tie.spec
+    Inv-loop
+    μ-loop
+    cast-n
+    loop-holds
+    mul-start
+    add-end
+    sub-fill-share
+    part-fill-share-start
+    part-fill-share-end
+    fill-share-requires
+    add-node
+    loop-less
+    loop-again
+    same-length
+    returns)

@@ -1,0 +1,33 @@
+-- What the functions behind the call rely on and give.
+use mathlib.Core.Path.{_≡_}
+use mathlib.Core.Bool.{true}
+use mathlib.Core.List.{List}
+use Prim.Native.Nat.{ℕ, _*_}
+use lib.Dec.{eqb}
+use lib.ListN.{length}
+use Rattle.lists.specs.Choice.{pick}
+use Rattle.lists.specs.Numbers.{allBelow}
+use Rattle.generator.specs.declared.Header.{Header}
+use Rattle.generator.specs.declared.Record.the-variants.{Holds}
+use Rattle.generator.specs.Records.{size, Sound}
+use Rattle.plan.specs.Plans.{planFor}
+use Rattle.blocks.specs.declared.Outcome.{Outcome}
+use Rattle.blocks.specs.Blocks.{sharesOf}
+use Rattle.blocks.specs.Faults.{encodeFault}
+use Rattle.blocks.specs.Answers.{outcomeOf}
+
+-- the shifts and the base word of an accepted record's plan
+pub record Planned (h : Header) (shifts base : List ℕ) : Type 0 where
+  pub sound : Sound h
+  pub shifts-are : shifts ≡ planFor (Holds h) .shifts
+  pub base-is : base ≡ planFor (Holds h) .base
+
+-- a message buffer of l lanes
+pub record MessageBuffer (h : Header) (l : ℕ) (message : List ℕ) : Type 0 where
+  pub size-is : length message ≡ h .k * l
+  pub symbols : allBelow (size h) message ≡ true
+
+-- what encoding over the header of an accepted record gives: the answer, and the buffer afterwards
+pub record Encoded (h : Header) (l : ℕ) (message out out′ : List ℕ) (r : Outcome) : Type 0 where
+  pub answer : r ≡ outcomeOf (encodeFault h l (length out) message)
+  pub written : out′ ≡ pick (eqb (encodeFault h l (length out) message) 0) (sharesOf h l message) out

@@ -1,0 +1,125 @@
+// Encode: the shares of all nodes, each lane encoded by itself.
+ghost use mathlib.Core.Path.{_≡_};
+ghost use mathlib.Core.Bool.{true};
+ghost use Prim.Native.Nat.{_+_, _*_, _%_, _≤_, _<_};
+ghost use lib.ListN.{length};
+ghost use Rattle.field.specs.Kinds.{usable};
+ghost use Rattle.generator.specs.Records.{Sound};
+ghost use Rattle.generator.specs.Generator.{entry};
+ghost use Rattle.blocks.specs.Blocks.{shareOf, sharesOf};
+ghost use Rattle.blocks.specs.Faults.{encodeFault};
+ghost use Rattle.blocks.specs.Promises.{EncodeSays};
+ghost use Rattle.encode.specs.Inner.{Planned, MessageBuffer, Encoded};
+use blocks::Outcome;
+use generator::Header;
+use generator::Record;
+
+// Where the base word holds a node's entry of the row with that shift: the row is the base word turned left.
+fn place(n: usize, shift: usize, node: usize) -> usize
+    requires { ⌜ (n ≤ 255) × (shift < n) × (node < n) ⌝ }
+    ensures { λ i. ⌜ i ≡ (node + shift) % n ⌝ }
+{
+    (node + shift) % n
+}
+
+// Entry (r, node) of the generator, read from the base word by the shift of row r.
+fn coefficient(h: Header, shifts: &[u8], base: &[u8], r: usize, node: usize) -> u32
+    requires { ⌜ Planned h (now shifts) (now base) × (r < h .k) × (node < h .n) ⌝ }
+    ensures { λ c. ⌜ c ≡ entry h r node ⌝ }
+{
+    let n = h.n as usize;
+    let shift = shifts[r] as usize;
+    let i = place(n, shift, node);
+    base[i] as u32
+}
+
+// Fills one node's lanes: the sum of the message's rows, each times the node's entry of that row, from the last row to the first.
+fn fill_share(
+    h: Header,
+    shifts: &[u8],
+    base: &[u8],
+    node: usize,
+    lanes: usize,
+    message: &[u8],
+    share: &mut [u8],
+)
+    requires { ⌜ Planned h (now shifts) (now base) × MessageBuffer h lanes (now message) × (node < h .n) × (length (now share) ≡ lanes) ⌝ }
+    ensures { λ r. ⌜ now (share .exit) ≡ shareOf h lanes (now (message .entry)) node ⌝ }
+{
+    let field = h.field;
+    kernel::clear(share);
+    let mut r = h.k as usize;
+    while 0 < r {
+        r -= 1;
+        let c = coefficient(h, shifts, base, r, node);
+        let start = r * lanes;
+        let end = start + lanes;
+        kernel::add_scaled(field, c, &message[start..end], share);
+    }
+}
+
+// Fills every node's share through its own part.
+fn fill_shares<'a>(
+    h: Header,
+    shifts: &'a [u8],
+    base: &'a [u8],
+    lanes: usize,
+    message: &[u8],
+    out: &mut [u8],
+)
+    requires { ⌜ Planned h (now shifts) (now base) × MessageBuffer h lanes (now message) × (length (now out) ≡ h .n * lanes) ⌝ }
+    ensures { λ r. ⌜ now (out .exit) ≡ sharesOf h lanes (now (message .entry)) ⌝ }
+{
+    let n = h.n as usize;
+    let mut node: usize = 0;
+    while node < n {
+        let start = node * lanes;
+        let end = start + lanes;
+        fill_share(h, shifts, base, node, lanes, message, &mut out[start..end]);
+        node += 1;
+    }
+}
+
+// The first of numbers 7, 8 and 11 that encoding meets, or 0; `size` is the length of the written buffer.
+fn encode_fault(h: Header, lanes: usize, message: &[u8], size: usize) -> u8
+    requires { ⌜ usable (h .field) ≡ true ⌝ }
+    ensures { λ r. ⌜ r ≡ encodeFault h lanes size (now (message .entry)) ⌝ }
+{
+    let field = h.field;
+    let n = h.n as usize;
+    let k = h.k as usize;
+    if lanes == 0 || 4096 < lanes {
+        return 7;
+    }
+    if message.len() != k * lanes || size != n * lanes {
+        return 8;
+    }
+    if !kernel::all_below(field.size(), message) {
+        return 11;
+    }
+    0
+}
+
+// Encodes over the header of an accepted record. Everything is judged before the first byte is written.
+fn encode_accepted(h: Header, lanes: usize, message: &[u8], out: &mut [u8]) -> Outcome
+    requires { ⌜ Sound h ⌝ }
+    ensures { λ r. ⌜ Encoded h lanes (now (message .entry)) (now (out .entry)) (now (out .exit)) r ⌝ }
+{
+    let number = encode_fault(h, lanes, message, out.len());
+    if number != 0 {
+        return Outcome::Refused(number);
+    }
+    let plan = plan::plan_of(h);
+    fill_shares(h, &plan.shifts, &plan.base, lanes, message, out);
+    Outcome::Done
+}
+
+// Writes the shares of all nodes, or gives the number that turns the call away and writes nothing.
+pub fn encode_block(rec: &[u8], lanes: u32, message: &[u8], out: &mut [u8]) -> Outcome
+    ensures { λ r. ⌜ EncodeSays (now (rec .entry)) lanes (now (message .entry)) (now (out .entry)) (now (out .exit)) r ⌝ }
+{
+    match plan::read_record(rec) {
+        Record::Holds(h) => encode_accepted(h, lanes as usize, message, out),
+        Record::Meets(number) => Outcome::Refused(number),
+    }
+}

@@ -1,0 +1,25 @@
+-- `renewed` meets its contract: sums and products of symbols are symbols.
+use native.Mathlib.Nat.{lt-of-lt-of-le}
+use borrow.Author.Needs.{needs}
+use Rattle.field.proofs.Bounds.{add-below, mul-below}
+use Rattle.update.proofs.renewed.Statement.{statement}
+use Rattle.update.proofs.renewed.Tie as tie
+
+mul-requires : tie.Need-mul-requires
+mul-requires c κs = search needs
+
+add-requires : tie.Need-add-requires
+add-requires c κs =
+    let (s, factor, entry, before) = c .before .pre in
+    (s .usable-field, before, rw (c .mul .ensures) (mul-below _ (s .field) factor entry))
+
+cast-result : tie.Need-cast-result
+cast-result c =
+    let (s, factor, entry, before) = c .before .before .pre in
+    record { fits = lt-of-lt-of-le (rw (c .add .ensures, c .before .mul .ensures) (add-below _ (s .field) before (mul-below _ (s .field) factor entry))) (s .bytes) }
+
+returns : tie.Need-returns
+returns c = cc
+
+pub renewed-spec : {M : Type 1} → statement M
+renewed-spec = tie.close (tie.spec mul-requires add-requires cast-result returns)

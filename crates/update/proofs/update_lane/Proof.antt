@@ -1,0 +1,42 @@
+-- `update_lane` meets its contract: the promise over the header that was read, or the record's number.
+use mathlib.Core.Path.{sym, _∙_}
+use borrow.Author.Needs.{needs}
+use Rattle.generator.proofs.Accepts.{accepted-sound}
+use Rattle.update.proofs.Answering.{held-says, met-says}
+use Rattle.update.proofs.update_lane.Statement.{statement}
+use Rattle.update.proofs.update_lane.Tie as tie
+
+read-record-requires : tie.Need-read-record-requires
+read-record-requires c κs = search needs
+
+enum-known-h : tie.Need-enum-known-h
+enum-known-h c = search needs
+
+update-accepted-requires : tie.Need-update-accepted-requires
+update-accepted-requires c κs =
+    accepted-sound (c .before .before .before .before .before .before .before .args .rec .now) _ (sym (c .before .before .before .before .read-record .ensures) ∙ c .before .before .h .given .1)
+
+enum-known-number : tie.Need-enum-known-number
+enum-known-number c = search needs
+
+same-length : tie.Need-same-length
+same-length c = search needs
+
+returns : tie.Need-returns
+returns c =
+    held-says _ _ _ _ _ _ _ _ _ _ (sym (c .before .before .before .before .before .before .before .read-record .ensures) ∙ c .before .before .before .before .before .h .given .1) (c .before .before .update-accepted .ensures)
+
+returns-2 : tie.Need-returns-2
+returns-2 c = met-says _ _ _ _ _ _ _ _ (sym (c .before .before .before .read-record .ensures) ∙ c .before .number .given .1)
+
+pub update-lane-spec : {M : Type 1} → statement M
+update-lane-spec =
+    tie.close
+    (tie.spec
+    read-record-requires
+    enum-known-h
+    update-accepted-requires
+    enum-known-number
+    same-length
+    returns
+    returns-2)
