@@ -20,7 +20,7 @@ use Rattle.generator.specs.Codewords.{nodeOf}
 use Rattle.generator.specs.Claims.{isMessage, areNodes, atNodes}
 use Rattle.generator.proofs.Recovery.{some-message, one-message, message-is, message-size, nodes-places}
 use Rattle.generator.proofs.Changes.{message-symbol}
-use Rattle.blocks.specs.Blocks.{placeOf, laneOf, shareOf, MessageFor}
+use Rattle.blocks.specs.Blocks.{placeOf, laneOf, shareOf, gathered, MessageFor}
 use Rattle.blocks.proofs.Shares.{length-lane, getD-lane, length-share}
 
 -- two buffers of rows with equal lanes are equal
@@ -62,25 +62,21 @@ module _ (h : Header) (s : Sound h) (l : ℕ) (nodes : List ℕ) (different : ar
       (lane-message m t inside (a .size-is) (a .symbols)) (lane-message u t inside (b .size-is) (b .symbols))
       (a .lanes t inside ∙ sym (b .lanes t inside)))
 
-  -- the shares of the listed nodes, in list order
-  abbrev pub gathered : List ℕ → List ℕ
-  gathered m = rowsFrom (λ i. shareOf h l m (getD nodes i 0)) 0 (h .k)
-
-  -- they stand for the message that was encoded
-  pub gathered-message : (m : List ℕ) → length m ≡ h .k * l → allBelow (size h) m ≡ true → MessageFor h l nodes (gathered m) m
-  unfolding laneOf shareOf placeOf
+  -- the shares of the listed nodes stand for the message that was encoded
+  pub gathered-message : (m : List ℕ) → length m ≡ h .k * l → allBelow (size h) m ≡ true → MessageFor h l nodes (gathered h l nodes m) m
+  unfolding laneOf shareOf placeOf gathered
   gathered-message m long below =
       record {
         size-is = long;
         symbols = below;
         lanes = λ t inside.
-            ext-getD 0 (atNodes h (laneOf (h .k) l t m) nodes) (laneOf (h .k) l t (gathered m))
-            (length-map nodes (nodeOf h (laneOf (h .k) l t m)) ∙ nodes-places h nodes different .size ∙ sym (length-lane (h .k) l t (gathered m)))
+            ext-getD 0 (atNodes h (laneOf (h .k) l t m) nodes) (laneOf (h .k) l t (gathered h l nodes m))
+            (length-map nodes (nodeOf h (laneOf (h .k) l t m)) ∙ nodes-places h nodes different .size ∙ sym (length-lane (h .k) l t (gathered h l nodes m)))
             (λ i b.
             let row : i < h .k = omega (arith, length-map nodes (nodeOf h (laneOf (h .k) l t m)), nodes-places h nodes different .size) in
             getD-map (nodeOf h (laneOf (h .k) l t m)) 0 0 nodes i (omega (arith, nodes-places h nodes different .size))
             ∙ sym
-            (getD-lane (h .k) l t (gathered m) i row
+            (getD-lane (h .k) l t (gathered h l nodes m) i row
             ∙ getD-rows (λ i. shareOf h l m (getD nodes i 0)) l (λ i. length-share h l m (getD nodes i 0)) 0 (h .k) i t row inside
             ∙ ap (λ (x : ℕ). getD (shareOf h l m (getD nodes x 0)) t 0) (zero-add i)
             ∙ getD-from (λ t. nodeOf h (laneOf (h .k) l t m) (getD nodes i 0)) 0 l t 0 inside

@@ -37,6 +37,10 @@ shareOf h l s j = from (λ t. nodeOf h (laneOf (h .k) l t s) j) 0 l
 unfoldable pub sharesOf : Header → ℕ → List ℕ → List ℕ
 sharesOf h l s = rowsFrom (shareOf h l s) 0 (h .n)
 
+-- the shares of listed nodes, in list order
+unfoldable pub gathered : Header → ℕ → List ℕ → List ℕ → List ℕ
+gathered h l nodes s = rowsFrom (λ i. shareOf h l s (getD nodes i 0)) 0 (h .k)
+
 -- x times row r of the generator added to lane t, at the f nodes from j on
 unfoldable pub updatedFrom : ℕ → ℕ → Header → ℕ → ℕ → ℕ → ℕ → List ℕ → List ℕ
 updatedFrom zero j h l r t x s = s

@@ -109,5 +109,5 @@ module _ (h : Header) (s : Sound h) where
   pub scheme-least {ℓ κ} : {S : Type ℓ} {C : Fin (h .n) → Type κ} (t : Scheme (h .k) (h .n) S C) (x y : S) → x ≢ y → CostsAtLeast t schemeOf
   scheme-least t x y two = tight-least t schemeOf (s .some) (s .fits) x y two scheme-tight
 
-  pub our-scheme : OurScheme h
+  unfoldable pub our-scheme : OurScheme h
   our-scheme = record { scheme = schemeOf; holds-is = holds-is; tight = scheme-tight; least = λ t. scheme-least t 0 1 (λ e. omega arith) }

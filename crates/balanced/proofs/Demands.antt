@@ -1,0 +1,75 @@
+-- Demands 2 and 3, proved for every accepted record and every scheme.
+use mathlib.Core.Path.{_≡_, refl, sym, ap, _∙_, subst}
+use mathlib.Core.Bool.{Bool, true, false}
+use mathlib.Core.List.{List}
+use Prim.Native.Nat.{ℕ, zero, suc, _<_}
+use borrow.Author.Tests.{eqb-true, eqb-false, eq-eqb, ne-eqb}
+use lib.Dec.{eqb}
+use lib.ListN.{length, getD, set}
+use lib.Seq.{set-getD}
+use Rattle.lists.specs.Choice.{pick}
+use Rattle.lists.specs.Counting.{countFrom, differ}
+use Rattle.lists.proofs.Cases.{by-test}
+use Rattle.lists.proofs.Count.{count-none}
+use Rattle.scheme.proofs.Bounds.{price}
+use Rattle.generator.specs.declared.Header.{Header}
+use Rattle.generator.specs.declared.Record.the-variants.{Holds}
+use Rattle.generator.specs.Records.{headerOf, recordFault, judged, recordOf, size, weight, Sound}
+use Rattle.generator.specs.Codewords.{encoding}
+use Rattle.generator.specs.Claims.{isMessage}
+use Rattle.generator.proofs.Accepts.{accepted-sound}
+use Rattle.generator.proofs.Changes.{alters}
+use Rattle.generator.proofs.Claims.{ours}
+use Rattle.generator.proofs.SchemeOf.{our-scheme, scheme-least}
+use Rattle.blocks.proofs.Shares.{lane-encodes}
+use Rattle.blocks.proofs.Messages.{some-buffer, one-buffer, gathered-message}
+use Rattle.blocks.proofs.Updates.{updated-encodes, updated-others, updated-count}
+use Rattle.belongs.proofs.Words.{passes-words}
+use Rattle.balanced.specs.Demands.{Recovering, Updating, Demands}
+
+-- the header of a record that no number turns away is sound
+sound-of : (rec : List ℕ) → recordFault rec ≡ 0 → Sound (headerOf rec)
+unfolding recordOf judged
+sound-of rec none = accepted-sound rec (headerOf rec) (ap (λ (f : ℕ). judged f (headerOf rec)) none)
+
+-- a list differs nowhere from itself
+differ-self : (s : List ℕ) → differ s s ≡ 0
+unfolding differ
+differ-self s = count-none (length s) 0 _ (λ i low high. rw (eq-eqb (getD s i 0) (getD s i 0) refl))
+
+recovering : (h : Header) → Sound h → Recovering h
+recovering h s =
+    record {
+      encodes = lane-encodes h;
+      returns = λ l nodes m out pos nodes-are long below found. one-buffer h s l nodes nodes-are _ out m pos found (gathered-message h s l nodes nodes-are m long below);
+      some = λ l nodes shares pos nodes-are long below. some-buffer h s l nodes nodes-are shares pos long below;
+      one = λ l nodes shares m u pos nodes-are a b. one-buffer h s l nodes nodes-are shares m u pos a b;
+      passes = λ l shares. passes-words h l shares;
+    }
+
+-- how many nodes a change alters
+count : (h : Header) → Sound h → (ms : List ℕ) (r new : ℕ) → isMessage h ms ≡ true → r < h .k → new < size h → differ (encoding h ms) (encoding h (set ms r new)) ≡ pick (eqb new (getD ms r 0)) 0 (weight h)
+count h s ms r new m row low =
+    by-test (eqb new (getD ms r 0))
+    (λ t. rw t (ap (λ (u : List ℕ). differ (encoding h ms) (encoding h u)) (ap (set ms r) (eqb-true new (getD ms r 0) t) ∙ set-getD ms r 0) ∙ differ-self (encoding h ms)))
+    (λ t. rw t (alters h s ms r new m row low (eqb-false new (getD ms r 0) t)))
+
+updating : (h : Header) → Sound h → Updating h
+updating h s =
+    record {
+      lane = λ ms b l r t new. updated-encodes h s ms b l r t new;
+      altered = λ ms b l r t new. updated-count h s ms b l r t new;
+      count = count h s;
+      others = λ ms b l r t new. updated-others h s ms b l r t new;
+    }
+
+pub demands : Demands
+unfolding our-scheme
+demands =
+    record {
+      recovering = λ rec none. recovering (headerOf rec) (sound-of rec none);
+      price = λ k n S C s. price s;
+      ours = λ rec none. record { code = ours (headerOf rec) (sound-of rec none); scheme = our-scheme (headerOf rec) (sound-of rec none) };
+      least = λ rec none S C t x y two. scheme-least (headerOf rec) (sound-of rec none) t x y two;
+      updating = λ rec none. updating (headerOf rec) (sound-of rec none);
+    }

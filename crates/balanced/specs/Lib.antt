@@ -1,0 +1,2 @@
+-- The demands, as statements over the definitions that the calls promise.
+pub mod Demands

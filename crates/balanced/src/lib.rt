@@ -1,0 +1,5 @@
+// The calls of the balanced image store. Every call takes the record itself; none has a precondition.
+pub use belongs::block_belongs;
+pub use encode::encode_block;
+pub use plan::build_plan;
+pub use update::update_lane;
