@@ -7,11 +7,10 @@ use generator::Record;
 
 mod base;
 mod entries;
-mod reading;
 mod shift;
 
 pub use entries::entry;
-pub use reading::read_record;
+pub use records::read_record;
 
 // A plan; all places hold 0 beside a number.
 pub struct Plan {
@@ -65,7 +64,7 @@ pub fn plan_of(h: Header) -> Plan
 pub fn build_plan(rec: &[u8]) -> Plan
     ensures { λ r. ⌜ PlanSays (now (rec .entry)) r ⌝ }
 {
-    match reading::read_record(rec) {
+    match records::read_record(rec) {
         Record::Holds(h) => plan_of(h),
         Record::Meets(number) => refused(number),
     }

@@ -6,8 +6,8 @@ use native.Mathlib.Omega.{arith}
 use borrow.Author.Needs.{needs}
 use Rattle.generator.specs.Records.{weight, unevenBad}
 use Rattle.generator.proofs.Faults.{sizes}
-use Rattle.plan.proofs.reading.uneven_bad.Statement.{statement}
-use Rattle.plan.proofs.reading.uneven_bad.Tie as tie
+use Rattle.records.proofs.uneven_bad.Statement.{statement}
+use Rattle.records.proofs.uneven_bad.Tie as tie
 
 cast-n : tie.Need-cast-n
 cast-n c = search needs

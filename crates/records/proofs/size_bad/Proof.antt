@@ -4,8 +4,8 @@ use mathlib.Core.Bool.{true≢false}
 use mathlib.Core.Logic.{⊎-elim}
 use borrow.Author.Tests.{lt-ltb, le-ltb}
 use Rattle.generator.specs.Records.{sizeBad}
-use Rattle.plan.proofs.reading.size_bad.Statement.{statement}
-use Rattle.plan.proofs.reading.size_bad.Tie as tie
+use Rattle.records.proofs.size_bad.Statement.{statement}
+use Rattle.records.proofs.size_bad.Tie as tie
 
 returns : tie.Need-returns
 unfolding sizeBad

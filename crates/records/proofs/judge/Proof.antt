@@ -1,8 +1,8 @@
 -- `judge` meets its contract.
 use borrow.Author.Needs.{needs}
 use Rattle.generator.proofs.Faults.{meets-four, meets-five, meets-six, meets-none}
-use Rattle.plan.proofs.reading.judge.Statement.{statement}
-use Rattle.plan.proofs.reading.judge.Tie as tie
+use Rattle.records.proofs.judge.Statement.{statement}
+use Rattle.records.proofs.judge.Tie as tie
 
 size-bad-requires : tie.Need-size-bad-requires
 size-bad-requires c κs = search needs

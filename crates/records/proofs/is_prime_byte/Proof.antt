@@ -4,8 +4,8 @@ use mathlib.Core.Bool.{true≢false}
 use mathlib.Core.Logic.{⊎-elim}
 use borrow.Author.Needs.{needs}
 use borrow.Author.Tests.{le-leb, lt-leb}
-use Rattle.plan.proofs.reading.is_prime_byte.Statement.{statement}
-use Rattle.plan.proofs.reading.is_prime_byte.Tie as tie
+use Rattle.records.proofs.is_prime_byte.Statement.{statement}
+use Rattle.records.proofs.is_prime_byte.Tie as tie
 
 is-prime-requires : tie.Need-is-prime-requires
 is-prime-requires c κs = search needs

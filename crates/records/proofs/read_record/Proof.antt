@@ -11,8 +11,8 @@ use Rattle.field.specs.Primes.{isPrime}
 use Rattle.field.specs.Kinds.{usable}
 use Rattle.generator.specs.Records.{headerOf, kindBad, bodyBad, fieldBad, recordFault, judged, recordOf}
 use Rattle.generator.proofs.Accepts.{byte-prime}
-use Rattle.plan.proofs.reading.read_record.Statement.{statement}
-use Rattle.plan.proofs.reading.read_record.Tie as tie
+use Rattle.records.proofs.read_record.Statement.{statement}
+use Rattle.records.proofs.read_record.Tie as tie
 
 -- kind 1: p is a prime from 3 to 251
 prime : (c : tie.Else3) → let p = getD (c .before .before .before .before .before .before .before .before .args .rec .now) 1 0 in (leb 3 p && (leb p 251 && isPrime p)) ≡ true

@@ -4,8 +4,8 @@ use native.Mathlib.Omega.{arith}
 use borrow.Author.Needs.{needs}
 use borrow.Author.Tests.{lt-ltb, le-ltb, le-leb}
 use Rattle.generator.specs.Records.{size, rootBad}
-use Rattle.plan.proofs.reading.root_bad.Statement.{statement}
-use Rattle.plan.proofs.reading.root_bad.Tie as tie
+use Rattle.records.proofs.root_bad.Statement.{statement}
+use Rattle.records.proofs.root_bad.Tie as tie
 
 cast-n : tie.Need-cast-n
 cast-n c = search needs

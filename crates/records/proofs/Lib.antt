@@ -1,0 +1,1 @@
+-- No laws of its own: the reader rests on those of the generator.
