@@ -2,20 +2,23 @@
 use mathlib.Core.Path.{_≡_, refl, sym, ap, ap₂, _∙_}
 use mathlib.Core.List.{List, [], _∷_, _++_}
 use Prim.Native.Nat.{ℕ, suc, _<_}
+use native.Mathlib.Omega.{arith}
 use lib.ListN.{length, getD, take, drop}
 use lib.Seq.{split-at}
+use Rattle.lists.proofs.All.{getD-map}
 use Rattle.algebra.specs.Field.{Field}
 use Rattle.algebra.proofs.Ring.{mul-zero, zero-mul, mul-left-comm, one-mul, neg-mul, mul-neg, neg-neg}
+use Rattle.algebra.proofs.Sums.{sum, sum-agree, sum-scale}
 use Rattle.algebra.proofs.Poly.{eval, newton, eval-newton, quotient}
 use Rattle.algebra.proofs.Product.{product, eval-product, eval-product-nil}
-use Rattle.algebra.proofs.LagrangeBasis.{others}
+use Rattle.algebra.proofs.LagrangeBasis.{others, basis, length-others}
 
 module _ (F : Field) where
   infixl 70 _⊕_
   infixl 80 _⊗_
   infix 90 ⊖_
   open Field F using (Carrier, 0f, 1f, add as _⊕_, mul as _⊗_, neg as ⊖_, inv)
-  open Field F using (add-assoc, add-comm, add-zero, add-neg, mul-assoc, mul-add)
+  open Field F using (add-assoc, add-comm, add-zero, add-neg, mul-assoc, mul-comm, mul-add)
 
   -- the value of p + (x − a)·q(x) at a is p
   newton-at : (a p : Carrier) (qs : List Carrier) → eval F (newton F a p qs) a ≡ p
@@ -80,3 +83,21 @@ module _ (F : Field) where
       ap (λ ys. eval F (others F ys (getD xs i 0f)) z) (split-at xs i 0f l)
       ∙ ap (λ p. eval F p z) (others-split (take i xs) (getD xs i 0f) (drop (suc i) xs))
       ∙ eval-product-append (take i xs) (drop (suc i) xs) z
+
+  -- coefficient c of a basis polynomial
+  getD-basis : (xs : List Carrier) (x : Carrier) (c : ℕ) → c < length xs → getD (basis F xs x) c 0f ≡ inv (eval F (others F xs x) x) ⊗ getD (others F xs x) c 0f
+  unfolding basis
+  getD-basis xs x c l = getD-map (λ y. inv (eval F (others F xs x) x) ⊗ y) 0f 0f (others F xs x) c (omega (arith, length-others F xs x))
+
+  -- the scales of two basis polynomials taken out of a term ..
+  scales-out : (a u q b v : Carrier) → a ⊗ u ⊗ q ⊗ (b ⊗ v) ≡ a ⊗ b ⊗ (u ⊗ q ⊗ v)
+  scales-out a u q b v = simp (mul-assoc, mul-left-comm F, mul-comm)
+
+  -- .. and out of a sum
+  pub basis-sum : (k : ℕ) (xs ys : List Carrier) (x y : Carrier) (q : ℕ → Carrier) → length xs ≡ k → length ys ≡ k → sum F k (λ c. getD (basis F xs x) c 0f ⊗ q c ⊗ getD (basis F ys y) c 0f) ≡ inv (eval F (others F xs x) x) ⊗ inv (eval F (others F ys y) y) ⊗ sum F k (λ c. getD (others F xs x) c 0f ⊗ q c ⊗ getD (others F ys y) c 0f)
+  basis-sum k xs ys x y q lx ly =
+      let a = inv (eval F (others F xs x) x) in
+      let b = inv (eval F (others F ys y) y) in
+      sum-agree F k (λ c. getD (basis F xs x) c 0f ⊗ q c ⊗ getD (basis F ys y) c 0f) (λ c. a ⊗ b ⊗ (getD (others F xs x) c 0f ⊗ q c ⊗ getD (others F ys y) c 0f))
+      (λ c l. ap₂ (λ u v. u ⊗ q c ⊗ v) (getD-basis xs x c (omega arith)) (getD-basis ys y c (omega arith)) ∙ scales-out a (getD (others F xs x) c 0f) (q c) b (getD (others F ys y) c 0f))
+      ∙ sum-scale F k (a ⊗ b) (λ c. getD (others F xs x) c 0f ⊗ q c ⊗ getD (others F ys y) c 0f)

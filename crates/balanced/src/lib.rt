@@ -2,4 +2,6 @@
 pub use belongs::block_belongs;
 pub use encode::encode_block;
 pub use plan::build_plan;
+pub use recover::rebuild_share;
+pub use recover::recover_block;
 pub use update::update_lane;

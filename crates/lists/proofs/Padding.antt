@@ -1,11 +1,11 @@
 -- Lists that are padded with zeros: their length, elements and parts.
-use mathlib.Core.Path.{_≡_, refl, _∙_}
+use mathlib.Core.Path.{_≡_, refl, ap, _∙_}
 use mathlib.Core.Bool.{true}
 use mathlib.Core.List.{List}
 use Prim.Native.Nat.{ℕ, zero, suc, _-_, _≤_, _<_}
 use native.Mathlib.Omega.{arith}
-use lib.ListN.{length, getD, take, length-append, List·getD-append}
-use lib.Seq.{take-at}
+use lib.ListN.{length, getD, take, drop, length-append, length-drop, List·getD-append}
+use lib.Seq.{take-at, drop-append-le}
 use Rattle.lists.specs.Numbers.{allBelow}
 use Rattle.lists.specs.Padded.{zeros, padded}
 use Rattle.lists.proofs.Fill.{length-zeros}
@@ -29,6 +29,10 @@ in-padded n xs i h = simp length-append (omega arith)
 pub take-padded : (n m : ℕ) (xs : List ℕ) → length xs ≡ m → take m (padded n xs) ≡ xs
 unfolding padded
 take-padded n m xs h = take-at xs (zeros (n - length xs)) m h
+
+pub part-padded : (n m a : ℕ) (xs : List ℕ) → length xs ≡ m → a ≤ m → take (m - a) (drop a (padded n xs)) ≡ drop a xs
+unfolding padded
+part-padded n m a xs h low = rw (drop-append-le a xs (zeros (n - length xs)) (omega arith)) (take-at (drop a xs) (zeros (n - length xs)) (m - a) (length-drop a xs ∙ ap (λ (l : ℕ). l - a) h))
 
 -- zeros keep a bound
 below-zeros : (q n : ℕ) → 0 < q → allBelow q (zeros n) ≡ true

@@ -1,7 +1,12 @@
--- Powers of the root, values of products and of Lagrange's basis polynomials.
+-- Powers of the root, values of products and of Lagrange's basis polynomials, coefficients of polynomials.
 pub mod Points
 pub mod Values
+pub mod Coefficients
 -- They are those of the algebra.
 pub mod Bridge
+pub mod InverseRows
+pub mod Parts
 -- The weights are good.
+pub mod Weights
 pub mod Rebuilding
+pub mod Recovering

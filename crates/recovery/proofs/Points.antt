@@ -10,9 +10,9 @@ use Rattle.lists.proofs.Front.{drop-next}
 use Rattle.lists.proofs.Numbers.{cons-below, below-take, below-drop}
 use Rattle.field.specs.declared.Field.{Field}
 use Rattle.field.specs.Fields.{isField, sizeOf, power}
+use Rattle.field.specs.Kinds.{modulus, usable}
 use Rattle.field.proofs.Bounds.{power-below}
-use Rattle.generator.specs.declared.Header.{Header}
-use Rattle.generator.specs.Records.{prime, Sound}
+use Rattle.field.proofs.KindLaws.{usable-field}
 use Rattle.recovery.specs.Points.{ByteSymbols, pointsOf}
 
 module _ (p root e : ℕ) where
@@ -41,12 +41,12 @@ module _ {f : Field} {xs : List ℕ} (s : ByteSymbols f xs) where
   pub bytes-drop : (i : ℕ) → ByteSymbols f (drop i xs)
   bytes-drop i = record { usable-field = s .usable-field; bytes = s .bytes; below = below-drop _ i xs (s .below); short = simp length-drop (omega (arith, s .short)) }
 
--- points of a sound header are symbols
-pub points-bytes : (h : Header) → Sound h → (e : ℕ) (js : List ℕ) → length js ≤ 255 → ByteSymbols (h .field) (pointsOf (prime h) (h .root) e js)
-points-bytes h s e js l =
+-- points are symbols of the field
+pub points-bytes : {f : Field} (root e : ℕ) (js : List ℕ) → usable f ≡ true → sizeOf (modulus f) ≤ 256 → root < sizeOf (modulus f) → length js ≤ 255 → ByteSymbols f (pointsOf (modulus f) root e js)
+points-bytes {f} root e js usable bytes low short =
     record {
-      usable-field = s .usable-field;
-      bytes = s .bytes;
-      below = points-below (prime h) (h .root) e (s .field) (s .root-below) js;
-      short = omega (arith, length-points (prime h) (h .root) e js);
+      usable-field = usable;
+      bytes = bytes;
+      below = points-below (modulus f) root e (usable-field f usable) low js;
+      short = omega (arith, length-points (modulus f) root e js);
     }

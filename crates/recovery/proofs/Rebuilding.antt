@@ -7,67 +7,41 @@ use native.Mathlib.Nat.{add-zero, zero-add, le-of-eq}
 use native.Mathlib.Omega.{arith}
 use lib.ListN.{length, getD, length-map}
 use Rattle.lists.specs.Padded.{padded}
-use Rattle.lists.specs.Numbers.{allBelow}
 use Rattle.lists.proofs.Rows.{length-from, getD-from}
 use Rattle.lists.proofs.All.{getD-map}
-use Rattle.lists.proofs.Numbers.{at-below}
-use Rattle.lists.proofs.Padding.{length-padded, getD-padded, below-padded}
 use Rattle.algebra.specs.Powers.{pow}
-use Rattle.algebra.proofs.Sums.{sum}
 use Rattle.algebra.proofs.Poly.{eval}
 use Rattle.algebra.proofs.LagrangeBasis.{basis}
-use Rattle.algebra.proofs.Nodes.{node}
 use Rattle.algebra.proofs.Recovery.{nodeBasis, rebuild-node}
 use Rattle.field.specs.Fields.{power}
 use Rattle.field.specs.Symbols.{Symbol, numbers}
-use Rattle.field.proofs.Bounds.{power-below}
-use Rattle.field.proofs.FieldOf.{size-pos, number-pow}
+use Rattle.field.proofs.FieldOf.{number-pow}
 use Rattle.generator.specs.declared.Header.{Header}
 use Rattle.generator.specs.Records.{prime, size, Sound}
-use Rattle.generator.specs.Shifts.{shifts}
 use Rattle.generator.specs.Codewords.{nodeOf}
-use Rattle.generator.specs.Claims.{isMessage, areNodes, atNodes}
+use Rattle.generator.specs.Claims.{areNodes}
 use Rattle.generator.proofs.Sound.{fieldFor, rootFor}
 use Rattle.generator.proofs.Shifts.{shifts-length}
 use Rattle.generator.proofs.Bridge.{nodeOf-is}
-use Rattle.generator.proofs.Recovery.{the-code, nodes-places, lifted, lifted-numbers, length-lifted, message-size, message-below, held}
-use Rattle.field.specs.Sums.{dot}
+use Rattle.generator.proofs.Recovery.{the-code, nodes-places, lifted, lifted-numbers, length-lifted, message-size, message-below}
 use Rattle.recovery.specs.Weights.{Rebuilds}
 use Rattle.recovery.specs.Points.{pointsOf}
 use Rattle.recovery.specs.Lagrange.{basisAt, basisValues}
-use Rattle.recovery.proofs.Points.{length-points, points-below}
-use Rattle.recovery.proofs.Values.{basisAt-below}
-use Rattle.recovery.proofs.Bridge.{pointsOf-is, basisAt-is, dot-is}
+use Rattle.recovery.proofs.Points.{length-points}
+use Rattle.recovery.proofs.Bridge.{pointsOf-is, basisAt-is}
+use Rattle.recovery.proofs.Weights.{heldBy, weights-below, weighted}
 
 -- as many values as points
-pub length-values : (p : ℕ) (xs : List ℕ) (z : ℕ) → length (basisValues p xs z) ≡ length xs
+length-values : (p : ℕ) (xs : List ℕ) (z : ℕ) → length (basisValues p xs z) ≡ length xs
 unfolding basisValues
 length-values p xs z = length-from (λ i. basisAt p xs i z) 0 (length xs)
 
 -- value i
-pub getD-values : (p : ℕ) (xs : List ℕ) (z i : ℕ) → i < length xs → getD (basisValues p xs z) i 0 ≡ basisAt p xs i z
+getD-values : (p : ℕ) (xs : List ℕ) (z i : ℕ) → i < length xs → getD (basisValues p xs z) i 0 ≡ basisAt p xs i z
 unfolding basisValues
 getD-values p xs z i l = getD-from (λ i. basisAt p xs i z) 0 (length xs) i 0 l ∙ ap (λ (j : ℕ). basisAt p xs j z) (zero-add i)
 
 module _ (h : Header) (s : Sound h) (js : List ℕ) (nodes : areNodes h js ≡ true) where
-  -- what the listed nodes hold, as symbols
-  abbrev pub heldBy : List ℕ → List (Symbol (size h))
-  heldBy ms = map (node (fieldFor h s) (rootFor h s) (h .k - 1) (h .k - 1) (shifts h) (lifted h s ms)) js
-
-  -- there are k of them
-  pub length-heldBy : (ms : List ℕ) → length (heldBy ms) ≡ h .k
-  length-heldBy ms = length-map js (node (fieldFor h s) (rootFor h s) (h .k - 1) (h .k - 1) (shifts h) (lifted h s ms)) ∙ nodes-places h js nodes .size
-
-  -- weights that are the numbers of symbols w_0, w_1, .. give the sum of what is held times them
-  pub weighted : (ms ws : List ℕ) (w : ℕ → Symbol (size h)) → isMessage h ms ≡ true → h .k ≤ length ws → ((i : ℕ) → i < h .k → getD ws i 0 ≡ w i .0) → dot (prime h) (atNodes h ms js) ws ≡ sum (fieldFor h s) (h .k) (λ i. fieldFor h s .mul (getD (heldBy ms) i (fieldFor h s .0f)) (w i)) .0
-  weighted ms ws w m long at =
-      let lm = length-lifted h s ms ∙ message-size h ms m in
-      let ly = length-heldBy ms in
-      ap (λ (l : List ℕ). dot (prime h) (atNodes h l js) ws) (sym (lifted-numbers h s ms (message-below h ms m)))
-      ∙ ap (λ (l : List ℕ). dot (prime h) l ws) (held h s (lifted h s ms) js lm)
-      ∙ dot-is (prime h) (s .field) (heldBy ms) ws w (omega arith) (λ i l. at i (omega arith))
-      ∙ ap (λ (k : ℕ). sum (fieldFor h s) k (λ i. fieldFor h s .mul (getD (heldBy ms) i (fieldFor h s .0f)) (w i)) .0) ly
-
   -- the nodes' points, as symbols
   pub node-points : pointsOf (prime h) (h .root) 0 js ≡ numbers (size h) (map (pow (fieldFor h s) (rootFor h s)) js)
   node-points =
@@ -84,8 +58,14 @@ module _ (h : Header) (s : Sound h) (js : List ℕ) (nodes : areNodes h js ≡ t
     size-points : length points ≡ h .k
     size-points = length-points (prime h) (h .root) 0 js ∙ nodes-places h js nodes .size
 
-    -- weight i is the value of the basis polynomial of node number i
-    value-is : (i : ℕ) → i < h .k → getD values i 0 ≡ eval (fieldFor h s) (nodeBasis (fieldFor h s) (rootFor h s) js i) (pow (fieldFor h s) (rootFor h s) t) .0
+    size-values : length values ≡ h .k
+    size-values = length-values (prime h) points (power (prime h) (h .root) t) ∙ size-points
+
+    -- weight i, as a symbol
+    abbrev weight : ℕ → Symbol (size h)
+    weight i = eval (fieldFor h s) (nodeBasis (fieldFor h s) (rootFor h s) js i) (pow (fieldFor h s) (rootFor h s) t)
+
+    value-is : (i : ℕ) → i < h .k → getD values i 0 ≡ weight i .0
     value-is i l =
         let F = fieldFor h s in
         let a = rootFor h s in
@@ -97,31 +77,17 @@ module _ (h : Header) (s : Sound h) (js : List ℕ) (nodes : areNodes h js ≡ t
         ∙ basisAt-is (prime h) (s .field) xs i (pow F a t) (omega (arith, length-map js (pow F a)))
         ∙ ap (λ (x : Symbol (size h)). eval F (basis F xs x) (pow F a t) .0) (getD-map (pow F a) 0 (F .0f) js i (omega arith))
 
-    -- they are symbols, also with zeros after them
-    values-below : allBelow (size h) values ≡ true
-    values-below =
-        at-below (size h) values
-        (λ i l.
-        let n = length-values (prime h) points (power (prime h) (h .root) t) in
-        rw (getD-values (prime h) points (power (prime h) (h .root) t) i (omega arith))
-        (basisAt-below (prime h) (s .field) points i (power (prime h) (h .root) t) (points-below (prime h) (h .root) 0 (s .field) (s .root-below) js) (omega arith) (power-below (prime h) (s .field) t (s .root-below))))
-
     -- the weights
     pub rebuilds : h .k ≤ 255 → Rebuilds h js t (padded 255 values)
     rebuilds fits =
-        let F = fieldFor h s in
-        let a = rootFor h s in
-        let lv : length values ≡ h .k = length-values (prime h) points (power (prime h) (h .root) t) ∙ size-points in
         record {
-          symbols = below-padded (size h) 255 values (size-pos (prime h) (s .field)) values-below;
+          symbols = weights-below h s js nodes values weight size-values value-is;
           gives =
               λ ms m.
               let M = lifted h s ms in
               let lm = length-lifted h s ms ∙ message-size h ms m in
               ap (λ (l : List ℕ). nodeOf h l t) (sym (lifted-numbers h s ms (message-below h ms m)))
               ∙ nodeOf-is h s M t (le-of-eq (lm ∙ sym (shifts-length (h .n) (h .k) (s .some) (s .fits))))
-              ∙ ap (λ (x : Symbol (size h)). x .0) (rebuild-node F (the-code h s) (h .k - 1) js (nodes-places h js nodes) M (heldBy ms) lm refl t)
-              ∙ sym
-              (weighted ms (padded 255 values) (λ i. eval F (nodeBasis F a js i) (pow F a t)) m (omega (arith, length-padded 255 values (omega arith)))
-              (λ i l. getD-padded 255 values i (omega arith) ∙ value-is i l));
+              ∙ ap (λ (x : Symbol (size h)). x .0) (rebuild-node (fieldFor h s) (the-code h s) (h .k - 1) js (nodes-places h js nodes) M (heldBy h s js nodes ms) lm refl t)
+              ∙ sym (weighted h s js nodes values weight size-values value-is fits ms m);
         }

@@ -3,11 +3,10 @@ use mathlib.Core.Path.{_≡_, ap}
 use mathlib.Core.Bool.{true}
 use mathlib.Core.List.{List, [], _∷_}
 use Prim.Native.Nat.{ℕ, _+_, _-_, _≤_, _<_}
-use native.Mathlib.Omega.{arith}
 use lib.ListN.{length, getD, take, drop}
 use lib.Seq.{drop-length}
 use Rattle.lists.specs.Numbers.{allBelow}
-use Rattle.lists.proofs.Front.{drop-next}
+use Rattle.lists.proofs.Front.{drop-before}
 use Rattle.lists.proofs.Numbers.{below-cons, below-take, below-drop, below-at}
 use Rattle.field.specs.Fields.{isField, sizeOf, sub, mul}
 use Rattle.field.proofs.Bounds.{one-below, sub-below, mul-below}
@@ -22,9 +21,7 @@ productAt-end p xs z = ap (λ (l : List ℕ). productAt p l z) (drop-length xs)
 -- and one point before that
 pub productAt-next : (p : ℕ) (xs : List ℕ) (z i : ℕ) → 0 < i → i ≤ length xs → productAt p (drop (i - 1) xs) z ≡ mul p (sub p z (getD xs (i - 1) 0)) (productAt p (drop i xs) z)
 unfolding productAt
-productAt-next p xs z i pos h =
-    let next : i - 1 + 1 ≡ i = omega arith in
-    ap (λ (l : List ℕ). productAt p l z) (rw next at (drop-next xs (i - 1) 0 (omega arith)))
+productAt-next p xs z i pos h = ap (λ (l : List ℕ). productAt p l z) (drop-before xs i 0 pos h)
 
 module _ (p : ℕ) (v : isField p ≡ true) where
   pub productAt-below : (xs : List ℕ) (z : ℕ) → allBelow (sizeOf p) xs ≡ true → z < sizeOf p → productAt p xs z < sizeOf p

@@ -25,3 +25,7 @@ basisAt p xs i z = mul p (scaleAt p xs i) (othersAt p xs i z)
 -- the values at z of all of them
 unfoldable pub basisValues : ℕ → List ℕ → ℕ → List ℕ
 basisValues p xs z = from (λ i. basisAt p xs i z) 0 (length xs)
+
+-- the scales of all of them
+unfoldable pub scalesOf : ℕ → List ℕ → List ℕ
+scalesOf p xs = from (scaleAt p xs) 0 (length xs)

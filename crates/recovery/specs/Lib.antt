@@ -3,3 +3,5 @@ pub mod Weights
 -- What the functions that compute them return.
 pub mod Points
 pub mod Lagrange
+pub mod Polynomials
+pub mod Rows

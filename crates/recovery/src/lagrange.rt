@@ -6,7 +6,7 @@ ghost use Rattle.lists.specs.Padded.{padded};
 ghost use Rattle.field.specs.Fields.{sizeOf};
 ghost use Rattle.field.specs.Kinds.{modulus};
 ghost use Rattle.recovery.specs.Points.{ByteSymbols};
-ghost use Rattle.recovery.specs.Lagrange.{productAt, othersAt, scaleAt, basisAt, basisValues};
+ghost use Rattle.recovery.specs.Lagrange.{productAt, othersAt, scaleAt, basisAt, basisValues, scalesOf};
 use field::Field;
 
 // The product of (z − x) over the points x.
@@ -59,6 +59,20 @@ pub fn basis_values(field: Field, points: &[u8], z: u32) -> [u8; 255]
     let mut i = 0;
     while i < points.len() {
         out[i] = basis_at(field, points, i, z) as u8;
+        i += 1;
+    }
+    out
+}
+
+// The scales of all basis polynomials, and zeros after them.
+pub fn scales(field: Field, points: &[u8]) -> [u8; 255]
+    requires { ⌜ ByteSymbols field (now points) ⌝ }
+    ensures { λ r. ⌜ r ≡ padded 255 (scalesOf (modulus field) (now (points .entry))) ⌝ }
+{
+    let mut out = [0u8; 255];
+    let mut i = 0;
+    while i < points.len() {
+        out[i] = scale_at(field, points, i) as u8;
         i += 1;
     }
     out

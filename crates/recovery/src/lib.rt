@@ -1,15 +1,39 @@
 // The weights by which listed nodes give back a symbol of the message or another node.
 ghost use mathlib.Core.Path.{_≡_};
 ghost use mathlib.Core.Bool.{true};
-ghost use Prim.Native.Nat.{_<_};
-ghost use Rattle.generator.specs.Records.{Sound};
+ghost use Prim.Native.Nat.{_<_, _≤_};
+ghost use lib.ListN.{length};
+ghost use Rattle.field.specs.Fields.{sizeOf};
+ghost use Rattle.field.specs.Kinds.{modulus, usable};
+ghost use Rattle.lists.specs.Padded.{padded};
+ghost use Rattle.generator.specs.Records.{prime, Sound};
+ghost use Rattle.generator.specs.Shifts.{shifts as shiftsFor};
 ghost use Rattle.generator.specs.Claims.{areNodes};
-ghost use Rattle.recovery.specs.Weights.{Rebuilds};
+ghost use Rattle.recovery.specs.Weights.{Rebuilds, Recovers};
+ghost use Rattle.recovery.specs.Points.{pointsOf};
+ghost use Rattle.recovery.specs.Rows.{basisOf, rowPoints, baseInverses, setupOf, rowTerms};
 
 mod lagrange;
+mod polynomials;
 mod powers;
+mod rows;
 
+use field::Field;
 use generator::Header;
+
+// Lagrange's basis of listed points: the points, the scales of the basis polynomials, and the coefficients of the product polynomial; zeros after each list.
+pub struct Basis {
+    pub points: [u8; 255],
+    pub scales: [u8; 255],
+    pub product: [u8; 256],
+}
+
+// What is computed once for a list of nodes: the basis of the nodes' points, that of the rows' points, and 1 over the coefficients of the base polynomial.
+pub struct Setup {
+    pub nodes: Basis,
+    pub shifts: Basis,
+    pub base: [u8; 255],
+}
 
 // Weights for what node `target` holds: the values at root^target of Lagrange's basis polynomials of the nodes' points. Places from k on hold 0.
 pub fn rebuild_weights(h: Header, nodes: &[u8], target: u32) -> [u8; 255]
@@ -22,4 +46,82 @@ pub fn rebuild_weights(h: Header, nodes: &[u8], target: u32) -> [u8; 255]
     let z = field.power(root, target);
     let points = powers::points(field, root, nodes, 0);
     lagrange::basis_values(field, &points[..k], z)
+}
+
+// The basis of the points root^(j + offset).
+fn lagrange_basis(field: Field, root: u32, places: &[u8], offset: u32) -> Basis
+    requires { ⌜ (usable field ≡ true) × (sizeOf (modulus field) ≤ 256) × (root < sizeOf (modulus field)) × (length (now places) ≤ 255) × (offset < 256) ⌝ }
+    ensures { λ r. ⌜ r ≡ basisOf (modulus field) (pointsOf (modulus field) root offset (now (places .entry))) ⌝ }
+{
+    let count = places.len();
+    let points = powers::points(field, root, places, offset);
+    let scales = lagrange::scales(field, &points[..count]);
+    let product = polynomials::product(field, &points[..count]);
+    Basis {
+        points: points,
+        scales: scales,
+        product: product,
+    }
+}
+
+// What recover_weights takes for every row; the shifts are those of the generator's k rows.
+pub fn prepare(h: Header, nodes: &[u8], shifts: &[u8]) -> Setup
+    requires { ⌜ Sound h × (areNodes h (now nodes) ≡ true) × (now shifts ≡ shiftsFor h) ⌝ }
+    ensures { λ r. ⌜ r ≡ setupOf h (now (nodes .entry)) ⌝ }
+{
+    let field = h.field;
+    let root = h.root;
+    let k = h.k as usize;
+    let m = k - 1;
+    let base = polynomials::base(field, root, m);
+    let inverses = polynomials::inverses(field, &base[..k]);
+    let own = lagrange_basis(field, root, nodes, 0);
+    let rows = lagrange_basis(field, root, shifts, m as u32);
+    Setup {
+        nodes: own,
+        shifts: rows,
+        base: inverses,
+    }
+}
+
+// The terms of row r: the coefficients of the product over the points of the other rows, each over that of the base polynomial.
+fn row_terms(h: Header, rows: Basis, base: [u8; 255], r: usize) -> [u8; 255]
+    requires { ⌜ Sound h × (rows ≡ basisOf (prime h) (rowPoints h)) × (base ≡ padded 255 (baseInverses h)) × (r < h .k) ⌝ }
+    ensures { λ t. ⌜ t ≡ padded 255 (rowTerms h r) ⌝ }
+{
+    let field = h.field;
+    let k = h.k as usize;
+    let first: usize = 1;
+    let end = k + 1;
+    let points = rows.points;
+    let product = rows.product;
+    polynomials::quotient_terms(field, points[r] as u32, &product[first..end], &base[..k])
+}
+
+// Weights for symbol r of the message: row r of the inverse of the encoding at the nodes, from what was prepared for them. Places from k on hold 0.
+pub fn recover_weights(h: Header, nodes: &[u8], setup: Setup, r: u32) -> [u8; 255]
+    requires { ⌜ Sound h × (areNodes h (now nodes) ≡ true) × (setup ≡ setupOf h (now nodes)) × (r < h .k) ⌝ }
+    ensures { λ w. ⌜ Recovers h (now (nodes .entry)) r w ⌝ }
+{
+    let field = h.field;
+    let k = h.k as usize;
+    let first: usize = 1;
+    let end = k + 1;
+    let row = r as usize;
+    let rows = setup.shifts;
+    let base = setup.base;
+    let terms = row_terms(h, rows, base, row);
+    let row_scales = rows.scales;
+    let own = setup.nodes;
+    let points = own.points;
+    let scales = own.scales;
+    let product = own.product;
+    rows::row_weights(
+        field,
+        row_scales[row] as u32,
+        &terms[..k],
+        &product[first..end],
+        &points[..k],
+        &scales[..k],
+    )
 }

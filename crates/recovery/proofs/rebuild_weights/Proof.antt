@@ -51,7 +51,7 @@ basis-values-requires c κs =
     let a = c .before .before .before .before .before .args in
     let s = c .before .before .before .before .before .pre .0 in
     let n = few (c .before .before) in (
-      rw (part (c .before)) (points-bytes (a .h) s 0 (a .nodes .now) (omega arith)),
+      rw (part (c .before)) (points-bytes (a .h .root) 0 (a .nodes .now) (s .usable-field) (s .bytes) (s .root-below) (omega arith)),
       rw (c .before .before .power .ensures) (power-below _ (s .field) _ (s .root-below)),
     )
 

@@ -1,0 +1,147 @@
+-- `fill_message` meets its contract. The loop's invariant: for the message m of the listed shares, the rows below r are written, and the others are to come.
+use mathlib.Core.Path.{_≡_}
+use mathlib.Core.List.{List}
+use Prim.Native.Nat.{ℕ, _+_, _-_, _*_, _≤_}
+use native.Mathlib.Nat.{sub-zero, zero-mul, mul-le-mul, le-refl}
+use native.Mathlib.Omega.{arith}
+use borrow.Author.Needs.{needs}
+use lib.ListN.{length}
+use Rattle.lists.specs.Rows.{rowsFrom}
+use Rattle.lists.proofs.Rows.{rows-next, rows-end, row-after, row-inside, part-size, part-length}
+use Rattle.lists.proofs.Fill.{Fills, fills-start, fills-part, fills-all}
+use Rattle.blocks.specs.Blocks.{MessageFor}
+use Rattle.recover.proofs.Rebuilding.{the-message}
+use Rattle.recover.proofs.Recovering.{rowOf, length-row, rows-whole, recovered}
+use Rattle.recover.proofs.fill_message.Statement.{statement}
+use Rattle.recover.proofs.fill_message.Tie as tie
+
+abbrev Inv-loop : tie.InvT-loop
+Inv-loop h lanes nodes shares setup out₀ field k r₀ out r =
+    (r ≤ h .k)
+    × (m : List ℕ) × MessageFor h lanes nodes shares m × Fills out₀ out (r * lanes) (rowsFrom (rowOf lanes m) r (h .k - r)) m
+
+abbrev μ-loop : tie.MeasureT-loop
+μ-loop h lanes nodes shares setup out₀ field k r₀ out r = h .k - r
+
+-- a row lies within the buffer
+row-in : (c : tie.In-loop Inv-loop μ-loop)
+    → let a = c .before .before .before .before .before .before .args in
+    c .before .loop .r * a .lanes + a .lanes ≤ length (a .out .now)
+row-in c =
+    let s = c .before .before .before .before .before .before in
+    rw (s .pre .2) (row-inside (s .args .h .k) (c .before .loop .r) (s .args .lanes) (c .loop-test .taken))
+
+cast-k : tie.Need-cast-k Inv-loop μ-loop
+cast-k c = search needs
+
+loop-holds : tie.Need-loop-holds Inv-loop μ-loop
+loop-holds c =
+    let s = c .before .before .before .before in
+    let a = s .args in
+    let (m, is) = the-message (a .h) (a .lanes) (a .nodes .now) (a .shares .now) (s .pre .0) in
+    (omega arith, m, is, rw (sub-zero, zero-mul, rows-whole (a .h .k) (a .lanes) m (s .pre .0 .some-lane) (is .size-is)) (fills-start _ _))
+
+cast-recover-weights : tie.Need-cast-recover-weights Inv-loop μ-loop
+cast-recover-weights c = omega (arith, c .before .before .struct-known .given)
+
+recover-weights-requires : tie.Need-recover-weights-requires Inv-loop μ-loop
+recover-weights-requires c κs =
+    let s = c .before .before .before .before .before .before in
+    (s .pre .0 .sound, s .pre .0 .different, s .pre .1, c .loop-test .taken)
+
+mul-start : tie.Need-mul-start Inv-loop μ-loop
+mul-start c = omega (arith, row-in (c .before))
+
+add-end : tie.Need-add-end Inv-loop μ-loop
+add-end c = omega (arith, row-in (c .before))
+
+slice-aggregate-combine : tie.Need-slice-aggregate-combine Inv-loop μ-loop
+slice-aggregate-combine c = search needs
+
+sub-combine : tie.Need-sub-combine Inv-loop μ-loop
+sub-combine c = omega arith
+
+part-combine-start : tie.Need-part-combine-start Inv-loop μ-loop
+part-combine-start c = omega arith
+
+part-combine-end : tie.Need-part-combine-end Inv-loop μ-loop
+part-combine-end c = omega (arith, row-in (c .before .before))
+
+combine-requires : tie.Need-combine-requires Inv-loop μ-loop
+combine-requires c κs =
+    let at = c .before .before .before in
+    let s = at .before .before .before .before .before .before in
+    let listed = s .pre .0 in
+    let l = s .args .lanes in
+    let now = at .before .loop in
+    let (low, m, is, fills) = now .inv in
+    let full : 255 ≡ length (c .before .before .recover-weights .result) = slice-aggregate-combine (c .before) in
+    record {
+      usable-field = listed .sound .usable-field;
+      bytes = listed .sound .bytes;
+      weights = omega (arith, at .before .before .struct-known .given);
+      weights-below = c .before .before .recover-weights .ensures .symbols;
+      long = listed .long;
+      symbols = listed .symbols;
+      out-long = part-length (now .r * l) l (now .out) (omega (arith, fills .long, row-in at));
+      few = omega (arith, at .before .before .struct-known .given);
+      narrow = listed .few-lanes;
+    }
+
+add-r : tie.Need-add-r Inv-loop μ-loop
+add-r c = omega arith
+
+loop-less : tie.Need-loop-less Inv-loop μ-loop
+loop-less c = omega arith
+
+loop-again : tie.Need-loop-again Inv-loop μ-loop
+loop-again c =
+    let old = c .before .before .before .before .before .before in
+    let s = old .before .before .before .before .before .before in
+    let a = s .args in
+    let r = old .before .loop .r in
+    let (low, m, is, fills) = old .before .loop .inv in
+    let weights = c .before .before .before .before .before .recover-weights in (
+      omega arith,
+      m,
+      is,
+      rw (row-after, part-size, c .before .before .combine .ensures, recovered (a .h) (a .lanes) (a .nodes .now) (a .shares .now) (s .pre .0) m is r (weights .result) (old .loop-test .taken) (weights .ensures))
+          (fills-part (rowOf (a .lanes) m r) (a .lanes)
+          (rw (rows-next _ _ _ (old .loop-test .taken)) at fills)
+          (length-row (a .lanes) m r)
+          (row-in old)),
+    )
+
+same-length : tie.Need-same-length Inv-loop μ-loop
+same-length c = c .before .loop .inv .3 .long
+
+returns : tie.Need-returns Inv-loop μ-loop
+returns c =
+    let (low, m, is, fills) = c .before .loop .inv in
+    let done =
+    fills-all (rw (rows-end _ _ _ (c .loop-test .left)) at fills)
+    (rw (c .before .before .before .before .before .before .pre .2) (mul-le-mul (c .loop-test .left) (le-refl _))) in
+    rw done is
+
+pub fill-message-spec : {M : Type 1} → statement M
+fill-message-spec =
+    tie.close
+    (tie.spec
+    Inv-loop
+    μ-loop
+    cast-k
+    loop-holds
+    cast-recover-weights
+    recover-weights-requires
+    mul-start
+    add-end
+    slice-aggregate-combine
+    sub-combine
+    part-combine-start
+    part-combine-end
+    combine-requires
+    add-r
+    loop-less
+    loop-again
+    same-length
+    returns)

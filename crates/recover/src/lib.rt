@@ -1,0 +1,100 @@
+// Recover and Rebuild: the message, or what one node holds, from the shares of any k nodes.
+ghost use mathlib.Core.Path.{_≡_};
+ghost use Prim.Native.Nat.{_*_};
+ghost use lib.ListN.{length};
+ghost use Rattle.generator.specs.Records.{Sound};
+ghost use Rattle.blocks.specs.Blocks.{MessageFor};
+ghost use Rattle.blocks.specs.Promises.{RecoverSays, RebuildSays};
+ghost use Rattle.recovery.specs.Rows.{setupOf};
+ghost use Rattle.recover.specs.Listed.{Listed, HeaderRecovers, HeaderRebuilds};
+use blocks::Outcome;
+use generator::Header;
+use generator::Record;
+use recovery::Setup;
+
+mod faults;
+mod nodes;
+
+// Fills the message row by row, each through its own part: the sums of the listed shares times the weights of that row.
+fn fill_message(h: Header, lanes: usize, nodes: &[u8], shares: &[u8], setup: Setup, out: &mut [u8])
+    requires { ⌜ Listed h lanes (now nodes) (now shares) × (setup ≡ setupOf h (now nodes)) × (length (now out) ≡ h .k * lanes) ⌝ }
+    ensures { λ r. ⌜ MessageFor h lanes (now (nodes .entry)) (now (shares .entry)) (now (out .exit)) ⌝ }
+{
+    let field = h.field;
+    let k = h.k as usize;
+    let mut r: usize = 0;
+    while r < k {
+        let weights = recovery::recover_weights(h, nodes, setup, r as u32);
+        let start = r * lanes;
+        let end = start + lanes;
+        blocks::combine(field, &weights, k, lanes, shares, &mut out[start..end]);
+        r += 1;
+    }
+}
+
+// Recovers over an accepted record's header.
+fn recover_accepted(h: Header, lanes: usize, nodes: &[u8], shares: &[u8], out: &mut [u8]) -> Outcome
+    requires { ⌜ Sound h ⌝ }
+    ensures { λ r. ⌜ HeaderRecovers h lanes (now (nodes .entry)) (now (shares .entry)) (now (out .entry)) (now (out .exit)) r ⌝ }
+{
+    let number = faults::recover_fault(h, lanes, nodes, shares, out.len());
+    if number != 0 {
+        return Outcome::Refused(number);
+    }
+    let k = h.k as usize;
+    let plan = plan::plan_of(h);
+    let shifts = plan.shifts;
+    let setup = recovery::prepare(h, nodes, &shifts[..k]);
+    fill_message(h, lanes, nodes, shares, setup, out);
+    Outcome::Done
+}
+
+// Writes the message of the listed nodes' shares, or gives the number that turns the call away and writes nothing.
+pub fn recover_block(rec: &[u8], lanes: u32, nodes: &[u8], shares: &[u8], out: &mut [u8]) -> Outcome
+    ensures { λ r. ⌜ RecoverSays (now (rec .entry)) lanes (now (nodes .entry)) (now (shares .entry)) (now (out .entry)) (now (out .exit)) r ⌝ }
+{
+    match plan::read_record(rec) {
+        Record::Holds(h) => recover_accepted(h, lanes as usize, nodes, shares, out),
+        Record::Meets(number) => Outcome::Refused(number),
+    }
+}
+
+// Rebuilds over an accepted record's header.
+fn rebuild_accepted(
+    h: Header,
+    lanes: usize,
+    nodes: &[u8],
+    shares: &[u8],
+    target: u32,
+    out: &mut [u8],
+) -> Outcome
+    requires { ⌜ Sound h ⌝ }
+    ensures { λ r. ⌜ HeaderRebuilds h lanes (now (nodes .entry)) (now (shares .entry)) target (now (out .entry)) (now (out .exit)) r ⌝ }
+{
+    let number = faults::rebuild_fault(h, lanes, nodes, shares, target, out.len());
+    if number != 0 {
+        return Outcome::Refused(number);
+    }
+    let field = h.field;
+    let k = h.k as usize;
+    let weights = recovery::rebuild_weights(h, nodes, target);
+    blocks::combine(field, &weights, k, lanes, shares, out);
+    Outcome::Done
+}
+
+// Writes the target's share from the listed nodes' shares, or gives the number that turns the call away and writes nothing.
+pub fn rebuild_share(
+    rec: &[u8],
+    lanes: u32,
+    nodes: &[u8],
+    shares: &[u8],
+    target: u32,
+    out: &mut [u8],
+) -> Outcome
+    ensures { λ r. ⌜ RebuildSays (now (rec .entry)) lanes (now (nodes .entry)) (now (shares .entry)) target (now (out .entry)) (now (out .exit)) r ⌝ }
+{
+    match plan::read_record(rec) {
+        Record::Holds(h) => rebuild_accepted(h, lanes as usize, nodes, shares, target, out),
+        Record::Meets(number) => Outcome::Refused(number),
+    }
+}
