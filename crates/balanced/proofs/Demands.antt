@@ -1,19 +1,17 @@
 -- Demands 2 and 3, proved for every accepted record and every scheme.
-use mathlib.Core.Path.{_≡_, refl, sym, ap, _∙_, subst}
-use mathlib.Core.Bool.{Bool, true, false}
+use mathlib.Core.Path.{_≡_, ap, _∙_}
+use mathlib.Core.Bool.{true}
 use mathlib.Core.List.{List}
-use Prim.Native.Nat.{ℕ, zero, suc, _<_}
-use borrow.Author.Tests.{eqb-true, eqb-false, eq-eqb, ne-eqb}
+use Prim.Native.Nat.{ℕ, _<_}
+use borrow.Author.Tests.{eqb-true, eqb-false}
 use lib.Dec.{eqb}
-use lib.ListN.{length, getD, set}
+use lib.ListN.{getD, set}
 use lib.Seq.{set-getD}
 use Rattle.lists.specs.Choice.{pick}
-use Rattle.lists.specs.Counting.{countFrom, differ}
+use Rattle.lists.specs.Counting.{differ}
 use Rattle.lists.proofs.Cases.{by-test}
-use Rattle.lists.proofs.Count.{count-none}
 use Rattle.scheme.proofs.Bounds.{price}
 use Rattle.generator.specs.declared.Header.{Header}
-use Rattle.generator.specs.declared.Record.the-variants.{Holds}
 use Rattle.generator.specs.Records.{headerOf, recordFault, judged, recordOf, size, weight, Sound}
 use Rattle.generator.specs.Codewords.{encoding}
 use Rattle.generator.specs.Claims.{isMessage}
@@ -23,7 +21,7 @@ use Rattle.generator.proofs.Claims.{ours}
 use Rattle.generator.proofs.SchemeOf.{our-scheme, scheme-least}
 use Rattle.blocks.proofs.Shares.{lane-encodes}
 use Rattle.blocks.proofs.Messages.{some-buffer, one-buffer, gathered-message}
-use Rattle.blocks.proofs.Updates.{updated-encodes, updated-others, updated-count}
+use Rattle.blocks.proofs.Updates.{differ-same, updated-encodes, updated-others, updated-count}
 use Rattle.belongs.proofs.Words.{passes-words}
 use Rattle.balanced.specs.Demands.{Recovering, Updating, Demands}
 
@@ -31,11 +29,6 @@ use Rattle.balanced.specs.Demands.{Recovering, Updating, Demands}
 sound-of : (rec : List ℕ) → recordFault rec ≡ 0 → Sound (headerOf rec)
 unfolding recordOf judged
 sound-of rec none = accepted-sound rec (headerOf rec) (ap (λ (f : ℕ). judged f (headerOf rec)) none)
-
--- a list differs nowhere from itself
-differ-self : (s : List ℕ) → differ s s ≡ 0
-unfolding differ
-differ-self s = count-none (length s) 0 _ (λ i low high. rw (eq-eqb (getD s i 0) (getD s i 0) refl))
 
 recovering : (h : Header) → Sound h → Recovering h
 recovering h s =
@@ -51,7 +44,7 @@ recovering h s =
 count : (h : Header) → Sound h → (ms : List ℕ) (r new : ℕ) → isMessage h ms ≡ true → r < h .k → new < size h → differ (encoding h ms) (encoding h (set ms r new)) ≡ pick (eqb new (getD ms r 0)) 0 (weight h)
 count h s ms r new m row low =
     by-test (eqb new (getD ms r 0))
-    (λ t. rw t (ap (λ (u : List ℕ). differ (encoding h ms) (encoding h u)) (ap (set ms r) (eqb-true new (getD ms r 0) t) ∙ set-getD ms r 0) ∙ differ-self (encoding h ms)))
+    (λ t. rw t (ap (λ (u : List ℕ). differ (encoding h ms) (encoding h u)) (ap (set ms r) (eqb-true new (getD ms r 0) t) ∙ set-getD ms r 0) ∙ differ-same (encoding h ms)))
     (λ t. rw t (alters h s ms r new m row low (eqb-false new (getD ms r 0) t)))
 
 updating : (h : Header) → Sound h → Updating h

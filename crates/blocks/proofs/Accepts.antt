@@ -1,13 +1,13 @@
 -- The number of a call from the record that was read, the answers beside a number, and what holds where none is met.
 use mathlib.Core.Path.{_≡_, refl, _∙_}
-use mathlib.Core.Bool.{false}
+use mathlib.Core.Bool.{Bool, true, false, or-true}
 use mathlib.Core.List.{List}
 use Prim.Native.Nat.{ℕ, zero, suc, _≤_, _<_}
 use native.Mathlib.Omega.{arith}
-use borrow.Author.Tests.{eqb-false, ltb-false, ne-eqb}
+use borrow.Author.Tests.{eqb-false, ltb-false, eq-eqb, ne-eqb}
 use lib.Dec.{eqb, ltb}
-use Rattle.lists.specs.Choice.{pick, pickT, firstOf}
-use Rattle.lists.proofs.Cases.{or-left-false, or-right-false}
+use Rattle.lists.specs.Choice.{pick, pickT, firstOf, when}
+use Rattle.lists.proofs.Cases.{or-left-false, or-right-false, neither, first-zero, when-zero}
 use Rattle.generator.specs.declared.Header.{Header}
 use Rattle.generator.specs.declared.Record.the-variants.{Holds, Meets}
 use Rattle.generator.specs.Records.{headerOf, recordFault, judged, recordOf}
@@ -71,7 +71,26 @@ refused-value g a b n = rw (ne-eqb g 0 n)
 pub refused-claim : (g : ℕ) (A B : Type 0) → (g ≡ 0 → ⊥) → B → pickT (eqb g 0) A B
 refused-claim g A B n b = rw (ne-eqb g 0 n) b
 
--- number 7 is not met
+-- a number that is not met, and the numbers after it
+pub not-met : (t : Bool) (n rest : ℕ) → firstOf (when t (suc n)) rest ≡ 0 → (t ≡ false) × (rest ≡ 0)
+not-met t n rest e =
+    let (none, after) = first-zero (when t (suc n)) rest e in
+    (when-zero t n none, after)
+
+-- number 7, by the two tests of the code: met by no lane, met by too many, not met
+pub lanes-none : (l : ℕ) → l ≡ 0 → lanesBad l ≡ true
+unfolding lanesBad
+lanes-none l e = rw (eq-eqb l 0 e)
+
+pub lanes-many : (l : ℕ) → ltb 4096 l ≡ true → lanesBad l ≡ true
+unfolding lanesBad
+lanes-many l e = rw (e, or-true (eqb l 0))
+
+pub lanes-few : (l : ℕ) → (l ≡ 0 → ⊥) → ltb 4096 l ≡ false → lanesBad l ≡ false
+unfolding lanesBad
+lanes-few l some few = neither (ne-eqb l 0 some) few
+
+-- and what holds then
 pub lanes-good : (l : ℕ) → lanesBad l ≡ false → (0 < l) × (l ≤ 4096)
 unfolding lanesBad
 lanes-good l e =

@@ -2,5 +2,9 @@
 pub mod Shares
 pub mod Updates
 pub mod Messages
+pub mod RowSums
 pub mod Combined
 pub mod Accepts
+-- The same definitions as document 03 has them.
+pub mod Agreement
+pub mod FaultsAgreement

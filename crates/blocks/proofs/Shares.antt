@@ -1,12 +1,10 @@
 -- The shares of a block hold, in each lane, the encoding of that lane's message.
-use mathlib.Core.Path.{_≡_, refl, sym, ap, _∙_}
-use mathlib.Core.Bool.{true}
+use mathlib.Core.Path.{_≡_, ap, _∙_}
 use mathlib.Core.List.{List}
-use Prim.Native.Nat.{ℕ, _+_, _*_, _<_}
+use Prim.Native.Nat.{ℕ, _*_, _<_}
 use native.Mathlib.Nat.{zero-add}
 use native.Mathlib.Omega.{arith}
 use lib.ListN.{length, getD}
-use Rattle.lists.specs.Rows.{from, rowsFrom}
 use Rattle.lists.proofs.Rows.{length-from, getD-from, from-ext}
 use Rattle.lists.proofs.Lanes.{length-rows, getD-rows}
 use Rattle.generator.specs.declared.Header.{Header}

@@ -1,6 +1,6 @@
 -- An update of a lane: what each byte is afterwards, and what it does to a lane that encodes a message.
 use mathlib.Core.Path.{_≡_, refl, sym, ap, ap₂, _∙_}
-use mathlib.Core.Bool.{true, not}
+use mathlib.Core.Bool.{Bool, true, not}
 use mathlib.Core.List.{List}
 use mathlib.Core.Logic.{by-cases}
 use Prim.Native.Nat.{ℕ, zero, suc, _+_, _-_, _*_, _≤_, _<_}
@@ -11,10 +11,9 @@ use borrow.Author.Tests.{eq-eqb}
 use lib.Dec.{eqb}
 use lib.ListN.{length, getD, set, length-set}
 use lib.Seq.{getD-set-same, getD-set-other}
-use Rattle.lists.specs.Rows.{from}
 use Rattle.lists.specs.Counting.{countFrom, differ}
 use Rattle.lists.proofs.Rows.{from-ext, getD-from, length-from, row-inside}
-use Rattle.lists.proofs.Count.{count-ext}
+use Rattle.lists.proofs.Count.{count-ext, count-none}
 use Rattle.lists.proofs.Lanes.{same-row, same-lane, count-lane}
 use Rattle.field.specs.Fields.{add, sub, mul}
 use Rattle.generator.specs.declared.Header.{Header}
@@ -74,6 +73,29 @@ module _ (h : Header) (l r t x : ℕ) where
         updatedFrom-lane f (j + 1) u a (omega arith) (omega arith) more
         ∙ ap (λ (b : ℕ). add (prime h) b (mul (prime h) x (entry h r a))) (getD-set-other s (placeOf l j t) (placeOf l a t) (changed h l r t x s j) 0 (other-place a j (λ z. n (sym z)))))
 
+-- whether node j's byte of lane t becomes another one
+abbrev pub altered : Header → ℕ → ℕ → ℕ → ℕ → List ℕ → ℕ → Bool
+altered h l r t x s j = not (eqb (getD s (placeOf l j t) 0) (changed h l r t x s j))
+
+-- as many bytes differ as nodes have another byte in the lane
+pub differ-updated : (h : Header) (l r t x : ℕ) (s : List ℕ) → t < l → (n : ℕ) → length s ≡ n * l → differ s (updatedFrom n 0 h l r t x s) ≡ countFrom n 0 (altered h l r t x s)
+unfolding differ placeOf
+differ-updated h l r t x s lane n long =
+    let test : ℕ → Bool = λ i. not (eqb (getD s i 0) (getD (updatedFrom n 0 h l r t x s) i 0)) in
+    ap (λ (f : ℕ). countFrom f 0 test) long
+    ∙ count-lane l t lane test (λ j u hu other. ap not (eq-eqb _ _ (sym (updatedFrom-other h l r t x n 0 s (j * l + u) (λ a low high e. other (same-lane j a l u t hu lane e)))))) n
+    ∙ count-ext n 0 _ _ (λ j low high. ap (λ (b : ℕ). not (eqb (getD s (j * l + t) 0) b)) (updatedFrom-lane h l r t x lane n 0 s j low high (rw (zero-add n, long) (le-refl (n * l)))))
+
+-- a list differs nowhere from itself
+pub differ-same : (s : List ℕ) → differ s s ≡ 0
+unfolding differ
+differ-same s = count-none (length s) 0 _ (λ i low high. rw (eq-eqb (getD s i 0) (getD s i 0) refl))
+
+-- what node j of an encoding holds
+node-at : (h : Header) (ms : List ℕ) (j : ℕ) → j < h .n → getD (encoding h ms) j 0 ≡ nodeOf h ms j
+unfolding encoding
+node-at h ms j node = getD-from (nodeOf h ms) 0 (h .n) j 0 node ∙ ap (nodeOf h ms) (zero-add j)
+
 module _ (h : Header) (s : Sound h) (ms buffer : List ℕ) (l r t new : ℕ) (m : isMessage h ms ≡ true) (row : r < h .k) (inside : t < l) (low : new < size h) (long : length buffer ≡ h .n * l) (encodes : laneOf (h .n) l t buffer ≡ encoding h ms) where
   -- the buffer after the update
   abbrev after : List ℕ
@@ -81,17 +103,20 @@ module _ (h : Header) (s : Sound h) (ms buffer : List ℕ) (l r t new : ℕ) (m 
 
   -- what a node of the lane held
   held-before : (j : ℕ) → j < h .n → getD buffer (placeOf l j t) 0 ≡ nodeOf h ms j
-  unfolding encoding
-  held-before j node =
-      sym (getD-lane (h .n) l t buffer j node) ∙ ap (λ (w : List ℕ). getD w j 0) encodes ∙ getD-from (nodeOf h ms) 0 (h .n) j 0 node ∙ ap (nodeOf h ms) (zero-add j)
+  held-before j node = sym (getD-lane (h .n) l t buffer j node) ∙ ap (λ (w : List ℕ). getD w j 0) encodes ∙ node-at h ms j node
 
-  -- and what it holds afterwards
+  -- what it becomes
+  held-changed : (j : ℕ) → j < h .n → changed h l r t (sub (prime h) new (getD ms r 0)) buffer j ≡ nodeOf h (set ms r new) j
+  held-changed j node =
+      ap (λ (b : ℕ). add (prime h) b (mul (prime h) (sub (prime h) new (getD ms r 0)) (entry h r j))) (held-before j node)
+      ∙ sym (node-change h s ms r new m row low j)
+
+  -- and so holds afterwards
   held-after : (j : ℕ) → j < h .n → getD after (placeOf l j t) 0 ≡ nodeOf h (set ms r new) j
   unfolding updated
   held-after j node =
       updatedFrom-lane h l r t (sub (prime h) new (getD ms r 0)) inside (h .n) 0 buffer j (omega arith) (omega arith) (rw (zero-add (h .n), long) (le-refl (h .n * l)))
-      ∙ ap (λ (b : ℕ). add (prime h) b (mul (prime h) (sub (prime h) new (getD ms r 0)) (entry h r j))) (held-before j node)
-      ∙ sym (node-change h s ms r new m row low j)
+      ∙ held-changed j node
 
   -- the lane encodes the new message
   pub updated-encodes : laneOf (h .n) l t after ≡ encoding h (set ms r new)
@@ -110,12 +135,8 @@ module _ (h : Header) (s : Sound h) (ms buffer : List ℕ) (l r t new : ℕ) (m 
 
   -- as many bytes differ as nodes of the two encodings do
   pub updated-count : differ buffer after ≡ differ (encoding h ms) (encoding h (set ms r new))
-  unfolding differ encoding placeOf
+  unfolding updated differ encoding
   updated-count =
-      ap (λ (f : ℕ). countFrom f 0 (λ i. not (eqb (getD buffer i 0) (getD after i 0)))) long
-      ∙ count-lane l t inside (λ i. not (eqb (getD buffer i 0) (getD after i 0))) (λ j q hq n. ap not (eq-eqb _ _ (sym (other-byte j q hq n)))) (h .n)
-      ∙ count-ext (h .n) 0 _ _ (λ j lo hi. ap not (ap₂ eqb (held-before j (omega arith) ∙ sym (node-at ms j (omega arith))) (held-after j (omega arith) ∙ sym (node-at (set ms r new) j (omega arith)))))
-      ∙ ap (λ (f : ℕ). countFrom f 0 (λ i. not (eqb (getD (from (nodeOf h ms) 0 (h .n)) i 0) (getD (from (nodeOf h (set ms r new)) 0 (h .n)) i 0)))) (sym (length-from (nodeOf h ms) 0 (h .n)))
-    where
-      node-at : (us : List ℕ) (j : ℕ) → j < h .n → getD (from (nodeOf h us) 0 (h .n)) j 0 ≡ nodeOf h us j
-      node-at us j node = getD-from (nodeOf h us) 0 (h .n) j 0 node ∙ ap (nodeOf h us) (zero-add j)
+      differ-updated h l r t (sub (prime h) new (getD ms r 0)) buffer inside (h .n) long
+      ∙ count-ext (h .n) 0 _ _ (λ j lo hi. ap not (ap₂ eqb (held-before j (omega arith) ∙ sym (node-at h ms j (omega arith))) (held-changed j (omega arith) ∙ sym (node-at h (set ms r new) j (omega arith)))))
+      ∙ ap (λ (f : ℕ). countFrom f 0 (λ i. not (eqb (getD (encoding h ms) i 0) (getD (encoding h (set ms r new)) i 0)))) (sym (length-from (nodeOf h ms) 0 (h .n)))

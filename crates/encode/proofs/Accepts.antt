@@ -6,10 +6,10 @@ use Prim.Native.Nat.{ℕ, _*_}
 use borrow.Author.Tests.{eqb-true, not-false}
 use lib.Dec.{eqb}
 use lib.ListN.{length}
-use Rattle.lists.specs.Choice.{firstOf, when}
-use Rattle.lists.proofs.Cases.{and-left, and-right, first-zero, when-zero}
+use Rattle.lists.proofs.Cases.{and-left, and-right, when-zero}
 use Rattle.generator.specs.declared.Header.{Header}
 use Rattle.blocks.specs.Faults.{lanesBad, symbolsBad, encodeFault}
+use Rattle.blocks.proofs.Accepts.{not-met}
 use Rattle.encode.specs.Inner.{MessageBuffer}
 
 -- number 8: the message or the written buffer, whose length is `out`, has another length than stated
@@ -20,9 +20,9 @@ lengthsBad h l out s = not (eqb (length s) (h .k * l) && eqb out (h .n * l))
 pub accepts : (h : Header) (l out : ℕ) (s : List ℕ) → encodeFault h l out s ≡ 0 → MessageBuffer h l s × (out ≡ h .n * l)
 unfolding encodeFault symbolsBad
 accepts h l out s e =
-    let (seven, rest) = first-zero (when (lanesBad l) 7) (firstOf (when (lengthsBad h l out s) 8) (when (symbolsBad h s) 11)) e in
-    let (eight, eleven) = first-zero (when (lengthsBad h l out s) 8) (when (symbolsBad h s) 11) rest in
-    let long : (eqb (length s) (h .k * l) && eqb out (h .n * l)) ≡ true = not-false _ (when-zero (lengthsBad h l out s) 7 eight) in (
+    let (seven, rest) = not-met (lanesBad l) 6 _ e in
+    let (eight, eleven) = not-met (lengthsBad h l out s) 7 _ rest in
+    let long : (eqb (length s) (h .k * l) && eqb out (h .n * l)) ≡ true = not-false _ eight in (
       record {
         size-is = eqb-true (length s) (h .k * l) (and-left _ (eqb out (h .n * l)) long);
         symbols = not-false _ (when-zero (symbolsBad h s) 10 eleven);

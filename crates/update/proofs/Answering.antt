@@ -6,10 +6,9 @@ use Prim.Native.Nat.{ℕ, _*_, _<_}
 use borrow.Author.Tests.{eqb-true, ltb-true, leb-false, not-false}
 use lib.Dec.{eqb, ltb, leb}
 use lib.ListN.{length}
-use Rattle.lists.specs.Choice.{when}
 use Rattle.lists.specs.Counting.{differ}
 use Rattle.lists.specs.Numbers.{allBelow}
-use Rattle.lists.proofs.Cases.{and-left, and-right, or-left-false, or-right-false, first-zero, when-zero}
+use Rattle.lists.proofs.Cases.{and-left, and-right, or-left-false, or-right-false, when-zero}
 use Rattle.field.specs.Fields.{sub}
 use Rattle.field.proofs.Bounds.{sub-below}
 use Rattle.generator.specs.declared.Header.{Header}
@@ -22,7 +21,7 @@ use Rattle.blocks.specs.Blocks.{laneOf, updated}
 use Rattle.blocks.specs.Faults.{lanesBad, updateFault}
 use Rattle.blocks.specs.Answers.{updateOf}
 use Rattle.blocks.specs.Promises.{UpdateSays}
-use Rattle.blocks.proofs.Accepts.{held-fault, met-number, met-fault, update-refused, refused-value, lanes-good}
+use Rattle.blocks.proofs.Accepts.{held-fault, met-number, met-fault, update-refused, refused-value, not-met, lanes-good}
 use Rattle.update.specs.Updating.{Ready, HeaderSays}
 
 module _ (h : Header) (l r t old new : ℕ) (s : List ℕ) where
@@ -31,21 +30,20 @@ module _ (h : Header) (l r t old new : ℕ) (s : List ℕ) where
   unfolding updateFault
   accepted sound e =
       let symbols = allBelow (size h) (laneOf (h .n) l t s) in
-      let (seven, after-seven) = first-zero (when (lanesBad l) 7) _ e in
-      let (eight, after-eight) = first-zero (when (not (eqb (length s) (h .n * l))) 8) _ after-seven in
-      let (nine, eleven) = first-zero (when (leb (h .k) r || leb l t) 9) (when (not (ltb old (size h) && (ltb new (size h) && symbols))) 11) after-eight in
-      let places = when-zero (leb (h .k) r || leb l t) 8 nine in
+      let (seven, after-seven) = not-met (lanesBad l) 6 _ e in
+      let (eight, after-eight) = not-met (not (eqb (length s) (h .n * l))) 7 _ after-seven in
+      let (places, eleven) = not-met (leb (h .k) r || leb l t) 8 _ after-eight in
       let good = not-false _ (when-zero (not (ltb old (size h) && (ltb new (size h) && symbols))) 10 eleven) in
       let rest = and-right (ltb old (size h)) (ltb new (size h) && symbols) good in
       let old-symbol : old < size h = ltb-true old (size h) (and-left (ltb old (size h)) (ltb new (size h) && symbols) good) in
       let new-symbol : new < size h = ltb-true new (size h) (and-left (ltb new (size h)) symbols rest) in (
         record {
           sound = sound;
-          few-lanes = lanes-good l (when-zero (lanesBad l) 6 seven) .1;
+          few-lanes = lanes-good l seven .1;
           row = leb-false (h .k) r (or-left-false (leb (h .k) r) (leb l t) places);
           lane = leb-false l t (or-right-false (leb (h .k) r) (leb l t) places);
           factor = sub-below (prime h) (sound .field) new-symbol old-symbol;
-          long = eqb-true (length s) (h .n * l) (not-false _ (when-zero (not (eqb (length s) (h .n * l))) 7 eight));
+          long = eqb-true (length s) (h .n * l) (not-false _ eight);
           symbols = and-right (ltb new (size h)) symbols rest;
         },
         old-symbol,

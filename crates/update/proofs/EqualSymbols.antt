@@ -1,15 +1,13 @@
 -- An update from a symbol to the same symbol: every byte stays, and the count is 0.
 use mathlib.Core.Path.{_≡_, refl, ap, _∙_}
-use mathlib.Core.Bool.{true, not}
+use mathlib.Core.Bool.{true}
 use mathlib.Core.List.{List}
 use Prim.Native.Nat.{ℕ, zero, suc, _+_, _≤_, _<_}
 use native.Mathlib.Omega.{arith}
-use borrow.Author.Tests.{eq-eqb}
-use lib.ListN.{length, getD, set}
+use lib.ListN.{getD, set}
 use lib.Seq.{set-getD}
 use Rattle.lists.specs.Counting.{differ}
 use Rattle.lists.specs.Numbers.{allBelow}
-use Rattle.lists.proofs.Count.{count-none}
 use Rattle.field.specs.Fields.{add, sub}
 use Rattle.field.proofs.Arithmetic.{add-neg, sub-is, zero-mul}
 use Rattle.field.proofs.BothKinds.{arithmetic}
@@ -18,13 +16,8 @@ use Rattle.generator.specs.Records.{prime, size, Sound}
 use Rattle.generator.specs.Generator.{entry}
 use Rattle.generator.proofs.Bounds.{entry-below}
 use Rattle.blocks.specs.Blocks.{placeOf, laneOf, updatedFrom, updated}
-use Rattle.blocks.proofs.Updates.{changed}
+use Rattle.blocks.proofs.Updates.{changed, differ-same}
 use Rattle.update.proofs.Lane.{lane-symbol}
-
--- a list differs from itself nowhere
-differ-same : (s : List ℕ) → differ s s ≡ 0
-unfolding differ
-differ-same s = count-none (length s) 0 _ (λ j low high. ap not (eq-eqb (getD s j 0) (getD s j 0) refl))
 
 module _ (h : Header) (sound : Sound h) (l r t : ℕ) (s : List ℕ) where
   -- 0 times an entry added to a symbol

@@ -1,9 +1,9 @@
 -- The bytes of one lane, node by node, and the generator's entries for them.
-use mathlib.Core.Path.{_≡_, sym}
+use mathlib.Core.Path.{_≡_}
 use mathlib.Core.Bool.{true, false}
 use mathlib.Core.List.{List}
 use Prim.Native.Nat.{ℕ, _+_, _-_, _*_, _%_, _≤_, _<_}
-use native.Mathlib.Nat.{sub-zero, mul-le-mul, mod-lt}
+use native.Mathlib.Nat.{sub-zero, mul-le-mul}
 use native.Mathlib.Omega.{arith}
 use borrow.Author.Tests.{lt-ltb, le-ltb}
 use lib.ListN.{getD}
@@ -14,12 +14,10 @@ use Rattle.lists.proofs.Rows.{from-next, from-end, row-inside}
 use Rattle.generator.specs.declared.Header.{Header}
 use Rattle.generator.specs.declared.Record.the-variants.{Holds}
 use Rattle.generator.specs.Records.{Sound}
-use Rattle.generator.specs.Shifts.{shifts}
 use Rattle.generator.specs.Generator.{entry}
-use Rattle.generator.proofs.Entries.{rows-base}
 use Rattle.plan.specs.declared.Plan.{Plan}
 use Rattle.plan.specs.Plans.{planFor}
-use Rattle.plan.proofs.Plans.{shift-in, base-in}
+use Rattle.plan.proofs.Plans as Plans
 use Rattle.blocks.specs.Blocks.{placeOf, laneOf}
 use Rattle.blocks.proofs.Shares.{length-lane, getD-lane}
 
@@ -29,9 +27,7 @@ place-fits n j l t small few node lane = (omega (arith, row-inside n j l node), 
 
 -- an entry, read from the plan's base word by the shift of its row
 pub entry-read : (h : Header) → Sound h → (p : Plan) → p ≡ planFor (Holds h) → (r j : ℕ) → r < h .k → j < h .n → getD (p .base) ((j + getD (p .shifts) r 0) % h .n) 0 ≡ entry h r j
-entry-read h s p e r j row node =
-    let place : (j + getD (shifts h) r 0) % h .n < h .n = mod-lt (j + getD (shifts h) r 0) (omega arith) in
-    rw (e, shift-in h s r row, base-in h s _ place) (sym (rows-base h s r j))
+entry-read h s p e r j row node = rw e (Plans.entry-read h s r j row node)
 
 -- the lane from node j on
 abbrev pub laneFrom : ℕ → ℕ → ℕ → List ℕ → ℕ → List ℕ

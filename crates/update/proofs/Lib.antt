@@ -1,5 +1,4 @@
--- Laws of an update: its count, the bytes of its lane, the loop over the nodes, its answers, equal symbols.
-pub mod Altered
+-- Laws of an update: the bytes of its lane, the loop over the nodes, its answers, equal symbols.
 pub mod Lane
 pub mod Rewriting
 pub mod Answering

@@ -13,8 +13,7 @@ use Rattle.lists.proofs.Count.{count-below}
 use Rattle.lists.proofs.Lanes.{same-row}
 use Rattle.generator.specs.declared.Header.{Header}
 use Rattle.blocks.specs.Blocks.{placeOf, updatedFrom}
-use Rattle.blocks.proofs.Updates.{changed, updatedFrom-other}
-use Rattle.update.proofs.Altered.{altered, differ-updated}
+use Rattle.blocks.proofs.Updates.{changed, updatedFrom-other, altered, differ-updated}
 
 -- the first j nodes of lane t are done, and so many of them have another byte
 pub record Rewriting (h : Header) (l r t x : ℕ) (start now : List ℕ) (count j : ℕ) : Type 0 where

@@ -3,22 +3,18 @@ use mathlib.Core.Path.{_≡_, sym, ap, _∙_}
 use Prim.Native.Nat.{ℕ, _+_, _-_, _*_, _≤_, _<_}
 use native.Mathlib.Omega.{arith}
 use borrow.Author.Needs.{needs}
-use lib.ListN.{length, drop}
+use lib.ListN.{length}
 use Rattle.lists.proofs.Rows.{row-inside, part-length}
 use Rattle.lists.specs.Padded.{zeros}
-use Rattle.lists.proofs.Numbers.{below-at, below-take, below-drop}
+use Rattle.lists.proofs.Numbers.{below-at}
 use Rattle.field.specs.Fields.{sizeOf}
 use Rattle.field.specs.Kinds.{modulus}
 use Rattle.field.proofs.KindLaws.{usable-field}
 use Rattle.kernel.specs.Lanes.{addScaled}
-use Rattle.blocks.specs.Blocks.{Rows}
+use Rattle.kernel.proofs.Lanes.{part-below}
 use Rattle.blocks.proofs.Combined.{partial, partial-start, partial-step, partial-end, partial-below, length-partial}
 use Rattle.blocks.proofs.combine.Statement.{statement}
 use Rattle.blocks.proofs.combine.Tie as tie
-use Rattle.blocks.proofs.combine.Reads as reads
-use Rattle.blocks.proofs.combine.Lts as lts
-use Rattle.kernel.proofs.add_scaled.Reads as add-scaled-reads
-use Rattle.kernel.proofs.clear.Reads as clear-reads
 
 abbrev Inv-loop : tie.InvT-loop
 Inv-loop field weights rows lanes shares acc₀ i₀ acc i = (i ≤ rows) × (acc ≡ partial (modulus field) rows lanes weights shares i)
@@ -83,7 +79,7 @@ add-scaled-requires c κs =
       st .pre .bytes,
       below-at (sizeOf p) (st .args .weights .now) (st .pre .weights-below) (i - 1) (omega (arith, st .pre .weights)),
       part-length ((i - 1) * l) l (st .args .shares .now) (turn at) ∙ sym (ap length held ∙ length-partial p (st .args .rows) l (st .args .weights .now) (st .args .shares .now) i),
-      below-take (sizeOf p) ((i - 1) * l + l - (i - 1) * l) (drop ((i - 1) * l) (st .args .shares .now)) (below-drop (sizeOf p) ((i - 1) * l) (st .args .shares .now) (st .pre .symbols)),
+      part-below ((i - 1) * l) l (st .args .shares .now) (sizeOf p) (st .pre .symbols),
       rw held (partial-below p (st .args .rows) l (st .args .weights .now) (st .args .shares .now) v (st .pre .long) (st .pre .symbols) (st .pre .weights-below) i),
     )
 

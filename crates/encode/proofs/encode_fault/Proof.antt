@@ -10,23 +10,18 @@ use borrow.Author.Tests.{eq-eqb, ne-eqb, ltb-false, not-true, not-false}
 use Rattle.lists.specs.Numbers.{allBelow}
 use Rattle.generator.specs.Records.{size}
 use Rattle.blocks.specs.Faults.{lanesBad, symbolsBad, encodeFault}
+use Rattle.blocks.proofs.Accepts.{lanes-none, lanes-many, lanes-few}
 use Rattle.encode.proofs.Accepts.{lengthsBad}
 use Rattle.encode.proofs.encode_fault.Statement.{statement}
 use Rattle.encode.proofs.encode_fault.Tie as tie
 
 -- number 7 holds where the first test passes
 lanes-bad : (c : tie.Joined1) → lanesBad (c .before .before .before .before .args .lanes) ≡ true
-unfolding lanesBad
-lanes-bad c =
-    ⊎-elim
-    (λ w. rw (eq-eqb _ 0 (w .taken)))
-    (λ w. rw (ne-eqb _ 0 (w .0 .left), w .1 .taken))
-    (c .if1 .came)
+lanes-bad c = ⊎-elim (λ w. lanes-none _ (w .taken)) (λ w. lanes-many _ (w .1 .taken)) (c .if1 .came)
 
 -- and not where it fails
 lanes-good : (c : tie.Else2) → lanesBad (c .before .before .before .before .before .args .lanes) ≡ false
-unfolding lanesBad
-lanes-good c = rw (ne-eqb _ 0 (c .before .if1 .left), c .if2 .left)
+lanes-good c = lanes-few _ (c .before .if1 .left) (c .if2 .left)
 
 -- so few that no product wraps
 few-lanes : (c : tie.Else2) → c .before .before .before .before .before .args .lanes ≤ 4096

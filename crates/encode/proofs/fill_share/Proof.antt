@@ -5,8 +5,8 @@ use native.Mathlib.Omega.{arith}
 use borrow.Author.Needs.{needs}
 use lib.ListN.{length}
 use Rattle.lists.proofs.Rows.{row-inside, part-length}
-use Rattle.lists.proofs.Numbers.{below-take, below-drop}
 use Rattle.generator.proofs.Bounds.{entry-below}
+use Rattle.kernel.proofs.Lanes.{part-below}
 use Rattle.encode.proofs.Partial.{partial, length-partial, partial-start, partial-turn, partial-end, partial-below}
 use Rattle.encode.proofs.fill_share.Statement.{statement}
 use Rattle.encode.proofs.fill_share.Tie as tie
@@ -69,7 +69,7 @@ add-scaled-requires c κs =
       sound .bytes,
       rw (c .before .before .coefficient .ensures) (entry-below (a .h) sound (now .r - 1) (a .node)),
       rw (now .inv .1) (part-length start (a .lanes) message (row-in (c .before .before .before)) ∙ sym (length-partial (a .h) (a .lanes) message (a .node) (now .r))),
-      below-take _ (start + a .lanes - start) _ (below-drop _ start message (s .pre .1 .symbols)),
+      part-below start (a .lanes) message _ (s .pre .1 .symbols),
       rw (now .inv .1) (partial-below (a .h) (a .lanes) message (a .node) sound (s .pre .1 .size-is) (s .pre .1 .symbols) (now .r)),
     )
 

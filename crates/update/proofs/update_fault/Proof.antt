@@ -12,23 +12,17 @@ use Rattle.lists.specs.Numbers.{allBelow}
 use Rattle.generator.specs.Records.{size}
 use Rattle.blocks.specs.Blocks.{laneOf}
 use Rattle.blocks.specs.Faults.{lanesBad, updateFault}
-use Rattle.blocks.proofs.Accepts.{lanes-good}
+use Rattle.blocks.proofs.Accepts.{lanes-none, lanes-many, lanes-few, lanes-good}
 use Rattle.update.proofs.update_fault.Statement.{statement}
 use Rattle.update.proofs.update_fault.Tie as tie
 
 -- number 7 holds where the first test passes
 seven : (c : tie.Joined1) → lanesBad (c .before .before .before .args .lanes) ≡ true
-unfolding lanesBad
-seven c =
-    ⊎-elim
-    (λ w. rw (eq-eqb _ 0 (w .taken)))
-    (λ w. rw (ne-eqb _ 0 (w .0 .left), w .1 .taken))
-    (c .if1 .came)
+seven c = ⊎-elim (λ w. lanes-none _ (w .taken)) (λ w. lanes-many _ (w .1 .taken)) (c .if1 .came)
 
 -- and not where it fails
 not-seven : (c : tie.Else2) → lanesBad (c .before .before .before .before .args .lanes) ≡ false
-unfolding lanesBad
-not-seven c = rw (ne-eqb _ 0 (c .before .if1 .left), c .if2 .left)
+not-seven c = lanes-few _ (c .before .if1 .left) (c .if2 .left)
 
 -- number 9
 nine : (c : tie.Joined4) → let a = c .before .before .before .before .before .before .args in (leb (a .h .k) (a .which) || leb (a .lanes) (a .lane)) ≡ true

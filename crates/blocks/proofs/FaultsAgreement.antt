@@ -1,0 +1,60 @@
+-- Numbers 7 to 11 as document 03 states them (specs/Blocks.antt), and that ours are the same for every record and every input.
+-- Its text stands here but for the marks: what it has as `abbrev` is `unfoldable`. Its records are quoted in the crate `generator`, its `sizeOf` in the crate `field`, its lanes in Agreement;
+-- its `firstOf`, `when`, `allBelow`, `isIn` and `distinct` are those of `lists`, the same recursions. Its faults take the record itself, ours a header: `faultOf` puts the record's number before them.
+use mathlib.Core.Path.{_≡_, refl}
+use mathlib.Core.Bool.{Bool, _&&_, _||_, not}
+use mathlib.Core.List.{List}
+use Prim.Native.Nat.{ℕ, _*_}
+use lib.Dec.{eqb, ltb, leb}
+use lib.ListN.{length}
+use Rattle.lists.specs.Choice.{firstOf, when}
+use Rattle.lists.specs.Numbers.{allBelow, distinct}
+use Rattle.field.proofs.Agreement.{sizeOf, sizeOf-agrees}
+use Rattle.generator.specs.Records as R
+use Rattle.generator.proofs.RecordsAgreement.{headerOf, recordFault, headerOf-agrees, recordFault-agrees}
+use Rattle.blocks.specs.Faults as Ours
+use Rattle.blocks.proofs.Agreement.{laneOf, laneOf-agrees}
+
+-- document 03's definitions
+unfoldable pub lanesBad : ℕ → Bool
+lanesBad l = eqb l 0 || ltb 4096 l
+
+unfoldable pub encodeFault : List ℕ → ℕ → ℕ → List ℕ → ℕ
+encodeFault rec l out s = let h = headerOf rec in firstOf (recordFault rec) (firstOf (when (lanesBad l) 7) (firstOf (when (not (eqb (length s) (h .k * l) && eqb out (h .n * l))) 8) (when (not (allBelow (sizeOf (h .p)) s)) 11)))
+
+unfoldable pub updateFault : List ℕ → ℕ → ℕ → ℕ → ℕ → ℕ → List ℕ → ℕ
+updateFault rec l r t old new s = let h = headerOf rec in let m = sizeOf (h .p) in firstOf (recordFault rec) (firstOf (when (lanesBad l) 7) (firstOf (when (not (eqb (length s) (h .n * l))) 8) (firstOf (when (leb (h .k) r || leb l t) 9) (when (not (ltb old m && (ltb new m && allBelow m (laneOf (h .n) l t s)))) 11))))
+
+unfoldable pub recoverFault : List ℕ → ℕ → List ℕ → List ℕ → ℕ → ℕ
+recoverFault rec l nodes s out = let h = headerOf rec in firstOf (recordFault rec) (firstOf (when (lanesBad l) 7) (firstOf (when (not (eqb (length nodes) (h .k) && (eqb (length s) (h .k * l) && eqb out (h .k * l)))) 8) (firstOf (when (not (allBelow (h .n) nodes)) 9) (firstOf (when (not (distinct nodes)) 10) (when (not (allBelow (sizeOf (h .p)) s)) 11)))))
+
+unfoldable pub rebuildFault : List ℕ → ℕ → List ℕ → List ℕ → ℕ → ℕ → ℕ
+rebuildFault rec l nodes s target out = let h = headerOf rec in firstOf (recordFault rec) (firstOf (when (lanesBad l) 7) (firstOf (when (not (eqb (length nodes) (h .k) && (eqb (length s) (h .k * l) && eqb out l))) 8) (firstOf (when (not (allBelow (h .n) nodes) || leb (h .n) target) 9) (firstOf (when (not (distinct nodes)) 10) (when (not (allBelow (sizeOf (h .p)) s)) 11)))))
+
+unfoldable pub belongsFault : List ℕ → ℕ → List ℕ → ℕ
+belongsFault rec l s = let h = headerOf rec in firstOf (recordFault rec) (firstOf (when (lanesBad l) 7) (firstOf (when (not (eqb (length s) (h .n * l))) 8) (when (not (allBelow (sizeOf (h .p)) s)) 11)))
+
+pub lanesBad-agrees : (l : ℕ) → lanesBad l ≡ Ours.lanesBad l
+unfolding lanesBad Ours.lanesBad
+lanesBad-agrees l = refl
+
+module _ (rec : List ℕ) (l : ℕ) where
+  pub encodeFault-agrees : (out : ℕ) (s : List ℕ) → encodeFault rec l out s ≡ Ours.faultOf rec (λ h. Ours.encodeFault h l out s)
+  unfolding encodeFault Ours.faultOf Ours.encodeFault Ours.symbolsBad
+  encodeFault-agrees out s = rw (headerOf-agrees rec, recordFault-agrees rec, lanesBad-agrees l, sizeOf-agrees (R.prime (R.headerOf rec)))
+
+  pub updateFault-agrees : (r t old new : ℕ) (s : List ℕ) → updateFault rec l r t old new s ≡ Ours.faultOf rec (λ h. Ours.updateFault h l r t old new s)
+  unfolding updateFault Ours.faultOf Ours.updateFault
+  updateFault-agrees r t old new s = rw (headerOf-agrees rec, recordFault-agrees rec, lanesBad-agrees l, sizeOf-agrees (R.prime (R.headerOf rec)), laneOf-agrees (R.headerOf rec .n) l t s)
+
+  pub recoverFault-agrees : (nodes s : List ℕ) (out : ℕ) → recoverFault rec l nodes s out ≡ Ours.faultOf rec (λ h. Ours.recoverFault h l nodes s out)
+  unfolding recoverFault Ours.faultOf Ours.recoverFault Ours.symbolsBad
+  recoverFault-agrees nodes s out = rw (headerOf-agrees rec, recordFault-agrees rec, lanesBad-agrees l, sizeOf-agrees (R.prime (R.headerOf rec)))
+
+  pub rebuildFault-agrees : (nodes s : List ℕ) (target out : ℕ) → rebuildFault rec l nodes s target out ≡ Ours.faultOf rec (λ h. Ours.rebuildFault h l nodes s target out)
+  unfolding rebuildFault Ours.faultOf Ours.rebuildFault Ours.symbolsBad
+  rebuildFault-agrees nodes s target out = rw (headerOf-agrees rec, recordFault-agrees rec, lanesBad-agrees l, sizeOf-agrees (R.prime (R.headerOf rec)))
+
+  pub belongsFault-agrees : (s : List ℕ) → belongsFault rec l s ≡ Ours.faultOf rec (λ h. Ours.belongsFault h l s)
+  unfolding belongsFault Ours.faultOf Ours.belongsFault Ours.symbolsBad
+  belongsFault-agrees s = rw (headerOf-agrees rec, recordFault-agrees rec, lanesBad-agrees l, sizeOf-agrees (R.prime (R.headerOf rec)))
