@@ -1,0 +1,24 @@
+// Belongs: yes, the smallest lane that is no word, or the number.
+ghost use Prim.Native.Nat.{_≤_};
+ghost use lib.ListN.{length};
+use blocks::Test;
+use test_tools::numbers;
+use test_tools::part;
+use test_tools::text;
+use test_tools::value;
+
+pub fn belongs(rec: &[u8], line: &[u8], at: usize)
+    requires { ⌜ at ≤ length (now line) ⌝ }
+{
+    let lanes = numbers(line, at);
+    let shares = numbers(line, lanes.next);
+    tested(rec, lanes.value, part(&shares.bytes, shares.count));
+}
+
+fn tested(rec: &[u8], lanes: u32, shares: &[u8]) {
+    match balanced::block_belongs(rec, lanes, shares) {
+        Test::Yes => text(b": yes"),
+        Test::No(lane) => value(b": no, lane", lane as u64),
+        Test::Refused(number) => value(b": refused", number as u64),
+    }
+}

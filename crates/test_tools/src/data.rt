@@ -1,0 +1,55 @@
+// Test data and checksums, which the reference makes by the same rules.
+ghost use Prim.Native.Nat.{_≤_, _<_};
+
+// A linear congruential generator's next state.
+fn next(x: u64) -> u64 {
+    (x % 2147483648 * 1103515245 + 12345) % 2147483648
+}
+
+// A state's symbol of a field of that size.
+fn symbol(x: u64, size: u64) -> u8
+    requires { ⌜ (0 < size) × (size ≤ 256) ⌝ }
+{
+    (x / 65536 % size) as u8
+}
+
+// Fills a buffer with the symbols of the states after the seed.
+pub fn fill(seed: u64, size: u64, out: &mut [u8])
+    requires { ⌜ (0 < size) × (size ≤ 256) ⌝ }
+{
+    let mut x = seed;
+    let mut i = 0;
+    while i < out.len() {
+        x = next(x);
+        out[i] = symbol(x, size);
+        i += 1;
+    }
+}
+
+// The checksum with one byte more.
+fn with(sum: u64, byte: u8) -> u64 {
+    (sum % 4294967291 * 257 + byte as u64 + 1) % 4294967291
+}
+
+// A checksum in which each byte and its place count.
+pub fn sum(s: &[u8]) -> u64 {
+    let mut total = 0;
+    let mut i = 0;
+    while i < s.len() {
+        total = with(total, s[i]);
+        i += 1;
+    }
+    total
+}
+
+// Whether every byte is the given one.
+pub fn untouched(byte: u8, s: &[u8]) -> bool {
+    let mut i = 0;
+    while i < s.len() {
+        if s[i] != byte {
+            return false;
+        }
+        i += 1;
+    }
+    true
+}

@@ -1,0 +1,57 @@
+// Words and numbers on standard output.
+use libc::STDOUT_FILENO;
+
+pub fn text(s: &[u8]) {
+    io::write_all(STDOUT_FILENO, s);
+}
+
+// A space and a number in base ten.
+pub fn number(x: u64) {
+    text(b" ");
+    io::print_decimal(STDOUT_FILENO, x);
+}
+
+// A word and a number.
+pub fn value(word: &[u8], x: u64) {
+    text(word);
+    number(x);
+}
+
+fn byte(x: u8) {
+    number(x as u64);
+}
+
+// Each byte as a number.
+pub fn bytes(s: &[u8]) {
+    let mut i = 0;
+    while i < s.len() {
+        byte(s[i]);
+        i += 1;
+    }
+}
+
+// A word and bytes.
+pub fn list(word: &[u8], s: &[u8]) {
+    text(word);
+    bytes(s);
+}
+
+// The bytes, or how many there are and their checksum where there are more than 64.
+pub fn block(s: &[u8]) {
+    if s.len() <= 64 {
+        bytes(s);
+        return;
+    }
+    number(s.len() as u64);
+    value(b" bytes sum", crate::sum(s));
+}
+
+// The number that turned a call away, and whether everything lent to it is as it was.
+pub fn refused(number: u8, kept: bool) {
+    value(b": refused", number as u64);
+    if kept {
+        text(b", unchanged");
+        return;
+    }
+    text(b", changed");
+}

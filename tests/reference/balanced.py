@@ -1,0 +1,294 @@
+"""The balanced image store by its definitions, written from the scope document alone and sharing nothing with the crates.
+
+Every entry of the generator is the product of the differences itself, the shifts are taken by going round, a message is
+recovered by solving the linear system of the listed nodes, and a lane is a word if the polynomial through its first k
+symbols has the other symbols as values too. A row is `bytes`, one symbol for each lane.
+"""
+from functools import lru_cache, reduce
+from math import gcd
+from operator import xor
+
+
+class PrimeField:
+    def __init__(self, p):
+        self.size = p
+        self.products = [bytes(a * b % p for b in range(256)) for a in range(p)]
+
+    def plus(self, a, b):
+        return (a + b) % self.size
+
+    def minus(self, a, b):
+        return (a - b) % self.size
+
+    def times(self, a, b):
+        return a * b % self.size
+
+    def total(self, rows):
+        """The sum of the rows, lane by lane."""
+        return bytes(sum(column) % self.size for column in zip(*rows))
+
+
+class Field256:
+    size = 256
+    modulus = 0x11D
+
+    def __init__(self):
+        self.products = [bytes(self.product(a, b) for b in range(256)) for a in range(256)]
+
+    def product(self, a, b):
+        # the product of the polynomials, then the rest of its division by the modulus
+        product = 0
+        for bit in range(8):
+            if b >> bit & 1:
+                product ^= a << bit
+        for bit in range(14, 7, -1):
+            if product >> bit & 1:
+                product ^= self.modulus << (bit - 8)
+        return product
+
+    def plus(self, a, b):
+        return a ^ b
+
+    def minus(self, a, b):
+        return a ^ b
+
+    def times(self, a, b):
+        return self.products[a][b]
+
+    def total(self, rows):
+        # all lanes at a time, as the digits of one long number
+        return reduce(xor, (int.from_bytes(row, "big") for row in rows)).to_bytes(len(rows[0]), "big")
+
+
+@lru_cache(maxsize=None)
+def field_of(p):
+    """The field of p elements, or of 256 for 0."""
+    return PrimeField(p) if p else Field256()
+
+
+def combine(field, coefficients, rows):
+    """The sum of the rows, each times its coefficient."""
+    return field.total([row.translate(field.products[c]) for c, row in zip(coefficients, rows)])
+
+
+def inverse(field, a):
+    return next(b for b in range(field.size) if field.times(a, b) == 1)
+
+
+def inverse_matrix(field, matrix):
+    """The inverse, by Gauss and Jordan's elimination over the matrix with the identity beside it."""
+    size = len(matrix)
+    rows = [bytes(row) + bytes(int(i == j) for j in range(size)) for i, row in enumerate(matrix)]
+    for c in range(size):
+        pivot = next(i for i in range(c, size) if rows[i][c])
+        rows[c], rows[pivot] = rows[pivot], rows[c]
+        rows[c] = rows[c].translate(field.products[inverse(field, rows[c][c])])
+        for i in range(size):
+            if i != c and rows[i][c]:
+                rows[i] = combine(field, [1, field.minus(0, rows[i][c])], [rows[i], rows[c]])
+    return [row[size:] for row in rows]
+
+
+def order(field, a):
+    """The least e from 1 up with a^e = 1, or None."""
+    x = a
+    for e in range(1, field.size):
+        if x == 1:
+            return e
+        x = field.times(x, a)
+    return None
+
+
+def is_prime(p):
+    return p >= 2 and all(p % q for q in range(2, p))
+
+
+def read(record):
+    """The number that turns the record away, or (p, root, n, k), where p is 0 for kind 2."""
+    if not record or record[0] not in (1, 2):
+        return 1
+    if len(record) != {1: 5, 2: 4}[record[0]]:
+        return 2
+    p, root, n, k = record[1:] if record[0] == 1 else [0, *record[1:]]
+    if record[0] == 1 and not (3 <= p <= 251 and is_prime(p)):
+        return 3
+    field = field_of(p)
+    if n < 2 or k == 0 or k > n:
+        return 4
+    if root >= field.size or order(field, root) != n:
+        return 5
+    if k * (n - k + 1) % n:
+        return 6
+    return p, root, n, k
+
+
+def shifts_of(n, k, d):
+    """Going round 0 to n - 1: take k/g places, skip (d - 1)/g, and repeat."""
+    g = gcd(k, n)
+    taken, place = [], 0
+    while place < n:
+        for _ in range(k // g):
+            taken.append(place)
+            place += 1
+        for _ in range((d - 1) // g):
+            place += 1
+    return taken
+
+
+class Plan:
+    """The plan of an accepted record; `entries[r][j]` is the generator."""
+
+    def __init__(self, p, root, n, k):
+        self.field = field = field_of(p)
+        self.n, self.k, self.d = n, k, n - k + 1
+        self.b = k * self.d // n
+        self.shifts = shifts_of(n, k, self.d)
+        self.powers = [1]
+        for _ in range(n - 1):
+            self.powers.append(field.times(self.powers[-1], root))
+        at_power = [self.base_polynomial(x) for x in self.powers]
+        self.entries = [[at_power[(j + s - self.d) % n] for j in range(n)] for s in self.shifts]
+
+    def base_polynomial(self, x):
+        """The product of (x - root^i) for i from 0 to k - 2."""
+        product = 1
+        for i in range(self.k - 1):
+            product = self.field.times(product, self.field.minus(x, self.powers[i]))
+        return product
+
+    def column(self, j):
+        return [row[j] for row in self.entries]
+
+    def monomials(self, j):
+        """root^(j·e) for e from 0 to k - 1: the coefficients that a polynomial's value at root^j takes."""
+        return [self.powers[j * e % self.n] for e in range(self.k)]
+
+    @lru_cache(maxsize=None)
+    def interpolation(self):
+        """What takes the values at the first k nodes to the polynomial's coefficients."""
+        return inverse_matrix(self.field, [self.monomials(j) for j in range(self.k)])
+
+
+@lru_cache(maxsize=None)
+def plan_of(*accepted):
+    return Plan(*accepted)
+
+
+def rows_of(buffer, lanes):
+    return [buffer[at:at + lanes] for at in range(0, len(buffer), lanes)]
+
+
+def symbols_bad(plan, buffer):
+    return any(x >= plan.field.size for x in buffer)
+
+
+def call(record, faults, work):
+    """The answer of a call: the number of the first condition that holds, or what it works out.
+
+    `faults(plan)` yields (number, condition) in rising order, and each condition may count on those before it.
+    """
+    accepted = read(record)
+    if isinstance(accepted, int):
+        return accepted, None
+    plan = plan_of(*accepted)
+    for number, holds in faults(plan):
+        if holds:
+            return number, None
+    return 0, work(plan)
+
+
+def build_plan(record):
+    return call(record, lambda plan: [], lambda plan: plan)
+
+
+def lanes_bad(lanes):
+    return not 1 <= lanes <= 4096
+
+
+def encode(record, lanes, message, room):
+    """(number, shares)"""
+
+    def faults(plan):
+        yield 7, lanes_bad(lanes)
+        yield 8, len(message) != plan.k * lanes or room != plan.n * lanes
+        yield 11, symbols_bad(plan, message)
+
+    def work(plan):
+        rows = rows_of(message, lanes)
+        return b"".join(combine(plan.field, plan.column(j), rows) for j in range(plan.n))
+
+    return call(record, faults, work)
+
+
+def update(record, lanes, symbol, lane, old, new, shares):
+    """(number, (count, shares afterwards))"""
+
+    def faults(plan):
+        yield 7, lanes_bad(lanes)
+        yield 8, len(shares) != plan.n * lanes
+        yield 9, symbol >= plan.k or lane >= lanes
+        yield 11, symbols_bad(plan, [old, new, *shares[lane::lanes]])
+
+    def work(plan):
+        field, after = plan.field, bytearray(shares)
+        difference = field.minus(new, old)
+        for j in range(plan.n):
+            at = j * lanes + lane
+            after[at] = field.plus(shares[at], field.times(difference, plan.entries[symbol][j]))
+        return sum(a != b for a, b in zip(shares, after)), bytes(after)
+
+    return call(record, faults, work)
+
+
+def listed_faults(plan, lanes, nodes, shares, room_bad, targets):
+    yield 7, lanes_bad(lanes)
+    yield 8, len(nodes) != plan.k or len(shares) != plan.k * lanes or room_bad
+    yield 9, any(j >= plan.n for j in [*nodes, *targets])
+    yield 10, len(set(nodes)) < len(nodes)
+    yield 11, symbols_bad(plan, shares)
+
+
+def message_of(plan, lanes, nodes, shares):
+    """The rows of the message, by the inverse of the generator's columns at the nodes."""
+    matrix = inverse_matrix(plan.field, [plan.column(j) for j in nodes])
+    rows = rows_of(shares, lanes)
+    return [combine(plan.field, line, rows) for line in matrix]
+
+
+def recover(record, lanes, nodes, shares, room):
+    """(number, message)"""
+
+    def faults(plan):
+        return listed_faults(plan, lanes, nodes, shares, room != plan.k * lanes, [])
+
+    return call(record, faults, lambda plan: b"".join(message_of(plan, lanes, nodes, shares)))
+
+
+def rebuild(record, lanes, nodes, shares, target, room):
+    """(number, the target's share): the recovered message encoded anew."""
+
+    def faults(plan):
+        return listed_faults(plan, lanes, nodes, shares, room != lanes, [target])
+
+    def work(plan):
+        return combine(plan.field, plan.column(target), message_of(plan, lanes, nodes, shares))
+
+    return call(record, faults, work)
+
+
+def belongs(record, lanes, shares):
+    """(number, the smallest lane that is no word, or None)"""
+
+    def faults(plan):
+        yield 7, lanes_bad(lanes)
+        yield 8, len(shares) != plan.n * lanes
+        yield 11, symbols_bad(plan, shares)
+
+    def work(plan):
+        rows = rows_of(shares, lanes)
+        coefficients = [combine(plan.field, line, rows[:plan.k]) for line in plan.interpolation()]
+        values = (combine(plan.field, plan.monomials(j), coefficients) for j in range(plan.n))
+        wrong = [t for row, value in zip(rows, values) if row != value for t in range(lanes) if row[t] != value[t]]
+        return min(wrong, default=None)
+
+    return call(record, faults, work)
