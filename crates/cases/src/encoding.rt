@@ -15,7 +15,13 @@ pub fn encode(rec: &[u8], line: &[u8], at: usize)
     let message = numbers(line, lanes.next);
     let room = numbers(line, message.next);
     let mut out = [170u8; 64];
-    encode_front(rec, lanes.value, part(&message.bytes, message.count), &mut out, room.value as usize);
+    encode_front(
+        rec,
+        lanes.value,
+        part(&message.bytes, message.count),
+        &mut out,
+        room.value as usize,
+    );
 }
 
 // Lends so many bytes of the buffer.

@@ -45,7 +45,15 @@ fn update_front(rec: &[u8], change: Change, before: &[u8], after: &mut [u8]) {
 }
 
 fn update_to(rec: &[u8], change: Change, before: &[u8], after: &mut [u8]) {
-    match balanced::update_lane(rec, change.lanes, change.symbol, change.lane, change.old, change.new, after) {
+    match balanced::update_lane(
+        rec,
+        change.lanes,
+        change.symbol,
+        change.lane,
+        change.old,
+        change.new,
+        after,
+    ) {
         Update::Altered(count) => altered(count, after),
         Update::Refused(number) => refused(number, check::same(before, after)),
     }
