@@ -1,0 +1,111 @@
+-- From the answers of the calls to what the functions of the C interface promise.
+use mathlib.Core.Path.{_≡_, refl, sym, ap, _∙_}
+use mathlib.Core.List.{List}
+use Prim.Native.Nat.{ℕ, zero, suc}
+use native.Mathlib.Omega.{arith}
+use lib.ListN.{length}
+use Rattle.generator.specs.Records.{headerOf}
+use Rattle.blocks.specs.declared.Outcome.{Outcome}
+use Rattle.blocks.specs.declared.Update.{Update}
+use Rattle.blocks.specs.declared.Update.the-variants as U
+use Rattle.blocks.specs.declared.Test.{Test}
+use Rattle.blocks.specs.declared.Test.the-variants as T
+use Rattle.blocks.specs.Blocks.{wrongFrom}
+use Rattle.blocks.specs.Faults.{encodeFault, updateFault, recoverFault, rebuildFault, belongsFault, faultOf}
+use Rattle.blocks.specs.Answers.{outcomeOf, updateOf, verdictOf, testOf, outcomeNumber}
+use Rattle.blocks.specs.Promises.{EncodeSays, UpdateSays, RecoverSays, RebuildSays, BelongsSays}
+use Rattle.blocks.proofs.Accepts.{update-refused, refused-value}
+use Rattle.balanced_c.specs.Calls.{wrongLane, EncodeGives, UpdateGives, RecoverGives, RebuildGives, BelongsGives}
+
+-- the number of an outcome is the one that it was made of
+outcome-number : (f : ℕ) → outcomeNumber (outcomeOf f) ≡ f
+unfolding outcomeOf outcomeNumber
+outcome-number zero = refl
+outcome-number (suc f) = refl
+
+-- an outcome that a call says, by its number
+by-number : (a : Outcome) (r f : ℕ) → r ≡ outcomeNumber a → a ≡ outcomeOf f → r ≡ f
+by-number a r f e answer = e ∙ ap outcomeNumber answer ∙ outcome-number f
+
+pub encode-gives : (rec : List ℕ) (l : ℕ) (message shares shares′ : List ℕ) (a : Outcome) (r : ℕ) → r ≡ outcomeNumber a → EncodeSays rec l message shares shares′ a → EncodeGives rec l message shares shares′ r
+encode-gives rec l message shares shares′ a r e says =
+    let number = by-number a r (faultOf rec (λ h. encodeFault h l (length shares) message)) e (says .answer) in
+    record { number = number; says = record { answer = ap outcomeOf number; written = says .written } }
+
+pub recover-gives : (rec : List ℕ) (l : ℕ) (nodes shares message message′ : List ℕ) (a : Outcome) (r : ℕ) → r ≡ outcomeNumber a → RecoverSays rec l nodes shares message message′ a → RecoverGives rec l nodes shares message message′ r
+recover-gives rec l nodes shares message message′ a r e says =
+    let number = by-number a r (faultOf rec (λ h. recoverFault h l nodes shares (length message))) e (says .answer) in
+    record { number = number; says = record { answer = ap outcomeOf number; written = says .written } }
+
+pub rebuild-gives : (rec : List ℕ) (l : ℕ) (nodes shares : List ℕ) (target : ℕ) (share share′ : List ℕ) (a : Outcome) (r : ℕ) → r ≡ outcomeNumber a → RebuildSays rec l nodes shares target share share′ a → RebuildGives rec l nodes shares target share share′ r
+rebuild-gives rec l nodes shares target share share′ a r e says =
+    let number = by-number a r (faultOf rec (λ h. rebuildFault h l nodes shares target (length share))) e (says .answer) in
+    record { number = number; says = record { answer = ap outcomeOf number; written = says .written } }
+
+-- an update that altered nodes met no number; one that was refused met its number
+altered-means : (f count x : ℕ) → U.Altered x ≡ updateOf f count → (f ≡ 0) × (x ≡ count)
+unfolding updateOf
+altered-means zero count x e = (refl, cc)
+altered-means (suc f) count x e = let z : _≡_ {A = ℕ} 0 1 = cc in absurd (omega arith)
+
+refused-means : (f count g : ℕ) → U.Refused g ≡ updateOf f count → (g ≡ f) × (g ≡ 0 → ⊥)
+unfolding updateOf
+refused-means zero count g e = let z : _≡_ {A = ℕ} 0 1 = cc in absurd (omega arith)
+refused-means (suc f) count g e = let same : g ≡ suc f = cc in (same, λ z. omega arith)
+
+module _ (rec : List ℕ) (l symbol lane old new : ℕ) (shares : List ℕ) (altered : ℕ) (shares′ : List ℕ) (a : Update) (says : UpdateSays rec l symbol lane old new shares shares′ a) where
+  pub update-done : (count : ℕ) → a ≡ U.Altered count → UpdateGives rec l symbol lane old new shares altered shares′ count 0
+  update-done count e =
+      let (none, same) = altered-means (faultOf rec (λ h. updateFault h l symbol lane old new shares)) _ count (sym e ∙ says .answer) in
+      let written = rw none at (says .written) in
+      record {
+        number = sym none;
+        says = record { answer = rw (none, same); written = says .written };
+        altered-is = rw written same;
+      }
+
+  pub update-refuses : (g : ℕ) → a ≡ U.Refused g → UpdateGives rec l symbol lane old new shares altered shares′ altered g
+  update-refuses g e =
+      let (same, some) = refused-means (faultOf rec (λ h. updateFault h l symbol lane old new shares)) _ g (sym e ∙ says .answer) in
+      record {
+        number = same;
+        says = record { answer = update-refused g altered some ∙ sym e ∙ says .answer; written = says .written };
+        altered-is = sym (refused-value g _ altered some);
+      }
+
+-- a test that said yes, named a lane, or was refused
+yes-means : (f wrong : ℕ) → T.Yes ≡ testOf f wrong → (f ≡ 0) × (wrong ≡ 0)
+unfolding testOf verdictOf
+yes-means zero zero e = (refl, refl)
+yes-means zero (suc t) e = let z : _≡_ {A = ℕ} 0 1 = cc in absurd (omega arith)
+yes-means (suc f) wrong e = let z : _≡_ {A = ℕ} 0 1 = cc in absurd (omega arith)
+
+no-means : (f wrong t : ℕ) → T.No t ≡ testOf f wrong → (f ≡ 0) × (wrong ≡ suc t)
+unfolding testOf verdictOf
+no-means zero zero t e = let z : _≡_ {A = ℕ} 0 1 = cc in absurd (omega arith)
+no-means zero (suc u) t e = (refl, cc)
+no-means (suc f) wrong t e = let z : _≡_ {A = ℕ} 0 1 = cc in absurd (omega arith)
+
+test-means : (f wrong g : ℕ) → T.Refused g ≡ testOf f wrong → (g ≡ f) × (g ≡ 0 → ⊥)
+unfolding testOf verdictOf
+test-means zero zero g e = let z : _≡_ {A = ℕ} 0 1 = cc in absurd (omega arith)
+test-means zero (suc u) g e = let z : _≡_ {A = ℕ} 0 1 = cc in absurd (omega arith)
+test-means (suc f) wrong g e = let same : g ≡ suc f = cc in (same, λ z. omega arith)
+
+module _ (rec : List ℕ) (l : ℕ) (shares : List ℕ) (first : ℕ) (a : Test) (says : BelongsSays rec l shares a) where
+  pub belongs-yes : a ≡ T.Yes → BelongsGives rec l shares first l 0
+  unfolding wrongLane
+  belongs-yes e =
+      let (none, all) = yes-means (faultOf rec (λ h. belongsFault h l shares)) (wrongFrom l 0 (headerOf rec) l shares) (sym e ∙ says .answer) in
+      record { number = sym none; first-is = rw all }
+
+  pub belongs-no : (t : ℕ) → a ≡ T.No t → BelongsGives rec l shares first t 0
+  unfolding wrongLane
+  belongs-no t e =
+      let (none, at) = no-means (faultOf rec (λ h. belongsFault h l shares)) (wrongFrom l 0 (headerOf rec) l shares) t (sym e ∙ says .answer) in
+      record { number = sym none; first-is = rw at }
+
+  pub belongs-refuses : (g : ℕ) → a ≡ T.Refused g → BelongsGives rec l shares first first g
+  belongs-refuses g e =
+      let (same, some) = test-means (faultOf rec (λ h. belongsFault h l shares)) (wrongFrom l 0 (headerOf rec) l shares) g (sym e ∙ says .answer) in
+      record { number = same; first-is = sym (refused-value g _ first some) }

@@ -1,0 +1,3 @@
+-- What the proofs of the C interface's functions share.
+mod Answers
+mod Plans

@@ -1,0 +1,73 @@
+-- From a plan to what `balanced_plan` promises.
+use mathlib.Core.Path.{_≡_, refl, sym, ap, _∙_}
+use mathlib.Core.Bool.{true, _&&_}
+use mathlib.Core.List.{List, [], _∷_}
+use Prim.Native.Nat.{ℕ, zero, suc}
+use native.Mathlib.Omega.{arith}
+use lib.Dec.{eqb}
+use lib.ListN.{length, set}
+use borrow.Author.Tests.{eqb-true, not-false}
+use Rattle.lists.specs.Choice.{firstOf}
+use Rattle.lists.proofs.Cases.{and-left, and-right, first-zero, when-zero}
+use Rattle.generator.specs.declared.Header.{Header}
+use Rattle.generator.specs.Records.{headerOf, recordFault, judged, recordOf}
+use Rattle.plan.specs.declared.Plan.{Plan}
+use Rattle.plan.specs.Plans.{planFor, PlanSays}
+use Rattle.blocks.specs.Faults.{faultOf}
+use Rattle.blocks.proofs.Accepts.{refused-value}
+use Rattle.balanced_c.specs.Calls.{lengthFault, numbersOf, PlanGives}
+
+-- a plan's number is its record's
+plan-number : (rec : List ℕ) → planFor (recordOf rec) .number ≡ recordFault rec
+unfolding planFor recordOf judged
+plan-number rec = go (recordFault rec) (headerOf rec)
+  where
+    go : (f : ℕ) (h : Header) → planFor (judged f h) .number ≡ f
+    go zero h = refl
+    go (suc f) h = refl
+
+-- number 8 is not met
+pub lengths : (numbers shifts base : ℕ) → lengthFault numbers shifts base ≡ 0 → (numbers ≡ 4) × (shifts ≡ 255) × (base ≡ 255)
+unfolding lengthFault
+lengths numbers shifts base e =
+    let all : (eqb numbers 4 && (eqb shifts 255 && eqb base 255)) ≡ true = not-false _ (when-zero _ 7 e) in
+    let two : (eqb shifts 255 && eqb base 255) ≡ true = and-right (eqb numbers 4) _ all in
+    (eqb-true numbers 4 (and-left _ _ all), eqb-true shifts 255 (and-left _ (eqb base 255) two), eqb-true base 255 (and-right (eqb shifts 255) _ two))
+
+-- four numbers written one after the other
+pub four-set : (s : List ℕ) (a b c d : ℕ) → length s ≡ 4 → set (set (set (set s 0 a) 1 b) 2 c) 3 d ≡ a ∷ b ∷ c ∷ d ∷ []
+four-set [] a b c d e = absurd (omega arith)
+four-set (w ∷ []) a b c d e = absurd (omega arith)
+four-set (w ∷ x ∷ []) a b c d e = absurd (omega arith)
+four-set (w ∷ x ∷ y ∷ []) a b c d e = absurd (omega arith)
+four-set (w ∷ x ∷ y ∷ z ∷ []) a b c d e = refl
+four-set (w ∷ x ∷ y ∷ z ∷ v ∷ t) a b c d e = absurd (omega arith)
+
+module _ (rec numbers shifts base : List ℕ) (p : Plan) (r : ℕ) (says : PlanSays rec p) (e : r ≡ firstOf (p .number) (lengthFault (length numbers) (length shifts) (length base))) where
+  number-is : r ≡ faultOf rec (λ h. lengthFault (length numbers) (length shifts) (length base))
+  unfolding faultOf
+  number-is = e ∙ ap (λ (f : ℕ). firstOf f (lengthFault (length numbers) (length shifts) (length base))) (ap (λ (q : Plan). q .number) (says .plan) ∙ plan-number rec)
+
+  -- where no number is met, the buffers have the stated lengths
+  pub plan-lengths : r ≡ 0 → (length numbers ≡ 4) × (length shifts ≡ 255) × (length base ≡ 255)
+  plan-lengths none = lengths (length numbers) (length shifts) (length base) (first-zero (p .number) _ (sym e ∙ none) .1)
+
+  pub plan-refused : (r ≡ 0 → ⊥) → PlanGives rec numbers shifts base numbers shifts base r
+  plan-refused some =
+      record {
+        number = number-is;
+        numbers-are = sym (refused-value r _ numbers some);
+        shifts-are = sym (refused-value r _ shifts some);
+        base-is = sym (refused-value r _ base some);
+        claims = says .claims;
+      }
+
+  pub plan-given : (numbers′ shifts′ base′ : List ℕ) → r ≡ 0 → numbers′ ≡ numbersOf p → shifts′ ≡ p .shifts → base′ ≡ p .base → PlanGives rec numbers shifts base numbers′ shifts′ base′ 0
+  plan-given numbers′ shifts′ base′ none n s b =
+      record {
+        number = sym none ∙ number-is;
+        numbers-are = n ∙ ap numbersOf (says .plan);
+        shifts-are = s ∙ ap (λ (q : Plan). q .shifts) (says .plan);
+        base-is = b ∙ ap (λ (q : Plan). q .base) (says .plan);
+        claims = says .claims;
+      }

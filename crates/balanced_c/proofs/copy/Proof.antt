@@ -1,0 +1,65 @@
+-- `copy` meets its contract. The loop's invariant: the places below i are written, and the rest of the slice is to come.
+use mathlib.Core.Path.{_≡_}
+use mathlib.Core.List.{[], _∷_}
+use Prim.Native.Nat.{_+_, _-_, _≤_, _<_}
+use native.Mathlib.Numerals.{add-one}
+use native.Mathlib.Omega.{arith}
+use lib.ListN.{length, getD, drop, drop-of-length-le}
+use lib.Seq.{drop-cons}
+use Rattle.lists.proofs.Fill.{Fills, fills-start, fills-put, fills-all}
+use Rattle.balanced_c.proofs.copy.Statement.{statement}
+use Rattle.balanced_c.proofs.copy.Tie as tie
+
+abbrev Inv-loop : tie.InvT-loop
+Inv-loop from to₀ i₀ to i = (i ≤ length from) × Fills to₀ to i (drop i from) from
+
+abbrev μ-loop : tie.MeasureT-loop
+μ-loop from to₀ i₀ to i = length from - i
+
+loop-holds : tie.Need-loop-holds Inv-loop μ-loop
+loop-holds c = (omega arith, fills-start _ _)
+
+shared-slice-read-to : tie.Need-shared-slice-read-to Inv-loop μ-loop
+shared-slice-read-to c = omega arith
+
+slice-write-to : tie.Need-slice-write-to Inv-loop μ-loop
+slice-write-to c = omega (arith, c .before .before .loop .inv .1 .long)
+
+add-i : tie.Need-add-i Inv-loop μ-loop
+add-i c = omega arith
+
+loop-less : tie.Need-loop-less Inv-loop μ-loop
+loop-less c = omega arith
+
+loop-again : tie.Need-loop-again Inv-loop μ-loop
+loop-again c =
+    let at = c .before .before .loop in
+    let whole = c .before .before .before .args .from .now in
+    let more : at .i < length whole = omega arith in
+    let next : drop (at .i) whole ≡ getD whole (at .i) 0 ∷ drop (at .i + 1) whole = rw (add-one, drop-cons whole (at .i) 0) in
+    (omega arith, fills-put (rw next at (at .inv .1)) (omega arith))
+
+same-length : tie.Need-same-length Inv-loop μ-loop
+same-length c = c .before .loop .inv .1 .long
+
+returns : tie.Need-returns Inv-loop μ-loop
+returns c =
+    let whole = c .before .before .args .from .now in
+    let past : length whole ≤ c .before .loop .i = omega arith in
+    let none : drop (c .before .loop .i) whole ≡ [] = drop-of-length-le whole past in
+    fills-all (rw none at (c .before .loop .inv .1)) (omega arith)
+
+pub copy-spec : {M : Type 1} → statement M
+copy-spec =
+    tie.close
+    (tie.spec
+    Inv-loop
+    μ-loop
+    loop-holds
+    shared-slice-read-to
+    slice-write-to
+    add-i
+    loop-less
+    loop-again
+    same-length
+    returns)

@@ -1,0 +1,64 @@
+-- What the functions of the C interface promise: the returned number, and every lent byte and number afterwards.
+use mathlib.Core.Path.{_≡_}
+use mathlib.Core.Bool.{_&&_, not}
+use mathlib.Core.List.{List, [], _∷_}
+use Prim.Native.Nat.{ℕ, zero, suc}
+use lib.Dec.{eqb}
+use lib.ListN.{length}
+use Rattle.lists.specs.Choice.{pick, when}
+use Rattle.lists.specs.Counting.{differ}
+use Rattle.generator.specs.Records.{headerOf, recordOf}
+use Rattle.generator.specs.Claims.{Promised}
+use Rattle.plan.specs.declared.Plan.{Plan}
+use Rattle.plan.specs.Plans.{planFor}
+use Rattle.blocks.specs.Blocks.{wrongFrom}
+use Rattle.blocks.specs.Faults.{encodeFault, updateFault, recoverFault, rebuildFault, belongsFault, faultOf}
+use Rattle.blocks.specs.Answers.{outcomeOf, updateOf}
+use Rattle.blocks.specs.Promises.{EncodeSays, UpdateSays, RecoverSays, RebuildSays}
+
+-- number 8 of `balanced_plan`, from the lengths of its buffers
+unfoldable pub lengthFault : ℕ → ℕ → ℕ → ℕ
+lengthFault numbers shifts base = when (not (eqb numbers 4 && (eqb shifts 255 && eqb base 255))) 8
+
+-- n, k, d, b
+unfoldable pub numbersOf : Plan → List ℕ
+numbersOf p = p .n ∷ p .k ∷ p .d ∷ p .b ∷ []
+
+-- `balanced_plan`: the plan's parts, and what is claimed of every accepted record
+pub record PlanGives (rec numbers shifts base numbers′ shifts′ base′ : List ℕ) (r : ℕ) : Type 0 where
+  pub number : r ≡ faultOf rec (λ h. lengthFault (length numbers) (length shifts) (length base))
+  pub numbers-are : numbers′ ≡ pick (eqb r 0) (numbersOf (planFor (recordOf rec))) numbers
+  pub shifts-are : shifts′ ≡ pick (eqb r 0) (planFor (recordOf rec) .shifts) shifts
+  pub base-is : base′ ≡ pick (eqb r 0) (planFor (recordOf rec) .base) base
+  pub claims : Promised (recordOf rec)
+
+-- `balanced_encode`: the number, and what Encode says of the shares
+pub record EncodeGives (rec : List ℕ) (l : ℕ) (message shares shares′ : List ℕ) (r : ℕ) : Type 0 where
+  pub number : r ≡ faultOf rec (λ h. encodeFault h l (length shares) message)
+  pub says : EncodeSays rec l message shares shares′ (outcomeOf r)
+
+-- `balanced_update`: the number, what Update says of the shares, and how many of their bytes differ afterwards
+pub record UpdateGives (rec : List ℕ) (l symbol lane old new : ℕ) (shares : List ℕ) (altered : ℕ) (shares′ : List ℕ) (altered′ r : ℕ) : Type 0 where
+  pub number : r ≡ faultOf rec (λ h. updateFault h l symbol lane old new shares)
+  pub says : UpdateSays rec l symbol lane old new shares shares′ (updateOf r altered′)
+  pub altered-is : altered′ ≡ pick (eqb r 0) (differ shares shares′) altered
+
+-- `balanced_recover`: the number, and what Recover says of the message
+pub record RecoverGives (rec : List ℕ) (l : ℕ) (nodes shares message message′ : List ℕ) (r : ℕ) : Type 0 where
+  pub number : r ≡ faultOf rec (λ h. recoverFault h l nodes shares (length message))
+  pub says : RecoverSays rec l nodes shares message message′ (outcomeOf r)
+
+-- `balanced_rebuild`: the number, and what Rebuild says of the target's share
+pub record RebuildGives (rec : List ℕ) (l : ℕ) (nodes shares : List ℕ) (target : ℕ) (share share′ : List ℕ) (r : ℕ) : Type 0 where
+  pub number : r ≡ faultOf rec (λ h. rebuildFault h l nodes shares target (length share))
+  pub says : RebuildSays rec l nodes shares target share share′ (outcomeOf r)
+
+-- the smallest wrong lane, from that lane plus 1; l from 0, which stands for none
+unfoldable pub wrongLane : ℕ → ℕ → ℕ
+wrongLane l zero = l
+wrongLane l (suc t) = t
+
+-- `balanced_belongs`: the smallest lane that is no word of the code, or the number of lanes where all are
+pub record BelongsGives (rec : List ℕ) (l : ℕ) (shares : List ℕ) (first first′ r : ℕ) : Type 0 where
+  pub number : r ≡ faultOf rec (λ h. belongsFault h l shares)
+  pub first-is : first′ ≡ pick (eqb r 0) (wrongLane l (wrongFrom l 0 (headerOf rec) l shares)) first

@@ -1,0 +1,193 @@
+/*
+ * balanced.h: the interface for C of the balanced image store.
+ *
+ * The store lays a message over n nodes so that any k of them give it back, a change of one symbol writes n-k+1 nodes,
+ * and every node depends on the same number of symbols. Link with libbalanced_c.a (docs/LINKING.md). The functions are
+ * written in Rattle and proved: crates/balanced_c has the contract of each.
+ *
+ *
+ * Records
+ *
+ * A record fixes a code. Every call takes the record itself; there is nothing to set up and nothing to free. It is
+ * one byte of kind, then a body:
+ *
+ *   kind 1, a prime field:              1 p a n k   (5 bytes)   p is a prime from 3 to 251; symbols are the bytes 0 to p-1
+ *   kind 2, the field of 256 elements:  2 a n k     (4 bytes)   every byte is a symbol; products are modulo 0x11D
+ *
+ * n is the number of nodes, at least 2. k is the number of symbols of a message, from 1 to n. a is a root: a symbol
+ * of multiplicative order exactly n. With d = n-k+1, the number b = k*d/n must be whole. d is the number of nodes that
+ * a change of one symbol writes, and b is the number of symbols that each node depends on.
+ * For example { 2, 11, 15, 10 } is a code for bytes with n = 15 and k = 10, so d = 6 and b = 4.
+ *
+ *
+ * Blocks
+ *
+ * A block has `lanes` lanes, from 1 to 4,096, and each lane is encoded by itself. Nodes, symbols and lanes are
+ * numbered from 0.
+ *
+ *   A message has k * lanes bytes: symbol r of lane t stands at r * lanes + t.
+ *   The shares of a block have n * lanes bytes: what node j holds of lane t stands at j * lanes + t. So the share of
+ *   node j is the part of `lanes` bytes that starts at j * lanes.
+ *
+ *
+ * What a call returns
+ *
+ * 0 (BALANCED_OK), or the number that turned the call away. Conditions are tested in the order of the numbers, and the
+ * lowest that holds is returned. A call that is turned away has changed nothing: no byte of a buffer, and not
+ * *altered or *first_wrong. No other value is ever returned.
+ *
+ *
+ * What the caller sees to
+ *
+ * - Buffers. A pointer is followed by the length of its buffer, which is the caller's word: a pointer leads to at least
+ *   so many bytes that may be read and, where it is not `const`, written. Bytes that are read have been initialised;
+ *   a buffer that is only written need not be. A length that is not what the call asks for meets BALANCED_LENGTH.
+ * - Null. No pointer is null, not even with the length 0.
+ * - Alignment. Byte buffers may start anywhere. `altered` and `first_wrong` are aligned as a uint32_t is.
+ * - Aliasing. What a call writes overlaps nothing else that is lent to the same call. Buffers that are only read may
+ *   overlap, or be one.
+ * - Threads. There is no state outside the buffers. Calls may run at the same time in any number of threads as long as
+ *   none writes what another reads or writes.
+ * - Memory. No call allocates. Each takes less than 16 KiB of stack (measured).
+ *
+ * A call always returns: none reads or writes a file, waits, or ends the program.
+ */
+#ifndef BALANCED_H
+#define BALANCED_H
+
+#include <stddef.h>
+#include <stdint.h>
+
+#ifdef __cplusplus
+extern "C" {
+#endif
+
+/* What a call returns. */
+enum balanced_number {
+    BALANCED_OK = 0,      /* the call was accepted */
+    BALANCED_KIND = 1,    /* the record is empty or its first byte is neither 1 nor 2 */
+    BALANCED_BODY = 2,    /* the record's body has another length than its kind's */
+    BALANCED_FIELD = 3,   /* kind 1, and p is not a prime from 3 to 251 */
+    BALANCED_SIZE = 4,    /* n is below 2, k is 0, or k is above n */
+    BALANCED_ROOT = 5,    /* the root is not a symbol of order exactly n */
+    BALANCED_UNEVEN = 6,  /* n does not divide k * d */
+    BALANCED_LANES = 7,   /* lanes is 0 or above 4,096 */
+    BALANCED_LENGTH = 8,  /* a buffer or a list of nodes has another length than stated */
+    BALANCED_RANGE = 9,   /* a node, symbol or lane number is outside its range */
+    BALANCED_TWICE = 10,  /* a node stands twice in a list */
+    BALANCED_SYMBOL = 11  /* kind 1, and a byte that the call reads as a symbol is p or more */
+};
+
+/* The largest numbers of lanes and of nodes; the lengths of the buffers of balanced_plan. */
+#define BALANCED_MAX_LANES 4096
+#define BALANCED_MAX_NODES 255
+#define BALANCED_PLAN_NUMBERS 4
+#define BALANCED_PLAN_SHIFTS 255
+#define BALANCED_PLAN_BASE 255
+
+/*
+ * The plan of a record.
+ *
+ *   numbers  4 bytes, written: n, k, d, b
+ *   shifts   255 bytes, written: the k shifts, rising, then zeros
+ *   base     255 bytes, written: the n entries of the base word, then zeros
+ *
+ * Entry (r, j) of the generator, by which symbol r of a message goes into node j, is base[(j + shifts[r]) % n]. It is
+ * not 0 exactly where (j + shifts[r]) % n is below d.
+ *
+ * Returns 0 or one of 1 to 6, 8.
+ */
+uint8_t balanced_plan(const uint8_t *record, size_t record_len,
+                      uint8_t *numbers, size_t numbers_len,
+                      uint8_t *shifts, size_t shifts_len,
+                      uint8_t *base, size_t base_len);
+
+/*
+ * Encodes a message: writes the shares of all n nodes.
+ *
+ *   message  k * lanes bytes, read
+ *   shares   n * lanes bytes, written
+ *
+ * Returns 0 or one of 1 to 8, 11.
+ */
+uint8_t balanced_encode(const uint8_t *record, size_t record_len,
+                        uint32_t lanes,
+                        const uint8_t *message, size_t message_len,
+                        uint8_t *shares, size_t shares_len);
+
+/*
+ * Changes one symbol of one lane from old_symbol to new_symbol in shares that are in place: adds (new - old) times the
+ * symbol's row of the generator to that lane.
+ *
+ *   symbol   below k
+ *   lane     below lanes
+ *   shares   n * lanes bytes, of which the lane's n bytes are read, and written at the nodes that are altered
+ *   altered  receives the number of nodes that were altered, which is the number of bytes that differ afterwards
+ *
+ * If the lane encodes a message that holds old_symbol there, it afterwards encodes the message with new_symbol in its
+ * place, and *altered is n-k+1, or 0 where the two symbols are equal. That old_symbol is the true one is the caller's
+ * word. Bytes of other lanes are neither read nor changed.
+ *
+ * Returns 0 or one of 1 to 9, 11. For 11 the two symbols and the n bytes of the lane count.
+ */
+uint8_t balanced_update(const uint8_t *record, size_t record_len,
+                        uint32_t lanes, uint32_t symbol, uint32_t lane,
+                        uint8_t old_symbol, uint8_t new_symbol,
+                        uint8_t *shares, size_t shares_len,
+                        uint32_t *altered);
+
+/*
+ * Recovers a message from the shares of any k nodes.
+ *
+ *   nodes    k bytes, read: k different node numbers below n, in any order
+ *   shares   k * lanes bytes, read: the shares of those nodes, in the order of the list
+ *   message  k * lanes bytes, written
+ *
+ * The message is the one whose encoding holds the given shares at those nodes. There is exactly one, whatever symbols
+ * the shares hold.
+ *
+ * Returns 0 or one of 1 to 11.
+ */
+uint8_t balanced_recover(const uint8_t *record, size_t record_len,
+                         uint32_t lanes,
+                         const uint8_t *nodes, size_t nodes_len,
+                         const uint8_t *shares, size_t shares_len,
+                         uint8_t *message, size_t message_len);
+
+/*
+ * Rebuilds what one node holds from the shares of any k nodes.
+ *
+ *   nodes    k bytes, read: k different node numbers below n, in any order
+ *   shares   k * lanes bytes, read: the shares of those nodes, in the order of the list
+ *   target   the node to rebuild, below n; it may stand in the list
+ *   share    lanes bytes, written: the target's share of the encoding of the message that balanced_recover would give
+ *
+ * Returns 0 or one of 1 to 11.
+ */
+uint8_t balanced_rebuild(const uint8_t *record, size_t record_len,
+                         uint32_t lanes,
+                         const uint8_t *nodes, size_t nodes_len,
+                         const uint8_t *shares, size_t shares_len,
+                         uint32_t target,
+                         uint8_t *share, size_t share_len);
+
+/*
+ * Tests whether every lane of a block is a word of the code, that is the encoding of some message.
+ *
+ *   shares       n * lanes bytes, read
+ *   first_wrong  receives the smallest lane that is no word, or `lanes` where every lane is one
+ *
+ * A block that does not belong to the code is a result, and the call returns 0.
+ *
+ * Returns 0 or one of 1 to 8, 11.
+ */
+uint8_t balanced_belongs(const uint8_t *record, size_t record_len,
+                         uint32_t lanes,
+                         const uint8_t *shares, size_t shares_len,
+                         uint32_t *first_wrong);
+
+#ifdef __cplusplus
+}
+#endif
+
+#endif
