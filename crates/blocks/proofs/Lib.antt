@@ -5,6 +5,7 @@ pub mod Messages
 pub mod RowSums
 pub mod Combined
 pub mod Accepts
+pub mod Notebook
 -- The same definitions as document 03 has them.
 pub mod Agreement
 pub mod FaultsAgreement
