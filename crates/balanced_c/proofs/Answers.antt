@@ -42,15 +42,19 @@ rebuild-gives rec l nodes shares target share share′ a r e says =
     let number = by-number a r (faultOf rec (λ h. rebuildFault h l nodes shares target (length share))) e (says .answer) in
     record { number = number; says = record { answer = ap outcomeOf number; written = says .written } }
 
+-- two cases of an enum are never equal
+never : {A : Type 0} → _≡_ {A = ℕ} 0 1 → A
+never z = absurd (omega arith)
+
 -- an update that altered nodes met no number; one that was refused met its number
 altered-means : (f count x : ℕ) → U.Altered x ≡ updateOf f count → (f ≡ 0) × (x ≡ count)
 unfolding updateOf
 altered-means zero count x e = (refl, cc)
-altered-means (suc f) count x e = let z : _≡_ {A = ℕ} 0 1 = cc in absurd (omega arith)
+altered-means (suc f) count x e = never cc
 
 refused-means : (f count g : ℕ) → U.Refused g ≡ updateOf f count → (g ≡ f) × (g ≡ 0 → ⊥)
 unfolding updateOf
-refused-means zero count g e = let z : _≡_ {A = ℕ} 0 1 = cc in absurd (omega arith)
+refused-means zero count g e = never cc
 refused-means (suc f) count g e = let same : g ≡ suc f = cc in (same, λ z. omega arith)
 
 module _ (rec : List ℕ) (l symbol lane old new : ℕ) (shares : List ℕ) (altered : ℕ) (shares′ : List ℕ) (a : Update) (says : UpdateSays rec l symbol lane old new shares shares′ a) where
@@ -77,19 +81,19 @@ module _ (rec : List ℕ) (l symbol lane old new : ℕ) (shares : List ℕ) (alt
 yes-means : (f wrong : ℕ) → T.Yes ≡ testOf f wrong → (f ≡ 0) × (wrong ≡ 0)
 unfolding testOf verdictOf
 yes-means zero zero e = (refl, refl)
-yes-means zero (suc t) e = let z : _≡_ {A = ℕ} 0 1 = cc in absurd (omega arith)
-yes-means (suc f) wrong e = let z : _≡_ {A = ℕ} 0 1 = cc in absurd (omega arith)
+yes-means zero (suc t) e = never cc
+yes-means (suc f) wrong e = never cc
 
 no-means : (f wrong t : ℕ) → T.No t ≡ testOf f wrong → (f ≡ 0) × (wrong ≡ suc t)
 unfolding testOf verdictOf
-no-means zero zero t e = let z : _≡_ {A = ℕ} 0 1 = cc in absurd (omega arith)
+no-means zero zero t e = never cc
 no-means zero (suc u) t e = (refl, cc)
-no-means (suc f) wrong t e = let z : _≡_ {A = ℕ} 0 1 = cc in absurd (omega arith)
+no-means (suc f) wrong t e = never cc
 
 test-means : (f wrong g : ℕ) → T.Refused g ≡ testOf f wrong → (g ≡ f) × (g ≡ 0 → ⊥)
 unfolding testOf verdictOf
-test-means zero zero g e = let z : _≡_ {A = ℕ} 0 1 = cc in absurd (omega arith)
-test-means zero (suc u) g e = let z : _≡_ {A = ℕ} 0 1 = cc in absurd (omega arith)
+test-means zero zero g e = never cc
+test-means zero (suc u) g e = never cc
 test-means (suc f) wrong g e = let same : g ≡ suc f = cc in (same, λ z. omega arith)
 
 module _ (rec : List ℕ) (l : ℕ) (shares : List ℕ) (first : ℕ) (a : Test) (says : BelongsSays rec l shares a) where

@@ -27,7 +27,7 @@ plan-number rec = go (recordFault rec) (headerOf rec)
     go (suc f) h = refl
 
 -- number 8 is not met
-pub lengths : (numbers shifts base : ℕ) → lengthFault numbers shifts base ≡ 0 → (numbers ≡ 4) × (shifts ≡ 255) × (base ≡ 255)
+lengths : (numbers shifts base : ℕ) → lengthFault numbers shifts base ≡ 0 → (numbers ≡ 4) × (shifts ≡ 255) × (base ≡ 255)
 unfolding lengthFault
 lengths numbers shifts base e =
     let all : (eqb numbers 4 && (eqb shifts 255 && eqb base 255)) ≡ true = not-false _ (when-zero _ 7 e) in

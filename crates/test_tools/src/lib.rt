@@ -5,6 +5,7 @@ mod words;
 
 pub use data::fill;
 pub use data::sum;
+pub use data::symbol;
 pub use data::untouched;
 pub use print::block;
 pub use print::bytes;

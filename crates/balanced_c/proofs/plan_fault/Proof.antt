@@ -1,5 +1,5 @@
 -- `plan_fault` meets its contract.
-use mathlib.Core.Path.{_≡_, refl, sym}
+use mathlib.Core.Path.{_≡_, refl}
 use mathlib.Core.Logic.{⊎-elim}
 use Prim.Native.Nat.{ℕ, zero, suc}
 use lib.Dec.{eqb}

@@ -8,10 +8,10 @@ use Rattle.test_tools.proofs.data.fill.Statement.{statement}
 use Rattle.test_tools.proofs.data.fill.Tie as tie
 
 abbrev Inv-loop : tie.InvT-loop
-Inv-loop seed size out₀ x₀ i₀ out x i = (length out ≡ length out₀) × (i ≤ length out)
+Inv-loop seed top out₀ x₀ i₀ out x i = (length out ≡ length out₀) × (i ≤ length out)
 
 abbrev μ-loop : tie.MeasureT-loop
-μ-loop seed size out₀ x₀ i₀ out x i = length out₀ - i
+μ-loop seed top out₀ x₀ i₀ out x i = length out₀ - i
 
 loop-holds : tie.Need-loop-holds Inv-loop μ-loop
 loop-holds c = search needs

@@ -1,0 +1,107 @@
+use crate::sys;
+use crate::Error;
+
+// Each call lends slices and a local, which are not null, have the length beside them and do not overlap: a `&mut` of
+// Rust is the only way to what it lends. So every duty of the header is met.
+
+/// Encodes a message: writes the shares of all n nodes.
+///
+/// `message` has k·lanes bytes and `shares` n·lanes.
+pub fn encode(record: &[u8], lanes: u32, message: &[u8], shares: &mut [u8]) -> Result<(), Error> {
+    let number = unsafe {
+        sys::balanced_encode(
+            record.as_ptr(),
+            record.len(),
+            lanes,
+            message.as_ptr(),
+            message.len(),
+            shares.as_mut_ptr(),
+            shares.len(),
+        )
+    };
+    Error::check(number)
+}
+
+/// Changes one symbol of one lane in shares that are in place: adds (new − old) times the symbol's row of the generator to
+/// that lane. Gives the number of nodes that it altered.
+///
+/// `shares` has n·lanes bytes. That `old` is the lane's true symbol is the caller's word; then the lane encodes the message
+/// with `new` in its place afterwards. Bytes of other lanes neither matter nor change.
+pub fn update(record: &[u8], lanes: u32, symbol: u32, lane: u32, old: u8, new: u8, shares: &mut [u8]) -> Result<u32, Error> {
+    let mut altered = 0;
+    let number = unsafe {
+        sys::balanced_update(
+            record.as_ptr(),
+            record.len(),
+            lanes,
+            symbol,
+            lane,
+            old,
+            new,
+            shares.as_mut_ptr(),
+            shares.len(),
+            &mut altered,
+        )
+    };
+    Error::check(number).map(|()| altered)
+}
+
+/// Recovers a message from the shares of any k nodes.
+///
+/// `nodes` lists k different nodes in any order, `shares` has their shares in list order, k·lanes bytes, and `message` has
+/// k·lanes bytes. The message is the only one whose encoding holds these shares at these nodes.
+pub fn recover(record: &[u8], lanes: u32, nodes: &[u8], shares: &[u8], message: &mut [u8]) -> Result<(), Error> {
+    let number = unsafe {
+        sys::balanced_recover(
+            record.as_ptr(),
+            record.len(),
+            lanes,
+            nodes.as_ptr(),
+            nodes.len(),
+            shares.as_ptr(),
+            shares.len(),
+            message.as_mut_ptr(),
+            message.len(),
+        )
+    };
+    Error::check(number)
+}
+
+/// Rebuilds what one node holds from the shares of any k nodes.
+///
+/// `nodes` and `shares` are as in [`recover`]; the target may be in the list. `share` has `lanes` bytes.
+pub fn rebuild(record: &[u8], lanes: u32, nodes: &[u8], shares: &[u8], target: u32, share: &mut [u8]) -> Result<(), Error> {
+    let number = unsafe {
+        sys::balanced_rebuild(
+            record.as_ptr(),
+            record.len(),
+            lanes,
+            nodes.as_ptr(),
+            nodes.len(),
+            shares.as_ptr(),
+            shares.len(),
+            target,
+            share.as_mut_ptr(),
+            share.len(),
+        )
+    };
+    Error::check(number)
+}
+
+/// Tests whether every lane of a block is a word of the code: `None`, or the smallest lane that is none.
+///
+/// `shares` has n·lanes bytes.
+pub fn belongs(record: &[u8], lanes: u32, shares: &[u8]) -> Result<Option<u32>, Error> {
+    let mut first_wrong = 0;
+    let number = unsafe {
+        sys::balanced_belongs(
+            record.as_ptr(),
+            record.len(),
+            lanes,
+            shares.as_ptr(),
+            shares.len(),
+            &mut first_wrong,
+        )
+    };
+    Error::check(number).map(|()| (first_wrong != lanes).then_some(first_wrong))
+}

@@ -1,0 +1,104 @@
+use std::fmt;
+
+/// What turns a call away. The call has then changed nothing that it was lent.
+///
+/// The conditions are tested in the order of the numbers, and the lowest that holds is given.
+#[derive(Clone, Copy, Debug, PartialEq, Eq, PartialOrd, Ord, Hash)]
+#[repr(u8)]
+pub enum Error {
+    /// The record is empty or its first byte is neither 1 nor 2.
+    Kind = 1,
+    /// The record's body has another length than its kind's.
+    Body = 2,
+    /// Kind 1, and p is not a prime from 3 to 251.
+    Field = 3,
+    /// n is below 2, k is 0, or k is above n.
+    Size = 4,
+    /// The root is not a symbol of order exactly n.
+    Root = 5,
+    /// n does not divide k·d.
+    Uneven = 6,
+    /// The number of lanes is 0 or above 4,096.
+    Lanes = 7,
+    /// A buffer or a list of nodes has another length than stated.
+    Length = 8,
+    /// A node, symbol or lane number is outside its range.
+    Range = 9,
+    /// A node stands twice in a list.
+    Twice = 10,
+    /// Kind 1, and a byte that the call reads as a symbol is p or more.
+    Symbol = 11,
+}
+
+impl Error {
+    /// Every error, in the order of the numbers.
+    pub const ALL: [Error; 11] = [
+        Error::Kind,
+        Error::Body,
+        Error::Field,
+        Error::Size,
+        Error::Root,
+        Error::Uneven,
+        Error::Lanes,
+        Error::Length,
+        Error::Range,
+        Error::Twice,
+        Error::Symbol,
+    ];
+
+    /// The number of the table, 1 to 11.
+    pub fn number(self) -> u8 {
+        self as u8
+    }
+
+    /// The error of a number.
+    pub fn from_number(number: u8) -> Option<Error> {
+        Error::ALL.into_iter().find(|error| error.number() == number)
+    }
+
+    /// The name of the table.
+    pub fn name(self) -> &'static str {
+        match self {
+            Error::Kind => "kind",
+            Error::Body => "body",
+            Error::Field => "field",
+            Error::Size => "size",
+            Error::Root => "root",
+            Error::Uneven => "uneven",
+            Error::Lanes => "lanes",
+            Error::Length => "length",
+            Error::Range => "range",
+            Error::Twice => "twice",
+            Error::Symbol => "symbol",
+        }
+    }
+
+    /// What a call's returned number says.
+    pub(crate) fn check(number: u8) -> Result<(), Error> {
+        if number == 0 {
+            return Ok(());
+        }
+        Err(Error::from_number(number).expect("the library returns 0 or a number from 1 to 11"))
+    }
+}
+
+impl fmt::Display for Error {
+    fn fmt(&self, f: &mut fmt::Formatter<'_>) -> fmt::Result {
+        let condition = match self {
+            Error::Kind => "the record is empty or of neither kind",
+            Error::Body => "the record's body has another length than its kind's",
+            Error::Field => "p is not a prime from 3 to 251",
+            Error::Size => "n is below 2, k is 0, or k is above n",
+            Error::Root => "the root is not a symbol of order exactly n",
+            Error::Uneven => "n does not divide k·d",
+            Error::Lanes => "the number of lanes is 0 or above 4,096",
+            Error::Length => "a buffer or a list of nodes has another length than stated",
+            Error::Range => "a node, symbol or lane number is outside its range",
+            Error::Twice => "a node stands twice in a list",
+            Error::Symbol => "a byte that the call reads as a symbol is p or more",
+        };
+        write!(f, "{} ({}): {}", self.name(), self.number(), condition)
+    }
+}
+
+impl std::error::Error for Error {}

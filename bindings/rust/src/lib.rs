@@ -1,0 +1,78 @@
+//! The balanced image store: a message of k symbols per lane is laid over n nodes so that any k of them give it back, a
+//! change of one symbol writes n−k+1 nodes, and every node depends on the same number of symbols.
+//!
+//! This crate is a safe interface to `libbalanced_c.a`, whose functions are written in Rattle and proved to do what their
+//! contracts say (`crates/balanced_c`). It has no other dependency.
+//!
+//! # Records
+//!
+//! A record fixes a code. It is one byte of kind, then a body:
+//!
+//! | Kind | Record | Symbols |
+//! |---|---|---|
+//! | 1, a prime field | `[1, p, root, n, k]`, p a prime from 3 to 251 | the bytes 0 to p−1 |
+//! | 2, the field of 256 elements | `[2, root, n, k]` | every byte; products are reduced by 0x11D |
+//!
+//! n is at least 2, k runs from 1 to n, the root has order exactly n, and with d = n−k+1 the number b = k·d/n is whole.
+//! A [`Plan`] is a record that was accepted, with what it stands for. Its methods are the calls of the store. The
+//! functions of this module are the same calls on a record that was not looked at before.
+//!
+//! # Blocks
+//!
+//! A block has L lanes, L from 1 to 4,096, and each lane is encoded by itself. A message has k·L bytes: symbol r of lane t
+//! stands at r·L + t. The shares of a block have n·L bytes, and the share of node j is the part of L bytes that starts at
+//! j·L. Nodes, symbols and lanes are numbered from 0.
+//!
+//! A call that is turned away gives the [`Error`] and has changed nothing that it was lent.
+//!
+//! # Example
+//!
+//! ```
+//! use balanced::{Error, Plan};
+//!
+//! // The field of 7 elements, 6 nodes, any 3 of which give the message back.
+//! let plan = Plan::new(&[1, 7, 3, 6, 3])?;
+//! assert_eq!((plan.n(), plan.k(), plan.d(), plan.b()), (6, 3, 4, 2));
+//! assert_eq!(plan.shifts(), [0, 2, 4]);
+//! assert_eq!(plan.base_word(), [6, 1, 3, 1, 0, 0]);
+//!
+//! // One lane.
+//! let mut shares = [0; 6];
+//! plan.encode(1, &[1, 0, 2], &mut shares)?;
+//! assert_eq!(shares, [6, 1, 1, 3, 6, 2]);
+//!
+//! // Symbol 1 of lane 0 changes from 0 to 5, which alters d = 4 nodes.
+//! assert_eq!(plan.update(1, 1, 0, 0, 5, &mut shares)?, 4);
+//! assert_eq!(shares, [0, 6, 1, 3, 1, 0]);
+//! assert_eq!(plan.belongs(1, &shares)?, None);
+//!
+//! // Nodes 2, 3 and 4 are left, and give back the message and what node 0 held.
+//! let mut message = [0; 3];
+//! plan.recover(1, &[2, 3, 4], &[1, 3, 1], &mut message)?;
+//! assert_eq!(message, [1, 5, 2]);
+//! let mut share = [9];
+//! plan.rebuild(1, &[2, 3, 4], &[1, 3, 1], 0, &mut share)?;
+//! assert_eq!(share, [0]);
+//!
+//! // A damaged block is found. A node that stands twice is turned away, and the message stays as it was.
+//! shares[5] = 1;
+//! assert_eq!(plan.belongs(1, &shares)?, Some(0));
+//! assert_eq!(plan.recover(1, &[2, 3, 2], &[1, 3, 1], &mut message), Err(Error::Twice));
+//! assert_eq!(message, [1, 5, 2]);
+//! # Ok::<(), Error>(())
+//! ```
+
+mod calls;
+mod error;
+mod plan;
+pub mod sys;
+
+pub use calls::{belongs, encode, rebuild, recover, update};
+pub use error::Error;
+pub use plan::Plan;
+
+/// The largest number of lanes of a block.
+pub const MAX_LANES: u32 = 4096;
+
+/// The largest number of nodes of a plan.
+pub const MAX_NODES: usize = 255;

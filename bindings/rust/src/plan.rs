@@ -1,0 +1,135 @@
+use std::fmt;
+
+use crate::{calls, sys, Error, MAX_NODES};
+
+/// A record that was accepted, and the plan that it stands for.
+#[derive(Clone, Copy, PartialEq, Eq)]
+pub struct Plan {
+    record: [u8; 5],
+    record_len: usize,
+    numbers: [u8; 4],
+    shifts: [u8; MAX_NODES],
+    base: [u8; MAX_NODES],
+}
+
+impl Plan {
+    /// The plan of a record, or what turns the record away: one of the errors from `Kind` to `Uneven`.
+    pub fn new(record: &[u8]) -> Result<Plan, Error> {
+        let mut plan = Plan {
+            record: [0; 5],
+            record_len: record.len(),
+            numbers: [0; 4],
+            shifts: [0; MAX_NODES],
+            base: [0; MAX_NODES],
+        };
+        // the slice and the three arrays are not null, have the lengths beside them and do not overlap
+        let number = unsafe {
+            sys::balanced_plan(
+                record.as_ptr(),
+                record.len(),
+                plan.numbers.as_mut_ptr(),
+                plan.numbers.len(),
+                plan.shifts.as_mut_ptr(),
+                plan.shifts.len(),
+                plan.base.as_mut_ptr(),
+                plan.base.len(),
+            )
+        };
+        Error::check(number)?;
+        // an accepted record has 4 or 5 bytes
+        plan.record[..record.len()].copy_from_slice(record);
+        Ok(plan)
+    }
+
+    /// The record.
+    pub fn record(&self) -> &[u8] {
+        &self.record[..self.record_len]
+    }
+
+    /// The number of nodes.
+    pub fn n(&self) -> usize {
+        self.numbers[0].into()
+    }
+
+    /// The number of symbols of a message, in each lane.
+    pub fn k(&self) -> usize {
+        self.numbers[1].into()
+    }
+
+    /// n−k+1, the number of nodes that a change of one symbol alters.
+    pub fn d(&self) -> usize {
+        self.numbers[2].into()
+    }
+
+    /// k·d/n, the number of symbols that each node depends on.
+    pub fn b(&self) -> usize {
+        self.numbers[3].into()
+    }
+
+    /// The k shifts, rising.
+    pub fn shifts(&self) -> &[u8] {
+        &self.shifts[..self.k()]
+    }
+
+    /// The n entries of the base word, which is row 0 of the generator.
+    pub fn base_word(&self) -> &[u8] {
+        &self.base[..self.n()]
+    }
+
+    /// Entry (row, node) of the generator, by which symbol `row` of a message goes into `node`.
+    ///
+    /// # Panics
+    ///
+    /// If `row` is not below k or `node` is not below n.
+    pub fn entry(&self, row: usize, node: usize) -> u8 {
+        assert!(node < self.n(), "node {} is not below {}", node, self.n());
+        self.base_word()[(node + usize::from(self.shifts()[row])) % self.n()]
+    }
+
+    /// The length of a message of so many lanes.
+    pub fn message_len(&self, lanes: u32) -> usize {
+        self.k() * lanes as usize
+    }
+
+    /// The length of the shares of a block of so many lanes.
+    pub fn shares_len(&self, lanes: u32) -> usize {
+        self.n() * lanes as usize
+    }
+
+    /// [`encode`](crate::encode) with this plan's record.
+    pub fn encode(&self, lanes: u32, message: &[u8], shares: &mut [u8]) -> Result<(), Error> {
+        calls::encode(self.record(), lanes, message, shares)
+    }
+
+    /// [`update`](crate::update) with this plan's record.
+    pub fn update(&self, lanes: u32, symbol: u32, lane: u32, old: u8, new: u8, shares: &mut [u8]) -> Result<u32, Error> {
+        calls::update(self.record(), lanes, symbol, lane, old, new, shares)
+    }
+
+    /// [`recover`](crate::recover) with this plan's record.
+    pub fn recover(&self, lanes: u32, nodes: &[u8], shares: &[u8], message: &mut [u8]) -> Result<(), Error> {
+        calls::recover(self.record(), lanes, nodes, shares, message)
+    }
+
+    /// [`rebuild`](crate::rebuild) with this plan's record.
+    pub fn rebuild(&self, lanes: u32, nodes: &[u8], shares: &[u8], target: u32, share: &mut [u8]) -> Result<(), Error> {
+        calls::rebuild(self.record(), lanes, nodes, shares, target, share)
+    }
+
+    /// [`belongs`](crate::belongs) with this plan's record.
+    pub fn belongs(&self, lanes: u32, shares: &[u8]) -> Result<Option<u32>, Error> {
+        calls::belongs(self.record(), lanes, shares)
+    }
+}
+
+impl fmt::Debug for Plan {
+    fn fmt(&self, f: &mut fmt::Formatter<'_>) -> fmt::Result {
+        f.debug_struct("Plan")
+            .field("record", &self.record())
+            .field("n", &self.n())
+            .field("k", &self.k())
+            .field("d", &self.d())
+            .field("b", &self.b())
+            .finish()
+    }
+}

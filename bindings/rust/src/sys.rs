@@ -1,0 +1,74 @@
+//! The functions of `include/balanced.h`, as they are: a slice is a pointer and then a length.
+//!
+//! The safe functions of this crate are thin over these. What a caller of these sees to is in the header: no pointer is
+//! null, and what a call writes overlaps nothing else that is lent to the same call.
+
+extern "C" {
+    pub fn balanced_plan(
+        record: *const u8,
+        record_len: usize,
+        numbers: *mut u8,
+        numbers_len: usize,
+        shifts: *mut u8,
+        shifts_len: usize,
+        base: *mut u8,
+        base_len: usize,
+    ) -> u8;
+
+    pub fn balanced_encode(
+        record: *const u8,
+        record_len: usize,
+        lanes: u32,
+        message: *const u8,
+        message_len: usize,
+        shares: *mut u8,
+        shares_len: usize,
+    ) -> u8;
+
+    pub fn balanced_update(
+        record: *const u8,
+        record_len: usize,
+        lanes: u32,
+        symbol: u32,
+        lane: u32,
+        old_symbol: u8,
+        new_symbol: u8,
+        shares: *mut u8,
+        shares_len: usize,
+        altered: *mut u32,
+    ) -> u8;
+
+    pub fn balanced_recover(
+        record: *const u8,
+        record_len: usize,
+        lanes: u32,
+        nodes: *const u8,
+        nodes_len: usize,
+        shares: *const u8,
+        shares_len: usize,
+        message: *mut u8,
+        message_len: usize,
+    ) -> u8;
+
+    pub fn balanced_rebuild(
+        record: *const u8,
+        record_len: usize,
+        lanes: u32,
+        nodes: *const u8,
+        nodes_len: usize,
+        shares: *const u8,
+        shares_len: usize,
+        target: u32,
+        share: *mut u8,
+        share_len: usize,
+    ) -> u8;
+
+    pub fn balanced_belongs(
+        record: *const u8,
+        record_len: usize,
+        lanes: u32,
+        shares: *const u8,
+        shares_len: usize,
+        first_wrong: *mut u32,
+    ) -> u8;
+}

@@ -1,0 +1,168 @@
+//! The calls on valid input: short blocks of many codes, every list of nodes of small codes, long blocks.
+use crate::compare;
+use crate::random::{shapes, Random, Shape};
+
+/// A block through every call, whole, damaged and updated. Gives the number of calls.
+fn round(random: &mut Random, shape: &Shape, lanes: usize) -> usize {
+    let record = shape.record(random);
+    let (n, k, size, l) = (shape.n, shape.k, shape.size, lanes as u32);
+    let mut calls = 0;
+    let mut accepted = |number: u8| {
+        assert_eq!(number, 0);
+        calls += 1;
+    };
+
+    let message = random.symbols(size, k * lanes);
+    accepted(compare::encode(&record, l, &message, &random.bytes(n * lanes)));
+    let mut shares = vec![0; n * lanes];
+    balanced::encode(&record, l, &message, &mut shares).unwrap();
+
+    let nodes = random.nodes(n, k);
+    let left: Vec<u8> = nodes
+        .iter()
+        .flat_map(|&j| shares[j as usize * lanes..][..lanes].to_vec())
+        .collect();
+    accepted(compare::recover(&record, l, &nodes, &left, &random.bytes(k * lanes)));
+    let mut back = vec![0; k * lanes];
+    balanced::recover(&record, l, &nodes, &left, &mut back).unwrap();
+    assert!(back == message);
+
+    let target = random.below(n);
+    accepted(compare::rebuild(
+        &record,
+        l,
+        &nodes,
+        &left,
+        target as u32,
+        &random.bytes(lanes),
+    ));
+    let mut share = vec![0; lanes];
+    balanced::rebuild(&record, l, &nodes, &left, target as u32, &mut share).unwrap();
+    assert!(share == shares[target * lanes..][..lanes]);
+
+    // any symbols on k nodes
+    let any = random.symbols(size, k * lanes);
+    accepted(compare::recover(&record, l, &nodes, &any, &random.bytes(k * lanes)));
+    accepted(compare::rebuild(
+        &record,
+        l,
+        &nodes,
+        &any,
+        target as u32,
+        &random.bytes(lanes),
+    ));
+
+    // a block as it was encoded; with some bytes changed; of any symbols
+    let (number, lane) = compare::belongs(&record, l, &shares);
+    accepted(number);
+    assert_eq!(lane, l);
+    let mut damaged = shares.clone();
+    for _ in 0..1 + random.below(3) {
+        let at = random.below(damaged.len());
+        damaged[at] = random.below(size as usize) as u8;
+    }
+    accepted(compare::belongs(&record, l, &damaged).0);
+    accepted(compare::belongs(&record, l, &random.symbols(size, n * lanes)).0);
+
+    // an update of a true symbol, of another, of an equal one; of a block that is none
+    let (symbol, lane) = (random.below(k), random.below(lanes));
+    let old = message[symbol * lanes + lane];
+    let [other, new] = [random.below(size as usize) as u8, random.below(size as usize) as u8];
+    let (s, t) = (symbol as u32, lane as u32);
+    accepted(compare::update(&record, l, s, t, old, new, &shares));
+    accepted(compare::update(&record, l, s, t, other, new, &damaged));
+    accepted(compare::update(&record, l, s, t, new, new, &shares));
+    let altered = balanced::update(&record, l, s, t, old, new, &mut shares).unwrap();
+    assert_eq!(altered as usize, if old == new { 0 } else { n - k + 1 });
+    assert_eq!(compare::belongs(&record, l, &shares), (0, l));
+
+    // bytes of other lanes do not matter to an update, even where they are no symbols
+    let mut others = random.bytes(n * lanes);
+    for j in 0..n {
+        others[j * lanes + lane] = shares[j * lanes + lane];
+    }
+    accepted(compare::update(&record, l, s, t, old, new, &others));
+    calls + 1
+}
+
+#[test]
+fn short_blocks() {
+    let mut random = Random::new(10);
+    let shapes = shapes(24);
+    let mut calls = 0;
+    for _ in 0..10_000 {
+        let lanes = 1 + random.below(9);
+        let shape = random.pick(&shapes);
+        calls += round(&mut random, shape, lanes);
+    }
+    println!("{calls} calls on short blocks");
+}
+
+#[test]
+fn every_shape() {
+    let mut random = Random::new(11);
+    let shapes = shapes(64);
+    let mut calls = 0;
+    for shape in &shapes {
+        let lanes = 1 + random.below(3);
+        calls += round(&mut random, shape, lanes);
+    }
+    println!("{calls} calls on one block of each of {} shapes", shapes.len());
+}
+
+#[test]
+fn many_nodes() {
+    let mut random = Random::new(12);
+    let mut shapes = shapes(255);
+    shapes.retain(|shape| shape.n > 64);
+    let mut calls = 0;
+    for _ in 0..60 {
+        let lanes = 1 + random.below(40);
+        let shape = random.pick(&shapes);
+        calls += round(&mut random, shape, lanes);
+    }
+    for shape in shapes.iter().filter(|shape| shape.n == 255) {
+        calls += round(&mut random, shape, 1);
+    }
+    println!("{calls} calls on blocks of many nodes");
+}
+
+#[test]
+fn long_blocks() {
+    let mut random = Random::new(13);
+    let mut calls = 0;
+    let all = shapes(30);
+    for lanes in [255, 1024, 4095, 4096] {
+        for _ in 0..4 {
+            let shape = random.pick(&all);
+            calls += round(&mut random, shape, lanes);
+        }
+    }
+    let largest = shapes(255);
+    let shape = largest.iter().find(|shape| shape.n == 255 && shape.k == 120).unwrap();
+    calls += round(&mut random, shape, 4096);
+    println!("{calls} calls on long blocks");
+}
+
+/// Every list of k nodes, in a random order, and every target.
+#[test]
+fn every_list_of_nodes() {
+    let mut random = Random::new(14);
+    let (mut lists, mut targets) = (0, 0);
+    for shape in shapes(10) {
+        let record = shape.record(&mut random);
+        let (n, k) = (shape.n, shape.k);
+        let shares = random.symbols(shape.size, k * 2);
+        for set in (0..1u32 << n).filter(|set| set.count_ones() as usize == k) {
+            let mut nodes: Vec<u8> = (0..n as u8).filter(|j| set >> j & 1 == 1).collect();
+            random.shuffle(&mut nodes);
+            assert_eq!(compare::recover(&record, 2, &nodes, &shares, &random.bytes(k * 2)), 0);
+            for target in 0..n as u32 {
+                assert_eq!(compare::rebuild(&record, 2, &nodes, &shares, target, &random.bytes(2)), 0);
+                targets += 1;
+            }
+            lists += 1;
+        }
+    }
+    println!("{lists} lists of nodes, and {targets} targets");
+}

@@ -1,0 +1,207 @@
+//! One call of the library beside the same call of the reference: the same number, and every lent byte and number the same
+//! afterwards. Where the reference gives a number, that is as it was before. Each function gives the number.
+use crate::reference::{self, Code};
+use balanced::{sys, Error, Plan};
+
+/// A buffer that the library writes, inside a larger one: a write beside it is found.
+struct Lent {
+    all: Vec<u8>,
+    start: usize,
+    len: usize,
+}
+
+impl Lent {
+    const GUARD: usize = 32;
+    const MARK: u8 = 0xa7;
+
+    fn new(before: &[u8]) -> Lent {
+        let start = Lent::GUARD + before.len() % 16;
+        let mut all = vec![Lent::MARK; start + before.len() + Lent::GUARD];
+        all[start..start + before.len()].copy_from_slice(before);
+        Lent {
+            all,
+            start,
+            len: before.len(),
+        }
+    }
+
+    fn slice(&mut self) -> &mut [u8] {
+        &mut self.all[self.start..self.start + self.len]
+    }
+
+    fn holds(&self, after: &[u8]) -> bool {
+        let end = self.start + self.len;
+        let beside = self.all[..self.start]
+            .iter()
+            .chain(&self.all[end..])
+            .all(|&x| x == Lent::MARK);
+        beside && &self.all[self.start..end] == after
+    }
+}
+
+fn number<T>(result: Result<T, Error>) -> (u8, Option<T>) {
+    match result {
+        Ok(value) => (0, Some(value)),
+        Err(error) => (error.number(), None),
+    }
+}
+
+fn expected<T>(result: Result<T, u8>, before: T) -> (u8, T) {
+    match result {
+        Ok(value) => (0, value),
+        Err(number) => (number, before),
+    }
+}
+
+/// The plan through the safe interface and through the C function.
+pub fn plan(record: &[u8]) -> u8 {
+    let got = Plan::new(record);
+    let expect = Code::of(record);
+    match (&got, &expect) {
+        (Ok(plan), Ok(code)) => {
+            assert_eq!(
+                (plan.n(), plan.k(), plan.d(), plan.b()),
+                (code.n, code.k, code.d, code.b),
+                "{record:?}"
+            );
+            assert_eq!(
+                (plan.record(), plan.shifts(), plan.base_word()),
+                (record, &code.shifts[..], &code.base[..])
+            );
+        }
+        _ => assert_eq!(
+            got.map(|_| ()),
+            expect.as_ref().map(|_| ()).map_err(|&f| Error::from_number(f).unwrap()),
+            "{record:?}"
+        ),
+    }
+    plan_in(record, 4, 255, 255)
+}
+
+/// The plan through the C function, in buffers of these lengths.
+pub fn plan_in(record: &[u8], numbers: usize, shifts: usize, base: usize) -> u8 {
+    let before = [vec![1; numbers], vec![2; shifts], vec![3; base]];
+    let number = match Code::of(record) {
+        Err(number) => number,
+        Ok(_) if (numbers, shifts, base) != (4, 255, 255) => 8,
+        Ok(_) => 0,
+    };
+    let after = match Code::of(record) {
+        Ok(code) if number == 0 => {
+            let padded = |list: &[u8]| [list, &vec![0; 255 - list.len()]].concat();
+            [
+                vec![code.n as u8, code.k as u8, code.d as u8, code.b as u8],
+                padded(&code.shifts),
+                padded(&code.base),
+            ]
+        }
+        _ => before.clone(),
+    };
+    let mut lent = before.map(|list| Lent::new(&list));
+    let [a, b, c] = &mut lent;
+    let (a, b, c) = (a.slice(), b.slice(), c.slice());
+    let got = unsafe {
+        sys::balanced_plan(
+            record.as_ptr(),
+            record.len(),
+            a.as_mut_ptr(),
+            a.len(),
+            b.as_mut_ptr(),
+            b.len(),
+            c.as_mut_ptr(),
+            c.len(),
+        )
+    };
+    assert_eq!(got, number, "plan of {record:?} in {numbers}, {shifts}, {base}");
+    assert!(
+        lent.iter().zip(&after).all(|(lent, after)| lent.holds(after)),
+        "plan of {record:?}"
+    );
+    number
+}
+
+pub fn encode(record: &[u8], lanes: u32, message: &[u8], before: &[u8]) -> u8 {
+    let (expect, after) = expected(reference::encode(record, lanes, message, before.len()), before.to_vec());
+    let mut shares = Lent::new(before);
+    let (got, _) = number(balanced::encode(record, lanes, message, shares.slice()));
+    assert_eq!(got, expect, "encode {record:?} {lanes}");
+    assert!(shares.holds(&after), "encode {record:?} {lanes}");
+    got
+}
+
+/// The update through the safe interface and through the C function, whose count is lent.
+pub fn update(record: &[u8], lanes: u32, symbol: u32, lane: u32, old: u8, new: u8, before: &[u8]) -> u8 {
+    const MARK: u32 = 0x5a5a_5a5a;
+    let result = reference::update(record, lanes, symbol, lane, old, new, before);
+    let (expect, (after, altered)) = expected(result, (before.to_vec(), MARK));
+    let mut shares = Lent::new(before);
+    let (got, count) = number(balanced::update(record, lanes, symbol, lane, old, new, shares.slice()));
+    assert_eq!(
+        (got, count.unwrap_or(MARK)),
+        (expect, altered),
+        "update {record:?} {lanes} {symbol} {lane} {old} {new}"
+    );
+    assert!(shares.holds(&after), "update {record:?} {lanes} {symbol} {lane} {old} {new}");
+
+    let mut shares = Lent::new(before);
+    let lent = shares.slice();
+    let mut count = MARK;
+    let got = unsafe {
+        sys::balanced_update(
+            record.as_ptr(),
+            record.len(),
+            lanes,
+            symbol,
+            lane,
+            old,
+            new,
+            lent.as_mut_ptr(),
+            lent.len(),
+            &mut count,
+        )
+    };
+    assert_eq!(
+        (got, count),
+        (expect, altered),
+        "update {record:?} {lanes} {symbol} {lane} {old} {new}"
+    );
+    assert!(shares.holds(&after), "update {record:?} {lanes} {symbol} {lane} {old} {new}");
+    got
+}
+
+pub fn recover(record: &[u8], lanes: u32, nodes: &[u8], shares: &[u8], before: &[u8]) -> u8 {
+    let result = reference::recover(record, lanes, nodes, shares, before.len());
+    let (expect, after) = expected(result, before.to_vec());
+    let mut message = Lent::new(before);
+    let (got, _) = number(balanced::recover(record, lanes, nodes, shares, message.slice()));
+    assert_eq!(got, expect, "recover {record:?} {lanes} {nodes:?}");
+    assert!(message.holds(&after), "recover {record:?} {lanes} {nodes:?}");
+    got
+}
+
+pub fn rebuild(record: &[u8], lanes: u32, nodes: &[u8], shares: &[u8], target: u32, before: &[u8]) -> u8 {
+    let result = reference::rebuild(record, lanes, nodes, shares, target, before.len());
+    let (expect, after) = expected(result, before.to_vec());
+    let mut share = Lent::new(before);
+    let (got, _) = number(balanced::rebuild(record, lanes, nodes, shares, target, share.slice()));
+    assert_eq!(got, expect, "rebuild {record:?} {lanes} {nodes:?} {target}");
+    assert!(share.holds(&after), "rebuild {record:?} {lanes} {nodes:?} {target}");
+    got
+}
+
+/// The test through the safe interface and through the C function, whose lane is lent. Gives the number and the lane.
+pub fn belongs(record: &[u8], lanes: u32, shares: &[u8]) -> (u8, u32) {
+    const MARK: u32 = 0x5a5a_5a5a;
+    let (expect, wrong) = expected(reference::belongs(record, lanes, shares), MARK);
+    let (got, lane) = number(balanced::belongs(record, lanes, shares));
+    assert_eq!(
+        (got, lane.map_or(MARK, |lane| lane.unwrap_or(lanes))),
+        (expect, wrong),
+        "belongs {record:?} {lanes}"
+    );
+    let mut lane = MARK;
+    let got =
+        unsafe { sys::balanced_belongs(record.as_ptr(), record.len(), lanes, shares.as_ptr(), shares.len(), &mut lane) };
+    assert_eq!((got, lane), (expect, wrong), "belongs {record:?} {lanes}");
+    (got, lane)
+}

@@ -1,0 +1,8 @@
+//! Every call of the interface against an independent implementation, on random inputs: short and long, valid and damaged.
+mod calls;
+mod compare;
+mod notebook;
+mod plans;
+mod random;
+mod reference;
+mod refusals;

@@ -1,0 +1,82 @@
+//! The notebook's cases, through the interface.
+use balanced::{Error, Plan};
+
+/// The rows of the generator.
+fn rows(record: &[u8]) -> Vec<Vec<u8>> {
+    let plan = Plan::new(record).unwrap();
+    (0..plan.k())
+        .map(|r| (0..plan.n()).map(|j| plan.entry(r, j)).collect())
+        .collect()
+}
+
+#[test]
+fn plans() {
+    let plan = Plan::new(&[1, 7, 3, 6, 4]).unwrap();
+    assert_eq!((plan.n(), plan.k(), plan.d(), plan.b()), (6, 4, 3, 2));
+    assert_eq!(plan.shifts(), [0, 1, 3, 4]);
+    let expect = [[4, 6, 3, 0, 0, 0], [6, 3, 0, 0, 0, 4], [0, 0, 0, 4, 6, 3], [0, 0, 4, 6, 3, 0]];
+    assert_eq!(rows(&[1, 7, 3, 6, 4]), expect);
+    assert_eq!(
+        rows(&[1, 7, 3, 6, 3]),
+        [[6, 1, 3, 1, 0, 0], [3, 1, 0, 0, 6, 1], [0, 0, 6, 1, 3, 1]]
+    );
+    assert_eq!(rows(&[1, 7, 3, 6, 1]), [[1; 6]]);
+    assert_eq!(rows(&[2, 214, 3, 3]), [[214, 0, 0], [0, 0, 214], [0, 214, 0]]);
+    let even: Vec<u8> = (1..=255).filter(|&k| Plan::new(&[2, 2, 255, k]).is_ok()).collect();
+    assert_eq!(even, [1, 51, 85, 120, 136, 171, 205, 255]);
+    let plan = Plan::new(&[2, 2, 255, 120]).unwrap();
+    assert_eq!((plan.d(), plan.b()), (136, 64));
+}
+
+#[test]
+fn records_turned_away() {
+    let error = |record: &[u8]| Plan::new(record).unwrap_err();
+    assert_eq!(error(&[]), Error::Kind);
+    assert_eq!(error(&[3, 7, 3, 6, 3]), Error::Kind);
+    assert_eq!(error(&[1, 7, 3, 6, 4, 0]), Error::Body);
+    assert_eq!(error(&[2, 2, 255]), Error::Body);
+    assert!(Plan::new(&[1, 251, 6, 250, 1]).is_ok());
+    for p in [2, 9, 253] {
+        assert_eq!(error(&[1, p, 1, 6, 3]), Error::Field);
+    }
+    assert_eq!(error(&[1, 7, 3, 6, 0]), Error::Size);
+    assert_eq!(error(&[1, 7, 3, 6, 7]), Error::Size);
+    assert_eq!(error(&[1, 7, 2, 6, 3]), Error::Root);
+    assert_eq!(error(&[1, 7, 3, 6, 2]), Error::Uneven);
+    assert_eq!(error(&[1, 7, 3, 6, 5]), Error::Uneven);
+}
+
+#[test]
+fn blocks() {
+    let mut shares = [0; 6];
+    balanced::encode(&[1, 7, 3, 6, 4], 1, &[1, 1, 0, 0], &mut shares).unwrap();
+    assert_eq!(shares, [3, 2, 3, 0, 0, 4]);
+
+    // the smallest and the largest number of lanes, and those beside them
+    let plan = Plan::new(&[1, 7, 3, 6, 3]).unwrap();
+    for (lanes, expect) in [(0, Err(Error::Lanes)), (1, Ok(())), (4096, Ok(())), (4097, Err(Error::Lanes))] {
+        let message = vec![1; plan.message_len(lanes)];
+        let mut shares = vec![0; plan.shares_len(lanes)];
+        assert_eq!(plan.encode(lanes, &message, &mut shares), expect);
+    }
+
+    // equal symbols alter nothing
+    let mut shares = [6, 1, 1, 3, 6, 2];
+    assert_eq!(plan.update(1, 1, 0, 4, 4, &mut shares), Ok(0));
+    assert_eq!(shares, [6, 1, 1, 3, 6, 2]);
+}
+
+#[test]
+fn numbers_and_names() {
+    let names: Vec<&str> = Error::ALL.iter().map(|error| error.name()).collect();
+    let expect = [
+        "kind", "body", "field", "size", "root", "uneven", "lanes", "length", "range", "twice", "symbol",
+    ];
+    assert_eq!(names, expect);
+    for (i, error) in Error::ALL.into_iter().enumerate() {
+        assert_eq!(error.number() as usize, i + 1);
+        assert_eq!(Error::from_number(error.number()), Some(error));
+    }
+    assert_eq!((Error::from_number(0), Error::from_number(12)), (None, None));
+    assert_eq!(Error::Twice.to_string(), "twice (10): a node stands twice in a list");
+}

@@ -1,0 +1,82 @@
+//! Plans: of every shape, of random records, and in buffers of other lengths.
+use crate::compare;
+use crate::random::{shapes, Random};
+
+#[test]
+fn every_shape() {
+    let mut random = Random::new(1);
+    let shapes = shapes(255);
+    for shape in &shapes {
+        let record = shape.record(&mut random);
+        assert_eq!(compare::plan(&record), 0);
+    }
+    println!("{} plans, one of each field, n and k", shapes.len());
+}
+
+#[test]
+fn every_root() {
+    let mut count = 0;
+    for shape in shapes(30) {
+        for root in 0..=255 {
+            let mut record = shape.kind.clone();
+            record.extend([root, shape.n as u8, shape.k as u8]);
+            let expect = if shape.roots.contains(&root) { 0 } else { 5 };
+            assert_eq!(compare::plan(&record), expect);
+            count += 1;
+        }
+    }
+    println!("{count} records with every byte as their root");
+}
+
+#[test]
+fn random_records() {
+    let mut random = Random::new(2);
+    let shapes = shapes(255);
+    let mut seen = [0; 12];
+    for round in 0..60_000 {
+        // a record that is accepted, with up to two bytes changed, or of another length, or of random bytes
+        let mut record = random.pick(&shapes).record(&mut random);
+        match round % 4 {
+            0 => {}
+            1 => {
+                for _ in 0..1 + random.below(2) {
+                    let at = random.below(record.len());
+                    record[at] = random.byte();
+                }
+            }
+            2 => {
+                let len = random.below(8);
+                record.resize(len, 0);
+            }
+            _ => {
+                let len = 4 + random.below(2);
+                record = random.bytes(len);
+                record[0] = 1 + random.below(3) as u8;
+            }
+        }
+        seen[compare::plan(&record) as usize] += 1;
+    }
+    println!("60,000 records, by their number: {seen:?}");
+    assert!(seen[..=6].iter().all(|&count| count >= 100));
+}
+
+#[test]
+fn other_lengths() {
+    let mut random = Random::new(3);
+    let shapes = shapes(255);
+    let lengths = [0, 1, 3, 4, 5, 254, 255, 256, 1000];
+    let mut count = 0;
+    for &numbers in &lengths {
+        for &shifts in &lengths {
+            for &base in &lengths {
+                let record = random.pick(&shapes).record(&mut random);
+                let fits = (numbers, shifts, base) == (4, 255, 255);
+                assert_eq!(compare::plan_in(&record, numbers, shifts, base), if fits { 0 } else { 8 });
+                // the record's number comes first
+                assert_eq!(compare::plan_in(&[1, 7, 3, 6, 2], numbers, shifts, base), 6);
+                count += 2;
+            }
+        }
+    }
+    println!("{count} plans in buffers of other lengths");
+}

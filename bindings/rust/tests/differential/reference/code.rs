@@ -1,0 +1,192 @@
+//! What a record stands for: the generator, encodings, messages, and the words of the code.
+use super::field::{is_prime, Field};
+
+fn gcd(a: usize, b: usize) -> usize {
+    if b == 0 {
+        a
+    } else {
+        gcd(b, a % b)
+    }
+}
+
+/// What a record stands for.
+pub struct Code {
+    pub field: Field,
+    pub root: u8,
+    pub n: usize,
+    pub k: usize,
+    pub d: usize,
+    pub b: usize,
+    pub shifts: Vec<u8>,
+    pub base: Vec<u8>,
+    /// Node j's point, root^j.
+    points: Vec<u8>,
+}
+
+impl Code {
+    /// The code of a record, or the number that turns it away.
+    pub fn of(record: &[u8]) -> Result<Code, u8> {
+        let kind = *record.first().ok_or(1)?;
+        let body = &record[1..];
+        let (field, root, n, k) = match kind {
+            1 => {
+                if body.len() != 4 {
+                    return Err(2);
+                }
+                let p = u32::from(body[0]);
+                if !is_prime(p) || !(3..=251).contains(&p) {
+                    return Err(3);
+                }
+                (Field::Prime(p), body[1], body[2] as usize, body[3] as usize)
+            }
+            2 => {
+                if body.len() != 3 {
+                    return Err(2);
+                }
+                (Field::bytes(), body[0], body[1] as usize, body[2] as usize)
+            }
+            _ => return Err(1),
+        };
+        if n < 2 || k == 0 || k > n {
+            return Err(4);
+        }
+        if u32::from(root) >= field.size() || field.order(root) != n {
+            return Err(5);
+        }
+        let d = n - k + 1;
+        if k * d % n != 0 {
+            return Err(6);
+        }
+        let g = gcd(k, n);
+        let (take, skip) = (k / g, (d - 1) / g);
+        let shifts: Vec<u8> = (0..n)
+            .filter(|place| place % (take + skip) < take)
+            .map(|place| place as u8)
+            .collect();
+        assert_eq!(shifts.len(), k);
+        let mut points = vec![1];
+        for j in 1..n {
+            points.push(field.mul(points[j - 1], root));
+        }
+        let mut code = Code {
+            field,
+            root,
+            n,
+            k,
+            d,
+            b: k * d / n,
+            shifts,
+            base: Vec::new(),
+            points,
+        };
+        code.base = (0..n).map(|j| code.entry(0, j)).collect();
+        Ok(code)
+    }
+
+    /// Entry (r, j): the product of (x − root^i) for i from 0 to k−2, at x = root^(j + s_r − d).
+    pub fn entry(&self, r: usize, j: usize) -> u8 {
+        let x = self.points[(j + self.shifts[r] as usize + self.n - self.d) % self.n];
+        let mut product = 1;
+        let mut power = 1;
+        for _ in 0..self.k - 1 {
+            product = self.field.mul(product, self.field.sub(x, power));
+            power = self.field.mul(power, self.root);
+        }
+        product
+    }
+
+    /// The generator, row by row.
+    fn generator(&self) -> Vec<Vec<u8>> {
+        (0..self.k)
+            .map(|r| {
+                (0..self.n)
+                    .map(|j| self.base[(j + self.shifts[r] as usize) % self.n])
+                    .collect()
+            })
+            .collect()
+    }
+
+    pub fn lanes_fault(lanes: u32) -> Result<usize, u8> {
+        if lanes == 0 || lanes > 4096 {
+            Err(7)
+        } else {
+            Ok(lanes as usize)
+        }
+    }
+
+    pub fn symbols_fault(&self, bytes: &[u8]) -> Result<(), u8> {
+        if bytes.iter().any(|&x| u32::from(x) >= self.field.size()) {
+            Err(11)
+        } else {
+            Ok(())
+        }
+    }
+
+    pub fn encoding(&self, lanes: usize, message: &[u8]) -> Vec<u8> {
+        let rows = self.generator();
+        let mut shares = vec![0; self.n * lanes];
+        for (r, row) in rows.iter().enumerate() {
+            for (j, &entry) in row.iter().enumerate() {
+                for t in 0..lanes {
+                    let at = j * lanes + t;
+                    shares[at] = self.field.add(shares[at], self.field.mul(entry, message[r * lanes + t]));
+                }
+            }
+        }
+        shares
+    }
+
+    /// The message whose encoding holds the shares at the nodes: the inverse of the k columns, by elimination.
+    pub fn message(&self, lanes: usize, nodes: &[u8], shares: &[u8]) -> Vec<u8> {
+        let (f, k) = (&self.field, self.k);
+        let rows = self.generator();
+        // row i is the equation of node i: the k entries, then the unit matrix
+        let mut m: Vec<Vec<u8>> = (0..k)
+            .map(|i| {
+                let mut row: Vec<u8> = rows.iter().map(|row| row[nodes[i] as usize]).collect();
+                row.extend((0..k).map(|e| u8::from(e == i)));
+                row
+            })
+            .collect();
+        for c in 0..k {
+            let found = (c..k).find(|&i| m[i][c] != 0).expect("any k nodes fix the message");
+            m.swap(c, found);
+            let scale = f.inverse(m[c][c]);
+            m[c].iter_mut().for_each(|x| *x = f.mul(*x, scale));
+            let pivot = m[c].clone();
+            for (i, row) in m.iter_mut().enumerate() {
+                let factor = row[c];
+                if i != c && factor != 0 {
+                    for (x, &y) in row.iter_mut().zip(&pivot) {
+                        *x = f.sub(*x, f.mul(factor, y));
+                    }
+                }
+            }
+        }
+        let mut message = vec![0; k * lanes];
+        for r in 0..k {
+            for i in 0..k {
+                for t in 0..lanes {
+                    let at = r * lanes + t;
+                    message[at] = f.add(message[at], f.mul(m[r][k + i], shares[i * lanes + t]));
+                }
+            }
+        }
+        message
+    }
+
+    /// For each node from k on, what it holds of the polynomial that goes through the first k nodes.
+    pub fn extension(&self) -> Vec<Vec<u8>> {
+        let f = &self.field;
+        let points = &self.points;
+        let product = |x: u8, skip: usize| {
+            (0..self.k)
+                .filter(|&e| e != skip)
+                .fold(1, |y, e| f.mul(y, f.sub(x, points[e])))
+        };
+        let scales: Vec<u8> = (0..self.k).map(|i| f.inverse(product(points[i], i))).collect();
+        (self.k..self.n)
+            .map(|j| (0..self.k).map(|i| f.mul(product(points[j], i), scales[i])).collect())
+            .collect()
+    }
+}

@@ -1,0 +1,104 @@
+//! The calls of the store once more, written from the description of the product alone, as plainly as possible: powers and
+//! logarithms for the field of 256 elements, every entry of the generator as a product, messages by elimination, words by
+//! interpolation. Nothing here is shared with the library.
+mod code;
+mod field;
+
+pub use code::Code;
+pub use field::{is_prime, Field};
+
+pub fn encode(record: &[u8], lanes: u32, message: &[u8], out: usize) -> Result<Vec<u8>, u8> {
+    let code = Code::of(record)?;
+    let l = Code::lanes_fault(lanes)?;
+    if message.len() != code.k * l || out != code.n * l {
+        return Err(8);
+    }
+    code.symbols_fault(message)?;
+    Ok(code.encoding(l, message))
+}
+
+pub fn update(
+    record: &[u8],
+    lanes: u32,
+    symbol: u32,
+    lane: u32,
+    old: u8,
+    new: u8,
+    shares: &[u8],
+) -> Result<(Vec<u8>, u32), u8> {
+    let code = Code::of(record)?;
+    let l = Code::lanes_fault(lanes)?;
+    if shares.len() != code.n * l {
+        return Err(8);
+    }
+    if symbol as usize >= code.k || lane >= lanes {
+        return Err(9);
+    }
+    let at = |j: usize| j * l + lane as usize;
+    code.symbols_fault(&[old, new])?;
+    code.symbols_fault(&(0..code.n).map(|j| shares[at(j)]).collect::<Vec<u8>>())?;
+    let mut after = shares.to_vec();
+    let change = code.field.sub(new, old);
+    for j in 0..code.n {
+        after[at(j)] = code
+            .field
+            .add(after[at(j)], code.field.mul(change, code.entry(symbol as usize, j)));
+    }
+    let altered = shares.iter().zip(&after).filter(|(x, y)| x != y).count();
+    Ok((after, altered as u32))
+}
+
+fn list_faults(code: &Code, nodes: &[u8], target: u32, shares: &[u8]) -> Result<(), u8> {
+    if target as usize >= code.n || nodes.iter().any(|&j| j as usize >= code.n) {
+        return Err(9);
+    }
+    let mut sorted = nodes.to_vec();
+    sorted.sort();
+    sorted.dedup();
+    if sorted.len() != nodes.len() {
+        return Err(10);
+    }
+    code.symbols_fault(shares)
+}
+
+pub fn recover(record: &[u8], lanes: u32, nodes: &[u8], shares: &[u8], out: usize) -> Result<Vec<u8>, u8> {
+    let code = Code::of(record)?;
+    let l = Code::lanes_fault(lanes)?;
+    if nodes.len() != code.k || shares.len() != code.k * l || out != code.k * l {
+        return Err(8);
+    }
+    list_faults(&code, nodes, 0, shares)?;
+    Ok(code.message(l, nodes, shares))
+}
+
+pub fn rebuild(record: &[u8], lanes: u32, nodes: &[u8], shares: &[u8], target: u32, out: usize) -> Result<Vec<u8>, u8> {
+    let code = Code::of(record)?;
+    let l = Code::lanes_fault(lanes)?;
+    if nodes.len() != code.k || shares.len() != code.k * l || out != l {
+        return Err(8);
+    }
+    list_faults(&code, nodes, target, shares)?;
+    let all = code.encoding(l, &code.message(l, nodes, shares));
+    Ok(all[target as usize * l..(target as usize + 1) * l].to_vec())
+}
+
+/// The smallest lane that is no word, or the number of lanes.
+pub fn belongs(record: &[u8], lanes: u32, shares: &[u8]) -> Result<u32, u8> {
+    let code = Code::of(record)?;
+    let l = Code::lanes_fault(lanes)?;
+    if shares.len() != code.n * l {
+        return Err(8);
+    }
+    code.symbols_fault(shares)?;
+    let rows = code.extension();
+    let is_word = |t: usize| {
+        rows.iter().enumerate().all(|(i, row)| {
+            let value = row
+                .iter()
+                .enumerate()
+                .fold(0, |sum, (e, &c)| code.field.add(sum, code.field.mul(c, shares[e * l + t])));
+            value == shares[(code.k + i) * l + t]
+        })
+    };
+    Ok((0..l).find(|&t| !is_word(t)).unwrap_or(l) as u32)
+}

@@ -1,0 +1,210 @@
+//! Damaged input: each number of each call, alone and beside others, and nothing lent is changed.
+use crate::compare;
+use crate::random::{shapes, Random, Shape};
+
+const ROUNDS: usize = 50_000;
+
+/// Input of the calls on one code, which was valid before it was damaged.
+struct Input {
+    record: Vec<u8>,
+    lanes: u32,
+    symbol: u32,
+    lane: u32,
+    old: u8,
+    new: u8,
+    nodes: Vec<u8>,
+    target: u32,
+    /// What is read, and what is written.
+    read: Vec<u8>,
+    written: Vec<u8>,
+}
+
+impl Input {
+    /// Rows of symbols to be read, and of bytes to be written.
+    fn new(random: &mut Random, shape: &Shape, read: usize, written: usize) -> Input {
+        let lanes = 1 + random.below(5);
+        Input {
+            record: shape.record(random),
+            lanes: lanes as u32,
+            symbol: random.below(shape.k) as u32,
+            lane: random.below(lanes) as u32,
+            old: random.below(shape.size as usize) as u8,
+            new: random.below(shape.size as usize) as u8,
+            nodes: random.nodes(shape.n, shape.k),
+            target: random.below(shape.n) as u32,
+            read: random.symbols(shape.size, read * lanes),
+            written: random.bytes(written * lanes),
+        }
+    }
+
+    /// One thing made wrong: mostly so that a number is met, and sometimes so that none is.
+    fn damage(&mut self, random: &mut Random, shape: &Shape) {
+        let at = |random: &mut Random, len: usize| if len == 0 { None } else { Some(random.below(len)) };
+        match random.below(12) {
+            0 => {
+                if let Some(i) = at(random, self.record.len()) {
+                    self.record[i] = random.byte();
+                }
+            }
+            1 => {
+                let len = random.below(7);
+                self.record.resize(len, 1);
+            }
+            2 => {
+                if let Some(i) = at(random, self.record.len()) {
+                    self.record[i] = *random.pick(&[0, 1, 2, 3, 9, 253]);
+                }
+            }
+            3 => self.lanes = *random.pick(&[0, 4097, 65_536, u32::MAX, self.lanes.saturating_add(1)]),
+            4 => {
+                let len = *random.pick(&[0, self.read.len() + 1, self.read.len().saturating_sub(1), 2 * self.read.len()]);
+                self.read.resize(len, 0);
+            }
+            5 => {
+                let len = *random.pick(&[
+                    0,
+                    self.written.len() + 1,
+                    self.written.len().saturating_sub(1),
+                    2 * self.written.len(),
+                ]);
+                self.written.resize(len, 0);
+            }
+            6 => {
+                let len = *random.pick(&[0, self.nodes.len() + 1, self.nodes.len().saturating_sub(1)]);
+                self.nodes.resize(len, 0);
+            }
+            7 => {
+                if let Some(i) = at(random, self.nodes.len()) {
+                    self.nodes[i] = *random.pick(&[shape.n as u8, 255, shape.n as u8 - 1]);
+                }
+            }
+            8 => {
+                if let (Some(i), Some(j)) = (at(random, self.nodes.len()), at(random, self.nodes.len())) {
+                    self.nodes[i] = self.nodes[j];
+                }
+            }
+            9 => {
+                let places = [&mut self.symbol, &mut self.lane, &mut self.target];
+                let limits = [shape.k as u32, self.lanes, shape.n as u32];
+                let which = random.below(3);
+                for (i, place) in places.into_iter().enumerate() {
+                    if i == which {
+                        *place = *random.pick(&[limits[i], limits[i].saturating_add(1), u32::MAX]);
+                    }
+                }
+            }
+            10 => {
+                let bad = *random.pick(&[(shape.size % 256) as u8, 255]);
+                match random.below(3) {
+                    0 => self.old = bad,
+                    1 => self.new = bad,
+                    _ => {}
+                }
+            }
+            _ => {
+                let bad = *random.pick(&[(shape.size % 256) as u8, 255]);
+                if let Some(i) = at(random, self.read.len()) {
+                    self.read[i] = bad;
+                }
+                if let Some(i) = at(random, self.written.len()) {
+                    self.written[i] = bad;
+                }
+            }
+        }
+    }
+}
+
+/// Runs a call on damaged input, and sees that each number that it can give was given often.
+fn run(
+    seed: u64,
+    name: &str,
+    read: fn(&Shape) -> usize,
+    written: fn(&Shape) -> usize,
+    numbers: &[usize],
+    call: fn(&Input) -> u8,
+) {
+    let mut random = Random::new(seed);
+    let shapes = shapes(16);
+    let mut seen = [0; 12];
+    for _ in 0..ROUNDS {
+        let shape = random.pick(&shapes);
+        let mut input = Input::new(&mut random, shape, read(shape), written(shape));
+        for _ in 0..random.below(4) {
+            input.damage(&mut random, shape);
+        }
+        seen[call(&input) as usize] += 1;
+    }
+    println!("{ROUNDS} calls of {name}, by their number: {seen:?}");
+    for (number, &count) in seen.iter().enumerate() {
+        if numbers.contains(&number) {
+            assert!(count >= 100, "{name} gave {number} only {count} times");
+        } else {
+            assert_eq!(count, 0, "{name} gave {number}");
+        }
+    }
+}
+
+#[test]
+fn encode() {
+    let numbers = [0, 1, 2, 3, 4, 5, 6, 7, 8, 11];
+    run(
+        20,
+        "encode",
+        |s| s.k,
+        |s| s.n,
+        &numbers,
+        |i| compare::encode(&i.record, i.lanes, &i.read, &i.written),
+    );
+}
+
+#[test]
+fn update() {
+    let numbers = [0, 1, 2, 3, 4, 5, 6, 7, 8, 9, 11];
+    run(
+        21,
+        "update",
+        |s| s.n,
+        |_| 0,
+        &numbers,
+        |i| compare::update(&i.record, i.lanes, i.symbol, i.lane, i.old, i.new, &i.read),
+    );
+}
+
+#[test]
+fn recover() {
+    let numbers = [0, 1, 2, 3, 4, 5, 6, 7, 8, 9, 10, 11];
+    run(
+        22,
+        "recover",
+        |s| s.k,
+        |s| s.k,
+        &numbers,
+        |i| compare::recover(&i.record, i.lanes, &i.nodes, &i.read, &i.written),
+    );
+}
+
+#[test]
+fn rebuild() {
+    let numbers = [0, 1, 2, 3, 4, 5, 6, 7, 8, 9, 10, 11];
+    run(
+        23,
+        "rebuild",
+        |s| s.k,
+        |_| 1,
+        &numbers,
+        |i| compare::rebuild(&i.record, i.lanes, &i.nodes, &i.read, i.target, &i.written),
+    );
+}
+
+#[test]
+fn belongs() {
+    let numbers = [0, 1, 2, 3, 4, 5, 6, 7, 8, 11];
+    run(
+        24,
+        "belongs",
+        |s| s.n,
+        |_| 0,
+        &numbers,
+        |i| compare::belongs(&i.record, i.lanes, &i.read).0,
+    );
+}

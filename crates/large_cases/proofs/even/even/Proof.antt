@@ -1,0 +1,50 @@
+-- `even` is safe and ends.
+use borrow.Author.Needs.{needs}
+use Prim.Native.Nat.{_-_}
+use Rattle.large_cases.proofs.even.even.Statement.{statement}
+use Rattle.large_cases.proofs.even.even.Tie as tie
+
+abbrev Inv-loop : tie.InvT-loop
+Inv-loop k₀ k = Unit {0}
+
+abbrev μ-loop : tie.MeasureT-loop
+μ-loop k₀ k = 255 - k
+
+slice-aggregate-text : tie.Need-slice-aggregate-text Inv-loop μ-loop
+slice-aggregate-text c = search needs
+
+text-requires : tie.Need-text-requires Inv-loop μ-loop
+text-requires c κs = search needs
+
+loop-holds : tie.Need-loop-holds Inv-loop μ-loop
+loop-holds c = search needs
+
+add-k : tie.Need-add-k Inv-loop μ-loop
+add-k c = search needs
+
+even-at-requires : tie.Need-even-at-requires Inv-loop μ-loop
+even-at-requires c κs = search needs
+
+loop-less : tie.Need-loop-less Inv-loop μ-loop
+loop-less c = search needs
+
+loop-again : tie.Need-loop-again Inv-loop μ-loop
+loop-again c = search needs
+
+returns : tie.Need-returns Inv-loop μ-loop
+returns c = search needs
+
+pub even-spec : {M : Type 1} → statement M
+even-spec =
+    tie.close
+    (tie.spec
+    Inv-loop
+    μ-loop
+    slice-aggregate-text
+    text-requires
+    loop-holds
+    add-k
+    even-at-requires
+    loop-less
+    loop-again
+    returns)

@@ -1,0 +1,121 @@
+/*
+ * Encodes the bytes of a file, drops n-k shares of every block, recovers the message from the k shares that are left,
+ * and compares. Then it rebuilds the dropped shares, and updates one symbol in place.
+ *
+ *     make -C examples/c check
+ */
+#include <stdio.h>
+#include <stdlib.h>
+#include <string.h>
+
+#include "balanced.h"
+
+/* Bytes as symbols, 15 nodes, any 10 of which give the message back. */
+static const uint8_t record[] = { 2, 11, 15, 10 };
+enum { LANES = 512 };
+
+static void fail(const char *what, unsigned number) {
+    fprintf(stderr, "store: %s (%u)\n", what, number);
+    exit(1);
+}
+
+static void accepted(const char *call, uint8_t number) {
+    if (number != BALANCED_OK) fail(call, number);
+}
+
+static void *room(size_t size) {
+    void *p = malloc(size);
+    if (p == NULL) fail("no memory", 0);
+    return p;
+}
+
+/* The whole file; *size receives its length. */
+static uint8_t *read_file(const char *path, size_t *size) {
+    FILE *file = fopen(path, "rb");
+    long end;
+    uint8_t *bytes;
+    if (file == NULL || fseek(file, 0, SEEK_END) != 0 || (end = ftell(file)) < 0 || fseek(file, 0, SEEK_SET) != 0)
+        fail("cannot read the file", 0);
+    *size = (size_t)end;
+    bytes = room(*size + 1);
+    if (fread(bytes, 1, *size, file) != *size) fail("cannot read the file", 0);
+    fclose(file);
+    return bytes;
+}
+
+/* One block: the message is encoded, all but k shares are dropped, and everything is got back from those. */
+static void keep(size_t n, size_t k, size_t block, const uint8_t *message) {
+    uint8_t *shares = room(n * LANES), *left = room(k * LANES), *nodes = room(k);
+    uint8_t *got = room(k * LANES), *share = room(LANES);
+    uint32_t wrong;
+    size_t i, j;
+
+    accepted("encode", balanced_encode(record, sizeof record, LANES, message, k * LANES, shares, n * LANES));
+    accepted("belongs", balanced_belongs(record, sizeof record, LANES, shares, n * LANES, &wrong));
+    if (wrong != LANES) fail("an encoded lane is no word", wrong);
+
+    /* the k nodes that are left: others in every block, in no order (7 and 15 have no common divisor) */
+    for (i = 0; i < k; i++) {
+        nodes[i] = (uint8_t)((block + 7 * i) % n);
+        memcpy(left + i * LANES, shares + nodes[i] * LANES, LANES);
+    }
+
+    accepted("recover", balanced_recover(record, sizeof record, LANES, nodes, k, left, k * LANES, got, k * LANES));
+    if (memcmp(got, message, k * LANES) != 0) fail("the recovered message differs", (unsigned)block);
+
+    for (j = 0; j < n; j++) {
+        accepted("rebuild", balanced_rebuild(record, sizeof record, LANES, nodes, k, left, k * LANES, (uint32_t)j, share, LANES));
+        if (memcmp(share, shares + j * LANES, LANES) != 0) fail("a rebuilt share differs", (unsigned)j);
+    }
+    free(shares);
+    free(left);
+    free(nodes);
+    free(got);
+    free(share);
+}
+
+/* A symbol that is changed in place, and one that is changed before encoding, give the same shares. */
+static void change(size_t n, size_t k, size_t d, uint8_t *message) {
+    uint8_t *shares = room(n * LANES), *anew = room(n * LANES);
+    uint8_t old = message[3 * LANES + 5], new = (uint8_t)(old + 1);
+    uint32_t altered;
+
+    accepted("encode", balanced_encode(record, sizeof record, LANES, message, k * LANES, shares, n * LANES));
+    accepted("update", balanced_update(record, sizeof record, LANES, 3, 5, old, new, shares, n * LANES, &altered));
+    message[3 * LANES + 5] = new;
+    accepted("encode", balanced_encode(record, sizeof record, LANES, message, k * LANES, anew, n * LANES));
+    if (memcmp(shares, anew, n * LANES) != 0) fail("the updated shares differ", 0);
+    if (altered != d) fail("another number of nodes was altered", altered);
+    free(shares);
+    free(anew);
+}
+
+int main(int argc, char **argv) {
+    uint8_t numbers[BALANCED_PLAN_NUMBERS], shifts[BALANCED_PLAN_SHIFTS], base[BALANCED_PLAN_BASE];
+    size_t n, k, d, size, blocks, i;
+    uint8_t *bytes, *message;
+
+    if (argc != 2) {
+        fprintf(stderr, "usage: store FILE\n");
+        return 2;
+    }
+    accepted("plan", balanced_plan(record, sizeof record, numbers, sizeof numbers, shifts, sizeof shifts, base, sizeof base));
+    n = numbers[0];
+    k = numbers[1];
+    d = numbers[2];
+    bytes = read_file(argv[1], &size);
+    blocks = size / (k * LANES) + 1;
+    message = room(k * LANES);
+    for (i = 0; i < blocks; i++) {
+        size_t start = i * k * LANES, part = size - start < k * LANES ? size - start : k * LANES;
+        memset(message, 0, k * LANES);
+        memcpy(message, bytes + start, part);
+        keep(n, k, i, message);
+    }
+    change(n, k, d, message);
+    printf("%lu bytes in %lu blocks: %lu of %lu shares dropped, every message and share got back\n", (unsigned long)size,
+           (unsigned long)blocks, (unsigned long)(n - k), (unsigned long)n);
+    free(bytes);
+    free(message);
+    return 0;
+}

@@ -1,0 +1,40 @@
+#!/usr/bin/env bash
+# The interface for C and Rust. Builds the static library, compiles the header as C99 and as C++, runs the example in C, under
+# valgrind where that is installed, and runs the Rust crate's tests, which compare every call with an independent implementation.
+# Needs rt, gcc, make and cargo; no network.
+set -euo pipefail
+cd "$(dirname "$0")/.."
+
+# the crates below are proved side by side; `rt staticlib` then proves and compiles the interface
+log=$(mktemp)
+trap 'rm -f "$log"' EXIT
+{ rt check balanced && rt staticlib balanced_c; } >"$log" 2>&1 || { cat "$log"; exit 1; }
+tail -n 1 "$log"
+
+library=target/staticlib/libbalanced_c.a
+mkdir -p target/examples
+strict=(-pedantic -Wall -Wextra -Werror -Iinclude)
+printf '#include "balanced.h"\nint main(void) { unsigned char b[1] = { 0 }; return balanced_plan(b, 0, b, 0, b, 0, b, 0) != BALANCED_KIND; }\n' >target/examples/plain.c
+gcc -std=c99 "${strict[@]}" -o target/examples/plain target/examples/plain.c "$library"
+target/examples/plain
+if command -v g++ >/dev/null; then
+    g++ -std=c++98 "${strict[@]}" -o target/examples/plain -x c++ target/examples/plain.c -x none "$library"
+    target/examples/plain
+fi
+
+make -s -C examples/c
+for file in examples/c/Makefile examples/c/store.c include/balanced.h; do
+    if command -v valgrind >/dev/null; then
+        valgrind --quiet --leak-check=full --errors-for-leak-kinds=all --error-exitcode=1 target/examples/store "$file"
+    else
+        target/examples/store "$file"
+    fi
+done
+
+# a block of 4,096 lanes on 255 nodes
+gcc -std=c99 -O2 "${strict[@]}" -o target/examples/large_block tests/large_block.c "$library"
+target/examples/large_block
+
+export BALANCED_LIB_DIR=$PWD/target/staticlib
+cd bindings/rust
+cargo test --quiet --offline --locked -- --show-output
