@@ -1,6 +1,6 @@
 #!/usr/bin/env python3
 """Prints what the program `large_cases` must: which k are even with n = 255, and large blocks by checksums."""
-from balanced import belongs, build_plan, encode, update
+from balanced import belongs, build_plan, encode, rebuild, recover, update
 from data import checksum, fill, refused
 
 
@@ -52,9 +52,25 @@ def block(record, top, lanes, size, room):
         print_belongs(record, lanes, shares)
 
 
+def restore(record, top, lanes, size, room):
+    """The message from the last k nodes and from every seventh, and node 0 from them."""
+    k, n = size // lanes, room // lanes
+    message = fill(1, top + 1, size)
+    _, shares = encode(record, lanes, message, room)
+    print("block", *record, "lanes", lanes, "message sum", checksum(message), "shares sum", checksum(shares))
+    for first, step in ((n - k, 1), (0, 7)):
+        nodes = bytes((first + i * step) % n for i in range(k))
+        held = b"".join(shares[j * lanes:(j + 1) * lanes] for j in nodes)
+        _, recovered = recover(record, lanes, nodes, held, size)
+        _, rebuilt = rebuild(record, lanes, nodes, held, 0, lanes)
+        print(f"from node {first} by {step}: message sum {checksum(recovered)} node 0 sum {checksum(rebuilt)}")
+
+
 even()
 block([2, 2, 255, 120], 255, 1024, 122880, 261120)
 block([1, 251, 6, 250, 125], 250, 1024, 128000, 256000)
 block([2, 32, 51, 18], 255, 4096, 73728, 208896)
 block([1, 251, 246, 50, 25], 250, 4096, 102400, 204800)
 block([1, 251, 250, 2, 1], 250, 4097, 4097, 8194)
+restore([2, 2, 255, 120], 255, 1024, 122880, 261120)
+restore([1, 251, 6, 250, 125], 250, 1024, 128000, 256000)

@@ -1,26 +1,25 @@
 #!/usr/bin/env python3
-"""small_plans.py FAMILY: prints calls over every accepted record of some small fields, in the words of cases.py.
+"""Prints calls over every accepted record of some small fields, in the words of cases.py.
 
-FAMILY `cases`: a message encoded, one symbol updated, the result tested as it is and with one symbol changed.
-FAMILY `recover_cases`: the message recovered from k nodes in some order, and a node rebuilt from them.
-The data are pseudo-random and the same at each run.
+For each record a message is encoded, one symbol updated, the result tested as it is and with one symbol changed, the new message recovered
+from k nodes in some order, and a node rebuilt from them. The data are pseudo-random and the same at each run.
 """
-import sys
 from balanced import encode, read, update
 from data import fill
 
 LANES = 2
 
 
+def accepted(record):
+    return not isinstance(read(record), int)
+
+
 def records():
-    for p in (3, 5, 7, 11, 13):
-        for root in range(1, p):
-            for n in range(2, p):
-                for k in range(1, n + 1):
-                    yield [1, p, root, n, k]
-    for root, n in ((214, 3), (10, 5)):
-        for k in range(1, n + 1):
-            yield [2, root, n, k]
+    """Every accepted record with n up to 12 over some fields, with the smallest root of its order."""
+    for start in ([1, 3], [1, 5], [1, 7], [1, 11], [1, 13], [2]):
+        for n in range(2, 13):
+            roots = [a for a in range(256) if accepted([*start, a, n, 1])]
+            yield from ([*start, a, n, k] for a in roots[:1] for k in range(1, n + 1) if accepted([*start, a, n, k]))
 
 
 def words(name, record, **arguments):
@@ -36,12 +35,6 @@ def calls(record, seed):
     draw = iter(fill(seed + 1, 256, 64))
     message = fill(seed, size, k * LANES)
     _, shares = encode(record, LANES, message, n * LANES)
-    if sys.argv[1] == "recover_cases":
-        nodes = sorted(range(n), key=lambda j: (next(draw), j))[:k]
-        held = b"".join(shares[j * LANES:(j + 1) * LANES] for j in nodes)
-        yield words("recover", record, lanes=LANES, nodes=nodes, shares=held, room=k * LANES)
-        yield words("rebuild", record, lanes=LANES, nodes=nodes, shares=held, target=next(draw) % n, room=LANES)
-        return
     yield words("encode", record, lanes=LANES, message=message, room=n * LANES)
     symbol, lane = next(draw) % k, next(draw) % LANES
     old, new = message[symbol * LANES + lane], next(draw) % size
@@ -51,10 +44,13 @@ def calls(record, seed):
     damaged, at = bytearray(shares), next(draw) % (n * LANES)
     damaged[at] = (damaged[at] + 1) % size
     yield words("belongs", record, lanes=LANES, shares=bytes(damaged))
+    nodes = sorted(range(n), key=lambda j: (next(draw), j))[:k]
+    held = b"".join(shares[j * LANES:(j + 1) * LANES] for j in nodes)
+    yield words("recover", record, lanes=LANES, nodes=nodes, shares=held, room=k * LANES)
+    yield words("rebuild", record, lanes=LANES, nodes=nodes, shares=held, target=next(draw) % n, room=LANES)
 
 
-print("# Every accepted record of the fields of 3, 5, 7, 11 and 13 elements, and of 256 with n = 3 and 5.")
+print("# Every n up to 12 and every even k, over the fields of 3, 5, 7, 11, 13 and 256 elements.")
 for record in records():
-    if not isinstance(read(record), int):
-        for line in calls(record, sum(b * 31**i for i, b in enumerate(record))):
-            print(line)
+    for line in calls(record, sum(b * 31**i for i, b in enumerate(record))):
+        print(line)

@@ -13,6 +13,8 @@ use test_tools::text;
 mod belonging;
 mod encoding;
 mod plans;
+mod rebuilding;
+mod recovering;
 mod updating;
 
 // The call by its name; `at` is the place of the first number after the record and the word that follows it.
@@ -29,6 +31,14 @@ fn call(rec: &[u8], line: &[u8], at: usize)
     }
     if starts(line, b"update") {
         updating::update(rec, line, at);
+        return;
+    }
+    if starts(line, b"recover") {
+        recovering::recover(rec, line, at);
+        return;
+    }
+    if starts(line, b"rebuild") {
+        rebuilding::rebuild(rec, line, at);
         return;
     }
     if starts(line, b"belongs") {

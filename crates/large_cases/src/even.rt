@@ -9,6 +9,7 @@ pub fn even() {
         k += 1;
         even_at(k);
     }
+    text(b"\n");
 }
 
 fn even_at(k: u8) {

@@ -1,10 +1,10 @@
 // Large blocks, by checksums, and which k are even with n = 255. Blocks over the field of 256 elements and over that of 251: with the largest n and
-// 1,024 lanes, with the largest number of lanes, and with one lane too many.
+// 1,024 lanes, which are recovered from k of their nodes too; with the largest number of lanes; and with one lane too many.
 ghost use mathlib.Core.Path.{_≡_};
 ghost use lib.ListN.{length};
-use test_tools::text;
 
 mod even;
+mod restore;
 mod run;
 
 // Room for every message.
@@ -59,8 +59,9 @@ fn largest_lanes(message: &mut [u8], shares: &mut [u8]) {
 fn main() {
     even::even();
     let mut message = messages();
-    let mut out = shares();
-    largest_n(&mut message, &mut out);
-    largest_lanes(&mut message, &mut out);
-    text(b"\n");
+    let mut all = shares();
+    let mut out = messages();
+    largest_n(&mut message, &mut all);
+    largest_lanes(&mut message, &mut all);
+    restore::blocks(&mut message, &mut all, &mut out);
 }

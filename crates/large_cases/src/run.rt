@@ -2,8 +2,11 @@
 use blocks::Outcome;
 use blocks::Test;
 use blocks::Update;
+use test_tools::byte_at;
 use test_tools::fill;
 use test_tools::list;
+use test_tools::place;
+use test_tools::put;
 use test_tools::refused;
 use test_tools::sum;
 use test_tools::symbol;
@@ -40,27 +43,30 @@ fn run(rec: &[u8], top: u8, lanes: u32, message: &mut [u8], shares: &mut [u8]) {
 
 fn head(rec: &[u8], top: u8, lanes: u32, message: &mut [u8]) {
     fill(1, top, message);
-    list(b"\nblock", rec);
+    list(b"block", rec);
     value(b" lanes", lanes as u64);
     value(b" message sum", sum(message));
+    text(b"\n");
 }
 
 fn encode(rec: &[u8], lanes: u32, message: &[u8], shares: &mut [u8]) {
     let before = sum(shares);
-    text(b"\nencode");
+    text(b"encode");
     match balanced::encode_block(rec, lanes, message, shares) {
         Outcome::Done => value(b": done, sum", sum(shares)),
         Outcome::Refused(number) => refused(number, sum(shares) == before),
     }
+    text(b"\n");
 }
 
 fn belongs(rec: &[u8], lanes: u32, shares: &[u8]) {
-    text(b"\nbelongs");
+    text(b"belongs");
     match balanced::block_belongs(rec, lanes, shares) {
         Test::Yes => text(b": yes"),
         Test::No(lane) => value(b": no, lane", lane as u64),
         Test::Refused(number) => value(b": refused", number as u64),
     }
+    text(b"\n");
 }
 
 // Changes in the first lane, in the last and in another; the last one changes nothing.
@@ -86,7 +92,7 @@ fn update(
     let old = byte_at(message, at);
     let new = symbol(old as u64 + step as u64, top);
     put(message, at, new);
-    value(b"\nupdate symbol", which as u64);
+    value(b"update symbol", which as u64);
     value(b" lane", lane as u64);
     value(b" old", old as u64);
     value(b" new", new as u64);
@@ -95,6 +101,7 @@ fn update(
         Update::Altered(count) => altered(count, shares),
         Update::Refused(number) => refused(number, sum(shares) == before),
     }
+    text(b"\n");
 }
 
 fn altered(count: u32, shares: &[u8]) {
@@ -115,8 +122,9 @@ fn spoil(rec: &[u8], lanes: u32, node: u8, lane: u32, shares: &mut [u8]) {
     let at = place(node, lanes, lane);
     let old = byte_at(shares, at);
     put(shares, at, other(old));
-    value(b"\nspoiled node", node as u64);
+    value(b"spoiled node", node as u64);
     value(b" lane", lane as u64);
+    text(b"\n");
     belongs(rec, lanes, shares);
 }
 
@@ -125,24 +133,6 @@ fn last(lanes: u32) -> u32 {
     if lanes == 0 { 0 } else { lanes - 1 }
 }
 
-// Where a row's lane stands in a buffer.
-fn place(row: u8, lanes: u32, lane: u32) -> usize {
-    row as usize * lanes as usize + lane as usize
-}
-
-fn byte_at(s: &[u8], at: usize) -> u8 {
-    if at < s.len() {
-        return s[at];
-    }
-    0
-}
-
-fn put(s: &mut [u8], at: usize, x: u8) {
-    if at < s.len() {
-        s[at] = x;
-    }
-}
-
 fn other(x: u8) -> u8 {
-    if x == 0 { 1 } else { 0 }
+    if x == 0 { 2 } else { 0 }
 }

@@ -1,5 +1,6 @@
 // What the test programs share: calls in words, numbers on standard output, test data, checksums.
 mod data;
+mod places;
 mod print;
 mod words;
 
@@ -7,6 +8,9 @@ pub use data::fill;
 pub use data::sum;
 pub use data::symbol;
 pub use data::untouched;
+pub use places::byte_at;
+pub use places::place;
+pub use places::put;
 pub use print::block;
 pub use print::bytes;
 pub use print::list;

@@ -5,10 +5,10 @@ use Rattle.large_cases.proofs.even.even.Statement.{statement}
 use Rattle.large_cases.proofs.even.even.Tie as tie
 
 abbrev Inv-loop : tie.InvT-loop
-Inv-loop k₀ k = Unit {0}
+Inv-loop k₀ t3 k = Unit {0}
 
 abbrev μ-loop : tie.MeasureT-loop
-μ-loop k₀ k = 255 - k
+μ-loop k₀ t3 k = 255 - k
 
 slice-aggregate-text : tie.Need-slice-aggregate-text Inv-loop μ-loop
 slice-aggregate-text c = search needs
@@ -31,6 +31,12 @@ loop-less c = search needs
 loop-again : tie.Need-loop-again Inv-loop μ-loop
 loop-again c = search needs
 
+slice-aggregate-text-2 : tie.Need-slice-aggregate-text-2 Inv-loop μ-loop
+slice-aggregate-text-2 c = search needs
+
+text-requires-2 : tie.Need-text-requires-2 Inv-loop μ-loop
+text-requires-2 c κs = search needs
+
 returns : tie.Need-returns Inv-loop μ-loop
 returns c = search needs
 
@@ -47,4 +53,6 @@ even-spec =
     even-at-requires
     loop-less
     loop-again
+    slice-aggregate-text-2
+    text-requires-2
     returns)

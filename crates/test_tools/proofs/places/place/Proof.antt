@@ -3,8 +3,8 @@ use Prim.Native.Nat.{ℕ, _*_, _≤_}
 use native.Mathlib.Nat.{mul-le-mul}
 use native.Mathlib.Omega.{arith}
 use borrow.Author.Needs.{needs}
-use Rattle.large_cases.proofs.run.place.Statement.{statement}
-use Rattle.large_cases.proofs.run.place.Tie as tie
+use Rattle.test_tools.proofs.places.place.Statement.{statement}
+use Rattle.test_tools.proofs.places.place.Tie as tie
 
 product : (a b : ℕ) → a ≤ 255 → b ≤ 4294967295 → a * b ≤ 1095216660225
 product a b p q = mul-le-mul {n₂ = 255} {m₂ = 4294967295} p q
