@@ -12,9 +12,11 @@ pub mod Words
 pub mod Changes
 pub mod Costs
 pub mod SchemeOf
+pub mod PlainLayout
 pub mod Faults
 pub mod Accepts
 pub mod Claims
+pub mod Comparison
 pub mod Notebook
 -- The same definitions as document 03 has them.
 pub mod RecordsAgreement

@@ -32,7 +32,7 @@ use Rattle.generator.proofs.Changes.{map-set, altered-entry}
 use Rattle.generator.proofs.Costs.{row-count, depends, whole}
 
 -- functions that agree on the numbers of a list
-map-isIn : {A : Type 0} (f g : ℕ → A) (js : List ℕ) → ((j : ℕ) → isIn j js ≡ true → f j ≡ g j) → map f js ≡ map g js
+pub map-isIn : {A : Type 0} (f g : ℕ → A) (js : List ℕ) → ((j : ℕ) → isIn j js ≡ true → f j ≡ g j) → map f js ≡ map g js
 unfolding isIn
 map-isIn f g [] e = refl
 map-isIn f g (j ∷ js) e = ap₂ _∷_ (e j (rw (eq-eqb j j refl))) (map-isIn f g js (λ i m. e i (rw m (or-true (eqb i j)))))
@@ -55,10 +55,10 @@ module _ (h : Header) (s : Sound h) where
   holds-is m j = refl
 
   -- the numbers of a message
-  numbersOf : Message (Symbol (size h)) (h .k) → List ℕ
+  unfoldable pub numbersOf : Message (Symbol (size h)) (h .k) → List ℕ
   numbersOf m = numbers (size h) (symbols (h .k) m)
 
-  is-message : (m : Message (Symbol (size h)) (h .k)) → isMessage h (numbersOf m) ≡ true
+  pub is-message : (m : Message (Symbol (size h)) (h .k)) → isMessage h (numbersOf m) ≡ true
   unfolding numbersOf
   is-message m = numbers-message h s (symbols (h .k) m) (length-symbols (h .k) m)
 
@@ -89,13 +89,13 @@ module _ (h : Header) (s : Sound h) where
     )
 
   -- the field has two symbols
-  zero-symbol : Symbol (size h)
+  pub zero-symbol : Symbol (size h)
   zero-symbol = symbol (size h) 0 (size-pos (prime h) (s .field))
 
-  one-symbol : Symbol (size h)
+  pub one-symbol : Symbol (size h)
   one-symbol = symbol (size h) 1 (one-below (prime h) (s .field))
 
-  two-symbols : zero-symbol ≢ one-symbol
+  pub two-symbols : zero-symbol ≢ one-symbol
   unfolding zero-symbol one-symbol
   two-symbols e = let z : _≡_ {A = ℕ} 0 1 = ap (λ (a : Symbol (size h)). a .0) e in omega arith
 

@@ -4,3 +4,4 @@ pub mod Shifts
 pub mod Generator
 pub mod Codewords
 pub mod Claims
+pub mod Comparison

@@ -1,4 +1,5 @@
--- What a scheme is, and what it costs.
+-- What a scheme is, what it costs, and the plain layout.
 pub mod Messages
 pub mod Schemes
 pub mod Costs
+pub mod Layouts
