@@ -12,10 +12,10 @@ use Rattle.lists.specs.Counting.{differ}
 use Rattle.lists.proofs.Cases.{by-test}
 use Rattle.scheme.proofs.Bounds.{price}
 use Rattle.generator.specs.declared.Header.{Header}
-use Rattle.generator.specs.Records.{headerOf, recordFault, judged, recordOf, size, weight, Sound}
+use Rattle.generator.specs.Records.{headerOf, recordFault, size, weight, Sound}
 use Rattle.generator.specs.Codewords.{encoding}
 use Rattle.generator.specs.Claims.{isMessage}
-use Rattle.generator.proofs.Accepts.{accepted-sound}
+use Rattle.generator.proofs.Accepts.{faultless-sound}
 use Rattle.generator.proofs.Changes.{alters}
 use Rattle.generator.proofs.Claims.{ours}
 use Rattle.generator.proofs.SchemeOf.{our-scheme, scheme-least}
@@ -24,11 +24,6 @@ use Rattle.blocks.proofs.Messages.{some-buffer, one-buffer, gathered-message}
 use Rattle.blocks.proofs.Updates.{differ-same, updated-encodes, updated-others, updated-count}
 use Rattle.belongs.proofs.Words.{passes-words}
 use Rattle.balanced.specs.Demands.{Recovering, Updating, Demands}
-
--- the header of a record that no number turns away is sound
-sound-of : (rec : List ℕ) → recordFault rec ≡ 0 → Sound (headerOf rec)
-unfolding recordOf judged
-sound-of rec none = accepted-sound rec (headerOf rec) (ap (λ (f : ℕ). judged f (headerOf rec)) none)
 
 recovering : (h : Header) → Sound h → Recovering h
 recovering h s =
@@ -60,9 +55,9 @@ pub demands : Demands
 unfolding our-scheme
 demands =
     record {
-      recovering = λ rec none. recovering (headerOf rec) (sound-of rec none);
+      recovering = λ rec none. recovering (headerOf rec) (faultless-sound rec none);
       price = λ k n S C s. price s;
-      ours = λ rec none. record { code = ours (headerOf rec) (sound-of rec none); scheme = our-scheme (headerOf rec) (sound-of rec none) };
-      least = λ rec none S C t x y two. scheme-least (headerOf rec) (sound-of rec none) t x y two;
-      updating = λ rec none. updating (headerOf rec) (sound-of rec none);
+      ours = λ rec none. record { code = ours (headerOf rec) (faultless-sound rec none); scheme = our-scheme (headerOf rec) (faultless-sound rec none) };
+      least = λ rec none S C t x y two. scheme-least (headerOf rec) (faultless-sound rec none) t x y two;
+      updating = λ rec none. updating (headerOf rec) (faultless-sound rec none);
     }

@@ -86,3 +86,8 @@ accepted-sound rec h e =
     let (three, rest) = first-zero (when (fieldBad rec) 3) (headerFault (headerOf rec)) after-two in
     let (good, small) = field-usable rec (when-zero (fieldBad rec) 2 three) in
     subst Sound same (header-sound (headerOf rec) good small rest)
+
+-- so the header of a record that no number turns away is sound
+pub faultless-sound : (rec : List ℕ) → recordFault rec ≡ 0 → Sound (headerOf rec)
+unfolding recordOf judged
+faultless-sound rec none = accepted-sound rec (headerOf rec) (rw none)

@@ -13,7 +13,7 @@ use Rattle.field.specs.Kinds.{modulus}
 use Rattle.field.proofs.Agreement.{rest, sizeOf, isPrime, orderOf, rest-agrees, sizeOf-agrees, isPrime-agrees, orderOf-agrees}
 use Rattle.generator.specs.declared.Header as Own
 use Rattle.generator.specs.Records as Ours
-use Rattle.generator.proofs.Accepts.{accepted-sound}
+use Rattle.generator.proofs.Accepts.{faultless-sound}
 
 -- document 03's definitions
 pub record Header : Type 0 where
@@ -67,5 +67,4 @@ recordFault-agrees s = rw (headerOf-agrees s, field-agrees s, root-agrees (Ours.
 
 -- its domain: what it accepts has a sound header
 pub given-sound : (s : List ℕ) → recordFault s ≡ 0 → Ours.Sound (Ours.headerOf s)
-unfolding Ours.recordOf Ours.judged
-given-sound s e = accepted-sound s (Ours.headerOf s) (rw (sym (recordFault-agrees s) ∙ e))
+given-sound s e = faultless-sound s (sym (recordFault-agrees s) ∙ e)
