@@ -1,11 +1,17 @@
 #!/usr/bin/env bash
-# make_sheets.sh [FOLDER]: writes what the programs `sheet` and `sheet_cases` must print, by the Python reference, from the
-# records in records.txt, to FOLDER/PROGRAM/stdout. FOLDER is crates/ unless it is given.
+# make_sheets.sh [FOLDER]: writes the records that the program `sheet_cases` reads (FOLDER/sheet_cases/stdin: those in records.txt), and
+# what the programs `sheet`, `compare` and `sheet_cases` must print (FOLDER/PROGRAM/stdout), by the Python reference. FOLDER is crates/
+# unless it is given.
 set -eu
 here=$(cd "$(dirname "$0")" && pwd)
 crates=${1:-$here/../../crates}
 python3 "$here/sheet.py" "1 7 3 6 4" > "$crates/sheet/stdout"
-while IFS= read -r record; do
-    echo "record${record:+ }$record"
-    python3 "$here/sheet.py" "$record"
+python3 "$here/compare.py" "1 7 3 6 4" > "$crates/compare/stdout"
+cp "$here/records.txt" "$crates/sheet_cases/stdin"
+while IFS= read -r line; do
+    echo "$line"
+    if [[ $line == record* ]]; then
+        python3 "$here/sheet.py" "${line#record}"
+        python3 "$here/compare.py" "${line#record}"
+    fi
 done < "$here/records.txt" > "$crates/sheet_cases/stdout"

@@ -76,3 +76,8 @@ pub const MAX_LANES: u32 = 4096;
 
 /// The largest number of nodes of a plan.
 pub const MAX_NODES: usize = 255;
+
+// The programs of the manual are tested like those of this crate's pages.
+#[cfg(doctest)]
+#[doc = include_str!("../../../docs/MANUAL.md")]
+mod manual {}

@@ -11,7 +11,7 @@ use Rattle.generator.specs.declared.Header.{Header}
 use Rattle.generator.specs.declared.Record.{Record}
 use Rattle.generator.specs.declared.Record.the-variants.{Holds, Meets}
 use Rattle.generator.specs.Records.{recordOf, weight, Sound}
-use Rattle.generator.specs.Comparison.{ourReads, plainGreatest, Compared, ComparedRecord}
+use Rattle.generator.specs.Comparison.{balancedReads, plainGreatest, Compared, ComparedRecord}
 use Rattle.generator.proofs.Accepts.{accepted-sound}
 use Rattle.generator.proofs.Costs.{whole}
 use Rattle.generator.proofs.SchemeOf.{our-scheme, zero-symbol, one-symbol, two-symbols}
@@ -19,7 +19,7 @@ use Rattle.generator.proofs.PlainLayout.{plain-scheme}
 
 -- the comparison holds of every sound header
 comparison : (h : Header) → Sound h → Compared h
-unfolding weight plainGreatest
+unfolding weight balancedReads plainGreatest
 comparison h s =
     let ours = our-scheme h s in
     let plain = plain-scheme h s in
@@ -27,7 +27,7 @@ comparison h s =
     let two : _≢_ {A = ℕ} 0 1 = λ e. omega arith in
     record {
       ours = ours;
-      our-figures = tight-figures (ours .scheme) nodes (ourReads h) (whole h s) (ours .tight);
+      our-figures = tight-figures (ours .scheme) nodes (balancedReads h) (whole h s) (ours .tight);
       plain = plain;
       plain-figures = plain-figures (plain .scheme) (s .some) (s .fits) (zero-symbol h s) (one-symbol h s) (two-symbols h s) (plain .plain);
       every-plain = λ t is. plain-figures t (s .some) (s .fits) 0 1 two is;

@@ -23,8 +23,8 @@ pub record PlainScheme (h : Header) : Type 0 where
   pub plain : Plain scheme
 
 -- b = k·d / n, the number of symbols that each node of the plan depends on
-abbrev pub ourReads : Header → ℕ
-ourReads h = h .k * weight h / h .n
+unfoldable pub balancedReads : Header → ℕ
+balancedReads h = h .k * weight h / h .n
 
 -- the greatest number of symbols that a node of a plain layout depends on
 unfoldable pub plainGreatest : Header → ℕ
@@ -34,14 +34,14 @@ plainGreatest h = plainReads (h .k) (h .n)
 pub record Compared (h : Header) : Type 0 where
   -- the scheme of the plan: each change alters exactly d nodes, each node depends on exactly b symbols
   pub ours : OurScheme h
-  pub our-figures : HasFigures (ours .scheme) (weight h) (ourReads h) (ourReads h)
+  pub our-figures : HasFigures (ours .scheme) (weight h) (balancedReads h) (balancedReads h)
   -- the plain layout of the same code: d nodes too, and from 1 to `plainGreatest` symbols
   pub plain : PlainScheme h
   pub plain-figures : HasFigures (plain .scheme) (weight h) 1 (plainGreatest h)
   -- every plain layout of numbers has these figures
   pub every-plain : (s : Scheme (h .k) (h .n) ℕ (λ j. ℕ)) → Plain s → HasFigures s (weight h) 1 (plainGreatest h)
   -- no scheme of numbers alters fewer nodes, or has a lesser greatest number of symbols
-  pub bound : (s : Scheme (h .k) (h .n) ℕ (λ j. ℕ)) (w l g : ℕ) → HasFigures s w l g → (weight h ≤ w) × (ourReads h ≤ g)
+  pub bound : (s : Scheme (h .k) (h .n) ℕ (λ j. ℕ)) (w l g : ℕ) → HasFigures s w l g → (weight h ≤ w) × (balancedReads h ≤ g)
 
 -- the same of a record that was read
 unfoldable pub ComparedRecord : Record → Type 0

@@ -1,85 +1,47 @@
-// Prints the sheets of a table of records, each after a line with the record's bytes.
-use libc::STDOUT_FILENO;
-
-fn print_byte(x: u8) {
-    io::write_all(STDOUT_FILENO, b" ");
-    io::print_decimal(STDOUT_FILENO, x as u64);
-}
-
-fn print_bytes(rec: &[u8]) {
-    let mut i = 0;
-    while i < rec.len() {
-        print_byte(rec[i]);
-        i += 1;
-    }
-}
-
-fn print_record(rec: &[u8]) {
-    io::write_all(STDOUT_FILENO, b"record");
-    print_bytes(rec);
-    io::write_all(STDOUT_FILENO, b"\n");
-}
+// Reads records in words, one a line ("record 1 7 3 6 4"), and writes each line with the record's sheet and comparison. A line
+// that is no record, such as a comment, is written as it is.
+use libc::STDIN_FILENO;
+use test_tools::after_word;
+use test_tools::line_end;
+use test_tools::numbers;
+use test_tools::part;
+use test_tools::starts;
+use test_tools::text;
 
 fn print_sheet(rec: &[u8]) {
     let mut page = sheet_text::page();
     let end = sheet_text::sheet(rec, &mut page);
-    io::write_all(STDOUT_FILENO, &page[..end]);
+    text(&page[..end]);
 }
 
-fn case(rec: &[u8]) {
-    print_record(rec);
-    print_sheet(rec);
+fn print_comparison(rec: &[u8]) {
+    let mut page = compare_text::page();
+    let end = compare_text::comparison(rec, &mut page);
+    text(&page[..end]);
 }
 
-// Plans: the samples, both ends of k, the largest prime field and the field of 256 elements.
-fn plans() {
-    case(&[1, 7, 3, 6, 4]);
-    case(&[1, 7, 3, 6, 3]);
-    case(&[1, 7, 3, 6, 1]);
-    case(&[1, 7, 3, 6, 6]);
-    case(&[1, 251, 20, 5, 5]);
-    case(&[2, 214, 3, 1]);
-    case(&[2, 214, 3, 3]);
-    case(&[2, 2, 255, 120]);
+fn answer(line: &[u8]) {
+    text(line);
+    text(b"\n");
+    if line.len() == 0 || !starts(line, b"record") {
+        return;
+    }
+    let rec = numbers(line, after_word(line, 0));
+    print_sheet(part(&rec.bytes, rec.count));
+    print_comparison(part(&rec.bytes, rec.count));
 }
 
-// Numbers 1 and 2: no kind, another kind, a body that is too short or too long.
-fn lengths() {
-    case(b"");
-    case(&[0, 7, 3, 6, 4]);
-    case(&[3, 7, 3, 6, 4]);
-    case(&[1]);
-    case(&[1, 7, 3, 6]);
-    case(&[1, 7, 3, 6, 4, 0]);
-    case(&[2, 214, 3]);
-    case(&[2, 214, 3, 3, 0, 0, 0]);
-}
-
-// Numbers 3 and 4: no prime from 3 to 251; n below 2, k zero, k above n.
-fn sizes() {
-    case(&[1, 2, 1, 2, 1]);
-    case(&[1, 9, 2, 6, 3]);
-    case(&[1, 253, 2, 6, 3]);
-    case(&[1, 7, 1, 1, 1]);
-    case(&[1, 7, 3, 6, 0]);
-    case(&[1, 7, 3, 6, 7]);
-    case(&[2, 1, 0, 0]);
-}
-
-// Numbers 5 and 6: a root of another order, no symbol, zero; n does not divide k·d.
-fn roots() {
-    case(&[1, 7, 2, 6, 3]);
-    case(&[1, 7, 7, 6, 3]);
-    case(&[1, 7, 0, 6, 3]);
-    case(&[2, 1, 3, 3]);
-    case(&[1, 7, 3, 6, 2]);
-    case(&[1, 7, 3, 6, 5]);
-    case(&[2, 2, 255, 2]);
+fn answers(input: &[u8]) {
+    let mut at = 0;
+    while at < input.len() {
+        let end = line_end(input, at);
+        answer(&input[at..end]);
+        at = end + 1;
+    }
 }
 
 fn main() {
-    plans();
-    lengths();
-    sizes();
-    roots();
+    let mut input = io::buffer();
+    let size = io::read_full(STDIN_FILENO, &mut input);
+    answers(&input[..size]);
 }

@@ -14,7 +14,8 @@ use Rattle.generator.specs.Records.{headerOf, weight, kindBad, bodyBad, fieldBa
 use Rattle.generator.specs.Shifts.{gcdFrom, gcd, shiftsFrom, shiftsOf}
 use Rattle.generator.specs.Generator.{baseFrom, baseAt, entryAt, baseWord}
 use Rattle.plan.specs.Plans.{planFor, entryIn}
-use Rattle.sheet_text.specs.Text.{ascii, decimal, field, fields, line, headLine, rowLine, sheetOf}
+use Rattle.text.specs.Text.{ascii, decimal, field, fields, line}
+use Rattle.sheet_text.specs.Sheet.{headLine, rowLine, sheetOf}
 
 -- a record and the text of its sheet
 pub data Case : Type 0 where

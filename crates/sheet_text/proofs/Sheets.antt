@@ -16,7 +16,8 @@ use Rattle.generator.specs.Generator.{entry}
 use Rattle.plan.specs.Plans.{planFor, entryIn}
 use Rattle.plan.proofs.Plans.{shift-in, entry-in}
 use Rattle.generator.proofs.Accepts.{accepted-sound}
-use Rattle.sheet_text.specs.Text.{ascii, line, headLine, rowLine, sheetOf, sheetFor}
+use Rattle.text.specs.Text.{ascii, line}
+use Rattle.sheet_text.specs.Sheet.{headLine, rowLine, sheetOf, sheetFor}
 
 -- rows that agree where they are asked give the same text
 rows-ext : (f g : ℕ → List ℕ) (i n : ℕ) → ((k : ℕ) → i ≤ k → k < i + n → f k ≡ g k) → rowsFrom f i n ≡ rowsFrom g i n

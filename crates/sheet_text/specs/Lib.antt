@@ -1,3 +1,2 @@
--- The text of a plan sheet, and what it is to put a text into a buffer.
-pub mod Text
-pub mod Writing
+-- The text of a plan sheet.
+pub mod Sheet

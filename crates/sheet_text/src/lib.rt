@@ -2,58 +2,22 @@
 use plan::Plan;
 use plan::build_plan;
 use plan::entry;
+use text::put_byte;
+use text::put_field;
+use text::put_line;
+use text::put_word;
 ghost use mathlib.Core.Path.{_≡_};
-ghost use mathlib.Core.List.{[], _∷_, _++_};
+ghost use mathlib.Core.List.{_++_};
 ghost use Prim.Native.Nat.{_+_, _≤_, _<_};
 ghost use lib.ListN.{length, take, drop};
 ghost use Rattle.lists.specs.Rows.{from};
 ghost use Rattle.generator.specs.Records.{recordOf};
 ghost use Rattle.plan.specs.Plans.{entryIn};
-ghost use Rattle.sheet_text.specs.Text.{field, fields, headLine, rowLine, sheetOf, sheetFor};
-ghost use Rattle.sheet_text.specs.Writing.{Puts};
+ghost use Rattle.text.specs.Text.{fields};
+ghost use Rattle.text.specs.Writing.{Puts};
+ghost use Rattle.sheet_text.specs.Sheet.{headLine, rowLine, sheetOf, sheetFor};
 
 // Each `put_` function puts its text at a place of a buffer that has room for it, and gives the next place.
-
-fn put_byte(out: &mut [u8], at: usize, b: u8) -> usize
-    requires { ⌜ at < length (now out) ⌝ }
-    ensures { λ r. ⌜ Puts (now (out .entry)) (now (out .exit)) at r (b ∷ []) ⌝ }
-{
-    out[at] = b;
-    at + 1
-}
-
-fn put_word(out: &mut [u8], at: usize, word: &[u8]) -> usize
-    requires { ⌜ at + length (now word) ≤ length (now out) ⌝ }
-    ensures { λ r. ⌜ Puts (now (out .entry)) (now (out .exit)) at r (now (word .entry)) ⌝ }
-{
-    let mut place = at;
-    let mut i = 0;
-    while i < word.len() {
-        out[place] = word[i];
-        place += 1;
-        i += 1;
-    }
-    place
-}
-
-// A space and a number in base ten.
-fn put_field(out: &mut [u8], at: usize, x: u8) -> usize
-    requires { ⌜ at + 4 ≤ length (now out) ⌝ }
-    ensures { λ r. ⌜ Puts (now (out .entry)) (now (out .exit)) at r (field x) ⌝ }
-    ensures { λ r. ⌜ r ≤ at + 4 ⌝ }
-{
-    let first = put_byte(out, at, b' ');
-    if x < 10 {
-        return put_byte(out, first, b'0' + x);
-    }
-    if x < 100 {
-        let second = put_byte(out, first, b'0' + x / 10);
-        return put_byte(out, second, b'0' + x % 10);
-    }
-    let second = put_byte(out, first, b'0' + x / 100);
-    let third = put_byte(out, second, b'0' + x / 10 % 10);
-    put_byte(out, third, b'0' + x % 10)
-}
 
 // The first line.
 fn put_head(out: &mut [u8], at: usize, plan: Plan) -> usize
@@ -63,16 +27,9 @@ fn put_head(out: &mut [u8], at: usize, plan: Plan) -> usize
 {
     let number = plan.number;
     if number != 0 {
-        let named = put_word(out, at, b"refused");
-        let numbered = put_field(out, named, number);
-        return put_byte(out, numbered, b'\n');
+        return put_line(out, at, b"refused", &[number]);
     }
-    let named = put_word(out, at, b"plan");
-    let after_n = put_field(out, named, plan.n);
-    let after_k = put_field(out, after_n, plan.k);
-    let after_d = put_field(out, after_k, plan.d);
-    let after_b = put_field(out, after_d, plan.b);
-    put_byte(out, after_b, b'\n')
+    put_line(out, at, b"plan", &[plan.n, plan.k, plan.d, plan.b])
 }
 
 // The entries of row r, and the line feed.

@@ -8,8 +8,8 @@ use Rattle.lists.specs.Rows.{from}
 use Rattle.lists.proofs.Rows.{from-next, from-end}
 use Rattle.lists.proofs.Fill.{Fills}
 use Rattle.plan.specs.Plans.{entryIn}
-use Rattle.sheet_text.specs.Text.{fields}
-use Rattle.sheet_text.proofs.Writing.{puts-start, puts-next, puts-done}
+use Rattle.text.specs.Text.{fields}
+use Rattle.text.proofs.Writing.{puts-start, puts-next, puts-done}
 use Rattle.sheet_text.proofs.put_entries.Statement.{statement}
 use Rattle.sheet_text.proofs.put_entries.Tie as tie
 

@@ -1,8 +1,9 @@
 -- `put_row` meets its contract: a word, two fields and the entries, one after the other.
 use native.Mathlib.Omega.{arith}
 use borrow.Author.Needs.{needs}
-use Rattle.sheet_text.specs.Text.{ascii, fields, line, rowLine}
-use Rattle.sheet_text.proofs.Writing.{puts-then}
+use Rattle.text.specs.Text.{ascii, fields, line}
+use Rattle.sheet_text.specs.Sheet.{rowLine}
+use Rattle.text.proofs.Writing.{puts-then}
 use Rattle.sheet_text.proofs.put_row.Statement.{statement}
 use Rattle.sheet_text.proofs.put_row.Tie as tie
 

@@ -2,8 +2,8 @@
 use mathlib.Core.Path.{_≡_, ap, _∙_}
 use borrow.Author.Needs.{needs}
 use Rattle.generator.specs.Records.{recordOf}
-use Rattle.sheet_text.specs.Text.{sheetOf, sheetFor}
-use Rattle.sheet_text.proofs.Writing.{puts-front, puts-fits}
+use Rattle.sheet_text.specs.Sheet.{sheetOf, sheetFor}
+use Rattle.text.proofs.Writing.{puts-front}
 use Rattle.sheet_text.proofs.Sheets.{sheet-is}
 use Rattle.sheet_text.proofs.sheet.Statement.{statement}
 use Rattle.sheet_text.proofs.sheet.Tie as tie
@@ -18,9 +18,7 @@ returns : tie.Need-returns
 returns c =
     let rec = c .before .before .before .before .args .rec .now in
     let text : sheetOf (c .before .build-plan .result) ≡ sheetFor (recordOf rec) = ap sheetOf (c .before .build-plan .ensures .plan) ∙ sheet-is rec in
-    let puts = rw text at (c .put-sheet .ensures) in
-    let (front, size) = puts-front puts in
-    (front, (size, puts-fits puts))
+    puts-front (rw text at (c .put-sheet .ensures))
 
 pub sheet-spec : {M : Type 1} → statement M
 sheet-spec = tie.close (tie.spec build-plan-requires put-sheet-requires returns)

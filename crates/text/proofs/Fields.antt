@@ -4,7 +4,7 @@ use mathlib.Core.List.{[], _∷_}
 use Prim.Native.Nat.{ℕ, _/_, _%_, _≤_, _<_}
 use native.Mathlib.Omega.{arith}
 use borrow.Author.Tests.{lt-ltb, le-ltb}
-use Rattle.sheet_text.specs.Text.{digit, decimal, field}
+use Rattle.text.specs.Text.{digit, decimal, field}
 
 -- one, two or three digits
 pub one-digit : (x : ℕ) → x < 10 → field x ≡ 32 ∷ digit x ∷ []

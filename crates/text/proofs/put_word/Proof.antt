@@ -6,9 +6,9 @@ use native.Mathlib.Omega.{arith}
 use lib.ListN.{length, take, drop, drop-of-length-le}
 use Rattle.lists.proofs.Front.{drop-next}
 use Rattle.lists.proofs.Fill.{Fills, fills-put}
-use Rattle.sheet_text.proofs.Writing.{puts-start, puts-done}
-use Rattle.sheet_text.proofs.put_word.Statement.{statement}
-use Rattle.sheet_text.proofs.put_word.Tie as tie
+use Rattle.text.proofs.Writing.{puts-start, puts-done}
+use Rattle.text.proofs.put_word.Statement.{statement}
+use Rattle.text.proofs.put_word.Tie as tie
 
 abbrev Inv-loop : tie.InvT-loop
 Inv-loop out₀ at word place₀ i₀ out place i = (i ≤ length word) × (place ≡ at + i) × Fills out₀ out place (drop i word) (take at out₀ ++ word)

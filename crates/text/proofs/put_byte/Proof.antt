@@ -3,9 +3,9 @@ use native.Mathlib.Omega.{arith}
 use borrow.Author.Needs.{needs}
 use mathlib.Core.List.{[], _∷_}
 use Rattle.lists.proofs.Fill.{fills-put}
-use Rattle.sheet_text.proofs.Writing.{puts-start, puts-done}
-use Rattle.sheet_text.proofs.put_byte.Statement.{statement}
-use Rattle.sheet_text.proofs.put_byte.Tie as tie
+use Rattle.text.proofs.Writing.{puts-start, puts-done}
+use Rattle.text.proofs.put_byte.Statement.{statement}
+use Rattle.text.proofs.put_byte.Tie as tie
 
 slice-write-out : tie.Need-slice-write-out
 slice-write-out c = search needs

@@ -6,7 +6,7 @@ use native.Mathlib.Omega.{arith}
 use lib.ListN.{length, take, drop, length-append, take-append-drop}
 use lib.Seq.{length-take-le, take-at, drop-at, drop-drop}
 use Rattle.lists.proofs.Fill.{Fills, fills-part, fills-done}
-use Rattle.sheet_text.specs.Writing.{written, Puts}
+use Rattle.text.specs.Writing.{written, Puts}
 
 -- two texts one after the other
 pub puts-then : {s t u : List ℕ} {at next last : ℕ} {xs ys : List ℕ} → Puts s t at next xs → Puts t u next last ys → at ≤ length s → Puts s u at last (xs ++ ys)
@@ -27,19 +27,14 @@ pub puts-none : (s : List ℕ) (at : ℕ) → Puts s s at at []
 unfolding written
 puts-none s at = record { place = omega arith; bytes = sym (take-append-drop at s) }
 
--- a text at the front: the buffer afterwards, and the length
-pub puts-front : {s t : List ℕ} {next : ℕ} {text : List ℕ} → Puts s t 0 next text → (t ≡ text ++ drop next s) × (next ≡ length text)
+-- a text at the front: the buffer afterwards, the length, and that it lies within the buffer
+pub puts-front : {s t : List ℕ} {next : ℕ} {text : List ℕ} → Puts s t 0 next text → (t ≡ text ++ drop next s) × ((next ≡ length text) × ((next ≤ length t) × (next ≡ length (take next t))))
 unfolding written
-puts-front {next} {text} p =
+puts-front {s} {t} {next} {text} p =
     let size : next ≡ length text = omega (arith, p .place) in
-    (rw size (p .bytes), size)
-
--- it lies within the buffer
-pub puts-fits : {s t : List ℕ} {next : ℕ} {text : List ℕ} → Puts s t 0 next text → (next ≤ length t) × (next ≡ length (take next t))
-puts-fits {s} {t} {next} {text} p =
-    let (front, size) = puts-front p in
+    let front : t ≡ text ++ drop next s = rw size (p .bytes) in
     let within : next ≤ length t = rw front (simp length-append (omega arith)) in
-    (within, sym (length-take-le next t within))
+    (front, (size, (within, sym (length-take-le next t within))))
 
 -- a text is to be put at a place
 pub puts-start : (start : List ℕ) (at : ℕ) (text : List ℕ) → at ≤ length start → Fills start start at text (take at start ++ text)

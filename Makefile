@@ -1,0 +1,33 @@
+# The commands that people expect. `make help` lists them.
+RECORD ?= 1 7 3 6 4
+# the record's bytes, as printf takes them
+BYTES = $(shell printf '\\%03o' $(RECORD))
+
+# proves a program, quietly unless that fails
+proved = @mkdir -p target && { rt check $(1) >target/$(1).log 2>&1 || { cat target/$(1).log; exit 1; }; }
+
+.PHONY: help build test sheet compare docs
+
+help: ## this list
+	@awk -F ':.*## ' '/^[a-z]+:.*## / { printf "make %-8s %s\n", $$1, $$2 }' Makefile
+
+build: ## prove and compile the static library for C and Rust, and build the Rust crate over it
+	bindings/rust/build.sh --release
+
+test: ## the gate: everything proved from nothing, wrong programs refused, outputs compared, C and Rust, documents
+	.ci/run
+
+sheet: ## the plan sheet of a record: make sheet RECORD='1 7 3 6 4'
+	$(call proved,sheet)
+	@printf '$(BYTES)' | target/bin/sheet
+
+compare: ## the costs of the plain layout and of ours: make compare RECORD='2 2 255 120'
+	$(call proved,compare)
+	@printf '$(BYTES)' | target/bin/compare
+
+docs: ## draw the pictures anew and check what the documents show and cite
+	rt check sheet compare cases
+	rt staticlib balanced_c
+	docs/make_pictures.py
+	tests/check_claims.py
+	tests/documents.py

@@ -1,0 +1,2 @@
+-- Comparisons of single records.
+pub mod Sample

@@ -1,0 +1,44 @@
+-- `put_balanced` meets its contract.
+use native.Mathlib.Omega.{arith}
+use borrow.Author.Needs.{needs}
+use Rattle.text.specs.Text.{ascii}
+use Rattle.compare_text.specs.Comparison.{balancedLine}
+use Rattle.compare_text.proofs.put_balanced.Statement.{statement}
+use Rattle.compare_text.proofs.put_balanced.Tie as tie
+
+weight-of-requires : tie.Need-weight-of-requires
+weight-of-requires c κs = search needs
+
+balanced-reads-requires : tie.Need-balanced-reads-requires
+balanced-reads-requires c κs = search needs
+
+slice-aggregate-put-cost : tie.Need-slice-aggregate-put-cost
+slice-aggregate-put-cost c = search needs
+
+slice-aggregate-put-cost-2 : tie.Need-slice-aggregate-put-cost-2
+slice-aggregate-put-cost-2 c = search needs
+
+put-cost-requires : tie.Need-put-cost-requires
+put-cost-requires c κs = search needs
+
+same-length : tie.Need-same-length
+same-length c = search needs
+
+returns : tie.Need-returns
+unfolding balancedLine ascii
+returns c =
+    let put = c .before .before in
+    let figure = put .before .before .before .before in
+    (rw (← figure .before .weight-of .ensures, ← figure .balanced-reads .ensures) (put .put-cost .ensures .0), omega arith)
+
+pub put-balanced-spec : {M : Type 1} → statement M
+put-balanced-spec =
+    tie.close
+    (tie.spec
+    weight-of-requires
+    balanced-reads-requires
+    slice-aggregate-put-cost
+    slice-aggregate-put-cost-2
+    put-cost-requires
+    same-length
+    returns)

@@ -1,0 +1,19 @@
+-- `weight_of` meets its contract.
+use mathlib.Core.Path.{refl}
+use borrow.Author.Needs.{needs}
+use Rattle.generator.specs.Records.{weight}
+use Rattle.compare_text.proofs.weight_of.Statement.{statement}
+use Rattle.compare_text.proofs.weight_of.Tie as tie
+
+sub-result : tie.Need-sub-result
+sub-result c = search needs
+
+add-result : tie.Need-add-result
+add-result c = search needs
+
+returns : tie.Need-returns
+unfolding weight
+returns c = refl
+
+pub weight-of-spec : {M : Type 1} → statement M
+weight-of-spec = tie.close (tie.spec sub-result add-result returns)

@@ -1,0 +1,2 @@
+-- The text of a comparison of layouts.
+pub mod Comparison

@@ -1,0 +1,120 @@
+// The comparison of the plain and the balanced layout as text.
+use generator::Header;
+use generator::Record;
+use records::read_record;
+use text::put_field;
+use text::put_line;
+use text::put_word;
+ghost use mathlib.Core.Path.{_≡_};
+ghost use mathlib.Core.List.{_++_};
+ghost use Prim.Native.Nat.{_+_, _*_, _≤_};
+ghost use lib.ListN.{length, take, drop};
+ghost use Rattle.generator.specs.Records.{weight, recordOf, Sound};
+ghost use Rattle.generator.specs.Comparison.{balancedReads, plainGreatest, ComparedRecord};
+ghost use Rattle.text.specs.Writing.{Puts};
+ghost use Rattle.compare_text.specs.Comparison.{costLine, plainLine, balancedLine, boundLine, comparisonFor};
+
+// d, the writes of a changed symbol.
+fn weight_of(h: Header) -> u8
+    requires { ⌜ Sound h ⌝ }
+    ensures { λ r. ⌜ r ≡ weight h ⌝ }
+{
+    let n = h.n;
+    let k = h.k;
+    n - k + 1
+}
+
+// The greatest reads of a node of the plain layout.
+fn plain_greatest(h: Header) -> u8
+    ensures { λ r. ⌜ r ≡ plainGreatest h ⌝ }
+{
+    let n = h.n;
+    let k = h.k;
+    if k < n { k } else { 1 }
+}
+
+// b, the reads of each node of the balanced layout.
+fn balanced_reads(h: Header) -> u8
+    requires { ⌜ Sound h ⌝ }
+    ensures { λ r. ⌜ r ≡ balancedReads h ⌝ }
+{
+    let n = h.n as u32;
+    let k = h.k as u32;
+    let d = weight_of(h) as u32;
+    (k * d / n) as u8
+}
+
+// Each `put_` function puts its text at a place of a buffer that has room for it, and gives the next place.
+
+// A line of costs: words and the writes, then the reads.
+fn put_cost(out: &mut [u8], at: usize, words: &[u8], writes: u8, reads: &[u8]) -> usize
+    requires { ⌜ at + length (now words) + 4 * length (now reads) + 11 ≤ length (now out) ⌝ }
+    ensures { λ r. ⌜ Puts (now (out .entry)) (now (out .exit)) at r (costLine (now (words .entry)) writes (now (reads .entry))) ⌝ }
+    ensures { λ r. ⌜ r ≤ at + length (now (words .entry)) + 4 * length (now (reads .entry)) + 11 ⌝ }
+{
+    let named = put_word(out, at, words);
+    let written = put_field(out, named, writes);
+    put_line(out, written, b" reads", reads)
+}
+
+fn put_plain(out: &mut [u8], at: usize, h: Header) -> usize
+    requires { ⌜ Sound h × (at + 31 ≤ length (now out)) ⌝ }
+    ensures { λ r. ⌜ Puts (now (out .entry)) (now (out .exit)) at r (plainLine h) ⌝ }
+    ensures { λ r. ⌜ r ≤ at + 31 ⌝ }
+{
+    let d = weight_of(h);
+    let greatest = plain_greatest(h);
+    put_cost(out, at, b"plain writes", d, &[1, greatest])
+}
+
+fn put_balanced(out: &mut [u8], at: usize, h: Header) -> usize
+    requires { ⌜ Sound h × (at + 34 ≤ length (now out)) ⌝ }
+    ensures { λ r. ⌜ Puts (now (out .entry)) (now (out .exit)) at r (balancedLine h) ⌝ }
+    ensures { λ r. ⌜ r ≤ at + 34 ⌝ }
+{
+    let d = weight_of(h);
+    let b = balanced_reads(h);
+    put_cost(out, at, b"balanced writes", d, &[b, b])
+}
+
+fn put_bound(out: &mut [u8], at: usize, h: Header) -> usize
+    requires { ⌜ Sound h × (at + 27 ≤ length (now out)) ⌝ }
+    ensures { λ r. ⌜ Puts (now (out .entry)) (now (out .exit)) at r (boundLine h) ⌝ }
+    ensures { λ r. ⌜ r ≤ at + 27 ⌝ }
+{
+    let d = weight_of(h);
+    let b = balanced_reads(h);
+    put_cost(out, at, b"bound writes", d, &[b])
+}
+
+// The comparison of what an accepted record holds: its lines have at most 16, 31, 34 and 27 bytes.
+fn put_comparison(out: &mut [u8], at: usize, h: Header) -> usize
+    requires { ⌜ Sound h × (at + 108 ≤ length (now out)) ⌝ }
+    ensures { λ r. ⌜ Puts (now (out .entry)) (now (out .exit)) at r (comparisonFor (Record.Holds h)) ⌝ }
+{
+    let headed = put_line(out, at, b"compare", &[h.n, h.k]);
+    let plain = put_plain(out, headed, h);
+    let balanced = put_balanced(out, plain, h);
+    put_bound(out, balanced, h)
+}
+
+// An empty page, with room for any comparison.
+pub fn page() -> [u8; 108]
+    ensures { λ r. ⌜ 108 ≡ length r ⌝ }
+{
+    [0; 108]
+}
+
+// Puts the comparison of a record at the front of a page, and gives its length. The figures are those of the layouts. `fits`
+// follows from `text` and `size`, and is what a caller needs to lend `&out[..r]`.
+pub fn comparison(rec: &[u8], out: &mut [u8; 108]) -> usize
+    ensures text { λ r. ⌜ now (out .exit) ≡ comparisonFor (recordOf (now (rec .entry))) ++ drop r (now (out .entry)) ⌝ }
+    ensures size { λ r. ⌜ r ≡ length (comparisonFor (recordOf (now (rec .entry)))) ⌝ }
+    ensures fits { λ r. ⌜ (r ≤ length (now (out .exit))) × (r ≡ length (take r (now (out .exit)))) ⌝ }
+    ensures figures { λ r. ⌜ ComparedRecord (recordOf (now (rec .entry))) ⌝ }
+{
+    match read_record(rec) {
+        Record::Holds(h) => put_comparison(out, 0, h),
+        Record::Meets(number) => put_line(out, 0, b"refused", &[number]),
+    }
+}

@@ -1,0 +1,12 @@
+-- `page` meets its contract.
+use mathlib.Core.Path.{sym}
+use Prim.Native.Nat.{ℕ}
+use lib.ListN.{length-replicate}
+use Rattle.sheet_text.proofs.page.Statement.{statement}
+use Rattle.sheet_text.proofs.page.Tie as tie
+
+returns : tie.Need-returns
+returns c = sym (length-replicate {A = ℕ} 263181 0)
+
+pub page-spec : {M : Type 1} → statement M
+page-spec = tie.close (tie.spec returns)

@@ -1,0 +1,3 @@
+-- Texts as lists of bytes, and what it is to put one into a buffer.
+pub mod Text
+pub mod Writing
