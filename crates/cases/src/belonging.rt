@@ -2,10 +2,10 @@
 ghost use Prim.Native.Nat.{_≤_};
 ghost use lib.ListN.{length};
 use blocks::Test;
-use test_tools::numbers;
 use test_tools::part;
 use test_tools::text;
 use test_tools::value;
+use test_words::numbers;
 
 pub fn belongs(rec: &[u8], line: &[u8], at: usize)
     requires { ⌜ at ≤ length (now line) ⌝ }

@@ -3,16 +3,17 @@
 ghost use Prim.Native.Nat.{_≤_};
 ghost use lib.ListN.{length};
 use libc::STDIN_FILENO;
-use test_tools::after_word;
-use test_tools::line_end;
-use test_tools::numbers;
+use plan_words::plans;
 use test_tools::part;
-use test_tools::starts;
 use test_tools::text;
+use test_words::after_word;
+use test_words::line_end;
+use test_words::numbers;
+use test_words::starts;
 
 mod belonging;
 mod encoding;
-mod plans;
+mod outcome;
 mod rebuilding;
 mod recovering;
 mod updating;
@@ -33,6 +34,13 @@ fn call(rec: &[u8], line: &[u8], at: usize)
         updating::update(rec, line, at);
         return;
     }
+    call_on_nodes(rec, line, at);
+}
+
+// The calls on listed nodes, and Belongs.
+fn call_on_nodes(rec: &[u8], line: &[u8], at: usize)
+    requires { ⌜ at ≤ length (now line) ⌝ }
+{
     if starts(line, b"recover") {
         recovering::recover(rec, line, at);
         return;

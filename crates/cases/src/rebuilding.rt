@@ -1,12 +1,10 @@
 // Rebuild: the target's share, or the number. Every byte of the buffer that is written holds 170 before the call.
 ghost use Prim.Native.Nat.{_≤_};
 ghost use lib.ListN.{length};
-use blocks::Outcome;
-use test_tools::list;
-use test_tools::numbers;
+use crate::outcome::print;
+use test_tools::front;
 use test_tools::part;
-use test_tools::refused;
-use test_tools::untouched;
+use test_words::numbers;
 
 pub fn rebuild(rec: &[u8], line: &[u8], at: usize)
     requires { ⌜ at ≤ length (now line) ⌝ }
@@ -17,35 +15,17 @@ pub fn rebuild(rec: &[u8], line: &[u8], at: usize)
     let target = numbers(line, shares.next);
     let room = numbers(line, target.next);
     let mut out = [170u8; 64];
-    rebuild_front(
+    rebuild_to(
         rec,
         lanes.value,
         part(&nodes.bytes, nodes.count),
         part(&shares.bytes, shares.count),
         target.value,
-        &mut out,
-        room.value as usize,
+        front(&mut out, room.value as usize),
     );
 }
 
-// Lends so many bytes of the buffer.
-fn rebuild_front(
-    rec: &[u8],
-    lanes: u32,
-    nodes: &[u8],
-    shares: &[u8],
-    target: u32,
-    out: &mut [u8],
-    room: usize,
-) {
-    if room <= out.len() {
-        rebuild_to(rec, lanes, nodes, shares, target, &mut out[0..room]);
-    }
-}
-
 fn rebuild_to(rec: &[u8], lanes: u32, nodes: &[u8], shares: &[u8], target: u32, out: &mut [u8]) {
-    match balanced::rebuild_share(rec, lanes, nodes, shares, target, out) {
-        Outcome::Done => list(b": done", out),
-        Outcome::Refused(number) => refused(number, untouched(170, out)),
-    }
+    let answer = balanced::rebuild_share(rec, lanes, nodes, shares, target, out);
+    print(answer, out);
 }

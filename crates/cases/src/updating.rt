@@ -2,11 +2,12 @@
 ghost use Prim.Native.Nat.{_≤_};
 ghost use lib.ListN.{length};
 use blocks::Update;
+use test_tools::front;
 use test_tools::list;
-use test_tools::numbers;
 use test_tools::part;
 use test_tools::refused;
 use test_tools::value;
+use test_words::numbers;
 
 struct Change {
     lanes: u32,
@@ -32,20 +33,13 @@ pub fn update(rec: &[u8], line: &[u8], at: usize)
         old: (old.value % 256) as u8,
         new: (new.value % 256) as u8,
     };
+    let before = part(&shares.bytes, shares.count);
     let mut after = shares.bytes;
-    update_front(rec, change, part(&shares.bytes, shares.count), &mut after);
-}
-
-// Lends as many bytes of the copy.
-fn update_front(rec: &[u8], change: Change, before: &[u8], after: &mut [u8]) {
-    let size = before.len();
-    if size <= after.len() {
-        update_to(rec, change, before, &mut after[0..size]);
-    }
+    update_to(rec, change, before, front(&mut after, shares.count));
 }
 
 fn update_to(rec: &[u8], change: Change, before: &[u8], after: &mut [u8]) {
-    match balanced::update_lane(
+    let answer = balanced::update_lane(
         rec,
         change.lanes,
         change.symbol,
@@ -53,7 +47,12 @@ fn update_to(rec: &[u8], change: Change, before: &[u8], after: &mut [u8]) {
         change.old,
         change.new,
         after,
-    ) {
+    );
+    print(answer, before, after);
+}
+
+fn print(answer: Update, before: &[u8], after: &[u8]) {
+    match answer {
         Update::Altered(count) => altered(count, after),
         Update::Refused(number) => refused(number, check::same(before, after)),
     }

@@ -7,7 +7,6 @@ use generator::Record;
 
 mod base;
 mod entries;
-mod shift;
 
 pub use entries::entry;
 pub use records::read_record;
@@ -47,7 +46,7 @@ pub fn plan_of(h: Header) -> Plan
     let k = h.k;
     let d = n - k + 1;
     let b = (k as u32 * d as u32 / n as u32) as u8;
-    let shifts = shift::fill_shifts(n, k);
+    let shifts = shifts::fill_shifts(n, k);
     let base = base::fill_base(h);
     Plan {
         number: 0,

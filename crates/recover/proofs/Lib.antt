@@ -1,5 +1,3 @@
--- What holds where no number is met.
-pub mod Accepts
 -- Weighted sums of the listed shares are shares and rows of the message.
 pub mod Rebuilding
 pub mod Recovering

@@ -11,7 +11,7 @@ use Rattle.generator.specs.Codewords.{nodeOf}
 use Rattle.blocks.specs.Blocks.{laneOf, combined, shareOf, MessageFor}
 use Rattle.blocks.proofs.Messages.{lane-message, some-buffer}
 use Rattle.recovery.specs.Weights.{Rebuilds}
-use Rattle.recover.specs.Listed.{Listed}
+use Rattle.listed_nodes.specs.Listed.{Listed}
 
 module _ (h : Header) (l : ℕ) (nodes shares : List ℕ) (a : Listed h l nodes shares) where
   -- the message of the listed shares

@@ -20,7 +20,7 @@ use Rattle.blocks.specs.Blocks.{placeOf, laneOf, combined, MessageFor}
 use Rattle.blocks.proofs.Shares.{getD-lane}
 use Rattle.blocks.proofs.Messages.{lanes-equal, lane-message}
 use Rattle.recovery.specs.Weights.{Recovers}
-use Rattle.recover.specs.Listed.{Listed}
+use Rattle.listed_nodes.specs.Listed.{Listed}
 
 -- row r of a buffer of rows of l bytes
 abbrev pub rowOf : ℕ → List ℕ → ℕ → List ℕ

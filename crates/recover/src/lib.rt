@@ -6,14 +6,12 @@ ghost use Rattle.generator.specs.Records.{Sound};
 ghost use Rattle.blocks.specs.Blocks.{MessageFor};
 ghost use Rattle.blocks.specs.Promises.{RecoverSays, RebuildSays};
 ghost use Rattle.recovery.specs.Rows.{setupOf};
-ghost use Rattle.recover.specs.Listed.{Listed, HeaderRecovers, HeaderRebuilds};
+ghost use Rattle.listed_nodes.specs.Listed.{Listed};
+ghost use Rattle.recover.specs.Headers.{HeaderRecovers, HeaderRebuilds};
 use blocks::Outcome;
 use generator::Header;
 use generator::Record;
 use recovery::Setup;
-
-mod faults;
-mod nodes;
 
 // Fills the message row by row, each through its own part: the sums of the listed shares times the weights of that row.
 fn fill_message(h: Header, lanes: usize, nodes: &[u8], shares: &[u8], setup: Setup, out: &mut [u8])
@@ -37,7 +35,7 @@ fn recover_accepted(h: Header, lanes: usize, nodes: &[u8], shares: &[u8], out: &
     requires { ⌜ Sound h ⌝ }
     ensures { λ r. ⌜ HeaderRecovers h lanes (now (nodes .entry)) (now (shares .entry)) (now (out .entry)) (now (out .exit)) r ⌝ }
 {
-    let number = faults::recover_fault(h, lanes, nodes, shares, out.len());
+    let number = listed_nodes::recover_fault(h, lanes, nodes, shares, out.len());
     if number != 0 {
         return Outcome::Refused(number);
     }
@@ -71,7 +69,7 @@ fn rebuild_accepted(
     requires { ⌜ Sound h ⌝ }
     ensures { λ r. ⌜ HeaderRebuilds h lanes (now (nodes .entry)) (now (shares .entry)) target (now (out .entry)) (now (out .exit)) r ⌝ }
 {
-    let number = faults::rebuild_fault(h, lanes, nodes, shares, target, out.len());
+    let number = listed_nodes::rebuild_fault(h, lanes, nodes, shares, target, out.len());
     if number != 0 {
         return Outcome::Refused(number);
     }

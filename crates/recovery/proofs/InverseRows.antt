@@ -17,11 +17,11 @@ use Rattle.field.specs.Symbols.{Symbol, numbers}
 use Rattle.field.proofs.Symbols.{length-numbers, getD-numbers}
 use Rattle.field.proofs.FieldOf.{fieldOf, size-pos}
 use Rattle.field.specs.Sums.{dot}
-use Rattle.recovery.specs.Lagrange.{scaleAt, scalesOf}
-use Rattle.recovery.specs.Polynomials.{productOf, quotientOf, termwise, inversesOf}
+use Rattle.interpolation.specs.Lagrange.{scaleAt, scalesOf}
+use Rattle.interpolation.specs.Polynomials.{productOf, quotientOf, termwise, inversesOf}
 use Rattle.recovery.specs.Rows.{weightOf, weightsOf}
-use Rattle.recovery.proofs.Coefficients.{length-termwise, getD-termwise, length-inversesOf}
-use Rattle.recovery.proofs.Bridge.{scaleAt-is, others-is, dot-is}
+use Rattle.interpolation.proofs.Coefficients.{length-termwise, getD-termwise, length-inversesOf}
+use Rattle.interpolation.proofs.Bridge.{scaleAt-is, others-is, dot-is}
 
 -- as many scales as points
 pub length-scales : (p : ℕ) (xs : List ℕ) → length (scalesOf p xs) ≡ length xs

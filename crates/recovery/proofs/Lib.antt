@@ -1,10 +1,7 @@
--- Powers of the root, values of products and of Lagrange's basis polynomials, coefficients of polynomials.
-pub mod Points
-pub mod Values
-pub mod Coefficients
--- They are those of the algebra.
-pub mod Bridge
+-- A weight in a row is a symbol, and an entry of the inverse of the encoding.
+pub mod RowWeights
 pub mod InverseRows
+-- The parts of a basis that code lends.
 pub mod Parts
 -- The weights are good.
 pub mod Weights

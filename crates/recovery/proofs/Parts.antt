@@ -19,13 +19,13 @@ use Rattle.generator.specs.Claims.{areNodes}
 use Rattle.generator.proofs.Shifts.{shifts-length}
 use Rattle.generator.proofs.Recovery.{nodes-places}
 use Rattle.recovery.specs.declared.Basis.{Basis}
-use Rattle.recovery.specs.Points.{ByteSymbols, pointsOf}
-use Rattle.recovery.specs.Lagrange.{scalesOf}
-use Rattle.recovery.specs.Polynomials.{productOf, baseOf, quotientOf, termwise, inversesOf}
+use Rattle.interpolation.specs.Points.{ByteSymbols, pointsOf}
+use Rattle.interpolation.specs.Lagrange.{scalesOf}
+use Rattle.interpolation.specs.Polynomials.{productOf, baseOf, quotientOf, termwise, inversesOf}
 use Rattle.recovery.specs.Rows.{basisOf, rowPoints, baseInverses, rowTerms}
-use Rattle.recovery.proofs.Points.{length-points, points-bytes}
-use Rattle.recovery.proofs.Values.{scaleAt-below}
-use Rattle.recovery.proofs.Coefficients.{length-productOf, productOf-below, length-baseOf, baseOf-below, length-quotientOf, quotientOf-below, length-termwise, termwise-below, length-inversesOf, inversesOf-below}
+use Rattle.interpolation.proofs.Points.{length-points, points-bytes}
+use Rattle.interpolation.proofs.Values.{scaleAt-below}
+use Rattle.interpolation.proofs.Coefficients.{length-productOf, productOf-below, length-baseOf, baseOf-below, length-quotientOf, quotientOf-below, length-termwise, termwise-below, length-inversesOf, inversesOf-below}
 use Rattle.recovery.proofs.InverseRows.{length-scales, getD-scales}
 
 -- k symbols

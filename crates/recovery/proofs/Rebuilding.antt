@@ -25,10 +25,10 @@ use Rattle.generator.proofs.Shifts.{shifts-length}
 use Rattle.generator.proofs.Bridge.{nodeOf-is}
 use Rattle.generator.proofs.Recovery.{the-code, nodes-places, lifted, lifted-numbers, length-lifted, message-size, message-below}
 use Rattle.recovery.specs.Weights.{Rebuilds}
-use Rattle.recovery.specs.Points.{pointsOf}
-use Rattle.recovery.specs.Lagrange.{basisAt, basisValues}
-use Rattle.recovery.proofs.Points.{length-points}
-use Rattle.recovery.proofs.Bridge.{pointsOf-is, basisAt-is}
+use Rattle.interpolation.specs.Points.{pointsOf}
+use Rattle.interpolation.specs.Lagrange.{basisAt, basisValues}
+use Rattle.interpolation.proofs.Points.{length-points}
+use Rattle.interpolation.proofs.Bridge.{pointsOf-is, basisAt-is}
 use Rattle.recovery.proofs.Weights.{heldBy, weights-below, weighted}
 
 -- as many values as points

@@ -24,12 +24,12 @@ use Rattle.generator.specs.Claims.{areNodes}
 use Rattle.generator.proofs.Sound.{fieldFor, rootFor}
 use Rattle.generator.proofs.Recovery.{the-code, shifts-are-places, nodes-places, lifted, lifted-numbers, length-lifted, message-size, message-below}
 use Rattle.recovery.specs.Weights.{Recovers}
-use Rattle.recovery.specs.Points.{pointsOf}
-use Rattle.recovery.specs.Lagrange.{scalesOf}
-use Rattle.recovery.specs.Polynomials.{productOf, baseOf}
+use Rattle.interpolation.specs.Points.{pointsOf}
+use Rattle.interpolation.specs.Lagrange.{scalesOf}
+use Rattle.interpolation.specs.Polynomials.{productOf, baseOf}
 use Rattle.recovery.specs.Rows.{rowPoints, baseInverses, rowTerms, weightOf, weightsOf}
-use Rattle.recovery.proofs.Points.{length-points}
-use Rattle.recovery.proofs.Bridge.{pointsOf-is, baseOf-is}
+use Rattle.interpolation.proofs.Points.{length-points}
+use Rattle.interpolation.proofs.Bridge.{pointsOf-is, baseOf-is}
 use Rattle.recovery.proofs.Weights.{heldBy, weights-below, weighted}
 use Rattle.recovery.proofs.Rebuilding.{node-points}
 use Rattle.recovery.proofs.InverseRows.{termsOf, length-weightsOf, getD-weightsOf, weight-is}

@@ -21,7 +21,7 @@ use Rattle.generator.specs.Claims.{isMessage, areNodes, atNodes}
 use Rattle.generator.proofs.Sound.{fieldFor, rootFor}
 use Rattle.generator.proofs.Recovery.{nodes-places, lifted, lifted-numbers, length-lifted, message-size, message-below, held}
 use Rattle.field.specs.Sums.{dot}
-use Rattle.recovery.proofs.Bridge.{dot-is}
+use Rattle.interpolation.proofs.Bridge.{dot-is}
 
 module _ (h : Header) (s : Sound h) (js : List ℕ) (nodes : areNodes h js ≡ true) where
   -- what the listed nodes hold, as symbols

@@ -11,9 +11,9 @@ use Rattle.generator.specs.Shifts.{shifts}
 use Rattle.recovery.specs.declared.Basis.{Basis}
 use Rattle.recovery.specs.declared.Setup.{Setup}
 use Rattle.field.specs.Sums.{dot}
-use Rattle.recovery.specs.Points.{pointsOf}
-use Rattle.recovery.specs.Lagrange.{scalesOf}
-use Rattle.recovery.specs.Polynomials.{productOf, baseOf, quotientOf, termwise, inversesOf}
+use Rattle.interpolation.specs.Points.{pointsOf}
+use Rattle.interpolation.specs.Lagrange.{scalesOf}
+use Rattle.interpolation.specs.Polynomials.{productOf, baseOf, quotientOf, termwise, inversesOf}
 
 -- the points, the scales of their basis polynomials, and the product polynomial
 unfoldable pub basisOf : ℕ → List ℕ → Basis

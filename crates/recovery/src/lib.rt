@@ -10,16 +10,16 @@ ghost use Rattle.generator.specs.Records.{prime, Sound};
 ghost use Rattle.generator.specs.Shifts.{shifts as shiftsFor};
 ghost use Rattle.generator.specs.Claims.{areNodes};
 ghost use Rattle.recovery.specs.Weights.{Rebuilds, Recovers};
-ghost use Rattle.recovery.specs.Points.{pointsOf};
+ghost use Rattle.interpolation.specs.Points.{pointsOf};
 ghost use Rattle.recovery.specs.Rows.{basisOf, rowPoints, baseInverses, setupOf, rowTerms};
 
-mod lagrange;
-mod polynomials;
-mod powers;
 mod rows;
 
 use field::Field;
 use generator::Header;
+use interpolation::lagrange;
+use interpolation::polynomials;
+use interpolation::powers;
 
 // Lagrange's basis of listed points: the points, the scales of the basis polynomials, and the coefficients of the product polynomial; zeros after each list.
 pub struct Basis {

@@ -5,10 +5,10 @@ ghost use lib.ListN.{length};
 ghost use Rattle.lists.specs.Padded.{padded};
 ghost use Rattle.field.specs.Fields.{sizeOf};
 ghost use Rattle.field.specs.Kinds.{modulus};
-ghost use Rattle.recovery.specs.Points.{ByteSymbols};
+ghost use Rattle.interpolation.specs.Points.{ByteSymbols};
 ghost use Rattle.recovery.specs.Rows.{weightOf, weightsOf};
-use crate::polynomials;
 use field::Field;
+use interpolation::polynomials;
 
 // The weight of a node with the point x and the scale `own`: the scales times the sum of the row's terms times the coefficients of the product over the other nodes' points.
 fn row_weight(field: Field, scale: u32, terms: &[u8], product: &[u8], x: u32, own: u32) -> u32

@@ -1,12 +1,12 @@
 // Reads records in words, one a line ("record 1 7 3 6 4"), and writes each line with the record's sheet and comparison. A line
 // that is no record, such as a comment, is written as it is.
 use libc::STDIN_FILENO;
-use test_tools::after_word;
-use test_tools::line_end;
-use test_tools::numbers;
 use test_tools::part;
-use test_tools::starts;
 use test_tools::text;
+use test_words::after_word;
+use test_words::line_end;
+use test_words::numbers;
+use test_words::starts;
 
 fn print_sheet(rec: &[u8]) {
     let mut page = sheet_text::page();

@@ -1,4 +1,4 @@
-// Bytes of buffers by their places.
+// Bytes and parts of buffers by their places.
 
 // Where a row's lane stands in a buffer.
 pub fn place(row: u8, lanes: u32, lane: u32) -> usize {
@@ -18,4 +18,20 @@ pub fn put(s: &mut [u8], at: usize, x: u8) {
     if at < s.len() {
         s[at] = x;
     }
+}
+
+// So many bytes from the front, or all.
+pub fn part(s: &[u8], count: usize) -> &[u8] {
+    if count <= s.len() {
+        return &s[0..count];
+    }
+    s
+}
+
+// So many bytes from the front, or all, to be written.
+pub fn front(s: &mut [u8], count: usize) -> &mut [u8] {
+    if count <= s.len() {
+        return &mut s[0..count];
+    }
+    s
 }

@@ -17,6 +17,32 @@ pub fn value(word: &[u8], x: u64) {
     number(x);
 }
 
+// Words, in which each '#' stands for the next of the numbers.
+pub fn form(words: &[u8], numbers: &[u64]) {
+    let mut used = 0;
+    let mut i = 0;
+    while i < words.len() {
+        if words[i] == b'#' {
+            decimal(numbers, used);
+            used += 1;
+        } else {
+            letter(words[i]);
+        }
+        i += 1;
+    }
+}
+
+fn letter(b: u8) {
+    text(&[b]);
+}
+
+// The number at a place, where there is one.
+fn decimal(numbers: &[u64], at: usize) {
+    if at < numbers.len() {
+        io::print_decimal(STDOUT_FILENO, numbers[at]);
+    }
+}
+
 fn byte(x: u8) {
     number(x as u64);
 }

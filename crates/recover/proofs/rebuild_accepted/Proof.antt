@@ -6,8 +6,8 @@ use borrow.Author.Needs.{needs}
 use lib.ListN.{length}
 use Rattle.blocks.specs.Answers.{outcomeOf}
 use Rattle.blocks.proofs.Accepts.{outcome-refused, refused-claim}
-use Rattle.recover.specs.Listed.{Listed}
-use Rattle.recover.proofs.Accepts.{rebuild-accepts}
+use Rattle.listed_nodes.specs.Listed.{Listed}
+use Rattle.listed_nodes.proofs.Accepts.{rebuild-accepts}
 use Rattle.recover.proofs.Rebuilding.{the-message, rebuilt}
 use Rattle.recover.proofs.rebuild_accepted.Statement.{statement}
 use Rattle.recover.proofs.rebuild_accepted.Tie as tie

@@ -13,7 +13,7 @@ use Rattle.blocks.specs.declared.Outcome.the-variants.{Refused}
 use Rattle.blocks.specs.Faults.{rebuildFault}
 use Rattle.blocks.specs.Promises.{RebuildSays}
 use Rattle.blocks.proofs.Accepts.{held-fault, met-number, met-fault, outcome-refused, refused-claim}
-use Rattle.recover.specs.Listed.{HeaderRebuilds}
+use Rattle.recover.specs.Headers.{HeaderRebuilds}
 use Rattle.recover.proofs.rebuild_share.Statement.{statement}
 use Rattle.recover.proofs.rebuild_share.Tie as tie
 

@@ -9,8 +9,8 @@ use Rattle.generator.proofs.Shifts.{shifts-length}
 use Rattle.blocks.specs.Answers.{outcomeOf}
 use Rattle.blocks.proofs.Accepts.{outcome-refused, refused-claim}
 use Rattle.plan.specs.declared.Plan.{Plan}
-use Rattle.recover.specs.Listed.{Listed}
-use Rattle.recover.proofs.Accepts.{recover-accepts}
+use Rattle.listed_nodes.specs.Listed.{Listed}
+use Rattle.listed_nodes.proofs.Accepts.{recover-accepts}
 use Rattle.recover.proofs.Recovering.{shifts-part}
 use Rattle.recover.proofs.recover_accepted.Statement.{statement}
 use Rattle.recover.proofs.recover_accepted.Tie as tie

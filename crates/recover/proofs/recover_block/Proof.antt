@@ -13,7 +13,7 @@ use Rattle.blocks.specs.declared.Outcome.the-variants.{Refused}
 use Rattle.blocks.specs.Faults.{recoverFault}
 use Rattle.blocks.specs.Promises.{RecoverSays}
 use Rattle.blocks.proofs.Accepts.{held-fault, met-number, met-fault, outcome-refused, refused-claim}
-use Rattle.recover.specs.Listed.{HeaderRecovers}
+use Rattle.recover.specs.Headers.{HeaderRecovers}
 use Rattle.recover.proofs.recover_block.Statement.{statement}
 use Rattle.recover.proofs.recover_block.Tie as tie
 

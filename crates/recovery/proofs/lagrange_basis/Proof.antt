@@ -4,9 +4,9 @@ use borrow.Author.Needs.{needs}
 use lib.ListN.{length, take}
 use Rattle.lists.proofs.Padding.{take-padded}
 use Rattle.field.specs.Kinds.{modulus}
-use Rattle.recovery.specs.Points.{pointsOf}
+use Rattle.interpolation.specs.Points.{pointsOf}
 use Rattle.recovery.specs.Rows.{basisOf}
-use Rattle.recovery.proofs.Points.{length-points, points-bytes}
+use Rattle.interpolation.proofs.Points.{length-points, points-bytes}
 use Rattle.recovery.proofs.lagrange_basis.Statement.{statement}
 use Rattle.recovery.proofs.lagrange_basis.Tie as tie
 

@@ -8,9 +8,9 @@ use Rattle.lists.proofs.Padding.{take-padded}
 use Rattle.generator.specs.Records.{prime}
 use Rattle.generator.proofs.Shifts.{shifts-length}
 use Rattle.generator.proofs.Recovery.{nodes-places}
-use Rattle.recovery.specs.Polynomials.{baseOf}
+use Rattle.interpolation.specs.Polynomials.{baseOf}
 use Rattle.recovery.specs.Rows.{rowPoints, baseInverses, setupOf}
-use Rattle.recovery.proofs.Coefficients.{length-baseOf, baseOf-below}
+use Rattle.interpolation.proofs.Coefficients.{length-baseOf, baseOf-below}
 use Rattle.recovery.proofs.prepare.Statement.{statement}
 use Rattle.recovery.proofs.prepare.Tie as tie
 

@@ -8,8 +8,8 @@ use Rattle.lists.proofs.Padding.{take-padded}
 use Rattle.field.proofs.Bounds.{power-below}
 use Rattle.generator.specs.Records.{prime, size}
 use Rattle.generator.proofs.Recovery.{nodes-places}
-use Rattle.recovery.specs.Points.{pointsOf}
-use Rattle.recovery.proofs.Points.{length-points, points-bytes}
+use Rattle.interpolation.specs.Points.{pointsOf}
+use Rattle.interpolation.proofs.Points.{length-points, points-bytes}
 use Rattle.recovery.proofs.Rebuilding.{rebuilds}
 use Rattle.recovery.proofs.rebuild_weights.Statement.{statement}
 use Rattle.recovery.proofs.rebuild_weights.Tie as tie

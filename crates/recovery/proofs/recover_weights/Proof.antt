@@ -8,7 +8,7 @@ use Rattle.lists.proofs.Numbers.{below-at}
 use Rattle.lists.proofs.Padding.{take-padded}
 use Rattle.generator.specs.Records.{prime, size}
 use Rattle.recovery.specs.declared.Setup.{Setup}
-use Rattle.recovery.specs.Points.{pointsOf}
+use Rattle.interpolation.specs.Points.{pointsOf}
 use Rattle.recovery.specs.Rows.{rowPoints, setupOf, rowTerms}
 use Rattle.recovery.proofs.Parts.{Symbols, Parts, parts, node-symbols, row-symbols, term-symbols}
 use Rattle.recovery.proofs.Recovering.{recovers}

@@ -19,7 +19,7 @@ cast-result c =
     record { fits = lt-of-lt-of-le (rw (c .add .ensures, c .before .mul .ensures) (add-below _ (s .field) before (mul-below _ (s .field) factor entry))) (s .bytes) }
 
 returns : tie.Need-returns
-returns c = cc
+returns c = rw (c .add .ensures, c .before .mul .ensures)
 
 pub renewed-spec : {M : Type 1} → statement M
 renewed-spec = tie.close (tie.spec mul-requires add-requires cast-result returns)

@@ -75,7 +75,7 @@ loop-again c =
       omega arith,
       rw (c .before .mul .ensures, c .before .before .sub .ensures) (mul-below _ (s .field) (sub-below _ (s .field) (t .0) (t .1)) (l .inv .1)),
       c .mul2 .ensures ∙ ap (mul _ _) (l .inv .2) ∙ sym (power-next _ _ (l .i)),
-      λ h f r. cc (baseFrom-next (l .i) h x, l .inv .3 h f r),
+      λ h f r. rw (baseFrom-next (l .i) h x, ← l .inv .3 h f r, c .before .mul .ensures, c .before .before .sub .ensures, l .inv .2, f, r),
     )
 
 returns : tie.Need-returns Inv-loop μ-loop

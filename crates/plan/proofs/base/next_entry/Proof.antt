@@ -64,7 +64,17 @@ returns : tie.Need-returns
 returns c =
     let a = c .before .before .before .before .before .before .args in
     let (s, scale, pole, low, apart, entry) = c .before .before .before .before .before .before .pre in
-    cc (baseAt-next (a .h) s (a .x) low (λ q. apart (q ∙ sym pole)))
+    rw (
+      c .mul3 .ensures,
+      c .before .inverse .ensures,
+      c .before .before .mul2 .ensures,
+      c .before .before .before .sub2 .ensures,
+      c .before .before .before .before .sub .ensures,
+      c .before .before .before .before .before .mul .ensures,
+      scale,
+      pole,
+      entry,
+    ) (sym (baseAt-next (a .h) s (a .x) low (λ q. apart (q ∙ sym pole))))
 
 pub next-entry-spec : {M : Type 1} → statement M
 next-entry-spec =

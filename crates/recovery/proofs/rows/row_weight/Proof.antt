@@ -4,7 +4,7 @@ use borrow.Author.Needs.{needs}
 use Rattle.field.proofs.Bounds.{mul-below}
 use Rattle.field.proofs.KindLaws.{usable-field}
 use Rattle.recovery.specs.Rows.{weightOf}
-use Rattle.recovery.proofs.Coefficients.{quotientOf-below, dot-below}
+use Rattle.interpolation.proofs.Coefficients.{quotientOf-below, dot-below}
 use Rattle.recovery.proofs.rows.row_weight.Statement.{statement}
 use Rattle.recovery.proofs.rows.row_weight.Tie as tie
 

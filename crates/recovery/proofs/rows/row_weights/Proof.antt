@@ -12,7 +12,7 @@ use Rattle.field.specs.Fields.{sizeOf}
 use Rattle.field.specs.Kinds.{modulus}
 use Rattle.field.proofs.KindLaws.{usable-field}
 use Rattle.recovery.specs.Rows.{weightOf, weightsOf}
-use Rattle.recovery.proofs.Coefficients.{weightOf-below}
+use Rattle.recovery.proofs.RowWeights.{weightOf-below}
 use Rattle.recovery.proofs.rows.row_weights.Statement.{statement}
 use Rattle.recovery.proofs.rows.row_weights.Tie as tie
 

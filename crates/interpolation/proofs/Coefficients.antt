@@ -1,0 +1,190 @@
+-- Polynomials by their coefficients: one step of each loop, lengths, and that the coefficients are symbols.
+use mathlib.Core.Path.{_≡_, refl, ap, _∙_}
+use mathlib.Core.Bool.{true}
+use mathlib.Core.List.{List, [], _∷_}
+use Prim.Native.Nat.{ℕ, zero, suc, _+_, _-_, _≤_, _<_}
+use native.Mathlib.Numerals.{add-one}
+use native.Mathlib.Omega.{arith}
+use lib.ListN.{length, getD, drop, set, length-map, drop-of-length-le}
+use lib.Seq.{drop-length}
+use Rattle.lists.specs.Numbers.{allBelow}
+use Rattle.lists.specs.Padded.{zeros, padded}
+use Rattle.lists.proofs.Front.{drop-next, drop-before}
+use Rattle.lists.proofs.Numbers.{below-cons, cons-below}
+use Rattle.field.specs.Fields.{isField, sizeOf, add, sub, mul, power, inverse}
+use Rattle.field.proofs.Bounds.{one-below, add-below, sub-below, mul-below, power-below}
+use Rattle.field.proofs.FieldOf.{size-pos}
+use Rattle.field.proofs.Inverse.{inverse-below}
+use Rattle.field.specs.Sums.{dot}
+use Rattle.interpolation.specs.Polynomials.{timesLinear, productOf, baseOf, quotientOf, termwise, inversesOf}
+
+-- the polynomial 1, with zeros after it
+pub one-padded : set (zeros 256) 0 1 ≡ padded 256 (1 ∷ [])
+unfolding zeros padded
+one-padded = refl
+
+module _ (p : ℕ) where
+  -- (x − a)·q(x), coefficient by coefficient
+  pub timesLinear-next : (a c : ℕ) (qs : List ℕ) (i : ℕ) → i < length qs → timesLinear p a c (drop i qs) ≡ sub p c (mul p a (getD qs i 0)) ∷ timesLinear p a (getD qs i 0) (drop (i + 1) qs)
+  unfolding timesLinear
+  timesLinear-next a c qs i h = ap (timesLinear p a c) (drop-next qs i 0 h)
+
+  pub timesLinear-end : (a c : ℕ) (qs : List ℕ) (i : ℕ) → length qs ≤ i → timesLinear p a c (drop i qs) ≡ c ∷ []
+  unfolding timesLinear
+  timesLinear-end a c qs i h = ap (timesLinear p a c) (drop-of-length-le qs h)
+
+  pub length-timesLinear : (a c : ℕ) (qs : List ℕ) → length (timesLinear p a c qs) ≡ suc (length qs)
+  unfolding timesLinear
+  length-timesLinear a c [] = refl
+  length-timesLinear a c (q ∷ qs) = ap suc (length-timesLinear a q qs)
+
+  -- a product, the last factor first
+  pub productOf-end : (xs : List ℕ) → productOf p (drop (length xs) xs) ≡ 1 ∷ []
+  unfolding productOf
+  productOf-end xs = ap (productOf p) (drop-length xs)
+
+  pub productOf-next : (xs : List ℕ) (i : ℕ) → 0 < i → i ≤ length xs → productOf p (drop (i - 1) xs) ≡ timesLinear p (getD xs (i - 1) 0) 0 (productOf p (drop i xs))
+  unfolding productOf
+  productOf-next xs i pos h = ap (productOf p) (drop-before xs i 0 pos h)
+
+  pub length-productOf : (xs : List ℕ) → length (productOf p xs) ≡ suc (length xs)
+  unfolding productOf
+  length-productOf [] = refl
+  length-productOf (x ∷ xs) = length-timesLinear x 0 (productOf p xs) ∙ ap suc (length-productOf xs)
+
+  -- the base polynomial, one factor more
+  pub baseOf-next : (root m : ℕ) → baseOf p root (m + 1) ≡ timesLinear p (power p root m) 0 (baseOf p root m)
+  unfolding baseOf
+  baseOf-next root m = ap (baseOf p root) (add-one m)
+
+  pub length-baseOf : (root m : ℕ) → length (baseOf p root m) ≡ suc m
+  unfolding baseOf
+  length-baseOf root zero = refl
+  length-baseOf root (suc m) = length-timesLinear (power p root m) 0 (baseOf p root m) ∙ ap suc (length-baseOf root m)
+
+  -- the quotient, from the highest coefficient down
+  quotientOf-next : (a : ℕ) (cs : List ℕ) (i : ℕ) → 0 < i → i ≤ length cs → quotientOf p a (drop (i - 1) cs) ≡ add p (mul p a (getD (quotientOf p a (drop i cs)) 0 0)) (getD cs (i - 1) 0) ∷ quotientOf p a (drop i cs)
+  unfolding quotientOf
+  quotientOf-next a cs i pos h = ap (quotientOf p a) (drop-before cs i 0 pos h)
+
+  -- its next coefficient
+  pub quotient-first : (a : ℕ) (cs : List ℕ) (i : ℕ) → 0 < i → i ≤ length cs → getD (quotientOf p a (drop (i - 1) cs)) 0 0 ≡ add p (mul p a (getD (quotientOf p a (drop i cs)) 0 0)) (getD cs (i - 1) 0)
+  quotient-first a cs i pos h = ap (λ (l : List ℕ). getD l 0 0) (quotientOf-next a cs i pos h)
+
+  pub quotientOf-end : (a : ℕ) (cs : List ℕ) → quotientOf p a (drop (length cs) cs) ≡ []
+  unfolding quotientOf
+  quotientOf-end a cs = ap (quotientOf p a) (drop-length cs)
+
+  pub length-quotientOf : (a : ℕ) (cs : List ℕ) → length (quotientOf p a cs) ≡ length cs
+  unfolding quotientOf
+  length-quotientOf a [] = refl
+  length-quotientOf a (c ∷ cs) = ap suc (length-quotientOf a cs)
+
+  -- its coefficients times factors
+  pub terms-next : (a : ℕ) (cs ds : List ℕ) (i : ℕ) → 0 < i → i ≤ length cs → i ≤ length ds → termwise p (quotientOf p a (drop (i - 1) cs)) (drop (i - 1) ds) ≡ mul p (getD (quotientOf p a (drop (i - 1) cs)) 0 0) (getD ds (i - 1) 0) ∷ termwise p (quotientOf p a (drop i cs)) (drop i ds)
+  unfolding termwise
+  terms-next a cs ds i pos h k = rw (quotientOf-next a cs i pos h, drop-before ds i 0 pos k)
+
+  pub terms-end : (a : ℕ) (cs ds : List ℕ) → termwise p (quotientOf p a (drop (length cs) cs)) ds ≡ []
+  unfolding termwise
+  terms-end a cs ds = ap (λ (l : List ℕ). termwise p l ds) (quotientOf-end a cs)
+
+  pub length-termwise : (cs ds : List ℕ) → length ds ≡ length cs → length (termwise p cs ds) ≡ length cs
+  unfolding termwise
+  length-termwise [] ds h = refl
+  length-termwise (c ∷ cs) [] h = absurd (omega arith)
+  length-termwise (c ∷ cs) (d ∷ ds) h = ap suc (length-termwise cs ds (omega arith))
+
+  pub getD-termwise : (cs ds : List ℕ) (i : ℕ) → i < length cs → i < length ds → getD (termwise p cs ds) i 0 ≡ mul p (getD cs i 0) (getD ds i 0)
+  unfolding termwise
+  getD-termwise [] ds i h k = absurd (omega arith)
+  getD-termwise (c ∷ cs) [] i h k = absurd (omega arith)
+  getD-termwise (c ∷ cs) (d ∷ ds) zero h k = refl
+  getD-termwise (c ∷ cs) (d ∷ ds) (suc i) h k = getD-termwise cs ds i (omega arith) (omega arith)
+
+  -- the sum of its coefficients times terms
+  pub dot-next : (a : ℕ) (cs ys : List ℕ) (i : ℕ) → 0 < i → i ≤ length cs → i ≤ length ys → dot p (drop (i - 1) ys) (quotientOf p a (drop (i - 1) cs)) ≡ add p (mul p (getD ys (i - 1) 0) (getD (quotientOf p a (drop (i - 1) cs)) 0 0)) (dot p (drop i ys) (quotientOf p a (drop i cs)))
+  unfolding dot
+  dot-next a cs ys i pos h k = rw (quotientOf-next a cs i pos h, drop-before ys i 0 pos k)
+
+  pub dot-end : (ys ws : List ℕ) → dot p (drop (length ys) ys) ws ≡ 0
+  unfolding dot
+  dot-end ys ws = ap (λ (l : List ℕ). dot p l ws) (drop-length ys)
+
+  -- inverses
+  pub inversesOf-next : (cs : List ℕ) (i : ℕ) → i < length cs → inversesOf p (drop i cs) ≡ inverse p (getD cs i 0) ∷ inversesOf p (drop (i + 1) cs)
+  unfolding inversesOf
+  inversesOf-next cs i h = ap (inversesOf p) (drop-next cs i 0 h)
+
+  pub inversesOf-end : (cs : List ℕ) (i : ℕ) → length cs ≤ i → inversesOf p (drop i cs) ≡ []
+  unfolding inversesOf
+  inversesOf-end cs i h = ap (inversesOf p) (drop-of-length-le cs h)
+
+  pub length-inversesOf : (cs : List ℕ) → length (inversesOf p cs) ≡ length cs
+  unfolding inversesOf
+  length-inversesOf cs = length-map cs (inverse p)
+
+  module _ (v : isField p ≡ true) where
+    abbrev Below : List ℕ → Type 0
+    Below xs = allBelow (sizeOf p) xs ≡ true
+
+    pub timesLinear-below : (a c : ℕ) (qs : List ℕ) → a < sizeOf p → c < sizeOf p → Below qs → Below (timesLinear p a c qs)
+    unfolding timesLinear allBelow
+    timesLinear-below a c [] la lc h = cons-below (sizeOf p) c [] lc refl
+    timesLinear-below a c (q ∷ qs) la lc h =
+        let b = below-cons (sizeOf p) q qs h in
+        cons-below (sizeOf p) (sub p c (mul p a q)) (timesLinear p a q qs) (sub-below p v lc (mul-below p v la (b .0))) (timesLinear-below a q qs la (b .0) (b .1))
+
+    one-list : Below (1 ∷ [])
+    unfolding allBelow
+    one-list = cons-below (sizeOf p) 1 [] (one-below p v) refl
+
+    pub productOf-below : (xs : List ℕ) → Below xs → Below (productOf p xs)
+    unfolding productOf
+    productOf-below [] h = one-list
+    productOf-below (x ∷ xs) h =
+        let b = below-cons (sizeOf p) x xs h in
+        timesLinear-below x 0 (productOf p xs) (b .0) (size-pos p v) (productOf-below xs (b .1))
+
+    pub baseOf-below : (root m : ℕ) → root < sizeOf p → Below (baseOf p root m)
+    unfolding baseOf
+    baseOf-below root zero l = one-list
+    baseOf-below root (suc m) l = timesLinear-below (power p root m) 0 (baseOf p root m) (power-below p v m l) (size-pos p v) (baseOf-below root m l)
+
+    -- the first of a list of symbols, or 0
+    pub first-below : (xs : List ℕ) → Below xs → getD xs 0 0 < sizeOf p
+    first-below [] h = size-pos p v
+    first-below (x ∷ xs) h = below-cons (sizeOf p) x xs h .0
+
+    pub quotientOf-below : (a : ℕ) (cs : List ℕ) → a < sizeOf p → Below cs → Below (quotientOf p a cs)
+    unfolding quotientOf
+    quotientOf-below a [] la h = h
+    quotientOf-below a (c ∷ cs) la h =
+        let b = below-cons (sizeOf p) c cs h in
+        let rest = quotientOf-below a cs la (b .1) in
+        cons-below (sizeOf p) (add p (mul p a (getD (quotientOf p a cs) 0 0)) c) (quotientOf p a cs) (add-below p v (mul-below p v la (first-below (quotientOf p a cs) rest)) (b .0)) rest
+
+    pub termwise-below : (cs ds : List ℕ) → Below cs → Below ds → Below (termwise p cs ds)
+    unfolding termwise
+    termwise-below [] ds h k = h
+    termwise-below (c ∷ cs) [] h k = k
+    termwise-below (c ∷ cs) (d ∷ ds) h k =
+        let a = below-cons (sizeOf p) c cs h in
+        let b = below-cons (sizeOf p) d ds k in
+        cons-below (sizeOf p) (mul p c d) (termwise p cs ds) (mul-below p v (a .0) (b .0)) (termwise-below cs ds (a .1) (b .1))
+
+    pub dot-below : (ys ws : List ℕ) → Below ys → Below ws → dot p ys ws < sizeOf p
+    unfolding dot
+    dot-below [] ws h k = size-pos p v
+    dot-below (y ∷ ys) [] h k = size-pos p v
+    dot-below (y ∷ ys) (w ∷ ws) h k =
+        let a = below-cons (sizeOf p) y ys h in
+        let b = below-cons (sizeOf p) w ws k in
+        add-below p v (mul-below p v (a .0) (b .0)) (dot-below ys ws (a .1) (b .1))
+
+    pub inversesOf-below : (cs : List ℕ) → Below cs → Below (inversesOf p cs)
+    unfolding inversesOf
+    inversesOf-below [] h = h
+    inversesOf-below (c ∷ cs) h =
+        let a = below-cons (sizeOf p) c cs h in
+        cons-below (sizeOf p) (inverse p c) (inversesOf p cs) (inverse-below p v (a .0)) (inversesOf-below cs (a .1))

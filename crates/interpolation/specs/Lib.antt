@@ -1,0 +1,4 @@
+-- What the functions return.
+pub mod Points
+pub mod Lagrange
+pub mod Polynomials

@@ -1,0 +1,4 @@
+// Interpolation at powers of the root: points, Lagrange's basis polynomials, products of linear factors and division by one.
+pub mod lagrange;
+pub mod polynomials;
+pub mod powers;

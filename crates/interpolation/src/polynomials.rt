@@ -1,0 +1,121 @@
+// Polynomials by their coefficients, the constant first.
+ghost use mathlib.Core.Path.{_≡_};
+ghost use mathlib.Core.Bool.{true};
+ghost use Prim.Native.Nat.{_<_, _≤_};
+ghost use lib.ListN.{length};
+ghost use Rattle.lists.specs.Padded.{padded};
+ghost use Rattle.field.specs.Fields.{sizeOf, add, mul};
+ghost use Rattle.field.specs.Kinds.{modulus, usable};
+ghost use Rattle.field.specs.Sums.{dot};
+ghost use Rattle.interpolation.specs.Points.{ByteSymbols};
+ghost use Rattle.interpolation.specs.Polynomials.{timesLinear, productOf, baseOf, quotientOf, termwise, inversesOf};
+use field::Field;
+
+// (x − a) times the polynomial, and zeros after it.
+fn times_linear(field: Field, a: u32, coefficients: &[u8]) -> [u8; 256]
+    requires { ⌜ ByteSymbols field (now coefficients) × (a < sizeOf (modulus field)) ⌝ }
+    ensures { λ r. ⌜ r ≡ padded 256 (timesLinear (modulus field) a 0 (now (coefficients .entry))) ⌝ }
+{
+    let mut out = [0u8; 256];
+    let mut last = Field::ZERO;
+    let mut i = 0;
+    while i < coefficients.len() {
+        let c = coefficients[i] as u32;
+        out[i] = field.sub(last, field.mul(a, c)) as u8;
+        last = c;
+        i += 1;
+    }
+    out[i] = last as u8;
+    out
+}
+
+// The product of (x − a) over the points a, and zeros after it.
+pub fn product(field: Field, points: &[u8]) -> [u8; 256]
+    requires { ⌜ ByteSymbols field (now points) ⌝ }
+    ensures { λ r. ⌜ r ≡ padded 256 (productOf (modulus field) (now (points .entry))) ⌝ }
+{
+    let mut out = [0u8; 256];
+    out[0] = 1;
+    let mut size: usize = 1;
+    let mut i = points.len();
+    while i > 0 {
+        i -= 1;
+        out = times_linear(field, points[i] as u32, &out[..size]);
+        size += 1;
+    }
+    out
+}
+
+// The base polynomial, the product of (x − root^i) for i below m, and zeros after it.
+pub fn base(field: Field, root: u32, m: usize) -> [u8; 256]
+    requires { ⌜ (usable field ≡ true) × (sizeOf (modulus field) ≤ 256) × (root < sizeOf (modulus field)) × (m < 255) ⌝ }
+    ensures { λ r. ⌜ r ≡ padded 256 (baseOf (modulus field) root m) ⌝ }
+{
+    let mut out = [0u8; 256];
+    out[0] = 1;
+    let mut y = Field::ONE;
+    let mut i: usize = 0;
+    while i < m {
+        let size = i + 1;
+        out = times_linear(field, y, &out[..size]);
+        y = field.mul(root, y);
+        i += 1;
+    }
+    out
+}
+
+// 1 over each coefficient, and zeros after them.
+pub fn inverses(field: Field, coefficients: &[u8]) -> [u8; 255]
+    requires { ⌜ ByteSymbols field (now coefficients) ⌝ }
+    ensures { λ r. ⌜ r ≡ padded 255 (inversesOf (modulus field) (now (coefficients .entry))) ⌝ }
+{
+    let mut out = [0u8; 255];
+    let mut i = 0;
+    while i < coefficients.len() {
+        let c = coefficients[i] as u32;
+        let y = field.inverse(c);
+        out[i] = y as u8;
+        i += 1;
+    }
+    out
+}
+
+// a·b + c.
+fn multiply_add(field: Field, a: u32, b: u32, c: u32) -> u32
+    requires { ⌜ (usable field ≡ true) × (a < sizeOf (modulus field)) × (b < sizeOf (modulus field)) × (c < sizeOf (modulus field)) ⌝ }
+    ensures { λ r. ⌜ r ≡ add (modulus field) (mul (modulus field) a b) c ⌝ }
+{
+    field.add(field.mul(a, b), c)
+}
+
+// The quotient by x − a, from the highest coefficient down, each coefficient times its factor, and zeros after them.
+pub fn quotient_terms(field: Field, a: u32, coefficients: &[u8], factors: &[u8]) -> [u8; 255]
+    requires { ⌜ ByteSymbols field (now coefficients) × ByteSymbols field (now factors) × (length (now factors) ≡ length (now coefficients)) × (a < sizeOf (modulus field)) ⌝ }
+    ensures { λ r. ⌜ r ≡ padded 255 (termwise (modulus field) (quotientOf (modulus field) a (now (coefficients .entry))) (now (factors .entry))) ⌝ }
+{
+    let mut out = [0u8; 255];
+    let mut q = Field::ZERO;
+    let mut i = coefficients.len();
+    while i > 0 {
+        i -= 1;
+        q = multiply_add(field, a, q, coefficients[i] as u32);
+        out[i] = field.mul(q, factors[i] as u32) as u8;
+    }
+    out
+}
+
+// The sum of the terms times the coefficients of the quotient by x − a.
+pub fn quotient_sum(field: Field, a: u32, coefficients: &[u8], terms: &[u8]) -> u32
+    requires { ⌜ ByteSymbols field (now coefficients) × ByteSymbols field (now terms) × (length (now terms) ≡ length (now coefficients)) × (a < sizeOf (modulus field)) ⌝ }
+    ensures { λ r. ⌜ r ≡ dot (modulus field) (now (terms .entry)) (quotientOf (modulus field) a (now (coefficients .entry))) ⌝ }
+{
+    let mut sum = Field::ZERO;
+    let mut q = Field::ZERO;
+    let mut i = coefficients.len();
+    while i > 0 {
+        i -= 1;
+        q = multiply_add(field, a, q, coefficients[i] as u32);
+        sum = multiply_add(field, terms[i] as u32, q, sum);
+    }
+    sum
+}

@@ -1,0 +1,2 @@
+-- What holds where no number is met.
+pub mod Accepts

@@ -1,0 +1,2 @@
+-- Listed nodes and their shares.
+pub mod Listed

@@ -1,0 +1,72 @@
+// A record's plan, or its number.
+use plan::Plan;
+use test_tools::block;
+use test_tools::form;
+use test_tools::part;
+use test_tools::text;
+use test_tools::untouched;
+use test_tools::value;
+
+pub fn plan(rec: &[u8]) {
+    let plan = plan::build_plan(rec);
+    let number = plan.number;
+    if number != 0 {
+        refused(number, empty(plan));
+        return;
+    }
+    accepted(plan);
+}
+
+fn refused(number: u8, all_zero: bool) {
+    value(b": refused", number as u64);
+    either(all_zero, b", all places 0", b", other places not 0");
+}
+
+// Whether all places beside the number hold 0.
+fn empty(plan: Plan) -> bool {
+    let numbers = [plan.n, plan.k, plan.d, plan.b];
+    let shifts = plan.shifts;
+    let base = plan.base;
+    untouched(0, &numbers) && untouched(0, &shifts) && untouched(0, &base)
+}
+
+// The numbers, the shifts and the base word.
+fn accepted(plan: Plan) {
+    print_numbers(plan);
+    front(b" shifts", &plan.shifts, plan.k as usize);
+    front(b" base", &plan.base, plan.n as usize);
+}
+
+fn print_numbers(plan: Plan) {
+    form(
+        b": n # k # d # b #",
+        &[plan.n as u64, plan.k as u64, plan.d as u64, plan.b as u64],
+    );
+}
+
+// A word, so many places from the front, and whether those after them hold 0.
+fn front(word: &[u8], places: &[u8], count: usize) {
+    text(word);
+    block(part(places, count));
+    either(
+        untouched(0, after(places, count)),
+        b" then 0",
+        b" then others",
+    );
+}
+
+// The places from number `count` on, or all.
+fn after(places: &[u8], count: usize) -> &[u8] {
+    if count <= places.len() {
+        return &places[count..];
+    }
+    places
+}
+
+fn either(test: bool, yes: &[u8], no: &[u8]) {
+    if test {
+        text(yes);
+        return;
+    }
+    text(no);
+}
