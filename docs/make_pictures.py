@@ -175,20 +175,14 @@ def is_program(name):
 
 
 def levels(graph):
-    """The crates row by row from the bottom: each above what it rests on; programs at the top, what only they use below them."""
-    level = {}
-    while len(level) < len(graph):
-        for name, below in graph.items():
-            if name not in level and all(other in level for other in below):
-                level[name] = 1 + max((level[other] for other in below), default=-1)
-    top = max(level.values())
-    for name in graph:
-        users = [other for other in graph if name in graph[other]]
-        if is_program(name) or not users:
-            level[name] = top
-        elif all(is_program(other) for other in users):
-            level[name] = top - 1
-    return [[name for name in graph if level[name] == height] for height in range(top + 1)]
+    """The crates row by row from the bottom: those that none uses at the top, every other right below the lowest that uses it."""
+    users = {name: [other for other in graph if name in graph[other]] for name in graph}
+    depth = {}
+    while len(depth) < len(graph):
+        for name in graph:
+            if name not in depth and all(other in depth for other in users[name]):
+                depth[name] = 1 + max((depth[other] for other in users[name]), default=-1)
+    return [[name for name in graph if depth[name] == row] for row in range(max(depth.values()), -1, -1)]
 
 
 def spread(rows, lines, width):
