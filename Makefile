@@ -6,7 +6,7 @@ BYTES = $(shell printf '\\%03o' $(RECORD))
 # proves a program, quietly unless that fails
 proved = @mkdir -p target && { rt check $(1) >target/$(1).log 2>&1 || { cat target/$(1).log; exit 1; }; }
 
-.PHONY: help build test sheet compare docs
+.PHONY: help build test sheet compare bench docs
 
 help: ## this list
 	@awk -F ':.*## ' '/^[a-z]+:.*## / { printf "make %-8s %s\n", $$1, $$2 }' Makefile
@@ -24,6 +24,9 @@ sheet: ## the plan sheet of a record: make sheet RECORD='1 7 3 6 4'
 compare: ## the costs of the plain layout and of ours: make compare RECORD='2 2 255 120'
 	$(call proved,compare)
 	@printf '$(BYTES)' | target/bin/compare
+
+bench: ## our times beside those of other libraries, in one run, as ratios
+	bench/run.sh
 
 docs: ## draw the pictures anew and check what the documents show and cite
 	rt check sheet compare cases

@@ -1,50 +1,68 @@
 // Belongs: whether every lane of a block is a word of the code.
 ghost use mathlib.Core.Path.{_≡_};
 ghost use mathlib.Core.Bool.{true};
-ghost use Prim.Native.Nat.{_*_, _%_, _≤_, min};
+ghost use Prim.Native.Nat.{_≤_, min};
 ghost use lib.Dec.{eqb};
 ghost use lib.ListN.{length, getD};
 ghost use Rattle.lists.specs.Rows.{from};
-ghost use Rattle.field.specs.Fields.{power};
+ghost use Rattle.lists.specs.Padded.{padded};
 ghost use Rattle.field.specs.Kinds.{usable};
-ghost use Rattle.generator.specs.Records.{prime, Sound};
+ghost use Rattle.generator.specs.Records.{Sound};
 ghost use Rattle.generator.specs.Codewords.{checkFrom, isWord};
 ghost use Rattle.blocks.specs.Blocks.{laneOf, wrongFrom};
 ghost use Rattle.blocks.specs.Faults.{belongsFault};
 ghost use Rattle.blocks.specs.Answers.{testOf};
 ghost use Rattle.blocks.specs.Promises.{BelongsSays};
 ghost use Rattle.belongs.specs.Search.{firstFalse};
-ghost use Rattle.belongs.specs.Ready.{IsBlock};
+ghost use Rattle.belongs.specs.Ready.{IsBlock, powersOf, factorsOf};
 use blocks::Test;
 use generator::Header;
 use generator::Record;
 
-// Node j's factor in check sum e: root^(j·e), the exponent modulo n.
-fn factor(h: Header, e: u32, j: u32) -> u32
-    requires { ⌜ Sound h × (j * e ≤ 65025) ⌝ }
-    ensures { λ r. ⌜ r ≡ power (prime h) (h .root) (j * e % h .n) ⌝ }
+// The powers of the root below its order, and zeros after them.
+fn powers(h: Header) -> [u8; 255]
+    requires { ⌜ Sound h ⌝ }
+    ensures { λ r. ⌜ r ≡ padded 255 (powersOf h) ⌝ }
 {
     let field = h.field;
     let root = h.root;
-    let n = h.n as u32;
-    field.power(root, j * e % n)
+    let n = h.n as usize;
+    let mut out = [0u8; 255];
+    let mut x: u32 = 1;
+    let mut i: usize = 0;
+    while i < n {
+        out[i] = x as u8;
+        x = field.mul(root, x);
+        i += 1;
+    }
+    out
 }
 
-// Check sum e of each lane. Each node's term is added to the sum over the nodes after it, so the last node comes first.
-fn lane_sums(h: Header, e: u32, lanes: usize, shares: &[u8], sums: &mut [u8])
-    requires { ⌜ IsBlock h lanes (now shares) × (e ≤ 255) × (length (now sums) ≡ lanes) ⌝ }
+// The nodes' factors in check sum e, root^(j·e) with the exponent modulo n, and zeros after them.
+fn factors(h: Header, powers: &[u8], e: usize) -> [u8; 255]
+    requires { ⌜ Sound h × (now powers ≡ padded 255 (powersOf h)) × (e ≤ 255) ⌝ }
+    ensures { λ r. ⌜ r ≡ padded 255 (factorsOf h e) ⌝ }
+{
+    let n = h.n as usize;
+    let mut out = [0u8; 255];
+    let mut j: usize = 0;
+    while j < n {
+        let i = j * e % n;
+        out[j] = powers[i];
+        j += 1;
+    }
+    out
+}
+
+// Check sum e of each lane.
+fn lane_sums(h: Header, powers: &[u8], e: usize, lanes: usize, shares: &[u8], sums: &mut [u8])
+    requires { ⌜ IsBlock h lanes (now shares) × (now powers ≡ padded 255 (powersOf h)) × (e ≤ 255) × (length (now sums) ≡ lanes) ⌝ }
     ensures { λ r. ⌜ now (sums .exit) ≡ from (λ t. checkFrom h e 0 (laneOf (h .n) lanes t (now (shares .entry)))) 0 lanes ⌝ }
 {
     let field = h.field;
-    kernel::clear(sums);
-    let mut j = h.n as u32;
-    while 0 < j {
-        j -= 1;
-        let c = factor(h, e, j);
-        let start = j as usize * lanes;
-        let end = start + lanes;
-        kernel::add_scaled(field, c, &shares[start..end], sums);
-    }
+    let n = h.n as usize;
+    let weights = factors(h, powers, e);
+    combine::combine(field, &weights, n, lanes, shares, sums);
 }
 
 // The first place whose byte is not 0, or the length.
@@ -69,12 +87,13 @@ fn first_wrong(h: Header, lanes: usize, shares: &[u8]) -> usize
     requires { ⌜ IsBlock h lanes (now shares) ⌝ }
     ensures { λ r. ⌜ r ≡ firstFalse lanes 0 (λ t. isWord h (laneOf (h .n) lanes t (now (shares .entry)))) ⌝ }
 {
-    let checks = (h.n - h.k) as u32;
+    let checks = (h.n - h.k) as usize;
+    let table = powers(h);
     let mut sums = [0u8; 4096];
     let mut best = lanes;
-    let mut e: u32 = 0;
+    let mut e: usize = 0;
     while e < checks {
-        lane_sums(h, e + 1, lanes, shares, &mut sums[..lanes]);
+        lane_sums(h, &table, e + 1, lanes, shares, &mut sums[..lanes]);
         best = smaller(best, first_nonzero(&sums[..lanes]));
         e += 1;
     }

@@ -2,8 +2,6 @@
 pub mod Shares
 pub mod Updates
 pub mod Messages
-pub mod RowSums
-pub mod Combined
 pub mod Accepts
 pub mod Notebook
 -- The same definitions as document 03 has them.

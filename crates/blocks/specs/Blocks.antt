@@ -2,15 +2,12 @@
 use mathlib.Core.Path.{_≡_}
 use mathlib.Core.Bool.{Bool, true, false}
 use mathlib.Core.List.{List, map}
-use Prim.Native.Nat.{ℕ, zero, suc, _+_, _*_, _≤_, _<_}
+use Prim.Native.Nat.{ℕ, zero, suc, _+_, _*_, _<_}
 use lib.ListN.{length, getD, set}
 use Rattle.lists.specs.Choice.{pick}
 use Rattle.lists.specs.Rows.{from, rowsFrom}
 use Rattle.lists.specs.Numbers.{allBelow}
-use Rattle.field.specs.declared.Field.{Field}
-use Rattle.field.specs.Fields.{sizeOf, add, sub, mul}
-use Rattle.field.specs.Kinds.{modulus, usable}
-use Rattle.field.specs.Sums.{dot}
+use Rattle.field.specs.Fields.{add, sub, mul}
 use Rattle.generator.specs.declared.Header.{Header}
 use Rattle.generator.specs.Records.{prime, size}
 use Rattle.generator.specs.Generator.{entry}
@@ -24,10 +21,6 @@ placeOf l i t = i * l + t
 -- lane t of a buffer of so many rows
 unfoldable pub laneOf : ℕ → ℕ → ℕ → List ℕ → List ℕ
 laneOf rows l t s = from (λ i. getD s (placeOf l i t) 0) 0 rows
-
--- in each lane the sum of the rows' symbols times the weights
-unfoldable pub combined : ℕ → ℕ → ℕ → List ℕ → List ℕ → List ℕ
-combined p rows l ws s = from (λ t. dot p (laneOf rows l t s) ws) 0 l
 
 -- node j's share: what it holds in each lane
 unfoldable pub shareOf : Header → ℕ → List ℕ → ℕ → List ℕ
@@ -60,15 +53,3 @@ pub record MessageFor (h : Header) (l : ℕ) (nodes shares m : List ℕ) : Type 
   pub size-is : length m ≡ h .k * l
   pub symbols : allBelow (size h) m ≡ true
   pub lanes : (t : ℕ) → t < l → atNodes h (laneOf (h .k) l t m) nodes ≡ laneOf (h .k) l t shares
-
--- what combining rows rests on: symbols of a field whose symbols are bytes, a weight for each row
-pub record Rows (field : Field) (rows l : ℕ) (ws s : List ℕ) (out : ℕ) : Type 0 where
-  pub usable-field : usable field ≡ true
-  pub bytes : sizeOf (modulus field) ≤ 256
-  pub weights : rows ≤ length ws
-  pub weights-below : allBelow (sizeOf (modulus field)) ws ≡ true
-  pub long : length s ≡ rows * l
-  pub symbols : allBelow (sizeOf (modulus field)) s ≡ true
-  pub out-long : out ≡ l
-  pub few : rows ≤ 255
-  pub narrow : l ≤ 4096

@@ -1,3 +1,3 @@
--- Sums over the rows of a message, and what holds where encoding meets no number.
-pub mod Partial
+-- A node's column of the generator, and what holds where encoding meets no number.
+pub mod Columns
 pub mod Accepts

@@ -7,9 +7,11 @@ use lib.Dec.{eqb}
 use lib.ListN.{length}
 use Rattle.lists.specs.Choice.{pick}
 use Rattle.lists.specs.Numbers.{allBelow}
+use Rattle.lists.specs.Rows.{from}
 use Rattle.generator.specs.declared.Header.{Header}
 use Rattle.generator.specs.declared.Record.the-variants.{Holds}
 use Rattle.generator.specs.Records.{size, Sound}
+use Rattle.generator.specs.Generator.{entry}
 use Rattle.plan.specs.Plans.{planFor}
 use Rattle.blocks.specs.declared.Outcome.{Outcome}
 use Rattle.blocks.specs.Blocks.{sharesOf}
@@ -21,6 +23,10 @@ pub record Planned (h : Header) (shifts base : List ℕ) : Type 0 where
   pub sound : Sound h
   pub shifts-are : shifts ≡ planFor (Holds h) .shifts
   pub base-is : base ≡ planFor (Holds h) .base
+
+-- node j's column of the generator: its entry of each row
+unfoldable pub columnOf : Header → ℕ → List ℕ
+columnOf h j = from (λ r. entry h r j) 0 (h .k)
 
 -- a message buffer of l lanes
 pub record MessageBuffer (h : Header) (l : ℕ) (message : List ℕ) : Type 0 where

@@ -3,13 +3,14 @@ ghost use mathlib.Core.Path.{_≡_};
 ghost use mathlib.Core.Bool.{true};
 ghost use Prim.Native.Nat.{_+_, _*_, _%_, _≤_, _<_};
 ghost use lib.ListN.{length};
+ghost use Rattle.lists.specs.Padded.{padded};
 ghost use Rattle.field.specs.Kinds.{usable};
 ghost use Rattle.generator.specs.Records.{Sound};
 ghost use Rattle.generator.specs.Generator.{entry};
 ghost use Rattle.blocks.specs.Blocks.{shareOf, sharesOf};
 ghost use Rattle.blocks.specs.Faults.{encodeFault};
 ghost use Rattle.blocks.specs.Promises.{EncodeSays};
-ghost use Rattle.encode.specs.Inner.{Planned, MessageBuffer, Encoded};
+ghost use Rattle.encode.specs.Inner.{Planned, MessageBuffer, Encoded, columnOf};
 use blocks::Outcome;
 use generator::Header;
 use generator::Record;
@@ -19,21 +20,37 @@ fn place(n: usize, shift: usize, node: usize) -> usize
     requires { ⌜ (n ≤ 255) × (shift < n) × (node < n) ⌝ }
     ensures { λ i. ⌜ i ≡ (node + shift) % n ⌝ }
 {
-    (node + shift) % n
+    let i = node + shift;
+    if i < n { i } else { i - n }
 }
 
 // Entry (r, node) of the generator, read from the base word by the shift of row r.
-fn coefficient(h: Header, shifts: &[u8], base: &[u8], r: usize, node: usize) -> u32
+fn coefficient(h: Header, shifts: &[u8], base: &[u8], r: usize, node: usize) -> u8
     requires { ⌜ Planned h (now shifts) (now base) × (r < h .k) × (node < h .n) ⌝ }
     ensures { λ c. ⌜ c ≡ entry h r node ⌝ }
 {
     let n = h.n as usize;
     let shift = shifts[r] as usize;
     let i = place(n, shift, node);
-    base[i] as u32
+    base[i]
 }
 
-// Fills one node's lanes: the sum of the message's rows, each times the node's entry of that row, from the last row to the first.
+// The node's column of the generator, and zeros after it.
+fn column(h: Header, shifts: &[u8], base: &[u8], node: usize) -> [u8; 255]
+    requires { ⌜ Planned h (now shifts) (now base) × (node < h .n) ⌝ }
+    ensures { λ c. ⌜ c ≡ padded 255 (columnOf h node) ⌝ }
+{
+    let k = h.k as usize;
+    let mut out = [0u8; 255];
+    let mut r: usize = 0;
+    while r < k {
+        out[r] = coefficient(h, shifts, base, r, node);
+        r += 1;
+    }
+    out
+}
+
+// Fills one node's lanes: the sum of the message's rows, each times the node's entry of that row.
 fn fill_share(
     h: Header,
     shifts: &[u8],
@@ -47,15 +64,9 @@ fn fill_share(
     ensures { λ r. ⌜ now (share .exit) ≡ shareOf h lanes (now (message .entry)) node ⌝ }
 {
     let field = h.field;
-    kernel::clear(share);
-    let mut r = h.k as usize;
-    while 0 < r {
-        r -= 1;
-        let c = coefficient(h, shifts, base, r, node);
-        let start = r * lanes;
-        let end = start + lanes;
-        kernel::add_scaled(field, c, &message[start..end], share);
-    }
+    let k = h.k as usize;
+    let entries = column(h, shifts, base, node);
+    combine::combine(field, &entries, k, lanes, message, share);
 }
 
 // Fills every node's share through its own part.

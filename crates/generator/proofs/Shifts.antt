@@ -10,10 +10,10 @@ use lib.Dec.{ltb}
 use lib.ListN.{length, getD}
 use borrow.Author.Tests.{eq-eqb, ne-eqb, lt-ltb, le-ltb}
 use Rattle.lists.specs.Choice.{pick}
-use Rattle.lists.specs.Counting.{countFrom}
+use Rattle.lists.specs.Counting.{countFrom, passingFrom}
 use Rattle.lists.proofs.All.{All, All-imp, All-at}
 use Rattle.lists.proofs.Count.{count-add, count-all, count-none, count-period, count-periods}
-use Rattle.lists.proofs.Passing.{passingFrom, length-passing, countList, count-passing, passing-within, passing-first, Rises, passing-rises, rises-distinct}
+use Rattle.lists.proofs.Passing.{length-passing, countList, count-passing, passing-within, passing-first, Rises, passing-rises, rises-distinct}
 use Rattle.lists.proofs.Places.{Places}
 use Rattle.lists.proofs.Rows.{sub-next, sub-end}
 use Rattle.generator.specs.Shifts.{gcd, nextPlace, shiftsFrom, shiftsOf}

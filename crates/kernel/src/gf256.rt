@@ -1,37 +1,56 @@
-// Rows over the field of 256 elements.
+// Rows over the field of 256 elements: the steps of Horner's rule over the digits of the coefficients.
 ghost use mathlib.Core.Path.{_≡_};
 ghost use Prim.Native.Nat.{_*_, _<_};
-ghost use lib.ListN.{length};
+ghost use lib.Bits.{bitXor};
+ghost use lib.ListN.{length, getD};
 ghost use Rattle.field.specs.Bytes.{timesX};
-ghost use Rattle.field.specs.Fields.{mul};
-ghost use Rattle.kernel.specs.Lanes.{addScaled};
+ghost use Rattle.kernel.specs.Lanes.{lanewise};
 
-pub fn add_scaled(c: u8, row: &[u8], acc: &mut [u8])
-    requires { ⌜ length (now row) ≡ length (now acc) ⌝ }
-    ensures { λ r. ⌜ now (acc .exit) ≡ addScaled 0 c (now (row .entry)) (now (acc .entry)) ⌝ }
+// x times acc.
+pub fn double(acc: &mut [u8])
+    ensures { λ r. ⌜ now (acc .exit) ≡ lanewise (λ t y. timesX y) (now (acc .entry)) ⌝ }
 {
     let mut t = 0;
     while t < acc.len() {
-        acc[t] = times(c, row[t]) ^ acc[t];
+        acc[t] = times_x(acc[t]);
         t += 1;
     }
 }
 
-// x·c by the eight digits of x. The compiler unrolls the loop and computes the multiples of c once for all lanes.
-fn times(c: u8, x: u8) -> u8
-    ensures { λ r. ⌜ r ≡ mul 0 x c ⌝ }
+// x times acc, and a row added.
+pub fn double_add(row: &[u8], acc: &mut [u8])
+    requires { ⌜ length (now row) ≡ length (now acc) ⌝ }
+    ensures { λ r. ⌜ now (acc .exit) ≡ lanewise (λ t y. bitXor (timesX y) (getD (now (row .entry)) t 0)) (now (acc .entry)) ⌝ }
 {
-    let mut sum: u8 = 0;
-    let mut a = c;
-    let mut b = x;
-    let mut i: u32 = 0;
-    while i < 8 {
-        sum = sum ^ times_digit(a, b % 2);
-        a = times_x(a);
-        b = b / 2;
-        i += 1;
+    let mut t = 0;
+    while t < acc.len() {
+        acc[t] = times_x(acc[t]) ^ row[t];
+        t += 1;
     }
-    sum
+}
+
+// Two rows added to acc in one pass.
+pub fn add_two(a: &[u8], b: &[u8], acc: &mut [u8])
+    requires { ⌜ (length (now a) ≡ length (now acc)) × (length (now b) ≡ length (now acc)) ⌝ }
+    ensures { λ r. ⌜ now (acc .exit) ≡ lanewise (λ t y. bitXor (bitXor y (getD (now (a .entry)) t 0)) (getD (now (b .entry)) t 0)) (now (acc .entry)) ⌝ }
+{
+    let mut t = 0;
+    while t < acc.len() {
+        acc[t] = acc[t] ^ a[t] ^ b[t];
+        t += 1;
+    }
+}
+
+// x times acc, and two rows added.
+pub fn double_add_two(a: &[u8], b: &[u8], acc: &mut [u8])
+    requires { ⌜ (length (now a) ≡ length (now acc)) × (length (now b) ≡ length (now acc)) ⌝ }
+    ensures { λ r. ⌜ now (acc .exit) ≡ lanewise (λ t y. bitXor (bitXor (timesX y) (getD (now (a .entry)) t 0)) (getD (now (b .entry)) t 0)) (now (acc .entry)) ⌝ }
+{
+    let mut t = 0;
+    while t < acc.len() {
+        acc[t] = times_x(acc[t]) ^ a[t] ^ b[t];
+        t += 1;
+    }
 }
 
 // x times a byte, with no branch.

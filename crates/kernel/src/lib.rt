@@ -1,29 +1,14 @@
 // Operations over the lanes of slices: loops with no table, which the compiler turns into vector instructions.
 ghost use mathlib.Core.Path.{_≡_};
-ghost use mathlib.Core.Bool.{true, _&&_};
-ghost use Prim.Native.Nat.{ℕ, _≤_, _<_};
+ghost use mathlib.Core.Bool.{_&&_};
+ghost use Prim.Native.Nat.{ℕ, _<_};
 ghost use lib.Dec.{ltb};
 ghost use lib.ListN.{length};
 ghost use Rattle.lists.specs.Numbers.{allBelow};
 ghost use Rattle.lists.specs.Padded.{zeros};
-ghost use Rattle.field.specs.Fields.{sizeOf};
-ghost use Rattle.field.specs.Kinds.{modulus, usable};
-ghost use Rattle.kernel.specs.Lanes.{addScaled};
-use field::Field;
 
-mod gf256;
-mod prime;
-
-// Adds c times the row to acc, lane by lane.
-pub fn add_scaled(field: Field, c: u32, row: &[u8], acc: &mut [u8])
-    requires { ⌜ (usable field ≡ true) × (sizeOf (modulus field) ≤ 256) × (c < sizeOf (modulus field)) × (length (now row) ≡ length (now acc)) × (allBelow (sizeOf (modulus field)) (now row) ≡ true) × (allBelow (sizeOf (modulus field)) (now acc) ≡ true) ⌝ }
-    ensures { λ r. ⌜ now (acc .exit) ≡ addScaled (modulus field) c (now (row .entry)) (now (acc .entry)) ⌝ }
-{
-    match field {
-        Field::Prime(f) => prime::add_scaled(f.p as u16, c as u16, row, acc),
-        Field::Binary(_) => gf256::add_scaled(c as u8, row, acc),
-    }
-}
+pub mod gf256;
+pub mod prime;
 
 // Writes 0 to every lane.
 pub fn clear(acc: &mut [u8])

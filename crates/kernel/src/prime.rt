@@ -11,6 +11,9 @@ pub fn add_scaled(p: u16, c: u16, row: &[u8], acc: &mut [u8])
     requires { ⌜ (p ≤ 256) × (c < p) × (length (now row) ≡ length (now acc)) × (allBelow p (now acc) ≡ true) ⌝ }
     ensures { λ r. ⌜ now (acc .exit) ≡ addScaled p c (now (row .entry)) (now (acc .entry)) ⌝ }
 {
+    if c == 0 {
+        return;
+    }
     let ratio = c * 256 / p;
     let mut t = 0;
     while t < acc.len() {

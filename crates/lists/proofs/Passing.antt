@@ -10,14 +10,9 @@ use native.Mathlib.Numerals.{add-one}
 use native.Mathlib.Omega.{arith}
 use lib.ListN.{length, getD}
 use Rattle.lists.specs.Choice.{pick, when}
-use Rattle.lists.specs.Counting.{countFrom}
+use Rattle.lists.specs.Counting.{countFrom, passingFrom}
 use Rattle.lists.proofs.Count.{count-move}
 use Rattle.lists.proofs.All.{All, All-imp, All-at, Distinct, Distinct-of}
-
--- of the f numbers from i on, those that pass
-unfoldable pub passingFrom : ℕ → ℕ → (ℕ → Bool) → List ℕ
-passingFrom zero i p = []
-passingFrom (suc f) i p = pick (p i) (i ∷ []) [] ++ passingFrom f (i + 1) p
 
 -- what holds of a list with i in front where the test passes, and of the list where it fails
 in-front : (P : List ℕ → Type 0) (b : Bool) (i : ℕ) (l : List ℕ) → (b ≡ true → P (i ∷ l)) → (b ≡ false → P l) → P (pick b (i ∷ []) [] ++ l)

@@ -8,8 +8,9 @@ use Rattle.field.specs.Sums.{dot}
 use Rattle.generator.specs.declared.Header.{Header}
 use Rattle.generator.specs.Records.{prime}
 use Rattle.generator.specs.Codewords.{nodeOf}
-use Rattle.blocks.specs.Blocks.{laneOf, combined, shareOf, MessageFor}
+use Rattle.blocks.specs.Blocks.{laneOf, shareOf, MessageFor}
 use Rattle.blocks.proofs.Messages.{lane-message, some-buffer}
+use Rattle.combine.specs.Combined.{combined}
 use Rattle.recovery.specs.Weights.{Rebuilds}
 use Rattle.listed_nodes.specs.Listed.{Listed}
 

@@ -16,9 +16,10 @@ use Rattle.generator.specs.Records.{prime, Sound}
 use Rattle.generator.specs.Shifts.{shifts}
 use Rattle.generator.proofs.Shifts.{shifts-length}
 use Rattle.plan.specs.Plans.{planFor}
-use Rattle.blocks.specs.Blocks.{placeOf, laneOf, combined, MessageFor}
+use Rattle.blocks.specs.Blocks.{placeOf, laneOf, MessageFor}
 use Rattle.blocks.proofs.Shares.{getD-lane}
 use Rattle.blocks.proofs.Messages.{lanes-equal, lane-message}
+use Rattle.combine.specs.Combined.{combined}
 use Rattle.recovery.specs.Weights.{Recovers}
 use Rattle.listed_nodes.specs.Listed.{Listed}
 

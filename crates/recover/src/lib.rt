@@ -25,7 +25,7 @@ fn fill_message(h: Header, lanes: usize, nodes: &[u8], shares: &[u8], setup: Set
         let weights = recovery::recover_weights(h, nodes, setup, r as u32);
         let start = r * lanes;
         let end = start + lanes;
-        blocks::combine(field, &weights, k, lanes, shares, &mut out[start..end]);
+        combine::combine(field, &weights, k, lanes, shares, &mut out[start..end]);
         r += 1;
     }
 }
@@ -76,7 +76,7 @@ fn rebuild_accepted(
     let field = h.field;
     let k = h.k as usize;
     let weights = recovery::rebuild_weights(h, nodes, target);
-    blocks::combine(field, &weights, k, lanes, shares, out);
+    combine::combine(field, &weights, k, lanes, shares, out);
     Outcome::Done
 }
 

@@ -12,10 +12,10 @@ use Rattle.belongs.proofs.first_wrong.Statement.{statement}
 use Rattle.belongs.proofs.first_wrong.Tie as tie
 
 abbrev Inv-loop : tie.InvT-loop
-Inv-loop h lanes shares checks sums₀ best₀ e₀ sums best e = (e ≤ checks) × (length sums ≡ 4096) × (best ≡ failing h lanes shares e)
+Inv-loop h lanes shares checks table sums₀ best₀ e₀ sums best e = (e ≤ checks) × (length sums ≡ 4096) × (best ≡ failing h lanes shares e)
 
 abbrev μ-loop : tie.MeasureT-loop
-μ-loop h lanes shares checks sums₀ best₀ e₀ sums best e = checks - e
+μ-loop h lanes shares checks table sums₀ best₀ e₀ sums best e = checks - e
 
 sub-checks : tie.Need-sub-checks Inv-loop μ-loop
 sub-checks c = search needs
@@ -23,10 +23,16 @@ sub-checks c = search needs
 cast-checks : tie.Need-cast-checks Inv-loop μ-loop
 cast-checks c = search needs
 
+powers-requires : tie.Need-powers-requires Inv-loop μ-loop
+powers-requires c κs = c .before .before .pre .sound
+
 loop-holds : tie.Need-loop-holds Inv-loop μ-loop
 loop-holds c =
-    let a = c .before .before .args in
+    let a = c .before .before .before .args in
     (omega arith, refl, sym (failing-none (a .h) (a .lanes) (a .shares .now)))
+
+slice-aggregate-lane-sums : tie.Need-slice-aggregate-lane-sums Inv-loop μ-loop
+slice-aggregate-lane-sums c = search needs
 
 add-lane-sums : tie.Need-add-lane-sums Inv-loop μ-loop
 add-lane-sums c = omega arith
@@ -34,11 +40,13 @@ add-lane-sums c = omega arith
 array-borrow-prefix-sums : tie.Need-array-borrow-prefix-sums Inv-loop μ-loop
 array-borrow-prefix-sums c = omega arith
 
-slice-aggregate-lane-sums : tie.Need-slice-aggregate-lane-sums Inv-loop μ-loop
-slice-aggregate-lane-sums c = sym (length-take-le _ _ (omega arith))
+slice-aggregate-lane-sums-2 : tie.Need-slice-aggregate-lane-sums-2 Inv-loop μ-loop
+slice-aggregate-lane-sums-2 c = sym (length-take-le _ _ (omega arith))
 
 lane-sums-requires : tie.Need-lane-sums-requires Inv-loop μ-loop
-lane-sums-requires c κs = (c .before .before .before .before .before .pre, omega arith, length-take-le _ _ (omega arith))
+lane-sums-requires c κs =
+    let st = c .before .before .before .before .before .before .before in
+    (st .pre, c .before .before .before .before .powers .ensures, omega (arith, c .before .before .before .before .before .struct-known .given), length-take-le _ _ (omega arith))
 
 array-share-prefix-sums : tie.Need-array-share-prefix-sums Inv-loop μ-loop
 array-share-prefix-sums c = prefix-fits _ _ _ _ (c .before .lane-sums .ensures)
@@ -60,8 +68,8 @@ loop-less c = omega arith
 
 loop-again : tie.Need-loop-again Inv-loop μ-loop
 loop-again c =
-    let a = c .before .before .before .before .before .before .before .before .before .before .args in
-    let l = c .before .before .before .before .before .before .before .loop in
+    let a = c .before .before .before .before .before .before .before .before .before .before .before .before .args in
+    let l = c .before .before .before .before .before .before .before .before .loop in
     let sum = checkIn (a .h) (a .lanes) (a .shares .now) (l .e + 1) in (
       omega arith,
       prefix-long sum _ _ _ (c .before .before .before .before .lane-sums .ensures) (omega arith) ∙ l .inv .1,
@@ -73,7 +81,7 @@ loop-again c =
 returns : tie.Need-returns Inv-loop μ-loop
 unfolding isWord
 returns c =
-    let a = c .before .before .before .before .args in
+    let a = c .before .before .before .before .before .args in
     let l = c .before .loop in
     let end : l .e ≡ a .h .n - a .h .k = omega arith in
     l .inv .2 ∙ ap (failing (a .h) (a .lanes) (a .shares .now)) end
@@ -86,10 +94,12 @@ first-wrong-spec =
     μ-loop
     sub-checks
     cast-checks
+    powers-requires
     loop-holds
+    slice-aggregate-lane-sums
     add-lane-sums
     array-borrow-prefix-sums
-    slice-aggregate-lane-sums
+    slice-aggregate-lane-sums-2
     lane-sums-requires
     array-share-prefix-sums
     slice-aggregate-first-nonzero

@@ -27,9 +27,6 @@ shared-slice-read-result c =
     let pre = c .before .before .before .before .before .before .pre in
     rw (c .before .place .ensures, pre .0 .base-is) (base-place _ (pre .0 .sound) _ (mod-lt _ (omega arith)))
 
-cast-result : tie.Need-cast-result
-cast-result c = omega (arith, c .shared-slice-known4 .given (c .before .place .result))
-
 returns : tie.Need-returns
 returns c =
     let pre = c .before .before .before .before .before .before .pre in
@@ -44,5 +41,4 @@ coefficient-spec =
     cast-shift
     place-requires
     shared-slice-read-result
-    cast-result
     returns)

@@ -79,13 +79,14 @@ combine-requires c κs =
     record {
       usable-field = listed .sound .usable-field;
       bytes = listed .sound .bytes;
-      weights = omega (arith, at .before .before .struct-known .given);
-      weights-below = c .before .before .recover-weights .ensures .symbols;
-      long = listed .long;
-      symbols = listed .symbols;
-      out-long = part-length (now .r * l) l (now .out) (omega (arith, fills .long, row-in at));
-      few = omega (arith, at .before .before .struct-known .given);
-      narrow = listed .few-lanes;
+      weighted = record {
+        few = omega (arith, at .before .before .struct-known .given);
+        weights = omega (arith, at .before .before .struct-known .given);
+        weights-below = c .before .before .recover-weights .ensures .symbols;
+        long = listed .long;
+        symbols = listed .symbols;
+        out-long = part-length (now .r * l) l (now .out) (omega (arith, fills .long, row-in at));
+      };
     }
 
 add-r : tie.Need-add-r Inv-loop μ-loop

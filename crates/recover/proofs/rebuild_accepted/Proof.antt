@@ -51,13 +51,14 @@ combine-requires c κs =
     record {
       usable-field = s .usable-field;
       bytes = s .bytes;
-      weights = omega (arith, c .before .before .before .struct-known .given);
-      weights-below = c .before .before .rebuild-weights .ensures .symbols;
-      long = listed .long;
-      symbols = listed .symbols;
-      out-long = out;
-      few = omega (arith, c .before .before .before .struct-known .given);
-      narrow = listed .few-lanes;
+      weighted = record {
+        few = omega (arith, c .before .before .before .struct-known .given);
+        weights = omega (arith, c .before .before .before .struct-known .given);
+        weights-below = c .before .before .rebuild-weights .ensures .symbols;
+        long = listed .long;
+        symbols = listed .symbols;
+        out-long = out;
+      };
     }
 
 same-length : tie.Need-same-length

@@ -1,0 +1,7 @@
+-- Laws of sums of rows: row by row, and digit by digit of the weights.
+pub mod Combined
+pub mod Horner
+pub mod Listing
+pub mod Adding
+pub mod Turns
+pub mod Columns

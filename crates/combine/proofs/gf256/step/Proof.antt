@@ -1,0 +1,65 @@
+-- `step` meets its contract: the listed rows are those of the digit.
+use mathlib.Core.Path.{sym, ap, _∙_}
+use mathlib.Core.List.{List}
+use Prim.Native.Nat.{ℕ}
+use native.Mathlib.Omega.{arith}
+use borrow.Author.Needs.{needs}
+use lib.Seq.{length-take-le}
+use Rattle.combine.specs.Digits.{added, doubled}
+use Rattle.combine.proofs.Listing.{listed-rows}
+use Rattle.combine.proofs.gf256.step.Statement.{statement}
+use Rattle.combine.proofs.gf256.step.Tie as tie
+
+list-rows-requires : tie.Need-list-rows-requires
+list-rows-requires c κs = search needs
+
+slice-reshare-prefix-double-first : tie.Need-slice-reshare-prefix-double-first
+slice-reshare-prefix-double-first c = search needs
+
+slice-aggregate-double-first : tie.Need-slice-aggregate-double-first
+slice-aggregate-double-first c = sym (length-take-le _ _ (omega arith))
+
+double-first-requires : tie.Need-double-first-requires
+double-first-requires c κs =
+    let st = c .before .before .before .before .before .before .before .before .before .before in
+    rw (c .before .before .before .before .list-rows .ensures .1) (listed-rows (st .args .digit) _ (st .args .weights .now) (st .pre .1) _ (st .pre .1 .out-long))
+
+slice-reshare-prefix-add-pairs : tie.Need-slice-reshare-prefix-add-pairs
+slice-reshare-prefix-add-pairs c = search needs
+
+slice-aggregate-add-pairs : tie.Need-slice-aggregate-add-pairs
+slice-aggregate-add-pairs c = sym (length-take-le _ _ (omega arith))
+
+add-pairs-requires : tie.Need-add-pairs-requires
+add-pairs-requires c κs =
+    let st = c .before .before .before .before .before .before .before .before .before .before .before .before .before .before .before in
+    let started = c .before .before .before .before .double-first .ensures in
+    (rw (c .before .before .before .before .before .before .before .before .before .list-rows .ensures .1) (listed-rows (st .args .digit) _ (st .args .weights .now) (st .pre .1) _ (search needs)), started .few, started .even)
+
+same-length : tie.Need-same-length
+same-length c = search needs
+
+same-length-2 : tie.Need-same-length-2
+same-length-2 c = search needs
+
+returns : tie.Need-returns
+returns c =
+    let st = c .before .before .before .before .before .before .before .before .before .before .before .before .before .before .before .before .before .before in
+    c .before .before .add-pairs .ensures
+    ∙ c .before .before .before .before .before .before .before .double-first .ensures .rest
+    ∙ ap (λ (js : List ℕ). added (st .args .lanes) (st .args .shares .now) js (doubled (st .args .acc .now))) (c .before .before .before .before .before .before .before .before .before .before .before .before .list-rows .ensures .1)
+
+pub step-spec : {M : Type 1} → statement M
+step-spec =
+    tie.close
+    (tie.spec
+    list-rows-requires
+    slice-reshare-prefix-double-first
+    slice-aggregate-double-first
+    double-first-requires
+    slice-reshare-prefix-add-pairs
+    slice-aggregate-add-pairs
+    add-pairs-requires
+    same-length
+    same-length-2
+    returns)

@@ -1,0 +1,39 @@
+-- The rows whose weight has a binary digit, and their sum over the field of 256 elements.
+use mathlib.Core.Path.{_≡_}
+use mathlib.Core.List.{List, [], _∷_}
+use Prim.Native.Nat.{ℕ, _+_, _-_, _*_, _/_, _%_, _^_, _≤_, _<_}
+use lib.Bits.{bitXor}
+use lib.Dec.{eqb}
+use lib.ListN.{length, getD, drop}
+use Rattle.lists.specs.Counting.{passingFrom}
+use Rattle.field.specs.Bytes.{timesX}
+use Rattle.kernel.specs.Lanes.{lanewise}
+use Rattle.blocks.specs.Blocks.{placeOf}
+
+-- of the first rows, those whose weight has the digit
+unfoldable pub rowsWith : ℕ → ℕ → List ℕ → List ℕ
+rowsWith digit rows ws = passingFrom rows 0 (λ i. eqb (getD ws i 0 / 2 ^ digit % 2) 1)
+
+-- the sum of the values at listed places
+unfoldable pub sumOf : (ℕ → ℕ) → List ℕ → ℕ
+sumOf f [] = 0
+sumOf f (j ∷ js) = bitXor (f j) (sumOf f js)
+
+-- acc with the listed rows of a buffer added
+unfoldable pub added : ℕ → List ℕ → List ℕ → List ℕ → List ℕ
+added l s js acc = lanewise (λ t y. bitXor y (sumOf (λ j. getD s (placeOf l j t) 0) js)) acc
+
+-- x times each lane
+unfoldable pub doubled : List ℕ → List ℕ
+doubled acc = lanewise (λ t y. timesX y) acc
+
+-- listed rows of l symbols lie within the buffer, and out is as long as a row
+pub record Listed (l : ℕ) (js s : List ℕ) (out : ℕ) : Type 0 where
+  pub within : (i : ℕ) → i < length js → getD js i 0 * l + l ≤ length s
+  pub out-long : out ≡ l
+
+-- acc was doubled and the first r listed rows were added: with the others, an even number, it makes the doubled acc with all
+pub record Started (l : ℕ) (js s acc acc′ : List ℕ) (r : ℕ) : Type 0 where
+  pub few : r ≤ length js
+  pub even : (length js - r) % 2 ≡ 0
+  pub rest : added l s (drop r js) acc′ ≡ added l s js (doubled acc)

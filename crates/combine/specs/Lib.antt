@@ -1,0 +1,3 @@
+-- Sums of rows times weights, and the rows of a digit.
+pub mod Combined
+pub mod Digits

@@ -1,0 +1,91 @@
+// Sums over the field of 256 elements, by Horner's rule over the binary digits of the weights: for digit 7 down to 0 the sums are doubled, and the rows whose weight has the digit are added.
+ghost use mathlib.Core.Path.{_≡_};
+ghost use Prim.Native.Nat.{_+_, _-_, _*_, _%_, _≤_, _<_};
+ghost use lib.ListN.{length, take, drop};
+ghost use Rattle.combine.specs.Combined.{Weighted, combined};
+ghost use Rattle.combine.specs.Digits.{rowsWith, added, doubled, Listed, Started};
+use kernel::gf256;
+
+// Lists those of the first rows whose weight has the digit, and gives how many they are. Each row is written after those listed, and counted or not: no branch.
+fn list_rows(digit: u8, weights: &[u8], list: &mut [u8]) -> usize
+    requires { ⌜ (digit < 8) × (length (now list) ≤ 255) × (length (now list) ≤ length (now weights)) ⌝ }
+    ensures { λ r. ⌜ (r ≤ length (now (list .entry))) × (take r (now (list .exit)) ≡ rowsWith digit (length (now (list .entry))) (now (weights .entry))) ⌝ }
+{
+    let mut count = 0;
+    let mut i = 0;
+    while i < list.len() {
+        list[count] = i as u8;
+        count += ((weights[i] >> digit) % 2) as usize;
+        i += 1;
+    }
+    count
+}
+
+// Where a row starts, in a buffer of `size` symbols that holds it.
+fn start_of(row: u8, lanes: usize, size: usize) -> usize
+    requires { ⌜ row * lanes + lanes ≤ size ⌝ }
+    ensures { λ r. ⌜ (r ≡ row * lanes) × (r + lanes ≤ size) ⌝ }
+{
+    row as usize * lanes
+}
+
+// Doubles acc and adds the first one or two listed rows, so that an even number is left; gives how many it added.
+fn double_first(list: &[u8], lanes: usize, shares: &[u8], acc: &mut [u8]) -> usize
+    requires { ⌜ Listed lanes (now list) (now shares) (length (now acc)) ⌝ }
+    ensures { λ r. ⌜ Started lanes (now (list .entry)) (now (shares .entry)) (now (acc .entry)) (now (acc .exit)) r ⌝ }
+{
+    if list.len() == 0 {
+        gf256::double(acc);
+        return 0;
+    }
+    let start = start_of(list[0], lanes, shares.len());
+    let end = start + lanes;
+    if list.len() % 2 == 1 {
+        gf256::double_add(&shares[start..end], acc);
+        return 1;
+    }
+    let next = start_of(list[1], lanes, shares.len());
+    let next_end = next + lanes;
+    gf256::double_add_two(&shares[start..end], &shares[next..next_end], acc);
+    2
+}
+
+// Adds the listed rows from place `first` on, which are even in number, two at a time.
+fn add_pairs(list: &[u8], first: usize, lanes: usize, shares: &[u8], acc: &mut [u8])
+    requires { ⌜ Listed lanes (now list) (now shares) (length (now acc)) × (first ≤ length (now list)) × ((length (now list) - first) % 2 ≡ 0) ⌝ }
+    ensures { λ r. ⌜ now (acc .exit) ≡ added lanes (now (shares .entry)) (drop first (now (list .entry))) (now (acc .entry)) ⌝ }
+{
+    let mut i = first;
+    while i < list.len() {
+        let a = start_of(list[i], lanes, shares.len());
+        let b = start_of(list[i + 1], lanes, shares.len());
+        let a_end = a + lanes;
+        let b_end = b + lanes;
+        gf256::add_two(&shares[a..a_end], &shares[b..b_end], acc);
+        i += 2;
+    }
+}
+
+// One step of Horner's rule; `list` has a place for each row.
+fn step(digit: u8, weights: &[u8], lanes: usize, shares: &[u8], list: &mut [u8], acc: &mut [u8])
+    requires { ⌜ (digit < 8) × Weighted 256 (length (now list)) lanes (now weights) (now shares) (length (now acc)) ⌝ }
+    ensures { λ r. ⌜ now (acc .exit) ≡ added lanes (now (shares .entry)) (rowsWith digit (length (now (list .entry))) (now (weights .entry))) (doubled (now (acc .entry))) ⌝ }
+{
+    let count = list_rows(digit, weights, list);
+    let first = double_first(&list[..count], lanes, shares, acc);
+    add_pairs(&list[..count], first, lanes, shares, acc);
+}
+
+// In each lane the sum of the rows' symbols times the weights.
+pub fn combine(weights: &[u8], rows: usize, lanes: usize, shares: &[u8], acc: &mut [u8])
+    requires { ⌜ Weighted 256 rows lanes (now weights) (now shares) (length (now acc)) ⌝ }
+    ensures { λ r. ⌜ now (acc .exit) ≡ combined 0 rows lanes (now (weights .entry)) (now (shares .entry)) ⌝ }
+{
+    let mut list = [0u8; 255];
+    kernel::clear(acc);
+    let mut digit: u8 = 8;
+    while 0 < digit {
+        digit -= 1;
+        step(digit, weights, lanes, shares, &mut list[..rows], acc);
+    }
+}
