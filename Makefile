@@ -6,7 +6,7 @@ BYTES = $(shell printf '\\%03o' $(RECORD))
 # proves a program, quietly unless that fails
 proved = @mkdir -p target && { rt check $(1) >target/$(1).log 2>&1 || { cat target/$(1).log; exit 1; }; }
 
-.PHONY: help build test sheet compare bench docs
+.PHONY: help build test wrong sheet compare bench docs
 
 help: ## this list
 	@awk -F ':.*## ' '/^[a-z]+:.*## / { printf "make %-8s %s\n", $$1, $$2 }' Makefile
@@ -16,6 +16,9 @@ build: ## prove and compile the static library for C and Rust, and build the Rus
 
 test: ## the gate: everything proved from nothing, wrong programs refused, outputs compared, C and Rust, documents
 	.ci/run
+
+wrong: ## further wrong programs, each of which must be refused
+	tests/wrong_programs.sh
 
 sheet: ## the plan sheet of a record: make sheet RECORD='1 7 3 6 4'
 	$(call proved,sheet)

@@ -31,9 +31,10 @@ for file in examples/c/Makefile examples/c/store.c include/balanced.h; do
     fi
 done
 
-# a block of 4,096 lanes on 255 nodes
-gcc -std=c99 -O2 "${strict[@]}" -o target/examples/large_block tests/large_block.c "$library"
-target/examples/large_block
+# blocks of 4,096 lanes on up to 255 nodes, held to another implementation's checksums
+gcc -std=c99 -O2 "${strict[@]}" -o target/examples/large_cases tests/large_cases.c "$library"
+target/examples/large_cases >target/examples/large_cases.out
+cmp target/examples/large_cases.out tests/reference/large_cases.out
 
 export BALANCED_LIB_DIR=$PWD/target/staticlib
 cd bindings/rust

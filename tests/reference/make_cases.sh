@@ -1,10 +1,9 @@
 #!/usr/bin/env bash
 # make_cases.sh [FOLDER]: writes the calls that the program `cases` answers (FOLDER/cases/stdin: those in cases.txt, and those of small_plans.py),
-# and what the programs `cases` and `large_cases` must print (FOLDER/PROGRAM/stdout), by the Python reference. FOLDER is crates/ unless it is given.
+# and what that program must print (FOLDER/cases/stdout), by the Python reference. FOLDER is crates/ unless it is given.
 set -eu
 here=$(cd "$(dirname "$0")" && pwd)
 crates=${1:-$here/../../crates}
 cat "$here/cases.txt" > "$crates/cases/stdin"
 python3 "$here/small_plans.py" >> "$crates/cases/stdin"
 python3 "$here/cases.py" "$crates/cases/stdin" > "$crates/cases/stdout"
-python3 "$here/large_cases.py" > "$crates/large_cases/stdout"

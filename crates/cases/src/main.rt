@@ -3,7 +3,6 @@
 ghost use Prim.Native.Nat.{_≤_};
 ghost use lib.ListN.{length};
 use libc::STDIN_FILENO;
-use plan_words::plans;
 use test_tools::part;
 use test_tools::text;
 use test_words::after_word;
@@ -14,6 +13,7 @@ use test_words::starts;
 mod belonging;
 mod encoding;
 mod outcome;
+mod plans;
 mod rebuilding;
 mod recovering;
 mod updating;

@@ -1,25 +1,4 @@
-// Test data and checksums, which the reference makes by the same rules.
-// A linear congruential generator's next state.
-fn next(x: u64) -> u64 {
-    (x % 2147483648 * 1103515245 + 12345) % 2147483648
-}
-
-// A number as a symbol of the field whose largest symbol is `top`.
-pub fn symbol(x: u64, top: u8) -> u8 {
-    let size = top as u64 + 1;
-    (x % size) as u8
-}
-
-// Fills a buffer with the symbols of the states after the seed.
-pub fn fill(seed: u64, top: u8, out: &mut [u8]) {
-    let mut x = seed;
-    let mut i = 0;
-    while i < out.len() {
-        x = next(x);
-        out[i] = symbol(x / 65536, top);
-        i += 1;
-    }
-}
+// Checksums, which the reference makes by the same rule, and tests of bytes.
 
 // The checksum with one byte more.
 fn with(sum: u64, byte: u8) -> u64 {

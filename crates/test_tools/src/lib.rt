@@ -1,17 +1,12 @@
-// What the test programs share: words and numbers on standard output, test data, checksums.
+// What the test programs share: words and numbers on standard output, checksums, parts of buffers.
 mod data;
 mod places;
 mod print;
 
-pub use data::fill;
 pub use data::sum;
-pub use data::symbol;
 pub use data::untouched;
-pub use places::byte_at;
 pub use places::front;
 pub use places::part;
-pub use places::place;
-pub use places::put;
 pub use print::block;
 pub use print::bytes;
 pub use print::form;

@@ -1,3 +1,0 @@
-// Plans in words, for the test programs.
-pub mod even;
-pub mod plans;

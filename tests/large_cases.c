@@ -1,0 +1,137 @@
+/* Large blocks through the C interface, by checksums: which k are even with n = 255; blocks with the largest n and the largest number of
+   lanes, which are encoded, updated, damaged, recovered from k of their nodes and rebuilt; and a block with one lane too many.
+   tests/reference/large_cases.py prints the same lines by another implementation. */
+#include "balanced.h"
+#include <stdio.h>
+#include <string.h>
+
+enum { MOST = BALANCED_MAX_NODES * BALANCED_MAX_LANES };
+static uint8_t message[MOST], shares[MOST], before[MOST], held[MOST], back[MOST], nodes[BALANCED_MAX_NODES];
+
+/* A record, the largest symbol of its field, n, k and the number of lanes. */
+struct code {
+    uint8_t record[5];
+    size_t length;
+    unsigned top, n, k;
+    uint32_t lanes;
+};
+
+static uint64_t checksum(const uint8_t *s, size_t size) {
+    uint64_t total = 0;
+    for (size_t i = 0; i < size; i++) total = (total * 257 + s[i] + 1) % 4294967291u;
+    return total;
+}
+
+/* The symbols of a linear congruential generator's states. */
+static void fill(const struct code *c) {
+    uint64_t x = 1;
+    for (size_t i = 0; i < (size_t)c->k * c->lanes; i++) {
+        x = (x * 1103515245u + 12345) % 2147483648u;
+        message[i] = (uint8_t)(x / 65536 % (c->top + 1));
+    }
+}
+
+static size_t message_size(const struct code *c) { return (size_t)c->k * c->lanes; }
+static size_t shares_size(const struct code *c) { return (size_t)c->n * c->lanes; }
+
+static void even(void) {
+    uint8_t numbers[BALANCED_PLAN_NUMBERS], shifts[BALANCED_PLAN_SHIFTS], base[BALANCED_PLAN_BASE];
+    printf("even 2 2 255:");
+    for (unsigned k = 1; k <= 255; k++) {
+        const uint8_t record[4] = { 2, 2, 255, (uint8_t)k };
+        uint8_t number = balanced_plan(record, 4, numbers, sizeof numbers, shifts, sizeof shifts, base, sizeof base);
+        if (number == BALANCED_OK) printf(" k %u d %u b %u", numbers[1], numbers[2], numbers[3]);
+        else if (number != BALANCED_UNEVEN) printf(" refused %u", number);
+    }
+    puts("");
+}
+
+/* A refusal, and whether the shares are as they were. */
+static void refused(const struct code *c, uint8_t number) {
+    printf("refused %u, %s\n", number, memcmp(shares, before, shares_size(c)) ? "CHANGED" : "unchanged");
+}
+
+static void encode(const struct code *c) {
+    memset(shares, 0, shares_size(c));
+    memset(before, 0, shares_size(c));
+    printf("block");
+    for (size_t i = 0; i < c->length; i++) printf(" %u", c->record[i]);
+    printf(" lanes %u message sum %llu\nencode: ", (unsigned)c->lanes, (unsigned long long)checksum(message, message_size(c)));
+    uint8_t number = balanced_encode(c->record, c->length, c->lanes, message, message_size(c), shares, shares_size(c));
+    if (number != BALANCED_OK) refused(c, number);
+    else printf("done, sum %llu\n", (unsigned long long)checksum(shares, shares_size(c)));
+}
+
+static void belongs(const struct code *c) {
+    uint32_t wrong;
+    uint8_t number = balanced_belongs(c->record, c->length, c->lanes, shares, shares_size(c), &wrong);
+    if (number != BALANCED_OK) printf("belongs: refused %u\n", number);
+    else if (wrong == c->lanes) puts("belongs: yes");
+    else printf("belongs: no, lane %u\n", (unsigned)wrong);
+}
+
+/* A symbol of a lane moves so many symbols up. */
+static void update(const struct code *c, unsigned symbol, uint32_t lane, unsigned up) {
+    size_t at = (size_t)symbol * c->lanes + lane;
+    uint8_t old = at < message_size(c) ? message[at] : 0, new_symbol = (uint8_t)((old + up) % (c->top + 1));
+    uint32_t altered;
+    if (at < message_size(c)) message[at] = new_symbol;
+    memcpy(before, shares, shares_size(c));
+    printf("update symbol %u lane %u old %u new %u: ", symbol, (unsigned)lane, old, new_symbol);
+    uint8_t number = balanced_update(c->record, c->length, c->lanes, symbol, lane, old, new_symbol, shares, shares_size(c), &altered);
+    if (number != BALANCED_OK) refused(c, number);
+    else printf("altered %u, sum %llu\n", (unsigned)altered, (unsigned long long)checksum(shares, shares_size(c)));
+}
+
+/* The message from k nodes, `first` and every `step` further, and node 0 from them. */
+static void restore(const struct code *c, unsigned first, unsigned step) {
+    for (unsigned i = 0; i < c->k; i++) {
+        nodes[i] = (uint8_t)((first + i * step) % c->n);
+        memcpy(held + (size_t)i * c->lanes, shares + (size_t)nodes[i] * c->lanes, c->lanes);
+    }
+    uint8_t one = balanced_recover(c->record, c->length, c->lanes, nodes, c->k, held, message_size(c), back, message_size(c));
+    printf("from node %u by %u: ", first, step);
+    if (one != BALANCED_OK) printf("refused %u ", one);
+    else printf("message sum %llu ", (unsigned long long)checksum(back, message_size(c)));
+    uint8_t two = balanced_rebuild(c->record, c->length, c->lanes, nodes, c->k, held, message_size(c), 0, back, c->lanes);
+    if (two != BALANCED_OK) printf("refused %u\n", two);
+    else printf("node 0 sum %llu\n", (unsigned long long)checksum(back, c->lanes));
+}
+
+/* A node's symbol in a lane becomes another. The smallest spoiled lane is named, whichever was spoiled first. */
+static void spoil(const struct code *c, unsigned node, uint32_t lane) {
+    size_t at = (size_t)node * c->lanes + lane;
+    if (at < shares_size(c)) shares[at] = shares[at] ? 0 : 1;
+    printf("spoiled node %u lane %u\n", node, (unsigned)lane);
+    belongs(c);
+}
+
+static void block(const struct code *c) {
+    fill(c);
+    encode(c);
+    belongs(c);
+    update(c, 0, 0, 1);
+    update(c, 17, c->lanes - 1, 100);
+    update(c, 9, 500, 7);
+    update(c, 9, 500, 0);
+    belongs(c);
+    restore(c, c->n - c->k, 1);
+    restore(c, 0, 7);
+    spoil(c, 1, c->lanes - 1);
+    spoil(c, 49, 500);
+    spoil(c, 0, 17);
+    spoil(c, 30, 800);
+}
+
+int main(void) {
+    static const struct code codes[] = {
+        { { 2, 2, 255, 120 }, 4, 255, 255, 120, 4096 },
+        { { 1, 251, 6, 250, 125 }, 5, 250, 250, 125, 4096 },
+        { { 2, 32, 51, 18 }, 4, 255, 51, 18, 1000 },
+        { { 1, 251, 246, 50, 25 }, 5, 250, 50, 25, 1001 },
+        { { 1, 251, 250, 2, 1 }, 5, 250, 2, 1, 4097 },
+    };
+    even();
+    for (size_t i = 0; i < sizeof codes / sizeof *codes; i++) block(&codes[i]);
+    return 0;
+}
