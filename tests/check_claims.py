@@ -3,7 +3,8 @@
 
 A citation is a path in code type (from crates/, or from the top for tests/, docs/ and include/), and after a colon
 the names in it, each in code type: `scheme/proofs/Bounds.antt`: `price`, `distance`. A name with a dot is a record and
-its field. Names in code type that follow no path are not checked.
+its field, and a line number after a name, (line 9), is the line that has it. Names in code type that follow no path are not
+checked.
 """
 import os
 import re
@@ -39,6 +40,11 @@ with open(os.path.join(top, "docs", "CLAIMS.md"), encoding="utf-8") as table:
                 for part in name.split("."):
                     if not re.search(r"(?<![\w-])" + re.escape(part) + r"(?![\w-])", text):
                         faults.append(f"docs/CLAIMS.md:{number}: no {part} in {path}")
+
+            for name, place in re.findall(r"`([^`]+)` \(line (\d+)\)", names):
+                lines = text.splitlines()
+                if int(place) > len(lines) or name not in lines[int(place) - 1]:
+                    faults.append(f"docs/CLAIMS.md:{number}: no {name} in line {place} of {path}")
 
 for fault in faults:
     print(fault)
