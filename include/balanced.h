@@ -39,7 +39,7 @@
  *
  * What the caller sees to
  *
- * - Buffers. A pointer is followed by the length of its buffer, which is the caller's word: a pointer leads to at least
+ * - Buffers. A pointer is followed by the length of its buffer, which the caller vouches for: a pointer leads to at least
  *   so many bytes that may be read and, where it is not `const`, written. Bytes that are read have been initialised;
  *   a buffer that is only written need not be. A length that is not what the call asks for meets BALANCED_LENGTH.
  * - Null. No pointer is null, not even with the length 0.
@@ -125,8 +125,8 @@ uint8_t balanced_encode(const uint8_t *record, size_t record_len,
  *   altered  receives the number of nodes that were altered, which is the number of bytes that differ afterwards
  *
  * If the lane encodes a message that holds old_symbol there, it afterwards encodes the message with new_symbol in its
- * place, and *altered is n-k+1, or 0 where the two symbols are equal. That old_symbol is the true one is the caller's
- * word. Bytes of other lanes are neither read nor changed.
+ * place, and *altered is n-k+1, or 0 where the two symbols are equal. The caller sees to it
+ * that old_symbol is the true one. Bytes of other lanes are neither read nor changed.
  *
  * Returns 0 or one of 1 to 9, 11. For 11 the two symbols and the n bytes of the lane count.
  */
