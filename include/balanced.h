@@ -125,8 +125,8 @@ uint8_t balanced_encode(const uint8_t *record, size_t record_len,
  *   altered  receives the number of nodes that were altered, which is the number of bytes that differ afterwards
  *
  * If the lane encodes a message that holds old_symbol there, it afterwards encodes the message with new_symbol in its
- * place, and *altered is n-k+1, or 0 where the two symbols are equal. The caller sees to it
- * that old_symbol is the true one. Bytes of other lanes are neither read nor changed.
+ * place, and *altered is n-k+1, or 0 where the two symbols are equal. The caller sees to it that old_symbol is the
+ * true one. Bytes of other lanes are neither read nor changed.
  *
  * Returns 0 or one of 1 to 9, 11. For 11 the two symbols and the n bytes of the lane count.
  */

@@ -25,8 +25,8 @@ unfolding product productFrom timesX
 product-two = agree (λ b. product b 2) timesX (product-left 2) timesX-additive (equal-at 8 (λ i. product (2 ^ i) 2) (λ i. timesX (2 ^ i)) tt)
 
 -- it passes out of a product
-product-doubled : (a b : ℕ) → a < 256 → b < 256 → product a (timesX b) ≡ timesX (product a b)
-product-doubled a b ha hb =
+product-times-x : (a b : ℕ) → a < 256 → b < 256 → product a (timesX b) ≡ timesX (product a b)
+product-times-x a b ha hb =
     ap (product a) (sym (product-two b hb)) ∙ sym (product-assoc a b 2 ha hb) ∙ product-two (product a b) (product-byte a b ha)
 
 -- the product with a digit
@@ -42,7 +42,7 @@ product-halved a w ha hw =
     let digit : w % 2 < 2 = omega arith in
     let whole : w / 2 * 2 + w % 2 ≡ w = omega arith in
     let parts : bitXor (w / 2 * 2) (w % 2) ≡ w = xor-shifted (w / 2) 1 (w % 2) digit ∙ whole in
-    ap₂ bitXor (sym (product-doubled a (w / 2) ha (omega arith)) ∙ ap (product a) (sym (timesX-low (w / 2) half))) (sym (product-digit a (w % 2) ha digit))
+    ap₂ bitXor (sym (product-times-x a (w / 2) ha (omega arith)) ∙ ap (product a) (sym (timesX-low (w / 2) half))) (sym (product-digit a (w % 2) ha digit))
     ∙ sym (product-right a (w / 2 * 2) (w % 2) (omega arith) (omega arith))
     ∙ ap (product a) parts
 

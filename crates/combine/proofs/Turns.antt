@@ -18,7 +18,7 @@ use Rattle.field.specs.Sums.{dot}
 use Rattle.kernel.proofs.Lanes.{lanewise-twice, lanewise-from}
 use Rattle.blocks.specs.Blocks.{placeOf, laneOf}
 use Rattle.combine.specs.Combined.{combined, Weighted}
-use Rattle.combine.specs.Digits.{rowsWith, sumOf, added, doubled}
+use Rattle.combine.specs.Digits.{rowsWith, sumOf, added, multiplied}
 use Rattle.combine.proofs.Horner.{dot-none, dot-halved}
 
 -- a sum over the first rows by their weights, as a list by index
@@ -64,9 +64,9 @@ module _ (rows l : ℕ) (ws s : List ℕ) where
         (λ t low high. dot-none rows (symbolAt t) (symbol-byte t (omega arith)) (highOf 8) (λ i row. div-eq-of-lt (weight-byte i row)) rows 0 (omega arith)))
 
     -- one digit less
-    doubled-added : (d e : ℕ) → d + 1 ≡ e → added l s (rowsWith d rows ws) (doubled (sumsOf e)) ≡ sumsOf d
-    unfolding sumsOf combined laneOf added doubled rowsWith
-    doubled-added d e next =
+    multiplied-added : (d e : ℕ) → d + 1 ≡ e → added l s (rowsWith d rows ws) (multiplied (sumsOf e)) ≡ sumsOf d
+    unfolding sumsOf combined laneOf added multiplied rowsWith
+    multiplied-added d e next =
         lanewise-twice _ _ (sumsOf e)
         ∙ lanewise-from _ _ _ l
         (λ t inside.
@@ -76,9 +76,9 @@ module _ (rows l : ℕ) (ws s : List ℕ) where
         halved : (w : ℕ) → w / 2 ^ e ≡ w / 2 ^ d / 2
         halved w = rw (← next, add-one, pow-suc) (sym (div-div-eq-div-mul w (2 ^ d) 2))
 
-    -- as the loop has it: n rows were listed, and acc is doubled
-    pub sums-turn : (d e n : ℕ) (acc : List ℕ) → d + 1 ≡ e → n ≡ rows → acc ≡ sumsOf e → added l s (rowsWith d n ws) (doubled acc) ≡ sumsOf d
-    sums-turn d e n acc next all held = rw (all, held) (doubled-added d e next)
+    -- as the loop has it: n rows were listed, and acc is multiplied
+    pub sums-turn : (d e n : ℕ) (acc : List ℕ) → d + 1 ≡ e → n ≡ rows → acc ≡ sumsOf e → added l s (rowsWith d n ws) (multiplied acc) ≡ sumsOf d
+    sums-turn d e n acc next all held = rw (all, held) (multiplied-added d e next)
 
     pub sums-end : sumsOf 0 ≡ combined 0 rows l ws s
     unfolding sumsOf combined laneOf

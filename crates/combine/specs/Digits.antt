@@ -24,16 +24,16 @@ unfoldable pub added : ℕ → List ℕ → List ℕ → List ℕ → List ℕ
 added l s js acc = lanewise (λ t y. bitXor y (sumOf (λ j. getD s (placeOf l j t) 0) js)) acc
 
 -- x times each lane
-unfoldable pub doubled : List ℕ → List ℕ
-doubled acc = lanewise (λ t y. timesX y) acc
+unfoldable pub multiplied : List ℕ → List ℕ
+multiplied acc = lanewise (λ t y. timesX y) acc
 
 -- listed rows of l symbols lie within the buffer, and out is as long as a row
 pub record Listed (l : ℕ) (js s : List ℕ) (out : ℕ) : Type 0 where
   pub within : (i : ℕ) → i < length js → getD js i 0 * l + l ≤ length s
   pub out-long : out ≡ l
 
--- acc was doubled and the first r listed rows were added: with the others, an even number, it makes the doubled acc with all
+-- acc was multiplied and the first r listed rows were added: with the others, an even number, it makes the multiplied acc with all
 pub record Started (l : ℕ) (js s acc acc′ : List ℕ) (r : ℕ) : Type 0 where
   pub few : r ≤ length js
   pub even : (length js - r) % 2 ≡ 0
-  pub rest : added l s (drop r js) acc′ ≡ added l s js (doubled acc)
+  pub rest : added l s (drop r js) acc′ ≡ added l s js (multiplied acc)

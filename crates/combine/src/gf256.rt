@@ -1,12 +1,14 @@
-// Sums over the field of 256 elements, by Horner's rule over the binary digits of the weights: for digit 7 down to 0 the sums are doubled, and the rows whose weight has the digit are added.
+// Sums over the field of 256 elements, by Horner's rule over the binary digits of the weights: for digit 7 down to 0 the sums are
+// multiplied by x, and the rows whose weight has the digit are added.
 ghost use mathlib.Core.Path.{_≡_};
 ghost use Prim.Native.Nat.{_+_, _-_, _*_, _%_, _≤_, _<_};
 ghost use lib.ListN.{length, take, drop};
 ghost use Rattle.combine.specs.Combined.{Weighted, combined};
-ghost use Rattle.combine.specs.Digits.{rowsWith, added, doubled, Listed, Started};
+ghost use Rattle.combine.specs.Digits.{rowsWith, added, multiplied, Listed, Started};
 use kernel::gf256;
 
-// Lists those of the first rows whose weight has the digit, and gives how many they are. Each row is written after those listed, and counted or not: no branch.
+// Lists those of the first rows whose weight has the digit, and gives how many they are. Each row is written after those listed,
+// and counted or not: no branch.
 fn list_rows(digit: u8, weights: &[u8], list: &mut [u8]) -> usize
     requires { ⌜ (digit < 8) × (length (now list) ≤ 255) × (length (now list) ≤ length (now weights)) ⌝ }
     ensures { λ r. ⌜ (r ≤ length (now (list .entry))) × (take r (now (list .exit)) ≡ rowsWith digit (length (now (list .entry))) (now (weights .entry))) ⌝ }
@@ -29,24 +31,24 @@ fn start_of(row: u8, lanes: usize, size: usize) -> usize
     row as usize * lanes
 }
 
-// Doubles acc and adds the first one or two listed rows, so that an even number is left; gives how many it added.
-fn double_first(list: &[u8], lanes: usize, shares: &[u8], acc: &mut [u8]) -> usize
+// Multiplies acc by x and adds the first one or two listed rows, so that an even number is left; gives how many it added.
+fn multiply_x_first(list: &[u8], lanes: usize, shares: &[u8], acc: &mut [u8]) -> usize
     requires { ⌜ Listed lanes (now list) (now shares) (length (now acc)) ⌝ }
     ensures { λ r. ⌜ Started lanes (now (list .entry)) (now (shares .entry)) (now (acc .entry)) (now (acc .exit)) r ⌝ }
 {
     if list.len() == 0 {
-        gf256::double(acc);
+        gf256::multiply_x(acc);
         return 0;
     }
     let start = start_of(list[0], lanes, shares.len());
     let end = start + lanes;
     if list.len() % 2 == 1 {
-        gf256::double_add(&shares[start..end], acc);
+        gf256::multiply_x_add(&shares[start..end], acc);
         return 1;
     }
     let next = start_of(list[1], lanes, shares.len());
     let next_end = next + lanes;
-    gf256::double_add_two(&shares[start..end], &shares[next..next_end], acc);
+    gf256::multiply_x_add_two(&shares[start..end], &shares[next..next_end], acc);
     2
 }
 
@@ -69,10 +71,10 @@ fn add_pairs(list: &[u8], first: usize, lanes: usize, shares: &[u8], acc: &mut [
 // One step of Horner's rule; `list` has a place for each row.
 fn step(digit: u8, weights: &[u8], lanes: usize, shares: &[u8], list: &mut [u8], acc: &mut [u8])
     requires { ⌜ (digit < 8) × Weighted 256 (length (now list)) lanes (now weights) (now shares) (length (now acc)) ⌝ }
-    ensures { λ r. ⌜ now (acc .exit) ≡ added lanes (now (shares .entry)) (rowsWith digit (length (now (list .entry))) (now (weights .entry))) (doubled (now (acc .entry))) ⌝ }
+    ensures { λ r. ⌜ now (acc .exit) ≡ added lanes (now (shares .entry)) (rowsWith digit (length (now (list .entry))) (now (weights .entry))) (multiplied (now (acc .entry))) ⌝ }
 {
     let count = list_rows(digit, weights, list);
-    let first = double_first(&list[..count], lanes, shares, acc);
+    let first = multiply_x_first(&list[..count], lanes, shares, acc);
     add_pairs(&list[..count], first, lanes, shares, acc);
 }
 

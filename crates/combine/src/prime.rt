@@ -7,7 +7,8 @@ ghost use Rattle.field.specs.Primes.{isPrime};
 ghost use Rattle.combine.specs.Combined.{Weighted, combined};
 use kernel::prime;
 
-// Each row times its weight is added, from the first row to the last: where the rows go down, the compiler's overlap test sends every lane to scalar code.
+// Each row times its weight is added, from the first row to the last: where the rows go down, the compiler's test for overlap
+// sends every lane to scalar code.
 pub fn combine(p: u16, weights: &[u8], rows: usize, lanes: usize, shares: &[u8], acc: &mut [u8])
     requires { ⌜ (isPrime p ≡ true) × (p ≤ 256) × Weighted p rows lanes (now weights) (now shares) (length (now acc)) ⌝ }
     ensures { λ r. ⌜ now (acc .exit) ≡ combined p rows lanes (now (weights .entry)) (now (shares .entry)) ⌝ }

@@ -1,4 +1,4 @@
--- The steps of the product of bytes with no branch: a digit as a mask, and a doubling in eight digits.
+-- The steps of the product of bytes with no branch: a digit as a mask, and a product with x in eight digits.
 use mathlib.Core.Path.{_≡_, _∙_}
 use Prim.Native.Nat.{ℕ, zero, suc, _+_, _*_, _/_, _%_, _<_}
 use native.Mathlib.Nat.{mul-zero, mul-one, mod-eq-of-lt}
@@ -18,6 +18,6 @@ masked a (suc zero) m ha hd hm e =
 masked a (suc (suc d)) m ha hd hm e = absurd (omega arith)
 
 -- what is shifted out at the top comes back as 0x1D
-pub doubled : (a : ℕ) → a < 256 → bitXor (a * 2 % 256) (29 * (a / 128)) ≡ timesX a
+pub timesX-masked : (a : ℕ) → a < 256 → bitXor (a * 2 % 256) (29 * (a / 128)) ≡ timesX a
 unfolding timesX
-doubled = equal-at 256 (λ a. bitXor (a * 2 % 256) (29 * (a / 128))) timesX tt
+timesX-masked = equal-at 256 (λ a. bitXor (a * 2 % 256) (29 * (a / 128))) timesX tt

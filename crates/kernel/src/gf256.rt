@@ -7,7 +7,7 @@ ghost use Rattle.field.specs.Bytes.{timesX};
 ghost use Rattle.kernel.specs.Lanes.{lanewise};
 
 // x times acc.
-pub fn double(acc: &mut [u8])
+pub fn multiply_x(acc: &mut [u8])
     ensures { λ r. ⌜ now (acc .exit) ≡ lanewise (λ t y. timesX y) (now (acc .entry)) ⌝ }
 {
     let mut t = 0;
@@ -18,7 +18,7 @@ pub fn double(acc: &mut [u8])
 }
 
 // x times acc, and a row added.
-pub fn double_add(row: &[u8], acc: &mut [u8])
+pub fn multiply_x_add(row: &[u8], acc: &mut [u8])
     requires { ⌜ length (now row) ≡ length (now acc) ⌝ }
     ensures { λ r. ⌜ now (acc .exit) ≡ lanewise (λ t y. bitXor (timesX y) (getD (now (row .entry)) t 0)) (now (acc .entry)) ⌝ }
 {
@@ -42,7 +42,7 @@ pub fn add_two(a: &[u8], b: &[u8], acc: &mut [u8])
 }
 
 // x times acc, and two rows added.
-pub fn double_add_two(a: &[u8], b: &[u8], acc: &mut [u8])
+pub fn multiply_x_add_two(a: &[u8], b: &[u8], acc: &mut [u8])
     requires { ⌜ (length (now a) ≡ length (now acc)) × (length (now b) ≡ length (now acc)) ⌝ }
     ensures { λ r. ⌜ now (acc .exit) ≡ lanewise (λ t y. bitXor (bitXor (timesX y) (getD (now (a .entry)) t 0)) (getD (now (b .entry)) t 0)) (now (acc .entry)) ⌝ }
 {

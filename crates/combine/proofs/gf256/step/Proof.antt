@@ -5,7 +5,7 @@ use Prim.Native.Nat.{ℕ}
 use native.Mathlib.Omega.{arith}
 use borrow.Author.Needs.{needs}
 use lib.Seq.{length-take-le}
-use Rattle.combine.specs.Digits.{added, doubled}
+use Rattle.combine.specs.Digits.{added, multiplied}
 use Rattle.combine.proofs.Listing.{listed-rows}
 use Rattle.combine.proofs.gf256.step.Statement.{statement}
 use Rattle.combine.proofs.gf256.step.Tie as tie
@@ -13,14 +13,14 @@ use Rattle.combine.proofs.gf256.step.Tie as tie
 list-rows-requires : tie.Need-list-rows-requires
 list-rows-requires c κs = search needs
 
-slice-reshare-prefix-double-first : tie.Need-slice-reshare-prefix-double-first
-slice-reshare-prefix-double-first c = search needs
+slice-reshare-prefix-multiply-x-first : tie.Need-slice-reshare-prefix-multiply-x-first
+slice-reshare-prefix-multiply-x-first c = search needs
 
-slice-aggregate-double-first : tie.Need-slice-aggregate-double-first
-slice-aggregate-double-first c = sym (length-take-le _ _ (omega arith))
+slice-aggregate-multiply-x-first : tie.Need-slice-aggregate-multiply-x-first
+slice-aggregate-multiply-x-first c = sym (length-take-le _ _ (omega arith))
 
-double-first-requires : tie.Need-double-first-requires
-double-first-requires c κs =
+multiply-x-first-requires : tie.Need-multiply-x-first-requires
+multiply-x-first-requires c κs =
     let st = c .before .before .before .before .before .before .before .before .before .before in
     rw (c .before .before .before .before .list-rows .ensures .1) (listed-rows (st .args .digit) _ (st .args .weights .now) (st .pre .1) _ (st .pre .1 .out-long))
 
@@ -33,7 +33,7 @@ slice-aggregate-add-pairs c = sym (length-take-le _ _ (omega arith))
 add-pairs-requires : tie.Need-add-pairs-requires
 add-pairs-requires c κs =
     let st = c .before .before .before .before .before .before .before .before .before .before .before .before .before .before .before in
-    let started = c .before .before .before .before .double-first .ensures in
+    let started = c .before .before .before .before .multiply-x-first .ensures in
     (rw (c .before .before .before .before .before .before .before .before .before .list-rows .ensures .1) (listed-rows (st .args .digit) _ (st .args .weights .now) (st .pre .1) _ (search needs)), started .few, started .even)
 
 same-length : tie.Need-same-length
@@ -46,17 +46,17 @@ returns : tie.Need-returns
 returns c =
     let st = c .before .before .before .before .before .before .before .before .before .before .before .before .before .before .before .before .before .before in
     c .before .before .add-pairs .ensures
-    ∙ c .before .before .before .before .before .before .before .double-first .ensures .rest
-    ∙ ap (λ (js : List ℕ). added (st .args .lanes) (st .args .shares .now) js (doubled (st .args .acc .now))) (c .before .before .before .before .before .before .before .before .before .before .before .before .list-rows .ensures .1)
+    ∙ c .before .before .before .before .before .before .before .multiply-x-first .ensures .rest
+    ∙ ap (λ (js : List ℕ). added (st .args .lanes) (st .args .shares .now) js (multiplied (st .args .acc .now))) (c .before .before .before .before .before .before .before .before .before .before .before .before .list-rows .ensures .1)
 
 pub step-spec : {M : Type 1} → statement M
 step-spec =
     tie.close
     (tie.spec
     list-rows-requires
-    slice-reshare-prefix-double-first
-    slice-aggregate-double-first
-    double-first-requires
+    slice-reshare-prefix-multiply-x-first
+    slice-aggregate-multiply-x-first
+    multiply-x-first-requires
     slice-reshare-prefix-add-pairs
     slice-aggregate-add-pairs
     add-pairs-requires

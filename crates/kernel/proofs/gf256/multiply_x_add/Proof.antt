@@ -1,4 +1,4 @@
--- `gf256::double_add` meets its contract. The loop's invariant: the lanes below t hold the sum.
+-- `gf256::multiply_x_add` meets its contract. The loop's invariant: the lanes below t hold the sum.
 use Prim.Native.Nat.{_-_, _≤_}
 use native.Mathlib.Omega.{arith}
 use borrow.Author.Needs.{needs}
@@ -6,8 +6,8 @@ use lib.Bits.{bitXor}
 use lib.ListN.{length, getD}
 use Rattle.field.specs.Bytes.{timesX}
 use Rattle.kernel.proofs.Filling.{Changed, changed-none, changed-lane, changed-all}
-use Rattle.kernel.proofs.gf256.double_add.Statement.{statement}
-use Rattle.kernel.proofs.gf256.double_add.Tie as tie
+use Rattle.kernel.proofs.gf256.multiply_x_add.Statement.{statement}
+use Rattle.kernel.proofs.gf256.multiply_x_add.Tie as tie
 
 abbrev Inv-loop : tie.InvT-loop
 Inv-loop row acc₀ t₀ acc t = (t ≤ length acc₀) × Changed (λ t y. bitXor (timesX y) (getD row t 0)) acc₀ acc t
@@ -47,8 +47,8 @@ same-length c = c .before .loop .inv .1 .long
 returns : tie.Need-returns Inv-loop μ-loop
 returns c = changed-all _ _ (c .before .loop .inv .1) (omega arith)
 
-pub double-add-spec : {M : Type 1} → statement M
-double-add-spec =
+pub multiply-x-add-spec : {M : Type 1} → statement M
+multiply-x-add-spec =
     tie.close
     (tie.spec
     Inv-loop

@@ -1,19 +1,18 @@
--- `gf256::double_add_two` meets its contract. The loop's invariant: the lanes below t hold the sum.
+-- `gf256::multiply_x` meets its contract. The loop's invariant: the lanes below t are multiplied.
 use Prim.Native.Nat.{_-_, _≤_}
 use native.Mathlib.Omega.{arith}
 use borrow.Author.Needs.{needs}
-use lib.Bits.{bitXor}
-use lib.ListN.{length, getD}
+use lib.ListN.{length}
 use Rattle.field.specs.Bytes.{timesX}
 use Rattle.kernel.proofs.Filling.{Changed, changed-none, changed-lane, changed-all}
-use Rattle.kernel.proofs.gf256.double_add_two.Statement.{statement}
-use Rattle.kernel.proofs.gf256.double_add_two.Tie as tie
+use Rattle.kernel.proofs.gf256.multiply_x.Statement.{statement}
+use Rattle.kernel.proofs.gf256.multiply_x.Tie as tie
 
 abbrev Inv-loop : tie.InvT-loop
-Inv-loop a b acc₀ t₀ acc t = (t ≤ length acc₀) × Changed (λ t y. bitXor (bitXor (timesX y) (getD a t 0)) (getD b t 0)) acc₀ acc t
+Inv-loop acc₀ t₀ acc t = (t ≤ length acc₀) × Changed (λ t y. timesX y) acc₀ acc t
 
 abbrev μ-loop : tie.MeasureT-loop
-μ-loop a b acc₀ t₀ acc t = length acc₀ - t
+μ-loop acc₀ t₀ acc t = length acc₀ - t
 
 loop-holds : tie.Need-loop-holds Inv-loop μ-loop
 loop-holds c = (search needs, changed-none _ _)
@@ -23,12 +22,6 @@ slice-read-times-x c = omega arith
 
 times-x-requires : tie.Need-times-x-requires Inv-loop μ-loop
 times-x-requires c κs = search needs
-
-shared-slice-read-acc : tie.Need-shared-slice-read-acc Inv-loop μ-loop
-shared-slice-read-acc c = omega arith
-
-shared-slice-read-acc-2 : tie.Need-shared-slice-read-acc-2 Inv-loop μ-loop
-shared-slice-read-acc-2 c = omega arith
 
 slice-write-acc : tie.Need-slice-write-acc Inv-loop μ-loop
 slice-write-acc c = omega arith
@@ -41,8 +34,8 @@ loop-less c = omega arith
 
 loop-again : tie.Need-loop-again Inv-loop μ-loop
 loop-again c =
-    let inv = c .before .before .before .before .before .loop .inv .1 in
-    (omega arith, rw (c .before .before .times-x .ensures) (changed-lane _ _ inv (omega arith)))
+    let inv = c .before .before .before .loop .inv .1 in
+    (omega arith, rw (c .times-x .ensures) (changed-lane _ _ inv (omega arith)))
 
 same-length : tie.Need-same-length Inv-loop μ-loop
 same-length c = c .before .loop .inv .1 .long
@@ -50,8 +43,8 @@ same-length c = c .before .loop .inv .1 .long
 returns : tie.Need-returns Inv-loop μ-loop
 returns c = changed-all _ _ (c .before .loop .inv .1) (omega arith)
 
-pub double-add-two-spec : {M : Type 1} → statement M
-double-add-two-spec =
+pub multiply-x-spec : {M : Type 1} → statement M
+multiply-x-spec =
     tie.close
     (tie.spec
     Inv-loop
@@ -59,8 +52,6 @@ double-add-two-spec =
     loop-holds
     slice-read-times-x
     times-x-requires
-    shared-slice-read-acc
-    shared-slice-read-acc-2
     slice-write-acc
     add-t
     loop-less
