@@ -12,7 +12,7 @@ use Rattle.lists.specs.Counting.{differ}
 use Rattle.lists.proofs.Cases.{by-test}
 use Rattle.scheme.proofs.Bounds.{price}
 use Rattle.generator.specs.declared.Header.{Header}
-use Rattle.generator.specs.Records.{headerOf, recordFault, size, weight, Sound}
+use Rattle.generator.specs.Records.{headerOf, recordFault, size, distance, Sound}
 use Rattle.generator.specs.Codewords.{encoding}
 use Rattle.generator.specs.Claims.{isMessage}
 use Rattle.generator.proofs.Accepts.{faultless-sound}
@@ -36,7 +36,7 @@ recovering h s =
     }
 
 -- how many nodes a change alters
-count : (h : Header) → Sound h → (ms : List ℕ) (r new : ℕ) → isMessage h ms ≡ true → r < h .k → new < size h → differ (encoding h ms) (encoding h (set ms r new)) ≡ pick (eqb new (getD ms r 0)) 0 (weight h)
+count : (h : Header) → Sound h → (ms : List ℕ) (r new : ℕ) → isMessage h ms ≡ true → r < h .k → new < size h → differ (encoding h ms) (encoding h (set ms r new)) ≡ pick (eqb new (getD ms r 0)) 0 (distance h)
 count h s ms r new m row low =
     by-test (eqb new (getD ms r 0))
     (λ t. rw t (ap (λ (u : List ℕ). differ (encoding h ms) (encoding h u)) (ap (set ms r) (eqb-true new (getD ms r 0) t) ∙ set-getD ms r 0) ∙ differ-same (encoding h ms)))

@@ -12,7 +12,7 @@ use Rattle.lists.specs.Numbers.{allBelow}
 use Rattle.scheme.specs.Schemes.{Scheme}
 use Rattle.scheme.specs.Costs.{Price, CostsAtLeast}
 use Rattle.generator.specs.declared.Header.{Header}
-use Rattle.generator.specs.Records.{headerOf, recordFault, size, weight}
+use Rattle.generator.specs.Records.{headerOf, recordFault, size, distance}
 use Rattle.generator.specs.Codewords.{encoding, isWord}
 use Rattle.generator.specs.Claims.{isMessage, areNodes, Accepted}
 use Rattle.blocks.specs.Blocks.{laneOf, sharesOf, gathered, updated, wrongFrom, MessageFor}
@@ -36,7 +36,7 @@ pub record Updating (h : Header) : Type 0 where
   -- as many bytes are altered as nodes differ in the two encodings
   pub altered : (ms s : List ℕ) (l r t new : ℕ) → isMessage h ms ≡ true → r < h .k → t < l → new < size h → length s ≡ h .n * l → laneOf (h .n) l t s ≡ encoding h ms → differ s (updated h l r t (getD ms r 0) new s) ≡ differ (encoding h ms) (encoding h (set ms r new))
   -- these are n − k + 1, or none where old and new are equal
-  pub count : (ms : List ℕ) (r new : ℕ) → isMessage h ms ≡ true → r < h .k → new < size h → differ (encoding h ms) (encoding h (set ms r new)) ≡ pick (eqb new (getD ms r 0)) 0 (weight h)
+  pub count : (ms : List ℕ) (r new : ℕ) → isMessage h ms ≡ true → r < h .k → new < size h → differ (encoding h ms) (encoding h (set ms r new)) ≡ pick (eqb new (getD ms r 0)) 0 (distance h)
   -- no other lane is altered
   pub others : (ms s : List ℕ) (l r t new : ℕ) → isMessage h ms ≡ true → r < h .k → t < l → new < size h → length s ≡ h .n * l → laneOf (h .n) l t s ≡ encoding h ms → (q : ℕ) → q < l → (q ≡ t → ⊥) → laneOf (h .n) l q (updated h l r t (getD ms r 0) new s) ≡ laneOf (h .n) l q s
 

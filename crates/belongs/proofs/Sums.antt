@@ -13,7 +13,7 @@ use Rattle.field.specs.Fields.{power}
 use Rattle.field.proofs.Bounds.{power-below}
 use Rattle.field.proofs.FieldOf.{size-pos}
 use Rattle.generator.specs.declared.Header.{Header}
-use Rattle.generator.specs.Records.{prime, size}
+use Rattle.generator.specs.Records.{modulusOf, size}
 use Rattle.generator.specs.Codewords.{checkFrom}
 use Rattle.blocks.specs.Blocks.{laneOf}
 use Rattle.combine.specs.Combined.{combined, Rows}
@@ -23,34 +23,34 @@ use Rattle.belongs.specs.Ready.{IsBlock, powersOf, factorsOf}
 module _ (h : Header) (i : ℕ) (low : i < h .n) where
   in-powers : i < length (powersOf h)
   unfolding powersOf
-  in-powers = omega (arith, length-from (power (prime h) (h .root)) 0 (h .n))
+  in-powers = omega (arith, length-from (power (modulusOf h) (h .root)) 0 (h .n))
 
   -- the power at place i of the table
   pub power-place : i < length (padded 255 (powersOf h))
   power-place = in-padded 255 (powersOf h) i in-powers
 
-  pub power-at : getD (padded 255 (powersOf h)) i 0 ≡ power (prime h) (h .root) i
+  pub power-at : getD (padded 255 (powersOf h)) i 0 ≡ power (modulusOf h) (h .root) i
   unfolding powersOf
-  power-at = getD-padded 255 (powersOf h) i in-powers ∙ rw zero-add at (getD-from (power (prime h) (h .root)) 0 (h .n) i 0 low)
+  power-at = getD-padded 255 (powersOf h) i in-powers ∙ rw zero-add at (getD-from (power (modulusOf h) (h .root)) 0 (h .n) i 0 low)
 
 module _ (h : Header) (e l : ℕ) (s : List ℕ) where
   -- in every lane the check sum
-  pub check-sums : combined (prime h) (h .n) l (padded 255 (factorsOf h e)) s ≡ from (λ t. checkFrom h e 0 (laneOf (h .n) l t s)) 0 l
+  pub check-sums : combined (modulusOf h) (h .n) l (padded 255 (factorsOf h e)) s ≡ from (λ t. checkFrom h e 0 (laneOf (h .n) l t s)) 0 l
   unfolding factorsOf checkFrom
-  check-sums = combined-column (prime h) (λ j. power (prime h) (h .root) (j * e % h .n)) (checkFrom h e) (λ j. refl) (λ j w ws. refl) 255 (h .n) l s
+  check-sums = combined-column (modulusOf h) (λ j. power (modulusOf h) (h .root) (j * e % h .n)) (checkFrom h e) (λ j. refl) (λ j w ws. refl) 255 (h .n) l s
 
   -- the shares and the factors can be combined
   pub rows-ready : IsBlock h l s → h .n ≤ 255 → (out : ℕ) → out ≡ l → Rows (h .field) (h .n) l (padded 255 (factorsOf h e)) s out
   unfolding factorsOf
   rows-ready b few out long =
-      let rows : length (factorsOf h e) ≡ h .n = length-from (λ j. power (prime h) (h .root) (j * e % h .n)) 0 (h .n) in
+      let rows : length (factorsOf h e) ≡ h .n = length-from (λ j. power (modulusOf h) (h .root) (j * e % h .n)) 0 (h .n) in
       record {
         usable-field = b .sound .usable-field;
         bytes = b .sound .bytes;
         weighted = record {
           few = few;
           weights = omega (arith, length-padded 255 (factorsOf h e) (omega arith));
-          weights-below = column-below (size h) 255 (λ j. power (prime h) (h .root) (j * e % h .n)) (h .n) (size-pos (prime h) (b .sound .field)) (λ j. power-below (prime h) (b .sound .field) (j * e % h .n) (b .sound .root-below));
+          weights-below = column-below (size h) 255 (λ j. power (modulusOf h) (h .root) (j * e % h .n)) (h .n) (size-pos (modulusOf h) (b .sound .field)) (λ j. power-below (modulusOf h) (b .sound .field) (j * e % h .n) (b .sound .root-below));
           long = b .long;
           symbols = b .symbols;
           out-long = long;

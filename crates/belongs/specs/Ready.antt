@@ -8,15 +8,15 @@ use Rattle.lists.specs.Numbers.{allBelow}
 use Rattle.lists.specs.Rows.{from}
 use Rattle.field.specs.Fields.{power}
 use Rattle.generator.specs.declared.Header.{Header}
-use Rattle.generator.specs.Records.{prime, size, Sound}
+use Rattle.generator.specs.Records.{modulusOf, size, Sound}
 
 -- the powers of the root below its order n
 unfoldable pub powersOf : Header → List ℕ
-powersOf h = from (power (prime h) (h .root)) 0 (h .n)
+powersOf h = from (power (modulusOf h) (h .root)) 0 (h .n)
 
 -- the factors of the nodes' symbols in check sum e
 unfoldable pub factorsOf : Header → ℕ → List ℕ
-factorsOf h e = from (λ j. power (prime h) (h .root) (j * e % h .n)) 0 (h .n)
+factorsOf h e = from (λ j. power (modulusOf h) (h .root) (j * e % h .n)) 0 (h .n)
 
 -- a full share buffer of l lanes over an accepted record's header
 pub record IsBlock (h : Header) (l : ℕ) (shares : List ℕ) : Type 0 where

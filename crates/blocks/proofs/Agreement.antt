@@ -147,10 +147,10 @@ module _ (h : Own.Header) (sound : R.Sound h) where
     targetFrom-agrees j = target-share l 0 j ∙ shareOf-agrees j
 
   -- a symbol with a multiple of an entry added
-  byte-agrees : (r j x b : ℕ) → x < R.size h → b < R.size h → add (R.prime h) b (mul (R.prime h) x (entry (given h) r j)) ≡ F.add (R.prime h) b (F.mul (R.prime h) x (G.entry h r j))
+  byte-agrees : (r j x b : ℕ) → x < R.size h → b < R.size h → add (R.modulusOf h) b (mul (R.modulusOf h) x (entry (given h) r j)) ≡ F.add (R.modulusOf h) b (F.mul (R.modulusOf h) x (G.entry h r j))
   byte-agrees r j x b low symbol =
-      ap (add (R.prime h) b) (mul-agrees (R.prime h) x (entry (given h) r j) low ∙ ap (F.mul (R.prime h) x) (entry-agrees h sound r j))
-      ∙ add-agrees (R.prime h) b (F.mul (R.prime h) x (G.entry h r j)) symbol (mul-below (R.prime h) (sound .field) low (entry-below h sound r j))
+      ap (add (R.modulusOf h) b) (mul-agrees (R.modulusOf h) x (entry (given h) r j) low ∙ ap (F.mul (R.modulusOf h) x) (entry-agrees h sound r j))
+      ∙ add-agrees (R.modulusOf h) b (F.mul (R.modulusOf h) x (G.entry h r j)) symbol (mul-below (R.modulusOf h) (sound .field) low (entry-below h sound r j))
 
   -- updates of a lane of symbols
   module _ (l r t : ℕ) (inside : t < l) where
@@ -158,7 +158,7 @@ module _ (h : Own.Header) (sound : R.Sound h) where
     unfolding updatedFrom Ours.updatedFrom Ours.placeOf
     updatedFrom-agrees zero j x s low symbols = refl
     updatedFrom-agrees (suc f) j x s low symbols =
-        let b : ℕ = F.add (R.prime h) (getD s (j * l + t) 0) (F.mul (R.prime h) x (G.entry h r j)) in
+        let b : ℕ = F.add (R.modulusOf h) (getD s (j * l + t) 0) (F.mul (R.modulusOf h) x (G.entry h r j)) in
         rw (add-one j, byte-agrees r j x (getD s (j * l + t) 0) low (symbols j (omega arith) (omega arith)))
         (updatedFrom-agrees f (suc j) x (set s (j * l + t) b) low
         (λ i above below.
@@ -169,14 +169,14 @@ module _ (h : Own.Header) (sound : R.Sound h) where
       pub updated-agrees : updated (given h) l r t old new s ≡ Ours.updated h l r t old new s
       unfolding updated Ours.updated Ours.placeOf
       updated-agrees =
-          rw (sub-agrees (R.prime h) new old new-symbol old-symbol)
-          (updatedFrom-agrees (h .n) 0 (F.sub (R.prime h) new old) s (sub-below (R.prime h) (sound .field) new-symbol old-symbol)
+          rw (sub-agrees (R.modulusOf h) new old new-symbol old-symbol)
+          (updatedFrom-agrees (h .n) 0 (F.sub (R.modulusOf h) new old) s (sub-below (R.modulusOf h) (sound .field) new-symbol old-symbol)
           (λ i above below. let node : i < h .n = omega arith in rw (getD-lane (h .n) l t s i node) at (below-at (R.size h) (Ours.laneOf (h .n) l t s) symbols i (omega (arith, length-lane (h .n) l t s)))))
 
       -- and how many bytes differ afterwards
       pub altered-agrees : differ s (updated (given h) l r t old new s) ≡ Counting.differ s (Ours.updated h l r t old new s)
       unfolding Ours.updated
-      altered-agrees = rw updated-agrees (differ-agrees s (Ours.updated h l r t old new s) (sym (length-updatedFrom h l r t (F.sub (R.prime h) new old) (h .n) 0 s)))
+      altered-agrees = rw updated-agrees (differ-agrees s (Ours.updated h l r t old new s) (sym (length-updatedFrom h l r t (F.sub (R.modulusOf h) new old) (h .n) 0 s)))
 
   -- the code test of a full share buffer
   module _ (l : ℕ) (s : List ℕ) (long : length s ≡ h .n * l) (symbols : allBelow (R.size h) s ≡ true) where
@@ -217,7 +217,7 @@ module _ (h : Own.Header) (sound : R.Sound h) where
     pub IsMessageFor-agrees : IsMessageFor (given h) l js s m ↔ Ours.MessageFor h l js s m
     unfolding IsMessageFor
     IsMessageFor-agrees =
-        let q = sizeOf-agrees (R.prime h) in (
+        let q = sizeOf-agrees (R.modulusOf h) in (
           λ a. let symbols = rw q at (a .1) in record { size-is = a .0; symbols = symbols; lanes = lanesAre-agrees (a .0) symbols .0 (a .2) },
           λ a. (a .size-is, rw q (a .symbols), lanesAre-agrees (a .size-is) (a .symbols) .1 (a .lanes)),
         )

@@ -41,20 +41,20 @@ lanesBad-agrees l = refl
 module _ (rec : List ℕ) (l : ℕ) where
   pub encodeFault-agrees : (out : ℕ) (s : List ℕ) → encodeFault rec l out s ≡ Ours.faultOf rec (λ h. Ours.encodeFault h l out s)
   unfolding encodeFault Ours.faultOf Ours.encodeFault Ours.symbolsBad
-  encodeFault-agrees out s = rw (headerOf-agrees rec, recordFault-agrees rec, lanesBad-agrees l, sizeOf-agrees (R.prime (R.headerOf rec)))
+  encodeFault-agrees out s = rw (headerOf-agrees rec, recordFault-agrees rec, lanesBad-agrees l, sizeOf-agrees (R.modulusOf (R.headerOf rec)))
 
   pub updateFault-agrees : (r t old new : ℕ) (s : List ℕ) → updateFault rec l r t old new s ≡ Ours.faultOf rec (λ h. Ours.updateFault h l r t old new s)
   unfolding updateFault Ours.faultOf Ours.updateFault
-  updateFault-agrees r t old new s = rw (headerOf-agrees rec, recordFault-agrees rec, lanesBad-agrees l, sizeOf-agrees (R.prime (R.headerOf rec)), laneOf-agrees (R.headerOf rec .n) l t s)
+  updateFault-agrees r t old new s = rw (headerOf-agrees rec, recordFault-agrees rec, lanesBad-agrees l, sizeOf-agrees (R.modulusOf (R.headerOf rec)), laneOf-agrees (R.headerOf rec .n) l t s)
 
   pub recoverFault-agrees : (nodes s : List ℕ) (out : ℕ) → recoverFault rec l nodes s out ≡ Ours.faultOf rec (λ h. Ours.recoverFault h l nodes s out)
   unfolding recoverFault Ours.faultOf Ours.recoverFault Ours.symbolsBad
-  recoverFault-agrees nodes s out = rw (headerOf-agrees rec, recordFault-agrees rec, lanesBad-agrees l, sizeOf-agrees (R.prime (R.headerOf rec)))
+  recoverFault-agrees nodes s out = rw (headerOf-agrees rec, recordFault-agrees rec, lanesBad-agrees l, sizeOf-agrees (R.modulusOf (R.headerOf rec)))
 
   pub rebuildFault-agrees : (nodes s : List ℕ) (target out : ℕ) → rebuildFault rec l nodes s target out ≡ Ours.faultOf rec (λ h. Ours.rebuildFault h l nodes s target out)
   unfolding rebuildFault Ours.faultOf Ours.rebuildFault Ours.symbolsBad
-  rebuildFault-agrees nodes s target out = rw (headerOf-agrees rec, recordFault-agrees rec, lanesBad-agrees l, sizeOf-agrees (R.prime (R.headerOf rec)))
+  rebuildFault-agrees nodes s target out = rw (headerOf-agrees rec, recordFault-agrees rec, lanesBad-agrees l, sizeOf-agrees (R.modulusOf (R.headerOf rec)))
 
   pub belongsFault-agrees : (s : List ℕ) → belongsFault rec l s ≡ Ours.faultOf rec (λ h. Ours.belongsFault h l s)
   unfolding belongsFault Ours.faultOf Ours.belongsFault Ours.symbolsBad
-  belongsFault-agrees s = rw (headerOf-agrees rec, recordFault-agrees rec, lanesBad-agrees l, sizeOf-agrees (R.prime (R.headerOf rec)))
+  belongsFault-agrees s = rw (headerOf-agrees rec, recordFault-agrees rec, lanesBad-agrees l, sizeOf-agrees (R.modulusOf (R.headerOf rec)))

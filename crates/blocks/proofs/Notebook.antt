@@ -9,7 +9,7 @@ use Rattle.lists.specs.Counting.{countFrom, differ}
 use Rattle.lists.proofs.All.{All}
 use Rattle.field.specs.Fields.{add, sub, mul, power}
 use Rattle.field.specs.Kinds.{modulus}
-use Rattle.generator.specs.Records.{headerOf, weight}
+use Rattle.generator.specs.Records.{headerOf, distance}
 use Rattle.generator.specs.Shifts.{gcdFrom, gcd, shiftsFrom, shiftsOf}
 use Rattle.generator.specs.Generator.{baseFrom, baseAt, entryAt, entry}
 use Rattle.generator.specs.Codewords.{nodeFrom, nodeOf}
@@ -49,5 +49,5 @@ notebook =
 
 -- every case of the table holds
 pub notebook-holds : All Says notebook
-unfolding Says notebook headerOf weight shiftsOf shiftsFrom gcd gcdFrom entry entryAt baseAt baseFrom nodeFrom nodeOf placeOf laneOf shareOf sharesOf gathered updatedFrom updated lanesBad differ countFrom from rowsFrom modulus add sub mul power
+unfolding Says notebook headerOf distance shiftsOf shiftsFrom gcd gcdFrom entry entryAt baseAt baseFrom nodeFrom nodeOf placeOf laneOf shareOf sharesOf gathered updatedFrom updated lanesBad differ countFrom from rowsFrom modulus add sub mul power
 notebook-holds = (refl, (refl, ((refl, refl), ((refl, refl), ((refl, refl), (refl, (refl, (refl, (refl, tt)))))))))

@@ -17,7 +17,7 @@ use Rattle.lists.proofs.Count.{count-ext, count-none}
 use Rattle.lists.proofs.Lanes.{same-row, same-lane, count-lane}
 use Rattle.field.specs.Fields.{add, sub, mul}
 use Rattle.generator.specs.declared.Header.{Header}
-use Rattle.generator.specs.Records.{prime, size, Sound}
+use Rattle.generator.specs.Records.{modulusOf, size, Sound}
 use Rattle.generator.specs.Generator.{entry}
 use Rattle.generator.specs.Codewords.{nodeOf, encoding}
 use Rattle.generator.specs.Claims.{isMessage}
@@ -27,7 +27,7 @@ use Rattle.blocks.proofs.Shares.{getD-lane}
 
 -- node j's byte of lane t afterwards
 abbrev pub changed : Header → ℕ → ℕ → ℕ → ℕ → List ℕ → ℕ → ℕ
-changed h l r t x s j = add (prime h) (getD s (placeOf l j t) 0) (mul (prime h) x (entry h r j))
+changed h l r t x s j = add (modulusOf h) (getD s (placeOf l j t) 0) (mul (modulusOf h) x (entry h r j))
 
 module _ (h : Header) (l r t x : ℕ) where
   -- the buffer keeps its length
@@ -71,7 +71,7 @@ module _ (h : Header) (l r t x : ℕ) where
         ∙ ap (changed h l r t x s) q)
         (λ n.
         updatedFrom-lane f (j + 1) u a (omega arith) (omega arith) more
-        ∙ ap (λ (b : ℕ). add (prime h) b (mul (prime h) x (entry h r a))) (getD-set-other s (placeOf l j t) (placeOf l a t) (changed h l r t x s j) 0 (other-place a j (λ z. n (sym z)))))
+        ∙ ap (λ (b : ℕ). add (modulusOf h) b (mul (modulusOf h) x (entry h r a))) (getD-set-other s (placeOf l j t) (placeOf l a t) (changed h l r t x s j) 0 (other-place a j (λ z. n (sym z)))))
 
 -- whether node j's byte of lane t becomes another one
 abbrev pub altered : Header → ℕ → ℕ → ℕ → ℕ → List ℕ → ℕ → Bool
@@ -106,16 +106,16 @@ module _ (h : Header) (s : Sound h) (ms buffer : List ℕ) (l r t new : ℕ) (m 
   held-before j node = sym (getD-lane (h .n) l t buffer j node) ∙ ap (λ (w : List ℕ). getD w j 0) encodes ∙ node-at h ms j node
 
   -- what it becomes
-  held-changed : (j : ℕ) → j < h .n → changed h l r t (sub (prime h) new (getD ms r 0)) buffer j ≡ nodeOf h (set ms r new) j
+  held-changed : (j : ℕ) → j < h .n → changed h l r t (sub (modulusOf h) new (getD ms r 0)) buffer j ≡ nodeOf h (set ms r new) j
   held-changed j node =
-      ap (λ (b : ℕ). add (prime h) b (mul (prime h) (sub (prime h) new (getD ms r 0)) (entry h r j))) (held-before j node)
+      ap (λ (b : ℕ). add (modulusOf h) b (mul (modulusOf h) (sub (modulusOf h) new (getD ms r 0)) (entry h r j))) (held-before j node)
       ∙ sym (node-change h s ms r new m row low j)
 
   -- and so holds afterwards
   held-after : (j : ℕ) → j < h .n → getD after (placeOf l j t) 0 ≡ nodeOf h (set ms r new) j
   unfolding updated
   held-after j node =
-      updatedFrom-lane h l r t (sub (prime h) new (getD ms r 0)) inside (h .n) 0 buffer j (omega arith) (omega arith) (rw (zero-add (h .n), long) (le-refl (h .n * l)))
+      updatedFrom-lane h l r t (sub (modulusOf h) new (getD ms r 0)) inside (h .n) 0 buffer j (omega arith) (omega arith) (rw (zero-add (h .n), long) (le-refl (h .n * l)))
       ∙ held-changed j node
 
   -- the lane encodes the new message
@@ -126,7 +126,7 @@ module _ (h : Header) (s : Sound h) (ms buffer : List ℕ) (l r t new : ℕ) (m 
   -- a byte of another lane stays
   other-byte : (j q : ℕ) → q < l → (q ≡ t → ⊥) → getD after (placeOf l j q) 0 ≡ getD buffer (placeOf l j q) 0
   unfolding updated placeOf
-  other-byte j q hq n = updatedFrom-other h l r t (sub (prime h) new (getD ms r 0)) (h .n) 0 buffer (placeOf l j q) (λ a lo hi e. n (same-lane j a l q t hq inside e))
+  other-byte j q hq n = updatedFrom-other h l r t (sub (modulusOf h) new (getD ms r 0)) (h .n) 0 buffer (placeOf l j q) (λ a lo hi e. n (same-lane j a l q t hq inside e))
 
   -- so every other lane stays
   pub updated-others : (q : ℕ) → q < l → (q ≡ t → ⊥) → laneOf (h .n) l q after ≡ laneOf (h .n) l q buffer
@@ -137,6 +137,6 @@ module _ (h : Header) (s : Sound h) (ms buffer : List ℕ) (l r t new : ℕ) (m 
   pub updated-count : differ buffer after ≡ differ (encoding h ms) (encoding h (set ms r new))
   unfolding updated differ encoding
   updated-count =
-      differ-updated h l r t (sub (prime h) new (getD ms r 0)) buffer inside (h .n) long
+      differ-updated h l r t (sub (modulusOf h) new (getD ms r 0)) buffer inside (h .n) long
       ∙ count-ext (h .n) 0 _ _ (λ j lo hi. ap not (ap₂ eqb (held-before j (omega arith) ∙ sym (node-at h ms j (omega arith))) (held-changed j (omega arith) ∙ sym (node-at h (set ms r new) j (omega arith)))))
       ∙ ap (λ (f : ℕ). countFrom f 0 (λ i. not (eqb (getD (encoding h ms) i 0) (getD (encoding h (set ms r new)) i 0)))) (sym (length-from (nodeOf h ms) 0 (h .n)))

@@ -9,7 +9,7 @@ use Rattle.lists.specs.Rows.{from, rowsFrom}
 use Rattle.lists.specs.Numbers.{allBelow}
 use Rattle.field.specs.Fields.{add, sub, mul}
 use Rattle.generator.specs.declared.Header.{Header}
-use Rattle.generator.specs.Records.{prime, size}
+use Rattle.generator.specs.Records.{modulusOf, size}
 use Rattle.generator.specs.Generator.{entry}
 use Rattle.generator.specs.Codewords.{nodeOf, isWord}
 use Rattle.generator.specs.Claims.{atNodes}
@@ -37,11 +37,11 @@ gathered h l nodes s = rowsFrom (λ i. shareOf h l s (getD nodes i 0)) 0 (h .k)
 -- x times row r of the generator added to lane t, at the f nodes from j on
 unfoldable pub updatedFrom : ℕ → ℕ → Header → ℕ → ℕ → ℕ → ℕ → List ℕ → List ℕ
 updatedFrom zero j h l r t x s = s
-updatedFrom (suc f) j h l r t x s = updatedFrom f (j + 1) h l r t x (set s (placeOf l j t) (add (prime h) (getD s (placeOf l j t) 0) (mul (prime h) x (entry h r j))))
+updatedFrom (suc f) j h l r t x s = updatedFrom f (j + 1) h l r t x (set s (placeOf l j t) (add (modulusOf h) (getD s (placeOf l j t) 0) (mul (modulusOf h) x (entry h r j))))
 
 -- (new − old) times row r added to lane t
 unfoldable pub updated : Header → ℕ → ℕ → ℕ → ℕ → ℕ → List ℕ → List ℕ
-updated h l r t old new s = updatedFrom (h .n) 0 h l r t (sub (prime h) new old) s
+updated h l r t old new s = updatedFrom (h .n) 0 h l r t (sub (modulusOf h) new old) s
 
 -- of the f lanes from t on, the smallest that is no word of the code, plus 1; 0 where all are
 unfoldable pub wrongFrom : ℕ → ℕ → Header → ℕ → List ℕ → ℕ

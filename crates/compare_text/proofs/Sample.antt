@@ -8,7 +8,7 @@ use Rattle.field.specs.Primes.{dividesSome, isPrime}
 use Rattle.field.specs.Bytes.{timesX, productFrom, product}
 use Rattle.field.specs.Fields.{sizeOf, mul, orderFrom, orderOf}
 use Rattle.field.specs.Kinds.{modulus}
-use Rattle.generator.specs.Records.{headerOf, weight, kindBad, bodyBad, fieldBad, sizeBad, rootBad, unevenBad, headerFault, recordFault, judged, recordOf}
+use Rattle.generator.specs.Records.{headerOf, distance, kindBad, bodyBad, fieldBad, sizeBad, rootBad, unevenBad, headerFault, recordFault, judged, recordOf}
 use Rattle.generator.specs.Comparison.{balancedReads, plainGreatest}
 use Rattle.text.specs.Text.{ascii, decimal, field, fields, line}
 use Rattle.compare_text.specs.Comparison.{costLine, plainLine, balancedLine, boundLine, comparisonFor}
@@ -30,5 +30,5 @@ samples =
 
 -- every case of the table holds
 pub samples-hold : All Says samples
-unfolding Says samples ascii decimal field fields line plainGreatest balancedReads costLine plainLine balancedLine boundLine comparisonFor recordOf judged recordFault headerFault kindBad bodyBad fieldBad sizeBad rootBad unevenBad headerOf weight modulus sizeOf mul orderOf orderFrom product productFrom timesX isPrime dividesSome
+unfolding Says samples ascii decimal field fields line plainGreatest balancedReads costLine plainLine balancedLine boundLine comparisonFor recordOf judged recordFault headerFault kindBad bodyBad fieldBad sizeBad rootBad unevenBad headerOf distance modulus sizeOf mul orderOf orderFrom product productFrom timesX isPrime dividesSome
 samples-hold = (refl, (refl, (refl, (refl, tt))))

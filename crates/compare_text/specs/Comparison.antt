@@ -6,7 +6,7 @@ use Prim.Native.Nat.{ℕ}
 use Rattle.generator.specs.declared.Header.{Header}
 use Rattle.generator.specs.declared.Record.{Record}
 use Rattle.generator.specs.declared.Record.the-variants.{Holds, Meets}
-use Rattle.generator.specs.Records.{weight}
+use Rattle.generator.specs.Records.{distance}
 use Rattle.generator.specs.Comparison.{balancedReads, plainGreatest}
 use Rattle.text.specs.Text.{ascii, field, line}
 
@@ -16,15 +16,15 @@ costLine words writes reads = words ++ (field writes ++ line (ascii " reads") re
 
 -- the least and the greatest reads of the plain layout: a node that holds a symbol of the message reads that one
 unfoldable pub plainLine : Header → List ℕ
-plainLine h = costLine (ascii "plain writes") (weight h) (1 ∷ plainGreatest h ∷ [])
+plainLine h = costLine (ascii "plain writes") (distance h) (1 ∷ plainGreatest h ∷ [])
 
 -- the least and the greatest reads of the balanced layout
 unfoldable pub balancedLine : Header → List ℕ
-balancedLine h = costLine (ascii "balanced writes") (weight h) (balancedReads h ∷ balancedReads h ∷ [])
+balancedLine h = costLine (ascii "balanced writes") (distance h) (balancedReads h ∷ balancedReads h ∷ [])
 
 -- what no layout can go below: the writes, and the reads of the busiest node
 unfoldable pub boundLine : Header → List ℕ
-boundLine h = costLine (ascii "bound writes") (weight h) (balancedReads h ∷ [])
+boundLine h = costLine (ascii "bound writes") (distance h) (balancedReads h ∷ [])
 
 -- the comparison of a record: n and k, then the lines of costs; or the number that turned it away
 unfoldable pub comparisonFor : Record → List ℕ

@@ -9,7 +9,7 @@ ghost use mathlib.Core.Path.{_≡_};
 ghost use mathlib.Core.List.{_++_};
 ghost use Prim.Native.Nat.{_+_, _*_, _≤_};
 ghost use lib.ListN.{length, take, drop};
-ghost use Rattle.generator.specs.Records.{weight, recordOf, Sound};
+ghost use Rattle.generator.specs.Records.{distance, recordOf, Sound};
 ghost use Rattle.generator.specs.Comparison.{balancedReads, plainGreatest, ComparedRecord};
 ghost use Rattle.text.specs.Writing.{Puts};
 ghost use Rattle.compare_text.specs.Comparison.{costLine, plainLine, balancedLine, boundLine, comparisonFor};
@@ -17,7 +17,7 @@ ghost use Rattle.compare_text.specs.Comparison.{costLine, plainLine, bal
 // d, the writes of a changed symbol.
 fn weight_of(h: Header) -> u8
     requires { ⌜ Sound h ⌝ }
-    ensures { λ r. ⌜ r ≡ weight h ⌝ }
+    ensures { λ r. ⌜ r ≡ distance h ⌝ }
 {
     let n = h.n;
     let k = h.k;

@@ -9,7 +9,7 @@ use Rattle.lists.proofs.Padding.{length-padded}
 use Rattle.lists.proofs.Rows.{length-from}
 use Rattle.field.proofs.FieldOf.{size-pos}
 use Rattle.generator.specs.declared.Header.{Header}
-use Rattle.generator.specs.Records.{prime, size, Sound}
+use Rattle.generator.specs.Records.{modulusOf, size, Sound}
 use Rattle.generator.specs.Generator.{entry}
 use Rattle.generator.specs.Codewords.{nodeFrom, nodeOf}
 use Rattle.generator.proofs.Bounds.{entry-below}
@@ -20,9 +20,9 @@ use Rattle.encode.specs.Inner.{MessageBuffer, columnOf}
 
 module _ (h : Header) (l : ℕ) (s : List ℕ) (j : ℕ) where
   -- in every lane what the node holds
-  pub share-sums : combined (prime h) (h .k) l (padded 255 (columnOf h j)) s ≡ shareOf h l s j
+  pub share-sums : combined (modulusOf h) (h .k) l (padded 255 (columnOf h j)) s ≡ shareOf h l s j
   unfolding columnOf shareOf nodeOf nodeFrom
-  share-sums = combined-column (prime h) (λ r. entry h r j) (λ r ms. nodeFrom r h ms j) (λ r. refl) (λ r m ms. refl) 255 (h .k) l s
+  share-sums = combined-column (modulusOf h) (λ r. entry h r j) (λ r ms. nodeFrom r h ms j) (λ r. refl) (λ r m ms. refl) 255 (h .k) l s
 
   -- a message's rows and the column can be combined
   pub rows-ready : Sound h → MessageBuffer h l s → h .k ≤ 255 → (out : ℕ) → out ≡ l → Rows (h .field) (h .k) l (padded 255 (columnOf h j)) s out
@@ -35,7 +35,7 @@ module _ (h : Header) (l : ℕ) (s : List ℕ) (j : ℕ) where
         weighted = record {
           few = few;
           weights = omega (arith, length-padded 255 (columnOf h j) (omega arith));
-          weights-below = column-below (size h) 255 (λ r. entry h r j) (h .k) (size-pos (prime h) (sound .field)) (λ r. entry-below h sound r j);
+          weights-below = column-below (size h) 255 (λ r. entry h r j) (h .k) (size-pos (modulusOf h) (sound .field)) (λ r. entry-below h sound r j);
           long = message .size-is;
           symbols = message .symbols;
           out-long = long;

@@ -18,7 +18,7 @@ use Rattle.field.proofs.Meanings.{prime-size}
 use Rattle.field.proofs.KindLaws.{usable-field}
 use Rattle.generator.specs.declared.Header.{Header}
 use Rattle.generator.specs.declared.Record.the-variants.{Holds}
-use Rattle.generator.specs.Records.{headerOf, prime, size, weight, kindBad, bodyBad, fieldBad, sizeBad, rootBad, unevenBad, headerFault, recordFault, judged, recordOf, Sound}
+use Rattle.generator.specs.Records.{headerOf, modulusOf, size, distance, kindBad, bodyBad, fieldBad, sizeBad, rootBad, unevenBad, headerFault, recordFault, judged, recordOf, Sound}
 use Rattle.generator.proofs.Faults.{sizes}
 
 -- a header that numbers 4 to 6 pass
@@ -28,7 +28,7 @@ header-sound h u small-field e =
     let (four, rest) = first-zero (when (sizeBad h) 4) (firstOf (when (rootBad h) 5) (when (unevenBad h) 6)) e in
     let (five, six) = first-zero (when (rootBad h) 5) (when (unevenBad h) 6) rest in
     let (two, some, fits) = sizes h (when-zero (sizeBad h) 3 four) in
-    let root : (ltb (h .root) (size h) && eqb (orderOf (prime h) (h .root)) (h .n)) ≡ true = not-false _ (when-zero (rootBad h) 4 five) in
+    let root : (ltb (h .root) (size h) && eqb (orderOf (modulusOf h) (h .root)) (h .n)) ≡ true = not-false _ (when-zero (rootBad h) 4 five) in
     record {
       usable-field = u;
       field = usable-field (h .field) u;
@@ -36,9 +36,9 @@ header-sound h u small-field e =
       two = two;
       some = some;
       fits = fits;
-      root-below = ltb-true (h .root) (size h) (and-left _ (eqb (orderOf (prime h) (h .root)) (h .n)) root);
-      order = eqb-true (orderOf (prime h) (h .root)) (h .n) (and-right (ltb (h .root) (size h)) _ root);
-      even = eqb-true (h .k * weight h % h .n) 0 (not-false _ (when-zero (unevenBad h) 5 six));
+      root-below = ltb-true (h .root) (size h) (and-left _ (eqb (orderOf (modulusOf h) (h .root)) (h .n)) root);
+      order = eqb-true (orderOf (modulusOf h) (h .root)) (h .n) (and-right (ltb (h .root) (size h)) _ root);
+      even = eqb-true (h .k * distance h % h .n) 0 (not-false _ (when-zero (unevenBad h) 5 six));
     }
 
 -- a prime from 3 to 251 names a usable field, whose symbols are bytes

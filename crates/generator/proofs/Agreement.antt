@@ -103,7 +103,7 @@ dependsFrom (suc f) r h j = when (not (eqb (entry h r j) 0)) 1 + dependsFrom f (
 -- messages and lists of nodes, for every header
 pub isMessage-agrees : (h : Own.Header) (ms : List ℕ) → isMessage (given h) ms ≡ Ours.isMessage h ms
 unfolding isMessage Ours.isMessage
-isMessage-agrees h ms = rw (sizeOf-agrees (R.prime h))
+isMessage-agrees h ms = rw (sizeOf-agrees (R.modulusOf h))
 
 pub areNodes-agrees : (h : Own.Header) (js : List ℕ) → areNodes (given h) js ≡ Ours.areNodes h js
 unfolding areNodes Ours.areNodes
@@ -120,28 +120,28 @@ polyAt-agrees p v (c ∷ cs) x b low =
 
 module _ (h : Own.Header) (s : R.Sound h) where
   -- powers of the root
-  root-power : (e : ℕ) → power (R.prime h) (h .root) e ≡ F.power (R.prime h) (h .root) e
-  root-power e = power-agrees (R.prime h) (h .root) e (s .root-below)
+  root-power : (e : ℕ) → power (R.modulusOf h) (h .root) e ≡ F.power (R.modulusOf h) (h .root) e
+  root-power e = power-agrees (R.modulusOf h) (h .root) e (s .root-below)
 
-  root-power-below : (e : ℕ) → F.power (R.prime h) (h .root) e < R.size h
-  root-power-below e = power-below (R.prime h) (s .field) e (s .root-below)
+  root-power-below : (e : ℕ) → F.power (R.modulusOf h) (h .root) e < R.size h
+  root-power-below e = power-below (R.modulusOf h) (s .field) e (s .root-below)
 
   -- the base polynomial
   valueFrom-agrees : (i : ℕ) {x : ℕ} → x < R.size h → valueFrom i (given h) x ≡ G.baseFrom i h x
   unfolding valueFrom G.baseFrom
   valueFrom-agrees zero low = refl
   valueFrom-agrees (suc i) {x} low =
-      ap₂ (mul (R.prime h))
-      (ap (sub (R.prime h) x) (root-power i) ∙ sub-agrees (R.prime h) x (F.power (R.prime h) (h .root) i) low (root-power-below i))
+      ap₂ (mul (R.modulusOf h))
+      (ap (sub (R.modulusOf h) x) (root-power i) ∙ sub-agrees (R.modulusOf h) x (F.power (R.modulusOf h) (h .root) i) low (root-power-below i))
       (valueFrom-agrees i low)
-      ∙ mul-agrees (R.prime h) (F.sub (R.prime h) x (F.power (R.prime h) (h .root) i)) (G.baseFrom i h x) (sub-below (R.prime h) (s .field) low (root-power-below i))
+      ∙ mul-agrees (R.modulusOf h) (F.sub (R.modulusOf h) x (F.power (R.modulusOf h) (h .root) i)) (G.baseFrom i h x) (sub-below (R.modulusOf h) (s .field) low (root-power-below i))
 
   -- entries
   pub entryAt-agrees : (t j : ℕ) → entryAt (given h) t j ≡ G.entryAt h t j
   unfolding entryAt valueAt G.entryAt G.baseAt
   entryAt-agrees t j =
-      rw (weight-agrees h, rest-agrees (j + t + (h .n - R.weight h)) (h .n), root-power ((j + t + (h .n - R.weight h)) % h .n))
-      (valueFrom-agrees (h .k - 1) (root-power-below ((j + t + (h .n - R.weight h)) % h .n)))
+      rw (weight-agrees h, rest-agrees (j + t + (h .n - R.distance h)) (h .n), root-power ((j + t + (h .n - R.distance h)) % h .n))
+      (valueFrom-agrees (h .k - 1) (root-power-below ((j + t + (h .n - R.distance h)) % h .n)))
 
   pub entry-agrees : (r j : ℕ) → entry (given h) r j ≡ G.entry h r j
   unfolding entry G.entry
@@ -157,10 +157,10 @@ module _ (h : Own.Header) (s : R.Sound h) where
   baseWord-agrees = wordFrom-agrees (h .n) 0 0
 
   -- a product of symbols and a sum after it
-  sum-agrees : (a b c : ℕ) → a < R.size h → b < R.size h → c < R.size h → add (R.prime h) (mul (R.prime h) a b) c ≡ F.add (R.prime h) (F.mul (R.prime h) a b) c
+  sum-agrees : (a b c : ℕ) → a < R.size h → b < R.size h → c < R.size h → add (R.modulusOf h) (mul (R.modulusOf h) a b) c ≡ F.add (R.modulusOf h) (F.mul (R.modulusOf h) a b) c
   sum-agrees a b c la lb lc =
-      ap (λ (x : ℕ). add (R.prime h) x c) (mul-agrees (R.prime h) a b la)
-      ∙ add-agrees (R.prime h) (F.mul (R.prime h) a b) c (mul-below (R.prime h) (s .field) la lb) lc
+      ap (λ (x : ℕ). add (R.modulusOf h) x c) (mul-agrees (R.modulusOf h) a b la)
+      ∙ add-agrees (R.modulusOf h) (F.mul (R.modulusOf h) a b) c (mul-below (R.modulusOf h) (s .field) la lb) lc
 
   -- what a node holds for symbols
   sumFrom-agrees : (r : ℕ) (ms : List ℕ) (j : ℕ) → allBelow (R.size h) ms ≡ true → sumFrom r (given h) ms j ≡ C.nodeFrom r h ms j
@@ -190,12 +190,12 @@ module _ (h : Own.Header) (s : R.Sound h) where
   encoding-agrees ms b = nodesFrom-agrees (h .n) 0 ms b
 
   -- values of a polynomial at the powers of the root
-  valuesFrom-agrees : (f j : ℕ) (cs : List ℕ) → allBelow (R.size h) cs ≡ true → valuesFrom f j (given h) cs ≡ from (λ i. C.polyAt (R.prime h) cs (F.power (R.prime h) (h .root) i)) j f
+  valuesFrom-agrees : (f j : ℕ) (cs : List ℕ) → allBelow (R.size h) cs ≡ true → valuesFrom f j (given h) cs ≡ from (λ i. C.polyAt (R.modulusOf h) cs (F.power (R.modulusOf h) (h .root) i)) j f
   unfolding valuesFrom from
   valuesFrom-agrees zero j cs b = refl
   valuesFrom-agrees (suc f) j cs b =
       rw (add-one j, root-power j)
-      (ap₂ _∷_ (polyAt-agrees (R.prime h) (s .field) cs (F.power (R.prime h) (h .root) j) b (root-power-below j)) (valuesFrom-agrees f (suc j) cs b))
+      (ap₂ _∷_ (polyAt-agrees (R.modulusOf h) (s .field) cs (F.power (R.modulusOf h) (h .root) j) b (root-power-below j)) (valuesFrom-agrees f (suc j) cs b))
 
   pub valuesOf-agrees : (cs : List ℕ) → allBelow (R.size h) cs ≡ true → valuesOf (given h) cs ≡ C.valuesOf h cs
   unfolding valuesOf C.valuesOf
@@ -208,7 +208,7 @@ module _ (h : Own.Header) (s : R.Sound h) where
   checkFrom-agrees e j (w ∷ ws) b =
       let (low, others) = below-cons (R.size h) w ws b in
       rw (add-one j, rest-agrees (j * e) (h .n), root-power (j * e % h .n), checkFrom-agrees e (suc j) ws others)
-      (sum-agrees w (F.power (R.prime h) (h .root) (j * e % h .n)) (C.checkFrom h e (suc j) ws) low (root-power-below (j * e % h .n)) (checkFrom-below h s e (suc j) ws others))
+      (sum-agrees w (F.power (R.modulusOf h) (h .root) (j * e % h .n)) (C.checkFrom h e (suc j) ws) low (root-power-below (j * e % h .n)) (checkFrom-below h s e (suc j) ws others))
 
   checksFrom-agrees : (e : ℕ) (ws : List ℕ) → allBelow (R.size h) ws ≡ true → checksFrom e (given h) ws ≡ C.checksFrom e h ws
   unfolding checksFrom C.checksFrom

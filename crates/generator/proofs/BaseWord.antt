@@ -18,7 +18,7 @@ use Rattle.field.specs.Symbols.{Symbol}
 use Rattle.field.proofs.Symbols.{symbol, symbol-path}
 use Rattle.field.proofs.FieldOf.{number-sub, number-pow}
 use Rattle.generator.specs.declared.Header.{Header}
-use Rattle.generator.specs.Records.{prime, size, weight, Sound}
+use Rattle.generator.specs.Records.{modulusOf, size, distance, Sound}
 use Rattle.generator.specs.Generator.{baseFrom, baseAt, entryAt, baseWord}
 use Rattle.generator.proofs.Sound.{fieldFor, rootFor, root-order, offset, weight-fits}
 use Rattle.generator.proofs.Bridge.{baseFrom-is}
@@ -36,7 +36,7 @@ power-turn p a x j m e =
     ap (mul p a) e ∙ sym (power-next p a (j + m)) ∙ ap (power p a) moved
 
 -- one factor more
-pub baseFrom-next : (i : ℕ) (h : Header) (x : ℕ) → baseFrom (i + 1) h x ≡ mul (prime h) (sub (prime h) x (power (prime h) (h .root) i)) (baseFrom i h x)
+pub baseFrom-next : (i : ℕ) (h : Header) (x : ℕ) → baseFrom (i + 1) h x ≡ mul (modulusOf h) (sub (modulusOf h) x (power (modulusOf h) (h .root) i)) (baseFrom i h x)
 unfolding baseFrom
 baseFrom-next i h x = ap (λ (m : ℕ). baseFrom m h x) (add-one i)
 
@@ -55,7 +55,7 @@ module _ (h : Header) (s : Sound h) where
 
   -- p(root·x) = p(x)·(root^(k−1)·x − root^(k−2)) / (x − root^(k−2))
   pub baseAt-next : (x : ℕ) → x < size h
-      → let p = prime h in
+      → let p = modulusOf h in
       let scale = power p (h .root) (h .k - 1) in
       let pole = power p (h .root) (h .n + h .k - 2) in
       (x ≡ pole → ⊥) → baseAt h (mul p (h .root) x) ≡ mul p (mul p (baseAt h x) (sub p (mul p scale x) pole)) (inverse p (sub p x pole))
@@ -63,7 +63,7 @@ module _ (h : Header) (s : Sound h) where
   baseAt-next x low apart =
       let F = fieldFor h s in
       let a = rootFor h s in
-      let p = prime h in
+      let p = modulusOf h in
       let X = symbol (size h) x low in
       let S = pow F a (h .k - 1) in
       let P = pow F a (h .n + h .k - 2) in
@@ -75,31 +75,31 @@ module _ (h : Header) (s : Sound h) where
       ∙ cc (baseAt-is X, scale, pole)
 
   -- no divisor is zero: root^(j + k − 1) is not root^(k−2) while j + 1 is below n
-  pub pole-apart : (j : ℕ) → j + 1 < h .n → power (prime h) (h .root) (j + (h .k - 1)) ≡ power (prime h) (h .root) (h .n + h .k - 2) → ⊥
+  pub pole-apart : (j : ℕ) → j + 1 < h .n → power (modulusOf h) (h .root) (j + (h .k - 1)) ≡ power (modulusOf h) (h .root) (h .n + h .k - 2) → ⊥
   pole-apart j l q =
       let a = rootFor h s in
-      let number = number-pow (prime h) (s .field) a in
+      let number = number-pow (modulusOf h) (s .field) a in
       pow-apart (fieldFor h s) a (h .n) (root-order h s) (h .k - 1) (h .n + h .k - 2) j round l
       (symbol-path (size h) (number (j + (h .k - 1)) ∙ q ∙ sym (number (h .n + h .k - 2))))
 
   -- entry j of the base word is p(root^(j + k − 1))
-  pub entry-is : (j : ℕ) → entryAt h 0 j ≡ baseAt h (power (prime h) (h .root) (j + (h .k - 1)))
+  pub entry-is : (j : ℕ) → entryAt h 0 j ≡ baseAt h (power (modulusOf h) (h .root) (j + (h .k - 1)))
   unfolding entryAt
   entry-is j =
       let a = rootFor h s in
-      let number = number-pow (prime h) (s .field) a in
-      let e = j + 0 + (h .n - weight h) in
+      let number = number-pow (modulusOf h) (s .field) a in
+      let e = j + 0 + (h .n - distance h) in
       let same : e ≡ j + (h .k - 1) = rw (add-zero, offset h s) in
       ap (baseAt h)
-      (sym (number (e % h .n)) ∙ ap (λ (y : Symbol (size h)). y .0) (pow-mod (fieldFor h s) a (h .n) (root-order h s) e) ∙ number e ∙ ap (power (prime h) (h .root)) same)
+      (sym (number (e % h .n)) ∙ ap (λ (y : Symbol (size h)). y .0) (pow-mod (fieldFor h s) a (h .n) (root-order h s) e) ∙ number e ∙ ap (power (modulusOf h) (h .root)) same)
 
   -- from d on the base word is 0
-  entry-end : (j : ℕ) → weight h ≤ j → j < h .n → entryAt h 0 j ≡ 0
+  entry-end : (j : ℕ) → distance h ≤ j → j < h .n → entryAt h 0 j ≡ 0
   entry-end j high low =
-      let far : weight h ≤ (j + 0) % h .n = rw (add-zero, mod-eq-of-lt low) high in
-      eqb-true (entryAt h 0 j) 0 (rw (le-ltb ((j + 0) % h .n) (weight h) far) at (entryAt-zero h s 0 j))
+      let far : distance h ≤ (j + 0) % h .n = rw (add-zero, mod-eq-of-lt low) high in
+      eqb-true (entryAt h 0 j) 0 (rw (le-ltb ((j + 0) % h .n) (distance h) far) at (entryAt-zero h s 0 j))
 
   -- so its first d entries, padded, are the word, padded
-  pub base-padded : (length : ℕ) → h .n ≤ length → padded length (baseWord h) ≡ padded length (from (entryAt h 0) 0 (weight h))
+  pub base-padded : (length : ℕ) → h .n ≤ length → padded length (baseWord h) ≡ padded length (from (entryAt h 0) 0 (distance h))
   unfolding baseWord
-  base-padded length fits = padded-from length (entryAt h 0) (weight h) (h .n) (weight-fits h s) fits entry-end
+  base-padded length fits = padded-from length (entryAt h 0) (distance h) (h .n) (weight-fits h s) fits entry-end

@@ -21,7 +21,7 @@ use Rattle.field.specs.Symbols.{Symbol, numbers}
 use Rattle.field.proofs.Symbols.{symbol-path}
 use Rattle.field.proofs.FieldOf.{number-sub, number-pow}
 use Rattle.generator.specs.declared.Header.{Header}
-use Rattle.generator.specs.Records.{prime, size, weight, Sound}
+use Rattle.generator.specs.Records.{modulusOf, size, distance, Sound}
 use Rattle.generator.specs.Shifts.{shifts}
 use Rattle.generator.specs.Generator.{baseFrom, baseAt, entryAt, entry}
 use Rattle.generator.specs.Codewords.{nodeFrom, nodeOf, encoding, polyAt, valuesOf, checkFrom}
@@ -37,7 +37,7 @@ module _ (h : Header) (s : Sound h) where
   unfolding baseFrom base
   baseFrom-is zero x = sym (ap number (eval-product-nil (fieldFor h s) x))
   baseFrom-is (suc m) x =
-      ap₂ (mul (prime h)) (ap (sub (prime h) (x .0)) (sym (number-pow (prime h) (s .field) (rootFor h s) m)) ∙ sym (number-sub (prime h) (s .field) x (pow (fieldFor h s) (rootFor h s) m))) (baseFrom-is m x)
+      ap₂ (mul (modulusOf h)) (ap (sub (modulusOf h) (x .0)) (sym (number-pow (modulusOf h) (s .field) (rootFor h s) m)) ∙ sym (number-sub (modulusOf h) (s .field) x (pow (fieldFor h s) (rootFor h s) m))) (baseFrom-is m x)
       ∙ sym (ap number (eval-product (fieldFor h s) (pow (fieldFor h s) (rootFor h s) m) (map (pow (fieldFor h s) (rootFor h s)) (below m)) x))
 
   -- the entry at node j of a row with the shift t
@@ -46,9 +46,9 @@ module _ (h : Header) (s : Sound h) where
   entryAt-is t j =
       let F = fieldFor h s in
       let a = rootFor h s in
-      ap (baseFrom (h .k - 1) h) (sym (number-pow (prime h) (s .field) a ((j + t + (h .n - weight h)) % h .n)))
-      ∙ baseFrom-is (h .k - 1) (pow F a ((j + t + (h .n - weight h)) % h .n))
-      ∙ ap (λ (x : Symbol (size h)). eval F (base F a (h .k - 1)) x .0) (pow-mod F a (h .n) (root-order h s) (j + t + (h .n - weight h)) ∙ ap (λ (e : ℕ). pow F a (j + t + e)) (offset h s))
+      ap (baseFrom (h .k - 1) h) (sym (number-pow (modulusOf h) (s .field) a ((j + t + (h .n - distance h)) % h .n)))
+      ∙ baseFrom-is (h .k - 1) (pow F a ((j + t + (h .n - distance h)) % h .n))
+      ∙ ap (λ (x : Symbol (size h)). eval F (base F a (h .k - 1)) x .0) (pow-mod F a (h .n) (root-order h s) (j + t + (h .n - distance h)) ∙ ap (λ (e : ℕ). pow F a (j + t + e)) (offset h s))
 
   -- what a node holds, from symbol r on
   nodeFrom-is : (r : ℕ) (ms : List (Symbol (size h))) (j : ℕ) → r + length ms ≤ length (shifts h) → nodeFrom r h (numbers (size h) ms) j ≡ comb (fieldFor h s) (λ t. eval (fieldFor h s) (base (fieldFor h s) (rootFor h s) (h .k - 1)) (pow (fieldFor h s) (rootFor h s) (j + t + (h .k - 1)))) ms (drop r (shifts h)) .0
@@ -56,7 +56,7 @@ module _ (h : Header) (s : Sound h) where
   nodeFrom-is r [] j fits = refl
   nodeFrom-is r (m ∷ ms) j fits =
       rw (drop-next (shifts h) r 0 (omega arith))
-      (ap₂ (add (prime h)) (ap (mul (prime h) (m .0)) (entryAt-is (getD (shifts h) r 0) j)) (nodeFrom-is (r + 1) ms j (omega arith)))
+      (ap₂ (add (modulusOf h)) (ap (mul (modulusOf h) (m .0)) (entryAt-is (getD (shifts h) r 0) j)) (nodeFrom-is (r + 1) ms j (omega arith)))
 
   -- what node j holds for a message
   pub nodeOf-is : (ms : List (Symbol (size h))) (j : ℕ) → length ms ≤ length (shifts h) → nodeOf h (numbers (size h) ms) j ≡ node (fieldFor h s) (rootFor h s) (h .k - 1) (h .k - 1) (shifts h) ms j .0
@@ -74,22 +74,22 @@ module _ (h : Header) (s : Sound h) where
   encoding-map ms = sym (map-range (nodeOf h ms) 0 (h .n))
 
   -- the value of a polynomial
-  pub polyAt-is : (cs : List (Symbol (size h))) (x : Symbol (size h)) → polyAt (prime h) (numbers (size h) cs) (x .0) ≡ eval (fieldFor h s) cs x .0
+  pub polyAt-is : (cs : List (Symbol (size h))) (x : Symbol (size h)) → polyAt (modulusOf h) (numbers (size h) cs) (x .0) ≡ eval (fieldFor h s) cs x .0
   unfolding polyAt eval
   polyAt-is [] x = refl
-  polyAt-is (c ∷ cs) x = ap (λ (y : ℕ). add (prime h) (c .0) (mul (prime h) (x .0) y)) (polyAt-is cs x)
+  polyAt-is (c ∷ cs) x = ap (λ (y : ℕ). add (modulusOf h) (c .0) (mul (modulusOf h) (x .0) y)) (polyAt-is cs x)
 
   -- its values at the powers of the root
   pub valuesOf-is : (cs : List (Symbol (size h))) → valuesOf h (numbers (size h) cs) ≡ numbers (size h) (values (fieldFor h s) (rootFor h s) cs (range 0 (h .n)))
   unfolding valuesOf
   valuesOf-is cs =
-      sym (map-range (λ j. polyAt (prime h) (numbers (size h) cs) (power (prime h) (h .root) j)) 0 (h .n)) ∙ go (range 0 (h .n))
+      sym (map-range (λ j. polyAt (modulusOf h) (numbers (size h) cs) (power (modulusOf h) (h .root) j)) 0 (h .n)) ∙ go (range 0 (h .n))
     where
-      go : (js : List ℕ) → map (λ j. polyAt (prime h) (numbers (size h) cs) (power (prime h) (h .root) j)) js ≡ numbers (size h) (values (fieldFor h s) (rootFor h s) cs js)
+      go : (js : List ℕ) → map (λ j. polyAt (modulusOf h) (numbers (size h) cs) (power (modulusOf h) (h .root) j)) js ≡ numbers (size h) (values (fieldFor h s) (rootFor h s) cs js)
       go [] = refl
       go (j ∷ js) =
           ap₂ _∷_
-          (ap (polyAt (prime h) (numbers (size h) cs)) (sym (number-pow (prime h) (s .field) (rootFor h s) j)) ∙ polyAt-is cs (pow (fieldFor h s) (rootFor h s) j))
+          (ap (polyAt (modulusOf h) (numbers (size h) cs)) (sym (number-pow (modulusOf h) (s .field) (rootFor h s) j)) ∙ polyAt-is cs (pow (fieldFor h s) (rootFor h s) j))
           (go js)
 
   -- a check sum
@@ -97,6 +97,6 @@ module _ (h : Header) (s : Sound h) where
   unfolding checkFrom comb from
   checkFrom-is e j [] = refl
   checkFrom-is e j (w ∷ ws) =
-      ap₂ (add (prime h))
-      (ap (mul (prime h) (w .0)) (sym (number-pow (prime h) (s .field) (rootFor h s) (j * e % h .n)) ∙ ap number (pow-mod (fieldFor h s) (rootFor h s) (h .n) (root-order h s) (j * e))))
+      ap₂ (add (modulusOf h))
+      (ap (mul (modulusOf h) (w .0)) (sym (number-pow (modulusOf h) (s .field) (rootFor h s) (j * e % h .n)) ∙ ap number (pow-mod (fieldFor h s) (rootFor h s) (h .n) (root-order h s) (j * e))))
       (checkFrom-is e (j + 1) ws)

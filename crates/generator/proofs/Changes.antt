@@ -29,7 +29,7 @@ use Rattle.field.specs.Symbols.{Symbol, numbers}
 use Rattle.field.proofs.Symbols.{symbol, symbol-path, getD-numbers, symbols, residue}
 use Rattle.field.proofs.FieldOf.{size-pos, number-sub}
 use Rattle.generator.specs.declared.Header.{Header}
-use Rattle.generator.specs.Records.{prime, size, weight, Sound}
+use Rattle.generator.specs.Records.{modulusOf, size, distance, Sound}
 use Rattle.generator.specs.Shifts.{shifts}
 use Rattle.generator.specs.Generator.{entry}
 use Rattle.generator.specs.Codewords.{nodeOf, encoding}
@@ -88,7 +88,7 @@ module _ (h : Header) (s : Sound h) where
 
     number-old : old .0 ≡ getD ms r 0
     unfolding old
-    number-old = sym (getD-numbers (size h) (size-pos (prime h) (s .field)) M r) ∙ ap (λ (l : List ℕ). getD l r 0) numbers-M
+    number-old = sym (getD-numbers (size h) (size-pos (modulusOf h) (s .field)) M r) ∙ ap (λ (l : List ℕ). getD l r 0) numbers-M
 
     term : ℕ → Symbol (size h)
     term j = eval (fieldFor h s) (base (fieldFor h s) (rootFor h s) (h .k - 1)) (pow (fieldFor h s) (rootFor h s) (j + getD (shifts h) r 0 + (h .k - 1)))
@@ -118,12 +118,12 @@ module _ (h : Header) (s : Sound h) where
     new-node j = ap (λ (l : List ℕ). nodeOf h l j) (sym numbers-set) ∙ nodeOf-is h s (set M r X) j (le-of-eq (length-set M r X ∙ size-M ∙ sym rows))
 
     -- the change adds (new − old) times the entry
-    pub node-change : (j : ℕ) → nodeOf h (set ms r x) j ≡ add (prime h) (nodeOf h ms j) (mul (prime h) (sub (prime h) x (getD ms r 0)) (entry h r j))
+    pub node-change : (j : ℕ) → nodeOf h (set ms r x) j ≡ add (modulusOf h) (nodeOf h ms j) (mul (modulusOf h) (sub (modulusOf h) x (getD ms r 0)) (entry h r j))
     unfolding X
     node-change j =
         new-node j
         ∙ ap (λ (a : Symbol (size h)). a .0) (node-set j)
-        ∙ ap₂ (add (prime h)) (sym (old-node j)) (ap₂ (mul (prime h)) (number-sub (prime h) (s .field) X old ∙ ap (sub (prime h) x) number-old) (sym (entry-is j)))
+        ∙ ap₂ (add (modulusOf h)) (sym (old-node j)) (ap₂ (mul (modulusOf h)) (number-sub (modulusOf h) (s .field) X old ∙ ap (sub (modulusOf h) x) number-old) (sym (entry-is j)))
 
     module _ (other : x ≡ getD ms r 0 → ⊥) where
       -- a node holds the same just where the entry is zero
@@ -149,13 +149,13 @@ module _ (h : Header) (s : Sound h) where
           (λ t. ne-eqb _ _ (λ e. eqb-false _ 0 t (same-zero j e)) ∙ sym t)
 
       -- exactly d nodes are altered
-      pub alters : differ (encoding h ms) (encoding h (set ms r x)) ≡ weight h
+      pub alters : differ (encoding h ms) (encoding h (set ms r x)) ≡ distance h
       unfolding differ encoding
       alters =
           ap (λ (f : ℕ). countFrom f 0 (λ i. not (eqb (getD (from (nodeOf h ms) 0 (h .n)) i 0) (getD (from (nodeOf h (set ms r x)) 0 (h .n)) i 0)))) (length-from (nodeOf h ms) 0 (h .n))
-          ∙ count-ext (h .n) 0 _ (λ j. ltb ((j + getD (shifts h) r 0) % h .n) (weight h))
-          (λ j l u. ap not (ap₂ eqb (at ms j (omega arith)) (at (set ms r x) j (omega arith)) ∙ altered-entry j ∙ row-weight h s r j) ∙ not-not (ltb ((j + getD (shifts h) r 0) % h .n) (weight h)))
-          ∙ row-nodes (h .n) (weight h) (getD (shifts h) r 0) (omega (arith, s .two)) (weight-fits h s)
+          ∙ count-ext (h .n) 0 _ (λ j. ltb ((j + getD (shifts h) r 0) % h .n) (distance h))
+          (λ j l u. ap not (ap₂ eqb (at ms j (omega arith)) (at (set ms r x) j (omega arith)) ∙ altered-entry j ∙ row-weight h s r j) ∙ not-not (ltb ((j + getD (shifts h) r 0) % h .n) (distance h)))
+          ∙ row-nodes (h .n) (distance h) (getD (shifts h) r 0) (omega (arith, s .two)) (weight-fits h s)
         where
           at : (us : List ℕ) (j : ℕ) → j < h .n → getD (from (nodeOf h us) 0 (h .n)) j 0 ≡ nodeOf h us j
           at us j l = getD-from (nodeOf h us) 0 (h .n) j 0 l ∙ ap (nodeOf h us) (zero-add j)

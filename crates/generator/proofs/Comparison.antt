@@ -10,7 +10,7 @@ use Rattle.scheme.proofs.Figures.{tight-figures, figures-bound}
 use Rattle.generator.specs.declared.Header.{Header}
 use Rattle.generator.specs.declared.Record.{Record}
 use Rattle.generator.specs.declared.Record.the-variants.{Holds, Meets}
-use Rattle.generator.specs.Records.{recordOf, weight, Sound}
+use Rattle.generator.specs.Records.{recordOf, distance, Sound}
 use Rattle.generator.specs.Comparison.{balancedReads, plainGreatest, Compared, ComparedRecord}
 use Rattle.generator.proofs.Accepts.{accepted-sound}
 use Rattle.generator.proofs.Costs.{whole}
@@ -19,7 +19,7 @@ use Rattle.generator.proofs.PlainLayout.{plain-scheme}
 
 -- the comparison holds of every sound header
 comparison : (h : Header) → Sound h → Compared h
-unfolding weight balancedReads plainGreatest
+unfolding distance balancedReads plainGreatest
 comparison h s =
     let ours = our-scheme h s in
     let plain = plain-scheme h s in

@@ -19,7 +19,7 @@ use Rattle.lists.proofs.Numbers.{all-below}
 use Rattle.field.proofs.Bounds.{one-below}
 use Rattle.field.proofs.FieldOf.{size-pos}
 use Rattle.generator.specs.declared.Header.{Header}
-use Rattle.generator.specs.Records.{prime, size, weight, Sound}
+use Rattle.generator.specs.Records.{modulusOf, size, distance, Sound}
 use Rattle.generator.specs.Shifts.{shifts}
 use Rattle.generator.specs.Generator.{entry}
 use Rattle.generator.specs.Codewords.{nodeOf}
@@ -33,31 +33,31 @@ use Rattle.generator.proofs.Changes.{altered-entry}
 
 module _ (h : Header) (s : Sound h) where
   -- an entry that is not zero, by its place
-  inside : (r j : ℕ) → not (eqb (entry h r j) 0) ≡ ltb ((j + getD (shifts h) r 0) % h .n) (weight h)
-  inside r j = ap not (row-weight h s r j) ∙ not-not (ltb ((j + getD (shifts h) r 0) % h .n) (weight h))
+  inside : (r j : ℕ) → not (eqb (entry h r j) 0) ≡ ltb ((j + getD (shifts h) r 0) % h .n) (distance h)
+  inside r j = ap not (row-weight h s r j) ∙ not-not (ltb ((j + getD (shifts h) r 0) % h .n) (distance h))
 
   -- row r lies on d nodes
-  pub row-count : (r : ℕ) → countFrom (h .n) 0 (λ j. not (eqb (entry h r j) 0)) ≡ weight h
+  pub row-count : (r : ℕ) → countFrom (h .n) 0 (λ j. not (eqb (entry h r j) 0)) ≡ distance h
   row-count r =
-      count-ext (h .n) 0 _ (λ j. ltb ((j + getD (shifts h) r 0) % h .n) (weight h)) (λ j l u. inside r j)
-      ∙ row-nodes (h .n) (weight h) (getD (shifts h) r 0) (omega (arith, s .two)) (weight-fits h s)
+      count-ext (h .n) 0 _ (λ j. ltb ((j + getD (shifts h) r 0) % h .n) (distance h)) (λ j l u. inside r j)
+      ∙ row-nodes (h .n) (distance h) (getD (shifts h) r 0) (omega (arith, s .two)) (weight-fits h s)
 
   -- node j lies in b = k·d / n rows
-  pub depends : (j : ℕ) → j < h .n → reads h j ≡ h .k * weight h / h .n
+  pub depends : (j : ℕ) → j < h .n → reads h j ≡ h .k * distance h / h .n
   unfolding reads
   depends j node =
-      count-ext (h .k) 0 _ (λ r. ltb ((j + getD (shifts h) r 0) % h .n) (weight h)) (λ r l u. inside r j)
-      ∙ balance-count (h .n) (h .k) (s .some) (s .fits) (weight h) j (weight-fits h s) (s .even) node
+      count-ext (h .k) 0 _ (λ r. ltb ((j + getD (shifts h) r 0) % h .n) (distance h)) (λ r l u. inside r j)
+      ∙ balance-count (h .n) (h .k) (s .some) (s .fits) (distance h) j (weight-fits h s) (s .even) node
 
   -- and b is whole
-  pub whole : h .n * (h .k * weight h / h .n) ≡ h .k * weight h
-  whole = omega (arith, div-add-mod (h .k * weight h) (h .n), s .even)
+  pub whole : h .n * (h .k * distance h / h .n) ≡ h .k * distance h
+  whole = omega (arith, div-add-mod (h .k * distance h) (h .n), s .even)
 
   -- the message of zeros
   zero-message : isMessage h (replicate (h .k) 0) ≡ true
   zero-message =
       message-is h (replicate (h .k) 0) (length-replicate (h .k) 0)
-      (all-below (size h) (replicate (h .k) 0) (All-replicate (λ x. x < size h) (h .k) 0 (size-pos (prime h) (s .field))))
+      (all-below (size h) (replicate (h .k) 0) (All-replicate (λ x. x < size h) (h .k) 0 (size-pos (modulusOf h) (s .field))))
 
   -- node j depends on symbol r: some change of that symbol alone alters it
   abbrev pub DependsNumber : ℕ → ℕ → Type 0
@@ -72,8 +72,8 @@ module _ (h : Header) (s : Sound h) where
         replicate (h .k) 0,
         1,
         zero-message,
-        one-below (prime h) (s .field),
-        altered-entry h s (replicate (h .k) 0) r 1 zero-message row (one-below (prime h) (s .field)) (λ q. suc-ne-zero 0 (q ∙ getD-replicate (h .k) r 0 0 row)) j ∙ e,
+        one-below (modulusOf h) (s .field),
+        altered-entry h s (replicate (h .k) 0) r 1 zero-message row (one-below (modulusOf h) (s .field)) (λ q. suc-ne-zero 0 (q ∙ getD-replicate (h .k) r 0 0 row)) j ∙ e,
       )
 
       back : DependsNumber r j → eqb (entry h r j) 0 ≡ false

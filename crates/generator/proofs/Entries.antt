@@ -18,7 +18,7 @@ use Rattle.field.specs.Fields.{power}
 use Rattle.field.specs.Symbols.{Symbol}
 use Rattle.field.proofs.Symbols.{symbol-path}
 use Rattle.generator.specs.declared.Header.{Header}
-use Rattle.generator.specs.Records.{prime, size, weight, Sound}
+use Rattle.generator.specs.Records.{modulusOf, size, distance, Sound}
 use Rattle.generator.specs.Shifts.{shifts}
 use Rattle.generator.specs.Generator.{baseAt, entryAt, entry, baseWord}
 use Rattle.generator.proofs.Sound.{fieldFor, rootFor, root-order, offset, weight-fits}
@@ -41,32 +41,32 @@ module _ (h : Header) (s : Sound h) where
   entry-symbol t j = eval (fieldFor h s) (base (fieldFor h s) (rootFor h s) (h .k - 1)) (pow (fieldFor h s) (rootFor h s) (j + t + (h .k - 1)))
 
   -- (j + t) modulo n below d: the polynomial is not zero there
-  entry-inside : (t j : ℕ) → (j + t) % h .n < weight h → entryAt h t j ≡ 0 → ⊥
+  entry-inside : (t j : ℕ) → (j + t) % h .n < distance h → entryAt h t j ≡ 0 → ⊥
   unfolding entry-symbol
   entry-inside t j low e =
-      let moved : (j + t + (h .k - 1)) % h .n ≡ (j + t) % h .n + (h .k - 1) = rw (offset h s) at (moved-low (h .n) (weight h) (j + t) (weight-fits h s) low) in
+      let moved : (j + t + (h .k - 1)) % h .n ≡ (j + t) % h .n + (h .k - 1) = rw (offset h s) at (moved-low (h .n) (distance h) (j + t) (weight-fits h s) low) in
       let z : entry-symbol t j ≡ fieldFor h s .0f = symbol-path (size h) (sym (entryAt-is h s t j) ∙ e) in
       let root = base-root (fieldFor h s) (rootFor h s) (h .n) (root-order h s) (h .k - 1) (omega (arith, s .fits)) (j + t + (h .k - 1)) .0 z in
       omega arith
 
   -- and zero elsewhere
-  entry-outside : (t j : ℕ) → weight h ≤ (j + t) % h .n → entryAt h t j ≡ 0
-  unfolding entry-symbol weight
+  entry-outside : (t j : ℕ) → distance h ≤ (j + t) % h .n → entryAt h t j ≡ 0
+  unfolding entry-symbol distance
   entry-outside t j high =
-      let moved : (j + t + (h .k - 1)) % h .n ≡ (j + t) % h .n - weight h = rw (offset h s) at (moved-high (h .n) (weight h) (j + t) (omega (arith, s .two)) (weight-fits h s) high) in
+      let moved : (j + t + (h .k - 1)) % h .n ≡ (j + t) % h .n - distance h = rw (offset h s) at (moved-high (h .n) (distance h) (j + t) (omega (arith, s .two)) (weight-fits h s) high) in
       let less : (j + t) % h .n < h .n = mod-lt (j + t) (omega (arith, s .two)) in
       entryAt-is h s t j
       ∙ ap (λ (x : Symbol (size h)). x .0) (base-root (fieldFor h s) (rootFor h s) (h .n) (root-order h s) (h .k - 1) (omega (arith, s .fits)) (j + t + (h .k - 1)) .1 (omega (arith, s .fits, s .some)))
 
   -- the entry at node j of a row with the shift t is zero just where (j + t) modulo n is not below d
-  pub entryAt-zero : (t j : ℕ) → eqb (entryAt h t j) 0 ≡ not (ltb ((j + t) % h .n) (weight h))
+  pub entryAt-zero : (t j : ℕ) → eqb (entryAt h t j) 0 ≡ not (ltb ((j + t) % h .n) (distance h))
   entryAt-zero t j =
-      by-test (ltb ((j + t) % h .n) (weight h))
+      by-test (ltb ((j + t) % h .n) (distance h))
       (λ e. ne-eqb (entryAt h t j) 0 (entry-inside t j (ltb-true _ _ e)) ∙ ap not (sym e))
       (λ e. eq-eqb (entryAt h t j) 0 (entry-outside t j (ltb-false _ _ e)) ∙ ap not (sym e))
 
   -- entry (r, j) likewise, by the shift of row r
-  pub row-weight : (r j : ℕ) → eqb (entry h r j) 0 ≡ not (ltb ((j + getD (shifts h) r 0) % h .n) (weight h))
+  pub row-weight : (r j : ℕ) → eqb (entry h r j) 0 ≡ not (ltb ((j + getD (shifts h) r 0) % h .n) (distance h))
   unfolding entry
   row-weight r j = entryAt-zero (getD (shifts h) r 0) j
 
@@ -75,8 +75,8 @@ module _ (h : Header) (s : Sound h) where
   unfolding baseWord entryAt
   entryAt-base t j =
       let less : (j + t) % h .n < h .n = mod-lt (j + t) (omega (arith, s .two)) in
-      let same : ((j + t) % h .n + 0 + (h .n - weight h)) % h .n ≡ (j + t + (h .n - weight h)) % h .n = rw add-zero (mod-add-mod (j + t) (h .n) (h .n - weight h)) in
-      ap (λ (e : ℕ). baseAt h (power (prime h) (h .root) e)) (sym same)
+      let same : ((j + t) % h .n + 0 + (h .n - distance h)) % h .n ≡ (j + t + (h .n - distance h)) % h .n = rw add-zero (mod-add-mod (j + t) (h .n) (h .n - distance h)) in
+      ap (λ (e : ℕ). baseAt h (power (modulusOf h) (h .root) e)) (sym same)
       ∙ sym (getD-from (entryAt h 0) 0 (h .n) ((j + t) % h .n) 0 less ∙ ap (entryAt h 0) (zero-add ((j + t) % h .n)))
 
   pub rows-base : (r j : ℕ) → entry h r j ≡ getD (baseWord h) ((j + getD (shifts h) r 0) % h .n) 0

@@ -12,7 +12,7 @@ use Rattle.field.specs.Bytes.{timesX, productFrom, product}
 use Rattle.field.specs.Fields.{sizeOf, add, sub, mul, power, orderFrom, orderOf}
 use Rattle.field.specs.Kinds.{modulus}
 use Rattle.generator.specs.declared.Record.the-variants.{Holds, Meets}
-use Rattle.generator.specs.Records.{headerOf, weight, kindBad, bodyBad, fieldBad, sizeBad, rootBad, unevenBad, headerFault, recordFault, judged, recordOf}
+use Rattle.generator.specs.Records.{headerOf, distance, kindBad, bodyBad, fieldBad, sizeBad, rootBad, unevenBad, headerFault, recordFault, judged, recordOf}
 use Rattle.generator.specs.Shifts.{gcdFrom, gcd, shiftsFrom, shiftsOf, shifts}
 use Rattle.generator.specs.Generator.{baseFrom, baseAt, entryAt, entry, baseWord}
 use Rattle.generator.specs.Codewords.{nodeFrom, nodeOf, encoding}
@@ -34,7 +34,7 @@ pub data Case : Type 0 where
 unfoldable pub Says : Case → Type 0
 Says (sheet rec n k d b ss rows) =
     let h = headerOf rec in
-    (recordOf rec ≡ Holds h) × (h .n ≡ n) × (h .k ≡ k) × (weight h ≡ d) × (h .k * weight h / h .n ≡ b) × (shifts h ≡ ss) × (from (λ r. from (entry h r) 0 n) 0 k ≡ rows)
+    (recordOf rec ≡ Holds h) × (h .n ≡ n) × (h .k ≡ k) × (distance h ≡ d) × (h .k * distance h / h .n ≡ b) × (shifts h ≡ ss) × (from (λ r. from (entry h r) 0 n) 0 k ≡ rows)
 Says (encodes rec ms ws) = encoding (headerOf rec) ms ≡ ws
 Says (changes rec ms r new ws count) = let h = headerOf rec in (encoding h (set ms r new) ≡ ws) × (differ (encoding h ms) ws ≡ count)
 Says (recovers rec nodes held ms target symbol) = let h = headerOf rec in (map (nodeOf h ms) nodes ≡ held) × (nodeOf h ms target ≡ symbol)
@@ -63,5 +63,5 @@ notebook =
 
 -- every case of the table holds
 pub notebook-holds : All Says notebook
-unfolding Says notebook recordOf judged recordFault headerFault kindBad bodyBad fieldBad sizeBad rootBad unevenBad headerOf weight shiftsOf shiftsFrom gcd gcdFrom baseWord entry entryAt baseAt baseFrom nodeFrom nodeOf encoding differ countFrom from modulus sizeOf add sub mul power orderOf orderFrom product productFrom timesX isPrime dividesSome
+unfolding Says notebook recordOf judged recordFault headerFault kindBad bodyBad fieldBad sizeBad rootBad unevenBad headerOf distance shiftsOf shiftsFrom gcd gcdFrom baseWord entry entryAt baseAt baseFrom nodeFrom nodeOf encoding differ countFrom from modulus sizeOf add sub mul power orderOf orderFrom product productFrom timesX isPrime dividesSome
 notebook-holds = ((refl, refl, refl, refl, refl, refl, refl), ((refl, refl, refl, refl, refl, refl, refl), (refl, ((refl, refl), ((refl, refl), (refl, ((refl, refl, refl, refl, refl, refl, refl), ((refl, refl, refl, refl, refl, refl, refl), (refl, (refl, (refl, tt)))))))))))

@@ -22,7 +22,7 @@ use Rattle.scheme.specs.Messages.{Message, symbols}
 use Rattle.scheme.specs.Schemes.{Scheme}
 use Rattle.scheme.proofs.Messages.{length-symbols, getD-symbols, symbols-inj}
 use Rattle.generator.specs.declared.Header.{Header}
-use Rattle.generator.specs.Records.{prime, size, Sound}
+use Rattle.generator.specs.Records.{modulusOf, size, Sound}
 use Rattle.generator.specs.Codewords.{nodeOf, encoding, isWord}
 use Rattle.generator.specs.Claims.{isMessage, areNodes, atNodes}
 use Rattle.generator.specs.Comparison.{PlainScheme}
@@ -58,7 +58,7 @@ module _ (h : Header) (s : Sound h) where
     held-symbol : (r : Fin (h .k)) → held (r .0) ≡ m r .0
     unfolding held numbersOf
     held-symbol r =
-        let pos = size-pos (prime h) (s .field) in
+        let pos = size-pos (modulusOf h) (s .field) in
         let f = nodeOf h (behind .0) in
         sym (rw zero-add at (getD-from f 0 (h .k) (r .0) 0 (r .1)))
         ∙ ap (λ (l : List ℕ). getD l (r .0) 0) (sym (map-range f 0 (h .k)) ∙ behind .2)
@@ -87,7 +87,7 @@ module _ (h : Header) (s : Sound h) where
   unfolding numbersOf
   same-word m u e =
       symbols-inj (h .k) m u
-      (numbers-path (size h) (size-pos (prime h) (s .field)) (symbols (h .k) m) (symbols (h .k) u)
+      (numbers-path (size h) (size-pos (modulusOf h) (s .field)) (symbols (h .k) m) (symbols (h .k) u)
       (sym (behind m .2) ∙ ap (λ (us : List ℕ). atNodes h us (range 0 (h .k))) e ∙ behind u .2))
 
   -- any k nodes fix the word, and so the message

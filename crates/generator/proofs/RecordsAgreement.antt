@@ -33,14 +33,14 @@ recordFault s = let b = getD s 0 0 in let h = headerOf s in firstOf (when (eqb (
 
 -- its header made from ours
 abbrev pub given : Own.Header → Header
-given h = record { p = Ours.prime h; root = h .root; n = h .n; k = h .k }
+given h = record { p = Ours.modulusOf h; root = h .root; n = h .n; k = h .k }
 
 pub headerOf-agrees : (s : List ℕ) → headerOf s ≡ given (Ours.headerOf s)
 unfolding headerOf Ours.headerOf modulus
 headerOf-agrees s = by-test (eqb (getD s 0 0) 1) (λ t. rw t) (λ t. rw t)
 
-pub weight-agrees : (h : Own.Header) → weight (given h) ≡ Ours.weight h
-unfolding weight Ours.weight
+pub weight-agrees : (h : Own.Header) → weight (given h) ≡ Ours.distance h
+unfolding weight Ours.distance
 weight-agrees h = refl
 
 -- number 3
@@ -49,11 +49,11 @@ unfolding Ours.headerOf Ours.fieldBad modulus
 field-agrees s = by-test (eqb (getD s 0 0) 1) (λ t. rw (t, isPrime-agrees (getD s 1 0))) (λ t. rw t)
 
 -- number 5: the order is asked of symbols alone
-root-agrees : (h : Own.Header) → not (ltb (h .root) (sizeOf (Ours.prime h)) && eqb (orderOf (Ours.prime h) (h .root)) (h .n)) ≡ Ours.rootBad h
+root-agrees : (h : Own.Header) → not (ltb (h .root) (sizeOf (Ours.modulusOf h)) && eqb (orderOf (Ours.modulusOf h) (h .root)) (h .n)) ≡ Ours.rootBad h
 unfolding Ours.rootBad
 root-agrees h =
-    rw (sizeOf-agrees (Ours.prime h))
-    (by-test (ltb (h .root) (Ours.size h)) (λ t. rw (orderOf-agrees (Ours.prime h) (h .root) (ltb-true _ _ t))) (λ t. rw t))
+    rw (sizeOf-agrees (Ours.modulusOf h))
+    (by-test (ltb (h .root) (Ours.size h)) (λ t. rw (orderOf-agrees (Ours.modulusOf h) (h .root) (ltb-true _ _ t))) (λ t. rw t))
 
 -- number 6
 uneven-agrees : (h : Own.Header) → not (eqb (rest (h .k * weight (given h)) (h .n)) 0) ≡ Ours.unevenBad h

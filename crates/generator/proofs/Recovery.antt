@@ -19,7 +19,7 @@ use Rattle.field.specs.Symbols.{Symbol, numbers}
 use Rattle.field.proofs.Symbols.{symbols, numbers-symbols, numbers-below, numbers-path, length-numbers, length-symbols}
 use Rattle.field.proofs.FieldOf.{size-pos}
 use Rattle.generator.specs.declared.Header.{Header}
-use Rattle.generator.specs.Records.{prime, size, Sound}
+use Rattle.generator.specs.Records.{modulusOf, size, Sound}
 use Rattle.generator.specs.Shifts.{shifts}
 use Rattle.generator.specs.Codewords.{nodeOf}
 use Rattle.generator.specs.Claims.{isMessage, areNodes, atNodes}
@@ -57,13 +57,13 @@ module _ (h : Header) (s : Sound h) where
 
   -- a list of numbers below the field's size as symbols
   abbrev pub lifted : List ℕ → List (Symbol (size h))
-  lifted xs = symbols (size h) (size-pos (prime h) (s .field)) xs
+  lifted xs = symbols (size h) (size-pos (modulusOf h) (s .field)) xs
 
   pub lifted-numbers : (xs : List ℕ) → allBelow (size h) xs ≡ true → numbers (size h) (lifted xs) ≡ xs
-  lifted-numbers xs b = numbers-symbols (size h) (size-pos (prime h) (s .field)) xs b
+  lifted-numbers xs b = numbers-symbols (size h) (size-pos (modulusOf h) (s .field)) xs b
 
   pub length-lifted : (xs : List ℕ) → length (lifted xs) ≡ length xs
-  length-lifted xs = length-symbols (size h) (size-pos (prime h) (s .field)) xs
+  length-lifted xs = length-symbols (size h) (size-pos (modulusOf h) (s .field)) xs
 
   -- the symbols of a list of numbers are a message
   pub numbers-message : (ms : List (Symbol (size h))) → length ms ≡ h .k → isMessage h (numbers (size h) ms) ≡ true
@@ -95,7 +95,7 @@ module _ (h : Header) (s : Sound h) where
       let nm : numbers (size h) M ≡ ms = lifted-numbers ms (message-below h ms m) in
       let nu : numbers (size h) U ≡ us = lifted-numbers us (message-below h us u) in
       let same : map (F M) js ≡ map (F U) js =
-      numbers-path (size h) (size-pos (prime h) (s .field)) (map (F M) js) (map (F U) js)
+      numbers-path (size h) (size-pos (modulusOf h) (s .field)) (map (F M) js) (map (F U) js)
       (sym (held M js lm) ∙ ap (λ (x : List ℕ). atNodes h x js) nm ∙ e ∙ ap (λ (x : List ℕ). atNodes h x js) (sym nu) ∙ held U js lu) in
       let pl = nodes-places h js p in
       let (w, both, unique) = the-message js (map (F U) js) pl (length-map js (F U) ∙ pl .size) in

@@ -23,7 +23,7 @@ use Rattle.scheme.specs.Costs.{Tight, CostsAtLeast}
 use Rattle.scheme.proofs.Messages.{length-symbols, getD-symbols, symbols-change, list-scheme}
 use Rattle.scheme.proofs.Tightness.{tight, tight-least}
 use Rattle.generator.specs.declared.Header.{Header}
-use Rattle.generator.specs.Records.{prime, size, weight, Sound}
+use Rattle.generator.specs.Records.{modulusOf, size, distance, Sound}
 use Rattle.generator.specs.Generator.{entry}
 use Rattle.generator.specs.Codewords.{nodeOf}
 use Rattle.generator.specs.Claims.{isMessage, areNodes, atNodes, reads, OurScheme}
@@ -42,7 +42,7 @@ module _ (h : Header) (s : Sound h) where
   fixes : (ms us : List (Symbol (size h))) (js : List ℕ) → length ms ≡ h .k → length us ≡ h .k → length js ≡ h .k → allBelow (h .n) js ≡ true → distinct js ≡ true → ((j : Fin (h .n)) → isIn (j .0) js ≡ true → nodeOf h (numbers (size h) ms) (j .0) ≡ nodeOf h (numbers (size h) us) (j .0)) → ms ≡ us
   unfolding areNodes
   fixes ms us js lm lu size-is below different e =
-      numbers-path (size h) (size-pos (prime h) (s .field)) ms us
+      numbers-path (size h) (size-pos (modulusOf h) (s .field)) ms us
       (one-message h s js (numbers (size h) ms) (numbers (size h) us) (both-true (eq-eqb (length js) (h .k) size-is) (both-true below different)) (numbers-message h s ms lm) (numbers-message h s us lu)
       (map-isIn (nodeOf h (numbers (size h) ms)) (nodeOf h (numbers (size h) us)) js (λ j m. e (j, isIn-below (h .n) j js below m) m)))
 
@@ -72,7 +72,7 @@ module _ (h : Header) (s : Sound h) where
     differs : u r .0 ≡ getD (numbersOf m) (r .0) 0 → ⊥
     unfolding numbersOf
     differs e =
-        let pos = size-pos (prime h) (s .field) in
+        let pos = size-pos (modulusOf h) (s .field) in
         c .there (sym (symbol-path (size h) (e ∙ getD-numbers (size h) pos (symbols (h .k) m) (r .0) ∙ ap (λ (a : Symbol (size h)). a .0) (getD-symbols (h .k) m r (symbol (size h) 0 pos)))))
 
     same-test : (j : Fin (h .n)) → eqb (nodeOf h (numbersOf m) (j .0)) (nodeOf h (numbersOf u) (j .0)) ≡ eqb (entry h (r .0) (j .0)) 0
@@ -90,10 +90,10 @@ module _ (h : Header) (s : Sound h) where
 
   -- the field has two symbols
   pub zero-symbol : Symbol (size h)
-  zero-symbol = symbol (size h) 0 (size-pos (prime h) (s .field))
+  zero-symbol = symbol (size h) 0 (size-pos (modulusOf h) (s .field))
 
   pub one-symbol : Symbol (size h)
-  one-symbol = symbol (size h) 1 (one-below (prime h) (s .field))
+  one-symbol = symbol (size h) 1 (one-below (modulusOf h) (s .field))
 
   pub two-symbols : zero-symbol ≢ one-symbol
   unfolding zero-symbol one-symbol
@@ -101,9 +101,9 @@ module _ (h : Header) (s : Sound h) where
 
   -- each change alters exactly d nodes, each node depends on exactly k·d / n symbols
   pub scheme-tight : Tight schemeOf
-  unfolding reads weight
+  unfolding reads distance
   scheme-tight =
-      tight schemeOf zero-symbol one-symbol two-symbols (h .k * weight h / h .n) (whole h s) (λ r j. not (eqb (entry h r j) 0)) means (λ r. row-count h s (r .0)) (λ j. depends h s (j .0) (j .1))
+      tight schemeOf zero-symbol one-symbol two-symbols (h .k * distance h / h .n) (whole h s) (λ r j. not (eqb (entry h r j) 0)) means (λ r. row-count h s (r .0)) (λ j. depends h s (j .0) (j .1))
 
   -- no scheme of any kind of symbols and contents costs less
   pub scheme-least {ℓ κ} : {S : Type ℓ} {C : Fin (h .n) → Type κ} (t : Scheme (h .k) (h .n) S C) (x y : S) → x ≢ y → CostsAtLeast t schemeOf

@@ -60,7 +60,7 @@ shiftsFrom-agrees (suc f) i t s place =
     (ap (λ (l : List ℕ). pick (ltb place t) (i ∷ []) [] ++ l) (shiftsFrom-agrees f (suc i) t s (pick (eqb (suc place) (t + s)) 0 (suc place))))
 
 pub shifts-agrees : (h : Own.Header) → shifts (given h) ≡ Ours.shifts h
-unfolding shifts Ours.shiftsOf Records.weight
+unfolding shifts Ours.shiftsOf Records.distance
 shifts-agrees h =
-    let same : Records.weight h - 1 ≡ h .n - h .k = omega arith in
+    let same : Records.distance h - 1 ≡ h .n - h .k = omega arith in
     rw (shiftsFrom-agrees, gcd-agrees, divided-agrees (h .k), weight-agrees h, same, divided-agrees (h .n - h .k))

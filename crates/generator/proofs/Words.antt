@@ -21,7 +21,7 @@ use Rattle.field.specs.Symbols.{Symbol, numbers}
 use Rattle.field.proofs.Symbols.{numbers-below, length-numbers, numbers-path, symbol-path}
 use Rattle.field.proofs.FieldOf.{size-pos}
 use Rattle.generator.specs.declared.Header.{Header}
-use Rattle.generator.specs.Records.{prime, size, Sound}
+use Rattle.generator.specs.Records.{modulusOf, size, Sound}
 use Rattle.generator.specs.Shifts.{shifts}
 use Rattle.generator.specs.Codewords.{encoding, valuesOf, checkFrom, checksFrom, isWord}
 use Rattle.generator.specs.Claims.{isMessage}
@@ -81,7 +81,7 @@ module _ (h : Header) (s : Sound h) where
       back : (cs : List ℕ) × (length cs ≡ h .k) × (allBelow (size h) cs ≡ true) × (valuesOf h cs ≡ ws) → isWord h ws ≡ true
       back (cs, size-is, low, at) =
           ap (isWord h) (sym is)
-          ∙ test .1 (lifted h s cs, length-lifted h s cs ∙ size-is, numbers-path (size h) (size-pos (prime h) (s .field)) _ (lifted h s ws) (sym (valuesOf-is h s (lifted h s cs)) ∙ ap (valuesOf h) (lifted-numbers h s cs low) ∙ at ∙ sym is))
+          ∙ test .1 (lifted h s cs, length-lifted h s cs ∙ size-is, numbers-path (size h) (size-pos (modulusOf h) (s .field)) _ (lifted h s ws) (sym (valuesOf-is h s (lifted h s cs)) ∙ ap (valuesOf h) (lifted-numbers h s cs low) ∙ at ∙ sym is))
 
   -- words are the encodings of messages
   pub words-encode : (ws : List ℕ) → length ws ≡ h .n → allBelow (size h) ws ≡ true → (isWord h ws ≡ true) ↔ ((ms : List ℕ) × (isMessage h ms ≡ true) × (encoding h ms ≡ ws))
@@ -106,4 +106,4 @@ module _ (h : Header) (s : Sound h) where
           let M = lifted h s ms in
           let lm : length M ≡ h .k = length-lifted h s ms ∙ message-size h ms m in
           ap (isWord h) (sym is)
-          ∙ test .1 (both .0 (M, lm, numbers-path (size h) (size-pos (prime h) (s .field)) _ (lifted h s ws) (sym (held h s M (range 0 (h .n)) lm) ∙ sym (encoding-map h s (numbers (size h) M)) ∙ ap (encoding h) (lifted-numbers h s ms (message-below h ms m)) ∙ at ∙ sym is)))
+          ∙ test .1 (both .0 (M, lm, numbers-path (size h) (size-pos (modulusOf h) (s .field)) _ (lifted h s ws) (sym (held h s M (range 0 (h .n)) lm) ∙ sym (encoding-map h s (numbers (size h) M)) ∙ ap (encoding h) (lifted-numbers h s ms (message-below h ms m)) ∙ at ∙ sym is)))

@@ -15,7 +15,7 @@ use Rattle.scheme.specs.Costs.{Tight, CostsAtLeast}
 use Rattle.generator.specs.declared.Header.{Header}
 use Rattle.generator.specs.declared.Record.{Record}
 use Rattle.generator.specs.declared.Record.the-variants.{Holds, Meets}
-use Rattle.generator.specs.Records.{size, weight}
+use Rattle.generator.specs.Records.{size, distance}
 use Rattle.generator.specs.Shifts.{shifts}
 use Rattle.generator.specs.Generator.{entry, baseWord}
 use Rattle.generator.specs.Codewords.{nodeOf, encoding, valuesOf, isWord}
@@ -45,12 +45,12 @@ pub record Ours (h : Header) : Type 0 where
   pub words-poly : (ws : List ℕ) → length ws ≡ h .n → allBelow (size h) ws ≡ true → (isWord h ws ≡ true) ↔ ((cs : List ℕ) × (length cs ≡ h .k) × (allBelow (size h) cs ≡ true) × (valuesOf h cs ≡ ws))
   pub words-encode : (ws : List ℕ) → length ws ≡ h .n → allBelow (size h) ws ≡ true → (isWord h ws ≡ true) ↔ ((ms : List ℕ) × (isMessage h ms ≡ true) × (encoding h ms ≡ ws))
   -- an entry is not zero exactly where (j + shift) modulo n lies below d
-  pub row-weight : (r j : ℕ) → r < h .k → j < h .n → eqb (entry h r j) 0 ≡ not (ltb ((j + getD (shifts h) r 0) % h .n) (weight h))
+  pub row-weight : (r j : ℕ) → r < h .k → j < h .n → eqb (entry h r j) 0 ≡ not (ltb ((j + getD (shifts h) r 0) % h .n) (distance h))
   -- each change of one symbol alters exactly d nodes
-  pub alters : (ms : List ℕ) (r x : ℕ) → isMessage h ms ≡ true → r < h .k → x < size h → (x ≡ getD ms r 0 → ⊥) → differ (encoding h ms) (encoding h (set ms r x)) ≡ weight h
+  pub alters : (ms : List ℕ) (r x : ℕ) → isMessage h ms ≡ true → r < h .k → x < size h → (x ≡ getD ms r 0 → ⊥) → differ (encoding h ms) (encoding h (set ms r x)) ≡ distance h
   -- each node depends on exactly b = k·d / n symbols, a whole number
-  pub depends : (j : ℕ) → j < h .n → reads h j ≡ h .k * weight h / h .n
-  pub whole : h .n * (h .k * weight h / h .n) ≡ h .k * weight h
+  pub depends : (j : ℕ) → j < h .n → reads h j ≡ h .k * distance h / h .n
+  pub whole : h .n * (h .k * distance h / h .n) ≡ h .k * distance h
   -- a node depends on a symbol exactly where the entry is not zero
   pub depends-means : (r j : ℕ) → r < h .k → j < h .n → (eqb (entry h r j) 0 ≡ false) ↔ ((ms : List ℕ) × (z : ℕ) × (isMessage h ms ≡ true) × (z < size h) × (eqb (nodeOf h ms j) (nodeOf h (set ms r z) j) ≡ false))
   -- row r at j is the base word at (j + shift) modulo n; the first shift is 0

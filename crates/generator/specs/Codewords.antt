@@ -6,13 +6,13 @@ use lib.Dec.{eqb}
 use Rattle.lists.specs.Rows.{from}
 use Rattle.field.specs.Fields.{add, mul, power}
 use Rattle.generator.specs.declared.Header.{Header}
-use Rattle.generator.specs.Records.{prime}
+use Rattle.generator.specs.Records.{modulusOf}
 use Rattle.generator.specs.Generator.{entry}
 
 -- the sum over the symbols, the first being number r, of symbol times entry (r, j)
 unfoldable pub nodeFrom : ℕ → Header → List ℕ → ℕ → ℕ
 nodeFrom r h [] j = 0
-nodeFrom r h (m ∷ ms) j = add (prime h) (mul (prime h) m (entry h r j)) (nodeFrom (r + 1) h ms j)
+nodeFrom r h (m ∷ ms) j = add (modulusOf h) (mul (modulusOf h) m (entry h r j)) (nodeFrom (r + 1) h ms j)
 
 -- what node j holds for a message
 unfoldable pub nodeOf : Header → List ℕ → ℕ → ℕ
@@ -29,12 +29,12 @@ polyAt p (c ∷ cs) x = add p c (mul p x (polyAt p cs x))
 
 -- its values at root^0 .. root^(n−1)
 unfoldable pub valuesOf : Header → List ℕ → List ℕ
-valuesOf h cs = from (λ j. polyAt (prime h) cs (power (prime h) (h .root) j)) 0 (h .n)
+valuesOf h cs = from (λ j. polyAt (modulusOf h) cs (power (modulusOf h) (h .root) j)) 0 (h .n)
 
 -- check sum e of the symbols, the first being that of node j: each times root^(j·e)
 unfoldable pub checkFrom : Header → ℕ → ℕ → List ℕ → ℕ
 checkFrom h e j [] = 0
-checkFrom h e j (w ∷ ws) = add (prime h) (mul (prime h) w (power (prime h) (h .root) (j * e % h .n))) (checkFrom h e (j + 1) ws)
+checkFrom h e j (w ∷ ws) = add (modulusOf h) (mul (modulusOf h) w (power (modulusOf h) (h .root) (j * e % h .n))) (checkFrom h e (j + 1) ws)
 
 -- the check sums from e down to 1 are zero
 unfoldable pub checksFrom : ℕ → Header → List ℕ → Bool

@@ -10,7 +10,7 @@ use Rattle.scheme.specs.Layouts.{HasFigures, Plain, plainReads}
 use Rattle.generator.specs.declared.Header.{Header}
 use Rattle.generator.specs.declared.Record.{Record}
 use Rattle.generator.specs.declared.Record.the-variants.{Holds, Meets}
-use Rattle.generator.specs.Records.{size, weight}
+use Rattle.generator.specs.Records.{size, distance}
 use Rattle.generator.specs.Codewords.{isWord}
 use Rattle.generator.specs.Claims.{OurScheme}
 
@@ -24,7 +24,7 @@ pub record PlainScheme (h : Header) : Type 0 where
 
 -- b = k·d / n, the number of symbols that each node of the plan depends on
 unfoldable pub balancedReads : Header → ℕ
-balancedReads h = h .k * weight h / h .n
+balancedReads h = h .k * distance h / h .n
 
 -- the greatest number of symbols that a node of a plain layout depends on
 unfoldable pub plainGreatest : Header → ℕ
@@ -34,14 +34,14 @@ plainGreatest h = plainReads (h .k) (h .n)
 pub record Compared (h : Header) : Type 0 where
   -- the scheme of the plan: each change alters exactly d nodes, each node depends on exactly b symbols
   pub ours : OurScheme h
-  pub our-figures : HasFigures (ours .scheme) (weight h) (balancedReads h) (balancedReads h)
+  pub our-figures : HasFigures (ours .scheme) (distance h) (balancedReads h) (balancedReads h)
   -- the plain layout of the same code: d nodes too, and from 1 to `plainGreatest` symbols
   pub plain : PlainScheme h
-  pub plain-figures : HasFigures (plain .scheme) (weight h) 1 (plainGreatest h)
+  pub plain-figures : HasFigures (plain .scheme) (distance h) 1 (plainGreatest h)
   -- every plain layout of numbers has these figures
-  pub every-plain : (s : Scheme (h .k) (h .n) ℕ (λ j. ℕ)) → Plain s → HasFigures s (weight h) 1 (plainGreatest h)
+  pub every-plain : (s : Scheme (h .k) (h .n) ℕ (λ j. ℕ)) → Plain s → HasFigures s (distance h) 1 (plainGreatest h)
   -- no scheme of numbers alters fewer nodes, or has a lesser greatest number of symbols
-  pub bound : (s : Scheme (h .k) (h .n) ℕ (λ j. ℕ)) (w l g : ℕ) → HasFigures s w l g → (weight h ≤ w) × (balancedReads h ≤ g)
+  pub bound : (s : Scheme (h .k) (h .n) ℕ (λ j. ℕ)) (w l g : ℕ) → HasFigures s w l g → (distance h ≤ w) × (balancedReads h ≤ g)
 
 -- the same of a record that was read
 unfoldable pub ComparedRecord : Record → Type 0

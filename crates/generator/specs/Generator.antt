@@ -5,13 +5,13 @@ use lib.ListN.{getD}
 use Rattle.lists.specs.Rows.{from}
 use Rattle.field.specs.Fields.{sub, mul, power}
 use Rattle.generator.specs.declared.Header.{Header}
-use Rattle.generator.specs.Records.{prime, weight}
+use Rattle.generator.specs.Records.{modulusOf, distance}
 use Rattle.generator.specs.Shifts.{shifts}
 
 -- the product of (x − root^i) for i below m
 unfoldable pub baseFrom : ℕ → Header → ℕ → ℕ
 baseFrom zero h x = 1
-baseFrom (suc i) h x = mul (prime h) (sub (prime h) x (power (prime h) (h .root) i)) (baseFrom i h x)
+baseFrom (suc i) h x = mul (modulusOf h) (sub (modulusOf h) x (power (modulusOf h) (h .root) i)) (baseFrom i h x)
 
 -- p(x), the product of (x − root^i) for i from 0 to k − 2
 unfoldable pub baseAt : Header → ℕ → ℕ
@@ -19,7 +19,7 @@ baseAt h x = baseFrom (h .k - 1) h x
 
 -- p(root^(j + s − d)), the exponent modulo n: the entry at node j of a row with the shift s
 unfoldable pub entryAt : Header → ℕ → ℕ → ℕ
-entryAt h s j = baseAt h (power (prime h) (h .root) ((j + s + (h .n - weight h)) % h .n))
+entryAt h s j = baseAt h (power (modulusOf h) (h .root) ((j + s + (h .n - distance h)) % h .n))
 
 -- entry (r, j) of the generator
 unfoldable pub entry : Header → ℕ → ℕ → ℕ

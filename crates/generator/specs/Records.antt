@@ -22,16 +22,16 @@ headerOf s =
     (record { field = Binary gf256; root = getD s 1 0; n = getD s 2 0; k = getD s 3 0 })
 
 -- the prime of the record's field, or 0 for the field of 256 elements
-abbrev pub prime : Header → ℕ
-prime h = modulus (h .field)
+abbrev pub modulusOf : Header → ℕ
+modulusOf h = modulus (h .field)
 
 -- the number of the field's symbols
 abbrev pub size : Header → ℕ
-size h = sizeOf (prime h)
+size h = sizeOf (modulusOf h)
 
 -- d = n − k + 1, the number of nodes that each row of the generator lies on
-unfoldable pub weight : Header → ℕ
-weight h = h .n - h .k + 1
+unfoldable pub distance : Header → ℕ
+distance h = h .n - h .k + 1
 
 -- number 1: empty, or of neither kind
 unfoldable pub kindBad : List ℕ → Bool
@@ -51,11 +51,11 @@ sizeBad h = ltb (h .n) 2 || (eqb (h .k) 0 || ltb (h .n) (h .k))
 
 -- number 5: the root is no symbol of order exactly n
 unfoldable pub rootBad : Header → Bool
-rootBad h = not (ltb (h .root) (size h) && eqb (orderOf (prime h) (h .root)) (h .n))
+rootBad h = not (ltb (h .root) (size h) && eqb (orderOf (modulusOf h) (h .root)) (h .n))
 
 -- number 6: n does not divide k·d
 unfoldable pub unevenBad : Header → Bool
-unevenBad h = not (eqb (h .k * weight h % h .n) 0)
+unevenBad h = not (eqb (h .k * distance h % h .n) 0)
 
 -- numbers 4 to 6
 unfoldable pub headerFault : Header → ℕ
@@ -80,11 +80,11 @@ recordOf s = judged (recordFault s) (headerOf s)
 -- what is known of a header that numbers 3 to 6 pass
 pub record Sound (h : Header) : Type 0 where
   pub usable-field : usable (h .field) ≡ true
-  pub field : isField (prime h) ≡ true
+  pub field : isField (modulusOf h) ≡ true
   pub bytes : size h ≤ 256
   pub two : 2 ≤ h .n
   pub some : 0 < h .k
   pub fits : h .k ≤ h .n
   pub root-below : h .root < size h
-  pub order : orderOf (prime h) (h .root) ≡ h .n
-  pub even : h .k * weight h % h .n ≡ 0
+  pub order : orderOf (modulusOf h) (h .root) ≡ h .n
+  pub even : h .k * distance h % h .n ≡ 0

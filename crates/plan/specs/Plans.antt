@@ -11,7 +11,7 @@ use Rattle.generator.specs.declared.Header.{Header}
 use Rattle.generator.specs.declared.Record.{Record}
 use Rattle.generator.specs.declared.Record.the-variants.{Holds, Meets}
 use Rattle.plan.specs.declared.Plan.{Plan}
-use Rattle.generator.specs.Records.{weight, recordOf}
+use Rattle.generator.specs.Records.{distance, recordOf}
 use Rattle.generator.specs.Claims.{Promised}
 use Rattle.generator.specs.Shifts.{shifts}
 use Rattle.generator.specs.Generator.{baseWord}
@@ -24,8 +24,8 @@ planFor (Holds h) =
       number = 0;
       n = h .n;
       k = h .k;
-      d = weight h;
-      b = h .k * weight h / h .n;
+      d = distance h;
+      b = h .k * distance h / h .n;
       shifts = padded 255 (shifts h);
       base = padded 255 (baseWord h);
     }

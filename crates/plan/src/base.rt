@@ -3,7 +3,7 @@ ghost use mathlib.Core.Path.{_≡_};
 ghost use Prim.Native.Nat.{_+_, _-_, _<_};
 ghost use Rattle.lists.specs.Padded.{padded};
 ghost use Rattle.field.specs.Fields.{mul, power};
-ghost use Rattle.generator.specs.Records.{prime, size, Sound};
+ghost use Rattle.generator.specs.Records.{modulusOf, size, Sound};
 ghost use Rattle.generator.specs.Generator.{baseAt, entryAt, baseWord};
 use field::Field;
 use generator::Header;
@@ -30,8 +30,8 @@ fn first_entry(h: Header) -> u32
 
 // p(root·x) from p(x), which is `entry`: p(root·x)·(x − pole) = p(x)·(scale·x − pole), where scale is root^(k−1) and pole is root^(k−2).
 fn next_entry(h: Header, scale: u32, pole: u32, x: u32, entry: u32) -> u32
-    requires { ⌜ Sound h × (scale ≡ power (prime h) (h .root) (h .k - 1)) × (pole ≡ power (prime h) (h .root) (h .n + h .k - 2)) × (x < size h) × (x ≡ pole → ⊥) × (entry ≡ baseAt h x) ⌝ }
-    ensures { λ r. ⌜ r ≡ baseAt h (mul (prime h) (h .root) x) ⌝ }
+    requires { ⌜ Sound h × (scale ≡ power (modulusOf h) (h .root) (h .k - 1)) × (pole ≡ power (modulusOf h) (h .root) (h .n + h .k - 2)) × (x < size h) × (x ≡ pole → ⊥) × (entry ≡ baseAt h x) ⌝ }
+    ensures { λ r. ⌜ r ≡ baseAt h (mul (modulusOf h) (h .root) x) ⌝ }
 {
     let field = h.field;
     let above = field.sub(field.mul(scale, x), pole);

@@ -12,7 +12,7 @@ use Rattle.lists.proofs.Padding.{take-padded}
 use Rattle.field.specs.Sums.{dot}
 use Rattle.generator.specs.declared.Header.{Header}
 use Rattle.generator.specs.declared.Record.the-variants.{Holds}
-use Rattle.generator.specs.Records.{prime, Sound}
+use Rattle.generator.specs.Records.{modulusOf, Sound}
 use Rattle.generator.specs.Shifts.{shifts}
 use Rattle.generator.proofs.Shifts.{shifts-length}
 use Rattle.plan.specs.Plans.{planFor}
@@ -50,12 +50,12 @@ shifts-part h s = take-padded 255 (h .k) (shifts h) (shifts-length (h .n) (h .k)
 
 module _ (h : Header) (l : ℕ) (nodes shares : List ℕ) (a : Listed h l nodes shares) where
   -- each lane's sum is the symbol of that lane's message
-  pub recovered : (m : List ℕ) → MessageFor h l nodes shares m → (r : ℕ) (ws : List ℕ) → r < h .k → Recovers h nodes r ws → combined (prime h) (h .k) l ws shares ≡ rowOf l m r
+  pub recovered : (m : List ℕ) → MessageFor h l nodes shares m → (r : ℕ) (ws : List ℕ) → r < h .k → Recovers h nodes r ws → combined (modulusOf h) (h .k) l ws shares ≡ rowOf l m r
   unfolding combined
   recovered m is r ws row w =
       from-ext _ (λ t. getD m (placeOf l r t) 0) 0 l
       (λ t low high.
       let inside : t < l = omega arith in
-      ap (λ (ys : List ℕ). dot (prime h) ys ws) (sym (is .lanes t inside))
+      ap (λ (ys : List ℕ). dot (modulusOf h) ys ws) (sym (is .lanes t inside))
       ∙ sym (w .gives (laneOf (h .k) l t m) (lane-message h (a .sound) l nodes (a .different) m t inside (is .size-is) (is .symbols)))
       ∙ getD-lane (h .k) l t m r row)

@@ -13,7 +13,7 @@ use Rattle.field.specs.Fields.{isField, sizeOf}
 use Rattle.field.specs.Kinds.{modulus}
 use Rattle.field.proofs.KindLaws.{usable-field}
 use Rattle.generator.specs.declared.Header.{Header}
-use Rattle.generator.specs.Records.{prime, size, Sound}
+use Rattle.generator.specs.Records.{modulusOf, size, Sound}
 use Rattle.generator.specs.Shifts.{shifts}
 use Rattle.generator.specs.Claims.{areNodes}
 use Rattle.generator.proofs.Shifts.{shifts-length}
@@ -77,31 +77,31 @@ parts f k xs b s e =
 -- the lists of a sound header
 module _ (h : Header) (s : Sound h) (few : h .k ≤ 255) where
   -- the nodes' points
-  pub node-symbols : (js : List ℕ) → areNodes h js ≡ true → Symbols (h .field) (h .k) (pointsOf (prime h) (h .root) 0 js)
+  pub node-symbols : (js : List ℕ) → areNodes h js ≡ true → Symbols (h .field) (h .k) (pointsOf (modulusOf h) (h .root) 0 js)
   node-symbols js nodes =
       let n = nodes-places h js nodes .size in
-      record { are = points-bytes (h .root) 0 js (s .usable-field) (s .bytes) (s .root-below) (omega arith); size = length-points (prime h) (h .root) 0 js ∙ n }
+      record { are = points-bytes (h .root) 0 js (s .usable-field) (s .bytes) (s .root-below) (omega arith); size = length-points (modulusOf h) (h .root) 0 js ∙ n }
 
   -- the rows' points
   pub row-symbols : Symbols (h .field) (h .k) (rowPoints h)
   unfolding rowPoints
   row-symbols =
       let n = shifts-length (h .n) (h .k) (s .some) (s .fits) in
-      record { are = points-bytes (h .root) (h .k - 1) (shifts h) (s .usable-field) (s .bytes) (s .root-below) (omega arith); size = length-points (prime h) (h .root) (h .k - 1) (shifts h) ∙ n }
+      record { are = points-bytes (h .root) (h .k - 1) (shifts h) (s .usable-field) (s .bytes) (s .root-below) (omega arith); size = length-points (modulusOf h) (h .root) (h .k - 1) (shifts h) ∙ n }
 
   -- 1 over the coefficients of the base polynomial
   pub base-symbols : Symbols (h .field) (h .k) (baseInverses h)
   unfolding baseInverses
   base-symbols =
-      let cs = baseOf (prime h) (h .root) (h .k - 1) in
-      let n : length (inversesOf (prime h) cs) ≡ h .k = omega (arith, length-inversesOf (prime h) cs, length-baseOf (prime h) (h .root) (h .k - 1), s .some) in
-      record { are = record { usable-field = s .usable-field; bytes = s .bytes; below = inversesOf-below (prime h) (s .field) cs (baseOf-below (prime h) (s .field) (h .root) (h .k - 1) (s .root-below)); short = omega arith }; size = n }
+      let cs = baseOf (modulusOf h) (h .root) (h .k - 1) in
+      let n : length (inversesOf (modulusOf h) cs) ≡ h .k = omega (arith, length-inversesOf (modulusOf h) cs, length-baseOf (modulusOf h) (h .root) (h .k - 1), s .some) in
+      record { are = record { usable-field = s .usable-field; bytes = s .bytes; below = inversesOf-below (modulusOf h) (s .field) cs (baseOf-below (modulusOf h) (s .field) (h .root) (h .k - 1) (s .root-below)); short = omega arith }; size = n }
 
   -- the terms of row r
   pub term-symbols : (r : ℕ) → r < h .k → Symbols (h .field) (h .k) (rowTerms h r)
   unfolding rowTerms
   term-symbols r l =
-      let p = prime h in
+      let p = modulusOf h in
       let bs = rowPoints h in
       let rows = row-symbols in
       let base = base-symbols in

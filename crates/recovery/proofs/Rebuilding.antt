@@ -17,7 +17,7 @@ use Rattle.field.specs.Fields.{power}
 use Rattle.field.specs.Symbols.{Symbol, numbers}
 use Rattle.field.proofs.FieldOf.{number-pow}
 use Rattle.generator.specs.declared.Header.{Header}
-use Rattle.generator.specs.Records.{prime, size, Sound}
+use Rattle.generator.specs.Records.{modulusOf, size, Sound}
 use Rattle.generator.specs.Codewords.{nodeOf}
 use Rattle.generator.specs.Claims.{areNodes}
 use Rattle.generator.proofs.Sound.{fieldFor, rootFor}
@@ -43,23 +43,23 @@ getD-values p xs z i l = getD-from (λ i. basisAt p xs i z) 0 (length xs) i 0 l 
 
 module _ (h : Header) (s : Sound h) (js : List ℕ) (nodes : areNodes h js ≡ true) where
   -- the nodes' points, as symbols
-  pub node-points : pointsOf (prime h) (h .root) 0 js ≡ numbers (size h) (map (pow (fieldFor h s) (rootFor h s)) js)
+  pub node-points : pointsOf (modulusOf h) (h .root) 0 js ≡ numbers (size h) (map (pow (fieldFor h s) (rootFor h s)) js)
   node-points =
-      pointsOf-is (prime h) (s .field) (rootFor h s) 0 js
+      pointsOf-is (modulusOf h) (s .field) (rootFor h s) 0 js
       ∙ ap (λ (f : ℕ → Symbol (size h)). numbers (size h) (map f js)) (fun-ext (λ j. ap (pow (fieldFor h s) (rootFor h s)) (add-zero j)))
 
   module _ (t : ℕ) where
     abbrev points : List ℕ
-    points = pointsOf (prime h) (h .root) 0 js
+    points = pointsOf (modulusOf h) (h .root) 0 js
 
     abbrev values : List ℕ
-    values = basisValues (prime h) points (power (prime h) (h .root) t)
+    values = basisValues (modulusOf h) points (power (modulusOf h) (h .root) t)
 
     size-points : length points ≡ h .k
-    size-points = length-points (prime h) (h .root) 0 js ∙ nodes-places h js nodes .size
+    size-points = length-points (modulusOf h) (h .root) 0 js ∙ nodes-places h js nodes .size
 
     size-values : length values ≡ h .k
-    size-values = length-values (prime h) points (power (prime h) (h .root) t) ∙ size-points
+    size-values = length-values (modulusOf h) points (power (modulusOf h) (h .root) t) ∙ size-points
 
     -- weight i, as a symbol
     abbrev weight : ℕ → Symbol (size h)
@@ -71,10 +71,10 @@ module _ (h : Header) (s : Sound h) (js : List ℕ) (nodes : areNodes h js ≡ t
         let a = rootFor h s in
         let xs = map (pow F a) js in
         let lj = nodes-places h js nodes .size in
-        getD-values (prime h) points (power (prime h) (h .root) t) i (omega (arith, size-points))
-        ∙ ap (λ (z : ℕ). basisAt (prime h) points i z) (sym (number-pow (prime h) (s .field) a t))
-        ∙ ap (λ (l : List ℕ). basisAt (prime h) l i (pow F a t .0)) node-points
-        ∙ basisAt-is (prime h) (s .field) xs i (pow F a t) (omega (arith, length-map js (pow F a)))
+        getD-values (modulusOf h) points (power (modulusOf h) (h .root) t) i (omega (arith, size-points))
+        ∙ ap (λ (z : ℕ). basisAt (modulusOf h) points i z) (sym (number-pow (modulusOf h) (s .field) a t))
+        ∙ ap (λ (l : List ℕ). basisAt (modulusOf h) l i (pow F a t .0)) node-points
+        ∙ basisAt-is (modulusOf h) (s .field) xs i (pow F a t) (omega (arith, length-map js (pow F a)))
         ∙ ap (λ (x : Symbol (size h)). eval F (basis F xs x) (pow F a t) .0) (getD-map (pow F a) 0 (F .0f) js i (omega arith))
 
     -- the weights

@@ -18,7 +18,7 @@ use Rattle.field.specs.Symbols.{Symbol, numbers}
 use Rattle.field.proofs.Symbols.{getD-numbers}
 use Rattle.field.proofs.FieldOf.{size-pos}
 use Rattle.generator.specs.declared.Header.{Header}
-use Rattle.generator.specs.Records.{prime, size, Sound}
+use Rattle.generator.specs.Records.{modulusOf, size, Sound}
 use Rattle.generator.specs.Shifts.{shifts}
 use Rattle.generator.specs.Claims.{areNodes}
 use Rattle.generator.proofs.Sound.{fieldFor, rootFor}
@@ -36,28 +36,28 @@ use Rattle.recovery.proofs.InverseRows.{termsOf, length-weightsOf, getD
 
 -- row r of the inverse at the nodes with the points xs
 abbrev pub rowOf : Header → List ℕ → ℕ → List ℕ
-rowOf h xs r = weightsOf (prime h) (getD (scalesOf (prime h) (rowPoints h)) r 0) (rowTerms h r) (drop 1 (productOf (prime h) xs)) xs (scalesOf (prime h) xs)
+rowOf h xs r = weightsOf (modulusOf h) (getD (scalesOf (modulusOf h) (rowPoints h)) r 0) (rowTerms h r) (drop 1 (productOf (modulusOf h) xs)) xs (scalesOf (modulusOf h) xs)
 
 module _ (h : Header) (s : Sound h) where
   -- the rows' points, as symbols
   row-points : rowPoints h ≡ numbers (size h) (shifted (fieldFor h s) (rootFor h s) (pow (fieldFor h s) (rootFor h s) (h .k - 1)) (shifts h))
   unfolding rowPoints
   row-points =
-      pointsOf-is (prime h) (s .field) (rootFor h s) (h .k - 1) (shifts h)
+      pointsOf-is (modulusOf h) (s .field) (rootFor h s) (h .k - 1) (shifts h)
       ∙ ap (λ (f : ℕ → Symbol (size h)). numbers (size h) (map f (shifts h))) (fun-ext (λ j. pow-add (fieldFor h s) (rootFor h s) j (h .k - 1)))
 
   module _ (js : List ℕ) (nodes : areNodes h js ≡ true) (r : ℕ) (row : r < h .k) where
     abbrev points : List ℕ
-    points = pointsOf (prime h) (h .root) 0 js
+    points = pointsOf (modulusOf h) (h .root) 0 js
 
     abbrev weights : List ℕ
     weights = rowOf h points r
 
     size-points : length points ≡ h .k
-    size-points = length-points (prime h) (h .root) 0 js ∙ nodes-places h js nodes .size
+    size-points = length-points (modulusOf h) (h .root) 0 js ∙ nodes-places h js nodes .size
 
     size-weights : length weights ≡ h .k
-    size-weights = length-weightsOf (prime h) _ _ _ points _ ∙ size-points
+    size-weights = length-weightsOf (modulusOf h) _ _ _ points _ ∙ size-points
 
     -- weight i, as a symbol: entry (r, i) of the inverse
     abbrev weight : ℕ → Symbol (size h)
@@ -72,7 +72,7 @@ module _ (h : Header) (s : Sound h) where
         let bs = shifted F a (pow F a e) (shifts h) in
         let cs = base F a e in
         let xs = map (pow F a) js in
-        let p = prime h in
+        let p = modulusOf h in
         let nums = numbers (size h) in
         getD-weightsOf p _ _ _ points _ i (omega (arith, size-points))
         ∙ ap (λ (l : List ℕ). weightOf p (getD (scalesOf p l) r 0) (termsOf p l (baseOf p (h .root) e) r) (drop 1 (productOf p points)) (getD points i 0) (getD (scalesOf p points) i 0)) row-points
@@ -93,7 +93,7 @@ module _ (h : Header) (s : Sound h) where
               let M = lifted h s ms in
               let lm = length-lifted h s ms ∙ message-size h ms m in
               ap (λ (l : List ℕ). getD l r 0) (sym (lifted-numbers h s ms (message-below h ms m)))
-              ∙ getD-numbers (size h) (size-pos (prime h) (s .field)) M r
+              ∙ getD-numbers (size h) (size-pos (modulusOf h) (s .field)) M r
               ∙ ap (λ (x : Symbol (size h)). x .0) (recover-row (fieldFor h s) (the-code h s) (h .k - 1) js (nodes-places h js nodes) M (heldBy h s js nodes ms) lm refl r row)
               ∙ sym (weighted h s js nodes weights weight size-weights entry-is fits ms m);
         }

@@ -15,7 +15,7 @@ use Rattle.field.specs.Symbols.{Symbol, numbers}
 use Rattle.field.proofs.Symbols.{symbol-below, length-numbers, getD-numbers}
 use Rattle.field.proofs.FieldOf.{size-pos}
 use Rattle.generator.specs.declared.Header.{Header}
-use Rattle.generator.specs.Records.{prime, size, Sound}
+use Rattle.generator.specs.Records.{modulusOf, size, Sound}
 use Rattle.generator.specs.Shifts.{shifts}
 use Rattle.generator.specs.Claims.{isMessage, areNodes, atNodes}
 use Rattle.generator.proofs.Sound.{fieldFor, rootFor}
@@ -43,15 +43,15 @@ module _ (h : Header) (s : Sound h) (js : List ℕ) (nodes : areNodes h js ≡ t
     -- with zeros after them they are symbols
     pub weights-below : allBelow (size h) (padded 255 ws) ≡ true
     weights-below =
-        below-padded (size h) 255 ws (size-pos (prime h) (s .field))
+        below-padded (size h) 255 ws (size-pos (modulusOf h) (s .field))
         (at-below (size h) ws (λ i l. rw (at i (omega arith)) (symbol-below (size h) (w i))))
 
     -- and they give the sum of what is held times them
-    pub weighted : h .k ≤ 255 → (ms : List ℕ) → isMessage h ms ≡ true → dot (prime h) (atNodes h ms js) (padded 255 ws) ≡ sum (fieldFor h s) (h .k) (λ i. fieldFor h s .mul (getD (heldBy ms) i (fieldFor h s .0f)) (w i)) .0
+    pub weighted : h .k ≤ 255 → (ms : List ℕ) → isMessage h ms ≡ true → dot (modulusOf h) (atNodes h ms js) (padded 255 ws) ≡ sum (fieldFor h s) (h .k) (λ i. fieldFor h s .mul (getD (heldBy ms) i (fieldFor h s .0f)) (w i)) .0
     weighted fits ms m =
         let ly : length (numbers (size h) (heldBy ms)) ≡ h .k = length-numbers (size h) (heldBy ms) ∙ length-heldBy ms in
-        ap (λ (l : List ℕ). dot (prime h) l (padded 255 ws)) (heldBy-is ms m)
-        ∙ dot-is (prime h) (s .field) (numbers (size h) (heldBy ms)) (padded 255 ws) (λ i. getD (heldBy ms) i (fieldFor h s .0f)) w (omega (arith, length-padded 255 ws (omega arith)))
-        (λ i l. getD-numbers (size h) (size-pos (prime h) (s .field)) (heldBy ms) i)
+        ap (λ (l : List ℕ). dot (modulusOf h) l (padded 255 ws)) (heldBy-is ms m)
+        ∙ dot-is (modulusOf h) (s .field) (numbers (size h) (heldBy ms)) (padded 255 ws) (λ i. getD (heldBy ms) i (fieldFor h s .0f)) w (omega (arith, length-padded 255 ws (omega arith)))
+        (λ i l. getD-numbers (size h) (size-pos (modulusOf h) (s .field)) (heldBy ms) i)
         (λ i l. getD-padded 255 ws i (omega arith) ∙ at i (omega arith))
         ∙ ap (λ (k : ℕ). sum (fieldFor h s) k (λ i. fieldFor h s .mul (getD (heldBy ms) i (fieldFor h s .0f)) (w i)) .0) ly

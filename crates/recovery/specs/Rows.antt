@@ -6,7 +6,7 @@ use Rattle.lists.specs.Rows.{from}
 use Rattle.lists.specs.Padded.{padded}
 use Rattle.field.specs.Fields.{mul}
 use Rattle.generator.specs.declared.Header.{Header}
-use Rattle.generator.specs.Records.{prime}
+use Rattle.generator.specs.Records.{modulusOf}
 use Rattle.generator.specs.Shifts.{shifts}
 use Rattle.recovery.specs.declared.Basis.{Basis}
 use Rattle.recovery.specs.declared.Setup.{Setup}
@@ -21,24 +21,24 @@ basisOf p xs = record { points = padded 255 xs; scales = padded 255 (scalesOf p 
 
 -- the points root^(shift + k − 1) of the rows
 unfoldable pub rowPoints : Header → List ℕ
-rowPoints h = pointsOf (prime h) (h .root) (h .k - 1) (shifts h)
+rowPoints h = pointsOf (modulusOf h) (h .root) (h .k - 1) (shifts h)
 
 -- 1 over the coefficients of the base polynomial
 unfoldable pub baseInverses : Header → List ℕ
-baseInverses h = inversesOf (prime h) (baseOf (prime h) (h .root) (h .k - 1))
+baseInverses h = inversesOf (modulusOf h) (baseOf (modulusOf h) (h .root) (h .k - 1))
 
 -- what is computed once for a list of nodes
 unfoldable pub setupOf : Header → List ℕ → Setup
 setupOf h js =
     record {
-      nodes = basisOf (prime h) (pointsOf (prime h) (h .root) 0 js);
-      shifts = basisOf (prime h) (rowPoints h);
+      nodes = basisOf (modulusOf h) (pointsOf (modulusOf h) (h .root) 0 js);
+      shifts = basisOf (modulusOf h) (rowPoints h);
       base = padded 255 (baseInverses h);
     }
 
 -- the terms of row r: the coefficients of the product over the points of the other rows, each over that of the base polynomial
 unfoldable pub rowTerms : Header → ℕ → List ℕ
-rowTerms h r = termwise (prime h) (quotientOf (prime h) (getD (rowPoints h) r 0) (drop 1 (productOf (prime h) (rowPoints h)))) (baseInverses h)
+rowTerms h r = termwise (modulusOf h) (quotientOf (modulusOf h) (getD (rowPoints h) r 0) (drop 1 (productOf (modulusOf h) (rowPoints h)))) (baseInverses h)
 
 -- the weight of a node in a row: the scales of the row and of the node times the sum of the row's terms times the coefficients of the product over the other nodes' points
 unfoldable pub weightOf : ℕ → ℕ → List ℕ → List ℕ → ℕ → ℕ → ℕ

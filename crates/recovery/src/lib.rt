@@ -6,7 +6,7 @@ ghost use lib.ListN.{length};
 ghost use Rattle.field.specs.Fields.{sizeOf};
 ghost use Rattle.field.specs.Kinds.{modulus, usable};
 ghost use Rattle.lists.specs.Padded.{padded};
-ghost use Rattle.generator.specs.Records.{prime, Sound};
+ghost use Rattle.generator.specs.Records.{modulusOf, Sound};
 ghost use Rattle.generator.specs.Shifts.{shifts as shiftsFor};
 ghost use Rattle.generator.specs.Claims.{areNodes};
 ghost use Rattle.recovery.specs.Weights.{Rebuilds, Recovers};
@@ -86,7 +86,7 @@ pub fn prepare(h: Header, nodes: &[u8], shifts: &[u8]) -> Setup
 
 // The terms of row r: the coefficients of the product over the points of the other rows, each over that of the base polynomial.
 fn row_terms(h: Header, rows: Basis, base: [u8; 255], r: usize) -> [u8; 255]
-    requires { ⌜ Sound h × (rows ≡ basisOf (prime h) (rowPoints h)) × (base ≡ padded 255 (baseInverses h)) × (r < h .k) ⌝ }
+    requires { ⌜ Sound h × (rows ≡ basisOf (modulusOf h) (rowPoints h)) × (base ≡ padded 255 (baseInverses h)) × (r < h .k) ⌝ }
     ensures { λ t. ⌜ t ≡ padded 255 (rowTerms h r) ⌝ }
 {
     let field = h.field;

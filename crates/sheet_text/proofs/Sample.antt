@@ -10,7 +10,7 @@ use Rattle.field.specs.Primes.{dividesSome, isPrime}
 use Rattle.field.specs.Bytes.{timesX, productFrom, product}
 use Rattle.field.specs.Fields.{sizeOf, add, sub, mul, power, orderFrom, orderOf}
 use Rattle.field.specs.Kinds.{modulus}
-use Rattle.generator.specs.Records.{headerOf, weight, kindBad, bodyBad, fieldBad, sizeBad, rootBad, unevenBad, headerFault, recordFault, judged, recordOf}
+use Rattle.generator.specs.Records.{headerOf, distance, kindBad, bodyBad, fieldBad, sizeBad, rootBad, unevenBad, headerFault, recordFault, judged, recordOf}
 use Rattle.generator.specs.Shifts.{gcdFrom, gcd, shiftsFrom, shiftsOf}
 use Rattle.generator.specs.Generator.{baseFrom, baseAt, entryAt, baseWord}
 use Rattle.plan.specs.Plans.{planFor, entryIn}
@@ -38,5 +38,5 @@ samples =
 
 -- every case of the table holds
 pub samples-hold : All Says samples
-unfolding Says samples ascii decimal field fields line headLine rowLine sheetOf entryIn planFor recordOf judged recordFault headerFault kindBad bodyBad fieldBad sizeBad rootBad unevenBad headerOf weight shiftsOf shiftsFrom gcd gcdFrom baseWord entryAt baseAt baseFrom from rowsFrom zeros padded modulus sizeOf add sub mul power orderOf orderFrom product productFrom timesX isPrime dividesSome
+unfolding Says samples ascii decimal field fields line headLine rowLine sheetOf entryIn planFor recordOf judged recordFault headerFault kindBad bodyBad fieldBad sizeBad rootBad unevenBad headerOf distance shiftsOf shiftsFrom gcd gcdFrom baseWord entryAt baseAt baseFrom from rowsFrom zeros padded modulus sizeOf add sub mul power orderOf orderFrom product productFrom timesX isPrime dividesSome
 samples-hold = (refl, (refl, (refl, (refl, (refl, (refl, (refl, (refl, tt))))))))

@@ -10,7 +10,7 @@ use Rattle.lists.proofs.Rows.{from-ext}
 use Rattle.generator.specs.declared.Header.{Header}
 use Rattle.generator.specs.declared.Record.{Record}
 use Rattle.generator.specs.declared.Record.the-variants.{Holds, Meets}
-use Rattle.generator.specs.Records.{weight, recordFault, headerOf, judged, recordOf, Sound}
+use Rattle.generator.specs.Records.{distance, recordFault, headerOf, judged, recordOf, Sound}
 use Rattle.generator.specs.Shifts.{shifts}
 use Rattle.generator.specs.Generator.{entry}
 use Rattle.plan.specs.Plans.{planFor, entryIn}
@@ -38,7 +38,7 @@ row-is h s r row =
 pub sheet-holds : (h : Header) → Sound h → sheetOf (planFor (Holds h)) ≡ sheetFor (Holds h)
 unfolding sheetOf headLine sheetFor planFor
 sheet-holds h s =
-    ap (λ (xs : List ℕ). line (ascii "plan") (h .n ∷ h .k ∷ weight h ∷ (h .k * weight h / h .n) ∷ []) ++ xs)
+    ap (λ (xs : List ℕ). line (ascii "plan") (h .n ∷ h .k ∷ distance h ∷ (h .k * distance h / h .n) ∷ []) ++ xs)
     (rows-ext (rowLine (planFor (Holds h))) _ 0 (h .k) (λ r a row. row-is h s r (omega arith)))
 
 -- the sheet of a record that was turned away

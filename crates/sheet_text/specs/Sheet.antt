@@ -8,7 +8,7 @@ use Rattle.lists.specs.Rows.{from, rowsFrom}
 use Rattle.generator.specs.declared.Record.{Record}
 use Rattle.generator.specs.declared.Record.the-variants.{Holds, Meets}
 use Rattle.plan.specs.declared.Plan.{Plan}
-use Rattle.generator.specs.Records.{weight}
+use Rattle.generator.specs.Records.{distance}
 use Rattle.generator.specs.Shifts.{shifts}
 use Rattle.generator.specs.Generator.{entry}
 use Rattle.plan.specs.Plans.{entryIn}
@@ -33,5 +33,5 @@ sheetOf p = headLine p ++ pick (eqb (p .number) 0) (rowsFrom (rowLine p) 0 (p .k
 unfoldable pub sheetFor : Record → List ℕ
 sheetFor (Meets f) = line (ascii "refused") (f ∷ [])
 sheetFor (Holds h) =
-    line (ascii "plan") (h .n ∷ h .k ∷ weight h ∷ (h .k * weight h / h .n) ∷ [])
+    line (ascii "plan") (h .n ∷ h .k ∷ distance h ∷ (h .k * distance h / h .n) ∷ [])
     ++ rowsFrom (λ r. line (ascii "row") (r ∷ getD (shifts h) r 0 ∷ from (entry h r) 0 (h .n))) 0 (h .k)

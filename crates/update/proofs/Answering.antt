@@ -13,7 +13,7 @@ use Rattle.field.specs.Fields.{sub}
 use Rattle.field.proofs.Bounds.{sub-below}
 use Rattle.generator.specs.declared.Header.{Header}
 use Rattle.generator.specs.declared.Record.the-variants.{Holds, Meets}
-use Rattle.generator.specs.Records.{prime, size, recordOf, Sound}
+use Rattle.generator.specs.Records.{modulusOf, size, recordOf, Sound}
 use Rattle.generator.proofs.Accepts.{held-header}
 use Rattle.blocks.specs.declared.Update.{Update}
 use Rattle.blocks.specs.declared.Update.the-variants.{Altered, Refused}
@@ -26,7 +26,7 @@ use Rattle.update.specs.Updating.{Ready, HeaderSays}
 
 module _ (h : Header) (l r t old new : ℕ) (s : List ℕ) where
   -- no number, so these facts
-  pub accepted : Sound h → updateFault h l r t old new s ≡ 0 → Ready h l r t (sub (prime h) new old) s × (old < size h) × (new < size h)
+  pub accepted : Sound h → updateFault h l r t old new s ≡ 0 → Ready h l r t (sub (modulusOf h) new old) s × (old < size h) × (new < size h)
   unfolding updateFault
   accepted sound e =
       let symbols = allBelow (size h) (laneOf (h .n) l t s) in
@@ -42,7 +42,7 @@ module _ (h : Header) (l r t old new : ℕ) (s : List ℕ) where
           few-lanes = lanes-good l seven .1;
           row = leb-false (h .k) r (or-left-false (leb (h .k) r) (leb l t) places);
           lane = leb-false l t (or-right-false (leb (h .k) r) (leb l t) places);
-          factor = sub-below (prime h) (sound .field) new-symbol old-symbol;
+          factor = sub-below (modulusOf h) (sound .field) new-symbol old-symbol;
           long = eqb-true (length s) (h .n * l) (not-false _ eight);
           symbols = and-right (ltb new (size h)) symbols rest;
         },

@@ -7,7 +7,7 @@ ghost use Rattle.lists.specs.Counting.{differ};
 ghost use Rattle.lists.specs.Numbers.{allBelow};
 ghost use Rattle.field.specs.Fields.{add, mul};
 ghost use Rattle.field.specs.Kinds.{usable};
-ghost use Rattle.generator.specs.Records.{prime, size, Sound};
+ghost use Rattle.generator.specs.Records.{modulusOf, size, Sound};
 ghost use Rattle.plan.specs.Plans.{planFor};
 ghost use Rattle.blocks.specs.Blocks.{laneOf, updatedFrom};
 ghost use Rattle.blocks.specs.Faults.{updateFault};
@@ -21,7 +21,7 @@ use plan::Plan;
 // What a node holds after x times its entry is added to what it held.
 fn renewed(h: Header, x: u32, entry: u8, before: u8) -> u8
     requires { ⌜ Sound h × (x < size h) × (entry < size h) × (before < size h) ⌝ }
-    ensures { λ r. ⌜ r ≡ add (prime h) before (mul (prime h) x entry) ⌝ }
+    ensures { λ r. ⌜ r ≡ add (modulusOf h) before (mul (modulusOf h) x entry) ⌝ }
 {
     let field = h.field;
     field.add(before as u32, field.mul(x, entry as u32)) as u8

@@ -1,7 +1,7 @@
 -- `weight_of` meets its contract.
 use mathlib.Core.Path.{refl}
 use borrow.Author.Needs.{needs}
-use Rattle.generator.specs.Records.{weight}
+use Rattle.generator.specs.Records.{distance}
 use Rattle.compare_text.proofs.weight_of.Statement.{statement}
 use Rattle.compare_text.proofs.weight_of.Tie as tie
 
@@ -12,7 +12,7 @@ add-result : tie.Need-add-result
 add-result c = search needs
 
 returns : tie.Need-returns
-unfolding weight
+unfolding distance
 returns c = refl
 
 pub weight-of-spec : {M : Type 1} → statement M

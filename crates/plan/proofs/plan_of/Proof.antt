@@ -4,7 +4,7 @@ use Prim.Native.Nat.{ℕ, _+_, _-_, _*_, _/_, _≤_, _<_}
 use native.Mathlib.Nat.{mul-le-mul, div-lt-iff-lt-mul}
 use native.Mathlib.Omega.{arith}
 use borrow.Author.Needs.{needs}
-use Rattle.generator.specs.Records.{weight, Sound}
+use Rattle.generator.specs.Records.{distance, Sound}
 use Rattle.plan.specs.Plans.{planFor}
 use Rattle.plan.proofs.plan_of.Statement.{statement}
 use Rattle.plan.proofs.plan_of.Tie as tie
@@ -50,7 +50,7 @@ fill-base-requires : tie.Need-fill-base-requires
 fill-base-requires c κs = search needs
 
 returns : tie.Need-returns
-unfolding planFor weight
+unfolding planFor distance
 returns c = simp (c .before .fill-shifts .ensures, c .fill-base .ensures)
 
 pub plan-of-spec : {M : Type 1} → statement M

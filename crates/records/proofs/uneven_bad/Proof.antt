@@ -4,7 +4,7 @@ use mathlib.Core.Path.{refl}
 use native.Mathlib.Nat.{mul-le-mul}
 use native.Mathlib.Omega.{arith}
 use borrow.Author.Needs.{needs}
-use Rattle.generator.specs.Records.{weight, unevenBad}
+use Rattle.generator.specs.Records.{distance, unevenBad}
 use Rattle.generator.proofs.Faults.{sizes}
 use Rattle.records.proofs.uneven_bad.Statement.{statement}
 use Rattle.records.proofs.uneven_bad.Tie as tie
@@ -33,7 +33,7 @@ rem-result : tie.Need-rem-result
 rem-result c = omega (arith, sizes _ (c .before .before .pre))
 
 returns : tie.Need-returns
-unfolding unevenBad weight
+unfolding unevenBad distance
 returns c = refl
 
 pub uneven-bad-spec : {M : Type 1} → statement M

@@ -5,7 +5,7 @@ use native.Mathlib.Omega.{arith}
 use borrow.Author.Needs.{needs}
 use lib.ListN.{length, take}
 use Rattle.lists.proofs.Padding.{take-padded}
-use Rattle.generator.specs.Records.{prime}
+use Rattle.generator.specs.Records.{modulusOf}
 use Rattle.generator.proofs.Shifts.{shifts-length}
 use Rattle.generator.proofs.Recovery.{nodes-places}
 use Rattle.interpolation.specs.Polynomials.{baseOf}
@@ -29,12 +29,12 @@ array-share-prefix-base c = search needs
 -- the base polynomial has k coefficients, at most 255, and so the array's part
 part : (c : tie.After-base)
     → let h = c .before .before .before .before .args .h in
-    let cs = baseOf (prime h) (h .root) (h .k - 1) in
+    let cs = baseOf (modulusOf h) (h .root) (h .k - 1) in
     (take (h .k) (c .base .result) ≡ cs) × (length cs ≡ h .k) × (h .k ≤ 255)
 part c =
     let h = c .before .before .before .before .args .h in
     let s = c .before .before .before .before .pre .0 in
-    let size : length (baseOf (prime h) (h .root) (h .k - 1)) ≡ h .k = omega (arith, length-baseOf (prime h) (h .root) (h .k - 1), s .some) in
+    let size : length (baseOf (modulusOf h) (h .root) (h .k - 1)) ≡ h .k = omega (arith, length-baseOf (modulusOf h) (h .root) (h .k - 1), s .some) in
     (rw (c .base .ensures) (take-padded 256 (h .k) _ size), size, omega (arith, c .before .struct-known .given))
 
 slice-aggregate-inverses : tie.Need-slice-aggregate-inverses

@@ -6,7 +6,7 @@ use borrow.Author.Needs.{needs}
 use lib.ListN.{length, take}
 use Rattle.lists.proofs.Padding.{take-padded}
 use Rattle.field.proofs.Bounds.{power-below}
-use Rattle.generator.specs.Records.{prime, size}
+use Rattle.generator.specs.Records.{modulusOf, size}
 use Rattle.generator.proofs.Recovery.{nodes-places}
 use Rattle.interpolation.specs.Points.{pointsOf}
 use Rattle.interpolation.proofs.Points.{length-points, points-bytes}
@@ -36,15 +36,15 @@ array-share-prefix-points c = search needs
 -- the part of the array that holds the points
 part : (c : tie.After-points)
     → let a = c .before .before .before .before .args in
-    take (a .h .k) (c .points .result) ≡ pointsOf (prime (a .h)) (a .h .root) 0 (a .nodes .now)
+    take (a .h .k) (c .points .result) ≡ pointsOf (modulusOf (a .h)) (a .h .root) 0 (a .nodes .now)
 part c =
     let a = c .before .before .before .before .args in
-    rw (c .points .ensures) (take-padded 255 (a .h .k) _ (length-points (prime (a .h)) (a .h .root) 0 (a .nodes .now) ∙ few (c .before) .0))
+    rw (c .points .ensures) (take-padded 255 (a .h .k) _ (length-points (modulusOf (a .h)) (a .h .root) 0 (a .nodes .now) ∙ few (c .before) .0))
 
 slice-aggregate-basis-values : tie.Need-slice-aggregate-basis-values
 slice-aggregate-basis-values c =
     let a = c .before .before .before .before .before .args in
-    rw (part (c .before)) (sym (length-points (prime (a .h)) (a .h .root) 0 (a .nodes .now) ∙ few (c .before .before) .0))
+    rw (part (c .before)) (sym (length-points (modulusOf (a .h)) (a .h .root) 0 (a .nodes .now) ∙ few (c .before .before) .0))
 
 basis-values-requires : tie.Need-basis-values-requires
 basis-values-requires c κs =

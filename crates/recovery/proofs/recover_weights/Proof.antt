@@ -6,7 +6,7 @@ use borrow.Author.Needs.{needs}
 use lib.ListN.{getD, take}
 use Rattle.lists.proofs.Numbers.{below-at}
 use Rattle.lists.proofs.Padding.{take-padded}
-use Rattle.generator.specs.Records.{prime, size}
+use Rattle.generator.specs.Records.{modulusOf, size}
 use Rattle.recovery.specs.declared.Setup.{Setup}
 use Rattle.interpolation.specs.Points.{pointsOf}
 use Rattle.recovery.specs.Rows.{rowPoints, setupOf, rowTerms}
@@ -33,7 +33,7 @@ row-terms-requires c κs =
 -- what the setup and the terms hold
 own : (c : tie.After-struct-known)
     → let a = c .before .before .args in
-    Parts (a .h .field) (a .h .k) (pointsOf (prime (a .h)) (a .h .root) 0 (a .nodes .now)) (a .setup .nodes)
+    Parts (a .h .field) (a .h .k) (pointsOf (modulusOf (a .h)) (a .h .root) 0 (a .nodes .now)) (a .setup .nodes)
 unfolding setupOf
 own c =
     let s = c .before .before in

@@ -4,7 +4,7 @@ use mathlib.Core.Path.{_≡_, sym, _∙_}
 use native.Mathlib.Omega.{arith}
 use borrow.Author.Needs.{needs}
 use Rattle.field.specs.Fields.{sub}
-use Rattle.generator.specs.Records.{prime, size}
+use Rattle.generator.specs.Records.{modulusOf, size}
 use Rattle.blocks.specs.Blocks.{updated}
 use Rattle.blocks.specs.Faults.{updateFault}
 use Rattle.update.specs.Updating.{Ready}
@@ -20,7 +20,7 @@ none c = sym (c .before .update-fault .ensures) ∙ c .if1 .left
 
 ready : (c : tie.Else1)
     → let a = c .before .before .before .before .args in
-    Ready (a .h) (a .lanes) (a .which) (a .lane) (sub (prime (a .h)) (a .new) (a .old)) (a .shares .now) × (a .old < size (a .h)) × (a .new < size (a .h))
+    Ready (a .h) (a .lanes) (a .which) (a .lane) (sub (modulusOf (a .h)) (a .new) (a .old)) (a .shares .now) × (a .old < size (a .h)) × (a .new < size (a .h))
 ready c = accepted _ _ _ _ _ _ _ (c .before .before .before .before .pre) (none c)
 
 update-fault-requires : tie.Need-update-fault-requires

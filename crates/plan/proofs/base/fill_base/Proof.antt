@@ -9,7 +9,7 @@ use Rattle.lists.proofs.Rows.{from-next, from-end}
 use Rattle.lists.proofs.Fill.{Fills, fills-start, fills-put, fills-padded, length-zeros}
 use Rattle.field.specs.Fields.{power}
 use Rattle.field.proofs.Bounds.{power-below}
-use Rattle.generator.specs.Records.{prime, weight}
+use Rattle.generator.specs.Records.{modulusOf, distance}
 use Rattle.generator.specs.Generator.{baseAt, entryAt}
 use Rattle.generator.proofs.Bounds.{entryAt-below}
 use Rattle.generator.proofs.BaseWord.{power-turn, pole-apart, entry-is, base-padded}
@@ -19,9 +19,9 @@ use Rattle.plan.proofs.base.fill_base.Tie as tie
 abbrev Inv-loop : tie.InvT-loop
 Inv-loop h field root n k scale pole last out₀ x₀ entry₀ j₀ out x entry j =
     (j ≤ last)
-    × (x ≡ power (prime h) (h .root) (j + (h .k - 1)))
+    × (x ≡ power (modulusOf h) (h .root) (j + (h .k - 1)))
     × (entry ≡ baseAt h x)
-    × Fills (zeros 255) out (j + 1) (from (entryAt h 0) (j + 1) (weight h - (j + 1))) (from (entryAt h 0) 0 (weight h))
+    × Fills (zeros 255) out (j + 1) (from (entryAt h 0) (j + 1) (distance h - (j + 1))) (from (entryAt h 0) 0 (distance h))
 
 abbrev μ-loop : tie.MeasureT-loop
 μ-loop h field root n k scale pole last out₀ x₀ entry₀ j₀ out x entry j = last - j
@@ -72,15 +72,15 @@ array-write-out : tie.Need-array-write-out Inv-loop μ-loop
 array-write-out c = omega arith
 
 loop-holds : tie.Need-loop-holds Inv-loop μ-loop
-unfolding zeros weight
+unfolding zeros distance
 loop-holds c =
     let h = c .before .before .before .before .before .args .h in
-    let whole = from (entryAt h 0) 0 (weight h) in
-    let start : Fills (zeros 255) (zeros 255) 0 (from (entryAt h 0) 0 (weight h - 0)) whole = rw sub-zero (fills-start (zeros 255) whole) in (
+    let whole = from (entryAt h 0) 0 (distance h) in
+    let start : Fills (zeros 255) (zeros 255) 0 (from (entryAt h 0) 0 (distance h - 0)) whole = rw sub-zero (fills-start (zeros 255) whole) in (
       omega arith,
       rw zero-add (c .before .before .power .ensures),
       first c,
-      rw (c .first-entry .ensures) (fills-put (rw (from-next (entryAt h 0) (weight h) 0 (omega arith)) at start) (omega (arith, length-zeros 255))),
+      rw (c .first-entry .ensures) (fills-put (rw (from-next (entryAt h 0) (distance h) 0 (omega arith)) at start) (omega (arith, length-zeros 255))),
     )
 
 next-entry-requires : tie.Need-next-entry-requires Inv-loop μ-loop
@@ -105,7 +105,7 @@ mul-requires c κs =
 -- after a turn, x and the entry are those of j + 1
 turn : (c : tie.After-mul Inv-loop μ-loop)
     → let h = c .before .before .before .before .before .before .before .before .before .args .h in
-    (c .mul .result ≡ power (prime h) (h .root) (c .before .before .before .loop .j + 1 + (h .k - 1)))
+    (c .mul .result ≡ power (modulusOf h) (h .root) (c .before .before .before .loop .j + 1 + (h .k - 1)))
     × (c .before .next-entry .result ≡ baseAt h (c .mul .result))
     × (c .before .next-entry .result ≡ entryAt h 0 (c .before .before .before .loop .j + 1))
 turn c =
@@ -131,7 +131,7 @@ loop-less : tie.Need-loop-less Inv-loop μ-loop
 loop-less c = omega arith
 
 loop-again : tie.Need-loop-again Inv-loop μ-loop
-unfolding weight
+unfolding distance
 loop-again c =
     let h = c .before .before .before .before .before .before .before .before .before .args .h in
     let l = c .before .before .before .loop in
@@ -139,16 +139,16 @@ loop-again c =
       omega arith,
       t .0,
       t .1,
-      rw (t .2) (fills-put (rw (from-next (entryAt h 0) (weight h) (l .j + 1) (omega arith)) at (l .inv .3)) (omega (arith, length-zeros 255))),
+      rw (t .2) (fills-put (rw (from-next (entryAt h 0) (distance h) (l .j + 1) (omega arith)) at (l .inv .3)) (omega (arith, length-zeros 255))),
     )
 
 returns : tie.Need-returns Inv-loop μ-loop
-unfolding weight
+unfolding distance
 returns c =
     let h = c .before .before .before .before .before .before .before .args .h in
     let s = c .before .before .before .before .before .before .before .pre in
     let l = c .before .loop in
-    fills-padded 255 (rw (from-end (entryAt h 0) (weight h) (l .j + 1) (omega arith)) at (l .inv .3))
+    fills-padded 255 (rw (from-end (entryAt h 0) (distance h) (l .j + 1) (omega arith)) at (l .inv .3))
     ∙ sym (base-padded h s 255 (omega arith))
 
 pub fill-base-spec : {M : Type 1} → statement M
