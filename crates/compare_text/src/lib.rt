@@ -9,6 +9,7 @@ ghost use mathlib.Core.Path.{_≡_};
 ghost use mathlib.Core.List.{_++_};
 ghost use Prim.Native.Nat.{_+_, _*_, _≤_};
 ghost use lib.ListN.{length, take, drop};
+ghost use Rattle.lists.specs.Padded.{zeros};
 ghost use Rattle.generator.specs.Records.{distance, recordOf, Sound};
 ghost use Rattle.generator.specs.Comparison.{balancedReads, plainGreatest, ComparedRecord};
 ghost use Rattle.text.specs.Writing.{Puts};
@@ -98,9 +99,9 @@ fn put_comparison(out: &mut [u8], at: usize, h: Header) -> usize
     put_bound(out, balanced, h)
 }
 
-// An empty page, with room for any comparison.
+// An empty page: zeros, with room for any comparison.
 pub fn page() -> [u8; 108]
-    ensures { λ r. ⌜ 108 ≡ length r ⌝ }
+    ensures { λ r. ⌜ (r ≡ zeros 108) × (108 ≡ length r) ⌝ }
 {
     [0; 108]
 }

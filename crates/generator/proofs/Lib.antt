@@ -17,6 +17,7 @@ pub mod Faults
 pub mod Accepts
 pub mod Claims
 pub mod Comparison
+pub mod EvenSizes
 pub mod Notebook
 -- The same definitions as document 03 has them.
 pub mod RecordsAgreement

@@ -1,4 +1,9 @@
--- Definitions that contracts of several crates name: choices, lists by index, padding, counts, tests of lists of numbers.
+-- Definitions that contracts of several crates name; their laws are listed in proofs/Lib.antt. What is where:
+--   Choice    pick, pickT, firstOf, when: choices by a test
+--   Rows      from, rowsFrom, range: lists by a function of the index
+--   Padded    zeros, padded: zeros up to a length
+--   Counting  countFrom, passingFrom, differ: the numbers that pass a test, the places where two lists differ
+--   Numbers   allBelow, isIn, distinct: tests of lists of numbers
 pub mod Choice
 pub mod Rows
 pub mod Padded

@@ -11,6 +11,7 @@ ghost use mathlib.Core.List.{_++_};
 ghost use Prim.Native.Nat.{_+_, _≤_, _<_};
 ghost use lib.ListN.{length, take, drop};
 ghost use Rattle.lists.specs.Rows.{from};
+ghost use Rattle.lists.specs.Padded.{zeros};
 ghost use Rattle.generator.specs.Records.{recordOf};
 ghost use Rattle.plan.specs.Plans.{entryIn};
 ghost use Rattle.text.specs.Text.{fields};
@@ -80,9 +81,9 @@ fn put_sheet(out: &mut [u8], at: usize, plan: Plan) -> usize
     place
 }
 
-// An empty page, with room for any sheet.
+// An empty page: zeros, with room for any sheet.
 pub fn page() -> [u8; 263181]
-    ensures { λ r. ⌜ 263181 ≡ length r ⌝ }
+    ensures { λ r. ⌜ (r ≡ zeros 263181) × (263181 ≡ length r) ⌝ }
 {
     [0; 263181]
 }
