@@ -1,5 +1,5 @@
 -- Euclid's algorithm computes the greatest common divisor.
-use mathlib.Core.Path.{_≡_, ap}
+use mathlib.Core.Path.{_≡_, refl, ap}
 use Prim.Native.Nat.{ℕ, zero, suc, _+_, _*_, _/_, _%_, _<_, _∣_}
 use native.Mathlib.Nat.{mod-lt, zero-lt-suc, not-suc-le-zero, dvd-zero, dvd-refl, dvd-mod-iff, dvd-add-iff-right, dvd-mul-left-of-dvd, div-add-mod, mul-one, pos-of-dvd-of-pos, mul-div-cancel', dvd-of-mul-dvd-mul-left}
 use native.Mathlib.Omega.{arith}
@@ -76,3 +76,8 @@ pub gcd-end : (f a b g : ℕ) → b ≡ 0 → gcdFrom f a b ≡ g → a ≡ g
 unfolding gcdFrom
 gcd-end zero a b g z e = e
 gcd-end (suc f) a b g z e = rw (eq-eqb b 0 z) at e
+
+-- the sample with n = 6, k = 4, where document 001 misprints 3
+pub gcd-sample : gcd 4 6 ≡ 2
+unfolding gcd gcdFrom
+gcd-sample = refl
