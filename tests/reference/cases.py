@@ -1,12 +1,12 @@
 #!/usr/bin/env python3
-"""cases.py FILE: prints each line of FILE, a call in words, with the call's answer after a colon.
+"""cases.py FILE: prints each line of FILE, a call in words (words.py), with the call's answer after a colon, or with what makes it no call.
 
-A line is the call's name and the record's bytes, then words with the numbers that they stand for, in base ten:
-"encode 1 7 3 6 3 lanes 1 message 1 0 2 room 6". `room` is the length of the buffer that is written. A comment starts with #.
+An empty line or a comment, which starts with #, is printed as it is.
 """
 import sys
 from balanced import belongs, build_plan, encode, rebuild, recover, update
 from data import block, refused
+from words import NotRead, is_comment, read_line
 
 CALLS = {
     "plan": [],
@@ -16,27 +16,6 @@ CALLS = {
     "recover": ["lanes", "nodes", "shares", "room"],
     "rebuild": ["lanes", "nodes", "shares", "target", "room"],
 }
-LISTS = {"message", "nodes", "shares"}
-
-
-def read_line(line):
-    """The call's name, the record, and the arguments in the order of CALLS."""
-    words = line.split()
-    name, groups, word = words[0], {}, "record"
-    groups[word] = []
-    for w in words[1:]:
-        if w.isdigit():
-            groups[word].append(int(w))
-        else:
-            word = w
-            groups[word] = []
-    arguments = []
-    for word in CALLS[name]:
-        numbers = groups.pop(word)
-        arguments.append(bytes(numbers) if word in LISTS else numbers[0])
-    record = groups.pop("record")
-    assert not groups, line
-    return name, record, arguments
 
 
 def answer(name, record, arguments):
@@ -56,6 +35,15 @@ def answer(name, record, arguments):
     return refused(number) if number else f"done{block(result)}"
 
 
+def answered(line):
+    if is_comment(line):
+        return line
+    try:
+        return f"{line}: {answer(*read_line(line, CALLS))}"
+    except NotRead as fault:
+        return f"{line}: no call, {fault}"
+
+
 with open(sys.argv[1]) as lines:
-    for line in map(str.strip, lines):
-        print(line if line.startswith("#") else f"{line}: {answer(*read_line(line))}")
+    for line in lines:
+        print(answered(line.rstrip("\n")))

@@ -48,5 +48,6 @@ def comparison(record):
     ]
 
 
-for argument in sys.argv[1:]:
-    print("\n".join(comparison([int(b) for b in argument.split()])))
+if __name__ == "__main__":
+    for argument in sys.argv[1:]:
+        print("\n".join(comparison([int(b) for b in argument.split()])))

@@ -8,10 +8,4 @@ crates=${1:-$here/../../crates}
 python3 "$here/sheet.py" "1 7 3 6 4" > "$crates/sheet/stdout"
 python3 "$here/compare.py" "1 7 3 6 4" > "$crates/compare/stdout"
 cp "$here/records.txt" "$crates/sheet_cases/stdin"
-while IFS= read -r line; do
-    echo "$line"
-    if [[ $line == record* ]]; then
-        python3 "$here/sheet.py" "${line#record}"
-        python3 "$here/compare.py" "${line#record}"
-    fi
-done < "$here/records.txt" > "$crates/sheet_cases/stdout"
+python3 "$here/sheet_cases.py" "$here/records.txt" > "$crates/sheet_cases/stdout"

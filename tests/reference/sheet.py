@@ -17,5 +17,6 @@ def sheet(record):
     return lines
 
 
-for argument in sys.argv[1:]:
-    print("\n".join(sheet([int(b) for b in argument.split()])))
+if __name__ == "__main__":
+    for argument in sys.argv[1:]:
+        print("\n".join(sheet([int(b) for b in argument.split()])))

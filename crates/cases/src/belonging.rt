@@ -1,18 +1,28 @@
 // Belongs: yes, the smallest lane that is no word, or the number.
-ghost use Prim.Native.Nat.{_≤_};
-ghost use lib.ListN.{length};
 use blocks::Test;
+use test_tools::not_read;
 use test_tools::part;
 use test_tools::text;
 use test_tools::value;
-use test_words::numbers;
+use test_words::bytes;
+use test_words::end_fault;
+use test_words::number;
+use test_words::record;
 
-pub fn belongs(rec: &[u8], line: &[u8], at: usize)
-    requires { ⌜ at ≤ length (now line) ⌝ }
-{
-    let lanes = numbers(line, at);
-    let shares = numbers(line, lanes.next);
-    tested(rec, lanes.value, part(&shares.bytes, shares.count));
+pub fn belongs(line: &[u8]) {
+    let rec = record(line);
+    let lanes = number(line, rec, b" lanes");
+    let shares = bytes(line, lanes, b" shares");
+    let fault = end_fault(line, shares);
+    if fault != 0 {
+        not_read(b"call", fault);
+        return;
+    }
+    tested(
+        part(&rec.bytes, rec.count),
+        lanes.value,
+        part(&shares.bytes, shares.count),
+    );
 }
 
 fn tested(rec: &[u8], lanes: u32, shares: &[u8]) {

@@ -1,14 +1,11 @@
-// Reads calls in words, one a line ("encode 1 7 3 6 3 lanes 1 message 1 0 2 room 6"), and writes each line with the call's answer. A list has
-// at most 64 numbers. A line that is no call, such as a comment, is written as it is.
-ghost use Prim.Native.Nat.{_≤_};
-ghost use lib.ListN.{length};
+// Reads calls in words, one a line ("encode 1 7 3 6 3 lanes 1 message 1 0 2 room 6"), and writes each line with the call's answer, or with
+// what makes it no call. A list has at most 64 numbers. An empty line or a comment is written as it is.
 use libc::STDIN_FILENO;
-use test_tools::part;
+use test_tools::not_read;
 use test_tools::text;
-use test_words::after_word;
+use test_words::is_call;
+use test_words::is_comment;
 use test_words::line_end;
-use test_words::numbers;
-use test_words::starts;
 
 mod belonging;
 mod encoding;
@@ -18,49 +15,45 @@ mod rebuilding;
 mod recovering;
 mod updating;
 
-// The call by its name; `at` is the place of the first number after the record and the word that follows it.
-fn call(rec: &[u8], line: &[u8], at: usize)
-    requires { ⌜ at ≤ length (now line) ⌝ }
-{
-    if starts(line, b"plan") {
-        plans::plan(rec);
+// The call by its name.
+fn call(line: &[u8]) {
+    if is_call(line, b"plan") {
+        plans::plan(line);
         return;
     }
-    if starts(line, b"encode") {
-        encoding::encode(rec, line, at);
+    if is_call(line, b"encode") {
+        encoding::encode(line);
         return;
     }
-    if starts(line, b"update") {
-        updating::update(rec, line, at);
+    if is_call(line, b"update") {
+        updating::update(line);
         return;
     }
-    call_on_nodes(rec, line, at);
+    call_on_nodes(line);
 }
 
 // The calls on listed nodes, and Belongs.
-fn call_on_nodes(rec: &[u8], line: &[u8], at: usize)
-    requires { ⌜ at ≤ length (now line) ⌝ }
-{
-    if starts(line, b"recover") {
-        recovering::recover(rec, line, at);
+fn call_on_nodes(line: &[u8]) {
+    if is_call(line, b"recover") {
+        recovering::recover(line);
         return;
     }
-    if starts(line, b"rebuild") {
-        rebuilding::rebuild(rec, line, at);
+    if is_call(line, b"rebuild") {
+        rebuilding::rebuild(line);
         return;
     }
-    if starts(line, b"belongs") {
-        belonging::belongs(rec, line, at);
+    if is_call(line, b"belongs") {
+        belonging::belongs(line);
+        return;
     }
+    not_read(b"call", test_words::CALL);
 }
 
 fn answer(line: &[u8]) {
     text(line);
-    if line.len() == 0 {
-        return;
+    if !is_comment(line) {
+        call(line);
     }
-    let rec = numbers(line, after_word(line, 0));
-    call(part(&rec.bytes, rec.count), line, rec.next);
 }
 
 fn answers(input: &[u8]) {

@@ -2,12 +2,25 @@
 use plan::Plan;
 use test_tools::block;
 use test_tools::form;
+use test_tools::not_read;
 use test_tools::part;
 use test_tools::text;
 use test_tools::untouched;
 use test_tools::value;
+use test_words::end_fault;
+use test_words::record;
 
-pub fn plan(rec: &[u8]) {
+pub fn plan(line: &[u8]) {
+    let rec = record(line);
+    let fault = end_fault(line, rec);
+    if fault != 0 {
+        not_read(b"call", fault);
+        return;
+    }
+    planned(part(&rec.bytes, rec.count));
+}
+
+fn planned(rec: &[u8]) {
     let plan = plan::build_plan(rec);
     let number = plan.number;
     if number != 0 {

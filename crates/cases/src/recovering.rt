@@ -1,25 +1,37 @@
 // Recover: the message, or the number. Every byte of the buffer that is written holds 170 before the call.
-ghost use Prim.Native.Nat.{_≤_};
-ghost use lib.ListN.{length};
 use crate::outcome::print;
 use test_tools::front;
+use test_tools::not_read;
 use test_tools::part;
-use test_words::numbers;
+use test_words::Group;
+use test_words::bytes;
+use test_words::end_fault;
+use test_words::number;
+use test_words::record;
+use test_words::room;
 
-pub fn recover(rec: &[u8], line: &[u8], at: usize)
-    requires { ⌜ at ≤ length (now line) ⌝ }
-{
-    let lanes = numbers(line, at);
-    let nodes = numbers(line, lanes.next);
-    let shares = numbers(line, nodes.next);
-    let room = numbers(line, shares.next);
+pub fn recover(line: &[u8]) {
+    let rec = record(line);
+    let lanes = number(line, rec, b" lanes");
+    let nodes = bytes(line, lanes, b" nodes");
+    let shares = bytes(line, nodes, b" shares");
+    let size = room(line, shares);
+    let fault = end_fault(line, size);
+    if fault != 0 {
+        not_read(b"call", fault);
+        return;
+    }
+    recover_groups(rec, lanes.value, nodes, shares, size.value);
+}
+
+fn recover_groups(rec: Group, lanes: u32, nodes: Group, shares: Group, size: u32) {
     let mut out = [170u8; 64];
     recover_to(
-        rec,
-        lanes.value,
+        part(&rec.bytes, rec.count),
+        lanes,
         part(&nodes.bytes, nodes.count),
         part(&shares.bytes, shares.count),
-        front(&mut out, room.value as usize),
+        front(&mut out, size as usize),
     );
 }
 

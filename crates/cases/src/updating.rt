@@ -1,13 +1,17 @@
 // Update: how many nodes were altered and the shares afterwards, or the number.
-ghost use Prim.Native.Nat.{_≤_};
-ghost use lib.ListN.{length};
 use blocks::Update;
 use test_tools::front;
 use test_tools::list;
+use test_tools::not_read;
 use test_tools::part;
 use test_tools::refused;
 use test_tools::value;
-use test_words::numbers;
+use test_words::Group;
+use test_words::byte;
+use test_words::bytes;
+use test_words::end_fault;
+use test_words::number;
+use test_words::record;
 
 struct Change {
     lanes: u32,
@@ -17,25 +21,38 @@ struct Change {
     new: u8,
 }
 
-pub fn update(rec: &[u8], line: &[u8], at: usize)
-    requires { ⌜ at ≤ length (now line) ⌝ }
-{
-    let lanes = numbers(line, at);
-    let symbol = numbers(line, lanes.next);
-    let lane = numbers(line, symbol.next);
-    let old = numbers(line, lane.next);
-    let new = numbers(line, old.next);
-    let shares = numbers(line, new.next);
+pub fn update(line: &[u8]) {
+    let rec = record(line);
+    let lanes = number(line, rec, b" lanes");
+    let symbol = number(line, lanes, b" symbol");
+    let lane = number(line, symbol, b" lane");
+    let old = byte(line, lane, b" old");
+    let new = byte(line, old, b" new");
+    let shares = bytes(line, new, b" shares");
+    let fault = end_fault(line, shares);
+    if fault != 0 {
+        not_read(b"call", fault);
+        return;
+    }
     let change = Change {
         lanes: lanes.value,
         symbol: symbol.value,
         lane: lane.value,
-        old: (old.value % 256) as u8,
-        new: (new.value % 256) as u8,
+        old: old.bytes[0],
+        new: new.bytes[0],
     };
+    update_groups(rec, change, shares);
+}
+
+fn update_groups(rec: Group, change: Change, shares: Group) {
     let before = part(&shares.bytes, shares.count);
     let mut after = shares.bytes;
-    update_to(rec, change, before, front(&mut after, shares.count));
+    update_to(
+        part(&rec.bytes, rec.count),
+        change,
+        before,
+        front(&mut after, shares.count),
+    );
 }
 
 fn update_to(rec: &[u8], change: Change, before: &[u8], after: &mut [u8]) {

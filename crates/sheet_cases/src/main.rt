@@ -1,12 +1,14 @@
-// Reads records in words, one a line ("record 1 7 3 6 4"), and writes each line with the record's sheet and comparison. A line
-// that is no record, such as a comment, is written as it is.
+// Reads records in words, one a line ("record 1 7 3 6 4"), and writes each line with the record's sheet and comparison, or with what makes
+// it no record. An empty line or a comment is written as it is.
 use libc::STDIN_FILENO;
+use test_tools::not_read;
 use test_tools::part;
 use test_tools::text;
-use test_words::after_word;
+use test_words::end_fault;
+use test_words::is_call;
+use test_words::is_comment;
 use test_words::line_end;
-use test_words::numbers;
-use test_words::starts;
+use test_words::record;
 
 fn print_sheet(rec: &[u8]) {
     let mut page = sheet_text::page();
@@ -20,15 +22,35 @@ fn print_comparison(rec: &[u8]) {
     text(&page[..end]);
 }
 
-fn answer(line: &[u8]) {
-    text(line);
-    text(b"\n");
-    if line.len() == 0 || !starts(line, b"record") {
+// What makes a line no record, or 0.
+fn fault_of(line: &[u8]) -> u8 {
+    if !is_call(line, b"record") {
+        return test_words::CALL;
+    }
+    end_fault(line, record(line))
+}
+
+// The sheet and the comparison of the record of a line.
+fn answer_record(line: &[u8]) {
+    let fault = fault_of(line);
+    if fault != 0 {
+        not_read(b"record", fault);
+        text(b"\n");
         return;
     }
-    let rec = numbers(line, after_word(line, 0));
+    text(b"\n");
+    let rec = record(line);
     print_sheet(part(&rec.bytes, rec.count));
     print_comparison(part(&rec.bytes, rec.count));
+}
+
+fn answer(line: &[u8]) {
+    text(line);
+    if is_comment(line) {
+        text(b"\n");
+        return;
+    }
+    answer_record(line);
 }
 
 fn answers(input: &[u8]) {

@@ -11,6 +11,7 @@ pub use print::block;
 pub use print::bytes;
 pub use print::form;
 pub use print::list;
+pub use print::not_read;
 pub use print::number;
 pub use print::refused;
 pub use print::text;

@@ -81,3 +81,17 @@ pub fn refused(number: u8, kept: bool) {
     }
     text(b", changed");
 }
+
+// What is wrong with a line that is no call, or no record.
+pub fn not_read(what: &[u8], fault: u8) {
+    text(b": no ");
+    text(what);
+    match fault {
+        test_words::CALL => text(b", unknown call"),
+        test_words::WORD => text(b", unknown word"),
+        test_words::MISSING => text(b", number missing"),
+        test_words::MANY => text(b", too many numbers"),
+        test_words::LARGE => text(b", number too large"),
+        _ => text(b", too much room"),
+    }
+}

@@ -1,15 +1,15 @@
--- `line_end` meets its contract.
+-- `until` meets its contract.
 use borrow.Author.Needs.{needs}
 use Prim.Native.Nat.{_≤_, _-_}
 use lib.ListN.{length}
-use Rattle.test_words.proofs.line_end.Statement.{statement}
-use Rattle.test_words.proofs.line_end.Tie as tie
+use Rattle.test_words.proofs.words.until.Statement.{statement}
+use Rattle.test_words.proofs.words.until.Tie as tie
 
 abbrev Inv-loop : tie.InvT-loop
-Inv-loop text at i₀ i = (at ≤ i) × (i ≤ length text)
+Inv-loop text at mark i₀ i = (at ≤ i) × (i ≤ length text)
 
 abbrev μ-loop : tie.MeasureT-loop
-μ-loop text at i₀ i = length text - i
+μ-loop text at mark i₀ i = length text - i
 
 loop-holds : tie.Need-loop-holds Inv-loop μ-loop
 loop-holds c = search needs
@@ -32,8 +32,8 @@ returns c = search needs
 returns-2 : tie.Need-returns-2 Inv-loop μ-loop
 returns-2 c = search needs
 
-pub line-end-spec : {M : Type 1} → statement M
-line-end-spec =
+pub until-spec : {M : Type 1} → statement M
+until-spec =
     tie.close
     (tie.spec
     Inv-loop
