@@ -1,14 +1,20 @@
 #!/usr/bin/env bash
 # Times the calls beside ISA-L and Jerasure, whose results are compared with ours: bench/run.sh [ROUNDS]
-# Needs rt and gcc; a peer that is missing is left out. LIBRARY names another build of the library to time.
+# LIBRARY=path/to/libbalanced_c.a names an older build of the library, which is timed beside this one in the same run.
+# Needs rt and gcc; a peer that is missing is left out.
 set -euo pipefail
 cd "$(dirname "$0")/.."
+mkdir -p target/bench
 
-library=${LIBRARY:-target/staticlib/libbalanced_c.a}
-if [ -z "${LIBRARY:-}" ]; then
-    log=$(mktemp)
-    rt staticlib balanced_c >"$log" 2>&1 || { cat "$log"; exit 1; }
-    rm -f "$log"
+rt staticlib balanced_c >target/bench/build.log 2>&1 || { cat target/bench/build.log; exit 1; }
+
+# a build as a shared object, so that two can be loaded
+shared() { gcc -shared -Wl,-Bsymbolic -Wl,--whole-archive "$1" -Wl,--no-whole-archive -o "$2"; }
+shared target/staticlib/libbalanced_c.a target/bench/this.so
+builds=("$PWD/target/bench/this.so")
+if [ -n "${LIBRARY:-}" ]; then
+    shared "$LIBRARY" target/bench/older.so
+    builds+=("$PWD/target/bench/older.so")
 fi
 
 peers=()
@@ -16,6 +22,5 @@ found() { printf '#include <stdio.h>\n#include <%s>\nint main(void) { return 0; 
 if found isa-l.h -lisal; then peers+=(-DISAL -lisal); else echo "ISA-L is left out: apt-get install libisal-dev"; fi
 if found jerasure.h -I/usr/include/jerasure -lJerasure; then peers+=(-DJERASURE -I/usr/include/jerasure -lJerasure); else echo "Jerasure is left out: apt-get install libjerasure-dev libgf-complete-dev"; fi
 
-mkdir -p target/bench
-gcc -std=gnu11 -O2 -Wall -Wextra -Iinclude -o target/bench/bench bench/bench.c "$library" "${peers[@]}"
-target/bench/bench "$@"
+gcc -std=gnu11 -O2 -Wall -Wextra -Iinclude -o target/bench/bench bench/bench.c bench/ours.c bench/isal.c bench/jerasure.c "${peers[@]}" -ldl
+target/bench/bench "${1:-15}" "${builds[@]}"

@@ -1,0 +1,79 @@
+/* Our calls, in this build of the library and in an older one, each loaded as a shared object. */
+#include "bench.h"
+#include "balanced.h"
+#include <dlfcn.h>
+
+struct build {
+    __typeof__(balanced_plan) *plan;
+    __typeof__(balanced_encode) *encode;
+    __typeof__(balanced_update) *update;
+    __typeof__(balanced_recover) *recover;
+    __typeof__(balanced_rebuild) *rebuild;
+    __typeof__(balanced_belongs) *belongs;
+};
+static struct build this, older;
+
+void read_plan(void) {
+    uint8_t numbers[BALANCED_PLAN_NUMBERS], shifts[BALANCED_PLAN_SHIFTS], base[BALANCED_PLAN_BASE];
+    if (this.plan(record, length, numbers, sizeof numbers, shifts, sizeof shifts, base, sizeof base)) fail("no plan");
+    for (int j = 0; j < n; j++)
+        for (int r = 0; r < k; r++) planned.generator[j * k + r] = base[(j + shifts[r]) % n];
+}
+
+static void encode(const struct build *b) {
+    if (b->encode(record, length, lanes, message, (size_t)k * lanes, out, (size_t)n * lanes)) fail("encode was turned away");
+}
+static void update(const struct build *b) {
+    uint32_t altered;
+    if (b->update(record, length, lanes, symbol, lane, from, to, work, (size_t)n * lanes, &altered)) fail("update was turned away");
+}
+static void recover(const struct build *b) {
+    if (b->recover(record, length, lanes, nodes, k, listed(&planned)[0], (size_t)k * lanes, out, (size_t)k * lanes)) fail("recover was turned away");
+}
+static void rebuild(const struct build *b) {
+    if (b->rebuild(record, length, lanes, nodes, k, listed(&planned)[0], (size_t)k * lanes, 0, out, lanes)) fail("rebuild was turned away");
+}
+static void test(const struct build *b) {
+    uint32_t wrong;
+    if (b->belongs(record, length, lanes, planned.shares, (size_t)n * lanes, &wrong)) fail("belongs was turned away");
+    belongs = wrong == (uint32_t)lanes;
+}
+
+static void this_encode(void) { encode(&this); }
+static void this_update(void) { update(&this); }
+static void this_recover(void) { recover(&this); }
+static void this_rebuild(void) { rebuild(&this); }
+static void this_belongs(void) { test(&this); }
+static void older_encode(void) { encode(&older); }
+static void older_update(void) { update(&older); }
+static void older_recover(void) { recover(&older); }
+static void older_rebuild(void) { rebuild(&older); }
+static void older_belongs(void) { test(&older); }
+
+struct method this_build = {"ours", 1, &planned, NULL, {this_encode, this_update, this_recover, this_rebuild, this_belongs}};
+struct method older_build = {"older", 1, &planned, NULL, {NULL}};
+
+static void *found(void *object, const char *name) {
+    void *function = dlsym(object, name);
+    if (!function) fail(name);
+    return function;
+}
+
+static void load(struct build *b, const char *path) {
+    void *object = dlopen(path, RTLD_NOW | RTLD_LOCAL);
+    if (!object) fail(dlerror());
+    b->plan = found(object, "balanced_plan");
+    b->encode = found(object, "balanced_encode");
+    b->update = found(object, "balanced_update");
+    b->recover = found(object, "balanced_recover");
+    b->rebuild = found(object, "balanced_rebuild");
+    b->belongs = found(object, "balanced_belongs");
+}
+
+void load_builds(const char *this_path, const char *older_path) {
+    load(&this, this_path);
+    if (!older_path) return;
+    load(&older, older_path);
+    void (*const run[CALLS])(void) = {older_encode, older_update, older_recover, older_rebuild, older_belongs};
+    memcpy(older_build.run, run, sizeof run);
+}
