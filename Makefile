@@ -1,7 +1,8 @@
 # The commands that people expect. `make help` lists them.
 RECORD ?= 1 7 3 6 4
-# the record's bytes, as printf takes them
-BYTES = $(or $(shell python3 -c 'import sys; print("".join("\\%03o" % b for b in bytes(map(int, sys.argv[1:]))))' $(RECORD) 2>/dev/null),$(error RECORD is not a list of numbers from 0 to 255: $(RECORD)))
+# the record's bytes, as printf takes them, after a dot: an empty record is a record too
+DOTTED = $(shell python3 -c 'import sys; print("." + "".join("\\%03o" % b for b in bytes(map(int, sys.argv[1:]))))' $(RECORD) 2>/dev/null)
+BYTES = $(patsubst .%,%,$(or $(DOTTED),$(error RECORD is not a list of numbers from 0 to 255: $(RECORD))))
 
 # proves a program, quietly unless that fails
 proved = @mkdir -p target && { rt check $(1) >target/$(1).log 2>&1 || { cat target/$(1).log; exit 1; }; }

@@ -22,14 +22,17 @@ if command -v g++ >/dev/null; then
     target/examples/plain
 fi
 
+# a part of a block, several blocks, whole blocks (5,120 bytes each) and no byte at all
 make -s -C examples/c
-for file in examples/c/Makefile examples/c/store.c include/balanced.h; do
-    if command -v valgrind >/dev/null; then
-        valgrind --quiet --leak-check=full --errors-for-leak-kinds=all --error-exitcode=1 target/examples/store "$file"
-    else
-        target/examples/store "$file"
-    fi
-done
+head -c 5120 "$library" >target/examples/one_block
+head -c 15360 "$library" >target/examples/three_blocks
+: >target/examples/no_byte
+checked=()
+if command -v valgrind >/dev/null; then checked=(valgrind --quiet --leak-check=full --errors-for-leak-kinds=all --error-exitcode=1); fi
+for file in examples/c/Makefile include/balanced.h target/examples/{one_block,three_blocks,no_byte}; do
+    "${checked[@]}" target/examples/store "$file"
+done | tee target/examples/store.out
+for blocks in '5120 bytes in 1 ' '15360 bytes in 3 ' '0 bytes in 0 '; do grep -q "^$blocks" target/examples/store.out; done
 
 # blocks of 4,096 lanes on up to 255 nodes, held to another implementation's checksums
 gcc -std=c99 -O2 "${strict[@]}" -o target/examples/large_cases tests/large_cases.c "$library"

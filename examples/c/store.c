@@ -1,6 +1,7 @@
 /*
- * Encodes the bytes of a file, drops n-k shares of every block, recovers the message from the k shares that are left,
- * and compares. Then it rebuilds the dropped shares, and updates one symbol in place.
+ * Cuts the bytes of a file into blocks, of which the last is padded with zeros, encodes each, drops n-k shares of it, recovers
+ * the message from the k shares that are left, and compares. Then it rebuilds the dropped shares, and updates one symbol in
+ * place. A file of a whole number of blocks has no padding, and an empty one no block.
  *
  *     make -C examples/c check
  */
@@ -104,15 +105,15 @@ int main(int argc, char **argv) {
     k = numbers[1];
     d = numbers[2];
     bytes = read_file(argv[1], &size);
-    blocks = size / (k * LANES) + 1;
+    blocks = (size + k * LANES - 1) / (k * LANES);
     message = room(k * LANES);
     for (i = 0; i < blocks; i++) {
         size_t start = i * k * LANES, part = size - start < k * LANES ? size - start : k * LANES;
         memset(message, 0, k * LANES);
         memcpy(message, bytes + start, part);
         keep(n, k, i, message);
+        change(n, k, d, message);
     }
-    change(n, k, d, message);
     printf("%lu bytes in %lu blocks: %lu of %lu shares dropped, every message and share got back\n", (unsigned long)size,
            (unsigned long)blocks, (unsigned long)(n - k), (unsigned long)n);
     free(bytes);
