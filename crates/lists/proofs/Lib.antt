@@ -10,5 +10,6 @@ pub mod Places
 pub mod Numbers
 pub mod Padding
 pub mod Chosen
+pub mod Along
 pub mod Passing
 pub mod Lanes

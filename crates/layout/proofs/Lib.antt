@@ -1,0 +1,6 @@
+-- Laws of layouts and widths.
+pub mod Lawful
+pub mod Buffers
+pub mod OneLane
+pub mod Places
+pub mod Widths
