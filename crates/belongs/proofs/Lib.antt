@@ -1,6 +1,5 @@
--- The laws of the search and of the check sums, and what the answer says of the lanes.
+-- The laws of the check sums, and what the answer says of the lanes.
 pub mod Accepts
-pub mod Search
 pub mod Sums
 pub mod Prefix
 pub mod Wrong

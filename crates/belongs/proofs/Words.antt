@@ -19,7 +19,7 @@ use Rattle.blocks.specs.Blocks.{laneOf, wrongFrom}
 use Rattle.blocks.proofs.Shares.{length-lane}
 use Rattle.blocks.proofs.Messages.{lane-symbols}
 use Rattle.belongs.specs.Ready.{IsBlock}
-use Rattle.belongs.proofs.Search.{search-high, search-none, search-passes, search-fails}
+use Rattle.lists.proofs.Search.{search-high, search-none, search-passes, search-fails}
 use Rattle.belongs.proofs.Wrong.{firstWrong, wrong-none, wrong-some}
 
 module _ (h : Header) (l : ℕ) (s : List ℕ) where

@@ -16,8 +16,8 @@ use Rattle.lists.proofs.Rows.{length-from, getD-from}
 use Rattle.generator.specs.declared.Header.{Header}
 use Rattle.generator.specs.Codewords.{checkFrom, checksFrom, isWord}
 use Rattle.blocks.specs.Blocks.{laneOf, wrongFrom}
-use Rattle.belongs.specs.Search.{firstFalse}
-use Rattle.belongs.proofs.Search.{search-ext, search-none, search-both}
+use Rattle.lists.specs.Search.{firstFalse}
+use Rattle.lists.proofs.Search.{search-ext, search-none, search-both}
 
 -- the first value that is not 0, of values by a function of the index
 search-from : (f : ℕ → ℕ) (l : ℕ) (s : List ℕ) → s ≡ from f 0 l → firstFalse (length s) 0 (λ t. eqb (getD s t 0) 0) ≡ firstFalse l 0 (λ t. eqb (f t) 0)

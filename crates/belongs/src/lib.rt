@@ -13,7 +13,7 @@ ghost use Rattle.blocks.specs.Blocks.{laneOf, wrongFrom};
 ghost use Rattle.blocks.specs.Faults.{belongsFault};
 ghost use Rattle.blocks.specs.Answers.{testOf};
 ghost use Rattle.blocks.specs.Promises.{BelongsSays};
-ghost use Rattle.belongs.specs.Search.{firstFalse};
+ghost use Rattle.lists.specs.Search.{firstFalse};
 ghost use Rattle.belongs.specs.Ready.{IsBlock, powersOf, factorsOf};
 use blocks::Test;
 use generator::Header;

@@ -14,9 +14,9 @@ use Rattle.generator.specs.Records.{headerOf, recordFault, judged, recordOf}
 use Rattle.generator.proofs.Accepts.{held-header}
 use Rattle.blocks.specs.declared.Outcome.the-variants as O
 use Rattle.blocks.specs.declared.Update.the-variants as U
-use Rattle.blocks.specs.declared.Test.the-variants as T
+use Rattle.blocks.specs.declared.Membership.the-variants as M
 use Rattle.blocks.specs.Faults.{lanesBad, faultOf}
-use Rattle.blocks.specs.Answers.{outcomeOf, updateOf, testOf}
+use Rattle.blocks.specs.Answers.{outcomeOf, updateOf, membershipOf}
 
 -- a record that holds a header leaves the number to the call
 pub held-fault : (rec : List ℕ) (h : Header) (call : Header → ℕ) → recordOf rec ≡ Holds h → faultOf rec call ≡ call h
@@ -59,10 +59,10 @@ unfolding updateOf
 update-refused zero count n = absurd (n refl)
 update-refused (suc g) count n = refl
 
-pub test-refused : (g wrong : ℕ) → (g ≡ 0 → ⊥) → testOf g wrong ≡ T.Refused g
-unfolding testOf
-test-refused zero wrong n = absurd (n refl)
-test-refused (suc g) wrong n = refl
+pub membership-refused : (g l wrong : ℕ) → (g ≡ 0 → ⊥) → membershipOf g l wrong ≡ M.Refused g
+unfolding membershipOf
+membership-refused zero l wrong n = absurd (n refl)
+membership-refused (suc g) l wrong n = refl
 
 -- what is written beside it: the second of two values, of two statements
 pub refused-value : {A : Type 0} (g : ℕ) (a b : A) → (g ≡ 0 → ⊥) → pick (eqb g 0) a b ≡ b

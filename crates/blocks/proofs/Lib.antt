@@ -2,6 +2,7 @@
 pub mod Shares
 pub mod Updates
 pub mod Messages
+pub mod Bytes
 pub mod Accepts
 pub mod Notebook
 -- The same definitions as document 03 has them.

@@ -8,7 +8,7 @@ use Rattle.lists.specs.Choice.{firstOf, when}
 use Rattle.lists.specs.Numbers.{allBelow, distinct}
 use Rattle.generator.specs.declared.Header.{Header}
 use Rattle.generator.specs.Records.{headerOf, recordFault, size}
-use Rattle.blocks.specs.Blocks.{laneOf}
+use Rattle.layout.specs.Layout.{laneOf, shareLayout}
 
 -- number 7: no lane, or more than 4,096
 unfoldable pub lanesBad : ℕ → Bool
@@ -31,7 +31,7 @@ updateFault h l r t old new s =
     firstOf (when (lanesBad l) 7)
     (firstOf (when (not (eqb (length s) (h .n * l))) 8)
     (firstOf (when (leb (h .k) r || leb l t) 9)
-    (when (not (ltb old (size h) && (ltb new (size h) && allBelow (size h) (laneOf (h .n) l t s)))) 11)))
+    (when (not (ltb old (size h) && (ltb new (size h) && allBelow (size h) (laneOf shareLayout (h .n) l t s)))) 11)))
 
 -- numbers 7 to 11 of Recover
 unfoldable pub recoverFault : Header → ℕ → List ℕ → List ℕ → ℕ → ℕ

@@ -2,5 +2,6 @@
 pub mod Lawful
 pub mod Buffers
 pub mod OneLane
+pub mod Rewriting
 pub mod Places
 pub mod Widths

@@ -17,7 +17,7 @@ use Rattle.lists.proofs.Count.{count-ext}
 use Rattle.lists.proofs.Rows.{from-ext}
 use Rattle.layout.specs.Layout.{Arrangement, held, laneOf, buffer, withLane}
 use Rattle.layout.proofs.Lawful.{Lawful}
-use Rattle.layout.proofs.Buffers.{length-buffer, held-buffer, lane-buffer}
+use Rattle.layout.proofs.Buffers.{length-buffer, held-buffer, buffer-ext, buffer-held}
 
 -- where a test passes in lane t alone, it is counted along that lane
 pub count-lane : {y : Arrangement} (a : Lawful y) (rows l t : ℕ) (p : ℕ → Bool) → t < l → ((i q : ℕ) → i < rows → q < l → (q ≡ t → ⊥) → p (y rows l .place i q) ≡ false) → countFrom (rows * l) 0 p ≡ countFrom rows 0 (λ i. p (y rows l .place i t))
@@ -70,3 +70,17 @@ module _ {y : Arrangement} (a : Lawful y) (rows l t : ℕ) (g : ℕ → ℕ) (s 
       ap (λ (f : ℕ). countFrom f 0 test) long
       ∙ count-lane a rows l t test inside (λ i q hi hq other. ap not (eq-eqb _ _ (sym (held-kept i q hi hq other))))
       ∙ count-ext rows 0 _ _ (λ i low high. ap (λ (b : ℕ). not (eqb (held y rows l s i t) b)) (held-changed i (omega arith) inside))
+
+module _ {y : Arrangement} (a : Lawful y) (rows l t : ℕ) (s : List ℕ) where
+  -- only the lane's rows count
+  pub with-lane-ext : (f g : ℕ → ℕ) → ((i : ℕ) → i < rows → f i ≡ g i) → withLane y rows l t f s ≡ withLane y rows l t g s
+  unfolding withLane
+  with-lane-ext f g same = buffer-ext a rows l _ _ (λ i q hi hq. ap (λ (v : ℕ). pick (eqb q t) v (held y rows l s i q)) (same i hi))
+
+  -- a lane changed to what it holds
+  pub with-lane-same : length s ≡ rows * l → withLane y rows l t (λ i. held y rows l s i t) s ≡ s
+  unfolding withLane
+  with-lane-same long =
+      buffer-ext a rows l _ (held y rows l s)
+      (λ i q hi hq. by-cases (ℕ-discrete q t) (λ e. rw (eq-eqb q t e, e)) (λ n. rw (ne-eqb q t n)))
+      ∙ buffer-held a rows l s long

@@ -1,16 +1,13 @@
 -- Symbols of w bytes: their number, symbols of one byte, and that symbols written as bytes are read again.
-use mathlib.Core.Path.{_≡_, refl, sym, ap, ap₂, _∙_}
-use mathlib.Core.Bool.{true}
+use mathlib.Core.Path.{_≡_, refl, sym, ap, _∙_}
 use mathlib.Core.List.{List, [], _∷_, _++_}
-use Prim.Native.Nat.{ℕ, zero, suc, _+_, _*_, _/_, _%_, _^_, _<_}
-use native.Mathlib.Nat.{mul-one, zero-mul, suc-mul, zero-add, div-one, div-add-mod', div-lt-iff-lt-mul, pow-suc, pow-zero, mul-div-cancel, mod-eq-of-lt}
+use Prim.Native.Nat.{ℕ, zero, suc, _+_, _*_, _/_, _%_, _<_}
+use native.Mathlib.Nat.{mul-one, zero-mul, suc-mul, zero-add, div-one, div-add-mod', mul-div-cancel}
 use native.Mathlib.Omega.{arith}
 use lib.ListN.{length, getD, take, drop, length-append, drop-of-length-le}
 use lib.Seq.{ext-getD, take-at, drop-append-add}
-use Rattle.lists.specs.Numbers.{allBelow}
 use Rattle.lists.specs.Rows.{from}
 use Rattle.lists.proofs.Front.{drop-next}
-use Rattle.lists.proofs.Numbers.{below-at, below-cons}
 use Rattle.lists.proofs.Rows.{length-from, getD-from}
 use Rattle.layout.specs.Width.{valueFrom, symbolAt, symbolsOf, symbolBytes, bytesOf}
 
@@ -22,7 +19,8 @@ length-symbols w s = length-from (symbolAt w s) 0 (length s / w)
 length-symbol : (w x : ℕ) → length (symbolBytes w x) ≡ w
 unfolding symbolBytes
 length-symbol zero x = refl
-length-symbol (suc w) x = length-append (symbolBytes w (x / 256)) (x % 256 ∷ []) ∙ omega (arith, length-symbol w (x / 256))
+length-symbol (suc zero) x = refl
+length-symbol (suc (suc w)) x = length-append (symbolBytes (suc w) (x / 256)) (x % 256 ∷ []) ∙ omega (arith, length-symbol (suc w) (x / 256))
 
 pub length-bytes : (w : ℕ) (xs : List ℕ) → length (bytesOf w xs) ≡ length xs * w
 unfolding bytesOf
@@ -48,12 +46,10 @@ symbols-one s =
     getD-symbols 1 s i low ∙ symbol-byte s i (omega (arith, div-one (length s))))
 
 -- .. and the other way round
-pub bytes-one : (xs : List ℕ) → allBelow 256 xs ≡ true → bytesOf 1 xs ≡ xs
+pub bytes-one : (xs : List ℕ) → bytesOf 1 xs ≡ xs
 unfolding bytesOf symbolBytes
-bytes-one [] low = refl
-bytes-one (x ∷ xs) low =
-    let (first, rest) = below-cons 256 x xs low in
-    ap₂ _∷_ (mod-eq-of-lt first) (bytes-one xs rest)
+bytes-one [] = refl
+bytes-one (x ∷ xs) = ap (λ (ys : List ℕ). x ∷ ys) (bytes-one xs)
 
 -- the value of joined digits
 value-append : (a : ℕ) (xs ys : List ℕ) → valueFrom a (xs ++ ys) ≡ valueFrom (valueFrom a xs) ys
@@ -62,14 +58,13 @@ value-append a [] ys = refl
 value-append a (x ∷ xs) ys = value-append (a * 256 + x) xs ys
 
 -- a symbol is the value of its bytes
-value-symbol : (w x : ℕ) → x < 256 ^ w → valueFrom 0 (symbolBytes w x) ≡ x
+value-symbol : (w x : ℕ) → 0 < w → valueFrom 0 (symbolBytes w x) ≡ x
 unfolding valueFrom symbolBytes
-value-symbol zero x h = omega (arith, pow-zero 256)
-value-symbol (suc w) x h =
-    let some : _<_ 0 256 = omega arith in
-    let high : x / 256 < 256 ^ w = div-lt-iff-lt-mul some .1 (rw (pow-suc 256 w) at h) in
-    value-append 0 (symbolBytes w (x / 256)) (x % 256 ∷ [])
-    ∙ ap (λ (v : ℕ). v * 256 + x % 256) (value-symbol w (x / 256) high)
+value-symbol zero x h = absurd (omega arith)
+value-symbol (suc zero) x h = omega arith
+value-symbol (suc (suc w)) x h =
+    value-append 0 (symbolBytes (suc w) (x / 256)) (x % 256 ∷ [])
+    ∙ ap (λ (v : ℕ). v * 256 + x % 256) (value-symbol (suc w) (x / 256) (omega arith))
     ∙ div-add-mod' x 256
 
 -- the bytes of the symbols from i on
@@ -82,18 +77,18 @@ drop-bytes w (suc i) (x ∷ xs) =
     rw (e, drop-append-add (symbolBytes w x) (bytesOf w xs) (i * w)) (drop-bytes w i xs)
 
 -- symbol i of bytes that were made of symbols
-symbol-read : (w : ℕ) (xs : List ℕ) → allBelow (256 ^ w) xs ≡ true → (i : ℕ) → i < length xs → symbolAt w (bytesOf w xs) i ≡ getD xs i 0
+symbol-read : (w : ℕ) (xs : List ℕ) → 0 < w → (i : ℕ) → i < length xs → symbolAt w (bytesOf w xs) i ≡ getD xs i 0
 unfolding symbolAt bytesOf
-symbol-read w xs low i h =
+symbol-read w xs some i h =
     ap (λ (s : List ℕ). valueFrom 0 (take w s)) (drop-bytes w i xs ∙ ap (bytesOf w) (drop-next xs i 0 h))
     ∙ ap (valueFrom 0) (take-at (symbolBytes w (getD xs i 0)) (bytesOf w (drop (i + 1) xs)) w (length-symbol w (getD xs i 0)))
-    ∙ value-symbol w (getD xs i 0) (below-at (256 ^ w) xs low i h)
+    ∙ value-symbol w (getD xs i 0) some
 
 -- symbols that are written as bytes are read again
-pub symbols-bytes : (w : ℕ) (xs : List ℕ) → 0 < w → allBelow (256 ^ w) xs ≡ true → symbolsOf w (bytesOf w xs) ≡ xs
-symbols-bytes w xs pos low =
-    let count : length (bytesOf w xs) / w ≡ length xs = ap (λ (n : ℕ). n / w) (length-bytes w xs) ∙ mul-div-cancel (length xs) pos in
+pub symbols-bytes : (w : ℕ) (xs : List ℕ) → 0 < w → symbolsOf w (bytesOf w xs) ≡ xs
+symbols-bytes w xs some =
+    let count : length (bytesOf w xs) / w ≡ length xs = ap (λ (n : ℕ). n / w) (length-bytes w xs) ∙ mul-div-cancel (length xs) some in
     ext-getD 0 _ xs (length-symbols w (bytesOf w xs) ∙ count)
     (λ i h.
     let less : i < length (bytesOf w xs) / w = rw (length-symbols w (bytesOf w xs)) at h in
-    getD-symbols w (bytesOf w xs) i less ∙ symbol-read w xs low i (omega arith))
+    getD-symbols w (bytesOf w xs) i less ∙ symbol-read w xs some i (omega arith))

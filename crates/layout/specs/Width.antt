@@ -17,10 +17,11 @@ symbolAt w s i = valueFrom 0 (take w (drop (i * w) s))
 unfoldable pub symbolsOf : ℕ → List ℕ → List ℕ
 symbolsOf w s = from (symbolAt w s) 0 (length s / w)
 
--- the bytes of a symbol
+-- the bytes of a symbol: its last digits to the base 256, and what is left before them
 unfoldable pub symbolBytes : ℕ → ℕ → List ℕ
 symbolBytes zero x = []
-symbolBytes (suc w) x = symbolBytes w (x / 256) ++ (x % 256 ∷ [])
+symbolBytes (suc zero) x = x ∷ []
+symbolBytes (suc (suc w)) x = symbolBytes (suc w) (x / 256) ++ (x % 256 ∷ [])
 
 -- the bytes of a list of symbols
 unfoldable pub bytesOf : ℕ → List ℕ → List ℕ

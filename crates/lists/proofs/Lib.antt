@@ -11,5 +11,7 @@ pub mod Numbers
 pub mod Padding
 pub mod Chosen
 pub mod Along
+pub mod Images
 pub mod Passing
+pub mod Search
 pub mod Lanes

@@ -14,7 +14,7 @@ use Rattle.blocks.specs.Answers.{verdictOf, testOf}
 use Rattle.blocks.proofs.Accepts.{test-refused}
 use Rattle.belongs.specs.Ready.{IsBlock}
 use Rattle.belongs.proofs.Accepts.{accepts}
-use Rattle.belongs.proofs.Search.{search-high}
+use Rattle.lists.proofs.Search.{search-high}
 use Rattle.belongs.proofs.Wrong.{firstWrong, wrong-none, wrong-some}
 use Rattle.belongs.proofs.test_accepted.Statement.{statement}
 use Rattle.belongs.proofs.test_accepted.Tie as tie
