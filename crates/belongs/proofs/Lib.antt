@@ -3,4 +3,3 @@ pub mod Accepts
 pub mod Sums
 pub mod Prefix
 pub mod Wrong
-pub mod Words

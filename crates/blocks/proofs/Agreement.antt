@@ -28,7 +28,7 @@ use Rattle.layout.specs.Layout.{byRow, held, buffer}
 use Rattle.layout.proofs.Lawful.{by-row}
 use Rattle.layout.proofs.Buffers.{length-lane, getD-lane, lane-symbols}
 use Rattle.layout.proofs.Places.{place-by-row, held-by-row, buffer-by-row}
-use Rattle.layout.proofs.Rewriting.{rewritten, rewritten-none, rewritten-row, rewritten-held, rewritten-all}
+use Rattle.layout.proofs.Rewritten.{rewritten, rewritten-none, rewritten-row, rewritten-held, rewritten-all}
 use Rattle.field.specs.Fields as F
 use Rattle.field.proofs.Agreement.{sizeOf, add, sub, mul, sizeOf-agrees, add-agrees, sub-agrees, mul-agrees}
 use Rattle.field.proofs.Bounds.{sub-below, mul-below}
@@ -167,25 +167,25 @@ module _ (h : Own.Header) (sound : R.Sound h) where
 
     -- the shares with the first j nodes of the lane rewritten
     abbrev after : ℕ → List ℕ
-    after j = rewritten byRow (h .n) l t (Ours.updatedAt byRow h l r t old new s) s j
+    after j = rewritten byRow (h .n) l t (Ours.addedAt byRow h l r t x s) s j
 
     updatedFrom-agrees : (f j : ℕ) → j + f ≡ h .n → updatedFrom f j (given h) l r t x (after j) ≡ after (h .n)
-    unfolding updatedFrom Ours.updatedAt
+    unfolding updatedFrom Ours.addedAt
     updatedFrom-agrees zero j e = let end : j ≡ h .n = omega arith in ap after end
     updatedFrom-agrees (suc f) j e =
         let node : j < h .n = omega arith in
-        let before : getD (after j) (j * l + t) 0 ≡ held byRow (h .n) l s j t = sym (held-by-row (h .n) l (after j) j t) ∙ rewritten-held by-row (h .n) l t (Ours.updatedAt byRow h l r t old new s) s inside j node in
+        let before : getD (after j) (j * l + t) 0 ≡ held byRow (h .n) l s j t = sym (held-by-row (h .n) l (after j) j t) ∙ rewritten-held by-row (h .n) l t (Ours.addedAt byRow h l r t x s) s inside j node in
         rw
-        (before, byte-agrees r j x (held byRow (h .n) l s j t) (sub-below (R.modulusOf h) (sound .field) new-symbol old-symbol) (held-symbol j node), ← place-by-row (h .n) l j t, rewritten-row by-row (h .n) l t (Ours.updatedAt byRow h l r t old new s) s inside j node _ refl, ← add-one j)
+        (before, byte-agrees r j x (held byRow (h .n) l s j t) (sub-below (R.modulusOf h) (sound .field) new-symbol old-symbol) (held-symbol j node), ← place-by-row (h .n) l j t, rewritten-row by-row (h .n) l t (Ours.addedAt byRow h l r t x s) s inside j node _ refl, ← add-one j)
         (updatedFrom-agrees f (j + 1) (omega arith))
 
     pub updated-agrees : updated (given h) l r t old new s ≡ Ours.updated byRow h l r t old new s
-    unfolding updated Ours.updated
+    unfolding updated Ours.updated Ours.rowAdded
     updated-agrees =
         rw (sub-agrees (R.modulusOf h) new old new-symbol old-symbol)
-        (ap (λ (u : List ℕ). updatedFrom (h .n) 0 (given h) l r t x u) (sym (rewritten-none by-row (h .n) l t (Ours.updatedAt byRow h l r t old new s) s long))
+        (ap (λ (u : List ℕ). updatedFrom (h .n) 0 (given h) l r t x u) (sym (rewritten-none by-row (h .n) l t (Ours.addedAt byRow h l r t x s) s long))
         ∙ updatedFrom-agrees (h .n) 0 (omega arith)
-        ∙ rewritten-all by-row (h .n) l t (Ours.updatedAt byRow h l r t old new s) s (h .n) (le-refl (h .n)))
+        ∙ rewritten-all by-row (h .n) l t (Ours.addedAt byRow h l r t x s) s (h .n) (le-refl (h .n)))
 
     -- and how many bytes differ afterwards
     pub altered-agrees : differ s (updated (given h) l r t old new s) ≡ Counting.differ s (Ours.updated byRow h l r t old new s)

@@ -2,6 +2,7 @@
 pub mod Shares
 pub mod Updates
 pub mod Messages
+pub mod Words
 pub mod Bytes
 pub mod Accepts
 pub mod Notebook

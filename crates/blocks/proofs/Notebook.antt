@@ -20,7 +20,7 @@ use Rattle.generator.specs.Records.{headerOf, distance, kindBad, bodyBad, field
 use Rattle.generator.specs.Shifts.{gcdFrom, gcd, shiftsFrom, shiftsOf, shifts}
 use Rattle.generator.specs.Generator.{baseFrom, baseAt, entryAt, entry, baseWord}
 use Rattle.generator.specs.Codewords.{nodeFrom, nodeOf}
-use Rattle.blocks.specs.Blocks.{shareAt, shareOf, sharesOf, updatedAt, updated, MessageFor}
+use Rattle.blocks.specs.Blocks.{shareAt, shareOf, sharesOf, addedAt, rowAdded, updated, MessageFor}
 use Rattle.blocks.specs.Faults.{lanesBad}
 
 -- a case of the notebook
@@ -82,5 +82,5 @@ one-lane P p (suc t) inside = absurd (omega arith)
 
 -- every case of the table holds
 pub notebook-holds : All Says notebook
-unfolding Says notebook recordOf judged recordFault headerFault kindBad bodyBad fieldBad sizeBad rootBad unevenBad headerOf distance shiftsOf shiftsFrom gcd gcdFrom baseWord entry entryAt baseAt baseFrom nodeFrom nodeOf byRow held laneOf buffer withLane shareLayout shareAt shareOf sharesOf updatedAt updated lanesBad differ countFrom from allBelow modulus sizeOf add sub mul power orderOf orderFrom product productFrom timesX isPrime dividesSome
+unfolding Says notebook recordOf judged recordFault headerFault kindBad bodyBad fieldBad sizeBad rootBad unevenBad headerOf distance shiftsOf shiftsFrom gcd gcdFrom baseWord entry entryAt baseAt baseFrom nodeFrom nodeOf byRow held laneOf buffer withLane shareLayout shareAt shareOf sharesOf addedAt rowAdded updated lanesBad differ countFrom from allBelow modulus sizeOf add sub mul power orderOf orderFrom product productFrom timesX isPrime dividesSome
 notebook-holds = ((refl, refl, refl, refl, refl, refl, refl), ((refl, refl, refl, refl, refl, refl, refl), (refl, ((refl, refl), ((refl, refl), ((record { size-is = refl; symbols = refl; lanes = one-lane _ refl }, refl), (refl, ((refl, refl, refl, refl, refl, refl, refl), ((refl, refl, refl, refl, refl, refl, refl), (refl, (refl, (refl, (refl, (refl, (refl, (refl, tt))))))))))))))))

@@ -22,7 +22,7 @@ use Rattle.generator.specs.Generator.{entry}
 use Rattle.generator.specs.Codewords.{nodeOf, encoding}
 use Rattle.generator.specs.Claims.{isMessage}
 use Rattle.generator.proofs.Changes.{node-change}
-use Rattle.blocks.specs.Blocks.{updatedAt, updated}
+use Rattle.blocks.specs.Blocks.{addedAt, rowAdded, updated}
 
 -- a list differs nowhere from itself
 pub differ-same : (s : List ℕ) → differ s s ≡ 0
@@ -34,21 +34,22 @@ node-at : (h : Header) (ms : List ℕ) (j : ℕ) → j < h .n → getD (encoding
 unfolding encoding
 node-at h ms j node = rw zero-add at (getD-from (nodeOf h ms) 0 (h .n) j 0 node)
 
+module _ {y : Arrangement} (a : Lawful y) (h : Header) (l r t x : ℕ) (shares : List ℕ) where
+  -- as many symbols differ as nodes hold another symbol in the lane
+  pub differ-added : t < l → length shares ≡ h .n * l → differ shares (rowAdded y h l r t x shares) ≡ countFrom (h .n) 0 (λ j. not (eqb (held y (h .n) l shares j t) (addedAt y h l r t x shares j)))
+  unfolding rowAdded
+  differ-added = differ-lane a (h .n) l t (addedAt y h l r t x shares) shares
+
 module _ {y : Arrangement} (a : Lawful y) (h : Header) (l r t old new : ℕ) (shares : List ℕ) where
-  -- an update keeps the length
+  -- an update gives a buffer of n·l symbols
   pub length-updated : length (updated y h l r t old new shares) ≡ h .n * l
-  unfolding updated
-  length-updated = length-with-lane a (h .n) l t (updatedAt y h l r t old new shares) shares
+  unfolding updated rowAdded
+  length-updated = length-with-lane a (h .n) l t (addedAt y h l r t (sub (modulusOf h) new old) shares) shares
 
   -- no other lane is altered
   pub updated-others : (q : ℕ) → q < l → (q ≡ t → ⊥) → laneOf y (h .n) l q (updated y h l r t old new shares) ≡ laneOf y (h .n) l q shares
-  unfolding updated
-  updated-others = lane-kept a (h .n) l t (updatedAt y h l r t old new shares) shares
-
-  -- as many symbols differ as nodes hold another symbol in the lane
-  pub differ-updated : t < l → length shares ≡ h .n * l → differ shares (updated y h l r t old new shares) ≡ countFrom (h .n) 0 (λ j. not (eqb (held y (h .n) l shares j t) (updatedAt y h l r t old new shares j)))
-  unfolding updated
-  differ-updated = differ-lane a (h .n) l t (updatedAt y h l r t old new shares) shares
+  unfolding updated rowAdded
+  updated-others = lane-kept a (h .n) l t (addedAt y h l r t (sub (modulusOf h) new old) shares) shares
 
 module _ {y : Arrangement} (a : Lawful y) (h : Header) (s : Sound h) (ms shares : List ℕ) (l r t new : ℕ) (m : isMessage h ms ≡ true) (row : r < h .k) (inside : t < l) (low : new < size h) (long : length shares ≡ h .n * l) (encodes : laneOf y (h .n) l t shares ≡ encoding h ms) where
   -- what a node of the lane holds before ..
@@ -56,23 +57,23 @@ module _ {y : Arrangement} (a : Lawful y) (h : Header) (s : Sound h) (ms shares 
   held-before j node = sym (getD-lane y (h .n) l t shares j node) ∙ ap (λ (w : List ℕ). getD w j 0) encodes ∙ node-at h ms j node
 
   -- .. and after
-  held-after : (j : ℕ) → j < h .n → updatedAt y h l r t (getD ms r 0) new shares j ≡ nodeOf h (set ms r new) j
-  unfolding updatedAt
+  held-after : (j : ℕ) → j < h .n → addedAt y h l r t (sub (modulusOf h) new (getD ms r 0)) shares j ≡ nodeOf h (set ms r new) j
+  unfolding addedAt
   held-after j node =
       ap (λ (b : ℕ). add (modulusOf h) b (mul (modulusOf h) (sub (modulusOf h) new (getD ms r 0)) (entry h r j))) (held-before j node)
       ∙ sym (node-change h s ms r new m row low j)
 
   -- the lane encodes the new message
   pub updated-encodes : laneOf y (h .n) l t (updated y h l r t (getD ms r 0) new shares) ≡ encoding h (set ms r new)
-  unfolding updated encoding
+  unfolding updated rowAdded encoding
   updated-encodes =
-      lane-changed a (h .n) l t (updatedAt y h l r t (getD ms r 0) new shares) shares inside
+      lane-changed a (h .n) l t (addedAt y h l r t (sub (modulusOf h) new (getD ms r 0)) shares) shares inside
       ∙ from-ext _ (nodeOf h (set ms r new)) 0 (h .n) (λ j above below. held-after j (omega arith))
 
   -- as many symbols differ as nodes of the two encodings do
   pub updated-count : differ shares (updated y h l r t (getD ms r 0) new shares) ≡ differ (encoding h ms) (encoding h (set ms r new))
-  unfolding differ encoding
+  unfolding updated differ encoding
   updated-count =
-      differ-updated a h l r t (getD ms r 0) new shares inside long
+      differ-added a h l r t (sub (modulusOf h) new (getD ms r 0)) shares inside long
       ∙ count-ext (h .n) 0 _ _ (λ j above below. ap not (ap₂ eqb (held-before j (omega arith) ∙ sym (node-at h ms j (omega arith))) (held-after j (omega arith) ∙ sym (node-at h (set ms r new) j (omega arith)))))
       ∙ ap (λ (f : ℕ). countFrom f 0 (λ i. not (eqb (getD (encoding h ms) i 0) (getD (encoding h (set ms r new)) i 0)))) (sym (length-from (nodeOf h ms) 0 (h .n)))

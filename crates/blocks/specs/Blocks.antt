@@ -31,13 +31,17 @@ sharesOf y h l m = buffer y (h .n) l (shareAt h l m)
 unfoldable pub gathered : Arrangement → Header → ℕ → List ℕ → List ℕ → List ℕ
 gathered y h l nodes m = buffer y (h .k) l (λ i t. shareAt h l m (getD nodes i 0) t)
 
--- what node j holds in lane t after (new − old) times row r of the generator is added there
-unfoldable pub updatedAt : Arrangement → Header → ℕ → ℕ → ℕ → ℕ → ℕ → List ℕ → ℕ → ℕ
-updatedAt y h l r t old new s j = add (modulusOf h) (held y (h .n) l s j t) (mul (modulusOf h) (sub (modulusOf h) new old) (entry h r j))
+-- what node j holds in lane t after x times row r of the generator is added there
+unfoldable pub addedAt : Arrangement → Header → ℕ → ℕ → ℕ → ℕ → List ℕ → ℕ → ℕ
+addedAt y h l r t x s j = add (modulusOf h) (held y (h .n) l s j t) (mul (modulusOf h) x (entry h r j))
 
--- the shares after that
+-- x times row r added to lane t
+unfoldable pub rowAdded : Arrangement → Header → ℕ → ℕ → ℕ → ℕ → List ℕ → List ℕ
+rowAdded y h l r t x s = withLane y (h .n) l t (addedAt y h l r t x s) s
+
+-- (new − old) times row r added to lane t
 unfoldable pub updated : Arrangement → Header → ℕ → ℕ → ℕ → ℕ → ℕ → List ℕ → List ℕ
-updated y h l r t old new s = withLane y (h .n) l t (updatedAt y h l r t old new s) s
+updated y h l r t old new s = rowAdded y h l r t (sub (modulusOf h) new old) s
 
 -- the smallest lane that is no word of the code, or l where all are
 unfoldable pub firstWrong : Arrangement → Header → ℕ → List ℕ → ℕ

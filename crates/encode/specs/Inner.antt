@@ -14,7 +14,7 @@ use Rattle.generator.specs.Records.{size, Sound}
 use Rattle.generator.specs.Generator.{entry}
 use Rattle.plan.specs.Plans.{planFor}
 use Rattle.blocks.specs.declared.Outcome.{Outcome}
-use Rattle.blocks.specs.Blocks.{sharesOf}
+use Rattle.blocks.specs.Bytes.{encodedBytes}
 use Rattle.blocks.specs.Faults.{encodeFault}
 use Rattle.blocks.specs.Answers.{outcomeOf}
 
@@ -36,4 +36,4 @@ pub record MessageBuffer (h : Header) (l : ℕ) (message : List ℕ) : Type 0 wh
 -- what encoding over the header of an accepted record gives: the answer, and the buffer afterwards
 pub record Encoded (h : Header) (l : ℕ) (message out out′ : List ℕ) (r : Outcome) : Type 0 where
   pub answer : r ≡ outcomeOf (encodeFault h l (length out) message)
-  pub written : out′ ≡ pick (eqb (encodeFault h l (length out) message) 0) (sharesOf h l message) out
+  pub written : out′ ≡ pick (eqb (encodeFault h l (length out) message) 0) (encodedBytes h l message) out

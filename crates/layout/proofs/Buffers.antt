@@ -11,7 +11,7 @@ use Rattle.lists.specs.Rows.{from}
 use Rattle.lists.specs.Numbers.{allBelow}
 use Rattle.lists.proofs.Numbers.{below-at, at-below}
 use Rattle.lists.proofs.Rows.{length-from, getD-from, from-ext}
-use Rattle.layout.specs.Layout.{Arrangement, held, laneOf, buffer, rearranged}
+use Rattle.layout.specs.Layout.{Arrangement, held, laneOf, rowOf, buffer, rearranged}
 use Rattle.layout.proofs.Lawful.{Lawful}
 
 module _ (y : Arrangement) (rows l : ℕ) where
@@ -24,6 +24,11 @@ module _ (y : Arrangement) (rows l : ℕ) where
   pub getD-lane : (t : ℕ) (s : List ℕ) (i : ℕ) → i < rows → getD (laneOf y rows l t s) i 0 ≡ held y rows l s i t
   unfolding laneOf
   getD-lane t s i h = rw zero-add at (getD-from (λ i. held y rows l s i t) 0 rows i 0 h)
+
+  -- a row has as many as there are lanes
+  pub length-row : (i : ℕ) (s : List ℕ) → length (rowOf y rows l i s) ≡ l
+  unfolding rowOf
+  length-row i s = length-from (held y rows l s i) 0 l
 
   pub length-buffer : (f : ℕ → ℕ → ℕ) → length (buffer y rows l f) ≡ rows * l
   unfolding buffer

@@ -2,6 +2,6 @@
 pub mod Lawful
 pub mod Buffers
 pub mod OneLane
-pub mod Rewriting
+pub mod Rewritten
 pub mod Places
 pub mod Widths

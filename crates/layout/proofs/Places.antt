@@ -8,9 +8,9 @@ use lib.ListN.{length, getD}
 use Rattle.lists.specs.Rows.{from, rowsFrom}
 use Rattle.lists.proofs.Rows.{length-from, getD-from}
 use Rattle.lists.proofs.Lanes.{length-rows, getD-rows}
-use Rattle.layout.specs.Layout.{byRow, byLane, held, buffer, shareLayout}
+use Rattle.layout.specs.Layout.{byRow, byLane, held, rowOf, buffer, shareLayout}
 use Rattle.layout.proofs.Lawful.{Lawful, by-row, by-lane}
-use Rattle.layout.proofs.Buffers.{length-buffer, held-buffer, held-equal}
+use Rattle.layout.proofs.Buffers.{length-buffer, held-buffer, held-equal, buffer-held}
 
 pub place-by-row : (rows l i t : ℕ) → byRow rows l .place i t ≡ i * l + t
 unfolding byRow
@@ -40,6 +40,10 @@ buffer-by-row rows l f =
     held-equal by-row rows l _ _ (length-buffer byRow rows l f) (length-rows (λ i. from (f i) 0 l) l (λ i. length-from (f i) 0 l) 0 rows)
     (λ i t hi ht. held-buffer by-row rows l f i t hi ht ∙ sym (held-by-row rows l _ i t ∙ parts-at f rows l i t hi ht))
 
+pub rows-whole : (rows l : ℕ) (s : List ℕ) → length s ≡ rows * l → rowsFrom (λ i. rowOf byRow rows l i s) 0 rows ≡ s
+unfolding rowOf
+rows-whole rows l s long = sym (buffer-by-row rows l (held byRow rows l s)) ∙ buffer-held by-row rows l s long
+
 -- or its lanes
 pub buffer-by-lane : (rows l : ℕ) (f : ℕ → ℕ → ℕ) → buffer byLane rows l f ≡ rowsFrom (λ t. from (λ i. f i t) 0 rows) 0 l
 buffer-by-lane rows l f =
@@ -52,6 +56,10 @@ pub share-lawful : Lawful shareLayout
 unfolding shareLayout
 share-lawful = by-row
 
+pub place-share : (rows l i t : ℕ) → shareLayout rows l .place i t ≡ i * l + t
+unfolding shareLayout
+place-share = place-by-row
+
 pub held-share : (rows l : ℕ) (s : List ℕ) (i t : ℕ) → held shareLayout rows l s i t ≡ getD s (i * l + t) 0
 unfolding shareLayout
 held-share = held-by-row
@@ -59,3 +67,7 @@ held-share = held-by-row
 pub buffer-share : (rows l : ℕ) (f : ℕ → ℕ → ℕ) → buffer shareLayout rows l f ≡ rowsFrom (λ i. from (f i) 0 l) 0 rows
 unfolding shareLayout
 buffer-share = buffer-by-row
+
+pub share-by-row : shareLayout ≡ byRow
+unfolding shareLayout
+share-by-row = refl

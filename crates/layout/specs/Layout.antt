@@ -32,6 +32,10 @@ held y rows l s i t = getD s (y rows l .place i t) 0
 unfoldable pub laneOf : Arrangement → ℕ → ℕ → ℕ → List ℕ → List ℕ
 laneOf y rows l t s = from (λ i. held y rows l s i t) 0 rows
 
+-- row i of a buffer
+unfoldable pub rowOf : Arrangement → ℕ → ℕ → ℕ → List ℕ → List ℕ
+rowOf y rows l i s = from (held y rows l s i) 0 l
+
 -- the buffer with f i t in row i of lane t
 unfoldable pub buffer : Arrangement → ℕ → ℕ → (ℕ → ℕ → ℕ) → List ℕ
 buffer y rows l f = from (λ x. f (y rows l .row x) (y rows l .lane x)) 0 (rows * l)
