@@ -17,7 +17,9 @@ use Rattle.generator.specs.Records.{modulusOf, size, recordOf, Sound}
 use Rattle.generator.proofs.Accepts.{held-header}
 use Rattle.blocks.specs.declared.Update.{Update}
 use Rattle.blocks.specs.declared.Update.the-variants.{Altered, Refused}
-use Rattle.blocks.specs.Blocks.{laneOf, updated}
+use Rattle.layout.specs.Layout.{laneOf, shareLayout}
+use Rattle.blocks.specs.Blocks.{updated}
+use Rattle.blocks.proofs.Bytes.{updated-bytes, altered-count}
 use Rattle.blocks.specs.Faults.{lanesBad, updateFault}
 use Rattle.blocks.specs.Answers.{updateOf}
 use Rattle.blocks.specs.Promises.{UpdateSays}
@@ -29,7 +31,7 @@ module _ (h : Header) (l r t old new : ℕ) (s : List ℕ) where
   pub accepted : Sound h → updateFault h l r t old new s ≡ 0 → Ready h l r t (sub (modulusOf h) new old) s × (old < size h) × (new < size h)
   unfolding updateFault
   accepted sound e =
-      let symbols = allBelow (size h) (laneOf (h .n) l t s) in
+      let symbols = allBelow (size h) (laneOf shareLayout (h .n) l t s) in
       let (seven, after-seven) = not-met (lanesBad l) 6 _ e in
       let (eight, after-eight) = not-met (not (eqb (length s) (h .n * l))) 7 _ after-seven in
       let (places, eleven) = not-met (leb (h .k) r || leb l t) 8 _ after-eight in
@@ -60,9 +62,9 @@ module _ (h : Header) (l r t old new : ℕ) (s : List ℕ) where
 
   module _ (s′ : List ℕ) where
     -- where there is none, the row is added, and the count is of the bytes that differ
-    pub altered-says : (count : ℕ) → updateFault h l r t old new s ≡ 0 → s′ ≡ updated h l r t old new s → count ≡ differ s s′ → HeaderSays h l r t old new s s′ (Altered count)
+    pub altered-says : (count : ℕ) → updateFault h l r t old new s ≡ 0 → s′ ≡ updated shareLayout h l r t old new s → count ≡ differ s s′ → HeaderSays h l r t old new s s′ (Altered count)
     unfolding updateOf
-    altered-says count none done counted = record { answer = rw (none, ← done, counted); written = rw (none, done) }
+    altered-says count none done counted = record { answer = rw (none, altered-count h l r t old new s, ← done, counted); written = rw (none, updated-bytes h l r t old new s, done) }
 
     -- the promise over the header of an accepted record is the promise over the record
     pub held-says : (rec : List ℕ) (a : Update) → recordOf rec ≡ Holds h → HeaderSays h l r t old new s s′ a → UpdateSays rec l r t old new s s′ a

@@ -9,7 +9,8 @@ ghost use Rattle.field.specs.Fields.{add, mul};
 ghost use Rattle.field.specs.Kinds.{usable};
 ghost use Rattle.generator.specs.Records.{modulusOf, size, Sound};
 ghost use Rattle.plan.specs.Plans.{planFor};
-ghost use Rattle.blocks.specs.Blocks.{laneOf, updatedFrom};
+ghost use Rattle.layout.specs.Layout.{laneOf, shareLayout};
+ghost use Rattle.blocks.specs.Blocks.{rowAdded};
 ghost use Rattle.blocks.specs.Faults.{updateFault};
 ghost use Rattle.blocks.specs.Promises.{UpdateSays};
 ghost use Rattle.update.specs.Updating.{Ready, HeaderSays};
@@ -38,7 +39,7 @@ fn rewrite(
     shares: &mut [u8],
 ) -> u32
     requires { ⌜ Ready h lanes which lane x (now shares) × (plan ≡ planFor (Record.Holds h)) ⌝ }
-    ensures { λ r. ⌜ (now (shares .exit) ≡ updatedFrom (h .n) 0 h lanes which lane x (now (shares .entry))) × (r ≡ differ (now (shares .entry)) (now (shares .exit))) ⌝ }
+    ensures { λ r. ⌜ (now (shares .exit) ≡ rowAdded shareLayout h lanes which lane x (now (shares .entry))) × (r ≡ differ (now (shares .entry)) (now (shares .exit))) ⌝ }
 {
     let n = h.n as u32;
     let shift = plan.shifts[which as usize] as u32;
@@ -62,7 +63,7 @@ fn rewrite(
 // Whether every byte of a lane is a symbol; no other byte is read.
 fn lane_symbols(size: u32, n: u8, lanes: u32, lane: u32, shares: &[u8]) -> bool
     requires { ⌜ (lanes ≤ 4096) × (lane < lanes) × (length (now shares) ≡ n * lanes) ⌝ }
-    ensures { λ r. ⌜ r ≡ allBelow size (laneOf n lanes lane (now (shares .entry))) ⌝ }
+    ensures { λ r. ⌜ r ≡ allBelow size (laneOf shareLayout n lanes lane (now (shares .entry))) ⌝ }
 {
     let mut j: u8 = 0;
     while j < n {

@@ -3,14 +3,14 @@ use Prim.Native.Nat.{_≤_, _<_, _+_, _-_, _*_}
 use mathlib.Core.Path.{_≡_, sym, _∙_}
 use native.Mathlib.Omega.{arith}
 use Rattle.lists.specs.Numbers.{allBelow}
-use Rattle.blocks.specs.Blocks.{laneOf}
+use Rattle.layout.specs.Layout.{laneOf, shareLayout}
 use Rattle.update.proofs.Lane.{place-fits, laneFrom, lane-start, lane-good, lane-bad, lane-end}
 use Rattle.update.proofs.lane_symbols.Statement.{statement}
 use Rattle.update.proofs.lane_symbols.Tie as tie
 
 abbrev Inv-loop : tie.InvT-loop
 Inv-loop size n lanes lane shares j₀ j =
-    (j ≤ n) × (allBelow size (laneOf n lanes lane shares) ≡ allBelow size (laneFrom n lanes lane shares j))
+    (j ≤ n) × (allBelow size (laneOf shareLayout n lanes lane shares) ≡ allBelow size (laneFrom n lanes lane shares j))
 
 abbrev μ-loop : tie.MeasureT-loop
 μ-loop size n lanes lane shares j₀ j = n - j

@@ -10,7 +10,7 @@ use borrow.Author.Tests.{lt-ltb, le-ltb, le-leb, lt-leb, eq-eqb, ne-eqb, leb-tru
 use lib.Dec.{ltb, leb}
 use Rattle.lists.specs.Numbers.{allBelow}
 use Rattle.generator.specs.Records.{size}
-use Rattle.blocks.specs.Blocks.{laneOf}
+use Rattle.layout.specs.Layout.{laneOf, shareLayout}
 use Rattle.blocks.specs.Faults.{lanesBad, updateFault}
 use Rattle.blocks.proofs.Accepts.{lanes-none, lanes-many, lanes-few, lanes-good}
 use Rattle.update.proofs.update_fault.Statement.{statement}
@@ -38,7 +38,7 @@ not-nine c = rw (lt-leb _ _ (c .before .if4 .left), c .if5 .left)
 -- number 11 by the old or the new symbol
 eleven : (c : tie.Joined6)
     → let a = c .before .before .before .before .before .before .before .before .before .args in
-    (ltb (a .old) (size (a .h)) && (ltb (a .new) (size (a .h)) && allBelow (size (a .h)) (laneOf (a .h .n) (a .lanes) (a .lane) (a .shares .now)))) ≡ false
+    (ltb (a .old) (size (a .h)) && (ltb (a .new) (size (a .h)) && allBelow (size (a .h)) (laneOf shareLayout (a .h .n) (a .lanes) (a .lane) (a .shares .now)))) ≡ false
 eleven c =
     let a = c .before .before .before .before .before .before .before .before .before .args in
     let is = c .before .size .ensures in
@@ -62,7 +62,7 @@ symbols c =
 -- the second test is of the lane
 lane : (c : tie.After-lane-symbols)
     → let a = c .before .before .before .before .before .before .before .before .before .before .before .args in
-    allBelow (size (a .h)) (laneOf (a .h .n) (a .lanes) (a .lane) (a .shares .now)) ≡ c .lane-symbols .result
+    allBelow (size (a .h)) (laneOf shareLayout (a .h .n) (a .lanes) (a .lane) (a .shares .now)) ≡ c .lane-symbols .result
 lane c = rw (← c .before .before .before .size .ensures) (sym (c .lane-symbols .ensures))
 
 cast-k : tie.Need-cast-k
