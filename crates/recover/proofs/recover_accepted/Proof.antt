@@ -7,6 +7,7 @@ use lib.ListN.{length, take, length-take}
 use Rattle.generator.specs.Shifts.{shifts}
 use Rattle.generator.proofs.Shifts.{shifts-length}
 use Rattle.blocks.specs.Answers.{outcomeOf}
+use Rattle.blocks.proofs.Bytes.{recovered-bytes}
 use Rattle.blocks.proofs.Accepts.{outcome-refused, refused-claim}
 use Rattle.plan.specs.declared.Plan.{Plan}
 use Rattle.listed_nodes.specs.Listed.{Listed}
@@ -86,7 +87,7 @@ returns-2 c =
     let none = sym (at .before .before .recover-fault .ensures) ∙ at .before .if1 .left in
     record {
       answer = rw none refl;
-      written = rw none (c .before .before .fill-message .ensures);
+      written = rw none (recovered-bytes _ _ _ _ _ (c .before .before .fill-message .ensures));
     }
 
 pub recover-accepted-spec : {M : Type 1} → statement M
