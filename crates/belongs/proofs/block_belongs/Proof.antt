@@ -7,24 +7,24 @@ use Rattle.generator.specs.declared.Header.{Header}
 use Rattle.generator.specs.declared.Record.the-variants.{Holds, Meets}
 use Rattle.generator.specs.Records.{recordOf}
 use Rattle.generator.proofs.Accepts.{accepted-sound, held-header}
-use Rattle.blocks.specs.declared.Test.{Test}
-use Rattle.blocks.specs.declared.Test.the-variants.{Refused}
-use Rattle.blocks.specs.Blocks.{wrongFrom}
+use Rattle.blocks.specs.declared.Membership.{Membership}
+use Rattle.blocks.specs.declared.Membership.the-variants.{Refused}
+use Rattle.blocks.specs.Bytes.{wrongLane}
 use Rattle.blocks.specs.Faults.{belongsFault}
-use Rattle.blocks.specs.Answers.{testOf}
+use Rattle.blocks.specs.Answers.{membershipOf}
 use Rattle.blocks.specs.Promises.{BelongsSays}
-use Rattle.blocks.proofs.Accepts.{held-fault, met-number, met-fault, test-refused}
+use Rattle.blocks.proofs.Accepts.{held-fault, met-number, met-fault, membership-refused}
 use Rattle.belongs.proofs.block_belongs.Statement.{statement}
 use Rattle.belongs.proofs.block_belongs.Tie as tie
 
 module _ (rec : List ℕ) (l : ℕ) (shares : List ℕ) where
   -- a record that holds a header
-  says-held : (r : Test) (h : Header) → recordOf rec ≡ Holds h → r ≡ testOf (belongsFault h l shares) (wrongFrom l 0 h l shares) → BelongsSays rec l shares r
+  says-held : (r : Membership) (h : Header) → recordOf rec ≡ Holds h → r ≡ membershipOf (belongsFault h l shares) l (wrongLane h l shares) → BelongsSays rec l shares r
   says-held r h e made = record { answer = rw (held-fault rec h (λ h. belongsFault h l shares) e, held-header rec h e .1) made }
 
   -- a record that meets a number
   says-met : (g : ℕ) → recordOf rec ≡ Meets g → BelongsSays rec l shares (Refused g)
-  says-met g e = record { answer = rw (met-fault rec g (λ h. belongsFault h l shares) e) (sym (test-refused g _ (met-number rec g e .1))) }
+  says-met g e = record { answer = rw (met-fault rec g (λ h. belongsFault h l shares) e) (sym (membership-refused g _ _ (met-number rec g e .1))) }
 
 read-record-requires : tie.Need-read-record-requires
 read-record-requires c κs = search needs
