@@ -15,10 +15,10 @@ use Rattle.generator.specs.declared.Header.{Header}
 use Rattle.generator.specs.Records.{size}
 use Rattle.generator.specs.Codewords.{valuesOf, isWord}
 use Rattle.generator.proofs.Words.{words-poly}
+use Rattle.refusals.specs.Accepted.{SymbolRows}
 use Rattle.blocks.specs.Blocks.{laneOf, wrongFrom}
 use Rattle.blocks.proofs.Shares.{length-lane}
 use Rattle.blocks.proofs.Messages.{lane-symbols}
-use Rattle.belongs.specs.Ready.{IsBlock}
 use Rattle.belongs.proofs.Search.{search-high, search-none, search-passes, search-fails}
 use Rattle.belongs.proofs.Wrong.{firstWrong, wrong-none, wrong-some}
 
@@ -48,7 +48,7 @@ module _ (h : Header) (l : ℕ) (s : List ℕ) where
       ))
 
   -- no lane is named exactly if every lane has the values of a polynomial of degree below k
-  pub passes-code : IsBlock h l s → (wrongFrom l 0 h l s ≡ 0) ↔ ((t : ℕ) → t < l → (cs : List ℕ) × (length cs ≡ h .k) × (allBelow (size h) cs ≡ true) × (valuesOf h cs ≡ laneOf (h .n) l t s))
+  pub passes-code : SymbolRows h (h .n) l s → (wrongFrom l 0 h l s ≡ 0) ↔ ((t : ℕ) → t < l → (cs : List ℕ) × (length cs ≡ h .k) × (allBelow (size h) cs ≡ true) × (valuesOf h cs ≡ laneOf (h .n) l t s))
   passes-code b = (
     λ e t inside. words t inside .0 (passes-words .0 e t inside),
     λ all. passes-words .1 (λ t inside. words t inside .1 (all t inside)),

@@ -14,7 +14,7 @@ use Rattle.generator.specs.Shifts.{gcdFrom, gcd, shiftsFrom, shiftsOf}
 use Rattle.generator.specs.Generator.{baseFrom, baseAt, entryAt, entry}
 use Rattle.generator.specs.Codewords.{nodeFrom, nodeOf}
 use Rattle.blocks.specs.Blocks.{placeOf, laneOf, shareOf, sharesOf, gathered, updatedFrom, updated}
-use Rattle.blocks.specs.Faults.{lanesBad}
+use Rattle.refusals.specs.Conditions.{lanesBad}
 
 -- a case of the notebook
 pub data Case : Type 0 where

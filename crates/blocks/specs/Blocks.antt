@@ -13,14 +13,7 @@ use Rattle.generator.specs.Records.{modulusOf, size}
 use Rattle.generator.specs.Generator.{entry}
 use Rattle.generator.specs.Codewords.{nodeOf, isWord}
 use Rattle.generator.specs.Claims.{atNodes}
-
--- where row i of lane t stands in a buffer of rows of l bytes
-unfoldable pub placeOf : ℕ → ℕ → ℕ → ℕ
-placeOf l i t = i * l + t
-
--- lane t of a buffer of so many rows
-unfoldable pub laneOf : ℕ → ℕ → ℕ → List ℕ → List ℕ
-laneOf rows l t s = from (λ i. getD s (placeOf l i t) 0) 0 rows
+unfoldable pub use Rattle.refusals.specs.Lanes.{placeOf, laneOf}
 
 -- node j's share: what it holds in each lane
 unfoldable pub shareOf : Header → ℕ → List ℕ → ℕ → List ℕ

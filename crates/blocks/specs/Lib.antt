@@ -1,5 +1,4 @@
--- Blocks, faults and answers: the definitions that the contracts cite.
+-- Blocks, answers and promises: the definitions that the contracts cite.
 pub mod Blocks
-pub mod Faults
 pub mod Answers
 pub mod Promises

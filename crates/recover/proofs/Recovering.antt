@@ -5,23 +5,22 @@ use Prim.Native.Nat.{ℕ, _*_, _<_}
 use native.Mathlib.Nat.{zero-add}
 use native.Mathlib.Omega.{arith}
 use lib.ListN.{length, getD, take}
+use Rattle.lists.specs.Padded.{padded}
 use Rattle.lists.specs.Rows.{from, rowsFrom}
 use Rattle.lists.proofs.Rows.{length-from, getD-from, from-ext}
 use Rattle.lists.proofs.Lanes.{length-rows, getD-rows}
 use Rattle.lists.proofs.Padding.{take-padded}
 use Rattle.field.specs.Sums.{dot}
 use Rattle.generator.specs.declared.Header.{Header}
-use Rattle.generator.specs.declared.Record.the-variants.{Holds}
 use Rattle.generator.specs.Records.{modulusOf, Sound}
 use Rattle.generator.specs.Shifts.{shifts}
 use Rattle.generator.proofs.Shifts.{shifts-length}
-use Rattle.plan.specs.Plans.{planFor}
+use Rattle.refusals.specs.Accepted.{ListedShares}
 use Rattle.blocks.specs.Blocks.{placeOf, laneOf, MessageFor}
 use Rattle.blocks.proofs.Shares.{getD-lane}
 use Rattle.blocks.proofs.Messages.{lanes-equal, lane-message}
 use Rattle.combine.specs.Combined.{combined}
 use Rattle.recovery.specs.Weights.{Recovers}
-use Rattle.listed_nodes.specs.Listed.{Listed}
 
 -- row r of a buffer of rows of l bytes
 abbrev pub rowOf : ℕ → List ℕ → ℕ → List ℕ
@@ -43,12 +42,11 @@ rows-whole rows l s pos long =
     ∙ getD-from (λ u. getD s (placeOf l i u) 0) 0 l t 0 inside
     ∙ ap (λ (x : ℕ). getD s (placeOf l i x) 0) (zero-add t)))
 
--- the first k places of the shifts in a plan are the shifts
-pub shifts-part : (h : Header) → Sound h → take (h .k) (planFor (Holds h) .shifts) ≡ shifts h
-unfolding planFor
+-- the first k places of the padded shifts are the shifts
+pub shifts-part : (h : Header) → Sound h → take (h .k) (padded 255 (shifts h)) ≡ shifts h
 shifts-part h s = take-padded 255 (h .k) (shifts h) (shifts-length (h .n) (h .k) (s .some) (s .fits))
 
-module _ (h : Header) (l : ℕ) (nodes shares : List ℕ) (a : Listed h l nodes shares) where
+module _ (h : Header) (l : ℕ) (nodes shares : List ℕ) (a : ListedShares h l nodes shares) where
   -- each lane's sum is the symbol of that lane's message
   pub recovered : (m : List ℕ) → MessageFor h l nodes shares m → (r : ℕ) (ws : List ℕ) → r < h .k → Recovers h nodes r ws → combined (modulusOf h) (h .k) l ws shares ≡ rowOf l m r
   unfolding combined
@@ -57,5 +55,5 @@ module _ (h : Header) (l : ℕ) (nodes shares : List ℕ) (a : Listed h l nodes 
       (λ t low high.
       let inside : t < l = omega arith in
       ap (λ (ys : List ℕ). dot (modulusOf h) ys ws) (sym (is .lanes t inside))
-      ∙ sym (w .gives (laneOf (h .k) l t m) (lane-message h (a .sound) l nodes (a .different) m t inside (is .size-is) (is .symbols)))
+      ∙ sym (w .gives (laneOf (h .k) l t m) (lane-message h (a .rows .sound) l nodes (a .different) m t inside (is .size-is) (is .symbols)))
       ∙ getD-lane (h .k) l t m r row)

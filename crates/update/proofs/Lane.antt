@@ -29,29 +29,7 @@ place-fits n j l t small few node lane = (omega (arith, row-inside n j l node), 
 pub entry-read : (h : Header) → Sound h → (p : Plan) → p ≡ planFor (Holds h) → (r j : ℕ) → r < h .k → j < h .n → getD (p .base) ((j + getD (p .shifts) r 0) % h .n) 0 ≡ entry h r j
 entry-read h s p e r j row node = rw e (Plans.entry-read h s r j row node)
 
--- the lane from node j on
-abbrev pub laneFrom : ℕ → ℕ → ℕ → List ℕ → ℕ → List ℕ
-laneFrom n l t s j = from (λ i. getD s (placeOf l i t) 0) j (n - j)
-
 module _ (q n l t : ℕ) (s : List ℕ) where
-  pub lane-start : allBelow q (laneOf n l t s) ≡ allBelow q (laneFrom n l t s 0)
-  unfolding laneOf
-  lane-start = rw sub-zero
-
-  -- a symbol at node j
-  pub lane-good : (j : ℕ) → j < n → getD s (j * l + t) 0 < q → allBelow q (laneFrom n l t s j) ≡ allBelow q (laneFrom n l t s (j + 1))
-  unfolding allBelow placeOf
-  lane-good j node low = rw (from-next (λ i. getD s (placeOf l i t) 0) n j node, lt-ltb (getD s (j * l + t) 0) q low)
-
-  -- none
-  pub lane-bad : (j : ℕ) → j < n → q ≤ getD s (j * l + t) 0 → allBelow q (laneFrom n l t s j) ≡ false
-  unfolding allBelow placeOf
-  lane-bad j node high = rw (from-next (λ i. getD s (placeOf l i t) 0) n j node, le-ltb (getD s (j * l + t) 0) q high)
-
-  pub lane-end : (j : ℕ) → n ≤ j → allBelow q (laneFrom n l t s j) ≡ true
-  unfolding allBelow
-  lane-end j all = rw (from-end (λ i. getD s (placeOf l i t) 0) n j all)
-
   -- the byte of a node, where all are symbols
   pub lane-symbol : allBelow q (laneOf n l t s) ≡ true → (j : ℕ) → j < n → getD s (placeOf l j t) 0 < q
   lane-symbol good j node = rw getD-lane at (below-at q (laneOf n l t s) good j (rw length-lane node))
