@@ -1,15 +1,12 @@
 // The first of numbers 7 to 11 that a call meets, or 0; `size` is the length of a written buffer.
 ghost use mathlib.Core.Path.{_≡_};
 ghost use mathlib.Core.Bool.{true};
-ghost use Prim.Native.Nat.{_*_};
-ghost use lib.ListN.{length};
 ghost use Rattle.field.specs.Kinds.{usable};
-ghost use Rattle.refusals.specs.Faults.{encodeFault, updateFault, listFault, recoverFault, rebuildFault, belongsFault};
+ghost use Rattle.refusals.specs.Faults.{encodeFault, updateFault, recoverFault, rebuildFault, belongsFault};
 use crate::conditions::lanes_bad;
 use crate::conditions::length_bad;
 use crate::conditions::number_bad;
-use crate::nodes::nodes_bad;
-use crate::nodes::twice_bad;
+use crate::nodes::list_fault;
 use crate::symbols::lane_bad;
 use crate::symbols::shares_bad;
 use crate::symbols::symbol_bad;
@@ -72,24 +69,6 @@ pub fn update_fault(
         return 11;
     }
     if lane_bad(h, lanes, lane, shares) {
-        return 11;
-    }
-    0
-}
-
-// A list of nodes and their shares: the range is tested before repeats, and the symbols last.
-fn list_fault(h: Header, lanes: usize, nodes: &[u8], shares: &[u8]) -> u8
-    requires { ⌜ (usable (h .field) ≡ true) × (length (now shares) ≡ h .k * lanes) ⌝ }
-    ensures { λ r. ⌜ r ≡ listFault h (now (nodes .entry)) (now (shares .entry)) ⌝ }
-{
-    let k = h.k as usize;
-    if nodes_bad(h, nodes) {
-        return 9;
-    }
-    if twice_bad(nodes) {
-        return 10;
-    }
-    if shares_bad(h, k, lanes, shares) {
         return 11;
     }
     0

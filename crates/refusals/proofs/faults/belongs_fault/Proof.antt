@@ -28,26 +28,29 @@ length-bad-requires c κs = search needs
 
 returns-2 : tie.Need-returns-2
 unfolding belongsFault
-returns-2 c = rw
-    (sym (c .before .before .before .lanes-bad .ensures) ∙ c .before .before .if1 .left,
-    sym (c .before .length-bad .ensures) ∙ c .if2 .taken)
+returns-2 c = rw (
+  sym (c .before .before .before .lanes-bad .ensures) ∙ c .before .before .if1 .left,
+  sym (c .before .length-bad .ensures) ∙ c .if2 .taken,
+)
 
 shares-bad-requires : tie.Need-shares-bad-requires
 shares-bad-requires c κs = (c .before .before .before .before .before .before .pre, length-good _ _ (sym (c .before .length-bad .ensures) ∙ c .if2 .left))
 
 returns-3 : tie.Need-returns-3
 unfolding belongsFault
-returns-3 c = rw
-    (sym (c .before .before .before .before .before .lanes-bad .ensures) ∙ c .before .before .before .before .if1 .left,
-    sym (c .before .before .before .length-bad .ensures) ∙ c .before .before .if2 .left,
-    sym (c .before .shares-bad .ensures) ∙ c .if3 .taken)
+returns-3 c = rw (
+  sym (c .before .before .before .before .before .lanes-bad .ensures) ∙ c .before .before .before .before .if1 .left,
+  sym (c .before .before .before .length-bad .ensures) ∙ c .before .before .if2 .left,
+  sym (c .before .shares-bad .ensures) ∙ c .if3 .taken,
+)
 
 returns-4 : tie.Need-returns-4
 unfolding belongsFault
-returns-4 c = rw
-    (sym (c .before .before .before .before .before .lanes-bad .ensures) ∙ c .before .before .before .before .if1 .left,
-    sym (c .before .before .before .length-bad .ensures) ∙ c .before .before .if2 .left,
-    sym (c .before .shares-bad .ensures) ∙ c .if3 .left)
+returns-4 c = rw (
+  sym (c .before .before .before .before .before .lanes-bad .ensures) ∙ c .before .before .before .before .if1 .left,
+  sym (c .before .before .before .length-bad .ensures) ∙ c .before .before .if2 .left,
+  sym (c .before .shares-bad .ensures) ∙ c .if3 .left,
+)
 
 pub belongs-fault-spec : {M : Type 1} → statement M
 belongs-fault-spec =

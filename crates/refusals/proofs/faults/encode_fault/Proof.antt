@@ -31,9 +31,10 @@ length-bad-requires c κs = search needs
 
 returns-2 : tie.Need-returns-2
 unfolding encodeFault
-returns-2 c = rw
-    (sym (c .before .before .before .lanes-bad .ensures) ∙ c .before .before .if1 .left,
-    sym (c .before .length-bad .ensures) ∙ c .if2 .taken)
+returns-2 c = rw (
+  sym (c .before .before .before .lanes-bad .ensures) ∙ c .before .before .if1 .left,
+  sym (c .before .length-bad .ensures) ∙ c .if2 .taken,
+)
 
 mul-length-bad-2 : tie.Need-mul-length-bad-2
 mul-length-bad-2 c =
@@ -45,29 +46,32 @@ length-bad-requires-2 c κs = search needs
 
 returns-3 : tie.Need-returns-3
 unfolding encodeFault
-returns-3 c = rw
-    (sym (c .before .before .before .before .before .lanes-bad .ensures) ∙ c .before .before .before .before .if1 .left,
-    sym (c .before .before .before .length-bad .ensures) ∙ c .before .before .if2 .left,
-    sym (c .before .length-bad2 .ensures) ∙ c .if3 .taken)
+returns-3 c = rw (
+  sym (c .before .before .before .before .before .lanes-bad .ensures) ∙ c .before .before .before .before .if1 .left,
+  sym (c .before .before .before .length-bad .ensures) ∙ c .before .before .if2 .left,
+  sym (c .before .length-bad2 .ensures) ∙ c .if3 .taken,
+)
 
 symbols-bad-requires : tie.Need-symbols-bad-requires
 symbols-bad-requires c κs = search needs
 
 returns-4 : tie.Need-returns-4
 unfolding encodeFault
-returns-4 c = rw
-    (sym (c .before .before .before .before .before .before .before .lanes-bad .ensures) ∙ c .before .before .before .before .before .before .if1 .left,
-    sym (c .before .before .before .before .before .length-bad .ensures) ∙ c .before .before .before .before .if2 .left,
-    sym (c .before .before .before .length-bad2 .ensures) ∙ c .before .before .if3 .left,
-    sym (c .before .symbols-bad .ensures) ∙ c .if4 .taken)
+returns-4 c = rw (
+  sym (c .before .before .before .before .before .before .before .lanes-bad .ensures) ∙ c .before .before .before .before .before .before .if1 .left,
+  sym (c .before .before .before .before .before .length-bad .ensures) ∙ c .before .before .before .before .if2 .left,
+  sym (c .before .before .before .length-bad2 .ensures) ∙ c .before .before .if3 .left,
+  sym (c .before .symbols-bad .ensures) ∙ c .if4 .taken,
+)
 
 returns-5 : tie.Need-returns-5
 unfolding encodeFault
-returns-5 c = rw
-    (sym (c .before .before .before .before .before .before .before .lanes-bad .ensures) ∙ c .before .before .before .before .before .before .if1 .left,
-    sym (c .before .before .before .before .before .length-bad .ensures) ∙ c .before .before .before .before .if2 .left,
-    sym (c .before .before .before .length-bad2 .ensures) ∙ c .before .before .if3 .left,
-    sym (c .before .symbols-bad .ensures) ∙ c .if4 .left)
+returns-5 c = rw (
+  sym (c .before .before .before .before .before .before .before .lanes-bad .ensures) ∙ c .before .before .before .before .before .before .if1 .left,
+  sym (c .before .before .before .before .before .length-bad .ensures) ∙ c .before .before .before .before .if2 .left,
+  sym (c .before .before .before .length-bad2 .ensures) ∙ c .before .before .if3 .left,
+  sym (c .before .symbols-bad .ensures) ∙ c .if4 .left,
+)
 
 pub encode-fault-spec : {M : Type 1} → statement M
 encode-fault-spec =

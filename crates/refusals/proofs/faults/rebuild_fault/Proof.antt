@@ -26,9 +26,10 @@ length-bad-requires c κs = search needs
 
 returns-2 : tie.Need-returns-2
 unfolding rebuildFault
-returns-2 c = rw
-    (sym (c .before .before .before .lanes-bad .ensures) ∙ c .before .before .if1 .left,
-    sym (c .before .length-bad .ensures) ∙ c .if2 .taken)
+returns-2 c = rw (
+  sym (c .before .before .before .lanes-bad .ensures) ∙ c .before .before .if1 .left,
+  sym (c .before .length-bad .ensures) ∙ c .if2 .taken,
+)
 
 mul-length-bad : tie.Need-mul-length-bad
 mul-length-bad c =
@@ -40,45 +41,49 @@ length-bad-requires-2 c κs = search needs
 
 returns-3 : tie.Need-returns-3
 unfolding rebuildFault
-returns-3 c = rw
-    (sym (c .before .before .before .before .before .lanes-bad .ensures) ∙ c .before .before .before .before .if1 .left,
-    sym (c .before .before .before .length-bad .ensures) ∙ c .before .before .if2 .left,
-    sym (c .before .length-bad2 .ensures) ∙ c .if3 .taken)
+returns-3 c = rw (
+  sym (c .before .before .before .before .before .lanes-bad .ensures) ∙ c .before .before .before .before .if1 .left,
+  sym (c .before .before .before .length-bad .ensures) ∙ c .before .before .if2 .left,
+  sym (c .before .length-bad2 .ensures) ∙ c .if3 .taken,
+)
 
 length-bad-requires-3 : tie.Need-length-bad-requires-3
 length-bad-requires-3 c κs = search needs
 
 returns-4 : tie.Need-returns-4
 unfolding rebuildFault
-returns-4 c = rw
-    (sym (c .before .before .before .before .before .before .before .lanes-bad .ensures) ∙ c .before .before .before .before .before .before .if1 .left,
-    sym (c .before .before .before .before .before .length-bad .ensures) ∙ c .before .before .before .before .if2 .left,
-    sym (c .before .before .before .length-bad2 .ensures) ∙ c .before .before .if3 .left,
-    sym (c .before .length-bad3 .ensures) ∙ c .if4 .taken)
+returns-4 c = rw (
+  sym (c .before .before .before .before .before .before .before .lanes-bad .ensures) ∙ c .before .before .before .before .before .before .if1 .left,
+  sym (c .before .before .before .before .before .length-bad .ensures) ∙ c .before .before .before .before .if2 .left,
+  sym (c .before .before .before .length-bad2 .ensures) ∙ c .before .before .if3 .left,
+  sym (c .before .length-bad3 .ensures) ∙ c .if4 .taken,
+)
 
 number-bad-requires : tie.Need-number-bad-requires
 number-bad-requires c κs = search needs
 
 returns-5 : tie.Need-returns-5
 unfolding rebuildFault
-returns-5 c = rw
-    (sym (c .before .before .before .before .before .before .before .before .before .lanes-bad .ensures) ∙ c .before .before .before .before .before .before .before .before .if1 .left,
-    sym (c .before .before .before .before .before .before .before .length-bad .ensures) ∙ c .before .before .before .before .before .before .if2 .left,
-    sym (c .before .before .before .before .before .length-bad2 .ensures) ∙ c .before .before .before .before .if3 .left,
-    sym (c .before .before .before .length-bad3 .ensures) ∙ c .before .before .if4 .left,
-    sym (c .before .number-bad .ensures) ∙ c .if5 .taken)
+returns-5 c = rw (
+  sym (c .before .before .before .before .before .before .before .before .before .lanes-bad .ensures) ∙ c .before .before .before .before .before .before .before .before .if1 .left,
+  sym (c .before .before .before .before .before .before .before .length-bad .ensures) ∙ c .before .before .before .before .before .before .if2 .left,
+  sym (c .before .before .before .before .before .length-bad2 .ensures) ∙ c .before .before .before .before .if3 .left,
+  sym (c .before .before .before .length-bad3 .ensures) ∙ c .before .before .if4 .left,
+  sym (c .before .number-bad .ensures) ∙ c .if5 .taken,
+)
 
 list-fault-requires : tie.Need-list-fault-requires
 list-fault-requires c κs = (c .before .before .before .before .before .before .before .before .before .before .before .before .before .before .pre, length-good _ _ (sym (c .before .before .before .before .before .length-bad2 .ensures) ∙ c .before .before .before .before .if3 .left))
 
 returns-6 : tie.Need-returns-6
 unfolding rebuildFault
-returns-6 c = rw
-    (sym (c .before .before .before .before .before .before .before .before .before .before .lanes-bad .ensures) ∙ c .before .before .before .before .before .before .before .before .before .if1 .left,
-    sym (c .before .before .before .before .before .before .before .before .length-bad .ensures) ∙ c .before .before .before .before .before .before .before .if2 .left,
-    sym (c .before .before .before .before .before .before .length-bad2 .ensures) ∙ c .before .before .before .before .before .if3 .left,
-    sym (c .before .before .before .before .length-bad3 .ensures) ∙ c .before .before .before .if4 .left,
-    sym (c .before .before .number-bad .ensures) ∙ c .before .if5 .left)
+returns-6 c = rw (
+  sym (c .before .before .before .before .before .before .before .before .before .before .lanes-bad .ensures) ∙ c .before .before .before .before .before .before .before .before .before .if1 .left,
+  sym (c .before .before .before .before .before .before .before .before .length-bad .ensures) ∙ c .before .before .before .before .before .before .before .if2 .left,
+  sym (c .before .before .before .before .before .before .length-bad2 .ensures) ∙ c .before .before .before .before .before .if3 .left,
+  sym (c .before .before .before .before .length-bad3 .ensures) ∙ c .before .before .before .if4 .left,
+  sym (c .before .before .number-bad .ensures) ∙ c .before .if5 .left,
+)
     (c .list-fault .ensures)
 
 pub rebuild-fault-spec : {M : Type 1} → statement M

@@ -23,9 +23,10 @@ length-bad-requires c κs = search needs
 
 returns-2 : tie.Need-returns-2
 unfolding recoverFault
-returns-2 c = rw
-    (sym (c .before .before .before .lanes-bad .ensures) ∙ c .before .before .if1 .left,
-    sym (c .before .length-bad .ensures) ∙ c .if2 .taken)
+returns-2 c = rw (
+  sym (c .before .before .before .lanes-bad .ensures) ∙ c .before .before .if1 .left,
+  sym (c .before .length-bad .ensures) ∙ c .if2 .taken,
+)
 
 mul-long : tie.Need-mul-long
 mul-long c =
@@ -37,32 +38,35 @@ length-bad-requires-2 c κs = search needs
 
 returns-3 : tie.Need-returns-3
 unfolding recoverFault
-returns-3 c = rw
-    (sym (c .before .before .before .before .before .lanes-bad .ensures) ∙ c .before .before .before .before .if1 .left,
-    sym (c .before .before .before .length-bad .ensures) ∙ c .before .before .if2 .left,
-    sym (c .before .length-bad2 .ensures) ∙ c .if3 .taken)
+returns-3 c = rw (
+  sym (c .before .before .before .before .before .lanes-bad .ensures) ∙ c .before .before .before .before .if1 .left,
+  sym (c .before .before .before .length-bad .ensures) ∙ c .before .before .if2 .left,
+  sym (c .before .length-bad2 .ensures) ∙ c .if3 .taken,
+)
 
 length-bad-requires-3 : tie.Need-length-bad-requires-3
 length-bad-requires-3 c κs = search needs
 
 returns-4 : tie.Need-returns-4
 unfolding recoverFault
-returns-4 c = rw
-    (sym (c .before .before .before .before .before .before .before .lanes-bad .ensures) ∙ c .before .before .before .before .before .before .if1 .left,
-    sym (c .before .before .before .before .before .length-bad .ensures) ∙ c .before .before .before .before .if2 .left,
-    sym (c .before .before .before .length-bad2 .ensures) ∙ c .before .before .if3 .left,
-    sym (c .before .length-bad3 .ensures) ∙ c .if4 .taken)
+returns-4 c = rw (
+  sym (c .before .before .before .before .before .before .before .lanes-bad .ensures) ∙ c .before .before .before .before .before .before .if1 .left,
+  sym (c .before .before .before .before .before .length-bad .ensures) ∙ c .before .before .before .before .if2 .left,
+  sym (c .before .before .before .length-bad2 .ensures) ∙ c .before .before .if3 .left,
+  sym (c .before .length-bad3 .ensures) ∙ c .if4 .taken,
+)
 
 list-fault-requires : tie.Need-list-fault-requires
 list-fault-requires c κs = (c .before .before .before .before .before .before .before .before .before .before .before .pre, length-good _ _ (sym (c .before .before .before .length-bad2 .ensures) ∙ c .before .before .if3 .left))
 
 returns-5 : tie.Need-returns-5
 unfolding recoverFault
-returns-5 c = rw
-    (sym (c .before .before .before .before .before .before .before .before .lanes-bad .ensures) ∙ c .before .before .before .before .before .before .before .if1 .left,
-    sym (c .before .before .before .before .before .before .length-bad .ensures) ∙ c .before .before .before .before .before .if2 .left,
-    sym (c .before .before .before .before .length-bad2 .ensures) ∙ c .before .before .before .if3 .left,
-    sym (c .before .before .length-bad3 .ensures) ∙ c .before .if4 .left)
+returns-5 c = rw (
+  sym (c .before .before .before .before .before .before .before .before .lanes-bad .ensures) ∙ c .before .before .before .before .before .before .before .if1 .left,
+  sym (c .before .before .before .before .before .before .length-bad .ensures) ∙ c .before .before .before .before .before .if2 .left,
+  sym (c .before .before .before .before .length-bad2 .ensures) ∙ c .before .before .before .if3 .left,
+  sym (c .before .before .length-bad3 .ensures) ∙ c .before .if4 .left,
+)
     (c .list-fault .ensures)
 
 pub recover-fault-spec : {M : Type 1} → statement M

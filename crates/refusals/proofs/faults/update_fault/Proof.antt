@@ -31,80 +31,87 @@ length-bad-requires c κs = search needs
 
 returns-2 : tie.Need-returns-2
 unfolding updateFault
-returns-2 c = rw
-    (sym (c .before .before .before .lanes-bad .ensures) ∙ c .before .before .if1 .left,
-    sym (c .before .length-bad .ensures) ∙ c .if2 .taken)
+returns-2 c = rw (
+  sym (c .before .before .before .lanes-bad .ensures) ∙ c .before .before .if1 .left,
+  sym (c .before .length-bad .ensures) ∙ c .if2 .taken,
+)
 
 number-bad-requires : tie.Need-number-bad-requires
 number-bad-requires c κs = search needs
 
 returns-3 : tie.Need-returns-3
 unfolding updateFault
-returns-3 c = rw
-    (sym (c .before .before .before .before .before .lanes-bad .ensures) ∙ c .before .before .before .before .if1 .left,
-    sym (c .before .before .before .length-bad .ensures) ∙ c .before .before .if2 .left,
-    sym (c .before .number-bad .ensures) ∙ c .if3 .taken)
+returns-3 c = rw (
+  sym (c .before .before .before .before .before .lanes-bad .ensures) ∙ c .before .before .before .before .if1 .left,
+  sym (c .before .before .before .length-bad .ensures) ∙ c .before .before .if2 .left,
+  sym (c .before .number-bad .ensures) ∙ c .if3 .taken,
+)
 
 number-bad-requires-2 : tie.Need-number-bad-requires-2
 number-bad-requires-2 c κs = search needs
 
 returns-4 : tie.Need-returns-4
 unfolding updateFault
-returns-4 c = rw
-    (sym (c .before .before .before .before .before .before .before .lanes-bad .ensures) ∙ c .before .before .before .before .before .before .if1 .left,
-    sym (c .before .before .before .before .before .length-bad .ensures) ∙ c .before .before .before .before .if2 .left,
-    sym (c .before .before .before .number-bad .ensures) ∙ c .before .before .if3 .left,
-    sym (c .before .number-bad2 .ensures) ∙ c .if4 .taken)
+returns-4 c = rw (
+  sym (c .before .before .before .before .before .before .before .lanes-bad .ensures) ∙ c .before .before .before .before .before .before .if1 .left,
+  sym (c .before .before .before .before .before .length-bad .ensures) ∙ c .before .before .before .before .if2 .left,
+  sym (c .before .before .before .number-bad .ensures) ∙ c .before .before .if3 .left,
+  sym (c .before .number-bad2 .ensures) ∙ c .if4 .taken,
+)
 
 symbol-bad-requires : tie.Need-symbol-bad-requires
 symbol-bad-requires c κs = search needs
 
 returns-5 : tie.Need-returns-5
 unfolding updateFault
-returns-5 c = rw
-    (sym (c .before .before .before .before .before .before .before .before .before .lanes-bad .ensures) ∙ c .before .before .before .before .before .before .before .before .if1 .left,
-    sym (c .before .before .before .before .before .before .before .length-bad .ensures) ∙ c .before .before .before .before .before .before .if2 .left,
-    sym (c .before .before .before .before .before .number-bad .ensures) ∙ c .before .before .before .before .if3 .left,
-    sym (c .before .before .before .number-bad2 .ensures) ∙ c .before .before .if4 .left,
-    sym (c .before .symbol-bad .ensures) ∙ c .if5 .taken)
+returns-5 c = rw (
+  sym (c .before .before .before .before .before .before .before .before .before .lanes-bad .ensures) ∙ c .before .before .before .before .before .before .before .before .if1 .left,
+  sym (c .before .before .before .before .before .before .before .length-bad .ensures) ∙ c .before .before .before .before .before .before .if2 .left,
+  sym (c .before .before .before .before .before .number-bad .ensures) ∙ c .before .before .before .before .if3 .left,
+  sym (c .before .before .before .number-bad2 .ensures) ∙ c .before .before .if4 .left,
+  sym (c .before .symbol-bad .ensures) ∙ c .if5 .taken,
+)
 
 symbol-bad-requires-2 : tie.Need-symbol-bad-requires-2
 symbol-bad-requires-2 c κs = search needs
 
 returns-6 : tie.Need-returns-6
 unfolding updateFault
-returns-6 c = rw
-    (sym (c .before .before .before .before .before .before .before .before .before .before .before .lanes-bad .ensures) ∙ c .before .before .before .before .before .before .before .before .before .before .if1 .left,
-    sym (c .before .before .before .before .before .before .before .before .before .length-bad .ensures) ∙ c .before .before .before .before .before .before .before .before .if2 .left,
-    sym (c .before .before .before .before .before .before .before .number-bad .ensures) ∙ c .before .before .before .before .before .before .if3 .left,
-    sym (c .before .before .before .before .before .number-bad2 .ensures) ∙ c .before .before .before .before .if4 .left,
-    sym (c .before .before .before .symbol-bad .ensures) ∙ c .before .before .if5 .left,
-    sym (c .before .symbol-bad2 .ensures) ∙ c .if6 .taken)
+returns-6 c = rw (
+  sym (c .before .before .before .before .before .before .before .before .before .before .before .lanes-bad .ensures) ∙ c .before .before .before .before .before .before .before .before .before .before .if1 .left,
+  sym (c .before .before .before .before .before .before .before .before .before .length-bad .ensures) ∙ c .before .before .before .before .before .before .before .before .if2 .left,
+  sym (c .before .before .before .before .before .before .before .number-bad .ensures) ∙ c .before .before .before .before .before .before .if3 .left,
+  sym (c .before .before .before .before .before .number-bad2 .ensures) ∙ c .before .before .before .before .if4 .left,
+  sym (c .before .before .before .symbol-bad .ensures) ∙ c .before .before .if5 .left,
+  sym (c .before .symbol-bad2 .ensures) ∙ c .if6 .taken,
+)
 
 lane-bad-requires : tie.Need-lane-bad-requires
 lane-bad-requires c κs = (c .before .before .before .before .before .before .before .before .before .before .before .before .before .before .before .pre, number-good _ _ (sym (c .before .before .before .before .before .number-bad2 .ensures) ∙ c .before .before .before .before .if4 .left), length-good _ _ (sym (c .before .before .before .before .before .before .before .before .before .length-bad .ensures) ∙ c .before .before .before .before .before .before .before .before .if2 .left))
 
 returns-7 : tie.Need-returns-7
 unfolding updateFault
-returns-7 c = rw
-    (sym (c .before .before .before .before .before .before .before .before .before .before .before .before .before .lanes-bad .ensures) ∙ c .before .before .before .before .before .before .before .before .before .before .before .before .if1 .left,
-    sym (c .before .before .before .before .before .before .before .before .before .before .before .length-bad .ensures) ∙ c .before .before .before .before .before .before .before .before .before .before .if2 .left,
-    sym (c .before .before .before .before .before .before .before .before .before .number-bad .ensures) ∙ c .before .before .before .before .before .before .before .before .if3 .left,
-    sym (c .before .before .before .before .before .before .before .number-bad2 .ensures) ∙ c .before .before .before .before .before .before .if4 .left,
-    sym (c .before .before .before .before .before .symbol-bad .ensures) ∙ c .before .before .before .before .if5 .left,
-    sym (c .before .before .before .symbol-bad2 .ensures) ∙ c .before .before .if6 .left,
-    sym (c .before .lane-bad .ensures) ∙ c .if7 .taken)
+returns-7 c = rw (
+  sym (c .before .before .before .before .before .before .before .before .before .before .before .before .before .lanes-bad .ensures) ∙ c .before .before .before .before .before .before .before .before .before .before .before .before .if1 .left,
+  sym (c .before .before .before .before .before .before .before .before .before .before .before .length-bad .ensures) ∙ c .before .before .before .before .before .before .before .before .before .before .if2 .left,
+  sym (c .before .before .before .before .before .before .before .before .before .number-bad .ensures) ∙ c .before .before .before .before .before .before .before .before .if3 .left,
+  sym (c .before .before .before .before .before .before .before .number-bad2 .ensures) ∙ c .before .before .before .before .before .before .if4 .left,
+  sym (c .before .before .before .before .before .symbol-bad .ensures) ∙ c .before .before .before .before .if5 .left,
+  sym (c .before .before .before .symbol-bad2 .ensures) ∙ c .before .before .if6 .left,
+  sym (c .before .lane-bad .ensures) ∙ c .if7 .taken,
+)
 
 returns-8 : tie.Need-returns-8
 unfolding updateFault
-returns-8 c = rw
-    (sym (c .before .before .before .before .before .before .before .before .before .before .before .before .before .lanes-bad .ensures) ∙ c .before .before .before .before .before .before .before .before .before .before .before .before .if1 .left,
-    sym (c .before .before .before .before .before .before .before .before .before .before .before .length-bad .ensures) ∙ c .before .before .before .before .before .before .before .before .before .before .if2 .left,
-    sym (c .before .before .before .before .before .before .before .before .before .number-bad .ensures) ∙ c .before .before .before .before .before .before .before .before .if3 .left,
-    sym (c .before .before .before .before .before .before .before .number-bad2 .ensures) ∙ c .before .before .before .before .before .before .if4 .left,
-    sym (c .before .before .before .before .before .symbol-bad .ensures) ∙ c .before .before .before .before .if5 .left,
-    sym (c .before .before .before .symbol-bad2 .ensures) ∙ c .before .before .if6 .left,
-    sym (c .before .lane-bad .ensures) ∙ c .if7 .left)
+returns-8 c = rw (
+  sym (c .before .before .before .before .before .before .before .before .before .before .before .before .before .lanes-bad .ensures) ∙ c .before .before .before .before .before .before .before .before .before .before .before .before .if1 .left,
+  sym (c .before .before .before .before .before .before .before .before .before .before .before .length-bad .ensures) ∙ c .before .before .before .before .before .before .before .before .before .before .if2 .left,
+  sym (c .before .before .before .before .before .before .before .before .before .number-bad .ensures) ∙ c .before .before .before .before .before .before .before .before .if3 .left,
+  sym (c .before .before .before .before .before .before .before .number-bad2 .ensures) ∙ c .before .before .before .before .before .before .if4 .left,
+  sym (c .before .before .before .before .before .symbol-bad .ensures) ∙ c .before .before .before .before .if5 .left,
+  sym (c .before .before .before .symbol-bad2 .ensures) ∙ c .before .before .if6 .left,
+  sym (c .before .lane-bad .ensures) ∙ c .if7 .left,
+)
 
 pub update-fault-spec : {M : Type 1} → statement M
 update-fault-spec =
