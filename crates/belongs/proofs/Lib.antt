@@ -1,5 +1,4 @@
 -- The laws of the check sums, and what the answer says of the lanes.
-pub mod Accepts
 pub mod Sums
 pub mod Prefix
 pub mod Wrong

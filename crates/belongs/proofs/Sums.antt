@@ -16,9 +16,10 @@ use Rattle.field.proofs.FieldOf.{size-pos}
 use Rattle.generator.specs.declared.Header.{Header}
 use Rattle.generator.specs.Records.{modulusOf, size}
 use Rattle.generator.specs.Codewords.{checkFrom}
+use Rattle.refusals.specs.Accepted.{SymbolRows}
 use Rattle.combine.specs.Combined.{combined, Rows}
 use Rattle.combine.proofs.Columns.{column-below, combined-column}
-use Rattle.belongs.specs.Ready.{IsBlock, powersOf, factorsOf}
+use Rattle.belongs.specs.Ready.{powersOf, factorsOf}
 
 module _ (h : Header) (i : ℕ) (low : i < h .n) where
   in-powers : i < length (powersOf h)
@@ -40,7 +41,7 @@ module _ (h : Header) (e l : ℕ) (s : List ℕ) where
   check-sums y = combined-column (modulusOf h) (λ j. power (modulusOf h) (h .root) (j * e % h .n)) (checkFrom h e) (λ j. refl) (λ j w ws. refl) y 255 (h .n) l s
 
   -- the shares and the factors can be combined
-  pub rows-ready : IsBlock h l s → h .n ≤ 255 → (out : ℕ) → out ≡ l → Rows (h .field) (h .n) l (padded 255 (factorsOf h e)) s out
+  pub rows-ready : SymbolRows h (h .n) l s → h .n ≤ 255 → (out : ℕ) → out ≡ l → Rows (h .field) (h .n) l (padded 255 (factorsOf h e)) s out
   unfolding factorsOf
   rows-ready b few out long =
       let rows : length (factorsOf h e) ≡ h .n = length-from (λ j. power (modulusOf h) (h .root) (j * e % h .n)) 0 (h .n) in

@@ -1,22 +1,19 @@
 // Belongs: whether every lane of a block is a word of the code.
 ghost use mathlib.Core.Path.{_≡_};
-ghost use mathlib.Core.Bool.{true};
 ghost use Prim.Native.Nat.{_≤_, min};
 ghost use lib.Dec.{eqb};
 ghost use lib.ListN.{length, getD};
 ghost use Rattle.lists.specs.Rows.{from};
 ghost use Rattle.lists.specs.Padded.{padded};
-ghost use Rattle.field.specs.Kinds.{usable};
 ghost use Rattle.generator.specs.Records.{Sound};
 ghost use Rattle.generator.specs.Codewords.{checkFrom};
+ghost use Rattle.refusals.specs.Faults.{belongsFault};
+ghost use Rattle.refusals.specs.Accepted.{SymbolRows};
 ghost use Rattle.layout.specs.Layout.{laneOf, shareLayout};
 ghost use Rattle.blocks.specs.Blocks.{firstWrong};
-ghost use Rattle.blocks.specs.Bytes.{wrongLane};
-ghost use Rattle.blocks.specs.Faults.{belongsFault};
-ghost use Rattle.blocks.specs.Answers.{membershipOf};
-ghost use Rattle.blocks.specs.Promises.{BelongsSays};
+ghost use Rattle.blocks.specs.Promises.{BelongsPromise, BelongsSays};
 ghost use Rattle.lists.specs.Search.{firstFalse};
-ghost use Rattle.belongs.specs.Ready.{IsBlock, powersOf, factorsOf};
+ghost use Rattle.belongs.specs.Ready.{powersOf, factorsOf};
 use blocks::Membership;
 use generator::Header;
 use generator::Record;
@@ -58,7 +55,7 @@ fn factors(h: Header, powers: &[u8], e: usize) -> [u8; 255]
 
 // Check sum e of each lane.
 fn lane_sums(h: Header, powers: &[u8], e: usize, lanes: usize, shares: &[u8], sums: &mut [u8])
-    requires { ⌜ IsBlock h lanes (now shares) × (now powers ≡ padded 255 (powersOf h)) × (e ≤ 255) × (length (now sums) ≡ lanes) ⌝ }
+    requires { ⌜ SymbolRows h (h .n) lanes (now shares) × (now powers ≡ padded 255 (powersOf h)) × (e ≤ 255) × (length (now sums) ≡ lanes) ⌝ }
     ensures { λ r. ⌜ now (sums .exit) ≡ from (λ t. checkFrom h e 0 (laneOf shareLayout (h .n) lanes t (now (shares .entry)))) 0 lanes ⌝ }
 {
     let field = h.field;
@@ -86,7 +83,7 @@ fn smaller(a: usize, b: usize) -> usize
 
 // The smallest lane that is no word of the code, or the number of lanes.
 fn first_wrong(h: Header, lanes: usize, shares: &[u8]) -> usize
-    requires { ⌜ IsBlock h lanes (now shares) ⌝ }
+    requires { ⌜ SymbolRows h (h .n) lanes (now shares) ⌝ }
     ensures { λ r. ⌜ r ≡ firstWrong shareLayout h lanes (now (shares .entry)) ⌝ }
 {
     let checks = (h.n - h.k) as usize;
@@ -102,31 +99,12 @@ fn first_wrong(h: Header, lanes: usize, shares: &[u8]) -> usize
     best
 }
 
-// The first of numbers 7, 8 and 11 that the test meets, or 0.
-fn belongs_fault(h: Header, lanes: usize, shares: &[u8]) -> u8
-    requires { ⌜ usable (h .field) ≡ true ⌝ }
-    ensures { λ r. ⌜ r ≡ belongsFault h lanes (now (shares .entry)) ⌝ }
-{
-    let field = h.field;
-    let n = h.n as usize;
-    if lanes == 0 || 4096 < lanes {
-        return 7;
-    }
-    if shares.len() != n * lanes {
-        return 8;
-    }
-    if !kernel::all_below(field.size(), shares) {
-        return 11;
-    }
-    0
-}
-
 // Tests a block over an accepted record's header.
 fn test_accepted(h: Header, lanes: usize, shares: &[u8]) -> Membership
     requires { ⌜ Sound h ⌝ }
-    ensures { λ r. ⌜ r ≡ membershipOf (belongsFault h lanes (now (shares .entry))) lanes (wrongLane h lanes (now (shares .entry))) ⌝ }
+    ensures { λ r. ⌜ BelongsPromise lanes (now (shares .entry)) r h (belongsFault h lanes (now (shares .entry))) ⌝ }
 {
-    let number = belongs_fault(h, lanes, shares);
+    let number = refusals::belongs_fault(h, lanes, shares);
     if number != 0 {
         return Membership::Refused(number);
     }
@@ -141,7 +119,7 @@ fn test_accepted(h: Header, lanes: usize, shares: &[u8]) -> Membership
 pub fn block_belongs(rec: &[u8], lanes: u32, shares: &[u8]) -> Membership
     ensures { λ r. ⌜ BelongsSays (now (rec .entry)) lanes (now (shares .entry)) r ⌝ }
 {
-    match plan::read_record(rec) {
+    match records::read_record(rec) {
         Record::Holds(h) => test_accepted(h, lanes as usize, shares),
         Record::Meets(number) => Membership::Refused(number),
     }

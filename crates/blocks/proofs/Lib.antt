@@ -4,7 +4,7 @@ pub mod Updates
 pub mod Messages
 pub mod Words
 pub mod Bytes
-pub mod Accepts
+pub mod Refused
 pub mod Notebook
 -- The same definitions as document 03 has them.
 pub mod Agreement

@@ -21,7 +21,7 @@ use Rattle.generator.specs.Shifts.{gcdFrom, gcd, shiftsFrom, shiftsOf, shifts}
 use Rattle.generator.specs.Generator.{baseFrom, baseAt, entryAt, entry, baseWord}
 use Rattle.generator.specs.Codewords.{nodeFrom, nodeOf}
 use Rattle.blocks.specs.Blocks.{shareAt, shareOf, sharesOf, addedAt, rowAdded, updated, MessageFor}
-use Rattle.blocks.specs.Faults.{lanesBad}
+use Rattle.refusals.specs.Conditions.{lanesBad}
 
 -- a case of the notebook
 pub data Case : Type 0 where

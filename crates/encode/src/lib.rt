@@ -1,17 +1,16 @@
 // Encode: the shares of all nodes, each lane encoded by itself.
 ghost use mathlib.Core.Path.{_≡_};
-ghost use mathlib.Core.Bool.{true};
 ghost use Prim.Native.Nat.{_+_, _*_, _%_, _≤_, _<_};
 ghost use lib.ListN.{length};
 ghost use Rattle.lists.specs.Padded.{padded};
 ghost use Rattle.layout.specs.Layout.{shareLayout};
-ghost use Rattle.field.specs.Kinds.{usable};
 ghost use Rattle.generator.specs.Records.{Sound};
 ghost use Rattle.generator.specs.Generator.{entry};
 ghost use Rattle.blocks.specs.Blocks.{shareOf, sharesOf};
-ghost use Rattle.blocks.specs.Faults.{encodeFault};
-ghost use Rattle.blocks.specs.Promises.{EncodeSays};
-ghost use Rattle.encode.specs.Inner.{Planned, MessageBuffer, Encoded, columnOf};
+ghost use Rattle.refusals.specs.Faults.{encodeFault};
+ghost use Rattle.refusals.specs.Accepted.{SymbolRows};
+ghost use Rattle.blocks.specs.Promises.{EncodePromise, EncodeSays};
+ghost use Rattle.encode.specs.Inner.{Planned, columnOf};
 use blocks::Outcome;
 use generator::Header;
 use generator::Record;
@@ -61,7 +60,7 @@ fn fill_share(
     message: &[u8],
     share: &mut [u8],
 )
-    requires { ⌜ Planned h (now shifts) (now base) × MessageBuffer h lanes (now message) × (node < h .n) × (length (now share) ≡ lanes) ⌝ }
+    requires { ⌜ Planned h (now shifts) (now base) × SymbolRows h (h .k) lanes (now message) × (node < h .n) × (length (now share) ≡ lanes) ⌝ }
     ensures { λ r. ⌜ now (share .exit) ≡ shareOf h lanes (now (message .entry)) node ⌝ }
 {
     let field = h.field;
@@ -79,7 +78,7 @@ fn fill_shares<'a>(
     message: &[u8],
     out: &mut [u8],
 )
-    requires { ⌜ Planned h (now shifts) (now base) × MessageBuffer h lanes (now message) × (length (now out) ≡ h .n * lanes) ⌝ }
+    requires { ⌜ Planned h (now shifts) (now base) × SymbolRows h (h .k) lanes (now message) × (length (now out) ≡ h .n * lanes) ⌝ }
     ensures { λ r. ⌜ now (out .exit) ≡ sharesOf shareLayout h lanes (now (message .entry)) ⌝ }
 {
     let n = h.n as usize;
@@ -92,32 +91,12 @@ fn fill_shares<'a>(
     }
 }
 
-// The first of numbers 7, 8 and 11 that encoding meets, or 0; `size` is the length of the written buffer.
-fn encode_fault(h: Header, lanes: usize, message: &[u8], size: usize) -> u8
-    requires { ⌜ usable (h .field) ≡ true ⌝ }
-    ensures { λ r. ⌜ r ≡ encodeFault h lanes size (now (message .entry)) ⌝ }
-{
-    let field = h.field;
-    let n = h.n as usize;
-    let k = h.k as usize;
-    if lanes == 0 || 4096 < lanes {
-        return 7;
-    }
-    if message.len() != k * lanes || size != n * lanes {
-        return 8;
-    }
-    if !kernel::all_below(field.size(), message) {
-        return 11;
-    }
-    0
-}
-
 // Encodes over the header of an accepted record. Everything is judged before the first byte is written.
 fn encode_accepted(h: Header, lanes: usize, message: &[u8], out: &mut [u8]) -> Outcome
     requires { ⌜ Sound h ⌝ }
-    ensures { λ r. ⌜ Encoded h lanes (now (message .entry)) (now (out .entry)) (now (out .exit)) r ⌝ }
+    ensures { λ r. ⌜ EncodePromise lanes (now (message .entry)) (now (out .entry)) (now (out .exit)) r h (encodeFault h lanes (length (now (out .entry))) (now (message .entry))) ⌝ }
 {
-    let number = encode_fault(h, lanes, message, out.len());
+    let number = refusals::encode_fault(h, lanes, message, out.len());
     if number != 0 {
         return Outcome::Refused(number);
     }
@@ -130,7 +109,7 @@ fn encode_accepted(h: Header, lanes: usize, message: &[u8], out: &mut [u8]) -> O
 pub fn encode_block(rec: &[u8], lanes: u32, message: &[u8], out: &mut [u8]) -> Outcome
     ensures { λ r. ⌜ EncodeSays (now (rec .entry)) lanes (now (message .entry)) (now (out .entry)) (now (out .exit)) r ⌝ }
 {
-    match plan::read_record(rec) {
+    match records::read_record(rec) {
         Record::Holds(h) => encode_accepted(h, lanes as usize, message, out),
         Record::Meets(number) => Outcome::Refused(number),
     }

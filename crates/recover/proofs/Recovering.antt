@@ -4,25 +4,23 @@ use mathlib.Core.List.{List}
 use Prim.Native.Nat.{ℕ, _<_}
 use native.Mathlib.Omega.{arith}
 use lib.ListN.{take}
+use Rattle.lists.specs.Padded.{padded}
 use Rattle.lists.proofs.Padding.{take-padded}
 use Rattle.lists.proofs.Rows.{from-ext}
 use Rattle.layout.specs.Layout.{Arrangement, byRow, held, laneOf, rowOf}
 use Rattle.layout.proofs.Buffers.{getD-lane}
 use Rattle.field.specs.Sums.{dot}
 use Rattle.generator.specs.declared.Header.{Header}
-use Rattle.generator.specs.declared.Record.the-variants.{Holds}
 use Rattle.generator.specs.Records.{modulusOf, Sound}
 use Rattle.generator.specs.Shifts.{shifts}
 use Rattle.generator.proofs.Shifts.{shifts-length}
-use Rattle.plan.specs.Plans.{planFor}
 use Rattle.blocks.specs.Blocks.{MessageFor}
 use Rattle.blocks.proofs.Messages.{lane-message}
 use Rattle.combine.specs.Combined.{combined}
 use Rattle.recovery.specs.Weights.{Recovers}
 
--- the first k places of the shifts in a plan are the shifts
-pub shifts-part : (h : Header) → Sound h → take (h .k) (planFor (Holds h) .shifts) ≡ shifts h
-unfolding planFor
+-- the first k places of the padded shifts are the shifts
+pub shifts-part : (h : Header) → Sound h → take (h .k) (padded 255 (shifts h)) ≡ shifts h
 shifts-part h s = take-padded 255 (h .k) (shifts h) (shifts-length (h .n) (h .k) (s .some) (s .fits))
 
 -- each lane's sum is the symbol of that lane's message

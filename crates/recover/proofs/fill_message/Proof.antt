@@ -42,7 +42,7 @@ loop-holds c =
     let s = c .before .before .before .before in
     let a = s .args in
     let listed = s .pre .0 in
-    let (m, is) = some-buffer share-lawful (a .h) (listed .sound) (a .lanes) (a .nodes .now) (listed .different) (a .shares .now) (listed .long) (listed .symbols) in
+    let (m, is) = some-buffer share-lawful (a .h) (listed .rows .sound) (a .lanes) (a .nodes .now) (listed .different) (a .shares .now) (listed .rows .long) (listed .rows .symbols) in
     (omega arith, m, is, rw (sub-zero, zero-mul, rows-whole (a .h .k) (a .lanes) m (is .size-is)) (fills-start _ _))
 
 cast-recover-weights : tie.Need-cast-recover-weights Inv-loop μ-loop
@@ -51,7 +51,7 @@ cast-recover-weights c = omega (arith, c .before .before .struct-known .given)
 recover-weights-requires : tie.Need-recover-weights-requires Inv-loop μ-loop
 recover-weights-requires c κs =
     let s = c .before .before .before .before .before .before in
-    (s .pre .0 .sound, s .pre .0 .different, s .pre .1, c .loop-test .taken)
+    (s .pre .0 .rows .sound, s .pre .0 .different, s .pre .1, c .loop-test .taken)
 
 mul-start : tie.Need-mul-start Inv-loop μ-loop
 mul-start c = omega (arith, row-in (c .before))
@@ -81,14 +81,14 @@ combine-requires c κs =
     let (low, m, is, fills) = now .inv in
     let full : 255 ≡ length (c .before .before .recover-weights .result) = slice-aggregate-combine (c .before) in
     record {
-      usable-field = listed .sound .usable-field;
-      bytes = listed .sound .bytes;
+      usable-field = listed .rows .sound .usable-field;
+      bytes = listed .rows .sound .bytes;
       weighted = record {
         few = omega (arith, at .before .before .struct-known .given);
         weights = omega (arith, at .before .before .struct-known .given);
         weights-below = c .before .before .recover-weights .ensures .symbols;
-        long = listed .long;
-        symbols = listed .symbols;
+        long = listed .rows .long;
+        symbols = listed .rows .symbols;
         out-long = part-length (now .r * l) l (now .out) (omega (arith, fills .long, row-in at));
       };
     }

@@ -4,13 +4,13 @@ use Prim.Native.Nat.{_<_}
 use native.Mathlib.Omega.{arith}
 use borrow.Author.Needs.{needs}
 use lib.ListN.{length}
+use Rattle.refusals.specs.Accepted.{ListedShares}
+use Rattle.refusals.proofs.Accepts.{rebuild-accepts}
 use Rattle.blocks.specs.Answers.{outcomeOf}
 use Rattle.layout.proofs.Places.{share-lawful, share-by-row}
 use Rattle.blocks.proofs.Messages.{some-buffer}
 use Rattle.blocks.proofs.Bytes.{rebuilt-bytes}
-use Rattle.blocks.proofs.Accepts.{outcome-refused, refused-claim}
-use Rattle.listed_nodes.specs.Listed.{Listed}
-use Rattle.listed_nodes.proofs.Accepts.{rebuild-accepts}
+use Rattle.blocks.proofs.Refused.{rebuild-refuses}
 use Rattle.recover.proofs.Rebuilding.{rebuilt}
 use Rattle.recover.proofs.rebuild_accepted.Statement.{statement}
 use Rattle.recover.proofs.rebuild_accepted.Tie as tie
@@ -18,7 +18,7 @@ use Rattle.recover.proofs.rebuild_accepted.Tie as tie
 -- what is known where no number was met
 accepted : (c : tie.After-struct-known)
     → let a = c .before .before .before .before .before .before .args in
-    Listed (a .h) (a .lanes) (a .nodes .now) (a .shares .now) × (a .target < a .h .n) × (length (a .out .now) ≡ a .lanes)
+    ListedShares (a .h) (a .lanes) (a .nodes .now) (a .shares .now) × (a .target < a .h .n) × (length (a .out .now) ≡ a .lanes)
 accepted c =
     let st = c .before .before .before .before .before .before in
     let a = st .args in
@@ -29,19 +29,13 @@ rebuild-fault-requires : tie.Need-rebuild-fault-requires
 rebuild-fault-requires c κs = search needs
 
 returns : tie.Need-returns
-returns c =
-    let a = c .before .before .before .before .before .args in
-    let number = c .before .rebuild-fault .ensures in
-    record {
-      answer = rw (← number) (sym (outcome-refused _ (c .if1 .taken)));
-      written = rw (← number) (refused-claim _ _ _ (c .if1 .taken) refl);
-    }
+returns c = rw (← c .before .rebuild-fault .ensures) (rebuild-refuses _ _ (c .if1 .taken) _ _ _ _ _)
 
 cast-k : tie.Need-cast-k
 cast-k c = search needs
 
 rebuild-weights-requires : tie.Need-rebuild-weights-requires
-rebuild-weights-requires c κs = let known = accepted c in (known .0 .sound, known .0 .different, known .1)
+rebuild-weights-requires c κs = let known = accepted c in (known .0 .rows .sound, known .0 .different, known .1)
 
 slice-aggregate-combine : tie.Need-slice-aggregate-combine
 slice-aggregate-combine c = search needs
@@ -49,7 +43,7 @@ slice-aggregate-combine c = search needs
 combine-requires : tie.Need-combine-requires
 combine-requires c κs =
     let (listed, target, out) = accepted (c .before .before .before) in
-    let s = listed .sound in
+    let s = listed .rows .sound in
     let full : 255 ≡ length (c .before .before .rebuild-weights .result) = slice-aggregate-combine (c .before) in
     record {
       usable-field = s .usable-field;
@@ -58,8 +52,8 @@ combine-requires c κs =
         few = omega (arith, c .before .before .before .struct-known .given);
         weights = omega (arith, c .before .before .before .struct-known .given);
         weights-below = c .before .before .rebuild-weights .ensures .symbols;
-        long = listed .long;
-        symbols = listed .symbols;
+        long = listed .rows .long;
+        symbols = listed .rows .symbols;
         out-long = out;
       };
     }
@@ -73,7 +67,7 @@ returns-2 c =
     let at = c .before .before .before .before .before .before in
     let a = at .before .before .before .before .before .before .args in
     let (listed, target, out) = accepted at in
-    let (m, is) = some-buffer share-lawful (a .h) (listed .sound) (a .lanes) (a .nodes .now) (listed .different) (a .shares .now) (listed .long) (listed .symbols) in
+    let (m, is) = some-buffer share-lawful (a .h) (listed .rows .sound) (a .lanes) (a .nodes .now) (listed .different) (a .shares .now) (listed .rows .long) (listed .rows .symbols) in
     let none = sym (at .before .before .rebuild-fault .ensures) ∙ at .before .if1 .left in
     record {
       answer = rw none refl;

@@ -41,7 +41,7 @@ inside : (c : tie.In-loop Inv-loop μ-loop)
     (c .before .loop .j * a .lanes + a .lane < length (c .before .loop .shares)) × (length (c .before .loop .shares) ≤ 1044480)
 inside c =
     let a = c .before .before .before .before .before .args in
-    let (ready, plan) = c .before .before .before .before .before .pre in
+    let (ready, factor, plan) = c .before .before .before .before .before .pre in
     let few : a .h .n ≤ 255 = omega arith in
     rw (kept (c .before), ready .long) (place-fits (a .h .n) (c .before .loop .j) (a .lanes) (a .lane) few (ready .few-lanes) (c .loop-test .taken) (ready .lane))
 
@@ -50,7 +50,7 @@ held : (c : tie.In-loop Inv-loop μ-loop)
     → let a = c .before .before .before .before .before .args in
     getD (c .before .loop .shares) (c .before .loop .j * a .lanes + a .lane) 0 < size (a .h)
 held c =
-    let (ready, plan) = c .before .before .before .before .before .pre in
+    let (ready, factor, plan) = c .before .before .before .before .before .pre in
     rw (rewriting-held _ _ _ _ _ _ (ready .lane) (c .before .loop .inv) (c .loop-test .taken)) (lane-symbol _ _ _ _ _ (ready .symbols) _ (c .loop-test .taken))
 
 -- and becomes what the update says
@@ -60,7 +60,7 @@ after : (c : tie.After-renewed Inv-loop μ-loop)
     c .renewed .result ≡ addedAt shareLayout (a .h) (a .lanes) (a .which) (a .lane) (a .x) (a .shares .now) (l .j)
 unfolding addedAt
 after c =
-    let (ready, plan) = c .before .before .before .before .before .before .before .before .pre in
+    let (ready, factor, plan) = c .before .before .before .before .before .before .before .before .pre in
     let node = c .before .before .before .loop-test .taken in
     rw (← entry-read _ (ready .sound) _ plan _ _ (ready .row) node, ← rewriting-held _ _ _ _ _ _ (ready .lane) (c .before .before .before .before .loop .inv) node) (c .renewed .ensures)
 
@@ -105,9 +105,9 @@ slice-read-before c = omega (arith, inside (c .before .before))
 
 renewed-requires : tie.Need-renewed-requires Inv-loop μ-loop
 renewed-requires c κs =
-    let (ready, plan) = c .before .before .before .before .before .before .before .pre in (
+    let (ready, factor, plan) = c .before .before .before .before .before .before .before .pre in (
       ready .sound,
-      ready .factor,
+      factor,
       rw (entry-read _ (ready .sound) _ plan _ _ (ready .row) (c .before .before .loop-test .taken)) (entry-below _ (ready .sound) _ _),
       held (c .before .before),
     )
@@ -126,7 +126,7 @@ loop-less c = omega arith
 
 loop-again : tie.Need-loop-again Inv-loop μ-loop
 loop-again c =
-    let (ready, plan) = c .before .before .before .before .before .before .before .before .before .pre in
+    let (ready, factor, plan) = c .before .before .before .before .before .before .before .before .before .pre in
     let turn = c .before .before .before .before .before .loop .inv in
     let node = c .before .before .before .before .loop-test .taken in
     ⊎-elim
@@ -139,7 +139,7 @@ same-length c = kept (c .before)
 
 returns : tie.Need-returns Inv-loop μ-loop
 returns c =
-    let (ready, plan) = c .before .before .before .before .before .pre in
+    let (ready, factor, plan) = c .before .before .before .before .before .pre in
     rewriting-end _ _ _ _ _ _ (ready .lane) (c .before .loop .inv) (c .loop-test .left) (ready .long)
 
 pub rewrite-spec : {M : Type 1} → statement M
