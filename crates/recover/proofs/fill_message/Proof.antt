@@ -1,5 +1,5 @@
 -- `fill_message` meets its contract. The loop's invariant: for the message m of the listed shares, the rows below r are written, and the others are to come.
-use mathlib.Core.Path.{_≡_}
+use mathlib.Core.Path.{sym}
 use mathlib.Core.List.{List}
 use Prim.Native.Nat.{ℕ, _+_, _-_, _*_, _≤_}
 use native.Mathlib.Nat.{sub-zero, zero-mul, mul-le-mul, le-refl}
@@ -10,6 +10,7 @@ use Rattle.lists.specs.Rows.{rowsFrom}
 use Rattle.lists.proofs.Rows.{rows-next, rows-end, row-after, row-inside, part-size, part-length}
 use Rattle.lists.proofs.Fill.{Fills, fills-start, fills-part, fills-all}
 use Rattle.blocks.specs.Blocks.{MessageFor}
+use Rattle.combine.proofs.Columns.{rows-ready}
 use Rattle.recover.proofs.Rebuilding.{the-message}
 use Rattle.recover.proofs.Recovering.{rowOf, length-row, rows-whole, recovered}
 use Rattle.recover.proofs.fill_message.Statement.{statement}
@@ -75,19 +76,8 @@ combine-requires c κs =
     let l = s .args .lanes in
     let now = at .before .loop in
     let (low, m, is, fills) = now .inv in
-    let full : 255 ≡ length (c .before .before .recover-weights .result) = slice-aggregate-combine (c .before) in
-    record {
-      usable-field = listed .sound .usable-field;
-      bytes = listed .sound .bytes;
-      weighted = record {
-        few = omega (arith, at .before .before .struct-known .given);
-        weights = omega (arith, at .before .before .struct-known .given);
-        weights-below = c .before .before .recover-weights .ensures .symbols;
-        long = listed .long;
-        symbols = listed .symbols;
-        out-long = part-length (now .r * l) l (now .out) (omega (arith, fills .long, row-in at));
-      };
-    }
+    rows-ready (listed .sound) (omega (arith, at .before .before .struct-known .given)) (sym (slice-aggregate-combine (c .before))) (c .before .before .recover-weights .ensures .symbols) (listed .long) (listed .symbols)
+    (part-length (now .r * l) l (now .out) (omega (arith, fills .long, row-in at)))
 
 add-r : tie.Need-add-r Inv-loop μ-loop
 add-r c = omega arith

@@ -6,6 +6,7 @@ use borrow.Author.Needs.{needs}
 use lib.ListN.{length}
 use Rattle.blocks.specs.Answers.{outcomeOf}
 use Rattle.blocks.proofs.Accepts.{outcome-refused, refused-claim}
+use Rattle.combine.proofs.Columns.{rows-ready}
 use Rattle.listed_nodes.specs.Listed.{Listed}
 use Rattle.listed_nodes.proofs.Accepts.{rebuild-accepts}
 use Rattle.recover.proofs.Rebuilding.{the-message, rebuilt}
@@ -46,20 +47,7 @@ slice-aggregate-combine c = search needs
 combine-requires : tie.Need-combine-requires
 combine-requires c κs =
     let (listed, target, out) = accepted (c .before .before .before) in
-    let s = listed .sound in
-    let full : 255 ≡ length (c .before .before .rebuild-weights .result) = slice-aggregate-combine (c .before) in
-    record {
-      usable-field = s .usable-field;
-      bytes = s .bytes;
-      weighted = record {
-        few = omega (arith, c .before .before .before .struct-known .given);
-        weights = omega (arith, c .before .before .before .struct-known .given);
-        weights-below = c .before .before .rebuild-weights .ensures .symbols;
-        long = listed .long;
-        symbols = listed .symbols;
-        out-long = out;
-      };
-    }
+    rows-ready (listed .sound) (omega (arith, c .before .before .before .struct-known .given)) (sym (slice-aggregate-combine (c .before))) (c .before .before .rebuild-weights .ensures .symbols) (listed .long) (listed .symbols) out
 
 same-length : tie.Need-same-length
 same-length c = search needs
