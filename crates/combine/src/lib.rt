@@ -12,7 +12,7 @@ mod prime;
 // In each lane the sum of the rows' symbols times the weights.
 pub fn combine(
     field: Field,
-    weights: &[u8],
+    weights: &[u16],
     rows: usize,
     lanes: usize,
     shares: &[u8],
