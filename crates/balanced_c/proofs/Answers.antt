@@ -3,19 +3,23 @@ use mathlib.Core.Path.{_≡_, refl, sym, ap, _∙_}
 use mathlib.Core.List.{List}
 use Prim.Native.Nat.{ℕ, zero, suc}
 use native.Mathlib.Omega.{arith}
+use borrow.Author.Tests.{eqb-true}
+use lib.Dec.{eqb}
 use lib.ListN.{length}
+use Rattle.lists.proofs.Cases.{by-test}
 use Rattle.generator.specs.Records.{headerOf}
 use Rattle.blocks.specs.declared.Outcome.{Outcome}
 use Rattle.blocks.specs.declared.Update.{Update}
 use Rattle.blocks.specs.declared.Update.the-variants as U
-use Rattle.blocks.specs.declared.Test.{Test}
-use Rattle.blocks.specs.declared.Test.the-variants as T
-use Rattle.blocks.specs.Blocks.{wrongFrom}
-use Rattle.blocks.specs.Faults.{encodeFault, updateFault, recoverFault, rebuildFault, belongsFault, faultOf}
-use Rattle.blocks.specs.Answers.{outcomeOf, updateOf, verdictOf, testOf, outcomeNumber}
+use Rattle.blocks.specs.declared.Membership.{Membership}
+use Rattle.blocks.specs.declared.Membership.the-variants as M
+use Rattle.blocks.specs.Bytes.{wrongLane}
+use Rattle.refusals.specs.Faults.{encodeFault, updateFault, recoverFault, rebuildFault, belongsFault, faultOf}
+use Rattle.blocks.specs.Answers.{outcomeOf, updateOf, membershipOf, outcomeNumber}
 use Rattle.blocks.specs.Promises.{EncodeSays, UpdateSays, RecoverSays, RebuildSays, BelongsSays}
-use Rattle.blocks.proofs.Accepts.{update-refused, refused-value}
-use Rattle.balanced_c.specs.Calls.{wrongLane, EncodeGives, UpdateGives, RecoverGives, RebuildGives, BelongsGives}
+use Rattle.blocks.proofs.Bytes.{altered-symbols}
+use Rattle.blocks.proofs.Refused.{update-refused, refused-value}
+use Rattle.balanced_c.specs.Calls.{EncodeGives, UpdateGives, RecoverGives, RebuildGives, BelongsGives}
 
 -- the number of an outcome is the one that it was made of
 outcome-number : (f : ℕ) → outcomeNumber (outcomeOf f) ≡ f
@@ -29,18 +33,18 @@ by-number a r f e answer = e ∙ ap outcomeNumber answer ∙ outcome-number f
 
 pub encode-gives : (rec : List ℕ) (l : ℕ) (message shares shares′ : List ℕ) (a : Outcome) (r : ℕ) → r ≡ outcomeNumber a → EncodeSays rec l message shares shares′ a → EncodeGives rec l message shares shares′ r
 encode-gives rec l message shares shares′ a r e says =
-    let number = by-number a r (faultOf rec (λ h. encodeFault h l (length shares) message)) e (says .answer) in
-    record { number = number; says = record { answer = ap outcomeOf number; written = says .written } }
+    let number = by-number a r (faultOf rec (λ h. encodeFault h l (length shares) message)) e (says .promise .answer) in
+    record { number = number; says = record { promise = record { answer = ap outcomeOf number; written = says .promise .written } } }
 
 pub recover-gives : (rec : List ℕ) (l : ℕ) (nodes shares message message′ : List ℕ) (a : Outcome) (r : ℕ) → r ≡ outcomeNumber a → RecoverSays rec l nodes shares message message′ a → RecoverGives rec l nodes shares message message′ r
 recover-gives rec l nodes shares message message′ a r e says =
-    let number = by-number a r (faultOf rec (λ h. recoverFault h l nodes shares (length message))) e (says .answer) in
-    record { number = number; says = record { answer = ap outcomeOf number; written = says .written } }
+    let number = by-number a r (faultOf rec (λ h. recoverFault h l nodes shares (length message))) e (says .promise .answer) in
+    record { number = number; says = record { promise = record { answer = ap outcomeOf number; written = says .promise .written } } }
 
 pub rebuild-gives : (rec : List ℕ) (l : ℕ) (nodes shares : List ℕ) (target : ℕ) (share share′ : List ℕ) (a : Outcome) (r : ℕ) → r ≡ outcomeNumber a → RebuildSays rec l nodes shares target share share′ a → RebuildGives rec l nodes shares target share share′ r
 rebuild-gives rec l nodes shares target share share′ a r e says =
-    let number = by-number a r (faultOf rec (λ h. rebuildFault h l nodes shares target (length share))) e (says .answer) in
-    record { number = number; says = record { answer = ap outcomeOf number; written = says .written } }
+    let number = by-number a r (faultOf rec (λ h. rebuildFault h l nodes shares target (length share))) e (says .promise .answer) in
+    record { number = number; says = record { promise = record { answer = ap outcomeOf number; written = says .promise .written } } }
 
 -- two cases of an enum are never equal
 never : {A : Type 0} → _≡_ {A = ℕ} 0 1 → A
@@ -60,56 +64,50 @@ refused-means (suc f) count g e = let same : g ≡ suc f = cc in (same, λ z. om
 module _ (rec : List ℕ) (l symbol lane old new : ℕ) (shares : List ℕ) (altered : ℕ) (shares′ : List ℕ) (a : Update) (says : UpdateSays rec l symbol lane old new shares shares′ a) where
   pub update-done : (count : ℕ) → a ≡ U.Altered count → UpdateGives rec l symbol lane old new shares altered shares′ count 0
   update-done count e =
-      let (none, same) = altered-means (faultOf rec (λ h. updateFault h l symbol lane old new shares)) _ count (sym e ∙ says .answer) in
-      let written = rw none at (says .written) in
+      let (none, same) = altered-means (faultOf rec (λ h. updateFault h l symbol lane old new shares)) _ count (sym e ∙ says .promise .answer) in
       record {
         number = sym none;
-        says = record { answer = rw (none, same); written = says .written };
-        altered-is = rw written same;
+        says = record { promise = record { answer = rw (none, same); written = says .promise .written } };
+        altered-is = same ∙ altered-symbols (headerOf rec) l symbol lane old new shares shares′ (rw none at (says .promise .written));
       }
 
   pub update-refuses : (g : ℕ) → a ≡ U.Refused g → UpdateGives rec l symbol lane old new shares altered shares′ altered g
   update-refuses g e =
-      let (same, some) = refused-means (faultOf rec (λ h. updateFault h l symbol lane old new shares)) _ g (sym e ∙ says .answer) in
+      let (same, some) = refused-means (faultOf rec (λ h. updateFault h l symbol lane old new shares)) _ g (sym e ∙ says .promise .answer) in
       record {
         number = same;
-        says = record { answer = update-refused g altered some ∙ sym e ∙ says .answer; written = says .written };
+        says = record { promise = record { answer = update-refused g altered some ∙ sym e ∙ says .promise .answer; written = says .promise .written } };
         altered-is = sym (refused-value g _ altered some);
       }
 
--- a test that said yes, named a lane, or was refused
-yes-means : (f wrong : ℕ) → T.Yes ≡ testOf f wrong → (f ≡ 0) × (wrong ≡ 0)
-unfolding testOf verdictOf
-yes-means zero zero e = (refl, refl)
-yes-means zero (suc t) e = never cc
-yes-means (suc f) wrong e = never cc
+-- a membership that is yes, names a lane, or was refused
+yes-means : (f l wrong : ℕ) → M.Yes ≡ membershipOf f l wrong → (f ≡ 0) × (wrong ≡ l)
+unfolding membershipOf
+yes-means zero l wrong e = (refl, by-test (eqb wrong l) (λ q. eqb-true wrong l q) (λ q. let w : M.Yes ≡ M.No wrong = rw q at e in never cc))
+yes-means (suc f) l wrong e = never cc
 
-no-means : (f wrong t : ℕ) → T.No t ≡ testOf f wrong → (f ≡ 0) × (wrong ≡ suc t)
-unfolding testOf verdictOf
-no-means zero zero t e = never cc
-no-means zero (suc u) t e = (refl, cc)
-no-means (suc f) wrong t e = never cc
+no-means : (f l wrong t : ℕ) → M.No t ≡ membershipOf f l wrong → (f ≡ 0) × (wrong ≡ t)
+unfolding membershipOf
+no-means zero l wrong t e = (refl, by-test (eqb wrong l) (λ q. let w : M.No t ≡ M.Yes = rw q at e in never cc) (λ q. let w : M.No t ≡ M.No wrong = rw q at e in cc))
+no-means (suc f) l wrong t e = never cc
 
-test-means : (f wrong g : ℕ) → T.Refused g ≡ testOf f wrong → (g ≡ f) × (g ≡ 0 → ⊥)
-unfolding testOf verdictOf
-test-means zero zero g e = never cc
-test-means zero (suc u) g e = never cc
-test-means (suc f) wrong g e = let same : g ≡ suc f = cc in (same, λ z. omega arith)
+refusal-means : (f l wrong g : ℕ) → M.Refused g ≡ membershipOf f l wrong → (g ≡ f) × (g ≡ 0 → ⊥)
+unfolding membershipOf
+refusal-means zero l wrong g e = by-test (eqb wrong l) (λ q. let w : M.Refused g ≡ M.Yes = rw q at e in never cc) (λ q. let w : M.Refused g ≡ M.No wrong = rw q at e in never cc)
+refusal-means (suc f) l wrong g e = let same : g ≡ suc f = cc in (same, λ z. omega arith)
 
-module _ (rec : List ℕ) (l : ℕ) (shares : List ℕ) (first : ℕ) (a : Test) (says : BelongsSays rec l shares a) where
-  pub belongs-yes : a ≡ T.Yes → BelongsGives rec l shares first l 0
-  unfolding wrongLane
+module _ (rec : List ℕ) (l : ℕ) (shares : List ℕ) (first : ℕ) (a : Membership) (says : BelongsSays rec l shares a) where
+  pub belongs-yes : a ≡ M.Yes → BelongsGives rec l shares first l 0
   belongs-yes e =
-      let (none, all) = yes-means (faultOf rec (λ h. belongsFault h l shares)) (wrongFrom l 0 (headerOf rec) l shares) (sym e ∙ says .answer) in
-      record { number = sym none; first-is = rw all }
+      let (none, all) = yes-means (faultOf rec (λ h. belongsFault h l shares)) l (wrongLane (headerOf rec) l shares) (sym e ∙ says .promise .answer) in
+      record { number = sym none; first-is = sym all }
 
-  pub belongs-no : (t : ℕ) → a ≡ T.No t → BelongsGives rec l shares first t 0
-  unfolding wrongLane
+  pub belongs-no : (t : ℕ) → a ≡ M.No t → BelongsGives rec l shares first t 0
   belongs-no t e =
-      let (none, at) = no-means (faultOf rec (λ h. belongsFault h l shares)) (wrongFrom l 0 (headerOf rec) l shares) t (sym e ∙ says .answer) in
-      record { number = sym none; first-is = rw at }
+      let (none, at) = no-means (faultOf rec (λ h. belongsFault h l shares)) l (wrongLane (headerOf rec) l shares) t (sym e ∙ says .promise .answer) in
+      record { number = sym none; first-is = sym at }
 
-  pub belongs-refuses : (g : ℕ) → a ≡ T.Refused g → BelongsGives rec l shares first first g
+  pub belongs-refuses : (g : ℕ) → a ≡ M.Refused g → BelongsGives rec l shares first first g
   belongs-refuses g e =
-      let (same, some) = test-means (faultOf rec (λ h. belongsFault h l shares)) (wrongFrom l 0 (headerOf rec) l shares) g (sym e ∙ says .answer) in
+      let (same, some) = refusal-means (faultOf rec (λ h. belongsFault h l shares)) l (wrongLane (headerOf rec) l shares) g (sym e ∙ says .promise .answer) in
       record { number = same; first-is = sym (refused-value g _ first some) }

@@ -13,8 +13,8 @@ use Rattle.generator.specs.declared.Header.{Header}
 use Rattle.generator.specs.Records.{headerOf, recordFault, judged, recordOf}
 use Rattle.plan.specs.declared.Plan.{Plan}
 use Rattle.plan.specs.Plans.{planFor, PlanSays}
-use Rattle.blocks.specs.Faults.{faultOf}
-use Rattle.blocks.proofs.Accepts.{refused-value}
+use Rattle.refusals.specs.Faults.{faultOf}
+use Rattle.blocks.proofs.Refused.{refused-value}
 use Rattle.balanced_c.specs.Calls.{lengthFault, numbersOf, PlanGives}
 
 -- a plan's number is its record's

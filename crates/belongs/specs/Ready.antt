@@ -1,14 +1,10 @@
--- What the check sums rely on.
-use mathlib.Core.Path.{_≡_}
-use mathlib.Core.Bool.{true}
+-- Powers of the root, as the check sums use them.
 use mathlib.Core.List.{List}
-use Prim.Native.Nat.{ℕ, _*_, _%_, _≤_}
-use lib.ListN.{length}
-use Rattle.lists.specs.Numbers.{allBelow}
+use Prim.Native.Nat.{ℕ, _*_, _%_}
 use Rattle.lists.specs.Rows.{from}
 use Rattle.field.specs.Fields.{power}
 use Rattle.generator.specs.declared.Header.{Header}
-use Rattle.generator.specs.Records.{modulusOf, size, Sound}
+use Rattle.generator.specs.Records.{modulusOf}
 
 -- the powers of the root below its order n
 unfoldable pub powersOf : Header → List ℕ
@@ -17,10 +13,3 @@ powersOf h = from (power (modulusOf h) (h .root)) 0 (h .n)
 -- the factors of the nodes' symbols in check sum e
 unfoldable pub factorsOf : Header → ℕ → List ℕ
 factorsOf h e = from (λ j. power (modulusOf h) (h .root) (j * e % h .n)) 0 (h .n)
-
--- a full share buffer of l lanes over an accepted record's header
-pub record IsBlock (h : Header) (l : ℕ) (shares : List ℕ) : Type 0 where
-  pub sound : Sound h
-  pub few : l ≤ 4096
-  pub long : length shares ≡ h .n * l
-  pub symbols : allBelow (size h) shares ≡ true

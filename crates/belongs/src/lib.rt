@@ -1,37 +1,36 @@
 // Belongs: whether every lane of a block is a word of the code.
 ghost use mathlib.Core.Path.{_≡_};
-ghost use mathlib.Core.Bool.{true};
 ghost use Prim.Native.Nat.{_≤_, min};
 ghost use lib.Dec.{eqb};
 ghost use lib.ListN.{length, getD};
 ghost use Rattle.lists.specs.Rows.{from};
 ghost use Rattle.lists.specs.Padded.{padded};
-ghost use Rattle.field.specs.Kinds.{usable};
 ghost use Rattle.generator.specs.Records.{Sound};
-ghost use Rattle.generator.specs.Codewords.{checkFrom, isWord};
-ghost use Rattle.blocks.specs.Blocks.{laneOf, wrongFrom};
-ghost use Rattle.blocks.specs.Faults.{belongsFault};
-ghost use Rattle.blocks.specs.Answers.{testOf};
-ghost use Rattle.blocks.specs.Promises.{BelongsSays};
-ghost use Rattle.belongs.specs.Search.{firstFalse};
-ghost use Rattle.belongs.specs.Ready.{IsBlock, powersOf, factorsOf};
-use blocks::Test;
+ghost use Rattle.generator.specs.Codewords.{checkFrom};
+ghost use Rattle.refusals.specs.Faults.{belongsFault};
+ghost use Rattle.refusals.specs.Accepted.{SymbolRows};
+ghost use Rattle.layout.specs.Layout.{laneOf, shareLayout};
+ghost use Rattle.blocks.specs.Blocks.{firstWrong};
+ghost use Rattle.blocks.specs.Promises.{BelongsPromise, BelongsSays};
+ghost use Rattle.lists.specs.Search.{firstFalse};
+ghost use Rattle.belongs.specs.Ready.{powersOf, factorsOf};
+use blocks::Membership;
 use generator::Header;
 use generator::Record;
 
 // The powers of the root below its order, and zeros after them.
-fn powers(h: Header) -> [u8; 255]
+fn powers(h: Header) -> [u16; 255]
     requires { ⌜ Sound h ⌝ }
     ensures { λ r. ⌜ r ≡ padded 255 (powersOf h) ⌝ }
 {
     let field = h.field;
     let root = h.root;
     let n = h.n as usize;
-    let mut out = [0u8; 255];
+    let mut out = [0u16; 255];
     let mut x: u32 = 1;
     let mut i: usize = 0;
     while i < n {
-        out[i] = x as u8;
+        out[i] = x as u16;
         x = field.mul(root, x);
         i += 1;
     }
@@ -39,12 +38,12 @@ fn powers(h: Header) -> [u8; 255]
 }
 
 // The nodes' factors in check sum e, root^(j·e) with the exponent modulo n, and zeros after them.
-fn factors(h: Header, powers: &[u8], e: usize) -> [u8; 255]
+fn factors(h: Header, powers: &[u16], e: usize) -> [u16; 255]
     requires { ⌜ Sound h × (now powers ≡ padded 255 (powersOf h)) × (e ≤ 255) ⌝ }
     ensures { λ r. ⌜ r ≡ padded 255 (factorsOf h e) ⌝ }
 {
     let n = h.n as usize;
-    let mut out = [0u8; 255];
+    let mut out = [0u16; 255];
     let mut j: usize = 0;
     while j < n {
         let i = j * e % n;
@@ -55,9 +54,9 @@ fn factors(h: Header, powers: &[u8], e: usize) -> [u8; 255]
 }
 
 // Check sum e of each lane.
-fn lane_sums(h: Header, powers: &[u8], e: usize, lanes: usize, shares: &[u8], sums: &mut [u8])
-    requires { ⌜ IsBlock h lanes (now shares) × (now powers ≡ padded 255 (powersOf h)) × (e ≤ 255) × (length (now sums) ≡ lanes) ⌝ }
-    ensures { λ r. ⌜ now (sums .exit) ≡ from (λ t. checkFrom h e 0 (laneOf (h .n) lanes t (now (shares .entry)))) 0 lanes ⌝ }
+fn lane_sums(h: Header, powers: &[u16], e: usize, lanes: usize, shares: &[u8], sums: &mut [u8])
+    requires { ⌜ SymbolRows h (h .n) lanes (now shares) × (now powers ≡ padded 255 (powersOf h)) × (e ≤ 255) × (length (now sums) ≡ lanes) ⌝ }
+    ensures { λ r. ⌜ now (sums .exit) ≡ from (λ t. checkFrom h e 0 (laneOf shareLayout (h .n) lanes t (now (shares .entry)))) 0 lanes ⌝ }
 {
     let field = h.field;
     let n = h.n as usize;
@@ -84,8 +83,8 @@ fn smaller(a: usize, b: usize) -> usize
 
 // The smallest lane that is no word of the code, or the number of lanes.
 fn first_wrong(h: Header, lanes: usize, shares: &[u8]) -> usize
-    requires { ⌜ IsBlock h lanes (now shares) ⌝ }
-    ensures { λ r. ⌜ r ≡ firstFalse lanes 0 (λ t. isWord h (laneOf (h .n) lanes t (now (shares .entry)))) ⌝ }
+    requires { ⌜ SymbolRows h (h .n) lanes (now shares) ⌝ }
+    ensures { λ r. ⌜ r ≡ firstWrong shareLayout h lanes (now (shares .entry)) ⌝ }
 {
     let checks = (h.n - h.k) as usize;
     let table = powers(h);
@@ -100,47 +99,28 @@ fn first_wrong(h: Header, lanes: usize, shares: &[u8]) -> usize
     best
 }
 
-// The first of numbers 7, 8 and 11 that the test meets, or 0.
-fn belongs_fault(h: Header, lanes: usize, shares: &[u8]) -> u8
-    requires { ⌜ usable (h .field) ≡ true ⌝ }
-    ensures { λ r. ⌜ r ≡ belongsFault h lanes (now (shares .entry)) ⌝ }
-{
-    let field = h.field;
-    let n = h.n as usize;
-    if lanes == 0 || 4096 < lanes {
-        return 7;
-    }
-    if shares.len() != n * lanes {
-        return 8;
-    }
-    if !kernel::all_below(field.size(), shares) {
-        return 11;
-    }
-    0
-}
-
 // Tests a block over an accepted record's header.
-fn test_accepted(h: Header, lanes: usize, shares: &[u8]) -> Test
+fn test_accepted(h: Header, lanes: usize, shares: &[u8]) -> Membership
     requires { ⌜ Sound h ⌝ }
-    ensures { λ r. ⌜ r ≡ testOf (belongsFault h lanes (now (shares .entry))) (wrongFrom lanes 0 h lanes (now (shares .entry))) ⌝ }
+    ensures { λ r. ⌜ BelongsPromise lanes (now (shares .entry)) r h (belongsFault h lanes (now (shares .entry))) ⌝ }
 {
-    let number = belongs_fault(h, lanes, shares);
+    let number = refusals::belongs_fault(h, lanes, shares);
     if number != 0 {
-        return Test::Refused(number);
+        return Membership::Refused(number);
     }
     let wrong = first_wrong(h, lanes, shares);
     if wrong == lanes {
-        return Test::Yes;
+        return Membership::Yes;
     }
-    Test::No(wrong as u32)
+    Membership::No(wrong as u32)
 }
 
 // Whether every lane is a word of the code: yes, the smallest lane that is none, or the number that turns the call away.
-pub fn block_belongs(rec: &[u8], lanes: u32, shares: &[u8]) -> Test
+pub fn block_belongs(rec: &[u8], lanes: u32, shares: &[u8]) -> Membership
     ensures { λ r. ⌜ BelongsSays (now (rec .entry)) lanes (now (shares .entry)) r ⌝ }
 {
-    match plan::read_record(rec) {
+    match records::read_record(rec) {
         Record::Holds(h) => test_accepted(h, lanes as usize, shares),
-        Record::Meets(number) => Test::Refused(number),
+        Record::Meets(number) => Membership::Refused(number),
     }
 }

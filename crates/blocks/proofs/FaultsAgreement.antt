@@ -2,17 +2,21 @@
 -- Its text stands here but for the marks: what it has as `abbrev` is `unfoldable`. Its records are quoted in the crate `generator`, its `sizeOf` in the crate `field`, its lanes in Agreement;
 -- its `firstOf`, `when`, `allBelow`, `isIn` and `distinct` are those of `lists`, the same recursions. Its faults take the record itself, ours a header: `faultOf` puts the record's number before them.
 use mathlib.Core.Path.{_≡_, refl}
-use mathlib.Core.Bool.{Bool, _&&_, _||_, not}
+use mathlib.Core.Bool.{Bool, true, false, _&&_, _||_, not, or-comm}
 use mathlib.Core.List.{List}
-use Prim.Native.Nat.{ℕ, _*_}
+use Prim.Native.Nat.{ℕ, suc, _*_}
+use borrow.Author.Tests.{ltb-true, ltb-false, le-leb, lt-leb}
 use lib.Dec.{eqb, ltb, leb}
 use lib.ListN.{length}
 use Rattle.lists.specs.Choice.{firstOf, when}
 use Rattle.lists.specs.Numbers.{allBelow, distinct}
+use Rattle.lists.proofs.Cases.{by-test}
 use Rattle.field.proofs.Agreement.{sizeOf, sizeOf-agrees}
+use Rattle.layout.specs.Layout.{shareLayout}
 use Rattle.generator.specs.Records as R
 use Rattle.generator.proofs.RecordsAgreement.{headerOf, recordFault, headerOf-agrees, recordFault-agrees}
-use Rattle.blocks.specs.Faults as Ours
+use Rattle.refusals.specs.Faults as Ours
+use Rattle.refusals.specs.Conditions as Conditions
 use Rattle.blocks.proofs.Agreement.{laneOf, laneOf-agrees}
 
 -- document 03's definitions
@@ -34,27 +38,45 @@ rebuildFault rec l nodes s target out = let h = headerOf rec in firstOf (recordF
 unfoldable pub belongsFault : List ℕ → ℕ → List ℕ → ℕ
 belongsFault rec l s = let h = headerOf rec in firstOf (recordFault rec) (firstOf (when (lanesBad l) 7) (firstOf (when (not (eqb (length s) (h .n * l))) 8) (when (not (allBelow (sizeOf (h .p)) s)) 11)))
 
-pub lanesBad-agrees : (l : ℕ) → lanesBad l ≡ Ours.lanesBad l
-unfolding lanesBad Ours.lanesBad
+pub lanesBad-agrees : (l : ℕ) → lanesBad l ≡ Conditions.lanesBad l
+unfolding lanesBad Conditions.lanesBad
 lanesBad-agrees l = refl
+
+-- one condition that is put together from two is two conditions of the same number
+either : (a b : Bool) (m rest : ℕ) → firstOf (when (a || b) (suc m)) rest ≡ firstOf (when a (suc m)) (firstOf (when b (suc m)) rest)
+either true b m rest = refl
+either false b m rest = refl
+
+either-last : (a b : Bool) (m : ℕ) → when (a || b) (suc m) ≡ firstOf (when a (suc m)) (when b (suc m))
+either-last true b m = refl
+either-last false b m = refl
+
+-- not both, or not one of them
+not-and : (a b : Bool) → not (a && b) ≡ (not a || not b)
+not-and true b = refl
+not-and false b = refl
+
+-- not below, or at least
+not-below : (x m : ℕ) → not (ltb x m) ≡ leb m x
+not-below x m = by-test (ltb x m) (λ e. rw (e, lt-leb m x (ltb-true x m e))) (λ e. rw (e, le-leb m x (ltb-false x m e)))
 
 module _ (rec : List ℕ) (l : ℕ) where
   pub encodeFault-agrees : (out : ℕ) (s : List ℕ) → encodeFault rec l out s ≡ Ours.faultOf rec (λ h. Ours.encodeFault h l out s)
-  unfolding encodeFault Ours.faultOf Ours.encodeFault Ours.symbolsBad
-  encodeFault-agrees out s = rw (headerOf-agrees rec, recordFault-agrees rec, lanesBad-agrees l, sizeOf-agrees (R.modulusOf (R.headerOf rec)))
+  unfolding encodeFault Ours.faultOf Ours.encodeFault Conditions.lengthBad Conditions.symbolsBad
+  encodeFault-agrees out s = rw (headerOf-agrees rec, recordFault-agrees rec, lanesBad-agrees l, sizeOf-agrees (R.modulusOf (R.headerOf rec)), not-and, either)
 
   pub updateFault-agrees : (r t old new : ℕ) (s : List ℕ) → updateFault rec l r t old new s ≡ Ours.faultOf rec (λ h. Ours.updateFault h l r t old new s)
-  unfolding updateFault Ours.faultOf Ours.updateFault
-  updateFault-agrees r t old new s = rw (headerOf-agrees rec, recordFault-agrees rec, lanesBad-agrees l, sizeOf-agrees (R.modulusOf (R.headerOf rec)), laneOf-agrees (R.headerOf rec .n) l t s)
+  unfolding updateFault shareLayout Ours.faultOf Ours.updateFault Conditions.lengthBad Conditions.numberBad Conditions.symbolBad Conditions.symbolsBad
+  updateFault-agrees r t old new s = rw (headerOf-agrees rec, recordFault-agrees rec, lanesBad-agrees l, sizeOf-agrees (R.modulusOf (R.headerOf rec)), laneOf-agrees (R.headerOf rec .n) l t s, not-and, not-and, not-below, not-below, either, either-last, either-last)
 
   pub recoverFault-agrees : (nodes s : List ℕ) (out : ℕ) → recoverFault rec l nodes s out ≡ Ours.faultOf rec (λ h. Ours.recoverFault h l nodes s out)
-  unfolding recoverFault Ours.faultOf Ours.recoverFault Ours.symbolsBad
-  recoverFault-agrees nodes s out = rw (headerOf-agrees rec, recordFault-agrees rec, lanesBad-agrees l, sizeOf-agrees (R.modulusOf (R.headerOf rec)))
+  unfolding recoverFault Ours.faultOf Ours.recoverFault Ours.listFault Conditions.lengthBad Conditions.nodesBad Conditions.twiceBad Conditions.symbolsBad
+  recoverFault-agrees nodes s out = rw (headerOf-agrees rec, recordFault-agrees rec, lanesBad-agrees l, sizeOf-agrees (R.modulusOf (R.headerOf rec)), not-and, not-and, either, either)
 
   pub rebuildFault-agrees : (nodes s : List ℕ) (target out : ℕ) → rebuildFault rec l nodes s target out ≡ Ours.faultOf rec (λ h. Ours.rebuildFault h l nodes s target out)
-  unfolding rebuildFault Ours.faultOf Ours.rebuildFault Ours.symbolsBad
-  rebuildFault-agrees nodes s target out = rw (headerOf-agrees rec, recordFault-agrees rec, lanesBad-agrees l, sizeOf-agrees (R.modulusOf (R.headerOf rec)))
+  unfolding rebuildFault Ours.faultOf Ours.rebuildFault Ours.listFault Conditions.lengthBad Conditions.numberBad Conditions.nodesBad Conditions.twiceBad Conditions.symbolsBad
+  rebuildFault-agrees nodes s target out = rw (headerOf-agrees rec, recordFault-agrees rec, lanesBad-agrees l, sizeOf-agrees (R.modulusOf (R.headerOf rec)), not-and, not-and, either, either, or-comm, either)
 
   pub belongsFault-agrees : (s : List ℕ) → belongsFault rec l s ≡ Ours.faultOf rec (λ h. Ours.belongsFault h l s)
-  unfolding belongsFault Ours.faultOf Ours.belongsFault Ours.symbolsBad
+  unfolding belongsFault Ours.faultOf Ours.belongsFault Conditions.lengthBad Conditions.symbolsBad
   belongsFault-agrees s = rw (headerOf-agrees rec, recordFault-agrees rec, lanesBad-agrees l, sizeOf-agrees (R.modulusOf (R.headerOf rec)))

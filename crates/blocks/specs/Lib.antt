@@ -1,5 +1,5 @@
--- Blocks, faults and answers: the definitions that the contracts cite.
+-- Blocks and answers: the definitions that the contracts cite.
 pub mod Blocks
-pub mod Faults
+pub mod Bytes
 pub mod Answers
 pub mod Promises

@@ -1,39 +1,55 @@
--- What the calls promise: the answer, and every lent byte afterwards, on acceptance and beside each number.
+-- What the calls promise: the answer, and every lent byte afterwards. A promise is over a header h and the number f that turns the call away, 0 where none does: then the call is done, else nothing is written.
 use mathlib.Core.Path.{_≡_}
 use mathlib.Core.List.{List}
 use Prim.Native.Nat.{ℕ}
 use lib.Dec.{eqb}
 use lib.ListN.{length}
 use Rattle.lists.specs.Choice.{pick, pickT}
-use Rattle.lists.specs.Counting.{differ}
-use Rattle.generator.specs.Records.{headerOf}
+use Rattle.generator.specs.declared.Header.{Header}
+use Rattle.refusals.specs.Faults.{encodeFault, updateFault, recoverFault, rebuildFault, belongsFault}
+use Rattle.refusals.specs.Promise.{OnRecord}
 use Rattle.blocks.specs.declared.Outcome.{Outcome}
 use Rattle.blocks.specs.declared.Update.{Update}
-use Rattle.blocks.specs.declared.Test.{Test}
-use Rattle.blocks.specs.Blocks.{shareOf, sharesOf, updated, wrongFrom, MessageFor}
-use Rattle.blocks.specs.Faults.{encodeFault, updateFault, recoverFault, rebuildFault, belongsFault, faultOf}
-use Rattle.blocks.specs.Answers.{outcomeOf, updateOf, testOf}
+use Rattle.blocks.specs.declared.Membership.{Membership}
+use Rattle.blocks.specs.Bytes.{encodedBytes, updatedBytes, alteredCount, RecoveredBytes, RebuiltBytes, wrongLane}
+use Rattle.blocks.specs.Answers.{outcomeOf, updateOf, membershipOf}
 
 -- Encode: in each lane the encoding of the message
-pub record EncodeSays (rec : List ℕ) (l : ℕ) (message out out′ : List ℕ) (r : Outcome) : Type 0 where
-  pub answer : r ≡ outcomeOf (faultOf rec (λ h. encodeFault h l (length out) message))
-  pub written : out′ ≡ pick (eqb (faultOf rec (λ h. encodeFault h l (length out) message)) 0) (sharesOf (headerOf rec) l message) out
+pub record EncodePromise (l : ℕ) (message out out′ : List ℕ) (r : Outcome) (h : Header) (f : ℕ) : Type 0 where
+  pub answer : r ≡ outcomeOf f
+  pub written : out′ ≡ pick (eqb f 0) (encodedBytes h l message) out
 
--- Update: the row added to the lane, and how many bytes differ afterwards
-pub record UpdateSays (rec : List ℕ) (l r t old new : ℕ) (shares shares′ : List ℕ) (a : Update) : Type 0 where
-  pub answer : a ≡ updateOf (faultOf rec (λ h. updateFault h l r t old new shares)) (differ shares (updated (headerOf rec) l r t old new shares))
-  pub written : shares′ ≡ pick (eqb (faultOf rec (λ h. updateFault h l r t old new shares)) 0) (updated (headerOf rec) l r t old new shares) shares
+-- Update: the row added to the lane, and how many symbols differ afterwards
+pub record UpdatePromise (l r t old new : ℕ) (shares shares′ : List ℕ) (a : Update) (h : Header) (f : ℕ) : Type 0 where
+  pub answer : a ≡ updateOf f (alteredCount h l r t old new shares)
+  pub written : shares′ ≡ pick (eqb f 0) (updatedBytes h l r t old new shares) shares
 
 -- Recover: the message of the listed shares
-pub record RecoverSays (rec : List ℕ) (l : ℕ) (nodes shares out out′ : List ℕ) (r : Outcome) : Type 0 where
-  pub answer : r ≡ outcomeOf (faultOf rec (λ h. recoverFault h l nodes shares (length out)))
-  pub written : pickT (eqb (faultOf rec (λ h. recoverFault h l nodes shares (length out))) 0) (MessageFor (headerOf rec) l nodes shares out′) (out′ ≡ out)
+pub record RecoverPromise (l : ℕ) (nodes shares out out′ : List ℕ) (r : Outcome) (h : Header) (f : ℕ) : Type 0 where
+  pub answer : r ≡ outcomeOf f
+  pub written : pickT (eqb f 0) (RecoveredBytes h l nodes shares out′) (out′ ≡ out)
 
 -- Rebuild: the target's share of the encoding of that message
-pub record RebuildSays (rec : List ℕ) (l : ℕ) (nodes shares : List ℕ) (target : ℕ) (out out′ : List ℕ) (r : Outcome) : Type 0 where
-  pub answer : r ≡ outcomeOf (faultOf rec (λ h. rebuildFault h l nodes shares target (length out)))
-  pub written : pickT (eqb (faultOf rec (λ h. rebuildFault h l nodes shares target (length out))) 0) ((m : List ℕ) × MessageFor (headerOf rec) l nodes shares m × (out′ ≡ shareOf (headerOf rec) l m target)) (out′ ≡ out)
+pub record RebuildPromise (l : ℕ) (nodes shares : List ℕ) (target : ℕ) (out out′ : List ℕ) (r : Outcome) (h : Header) (f : ℕ) : Type 0 where
+  pub answer : r ≡ outcomeOf f
+  pub written : pickT (eqb f 0) (RebuiltBytes h l nodes shares target out′) (out′ ≡ out)
 
 -- Belongs: yes, or the smallest lane that is no word
-pub record BelongsSays (rec : List ℕ) (l : ℕ) (shares : List ℕ) (r : Test) : Type 0 where
-  pub answer : r ≡ testOf (faultOf rec (λ h. belongsFault h l shares)) (wrongFrom l 0 (headerOf rec) l shares)
+pub record BelongsPromise (l : ℕ) (shares : List ℕ) (r : Membership) (h : Header) (f : ℕ) : Type 0 where
+  pub answer : r ≡ membershipOf f l (wrongLane h l shares)
+
+-- the promises of the five calls, over the record as it is read
+abbrev pub EncodeSays : List ℕ → ℕ → List ℕ → List ℕ → List ℕ → Outcome → Type 0
+EncodeSays rec l message out out′ r = OnRecord rec (λ h. encodeFault h l (length out) message) (EncodePromise l message out out′ r)
+
+abbrev pub UpdateSays : List ℕ → ℕ → ℕ → ℕ → ℕ → ℕ → List ℕ → List ℕ → Update → Type 0
+UpdateSays rec l r t old new shares shares′ a = OnRecord rec (λ h. updateFault h l r t old new shares) (UpdatePromise l r t old new shares shares′ a)
+
+abbrev pub RecoverSays : List ℕ → ℕ → List ℕ → List ℕ → List ℕ → List ℕ → Outcome → Type 0
+RecoverSays rec l nodes shares out out′ r = OnRecord rec (λ h. recoverFault h l nodes shares (length out)) (RecoverPromise l nodes shares out out′ r)
+
+abbrev pub RebuildSays : List ℕ → ℕ → List ℕ → List ℕ → ℕ → List ℕ → List ℕ → Outcome → Type 0
+RebuildSays rec l nodes shares target out out′ r = OnRecord rec (λ h. rebuildFault h l nodes shares target (length out)) (RebuildPromise l nodes shares target out out′ r)
+
+abbrev pub BelongsSays : List ℕ → ℕ → List ℕ → Membership → Type 0
+BelongsSays rec l shares r = OnRecord rec (λ h. belongsFault h l shares) (BelongsPromise l shares r)

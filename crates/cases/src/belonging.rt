@@ -1,5 +1,5 @@
 // Belongs: yes, the smallest lane that is no word, or the number.
-use blocks::Test;
+use blocks::Membership;
 use test_tools::not_read;
 use test_tools::part;
 use test_tools::text;
@@ -27,8 +27,8 @@ pub fn belongs(line: &[u8]) {
 
 fn tested(rec: &[u8], lanes: u32, shares: &[u8]) {
     match balanced::block_belongs(rec, lanes, shares) {
-        Test::Yes => text(b": yes"),
-        Test::No(lane) => value(b": no, lane", lane as u64),
-        Test::Refused(number) => value(b": refused", number as u64),
+        Membership::Yes => text(b": yes"),
+        Membership::No(lane) => value(b": no, lane", lane as u64),
+        Membership::Refused(number) => value(b": refused", number as u64),
     }
 }

@@ -3,13 +3,14 @@
 ghost use mathlib.Core.Path.{_≡_};
 ghost use Prim.Native.Nat.{_+_, _-_, _*_, _%_, _≤_, _<_};
 ghost use lib.ListN.{length, take, drop};
+ghost use Rattle.layout.specs.Layout.{byRow};
 ghost use Rattle.combine.specs.Combined.{Weighted, combined};
 ghost use Rattle.combine.specs.Digits.{rowsWith, added, multiplied, Listed, Started};
 use kernel::gf256;
 
 // Lists those of the first rows whose weight has the digit, and gives how many they are. Each row is written after those listed,
 // and counted or not: no branch.
-fn list_rows(digit: u8, weights: &[u8], list: &mut [u8]) -> usize
+fn list_rows(digit: u8, weights: &[u16], list: &mut [u8]) -> usize
     requires { ⌜ (digit < 8) × (length (now list) ≤ 255) × (length (now list) ≤ length (now weights)) ⌝ }
     ensures { λ r. ⌜ (r ≤ length (now (list .entry))) × (take r (now (list .exit)) ≡ rowsWith digit (length (now (list .entry))) (now (weights .entry))) ⌝ }
 {
@@ -69,7 +70,7 @@ fn add_pairs(list: &[u8], first: usize, lanes: usize, shares: &[u8], acc: &mut [
 }
 
 // One step of Horner's rule; `list` has a place for each row.
-fn step(digit: u8, weights: &[u8], lanes: usize, shares: &[u8], list: &mut [u8], acc: &mut [u8])
+fn step(digit: u8, weights: &[u16], lanes: usize, shares: &[u8], list: &mut [u8], acc: &mut [u8])
     requires { ⌜ (digit < 8) × Weighted 256 (length (now list)) lanes (now weights) (now shares) (length (now acc)) ⌝ }
     ensures { λ r. ⌜ now (acc .exit) ≡ added lanes (now (shares .entry)) (rowsWith digit (length (now (list .entry))) (now (weights .entry))) (multiplied (now (acc .entry))) ⌝ }
 {
@@ -79,9 +80,9 @@ fn step(digit: u8, weights: &[u8], lanes: usize, shares: &[u8], list: &mut [u8],
 }
 
 // In each lane the sum of the rows' symbols times the weights.
-pub fn combine(weights: &[u8], rows: usize, lanes: usize, shares: &[u8], acc: &mut [u8])
+pub fn combine(weights: &[u16], rows: usize, lanes: usize, shares: &[u8], acc: &mut [u8])
     requires { ⌜ Weighted 256 rows lanes (now weights) (now shares) (length (now acc)) ⌝ }
-    ensures { λ r. ⌜ now (acc .exit) ≡ combined 0 rows lanes (now (weights .entry)) (now (shares .entry)) ⌝ }
+    ensures { λ r. ⌜ now (acc .exit) ≡ combined byRow 0 rows lanes (now (weights .entry)) (now (shares .entry)) ⌝ }
 {
     let mut list = [0u8; 255];
     kernel::clear(acc);

@@ -2,42 +2,27 @@
 use mathlib.Core.Path.{_≡_, refl}
 use mathlib.Core.List.{List}
 use Prim.Native.Nat.{ℕ, _≤_}
-use native.Mathlib.Omega.{arith}
-use lib.ListN.{length}
 use Rattle.lists.specs.Padded.{padded}
-use Rattle.lists.proofs.Padding.{length-padded}
-use Rattle.lists.proofs.Rows.{length-from}
-use Rattle.field.proofs.FieldOf.{size-pos}
+use Rattle.layout.specs.Layout.{byRow}
 use Rattle.generator.specs.declared.Header.{Header}
-use Rattle.generator.specs.Records.{modulusOf, size, Sound}
+use Rattle.generator.specs.Records.{modulusOf}
 use Rattle.generator.specs.Generator.{entry}
 use Rattle.generator.specs.Codewords.{nodeFrom, nodeOf}
 use Rattle.generator.proofs.Bounds.{entry-below}
-use Rattle.blocks.specs.Blocks.{shareOf}
+use Rattle.refusals.specs.Accepted.{SymbolRows}
+use Rattle.blocks.specs.Blocks.{shareAt, shareOf}
 use Rattle.combine.specs.Combined.{combined, Rows}
-use Rattle.combine.proofs.Columns.{column-below, combined-column}
-use Rattle.encode.specs.Inner.{MessageBuffer, columnOf}
+use Rattle.combine.proofs.Columns.{column-ready, combined-column}
+use Rattle.encode.specs.Inner.{columnOf}
 
 module _ (h : Header) (l : ℕ) (s : List ℕ) (j : ℕ) where
   -- in every lane what the node holds
-  pub share-sums : combined (modulusOf h) (h .k) l (padded 255 (columnOf h j)) s ≡ shareOf h l s j
-  unfolding columnOf shareOf nodeOf nodeFrom
-  share-sums = combined-column (modulusOf h) (λ r. entry h r j) (λ r ms. nodeFrom r h ms j) (λ r. refl) (λ r m ms. refl) 255 (h .k) l s
+  pub share-sums : combined byRow (modulusOf h) (h .k) l (padded 255 (columnOf h j)) s ≡ shareOf h l s j
+  unfolding columnOf shareOf shareAt nodeOf nodeFrom
+  share-sums = combined-column (modulusOf h) (λ r. entry h r j) (λ r ms. nodeFrom r h ms j) (λ r. refl) (λ r m ms. refl) byRow 255 (h .k) l s
 
   -- a message's rows and the column can be combined
-  pub rows-ready : Sound h → MessageBuffer h l s → h .k ≤ 255 → (out : ℕ) → out ≡ l → Rows (h .field) (h .k) l (padded 255 (columnOf h j)) s out
+  pub rows-ready : SymbolRows h (h .k) l s → h .k ≤ 255 → (out : ℕ) → out ≡ l → Rows (h .field) (h .k) l (padded 255 (columnOf h j)) s out
   unfolding columnOf
-  rows-ready sound message few out long =
-      let rows : length (columnOf h j) ≡ h .k = length-from (λ r. entry h r j) 0 (h .k) in
-      record {
-        usable-field = sound .usable-field;
-        bytes = sound .bytes;
-        weighted = record {
-          few = few;
-          weights = omega (arith, length-padded 255 (columnOf h j) (omega arith));
-          weights-below = column-below (size h) 255 (λ r. entry h r j) (h .k) (size-pos (modulusOf h) (sound .field)) (λ r. entry-below h sound r j);
-          long = message .size-is;
-          symbols = message .symbols;
-          out-long = long;
-        };
-      }
+  rows-ready message few out long =
+      column-ready (λ r. entry h r j) (message .sound) few (λ r. entry-below h (message .sound) r j) (message .long) (message .symbols) long

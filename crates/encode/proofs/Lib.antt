@@ -1,3 +1,2 @@
--- A node's column of the generator, and what holds where encoding meets no number.
+-- A node's column of the generator.
 pub mod Columns
-pub mod Accepts

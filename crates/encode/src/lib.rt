@@ -1,47 +1,37 @@
 // Encode: the shares of all nodes, each lane encoded by itself.
 ghost use mathlib.Core.Path.{_≡_};
-ghost use mathlib.Core.Bool.{true};
 ghost use Prim.Native.Nat.{_+_, _*_, _%_, _≤_, _<_};
 ghost use lib.ListN.{length};
 ghost use Rattle.lists.specs.Padded.{padded};
-ghost use Rattle.field.specs.Kinds.{usable};
+ghost use Rattle.layout.specs.Layout.{shareLayout};
 ghost use Rattle.generator.specs.Records.{Sound};
 ghost use Rattle.generator.specs.Generator.{entry};
 ghost use Rattle.blocks.specs.Blocks.{shareOf, sharesOf};
-ghost use Rattle.blocks.specs.Faults.{encodeFault};
-ghost use Rattle.blocks.specs.Promises.{EncodeSays};
-ghost use Rattle.encode.specs.Inner.{Planned, MessageBuffer, Encoded, columnOf};
+ghost use Rattle.refusals.specs.Faults.{encodeFault};
+ghost use Rattle.refusals.specs.Accepted.{SymbolRows};
+ghost use Rattle.blocks.specs.Promises.{EncodePromise, EncodeSays};
+ghost use Rattle.encode.specs.Inner.{Planned, columnOf};
 use blocks::Outcome;
 use generator::Header;
 use generator::Record;
 
-// Where the base word holds a node's entry of the row with that shift: the row is the base word turned left.
-fn place(n: usize, shift: usize, node: usize) -> usize
-    requires { ⌜ (n ≤ 255) × (shift < n) × (node < n) ⌝ }
-    ensures { λ i. ⌜ i ≡ (node + shift) % n ⌝ }
-{
-    let i = node + shift;
-    if i < n { i } else { i - n }
-}
-
 // Entry (r, node) of the generator, read from the base word by the shift of row r.
-fn coefficient(h: Header, shifts: &[u8], base: &[u8], r: usize, node: usize) -> u8
+fn coefficient(h: Header, shifts: &[u8], base: &[u16], r: usize, node: usize) -> u16
     requires { ⌜ Planned h (now shifts) (now base) × (r < h .k) × (node < h .n) ⌝ }
     ensures { λ c. ⌜ c ≡ entry h r node ⌝ }
 {
     let n = h.n as usize;
     let shift = shifts[r] as usize;
-    let i = place(n, shift, node);
-    base[i]
+    plan::entry_at(n, shift, base, node)
 }
 
 // The node's column of the generator, and zeros after it.
-fn column(h: Header, shifts: &[u8], base: &[u8], node: usize) -> [u8; 255]
+fn column(h: Header, shifts: &[u8], base: &[u16], node: usize) -> [u16; 255]
     requires { ⌜ Planned h (now shifts) (now base) × (node < h .n) ⌝ }
     ensures { λ c. ⌜ c ≡ padded 255 (columnOf h node) ⌝ }
 {
     let k = h.k as usize;
-    let mut out = [0u8; 255];
+    let mut out = [0u16; 255];
     let mut r: usize = 0;
     while r < k {
         out[r] = coefficient(h, shifts, base, r, node);
@@ -54,13 +44,13 @@ fn column(h: Header, shifts: &[u8], base: &[u8], node: usize) -> [u8; 255]
 fn fill_share(
     h: Header,
     shifts: &[u8],
-    base: &[u8],
+    base: &[u16],
     node: usize,
     lanes: usize,
     message: &[u8],
     share: &mut [u8],
 )
-    requires { ⌜ Planned h (now shifts) (now base) × MessageBuffer h lanes (now message) × (node < h .n) × (length (now share) ≡ lanes) ⌝ }
+    requires { ⌜ Planned h (now shifts) (now base) × SymbolRows h (h .k) lanes (now message) × (node < h .n) × (length (now share) ≡ lanes) ⌝ }
     ensures { λ r. ⌜ now (share .exit) ≡ shareOf h lanes (now (message .entry)) node ⌝ }
 {
     let field = h.field;
@@ -73,13 +63,13 @@ fn fill_share(
 fn fill_shares<'a>(
     h: Header,
     shifts: &'a [u8],
-    base: &'a [u8],
+    base: &'a [u16],
     lanes: usize,
     message: &[u8],
     out: &mut [u8],
 )
-    requires { ⌜ Planned h (now shifts) (now base) × MessageBuffer h lanes (now message) × (length (now out) ≡ h .n * lanes) ⌝ }
-    ensures { λ r. ⌜ now (out .exit) ≡ sharesOf h lanes (now (message .entry)) ⌝ }
+    requires { ⌜ Planned h (now shifts) (now base) × SymbolRows h (h .k) lanes (now message) × (length (now out) ≡ h .n * lanes) ⌝ }
+    ensures { λ r. ⌜ now (out .exit) ≡ sharesOf shareLayout h lanes (now (message .entry)) ⌝ }
 {
     let n = h.n as usize;
     let mut node: usize = 0;
@@ -91,32 +81,12 @@ fn fill_shares<'a>(
     }
 }
 
-// The first of numbers 7, 8 and 11 that encoding meets, or 0; `size` is the length of the written buffer.
-fn encode_fault(h: Header, lanes: usize, message: &[u8], size: usize) -> u8
-    requires { ⌜ usable (h .field) ≡ true ⌝ }
-    ensures { λ r. ⌜ r ≡ encodeFault h lanes size (now (message .entry)) ⌝ }
-{
-    let field = h.field;
-    let n = h.n as usize;
-    let k = h.k as usize;
-    if lanes == 0 || 4096 < lanes {
-        return 7;
-    }
-    if message.len() != k * lanes || size != n * lanes {
-        return 8;
-    }
-    if !kernel::all_below(field.size(), message) {
-        return 11;
-    }
-    0
-}
-
 // Encodes over the header of an accepted record. Everything is judged before the first byte is written.
 fn encode_accepted(h: Header, lanes: usize, message: &[u8], out: &mut [u8]) -> Outcome
     requires { ⌜ Sound h ⌝ }
-    ensures { λ r. ⌜ Encoded h lanes (now (message .entry)) (now (out .entry)) (now (out .exit)) r ⌝ }
+    ensures { λ r. ⌜ EncodePromise lanes (now (message .entry)) (now (out .entry)) (now (out .exit)) r h (encodeFault h lanes (length (now (out .entry))) (now (message .entry))) ⌝ }
 {
-    let number = encode_fault(h, lanes, message, out.len());
+    let number = refusals::encode_fault(h, lanes, message, out.len());
     if number != 0 {
         return Outcome::Refused(number);
     }
@@ -129,7 +99,7 @@ fn encode_accepted(h: Header, lanes: usize, message: &[u8], out: &mut [u8]) -> O
 pub fn encode_block(rec: &[u8], lanes: u32, message: &[u8], out: &mut [u8]) -> Outcome
     ensures { λ r. ⌜ EncodeSays (now (rec .entry)) lanes (now (message .entry)) (now (out .entry)) (now (out .exit)) r ⌝ }
 {
-    match plan::read_record(rec) {
+    match records::read_record(rec) {
         Record::Holds(h) => encode_accepted(h, lanes as usize, message, out),
         Record::Meets(number) => Outcome::Refused(number),
     }

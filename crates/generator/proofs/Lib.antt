@@ -18,7 +18,6 @@ pub mod Accepts
 pub mod Claims
 pub mod Comparison
 pub mod EvenSizes
-pub mod Notebook
 -- The same definitions as document 03 has them.
 pub mod RecordsAgreement
 pub mod ShiftsAgreement

@@ -29,6 +29,10 @@ modulusOf h = modulus (h .field)
 abbrev pub size : Header → ℕ
 size h = sizeOf (modulusOf h)
 
+-- the bytes of a symbol in a lent buffer
+unfoldable pub width : Header → ℕ
+width h = 1
+
 -- d = n − k + 1, the number of nodes that each row of the generator lies on
 unfoldable pub distance : Header → ℕ
 distance h = h .n - h .k + 1
@@ -81,7 +85,8 @@ recordOf s = judged (recordFault s) (headerOf s)
 pub record Sound (h : Header) : Type 0 where
   pub usable-field : usable (h .field) ≡ true
   pub field : isField (modulusOf h) ≡ true
-  pub bytes : size h ≤ 256
+  -- a symbol fits the one byte that lent buffers have for it
+  pub one-byte : size h ≤ 256
   pub two : 2 ≤ h .n
   pub some : 0 < h .k
   pub fits : h .k ≤ h .n

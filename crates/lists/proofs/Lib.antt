@@ -10,8 +10,11 @@
 --   Numbers  allBelow, isIn and distinct: cons, take, drop, append, and what the tests mean
 --   Padding  padded: length, element, the part without zeros, a bound that it keeps
 --   Chosen   Chosen: different numbers that pass a test, as many as are counted and no more
+--   Along    counting along different places: a test that passes at places of a list alone
+--   Images   a list and its images under a map, by index
 --   Passing  passingFrom: length, within the stretch, rising, distinct, counted again
---   Lanes    rows of l places: one row and one lane to a place, getD of rowsFrom, counting along a lane
+--   Search   firstFalse: within the stretch, equal tests, two tests at once, what passes before it
+--   Lanes    rows of l places, one after the other: length, and what stands at place t of row j
 pub mod Cases
 pub mod Tests
 pub mod Front
@@ -23,5 +26,8 @@ pub mod Places
 pub mod Numbers
 pub mod Padding
 pub mod Chosen
+pub mod Along
+pub mod Images
 pub mod Passing
+pub mod Search
 pub mod Lanes

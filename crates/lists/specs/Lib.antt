@@ -4,8 +4,10 @@
 --   Padded    zeros, padded: zeros up to a length
 --   Counting  countFrom, passingFrom, differ: the numbers that pass a test, the places where two lists differ
 --   Numbers   allBelow, isIn, distinct: tests of lists of numbers
+--   Search    firstFalse: the first number of a stretch that fails a test
 pub mod Choice
 pub mod Rows
 pub mod Padded
 pub mod Counting
 pub mod Numbers
+pub mod Search

@@ -2,12 +2,13 @@
 ghost use mathlib.Core.Path.{_≡_};
 ghost use Prim.Native.Nat.{_*_};
 ghost use lib.ListN.{length};
+ghost use Rattle.layout.specs.Layout.{shareLayout};
 ghost use Rattle.generator.specs.Records.{Sound};
+ghost use Rattle.refusals.specs.Faults.{recoverFault, rebuildFault};
+ghost use Rattle.refusals.specs.Accepted.{ListedShares};
 ghost use Rattle.blocks.specs.Blocks.{MessageFor};
-ghost use Rattle.blocks.specs.Promises.{RecoverSays, RebuildSays};
+ghost use Rattle.blocks.specs.Promises.{RecoverPromise, RebuildPromise, RecoverSays, RebuildSays};
 ghost use Rattle.recovery.specs.Rows.{setupOf};
-ghost use Rattle.listed_nodes.specs.Listed.{Listed};
-ghost use Rattle.recover.specs.Headers.{HeaderRecovers, HeaderRebuilds};
 use blocks::Outcome;
 use generator::Header;
 use generator::Record;
@@ -15,8 +16,8 @@ use recovery::Setup;
 
 // Fills the message row by row, each through its own part: the sums of the listed shares times the weights of that row.
 fn fill_message(h: Header, lanes: usize, nodes: &[u8], shares: &[u8], setup: Setup, out: &mut [u8])
-    requires { ⌜ Listed h lanes (now nodes) (now shares) × (setup ≡ setupOf h (now nodes)) × (length (now out) ≡ h .k * lanes) ⌝ }
-    ensures { λ r. ⌜ MessageFor h lanes (now (nodes .entry)) (now (shares .entry)) (now (out .exit)) ⌝ }
+    requires { ⌜ ListedShares h lanes (now nodes) (now shares) × (setup ≡ setupOf h (now nodes)) × (length (now out) ≡ h .k * lanes) ⌝ }
+    ensures { λ r. ⌜ MessageFor shareLayout h lanes (now (nodes .entry)) (now (shares .entry)) (now (out .exit)) ⌝ }
 {
     let field = h.field;
     let k = h.k as usize;
@@ -33,15 +34,14 @@ fn fill_message(h: Header, lanes: usize, nodes: &[u8], shares: &[u8], setup: Set
 // Recovers over an accepted record's header.
 fn recover_accepted(h: Header, lanes: usize, nodes: &[u8], shares: &[u8], out: &mut [u8]) -> Outcome
     requires { ⌜ Sound h ⌝ }
-    ensures { λ r. ⌜ HeaderRecovers h lanes (now (nodes .entry)) (now (shares .entry)) (now (out .entry)) (now (out .exit)) r ⌝ }
+    ensures { λ r. ⌜ RecoverPromise lanes (now (nodes .entry)) (now (shares .entry)) (now (out .entry)) (now (out .exit)) r h (recoverFault h lanes (now (nodes .entry)) (now (shares .entry)) (length (now (out .entry)))) ⌝ }
 {
-    let number = listed_nodes::recover_fault(h, lanes, nodes, shares, out.len());
+    let number = refusals::recover_fault(h, lanes, nodes, shares, out.len());
     if number != 0 {
         return Outcome::Refused(number);
     }
     let k = h.k as usize;
-    let plan = plan::plan_of(h);
-    let shifts = plan.shifts;
+    let shifts = shifts::fill_shifts(h.n, h.k);
     let setup = recovery::prepare(h, nodes, &shifts[..k]);
     fill_message(h, lanes, nodes, shares, setup, out);
     Outcome::Done
@@ -51,7 +51,7 @@ fn recover_accepted(h: Header, lanes: usize, nodes: &[u8], shares: &[u8], out: &
 pub fn recover_block(rec: &[u8], lanes: u32, nodes: &[u8], shares: &[u8], out: &mut [u8]) -> Outcome
     ensures { λ r. ⌜ RecoverSays (now (rec .entry)) lanes (now (nodes .entry)) (now (shares .entry)) (now (out .entry)) (now (out .exit)) r ⌝ }
 {
-    match plan::read_record(rec) {
+    match records::read_record(rec) {
         Record::Holds(h) => recover_accepted(h, lanes as usize, nodes, shares, out),
         Record::Meets(number) => Outcome::Refused(number),
     }
@@ -67,9 +67,9 @@ fn rebuild_accepted(
     out: &mut [u8],
 ) -> Outcome
     requires { ⌜ Sound h ⌝ }
-    ensures { λ r. ⌜ HeaderRebuilds h lanes (now (nodes .entry)) (now (shares .entry)) target (now (out .entry)) (now (out .exit)) r ⌝ }
+    ensures { λ r. ⌜ RebuildPromise lanes (now (nodes .entry)) (now (shares .entry)) target (now (out .entry)) (now (out .exit)) r h (rebuildFault h lanes (now (nodes .entry)) (now (shares .entry)) target (length (now (out .entry)))) ⌝ }
 {
-    let number = listed_nodes::rebuild_fault(h, lanes, nodes, shares, target, out.len());
+    let number = refusals::rebuild_fault(h, lanes, nodes, shares, target as usize, out.len());
     if number != 0 {
         return Outcome::Refused(number);
     }
@@ -91,7 +91,7 @@ pub fn rebuild_share(
 ) -> Outcome
     ensures { λ r. ⌜ RebuildSays (now (rec .entry)) lanes (now (nodes .entry)) (now (shares .entry)) target (now (out .entry)) (now (out .exit)) r ⌝ }
 {
-    match plan::read_record(rec) {
+    match records::read_record(rec) {
         Record::Holds(h) => rebuild_accepted(h, lanes as usize, nodes, shares, target, out),
         Record::Meets(number) => Outcome::Refused(number),
     }

@@ -1,16 +1,16 @@
 -- The bytes of one lane, node by node, and the generator's entries for them.
 use mathlib.Core.Path.{_≡_}
-use mathlib.Core.Bool.{true, false}
+use mathlib.Core.Bool.{true}
 use mathlib.Core.List.{List}
-use Prim.Native.Nat.{ℕ, _+_, _-_, _*_, _%_, _≤_, _<_}
-use native.Mathlib.Nat.{sub-zero, mul-le-mul}
+use Prim.Native.Nat.{ℕ, _+_, _*_, _%_, _≤_, _<_}
+use native.Mathlib.Nat.{mul-le-mul}
 use native.Mathlib.Omega.{arith}
-use borrow.Author.Tests.{lt-ltb, le-ltb}
 use lib.ListN.{getD}
-use Rattle.lists.specs.Rows.{from}
 use Rattle.lists.specs.Numbers.{allBelow}
 use Rattle.lists.proofs.Numbers.{below-at}
-use Rattle.lists.proofs.Rows.{from-next, from-end, row-inside}
+use Rattle.lists.proofs.Rows.{row-inside}
+use Rattle.layout.specs.Layout.{held, laneOf, shareLayout}
+use Rattle.layout.proofs.Buffers.{length-lane, getD-lane}
 use Rattle.generator.specs.declared.Header.{Header}
 use Rattle.generator.specs.declared.Record.the-variants.{Holds}
 use Rattle.generator.specs.Records.{Sound}
@@ -18,8 +18,6 @@ use Rattle.generator.specs.Generator.{entry}
 use Rattle.plan.specs.declared.Plan.{Plan}
 use Rattle.plan.specs.Plans.{planFor}
 use Rattle.plan.proofs.Plans as Plans
-use Rattle.blocks.specs.Blocks.{placeOf, laneOf}
-use Rattle.blocks.proofs.Shares.{length-lane, getD-lane}
 
 -- the place of a node's byte lies in the buffer, which has at most 255·4096 bytes
 pub place-fits : (n j l t : ℕ) → n ≤ 255 → l ≤ 4096 → j < n → t < l → (j * l + t < n * l) × (n * l ≤ 1044480)
@@ -29,29 +27,7 @@ place-fits n j l t small few node lane = (omega (arith, row-inside n j l node), 
 pub entry-read : (h : Header) → Sound h → (p : Plan) → p ≡ planFor (Holds h) → (r j : ℕ) → r < h .k → j < h .n → getD (p .base) ((j + getD (p .shifts) r 0) % h .n) 0 ≡ entry h r j
 entry-read h s p e r j row node = rw e (Plans.entry-read h s r j row node)
 
--- the lane from node j on
-abbrev pub laneFrom : ℕ → ℕ → ℕ → List ℕ → ℕ → List ℕ
-laneFrom n l t s j = from (λ i. getD s (placeOf l i t) 0) j (n - j)
-
 module _ (q n l t : ℕ) (s : List ℕ) where
-  pub lane-start : allBelow q (laneOf n l t s) ≡ allBelow q (laneFrom n l t s 0)
-  unfolding laneOf
-  lane-start = rw sub-zero
-
-  -- a symbol at node j
-  pub lane-good : (j : ℕ) → j < n → getD s (j * l + t) 0 < q → allBelow q (laneFrom n l t s j) ≡ allBelow q (laneFrom n l t s (j + 1))
-  unfolding allBelow placeOf
-  lane-good j node low = rw (from-next (λ i. getD s (placeOf l i t) 0) n j node, lt-ltb (getD s (j * l + t) 0) q low)
-
-  -- none
-  pub lane-bad : (j : ℕ) → j < n → q ≤ getD s (j * l + t) 0 → allBelow q (laneFrom n l t s j) ≡ false
-  unfolding allBelow placeOf
-  lane-bad j node high = rw (from-next (λ i. getD s (placeOf l i t) 0) n j node, le-ltb (getD s (j * l + t) 0) q high)
-
-  pub lane-end : (j : ℕ) → n ≤ j → allBelow q (laneFrom n l t s j) ≡ true
-  unfolding allBelow
-  lane-end j all = rw (from-end (λ i. getD s (placeOf l i t) 0) n j all)
-
-  -- the byte of a node, where all are symbols
-  pub lane-symbol : allBelow q (laneOf n l t s) ≡ true → (j : ℕ) → j < n → getD s (placeOf l j t) 0 < q
-  lane-symbol good j node = rw getD-lane at (below-at q (laneOf n l t s) good j (rw length-lane node))
+  -- what a node holds, where all are symbols
+  pub lane-symbol : allBelow q (laneOf shareLayout n l t s) ≡ true → (j : ℕ) → j < n → held shareLayout n l s j t < q
+  lane-symbol good j node = rw getD-lane at (below-at q (laneOf shareLayout n l t s) good j (rw length-lane node))

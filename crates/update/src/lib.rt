@@ -1,25 +1,22 @@
 // Update: one symbol of one lane changes, and with it the lane's byte at the nodes that depend on the symbol.
 ghost use mathlib.Core.Path.{_≡_};
-ghost use mathlib.Core.Bool.{true};
-ghost use Prim.Native.Nat.{_*_, _≤_, _<_};
-ghost use lib.ListN.{length};
+ghost use Prim.Native.Nat.{_<_};
 ghost use Rattle.lists.specs.Counting.{differ};
-ghost use Rattle.lists.specs.Numbers.{allBelow};
+ghost use Rattle.layout.specs.Layout.{shareLayout};
 ghost use Rattle.field.specs.Fields.{add, mul};
-ghost use Rattle.field.specs.Kinds.{usable};
 ghost use Rattle.generator.specs.Records.{modulusOf, size, Sound};
 ghost use Rattle.plan.specs.Plans.{planFor};
-ghost use Rattle.blocks.specs.Blocks.{laneOf, updatedFrom};
-ghost use Rattle.blocks.specs.Faults.{updateFault};
-ghost use Rattle.blocks.specs.Promises.{UpdateSays};
-ghost use Rattle.update.specs.Updating.{Ready, HeaderSays};
+ghost use Rattle.refusals.specs.Faults.{updateFault};
+ghost use Rattle.refusals.specs.Accepted.{UpdatableLane};
+ghost use Rattle.blocks.specs.Blocks.{rowAdded};
+ghost use Rattle.blocks.specs.Promises.{UpdatePromise, UpdateSays};
 use blocks::Update;
 use generator::Header;
 use generator::Record;
 use plan::Plan;
 
 // What a node holds after x times its entry is added to what it held.
-fn renewed(h: Header, x: u32, entry: u8, before: u8) -> u8
+fn renewed(h: Header, x: u32, entry: u16, before: u8) -> u8
     requires { ⌜ Sound h × (x < size h) × (entry < size h) × (before < size h) ⌝ }
     ensures { λ r. ⌜ r ≡ add (modulusOf h) before (mul (modulusOf h) x entry) ⌝ }
 {
@@ -37,16 +34,15 @@ fn rewrite(
     x: u32,
     shares: &mut [u8],
 ) -> u32
-    requires { ⌜ Ready h lanes which lane x (now shares) × (plan ≡ planFor (Record.Holds h)) ⌝ }
-    ensures { λ r. ⌜ (now (shares .exit) ≡ updatedFrom (h .n) 0 h lanes which lane x (now (shares .entry))) × (r ≡ differ (now (shares .entry)) (now (shares .exit))) ⌝ }
+    requires { ⌜ UpdatableLane h lanes which lane (now shares) × (x < size h) × (plan ≡ planFor (Record.Holds h)) ⌝ }
+    ensures { λ r. ⌜ (now (shares .exit) ≡ rowAdded shareLayout h lanes which lane x (now (shares .entry))) × (r ≡ differ (now (shares .entry)) (now (shares .exit))) ⌝ }
 {
     let n = h.n as u32;
-    let shift = plan.shifts[which as usize] as u32;
+    let shift = plan.shifts[which as usize] as usize;
     let mut count: u32 = 0;
     let mut j: u32 = 0;
     while j < n {
-        let place = ((j + shift) % n) as usize;
-        let entry = plan.base[place];
+        let entry = plan::entry_at(n as usize, shift, &plan.base, j as usize);
         let at = (j * lanes + lane) as usize;
         let before = shares[at];
         let after = renewed(h, x, entry, before);
@@ -57,49 +53,6 @@ fn rewrite(
         j += 1;
     }
     count
-}
-
-// Whether every byte of a lane is a symbol; no other byte is read.
-fn lane_symbols(size: u32, n: u8, lanes: u32, lane: u32, shares: &[u8]) -> bool
-    requires { ⌜ (lanes ≤ 4096) × (lane < lanes) × (length (now shares) ≡ n * lanes) ⌝ }
-    ensures { λ r. ⌜ r ≡ allBelow size (laneOf n lanes lane (now (shares .entry))) ⌝ }
-{
-    let mut j: u8 = 0;
-    while j < n {
-        let at = (j as u32 * lanes + lane) as usize;
-        if size <= shares[at] as u32 {
-            return false;
-        }
-        j += 1;
-    }
-    true
-}
-
-// The first of numbers 7, 8, 9 and 11 that an update meets, or 0.
-fn update_fault(h: Header, lanes: u32, which: u32, lane: u32, old: u8, new: u8, shares: &[u8]) -> u8
-    requires { ⌜ usable (h .field) ≡ true ⌝ }
-    ensures { λ r. ⌜ r ≡ updateFault h lanes which lane old new (now (shares .entry)) ⌝ }
-{
-    let field = h.field;
-    let n = h.n;
-    let k = h.k as u32;
-    if lanes == 0 || 4096 < lanes {
-        return 7;
-    }
-    if shares.len() != (n as u32 * lanes) as usize {
-        return 8;
-    }
-    if k <= which || lanes <= lane {
-        return 9;
-    }
-    let size = field.size();
-    if size <= old as u32 || size <= new as u32 {
-        return 11;
-    }
-    if !lane_symbols(size, n, lanes, lane, shares) {
-        return 11;
-    }
-    0
 }
 
 // Updates over an accepted record's header.
@@ -113,10 +66,18 @@ fn update_accepted(
     shares: &mut [u8],
 ) -> Update
     requires { ⌜ Sound h ⌝ }
-    ensures { λ a. ⌜ HeaderSays h lanes which lane old new (now (shares .entry)) (now (shares .exit)) a ⌝ }
+    ensures { λ a. ⌜ UpdatePromise lanes which lane old new (now (shares .entry)) (now (shares .exit)) a h (updateFault h lanes which lane old new (now (shares .entry))) ⌝ }
 {
     let field = h.field;
-    let number = update_fault(h, lanes, which, lane, old, new, shares);
+    let number = refusals::update_fault(
+        h,
+        lanes as usize,
+        which as usize,
+        lane as usize,
+        old as u32,
+        new as u32,
+        shares,
+    );
     if number != 0 {
         return Update::Refused(number);
     }
@@ -137,7 +98,7 @@ pub fn update_lane(
 ) -> Update
     ensures { λ a. ⌜ UpdateSays (now (rec .entry)) lanes which lane old new (now (shares .entry)) (now (shares .exit)) a ⌝ }
 {
-    match plan::read_record(rec) {
+    match records::read_record(rec) {
         Record::Holds(h) => update_accepted(h, lanes, which, lane, old, new, shares),
         Record::Meets(number) => Update::Refused(number),
     }

@@ -1,30 +1,11 @@
 -- `block_belongs` meets its contract: the record's number, or what the test over its header gives.
-use mathlib.Core.Path.{_≡_, sym, _∙_}
-use mathlib.Core.List.{List}
-use Prim.Native.Nat.{ℕ}
+use mathlib.Core.Path.{sym, _∙_}
 use borrow.Author.Needs.{needs}
-use Rattle.generator.specs.declared.Header.{Header}
-use Rattle.generator.specs.declared.Record.the-variants.{Holds, Meets}
-use Rattle.generator.specs.Records.{recordOf}
-use Rattle.generator.proofs.Accepts.{accepted-sound, held-header}
-use Rattle.blocks.specs.declared.Test.{Test}
-use Rattle.blocks.specs.declared.Test.the-variants.{Refused}
-use Rattle.blocks.specs.Blocks.{wrongFrom}
-use Rattle.blocks.specs.Faults.{belongsFault}
-use Rattle.blocks.specs.Answers.{testOf}
-use Rattle.blocks.specs.Promises.{BelongsSays}
-use Rattle.blocks.proofs.Accepts.{held-fault, met-number, met-fault, test-refused}
+use Rattle.generator.proofs.Accepts.{accepted-sound}
+use Rattle.refusals.proofs.OnRecord.{on-header, on-number}
+use Rattle.blocks.proofs.Refused.{belongs-refuses}
 use Rattle.belongs.proofs.block_belongs.Statement.{statement}
 use Rattle.belongs.proofs.block_belongs.Tie as tie
-
-module _ (rec : List ℕ) (l : ℕ) (shares : List ℕ) where
-  -- a record that holds a header
-  says-held : (r : Test) (h : Header) → recordOf rec ≡ Holds h → r ≡ testOf (belongsFault h l shares) (wrongFrom l 0 h l shares) → BelongsSays rec l shares r
-  says-held r h e made = record { answer = rw (held-fault rec h (λ h. belongsFault h l shares) e, held-header rec h e .1) made }
-
-  -- a record that meets a number
-  says-met : (g : ℕ) → recordOf rec ≡ Meets g → BelongsSays rec l shares (Refused g)
-  says-met g e = record { answer = rw (met-fault rec g (λ h. belongsFault h l shares) e) (sym (test-refused g _ (met-number rec g e .1))) }
 
 read-record-requires : tie.Need-read-record-requires
 read-record-requires c κs = search needs
@@ -42,10 +23,11 @@ enum-known-number c = search needs
 returns : tie.Need-returns
 returns c =
     let read = sym (c .before .before .before .before .read-record .ensures) ∙ c .before .before .h .given .1 in
-    says-held _ _ _ _ _ read (c .test-accepted .ensures)
+    on-header _ read (c .test-accepted .ensures)
 
 returns-2 : tie.Need-returns-2
-returns-2 c = says-met _ _ _ _ (sym (c .before .before .before .read-record .ensures) ∙ c .before .number .given .1)
+returns-2 c =
+    on-number _ (sym (c .before .before .before .read-record .ensures) ∙ c .before .number .given .1) (λ h some. belongs-refuses h _ some _ _)
 
 pub block-belongs-spec : {M : Type 1} → statement M
 block-belongs-spec =

@@ -2,62 +2,62 @@
 use mathlib.Core.Path.{_≡_, sym, _∙_}
 use mathlib.Core.List.{List}
 use Prim.Native.Nat.{ℕ}
-use native.Mathlib.Numerals.{add-one}
 use native.Mathlib.Omega.{arith}
 use borrow.Author.Needs.{needs}
+use borrow.Author.Tests.{eq-eqb, ne-eqb}
+use Rattle.layout.specs.Layout.{shareLayout}
 use Rattle.generator.specs.declared.Header.{Header}
-use Rattle.generator.specs.Codewords.{isWord}
-use Rattle.blocks.specs.declared.Test.the-variants.{Yes, No, Refused}
-use Rattle.blocks.specs.Blocks.{laneOf, wrongFrom}
-use Rattle.blocks.specs.Faults.{belongsFault}
-use Rattle.blocks.specs.Answers.{verdictOf, testOf}
-use Rattle.blocks.proofs.Accepts.{test-refused}
-use Rattle.belongs.specs.Ready.{IsBlock}
-use Rattle.belongs.proofs.Accepts.{accepts}
-use Rattle.belongs.proofs.Search.{search-high}
-use Rattle.belongs.proofs.Wrong.{firstWrong, wrong-none, wrong-some}
+use Rattle.refusals.specs.Faults.{belongsFault}
+use Rattle.refusals.specs.Accepted.{SymbolRows}
+use Rattle.refusals.proofs.Accepts.{belongs-accepts}
+use Rattle.blocks.specs.declared.Membership.the-variants.{Yes, No}
+use Rattle.blocks.specs.Blocks.{firstWrong}
+use Rattle.blocks.specs.Answers.{membershipOf}
+use Rattle.blocks.specs.Promises.{BelongsPromise}
+use Rattle.blocks.proofs.Bytes.{wrong-lane}
+use Rattle.blocks.proofs.Words.{wrong-most}
+use Rattle.blocks.proofs.Refused.{belongs-refuses}
 use Rattle.belongs.proofs.test_accepted.Statement.{statement}
 use Rattle.belongs.proofs.test_accepted.Tie as tie
 
-module _ (h : Header) (l : ℕ) (s : List ℕ) (number : ℕ) (number-is : number ≡ belongsFault h l s) where
-  -- a number is met
-  refused : (number ≡ 0 → ⊥) → Refused number ≡ testOf (belongsFault h l s) (wrongFrom l 0 h l s)
-  refused some = rw (← number-is) (sym (test-refused number (wrongFrom l 0 h l s) some))
+module _ (h : Header) (l : ℕ) (s : List ℕ) (number : ℕ) (none : number ≡ 0) (lane : ℕ) (lane-is : lane ≡ firstWrong shareLayout h l s) where
+  -- no number is met, and no lane is wrong
+  passed : lane ≡ l → BelongsPromise l s Yes h number
+  unfolding membershipOf
+  passed end = record { answer = rw (none, wrong-lane h l s, ← lane-is, eq-eqb lane l end) }
 
-  module _ (none : number ≡ 0) (lane : ℕ) (lane-is : lane ≡ firstWrong h l s l 0) where
-    -- none is met, and no lane is wrong
-    passed : lane ≡ l → Yes ≡ testOf (belongsFault h l s) (wrongFrom l 0 h l s)
-    unfolding testOf verdictOf
-    passed end = rw (← number-is, none, wrong-none h l s (sym lane-is ∙ end))
+  -- none is met, and this lane is the first wrong one
+  failed : (lane ≡ l → ⊥) → BelongsPromise l s (No lane) h number
+  unfolding membershipOf
+  failed inside = record { answer = rw (none, wrong-lane h l s, ← lane-is, ne-eqb lane l inside) }
 
-    -- none is met, and this lane is the first wrong one
-    failed : (lane ≡ l → ⊥) → No lane ≡ testOf (belongsFault h l s) (wrongFrom l 0 h l s)
-    unfolding testOf verdictOf
-    failed inside = rw (← number-is, none, wrong-some h l s (λ e. inside (lane-is ∙ e)), ← lane-is, add-one)
+-- no number is met
+none-met : (c : tie.Else1) → let a = c .before .before .before .args in belongsFault (a .h) (a .lanes) (a .shares .now) ≡ 0
+none-met c = sym (c .before .belongs-fault .ensures) ∙ c .if1 .left
 
--- no number is met: the shares are a block
-block : (c : tie.Else1) → let a = c .before .before .before .args in IsBlock (a .h) (a .lanes) (a .shares .now)
-block c = accepts _ _ _ (c .before .before .before .pre) (sym (c .before .belongs-fault .ensures) ∙ c .if1 .left)
+-- so the shares are a block
+block : (c : tie.Else1) → let a = c .before .before .before .args in SymbolRows (a .h) (a .h .n) (a .lanes) (a .shares .now)
+block c = belongs-accepts _ (c .before .before .before .pre) _ _ (none-met c)
 
 belongs-fault-requires : tie.Need-belongs-fault-requires
 belongs-fault-requires c κs = search needs
 
 returns : tie.Need-returns
-returns c = refused _ _ _ _ (c .before .belongs-fault .ensures) (c .if1 .taken)
+returns c = rw (← c .before .belongs-fault .ensures) (belongs-refuses _ _ (c .if1 .taken) _ _)
 
 first-wrong-requires : tie.Need-first-wrong-requires
 first-wrong-requires c κs = block c
 
 returns-2 : tie.Need-returns-2
-returns-2 c = passed _ _ _ _ (c .before .before .before .belongs-fault .ensures) (c .before .before .if1 .left) _ (c .before .first-wrong .ensures) (c .if2 .taken)
+returns-2 c = passed _ _ _ _ (none-met (c .before .before)) _ (c .before .first-wrong .ensures) (c .if2 .taken)
 
 cast-t7 : tie.Need-cast-t7
 cast-t7 c =
     let a = c .before .before .before .before .before .args in
-    omega (arith, c .before .first-wrong .ensures, search-high (a .lanes) 0 (λ t. isWord (a .h) (laneOf (a .h .n) (a .lanes) t (a .shares .now))), block (c .before .before) .few)
+    omega (arith, c .before .first-wrong .ensures, wrong-most shareLayout (a .h) (a .lanes) (a .shares .now), block (c .before .before) .few-lanes)
 
 returns-3 : tie.Need-returns-3
-returns-3 c = failed _ _ _ _ (c .before .before .before .belongs-fault .ensures) (c .before .before .if1 .left) _ (c .before .first-wrong .ensures) (c .if2 .left)
+returns-3 c = failed _ _ _ _ (none-met (c .before .before)) _ (c .before .first-wrong .ensures) (c .if2 .left)
 
 pub test-accepted-spec : {M : Type 1} → statement M
 test-accepted-spec =

@@ -22,7 +22,7 @@ module _ {rows l : ℕ} {ws s : List ℕ} {out : ℕ} where
   unfolding modulus
   prime-rows f a =
       let u = usable-prime f (a .usable-field) in
-      (u .1, rw (u .2) at (a .bytes), rw (u .2) at (a .weighted))
+      (u .1, rw (u .2) at (a .one-byte), rw (u .2) at (a .weighted))
 
   -- and over the field of 256 elements
   byte-rows : (g : Gf256) → Rows (Binary g) rows l ws s out → Weighted 256 rows l ws s out

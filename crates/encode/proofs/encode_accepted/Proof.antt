@@ -1,10 +1,11 @@
 -- `encode_accepted` meets its contract: shares are filled only where no number is met.
 use mathlib.Core.Path.{sym, ap, _∙_}
 use borrow.Author.Needs.{needs}
+use Rattle.refusals.proofs.Accepts.{encode-accepts}
 use Rattle.blocks.specs.Answers.{outcomeOf}
-use Rattle.blocks.proofs.Accepts.{outcome-refused, refused-value}
+use Rattle.blocks.proofs.Bytes.{encoded-bytes}
+use Rattle.blocks.proofs.Refused.{encode-refuses}
 use Rattle.plan.specs.declared.Plan.{Plan}
-use Rattle.encode.proofs.Accepts.{accepts}
 use Rattle.encode.proofs.encode_accepted.Statement.{statement}
 use Rattle.encode.proofs.encode_accepted.Tie as tie
 
@@ -12,12 +13,7 @@ encode-fault-requires : tie.Need-encode-fault-requires
 encode-fault-requires c κs = search needs
 
 returns : tie.Need-returns
-returns c =
-    let number = c .before .encode-fault .ensures in
-    record {
-      answer = rw (← number) (sym (outcome-refused _ (c .if1 .taken)));
-      written = rw (← number) (sym (refused-value _ _ _ (c .if1 .taken)));
-    }
+returns c = rw (← c .before .encode-fault .ensures) (encode-refuses _ _ (c .if1 .taken) _ _ _)
 
 plan-of-requires : tie.Need-plan-of-requires
 plan-of-requires c κs = search needs
@@ -26,7 +22,7 @@ fill-shares-requires : tie.Need-fill-shares-requires
 fill-shares-requires c κs =
     let s = c .before .before .before .before .before .before .before .before .before .before .before in
     let none = sym (c .before .before .before .before .before .before .before .before .encode-fault .ensures) ∙ c .before .before .before .before .before .before .before .if1 .left in
-    let a = accepts (s .args .h) (s .args .lanes) _ (s .args .message .now) none in
+    let a = encode-accepts (s .args .h) (s .pre) (s .args .lanes) _ (s .args .message .now) none in
     let plan = c .before .before .before .before .before .before .plan-of .ensures in
     (record { sound = s .pre; shifts-are = ap (λ (p : Plan). p .shifts) plan; base-is = ap (λ (p : Plan). p .base) plan }, a .0, a .1)
 
@@ -37,7 +33,7 @@ returns-2 : tie.Need-returns-2
 unfolding outcomeOf
 returns-2 c =
     let none = sym (c .before .before .before .before .before .before .before .before .before .before .before .encode-fault .ensures) ∙ c .before .before .before .before .before .before .before .before .before .before .if1 .left in
-    record { answer = rw none; written = rw none (c .before .before .fill-shares .ensures) }
+    record { answer = rw none; written = rw none (c .before .before .fill-shares .ensures ∙ sym (encoded-bytes _ _ _)) }
 
 pub encode-accepted-spec : {M : Type 1} → statement M
 encode-accepted-spec =

@@ -19,7 +19,7 @@ combine-requires : tie.Need-combine-requires
 combine-requires c κs =
     let st = c .before .before .before .before .before .before .before .before in
     rw (c .before .before .column .ensures)
-    (rows-ready (st .args .h) (st .args .lanes) (st .args .message .now) (st .args .node) (st .pre .0 .sound) (st .pre .1) (omega (arith, c .before .before .before .struct-known .given)) _ (st .pre .3))
+    (rows-ready (st .args .h) (st .args .lanes) (st .args .message .now) (st .args .node) (st .pre .1) (omega (arith, c .before .before .before .struct-known .given)) _ (st .pre .3))
 
 same-length : tie.Need-same-length
 same-length c = search needs

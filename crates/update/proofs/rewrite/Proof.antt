@@ -1,17 +1,17 @@
 -- `rewrite` meets its contract: `Rewriting` is the invariant, and each way through a turn is one of its laws.
-use Prim.Native.Nat.{_+_, _-_, _*_, _%_, _≤_, _<_}
-use mathlib.Core.Path.{_≡_, ap, _∙_}
+use Prim.Native.Nat.{_+_, _-_, _*_, _≤_, _<_}
+use mathlib.Core.Path.{_≡_, sym, ap, _∙_}
 use mathlib.Core.Logic.{⊎-elim}
-use native.Mathlib.Nat.{mod-lt}
 use native.Mathlib.Omega.{arith}
-use mir.Syntax.{w8}
-use mir.Val.{Fits}
 use borrow.Author.Needs.{needs}
 use lib.ListN.{length, getD}
 use Rattle.generator.specs.Records.{size}
 use Rattle.generator.proofs.Bounds.{entry-below}
-use Rattle.blocks.specs.Blocks.{placeOf}
-use Rattle.blocks.proofs.Updates.{changed, length-updatedFrom}
+use Rattle.plan.proofs.Plans.{shift-below, base-room}
+use Rattle.layout.specs.Layout.{shareLayout}
+use Rattle.layout.proofs.Places.{share-lawful}
+use Rattle.layout.proofs.Rewritten.{length-rewritten}
+use Rattle.blocks.specs.Blocks.{addedAt}
 use Rattle.update.proofs.Lane.{place-fits, entry-read, lane-symbol}
 use Rattle.update.proofs.Rewriting.{Rewriting, rewriting-start, rewriting-held, rewriting-put, rewriting-skip, rewriting-end}
 use Rattle.update.proofs.rewrite.Statement.{statement}
@@ -25,13 +25,7 @@ abbrev μ-loop : tie.MeasureT-loop
 
 -- the loop keeps the buffer's length
 kept : (c : tie.At-loop Inv-loop μ-loop) → length (c .loop .shares) ≡ length (c .before .before .before .before .args .shares .now)
-kept c = ap length (c .loop .inv .done) ∙ length-updatedFrom _ _ _ _ _ _ _ _
-
--- node j's place in the base word
-place : (c : tie.In-loop Inv-loop μ-loop)
-    → let a = c .before .before .before .before .before .args in
-    (c .before .loop .j + getD (a .t2 .shifts) (a .which) 0) % a .h .n < a .h .n
-place c = mod-lt _ (omega arith)
+kept c = ap length (c .loop .inv .done) ∙ length-rewritten share-lawful _ _ _ _ _ _ ∙ sym (c .before .before .before .before .pre .0 .long)
 
 -- node j's byte lies in the buffer
 inside : (c : tie.In-loop Inv-loop μ-loop)
@@ -39,7 +33,7 @@ inside : (c : tie.In-loop Inv-loop μ-loop)
     (c .before .loop .j * a .lanes + a .lane < length (c .before .loop .shares)) × (length (c .before .loop .shares) ≤ 1044480)
 inside c =
     let a = c .before .before .before .before .before .args in
-    let (ready, plan) = c .before .before .before .before .before .pre in
+    let (ready, factor, plan) = c .before .before .before .before .before .pre in
     let few : a .h .n ≤ 255 = omega arith in
     rw (kept (c .before), ready .long) (place-fits (a .h .n) (c .before .loop .j) (a .lanes) (a .lane) few (ready .few-lanes) (c .loop-test .taken) (ready .lane))
 
@@ -47,20 +41,20 @@ inside c =
 held : (c : tie.In-loop Inv-loop μ-loop)
     → let a = c .before .before .before .before .before .args in
     getD (c .before .loop .shares) (c .before .loop .j * a .lanes + a .lane) 0 < size (a .h)
-unfolding placeOf
 held c =
-    let (ready, plan) = c .before .before .before .before .before .pre in
-    rw (rewriting-held _ _ _ _ _ _ (ready .lane) (c .before .loop .inv)) (lane-symbol _ _ _ _ _ (ready .symbols) _ (c .loop-test .taken))
+    let (ready, factor, plan) = c .before .before .before .before .before .pre in
+    rw (rewriting-held _ _ _ _ _ _ (ready .lane) (c .before .loop .inv) (c .loop-test .taken)) (lane-symbol _ _ _ _ _ (ready .symbols) _ (c .loop-test .taken))
 
 -- and becomes what the update says
 after : (c : tie.After-renewed Inv-loop μ-loop)
-    → let a = c .before .before .before .before .before .before .before .before .args in
-    let l = c .before .before .before .before .loop in
-    c .renewed .result ≡ changed (a .h) (a .lanes) (a .which) (a .lane) (a .x) (l .shares) (l .j)
-unfolding placeOf
+    → let a = c .before .before .before .before .before .before .before .before .before .before .before .args in
+    let l = c .before .before .before .before .before .before .before .loop in
+    c .renewed .result ≡ addedAt shareLayout (a .h) (a .lanes) (a .which) (a .lane) (a .x) (a .shares .now) (l .j)
+unfolding addedAt
 after c =
-    let (ready, plan) = c .before .before .before .before .before .before .before .before .pre in
-    rw (← entry-read _ (ready .sound) _ plan _ _ (ready .row) (c .before .before .before .loop-test .taken)) (c .renewed .ensures)
+    let (ready, factor, plan) = c .before .before .before .before .before .before .before .before .before .before .before .pre in
+    let node = c .before .before .before .before .before .before .loop-test .taken in
+    rw (← entry-read _ (ready .sound) _ plan _ _ (ready .row) node, ← c .before .before .entry-at .ensures, ← rewriting-held _ _ _ _ _ _ (ready .lane) (c .before .before .before .before .before .before .before .loop .inv) node) (c .renewed .ensures)
 
 cast-n : tie.Need-cast-n Inv-loop μ-loop
 cast-n c = search needs
@@ -72,46 +66,42 @@ cast-shift : tie.Need-cast-shift Inv-loop μ-loop
 cast-shift c = search needs
 
 loop-holds : tie.Need-loop-holds Inv-loop μ-loop
-loop-holds c = rewriting-start _ _ _ _ _ _
+loop-holds c = rewriting-start _ _ _ _ _ _ (c .before .before .before .pre .0 .long)
 
-add-place : tie.Need-add-place Inv-loop μ-loop
-add-place c =
-    let a = c .before .before .before .before .before .args in
-    let byte : Fits w8 (getD (a .t2 .shifts) (a .which) 0) = search needs in
-    omega arith
+cast-entry-at : tie.Need-cast-entry-at Inv-loop μ-loop
+cast-entry-at c = omega arith
 
-rem-place : tie.Need-rem-place Inv-loop μ-loop
-rem-place c = omega arith
+cast-entry-at-2 : tie.Need-cast-entry-at-2 Inv-loop μ-loop
+cast-entry-at-2 c = omega arith
 
-cast-place : tie.Need-cast-place Inv-loop μ-loop
-cast-place c = omega (arith, place c)
-
-element-copy-out-entry : tie.Need-element-copy-out-entry Inv-loop μ-loop
-element-copy-out-entry c = omega (arith, place c)
+entry-at-requires : tie.Need-entry-at-requires Inv-loop μ-loop
+entry-at-requires c κs =
+    let (ready, factor, plan) = c .before .before .before .before .before .before .before .before .pre in
+    (omega arith, rw plan (shift-below _ (ready .sound) _ (ready .row)), c .before .before .before .loop-test .taken, rw plan (base-room _))
 
 mul-at : tie.Need-mul-at Inv-loop μ-loop
-mul-at c = omega (arith, inside (c .before))
+mul-at c = omega (arith, inside (c .before .before .before .before))
 
 add-at : tie.Need-add-at Inv-loop μ-loop
-add-at c = omega (arith, inside (c .before))
+add-at c = omega (arith, inside (c .before .before .before .before))
 
 cast-at : tie.Need-cast-at Inv-loop μ-loop
-cast-at c = omega (arith, inside (c .before))
+cast-at c = omega (arith, inside (c .before .before .before .before))
 
 slice-read-before : tie.Need-slice-read-before Inv-loop μ-loop
-slice-read-before c = omega (arith, inside (c .before .before))
+slice-read-before c = omega (arith, inside (c .before .before .before .before .before))
 
 renewed-requires : tie.Need-renewed-requires Inv-loop μ-loop
 renewed-requires c κs =
-    let (ready, plan) = c .before .before .before .before .before .before .before .pre in (
+    let (ready, factor, plan) = c .before .before .before .before .before .before .before .before .before .before .pre in (
       ready .sound,
-      ready .factor,
-      rw (entry-read _ (ready .sound) _ plan _ _ (ready .row) (c .before .before .loop-test .taken)) (entry-below _ (ready .sound) _ _),
-      held (c .before .before),
+      factor,
+      rw (c .before .entry-at .ensures, entry-read _ (ready .sound) _ plan _ _ (ready .row) (c .before .before .before .before .before .loop-test .taken)) (entry-below _ (ready .sound) _ _),
+      held (c .before .before .before .before .before),
     )
 
 slice-write-shares : tie.Need-slice-write-shares Inv-loop μ-loop
-slice-write-shares c = omega (arith, inside (c .before .before .before .before))
+slice-write-shares c = omega (arith, inside (c .before .before .before .before .before .before .before))
 
 add-count : tie.Need-add-count Inv-loop μ-loop
 add-count c = omega arith
@@ -123,11 +113,10 @@ loop-less : tie.Need-loop-less Inv-loop μ-loop
 loop-less c = omega arith
 
 loop-again : tie.Need-loop-again Inv-loop μ-loop
-unfolding placeOf
 loop-again c =
-    let (ready, plan) = c .before .before .before .before .before .before .before .before .before .pre in
-    let turn = c .before .before .before .before .before .loop .inv in
-    let node = c .before .before .before .before .loop-test .taken in
+    let (ready, factor, plan) = c .before .before .before .before .before .before .before .before .before .before .before .before .pre in
+    let turn = c .before .before .before .before .before .before .before .before .loop .inv in
+    let node = c .before .before .before .before .before .before .before .loop-test .taken in
     ⊎-elim
     (λ w. rw (w .1, w .2) (rewriting-put _ _ _ _ _ _ (ready .lane) turn node _ (after (c .before)) (w .0 .taken)))
     (λ w. rw (w .1, w .2) (rewriting-skip _ _ _ _ _ _ (ready .lane) turn node _ (after (c .before)) (w .0 .left)))
@@ -138,7 +127,7 @@ same-length c = kept (c .before)
 
 returns : tie.Need-returns Inv-loop μ-loop
 returns c =
-    let (ready, plan) = c .before .before .before .before .before .pre in
+    let (ready, factor, plan) = c .before .before .before .before .before .pre in
     rewriting-end _ _ _ _ _ _ (ready .lane) (c .before .loop .inv) (c .loop-test .left) (ready .long)
 
 pub rewrite-spec : {M : Type 1} → statement M
@@ -151,10 +140,9 @@ rewrite-spec =
     element-copy-out-shift
     cast-shift
     loop-holds
-    add-place
-    rem-place
-    cast-place
-    element-copy-out-entry
+    cast-entry-at
+    cast-entry-at-2
+    entry-at-requires
     mul-at
     add-at
     cast-at

@@ -3,12 +3,14 @@ use Prim.Native.Nat.{_<_}
 use mathlib.Core.Path.{_≡_, sym, _∙_}
 use native.Mathlib.Omega.{arith}
 use borrow.Author.Needs.{needs}
-use Rattle.field.specs.Fields.{sub}
-use Rattle.generator.specs.Records.{modulusOf, size}
+use Rattle.field.proofs.Bounds.{sub-below}
+use Rattle.generator.specs.Records.{size}
+use Rattle.refusals.specs.Faults.{updateFault}
+use Rattle.refusals.specs.Accepted.{UpdatableLane}
+use Rattle.refusals.proofs.Accepts.{update-accepts}
 use Rattle.blocks.specs.Blocks.{updated}
-use Rattle.blocks.specs.Faults.{updateFault}
-use Rattle.update.specs.Updating.{Ready}
-use Rattle.update.proofs.Answering.{accepted, refused-says, altered-says}
+use Rattle.blocks.proofs.Refused.{update-refuses}
+use Rattle.update.proofs.Answering.{altered-says}
 use Rattle.update.proofs.update_accepted.Statement.{statement}
 use Rattle.update.proofs.update_accepted.Tie as tie
 
@@ -20,8 +22,8 @@ none c = sym (c .before .update-fault .ensures) ∙ c .if1 .left
 
 ready : (c : tie.Else1)
     → let a = c .before .before .before .before .args in
-    Ready (a .h) (a .lanes) (a .which) (a .lane) (sub (modulusOf (a .h)) (a .new) (a .old)) (a .shares .now) × (a .old < size (a .h)) × (a .new < size (a .h))
-ready c = accepted _ _ _ _ _ _ _ (c .before .before .before .before .pre) (none c)
+    UpdatableLane (a .h) (a .lanes) (a .which) (a .lane) (a .shares .now) × (a .old < size (a .h)) × (a .new < size (a .h))
+ready c = update-accepts _ (c .before .before .before .before .pre) _ _ _ _ _ _ (none c)
 
 update-fault-requires : tie.Need-update-fault-requires
 update-fault-requires c κs = search needs
@@ -30,7 +32,7 @@ same-length : tie.Need-same-length
 same-length c = search needs
 
 returns : tie.Need-returns
-returns c = refused-says _ _ _ _ _ _ _ _ (c .before .update-fault .ensures) (c .if1 .taken)
+returns c = rw (← c .before .update-fault .ensures) (update-refuses _ _ (c .if1 .taken) _ _ _ _ _ _)
 
 sub-requires : tie.Need-sub-requires
 sub-requires c κs =
@@ -41,7 +43,9 @@ plan-of-requires : tie.Need-plan-of-requires
 plan-of-requires c κs = search needs
 
 rewrite-requires : tie.Need-rewrite-requires
-rewrite-requires c κs = (rw (c .before .before .sub .ensures) (ready (c .before .before .before) .0), c .before .plan-of .ensures)
+rewrite-requires c κs =
+    let (lane, old, new) = ready (c .before .before .before) in
+    (lane, rw (c .before .before .sub .ensures) (sub-below _ (lane .sound .field) new old), c .before .plan-of .ensures)
 
 same-length-2 : tie.Need-same-length-2
 same-length-2 c = search needs
@@ -50,7 +54,7 @@ returns-2 : tie.Need-returns-2
 unfolding updated
 returns-2 c =
     let (done, counted) = c .before .before .rewrite .ensures in
-    altered-says _ _ _ _ _ _ _ _ _ (none (c .before .before .before .before .before .before)) (rw (← c .before .before .before .before .before .sub .ensures) done) counted
+    altered-says _ _ _ _ _ _ _ _ _ _ (none (c .before .before .before .before .before .before)) (rw (← c .before .before .before .before .before .sub .ensures) done) counted
 
 pub update-accepted-spec : {M : Type 1} → statement M
 update-accepted-spec =

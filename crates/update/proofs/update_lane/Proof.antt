@@ -2,7 +2,8 @@
 use mathlib.Core.Path.{sym, _∙_}
 use borrow.Author.Needs.{needs}
 use Rattle.generator.proofs.Accepts.{accepted-sound}
-use Rattle.update.proofs.Answering.{held-says, met-says}
+use Rattle.refusals.proofs.OnRecord.{on-header, on-number}
+use Rattle.blocks.proofs.Refused.{update-refuses}
 use Rattle.update.proofs.update_lane.Statement.{statement}
 use Rattle.update.proofs.update_lane.Tie as tie
 
@@ -24,10 +25,11 @@ same-length c = search needs
 
 returns : tie.Need-returns
 returns c =
-    held-says _ _ _ _ _ _ _ _ _ _ (sym (c .before .before .before .before .before .before .before .read-record .ensures) ∙ c .before .before .before .before .before .h .given .1) (c .before .before .update-accepted .ensures)
+    on-header _ (sym (c .before .before .before .before .before .before .before .read-record .ensures) ∙ c .before .before .before .before .before .h .given .1) (c .before .before .update-accepted .ensures)
 
 returns-2 : tie.Need-returns-2
-returns-2 c = met-says _ _ _ _ _ _ _ _ (sym (c .before .before .before .read-record .ensures) ∙ c .before .number .given .1)
+returns-2 c =
+    on-number _ (sym (c .before .before .before .read-record .ensures) ∙ c .before .number .given .1) (λ h some. update-refuses h _ some _ _ _ _ _ _)
 
 pub update-lane-spec : {M : Type 1} → statement M
 update-lane-spec =

@@ -43,11 +43,11 @@ mul-start c = omega (arith, inside c)
 add-end : tie.Need-add-end Inv-loop μ-loop
 add-end c = omega (arith, inside c)
 
+mul-add-scaled : tie.Need-mul-add-scaled Inv-loop μ-loop
+mul-add-scaled c = omega arith
+
 shared-slice-read-add-scaled : tie.Need-shared-slice-read-add-scaled Inv-loop μ-loop
 shared-slice-read-add-scaled c = omega (arith, c .before .before .before .before .before .before .before .before .before .before .pre .2 .weights)
-
-cast-add-scaled : tie.Need-cast-add-scaled Inv-loop μ-loop
-cast-add-scaled c = omega (arith, c .shared-slice-known3 .given (c .before .before .loop .i))
 
 sub-add-scaled : tie.Need-sub-add-scaled Inv-loop μ-loop
 sub-add-scaled c = search needs
@@ -101,8 +101,8 @@ combine-spec =
     loop-holds
     mul-start
     add-end
+    mul-add-scaled
     shared-slice-read-add-scaled
-    cast-add-scaled
     sub-add-scaled
     part-add-scaled-start
     part-add-scaled-end

@@ -1,2 +1,0 @@
--- What holds where no number is met.
-pub mod Accepts

@@ -1,2 +1,0 @@
--- Listed nodes and their shares.
-pub mod Listed

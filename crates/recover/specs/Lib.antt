@@ -1,2 +1,0 @@
--- What the calls say over an accepted record's header.
-pub mod Headers

@@ -1,0 +1,108 @@
+-- What holds where a call meets none of the numbers 7 to 11.
+use mathlib.Core.Path.{_≡_}
+use mathlib.Core.Bool.{Bool, false}
+use mathlib.Core.List.{List}
+use Prim.Native.Nat.{ℕ, suc, _*_, _<_}
+use borrow.Author.Tests.{eq-eqb}
+use lib.ListN.{length}
+use Rattle.lists.specs.Choice.{firstOf, when}
+use Rattle.lists.proofs.Cases.{both-true, first-zero, when-zero}
+use Rattle.generator.specs.declared.Header.{Header}
+use Rattle.generator.specs.Records.{size, Sound}
+use Rattle.generator.specs.Claims.{areNodes}
+use Rattle.layout.specs.Layout.{laneOf, shareLayout}
+use Rattle.refusals.specs.Conditions.{lanesBad, lengthBad, numberBad, nodesBad, twiceBad, symbolBad, symbolsBad}
+use Rattle.refusals.specs.Faults.{encodeFault, updateFault, listFault, recoverFault, rebuildFault, belongsFault}
+use Rattle.refusals.specs.Accepted.{SymbolRows, ListedShares, UpdatableLane}
+use Rattle.refusals.proofs.NotMet.{lanes-good, length-good, number-good, nodes-good, twice-good, symbol-good, symbols-good}
+
+-- a number that is not met, and the numbers after it
+pub not-met : (t : Bool) (n rest : ℕ) → firstOf (when t (suc n)) rest ≡ 0 → (t ≡ false) × (rest ≡ 0)
+not-met t n rest e =
+    let (none, after) = first-zero (when t (suc n)) rest e in
+    (when-zero t n none, after)
+
+module _ (h : Header) (sound : Sound h) (l : ℕ) where
+  -- rows whose lanes, length and symbols pass
+  rows-good : (rows : ℕ) (s : List ℕ) → lanesBad l ≡ false → lengthBad (rows * l) (length s) ≡ false → symbolsBad h s ≡ false → SymbolRows h rows l s
+  rows-good rows s seven eight eleven =
+      let (some, few) = lanes-good l seven in
+      record {
+        sound = sound;
+        some-lane = some;
+        few-lanes = few;
+        long = length-good (rows * l) (length s) eight;
+        symbols = symbols-good h s eleven;
+      }
+
+  -- Encode: the message is a buffer of symbols, and the shares fill the written buffer
+  pub encode-accepts : (out : ℕ) (message : List ℕ) → encodeFault h l out message ≡ 0 → SymbolRows h (h .k) l message × (out ≡ h .n * l)
+  unfolding encodeFault
+  encode-accepts out message e =
+      let (seven, after) = not-met (lanesBad l) 6 _ e in
+      let (read, later) = not-met (lengthBad (h .k * l) (length message)) 7 _ after in
+      let (written, last) = not-met (lengthBad (h .n * l) out) 7 _ later in
+      (rows-good (h .k) message seven read (when-zero (symbolsBad h message) 10 last), length-good (h .n * l) out written)
+
+  -- Belongs: the shares are a full buffer of symbols
+  pub belongs-accepts : (shares : List ℕ) → belongsFault h l shares ≡ 0 → SymbolRows h (h .n) l shares
+  unfolding belongsFault
+  belongs-accepts shares e =
+      let (seven, after) = not-met (lanesBad l) 6 _ e in
+      let (eight, last) = not-met (lengthBad (h .n * l) (length shares)) 7 _ after in
+      rows-good (h .n) shares seven eight (when-zero (symbolsBad h shares) 10 last)
+
+  -- Update: the lane holds symbols, and so are the old and the new one
+  pub update-accepts : (r t old new : ℕ) (shares : List ℕ) → updateFault h l r t old new shares ≡ 0 → UpdatableLane h l r t shares × (old < size h) × (new < size h)
+  unfolding updateFault
+  update-accepts r t old new shares e =
+      let (seven, a) = not-met (lanesBad l) 6 _ e in
+      let (eight, b) = not-met (lengthBad (h .n * l) (length shares)) 7 _ a in
+      let (row, c) = not-met (numberBad (h .k) r) 8 _ b in
+      let (lane, d) = not-met (numberBad l t) 8 _ c in
+      let (first, f) = not-met (symbolBad h old) 10 _ d in
+      let (second, g) = not-met (symbolBad h new) 10 _ f in (
+        record {
+          sound = sound;
+          few-lanes = lanes-good l seven .1;
+          row = number-good (h .k) r row;
+          lane = number-good l t lane;
+          long = length-good (h .n * l) (length shares) eight;
+          symbols = symbols-good h (laneOf shareLayout (h .n) l t shares) (when-zero (symbolsBad h (laneOf shareLayout (h .n) l t shares)) 10 g);
+        },
+        symbol-good h old first,
+        symbol-good h new second,
+      )
+
+  module _ (nodes shares : List ℕ) where
+    -- a list of nodes and its shares
+    list-accepts : lanesBad l ≡ false → lengthBad (h .k) (length nodes) ≡ false → lengthBad (h .k * l) (length shares) ≡ false → listFault h nodes shares ≡ 0 → ListedShares h l nodes shares
+    unfolding listFault areNodes
+    list-accepts seven count long e =
+        let (nine, after) = not-met (nodesBad h nodes) 8 _ e in
+        let (ten, last) = not-met (twiceBad nodes) 9 _ after in
+        record {
+          rows = rows-good (h .k) shares seven long (when-zero (symbolsBad h shares) 10 last);
+          different = both-true (eq-eqb (length nodes) (h .k) (length-good (h .k) (length nodes) count)) (both-true (nodes-good h nodes nine) (twice-good nodes ten));
+        }
+
+    -- Recover: the message fills the written buffer
+    pub recover-accepts : (out : ℕ) → recoverFault h l nodes shares out ≡ 0 → ListedShares h l nodes shares × (out ≡ h .k * l)
+    unfolding recoverFault
+    recover-accepts out e =
+        let (seven, a) = not-met (lanesBad l) 6 _ e in
+        let (count, b) = not-met (lengthBad (h .k) (length nodes)) 7 _ a in
+        let (long, c) = not-met (lengthBad (h .k * l) (length shares)) 7 _ b in
+        let (written, rest) = not-met (lengthBad (h .k * l) out) 7 _ c in
+        (list-accepts seven count long rest, length-good (h .k * l) out written)
+
+    -- Rebuild: the target is a node, and its share fills the written buffer
+    pub rebuild-accepts : (target out : ℕ) → rebuildFault h l nodes shares target out ≡ 0 → ListedShares h l nodes shares × (target < h .n) × (out ≡ l)
+    unfolding rebuildFault
+    rebuild-accepts target out e =
+        let (seven, a) = not-met (lanesBad l) 6 _ e in
+        let (count, b) = not-met (lengthBad (h .k) (length nodes)) 7 _ a in
+        let (long, c) = not-met (lengthBad (h .k * l) (length shares)) 7 _ b in
+        let (written, d) = not-met (lengthBad l out) 7 _ c in
+        let (node, rest) = not-met (numberBad (h .n) target) 8 _ d in
+        (list-accepts seven count long rest, number-good (h .n) target node, length-good l out written)

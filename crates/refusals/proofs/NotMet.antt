@@ -1,0 +1,54 @@
+-- What holds where the condition of a number fails.
+use mathlib.Core.Path.{_≡_}
+use mathlib.Core.Bool.{true, false}
+use mathlib.Core.List.{List}
+use Prim.Native.Nat.{ℕ, _*_, _≤_, _<_}
+use native.Mathlib.Nat.{mul-le-mul}
+use native.Mathlib.Omega.{arith}
+use borrow.Author.Tests.{eqb-true, eqb-false, ltb-false, leb-false, not-false}
+use lib.Dec.{eqb, ltb}
+use Rattle.lists.specs.Numbers.{allBelow, distinct}
+use Rattle.lists.proofs.Cases.{or-left-false, or-right-false}
+use Rattle.generator.specs.declared.Header.{Header}
+use Rattle.generator.specs.Records.{size}
+use Rattle.refusals.specs.Conditions.{lanesBad, lengthBad, numberBad, nodesBad, twiceBad, symbolBad, symbolsBad}
+
+-- number 7
+pub lanes-good : (l : ℕ) → lanesBad l ≡ false → (0 < l) × (l ≤ 4096)
+unfolding lanesBad
+lanes-good l e =
+    let some : l ≡ 0 → ⊥ = eqb-false l 0 (or-left-false (eqb l 0) (ltb 4096 l) e) in
+    (omega arith, ltb-false 4096 l (or-right-false (eqb l 0) (ltb 4096 l) e))
+
+-- so a buffer has at most 255·4096 bytes
+pub buffer-small : (rows l : ℕ) → rows ≤ 255 → lanesBad l ≡ false → rows * l ≤ 1044480
+buffer-small rows l few good = mul-le-mul few (lanes-good l good .1)
+
+-- number 8
+pub length-good : (stated long : ℕ) → lengthBad stated long ≡ false → long ≡ stated
+unfolding lengthBad
+length-good stated long e = eqb-true long stated (not-false _ e)
+
+-- number 9
+pub number-good : (end x : ℕ) → numberBad end x ≡ false → x < end
+unfolding numberBad
+number-good end x e = leb-false end x e
+
+module _ (h : Header) where
+  pub nodes-good : (nodes : List ℕ) → nodesBad h nodes ≡ false → allBelow (h .n) nodes ≡ true
+  unfolding nodesBad
+  nodes-good nodes e = not-false _ e
+
+  -- number 11
+  pub symbol-good : (x : ℕ) → symbolBad h x ≡ false → x < size h
+  unfolding symbolBad
+  symbol-good x e = leb-false (size h) x e
+
+  pub symbols-good : (s : List ℕ) → symbolsBad h s ≡ false → allBelow (size h) s ≡ true
+  unfolding symbolsBad
+  symbols-good s e = not-false _ e
+
+-- number 10
+pub twice-good : (nodes : List ℕ) → twiceBad nodes ≡ false → distinct nodes ≡ true
+unfolding twiceBad
+twice-good nodes e = not-false _ e

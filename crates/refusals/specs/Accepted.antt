@@ -1,0 +1,33 @@
+-- What a call can rely on where no number is met.
+use mathlib.Core.Path.{_≡_}
+use mathlib.Core.Bool.{true}
+use mathlib.Core.List.{List}
+use Prim.Native.Nat.{ℕ, _*_, _≤_, _<_}
+use lib.ListN.{length}
+use Rattle.lists.specs.Numbers.{allBelow}
+use Rattle.generator.specs.declared.Header.{Header}
+use Rattle.generator.specs.Records.{size, Sound}
+use Rattle.generator.specs.Claims.{areNodes}
+use Rattle.layout.specs.Layout.{laneOf, shareLayout}
+
+-- rows of symbols in l lanes, over a sound header
+pub record SymbolRows (h : Header) (rows l : ℕ) (s : List ℕ) : Type 0 where
+  pub sound : Sound h
+  pub some-lane : 0 < l
+  pub few-lanes : l ≤ 4096
+  pub long : length s ≡ rows * l
+  pub symbols : allBelow (size h) s ≡ true
+
+-- shares of k different nodes
+pub record ListedShares (h : Header) (l : ℕ) (nodes shares : List ℕ) : Type 0 where
+  pub rows : SymbolRows h (h .k) l shares
+  pub different : areNodes h nodes ≡ true
+
+-- shares of which lane t holds symbols, and row r of the generator
+pub record UpdatableLane (h : Header) (l r t : ℕ) (shares : List ℕ) : Type 0 where
+  pub sound : Sound h
+  pub few-lanes : l ≤ 4096
+  pub row : r < h .k
+  pub lane : t < l
+  pub long : length shares ≡ h .n * l
+  pub symbols : allBelow (size h) (laneOf shareLayout (h .n) l t shares) ≡ true

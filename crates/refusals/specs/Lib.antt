@@ -1,0 +1,5 @@
+-- What turns a call away: the condition of each number, the numbers of each call, and what holds where none is met.
+pub mod Conditions
+pub mod Faults
+pub mod Accepted
+pub mod Promise

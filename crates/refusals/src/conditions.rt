@@ -1,0 +1,24 @@
+// The conditions of numbers 7 to 9 on numbers.
+ghost use mathlib.Core.Path.{_≡_};
+ghost use Rattle.refusals.specs.Conditions.{lanesBad, lengthBad, numberBad};
+
+// Number 7: no lane, or more than 4,096.
+pub fn lanes_bad(lanes: usize) -> bool
+    ensures { λ r. ⌜ r ≡ lanesBad lanes ⌝ }
+{
+    lanes == 0 || 4096 < lanes
+}
+
+// Number 8: another length than stated.
+pub fn length_bad(stated: usize, length: usize) -> bool
+    ensures { λ r. ⌜ r ≡ lengthBad stated length ⌝ }
+{
+    length != stated
+}
+
+// Number 9: not below the end of its range.
+pub fn number_bad(end: usize, x: usize) -> bool
+    ensures { λ r. ⌜ r ≡ numberBad end x ⌝ }
+{
+    end <= x
+}

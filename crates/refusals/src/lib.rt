@@ -1,0 +1,11 @@
+// What turns a call away: the condition of each number, and the first number that each call meets.
+mod conditions;
+mod faults;
+mod nodes;
+mod symbols;
+
+pub use faults::belongs_fault;
+pub use faults::encode_fault;
+pub use faults::rebuild_fault;
+pub use faults::recover_fault;
+pub use faults::update_fault;

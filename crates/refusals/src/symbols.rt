@@ -1,0 +1,63 @@
+// The condition of number 11 on a number, on a buffer, on the shares of a buffer one after the other, and on one lane.
+ghost use mathlib.Core.Path.{_≡_};
+ghost use mathlib.Core.Bool.{true};
+ghost use Prim.Native.Nat.{_*_, _≤_, _<_};
+ghost use lib.ListN.{length};
+ghost use Rattle.field.specs.Kinds.{usable};
+ghost use Rattle.layout.specs.Layout.{laneOf, shareLayout};
+ghost use Rattle.refusals.specs.Conditions.{symbolBad, symbolsBad};
+use generator::Header;
+
+// A number that is no symbol.
+pub fn symbol_bad(h: Header, x: u32) -> bool
+    requires { ⌜ usable (h .field) ≡ true ⌝ }
+    ensures { λ r. ⌜ r ≡ symbolBad h x ⌝ }
+{
+    let field = h.field;
+    field.size() <= x
+}
+
+// A byte of a buffer that is no symbol.
+pub fn symbols_bad(h: Header, s: &[u8]) -> bool
+    requires { ⌜ usable (h .field) ≡ true ⌝ }
+    ensures { λ r. ⌜ r ≡ symbolsBad h (now (s .entry)) ⌝ }
+{
+    let field = h.field;
+    !kernel::all_below(field.size(), s)
+}
+
+// The same for the shares of some nodes: each share is handed on as the part from its start to the next one's.
+pub fn shares_bad(h: Header, nodes: usize, lanes: usize, shares: &[u8]) -> bool
+    requires { ⌜ (usable (h .field) ≡ true) × (length (now shares) ≡ nodes * lanes) ⌝ }
+    ensures { λ r. ⌜ r ≡ symbolsBad h (now (shares .entry)) ⌝ }
+{
+    let mut node: usize = 0;
+    while node < nodes {
+        let start = node * lanes;
+        let end = start + lanes;
+        if symbols_bad(h, &shares[start..end]) {
+            return true;
+        }
+        node += 1;
+    }
+    false
+}
+
+// A byte of one lane that is no symbol; no other byte is read.
+pub fn lane_bad(h: Header, lanes: usize, lane: usize, shares: &[u8]) -> bool
+    requires { ⌜ (usable (h .field) ≡ true) × (lane < lanes) × (length (now shares) ≡ h .n * lanes) ⌝ }
+    ensures { λ r. ⌜ r ≡ symbolsBad h (laneOf shareLayout (h .n) lanes lane (now (shares .entry))) ⌝ }
+{
+    let n = h.n as usize;
+    let field = h.field;
+    let size = field.size();
+    let mut node: usize = 0;
+    while node < n {
+        let at = node * lanes + lane;
+        if size <= shares[at] as u32 {
+            return true;
+        }
+        node += 1;
+    }
+    false
+}

@@ -1,2 +1,0 @@
--- What the functions of an update rely on and promise.
-pub mod Updating
