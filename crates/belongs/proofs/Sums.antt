@@ -16,7 +16,7 @@ use Rattle.generator.specs.declared.Header.{Header}
 use Rattle.generator.specs.Records.{modulusOf}
 use Rattle.generator.specs.Codewords.{checkFrom}
 use Rattle.refusals.specs.Accepted.{SymbolRows}
-use Rattle.combine.specs.Combined.{combined, Rows}
+use Rattle.combine.specs.Combined.{combined, WeightedRows}
 use Rattle.combine.proofs.Columns.{column-ready, combined-column}
 use Rattle.belongs.specs.Ready.{powersOf, factorsOf}
 
@@ -40,7 +40,7 @@ module _ (h : Header) (e l : ℕ) (s : List ℕ) where
   check-sums y = combined-column (modulusOf h) (λ j. power (modulusOf h) (h .root) (j * e % h .n)) (checkFrom h e) (λ j. refl) (λ j w ws. refl) y 255 (h .n) l s
 
   -- the shares and the factors can be combined
-  pub rows-ready : SymbolRows h (h .n) l s → h .n ≤ 255 → (out : ℕ) → out ≡ l → Rows (h .field) (h .n) l (padded 255 (factorsOf h e)) s out
+  pub rows-ready : SymbolRows h (h .n) l s → h .n ≤ 255 → (out : ℕ) → out ≡ l → WeightedRows (h .field) (h .n) l (padded 255 (factorsOf h e)) s out
   unfolding factorsOf
   rows-ready b few out long =
       column-ready (λ j. power (modulusOf h) (h .root) (j * e % h .n)) (b .sound) few (λ j. power-below (modulusOf h) (b .sound .field) (j * e % h .n) (b .sound .root-below)) (b .long) (b .symbols) long

@@ -18,10 +18,10 @@ use Rattle.field.specs.Sums.{dot}
 use Rattle.field.proofs.FieldOf.{size-pos}
 use Rattle.generator.specs.declared.Header.{Header}
 use Rattle.generator.specs.Records.{modulusOf, size, Sound}
-use Rattle.combine.specs.Combined.{combined, Rows}
+use Rattle.combine.specs.Combined.{combined, WeightedRows}
 
 -- symbols of a sound header's field in a buffer and in an array of weights can be combined
-pub rows-ready : {h : Header} {rows l : ℕ} {ws s : List ℕ} {out : ℕ} → Sound h → rows ≤ 255 → length ws ≡ 255 → allBelow (size h) ws ≡ true → length s ≡ rows * l → allBelow (size h) s ≡ true → out ≡ l → Rows (h .field) rows l ws s out
+pub rows-ready : {h : Header} {rows l : ℕ} {ws s : List ℕ} {out : ℕ} → Sound h → rows ≤ 255 → length ws ≡ 255 → allBelow (size h) ws ≡ true → length s ≡ rows * l → allBelow (size h) s ≡ true → out ≡ l → WeightedRows (h .field) rows l ws s out
 rows-ready sound few weights below long symbols out-long =
     record {
       usable-field = sound .usable-field;
@@ -30,7 +30,7 @@ rows-ready sound few weights below long symbols out-long =
     }
 
 -- the same where the weight of row r is f r
-pub column-ready : {h : Header} (f : ℕ → ℕ) {rows l : ℕ} {s : List ℕ} {out : ℕ} → Sound h → rows ≤ 255 → ((r : ℕ) → f r < size h) → length s ≡ rows * l → allBelow (size h) s ≡ true → out ≡ l → Rows (h .field) rows l (padded 255 (from f 0 rows)) s out
+pub column-ready : {h : Header} (f : ℕ → ℕ) {rows l : ℕ} {s : List ℕ} {out : ℕ} → Sound h → rows ≤ 255 → ((r : ℕ) → f r < size h) → length s ≡ rows * l → allBelow (size h) s ≡ true → out ≡ l → WeightedRows (h .field) rows l (padded 255 (from f 0 rows)) s out
 column-ready {h} f {rows} sound few low long symbols out-long =
     let n = length-from f 0 rows in
     rows-ready sound few (length-padded 255 (from f 0 rows) (omega arith))

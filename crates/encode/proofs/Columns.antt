@@ -11,7 +11,7 @@ use Rattle.generator.specs.Codewords.{nodeFrom, nodeOf}
 use Rattle.generator.proofs.Bounds.{entry-below}
 use Rattle.refusals.specs.Accepted.{SymbolRows}
 use Rattle.blocks.specs.Blocks.{shareAt, shareOf}
-use Rattle.combine.specs.Combined.{combined, Rows}
+use Rattle.combine.specs.Combined.{combined, WeightedRows}
 use Rattle.combine.proofs.Columns.{column-ready, combined-column}
 use Rattle.encode.specs.Inner.{columnOf}
 
@@ -22,7 +22,7 @@ module _ (h : Header) (l : ℕ) (s : List ℕ) (j : ℕ) where
   share-sums = combined-column (modulusOf h) (λ r. entry h r j) (λ r ms. nodeFrom r h ms j) (λ r. refl) (λ r m ms. refl) byRow 255 (h .k) l s
 
   -- a message's rows and the column can be combined
-  pub rows-ready : SymbolRows h (h .k) l s → h .k ≤ 255 → (out : ℕ) → out ≡ l → Rows (h .field) (h .k) l (padded 255 (columnOf h j)) s out
+  pub rows-ready : SymbolRows h (h .k) l s → h .k ≤ 255 → (out : ℕ) → out ≡ l → WeightedRows (h .field) (h .k) l (padded 255 (columnOf h j)) s out
   unfolding columnOf
   rows-ready message few out long =
       column-ready (λ r. entry h r j) (message .sound) few (λ r. entry-below h (message .sound) r j) (message .long) (message .symbols) long
