@@ -11,6 +11,8 @@ use Rattle.lists.specs.Choice.{pick}
 use Rattle.lists.specs.Counting.{differ}
 use Rattle.lists.proofs.Cases.{by-test}
 use Rattle.scheme.proofs.Bounds.{price}
+use Rattle.layout.specs.Layout.{shareLayout}
+use Rattle.layout.proofs.Places.{share-lawful}
 use Rattle.generator.specs.declared.Header.{Header}
 use Rattle.generator.specs.Records.{headerOf, recordFault, size, distance, Sound}
 use Rattle.generator.specs.Codewords.{encoding}
@@ -22,17 +24,17 @@ use Rattle.generator.proofs.SchemeOf.{our-scheme, scheme-least}
 use Rattle.blocks.proofs.Shares.{lane-encodes}
 use Rattle.blocks.proofs.Messages.{some-buffer, one-buffer, gathered-message}
 use Rattle.blocks.proofs.Updates.{differ-same, updated-encodes, updated-others, updated-count}
-use Rattle.belongs.proofs.Words.{passes-words}
+use Rattle.blocks.proofs.Words.{passes-words}
 use Rattle.balanced.specs.Demands.{Recovering, Updating, Demands}
 
 recovering : (h : Header) → Sound h → Recovering h
 recovering h s =
     record {
-      encodes = lane-encodes h;
-      returns = λ l nodes m out pos nodes-are long below found. one-buffer h s l nodes nodes-are _ out m pos found (gathered-message h s l nodes nodes-are m long below);
-      some = λ l nodes shares pos nodes-are long below. some-buffer h s l nodes nodes-are shares pos long below;
-      one = λ l nodes shares m u pos nodes-are a b. one-buffer h s l nodes nodes-are shares m u pos a b;
-      passes = λ l shares. passes-words h l shares;
+      encodes = λ l m. lane-encodes h l m share-lawful;
+      returns = λ l nodes m out pos nodes-are long below found. one-buffer share-lawful h s l nodes nodes-are _ out m found (gathered-message share-lawful h s l nodes nodes-are m long below);
+      some = λ l nodes shares pos nodes-are long below. some-buffer share-lawful h s l nodes nodes-are shares long below;
+      one = λ l nodes shares m u pos nodes-are a b. one-buffer share-lawful h s l nodes nodes-are shares m u a b;
+      passes = passes-words shareLayout h;
     }
 
 -- how many nodes a change alters
@@ -45,10 +47,10 @@ count h s ms r new m row low =
 updating : (h : Header) → Sound h → Updating h
 updating h s =
     record {
-      lane = λ ms b l r t new. updated-encodes h s ms b l r t new;
-      altered = λ ms b l r t new. updated-count h s ms b l r t new;
+      lane = updated-encodes share-lawful h s;
+      altered = updated-count share-lawful h s;
       count = count h s;
-      others = λ ms b l r t new. updated-others h s ms b l r t new;
+      others = λ ms b l r t new is row inside low long encodes. updated-others share-lawful h l r t (getD ms r 0) new b;
     }
 
 pub demands : Demands

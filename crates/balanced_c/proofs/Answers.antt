@@ -3,19 +3,22 @@ use mathlib.Core.Path.{_≡_, refl, sym, ap, _∙_}
 use mathlib.Core.List.{List}
 use Prim.Native.Nat.{ℕ, zero, suc}
 use native.Mathlib.Omega.{arith}
+use borrow.Author.Tests.{eqb-true}
+use lib.Dec.{eqb}
 use lib.ListN.{length}
+use Rattle.lists.proofs.Cases.{by-test}
 use Rattle.generator.specs.Records.{headerOf}
 use Rattle.blocks.specs.declared.Outcome.{Outcome}
 use Rattle.blocks.specs.declared.Update.{Update}
 use Rattle.blocks.specs.declared.Update.the-variants as U
-use Rattle.blocks.specs.declared.Test.{Test}
-use Rattle.blocks.specs.declared.Test.the-variants as T
-use Rattle.blocks.specs.Blocks.{wrongFrom}
+use Rattle.blocks.specs.declared.Membership.{Membership}
+use Rattle.blocks.specs.declared.Membership.the-variants as M
+use Rattle.blocks.specs.Bytes.{wrongLane}
 use Rattle.refusals.specs.Faults.{encodeFault, updateFault, recoverFault, rebuildFault, belongsFault, faultOf}
-use Rattle.blocks.specs.Answers.{outcomeOf, updateOf, verdictOf, testOf, outcomeNumber}
+use Rattle.blocks.specs.Answers.{outcomeOf, updateOf, membershipOf, outcomeNumber}
 use Rattle.blocks.specs.Promises.{EncodeSays, UpdateSays, RecoverSays, RebuildSays, BelongsSays}
 use Rattle.blocks.proofs.Refused.{update-refused, refused-value}
-use Rattle.balanced_c.specs.Calls.{wrongLane, EncodeGives, UpdateGives, RecoverGives, RebuildGives, BelongsGives}
+use Rattle.balanced_c.specs.Calls.{EncodeGives, UpdateGives, RecoverGives, RebuildGives, BelongsGives}
 
 -- the number of an outcome is the one that it was made of
 outcome-number : (f : ℕ) → outcomeNumber (outcomeOf f) ≡ f
@@ -61,11 +64,10 @@ module _ (rec : List ℕ) (l symbol lane old new : ℕ) (shares : List ℕ) (alt
   pub update-done : (count : ℕ) → a ≡ U.Altered count → UpdateGives rec l symbol lane old new shares altered shares′ count 0
   update-done count e =
       let (none, same) = altered-means (faultOf rec (λ h. updateFault h l symbol lane old new shares)) _ count (sym e ∙ says .promise .answer) in
-      let written = rw none at (says .promise .written) in
       record {
         number = sym none;
         says = record { promise = record { answer = rw (none, same); written = says .promise .written } };
-        altered-is = rw written same;
+        altered-is = same;
       }
 
   pub update-refuses : (g : ℕ) → a ≡ U.Refused g → UpdateGives rec l symbol lane old new shares altered shares′ altered g
@@ -77,39 +79,34 @@ module _ (rec : List ℕ) (l symbol lane old new : ℕ) (shares : List ℕ) (alt
         altered-is = sym (refused-value g _ altered some);
       }
 
--- a test that said yes, named a lane, or was refused
-yes-means : (f wrong : ℕ) → T.Yes ≡ testOf f wrong → (f ≡ 0) × (wrong ≡ 0)
-unfolding testOf verdictOf
-yes-means zero zero e = (refl, refl)
-yes-means zero (suc t) e = never cc
-yes-means (suc f) wrong e = never cc
+-- a membership that is yes, names a lane, or was refused
+yes-means : (f l wrong : ℕ) → M.Yes ≡ membershipOf f l wrong → (f ≡ 0) × (wrong ≡ l)
+unfolding membershipOf
+yes-means zero l wrong e = (refl, by-test (eqb wrong l) (λ q. eqb-true wrong l q) (λ q. let w : M.Yes ≡ M.No wrong = rw q at e in never cc))
+yes-means (suc f) l wrong e = never cc
 
-no-means : (f wrong t : ℕ) → T.No t ≡ testOf f wrong → (f ≡ 0) × (wrong ≡ suc t)
-unfolding testOf verdictOf
-no-means zero zero t e = never cc
-no-means zero (suc u) t e = (refl, cc)
-no-means (suc f) wrong t e = never cc
+no-means : (f l wrong t : ℕ) → M.No t ≡ membershipOf f l wrong → (f ≡ 0) × (wrong ≡ t)
+unfolding membershipOf
+no-means zero l wrong t e = (refl, by-test (eqb wrong l) (λ q. let w : M.No t ≡ M.Yes = rw q at e in never cc) (λ q. let w : M.No t ≡ M.No wrong = rw q at e in cc))
+no-means (suc f) l wrong t e = never cc
 
-test-means : (f wrong g : ℕ) → T.Refused g ≡ testOf f wrong → (g ≡ f) × (g ≡ 0 → ⊥)
-unfolding testOf verdictOf
-test-means zero zero g e = never cc
-test-means zero (suc u) g e = never cc
-test-means (suc f) wrong g e = let same : g ≡ suc f = cc in (same, λ z. omega arith)
+refusal-means : (f l wrong g : ℕ) → M.Refused g ≡ membershipOf f l wrong → (g ≡ f) × (g ≡ 0 → ⊥)
+unfolding membershipOf
+refusal-means zero l wrong g e = by-test (eqb wrong l) (λ q. let w : M.Refused g ≡ M.Yes = rw q at e in never cc) (λ q. let w : M.Refused g ≡ M.No wrong = rw q at e in never cc)
+refusal-means (suc f) l wrong g e = let same : g ≡ suc f = cc in (same, λ z. omega arith)
 
-module _ (rec : List ℕ) (l : ℕ) (shares : List ℕ) (first : ℕ) (a : Test) (says : BelongsSays rec l shares a) where
-  pub belongs-yes : a ≡ T.Yes → BelongsGives rec l shares first l 0
-  unfolding wrongLane
+module _ (rec : List ℕ) (l : ℕ) (shares : List ℕ) (first : ℕ) (a : Membership) (says : BelongsSays rec l shares a) where
+  pub belongs-yes : a ≡ M.Yes → BelongsGives rec l shares first l 0
   belongs-yes e =
-      let (none, all) = yes-means (faultOf rec (λ h. belongsFault h l shares)) (wrongFrom l 0 (headerOf rec) l shares) (sym e ∙ says .promise .answer) in
-      record { number = sym none; first-is = rw all }
+      let (none, all) = yes-means (faultOf rec (λ h. belongsFault h l shares)) l (wrongLane (headerOf rec) l shares) (sym e ∙ says .promise .answer) in
+      record { number = sym none; first-is = sym all }
 
-  pub belongs-no : (t : ℕ) → a ≡ T.No t → BelongsGives rec l shares first t 0
-  unfolding wrongLane
+  pub belongs-no : (t : ℕ) → a ≡ M.No t → BelongsGives rec l shares first t 0
   belongs-no t e =
-      let (none, at) = no-means (faultOf rec (λ h. belongsFault h l shares)) (wrongFrom l 0 (headerOf rec) l shares) t (sym e ∙ says .promise .answer) in
-      record { number = sym none; first-is = rw at }
+      let (none, at) = no-means (faultOf rec (λ h. belongsFault h l shares)) l (wrongLane (headerOf rec) l shares) t (sym e ∙ says .promise .answer) in
+      record { number = sym none; first-is = sym at }
 
-  pub belongs-refuses : (g : ℕ) → a ≡ T.Refused g → BelongsGives rec l shares first first g
+  pub belongs-refuses : (g : ℕ) → a ≡ M.Refused g → BelongsGives rec l shares first first g
   belongs-refuses g e =
-      let (same, some) = test-means (faultOf rec (λ h. belongsFault h l shares)) (wrongFrom l 0 (headerOf rec) l shares) g (sym e ∙ says .promise .answer) in
+      let (same, some) = refusal-means (faultOf rec (λ h. belongsFault h l shares)) l (wrongLane (headerOf rec) l shares) g (sym e ∙ says .promise .answer) in
       record { number = same; first-is = sym (refused-value g _ first some) }

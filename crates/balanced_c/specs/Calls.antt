@@ -2,16 +2,15 @@
 use mathlib.Core.Path.{_≡_}
 use mathlib.Core.Bool.{_&&_, not}
 use mathlib.Core.List.{List, [], _∷_}
-use Prim.Native.Nat.{ℕ, zero, suc}
+use Prim.Native.Nat.{ℕ}
 use lib.Dec.{eqb}
 use lib.ListN.{length}
 use Rattle.lists.specs.Choice.{pick, when}
-use Rattle.lists.specs.Counting.{differ}
 use Rattle.generator.specs.Records.{headerOf, recordOf}
 use Rattle.generator.specs.Claims.{Promised}
 use Rattle.plan.specs.declared.Plan.{Plan}
 use Rattle.plan.specs.Plans.{planFor}
-use Rattle.blocks.specs.Blocks.{wrongFrom}
+use Rattle.blocks.specs.Bytes.{alteredCount, wrongLane}
 use Rattle.refusals.specs.Faults.{encodeFault, updateFault, recoverFault, rebuildFault, belongsFault, faultOf}
 use Rattle.blocks.specs.Answers.{outcomeOf, updateOf}
 use Rattle.blocks.specs.Promises.{EncodeSays, UpdateSays, RecoverSays, RebuildSays}
@@ -37,11 +36,11 @@ pub record EncodeGives (rec : List ℕ) (l : ℕ) (message shares shares′ : Li
   pub number : r ≡ faultOf rec (λ h. encodeFault h l (length shares) message)
   pub says : EncodeSays rec l message shares shares′ (outcomeOf r)
 
--- `balanced_update`: the number, what Update says of the shares, and how many of their bytes differ afterwards
+-- `balanced_update`: the number, what Update says of the shares, and how many of their symbols differ afterwards
 pub record UpdateGives (rec : List ℕ) (l symbol lane old new : ℕ) (shares : List ℕ) (altered : ℕ) (shares′ : List ℕ) (altered′ r : ℕ) : Type 0 where
   pub number : r ≡ faultOf rec (λ h. updateFault h l symbol lane old new shares)
   pub says : UpdateSays rec l symbol lane old new shares shares′ (updateOf r altered′)
-  pub altered-is : altered′ ≡ pick (eqb r 0) (differ shares shares′) altered
+  pub altered-is : altered′ ≡ pick (eqb r 0) (alteredCount (headerOf rec) l symbol lane old new shares) altered
 
 -- `balanced_recover`: the number, and what Recover says of the message
 pub record RecoverGives (rec : List ℕ) (l : ℕ) (nodes shares message message′ : List ℕ) (r : ℕ) : Type 0 where
@@ -53,12 +52,7 @@ pub record RebuildGives (rec : List ℕ) (l : ℕ) (nodes shares : List ℕ) (ta
   pub number : r ≡ faultOf rec (λ h. rebuildFault h l nodes shares target (length share))
   pub says : RebuildSays rec l nodes shares target share share′ (outcomeOf r)
 
--- the smallest wrong lane, from that lane plus 1; l from 0, which stands for none
-unfoldable pub wrongLane : ℕ → ℕ → ℕ
-wrongLane l zero = l
-wrongLane l (suc t) = t
-
 -- `balanced_belongs`: the smallest lane that is no word of the code, or the number of lanes where all are
 pub record BelongsGives (rec : List ℕ) (l : ℕ) (shares : List ℕ) (first first′ r : ℕ) : Type 0 where
   pub number : r ≡ faultOf rec (λ h. belongsFault h l shares)
-  pub first-is : first′ ≡ pick (eqb r 0) (wrongLane l (wrongFrom l 0 (headerOf rec) l shares)) first
+  pub first-is : first′ ≡ pick (eqb r 0) (wrongLane (headerOf rec) l shares) first

@@ -5,7 +5,7 @@ ghost use Rattle.lists.specs.Choice.{firstOf};
 ghost use Rattle.blocks.specs.Answers.{outcomeNumber};
 ghost use Rattle.balanced_c.specs.Calls.{lengthFault, numbersOf, PlanGives, EncodeGives, UpdateGives, RecoverGives, RebuildGives, BelongsGives};
 use blocks::Outcome;
-use blocks::Test;
+use blocks::Membership;
 use blocks::Update;
 use plan::Plan;
 
@@ -147,14 +147,14 @@ pub extern "C" fn balanced_belongs(
     ensures { λ r. ⌜ BelongsGives (now (rec .entry)) lanes (now (shares .entry)) (now («first_wrong» .entry)) (now («first_wrong» .exit)) r ⌝ }
 {
     match balanced::block_belongs(rec, lanes, shares) {
-        Test::Yes => {
+        Membership::Yes => {
             *first_wrong = lanes;
             0
         }
-        Test::No(lane) => {
+        Membership::No(lane) => {
             *first_wrong = lane;
             0
         }
-        Test::Refused(number) => number,
+        Membership::Refused(number) => number,
     }
 }

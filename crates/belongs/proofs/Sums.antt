@@ -9,6 +9,7 @@ use Rattle.lists.specs.Padded.{padded}
 use Rattle.lists.specs.Rows.{from}
 use Rattle.lists.proofs.Padding.{length-padded, getD-padded, in-padded}
 use Rattle.lists.proofs.Rows.{length-from, getD-from}
+use Rattle.layout.specs.Layout.{Arrangement, laneOf}
 use Rattle.field.specs.Fields.{power}
 use Rattle.field.proofs.Bounds.{power-below}
 use Rattle.field.proofs.FieldOf.{size-pos}
@@ -16,7 +17,6 @@ use Rattle.generator.specs.declared.Header.{Header}
 use Rattle.generator.specs.Records.{modulusOf, size}
 use Rattle.generator.specs.Codewords.{checkFrom}
 use Rattle.refusals.specs.Accepted.{SymbolRows}
-use Rattle.blocks.specs.Blocks.{laneOf}
 use Rattle.combine.specs.Combined.{combined, Rows}
 use Rattle.combine.proofs.Columns.{column-below, combined-column}
 use Rattle.belongs.specs.Ready.{powersOf, factorsOf}
@@ -36,9 +36,9 @@ module _ (h : Header) (i : ℕ) (low : i < h .n) where
 
 module _ (h : Header) (e l : ℕ) (s : List ℕ) where
   -- in every lane the check sum
-  pub check-sums : combined (modulusOf h) (h .n) l (padded 255 (factorsOf h e)) s ≡ from (λ t. checkFrom h e 0 (laneOf (h .n) l t s)) 0 l
+  pub check-sums : (y : Arrangement) → combined y (modulusOf h) (h .n) l (padded 255 (factorsOf h e)) s ≡ from (λ t. checkFrom h e 0 (laneOf y (h .n) l t s)) 0 l
   unfolding factorsOf checkFrom
-  check-sums = combined-column (modulusOf h) (λ j. power (modulusOf h) (h .root) (j * e % h .n)) (checkFrom h e) (λ j. refl) (λ j w ws. refl) 255 (h .n) l s
+  check-sums y = combined-column (modulusOf h) (λ j. power (modulusOf h) (h .root) (j * e % h .n)) (checkFrom h e) (λ j. refl) (λ j w ws. refl) y 255 (h .n) l s
 
   -- the shares and the factors can be combined
   pub rows-ready : SymbolRows h (h .n) l s → h .n ≤ 255 → (out : ℕ) → out ≡ l → Rows (h .field) (h .n) l (padded 255 (factorsOf h e)) s out

@@ -2,22 +2,19 @@
 use mathlib.Core.Path.{_≡_, refl, sym, ap, _∙_}
 use mathlib.Core.Bool.{true, _&&_}
 use mathlib.Core.List.{List}
-use Prim.Native.Nat.{ℕ, zero, suc, _+_, min}
+use Prim.Native.Nat.{ℕ, _+_, min}
 use native.Mathlib.Nat.{zero-add, min-comm}
 use native.Mathlib.Numerals.{add-one}
 use native.Mathlib.Omega.{arith}
-use borrow.Author.Tests.{eq-eqb, ne-eqb}
 use lib.Dec.{eqb}
 use lib.ListN.{length, getD}
-use Rattle.lists.specs.Choice.{pick}
 use Rattle.lists.specs.Rows.{from}
-use Rattle.lists.proofs.Cases.{by-test}
+use Rattle.lists.specs.Search.{firstFalse}
 use Rattle.lists.proofs.Rows.{length-from, getD-from}
+use Rattle.lists.proofs.Search.{search-ext, search-none, search-both}
+use Rattle.layout.specs.Layout.{Arrangement, laneOf}
 use Rattle.generator.specs.declared.Header.{Header}
-use Rattle.generator.specs.Codewords.{checkFrom, checksFrom, isWord}
-use Rattle.blocks.specs.Blocks.{laneOf, wrongFrom}
-use Rattle.belongs.specs.Search.{firstFalse}
-use Rattle.belongs.proofs.Search.{search-ext, search-none, search-both}
+use Rattle.generator.specs.Codewords.{checkFrom, checksFrom}
 
 -- the first value that is not 0, of values by a function of the index
 search-from : (f : ℕ → ℕ) (l : ℕ) (s : List ℕ) → s ≡ from f 0 l → firstFalse (length s) 0 (λ t. eqb (getD s t 0) 0) ≡ firstFalse l 0 (λ t. eqb (f t) 0)
@@ -31,14 +28,14 @@ checks-next : (e : ℕ) (h : Header) (ws : List ℕ) → (eqb (checkFrom h (e + 
 unfolding checksFrom
 checks-next e h ws = rw add-one
 
-module _ (h : Header) (l : ℕ) (s : List ℕ) where
+module _ (y : Arrangement) (h : Header) (l : ℕ) (s : List ℕ) where
   -- check sum e of lane t
   abbrev pub checkIn : ℕ → ℕ → ℕ
-  checkIn e t = checkFrom h e 0 (laneOf (h .n) l t s)
+  checkIn e t = checkFrom h e 0 (laneOf y (h .n) l t s)
 
   -- the first of l lanes that fails one of the check sums from 1 to e
   abbrev pub failing : ℕ → ℕ
-  failing e = firstFalse l 0 (λ t. checksFrom e h (laneOf (h .n) l t s))
+  failing e = firstFalse l 0 (λ t. checksFrom e h (laneOf y (h .n) l t s))
 
   pub failing-none : failing 0 ≡ l
   unfolding checksFrom
@@ -48,26 +45,5 @@ module _ (h : Header) (l : ℕ) (s : List ℕ) where
   failing-more e sums q =
       min-comm (failing e) (firstFalse (length sums) 0 (λ t. eqb (getD sums t 0) 0))
       ∙ ap (λ (x : ℕ). min x (failing e)) (search-from (checkIn (e + 1)) l sums q)
-      ∙ sym (search-both l 0 (λ t. eqb (checkIn (e + 1) t) 0) (λ t. checksFrom e h (laneOf (h .n) l t s)))
-      ∙ search-ext l 0 _ (λ t. checksFrom (e + 1) h (laneOf (h .n) l t s)) (λ t low high. checks-next e h (laneOf (h .n) l t s))
-
-  -- the first lane that is no word, of the f lanes from t on
-  abbrev pub firstWrong : ℕ → ℕ → ℕ
-  firstWrong f t = firstFalse f t (λ i. isWord h (laneOf (h .n) l i s))
-
-  -- the answer's number from it
-  wrong-from : (f t : ℕ) → wrongFrom f t h l s ≡ pick (eqb (firstWrong f t) (t + f)) 0 (firstWrong f t + 1)
-  unfolding wrongFrom firstFalse
-  wrong-from zero t = rw (eq-eqb t (t + 0) (omega arith))
-  wrong-from (suc f) t =
-      let end : t + suc f ≡ t + 1 + f = omega arith in
-      by-test (isWord h (laneOf (h .n) l t s))
-      (λ e. rw (e, end) (wrong-from f (t + 1)))
-      (λ e. rw (e, ne-eqb t (t + suc f) (λ q. omega arith)))
-
-  -- 0 where no lane is found, else the lane plus 1
-  pub wrong-none : firstWrong l 0 ≡ l → wrongFrom l 0 h l s ≡ 0
-  wrong-none e = wrong-from l 0 ∙ rw (zero-add, eq-eqb _ _ e)
-
-  pub wrong-some : (firstWrong l 0 ≡ l → ⊥) → wrongFrom l 0 h l s ≡ firstWrong l 0 + 1
-  wrong-some e = wrong-from l 0 ∙ rw (zero-add, ne-eqb _ _ e)
+      ∙ sym (search-both l 0 (λ t. eqb (checkIn (e + 1) t) 0) (λ t. checksFrom e h (laneOf y (h .n) l t s)))
+      ∙ search-ext l 0 _ (λ t. checksFrom (e + 1) h (laneOf y (h .n) l t s)) (λ t low high. checks-next e h (laneOf y (h .n) l t s))

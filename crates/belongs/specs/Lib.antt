@@ -1,3 +1,2 @@
--- What the check sums rely on, and the search for the smallest lane that fails a test.
+-- What the check sums rely on.
 pub mod Ready
-pub mod Search

@@ -6,14 +6,15 @@ ghost use lib.ListN.{length, getD};
 ghost use Rattle.lists.specs.Rows.{from};
 ghost use Rattle.lists.specs.Padded.{padded};
 ghost use Rattle.generator.specs.Records.{Sound};
-ghost use Rattle.generator.specs.Codewords.{checkFrom, isWord};
+ghost use Rattle.lists.specs.Search.{firstFalse};
+ghost use Rattle.generator.specs.Codewords.{checkFrom};
+ghost use Rattle.layout.specs.Layout.{laneOf, shareLayout};
 ghost use Rattle.refusals.specs.Faults.{belongsFault};
 ghost use Rattle.refusals.specs.Accepted.{SymbolRows};
-ghost use Rattle.blocks.specs.Blocks.{laneOf};
+ghost use Rattle.blocks.specs.Blocks.{firstWrong};
 ghost use Rattle.blocks.specs.Promises.{BelongsPromise, BelongsSays};
-ghost use Rattle.belongs.specs.Search.{firstFalse};
 ghost use Rattle.belongs.specs.Ready.{powersOf, factorsOf};
-use blocks::Test;
+use blocks::Membership;
 use generator::Header;
 use generator::Record;
 
@@ -55,7 +56,7 @@ fn factors(h: Header, powers: &[u8], e: usize) -> [u8; 255]
 // Check sum e of each lane.
 fn lane_sums(h: Header, powers: &[u8], e: usize, lanes: usize, shares: &[u8], sums: &mut [u8])
     requires { ⌜ SymbolRows h (h .n) lanes (now shares) × (now powers ≡ padded 255 (powersOf h)) × (e ≤ 255) × (length (now sums) ≡ lanes) ⌝ }
-    ensures { λ r. ⌜ now (sums .exit) ≡ from (λ t. checkFrom h e 0 (laneOf (h .n) lanes t (now (shares .entry)))) 0 lanes ⌝ }
+    ensures { λ r. ⌜ now (sums .exit) ≡ from (λ t. checkFrom h e 0 (laneOf shareLayout (h .n) lanes t (now (shares .entry)))) 0 lanes ⌝ }
 {
     let field = h.field;
     let n = h.n as usize;
@@ -83,7 +84,7 @@ fn smaller(a: usize, b: usize) -> usize
 // The smallest lane that is no word of the code, or the number of lanes.
 fn first_wrong(h: Header, lanes: usize, shares: &[u8]) -> usize
     requires { ⌜ SymbolRows h (h .n) lanes (now shares) ⌝ }
-    ensures { λ r. ⌜ r ≡ firstFalse lanes 0 (λ t. isWord h (laneOf (h .n) lanes t (now (shares .entry)))) ⌝ }
+    ensures { λ r. ⌜ r ≡ firstWrong shareLayout h lanes (now (shares .entry)) ⌝ }
 {
     let checks = (h.n - h.k) as usize;
     let table = powers(h);
@@ -99,27 +100,27 @@ fn first_wrong(h: Header, lanes: usize, shares: &[u8]) -> usize
 }
 
 // Tests a block over an accepted record's header.
-fn test_accepted(h: Header, lanes: usize, shares: &[u8]) -> Test
+fn test_accepted(h: Header, lanes: usize, shares: &[u8]) -> Membership
     requires { ⌜ Sound h ⌝ }
     ensures { λ r. ⌜ BelongsPromise lanes (now (shares .entry)) r h (belongsFault h lanes (now (shares .entry))) ⌝ }
 {
     let number = refusals::belongs_fault(h, lanes, shares);
     if number != 0 {
-        return Test::Refused(number);
+        return Membership::Refused(number);
     }
     let wrong = first_wrong(h, lanes, shares);
     if wrong == lanes {
-        return Test::Yes;
+        return Membership::Yes;
     }
-    Test::No(wrong as u32)
+    Membership::No(wrong as u32)
 }
 
 // Whether every lane is a word of the code: yes, the smallest lane that is none, or the number that turns the call away.
-pub fn block_belongs(rec: &[u8], lanes: u32, shares: &[u8]) -> Test
+pub fn block_belongs(rec: &[u8], lanes: u32, shares: &[u8]) -> Membership
     ensures { λ r. ⌜ BelongsSays (now (rec .entry)) lanes (now (shares .entry)) r ⌝ }
 {
     match records::read_record(rec) {
         Record::Holds(h) => test_accepted(h, lanes as usize, shares),
-        Record::Meets(number) => Test::Refused(number),
+        Record::Meets(number) => Membership::Refused(number),
     }
 }

@@ -1,4 +1,4 @@
--- Lanes, shares, updates, the code test and recovered messages as document 03 states them (specs/Blocks.antt and specs/Says.antt), and that ours are the same for every sound header.
+-- Lanes, shares, updates, the code test and recovered messages as document 03 states them (specs/Blocks.antt and specs/Says.antt), and that ours, with shares row after row, are the same for every sound header.
 -- Its text stands here but for the marks: what it has as `abbrev` is `unfoldable`. Its numbers 7 to 11 are quoted in FaultsAgreement, its records and generator in the crate `generator`, its arithmetic in the crate `field`;
 -- its `when` and `allBelow` are those of `lists`, the same recursions.
 use mathlib.Core.Path.{_≡_, refl, sym, ap, ap₂, _∙_}
@@ -6,23 +6,29 @@ use mathlib.Core.Logic.{_↔_}
 use mathlib.Core.Bool.{true, false, not}
 use mathlib.Core.List.{List, [], _∷_, _++_}
 use Prim.Native.Nat.{ℕ, zero, suc, _+_, _*_, _≤_, _<_}
-use native.Mathlib.Nat.{zero-mul, le-refl}
+use native.Mathlib.Nat.{zero-add, zero-mul, le-refl}
 use native.Mathlib.Numerals.{add-one}
 use native.Mathlib.Omega.{arith}
+use borrow.Author.Tests.{eq-eqb, ne-eqb}
 use lib.Dec.{eqb}
 use lib.ListN.{length, getD, set}
-use lib.Seq.{getD-set-other}
-use Rattle.lists.specs.Choice.{when}
+use Rattle.lists.specs.Choice.{pick, when}
 use Rattle.lists.specs.Counting as Counting
 use Rattle.lists.specs.Numbers.{allBelow}
 use Rattle.lists.specs.Rows.{from, rowsFrom}
+use Rattle.lists.specs.Search.{firstFalse}
 use Rattle.lists.proofs.All.{All}
 use Rattle.lists.proofs.Cases.{by-test}
 use Rattle.lists.proofs.Count.{count-move}
-use Rattle.lists.proofs.Lanes.{same-row}
 use Rattle.lists.proofs.Numbers.{below-at}
 use Rattle.lists.proofs.Places.{below, All-below-of, All-below}
 use Rattle.lists.proofs.Rows.{row-after}
+use Rattle.layout.specs.Layout as Layout
+use Rattle.layout.specs.Layout.{byRow, held, buffer}
+use Rattle.layout.proofs.Lawful.{by-row}
+use Rattle.layout.proofs.Buffers.{length-lane, getD-lane, lane-symbols}
+use Rattle.layout.proofs.Places.{place-by-row, held-by-row, buffer-by-row}
+use Rattle.layout.proofs.Rewritten.{rewritten, rewritten-none, rewritten-row, rewritten-held, rewritten-all}
 use Rattle.field.specs.Fields as F
 use Rattle.field.proofs.Agreement.{sizeOf, add, sub, mul, sizeOf-agrees, add-agrees, sub-agrees, mul-agrees}
 use Rattle.field.proofs.Bounds.{sub-below, mul-below}
@@ -36,9 +42,7 @@ use Rattle.generator.proofs.RecordsAgreement.{Header, given}
 use Rattle.generator.proofs.Agreement.{entry, nodeOf, isWord, entry-agrees, nodeOf-agrees, isWord-agrees, at-nodes-agrees}
 use Rattle.generator.proofs.Agreement as C
 use Rattle.blocks.specs.Blocks as Ours
-use Rattle.blocks.proofs.Shares.{length-lane, getD-lane}
-use Rattle.blocks.proofs.Messages.{lane-symbols}
-use Rattle.blocks.proofs.Updates.{length-updatedFrom}
+use Rattle.blocks.proofs.Updates.{length-updated}
 
 -- document 03's definitions: lanes and shares
 unfoldable pub laneFrom : ℕ → ℕ → ℕ → List ℕ → List ℕ
@@ -90,18 +94,18 @@ targetFrom zero t h l j m = []
 targetFrom (suc f) t h l j m = nodeOf h (laneOf (h .k) l t m) j ∷ targetFrom f (suc t) h l j m
 
 -- lanes, of every buffer
-laneFrom-agrees : (f i l t : ℕ) (s : List ℕ) → laneFrom f l (i * l + t) s ≡ from (λ j. getD s (Ours.placeOf l j t) 0) i f
-unfolding laneFrom from Ours.placeOf
-laneFrom-agrees zero i l t s = refl
-laneFrom-agrees (suc f) i l t s =
+laneFrom-agrees : (rows f i l t : ℕ) (s : List ℕ) → laneFrom f l (i * l + t) s ≡ from (λ j. held byRow rows l s j t) i f
+unfolding laneFrom from held byRow
+laneFrom-agrees rows zero i l t s = refl
+laneFrom-agrees rows (suc f) i l t s =
     let next : i * l + t + l ≡ (i + 1) * l + t = omega (arith, row-after i l) in
-    ap (λ (x : List ℕ). getD s (i * l + t) 0 ∷ x) (ap (λ (x : ℕ). laneFrom f l x s) next ∙ laneFrom-agrees f (i + 1) l t s)
+    ap (λ (x : List ℕ). getD s (i * l + t) 0 ∷ x) (ap (λ (x : ℕ). laneFrom f l x s) next ∙ laneFrom-agrees rows f (i + 1) l t s)
 
-pub laneOf-agrees : (rows l t : ℕ) (s : List ℕ) → laneOf rows l t s ≡ Ours.laneOf rows l t s
-unfolding laneOf Ours.laneOf
+pub laneOf-agrees : (rows l t : ℕ) (s : List ℕ) → laneOf rows l t s ≡ Layout.laneOf byRow rows l t s
+unfolding laneOf Layout.laneOf
 laneOf-agrees rows l t s =
     let first : t ≡ 0 * l + t = omega (arith, zero-mul l) in
-    ap (λ (x : ℕ). laneFrom rows l x s) first ∙ laneFrom-agrees rows 0 l t s
+    ap (λ (x : ℕ). laneFrom rows l x s) first ∙ laneFrom-agrees rows rows 0 l t s
 
 -- the places at which two lists of one length differ
 pub differ-agrees : (xs ys : List ℕ) → length xs ≡ length ys → differ xs ys ≡ Counting.differ xs ys
@@ -116,11 +120,11 @@ module _ (h : Own.Header) (sound : R.Sound h) where
   -- the shares of a message buffer
   module _ (l : ℕ) (s : List ℕ) (long : length s ≡ h .k * l) (symbols : allBelow (R.size h) s ≡ true) where
     -- what node j holds in lane t
-    node-agrees : (t j : ℕ) → t < l → nodeOf (given h) (laneOf (h .k) l t s) j ≡ Codewords.nodeOf h (Ours.laneOf (h .k) l t s) j
-    node-agrees t j inside = rw (laneOf-agrees (h .k) l t s) (nodeOf-agrees h sound (Ours.laneOf (h .k) l t s) j (lane-symbols (R.size h) (h .k) l t s inside long symbols))
+    node-agrees : (t j : ℕ) → t < l → nodeOf (given h) (laneOf (h .k) l t s) j ≡ Codewords.nodeOf h (Layout.laneOf byRow (h .k) l t s) j
+    node-agrees t j inside = rw (laneOf-agrees (h .k) l t s) (nodeOf-agrees h sound (Layout.laneOf byRow (h .k) l t s) j (lane-symbols by-row (h .k) l (R.size h) t s inside long symbols))
 
-    shareFrom-agrees : (f t j : ℕ) → t + f ≤ l → shareFrom f t (given h) l j s ≡ from (λ i. Codewords.nodeOf h (Ours.laneOf (h .k) l i s) j) t f
-    unfolding shareFrom from
+    shareFrom-agrees : (f t j : ℕ) → t + f ≤ l → shareFrom f t (given h) l j s ≡ from (Ours.shareAt h l s j) t f
+    unfolding shareFrom from Ours.shareAt
     shareFrom-agrees zero t j fits = refl
     shareFrom-agrees (suc f) t j fits = rw (add-one t) (ap₂ _∷_ (node-agrees t j (omega arith)) (shareFrom-agrees f (suc t) j (omega arith)))
 
@@ -133,9 +137,9 @@ module _ (h : Own.Header) (sound : R.Sound h) where
     sharesFrom-agrees zero j = refl
     sharesFrom-agrees (suc f) j = rw (add-one j) (ap₂ _++_ (shareOf-agrees j) (sharesFrom-agrees f (suc j)))
 
-    pub sharesOf-agrees : sharesOf (given h) l s ≡ Ours.sharesOf h l s
-    unfolding sharesOf Ours.sharesOf
-    sharesOf-agrees = sharesFrom-agrees (h .n) 0
+    pub sharesOf-agrees : sharesOf (given h) l s ≡ Ours.sharesOf byRow h l s
+    unfolding sharesOf Ours.sharesOf Ours.shareOf
+    sharesOf-agrees = sharesFrom-agrees (h .n) 0 ∙ sym (buffer-by-row (h .n) l (Ours.shareAt h l s))
 
     -- a rebuilt share is the share
     target-share : (f t j : ℕ) → targetFrom f t (given h) l j s ≡ shareFrom f t (given h) l j s
@@ -153,53 +157,72 @@ module _ (h : Own.Header) (sound : R.Sound h) where
       ∙ add-agrees (R.modulusOf h) b (F.mul (R.modulusOf h) x (G.entry h r j)) symbol (mul-below (R.modulusOf h) (sound .field) low (entry-below h sound r j))
 
   -- updates of a lane of symbols
-  module _ (l r t : ℕ) (inside : t < l) where
-    updatedFrom-agrees : (f j x : ℕ) (s : List ℕ) → x < R.size h → ((i : ℕ) → j ≤ i → i < j + f → getD s (i * l + t) 0 < R.size h) → updatedFrom f j (given h) l r t x s ≡ Ours.updatedFrom f j h l r t x s
-    unfolding updatedFrom Ours.updatedFrom Ours.placeOf
-    updatedFrom-agrees zero j x s low symbols = refl
-    updatedFrom-agrees (suc f) j x s low symbols =
-        let b : ℕ = F.add (R.modulusOf h) (getD s (j * l + t) 0) (F.mul (R.modulusOf h) x (G.entry h r j)) in
-        rw (add-one j, byte-agrees r j x (getD s (j * l + t) 0) low (symbols j (omega arith) (omega arith)))
-        (updatedFrom-agrees f (suc j) x (set s (j * l + t) b) low
-        (λ i above below.
-        rw (getD-set-other s (j * l + t) (i * l + t) b 0 (λ e. omega (arith, same-row i j l t t inside inside e)))
-        (symbols i (omega arith) (omega arith))))
+  module _ (l r t : ℕ) (inside : t < l) (old new : ℕ) (s : List ℕ) (long : length s ≡ h .n * l) (old-symbol : old < R.size h) (new-symbol : new < R.size h) (symbols : allBelow (R.size h) (Layout.laneOf byRow (h .n) l t s) ≡ true) where
+    -- the difference, and what a node holds before
+    abbrev x : ℕ
+    x = F.sub (R.modulusOf h) new old
 
-    module _ (old new : ℕ) (s : List ℕ) (old-symbol : old < R.size h) (new-symbol : new < R.size h) (symbols : allBelow (R.size h) (Ours.laneOf (h .n) l t s) ≡ true) where
-      pub updated-agrees : updated (given h) l r t old new s ≡ Ours.updated h l r t old new s
-      unfolding updated Ours.updated Ours.placeOf
-      updated-agrees =
-          rw (sub-agrees (R.modulusOf h) new old new-symbol old-symbol)
-          (updatedFrom-agrees (h .n) 0 (F.sub (R.modulusOf h) new old) s (sub-below (R.modulusOf h) (sound .field) new-symbol old-symbol)
-          (λ i above below. let node : i < h .n = omega arith in rw (getD-lane (h .n) l t s i node) at (below-at (R.size h) (Ours.laneOf (h .n) l t s) symbols i (omega (arith, length-lane (h .n) l t s)))))
+    held-symbol : (j : ℕ) → j < h .n → held byRow (h .n) l s j t < R.size h
+    held-symbol j node = rw (getD-lane byRow (h .n) l t s j node) at (below-at (R.size h) (Layout.laneOf byRow (h .n) l t s) symbols j (omega (arith, length-lane byRow (h .n) l t s)))
 
-      -- and how many bytes differ afterwards
-      pub altered-agrees : differ s (updated (given h) l r t old new s) ≡ Counting.differ s (Ours.updated h l r t old new s)
-      unfolding Ours.updated
-      altered-agrees = rw updated-agrees (differ-agrees s (Ours.updated h l r t old new s) (sym (length-updatedFrom h l r t (F.sub (R.modulusOf h) new old) (h .n) 0 s)))
+    -- the shares with the first j nodes of the lane rewritten
+    abbrev after : ℕ → List ℕ
+    after j = rewritten byRow (h .n) l t (Ours.addedAt byRow h l r t x s) s j
+
+    updatedFrom-agrees : (f j : ℕ) → j + f ≡ h .n → updatedFrom f j (given h) l r t x (after j) ≡ after (h .n)
+    unfolding updatedFrom Ours.addedAt
+    updatedFrom-agrees zero j e = let end : j ≡ h .n = omega arith in ap after end
+    updatedFrom-agrees (suc f) j e =
+        let node : j < h .n = omega arith in
+        let before : getD (after j) (j * l + t) 0 ≡ held byRow (h .n) l s j t = sym (held-by-row (h .n) l (after j) j t) ∙ rewritten-held by-row (h .n) l t (Ours.addedAt byRow h l r t x s) s inside j node in
+        rw
+        (before, byte-agrees r j x (held byRow (h .n) l s j t) (sub-below (R.modulusOf h) (sound .field) new-symbol old-symbol) (held-symbol j node), ← place-by-row (h .n) l j t, rewritten-row by-row (h .n) l t (Ours.addedAt byRow h l r t x s) s inside j node _ refl, ← add-one j)
+        (updatedFrom-agrees f (j + 1) (omega arith))
+
+    pub updated-agrees : updated (given h) l r t old new s ≡ Ours.updated byRow h l r t old new s
+    unfolding updated Ours.updated Ours.rowAdded
+    updated-agrees =
+        rw (sub-agrees (R.modulusOf h) new old new-symbol old-symbol)
+        (ap (λ (u : List ℕ). updatedFrom (h .n) 0 (given h) l r t x u) (sym (rewritten-none by-row (h .n) l t (Ours.addedAt byRow h l r t x s) s long))
+        ∙ updatedFrom-agrees (h .n) 0 (omega arith)
+        ∙ rewritten-all by-row (h .n) l t (Ours.addedAt byRow h l r t x s) s (h .n) (le-refl (h .n)))
+
+    -- and how many bytes differ afterwards
+    pub altered-agrees : differ s (updated (given h) l r t old new s) ≡ Counting.differ s (Ours.updated byRow h l r t old new s)
+    altered-agrees = rw updated-agrees (differ-agrees s (Ours.updated byRow h l r t old new s) (long ∙ sym (length-updated by-row h l r t old new s)))
 
   -- the code test of a full share buffer
   module _ (l : ℕ) (s : List ℕ) (long : length s ≡ h .n * l) (symbols : allBelow (R.size h) s ≡ true) where
-    word-agrees : (t : ℕ) → t < l → isWord (given h) (laneOf (h .n) l t s) ≡ Codewords.isWord h (Ours.laneOf (h .n) l t s)
-    word-agrees t inside = rw (laneOf-agrees (h .n) l t s) (isWord-agrees h sound (Ours.laneOf (h .n) l t s) (lane-symbols (R.size h) (h .n) l t s inside long symbols))
+    word-agrees : (t : ℕ) → t < l → isWord (given h) (laneOf (h .n) l t s) ≡ Codewords.isWord h (Layout.laneOf byRow (h .n) l t s)
+    word-agrees t inside = rw (laneOf-agrees (h .n) l t s) (isWord-agrees h sound (Layout.laneOf byRow (h .n) l t s) (lane-symbols by-row (h .n) l (R.size h) t s inside long symbols))
 
-    pub wrongFrom-agrees : (f t : ℕ) → t + f ≤ l → wrongFrom f t (given h) l s ≡ Ours.wrongFrom f t h l s
-    unfolding wrongFrom Ours.wrongFrom
-    wrongFrom-agrees zero t fits = refl
-    wrongFrom-agrees (suc f) t fits =
-        by-test (Codewords.isWord h (Ours.laneOf (h .n) l t s))
-        (λ b. rw (word-agrees t (omega arith) ∙ b, wrongFrom, b, add-one t) (wrongFrom-agrees f (suc t) (omega arith)))
-        (λ b. rw (word-agrees t (omega arith) ∙ b, wrongFrom, b, add-one t))
+    -- the first of f lanes from t on that is no word, or t + f
+    abbrev wrong : ℕ → ℕ → ℕ
+    wrong f t = firstFalse f t (λ i. Codewords.isWord h (Layout.laneOf byRow (h .n) l i s))
+
+    wrongFrom-lanes : (f t : ℕ) → t + f ≤ l → wrongFrom f t (given h) l s ≡ pick (eqb (wrong f t) (t + f)) 0 (wrong f t + 1)
+    unfolding wrongFrom firstFalse
+    wrongFrom-lanes zero t fits = rw (eq-eqb t (t + 0) (omega arith))
+    wrongFrom-lanes (suc f) t fits =
+        let end : t + suc f ≡ suc t + f = omega arith in
+        by-test (Codewords.isWord h (Layout.laneOf byRow (h .n) l t s))
+        (λ b. rw (word-agrees t (omega arith) ∙ b, wrongFrom, b, add-one t, end) (wrongFrom-lanes f (suc t) (omega arith)))
+        (λ b. rw (word-agrees t (omega arith) ∙ b, wrongFrom, b, add-one t, ne-eqb t (t + suc f) (λ q. omega arith)))
+
+    -- its answer is the smallest wrong lane plus 1, or 0
+    pub wrongFrom-agrees : wrongFrom l 0 (given h) l s ≡ pick (eqb (Ours.firstWrong byRow h l s) l) 0 (Ours.firstWrong byRow h l s + 1)
+    unfolding Ours.firstWrong
+    wrongFrom-agrees = rw zero-add at (wrongFrom-lanes l 0 (omega arith))
 
   -- the message that listed shares stand for
   module _ (l : ℕ) (js s m : List ℕ) where
     -- lane t of m is encoded to the shares' symbols
     abbrev Recovered : ℕ → Type 0
-    Recovered t = atNodes h (Ours.laneOf (h .k) l t m) js ≡ Ours.laneOf (h .k) l t s
+    Recovered t = atNodes h (Layout.laneOf byRow (h .k) l t m) js ≡ Layout.laneOf byRow (h .k) l t s
 
     module _ (long : length m ≡ h .k * l) (symbols : allBelow (R.size h) m ≡ true) where
-      lane-agrees : (t : ℕ) → t < l → C.at-nodes (given h) (laneOf (h .k) l t m) js ≡ atNodes h (Ours.laneOf (h .k) l t m) js
-      lane-agrees t inside = rw (laneOf-agrees (h .k) l t m) (at-nodes-agrees h sound (Ours.laneOf (h .k) l t m) js (lane-symbols (R.size h) (h .k) l t m inside long symbols))
+      lane-agrees : (t : ℕ) → t < l → C.at-nodes (given h) (laneOf (h .k) l t m) js ≡ atNodes h (Layout.laneOf byRow (h .k) l t m) js
+      lane-agrees t inside = rw (laneOf-agrees (h .k) l t m) (at-nodes-agrees h sound (Layout.laneOf byRow (h .k) l t m) js (lane-symbols by-row (h .k) l (R.size h) t m inside long symbols))
 
       lanesAre-all : (f : ℕ) → f ≤ l → lanesAre f (given h) l js s m → All Recovered (below f)
       unfolding lanesAre
@@ -214,7 +237,7 @@ module _ (h : Own.Header) (sound : R.Sound h) where
       pub lanesAre-agrees : lanesAre l (given h) l js s m ↔ ((t : ℕ) → t < l → Recovered t)
       lanesAre-agrees = (λ a. All-below Recovered l (lanesAre-all l (le-refl l) a), λ a. all-lanesAre l (le-refl l) (All-below-of Recovered l a))
 
-    pub IsMessageFor-agrees : IsMessageFor (given h) l js s m ↔ Ours.MessageFor h l js s m
+    pub IsMessageFor-agrees : IsMessageFor (given h) l js s m ↔ Ours.MessageFor byRow h l js s m
     unfolding IsMessageFor
     IsMessageFor-agrees =
         let q = sizeOf-agrees (R.modulusOf h) in (

@@ -14,6 +14,7 @@ use Rattle.lists.proofs.Cases.{by-test}
 use Rattle.field.proofs.Agreement.{sizeOf, sizeOf-agrees}
 use Rattle.generator.specs.Records as R
 use Rattle.generator.proofs.RecordsAgreement.{headerOf, recordFault, headerOf-agrees, recordFault-agrees}
+use Rattle.layout.specs.Layout.{shareLayout}
 use Rattle.refusals.specs.Faults as Ours
 use Rattle.refusals.specs.Conditions as Conditions
 use Rattle.blocks.proofs.Agreement.{laneOf, laneOf-agrees}
@@ -65,7 +66,7 @@ module _ (rec : List ℕ) (l : ℕ) where
   encodeFault-agrees out s = rw (headerOf-agrees rec, recordFault-agrees rec, lanesBad-agrees l, sizeOf-agrees (R.modulusOf (R.headerOf rec)), not-and, either)
 
   pub updateFault-agrees : (r t old new : ℕ) (s : List ℕ) → updateFault rec l r t old new s ≡ Ours.faultOf rec (λ h. Ours.updateFault h l r t old new s)
-  unfolding updateFault Ours.faultOf Ours.updateFault Conditions.lengthBad Conditions.numberBad Conditions.symbolBad Conditions.symbolsBad
+  unfolding updateFault Ours.faultOf Ours.updateFault shareLayout Conditions.lengthBad Conditions.numberBad Conditions.symbolBad Conditions.symbolsBad
   updateFault-agrees r t old new s = rw (headerOf-agrees rec, recordFault-agrees rec, lanesBad-agrees l, sizeOf-agrees (R.modulusOf (R.headerOf rec)), laneOf-agrees (R.headerOf rec .n) l t s, not-and, not-and, not-below, not-below, either, either-last, either-last)
 
   pub recoverFault-agrees : (nodes s : List ℕ) (out : ℕ) → recoverFault rec l nodes s out ≡ Ours.faultOf rec (λ h. Ours.recoverFault h l nodes s out)

@@ -2,6 +2,8 @@
 pub mod Shares
 pub mod Updates
 pub mod Messages
+pub mod Words
+pub mod Bytes
 pub mod Refused
 pub mod Notebook
 -- The same definitions as document 03 has them.

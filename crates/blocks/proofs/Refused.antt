@@ -8,8 +8,8 @@ use Rattle.lists.specs.Choice.{pick, pickT}
 use Rattle.generator.specs.declared.Header.{Header}
 use Rattle.blocks.specs.declared.Outcome.the-variants as O
 use Rattle.blocks.specs.declared.Update.the-variants as U
-use Rattle.blocks.specs.declared.Test.the-variants as T
-use Rattle.blocks.specs.Answers.{outcomeOf, updateOf, testOf}
+use Rattle.blocks.specs.declared.Membership.the-variants as M
+use Rattle.blocks.specs.Answers.{outcomeOf, updateOf, membershipOf}
 use Rattle.blocks.specs.Promises.{EncodePromise, UpdatePromise, RecoverPromise, RebuildPromise, BelongsPromise}
 
 -- the answers
@@ -23,10 +23,10 @@ unfolding updateOf
 update-refused zero count n = absurd (n refl)
 update-refused (suc g) count n = refl
 
-test-refused : (g wrong : ℕ) → (g ≡ 0 → ⊥) → testOf g wrong ≡ T.Refused g
-unfolding testOf
-test-refused zero wrong n = absurd (n refl)
-test-refused (suc g) wrong n = refl
+membership-refused : (g l wrong : ℕ) → (g ≡ 0 → ⊥) → membershipOf g l wrong ≡ M.Refused g
+unfolding membershipOf
+membership-refused zero l wrong n = absurd (n refl)
+membership-refused (suc g) l wrong n = refl
 
 -- what is written: the second of two values, of two statements
 pub refused-value : {A : Type 0} (g : ℕ) (a b : A) → (g ≡ 0 → ⊥) → pick (eqb g 0) a b ≡ b
@@ -48,5 +48,5 @@ module _ (h : Header) (g : ℕ) (some : g ≡ 0 → ⊥) (l : ℕ) where
   pub rebuild-refuses : (nodes shares : List ℕ) (target : ℕ) (out : List ℕ) → RebuildPromise l nodes shares target out out (O.Refused g) h g
   rebuild-refuses nodes shares target out = record { answer = sym (outcome-refused g some); written = refused-claim g _ _ some refl }
 
-  pub belongs-refuses : (shares : List ℕ) → BelongsPromise l shares (T.Refused g) h g
-  belongs-refuses shares = record { answer = sym (test-refused g _ some) }
+  pub belongs-refuses : (shares : List ℕ) → BelongsPromise l shares (M.Refused g) h g
+  belongs-refuses shares = record { answer = sym (membership-refused g l _ some) }

@@ -1,11 +1,13 @@
 -- The answers of the calls, from the number that turned a call away (0 for none) and its value.
 use Prim.Native.Nat.{ℕ, zero, suc}
+use lib.Dec.{eqb}
+use Rattle.lists.specs.Choice.{pick}
 use Rattle.blocks.specs.declared.Outcome.{Outcome}
 use Rattle.blocks.specs.declared.Outcome.the-variants as O
 use Rattle.blocks.specs.declared.Update.{Update}
 use Rattle.blocks.specs.declared.Update.the-variants as U
-use Rattle.blocks.specs.declared.Test.{Test}
-use Rattle.blocks.specs.declared.Test.the-variants as T
+use Rattle.blocks.specs.declared.Membership.{Membership}
+use Rattle.blocks.specs.declared.Membership.the-variants as M
 
 -- Encode, Recover, Rebuild
 unfoldable pub outcomeOf : ℕ → Outcome
@@ -17,14 +19,10 @@ unfoldable pub updateOf : ℕ → ℕ → Update
 updateOf zero count = U.Altered count
 updateOf (suc f) count = U.Refused (suc f)
 
--- Belongs: 0, or the smallest wrong lane plus 1
-unfoldable pub verdictOf : ℕ → Test
-verdictOf zero = T.Yes
-verdictOf (suc t) = T.No t
-
-unfoldable pub testOf : ℕ → ℕ → Test
-testOf zero wrong = verdictOf wrong
-testOf (suc f) wrong = T.Refused (suc f)
+-- Belongs: the smallest wrong lane of l, or l where none is wrong
+unfoldable pub membershipOf : ℕ → ℕ → ℕ → Membership
+membershipOf zero l wrong = pick (eqb wrong l) M.Yes (M.No wrong)
+membershipOf (suc f) l wrong = M.Refused (suc f)
 
 -- the number of the table that an answer gives, 0 where the call was accepted
 unfoldable pub outcomeNumber : Outcome → ℕ

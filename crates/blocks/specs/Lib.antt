@@ -1,4 +1,5 @@
 -- Blocks, answers and promises: the definitions that the contracts cite.
 pub mod Blocks
+pub mod Bytes
 pub mod Answers
 pub mod Promises

@@ -5,39 +5,38 @@ use Prim.Native.Nat.{ℕ}
 use lib.Dec.{eqb}
 use lib.ListN.{length}
 use Rattle.lists.specs.Choice.{pick, pickT}
-use Rattle.lists.specs.Counting.{differ}
 use Rattle.generator.specs.declared.Header.{Header}
 use Rattle.refusals.specs.Faults.{encodeFault, updateFault, recoverFault, rebuildFault, belongsFault}
 use Rattle.refusals.specs.Promise.{OnRecord}
 use Rattle.blocks.specs.declared.Outcome.{Outcome}
 use Rattle.blocks.specs.declared.Update.{Update}
-use Rattle.blocks.specs.declared.Test.{Test}
-use Rattle.blocks.specs.Blocks.{shareOf, sharesOf, updated, wrongFrom, MessageFor}
-use Rattle.blocks.specs.Answers.{outcomeOf, updateOf, testOf}
+use Rattle.blocks.specs.declared.Membership.{Membership}
+use Rattle.blocks.specs.Bytes.{encodedBytes, updatedBytes, alteredCount, RecoveredBytes, RebuiltBytes, wrongLane}
+use Rattle.blocks.specs.Answers.{outcomeOf, updateOf, membershipOf}
 
 -- Encode: in each lane the encoding of the message
 pub record EncodePromise (l : ℕ) (message out out′ : List ℕ) (r : Outcome) (h : Header) (f : ℕ) : Type 0 where
   pub answer : r ≡ outcomeOf f
-  pub written : out′ ≡ pick (eqb f 0) (sharesOf h l message) out
+  pub written : out′ ≡ pick (eqb f 0) (encodedBytes h l message) out
 
--- Update: the row added to the lane, and how many bytes differ afterwards
+-- Update: the row added to the lane, and how many symbols differ afterwards
 pub record UpdatePromise (l r t old new : ℕ) (shares shares′ : List ℕ) (a : Update) (h : Header) (f : ℕ) : Type 0 where
-  pub answer : a ≡ updateOf f (differ shares (updated h l r t old new shares))
-  pub written : shares′ ≡ pick (eqb f 0) (updated h l r t old new shares) shares
+  pub answer : a ≡ updateOf f (alteredCount h l r t old new shares)
+  pub written : shares′ ≡ pick (eqb f 0) (updatedBytes h l r t old new shares) shares
 
 -- Recover: the message of the listed shares
 pub record RecoverPromise (l : ℕ) (nodes shares out out′ : List ℕ) (r : Outcome) (h : Header) (f : ℕ) : Type 0 where
   pub answer : r ≡ outcomeOf f
-  pub written : pickT (eqb f 0) (MessageFor h l nodes shares out′) (out′ ≡ out)
+  pub written : pickT (eqb f 0) (RecoveredBytes h l nodes shares out′) (out′ ≡ out)
 
 -- Rebuild: the target's share of the encoding of that message
 pub record RebuildPromise (l : ℕ) (nodes shares : List ℕ) (target : ℕ) (out out′ : List ℕ) (r : Outcome) (h : Header) (f : ℕ) : Type 0 where
   pub answer : r ≡ outcomeOf f
-  pub written : pickT (eqb f 0) ((m : List ℕ) × MessageFor h l nodes shares m × (out′ ≡ shareOf h l m target)) (out′ ≡ out)
+  pub written : pickT (eqb f 0) (RebuiltBytes h l nodes shares target out′) (out′ ≡ out)
 
 -- Belongs: yes, or the smallest lane that is no word
-pub record BelongsPromise (l : ℕ) (shares : List ℕ) (r : Test) (h : Header) (f : ℕ) : Type 0 where
-  pub answer : r ≡ testOf f (wrongFrom l 0 h l shares)
+pub record BelongsPromise (l : ℕ) (shares : List ℕ) (r : Membership) (h : Header) (f : ℕ) : Type 0 where
+  pub answer : r ≡ membershipOf f l (wrongLane h l shares)
 
 -- the promises of the five calls, over the record as it is read
 abbrev pub EncodeSays : List ℕ → ℕ → List ℕ → List ℕ → List ℕ → Outcome → Type 0
@@ -52,5 +51,5 @@ RecoverSays rec l nodes shares out out′ r = OnRecord rec (λ h. recoverFault h
 abbrev pub RebuildSays : List ℕ → ℕ → List ℕ → List ℕ → ℕ → List ℕ → List ℕ → Outcome → Type 0
 RebuildSays rec l nodes shares target out out′ r = OnRecord rec (λ h. rebuildFault h l nodes shares target (length out)) (RebuildPromise l nodes shares target out out′ r)
 
-abbrev pub BelongsSays : List ℕ → ℕ → List ℕ → Test → Type 0
+abbrev pub BelongsSays : List ℕ → ℕ → List ℕ → Membership → Type 0
 BelongsSays rec l shares r = OnRecord rec (λ h. belongsFault h l shares) (BelongsPromise l shares r)

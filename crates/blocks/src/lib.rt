@@ -12,8 +12,8 @@ pub enum Update {
     Refused(u8),
 }
 
-// The answer of the code test: every lane is a word, the smallest lane that is none, or the number.
-pub enum Test {
+// The answer of Belongs: every lane is a word of the code, the smallest lane that is none, or the number.
+pub enum Membership {
     Yes,
     No(u32),
     Refused(u8),

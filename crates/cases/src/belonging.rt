@@ -1,7 +1,7 @@
 // Belongs: yes, the smallest lane that is no word, or the number.
 ghost use Prim.Native.Nat.{_≤_};
 ghost use lib.ListN.{length};
-use blocks::Test;
+use blocks::Membership;
 use test_tools::part;
 use test_tools::text;
 use test_tools::value;
@@ -17,8 +17,8 @@ pub fn belongs(rec: &[u8], line: &[u8], at: usize)
 
 fn tested(rec: &[u8], lanes: u32, shares: &[u8]) {
     match balanced::block_belongs(rec, lanes, shares) {
-        Test::Yes => text(b": yes"),
-        Test::No(lane) => value(b": no, lane", lane as u64),
-        Test::Refused(number) => value(b": refused", number as u64),
+        Membership::Yes => text(b": yes"),
+        Membership::No(lane) => value(b": no, lane", lane as u64),
+        Membership::Refused(number) => value(b": refused", number as u64),
     }
 }

@@ -1,30 +1,30 @@
 -- Listed rows of a buffer, added to a row one after the other.
-use mathlib.Core.Path.{_≡_, ap, ap₂, _∙_}
+use mathlib.Core.Path.{_≡_, sym, ap, ap₂, _∙_}
 use mathlib.Core.List.{List}
-use Prim.Native.Nat.{ℕ, _+_, _-_, _*_, _<_}
+use Prim.Native.Nat.{ℕ, _+_, _-_, _*_, _/_, _<_}
 use native.Mathlib.Omega.{arith}
 use lib.Bits.{bitXor, xor-zero-r}
 use lib.ListN.{length, getD, take, drop}
 use lib.Seq.{drop-length}
 use Rattle.lists.proofs.Front.{drop-next}
+use Rattle.layout.proofs.Places.{held-by-row}
 use Rattle.field.proofs.Xor.{xor-assoc}
 use Rattle.kernel.specs.Lanes.{lanewise}
 use Rattle.kernel.proofs.Lanes.{lanewise-same, lanewise-ext, lanewise-twice, getD-part}
-use Rattle.blocks.specs.Blocks.{placeOf}
-use Rattle.combine.specs.Digits.{sumOf, added}
+use Rattle.combine.specs.Digits.{rowAt, sumOf, added}
 
 module _ (l : ℕ) (s : List ℕ) where
   -- lane t of the sum of listed rows
   abbrev rowsAt : List ℕ → ℕ → ℕ
-  rowsAt js t = sumOf (λ j. getD s (placeOf l j t) 0) js
+  rowsAt js t = sumOf (λ j. rowAt l s j t) js
 
   -- a row that is lent as a part of the buffer
   abbrev pub part : ℕ → List ℕ
   part a = take (a + l - a) (drop a s)
 
-  part-lane : (a j t : ℕ) → a ≡ j * l → t < l → getD (part a) t 0 ≡ getD s (placeOf l j t) 0
-  unfolding placeOf
-  part-lane a j t e inside = rw e (getD-part (j * l) l s t inside)
+  part-lane : (a j t : ℕ) → a ≡ j * l → t < l → getD (part a) t 0 ≡ rowAt l s j t
+  unfolding rowAt
+  part-lane a j t e inside = rw e (getD-part (j * l) l s t inside) ∙ sym (held-by-row (length s / l) l s j t)
 
   -- no row
   pub added-none : (js acc : List ℕ) (i : ℕ) → i ≡ length js → added l s (drop i js) acc ≡ acc

@@ -11,10 +11,10 @@ use Rattle.lists.specs.Rows.{from}
 use Rattle.lists.proofs.Numbers.{at-below}
 use Rattle.lists.proofs.Padding.{below-padded}
 use Rattle.lists.proofs.Rows.{length-from, getD-from, from-ext}
+use Rattle.layout.specs.Layout.{Arrangement, laneOf}
+use Rattle.layout.proofs.Buffers.{length-lane}
 use Rattle.field.specs.Fields.{add, mul}
 use Rattle.field.specs.Sums.{dot}
-use Rattle.blocks.specs.Blocks.{laneOf}
-use Rattle.blocks.proofs.Shares.{length-lane}
 use Rattle.combine.specs.Combined.{combined}
 
 -- weights below q
@@ -32,8 +32,8 @@ module _ (p : ℕ) (f : ℕ → ℕ) (g : ℕ → List ℕ → ℕ) (none : (r :
   dot-column r (suc n) (m ∷ ms) rest fits = ap (add p (mul p m (f r))) (dot-column (r + 1) n ms rest (omega arith)) ∙ sym (more r m ms)
 
   -- in every lane
-  pub combined-column : (size rows l : ℕ) (s : List ℕ) → combined p rows l (padded size (from f 0 rows)) s ≡ from (λ t. g 0 (laneOf rows l t s)) 0 l
+  pub combined-column : (y : Arrangement) (size rows l : ℕ) (s : List ℕ) → combined y p rows l (padded size (from f 0 rows)) s ≡ from (λ t. g 0 (laneOf y rows l t s)) 0 l
   unfolding combined padded
-  combined-column size rows l s =
-      from-ext _ (λ t. g 0 (laneOf rows l t s)) 0 l
-      (λ t low high. dot-column 0 rows (laneOf rows l t s) (zeros (size - length (from f 0 rows))) (omega (arith, length-lane rows l t s)))
+  combined-column y size rows l s =
+      from-ext _ (λ t. g 0 (laneOf y rows l t s)) 0 l
+      (λ t low high. dot-column 0 rows (laneOf y rows l t s) (zeros (size - length (from f 0 rows))) (omega (arith, length-lane y rows l t s)))

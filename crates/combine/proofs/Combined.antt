@@ -13,6 +13,10 @@ use Rattle.lists.proofs.Front.{drop-next}
 use Rattle.lists.proofs.Fill.{from-zeros, length-zeros}
 use Rattle.lists.proofs.Rows.{length-from, getD-from}
 use Rattle.lists.proofs.Numbers.{at-below, below-at, below-cons, below-drop}
+use Rattle.layout.specs.Layout.{byRow, laneOf}
+use Rattle.layout.proofs.Lawful.{by-row}
+use Rattle.layout.proofs.Buffers.{length-lane, getD-lane, lane-symbols}
+use Rattle.layout.proofs.Places.{held-by-row}
 use Rattle.field.specs.Fields.{isField, sizeOf, add, mul}
 use Rattle.field.specs.Sums.{dot}
 use Rattle.field.proofs.BothKinds.{arithmetic}
@@ -20,9 +24,6 @@ use Rattle.field.proofs.Bounds.{add-below, mul-below}
 use Rattle.field.proofs.FieldOf.{size-pos}
 use Rattle.kernel.specs.Lanes.{addScaled}
 use Rattle.kernel.proofs.Lanes.{length-lanewise, getD-lanewise, getD-part}
-use Rattle.blocks.specs.Blocks.{placeOf, laneOf}
-use Rattle.blocks.proofs.Shares.{length-lane, getD-lane}
-use Rattle.blocks.proofs.Messages.{lane-symbols}
 use Rattle.combine.specs.Combined.{combined, Weighted}
 
 -- sums of symbols are symbols
@@ -45,19 +46,19 @@ getD-zeros l t h = rw (← from-zeros (λ t. 0) 0 l (λ t low high. refl)) (getD
 module _ (p rows l : ℕ) (ws s : List ℕ) where
   -- lane t of the sum over the rows from i on
   abbrev restAt : ℕ → ℕ → ℕ
-  restAt i t = dot p (drop i (laneOf rows l t s)) (drop i ws)
+  restAt i t = dot p (drop i (laneOf byRow rows l t s)) (drop i ws)
 
   -- acc holds the sums over the rows below i: with those from i on they are the sums over all
   pub record Summed (i : ℕ) (acc : List ℕ) : Type 0 where
     pub long : length acc ≡ l
     pub symbols : allBelow (sizeOf p) acc ≡ true
-    pub whole : (t : ℕ) → t < l → add p (getD acc t 0) (restAt i t) ≡ dot p (laneOf rows l t s) ws
+    pub whole : (t : ℕ) → t < l → add p (getD acc t 0) (restAt i t) ≡ dot p (laneOf byRow rows l t s) ws
 
   module _ (v : isField p ≡ true) {out : ℕ} (a : Weighted (sizeOf p) rows l ws s out) where
     rest-below : (i t : ℕ) → t < l → restAt i t < sizeOf p
     rest-below i t inside =
-        dot-below p v (drop i (laneOf rows l t s)) (drop i ws)
-        (below-drop (sizeOf p) i (laneOf rows l t s) (lane-symbols (sizeOf p) rows l t s inside (a .long) (a .symbols)))
+        dot-below p v (drop i (laneOf byRow rows l t s)) (drop i ws)
+        (below-drop (sizeOf p) i (laneOf byRow rows l t s) (lane-symbols by-row rows l (sizeOf p) t s inside (a .long) (a .symbols)))
         (below-drop (sizeOf p) i ws (a .weights-below))
 
     -- no row yet
@@ -76,14 +77,13 @@ module _ (p rows l : ℕ) (ws s : List ℕ) where
       abbrev term : ℕ → ℕ
       term t = mul p (getD (take (i * l + l - i * l) (drop (i * l) s)) t 0) (getD ws i 0)
 
-      symbol-at : (t : ℕ) → t < l → getD (take (i * l + l - i * l) (drop (i * l) s)) t 0 ≡ getD (laneOf rows l t s) i 0
-      unfolding placeOf
-      symbol-at t inside = getD-part (i * l) l s t inside ∙ sym (getD-lane rows l t s i row)
+      symbol-at : (t : ℕ) → t < l → getD (take (i * l + l - i * l) (drop (i * l) s)) t 0 ≡ getD (laneOf byRow rows l t s) i 0
+      symbol-at t inside = getD-part (i * l) l s t inside ∙ sym (getD-lane byRow rows l t s i row ∙ held-by-row rows l s i t)
 
       term-below : (t : ℕ) → t < l → term t < sizeOf p
       term-below t inside =
           rw (symbol-at t inside)
-          (mul-below p v (below-at (sizeOf p) (laneOf rows l t s) (lane-symbols (sizeOf p) rows l t s inside (a .long) (a .symbols)) i (omega (arith, length-lane rows l t s))) (below-at (sizeOf p) ws (a .weights-below) i (omega (arith, a .weights))))
+          (mul-below p v (below-at (sizeOf p) (laneOf byRow rows l t s) (lane-symbols by-row rows l (sizeOf p) t s inside (a .long) (a .symbols)) i (omega (arith, length-lane byRow rows l t s))) (below-at (sizeOf p) ws (a .weights-below) i (omega (arith, a .weights))))
 
       sum-below : (t : ℕ) → t < l → getD acc t 0 < sizeOf p
       sum-below t inside = below-at (sizeOf p) acc (held .symbols) t (omega (arith, held .long))
@@ -91,9 +91,9 @@ module _ (p rows l : ℕ) (ws s : List ℕ) where
       rest-next : (t : ℕ) → t < l → restAt i t ≡ add p (term t) (restAt (i + 1) t)
       unfolding dot
       rest-next t inside =
-          let lane : i < length (laneOf rows l t s) = omega (arith, length-lane rows l t s) in
+          let lane : i < length (laneOf byRow rows l t s) = omega (arith, length-lane byRow rows l t s) in
           let weight : i < length ws = omega (arith, a .weights) in
-          rw (symbol-at t inside, drop-next (laneOf rows l t s) i 0 lane, drop-next ws i 0 weight)
+          rw (symbol-at t inside, drop-next (laneOf byRow rows l t s) i 0 lane, drop-next ws i 0 weight)
 
       pub summed-row : Summed (i + 1) (addScaled p (getD ws i 0) (take (i * l + l - i * l) (drop (i * l) s)) acc)
       unfolding addScaled
@@ -117,14 +117,14 @@ module _ (p rows l : ℕ) (ws s : List ℕ) where
           }
 
     -- all rows
-    pub summed-all : (i : ℕ) (acc : List ℕ) → rows ≤ i → Summed i acc → acc ≡ combined p rows l ws s
+    pub summed-all : (i : ℕ) (acc : List ℕ) → rows ≤ i → Summed i acc → acc ≡ combined byRow p rows l ws s
     unfolding combined dot
     summed-all i acc end held =
-        ext-getD 0 acc _ (held .long ∙ sym (length-from (λ t. dot p (laneOf rows l t s) ws) 0 l))
+        ext-getD 0 acc _ (held .long ∙ sym (length-from (λ t. dot p (laneOf byRow rows l t s) ws) 0 l))
         (λ t h.
         let lane : t < l = omega (arith, held .long) in
-        let none : restAt i t ≡ 0 = ap (λ (ys : List ℕ). dot p ys (drop i ws)) (drop-of-length-le (laneOf rows l t s) {i = i} (omega (arith, length-lane rows l t s))) in
+        let none : restAt i t ≡ 0 = ap (λ (ys : List ℕ). dot p ys (drop i ws)) (drop-of-length-le (laneOf byRow rows l t s) {i = i} (omega (arith, length-lane byRow rows l t s))) in
         sym (arithmetic p v .add-zero (getD acc t 0) (below-at (sizeOf p) acc (held .symbols) t h))
         ∙ ap (add p (getD acc t 0)) (sym none)
         ∙ held .whole t lane
-        ∙ sym (rw zero-add at (getD-from (λ t. dot p (laneOf rows l t s) ws) 0 l t 0 lane)))
+        ∙ sym (rw zero-add at (getD-from (λ t. dot p (laneOf byRow rows l t s) ws) 0 l t 0 lane)))

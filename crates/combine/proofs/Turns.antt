@@ -12,13 +12,15 @@ use Rattle.lists.specs.Padded.{zeros}
 use Rattle.lists.proofs.Fill.{from-zeros}
 use Rattle.lists.proofs.Front.{drop-next}
 use Rattle.lists.proofs.Numbers.{below-at}
-use Rattle.lists.proofs.Rows.{length-from, from-ext, row-inside}
+use Rattle.lists.proofs.Rows.{length-from, from-ext}
+use Rattle.layout.specs.Layout.{byRow, held, laneOf}
+use Rattle.layout.proofs.Lawful.{by-row}
+use Rattle.layout.proofs.Buffers.{held-below}
 use Rattle.field.specs.Bytes.{timesX}
 use Rattle.field.specs.Sums.{dot}
 use Rattle.kernel.proofs.Lanes.{lanewise-twice, lanewise-from}
-use Rattle.blocks.specs.Blocks.{placeOf, laneOf}
 use Rattle.combine.specs.Combined.{combined, Weighted}
-use Rattle.combine.specs.Digits.{rowsWith, sumOf, added, multiplied}
+use Rattle.combine.specs.Digits.{rowsWith, rowAt, sumOf, added, multiplied}
 use Rattle.combine.proofs.Horner.{dot-none, dot-halved}
 
 -- a sum over the first rows by their weights, as a list by index
@@ -36,7 +38,7 @@ module _ (rows l : ℕ) (ws s : List ℕ) where
 
   -- the sums with those weights
   unfoldable pub sumsOf : ℕ → List ℕ
-  sumsOf digit = combined 0 rows l (from (highOf digit) 0 rows) s
+  sumsOf digit = combined byRow 0 rows l (from (highOf digit) 0 rows) s
 
   pub length-sums : (digit : ℕ) → length (sumsOf digit) ≡ l
   unfolding sumsOf combined
@@ -44,12 +46,11 @@ module _ (rows l : ℕ) (ws s : List ℕ) where
 
   -- row i's symbol of lane t
   abbrev symbolAt : ℕ → ℕ → ℕ
-  symbolAt t i = getD s (placeOf l i t) 0
+  symbolAt t i = held byRow rows l s i t
 
   module _ {out : ℕ} (a : Weighted 256 rows l ws s out) where
     symbol-byte : (t : ℕ) → t < l → (i : ℕ) → i < rows → symbolAt t i < 256
-    unfolding placeOf
-    symbol-byte t inside i row = below-at 256 s (a .symbols) (i * l + t) (omega (arith, row-inside rows i l row, a .long))
+    symbol-byte t inside i row = held-below by-row rows l 256 s (a .long) (a .symbols) i t row inside
 
     weight-byte : (i : ℕ) → i < rows → getD ws i 0 < 256
     weight-byte i row = below-at 256 ws (a .weights-below) i (omega (arith, a .weights))
@@ -65,7 +66,7 @@ module _ (rows l : ℕ) (ws s : List ℕ) where
 
     -- one digit less
     multiplied-added : (d e : ℕ) → d + 1 ≡ e → added l s (rowsWith d rows ws) (multiplied (sumsOf e)) ≡ sumsOf d
-    unfolding sumsOf combined laneOf added multiplied rowsWith
+    unfolding sumsOf combined laneOf held byRow rowAt added multiplied rowsWith
     multiplied-added d e next =
         lanewise-twice _ _ (sumsOf e)
         ∙ lanewise-from _ _ _ l
@@ -80,7 +81,7 @@ module _ (rows l : ℕ) (ws s : List ℕ) where
     pub sums-turn : (d e n : ℕ) (acc : List ℕ) → d + 1 ≡ e → n ≡ rows → acc ≡ sumsOf e → added l s (rowsWith d n ws) (multiplied acc) ≡ sumsOf d
     sums-turn d e n acc next all held = rw (all, held) (multiplied-added d e next)
 
-    pub sums-end : sumsOf 0 ≡ combined 0 rows l ws s
+    pub sums-end : sumsOf 0 ≡ combined byRow 0 rows l ws s
     unfolding sumsOf combined laneOf
     sums-end =
         from-ext _ _ 0 l

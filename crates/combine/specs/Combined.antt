@@ -6,15 +6,15 @@ use Prim.Native.Nat.{ℕ, _*_, _≤_}
 use lib.ListN.{length}
 use Rattle.lists.specs.Rows.{from}
 use Rattle.lists.specs.Numbers.{allBelow}
+use Rattle.layout.specs.Layout.{Arrangement, laneOf}
 use Rattle.field.specs.declared.Field.{Field}
 use Rattle.field.specs.Fields.{sizeOf}
 use Rattle.field.specs.Kinds.{modulus, usable}
 use Rattle.field.specs.Sums.{dot}
-use Rattle.blocks.specs.Blocks.{laneOf}
 
 -- in each lane the sum of the rows' symbols times the weights
-unfoldable pub combined : ℕ → ℕ → ℕ → List ℕ → List ℕ → List ℕ
-combined p rows l ws s = from (λ t. dot p (laneOf rows l t s) ws) 0 l
+unfoldable pub combined : Arrangement → ℕ → ℕ → ℕ → List ℕ → List ℕ → List ℕ
+combined y p rows l ws s = from (λ t. dot p (laneOf y rows l t s) ws) 0 l
 
 -- rows of l symbols below q, a weight for each row, and a row to write
 pub record Weighted (q rows l : ℕ) (ws s : List ℕ) (out : ℕ) : Type 0 where

@@ -6,9 +6,9 @@ use lib.Bits.{bitXor}
 use lib.Dec.{eqb}
 use lib.ListN.{length, getD, drop}
 use Rattle.lists.specs.Counting.{passingFrom}
+use Rattle.layout.specs.Layout.{byRow, held}
 use Rattle.field.specs.Bytes.{timesX}
 use Rattle.kernel.specs.Lanes.{lanewise}
-use Rattle.blocks.specs.Blocks.{placeOf}
 
 -- of the first rows, those whose weight has the digit
 unfoldable pub rowsWith : ℕ → ℕ → List ℕ → List ℕ
@@ -19,9 +19,13 @@ unfoldable pub sumOf : (ℕ → ℕ) → List ℕ → ℕ
 sumOf f [] = 0
 sumOf f (j ∷ js) = bitXor (f j) (sumOf f js)
 
+-- the symbol of row j in lane t, of a buffer of rows of l symbols
+unfoldable pub rowAt : ℕ → List ℕ → ℕ → ℕ → ℕ
+rowAt l s j t = held byRow (length s / l) l s j t
+
 -- acc with the listed rows of a buffer added
 unfoldable pub added : ℕ → List ℕ → List ℕ → List ℕ → List ℕ
-added l s js acc = lanewise (λ t y. bitXor y (sumOf (λ j. getD s (placeOf l j t) 0) js)) acc
+added l s js acc = lanewise (λ t y. bitXor y (sumOf (λ j. rowAt l s j t) js)) acc
 
 -- x times each lane
 unfoldable pub multiplied : List ℕ → List ℕ

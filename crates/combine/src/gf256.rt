@@ -3,6 +3,7 @@
 ghost use mathlib.Core.Path.{_≡_};
 ghost use Prim.Native.Nat.{_+_, _-_, _*_, _%_, _≤_, _<_};
 ghost use lib.ListN.{length, take, drop};
+ghost use Rattle.layout.specs.Layout.{byRow};
 ghost use Rattle.combine.specs.Combined.{Weighted, combined};
 ghost use Rattle.combine.specs.Digits.{rowsWith, added, multiplied, Listed, Started};
 use kernel::gf256;
@@ -81,7 +82,7 @@ fn step(digit: u8, weights: &[u8], lanes: usize, shares: &[u8], list: &mut [u8],
 // In each lane the sum of the rows' symbols times the weights.
 pub fn combine(weights: &[u8], rows: usize, lanes: usize, shares: &[u8], acc: &mut [u8])
     requires { ⌜ Weighted 256 rows lanes (now weights) (now shares) (length (now acc)) ⌝ }
-    ensures { λ r. ⌜ now (acc .exit) ≡ combined 0 rows lanes (now (weights .entry)) (now (shares .entry)) ⌝ }
+    ensures { λ r. ⌜ now (acc .exit) ≡ combined byRow 0 rows lanes (now (weights .entry)) (now (shares .entry)) ⌝ }
 {
     let mut list = [0u8; 255];
     kernel::clear(acc);

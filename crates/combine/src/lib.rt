@@ -1,6 +1,7 @@
 // Sums of rows times weights, in every lane: the work of Encode, Recover, Rebuild and Belongs.
 ghost use mathlib.Core.Path.{_≡_};
 ghost use lib.ListN.{length};
+ghost use Rattle.layout.specs.Layout.{byRow};
 ghost use Rattle.field.specs.Kinds.{modulus};
 ghost use Rattle.combine.specs.Combined.{Rows, combined};
 use field::Field;
@@ -18,7 +19,7 @@ pub fn combine(
     acc: &mut [u8],
 )
     requires { ⌜ Rows field rows lanes (now weights) (now shares) (length (now acc)) ⌝ }
-    ensures { λ r. ⌜ now (acc .exit) ≡ combined (modulus field) rows lanes (now (weights .entry)) (now (shares .entry)) ⌝ }
+    ensures { λ r. ⌜ now (acc .exit) ≡ combined byRow (modulus field) rows lanes (now (weights .entry)) (now (shares .entry)) ⌝ }
 {
     match field {
         Field::Prime(f) => prime::combine(f.p as u16, weights, rows, lanes, shares, acc),

@@ -4,6 +4,7 @@ ghost use mathlib.Core.Bool.{true};
 ghost use Prim.Native.Nat.{_≤_};
 ghost use lib.ListN.{length};
 ghost use Rattle.field.specs.Primes.{isPrime};
+ghost use Rattle.layout.specs.Layout.{byRow};
 ghost use Rattle.combine.specs.Combined.{Weighted, combined};
 use kernel::prime;
 
@@ -11,7 +12,7 @@ use kernel::prime;
 // sends every lane to scalar code.
 pub fn combine(p: u16, weights: &[u8], rows: usize, lanes: usize, shares: &[u8], acc: &mut [u8])
     requires { ⌜ (isPrime p ≡ true) × (p ≤ 256) × Weighted p rows lanes (now weights) (now shares) (length (now acc)) ⌝ }
-    ensures { λ r. ⌜ now (acc .exit) ≡ combined p rows lanes (now (weights .entry)) (now (shares .entry)) ⌝ }
+    ensures { λ r. ⌜ now (acc .exit) ≡ combined byRow p rows lanes (now (weights .entry)) (now (shares .entry)) ⌝ }
 {
     kernel::clear(acc);
     let mut i: usize = 0;

@@ -3,6 +3,7 @@ ghost use mathlib.Core.Path.{_≡_};
 ghost use Prim.Native.Nat.{_+_, _*_, _%_, _≤_, _<_};
 ghost use lib.ListN.{length};
 ghost use Rattle.lists.specs.Padded.{padded};
+ghost use Rattle.layout.specs.Layout.{shareLayout};
 ghost use Rattle.generator.specs.Records.{Sound};
 ghost use Rattle.generator.specs.Generator.{entry};
 ghost use Rattle.blocks.specs.Blocks.{shareOf, sharesOf};
@@ -78,7 +79,7 @@ fn fill_shares<'a>(
     out: &mut [u8],
 )
     requires { ⌜ Planned h (now shifts) (now base) × SymbolRows h (h .k) lanes (now message) × (length (now out) ≡ h .n * lanes) ⌝ }
-    ensures { λ r. ⌜ now (out .exit) ≡ sharesOf h lanes (now (message .entry)) ⌝ }
+    ensures { λ r. ⌜ now (out .exit) ≡ sharesOf shareLayout h lanes (now (message .entry)) ⌝ }
 {
     let n = h.n as usize;
     let mut node: usize = 0;

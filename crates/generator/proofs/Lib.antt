@@ -17,7 +17,6 @@ pub mod Faults
 pub mod Accepts
 pub mod Claims
 pub mod Comparison
-pub mod Notebook
 -- The same definitions as document 03 has them.
 pub mod RecordsAgreement
 pub mod ShiftsAgreement

@@ -29,6 +29,10 @@ modulusOf h = modulus (h .field)
 abbrev pub size : Header → ℕ
 size h = sizeOf (modulusOf h)
 
+-- the bytes of a symbol in a lent buffer
+unfoldable pub width : Header → ℕ
+width h = 1
+
 -- d = n − k + 1, the number of nodes that each row of the generator lies on
 unfoldable pub distance : Header → ℕ
 distance h = h .n - h .k + 1

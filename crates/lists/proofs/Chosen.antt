@@ -46,15 +46,15 @@ choose (suc n) (suc c) p h = go (p n) refl (choose n c p) (choose n (suc c) p) (
         record { which = b .which; size = b .size; below = below-weaken n (b .which) (b .below); different = b .different; pass = b .pass }
 
 -- the test p, which x fails
-abbrev without : ℕ → (ℕ → Bool) → ℕ → Bool
+abbrev pub without : ℕ → (ℕ → Bool) → ℕ → Bool
 without x p i = p i && not (eqb i x)
 
 -- all but x pass as before
-without-other : (x i : ℕ) (p : ℕ → Bool) → i ≢ x → without x p i ≡ p i
+pub without-other : (x i : ℕ) (p : ℕ → Bool) → i ≢ x → without x p i ≡ p i
 without-other x i p ne = rw (ne-eqb i x ne) (and-true (p i))
 
 -- without x, one fewer passes
-count-without : (n x : ℕ) (p : ℕ → Bool) → x < n → p x ≡ true → countFrom n 0 p ≡ suc (countFrom n 0 (without x p))
+pub count-without : (n x : ℕ) (p : ℕ → Bool) → x < n → p x ≡ true → countFrom n 0 p ≡ suc (countFrom n 0 (without x p))
 count-without zero x p l e = absurd (not-suc-le-zero l)
 count-without (suc n) x p l e = rw (count-below n p, count-below n (without x p)) (go (ℕ-discrete n x) (count-without n x p))
   where

@@ -10,5 +10,8 @@ pub mod Places
 pub mod Numbers
 pub mod Padding
 pub mod Chosen
+pub mod Along
+pub mod Images
 pub mod Passing
+pub mod Search
 pub mod Lanes

@@ -2,6 +2,7 @@
 ghost use mathlib.Core.Path.{_≡_};
 ghost use Prim.Native.Nat.{_*_};
 ghost use lib.ListN.{length};
+ghost use Rattle.layout.specs.Layout.{shareLayout};
 ghost use Rattle.generator.specs.Records.{Sound};
 ghost use Rattle.refusals.specs.Faults.{recoverFault, rebuildFault};
 ghost use Rattle.refusals.specs.Accepted.{ListedShares};
@@ -16,7 +17,7 @@ use recovery::Setup;
 // Fills the message row by row, each through its own part: the sums of the listed shares times the weights of that row.
 fn fill_message(h: Header, lanes: usize, nodes: &[u8], shares: &[u8], setup: Setup, out: &mut [u8])
     requires { ⌜ ListedShares h lanes (now nodes) (now shares) × (setup ≡ setupOf h (now nodes)) × (length (now out) ≡ h .k * lanes) ⌝ }
-    ensures { λ r. ⌜ MessageFor h lanes (now (nodes .entry)) (now (shares .entry)) (now (out .exit)) ⌝ }
+    ensures { λ r. ⌜ MessageFor shareLayout h lanes (now (nodes .entry)) (now (shares .entry)) (now (out .exit)) ⌝ }
 {
     let field = h.field;
     let k = h.k as usize;

@@ -10,7 +10,7 @@ use Rattle.lists.proofs.Cases.{both-true, first-zero, when-zero}
 use Rattle.generator.specs.declared.Header.{Header}
 use Rattle.generator.specs.Records.{size, Sound}
 use Rattle.generator.specs.Claims.{areNodes}
-use Rattle.refusals.specs.Lanes.{laneOf}
+use Rattle.layout.specs.Layout.{laneOf, shareLayout}
 use Rattle.refusals.specs.Conditions.{lanesBad, lengthBad, numberBad, nodesBad, twiceBad, symbolBad, symbolsBad}
 use Rattle.refusals.specs.Faults.{encodeFault, updateFault, listFault, recoverFault, rebuildFault, belongsFault}
 use Rattle.refusals.specs.Accepted.{SymbolRows, ListedShares, UpdatableLane}
@@ -68,7 +68,7 @@ module _ (h : Header) (sound : Sound h) (l : ℕ) where
           row = number-good (h .k) r row;
           lane = number-good l t lane;
           long = length-good (h .n * l) (length shares) eight;
-          symbols = symbols-good h (laneOf (h .n) l t shares) (when-zero (symbolsBad h (laneOf (h .n) l t shares)) 10 g);
+          symbols = symbols-good h (laneOf shareLayout (h .n) l t shares) (when-zero (symbolsBad h (laneOf shareLayout (h .n) l t shares)) 10 g);
         },
         symbol-good h old first,
         symbol-good h new second,

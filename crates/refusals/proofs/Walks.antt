@@ -14,7 +14,8 @@ use Rattle.lists.specs.Numbers.{allBelow}
 use Rattle.lists.proofs.Rows.{from-next, from-end, part-size}
 use Rattle.generator.specs.declared.Header.{Header}
 use Rattle.generator.specs.Records.{size}
-use Rattle.refusals.specs.Lanes.{placeOf, laneOf}
+use Rattle.layout.specs.Layout.{held, laneOf, shareLayout}
+use Rattle.layout.proofs.Places.{held-share}
 use Rattle.refusals.specs.Conditions.{symbolsBad}
 
 -- the bound of two lists that are joined
@@ -49,23 +50,23 @@ shares-end h s a all = rw (drop-of-length-le s all)
 
 -- the lane from node j on
 abbrev pub laneFrom : ℕ → ℕ → ℕ → List ℕ → ℕ → List ℕ
-laneFrom n l t s j = from (λ i. getD s (placeOf l i t) 0) j (n - j)
+laneFrom n l t s j = from (λ i. held shareLayout n l s i t) j (n - j)
 
 module _ (q n l t : ℕ) (s : List ℕ) where
-  pub lane-start : allBelow q (laneOf n l t s) ≡ allBelow q (laneFrom n l t s 0)
+  pub lane-start : allBelow q (laneOf shareLayout n l t s) ≡ allBelow q (laneFrom n l t s 0)
   unfolding laneOf
   lane-start = rw sub-zero
 
   -- a symbol at node j
   pub lane-good : (j : ℕ) → j < n → getD s (j * l + t) 0 < q → allBelow q (laneFrom n l t s j) ≡ allBelow q (laneFrom n l t s (j + 1))
-  unfolding allBelow placeOf
-  lane-good j node low = rw (from-next (λ i. getD s (placeOf l i t) 0) n j node, lt-ltb (getD s (j * l + t) 0) q low)
+  unfolding allBelow
+  lane-good j node low = rw (from-next (λ i. held shareLayout n l s i t) n j node, held-share n l s j t, lt-ltb (getD s (j * l + t) 0) q low)
 
   -- none
   pub lane-bad : (j : ℕ) → j < n → q ≤ getD s (j * l + t) 0 → allBelow q (laneFrom n l t s j) ≡ false
-  unfolding allBelow placeOf
-  lane-bad j node high = rw (from-next (λ i. getD s (placeOf l i t) 0) n j node, le-ltb (getD s (j * l + t) 0) q high)
+  unfolding allBelow
+  lane-bad j node high = rw (from-next (λ i. held shareLayout n l s i t) n j node, held-share n l s j t, le-ltb (getD s (j * l + t) 0) q high)
 
   pub lane-end : (j : ℕ) → n ≤ j → allBelow q (laneFrom n l t s j) ≡ true
   unfolding allBelow
-  lane-end j all = rw (from-end (λ i. getD s (placeOf l i t) 0) n j all)
+  lane-end j all = rw (from-end (λ i. held shareLayout n l s i t) n j all)

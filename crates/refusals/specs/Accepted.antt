@@ -8,7 +8,7 @@ use Rattle.lists.specs.Numbers.{allBelow}
 use Rattle.generator.specs.declared.Header.{Header}
 use Rattle.generator.specs.Records.{size, Sound}
 use Rattle.generator.specs.Claims.{areNodes}
-use Rattle.refusals.specs.Lanes.{laneOf}
+use Rattle.layout.specs.Layout.{laneOf, shareLayout}
 
 -- rows of symbols in l lanes, over a sound header
 pub record SymbolRows (h : Header) (rows l : ℕ) (s : List ℕ) : Type 0 where
@@ -30,4 +30,4 @@ pub record UpdatableLane (h : Header) (l r t : ℕ) (shares : List ℕ) : Type 0
   pub row : r < h .k
   pub lane : t < l
   pub long : length shares ≡ h .n * l
-  pub symbols : allBelow (size h) (laneOf (h .n) l t shares) ≡ true
+  pub symbols : allBelow (size h) (laneOf shareLayout (h .n) l t shares) ≡ true

@@ -5,7 +5,7 @@ use lib.ListN.{length}
 use Rattle.lists.specs.Choice.{firstOf, when}
 use Rattle.generator.specs.declared.Header.{Header}
 use Rattle.generator.specs.Records.{headerOf, recordFault}
-use Rattle.refusals.specs.Lanes.{laneOf}
+use Rattle.layout.specs.Layout.{laneOf, shareLayout}
 use Rattle.refusals.specs.Conditions.{lanesBad, lengthBad, numberBad, nodesBad, twiceBad, symbolBad, symbolsBad}
 
 -- Encode reads a message and writes n shares
@@ -25,7 +25,7 @@ updateFault h l r t old new shares =
     (firstOf (when (numberBad l t) 9)
     (firstOf (when (symbolBad h old) 11)
     (firstOf (when (symbolBad h new) 11)
-    (when (symbolsBad h (laneOf (h .n) l t shares)) 11))))))
+    (when (symbolsBad h (laneOf shareLayout (h .n) l t shares)) 11))))))
 
 -- a list of k nodes and their shares
 unfoldable pub listFault : Header → List ℕ → List ℕ → ℕ

@@ -1,5 +1,4 @@
 -- What turns a call away: the condition of each number, the numbers of each call, and what holds where none is met.
-pub mod Lanes
 pub mod Conditions
 pub mod Faults
 pub mod Accepted

@@ -1,13 +1,17 @@
--- An update from a symbol to the same symbol: every byte stays, and the count is 0.
-use mathlib.Core.Path.{_≡_, refl, ap, _∙_}
+-- An update from a symbol to the same symbol: every symbol stays, and the count is 0.
+use mathlib.Core.Path.{_≡_, ap, _∙_}
 use mathlib.Core.Bool.{true}
 use mathlib.Core.List.{List}
-use Prim.Native.Nat.{ℕ, zero, suc, _+_, _≤_, _<_}
+use Prim.Native.Nat.{ℕ, _*_, _<_}
 use native.Mathlib.Omega.{arith}
-use lib.ListN.{getD, set}
-use lib.Seq.{set-getD}
+use lib.ListN.{length}
 use Rattle.lists.specs.Counting.{differ}
 use Rattle.lists.specs.Numbers.{allBelow}
+use Rattle.lists.proofs.Numbers.{below-at}
+use Rattle.layout.specs.Layout.{Arrangement, held, laneOf}
+use Rattle.layout.proofs.Lawful.{Lawful}
+use Rattle.layout.proofs.Buffers.{length-lane, getD-lane}
+use Rattle.layout.proofs.OneLane.{with-lane-ext, with-lane-same}
 use Rattle.field.specs.Fields.{add, sub}
 use Rattle.field.proofs.Arithmetic.{add-neg, sub-is, zero-mul}
 use Rattle.field.proofs.BothKinds.{arithmetic}
@@ -15,30 +19,23 @@ use Rattle.generator.specs.declared.Header.{Header}
 use Rattle.generator.specs.Records.{modulusOf, size, Sound}
 use Rattle.generator.specs.Generator.{entry}
 use Rattle.generator.proofs.Bounds.{entry-below}
-use Rattle.blocks.specs.Blocks.{placeOf, laneOf, updatedFrom, updated}
-use Rattle.blocks.proofs.Updates.{changed, differ-same}
-use Rattle.update.proofs.Lane.{lane-symbol}
+use Rattle.blocks.specs.Blocks.{addedAt, rowAdded, updated}
+use Rattle.blocks.proofs.Updates.{differ-same}
 
-module _ (h : Header) (sound : Sound h) (l r t : ℕ) (s : List ℕ) where
+module _ {y : Arrangement} (a : Lawful y) (h : Header) (sound : Sound h) (l r t : ℕ) (s : List ℕ) (symbols : allBelow (size h) (laneOf y (h .n) l t s) ≡ true) where
   -- 0 times an entry added to a symbol
-  changed-zero : (j : ℕ) → getD s (placeOf l j t) 0 < size h → changed h l r t 0 s j ≡ getD s (placeOf l j t) 0
-  changed-zero j low =
+  added-zero : (j : ℕ) → j < h .n → addedAt y h l r t 0 s j ≡ held y (h .n) l s j t
+  unfolding addedAt
+  added-zero j node =
       let laws = arithmetic (modulusOf h) (sound .field) in
-      ap (add (modulusOf h) (getD s (placeOf l j t) 0)) (zero-mul laws (entry h r j) (entry-below h sound r j)) ∙ laws .add-zero (getD s (placeOf l j t) 0) low
+      let low : held y (h .n) l s j t < size h = rw (getD-lane y (h .n) l t s j node) at (below-at (size h) (laneOf y (h .n) l t s) symbols j (omega (arith, length-lane y (h .n) l t s))) in
+      ap (add (modulusOf h) (held y (h .n) l s j t)) (zero-mul laws (entry h r j) (entry-below h sound r j)) ∙ laws .add-zero (held y (h .n) l s j t) low
 
-  -- 0 times a row added to a lane of symbols
-  updated-zero : (f j : ℕ) → ((i : ℕ) → j ≤ i → i < j + f → getD s (placeOf l i t) 0 < size h) → updatedFrom f j h l r t 0 s ≡ s
-  unfolding updatedFrom
-  updated-zero zero j low = refl
-  updated-zero (suc f) j low =
-      ap (updatedFrom f (j + 1) h l r t 0) (ap (set s (placeOf l j t)) (changed-zero j (low j (omega arith) (omega arith))) ∙ set-getD s (placeOf l j t) 0)
-      ∙ updated-zero f (j + 1) (λ i a b. low i (omega arith) (omega arith))
-
-  -- an update from a to a of a lane of symbols
-  pub equal-symbols : (a : ℕ) → a < size h → allBelow (size h) (laneOf (h .n) l t s) ≡ true → (updated h l r t a a s ≡ s) × (differ s (updated h l r t a a s) ≡ 0)
-  unfolding updated
-  equal-symbols a low symbols =
+  -- an update from b to b of a lane of symbols
+  pub equal-symbols : (b : ℕ) → b < size h → length s ≡ h .n * l → (updated y h l r t b b s ≡ s) × (differ s (updated y h l r t b b s) ≡ 0)
+  unfolding updated rowAdded
+  equal-symbols b low long =
       let laws = arithmetic (modulusOf h) (sound .field) in
-      let none : sub (modulusOf h) a a ≡ 0 = sub-is laws a a low low ∙ add-neg laws a low in
-      let same : updated h l r t a a s ≡ s = rw none (updated-zero (h .n) 0 (λ i above below. lane-symbol (size h) (h .n) l t s symbols i (omega arith))) in
+      let none : sub (modulusOf h) b b ≡ 0 = sub-is laws b b low low ∙ add-neg laws b low in
+      let same : updated y h l r t b b s ≡ s = rw none (with-lane-ext a (h .n) l t s _ _ added-zero ∙ with-lane-same a (h .n) l t s long) in
       (same, ap (differ s) same ∙ differ-same s)

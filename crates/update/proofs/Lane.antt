@@ -11,6 +11,9 @@ use Rattle.lists.specs.Rows.{from}
 use Rattle.lists.specs.Numbers.{allBelow}
 use Rattle.lists.proofs.Numbers.{below-at}
 use Rattle.lists.proofs.Rows.{from-next, from-end, row-inside}
+use Rattle.layout.specs.Layout.{held, laneOf, shareLayout}
+use Rattle.layout.proofs.Buffers.{length-lane, getD-lane}
+use Rattle.layout.proofs.Places.{held-share}
 use Rattle.generator.specs.declared.Header.{Header}
 use Rattle.generator.specs.declared.Record.the-variants.{Holds}
 use Rattle.generator.specs.Records.{Sound}
@@ -18,8 +21,6 @@ use Rattle.generator.specs.Generator.{entry}
 use Rattle.plan.specs.declared.Plan.{Plan}
 use Rattle.plan.specs.Plans.{planFor}
 use Rattle.plan.proofs.Plans as Plans
-use Rattle.blocks.specs.Blocks.{placeOf, laneOf}
-use Rattle.blocks.proofs.Shares.{length-lane, getD-lane}
 
 -- the place of a node's byte lies in the buffer, which has at most 255·4096 bytes
 pub place-fits : (n j l t : ℕ) → n ≤ 255 → l ≤ 4096 → j < n → t < l → (j * l + t < n * l) × (n * l ≤ 1044480)
@@ -30,6 +31,6 @@ pub entry-read : (h : Header) → Sound h → (p : Plan) → p ≡ planFor (Hold
 entry-read h s p e r j row node = rw e (Plans.entry-read h s r j row node)
 
 module _ (q n l t : ℕ) (s : List ℕ) where
-  -- the byte of a node, where all are symbols
-  pub lane-symbol : allBelow q (laneOf n l t s) ≡ true → (j : ℕ) → j < n → getD s (placeOf l j t) 0 < q
-  lane-symbol good j node = rw getD-lane at (below-at q (laneOf n l t s) good j (rw length-lane node))
+  -- what a node holds, where all are symbols
+  pub lane-symbol : allBelow q (laneOf shareLayout n l t s) ≡ true → (j : ℕ) → j < n → held shareLayout n l s j t < q
+  lane-symbol good j node = rw getD-lane at (below-at q (laneOf shareLayout n l t s) good j (rw length-lane node))

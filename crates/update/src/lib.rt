@@ -5,9 +5,10 @@ ghost use Rattle.lists.specs.Counting.{differ};
 ghost use Rattle.field.specs.Fields.{add, mul};
 ghost use Rattle.generator.specs.Records.{modulusOf, size, Sound};
 ghost use Rattle.plan.specs.Plans.{planFor};
+ghost use Rattle.layout.specs.Layout.{shareLayout};
 ghost use Rattle.refusals.specs.Faults.{updateFault};
 ghost use Rattle.refusals.specs.Accepted.{UpdatableLane};
-ghost use Rattle.blocks.specs.Blocks.{updatedFrom};
+ghost use Rattle.blocks.specs.Blocks.{rowAdded};
 ghost use Rattle.blocks.specs.Promises.{UpdatePromise, UpdateSays};
 use blocks::Update;
 use generator::Header;
@@ -34,7 +35,7 @@ fn rewrite(
     shares: &mut [u8],
 ) -> u32
     requires { ⌜ UpdatableLane h lanes which lane (now shares) × (x < size h) × (plan ≡ planFor (Record.Holds h)) ⌝ }
-    ensures { λ r. ⌜ (now (shares .exit) ≡ updatedFrom (h .n) 0 h lanes which lane x (now (shares .entry))) × (r ≡ differ (now (shares .entry)) (now (shares .exit))) ⌝ }
+    ensures { λ r. ⌜ (now (shares .exit) ≡ rowAdded shareLayout h lanes which lane x (now (shares .entry))) × (r ≡ differ (now (shares .entry)) (now (shares .exit))) ⌝ }
 {
     let n = h.n as u32;
     let shift = plan.shifts[which as usize] as u32;

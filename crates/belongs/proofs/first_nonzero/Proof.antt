@@ -5,8 +5,8 @@ use native.Mathlib.Nat.{sub-zero}
 use native.Mathlib.Omega.{arith}
 use lib.Dec.{eqb}
 use lib.ListN.{length, getD}
-use Rattle.belongs.specs.Search.{firstFalse}
-use Rattle.belongs.proofs.Search.{search-next, search-found, search-end}
+use Rattle.lists.specs.Search.{firstFalse}
+use Rattle.lists.proofs.Search.{search-next, search-found, search-end}
 use Rattle.belongs.proofs.first_nonzero.Statement.{statement}
 use Rattle.belongs.proofs.first_nonzero.Tie as tie
 

@@ -6,13 +6,15 @@ use borrow.Author.Needs.{needs}
 use lib.ListN.{length}
 use lib.Seq.{length-take-le}
 use Rattle.generator.specs.Codewords.{isWord}
+use Rattle.layout.specs.Layout.{shareLayout}
+use Rattle.blocks.specs.Blocks.{firstWrong}
 use Rattle.belongs.proofs.Prefix.{prefix-long, prefix-fits, prefix-is, length-prefix}
 use Rattle.belongs.proofs.Wrong.{checkIn, failing, failing-none, failing-more}
 use Rattle.belongs.proofs.first_wrong.Statement.{statement}
 use Rattle.belongs.proofs.first_wrong.Tie as tie
 
 abbrev Inv-loop : tie.InvT-loop
-Inv-loop h lanes shares checks table sums₀ best₀ e₀ sums best e = (e ≤ checks) × (length sums ≡ 4096) × (best ≡ failing h lanes shares e)
+Inv-loop h lanes shares checks table sums₀ best₀ e₀ sums best e = (e ≤ checks) × (length sums ≡ 4096) × (best ≡ failing shareLayout h lanes shares e)
 
 abbrev μ-loop : tie.MeasureT-loop
 μ-loop h lanes shares checks table sums₀ best₀ e₀ sums best e = checks - e
@@ -29,7 +31,7 @@ powers-requires c κs = c .before .before .pre .sound
 loop-holds : tie.Need-loop-holds Inv-loop μ-loop
 loop-holds c =
     let a = c .before .before .before .args in
-    (omega arith, refl, sym (failing-none (a .h) (a .lanes) (a .shares .now)))
+    (omega arith, refl, sym (failing-none shareLayout (a .h) (a .lanes) (a .shares .now)))
 
 slice-aggregate-lane-sums : tie.Need-slice-aggregate-lane-sums Inv-loop μ-loop
 slice-aggregate-lane-sums c = search needs
@@ -70,21 +72,21 @@ loop-again : tie.Need-loop-again Inv-loop μ-loop
 loop-again c =
     let a = c .before .before .before .before .before .before .before .before .before .before .before .before .args in
     let l = c .before .before .before .before .before .before .before .before .loop in
-    let sum = checkIn (a .h) (a .lanes) (a .shares .now) (l .e + 1) in (
+    let sum = checkIn shareLayout (a .h) (a .lanes) (a .shares .now) (l .e + 1) in (
       omega arith,
       prefix-long sum _ _ _ (c .before .before .before .before .lane-sums .ensures) (omega arith) ∙ l .inv .1,
       c .smaller .ensures
           ∙ ap₂ min (l .inv .2) (c .before .first-nonzero .ensures)
-          ∙ failing-more (a .h) (a .lanes) (a .shares .now) (l .e) _ (prefix-is sum _ _ _ (c .before .before .before .before .lane-sums .ensures)),
+          ∙ failing-more shareLayout (a .h) (a .lanes) (a .shares .now) (l .e) _ (prefix-is sum _ _ _ (c .before .before .before .before .lane-sums .ensures)),
     )
 
 returns : tie.Need-returns Inv-loop μ-loop
-unfolding isWord
+unfolding firstWrong isWord
 returns c =
     let a = c .before .before .before .before .before .args in
     let l = c .before .loop in
     let end : l .e ≡ a .h .n - a .h .k = omega arith in
-    l .inv .2 ∙ ap (failing (a .h) (a .lanes) (a .shares .now)) end
+    l .inv .2 ∙ ap (failing shareLayout (a .h) (a .lanes) (a .shares .now)) end
 
 pub first-wrong-spec : {M : Type 1} → statement M
 first-wrong-spec =

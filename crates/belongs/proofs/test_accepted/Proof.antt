@@ -2,34 +2,34 @@
 use mathlib.Core.Path.{_≡_, sym, _∙_}
 use mathlib.Core.List.{List}
 use Prim.Native.Nat.{ℕ}
-use native.Mathlib.Numerals.{add-one}
 use native.Mathlib.Omega.{arith}
 use borrow.Author.Needs.{needs}
+use borrow.Author.Tests.{eq-eqb, ne-eqb}
+use Rattle.layout.specs.Layout.{shareLayout}
 use Rattle.generator.specs.declared.Header.{Header}
-use Rattle.generator.specs.Codewords.{isWord}
 use Rattle.refusals.specs.Faults.{belongsFault}
 use Rattle.refusals.specs.Accepted.{SymbolRows}
 use Rattle.refusals.proofs.Accepts.{belongs-accepts}
-use Rattle.blocks.specs.declared.Test.the-variants.{Yes, No}
-use Rattle.blocks.specs.Blocks.{laneOf}
-use Rattle.blocks.specs.Answers.{verdictOf, testOf}
+use Rattle.blocks.specs.declared.Membership.the-variants.{Yes, No}
+use Rattle.blocks.specs.Blocks.{firstWrong}
+use Rattle.blocks.specs.Answers.{membershipOf}
 use Rattle.blocks.specs.Promises.{BelongsPromise}
+use Rattle.blocks.proofs.Bytes.{wrong-lane}
 use Rattle.blocks.proofs.Refused.{belongs-refuses}
-use Rattle.belongs.proofs.Search.{search-high}
-use Rattle.belongs.proofs.Wrong.{firstWrong, wrong-none, wrong-some}
+use Rattle.blocks.proofs.Words.{wrong-most}
 use Rattle.belongs.proofs.test_accepted.Statement.{statement}
 use Rattle.belongs.proofs.test_accepted.Tie as tie
 
-module _ (h : Header) (l : ℕ) (s : List ℕ) (number : ℕ) (none : number ≡ 0) (lane : ℕ) (lane-is : lane ≡ firstWrong h l s l 0) where
+module _ (h : Header) (l : ℕ) (s : List ℕ) (number : ℕ) (none : number ≡ 0) (lane : ℕ) (lane-is : lane ≡ firstWrong shareLayout h l s) where
   -- no number is met, and no lane is wrong
   passed : lane ≡ l → BelongsPromise l s Yes h number
-  unfolding testOf verdictOf
-  passed end = record { answer = rw (none, wrong-none h l s (sym lane-is ∙ end)) }
+  unfolding membershipOf
+  passed end = record { answer = rw (none, wrong-lane h l s, ← lane-is, eq-eqb lane l end) }
 
   -- none is met, and this lane is the first wrong one
   failed : (lane ≡ l → ⊥) → BelongsPromise l s (No lane) h number
-  unfolding testOf verdictOf
-  failed inside = record { answer = rw (none, wrong-some h l s (λ e. inside (lane-is ∙ e)), ← lane-is, add-one) }
+  unfolding membershipOf
+  failed inside = record { answer = rw (none, wrong-lane h l s, ← lane-is, ne-eqb lane l inside) }
 
 -- no number is met
 none-met : (c : tie.Else1) → let a = c .before .before .before .args in belongsFault (a .h) (a .lanes) (a .shares .now) ≡ 0
@@ -54,7 +54,7 @@ returns-2 c = passed _ _ _ _ (none-met (c .before .before)) _ (c .before .first-
 cast-t7 : tie.Need-cast-t7
 cast-t7 c =
     let a = c .before .before .before .before .before .args in
-    omega (arith, c .before .first-wrong .ensures, search-high (a .lanes) 0 (λ t. isWord (a .h) (laneOf (a .h .n) (a .lanes) t (a .shares .now))), block (c .before .before) .few-lanes)
+    omega (arith, c .before .first-wrong .ensures, wrong-most shareLayout (a .h) (a .lanes) (a .shares .now), block (c .before .before) .few-lanes)
 
 returns-3 : tie.Need-returns-3
 returns-3 c = failed _ _ _ _ (none-met (c .before .before)) _ (c .before .first-wrong .ensures) (c .if2 .left)

@@ -3,6 +3,7 @@ use mathlib.Core.Path.{sym, ap, _∙_}
 use borrow.Author.Needs.{needs}
 use Rattle.refusals.proofs.Accepts.{encode-accepts}
 use Rattle.blocks.specs.Answers.{outcomeOf}
+use Rattle.blocks.proofs.Bytes.{encoded-bytes}
 use Rattle.blocks.proofs.Refused.{encode-refuses}
 use Rattle.plan.specs.declared.Plan.{Plan}
 use Rattle.encode.proofs.encode_accepted.Statement.{statement}
@@ -32,7 +33,7 @@ returns-2 : tie.Need-returns-2
 unfolding outcomeOf
 returns-2 c =
     let none = sym (c .before .before .before .before .before .before .before .before .before .before .before .encode-fault .ensures) ∙ c .before .before .before .before .before .before .before .before .before .before .if1 .left in
-    record { answer = rw none; written = rw none (c .before .before .fill-shares .ensures) }
+    record { answer = rw none; written = rw none (c .before .before .fill-shares .ensures ∙ sym (encoded-bytes _ _ _)) }
 
 pub encode-accepted-spec : {M : Type 1} → statement M
 encode-accepted-spec =

@@ -1,4 +1,5 @@
 -- `fill_shares` meets its contract. The loop's invariant: the shares of the nodes below `node` are written, and the others are to come.
+use mathlib.Core.Path.{sym, _∙_}
 use Prim.Native.Nat.{_+_, _-_, _*_, _≤_}
 use native.Mathlib.Nat.{sub-zero, zero-mul, mul-le-mul, le-refl}
 use native.Mathlib.Omega.{arith}
@@ -7,14 +8,14 @@ use lib.ListN.{length}
 use Rattle.lists.specs.Rows.{rowsFrom}
 use Rattle.lists.proofs.Rows.{rows-next, rows-end, row-after, row-inside, part-size, part-length}
 use Rattle.lists.proofs.Fill.{Fills, fills-start, fills-part, fills-all}
-use Rattle.blocks.specs.Blocks.{shareOf, sharesOf}
-use Rattle.blocks.proofs.Shares.{length-share}
+use Rattle.blocks.specs.Blocks.{shareOf}
+use Rattle.blocks.proofs.Shares.{length-share, shares-parts}
 use Rattle.encode.proofs.fill_shares.Statement.{statement}
 use Rattle.encode.proofs.fill_shares.Tie as tie
 
 abbrev Inv-loop : tie.InvT-loop
 Inv-loop h shifts base lanes message out₀ n node₀ out node =
-    (node ≤ h .n) × Fills out₀ out (node * lanes) (rowsFrom (shareOf h lanes message) node (h .n - node)) (sharesOf h lanes message)
+    (node ≤ h .n) × Fills out₀ out (node * lanes) (rowsFrom (shareOf h lanes message) node (h .n - node)) (rowsFrom (shareOf h lanes message) 0 (h .n))
 
 abbrev μ-loop : tie.MeasureT-loop
 μ-loop h shifts base lanes message out₀ n node₀ out node = h .n - node
@@ -29,7 +30,6 @@ cast-n : tie.Need-cast-n Inv-loop μ-loop
 cast-n c = search needs
 
 loop-holds : tie.Need-loop-holds Inv-loop μ-loop
-unfolding sharesOf
 loop-holds c = (omega arith, rw (sub-zero, zero-mul) (fills-start _ _))
 
 mul-start : tie.Need-mul-start Inv-loop μ-loop
@@ -84,6 +84,7 @@ returns : tie.Need-returns Inv-loop μ-loop
 returns c =
     fills-all (rw (rows-end _ _ _ (c .loop-test .left)) at (c .before .loop .inv .1))
     (rw (c .before .before .before .before .before .before .before .pre .2) (mul-le-mul (c .loop-test .left) (le-refl _)))
+    ∙ sym (shares-parts _ _ _)
 
 pub fill-shares-spec : {M : Type 1} → statement M
 fill-shares-spec =

@@ -1,5 +1,5 @@
 -- `fill_message` meets its contract. The loop's invariant: for the message m of the listed shares, the rows below r are written, and the others are to come.
-use mathlib.Core.Path.{_≡_}
+use mathlib.Core.Path.{_≡_, _∙_}
 use mathlib.Core.List.{List}
 use Prim.Native.Nat.{ℕ, _+_, _-_, _*_, _≤_}
 use native.Mathlib.Nat.{sub-zero, zero-mul, mul-le-mul, le-refl}
@@ -9,16 +9,19 @@ use lib.ListN.{length}
 use Rattle.lists.specs.Rows.{rowsFrom}
 use Rattle.lists.proofs.Rows.{rows-next, rows-end, row-after, row-inside, part-size, part-length}
 use Rattle.lists.proofs.Fill.{Fills, fills-start, fills-part, fills-all}
+use Rattle.layout.specs.Layout.{byRow, rowOf, shareLayout}
+use Rattle.layout.proofs.Buffers.{length-row}
+use Rattle.layout.proofs.Places.{share-lawful, share-by-row, rows-whole}
 use Rattle.blocks.specs.Blocks.{MessageFor}
-use Rattle.recover.proofs.Rebuilding.{the-message}
-use Rattle.recover.proofs.Recovering.{rowOf, length-row, rows-whole, recovered}
+use Rattle.blocks.proofs.Messages.{some-buffer}
+use Rattle.recover.proofs.Recovering.{recovered}
 use Rattle.recover.proofs.fill_message.Statement.{statement}
 use Rattle.recover.proofs.fill_message.Tie as tie
 
 abbrev Inv-loop : tie.InvT-loop
 Inv-loop h lanes nodes shares setup out₀ field k r₀ out r =
     (r ≤ h .k)
-    × (m : List ℕ) × MessageFor h lanes nodes shares m × Fills out₀ out (r * lanes) (rowsFrom (rowOf lanes m) r (h .k - r)) m
+    × (m : List ℕ) × MessageFor shareLayout h lanes nodes shares m × Fills out₀ out (r * lanes) (rowsFrom (λ i. rowOf byRow (h .k) lanes i m) r (h .k - r)) m
 
 abbrev μ-loop : tie.MeasureT-loop
 μ-loop h lanes nodes shares setup out₀ field k r₀ out r = h .k - r
@@ -38,8 +41,9 @@ loop-holds : tie.Need-loop-holds Inv-loop μ-loop
 loop-holds c =
     let s = c .before .before .before .before in
     let a = s .args in
-    let (m, is) = the-message (a .h) (a .lanes) (a .nodes .now) (a .shares .now) (s .pre .0) in
-    (omega arith, m, is, rw (sub-zero, zero-mul, rows-whole (a .h .k) (a .lanes) m (s .pre .0 .rows .some-lane) (is .size-is)) (fills-start _ _))
+    let listed = s .pre .0 in
+    let (m, is) = some-buffer share-lawful (a .h) (listed .rows .sound) (a .lanes) (a .nodes .now) (listed .different) (a .shares .now) (listed .rows .long) (listed .rows .symbols) in
+    (omega arith, m, is, rw (sub-zero, zero-mul, rows-whole (a .h .k) (a .lanes) m (is .size-is)) (fills-start _ _))
 
 cast-recover-weights : tie.Need-cast-recover-weights Inv-loop μ-loop
 cast-recover-weights c = omega (arith, c .before .before .struct-known .given)
@@ -102,14 +106,15 @@ loop-again c =
     let a = s .args in
     let r = old .before .loop .r in
     let (low, m, is, fills) = old .before .loop .inv in
-    let weights = c .before .before .before .before .before .recover-weights in (
+    let weights = c .before .before .before .before .before .recover-weights in
+    let row = rw (← share-by-row) at (c .before .before .combine .ensures) ∙ recovered is r (weights .result) (old .loop-test .taken) (weights .ensures) in (
       omega arith,
       m,
       is,
-      rw (row-after, part-size, c .before .before .combine .ensures, recovered (a .h) (a .lanes) (a .nodes .now) (a .shares .now) (s .pre .0) m is r (weights .result) (old .loop-test .taken) (weights .ensures))
-          (fills-part (rowOf (a .lanes) m r) (a .lanes)
+      rw (row-after, part-size, row)
+          (fills-part (rowOf byRow (a .h .k) (a .lanes) r m) (a .lanes)
           (rw (rows-next _ _ _ (old .loop-test .taken)) at fills)
-          (length-row (a .lanes) m r)
+          (length-row byRow (a .h .k) (a .lanes) r m)
           (row-in old)),
     )
 

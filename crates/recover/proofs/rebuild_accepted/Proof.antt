@@ -8,7 +8,10 @@ use Rattle.refusals.specs.Accepted.{ListedShares}
 use Rattle.refusals.proofs.Accepts.{rebuild-accepts}
 use Rattle.blocks.specs.Answers.{outcomeOf}
 use Rattle.blocks.proofs.Refused.{rebuild-refuses}
-use Rattle.recover.proofs.Rebuilding.{the-message, rebuilt}
+use Rattle.layout.proofs.Places.{share-lawful, share-by-row}
+use Rattle.blocks.proofs.Messages.{some-buffer}
+use Rattle.blocks.proofs.Bytes.{rebuilt-bytes}
+use Rattle.recover.proofs.Rebuilding.{rebuilt}
 use Rattle.recover.proofs.rebuild_accepted.Statement.{statement}
 use Rattle.recover.proofs.rebuild_accepted.Tie as tie
 
@@ -64,11 +67,11 @@ returns-2 c =
     let at = c .before .before .before .before .before .before in
     let a = at .before .before .before .before .before .before .args in
     let (listed, target, out) = accepted at in
-    let (m, is) = the-message (a .h) (a .lanes) (a .nodes .now) (a .shares .now) listed in
+    let (m, is) = some-buffer share-lawful (a .h) (listed .rows .sound) (a .lanes) (a .nodes .now) (listed .different) (a .shares .now) (listed .rows .long) (listed .rows .symbols) in
     let none = sym (at .before .before .rebuild-fault .ensures) ∙ at .before .if1 .left in
     record {
       answer = rw none refl;
-      written = rw none (m, is, c .before .before .combine .ensures ∙ rebuilt (a .h) (a .lanes) (a .nodes .now) (a .shares .now) listed m is (a .target) _ (c .before .before .before .before .before .rebuild-weights .ensures));
+      written = rw none (rebuilt-bytes _ _ _ _ _ m _ is (rw (← share-by-row) at (c .before .before .combine .ensures) ∙ rebuilt is (a .target) _ (c .before .before .before .before .before .rebuild-weights .ensures)));
     }
 
 pub rebuild-accepted-spec : {M : Type 1} → statement M

@@ -10,6 +10,7 @@ use Rattle.refusals.specs.Accepted.{ListedShares}
 use Rattle.refusals.proofs.Accepts.{recover-accepts}
 use Rattle.blocks.specs.Answers.{outcomeOf}
 use Rattle.blocks.proofs.Refused.{recover-refuses}
+use Rattle.blocks.proofs.Bytes.{recovered-bytes}
 use Rattle.recover.proofs.Recovering.{shifts-part}
 use Rattle.recover.proofs.recover_accepted.Statement.{statement}
 use Rattle.recover.proofs.recover_accepted.Tie as tie
@@ -80,7 +81,7 @@ returns-2 c =
     let none = sym (at .before .before .recover-fault .ensures) ∙ at .before .if1 .left in
     record {
       answer = rw none refl;
-      written = rw none (c .before .before .fill-message .ensures);
+      written = rw none (recovered-bytes _ _ _ _ _ (c .before .before .fill-message .ensures));
     }
 
 pub recover-accepted-spec : {M : Type 1} → statement M

@@ -1,6 +1,6 @@
 -- `rewrite` meets its contract: `Rewriting` is the invariant, and each way through a turn is one of its laws.
 use Prim.Native.Nat.{_+_, _-_, _*_, _%_, _≤_, _<_}
-use mathlib.Core.Path.{_≡_, ap, _∙_}
+use mathlib.Core.Path.{_≡_, sym, ap, _∙_}
 use mathlib.Core.Logic.{⊎-elim}
 use native.Mathlib.Nat.{mod-lt}
 use native.Mathlib.Omega.{arith}
@@ -10,8 +10,10 @@ use borrow.Author.Needs.{needs}
 use lib.ListN.{length, getD}
 use Rattle.generator.specs.Records.{size}
 use Rattle.generator.proofs.Bounds.{entry-below}
-use Rattle.blocks.specs.Blocks.{placeOf}
-use Rattle.blocks.proofs.Updates.{changed, length-updatedFrom}
+use Rattle.layout.specs.Layout.{shareLayout}
+use Rattle.layout.proofs.Places.{share-lawful}
+use Rattle.layout.proofs.Rewritten.{length-rewritten}
+use Rattle.blocks.specs.Blocks.{addedAt}
 use Rattle.update.proofs.Lane.{place-fits, entry-read, lane-symbol}
 use Rattle.update.proofs.Rewriting.{Rewriting, rewriting-start, rewriting-held, rewriting-put, rewriting-skip, rewriting-end}
 use Rattle.update.proofs.rewrite.Statement.{statement}
@@ -25,7 +27,7 @@ abbrev μ-loop : tie.MeasureT-loop
 
 -- the loop keeps the buffer's length
 kept : (c : tie.At-loop Inv-loop μ-loop) → length (c .loop .shares) ≡ length (c .before .before .before .before .args .shares .now)
-kept c = ap length (c .loop .inv .done) ∙ length-updatedFrom _ _ _ _ _ _ _ _
+kept c = ap length (c .loop .inv .done) ∙ length-rewritten share-lawful _ _ _ _ _ _ ∙ sym (c .before .before .before .before .pre .0 .long)
 
 -- node j's place in the base word
 place : (c : tie.In-loop Inv-loop μ-loop)
@@ -47,20 +49,20 @@ inside c =
 held : (c : tie.In-loop Inv-loop μ-loop)
     → let a = c .before .before .before .before .before .args in
     getD (c .before .loop .shares) (c .before .loop .j * a .lanes + a .lane) 0 < size (a .h)
-unfolding placeOf
 held c =
     let (ready, factor, plan) = c .before .before .before .before .before .pre in
-    rw (rewriting-held _ _ _ _ _ _ (ready .lane) (c .before .loop .inv)) (lane-symbol _ _ _ _ _ (ready .symbols) _ (c .loop-test .taken))
+    rw (rewriting-held _ _ _ _ _ _ (ready .lane) (c .before .loop .inv) (c .loop-test .taken)) (lane-symbol _ _ _ _ _ (ready .symbols) _ (c .loop-test .taken))
 
 -- and becomes what the update says
 after : (c : tie.After-renewed Inv-loop μ-loop)
     → let a = c .before .before .before .before .before .before .before .before .args in
     let l = c .before .before .before .before .loop in
-    c .renewed .result ≡ changed (a .h) (a .lanes) (a .which) (a .lane) (a .x) (l .shares) (l .j)
-unfolding placeOf
+    c .renewed .result ≡ addedAt shareLayout (a .h) (a .lanes) (a .which) (a .lane) (a .x) (a .shares .now) (l .j)
+unfolding addedAt
 after c =
     let (ready, factor, plan) = c .before .before .before .before .before .before .before .before .pre in
-    rw (← entry-read _ (ready .sound) _ plan _ _ (ready .row) (c .before .before .before .loop-test .taken)) (c .renewed .ensures)
+    let node = c .before .before .before .loop-test .taken in
+    rw (← entry-read _ (ready .sound) _ plan _ _ (ready .row) node, ← rewriting-held _ _ _ _ _ _ (ready .lane) (c .before .before .before .before .loop .inv) node) (c .renewed .ensures)
 
 cast-n : tie.Need-cast-n Inv-loop μ-loop
 cast-n c = search needs
@@ -72,7 +74,7 @@ cast-shift : tie.Need-cast-shift Inv-loop μ-loop
 cast-shift c = search needs
 
 loop-holds : tie.Need-loop-holds Inv-loop μ-loop
-loop-holds c = rewriting-start _ _ _ _ _ _
+loop-holds c = rewriting-start _ _ _ _ _ _ (c .before .before .before .pre .0 .long)
 
 add-place : tie.Need-add-place Inv-loop μ-loop
 add-place c =
@@ -123,7 +125,6 @@ loop-less : tie.Need-loop-less Inv-loop μ-loop
 loop-less c = omega arith
 
 loop-again : tie.Need-loop-again Inv-loop μ-loop
-unfolding placeOf
 loop-again c =
     let (ready, factor, plan) = c .before .before .before .before .before .before .before .before .before .pre in
     let turn = c .before .before .before .before .before .loop .inv in

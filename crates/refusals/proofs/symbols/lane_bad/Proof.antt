@@ -7,7 +7,7 @@ use borrow.Author.Needs.{needs}
 use lib.ListN.{length}
 use Rattle.lists.specs.Numbers.{allBelow}
 use Rattle.lists.proofs.Rows.{row-inside}
-use Rattle.refusals.specs.Lanes.{laneOf}
+use Rattle.layout.specs.Layout.{laneOf, shareLayout}
 use Rattle.refusals.specs.Conditions.{symbolsBad}
 use Rattle.refusals.proofs.Walks.{laneFrom, lane-start, lane-good, lane-bad, lane-end}
 use Rattle.refusals.proofs.symbols.lane_bad.Statement.{statement}
@@ -15,7 +15,7 @@ use Rattle.refusals.proofs.symbols.lane_bad.Tie as tie
 
 abbrev Inv-loop : tie.InvT-loop
 Inv-loop lanes lane shares n size node₀ node =
-    (node ≤ n) × (allBelow size (laneOf n lanes lane shares) ≡ allBelow size (laneFrom n lanes lane shares node))
+    (node ≤ n) × (allBelow size (laneOf shareLayout n lanes lane shares) ≡ allBelow size (laneFrom n lanes lane shares node))
 
 abbrev μ-loop : tie.MeasureT-loop
 μ-loop lanes lane shares n size node₀ node = n - node

@@ -5,10 +5,10 @@ use mathlib.Core.Bool.{Bool, true, false, _&&_}
 use Prim.Native.Nat.{ℕ, zero, suc, _+_, _-_, _≤_, _<_, min}
 use native.Mathlib.Nat.{le-refl, eq-or-lt-of-le}
 use native.Mathlib.Omega.{arith}
 use Rattle.lists.specs.Choice.{pick}
 use Rattle.lists.proofs.Cases.{by-test}
 use Rattle.lists.proofs.Rows.{sub-next, sub-end}
-use Rattle.belongs.specs.Search.{firstFalse}
+use Rattle.lists.specs.Search.{firstFalse}
 
 -- it lies within the stretch or just after it
 pub search-low : (f t : ℕ) (p : ℕ → Bool) → t ≤ firstFalse f t p

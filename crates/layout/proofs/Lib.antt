@@ -1,0 +1,7 @@
+-- Laws of layouts and widths.
+pub mod Lawful
+pub mod Buffers
+pub mod OneLane
+pub mod Rewritten
+pub mod Places
+pub mod Widths

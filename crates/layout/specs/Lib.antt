@@ -1,0 +1,3 @@
+-- Buffers of rows and lanes, and symbols of one byte or more.
+pub mod Layout
+pub mod Width
