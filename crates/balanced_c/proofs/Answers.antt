@@ -17,6 +17,7 @@ use Rattle.blocks.specs.Bytes.{wrongLane}
 use Rattle.refusals.specs.Faults.{encodeFault, updateFault, recoverFault, rebuildFault, belongsFault, faultOf}
 use Rattle.blocks.specs.Answers.{outcomeOf, updateOf, membershipOf, outcomeNumber}
 use Rattle.blocks.specs.Promises.{EncodeSays, UpdateSays, RecoverSays, RebuildSays, BelongsSays}
+use Rattle.blocks.proofs.Bytes.{altered-symbols}
 use Rattle.blocks.proofs.Refused.{update-refused, refused-value}
 use Rattle.balanced_c.specs.Calls.{EncodeGives, UpdateGives, RecoverGives, RebuildGives, BelongsGives}
 
@@ -67,7 +68,7 @@ module _ (rec : List ℕ) (l symbol lane old new : ℕ) (shares : List ℕ) (alt
       record {
         number = sym none;
         says = record { promise = record { answer = rw (none, same); written = says .promise .written } };
-        altered-is = same;
+        altered-is = same ∙ altered-symbols (headerOf rec) l symbol lane old new shares shares′ (rw none at (says .promise .written));
       }
 
   pub update-refuses : (g : ℕ) → a ≡ U.Refused g → UpdateGives rec l symbol lane old new shares altered shares′ altered g

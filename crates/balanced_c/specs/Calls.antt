@@ -6,12 +6,14 @@ use Prim.Native.Nat.{ℕ}
 use lib.Dec.{eqb}
 use lib.ListN.{length}
 use Rattle.lists.specs.Choice.{pick, when}
-use Rattle.generator.specs.Records.{headerOf, recordOf}
+use Rattle.lists.specs.Counting.{differ}
+use Rattle.layout.specs.Width.{symbolsOf}
+use Rattle.generator.specs.Records.{headerOf, recordOf, width}
 use Rattle.generator.specs.Claims.{Promised}
 use Rattle.plan.specs.declared.Plan.{Plan}
 use Rattle.plan.specs.Plans.{planFor}
-use Rattle.blocks.specs.Bytes.{alteredCount, wrongLane}
 use Rattle.refusals.specs.Faults.{encodeFault, updateFault, recoverFault, rebuildFault, belongsFault, faultOf}
+use Rattle.blocks.specs.Bytes.{wrongLane}
 use Rattle.blocks.specs.Answers.{outcomeOf, updateOf}
 use Rattle.blocks.specs.Promises.{EncodeSays, UpdateSays, RecoverSays, RebuildSays}
 
@@ -40,7 +42,7 @@ pub record EncodeGives (rec : List ℕ) (l : ℕ) (message shares shares′ : Li
 pub record UpdateGives (rec : List ℕ) (l symbol lane old new : ℕ) (shares : List ℕ) (altered : ℕ) (shares′ : List ℕ) (altered′ r : ℕ) : Type 0 where
   pub number : r ≡ faultOf rec (λ h. updateFault h l symbol lane old new shares)
   pub says : UpdateSays rec l symbol lane old new shares shares′ (updateOf r altered′)
-  pub altered-is : altered′ ≡ pick (eqb r 0) (alteredCount (headerOf rec) l symbol lane old new shares) altered
+  pub altered-is : altered′ ≡ pick (eqb r 0) (let w = width (headerOf rec) in differ (symbolsOf w shares) (symbolsOf w shares′)) altered
 
 -- `balanced_recover`: the number, and what Recover says of the message
 pub record RecoverGives (rec : List ℕ) (l : ℕ) (nodes shares message message′ : List ℕ) (r : ℕ) : Type 0 where

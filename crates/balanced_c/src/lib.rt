@@ -4,8 +4,8 @@ ghost use lib.ListN.{length};
 ghost use Rattle.lists.specs.Choice.{firstOf};
 ghost use Rattle.blocks.specs.Answers.{outcomeNumber};
 ghost use Rattle.balanced_c.specs.Calls.{lengthFault, numbersOf, PlanGives, EncodeGives, UpdateGives, RecoverGives, RebuildGives, BelongsGives};
-use blocks::Outcome;
 use blocks::Membership;
+use blocks::Outcome;
 use blocks::Update;
 use plan::Plan;
 

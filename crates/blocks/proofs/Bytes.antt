@@ -1,11 +1,12 @@
 -- Symbols of one byte are the bytes: what the promises say of bytes is what the definitions of Blocks say.
 use mathlib.Core.Path.{_≡_, refl}
 use mathlib.Core.List.{List}
-use Prim.Native.Nat.{ℕ}
+use Prim.Native.Nat.{ℕ, _<_}
+use native.Mathlib.Omega.{arith}
 use Rattle.lists.specs.Counting.{differ}
 use Rattle.layout.specs.Layout.{shareLayout}
 use Rattle.layout.specs.Width.{symbolsOf, bytesOf}
-use Rattle.layout.proofs.Widths.{symbols-one, bytes-one}
+use Rattle.layout.proofs.Widths.{symbols-one, bytes-one, symbols-bytes}
 use Rattle.generator.specs.declared.Header.{Header}
 use Rattle.generator.specs.Records.{width}
 use Rattle.blocks.specs.Blocks.{shareOf, sharesOf, updated, firstWrong, MessageFor}
@@ -20,6 +21,10 @@ module _ (h : Header) where
   unfolding width
   bytes-are = bytes-one
 
+  width-some : 0 < width h
+  unfolding width
+  width-some = omega arith
+
   pub encoded-bytes : (l : ℕ) (message : List ℕ) → encodedBytes h l message ≡ sharesOf shareLayout h l message
   unfolding encodedBytes
   encoded-bytes l message = rw (symbols-are message) (bytes-are _)
@@ -31,6 +36,11 @@ module _ (h : Header) where
   pub altered-count : (l r t old new : ℕ) (shares : List ℕ) → alteredCount h l r t old new shares ≡ differ shares (updated shareLayout h l r t old new shares)
   unfolding alteredCount
   altered-count l r t old new shares = rw (symbols-are shares)
+
+  -- it is how many symbols differ in the buffers before and after
+  pub altered-symbols : (l r t old new : ℕ) (shares shares′ : List ℕ) → shares′ ≡ updatedBytes h l r t old new shares → alteredCount h l r t old new shares ≡ differ (symbolsOf (width h) shares) (symbolsOf (width h) shares′)
+  unfolding alteredCount updatedBytes
+  altered-symbols l r t old new shares shares′ e = rw (e, symbols-bytes (width h) _ width-some)
 
   pub recovered-bytes : (l : ℕ) (nodes shares m : List ℕ) → MessageFor shareLayout h l nodes shares m → RecoveredBytes h l nodes shares m
   unfolding RecoveredBytes
