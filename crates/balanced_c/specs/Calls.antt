@@ -12,8 +12,8 @@ use Rattle.generator.specs.Records.{headerOf, recordOf, width}
 use Rattle.generator.specs.Claims.{Promised}
 use Rattle.plan.specs.declared.Plan.{Plan}
 use Rattle.plan.specs.Plans.{planFor}
-use Rattle.refusals.specs.Faults.{encodeFault, updateFault, recoverFault, rebuildFault, belongsFault, faultOf}
 use Rattle.blocks.specs.Bytes.{wrongLane}
+use Rattle.refusals.specs.Faults.{encodeFault, updateFault, recoverFault, rebuildFault, belongsFault, faultOf}
 use Rattle.blocks.specs.Answers.{outcomeOf, updateOf}
 use Rattle.blocks.specs.Promises.{EncodeSays, UpdateSays, RecoverSays, RebuildSays}
 

@@ -1,7 +1,9 @@
 // The interface for C: each call of the store under a plain name. A call returns 0 or the number that turned it away, and hands its other values over through what it is lent.
 ghost use mathlib.Core.Path.{_≡_};
 ghost use lib.ListN.{length};
+ghost use mathlib.Core.Bool.{true};
 ghost use Rattle.lists.specs.Choice.{firstOf};
+ghost use Rattle.lists.specs.Numbers.{allBelow};
 ghost use Rattle.blocks.specs.Answers.{outcomeNumber};
 ghost use Rattle.balanced_c.specs.Calls.{lengthFault, numbersOf, PlanGives, EncodeGives, UpdateGives, RecoverGives, RebuildGives, BelongsGives};
 use blocks::Membership;
@@ -55,6 +57,18 @@ fn copy(from: &[u8], to: &mut [u8])
     }
 }
 
+// Copies symbols to a slice of bytes of the same length.
+fn copy_bytes(from: &[u16], to: &mut [u8])
+    requires { ⌜ (length (now from) ≡ length (now to)) × (allBelow 256 (now from) ≡ true) ⌝ }
+    ensures { λ r. ⌜ now (to .exit) ≡ now (from .entry) ⌝ }
+{
+    let mut i = 0;
+    while i < from.len() {
+        to[i] = from[i] as u8;
+        i += 1;
+    }
+}
+
 // The plan of a record: n, k, d, b; the shifts; the base word.
 #[no_mangle]
 pub extern "C" fn balanced_plan(
@@ -72,7 +86,7 @@ pub extern "C" fn balanced_plan(
     }
     put_numbers(plan, numbers);
     copy(&plan.shifts, shifts);
-    copy(&plan.base, base);
+    copy_bytes(&plan.base, base);
     0
 }
 

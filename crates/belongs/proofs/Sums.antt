@@ -7,18 +7,17 @@ use native.Mathlib.Omega.{arith}
 use lib.ListN.{length, getD}
 use Rattle.lists.specs.Padded.{padded}
 use Rattle.lists.specs.Rows.{from}
-use Rattle.lists.proofs.Padding.{length-padded, getD-padded, in-padded}
+use Rattle.lists.proofs.Padding.{getD-padded, in-padded}
 use Rattle.lists.proofs.Rows.{length-from, getD-from}
 use Rattle.layout.specs.Layout.{Arrangement, laneOf}
 use Rattle.field.specs.Fields.{power}
 use Rattle.field.proofs.Bounds.{power-below}
-use Rattle.field.proofs.FieldOf.{size-pos}
 use Rattle.generator.specs.declared.Header.{Header}
-use Rattle.generator.specs.Records.{modulusOf, size}
+use Rattle.generator.specs.Records.{modulusOf}
 use Rattle.generator.specs.Codewords.{checkFrom}
 use Rattle.refusals.specs.Accepted.{SymbolRows}
-use Rattle.combine.specs.Combined.{combined, Rows}
-use Rattle.combine.proofs.Columns.{column-below, combined-column}
+use Rattle.combine.specs.Combined.{combined, WeightedRows}
+use Rattle.combine.proofs.Columns.{column-ready, combined-column}
 use Rattle.belongs.specs.Ready.{powersOf, factorsOf}
 
 module _ (h : Header) (i : ℕ) (low : i < h .n) where
@@ -41,19 +40,7 @@ module _ (h : Header) (e l : ℕ) (s : List ℕ) where
   check-sums y = combined-column (modulusOf h) (λ j. power (modulusOf h) (h .root) (j * e % h .n)) (checkFrom h e) (λ j. refl) (λ j w ws. refl) y 255 (h .n) l s
 
   -- the shares and the factors can be combined
-  pub rows-ready : SymbolRows h (h .n) l s → h .n ≤ 255 → (out : ℕ) → out ≡ l → Rows (h .field) (h .n) l (padded 255 (factorsOf h e)) s out
+  pub rows-ready : SymbolRows h (h .n) l s → h .n ≤ 255 → (out : ℕ) → out ≡ l → WeightedRows (h .field) (h .n) l (padded 255 (factorsOf h e)) s out
   unfolding factorsOf
   rows-ready b few out long =
-      let rows : length (factorsOf h e) ≡ h .n = length-from (λ j. power (modulusOf h) (h .root) (j * e % h .n)) 0 (h .n) in
-      record {
-        usable-field = b .sound .usable-field;
-        bytes = b .sound .bytes;
-        weighted = record {
-          few = few;
-          weights = omega (arith, length-padded 255 (factorsOf h e) (omega arith));
-          weights-below = column-below (size h) 255 (λ j. power (modulusOf h) (h .root) (j * e % h .n)) (h .n) (size-pos (modulusOf h) (b .sound .field)) (λ j. power-below (modulusOf h) (b .sound .field) (j * e % h .n) (b .sound .root-below));
-          long = b .long;
-          symbols = b .symbols;
-          out-long = long;
-        };
-      }
+      column-ready (λ j. power (modulusOf h) (h .root) (j * e % h .n)) (b .sound) few (λ j. power-below (modulusOf h) (b .sound .field) (j * e % h .n) (b .sound .root-below)) (b .long) (b .symbols) long

@@ -6,31 +6,31 @@ ghost use lib.ListN.{length, getD};
 ghost use Rattle.lists.specs.Rows.{from};
 ghost use Rattle.lists.specs.Padded.{padded};
 ghost use Rattle.generator.specs.Records.{Sound};
-ghost use Rattle.lists.specs.Search.{firstFalse};
 ghost use Rattle.generator.specs.Codewords.{checkFrom};
-ghost use Rattle.layout.specs.Layout.{laneOf, shareLayout};
 ghost use Rattle.refusals.specs.Faults.{belongsFault};
 ghost use Rattle.refusals.specs.Accepted.{SymbolRows};
+ghost use Rattle.layout.specs.Layout.{laneOf, shareLayout};
 ghost use Rattle.blocks.specs.Blocks.{firstWrong};
 ghost use Rattle.blocks.specs.Promises.{BelongsPromise, BelongsSays};
+ghost use Rattle.lists.specs.Search.{firstFalse};
 ghost use Rattle.belongs.specs.Ready.{powersOf, factorsOf};
 use blocks::Membership;
 use generator::Header;
 use generator::Record;
 
 // The powers of the root below its order, and zeros after them.
-fn powers(h: Header) -> [u8; 255]
+fn powers(h: Header) -> [u16; 255]
     requires { ⌜ Sound h ⌝ }
     ensures { λ r. ⌜ r ≡ padded 255 (powersOf h) ⌝ }
 {
     let field = h.field;
     let root = h.root;
     let n = h.n as usize;
-    let mut out = [0u8; 255];
+    let mut out = [0u16; 255];
     let mut x: u32 = 1;
     let mut i: usize = 0;
     while i < n {
-        out[i] = x as u8;
+        out[i] = x as u16;
         x = field.mul(root, x);
         i += 1;
     }
@@ -38,12 +38,12 @@ fn powers(h: Header) -> [u8; 255]
 }
 
 // The nodes' factors in check sum e, root^(j·e) with the exponent modulo n, and zeros after them.
-fn factors(h: Header, powers: &[u8], e: usize) -> [u8; 255]
+fn factors(h: Header, powers: &[u16], e: usize) -> [u16; 255]
     requires { ⌜ Sound h × (now powers ≡ padded 255 (powersOf h)) × (e ≤ 255) ⌝ }
     ensures { λ r. ⌜ r ≡ padded 255 (factorsOf h e) ⌝ }
 {
     let n = h.n as usize;
-    let mut out = [0u8; 255];
+    let mut out = [0u16; 255];
     let mut j: usize = 0;
     while j < n {
         let i = j * e % n;
@@ -54,7 +54,7 @@ fn factors(h: Header, powers: &[u8], e: usize) -> [u8; 255]
 }
 
 // Check sum e of each lane.
-fn lane_sums(h: Header, powers: &[u8], e: usize, lanes: usize, shares: &[u8], sums: &mut [u8])
+fn lane_sums(h: Header, powers: &[u16], e: usize, lanes: usize, shares: &[u8], sums: &mut [u8])
     requires { ⌜ SymbolRows h (h .n) lanes (now shares) × (now powers ≡ padded 255 (powersOf h)) × (e ≤ 255) × (length (now sums) ≡ lanes) ⌝ }
     ensures { λ r. ⌜ now (sums .exit) ≡ from (λ t. checkFrom h e 0 (laneOf shareLayout (h .n) lanes t (now (shares .entry)))) 0 lanes ⌝ }
 {

@@ -12,11 +12,12 @@ use Rattle.lists.specs.Choice.{firstOf, when}
 use Rattle.lists.specs.Numbers.{allBelow, distinct}
 use Rattle.lists.proofs.Cases.{by-test}
 use Rattle.field.proofs.Agreement.{sizeOf, sizeOf-agrees}
+use Rattle.layout.specs.Layout.{shareLayout}
 use Rattle.generator.specs.Records as R
 use Rattle.generator.proofs.RecordsAgreement.{headerOf, recordFault, headerOf-agrees, recordFault-agrees}
-use Rattle.layout.specs.Layout.{shareLayout}
 use Rattle.refusals.specs.Faults as Ours
 use Rattle.refusals.specs.Conditions as Conditions
+use Rattle.refusals.proofs.OneByte.{times-width, symbols-test, lane-test}
 use Rattle.blocks.proofs.Agreement.{laneOf, laneOf-agrees}
 
 -- document 03's definitions
@@ -62,21 +63,21 @@ not-below x m = by-test (ltb x m) (λ e. rw (e, lt-leb m x (ltb-true x m e))) (�
 
 module _ (rec : List ℕ) (l : ℕ) where
   pub encodeFault-agrees : (out : ℕ) (s : List ℕ) → encodeFault rec l out s ≡ Ours.faultOf rec (λ h. Ours.encodeFault h l out s)
-  unfolding encodeFault Ours.faultOf Ours.encodeFault Conditions.lengthBad Conditions.symbolsBad
-  encodeFault-agrees out s = rw (headerOf-agrees rec, recordFault-agrees rec, lanesBad-agrees l, sizeOf-agrees (R.modulusOf (R.headerOf rec)), not-and, either)
+  unfolding encodeFault Ours.faultOf Ours.encodeFault Conditions.lengthBad
+  encodeFault-agrees out s = rw (headerOf-agrees rec, recordFault-agrees rec, lanesBad-agrees l, sizeOf-agrees (R.modulusOf (R.headerOf rec)), times-width, times-width, symbols-test, not-and, either)
 
   pub updateFault-agrees : (r t old new : ℕ) (s : List ℕ) → updateFault rec l r t old new s ≡ Ours.faultOf rec (λ h. Ours.updateFault h l r t old new s)
-  unfolding updateFault Ours.faultOf Ours.updateFault shareLayout Conditions.lengthBad Conditions.numberBad Conditions.symbolBad Conditions.symbolsBad
-  updateFault-agrees r t old new s = rw (headerOf-agrees rec, recordFault-agrees rec, lanesBad-agrees l, sizeOf-agrees (R.modulusOf (R.headerOf rec)), laneOf-agrees (R.headerOf rec .n) l t s, not-and, not-and, not-below, not-below, either, either-last, either-last)
+  unfolding updateFault shareLayout Ours.faultOf Ours.updateFault Conditions.lengthBad Conditions.numberBad Conditions.symbolBad
+  updateFault-agrees r t old new s = rw (headerOf-agrees rec, recordFault-agrees rec, lanesBad-agrees l, sizeOf-agrees (R.modulusOf (R.headerOf rec)), times-width, lane-test, laneOf-agrees (R.headerOf rec .n) l t s, not-and, not-and, not-below, not-below, either, either-last, either-last)
 
   pub recoverFault-agrees : (nodes s : List ℕ) (out : ℕ) → recoverFault rec l nodes s out ≡ Ours.faultOf rec (λ h. Ours.recoverFault h l nodes s out)
-  unfolding recoverFault Ours.faultOf Ours.recoverFault Ours.listFault Conditions.lengthBad Conditions.nodesBad Conditions.twiceBad Conditions.symbolsBad
-  recoverFault-agrees nodes s out = rw (headerOf-agrees rec, recordFault-agrees rec, lanesBad-agrees l, sizeOf-agrees (R.modulusOf (R.headerOf rec)), not-and, not-and, either, either)
+  unfolding recoverFault Ours.faultOf Ours.recoverFault Ours.listFault Conditions.lengthBad Conditions.nodesBad Conditions.twiceBad
+  recoverFault-agrees nodes s out = rw (headerOf-agrees rec, recordFault-agrees rec, lanesBad-agrees l, sizeOf-agrees (R.modulusOf (R.headerOf rec)), times-width, symbols-test, not-and, not-and, either, either)
 
   pub rebuildFault-agrees : (nodes s : List ℕ) (target out : ℕ) → rebuildFault rec l nodes s target out ≡ Ours.faultOf rec (λ h. Ours.rebuildFault h l nodes s target out)
-  unfolding rebuildFault Ours.faultOf Ours.rebuildFault Ours.listFault Conditions.lengthBad Conditions.numberBad Conditions.nodesBad Conditions.twiceBad Conditions.symbolsBad
-  rebuildFault-agrees nodes s target out = rw (headerOf-agrees rec, recordFault-agrees rec, lanesBad-agrees l, sizeOf-agrees (R.modulusOf (R.headerOf rec)), not-and, not-and, either, either, or-comm, either)
+  unfolding rebuildFault Ours.faultOf Ours.rebuildFault Ours.listFault Conditions.lengthBad Conditions.numberBad Conditions.nodesBad Conditions.twiceBad
+  rebuildFault-agrees nodes s target out = rw (headerOf-agrees rec, recordFault-agrees rec, lanesBad-agrees l, sizeOf-agrees (R.modulusOf (R.headerOf rec)), times-width, times-width, symbols-test, not-and, not-and, either, either, or-comm, either)
 
   pub belongsFault-agrees : (s : List ℕ) → belongsFault rec l s ≡ Ours.faultOf rec (λ h. Ours.belongsFault h l s)
-  unfolding belongsFault Ours.faultOf Ours.belongsFault Conditions.lengthBad Conditions.symbolsBad
-  belongsFault-agrees s = rw (headerOf-agrees rec, recordFault-agrees rec, lanesBad-agrees l, sizeOf-agrees (R.modulusOf (R.headerOf rec)))
+  unfolding belongsFault Ours.faultOf Ours.belongsFault Conditions.lengthBad
+  belongsFault-agrees s = rw (headerOf-agrees rec, recordFault-agrees rec, lanesBad-agrees l, sizeOf-agrees (R.modulusOf (R.headerOf rec)), times-width, symbols-test)

@@ -20,8 +20,8 @@ use Rattle.generator.specs.Records.{headerOf, distance, kindBad, bodyBad, field
 use Rattle.generator.specs.Shifts.{gcdFrom, gcd, shiftsFrom, shiftsOf, shifts}
 use Rattle.generator.specs.Generator.{baseFrom, baseAt, entryAt, entry, baseWord}
 use Rattle.generator.specs.Codewords.{nodeFrom, nodeOf}
-use Rattle.refusals.specs.Conditions.{lanesBad}
 use Rattle.blocks.specs.Blocks.{shareAt, shareOf, sharesOf, addedAt, rowAdded, updated, MessageFor}
+use Rattle.refusals.specs.Conditions.{lanesBad}
 
 -- a case of the notebook
 pub data Case : Type 0 where

@@ -1,4 +1,4 @@
--- Blocks, answers and promises: the definitions that the contracts cite.
+-- Blocks and answers: the definitions that the contracts cite.
 pub mod Blocks
 pub mod Bytes
 pub mod Answers

@@ -26,7 +26,7 @@ fn refused(number: u8, all_zero: bool) {
 fn empty(plan: Plan) -> bool {
     let numbers = [plan.n, plan.k, plan.d, plan.b];
     let shifts = plan.shifts;
-    let base = plan.base;
+    let base = as_bytes(&plan.base);
     untouched(0, &numbers) && untouched(0, &shifts) && untouched(0, &base)
 }
 
@@ -34,7 +34,23 @@ fn empty(plan: Plan) -> bool {
 fn accepted(plan: Plan) {
     print_numbers(plan);
     front(b" shifts", &plan.shifts, plan.k as usize);
-    front(b" base", &plan.base, plan.n as usize);
+    let base = as_bytes(&plan.base);
+    front(b" base", &base, plan.n as usize);
+}
+
+// The symbols as bytes, which they are for every kind; any other would stand as 255.
+fn as_bytes(symbols: &[u16; 255]) -> [u8; 255] {
+    let mut out = [0u8; 255];
+    let mut i: usize = 0;
+    while i < 255 {
+        out[i] = as_byte(symbols[i]);
+        i += 1;
+    }
+    out
+}
+
+fn as_byte(x: u16) -> u8 {
+    if x < 256 { x as u8 } else { 255 }
 }
 
 fn print_numbers(plan: Plan) {

@@ -7,10 +7,11 @@ use lib.Bits.{bitXor, xor-zero-r}
 use lib.ListN.{length, getD, take, drop}
 use lib.Seq.{drop-length}
 use Rattle.lists.proofs.Front.{drop-next}
+use Rattle.lists.proofs.Rows.{getD-part}
 use Rattle.layout.proofs.Places.{held-by-row}
 use Rattle.field.proofs.Xor.{xor-assoc}
 use Rattle.kernel.specs.Lanes.{lanewise}
-use Rattle.kernel.proofs.Lanes.{lanewise-same, lanewise-ext, lanewise-twice, getD-part}
+use Rattle.kernel.proofs.Lanes.{lanewise-same, lanewise-ext, lanewise-twice}
 use Rattle.combine.specs.Digits.{rowAt, sumOf, added}
 
 module _ (l : ℕ) (s : List ℕ) where

@@ -1,26 +1,41 @@
--- Weights by the number of the row, padded with zeros: the sums with them are what a recursion over the rows gives.
+-- What `combine` requires, over a sound header's field. Weights by the number of the row, padded with zeros: the sums with them are what a recursion over the rows gives.
 use mathlib.Core.Path.{_≡_, sym, ap, _∙_}
 use mathlib.Core.Bool.{true}
 use mathlib.Core.List.{List, [], _∷_, _++_}
-use Prim.Native.Nat.{ℕ, zero, suc, _+_, _-_, _≤_, _<_}
+use Prim.Native.Nat.{ℕ, zero, suc, _+_, _-_, _*_, _≤_, _<_}
 use native.Mathlib.Omega.{arith}
 use lib.ListN.{length}
 use Rattle.lists.specs.Numbers.{allBelow}
 use Rattle.lists.specs.Padded.{zeros, padded}
 use Rattle.lists.specs.Rows.{from}
 use Rattle.lists.proofs.Numbers.{at-below}
-use Rattle.lists.proofs.Padding.{below-padded}
+use Rattle.lists.proofs.Padding.{length-padded, below-padded}
 use Rattle.lists.proofs.Rows.{length-from, getD-from, from-ext}
 use Rattle.layout.specs.Layout.{Arrangement, laneOf}
 use Rattle.layout.proofs.Buffers.{length-lane}
 use Rattle.field.specs.Fields.{add, mul}
 use Rattle.field.specs.Sums.{dot}
-use Rattle.combine.specs.Combined.{combined}
+use Rattle.field.proofs.FieldOf.{size-pos}
+use Rattle.generator.specs.declared.Header.{Header}
+use Rattle.generator.specs.Records.{modulusOf, size, Sound}
+use Rattle.combine.specs.Combined.{combined, WeightedRows}
 
--- weights below q
-pub column-below : (q size : ℕ) (f : ℕ → ℕ) (n : ℕ) → 0 < q → ((r : ℕ) → f r < q) → allBelow q (padded size (from f 0 n)) ≡ true
-column-below q size f n some low =
-    below-padded q size (from f 0 n) some (at-below q (from f 0 n) (λ i h. rw (getD-from f 0 n i 0 (omega (arith, length-from f 0 n))) (low (0 + i))))
+-- symbols of a sound header's field in a buffer and in an array of weights can be combined
+pub rows-ready : {h : Header} {rows l : ℕ} {ws s : List ℕ} {out : ℕ} → Sound h → rows ≤ 255 → length ws ≡ 255 → allBelow (size h) ws ≡ true → length s ≡ rows * l → allBelow (size h) s ≡ true → out ≡ l → WeightedRows (h .field) rows l ws s out
+rows-ready sound few weights below long symbols out-long =
+    record {
+      usable-field = sound .usable-field;
+      one-byte = sound .one-byte;
+      weighted = record { few = few; weights = omega arith; weights-below = below; long = long; symbols = symbols; out-long = out-long };
+    }
+
+-- the same where the weight of row r is f r
+pub column-ready : {h : Header} (f : ℕ → ℕ) {rows l : ℕ} {s : List ℕ} {out : ℕ} → Sound h → rows ≤ 255 → ((r : ℕ) → f r < size h) → length s ≡ rows * l → allBelow (size h) s ≡ true → out ≡ l → WeightedRows (h .field) rows l (padded 255 (from f 0 rows)) s out
+column-ready {h} f {rows} sound few low long symbols out-long =
+    let n = length-from f 0 rows in
+    rows-ready sound few (length-padded 255 (from f 0 rows) (omega arith))
+    (below-padded (size h) 255 (from f 0 rows) (size-pos (modulusOf h) (sound .field)) (at-below (size h) (from f 0 rows) (λ i h. rw (getD-from f 0 rows i 0 (omega arith)) (low (0 + i)))))
+    long symbols out-long
 
 -- g r is the sum over symbols, the first being that of row r, times the weights f
 module _ (p : ℕ) (f : ℕ → ℕ) (g : ℕ → List ℕ → ℕ) (none : (r : ℕ) → g r [] ≡ 0) (more : (r m : ℕ) (ms : List ℕ) → g r (m ∷ ms) ≡ add p (mul p m (f r)) (g (r + 1) ms)) where

@@ -1,7 +1,7 @@
 -- Sums of rows times weights, built from the first row to the last.
 use mathlib.Core.Path.{_≡_, refl, sym, ap, _∙_}
 use mathlib.Core.Bool.{true}
-use mathlib.Core.List.{List, [], _∷_}
+use mathlib.Core.List.{List}
 use Prim.Native.Nat.{ℕ, _+_, _-_, _*_, _≤_, _<_}
 use native.Mathlib.Nat.{zero-add}
 use native.Mathlib.Omega.{arith}
@@ -11,8 +11,8 @@ use Rattle.lists.specs.Padded.{zeros}
 use Rattle.lists.specs.Numbers.{allBelow}
 use Rattle.lists.proofs.Front.{drop-next}
 use Rattle.lists.proofs.Fill.{from-zeros, length-zeros}
-use Rattle.lists.proofs.Rows.{length-from, getD-from}
-use Rattle.lists.proofs.Numbers.{at-below, below-at, below-cons, below-drop}
+use Rattle.lists.proofs.Rows.{length-from, getD-from, getD-part}
+use Rattle.lists.proofs.Numbers.{at-below, below-at, below-drop}
 use Rattle.layout.specs.Layout.{byRow, laneOf}
 use Rattle.layout.proofs.Lawful.{by-row}
 use Rattle.layout.proofs.Buffers.{length-lane, getD-lane, lane-symbols}
@@ -22,19 +22,10 @@ use Rattle.field.specs.Sums.{dot}
 use Rattle.field.proofs.BothKinds.{arithmetic}
 use Rattle.field.proofs.Bounds.{add-below, mul-below}
 use Rattle.field.proofs.FieldOf.{size-pos}
+use Rattle.field.proofs.Sums.{dot-below}
 use Rattle.kernel.specs.Lanes.{addScaled}
-use Rattle.kernel.proofs.Lanes.{length-lanewise, getD-lanewise, getD-part}
+use Rattle.kernel.proofs.Lanes.{length-lanewise, getD-lanewise}
 use Rattle.combine.specs.Combined.{combined, Weighted}
-
--- sums of symbols are symbols
-pub dot-below : (p : ℕ) → isField p ≡ true → (ys ws : List ℕ) → allBelow (sizeOf p) ys ≡ true → allBelow (sizeOf p) ws ≡ true → dot p ys ws < sizeOf p
-unfolding dot
-dot-below p v [] ws a b = size-pos p v
-dot-below p v (y ∷ ys) [] a b = size-pos p v
-dot-below p v (y ∷ ys) (w ∷ ws) a b =
-    let c = below-cons (sizeOf p) y ys a in
-    let d = below-cons (sizeOf p) w ws b in
-    add-below p v (mul-below p v (c .0) (d .0)) (dot-below p v ys ws (c .1) (d .1))
 
 -- another row to write, of the same length
 pub other-row : {q rows l : ℕ} {ws s : List ℕ} {n : ℕ} → Weighted q rows l ws s n → (m : ℕ) → m ≡ l → Weighted q rows l ws s m

@@ -15,7 +15,7 @@ use Rattle.lists.proofs.All.{All-at}
 use Rattle.lists.proofs.Passing.{passing-within}
 use Rattle.lists.proofs.Rows.{sub-next, sub-end, row-inside}
 use Rattle.combine.specs.Combined.{Weighted}
-use Rattle.combine.specs.Digits.{rowsWith, Listed}
+use Rattle.combine.specs.Digits.{rowsWith, ListedRows}
 
 -- whether the weight of row i has the digit
 abbrev pub has : ℕ → List ℕ → ℕ → Bool
@@ -48,7 +48,7 @@ module _ (digit rows : ℕ) (ws : List ℕ) where
       rw (append-nil) at (rw (sub-end rows i end) at e)
 
   -- every listed row lies within the buffer
-  pub listed-rows : {q l : ℕ} {s : List ℕ} {n : ℕ} → Weighted q rows l ws s n → (out : ℕ) → out ≡ l → Listed l (rowsWith digit rows ws) s out
+  pub listed-rows : {q l : ℕ} {s : List ℕ} {n : ℕ} → Weighted q rows l ws s n → (out : ℕ) → out ≡ l → ListedRows l (rowsWith digit rows ws) s out
   unfolding rowsWith
   listed-rows {q} {l} {s} {n} a out e =
       record {

@@ -45,11 +45,11 @@ module _ (rows l : ℕ) (ws s : List ℕ) where
   length-sums digit = length-from _ 0 l
 
   -- row i's symbol of lane t
-  abbrev symbolAt : ℕ → ℕ → ℕ
-  symbolAt t i = held byRow rows l s i t
+  abbrev heldAt : ℕ → ℕ → ℕ
+  heldAt t i = held byRow rows l s i t
 
   module _ {out : ℕ} (a : Weighted 256 rows l ws s out) where
-    symbol-byte : (t : ℕ) → t < l → (i : ℕ) → i < rows → symbolAt t i < 256
+    symbol-byte : (t : ℕ) → t < l → (i : ℕ) → i < rows → heldAt t i < 256
     symbol-byte t inside i row = held-below by-row rows l 256 s (a .long) (a .symbols) i t row inside
 
     weight-byte : (i : ℕ) → i < rows → getD ws i 0 < 256
@@ -62,7 +62,7 @@ module _ (rows l : ℕ) (ws s : List ℕ) where
     unfolding sumsOf combined laneOf
     sums-start =
         sym (from-zeros _ 0 l
-        (λ t low high. dot-none rows (symbolAt t) (symbol-byte t (omega arith)) (highOf 8) (λ i row. div-eq-of-lt (weight-byte i row)) rows 0 (omega arith)))
+        (λ t low high. dot-none rows (heldAt t) (symbol-byte t (omega arith)) (highOf 8) (λ i row. div-eq-of-lt (weight-byte i row)) rows 0 (omega arith)))
 
     -- one digit less
     multiplied-added : (d e : ℕ) → d + 1 ≡ e → added l s (rowsWith d rows ws) (multiplied (sumsOf e)) ≡ sumsOf d
@@ -71,8 +71,8 @@ module _ (rows l : ℕ) (ws s : List ℕ) where
         lanewise-twice _ _ (sumsOf e)
         ∙ lanewise-from _ _ _ l
         (λ t inside.
-        ap (λ (v : List ℕ). bitXor (timesX (dot 0 (from (symbolAt t) 0 rows) v)) (sumOf (symbolAt t) (rowsWith d rows ws))) (from-ext (highOf e) (λ i. highOf d i / 2) 0 rows (λ i low high. halved (getD ws i 0)))
-        ∙ dot-halved rows (symbolAt t) (symbol-byte t inside) (highOf d) (high-byte d) rows 0 (omega arith))
+        ap (λ (v : List ℕ). bitXor (timesX (dot 0 (from (heldAt t) 0 rows) v)) (sumOf (heldAt t) (rowsWith d rows ws))) (from-ext (highOf e) (λ i. highOf d i / 2) 0 rows (λ i low high. halved (getD ws i 0)))
+        ∙ dot-halved rows (heldAt t) (symbol-byte t inside) (highOf d) (high-byte d) rows 0 (omega arith))
       where
         halved : (w : ℕ) → w / 2 ^ e ≡ w / 2 ^ d / 2
         halved w = rw (← next, add-one, pow-suc) (sym (div-div-eq-div-mul w (2 ^ d) 2))
@@ -86,5 +86,5 @@ module _ (rows l : ℕ) (ws s : List ℕ) where
     sums-end =
         from-ext _ _ 0 l
         (λ t low high.
-        ap (dot 0 (from (symbolAt t) 0 rows)) (from-ext (highOf 0) (λ i. getD ws i 0) 0 rows (λ i low high. div-one (getD ws i 0)))
-        ∙ dot-index (symbolAt t) ws rows 0 (omega (arith, a .weights)))
+        ap (dot 0 (from (heldAt t) 0 rows)) (from-ext (highOf 0) (λ i. getD ws i 0) 0 rows (λ i low high. div-one (getD ws i 0)))
+        ∙ dot-index (heldAt t) ws rows 0 (omega (arith, a .weights)))

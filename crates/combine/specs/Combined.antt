@@ -25,8 +25,8 @@ pub record Weighted (q rows l : ℕ) (ws s : List ℕ) (out : ℕ) : Type 0 wher
   pub symbols : allBelow q s ≡ true
   pub out-long : out ≡ l
 
--- the same over a field whose symbols are bytes
-pub record Rows (field : Field) (rows l : ℕ) (ws s : List ℕ) (out : ℕ) : Type 0 where
+-- the same over a field; the rows are bytes, so a symbol fits one
+pub record WeightedRows (field : Field) (rows l : ℕ) (ws s : List ℕ) (out : ℕ) : Type 0 where
   pub usable-field : usable field ≡ true
-  pub bytes : sizeOf (modulus field) ≤ 256
+  pub one-byte : sizeOf (modulus field) ≤ 256
   pub weighted : Weighted (sizeOf (modulus field)) rows l ws s out

@@ -32,7 +32,7 @@ unfoldable pub multiplied : List ℕ → List ℕ
 multiplied acc = lanewise (λ t y. timesX y) acc
 
 -- listed rows of l symbols lie within the buffer, and out is as long as a row
-pub record Listed (l : ℕ) (js s : List ℕ) (out : ℕ) : Type 0 where
+pub record ListedRows (l : ℕ) (js s : List ℕ) (out : ℕ) : Type 0 where
   pub within : (i : ℕ) → i < length js → getD js i 0 * l + l ≤ length s
   pub out-long : out ≡ l
 

@@ -5,12 +5,12 @@ ghost use Prim.Native.Nat.{_+_, _-_, _*_, _%_, _≤_, _<_};
 ghost use lib.ListN.{length, take, drop};
 ghost use Rattle.layout.specs.Layout.{byRow};
 ghost use Rattle.combine.specs.Combined.{Weighted, combined};
-ghost use Rattle.combine.specs.Digits.{rowsWith, added, multiplied, Listed, Started};
+ghost use Rattle.combine.specs.Digits.{rowsWith, added, multiplied, ListedRows, Started};
 use kernel::gf256;
 
 // Lists those of the first rows whose weight has the digit, and gives how many they are. Each row is written after those listed,
 // and counted or not: no branch.
-fn list_rows(digit: u8, weights: &[u8], list: &mut [u8]) -> usize
+fn list_rows(digit: u8, weights: &[u16], list: &mut [u8]) -> usize
     requires { ⌜ (digit < 8) × (length (now list) ≤ 255) × (length (now list) ≤ length (now weights)) ⌝ }
     ensures { λ r. ⌜ (r ≤ length (now (list .entry))) × (take r (now (list .exit)) ≡ rowsWith digit (length (now (list .entry))) (now (weights .entry))) ⌝ }
 {
@@ -33,62 +33,62 @@ fn start_of(row: u8, lanes: usize, size: usize) -> usize
 }
 
 // Multiplies acc by x and adds the first one or two listed rows, so that an even number is left; gives how many it added.
-fn multiply_x_first(list: &[u8], lanes: usize, shares: &[u8], acc: &mut [u8]) -> usize
-    requires { ⌜ Listed lanes (now list) (now shares) (length (now acc)) ⌝ }
-    ensures { λ r. ⌜ Started lanes (now (list .entry)) (now (shares .entry)) (now (acc .entry)) (now (acc .exit)) r ⌝ }
+fn multiply_x_first(list: &[u8], lanes: usize, rows: &[u8], acc: &mut [u8]) -> usize
+    requires { ⌜ ListedRows lanes (now list) (now rows) (length (now acc)) ⌝ }
+    ensures { λ r. ⌜ Started lanes (now (list .entry)) (now (rows .entry)) (now (acc .entry)) (now (acc .exit)) r ⌝ }
 {
     if list.len() == 0 {
         gf256::multiply_x(acc);
         return 0;
     }
-    let start = start_of(list[0], lanes, shares.len());
+    let start = start_of(list[0], lanes, rows.len());
     let end = start + lanes;
     if list.len() % 2 == 1 {
-        gf256::multiply_x_add(&shares[start..end], acc);
+        gf256::multiply_x_add(&rows[start..end], acc);
         return 1;
     }
-    let next = start_of(list[1], lanes, shares.len());
+    let next = start_of(list[1], lanes, rows.len());
     let next_end = next + lanes;
-    gf256::multiply_x_add_two(&shares[start..end], &shares[next..next_end], acc);
+    gf256::multiply_x_add_two(&rows[start..end], &rows[next..next_end], acc);
     2
 }
 
 // Adds the listed rows from place `first` on, which are even in number, two at a time.
-fn add_pairs(list: &[u8], first: usize, lanes: usize, shares: &[u8], acc: &mut [u8])
-    requires { ⌜ Listed lanes (now list) (now shares) (length (now acc)) × (first ≤ length (now list)) × ((length (now list) - first) % 2 ≡ 0) ⌝ }
-    ensures { λ r. ⌜ now (acc .exit) ≡ added lanes (now (shares .entry)) (drop first (now (list .entry))) (now (acc .entry)) ⌝ }
+fn add_pairs(list: &[u8], first: usize, lanes: usize, rows: &[u8], acc: &mut [u8])
+    requires { ⌜ ListedRows lanes (now list) (now rows) (length (now acc)) × (first ≤ length (now list)) × ((length (now list) - first) % 2 ≡ 0) ⌝ }
+    ensures { λ r. ⌜ now (acc .exit) ≡ added lanes (now (rows .entry)) (drop first (now (list .entry))) (now (acc .entry)) ⌝ }
 {
     let mut i = first;
     while i < list.len() {
-        let a = start_of(list[i], lanes, shares.len());
-        let b = start_of(list[i + 1], lanes, shares.len());
+        let a = start_of(list[i], lanes, rows.len());
+        let b = start_of(list[i + 1], lanes, rows.len());
         let a_end = a + lanes;
         let b_end = b + lanes;
-        gf256::add_two(&shares[a..a_end], &shares[b..b_end], acc);
+        gf256::add_two(&rows[a..a_end], &rows[b..b_end], acc);
         i += 2;
     }
 }
 
 // One step of Horner's rule; `list` has a place for each row.
-fn step(digit: u8, weights: &[u8], lanes: usize, shares: &[u8], list: &mut [u8], acc: &mut [u8])
-    requires { ⌜ (digit < 8) × Weighted 256 (length (now list)) lanes (now weights) (now shares) (length (now acc)) ⌝ }
-    ensures { λ r. ⌜ now (acc .exit) ≡ added lanes (now (shares .entry)) (rowsWith digit (length (now (list .entry))) (now (weights .entry))) (multiplied (now (acc .entry))) ⌝ }
+fn step(digit: u8, weights: &[u16], lanes: usize, rows: &[u8], list: &mut [u8], acc: &mut [u8])
+    requires { ⌜ (digit < 8) × Weighted 256 (length (now list)) lanes (now weights) (now rows) (length (now acc)) ⌝ }
+    ensures { λ r. ⌜ now (acc .exit) ≡ added lanes (now (rows .entry)) (rowsWith digit (length (now (list .entry))) (now (weights .entry))) (multiplied (now (acc .entry))) ⌝ }
 {
     let count = list_rows(digit, weights, list);
-    let first = multiply_x_first(&list[..count], lanes, shares, acc);
-    add_pairs(&list[..count], first, lanes, shares, acc);
+    let first = multiply_x_first(&list[..count], lanes, rows, acc);
+    add_pairs(&list[..count], first, lanes, rows, acc);
 }
 
 // In each lane the sum of the rows' symbols times the weights.
-pub fn combine(weights: &[u8], rows: usize, lanes: usize, shares: &[u8], acc: &mut [u8])
-    requires { ⌜ Weighted 256 rows lanes (now weights) (now shares) (length (now acc)) ⌝ }
-    ensures { λ r. ⌜ now (acc .exit) ≡ combined byRow 0 rows lanes (now (weights .entry)) (now (shares .entry)) ⌝ }
+pub fn combine(weights: &[u16], count: usize, lanes: usize, rows: &[u8], acc: &mut [u8])
+    requires { ⌜ Weighted 256 count lanes (now weights) (now rows) (length (now acc)) ⌝ }
+    ensures { λ r. ⌜ now (acc .exit) ≡ combined byRow 0 count lanes (now (weights .entry)) (now (rows .entry)) ⌝ }
 {
     let mut list = [0u8; 255];
     kernel::clear(acc);
     let mut digit: u8 = 8;
     while 0 < digit {
         digit -= 1;
-        step(digit, weights, lanes, shares, &mut list[..rows], acc);
+        step(digit, weights, lanes, rows, &mut list[..count], acc);
     }
 }

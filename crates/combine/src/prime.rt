@@ -10,16 +10,16 @@ use kernel::prime;
 
 // Each row times its weight is added, from the first row to the last: where the rows go down, the compiler's test for overlap
 // sends every lane to scalar code.
-pub fn combine(p: u16, weights: &[u8], rows: usize, lanes: usize, shares: &[u8], acc: &mut [u8])
-    requires { ⌜ (isPrime p ≡ true) × (p ≤ 256) × Weighted p rows lanes (now weights) (now shares) (length (now acc)) ⌝ }
-    ensures { λ r. ⌜ now (acc .exit) ≡ combined byRow p rows lanes (now (weights .entry)) (now (shares .entry)) ⌝ }
+pub fn combine(p: u16, weights: &[u16], count: usize, lanes: usize, rows: &[u8], acc: &mut [u8])
+    requires { ⌜ (isPrime p ≡ true) × (p ≤ 256) × Weighted p count lanes (now weights) (now rows) (length (now acc)) ⌝ }
+    ensures { λ r. ⌜ now (acc .exit) ≡ combined byRow p count lanes (now (weights .entry)) (now (rows .entry)) ⌝ }
 {
     kernel::clear(acc);
     let mut i: usize = 0;
-    while i < rows {
+    while i < count {
         let start = i * lanes;
         let end = start + lanes;
-        prime::add_scaled(p, weights[i] as u16, &shares[start..end], acc);
+        prime::add_scaled(p, weights[i], &rows[start..end], acc);
         i += 1;
     }
 }

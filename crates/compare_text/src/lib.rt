@@ -1,7 +1,9 @@
 // The comparison of the plain and the balanced layout as text.
 use generator::Header;
 use generator::Record;
+use records::distance_of;
 use records::read_record;
+use records::reads_of;
 use text::put_field;
 use text::put_line;
 use text::put_word;
@@ -14,16 +16,6 @@ ghost use Rattle.generator.specs.Comparison.{balancedReads, plainGreatest, Comp
 ghost use Rattle.text.specs.Writing.{Puts};
 ghost use Rattle.compare_text.specs.Comparison.{costLine, plainLine, balancedLine, boundLine, comparisonFor};
 
-// d, the writes of a changed symbol.
-fn weight_of(h: Header) -> u8
-    requires { ⌜ Sound h ⌝ }
-    ensures { λ r. ⌜ r ≡ distance h ⌝ }
-{
-    let n = h.n;
-    let k = h.k;
-    n - k + 1
-}
-
 // The greatest reads of a node of the plain layout.
 fn plain_greatest(h: Header) -> u8
     ensures { λ r. ⌜ r ≡ plainGreatest h ⌝ }
@@ -31,17 +23,6 @@ fn plain_greatest(h: Header) -> u8
     let n = h.n;
     let k = h.k;
     if k < n { k } else { 1 }
-}
-
-// b, the reads of each node of the balanced layout.
-fn balanced_reads(h: Header) -> u8
-    requires { ⌜ Sound h ⌝ }
-    ensures { λ r. ⌜ r ≡ balancedReads h ⌝ }
-{
-    let n = h.n as u32;
-    let k = h.k as u32;
-    let d = weight_of(h) as u32;
-    (k * d / n) as u8
 }
 
 // Each `put_` function puts its text at a place of a buffer that has room for it, and gives the next place.
@@ -62,7 +43,7 @@ fn put_plain(out: &mut [u8], at: usize, h: Header) -> usize
     ensures { λ r. ⌜ Puts (now (out .entry)) (now (out .exit)) at r (plainLine h) ⌝ }
     ensures { λ r. ⌜ r ≤ at + 31 ⌝ }
 {
-    let d = weight_of(h);
+    let d = distance_of(h);
     let greatest = plain_greatest(h);
     put_cost(out, at, b"plain writes", d, &[1, greatest])
 }
@@ -72,8 +53,8 @@ fn put_balanced(out: &mut [u8], at: usize, h: Header) -> usize
     ensures { λ r. ⌜ Puts (now (out .entry)) (now (out .exit)) at r (balancedLine h) ⌝ }
     ensures { λ r. ⌜ r ≤ at + 34 ⌝ }
 {
-    let d = weight_of(h);
-    let b = balanced_reads(h);
+    let d = distance_of(h);
+    let b = reads_of(h);
     put_cost(out, at, b"balanced writes", d, &[b, b])
 }
 
@@ -82,8 +63,8 @@ fn put_bound(out: &mut [u8], at: usize, h: Header) -> usize
     ensures { λ r. ⌜ Puts (now (out .entry)) (now (out .exit)) at r (boundLine h) ⌝ }
     ensures { λ r. ⌜ r ≤ at + 27 ⌝ }
 {
-    let d = weight_of(h);
-    let b = balanced_reads(h);
+    let d = distance_of(h);
+    let b = reads_of(h);
     put_cost(out, at, b"bound writes", d, &[b])
 }
 

@@ -2,22 +2,17 @@
 use mathlib.Core.Path.{_≡_, refl}
 use mathlib.Core.List.{List}
 use Prim.Native.Nat.{ℕ, _≤_}
-use native.Mathlib.Omega.{arith}
-use lib.ListN.{length}
 use Rattle.lists.specs.Padded.{padded}
-use Rattle.lists.proofs.Padding.{length-padded}
-use Rattle.lists.proofs.Rows.{length-from}
 use Rattle.layout.specs.Layout.{byRow}
-use Rattle.field.proofs.FieldOf.{size-pos}
 use Rattle.generator.specs.declared.Header.{Header}
-use Rattle.generator.specs.Records.{modulusOf, size}
+use Rattle.generator.specs.Records.{modulusOf}
 use Rattle.generator.specs.Generator.{entry}
 use Rattle.generator.specs.Codewords.{nodeFrom, nodeOf}
 use Rattle.generator.proofs.Bounds.{entry-below}
 use Rattle.refusals.specs.Accepted.{SymbolRows}
 use Rattle.blocks.specs.Blocks.{shareAt, shareOf}
-use Rattle.combine.specs.Combined.{combined, Rows}
-use Rattle.combine.proofs.Columns.{column-below, combined-column}
+use Rattle.combine.specs.Combined.{combined, WeightedRows}
+use Rattle.combine.proofs.Columns.{column-ready, combined-column}
 use Rattle.encode.specs.Inner.{columnOf}
 
 module _ (h : Header) (l : ℕ) (s : List ℕ) (j : ℕ) where
@@ -27,20 +22,7 @@ module _ (h : Header) (l : ℕ) (s : List ℕ) (j : ℕ) where
   share-sums = combined-column (modulusOf h) (λ r. entry h r j) (λ r ms. nodeFrom r h ms j) (λ r. refl) (λ r m ms. refl) byRow 255 (h .k) l s
 
   -- a message's rows and the column can be combined
-  pub rows-ready : SymbolRows h (h .k) l s → h .k ≤ 255 → (out : ℕ) → out ≡ l → Rows (h .field) (h .k) l (padded 255 (columnOf h j)) s out
+  pub rows-ready : SymbolRows h (h .k) l s → h .k ≤ 255 → (out : ℕ) → out ≡ l → WeightedRows (h .field) (h .k) l (padded 255 (columnOf h j)) s out
   unfolding columnOf
   rows-ready message few out long =
-      let sound = message .sound in
-      let rows : length (columnOf h j) ≡ h .k = length-from (λ r. entry h r j) 0 (h .k) in
-      record {
-        usable-field = sound .usable-field;
-        bytes = sound .bytes;
-        weighted = record {
-          few = few;
-          weights = omega (arith, length-padded 255 (columnOf h j) (omega arith));
-          weights-below = column-below (size h) 255 (λ r. entry h r j) (h .k) (size-pos (modulusOf h) (sound .field)) (λ r. entry-below h sound r j);
-          long = message .long;
-          symbols = message .symbols;
-          out-long = long;
-        };
-      }
+      column-ready (λ r. entry h r j) (message .sound) few (λ r. entry-below h (message .sound) r j) (message .long) (message .symbols) long

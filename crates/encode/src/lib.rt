@@ -15,33 +15,23 @@ use blocks::Outcome;
 use generator::Header;
 use generator::Record;
 
-// Where the base word holds a node's entry of the row with that shift: the row is the base word turned left.
-fn place(n: usize, shift: usize, node: usize) -> usize
-    requires { ⌜ (n ≤ 255) × (shift < n) × (node < n) ⌝ }
-    ensures { λ i. ⌜ i ≡ (node + shift) % n ⌝ }
-{
-    let i = node + shift;
-    if i < n { i } else { i - n }
-}
-
 // Entry (r, node) of the generator, read from the base word by the shift of row r.
-fn coefficient(h: Header, shifts: &[u8], base: &[u8], r: usize, node: usize) -> u8
+fn coefficient(h: Header, shifts: &[u8], base: &[u16], r: usize, node: usize) -> u16
     requires { ⌜ Planned h (now shifts) (now base) × (r < h .k) × (node < h .n) ⌝ }
     ensures { λ c. ⌜ c ≡ entry h r node ⌝ }
 {
     let n = h.n as usize;
     let shift = shifts[r] as usize;
-    let i = place(n, shift, node);
-    base[i]
+    plan::entry_at(n, shift, base, node)
 }
 
 // The node's column of the generator, and zeros after it.
-fn column(h: Header, shifts: &[u8], base: &[u8], node: usize) -> [u8; 255]
+fn column(h: Header, shifts: &[u8], base: &[u16], node: usize) -> [u16; 255]
     requires { ⌜ Planned h (now shifts) (now base) × (node < h .n) ⌝ }
     ensures { λ c. ⌜ c ≡ padded 255 (columnOf h node) ⌝ }
 {
     let k = h.k as usize;
-    let mut out = [0u8; 255];
+    let mut out = [0u16; 255];
     let mut r: usize = 0;
     while r < k {
         out[r] = coefficient(h, shifts, base, r, node);
@@ -54,7 +44,7 @@ fn column(h: Header, shifts: &[u8], base: &[u8], node: usize) -> [u8; 255]
 fn fill_share(
     h: Header,
     shifts: &[u8],
-    base: &[u8],
+    base: &[u16],
     node: usize,
     lanes: usize,
     message: &[u8],
@@ -73,7 +63,7 @@ fn fill_share(
 fn fill_shares<'a>(
     h: Header,
     shifts: &'a [u8],
-    base: &'a [u8],
+    base: &'a [u16],
     lanes: usize,
     message: &[u8],
     out: &mut [u8],

@@ -17,9 +17,10 @@ pub mod Inverse
 pub mod Bounds
 pub mod Powers
 pub mod KindLaws
--- The field of symbols, and orders in it.
+-- The field of symbols, sums and orders in it.
 pub mod Symbols
 pub mod FieldOf
+pub mod Sums
 pub mod Orders
 -- The same arithmetic in another form.
 pub mod Agreement

@@ -1,12 +1,18 @@
--- Powers by squaring.
+-- Powers: one more, and by squaring.
 use mathlib.Core.Path.{_≡_, refl, ap, _∙_}
 use mathlib.Core.Bool.{true}
 use Prim.Native.Nat.{ℕ, zero, suc, _+_, _/_, _%_, _<_}
+use native.Mathlib.Numerals.{add-one}
 use native.Mathlib.Omega.{arith}
 use Rattle.field.specs.Fields.{isField, sizeOf, mul, power}
 use Rattle.field.proofs.Arithmetic.{one-mul}
 use Rattle.field.proofs.BothKinds.{arithmetic}
 use Rattle.field.proofs.Bounds.{mul-below, power-below}
+
+-- one power more
+pub power-next : (p a e : ℕ) → power p a (e + 1) ≡ mul p a (power p a e)
+unfolding power
+power-next p a e = ap (power p a) (add-one e)
 
 module _ (p : ℕ) (v : isField p ≡ true) where
   -- a power of a square

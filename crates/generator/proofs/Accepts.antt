@@ -32,7 +32,7 @@ header-sound h u small-field e =
     record {
       usable-field = u;
       field = usable-field (h .field) u;
-      bytes = small-field;
+      one-byte = small-field;
       two = two;
       some = some;
       fits = fits;

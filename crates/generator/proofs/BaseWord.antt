@@ -17,6 +17,7 @@ use Rattle.field.specs.Fields.{sub, mul, power, inverse}
 use Rattle.field.specs.Symbols.{Symbol}
 use Rattle.field.proofs.Symbols.{symbol, symbol-path}
 use Rattle.field.proofs.FieldOf.{number-sub, number-pow}
+use Rattle.field.proofs.Powers.{power-next}
 use Rattle.generator.specs.declared.Header.{Header}
 use Rattle.generator.specs.Records.{modulusOf, size, distance, Sound}
 use Rattle.generator.specs.Generator.{baseFrom, baseAt, entryAt, baseWord}
@@ -24,12 +25,7 @@ use Rattle.generator.proofs.Sound.{fieldFor, rootFor, root-order, offse
 use Rattle.generator.proofs.Bridge.{baseFrom-is}
 use Rattle.generator.proofs.Entries.{entryAt-zero}
 
--- one power more
-pub power-next : (p a e : ℕ) → power p a (e + 1) ≡ mul p a (power p a e)
-unfolding power
-power-next p a e = ap (power p a) (add-one e)
-
--- the same of a power whose exponent has a part that stays
+-- one power more, where the exponent has a part that stays
 pub power-turn : (p a x j m : ℕ) → x ≡ power p a (j + m) → mul p a x ≡ power p a (j + 1 + m)
 power-turn p a x j m e =
     let moved : j + m + 1 ≡ j + 1 + m = omega arith in

@@ -85,7 +85,8 @@ recordOf s = judged (recordFault s) (headerOf s)
 pub record Sound (h : Header) : Type 0 where
   pub usable-field : usable (h .field) ≡ true
   pub field : isField (modulusOf h) ≡ true
-  pub bytes : size h ≤ 256
+  -- a symbol fits the one byte that lent buffers have for it
+  pub one-byte : size h ≤ 256
   pub two : 2 ≤ h .n
   pub some : 0 < h .k
   pub fits : h .k ≤ h .n

@@ -1,21 +1,29 @@
 -- Polynomials by their coefficients: one step of each loop, lengths, and that the coefficients are symbols.
-use mathlib.Core.Path.{_≡_, refl, ap, _∙_}
+use mathlib.Core.Path.{_≡_, refl, sym, ap, _∙_}
 use mathlib.Core.Bool.{true}
 use mathlib.Core.List.{List, [], _∷_}
 use Prim.Native.Nat.{ℕ, zero, suc, _+_, _-_, _≤_, _<_}
+use native.Mathlib.Nat.{zero-add}
 use native.Mathlib.Numerals.{add-one}
 use native.Mathlib.Omega.{arith}
-use lib.ListN.{length, getD, drop, set, length-map, drop-of-length-le}
-use lib.Seq.{drop-length}
+use lib.ListN.{length, getD, take, drop, set, length-map, drop-of-length-le}
+use lib.Seq.{drop-length, ext-getD}
 use Rattle.lists.specs.Numbers.{allBelow}
 use Rattle.lists.specs.Padded.{zeros, padded}
+use Rattle.lists.specs.Rows.{from}
 use Rattle.lists.proofs.Front.{drop-next, drop-before}
-use Rattle.lists.proofs.Numbers.{below-cons, cons-below}
+use Rattle.lists.proofs.Numbers.{below-cons, cons-below, below-getD}
+use Rattle.lists.proofs.Padding.{take-padded}
+use Rattle.lists.proofs.Rows.{length-from, getD-from}
+use Rattle.field.specs.declared.Field.{Field}
 use Rattle.field.specs.Fields.{isField, sizeOf, add, sub, mul, power, inverse}
 use Rattle.field.proofs.Bounds.{one-below, add-below, sub-below, mul-below, power-below}
 use Rattle.field.proofs.FieldOf.{size-pos}
 use Rattle.field.proofs.Inverse.{inverse-below}
+use Rattle.field.proofs.KindLaws.{usable-field}
+use Rattle.field.specs.Kinds.{modulus}
 use Rattle.field.specs.Sums.{dot}
+use Rattle.interpolation.specs.Points.{SymbolList}
 use Rattle.interpolation.specs.Polynomials.{timesLinear, productOf, baseOf, quotientOf, termwise, inversesOf}
 
 -- the polynomial 1, with zeros after it
@@ -63,7 +71,7 @@ module _ (p : ℕ) where
   length-baseOf root (suc m) = length-timesLinear (power p root m) 0 (baseOf p root m) ∙ ap suc (length-baseOf root m)
 
   -- the quotient, from the highest coefficient down
-  quotientOf-next : (a : ℕ) (cs : List ℕ) (i : ℕ) → 0 < i → i ≤ length cs → quotientOf p a (drop (i - 1) cs) ≡ add p (mul p a (getD (quotientOf p a (drop i cs)) 0 0)) (getD cs (i - 1) 0) ∷ quotientOf p a (drop i cs)
+  pub quotientOf-next : (a : ℕ) (cs : List ℕ) (i : ℕ) → 0 < i → i ≤ length cs → quotientOf p a (drop (i - 1) cs) ≡ add p (mul p a (getD (quotientOf p a (drop i cs)) 0 0)) (getD cs (i - 1) 0) ∷ quotientOf p a (drop i cs)
   unfolding quotientOf
   quotientOf-next a cs i pos h = ap (quotientOf p a) (drop-before cs i 0 pos h)
 
@@ -80,15 +88,7 @@ module _ (p : ℕ) where
   length-quotientOf a [] = refl
   length-quotientOf a (c ∷ cs) = ap suc (length-quotientOf a cs)
 
-  -- its coefficients times factors
-  pub terms-next : (a : ℕ) (cs ds : List ℕ) (i : ℕ) → 0 < i → i ≤ length cs → i ≤ length ds → termwise p (quotientOf p a (drop (i - 1) cs)) (drop (i - 1) ds) ≡ mul p (getD (quotientOf p a (drop (i - 1) cs)) 0 0) (getD ds (i - 1) 0) ∷ termwise p (quotientOf p a (drop i cs)) (drop i ds)
-  unfolding termwise
-  terms-next a cs ds i pos h k = rw (quotientOf-next a cs i pos h, drop-before ds i 0 pos k)
-
-  pub terms-end : (a : ℕ) (cs ds : List ℕ) → termwise p (quotientOf p a (drop (length cs) cs)) ds ≡ []
-  unfolding termwise
-  terms-end a cs ds = ap (λ (l : List ℕ). termwise p l ds) (quotientOf-end a cs)
-
+  -- products term by term
   pub length-termwise : (cs ds : List ℕ) → length ds ≡ length cs → length (termwise p cs ds) ≡ length cs
   unfolding termwise
   length-termwise [] ds h = refl
@@ -102,24 +102,24 @@ module _ (p : ℕ) where
   getD-termwise (c ∷ cs) (d ∷ ds) zero h k = refl
   getD-termwise (c ∷ cs) (d ∷ ds) (suc i) h k = getD-termwise cs ds i (omega arith) (omega arith)
 
-  -- the sum of its coefficients times terms
-  pub dot-next : (a : ℕ) (cs ys : List ℕ) (i : ℕ) → 0 < i → i ≤ length cs → i ≤ length ys → dot p (drop (i - 1) ys) (quotientOf p a (drop (i - 1) cs)) ≡ add p (mul p (getD ys (i - 1) 0) (getD (quotientOf p a (drop (i - 1) cs)) 0 0)) (dot p (drop i ys) (quotientOf p a (drop i cs)))
+  -- .. by index
+  pub termwise-from : (cs ds : List ℕ) → length ds ≡ length cs → termwise p cs ds ≡ from (λ i. mul p (getD cs i 0) (getD ds i 0)) 0 (length cs)
+  termwise-from cs ds h =
+      let f : ℕ → ℕ = λ i. mul p (getD cs i 0) (getD ds i 0) in
+      let size : length (termwise p cs ds) ≡ length cs = length-termwise cs ds h in
+      ext-getD 0 (termwise p cs ds) (from f 0 (length cs)) (size ∙ sym (length-from f 0 (length cs)))
+      (λ i l. getD-termwise cs ds i (omega arith) (omega arith) ∙ sym (getD-from f 0 (length cs) i 0 (omega arith) ∙ ap f (zero-add i)))
+
+  -- their sum, from the last down
+  pub dot-next : (ys ws : List ℕ) (i : ℕ) → 0 < i → i ≤ length ys → i ≤ length ws → dot p (drop (i - 1) ys) (drop (i - 1) ws) ≡ add p (mul p (getD ys (i - 1) 0) (getD ws (i - 1) 0)) (dot p (drop i ys) (drop i ws))
   unfolding dot
-  dot-next a cs ys i pos h k = rw (quotientOf-next a cs i pos h, drop-before ys i 0 pos k)
+  dot-next ys ws i pos h k = rw (drop-before ys i 0 pos h, drop-before ws i 0 pos k)
 
   pub dot-end : (ys ws : List ℕ) → dot p (drop (length ys) ys) ws ≡ 0
   unfolding dot
   dot-end ys ws = ap (λ (l : List ℕ). dot p l ws) (drop-length ys)
 
   -- inverses
-  pub inversesOf-next : (cs : List ℕ) (i : ℕ) → i < length cs → inversesOf p (drop i cs) ≡ inverse p (getD cs i 0) ∷ inversesOf p (drop (i + 1) cs)
-  unfolding inversesOf
-  inversesOf-next cs i h = ap (inversesOf p) (drop-next cs i 0 h)
-
-  pub inversesOf-end : (cs : List ℕ) (i : ℕ) → length cs ≤ i → inversesOf p (drop i cs) ≡ []
-  unfolding inversesOf
-  inversesOf-end cs i h = ap (inversesOf p) (drop-of-length-le cs h)
-
   pub length-inversesOf : (cs : List ℕ) → length (inversesOf p cs) ≡ length cs
   unfolding inversesOf
   length-inversesOf cs = length-map cs (inverse p)
@@ -153,8 +153,7 @@ module _ (p : ℕ) where
 
     -- the first of a list of symbols, or 0
     pub first-below : (xs : List ℕ) → Below xs → getD xs 0 0 < sizeOf p
-    first-below [] h = size-pos p v
-    first-below (x ∷ xs) h = below-cons (sizeOf p) x xs h .0
+    first-below xs h = below-getD (sizeOf p) xs (size-pos p v) h 0
 
     pub quotientOf-below : (a : ℕ) (cs : List ℕ) → a < sizeOf p → Below cs → Below (quotientOf p a cs)
     unfolding quotientOf
@@ -173,18 +172,17 @@ module _ (p : ℕ) where
         let b = below-cons (sizeOf p) d ds k in
         cons-below (sizeOf p) (mul p c d) (termwise p cs ds) (mul-below p v (a .0) (b .0)) (termwise-below cs ds (a .1) (b .1))
 
-    pub dot-below : (ys ws : List ℕ) → Below ys → Below ws → dot p ys ws < sizeOf p
-    unfolding dot
-    dot-below [] ws h k = size-pos p v
-    dot-below (y ∷ ys) [] h k = size-pos p v
-    dot-below (y ∷ ys) (w ∷ ws) h k =
-        let a = below-cons (sizeOf p) y ys h in
-        let b = below-cons (sizeOf p) w ws k in
-        add-below p v (mul-below p v (a .0) (b .0)) (dot-below ys ws (a .1) (b .1))
-
     pub inversesOf-below : (cs : List ℕ) → Below cs → Below (inversesOf p cs)
     unfolding inversesOf
     inversesOf-below [] h = h
     inversesOf-below (c ∷ cs) h =
         let a = below-cons (sizeOf p) c cs h in
         cons-below (sizeOf p) (inverse p c) (inversesOf p cs) (inverse-below p v (a .0)) (inversesOf-below cs (a .1))
+
+-- a quotient as code lends it, and that it is a list of symbols
+pub quotient-part : {f : Field} {cs : List ℕ} (a : ℕ) → SymbolList f cs → a < sizeOf (modulus f) → (take (length cs) (padded 255 (quotientOf (modulus f) a cs)) ≡ quotientOf (modulus f) a cs) × SymbolList f (quotientOf (modulus f) a cs)
+quotient-part {f} {cs} a s low =
+    let size = length-quotientOf (modulus f) a cs in (
+      take-padded 255 (length cs) (quotientOf (modulus f) a cs) size,
+      record { usable-field = s .usable-field; below = quotientOf-below (modulus f) (usable-field f (s .usable-field)) a cs low (s .below); short = omega (arith, s .short) },
+    )

@@ -1,4 +1,4 @@
--- Lists of points: powers of the root, symbols of a field whose symbols are bytes.
+-- Lists of points: powers of the root, symbols of a field.
 use mathlib.Core.Path.{_≡_}
 use mathlib.Core.Bool.{true}
 use mathlib.Core.List.{List, map}
@@ -9,10 +9,9 @@ use Rattle.field.specs.declared.Field.{Field}
 use Rattle.field.specs.Fields.{sizeOf, power}
 use Rattle.field.specs.Kinds.{modulus, usable}
 
--- at most 255 symbols of a field whose symbols are bytes
-pub record ByteSymbols (f : Field) (xs : List ℕ) : Type 0 where
+-- at most 255 symbols of a field
+pub record SymbolList (f : Field) (xs : List ℕ) : Type 0 where
   pub usable-field : usable f ≡ true
-  pub bytes : sizeOf (modulus f) ≤ 256
   pub below : allBelow (sizeOf (modulus f)) xs ≡ true
   pub short : length xs ≤ 255
 

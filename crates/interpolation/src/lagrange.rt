@@ -5,13 +5,13 @@ ghost use lib.ListN.{length};
 ghost use Rattle.lists.specs.Padded.{padded};
 ghost use Rattle.field.specs.Fields.{sizeOf};
 ghost use Rattle.field.specs.Kinds.{modulus};
-ghost use Rattle.interpolation.specs.Points.{ByteSymbols};
+ghost use Rattle.interpolation.specs.Points.{SymbolList};
 ghost use Rattle.interpolation.specs.Lagrange.{productAt, othersAt, scaleAt, basisAt, basisValues, scalesOf};
 use field::Field;
 
 // The product of (z − x) over the points x.
-fn product_at(field: Field, points: &[u8], z: u32) -> u32
-    requires { ⌜ ByteSymbols field (now points) × (z < sizeOf (modulus field)) ⌝ }
+fn product_at(field: Field, points: &[u16], z: u32) -> u32
+    requires { ⌜ SymbolList field (now points) × (z < sizeOf (modulus field)) ⌝ }
     ensures { λ r. ⌜ r ≡ productAt (modulus field) (now (points .entry)) z ⌝ }
 {
     let mut product = Field::ONE;
@@ -24,8 +24,8 @@ fn product_at(field: Field, points: &[u8], z: u32) -> u32
 }
 
 // The product over the points but number i: over those before it, and over those after it.
-fn others_at(field: Field, points: &[u8], i: usize, z: u32) -> u32
-    requires { ⌜ ByteSymbols field (now points) × (i < length (now points)) × (z < sizeOf (modulus field)) ⌝ }
+fn others_at(field: Field, points: &[u16], i: usize, z: u32) -> u32
+    requires { ⌜ SymbolList field (now points) × (i < length (now points)) × (z < sizeOf (modulus field)) ⌝ }
     ensures { λ r. ⌜ r ≡ othersAt (modulus field) (now (points .entry)) i z ⌝ }
 {
     let next = i + 1;
@@ -35,44 +35,44 @@ fn others_at(field: Field, points: &[u8], i: usize, z: u32) -> u32
 }
 
 // 1 over that product at point number i itself.
-fn scale_at(field: Field, points: &[u8], i: usize) -> u32
-    requires { ⌜ ByteSymbols field (now points) × (i < length (now points)) ⌝ }
+fn scale_at(field: Field, points: &[u16], i: usize) -> u32
+    requires { ⌜ SymbolList field (now points) × (i < length (now points)) ⌝ }
     ensures { λ r. ⌜ r ≡ scaleAt (modulus field) (now (points .entry)) i ⌝ }
 {
     field.inverse(others_at(field, points, i, points[i] as u32))
 }
 
 // The value at z of the basis polynomial of point number i.
-fn basis_at(field: Field, points: &[u8], i: usize, z: u32) -> u32
-    requires { ⌜ ByteSymbols field (now points) × (i < length (now points)) × (z < sizeOf (modulus field)) ⌝ }
+fn basis_at(field: Field, points: &[u16], i: usize, z: u32) -> u32
+    requires { ⌜ SymbolList field (now points) × (i < length (now points)) × (z < sizeOf (modulus field)) ⌝ }
     ensures { λ r. ⌜ r ≡ basisAt (modulus field) (now (points .entry)) i z ⌝ }
 {
     field.mul(scale_at(field, points, i), others_at(field, points, i, z))
 }
 
 // The values at z of all basis polynomials, and zeros after them.
-pub fn basis_values(field: Field, points: &[u8], z: u32) -> [u8; 255]
-    requires { ⌜ ByteSymbols field (now points) × (z < sizeOf (modulus field)) ⌝ }
+pub fn basis_values(field: Field, points: &[u16], z: u32) -> [u16; 255]
+    requires { ⌜ SymbolList field (now points) × (z < sizeOf (modulus field)) ⌝ }
     ensures { λ r. ⌜ r ≡ padded 255 (basisValues (modulus field) (now (points .entry)) z) ⌝ }
 {
-    let mut out = [0u8; 255];
+    let mut out = [0u16; 255];
     let mut i = 0;
     while i < points.len() {
-        out[i] = basis_at(field, points, i, z) as u8;
+        out[i] = basis_at(field, points, i, z) as u16;
         i += 1;
     }
     out
 }
 
 // The scales of all basis polynomials, and zeros after them.
-pub fn scales(field: Field, points: &[u8]) -> [u8; 255]
-    requires { ⌜ ByteSymbols field (now points) ⌝ }
+pub fn scales(field: Field, points: &[u16]) -> [u16; 255]
+    requires { ⌜ SymbolList field (now points) ⌝ }
     ensures { λ r. ⌜ r ≡ padded 255 (scalesOf (modulus field) (now (points .entry))) ⌝ }
 {
-    let mut out = [0u8; 255];
+    let mut out = [0u16; 255];
     let mut i = 0;
     while i < points.len() {
-        out[i] = scale_at(field, points, i) as u8;
+        out[i] = scale_at(field, points, i) as u16;
         i += 1;
     }
     out

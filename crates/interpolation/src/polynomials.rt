@@ -7,34 +7,34 @@ ghost use Rattle.lists.specs.Padded.{padded};
 ghost use Rattle.field.specs.Fields.{sizeOf, add, mul};
 ghost use Rattle.field.specs.Kinds.{modulus, usable};
 ghost use Rattle.field.specs.Sums.{dot};
-ghost use Rattle.interpolation.specs.Points.{ByteSymbols};
+ghost use Rattle.interpolation.specs.Points.{SymbolList};
 ghost use Rattle.interpolation.specs.Polynomials.{timesLinear, productOf, baseOf, quotientOf, termwise, inversesOf};
 use field::Field;
 
 // (x − a) times the polynomial, and zeros after it.
-fn times_linear(field: Field, a: u32, coefficients: &[u8]) -> [u8; 256]
-    requires { ⌜ ByteSymbols field (now coefficients) × (a < sizeOf (modulus field)) ⌝ }
+fn times_linear(field: Field, a: u32, coefficients: &[u16]) -> [u16; 256]
+    requires { ⌜ SymbolList field (now coefficients) × (a < sizeOf (modulus field)) ⌝ }
     ensures { λ r. ⌜ r ≡ padded 256 (timesLinear (modulus field) a 0 (now (coefficients .entry))) ⌝ }
 {
-    let mut out = [0u8; 256];
+    let mut out = [0u16; 256];
     let mut last = Field::ZERO;
     let mut i = 0;
     while i < coefficients.len() {
         let c = coefficients[i] as u32;
-        out[i] = field.sub(last, field.mul(a, c)) as u8;
+        out[i] = field.sub(last, field.mul(a, c)) as u16;
         last = c;
         i += 1;
     }
-    out[i] = last as u8;
+    out[i] = last as u16;
     out
 }
 
 // The product of (x − a) over the points a, and zeros after it.
-pub fn product(field: Field, points: &[u8]) -> [u8; 256]
-    requires { ⌜ ByteSymbols field (now points) ⌝ }
+pub fn product(field: Field, points: &[u16]) -> [u16; 256]
+    requires { ⌜ SymbolList field (now points) ⌝ }
     ensures { λ r. ⌜ r ≡ padded 256 (productOf (modulus field) (now (points .entry))) ⌝ }
 {
-    let mut out = [0u8; 256];
+    let mut out = [0u16; 256];
     out[0] = 1;
     let mut size: usize = 1;
     let mut i = points.len();
@@ -47,11 +47,11 @@ pub fn product(field: Field, points: &[u8]) -> [u8; 256]
 }
 
 // The base polynomial, the product of (x − root^i) for i below m, and zeros after it.
-pub fn base(field: Field, root: u32, m: usize) -> [u8; 256]
-    requires { ⌜ (usable field ≡ true) × (sizeOf (modulus field) ≤ 256) × (root < sizeOf (modulus field)) × (m < 255) ⌝ }
+pub fn base(field: Field, root: u32, m: usize) -> [u16; 256]
+    requires { ⌜ (usable field ≡ true) × (root < sizeOf (modulus field)) × (m < 255) ⌝ }
     ensures { λ r. ⌜ r ≡ padded 256 (baseOf (modulus field) root m) ⌝ }
 {
-    let mut out = [0u8; 256];
+    let mut out = [0u16; 256];
     out[0] = 1;
     let mut y = Field::ONE;
     let mut i: usize = 0;
@@ -65,16 +65,16 @@ pub fn base(field: Field, root: u32, m: usize) -> [u8; 256]
 }
 
 // 1 over each coefficient, and zeros after them.
-pub fn inverses(field: Field, coefficients: &[u8]) -> [u8; 255]
-    requires { ⌜ ByteSymbols field (now coefficients) ⌝ }
+pub fn inverses(field: Field, coefficients: &[u16]) -> [u16; 255]
+    requires { ⌜ SymbolList field (now coefficients) ⌝ }
     ensures { λ r. ⌜ r ≡ padded 255 (inversesOf (modulus field) (now (coefficients .entry))) ⌝ }
 {
-    let mut out = [0u8; 255];
+    let mut out = [0u16; 255];
     let mut i = 0;
     while i < coefficients.len() {
         let c = coefficients[i] as u32;
         let y = field.inverse(c);
-        out[i] = y as u8;
+        out[i] = y as u16;
         i += 1;
     }
     out
@@ -88,34 +88,66 @@ fn multiply_add(field: Field, a: u32, b: u32, c: u32) -> u32
     field.add(field.mul(a, b), c)
 }
 
-// The quotient by x − a, from the highest coefficient down, each coefficient times its factor, and zeros after them.
-pub fn quotient_terms(field: Field, a: u32, coefficients: &[u8], factors: &[u8]) -> [u8; 255]
-    requires { ⌜ ByteSymbols field (now coefficients) × ByteSymbols field (now factors) × (length (now factors) ≡ length (now coefficients)) × (a < sizeOf (modulus field)) ⌝ }
-    ensures { λ r. ⌜ r ≡ padded 255 (termwise (modulus field) (quotientOf (modulus field) a (now (coefficients .entry))) (now (factors .entry))) ⌝ }
+// The quotient by x − a, from the highest coefficient down, and zeros after it.
+fn quotient(field: Field, a: u32, coefficients: &[u16]) -> [u16; 255]
+    requires { ⌜ SymbolList field (now coefficients) × (a < sizeOf (modulus field)) ⌝ }
+    ensures { λ r. ⌜ r ≡ padded 255 (quotientOf (modulus field) a (now (coefficients .entry))) ⌝ }
 {
-    let mut out = [0u8; 255];
+    let mut out = [0u16; 255];
     let mut q = Field::ZERO;
     let mut i = coefficients.len();
     while i > 0 {
         i -= 1;
         q = multiply_add(field, a, q, coefficients[i] as u32);
-        out[i] = field.mul(q, factors[i] as u32) as u8;
+        out[i] = q as u16;
     }
     out
 }
 
-// The sum of the terms times the coefficients of the quotient by x − a.
-pub fn quotient_sum(field: Field, a: u32, coefficients: &[u8], terms: &[u8]) -> u32
-    requires { ⌜ ByteSymbols field (now coefficients) × ByteSymbols field (now terms) × (length (now terms) ≡ length (now coefficients)) × (a < sizeOf (modulus field)) ⌝ }
-    ensures { λ r. ⌜ r ≡ dot (modulus field) (now (terms .entry)) (quotientOf (modulus field) a (now (coefficients .entry))) ⌝ }
+// The products of the symbols of two lists, and zeros after them.
+fn products(field: Field, ys: &[u16], ws: &[u16]) -> [u16; 255]
+    requires { ⌜ SymbolList field (now ys) × SymbolList field (now ws) × (length (now ws) ≡ length (now ys)) ⌝ }
+    ensures { λ r. ⌜ r ≡ padded 255 (termwise (modulus field) (now (ys .entry)) (now (ws .entry))) ⌝ }
+{
+    let mut out = [0u16; 255];
+    let mut i = 0;
+    while i < ys.len() {
+        out[i] = field.mul(ys[i] as u32, ws[i] as u32) as u16;
+        i += 1;
+    }
+    out
+}
+
+// Their sum.
+fn sum_of_products(field: Field, ys: &[u16], ws: &[u16]) -> u32
+    requires { ⌜ SymbolList field (now ys) × SymbolList field (now ws) × (length (now ws) ≡ length (now ys)) ⌝ }
+    ensures { λ r. ⌜ r ≡ dot (modulus field) (now (ys .entry)) (now (ws .entry)) ⌝ }
 {
     let mut sum = Field::ZERO;
-    let mut q = Field::ZERO;
-    let mut i = coefficients.len();
+    let mut i = ys.len();
     while i > 0 {
         i -= 1;
-        q = multiply_add(field, a, q, coefficients[i] as u32);
-        sum = multiply_add(field, terms[i] as u32, q, sum);
+        sum = multiply_add(field, ys[i] as u32, ws[i] as u32, sum);
     }
     sum
+}
+
+// The coefficients of the quotient by x − a, each times its factor, and zeros after them.
+pub fn quotient_terms(field: Field, a: u32, coefficients: &[u16], factors: &[u16]) -> [u16; 255]
+    requires { ⌜ SymbolList field (now coefficients) × SymbolList field (now factors) × (length (now factors) ≡ length (now coefficients)) × (a < sizeOf (modulus field)) ⌝ }
+    ensures { λ r. ⌜ r ≡ padded 255 (termwise (modulus field) (quotientOf (modulus field) a (now (coefficients .entry))) (now (factors .entry))) ⌝ }
+{
+    let count = coefficients.len();
+    let q = quotient(field, a, coefficients);
+    products(field, &q[..count], factors)
+}
+
+// The sum of the terms times the coefficients of the quotient by x − a.
+pub fn quotient_sum(field: Field, a: u32, coefficients: &[u16], terms: &[u16]) -> u32
+    requires { ⌜ SymbolList field (now coefficients) × SymbolList field (now terms) × (length (now terms) ≡ length (now coefficients)) × (a < sizeOf (modulus field)) ⌝ }
+    ensures { λ r. ⌜ r ≡ dot (modulus field) (now (terms .entry)) (quotientOf (modulus field) a (now (coefficients .entry))) ⌝ }
+{
+    let count = coefficients.len();
+    let q = quotient(field, a, coefficients);
+    sum_of_products(field, terms, &q[..count])
 }

@@ -1,16 +1,16 @@
--- Rows that are changed lane by lane: their length and their lanes; a row that is lent as a part of a buffer.
+-- Rows that are changed lane by lane: their length and their lanes.
 use mathlib.Core.Path.{_≡_, ap, _∙_}
 use mathlib.Core.Bool.{true}
 use mathlib.Core.List.{List}
-use Prim.Native.Nat.{ℕ, _+_, _-_, _<_}
+use Prim.Native.Nat.{ℕ, _<_}
 use native.Mathlib.Nat.{zero-add, mul-zero, zero-mod, mod-eq-of-lt}
 use native.Mathlib.Omega.{arith}
-use lib.ListN.{length, getD, take, drop}
-use lib.Seq.{getD-take, getD-drop, ext-getD}
+use lib.ListN.{length, getD}
+use lib.Seq.{ext-getD}
 use Rattle.lists.specs.Rows.{from}
 use Rattle.lists.specs.Numbers.{allBelow}
 use Rattle.lists.proofs.Rows.{length-from, getD-from, from-ext}
-use Rattle.lists.proofs.Numbers.{below-at, below-take, below-drop}
+use Rattle.lists.proofs.Numbers.{below-at}
 use Rattle.field.proofs.Meanings.{add-modulo, mul-modulo}
 use Rattle.kernel.specs.Lanes.{lanewise, addScaled}
 
@@ -59,11 +59,3 @@ lanewise-from c f g l h =
     (λ t low high.
     let inside : t < l = omega arith in
     ap (c t) (rw zero-add at (getD-from f 0 l t 0 inside)) ∙ h t inside)
-
--- a part of l places from a on, as code lends it
-module _ (a l : ℕ) (s : List ℕ) where
-  pub getD-part : (t : ℕ) → t < l → getD (take (a + l - a) (drop a s)) t 0 ≡ getD s (a + t) 0
-  getD-part t inside = let part : t < a + l - a = omega arith in rw (getD-take, getD-drop)
-
-  pub part-below : (q : ℕ) → allBelow q s ≡ true → allBelow q (take (a + l - a) (drop a s)) ≡ true
-  part-below q h = below-take q (a + l - a) (drop a s) (below-drop q a s h)

@@ -74,6 +74,12 @@ all-below n (j ∷ js) h = cons-below n j js (h .0) (all-below n js (h .1))
 pub below-at : (n : ℕ) (js : List ℕ) → allBelow n js ≡ true → (i : ℕ) → i < length js → getD js i 0 < n
 below-at n js h = All-at (λ j. j < n) 0 js (below-all n js h)
 
+-- at any index, 0 standing past the end
+pub below-getD : (n : ℕ) (js : List ℕ) → 0 < n → allBelow n js ≡ true → (i : ℕ) → getD js i 0 < n
+below-getD n [] some h i = some
+below-getD n (j ∷ js) some h zero = below-cons n j js h .0
+below-getD n (j ∷ js) some h (suc i) = below-getD n js some (below-cons n j js h .1) i
+
 pub at-below : (n : ℕ) (js : List ℕ) → ((i : ℕ) → i < length js → getD js i 0 < n) → allBelow n js ≡ true
 at-below n js h = all-below n js (All-of (λ j. j < n) 0 js h)
 

@@ -5,7 +5,7 @@ use mathlib.Core.List.{List}
 use Prim.Native.Nat.{ℕ, zero, suc, _-_, _≤_, _<_}
 use native.Mathlib.Omega.{arith}
 use lib.ListN.{length, getD, take, drop, length-append, length-drop, List·getD-append}
-use lib.Seq.{take-at, drop-append-le}
+use lib.Seq.{take-at, drop-at, drop-append-le}
 use Rattle.lists.specs.Numbers.{allBelow}
 use Rattle.lists.specs.Padded.{zeros, padded}
 use Rattle.lists.proofs.Fill.{length-zeros}
@@ -30,12 +30,17 @@ pub take-padded : (n m : ℕ) (xs : List ℕ) → length xs ≡ m → take m (pa
 unfolding padded
 take-padded n m xs h = take-at xs (zeros (n - length xs)) m h
 
+-- and the padding
+pub drop-padded : (n m : ℕ) (xs : List ℕ) → length xs ≡ m → drop m (padded n xs) ≡ zeros (n - m)
+unfolding padded
+drop-padded n m xs h = drop-at xs (zeros (n - length xs)) m h ∙ ap (λ (l : ℕ). zeros (n - l)) h
+
 pub part-padded : (n m a : ℕ) (xs : List ℕ) → length xs ≡ m → a ≤ m → take (m - a) (drop a (padded n xs)) ≡ drop a xs
 unfolding padded
 part-padded n m a xs h low = rw (drop-append-le a xs (zeros (n - length xs)) (omega arith)) (take-at (drop a xs) (zeros (n - length xs)) (m - a) (length-drop a xs ∙ ap (λ (l : ℕ). l - a) h))
 
 -- zeros keep a bound
-below-zeros : (q n : ℕ) → 0 < q → allBelow q (zeros n) ≡ true
+pub below-zeros : (q n : ℕ) → 0 < q → allBelow q (zeros n) ≡ true
 unfolding zeros allBelow
 below-zeros q zero h = refl
 below-zeros q (suc n) h = cons-below q 0 (zeros n) h (below-zeros q n h)

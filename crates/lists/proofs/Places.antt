@@ -1,13 +1,15 @@
 -- Places: distinct numbers below n; the numbers of a stretch in order, and those below n from the largest down.
-use mathlib.Core.Path.{_≡_, refl, ap, subst}
+use mathlib.Core.Path.{_≡_, refl, sym, ap, subst, _∙_}
 use mathlib.Core.List.{List, [], _∷_, _++_, map}
 use Prim.Native.Nat.{ℕ, zero, suc, _+_, _≤_, _<_}
 use native.Mathlib.Decide.{decLt}
+use native.Mathlib.Nat.{zero-add}
 use native.Mathlib.Omega.{arith}
-use lib.ListN.{length}
+use lib.ListN.{length, getD, length-map}
+use lib.Seq.{ext-getD}
 use Rattle.lists.specs.Rows.{from, range}
-use Rattle.lists.proofs.All.{All, Distinct}
-use Rattle.lists.proofs.Rows.{length-from, from-append}
+use Rattle.lists.proofs.All.{All, Distinct, getD-map}
+use Rattle.lists.proofs.Rows.{length-from, getD-from, from-append}
 
 -- k distinct numbers below n
 pub record Places (n k : ℕ) (js : List ℕ) : Type 0 where
@@ -20,6 +22,14 @@ pub map-range : {A : Type 0} (f : ℕ → A) (i n : ℕ) → map f (range i n) �
 unfolding from
 map-range f i zero = refl
 map-range f i (suc n) = ap (λ l. f i ∷ l) (map-range f (i + 1) n)
+
+-- the images of a list, by index
+pub map-from : (f : ℕ → ℕ) (xs : List ℕ) → map f xs ≡ from (λ i. f (getD xs i 0)) 0 (length xs)
+map-from f xs =
+    ext-getD 0 (map f xs) (from (λ i. f (getD xs i 0)) 0 (length xs)) (length-map xs f ∙ sym (length-from (λ i. f (getD xs i 0)) 0 (length xs)))
+    (λ i h.
+    let inside : i < length xs = omega (arith, length-map xs f) in
+    getD-map f 0 0 xs i inside ∙ sym (getD-from (λ i. f (getD xs i 0)) 0 (length xs) i 0 inside ∙ ap (λ (j : ℕ). f (getD xs j 0)) (zero-add i)))
 
 pub length-range : (i n : ℕ) → length (range i n) ≡ n
 length-range i n = length-from (λ x. x) i n

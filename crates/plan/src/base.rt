@@ -40,7 +40,7 @@ fn next_entry(h: Header, scale: u32, pole: u32, x: u32, entry: u32) -> u32
 }
 
 // The n − k + 1 entries that are not 0, each from the one before it, and zeros after them.
-pub fn fill_base(h: Header) -> [u8; 255]
+pub fn fill_base(h: Header) -> [u16; 255]
     requires { ⌜ Sound h ⌝ }
     ensures { λ r. ⌜ r ≡ padded 255 (baseWord h) ⌝ }
 {
@@ -51,16 +51,16 @@ pub fn fill_base(h: Header) -> [u8; 255]
     let scale = field.power(root, k - 1);
     let pole = field.power(root, n + k - 2);
     let last = (n - k) as usize;
-    let mut out = [0u8; 255];
+    let mut out = [0u16; 255];
     let mut x = scale;
     let mut entry = first_entry(h);
-    out[0] = entry as u8;
+    out[0] = entry as u16;
     let mut j: usize = 0;
     while j < last {
         entry = next_entry(h, scale, pole, x, entry);
         x = field.mul(root, x);
         j += 1;
-        out[j] = entry as u8;
+        out[j] = entry as u16;
     }
     out
 }

@@ -9,6 +9,7 @@ mod base;
 mod entries;
 
 pub use entries::entry;
+pub use entries::entry_at;
 pub use records::read_record;
 
 // A plan; all places hold 0 beside a number.
@@ -19,7 +20,7 @@ pub struct Plan {
     pub d: u8,
     pub b: u8,
     pub shifts: [u8; 255],
-    pub base: [u8; 255],
+    pub base: [u16; 255],
 }
 
 // What stands in a plan's place beside a number.
@@ -44,8 +45,8 @@ pub fn plan_of(h: Header) -> Plan
 {
     let n = h.n;
     let k = h.k;
-    let d = n - k + 1;
-    let b = (k as u32 * d as u32 / n as u32) as u8;
+    let d = records::distance_of(h);
+    let b = records::reads_of(h);
     let shifts = shifts::fill_shifts(n, k);
     let base = base::fill_base(h);
     Plan {

@@ -19,18 +19,18 @@ use Rattle.generator.specs.Claims.{areNodes}
 use Rattle.generator.proofs.Shifts.{shifts-length}
 use Rattle.generator.proofs.Recovery.{nodes-places}
 use Rattle.recovery.specs.declared.Basis.{Basis}
-use Rattle.interpolation.specs.Points.{ByteSymbols, pointsOf}
+use Rattle.interpolation.specs.Points.{SymbolList, pointsOf}
 use Rattle.interpolation.specs.Lagrange.{scalesOf}
 use Rattle.interpolation.specs.Polynomials.{productOf, baseOf, quotientOf, termwise, inversesOf}
 use Rattle.recovery.specs.Rows.{basisOf, rowPoints, baseInverses, rowTerms}
-use Rattle.interpolation.proofs.Points.{length-points, points-bytes}
+use Rattle.interpolation.proofs.Points.{length-points, points-symbols}
 use Rattle.interpolation.proofs.Values.{scaleAt-below}
 use Rattle.interpolation.proofs.Coefficients.{length-productOf, productOf-below, length-baseOf, baseOf-below, length-quotientOf, quotientOf-below, length-termwise, termwise-below, length-inversesOf, inversesOf-below}
 use Rattle.recovery.proofs.InverseRows.{length-scales, getD-scales}
 
 -- k symbols
 pub record Symbols (f : Field) (k : ℕ) (xs : List ℕ) : Type 0 where
-  pub are : ByteSymbols f xs
+  pub are : SymbolList f xs
   pub size : length xs ≡ k
 
 pub record Parts (f : Field) (k : ℕ) (xs : List ℕ) (b : Basis) : Type 0 where
@@ -70,8 +70,8 @@ parts f k xs b s e =
       long-points = length-padded 255 xs (s .are .short);
       long-scales = length-padded 255 (scalesOf p xs) (omega arith);
       long-product = length-padded 256 (productOf p xs) (omega arith);
-      some-scales = record { are = record { usable-field = s .are .usable-field; bytes = s .are .bytes; below = scales-below p v xs (s .are .below); short = omega arith }; size = ls };
-      some-product = record { are = record { usable-field = s .are .usable-field; bytes = s .are .bytes; below = below-drop (sizeOf p) 1 (productOf p xs) (productOf-below p v xs (s .are .below)); short = omega arith }; size = ld };
+      some-scales = record { are = record { usable-field = s .are .usable-field; below = scales-below p v xs (s .are .below); short = omega arith }; size = ls };
+      some-product = record { are = record { usable-field = s .are .usable-field; below = below-drop (sizeOf p) 1 (productOf p xs) (productOf-below p v xs (s .are .below)); short = omega arith }; size = ld };
     }
 
 -- the lists of a sound header
@@ -80,14 +80,14 @@ module _ (h : Header) (s : Sound h) (few : h .k ≤ 255) where
   pub node-symbols : (js : List ℕ) → areNodes h js ≡ true → Symbols (h .field) (h .k) (pointsOf (modulusOf h) (h .root) 0 js)
   node-symbols js nodes =
       let n = nodes-places h js nodes .size in
-      record { are = points-bytes (h .root) 0 js (s .usable-field) (s .bytes) (s .root-below) (omega arith); size = length-points (modulusOf h) (h .root) 0 js ∙ n }
+      record { are = points-symbols (h .root) 0 js (s .usable-field) (s .root-below) (omega arith); size = length-points (modulusOf h) (h .root) 0 js ∙ n }
 
   -- the rows' points
   pub row-symbols : Symbols (h .field) (h .k) (rowPoints h)
   unfolding rowPoints
   row-symbols =
       let n = shifts-length (h .n) (h .k) (s .some) (s .fits) in
-      record { are = points-bytes (h .root) (h .k - 1) (shifts h) (s .usable-field) (s .bytes) (s .root-below) (omega arith); size = length-points (modulusOf h) (h .root) (h .k - 1) (shifts h) ∙ n }
+      record { are = points-symbols (h .root) (h .k - 1) (shifts h) (s .usable-field) (s .root-below) (omega arith); size = length-points (modulusOf h) (h .root) (h .k - 1) (shifts h) ∙ n }
 
   -- 1 over the coefficients of the base polynomial
   pub base-symbols : Symbols (h .field) (h .k) (baseInverses h)
@@ -95,7 +95,7 @@ module _ (h : Header) (s : Sound h) (few : h .k ≤ 255) where
   base-symbols =
       let cs = baseOf (modulusOf h) (h .root) (h .k - 1) in
       let n : length (inversesOf (modulusOf h) cs) ≡ h .k = omega (arith, length-inversesOf (modulusOf h) cs, length-baseOf (modulusOf h) (h .root) (h .k - 1), s .some) in
-      record { are = record { usable-field = s .usable-field; bytes = s .bytes; below = inversesOf-below (modulusOf h) (s .field) cs (baseOf-below (modulusOf h) (s .field) (h .root) (h .k - 1) (s .root-below)); short = omega arith }; size = n }
+      record { are = record { usable-field = s .usable-field; below = inversesOf-below (modulusOf h) (s .field) cs (baseOf-below (modulusOf h) (s .field) (h .root) (h .k - 1) (s .root-below)); short = omega arith }; size = n }
 
   -- the terms of row r
   pub term-symbols : (r : ℕ) → r < h .k → Symbols (h .field) (h .k) (rowTerms h r)
@@ -110,4 +110,4 @@ module _ (h : Header) (s : Sound h) (few : h .k ≤ 255) where
       let n : length q ≡ h .k = length-quotientOf p (getD bs r 0) (drop 1 (productOf p bs)) ∙ product .size in
       let m : length (termwise p q (baseInverses h)) ≡ h .k = length-termwise p q (baseInverses h) (base .size ∙ sym n) ∙ n in
       let low = below-at (size h) bs (rows .are .below) r (omega (arith, rows .size)) in
-      record { are = record { usable-field = s .usable-field; bytes = s .bytes; below = termwise-below p (s .field) q (baseInverses h) (quotientOf-below p (s .field) (getD bs r 0) (drop 1 (productOf p bs)) low (product .are .below)) (base .are .below); short = omega arith }; size = m }
+      record { are = record { usable-field = s .usable-field; below = termwise-below p (s .field) q (baseInverses h) (quotientOf-below p (s .field) (getD bs r 0) (drop 1 (productOf p bs)) low (product .are .below)) (base .are .below); short = omega arith }; size = m }

@@ -9,6 +9,7 @@ use lib.ListN.{length, getD, length-map}
 use Rattle.lists.specs.Padded.{padded}
 use Rattle.lists.proofs.Rows.{length-from, getD-from}
 use Rattle.lists.proofs.All.{getD-map}
+use Rattle.lists.proofs.Padding.{drop-padded}
 use Rattle.algebra.specs.Powers.{pow}
 use Rattle.algebra.proofs.Poly.{eval}
 use Rattle.algebra.proofs.LagrangeBasis.{basis}
@@ -82,6 +83,7 @@ module _ (h : Header) (s : Sound h) (js : List ℕ) (nodes : areNodes h js ≡ t
     rebuilds fits =
         record {
           symbols = weights-below h s js nodes values weight size-values value-is;
+          rest = drop-padded 255 (h .k) values size-values;
           gives =
               λ ms m.
               let M = lifted h s ms in

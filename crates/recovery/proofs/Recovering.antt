@@ -7,6 +7,7 @@ use native.Mathlib.Omega.{arith}
 use lib.ListN.{length, getD, drop, length-map}
 use Rattle.lists.specs.Padded.{padded}
 use Rattle.lists.proofs.All.{getD-map}
+use Rattle.lists.proofs.Padding.{drop-padded}
 use Rattle.algebra.specs.Powers.{pow}
 use Rattle.algebra.proofs.Sums.{sum}
 use Rattle.algebra.proofs.Powers.{pow-add}
@@ -88,6 +89,7 @@ module _ (h : Header) (s : Sound h) where
     recovers fits =
         record {
           symbols = weights-below h s js nodes weights weight size-weights entry-is;
+          rest = drop-padded 255 (h .k) weights size-weights;
           gives =
               λ ms m.
               let M = lifted h s ms in

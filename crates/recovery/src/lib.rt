@@ -23,20 +23,20 @@ use interpolation::powers;
 
 // Lagrange's basis of listed points: the points, the scales of the basis polynomials, and the coefficients of the product polynomial; zeros after each list.
 pub struct Basis {
-    pub points: [u8; 255],
-    pub scales: [u8; 255],
-    pub product: [u8; 256],
+    pub points: [u16; 255],
+    pub scales: [u16; 255],
+    pub product: [u16; 256],
 }
 
 // What is computed once for a list of nodes: the basis of the nodes' points, that of the rows' points, and 1 over the coefficients of the base polynomial.
 pub struct Setup {
     pub nodes: Basis,
     pub shifts: Basis,
-    pub base: [u8; 255],
+    pub base: [u16; 255],
 }
 
 // Weights for what node `target` holds: the values at root^target of Lagrange's basis polynomials of the nodes' points. Places from k on hold 0.
-pub fn rebuild_weights(h: Header, nodes: &[u8], target: u32) -> [u8; 255]
+pub fn rebuild_weights(h: Header, nodes: &[u8], target: u32) -> [u16; 255]
     requires { ⌜ Sound h × (areNodes h (now nodes) ≡ true) × (target < h .n) ⌝ }
     ensures { λ r. ⌜ Rebuilds h (now (nodes .entry)) target r ⌝ }
 {
@@ -50,7 +50,7 @@ pub fn rebuild_weights(h: Header, nodes: &[u8], target: u32) -> [u8; 255]
 
 // The basis of the points root^(j + offset).
 fn lagrange_basis(field: Field, root: u32, places: &[u8], offset: u32) -> Basis
-    requires { ⌜ (usable field ≡ true) × (sizeOf (modulus field) ≤ 256) × (root < sizeOf (modulus field)) × (length (now places) ≤ 255) × (offset < 256) ⌝ }
+    requires { ⌜ (usable field ≡ true) × (root < sizeOf (modulus field)) × (length (now places) ≤ 255) × (offset < 256) ⌝ }
     ensures { λ r. ⌜ r ≡ basisOf (modulus field) (pointsOf (modulus field) root offset (now (places .entry))) ⌝ }
 {
     let count = places.len();
@@ -85,7 +85,7 @@ pub fn prepare(h: Header, nodes: &[u8], shifts: &[u8]) -> Setup
 }
 
 // The terms of row r: the coefficients of the product over the points of the other rows, each over that of the base polynomial.
-fn row_terms(h: Header, rows: Basis, base: [u8; 255], r: usize) -> [u8; 255]
+fn row_terms(h: Header, rows: Basis, base: [u16; 255], r: usize) -> [u16; 255]
     requires { ⌜ Sound h × (rows ≡ basisOf (modulusOf h) (rowPoints h)) × (base ≡ padded 255 (baseInverses h)) × (r < h .k) ⌝ }
     ensures { λ t. ⌜ t ≡ padded 255 (rowTerms h r) ⌝ }
 {
@@ -99,7 +99,7 @@ fn row_terms(h: Header, rows: Basis, base: [u8; 255], r: usize) -> [u8; 255]
 }
 
 // Weights for symbol r of the message: row r of the inverse of the encoding at the nodes, from what was prepared for them. Places from k on hold 0.
-pub fn recover_weights(h: Header, nodes: &[u8], setup: Setup, r: u32) -> [u8; 255]
+pub fn recover_weights(h: Header, nodes: &[u8], setup: Setup, r: u32) -> [u16; 255]
     requires { ⌜ Sound h × (areNodes h (now nodes) ≡ true) × (setup ≡ setupOf h (now nodes)) × (r < h .k) ⌝ }
     ensures { λ w. ⌜ Recovers h (now (nodes .entry)) r w ⌝ }
 {

@@ -5,14 +5,14 @@ ghost use lib.ListN.{length};
 ghost use Rattle.lists.specs.Padded.{padded};
 ghost use Rattle.field.specs.Fields.{sizeOf};
 ghost use Rattle.field.specs.Kinds.{modulus};
-ghost use Rattle.interpolation.specs.Points.{ByteSymbols};
+ghost use Rattle.interpolation.specs.Points.{SymbolList};
 ghost use Rattle.recovery.specs.Rows.{weightOf, weightsOf};
 use field::Field;
 use interpolation::polynomials;
 
 // The weight of a node with the point x and the scale `own`: the scales times the sum of the row's terms times the coefficients of the product over the other nodes' points.
-fn row_weight(field: Field, scale: u32, terms: &[u8], product: &[u8], x: u32, own: u32) -> u32
-    requires { ⌜ ByteSymbols field (now product) × ByteSymbols field (now terms) × (length (now terms) ≡ length (now product)) × (scale < sizeOf (modulus field)) × (x < sizeOf (modulus field)) × (own < sizeOf (modulus field)) ⌝ }
+fn row_weight(field: Field, scale: u32, terms: &[u16], product: &[u16], x: u32, own: u32) -> u32
+    requires { ⌜ SymbolList field (now product) × SymbolList field (now terms) × (length (now terms) ≡ length (now product)) × (scale < sizeOf (modulus field)) × (x < sizeOf (modulus field)) × (own < sizeOf (modulus field)) ⌝ }
     ensures { λ r. ⌜ r ≡ weightOf (modulus field) scale (now (terms .entry)) (now (product .entry)) x own ⌝ }
 {
     let sum = polynomials::quotient_sum(field, x, product, terms);
@@ -23,15 +23,15 @@ fn row_weight(field: Field, scale: u32, terms: &[u8], product: &[u8], x: u32, ow
 pub fn row_weights(
     field: Field,
     scale: u32,
-    terms: &[u8],
-    product: &[u8],
-    points: &[u8],
-    scales: &[u8],
-) -> [u8; 255]
-    requires { ⌜ ByteSymbols field (now product) × ByteSymbols field (now terms) × (length (now terms) ≡ length (now product)) × (scale < sizeOf (modulus field)) × ByteSymbols field (now points) × ByteSymbols field (now scales) × (length (now scales) ≡ length (now points)) ⌝ }
+    terms: &[u16],
+    product: &[u16],
+    points: &[u16],
+    scales: &[u16],
+) -> [u16; 255]
+    requires { ⌜ SymbolList field (now product) × SymbolList field (now terms) × (length (now terms) ≡ length (now product)) × (scale < sizeOf (modulus field)) × SymbolList field (now points) × SymbolList field (now scales) × (length (now scales) ≡ length (now points)) ⌝ }
     ensures { λ r. ⌜ r ≡ padded 255 (weightsOf (modulus field) scale (now (terms .entry)) (now (product .entry)) (now (points .entry)) (now (scales .entry))) ⌝ }
 {
-    let mut out = [0u8; 255];
+    let mut out = [0u16; 255];
     let mut i = 0;
     while i < points.len() {
         out[i] = row_weight(
@@ -41,7 +41,7 @@ pub fn row_weights(
             product,
             points[i] as u32,
             scales[i] as u32,
-        ) as u8;
+        ) as u16;
         i += 1;
     }
     out

@@ -8,13 +8,12 @@ use lib.ListN.{length}
 use Rattle.lists.specs.Choice.{firstOf, when}
 use Rattle.lists.proofs.Cases.{both-true, first-zero, when-zero}
 use Rattle.generator.specs.declared.Header.{Header}
-use Rattle.generator.specs.Records.{size, Sound}
+use Rattle.generator.specs.Records.{size, width, Sound}
 use Rattle.generator.specs.Claims.{areNodes}
-use Rattle.layout.specs.Layout.{laneOf, shareLayout}
-use Rattle.refusals.specs.Conditions.{lanesBad, lengthBad, numberBad, nodesBad, twiceBad, symbolBad, symbolsBad}
+use Rattle.refusals.specs.Conditions.{lanesBad, lengthBad, numberBad, nodesBad, twiceBad, symbolBad, symbolsBad, laneBad}
 use Rattle.refusals.specs.Faults.{encodeFault, updateFault, listFault, recoverFault, rebuildFault, belongsFault}
 use Rattle.refusals.specs.Accepted.{SymbolRows, ListedShares, UpdatableLane}
-use Rattle.refusals.proofs.NotMet.{lanes-good, length-good, number-good, nodes-good, twice-good, symbol-good, symbols-good}
+use Rattle.refusals.proofs.NotMet.{lanes-good, length-good, buffer-good, number-good, nodes-good, twice-good, symbol-good, symbols-good, lane-good}
 
 -- a number that is not met, and the numbers after it
 pub not-met : (t : Bool) (n rest : ℕ) → firstOf (when t (suc n)) rest ≡ 0 → (t ≡ false) × (rest ≡ 0)
@@ -24,14 +23,14 @@ not-met t n rest e =
 
 module _ (h : Header) (sound : Sound h) (l : ℕ) where
   -- rows whose lanes, length and symbols pass
-  rows-good : (rows : ℕ) (s : List ℕ) → lanesBad l ≡ false → lengthBad (rows * l) (length s) ≡ false → symbolsBad h s ≡ false → SymbolRows h rows l s
+  rows-good : (rows : ℕ) (s : List ℕ) → lanesBad l ≡ false → lengthBad (rows * l * width h) (length s) ≡ false → symbolsBad h s ≡ false → SymbolRows h rows l s
   rows-good rows s seven eight eleven =
       let (some, few) = lanes-good l seven in
       record {
         sound = sound;
         some-lane = some;
         few-lanes = few;
-        long = length-good (rows * l) (length s) eight;
+        long = buffer-good h (rows * l) (length s) eight;
         symbols = symbols-good h s eleven;
       }
 
@@ -40,16 +39,16 @@ module _ (h : Header) (sound : Sound h) (l : ℕ) where
   unfolding encodeFault
   encode-accepts out message e =
       let (seven, after) = not-met (lanesBad l) 6 _ e in
-      let (read, later) = not-met (lengthBad (h .k * l) (length message)) 7 _ after in
-      let (written, last) = not-met (lengthBad (h .n * l) out) 7 _ later in
-      (rows-good (h .k) message seven read (when-zero (symbolsBad h message) 10 last), length-good (h .n * l) out written)
+      let (read, later) = not-met (lengthBad (h .k * l * width h) (length message)) 7 _ after in
+      let (written, last) = not-met (lengthBad (h .n * l * width h) out) 7 _ later in
+      (rows-good (h .k) message seven read (when-zero (symbolsBad h message) 10 last), buffer-good h (h .n * l) out written)
 
   -- Belongs: the shares are a full buffer of symbols
   pub belongs-accepts : (shares : List ℕ) → belongsFault h l shares ≡ 0 → SymbolRows h (h .n) l shares
   unfolding belongsFault
   belongs-accepts shares e =
       let (seven, after) = not-met (lanesBad l) 6 _ e in
-      let (eight, last) = not-met (lengthBad (h .n * l) (length shares)) 7 _ after in
+      let (eight, last) = not-met (lengthBad (h .n * l * width h) (length shares)) 7 _ after in
       rows-good (h .n) shares seven eight (when-zero (symbolsBad h shares) 10 last)
 
   -- Update: the lane holds symbols, and so are the old and the new one
@@ -57,7 +56,7 @@ module _ (h : Header) (sound : Sound h) (l : ℕ) where
   unfolding updateFault
   update-accepts r t old new shares e =
       let (seven, a) = not-met (lanesBad l) 6 _ e in
-      let (eight, b) = not-met (lengthBad (h .n * l) (length shares)) 7 _ a in
+      let (eight, b) = not-met (lengthBad (h .n * l * width h) (length shares)) 7 _ a in
       let (row, c) = not-met (numberBad (h .k) r) 8 _ b in
       let (lane, d) = not-met (numberBad l t) 8 _ c in
       let (first, f) = not-met (symbolBad h old) 10 _ d in
@@ -67,8 +66,8 @@ module _ (h : Header) (sound : Sound h) (l : ℕ) where
           few-lanes = lanes-good l seven .1;
           row = number-good (h .k) r row;
           lane = number-good l t lane;
-          long = length-good (h .n * l) (length shares) eight;
-          symbols = symbols-good h (laneOf shareLayout (h .n) l t shares) (when-zero (symbolsBad h (laneOf shareLayout (h .n) l t shares)) 10 g);
+          long = buffer-good h (h .n * l) (length shares) eight;
+          symbols = lane-good h l t shares (when-zero (laneBad h l t shares) 10 g);
         },
         symbol-good h old first,
         symbol-good h new second,
@@ -76,7 +75,7 @@ module _ (h : Header) (sound : Sound h) (l : ℕ) where
 
   module _ (nodes shares : List ℕ) where
     -- a list of nodes and its shares
-    list-accepts : lanesBad l ≡ false → lengthBad (h .k) (length nodes) ≡ false → lengthBad (h .k * l) (length shares) ≡ false → listFault h nodes shares ≡ 0 → ListedShares h l nodes shares
+    list-accepts : lanesBad l ≡ false → lengthBad (h .k) (length nodes) ≡ false → lengthBad (h .k * l * width h) (length shares) ≡ false → listFault h nodes shares ≡ 0 → ListedShares h l nodes shares
     unfolding listFault areNodes
     list-accepts seven count long e =
         let (nine, after) = not-met (nodesBad h nodes) 8 _ e in
@@ -92,9 +91,9 @@ module _ (h : Header) (sound : Sound h) (l : ℕ) where
     recover-accepts out e =
         let (seven, a) = not-met (lanesBad l) 6 _ e in
         let (count, b) = not-met (lengthBad (h .k) (length nodes)) 7 _ a in
-        let (long, c) = not-met (lengthBad (h .k * l) (length shares)) 7 _ b in
-        let (written, rest) = not-met (lengthBad (h .k * l) out) 7 _ c in
-        (list-accepts seven count long rest, length-good (h .k * l) out written)
+        let (long, c) = not-met (lengthBad (h .k * l * width h) (length shares)) 7 _ b in
+        let (written, rest) = not-met (lengthBad (h .k * l * width h) out) 7 _ c in
+        (list-accepts seven count long rest, buffer-good h (h .k * l) out written)
 
     -- Rebuild: the target is a node, and its share fills the written buffer
     pub rebuild-accepts : (target out : ℕ) → rebuildFault h l nodes shares target out ≡ 0 → ListedShares h l nodes shares × (target < h .n) × (out ≡ l)
@@ -102,7 +101,7 @@ module _ (h : Header) (sound : Sound h) (l : ℕ) where
     rebuild-accepts target out e =
         let (seven, a) = not-met (lanesBad l) 6 _ e in
         let (count, b) = not-met (lengthBad (h .k) (length nodes)) 7 _ a in
-        let (long, c) = not-met (lengthBad (h .k * l) (length shares)) 7 _ b in
-        let (written, d) = not-met (lengthBad l out) 7 _ c in
+        let (long, c) = not-met (lengthBad (h .k * l * width h) (length shares)) 7 _ b in
+        let (written, d) = not-met (lengthBad (l * width h) out) 7 _ c in
         let (node, rest) = not-met (numberBad (h .n) target) 8 _ d in
-        (list-accepts seven count long rest, number-good (h .n) target node, length-good l out written)
+        (list-accepts seven count long rest, number-good (h .n) target node, buffer-good h l out written)

@@ -1,4 +1,5 @@
 -- What the conditions say, what holds where no number is met, and promises over records from promises over headers.
+pub mod OneByte
 pub mod NotMet
 pub mod Walks
 pub mod Accepts

@@ -1,5 +1,5 @@
 -- What holds where the condition of a number fails.
-use mathlib.Core.Path.{_≡_}
+use mathlib.Core.Path.{_≡_, _∙_}
 use mathlib.Core.Bool.{true, false}
 use mathlib.Core.List.{List}
 use Prim.Native.Nat.{ℕ, _*_, _≤_, _<_}
@@ -9,9 +9,11 @@ use borrow.Author.Tests.{eqb-true, eqb-false, ltb-false, leb-false, not-false}
 use lib.Dec.{eqb, ltb}
 use Rattle.lists.specs.Numbers.{allBelow, distinct}
 use Rattle.lists.proofs.Cases.{or-left-false, or-right-false}
+use Rattle.layout.specs.Layout.{laneOf, shareLayout}
 use Rattle.generator.specs.declared.Header.{Header}
-use Rattle.generator.specs.Records.{size}
-use Rattle.refusals.specs.Conditions.{lanesBad, lengthBad, numberBad, nodesBad, twiceBad, symbolBad, symbolsBad}
+use Rattle.generator.specs.Records.{size, width}
+use Rattle.refusals.specs.Conditions.{lanesBad, lengthBad, numberBad, nodesBad, twiceBad, symbolBad, symbolsBad, laneBad}
+use Rattle.refusals.proofs.OneByte.{times-width, symbols-test, lane-test}
 
 -- number 7
 pub lanes-good : (l : ℕ) → lanesBad l ≡ false → (0 < l) × (l ≤ 4096)
@@ -35,6 +37,10 @@ unfolding numberBad
 number-good end x e = leb-false end x e
 
 module _ (h : Header) where
+  -- number 8 of a buffer
+  pub buffer-good : (count long : ℕ) → lengthBad (count * width h) long ≡ false → long ≡ count
+  buffer-good count long e = length-good (count * width h) long e ∙ times-width h count
+
   pub nodes-good : (nodes : List ℕ) → nodesBad h nodes ≡ false → allBelow (h .n) nodes ≡ true
   unfolding nodesBad
   nodes-good nodes e = not-false _ e
@@ -45,8 +51,10 @@ module _ (h : Header) where
   symbol-good x e = leb-false (size h) x e
 
   pub symbols-good : (s : List ℕ) → symbolsBad h s ≡ false → allBelow (size h) s ≡ true
-  unfolding symbolsBad
-  symbols-good s e = not-false _ e
+  symbols-good s e = not-false _ (rw symbols-test at e)
+
+  pub lane-good : (l t : ℕ) (shares : List ℕ) → laneBad h l t shares ≡ false → allBelow (size h) (laneOf shareLayout (h .n) l t shares) ≡ true
+  lane-good l t shares e = not-false _ (rw lane-test at e)
 
 -- number 10
 pub twice-good : (nodes : List ℕ) → twiceBad nodes ≡ false → distinct nodes ≡ true

@@ -17,6 +17,7 @@ use Rattle.generator.specs.Records.{size}
 use Rattle.layout.specs.Layout.{held, laneOf, shareLayout}
 use Rattle.layout.proofs.Places.{held-share}
 use Rattle.refusals.specs.Conditions.{symbolsBad}
+use Rattle.refusals.proofs.OneByte.{symbols-test}
 
 -- the bound of two lists that are joined
 below-both : (q : ℕ) (s u : List ℕ) → allBelow q (s ++ u) ≡ (allBelow q s && allBelow q u)
@@ -35,18 +36,16 @@ module _ (h : Header) (s : List ℕ) (a l : ℕ) where
 
   -- a share of symbols
   pub share-good : symbolsBad h (take (a + l - a) (drop a s)) ≡ false → symbolsBad h (drop a s) ≡ symbolsBad h (drop (a + l) s)
-  unfolding symbolsBad
-  share-good e = let good = not-false (allBelow (size h) (take (a + l - a) (drop a s))) e in rw (bound, good)
+  share-good e = let good = not-false (allBelow (size h) (take (a + l - a) (drop a s))) (rw symbols-test at e) in rw (symbols-test, symbols-test, bound, good)
 
   -- a share with a byte that is none
   pub share-bad : symbolsBad h (take (a + l - a) (drop a s)) ≡ true → symbolsBad h (drop a s) ≡ true
-  unfolding symbolsBad
-  share-bad e = let bad = not-true (allBelow (size h) (take (a + l - a) (drop a s))) e in rw (bound, bad)
+  share-bad e = let bad = not-true (allBelow (size h) (take (a + l - a) (drop a s))) (rw symbols-test at e) in rw (symbols-test, bound, bad)
 
 -- no share is left
 pub shares-end : (h : Header) (s : List ℕ) (a : ℕ) → length s ≤ a → symbolsBad h (drop a s) ≡ false
-unfolding symbolsBad allBelow
-shares-end h s a all = rw (drop-of-length-le s all)
+unfolding allBelow
+shares-end h s a all = rw (symbols-test, drop-of-length-le s all)
 
 -- the lane from node j on
 abbrev pub laneFrom : ℕ → ℕ → ℕ → List ℕ → ℕ → List ℕ

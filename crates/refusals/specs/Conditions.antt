@@ -4,8 +4,10 @@ use mathlib.Core.List.{List}
 use Prim.Native.Nat.{ℕ}
 use lib.Dec.{eqb, ltb, leb}
 use Rattle.lists.specs.Numbers.{allBelow, distinct}
+use Rattle.layout.specs.Layout.{laneOf, shareLayout}
+use Rattle.layout.specs.Width.{symbolsOf}
 use Rattle.generator.specs.declared.Header.{Header}
-use Rattle.generator.specs.Records.{size}
+use Rattle.generator.specs.Records.{size, width}
 
 -- number 7: no lane, or more than 4,096
 unfoldable pub lanesBad : ℕ → Bool
@@ -31,6 +33,10 @@ twiceBad nodes = not (distinct nodes)
 unfoldable pub symbolBad : Header → ℕ → Bool
 symbolBad h x = leb (size h) x
 
--- number 11: a byte is no symbol
+-- number 11: a buffer holds a number that is no symbol
 unfoldable pub symbolsBad : Header → List ℕ → Bool
-symbolsBad h s = not (allBelow (size h) s)
+symbolsBad h s = not (allBelow (size h) (symbolsOf (width h) s))
+
+-- number 11: lane t of n shares does
+unfoldable pub laneBad : Header → ℕ → ℕ → List ℕ → Bool
+laneBad h l t shares = not (allBelow (size h) (laneOf shareLayout (h .n) l t (symbolsOf (width h) shares)))

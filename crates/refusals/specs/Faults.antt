@@ -1,31 +1,30 @@
--- What turns a call away: the lowest of numbers 7 to 11 whose condition holds, or 0. `out` is the length of a written buffer.
+-- What turns a call away: the lowest of numbers 7 to 11 whose condition holds, or 0. `out` is the length of a written buffer; a symbol has `width` bytes.
 use mathlib.Core.List.{List}
 use Prim.Native.Nat.{ℕ, _*_}
 use lib.ListN.{length}
 use Rattle.lists.specs.Choice.{firstOf, when}
 use Rattle.generator.specs.declared.Header.{Header}
-use Rattle.generator.specs.Records.{headerOf, recordFault}
-use Rattle.layout.specs.Layout.{laneOf, shareLayout}
-use Rattle.refusals.specs.Conditions.{lanesBad, lengthBad, numberBad, nodesBad, twiceBad, symbolBad, symbolsBad}
+use Rattle.generator.specs.Records.{headerOf, recordFault, width}
+use Rattle.refusals.specs.Conditions.{lanesBad, lengthBad, numberBad, nodesBad, twiceBad, symbolBad, symbolsBad, laneBad}
 
 -- Encode reads a message and writes n shares
 unfoldable pub encodeFault : Header → ℕ → ℕ → List ℕ → ℕ
 encodeFault h l out message =
     firstOf (when (lanesBad l) 7)
-    (firstOf (when (lengthBad (h .k * l) (length message)) 8)
-    (firstOf (when (lengthBad (h .n * l) out) 8)
+    (firstOf (when (lengthBad (h .k * l * width h) (length message)) 8)
+    (firstOf (when (lengthBad (h .n * l * width h) out) 8)
     (when (symbolsBad h message) 11)))
 
 -- Update takes the number of a symbol and of a lane, and reads the two symbols and its lane
 unfoldable pub updateFault : Header → ℕ → ℕ → ℕ → ℕ → ℕ → List ℕ → ℕ
 updateFault h l r t old new shares =
     firstOf (when (lanesBad l) 7)
-    (firstOf (when (lengthBad (h .n * l) (length shares)) 8)
+    (firstOf (when (lengthBad (h .n * l * width h) (length shares)) 8)
     (firstOf (when (numberBad (h .k) r) 9)
     (firstOf (when (numberBad l t) 9)
     (firstOf (when (symbolBad h old) 11)
     (firstOf (when (symbolBad h new) 11)
-    (when (symbolsBad h (laneOf shareLayout (h .n) l t shares)) 11))))))
+    (when (laneBad h l t shares) 11))))))
 
 -- a list of k nodes and their shares
 unfoldable pub listFault : Header → List ℕ → List ℕ → ℕ
@@ -39,8 +38,8 @@ unfoldable pub recoverFault : Header → ℕ → List ℕ → List ℕ → ℕ �
 recoverFault h l nodes shares out =
     firstOf (when (lanesBad l) 7)
     (firstOf (when (lengthBad (h .k) (length nodes)) 8)
-    (firstOf (when (lengthBad (h .k * l) (length shares)) 8)
-    (firstOf (when (lengthBad (h .k * l) out) 8)
+    (firstOf (when (lengthBad (h .k * l * width h) (length shares)) 8)
+    (firstOf (when (lengthBad (h .k * l * width h) out) 8)
     (listFault h nodes shares))))
 
 -- Rebuild reads listed shares and writes the share of a target
@@ -48,8 +47,8 @@ unfoldable pub rebuildFault : Header → ℕ → List ℕ → List ℕ → ℕ �
 rebuildFault h l nodes shares target out =
     firstOf (when (lanesBad l) 7)
     (firstOf (when (lengthBad (h .k) (length nodes)) 8)
-    (firstOf (when (lengthBad (h .k * l) (length shares)) 8)
-    (firstOf (when (lengthBad l out) 8)
+    (firstOf (when (lengthBad (h .k * l * width h) (length shares)) 8)
+    (firstOf (when (lengthBad (l * width h) out) 8)
     (firstOf (when (numberBad (h .n) target) 9)
     (listFault h nodes shares)))))
 
@@ -57,7 +56,7 @@ rebuildFault h l nodes shares target out =
 unfoldable pub belongsFault : Header → ℕ → List ℕ → ℕ
 belongsFault h l shares =
     firstOf (when (lanesBad l) 7)
-    (firstOf (when (lengthBad (h .n * l) (length shares)) 8)
+    (firstOf (when (lengthBad (h .n * l * width h) (length shares)) 8)
     (when (symbolsBad h shares) 11))
 
 -- the record's number, 1 to 6, else the call's

@@ -4,8 +4,7 @@ ghost use mathlib.Core.Bool.{true};
 ghost use Prim.Native.Nat.{_*_, _≤_, _<_};
 ghost use lib.ListN.{length};
 ghost use Rattle.field.specs.Kinds.{usable};
-ghost use Rattle.layout.specs.Layout.{laneOf, shareLayout};
-ghost use Rattle.refusals.specs.Conditions.{symbolBad, symbolsBad};
+ghost use Rattle.refusals.specs.Conditions.{symbolBad, symbolsBad, laneBad};
 use generator::Header;
 
 // A number that is no symbol.
@@ -46,7 +45,7 @@ pub fn shares_bad(h: Header, nodes: usize, lanes: usize, shares: &[u8]) -> bool
 // A byte of one lane that is no symbol; no other byte is read.
 pub fn lane_bad(h: Header, lanes: usize, lane: usize, shares: &[u8]) -> bool
     requires { ⌜ (usable (h .field) ≡ true) × (lane < lanes) × (length (now shares) ≡ h .n * lanes) ⌝ }
-    ensures { λ r. ⌜ r ≡ symbolsBad h (laneOf shareLayout (h .n) lanes lane (now (shares .entry))) ⌝ }
+    ensures { λ r. ⌜ r ≡ laneBad h lanes lane (now (shares .entry)) ⌝ }
 {
     let n = h.n as usize;
     let field = h.field;

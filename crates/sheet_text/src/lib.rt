@@ -10,6 +10,8 @@ ghost use mathlib.Core.Path.{_≡_};
 ghost use mathlib.Core.List.{_++_};
 ghost use Prim.Native.Nat.{_+_, _≤_, _<_};
 ghost use lib.ListN.{length, take, drop};
+ghost use mathlib.Core.Bool.{true};
+ghost use Rattle.lists.specs.Numbers.{allBelow};
 ghost use Rattle.lists.specs.Rows.{from};
 ghost use Rattle.generator.specs.Records.{recordOf};
 ghost use Rattle.plan.specs.Plans.{entryIn};
@@ -34,7 +36,7 @@ fn put_head(out: &mut [u8], at: usize, plan: Plan) -> usize
 
 // The entries of row r, and the line feed.
 fn put_entries(out: &mut [u8], at: usize, plan: Plan, r: u8) -> usize
-    requires { ⌜ at + 1021 ≤ length (now out) ⌝ }
+    requires { ⌜ (at + 1021 ≤ length (now out)) × (allBelow 256 (plan .base) ≡ true) ⌝ }
     ensures { λ x. ⌜ Puts (now (out .entry)) (now (out .exit)) at x (fields (from (entryIn plan r) 0 (plan .n))) ⌝ }
     ensures { λ x. ⌜ x ≤ at + 1021 ⌝ }
 {
@@ -43,7 +45,7 @@ fn put_entries(out: &mut [u8], at: usize, plan: Plan, r: u8) -> usize
     let mut j: u8 = 0;
     while j < n {
         let x = entry(plan, r as u32, j as u32);
-        place = put_field(out, place, x);
+        place = put_field(out, place, x as u8);
         j += 1;
     }
     put_byte(out, place, b'\n')
@@ -51,7 +53,7 @@ fn put_entries(out: &mut [u8], at: usize, plan: Plan, r: u8) -> usize
 
 // The line of row r.
 fn put_row(out: &mut [u8], at: usize, plan: Plan, r: u8) -> usize
-    requires { ⌜ (r < plan .k) × (at + 1032 ≤ length (now out)) ⌝ }
+    requires { ⌜ (r < plan .k) × (at + 1032 ≤ length (now out)) × (allBelow 256 (plan .base) ≡ true) ⌝ }
     ensures { λ x. ⌜ Puts (now (out .entry)) (now (out .exit)) at x (rowLine plan r) ⌝ }
     ensures { λ x. ⌜ x ≤ at + 1032 ⌝ }
 {
@@ -63,7 +65,7 @@ fn put_row(out: &mut [u8], at: usize, plan: Plan, r: u8) -> usize
 
 // The sheet of a plan: the first line has at most 21 bytes, and each of at most 255 rows has at most 1,032.
 fn put_sheet(out: &mut [u8], at: usize, plan: Plan) -> usize
-    requires { ⌜ at + 263181 ≤ length (now out) ⌝ }
+    requires { ⌜ (at + 263181 ≤ length (now out)) × (allBelow 256 (plan .base) ≡ true) ⌝ }
     ensures { λ r. ⌜ Puts (now (out .entry)) (now (out .exit)) at r (sheetOf plan) ⌝ }
 {
     let number = plan.number;

@@ -1,19 +1,16 @@
 -- The bytes of one lane, node by node, and the generator's entries for them.
 use mathlib.Core.Path.{_≡_}
-use mathlib.Core.Bool.{true, false}
+use mathlib.Core.Bool.{true}
 use mathlib.Core.List.{List}
-use Prim.Native.Nat.{ℕ, _+_, _-_, _*_, _%_, _≤_, _<_}
-use native.Mathlib.Nat.{sub-zero, mul-le-mul}
+use Prim.Native.Nat.{ℕ, _+_, _*_, _%_, _≤_, _<_}
+use native.Mathlib.Nat.{mul-le-mul}
 use native.Mathlib.Omega.{arith}
-use borrow.Author.Tests.{lt-ltb, le-ltb}
 use lib.ListN.{getD}
-use Rattle.lists.specs.Rows.{from}
 use Rattle.lists.specs.Numbers.{allBelow}
 use Rattle.lists.proofs.Numbers.{below-at}
-use Rattle.lists.proofs.Rows.{from-next, from-end, row-inside}
+use Rattle.lists.proofs.Rows.{row-inside}
 use Rattle.layout.specs.Layout.{held, laneOf, shareLayout}
 use Rattle.layout.proofs.Buffers.{length-lane, getD-lane}
-use Rattle.layout.proofs.Places.{held-share}
 use Rattle.generator.specs.declared.Header.{Header}
 use Rattle.generator.specs.declared.Record.the-variants.{Holds}
 use Rattle.generator.specs.Records.{Sound}

@@ -2,10 +2,10 @@
 ghost use mathlib.Core.Path.{_≡_};
 ghost use Prim.Native.Nat.{_<_};
 ghost use Rattle.lists.specs.Counting.{differ};
+ghost use Rattle.layout.specs.Layout.{shareLayout};
 ghost use Rattle.field.specs.Fields.{add, mul};
 ghost use Rattle.generator.specs.Records.{modulusOf, size, Sound};
 ghost use Rattle.plan.specs.Plans.{planFor};
-ghost use Rattle.layout.specs.Layout.{shareLayout};
 ghost use Rattle.refusals.specs.Faults.{updateFault};
 ghost use Rattle.refusals.specs.Accepted.{UpdatableLane};
 ghost use Rattle.blocks.specs.Blocks.{rowAdded};
@@ -16,7 +16,7 @@ use generator::Record;
 use plan::Plan;
 
 // What a node holds after x times its entry is added to what it held.
-fn renewed(h: Header, x: u32, entry: u8, before: u8) -> u8
+fn renewed(h: Header, x: u32, entry: u16, before: u8) -> u8
     requires { ⌜ Sound h × (x < size h) × (entry < size h) × (before < size h) ⌝ }
     ensures { λ r. ⌜ r ≡ add (modulusOf h) before (mul (modulusOf h) x entry) ⌝ }
 {
@@ -38,12 +38,11 @@ fn rewrite(
     ensures { λ r. ⌜ (now (shares .exit) ≡ rowAdded shareLayout h lanes which lane x (now (shares .entry))) × (r ≡ differ (now (shares .entry)) (now (shares .exit))) ⌝ }
 {
     let n = h.n as u32;
-    let shift = plan.shifts[which as usize] as u32;
+    let shift = plan.shifts[which as usize] as usize;
     let mut count: u32 = 0;
     let mut j: u32 = 0;
     while j < n {
-        let place = ((j + shift) % n) as usize;
-        let entry = plan.base[place];
+        let entry = plan::entry_at(n as usize, shift, &plan.base, j as usize);
         let at = (j * lanes + lane) as usize;
         let before = shares[at];
         let after = renewed(h, x, entry, before);

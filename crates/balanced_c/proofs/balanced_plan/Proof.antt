@@ -2,6 +2,7 @@
 use mathlib.Core.Path.{_≡_, sym, _∙_}
 use lib.ListN.{length}
 use borrow.Author.Needs.{needs}
+use Rattle.plan.proofs.Plans.{base-bytes}
 use Rattle.balanced_c.proofs.Plans.{plan-lengths, plan-refused, plan-given}
 use Rattle.balanced_c.proofs.balanced_plan.Statement.{statement}
 use Rattle.balanced_c.proofs.balanced_plan.Tie as tie
@@ -31,8 +32,12 @@ arrays c = (search needs, search needs)
 copy-requires : tie.Need-copy-requires
 copy-requires c κs = arrays (c .before .before .before .before .before .before .before .before .before .before) .0 ∙ sym (lengths (c .before .before .before .before .before .before .before .before) .1)
 
-copy-requires-2 : tie.Need-copy-requires-2
-copy-requires-2 c κs = arrays (c .before .before .before .before .before .before .before .before .before .before .before .before .before .before .before .before .before) .1 ∙ sym (lengths (c .before .before .before .before .before .before .before .before .before .before .before .before .before .before .before) .2)
+copy-bytes-requires : tie.Need-copy-bytes-requires
+copy-bytes-requires c κs =
+    let built = c .before .before .before .before .before .before .before .before .before .before .before .before .before .before .before .before .before in (
+      arrays built .1 ∙ sym (lengths (c .before .before .before .before .before .before .before .before .before .before .before .before .before .before .before) .2),
+      rw (built .build-plan .ensures .plan) (base-bytes (built .before .before .before .before .before .args .rec .now)),
+    )
 
 same-length : tie.Need-same-length
 same-length c = search needs
@@ -47,7 +52,7 @@ returns-2 : tie.Need-returns-2
 returns-2 c =
     let numbers = c .before .before .before .before .before .before .before .before .before .before .before .before .before .before .before .before .put-numbers .ensures in
     let shifts = c .before .before .before .before .before .before .before .before .before .copy .ensures in
-    let base = c .before .before .copy2 .ensures in
+    let base = c .before .before .copy-bytes .ensures in
     plan-given _ _ _ _ _ _ (c .before .before .before .before .before .before .before .before .before .before .before .before .before .before .before .before .before .before .before .before .build-plan .ensures) (c .before .before .before .before .before .before .before .before .before .before .before .before .before .before .before .before .before .before .before .plan-fault .ensures) _ _ _ (c .before .before .before .before .before .before .before .before .before .before .before .before .before .before .before .before .before .before .if1 .left) numbers shifts base
 
 pub balanced-plan-spec : {M : Type 1} → statement M
@@ -59,7 +64,7 @@ balanced-plan-spec =
     returns
     put-numbers-requires
     copy-requires
-    copy-requires-2
+    copy-bytes-requires
     same-length
     same-length-2
     same-length-3

@@ -1,12 +1,8 @@
 -- `copy` meets its contract. The loop's invariant: the places below i are written, and the rest of the slice is to come.
-use mathlib.Core.Path.{_≡_}
-use mathlib.Core.List.{[], _∷_}
-use Prim.Native.Nat.{_+_, _-_, _≤_, _<_}
-use native.Mathlib.Numerals.{add-one}
+use Prim.Native.Nat.{_-_, _≤_}
 use native.Mathlib.Omega.{arith}
-use lib.ListN.{length, getD, drop, drop-of-length-le}
-use lib.Seq.{drop-cons}
-use Rattle.lists.proofs.Fill.{Fills, fills-start, fills-put, fills-all}
+use lib.ListN.{length, drop}
+use Rattle.lists.proofs.Fill.{Fills, fills-start, fills-copy, fills-copied}
 use Rattle.balanced_c.proofs.copy.Statement.{statement}
 use Rattle.balanced_c.proofs.copy.Tie as tie
 
@@ -32,22 +28,13 @@ loop-less : tie.Need-loop-less Inv-loop μ-loop
 loop-less c = omega arith
 
 loop-again : tie.Need-loop-again Inv-loop μ-loop
-loop-again c =
-    let at = c .before .before .loop in
-    let whole = c .before .before .before .args .from .now in
-    let more : at .i < length whole = omega arith in
-    let next : drop (at .i) whole ≡ getD whole (at .i) 0 ∷ drop (at .i + 1) whole = rw (add-one, drop-cons whole (at .i) 0) in
-    (omega arith, fills-put (rw next at (at .inv .1)) (omega arith))
+loop-again c = (omega arith, fills-copy (c .before .before .loop .inv .1) (c .before .loop-test .taken) (omega arith) 0)
 
 same-length : tie.Need-same-length Inv-loop μ-loop
 same-length c = c .before .loop .inv .1 .long
 
 returns : tie.Need-returns Inv-loop μ-loop
-returns c =
-    let whole = c .before .before .args .from .now in
-    let past : length whole ≤ c .before .loop .i = omega arith in
-    let none : drop (c .before .loop .i) whole ≡ [] = drop-of-length-le whole past in
-    fills-all (rw none at (c .before .loop .inv .1)) (omega arith)
+returns c = fills-copied (c .before .loop .inv .1) (c .loop-test .left) (omega arith)
 
 pub copy-spec : {M : Type 1} → statement M
 copy-spec =

@@ -1,15 +1,14 @@
--- `factors` meets its contract. Invariant: the factors of the nodes below j are written, and the others are to come.
-use mathlib.Core.Path.{ap, _∙_}
+-- `factors` meets its contract. Invariant: the factors of the nodes below j are written.
+use mathlib.Core.Path.{refl, ap, _∙_}
 use mathlib.Core.List.{List}
-use Prim.Native.Nat.{ℕ, _-_, _*_, _%_, _≤_}
-use native.Mathlib.Nat.{sub-zero, mod-lt, mul-le-mul}
+use Prim.Native.Nat.{ℕ, _-_, _*_, _%_, _≤_, _<_}
+use native.Mathlib.Nat.{mod-lt, mul-le-mul}
 use native.Mathlib.Omega.{arith}
 use borrow.Author.Needs.{needs}
 use lib.ListN.{getD}
 use Rattle.lists.specs.Padded.{zeros, padded}
-use Rattle.lists.specs.Rows.{from}
-use Rattle.lists.proofs.Rows.{from-next, from-end, from-ext}
-use Rattle.lists.proofs.Fill.{Fills, fills-start, fills-put, fills-padded, length-zeros}
+use Rattle.lists.proofs.Rows.{from-ext}
+use Rattle.lists.proofs.Fill.{Filled, filled-start, filled-put, filled-end}
 use Rattle.belongs.specs.Ready.{factorsOf}
 use Rattle.belongs.proofs.Sums.{power-place, power-at}
 use Rattle.belongs.proofs.factors.Statement.{statement}
@@ -20,7 +19,7 @@ abbrev read : List ℕ → ℕ → ℕ → ℕ → ℕ
 read powers e n j = getD powers (j * e % n) 0
 
 abbrev Inv-loop : tie.InvT-loop
-Inv-loop powers e n out₀ j₀ out j = (j ≤ n) × Fills (zeros 255) out j (from (read powers e n) j (n - j)) (from (read powers e n) 0 n)
+Inv-loop powers e n out₀ j₀ out j = Filled 255 n (read powers e n) j out
 
 abbrev μ-loop : tie.MeasureT-loop
 μ-loop powers e n out₀ j₀ out j = n - j
@@ -30,7 +29,7 @@ cast-n c = search needs
 
 loop-holds : tie.Need-loop-holds Inv-loop μ-loop
 unfolding zeros
-loop-holds c = (omega arith, rw sub-zero (fills-start _ _))
+loop-holds c = filled-start 255 _ _ (omega (arith, c .struct-known .given))
 
 mul-i : tie.Need-mul-i Inv-loop μ-loop
 mul-i c =
@@ -40,13 +39,22 @@ mul-i c =
 rem-i : tie.Need-rem-i Inv-loop μ-loop
 rem-i c = omega arith
 
+mul-out : tie.Need-mul-out Inv-loop μ-loop
+mul-out c =
+    let a = c .before .before .before .args in
+    let low : c .before .loop .j * a .e % a .h .n < a .h .n = mod-lt _ (omega arith) in
+    omega (arith, c .before .before .struct-known .given)
+
 shared-slice-read-out : tie.Need-shared-slice-read-out Inv-loop μ-loop
 shared-slice-read-out c =
     let st = c .before .before .before .before in
     rw (st .pre .1) (power-place (st .args .h) _ (mod-lt _ (omega arith)))
 
+mul-out-2 : tie.Need-mul-out-2 Inv-loop μ-loop
+mul-out-2 c = omega arith
+
 array-write-out : tie.Need-array-write-out Inv-loop μ-loop
-array-write-out c = omega (arith, c .before .before .before .struct-known .given)
+array-write-out c = omega arith
 
 add-j : tie.Need-add-j Inv-loop μ-loop
 add-j c = omega arith
@@ -55,16 +63,14 @@ loop-less : tie.Need-loop-less Inv-loop μ-loop
 loop-less c = omega arith
 
 loop-again : tie.Need-loop-again Inv-loop μ-loop
-loop-again c =
-    let todo = rw (from-next _ _ _ (c .before .loop-test .taken)) at (c .before .before .loop .inv .1) in
-    (omega arith, fills-put todo (omega (arith, length-zeros 255, c .before .before .before .struct-known .given)))
+loop-again c = filled-put (c .before .before .loop .inv) (c .before .loop-test .taken) refl
 
 returns : tie.Need-returns Inv-loop μ-loop
 unfolding factorsOf
 returns c =
     let st = c .before .before .before in
     let a = st .args in
-    fills-padded 255 (rw (from-end _ _ _ (c .loop-test .left)) at (c .before .loop .inv .1))
+    filled-end (c .before .loop .inv) (c .loop-test .left)
     ∙ ap (padded 255)
     (from-ext (read (a .powers .now) (a .e) (a .h .n)) _ 0 (a .h .n) (λ j low high. rw (st .pre .1) (power-at (a .h) (j * a .e % a .h .n) (mod-lt _ (omega arith)))))
 
@@ -78,7 +84,9 @@ factors-spec =
     loop-holds
     mul-i
     rem-i
+    mul-out
     shared-slice-read-out
+    mul-out-2
     array-write-out
     add-j
     loop-less

@@ -15,8 +15,8 @@ use Rattle.blocks.specs.Blocks.{firstWrong}
 use Rattle.blocks.specs.Answers.{membershipOf}
 use Rattle.blocks.specs.Promises.{BelongsPromise}
 use Rattle.blocks.proofs.Bytes.{wrong-lane}
-use Rattle.blocks.proofs.Refused.{belongs-refuses}
 use Rattle.blocks.proofs.Words.{wrong-most}
+use Rattle.blocks.proofs.Refused.{belongs-refuses}
 use Rattle.belongs.proofs.test_accepted.Statement.{statement}
 use Rattle.belongs.proofs.test_accepted.Tie as tie
 

@@ -12,20 +12,20 @@ use Rattle.field.specs.Primes.{isPrime}
 use Rattle.field.specs.Fields.{sizeOf}
 use Rattle.field.specs.Kinds.{modulus}
 use Rattle.field.proofs.KindLaws.{usable-prime}
-use Rattle.combine.specs.Combined.{Weighted, Rows}
+use Rattle.combine.specs.Combined.{Weighted, WeightedRows}
 use Rattle.combine.proofs.combine.Statement.{statement}
 use Rattle.combine.proofs.combine.Tie as tie
 
-module _ {rows l : ℕ} {ws s : List ℕ} {out : ℕ} where
+module _ {count l : ℕ} {ws s : List ℕ} {out : ℕ} where
   -- what is known over a prime field
-  prime-rows : (f : PrimeField) → Rows (Prime f) rows l ws s out → (isPrime (f .p) ≡ true) × (f .p ≤ 256) × Weighted (f .p) rows l ws s out
+  prime-rows : (f : PrimeField) → WeightedRows (Prime f) count l ws s out → (isPrime (f .p) ≡ true) × (f .p ≤ 256) × Weighted (f .p) count l ws s out
   unfolding modulus
   prime-rows f a =
       let u = usable-prime f (a .usable-field) in
-      (u .1, rw (u .2) at (a .bytes), rw (u .2) at (a .weighted))
+      (u .1, rw (u .2) at (a .one-byte), rw (u .2) at (a .weighted))
 
   -- and over the field of 256 elements
-  byte-rows : (g : Gf256) → Rows (Binary g) rows l ws s out → Weighted 256 rows l ws s out
+  byte-rows : (g : Gf256) → WeightedRows (Binary g) count l ws s out → Weighted 256 count l ws s out
   unfolding modulus sizeOf
   byte-rows g a = a .weighted
 

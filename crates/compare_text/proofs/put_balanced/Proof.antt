@@ -6,11 +6,11 @@ use Rattle.compare_text.specs.Comparison.{balancedLine}
 use Rattle.compare_text.proofs.put_balanced.Statement.{statement}
 use Rattle.compare_text.proofs.put_balanced.Tie as tie
 
-weight-of-requires : tie.Need-weight-of-requires
-weight-of-requires c κs = search needs
+distance-of-requires : tie.Need-distance-of-requires
+distance-of-requires c κs = search needs
 
-balanced-reads-requires : tie.Need-balanced-reads-requires
-balanced-reads-requires c κs = search needs
+reads-of-requires : tie.Need-reads-of-requires
+reads-of-requires c κs = search needs
 
 slice-aggregate-put-cost : tie.Need-slice-aggregate-put-cost
 slice-aggregate-put-cost c = search needs
@@ -29,14 +29,14 @@ unfolding balancedLine ascii
 returns c =
     let put = c .before .before in
     let figure = put .before .before .before .before in
-    (rw (← figure .before .weight-of .ensures, ← figure .balanced-reads .ensures) (put .put-cost .ensures .0), omega arith)
+    (rw (← figure .before .distance-of .ensures, ← figure .reads-of .ensures) (put .put-cost .ensures .0), omega arith)
 
 pub put-balanced-spec : {M : Type 1} → statement M
 put-balanced-spec =
     tie.close
     (tie.spec
-    weight-of-requires
-    balanced-reads-requires
+    distance-of-requires
+    reads-of-requires
     slice-aggregate-put-cost
     slice-aggregate-put-cost-2
     put-cost-requires

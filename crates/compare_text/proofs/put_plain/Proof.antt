@@ -6,8 +6,8 @@ use Rattle.compare_text.specs.Comparison.{plainLine}
 use Rattle.compare_text.proofs.put_plain.Statement.{statement}
 use Rattle.compare_text.proofs.put_plain.Tie as tie
 
-weight-of-requires : tie.Need-weight-of-requires
-weight-of-requires c κs = search needs
+distance-of-requires : tie.Need-distance-of-requires
+distance-of-requires c κs = search needs
 
 plain-greatest-requires : tie.Need-plain-greatest-requires
 plain-greatest-requires c κs = search needs
@@ -29,13 +29,13 @@ unfolding plainLine ascii
 returns c =
     let put = c .before .before in
     let figure = put .before .before .before .before in
-    (rw (← figure .before .weight-of .ensures, ← figure .plain-greatest .ensures) (put .put-cost .ensures .0), omega arith)
+    (rw (← figure .before .distance-of .ensures, ← figure .plain-greatest .ensures) (put .put-cost .ensures .0), omega arith)
 
 pub put-plain-spec : {M : Type 1} → statement M
 put-plain-spec =
     tie.close
     (tie.spec
-    weight-of-requires
+    distance-of-requires
     plain-greatest-requires
     slice-aggregate-put-cost
     slice-aggregate-put-cost-2

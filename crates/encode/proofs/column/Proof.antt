@@ -1,20 +1,16 @@
--- `column` meets its contract. The loop's invariant: the entries of the rows below r are written, and the others are to come.
-use Prim.Native.Nat.{_-_, _≤_}
-use native.Mathlib.Nat.{sub-zero}
+-- `column` meets its contract. The loop's invariant: the entries of the rows below r are written.
+use Prim.Native.Nat.{_-_}
 use native.Mathlib.Omega.{arith}
 use borrow.Author.Needs.{needs}
 use Rattle.lists.specs.Padded.{zeros}
-use Rattle.lists.specs.Rows.{from}
-use Rattle.lists.proofs.Rows.{from-next, from-end}
-use Rattle.lists.proofs.Fill.{Fills, fills-start, fills-put, fills-padded, length-zeros}
+use Rattle.lists.proofs.Fill.{Filled, filled-start, filled-put, filled-end}
 use Rattle.generator.specs.Generator.{entry}
 use Rattle.encode.specs.Inner.{columnOf}
 use Rattle.encode.proofs.column.Statement.{statement}
 use Rattle.encode.proofs.column.Tie as tie
 
 abbrev Inv-loop : tie.InvT-loop
-Inv-loop h shifts base node k out₀ r₀ out r =
-    (r ≤ h .k) × Fills (zeros 255) out r (from (λ r. entry h r node) r (h .k - r)) (columnOf h node)
+Inv-loop h shifts base node k out₀ r₀ out r = Filled 255 (h .k) (λ r. entry h r node) r out
 
 abbrev μ-loop : tie.MeasureT-loop
 μ-loop h shifts base node k out₀ r₀ out r = h .k - r
@@ -23,16 +19,19 @@ cast-k : tie.Need-cast-k Inv-loop μ-loop
 cast-k c = search needs
 
 loop-holds : tie.Need-loop-holds Inv-loop μ-loop
-unfolding zeros columnOf
-loop-holds c = (omega arith, rw sub-zero (fills-start _ _))
+unfolding zeros
+loop-holds c = filled-start 255 _ _ (omega (arith, c .struct-known .given))
 
 coefficient-requires : tie.Need-coefficient-requires Inv-loop μ-loop
 coefficient-requires c κs =
     let pre = c .before .before .before .before .before .pre in
     (pre .0, c .loop-test .taken, pre .1)
 
+mul-out : tie.Need-mul-out Inv-loop μ-loop
+mul-out c = omega arith
+
 array-write-out : tie.Need-array-write-out Inv-loop μ-loop
-array-write-out c = omega (arith, c .before .before .loop .inv .1 .long, length-zeros 255, c .before .before .before .struct-known .given)
+array-write-out c = omega arith
 
 add-r : tie.Need-add-r Inv-loop μ-loop
 add-r c = omega arith
@@ -41,13 +40,11 @@ loop-less : tie.Need-loop-less Inv-loop μ-loop
 loop-less c = omega arith
 
 loop-again : tie.Need-loop-again Inv-loop μ-loop
-loop-again c =
-    let more = c .before .loop-test .taken in
-    let todo = rw (from-next _ _ _ more) at (c .before .before .loop .inv .1) in
-    (omega arith, rw (c .coefficient .ensures) (fills-put todo (omega (arith, length-zeros 255, c .before .before .before .struct-known .given))))
+loop-again c = filled-put (c .before .before .loop .inv) (c .before .loop-test .taken) (c .coefficient .ensures)
 
 returns : tie.Need-returns Inv-loop μ-loop
-returns c = fills-padded 255 (rw (from-end _ _ _ (c .loop-test .left)) at (c .before .loop .inv .1))
+unfolding columnOf
+returns c = filled-end (c .before .loop .inv) (c .loop-test .left)
 
 pub column-spec : {M : Type 1} → statement M
 column-spec =
@@ -58,6 +55,7 @@ column-spec =
     cast-k
     loop-holds
     coefficient-requires
+    mul-out
     array-write-out
     add-r
     loop-less

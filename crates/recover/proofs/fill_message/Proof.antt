@@ -1,5 +1,5 @@
 -- `fill_message` meets its contract. The loop's invariant: for the message m of the listed shares, the rows below r are written, and the others are to come.
-use mathlib.Core.Path.{_≡_, _∙_}
+use mathlib.Core.Path.{sym, _∙_}
 use mathlib.Core.List.{List}
 use Prim.Native.Nat.{ℕ, _+_, _-_, _*_, _≤_}
 use native.Mathlib.Nat.{sub-zero, zero-mul, mul-le-mul, le-refl}
@@ -14,6 +14,7 @@ use Rattle.layout.proofs.Buffers.{length-row}
 use Rattle.layout.proofs.Places.{share-lawful, share-by-row, rows-whole}
 use Rattle.blocks.specs.Blocks.{MessageFor}
 use Rattle.blocks.proofs.Messages.{some-buffer}
+use Rattle.combine.proofs.Columns.{rows-ready}
 use Rattle.recover.proofs.Recovering.{recovered}
 use Rattle.recover.proofs.fill_message.Statement.{statement}
 use Rattle.recover.proofs.fill_message.Tie as tie
@@ -79,19 +80,8 @@ combine-requires c κs =
     let l = s .args .lanes in
     let now = at .before .loop in
     let (low, m, is, fills) = now .inv in
-    let full : 255 ≡ length (c .before .before .recover-weights .result) = slice-aggregate-combine (c .before) in
-    record {
-      usable-field = listed .rows .sound .usable-field;
-      bytes = listed .rows .sound .bytes;
-      weighted = record {
-        few = omega (arith, at .before .before .struct-known .given);
-        weights = omega (arith, at .before .before .struct-known .given);
-        weights-below = c .before .before .recover-weights .ensures .symbols;
-        long = listed .rows .long;
-        symbols = listed .rows .symbols;
-        out-long = part-length (now .r * l) l (now .out) (omega (arith, fills .long, row-in at));
-      };
-    }
+    rows-ready (listed .rows .sound) (omega (arith, at .before .before .struct-known .given)) (sym (slice-aggregate-combine (c .before))) (c .before .before .recover-weights .ensures .symbols) (listed .rows .long) (listed .rows .symbols)
+    (part-length (now .r * l) l (now .out) (omega (arith, fills .long, row-in at)))
 
 add-r : tie.Need-add-r Inv-loop μ-loop
 add-r c = omega arith

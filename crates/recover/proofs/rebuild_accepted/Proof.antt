@@ -7,10 +7,11 @@ use lib.ListN.{length}
 use Rattle.refusals.specs.Accepted.{ListedShares}
 use Rattle.refusals.proofs.Accepts.{rebuild-accepts}
 use Rattle.blocks.specs.Answers.{outcomeOf}
-use Rattle.blocks.proofs.Refused.{rebuild-refuses}
 use Rattle.layout.proofs.Places.{share-lawful, share-by-row}
 use Rattle.blocks.proofs.Messages.{some-buffer}
 use Rattle.blocks.proofs.Bytes.{rebuilt-bytes}
+use Rattle.blocks.proofs.Refused.{rebuild-refuses}
+use Rattle.combine.proofs.Columns.{rows-ready}
 use Rattle.recover.proofs.Rebuilding.{rebuilt}
 use Rattle.recover.proofs.rebuild_accepted.Statement.{statement}
 use Rattle.recover.proofs.rebuild_accepted.Tie as tie
@@ -43,20 +44,7 @@ slice-aggregate-combine c = search needs
 combine-requires : tie.Need-combine-requires
 combine-requires c κs =
     let (listed, target, out) = accepted (c .before .before .before) in
-    let s = listed .rows .sound in
-    let full : 255 ≡ length (c .before .before .rebuild-weights .result) = slice-aggregate-combine (c .before) in
-    record {
-      usable-field = s .usable-field;
-      bytes = s .bytes;
-      weighted = record {
-        few = omega (arith, c .before .before .before .struct-known .given);
-        weights = omega (arith, c .before .before .before .struct-known .given);
-        weights-below = c .before .before .rebuild-weights .ensures .symbols;
-        long = listed .rows .long;
-        symbols = listed .rows .symbols;
-        out-long = out;
-      };
-    }
+    rows-ready (listed .rows .sound) (omega (arith, c .before .before .before .struct-known .given)) (sym (slice-aggregate-combine (c .before))) (c .before .before .rebuild-weights .ensures .symbols) (listed .rows .long) (listed .rows .symbols) out
 
 same-length : tie.Need-same-length
 same-length c = search needs

@@ -9,8 +9,8 @@ use Rattle.generator.proofs.Shifts.{shifts-length}
 use Rattle.refusals.specs.Accepted.{ListedShares}
 use Rattle.refusals.proofs.Accepts.{recover-accepts}
 use Rattle.blocks.specs.Answers.{outcomeOf}
-use Rattle.blocks.proofs.Refused.{recover-refuses}
 use Rattle.blocks.proofs.Bytes.{recovered-bytes}
+use Rattle.blocks.proofs.Refused.{recover-refuses}
 use Rattle.recover.proofs.Recovering.{shifts-part}
 use Rattle.recover.proofs.recover_accepted.Statement.{statement}
 use Rattle.recover.proofs.recover_accepted.Tie as tie

@@ -44,14 +44,14 @@ inverses-requires : tie.Need-inverses-requires
 inverses-requires c κs =
     let s = c .before .before .before .before .before .pre .0 in
     let t = part (c .before) in
-    rw (t .0) record { usable-field = s .usable-field; bytes = s .bytes; below = baseOf-below _ (s .field) _ _ (s .root-below); short = omega (arith, t .1, t .2) }
+    rw (t .0) record { usable-field = s .usable-field; below = baseOf-below _ (s .field) _ _ (s .root-below); short = omega (arith, t .1, t .2) }
 
 lagrange-basis-requires : tie.Need-lagrange-basis-requires
 lagrange-basis-requires c κs =
     let p = c .before .before .before .before .before .before .pre in
     let s = p .0 in
     let t = part (c .before .before) in
-    (s .usable-field, s .bytes, s .root-below, omega (arith, nodes-places _ _ (p .1) .size, t .2), omega arith)
+    (s .usable-field, s .root-below, omega (arith, nodes-places _ _ (p .1) .size, t .2), omega arith)
 
 cast-lagrange-basis : tie.Need-cast-lagrange-basis
 cast-lagrange-basis c = search needs
@@ -62,7 +62,7 @@ lagrange-basis-requires-2 c κs =
     let p = c .before .before .before .before .before .before .before .pre in
     let s = p .0 in
     let t = part (c .before .before .before) in
-    (s .usable-field, s .bytes, s .root-below, rw (p .2, shifts-length (h .n) (h .k) (s .some) (s .fits)) (t .2), omega (arith, t .2))
+    (s .usable-field, s .root-below, rw (p .2, shifts-length (h .n) (h .k) (s .some) (s .fits)) (t .2), omega (arith, t .2))
 
 returns : tie.Need-returns
 unfolding setupOf rowPoints baseInverses

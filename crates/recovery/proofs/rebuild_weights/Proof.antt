@@ -9,7 +9,7 @@ use Rattle.field.proofs.Bounds.{power-below}
 use Rattle.generator.specs.Records.{modulusOf, size}
 use Rattle.generator.proofs.Recovery.{nodes-places}
 use Rattle.interpolation.specs.Points.{pointsOf}
-use Rattle.interpolation.proofs.Points.{length-points, points-bytes}
+use Rattle.interpolation.proofs.Points.{length-points, points-symbols}
 use Rattle.recovery.proofs.Rebuilding.{rebuilds}
 use Rattle.recovery.proofs.rebuild_weights.Statement.{statement}
 use Rattle.recovery.proofs.rebuild_weights.Tie as tie
@@ -28,7 +28,7 @@ points-requires : tie.Need-points-requires
 points-requires c κs =
     let s = c .before .before .before .pre .0 in
     let n = few c in
-    (s .usable-field, s .bytes, s .root-below, omega arith, omega arith)
+    (s .usable-field, s .root-below, omega arith, omega arith)
 
 array-share-prefix-points : tie.Need-array-share-prefix-points
 array-share-prefix-points c = search needs
@@ -51,7 +51,7 @@ basis-values-requires c κs =
     let a = c .before .before .before .before .before .args in
     let s = c .before .before .before .before .before .pre .0 in
     let n = few (c .before .before) in (
-      rw (part (c .before)) (points-bytes (a .h .root) 0 (a .nodes .now) (s .usable-field) (s .bytes) (s .root-below) (omega arith)),
+      rw (part (c .before)) (points-symbols (a .h .root) 0 (a .nodes .now) (s .usable-field) (s .root-below) (omega arith)),
       rw (c .before .before .power .ensures) (power-below _ (s .field) _ (s .root-below)),
     )
 

@@ -60,19 +60,25 @@ scale c =
     let q = rows c in
     rw (q .scale (s .args .r) (s .pre .3)) (below-at _ _ (q .some-scales .are .below) _ (omega (arith, q .some-scales .size, s .pre .3)))
 
+mul-row-weights : tie.Need-mul-row-weights
+mul-row-weights c = omega arith
+
 array-read-row-weights : tie.Need-array-read-row-weights
 array-read-row-weights c = search needs
 
 cast-row-weights : tie.Need-cast-row-weights
 cast-row-weights c =
     let k = c .before .before .before .before .before .before .before .before in
-    omega (arith, scale k, k .before .before .pre .0 .bytes)
+    omega (arith, scale k)
 
 array-share-prefix-terms : tie.Need-array-share-prefix-terms
 array-share-prefix-terms c = search needs
 
 slice-aggregate-row-weights : tie.Need-slice-aggregate-row-weights
 slice-aggregate-row-weights c = let t = terms (c .before .before .before .before .before .before) in rw (t .0) (sym (t .1 .size))
+
+mul-row-weights-2 : tie.Need-mul-row-weights-2
+mul-row-weights-2 c = omega arith
 
 sub-row-weights : tie.Need-sub-row-weights
 sub-row-weights c = search needs
@@ -138,10 +144,12 @@ recover-weights-spec =
     cast-k
     add-end
     row-terms-requires
+    mul-row-weights
     array-read-row-weights
     cast-row-weights
     array-share-prefix-terms
     slice-aggregate-row-weights
+    mul-row-weights-2
     sub-row-weights
     part-row-weights-start
     part-row-weights-end

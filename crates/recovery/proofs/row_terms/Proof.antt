@@ -17,11 +17,17 @@ cast-k c = search needs
 add-end : tie.Need-add-end
 add-end c = search needs
 
+mul-quotient-terms : tie.Need-mul-quotient-terms
+mul-quotient-terms c = omega arith
+
 array-read-quotient-terms : tie.Need-array-read-quotient-terms
 array-read-quotient-terms c = search needs
 
 cast-quotient-terms : tie.Need-cast-quotient-terms
 cast-quotient-terms c = search needs
+
+mul-quotient-terms-2 : tie.Need-mul-quotient-terms-2
+mul-quotient-terms-2 c = omega arith
 
 sub-quotient-terms : tie.Need-sub-quotient-terms
 sub-quotient-terms c = search needs
@@ -81,8 +87,10 @@ row-terms-spec =
     (tie.spec
     cast-k
     add-end
+    mul-quotient-terms
     array-read-quotient-terms
     cast-quotient-terms
+    mul-quotient-terms-2
     sub-quotient-terms
     part-quotient-terms-start
     part-quotient-terms-end

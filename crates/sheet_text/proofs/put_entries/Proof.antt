@@ -8,6 +8,7 @@ use Rattle.lists.specs.Rows.{from}
 use Rattle.lists.proofs.Rows.{from-next, from-end}
 use Rattle.lists.proofs.Fill.{Fills}
 use Rattle.plan.specs.Plans.{entryIn}
+use Rattle.plan.proofs.Plans.{entry-byte}
 use Rattle.text.specs.Text.{fields}
 use Rattle.text.proofs.Writing.{puts-start, puts-next, puts-done}
 use Rattle.sheet_text.proofs.put_entries.Statement.{statement}
@@ -30,6 +31,11 @@ cast-entry c = omega arith
 
 entry-requires : tie.Need-entry-requires Inv-loop μ-loop
 entry-requires c κs = tt
+
+cast-put-field : tie.Need-cast-put-field Inv-loop μ-loop
+cast-put-field c =
+    let s = c .before .before .before .before .before in
+    omega (arith, c .before .entry .ensures, entry-byte (s .args .plan) (s .pre .1) (s .args .r) (c .before .before .before .loop .j))
 
 put-field-requires : tie.Need-put-field-requires Inv-loop μ-loop
 put-field-requires c κs = omega arith
@@ -73,6 +79,7 @@ put-entries-spec =
     loop-holds
     cast-entry
     entry-requires
+    cast-put-field
     put-field-requires
     add-j
     loop-less

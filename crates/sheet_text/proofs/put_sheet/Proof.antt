@@ -36,7 +36,7 @@ loop-holds : tie.Need-loop-holds Inv-loop μ-loop
 loop-holds c = (omega arith, omega arith, rw sub-zero (puts-start _ _ _ (omega arith)))
 
 put-row-requires : tie.Need-put-row-requires Inv-loop μ-loop
-put-row-requires c κs = omega arith
+put-row-requires c κs = (omega arith, omega arith, c .before .before .before .before .before .before .before .before .before .pre .1)
 
 add-r : tie.Need-add-r Inv-loop μ-loop
 add-r c = omega arith

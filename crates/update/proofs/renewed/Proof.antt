@@ -16,7 +16,7 @@ add-requires c κs =
 cast-result : tie.Need-cast-result
 cast-result c =
     let (s, factor, entry, before) = c .before .before .pre in
-    record { fits = lt-of-lt-of-le (rw (c .add .ensures, c .before .mul .ensures) (add-below _ (s .field) before (mul-below _ (s .field) factor entry))) (s .bytes) }
+    record { fits = lt-of-lt-of-le (rw (c .add .ensures, c .before .mul .ensures) (add-below _ (s .field) before (mul-below _ (s .field) factor entry))) (s .one-byte) }
 
 returns : tie.Need-returns
 returns c = rw (c .add .ensures, c .before .mul .ensures)

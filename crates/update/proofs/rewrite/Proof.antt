@@ -1,15 +1,13 @@
 -- `rewrite` meets its contract: `Rewriting` is the invariant, and each way through a turn is one of its laws.
-use Prim.Native.Nat.{_+_, _-_, _*_, _%_, _≤_, _<_}
+use Prim.Native.Nat.{_+_, _-_, _*_, _≤_, _<_}
 use mathlib.Core.Path.{_≡_, sym, ap, _∙_}
 use mathlib.Core.Logic.{⊎-elim}
-use native.Mathlib.Nat.{mod-lt}
 use native.Mathlib.Omega.{arith}
-use mir.Syntax.{w8}
-use mir.Val.{Fits}
 use borrow.Author.Needs.{needs}
 use lib.ListN.{length, getD}
 use Rattle.generator.specs.Records.{size}
 use Rattle.generator.proofs.Bounds.{entry-below}
+use Rattle.plan.proofs.Plans.{shift-below, base-room}
 use Rattle.layout.specs.Layout.{shareLayout}
 use Rattle.layout.proofs.Places.{share-lawful}
 use Rattle.layout.proofs.Rewritten.{length-rewritten}
@@ -28,12 +26,6 @@ abbrev μ-loop : tie.MeasureT-loop
 -- the loop keeps the buffer's length
 kept : (c : tie.At-loop Inv-loop μ-loop) → length (c .loop .shares) ≡ length (c .before .before .before .before .args .shares .now)
 kept c = ap length (c .loop .inv .done) ∙ length-rewritten share-lawful _ _ _ _ _ _ ∙ sym (c .before .before .before .before .pre .0 .long)
-
--- node j's place in the base word
-place : (c : tie.In-loop Inv-loop μ-loop)
-    → let a = c .before .before .before .before .before .args in
-    (c .before .loop .j + getD (a .t2 .shifts) (a .which) 0) % a .h .n < a .h .n
-place c = mod-lt _ (omega arith)
 
 -- node j's byte lies in the buffer
 inside : (c : tie.In-loop Inv-loop μ-loop)
@@ -55,14 +47,14 @@ held c =
 
 -- and becomes what the update says
 after : (c : tie.After-renewed Inv-loop μ-loop)
-    → let a = c .before .before .before .before .before .before .before .before .args in
-    let l = c .before .before .before .before .loop in
+    → let a = c .before .before .before .before .before .before .before .before .before .before .before .args in
+    let l = c .before .before .before .before .before .before .before .loop in
     c .renewed .result ≡ addedAt shareLayout (a .h) (a .lanes) (a .which) (a .lane) (a .x) (a .shares .now) (l .j)
 unfolding addedAt
 after c =
-    let (ready, factor, plan) = c .before .before .before .before .before .before .before .before .pre in
-    let node = c .before .before .before .loop-test .taken in
-    rw (← entry-read _ (ready .sound) _ plan _ _ (ready .row) node, ← rewriting-held _ _ _ _ _ _ (ready .lane) (c .before .before .before .before .loop .inv) node) (c .renewed .ensures)
+    let (ready, factor, plan) = c .before .before .before .before .before .before .before .before .before .before .before .pre in
+    let node = c .before .before .before .before .before .before .loop-test .taken in
+    rw (← entry-read _ (ready .sound) _ plan _ _ (ready .row) node, ← c .before .before .entry-at .ensures, ← rewriting-held _ _ _ _ _ _ (ready .lane) (c .before .before .before .before .before .before .before .loop .inv) node) (c .renewed .ensures)
 
 cast-n : tie.Need-cast-n Inv-loop μ-loop
 cast-n c = search needs
@@ -76,44 +68,40 @@ cast-shift c = search needs
 loop-holds : tie.Need-loop-holds Inv-loop μ-loop
 loop-holds c = rewriting-start _ _ _ _ _ _ (c .before .before .before .pre .0 .long)
 
-add-place : tie.Need-add-place Inv-loop μ-loop
-add-place c =
-    let a = c .before .before .before .before .before .args in
-    let byte : Fits w8 (getD (a .t2 .shifts) (a .which) 0) = search needs in
-    omega arith
+cast-entry-at : tie.Need-cast-entry-at Inv-loop μ-loop
+cast-entry-at c = omega arith
 
-rem-place : tie.Need-rem-place Inv-loop μ-loop
-rem-place c = omega arith
+cast-entry-at-2 : tie.Need-cast-entry-at-2 Inv-loop μ-loop
+cast-entry-at-2 c = omega arith
 
-cast-place : tie.Need-cast-place Inv-loop μ-loop
-cast-place c = omega (arith, place c)
-
-element-copy-out-entry : tie.Need-element-copy-out-entry Inv-loop μ-loop
-element-copy-out-entry c = omega (arith, place c)
+entry-at-requires : tie.Need-entry-at-requires Inv-loop μ-loop
+entry-at-requires c κs =
+    let (ready, factor, plan) = c .before .before .before .before .before .before .before .before .pre in
+    (omega arith, rw plan (shift-below _ (ready .sound) _ (ready .row)), c .before .before .before .loop-test .taken, rw plan (base-room _))
 
 mul-at : tie.Need-mul-at Inv-loop μ-loop
-mul-at c = omega (arith, inside (c .before))
+mul-at c = omega (arith, inside (c .before .before .before .before))
 
 add-at : tie.Need-add-at Inv-loop μ-loop
-add-at c = omega (arith, inside (c .before))
+add-at c = omega (arith, inside (c .before .before .before .before))
 
 cast-at : tie.Need-cast-at Inv-loop μ-loop
-cast-at c = omega (arith, inside (c .before))
+cast-at c = omega (arith, inside (c .before .before .before .before))
 
 slice-read-before : tie.Need-slice-read-before Inv-loop μ-loop
-slice-read-before c = omega (arith, inside (c .before .before))
+slice-read-before c = omega (arith, inside (c .before .before .before .before .before))
 
 renewed-requires : tie.Need-renewed-requires Inv-loop μ-loop
 renewed-requires c κs =
-    let (ready, factor, plan) = c .before .before .before .before .before .before .before .pre in (
+    let (ready, factor, plan) = c .before .before .before .before .before .before .before .before .before .before .pre in (
       ready .sound,
       factor,
-      rw (entry-read _ (ready .sound) _ plan _ _ (ready .row) (c .before .before .loop-test .taken)) (entry-below _ (ready .sound) _ _),
-      held (c .before .before),
+      rw (c .before .entry-at .ensures, entry-read _ (ready .sound) _ plan _ _ (ready .row) (c .before .before .before .before .before .loop-test .taken)) (entry-below _ (ready .sound) _ _),
+      held (c .before .before .before .before .before),
     )
 
 slice-write-shares : tie.Need-slice-write-shares Inv-loop μ-loop
-slice-write-shares c = omega (arith, inside (c .before .before .before .before))
+slice-write-shares c = omega (arith, inside (c .before .before .before .before .before .before .before))
 
 add-count : tie.Need-add-count Inv-loop μ-loop
 add-count c = omega arith
@@ -126,9 +114,9 @@ loop-less c = omega arith
 
 loop-again : tie.Need-loop-again Inv-loop μ-loop
 loop-again c =
-    let (ready, factor, plan) = c .before .before .before .before .before .before .before .before .before .pre in
-    let turn = c .before .before .before .before .before .loop .inv in
-    let node = c .before .before .before .before .loop-test .taken in
+    let (ready, factor, plan) = c .before .before .before .before .before .before .before .before .before .before .before .before .pre in
+    let turn = c .before .before .before .before .before .before .before .before .loop .inv in
+    let node = c .before .before .before .before .before .before .before .loop-test .taken in
     ⊎-elim
     (λ w. rw (w .1, w .2) (rewriting-put _ _ _ _ _ _ (ready .lane) turn node _ (after (c .before)) (w .0 .taken)))
     (λ w. rw (w .1, w .2) (rewriting-skip _ _ _ _ _ _ (ready .lane) turn node _ (after (c .before)) (w .0 .left)))
@@ -152,10 +140,9 @@ rewrite-spec =
     element-copy-out-shift
     cast-shift
     loop-holds
-    add-place
-    rem-place
-    cast-place
-    element-copy-out-entry
+    cast-entry-at
+    cast-entry-at-2
+    entry-at-requires
     mul-at
     add-at
     cast-at

@@ -11,12 +11,12 @@ use Rattle.combine.proofs.gf256.add_pairs.Statement.{statement}
 use Rattle.combine.proofs.gf256.add_pairs.Tie as tie
 
 abbrev Inv-loop : tie.InvT-loop
-Inv-loop list first lanes shares acc₀ i₀ acc i =
+Inv-loop list first lanes rows acc₀ i₀ acc i =
     (i ≤ length list) × ((length list - i) % 2 ≡ 0) × (length acc ≡ lanes)
-    × (added lanes shares (drop i list) acc ≡ added lanes shares (drop first list) acc₀)
+    × (added lanes rows (drop i list) acc ≡ added lanes rows (drop first list) acc₀)
 
 abbrev μ-loop : tie.MeasureT-loop
-μ-loop list first lanes shares acc₀ i₀ acc i = length list - i
+μ-loop list first lanes rows acc₀ i₀ acc i = length list - i
 
 loop-holds : tie.Need-loop-holds Inv-loop μ-loop
 loop-holds c = let st = c .before .before .before in (omega arith, omega arith, st .pre .0 .out-long, refl)
@@ -78,7 +78,7 @@ loop-again c =
       omega arith,
       ap length (c .before .before .add-two .ensures) ∙ length-lanewise _ _ ∙ long,
       rw (c .before .before .add-two .ensures)
-          (added-pair (st .args .lanes) (st .args .shares .now) (λ y. y) (st .args .list .now) (l .acc) long (l .i) _ (omega arith) (c .before .before .before .before .before .before .before .before .start-of .ensures .0) _ (omega arith) (c .before .before .before .before .before .before .start-of2 .ensures .0) (λ y. refl))
+          (added-pair (st .args .lanes) (st .args .rows .now) (λ y. y) (st .args .list .now) (l .acc) long (l .i) _ (omega arith) (c .before .before .before .before .before .before .before .before .start-of .ensures .0) _ (omega arith) (c .before .before .before .before .before .before .start-of2 .ensures .0) (λ y. refl))
           ∙ l .inv .3,
     )
 
@@ -89,7 +89,7 @@ returns : tie.Need-returns Inv-loop μ-loop
 returns c =
     let st = c .before .before .before .before .before in
     let l = c .before .loop in
-    sym (added-none (st .args .lanes) (st .args .shares .now) (st .args .list .now) (l .acc) (l .i) (omega arith)) ∙ l .inv .3
+    sym (added-none (st .args .lanes) (st .args .rows .now) (st .args .list .now) (l .acc) (l .i) (omega arith)) ∙ l .inv .3
 
 pub add-pairs-spec : {M : Type 1} → statement M
 add-pairs-spec =

@@ -12,10 +12,10 @@ use Rattle.combine.proofs.gf256.combine.Statement.{statement}
 use Rattle.combine.proofs.gf256.combine.Tie as tie
 
 abbrev Inv-loop : tie.InvT-loop
-Inv-loop weights rows lanes shares acc₀ list₀ digit₀ acc list digit = (digit ≤ 8) × (length list ≡ 255) × (acc ≡ sumsOf rows lanes weights shares digit)
+Inv-loop weights count lanes rows acc₀ list₀ digit₀ acc list digit = (digit ≤ 8) × (length list ≡ 255) × (acc ≡ sumsOf count lanes weights rows digit)
 
 abbrev μ-loop : tie.MeasureT-loop
-μ-loop weights rows lanes shares acc₀ list₀ digit₀ acc list digit = digit
+μ-loop weights count lanes rows acc₀ list₀ digit₀ acc list digit = digit
 
 clear-requires : tie.Need-clear-requires Inv-loop μ-loop
 clear-requires c κs = search needs
@@ -23,7 +23,7 @@ clear-requires c κs = search needs
 loop-holds : tie.Need-loop-holds Inv-loop μ-loop
 loop-holds c =
     let st = c .before .before .before .before .before .before .before in
-    (omega arith, refl, c .before .before .clear .ensures ∙ ap zeros (st .pre .out-long) ∙ sums-start (st .args .rows) (st .args .lanes) (st .args .weights .now) (st .args .shares .now) (st .pre))
+    (omega arith, refl, c .before .before .clear .ensures ∙ ap zeros (st .pre .out-long) ∙ sums-start (st .args .count) (st .args .lanes) (st .args .weights .now) (st .args .rows .now) (st .pre))
 
 sub-digit : tie.Need-sub-digit Inv-loop μ-loop
 sub-digit c = omega arith
@@ -38,7 +38,7 @@ step-requires : tie.Need-step-requires Inv-loop μ-loop
 step-requires c κs =
     let st = c .before .before .before .before .before .before .before .before .before .before .before in
     let l = c .before .before .before .loop in
-    (omega arith, rw (length-take-le (st .args .rows) (l .list) (omega (arith, st .pre .few))) (other-row (st .pre) _ (ap length (l .inv .2) ∙ length-sums (st .args .rows) (st .args .lanes) (st .args .weights .now) (st .args .shares .now) (l .digit))))
+    (omega arith, rw (length-take-le (st .args .count) (l .list) (omega (arith, st .pre .few))) (other-row (st .pre) _ (ap length (l .inv .2) ∙ length-sums (st .args .count) (st .args .lanes) (st .args .weights .now) (st .args .rows .now) (l .digit))))
 
 loop-less : tie.Need-loop-less Inv-loop μ-loop
 loop-less c = omega arith
@@ -49,23 +49,23 @@ loop-again c =
     let l = c .before .before .before .before .before .before .before .loop in
     let next : l .digit - 1 + 1 ≡ l .digit = omega arith in (
       omega arith,
-      simp (length-append, length-drop) (omega (arith, st .pre .few, length-take-le (st .args .rows) (l .list) (omega (arith, st .pre .few)))),
+      simp (length-append, length-drop) (omega (arith, st .pre .few, length-take-le (st .args .count) (l .list) (omega (arith, st .pre .few)))),
       c .before .before .before .step .ensures
-          ∙ sums-turn (st .args .rows) (st .args .lanes) (st .args .weights .now) (st .args .shares .now) (st .pre) (l .digit - 1) (l .digit) _ (l .acc) next (length-take-le (st .args .rows) (l .list) (omega (arith, st .pre .few))) (l .inv .2),
+          ∙ sums-turn (st .args .count) (st .args .lanes) (st .args .weights .now) (st .args .rows .now) (st .pre) (l .digit - 1) (l .digit) _ (l .acc) next (length-take-le (st .args .count) (l .list) (omega (arith, st .pre .few))) (l .inv .2),
     )
 
 same-length : tie.Need-same-length Inv-loop μ-loop
 same-length c =
     let st = c .before .before .before .before .before .before .before .before .before in
-    ap length (c .before .loop .inv .2) ∙ length-sums (st .args .rows) (st .args .lanes) (st .args .weights .now) (st .args .shares .now) (c .before .loop .digit) ∙ sym (st .pre .out-long)
+    ap length (c .before .loop .inv .2) ∙ length-sums (st .args .count) (st .args .lanes) (st .args .weights .now) (st .args .rows .now) (c .before .loop .digit) ∙ sym (st .pre .out-long)
 
 returns : tie.Need-returns Inv-loop μ-loop
 returns c =
     let st = c .before .before .before .before .before .before .before .before .before in
     let none : c .before .loop .digit ≡ 0 = omega arith in
     c .before .loop .inv .2
-    ∙ ap (sumsOf (st .args .rows) (st .args .lanes) (st .args .weights .now) (st .args .shares .now)) none
-    ∙ sums-end (st .args .rows) (st .args .lanes) (st .args .weights .now) (st .args .shares .now) (st .pre)
+    ∙ ap (sumsOf (st .args .count) (st .args .lanes) (st .args .weights .now) (st .args .rows .now)) none
+    ∙ sums-end (st .args .count) (st .args .lanes) (st .args .weights .now) (st .args .rows .now) (st .pre)
 
 pub combine-spec : {M : Type 1} → statement M
 combine-spec =

@@ -23,6 +23,9 @@ cast-list c = omega arith
 slice-write-list : tie.Need-slice-write-list Inv-loop μ-loop
 slice-write-list c = omega arith
 
+mul-count : tie.Need-mul-count Inv-loop μ-loop
+mul-count c = omega arith
+
 shared-slice-read-count : tie.Need-shared-slice-read-count Inv-loop μ-loop
 shared-slice-read-count c = omega arith
 
@@ -61,6 +64,7 @@ list-rows-spec =
     loop-holds
     cast-list
     slice-write-list
+    mul-count
     shared-slice-read-count
     shr-count
     cast-count

@@ -51,7 +51,7 @@ returns-2 c =
       few = omega arith;
       even = omega arith;
       rest = rw (c .before .before .multiply-x-add .ensures)
-          (added-one (st .args .lanes) (st .args .shares .now) timesX (st .args .list .now) (st .args .acc .now) (st .pre .out-long) 0 _ (omega arith) (c .before .before .before .before .before .before .start-of .ensures .0));
+          (added-one (st .args .lanes) (st .args .rows .now) timesX (st .args .list .now) (st .args .acc .now) (st .pre .out-long) 0 _ (omega arith) (c .before .before .before .before .before .before .start-of .ensures .0));
     }
 
 shared-slice-read-start-of-2 : tie.Need-shared-slice-read-start-of-2
@@ -95,7 +95,7 @@ returns-3 c =
       few = omega arith;
       even = omega arith;
       rest = rw (c .before .before .multiply-x-add-two .ensures)
-          (added-two (st .args .lanes) (st .args .shares .now) timesX (st .args .list .now) (st .args .acc .now) (st .pre .out-long) 0 _ (omega arith) (c .before .before .before .before .before .before .before .before .before .start-of .ensures .0) _ (omega arith) (c .before .before .before .before .before .before .start-of2 .ensures .0));
+          (added-two (st .args .lanes) (st .args .rows .now) timesX (st .args .list .now) (st .args .acc .now) (st .pre .out-long) 0 _ (omega arith) (c .before .before .before .before .before .before .before .before .before .start-of .ensures .0) _ (omega arith) (c .before .before .before .before .before .before .start-of2 .ensures .0));
     }
 
 pub multiply-x-first-spec : {M : Type 1} → statement M

@@ -47,7 +47,7 @@ returns c =
     let st = c .before .before .before .before .before .before .before .before .before .before .before .before .before .before .before .before .before .before in
     c .before .before .add-pairs .ensures
     ∙ c .before .before .before .before .before .before .before .multiply-x-first .ensures .rest
-    ∙ ap (λ (js : List ℕ). added (st .args .lanes) (st .args .shares .now) js (multiplied (st .args .acc .now))) (c .before .before .before .before .before .before .before .before .before .before .before .before .list-rows .ensures .1)
+    ∙ ap (λ (js : List ℕ). added (st .args .lanes) (st .args .rows .now) js (multiplied (st .args .acc .now))) (c .before .before .before .before .before .before .before .before .before .before .before .before .list-rows .ensures .1)
 
 pub step-spec : {M : Type 1} → statement M
 step-spec =

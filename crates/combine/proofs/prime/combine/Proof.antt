@@ -14,20 +14,20 @@ use Rattle.combine.proofs.prime.combine.Statement.{statement}
 use Rattle.combine.proofs.prime.combine.Tie as tie
 
 abbrev Inv-loop : tie.InvT-loop
-Inv-loop p weights rows lanes shares acc₀ i₀ acc i = (i ≤ rows) × Summed p rows lanes weights shares i acc
+Inv-loop p weights count lanes rows acc₀ i₀ acc i = (i ≤ count) × Summed p count lanes weights rows i acc
 
 abbrev μ-loop : tie.MeasureT-loop
-μ-loop p weights rows lanes shares acc₀ i₀ acc i = rows - i
+μ-loop p weights count lanes rows acc₀ i₀ acc i = count - i
 
 -- the weights and the symbols by the size of the field
-sized : (c : tie.Start Inv-loop μ-loop) → let a = c .args in Weighted (sizeOf (a .p)) (a .rows) (a .lanes) (a .weights .now) (a .shares .now) (length (a .acc .now))
+sized : (c : tie.Start Inv-loop μ-loop) → let a = c .args in Weighted (sizeOf (a .p)) (a .count) (a .lanes) (a .weights .now) (a .rows .now) (length (a .acc .now))
 sized c = rw (prime-size (c .args .p) (c .pre .0)) (c .pre .2)
 
 -- row i lies in the buffer
-inside : (c : tie.In-loop Inv-loop μ-loop) → let a = c .before .before .before .before .before .before .before .before .before .args in c .before .loop .i * a .lanes + a .lanes ≤ length (a .shares .now)
+inside : (c : tie.In-loop Inv-loop μ-loop) → let a = c .before .before .before .before .before .before .before .before .before .args in c .before .loop .i * a .lanes + a .lanes ≤ length (a .rows .now)
 inside c =
     let st = c .before .before .before .before .before .before .before .before .before in
-    rw (st .pre .2 .long) (row-inside (st .args .rows) (c .before .loop .i) (st .args .lanes) (c .loop-test .taken))
+    rw (st .pre .2 .long) (row-inside (st .args .count) (c .before .loop .i) (st .args .lanes) (c .loop-test .taken))
 
 clear-requires : tie.Need-clear-requires Inv-loop μ-loop
 clear-requires c κs = search needs
@@ -35,7 +35,7 @@ clear-requires c κs = search needs
 loop-holds : tie.Need-loop-holds Inv-loop μ-loop
 loop-holds c =
     let st = c .before .before .before .before .before .before .before in
-    (omega arith, rw (c .before .before .clear .ensures, st .pre .2 .out-long) (summed-none (st .args .p) (st .args .rows) (st .args .lanes) (st .args .weights .now) (st .args .shares .now) (prime-field _ (st .pre .0)) (sized st)))
+    (omega arith, rw (c .before .before .clear .ensures, st .pre .2 .out-long) (summed-none (st .args .p) (st .args .count) (st .args .lanes) (st .args .weights .now) (st .args .rows .now) (prime-field _ (st .pre .0)) (sized st)))
 
 mul-start : tie.Need-mul-start Inv-loop μ-loop
 mul-start c = omega (arith, inside c)
@@ -43,11 +43,11 @@ mul-start c = omega (arith, inside c)
 add-end : tie.Need-add-end Inv-loop μ-loop
 add-end c = omega (arith, inside c)
 
+mul-add-scaled : tie.Need-mul-add-scaled Inv-loop μ-loop
+mul-add-scaled c = omega arith
+
 shared-slice-read-add-scaled : tie.Need-shared-slice-read-add-scaled Inv-loop μ-loop
 shared-slice-read-add-scaled c = omega (arith, c .before .before .before .before .before .before .before .before .before .before .pre .2 .weights)
-
-cast-add-scaled : tie.Need-cast-add-scaled Inv-loop μ-loop
-cast-add-scaled c = omega (arith, c .shared-slice-known3 .given (c .before .before .loop .i))
 
 sub-add-scaled : tie.Need-sub-add-scaled Inv-loop μ-loop
 sub-add-scaled c = search needs
@@ -66,7 +66,7 @@ add-scaled-requires c κs =
     let a = st .pre .2 in (
       st .pre .1,
       below-at (st .args .p) (st .args .weights .now) (a .weights-below) (l .i) (omega (arith, a .weights)),
-      part-length (l .i * st .args .lanes) (st .args .lanes) (st .args .shares .now) (inside at) ∙ sym (l .inv .1 .long),
+      part-length (l .i * st .args .lanes) (st .args .lanes) (st .args .rows .now) (inside at) ∙ sym (l .inv .1 .long),
       rw (prime-size (st .args .p) (st .pre .0)) at (l .inv .1 .symbols),
     )
 
@@ -81,7 +81,7 @@ loop-again c =
     let at = c .before .before .before .before .before .before in
     let st = at .before .before .before .before .before .before .before .before .before in
     let l = at .before .loop in
-    (omega arith, rw (c .before .before .add-scaled .ensures) (summed-row (st .args .p) (st .args .rows) (st .args .lanes) (st .args .weights .now) (st .args .shares .now) (prime-field _ (st .pre .0)) (sized st) (l .i) (at .loop-test .taken) (l .acc) (l .inv .1)))
+    (omega arith, rw (c .before .before .add-scaled .ensures) (summed-row (st .args .p) (st .args .count) (st .args .lanes) (st .args .weights .now) (st .args .rows .now) (prime-field _ (st .pre .0)) (sized st) (l .i) (at .loop-test .taken) (l .acc) (l .inv .1)))
 
 same-length : tie.Need-same-length Inv-loop μ-loop
 same-length c = c .before .loop .inv .1 .long ∙ sym (c .before .before .before .before .before .before .before .before .before .pre .2 .out-long)
@@ -89,7 +89,7 @@ same-length c = c .before .loop .inv .1 .long ∙ sym (c .before .before .before
 returns : tie.Need-returns Inv-loop μ-loop
 returns c =
     let st = c .before .before .before .before .before .before .before .before .before in
-    summed-all (st .args .p) (st .args .rows) (st .args .lanes) (st .args .weights .now) (st .args .shares .now) (prime-field _ (st .pre .0)) (sized st) (c .before .loop .i) (c .before .loop .acc) (c .loop-test .left) (c .before .loop .inv .1)
+    summed-all (st .args .p) (st .args .count) (st .args .lanes) (st .args .weights .now) (st .args .rows .now) (prime-field _ (st .pre .0)) (sized st) (c .before .loop .i) (c .before .loop .acc) (c .loop-test .left) (c .before .loop .inv .1)
 
 pub combine-spec : {M : Type 1} → statement M
 combine-spec =
@@ -101,8 +101,8 @@ combine-spec =
     loop-holds
     mul-start
     add-end
+    mul-add-scaled
     shared-slice-read-add-scaled
-    cast-add-scaled
     sub-add-scaled
     part-add-scaled-start
     part-add-scaled-end

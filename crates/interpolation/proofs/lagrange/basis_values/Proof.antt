@@ -1,30 +1,25 @@
 -- `basis_values` meets its contract. Invariant: the first i values are written.
-use Prim.Native.Nat.{_-_, _≤_}
-use native.Mathlib.Nat.{sub-zero}
+use Prim.Native.Nat.{_-_}
 use native.Mathlib.Omega.{arith}
 use lib.ListN.{length}
-use Rattle.lists.specs.Rows.{from}
 use Rattle.lists.specs.Padded.{zeros}
-use Rattle.lists.proofs.Rows.{from-next, from-end}
-use Rattle.lists.proofs.Fill.{Fills, fills-start, fills-put, fills-padded, length-zeros}
+use Rattle.lists.proofs.Fill.{Filled, filled-start, filled-put, filled-end}
 use Rattle.field.specs.Kinds.{modulus}
-use Rattle.field.proofs.KindLaws.{usable-field}
+use Rattle.field.proofs.KindLaws.{usable-field, size-fits}
 use Rattle.interpolation.specs.Lagrange.{basisAt, basisValues}
 use Rattle.interpolation.proofs.Values.{basisAt-below}
 use Rattle.interpolation.proofs.lagrange.basis_values.Statement.{statement}
 use Rattle.interpolation.proofs.lagrange.basis_values.Tie as tie
 
 abbrev Inv-loop : tie.InvT-loop
-Inv-loop field points z out₀ i₀ out i =
-    (i ≤ length points)
-    × Fills (zeros 255) out i (from (λ j. basisAt (modulus field) points j z) i (length points - i)) (basisValues (modulus field) points z)
+Inv-loop field points z out₀ i₀ out i = Filled 255 (length points) (λ j. basisAt (modulus field) points j z) i out
 
 abbrev μ-loop : tie.MeasureT-loop
 μ-loop field points z out₀ i₀ out i = length points - i
 
 loop-holds : tie.Need-loop-holds Inv-loop μ-loop
-unfolding zeros basisValues
-loop-holds c = (omega arith, rw sub-zero (fills-start _ _))
+unfolding zeros
+loop-holds c = filled-start 255 _ _ (c .before .pre .0 .short)
 
 basis-at-requires : tie.Need-basis-at-requires Inv-loop μ-loop
 basis-at-requires c κs = let s = c .before .before .before .pre in (s .0, c .loop-test .taken, s .1)
@@ -33,10 +28,13 @@ cast-out : tie.Need-cast-out Inv-loop μ-loop
 cast-out c =
     let s = c .before .before .before .before .pre in
     let low = basisAt-below _ (usable-field _ (s .0 .usable-field)) _ _ _ (s .0 .below) (c .before .loop-test .taken) (s .1) in
-    omega (arith, c .basis-at .ensures, s .0 .bytes)
+    omega (arith, c .basis-at .ensures, size-fits _ (s .0 .usable-field))
+
+mul-out : tie.Need-mul-out Inv-loop μ-loop
+mul-out c = omega arith
 
 array-write-out : tie.Need-array-write-out Inv-loop μ-loop
-array-write-out c = omega (arith, c .before .before .loop .inv .1 .long, length-zeros 255, c .before .before .before .before .pre .0 .short)
+array-write-out c = omega arith
 
 add-i : tie.Need-add-i Inv-loop μ-loop
 add-i c = omega arith
@@ -45,14 +43,11 @@ loop-less : tie.Need-loop-less Inv-loop μ-loop
 loop-less c = omega arith
 
 loop-again : tie.Need-loop-again Inv-loop μ-loop
-loop-again c =
-    let s = c .before .before .before .before in
-    let l = c .before .before .loop in
-    let todo = rw (from-next _ _ _ (c .before .loop-test .taken)) at (l .inv .1) in
-    (omega arith, rw (c .basis-at .ensures) (fills-put todo (omega (arith, length-zeros 255, s .pre .0 .short))))
+loop-again c = filled-put (c .before .before .loop .inv) (c .before .loop-test .taken) (c .basis-at .ensures)
 
 returns : tie.Need-returns Inv-loop μ-loop
-returns c = fills-padded 255 (rw (from-end _ _ _ (c .loop-test .left)) at (c .before .loop .inv .1))
+unfolding basisValues
+returns c = filled-end (c .before .loop .inv) (c .loop-test .left)
 
 pub basis-values-spec : {M : Type 1} → statement M
 basis-values-spec =
@@ -63,6 +58,7 @@ basis-values-spec =
     loop-holds
     basis-at-requires
     cast-out
+    mul-out
     array-write-out
     add-i
     loop-less

@@ -9,7 +9,7 @@ use Rattle.lists.proofs.Numbers.{below-take, below-drop}
 use Rattle.field.specs.Fields.{mul}
 use Rattle.field.proofs.KindLaws.{usable-field}
 use Rattle.interpolation.specs.Lagrange.{othersAt}
-use Rattle.interpolation.proofs.Points.{bytes-take, bytes-drop}
+use Rattle.interpolation.proofs.Points.{symbols-take, symbols-drop}
 use Rattle.interpolation.proofs.Values.{productAt-below}
 use Rattle.interpolation.proofs.lagrange.others_at.Statement.{statement}
 use Rattle.interpolation.proofs.lagrange.others_at.Tie as tie
@@ -21,7 +21,10 @@ slice-aggregate-product-at : tie.Need-slice-aggregate-product-at
 slice-aggregate-product-at c = sym (length-take-le _ _ (omega arith))
 
 product-at-requires : tie.Need-product-at-requires
-product-at-requires c κs = let s = c .before .before in (bytes-take (s .pre .0) (s .args .i), s .pre .2)
+product-at-requires c κs = let s = c .before .before in (symbols-take (s .pre .0) (s .args .i), s .pre .2)
+
+mul-product-at : tie.Need-mul-product-at
+mul-product-at c = omega arith
 
 sub-product-at : tie.Need-sub-product-at
 sub-product-at c = search needs
@@ -35,7 +38,7 @@ part-product-at-end c = search needs
 product-at-requires-2 : tie.Need-product-at-requires-2
 product-at-requires-2 c κs =
     let s = c .before .before .before .before in
-    (rw (part-rest (s .args .i + 1) (s .args .points .now)) (bytes-drop (s .pre .0) (s .args .i + 1)), s .pre .2)
+    (rw (part-rest (s .args .i + 1) (s .args .points .now)) (symbols-drop (s .pre .0) (s .args .i + 1)), s .pre .2)
 
 mul-requires : tie.Need-mul-requires
 mul-requires c κs =
@@ -60,6 +63,7 @@ others-at-spec =
     add-next
     slice-aggregate-product-at
     product-at-requires
+    mul-product-at
     sub-product-at
     part-product-at-start
     part-product-at-end

@@ -25,6 +25,9 @@ loop-holds c = let a = c .before .args in (omega arith, sym (productAt-end _ (a 
 sub-i : tie.Need-sub-i Inv-loop μ-loop
 sub-i c = omega arith
 
+mul-sub : tie.Need-mul-sub Inv-loop μ-loop
+mul-sub c = omega arith
+
 shared-slice-read-sub : tie.Need-shared-slice-read-sub Inv-loop μ-loop
 shared-slice-read-sub c = omega arith
 
@@ -77,6 +80,7 @@ product-at-spec =
     μ-loop
     loop-holds
     sub-i
+    mul-sub
     shared-slice-read-sub
     cast-sub
     sub-requires

@@ -9,6 +9,9 @@ use Rattle.interpolation.proofs.Values.{othersAt-below}
 use Rattle.interpolation.proofs.lagrange.scale_at.Statement.{statement}
 use Rattle.interpolation.proofs.lagrange.scale_at.Tie as tie
 
+mul-others-at : tie.Need-mul-others-at
+mul-others-at c = omega arith
+
 shared-slice-read-others-at : tie.Need-shared-slice-read-others-at
 shared-slice-read-others-at c = search needs
 
@@ -32,6 +35,7 @@ pub scale-at-spec : {M : Type 1} → statement M
 scale-at-spec =
     tie.close
     (tie.spec
+    mul-others-at
     shared-slice-read-others-at
     cast-others-at
     others-at-requires

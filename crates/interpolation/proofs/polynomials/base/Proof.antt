@@ -1,16 +1,16 @@
 -- `base` meets its contract. Invariant: y is root^i, and the product has the factors below i.
-use mathlib.Core.Path.{_≡_, refl, sym, ap, _∙_}
+use mathlib.Core.Path.{_≡_, refl, sym, _∙_}
 use Prim.Native.Nat.{_+_, _-_, _≤_, _<_}
-use native.Mathlib.Numerals.{add-one}
 use native.Mathlib.Omega.{arith}
 use borrow.Author.Needs.{needs}
 use lib.ListN.{length, take}
 use Rattle.lists.specs.Padded.{zeros, padded}
 use Rattle.lists.proofs.Padding.{length-padded, take-padded}
-use Rattle.field.specs.Fields.{sizeOf, mul, power}
+use Rattle.field.specs.Fields.{sizeOf, power}
 use Rattle.field.specs.Kinds.{modulus}
 use Rattle.field.proofs.Bounds.{power-below}
 use Rattle.field.proofs.KindLaws.{usable-field}
+use Rattle.field.proofs.Powers.{power-next}
 use Rattle.interpolation.specs.Polynomials.{baseOf}
 use Rattle.interpolation.proofs.Coefficients.{one-padded, baseOf-next, length-baseOf, baseOf-below}
 use Rattle.interpolation.proofs.polynomials.base.Statement.{statement}
@@ -31,7 +31,7 @@ unfolding zeros power baseOf
 loop-holds c = (omega arith, refl, one-padded)
 
 add-size : tie.Need-add-size Inv-loop μ-loop
-add-size c = omega (arith, c .before .before .pre .3)
+add-size c = omega (arith, c .before .before .pre .2)
 
 -- the coefficients so far, and how many they are; y is a symbol
 part : (c : tie.In-loop Inv-loop μ-loop)
@@ -47,12 +47,12 @@ part c =
     let size : length cs ≡ l .i + 1 = omega (arith, length-baseOf (modulus (a .field)) (a .root) (l .i)) in (
       rw (l .inv .2) (take-padded 256 (l .i + 1) cs size),
       size,
-      rw (l .inv .2) (length-padded 256 cs (omega (arith, s .3))),
-      rw (l .inv .1) (power-below _ (usable-field _ (s .0)) (l .i) (s .2)),
+      rw (l .inv .2) (length-padded 256 cs (omega (arith, s .2))),
+      rw (l .inv .1) (power-below _ (usable-field _ (s .0)) (l .i) (s .1)),
     )
 
 array-share-prefix-out : tie.Need-array-share-prefix-out Inv-loop μ-loop
-array-share-prefix-out c = omega (arith, part c .2, c .before .before .pre .3)
+array-share-prefix-out c = omega (arith, part c .2, c .before .before .pre .2)
 
 slice-aggregate-times-linear : tie.Need-slice-aggregate-times-linear Inv-loop μ-loop
 slice-aggregate-times-linear c = let t = part (c .before) in rw (t .0) (sym (t .1))
@@ -62,12 +62,12 @@ times-linear-requires c κs =
     let s = c .before .before .before .pre in
     let l = c .before .before .loop in
     let t = part (c .before) in (
-      rw (t .0) record { usable-field = s .0; bytes = s .1; below = baseOf-below _ (usable-field _ (s .0)) _ (l .i) (s .2); short = omega (arith, t .1, s .3) },
+      rw (t .0) record { usable-field = s .0; below = baseOf-below _ (usable-field _ (s .0)) _ (l .i) (s .1); short = omega (arith, t .1, s .2) },
       t .3,
     )
 
 mul-requires : tie.Need-mul-requires Inv-loop μ-loop
-mul-requires c κs = let s = c .before .before .before .before .pre in (s .0, s .2, part (c .before .before) .3)
+mul-requires c κs = let s = c .before .before .before .before .pre in (s .0, s .1, part (c .before .before) .3)
 
 add-i : tie.Need-add-i Inv-loop μ-loop
 add-i c = omega arith
@@ -76,13 +76,12 @@ loop-less : tie.Need-loop-less Inv-loop μ-loop
 loop-less c = omega arith
 
 loop-again : tie.Need-loop-again Inv-loop μ-loop
-unfolding power
 loop-again c =
     let a = c .before .before .before .before .before .args in
     let l = c .before .before .before .before .loop in
     let t = part (c .before .before .before) in (
       omega arith,
-      c .mul .ensures ∙ rw (l .inv .1) (sym (ap (power (modulus (a .field)) (a .root)) (add-one (l .i)))),
+      c .mul .ensures ∙ rw (l .inv .1) (sym (power-next (modulus (a .field)) (a .root) (l .i))),
       c .before .times-linear .ensures ∙ rw (t .0, l .inv .1, baseOf-next _ (a .root) (l .i)),
     )
 

@@ -1,29 +1,32 @@
--- `inverses` meets its contract. Invariant: the first i places are written, and the inverses from i on are to come.
-use Prim.Native.Nat.{_-_, _≤_, _<_}
+-- `inverses` meets its contract. Invariant: the first i inverses are written.
+use mathlib.Core.Path.{sym, ap, _∙_}
+use Prim.Native.Nat.{_-_, _<_}
 use native.Mathlib.Omega.{arith}
-use lib.ListN.{length, getD, drop}
-use Rattle.lists.specs.Padded.{zeros}
-use Rattle.lists.proofs.Fill.{Fills, fills-start, fills-put, fills-padded, length-zeros}
+use lib.ListN.{length, getD}
+use Rattle.lists.specs.Padded.{zeros, padded}
+use Rattle.lists.proofs.Fill.{Filled, filled-start, filled-put, filled-end}
 use Rattle.lists.proofs.Numbers.{below-at}
+use Rattle.lists.proofs.Places.{map-from}
 use Rattle.field.specs.Fields.{sizeOf, inverse}
 use Rattle.field.specs.Kinds.{modulus}
 use Rattle.field.proofs.Inverse.{inverse-below}
-use Rattle.field.proofs.KindLaws.{usable-field}
+use Rattle.field.proofs.KindLaws.{usable-field, size-fits}
 use Rattle.interpolation.specs.Polynomials.{inversesOf}
-use Rattle.interpolation.proofs.Coefficients.{inversesOf-next, inversesOf-end}
 use Rattle.interpolation.proofs.polynomials.inverses.Statement.{statement}
 use Rattle.interpolation.proofs.polynomials.inverses.Tie as tie
 
 abbrev Inv-loop : tie.InvT-loop
-Inv-loop field coefficients out₀ i₀ out i =
-    (i ≤ length coefficients) × Fills (zeros 255) out i (inversesOf (modulus field) (drop i coefficients)) (inversesOf (modulus field) coefficients)
+Inv-loop field coefficients out₀ i₀ out i = Filled 255 (length coefficients) (λ j. inverse (modulus field) (getD coefficients j 0)) i out
 
 abbrev μ-loop : tie.MeasureT-loop
 μ-loop field coefficients out₀ i₀ out i = length coefficients - i
 
 loop-holds : tie.Need-loop-holds Inv-loop μ-loop
 unfolding zeros
-loop-holds c = (omega arith, fills-start _ _)
+loop-holds c = filled-start 255 _ _ (c .before .pre .short)
+
+mul-c : tie.Need-mul-c Inv-loop μ-loop
+mul-c c = omega arith
 
 shared-slice-read-c : tie.Need-shared-slice-read-c Inv-loop μ-loop
 shared-slice-read-c c = omega arith
@@ -45,10 +48,13 @@ cast-out c =
     let s = c .before .before .before .before .before .pre in
     let t = turn (c .before .before) in
     let low = inverse-below _ (usable-field _ (s .usable-field)) t in
-    omega (arith, c .inverse .ensures, s .bytes)
+    omega (arith, c .inverse .ensures, size-fits _ (s .usable-field))
+
+mul-out : tie.Need-mul-out Inv-loop μ-loop
+mul-out c = omega arith
 
 array-write-out : tie.Need-array-write-out Inv-loop μ-loop
-array-write-out c = omega (arith, c .before .before .before .loop .inv .1 .long, length-zeros 255, c .before .before .before .before .before .pre .short)
+array-write-out c = omega arith
 
 add-i : tie.Need-add-i Inv-loop μ-loop
 add-i c = omega arith
@@ -57,14 +63,13 @@ loop-less : tie.Need-loop-less Inv-loop μ-loop
 loop-less c = omega arith
 
 loop-again : tie.Need-loop-again Inv-loop μ-loop
-loop-again c =
-    let s = c .before .before .before .before .before in
-    let l = c .before .before .before .loop in
-    let todo = rw (inversesOf-next _ (s .args .coefficients .now) (l .i) (c .before .before .loop-test .taken)) at (l .inv .1) in
-    (omega arith, rw (c .inverse .ensures) (fills-put todo (omega (arith, length-zeros 255, s .pre .short))))
+loop-again c = filled-put (c .before .before .before .loop .inv) (c .before .before .loop-test .taken) (c .inverse .ensures)
 
 returns : tie.Need-returns Inv-loop μ-loop
-returns c = fills-padded 255 (rw (inversesOf-end _ _ _ (c .loop-test .left)) at (c .before .loop .inv .1))
+unfolding inversesOf
+returns c =
+    let a = c .before .before .before .args in
+    filled-end (c .before .loop .inv) (c .loop-test .left) ∙ ap (padded 255) (sym (map-from (inverse (modulus (a .field))) (a .coefficients .now)))
 
 pub inverses-spec : {M : Type 1} → statement M
 inverses-spec =
@@ -73,10 +78,12 @@ inverses-spec =
     Inv-loop
     μ-loop
     loop-holds
+    mul-c
     shared-slice-read-c
     cast-c
     inverse-requires
     cast-out
+    mul-out
     array-write-out
     add-i
     loop-less

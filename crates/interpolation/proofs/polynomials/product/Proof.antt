@@ -31,6 +31,9 @@ loop-holds c = (omega arith, omega arith, one-padded ∙ sym (ap (padded 256) (p
 sub-i : tie.Need-sub-i Inv-loop μ-loop
 sub-i c = omega arith
 
+mul-times-linear : tie.Need-mul-times-linear Inv-loop μ-loop
+mul-times-linear c = omega arith
+
 shared-slice-read-times-linear : tie.Need-shared-slice-read-times-linear Inv-loop μ-loop
 shared-slice-read-times-linear c = omega arith
 
@@ -62,7 +65,7 @@ times-linear-requires c κs =
     let l = c .before .before .before .loop in
     let t = part (c .before .before) in
     let v = usable-field _ (s .usable-field) in (
-      rw (t .0) record { usable-field = s .usable-field; bytes = s .bytes; below = productOf-below _ v _ (below-drop _ (l .i) _ (s .below)); short = omega (arith, t .1, s .short) },
+      rw (t .0) record { usable-field = s .usable-field; below = productOf-below _ v _ (below-drop _ (l .i) _ (s .below)); short = omega (arith, t .1, s .short) },
       below-at _ _ (s .below) _ (omega arith),
     )
 
@@ -94,6 +97,7 @@ product-spec =
     array-write-out
     loop-holds
     sub-i
+    mul-times-linear
     shared-slice-read-times-linear
     cast-times-linear
     array-share-prefix-out

@@ -9,7 +9,7 @@ use Rattle.field.specs.Fields.{sizeOf}
 use Rattle.field.specs.Kinds.{modulus}
 use Rattle.field.proofs.Bounds.{sub-below, mul-below}
 use Rattle.field.proofs.FieldOf.{size-pos}
-use Rattle.field.proofs.KindLaws.{usable-field}
+use Rattle.field.proofs.KindLaws.{usable-field, size-fits}
 use Rattle.interpolation.specs.Polynomials.{timesLinear}
 use Rattle.interpolation.proofs.Coefficients.{timesLinear-next, timesLinear-end}
 use Rattle.interpolation.proofs.polynomials.times_linear.Statement.{statement}
@@ -27,6 +27,9 @@ abbrev μ-loop : tie.MeasureT-loop
 loop-holds : tie.Need-loop-holds Inv-loop μ-loop
 unfolding zeros
 loop-holds c = (omega arith, size-pos _ (usable-field _ (c .before .pre .0 .usable-field)), fills-start _ _)
+
+mul-c : tie.Need-mul-c Inv-loop μ-loop
+mul-c c = omega arith
 
 shared-slice-read-c : tie.Need-shared-slice-read-c Inv-loop μ-loop
 shared-slice-read-c c = omega arith
@@ -58,7 +61,10 @@ cast-out : tie.Need-cast-out Inv-loop μ-loop
 cast-out c =
     let s = c .before .before .before .before .before .before .pre in
     let low = sub-below _ (usable-field _ (s .0 .usable-field)) (c .before .before .before .before .loop .inv .1) (scaled (c .before)) in
-    omega (arith, c .sub .ensures, s .0 .bytes)
+    omega (arith, c .sub .ensures, size-fits _ (s .0 .usable-field))
+
+mul-out : tie.Need-mul-out Inv-loop μ-loop
+mul-out c = omega arith
 
 array-write-out : tie.Need-array-write-out Inv-loop μ-loop
 array-write-out c = omega (arith, c .before .before .before .before .loop .inv .2 .long, length-zeros 256, c .before .before .before .before .before .before .pre .0 .short)
@@ -77,7 +83,10 @@ loop-again c =
     (omega arith, turn (c .before .before .before), rw (c .sub .ensures, c .before .mul .ensures) (fills-put todo (omega (arith, length-zeros 256, s .pre .0 .short))))
 
 cast-out-2 : tie.Need-cast-out-2 Inv-loop μ-loop
-cast-out-2 c = omega (arith, c .before .loop .inv .1, c .before .before .before .pre .0 .bytes)
+cast-out-2 c = omega (arith, c .before .loop .inv .1, size-fits _ (c .before .before .before .pre .0 .usable-field))
+
+mul-out-2 : tie.Need-mul-out-2 Inv-loop μ-loop
+mul-out-2 c = omega arith
 
 array-write-out-2 : tie.Need-array-write-out-2 Inv-loop μ-loop
 array-write-out-2 c = omega (arith, c .before .loop .inv .2 .long, length-zeros 256, c .before .before .before .pre .0 .short)
@@ -94,15 +103,18 @@ times-linear-spec =
     Inv-loop
     μ-loop
     loop-holds
+    mul-c
     shared-slice-read-c
     cast-c
     mul-requires
     sub-requires
     cast-out
+    mul-out
     array-write-out
     add-i
     loop-less
     loop-again
     cast-out-2
+    mul-out-2
     array-write-out-2
     returns)

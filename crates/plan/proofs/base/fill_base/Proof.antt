@@ -1,14 +1,13 @@
 -- `fill_base` meets its contract. Invariant: the entries up to j are written, x is root^(j + k − 1), and `entry` is p(x), the last of them.
 use mathlib.Core.Path.{_≡_, sym, ap, _∙_}
 use Prim.Native.Nat.{_+_, _-_, _≤_}
-use native.Mathlib.Nat.{zero-add, sub-zero}
+use native.Mathlib.Nat.{zero-add}
 use native.Mathlib.Omega.{arith}
-use Rattle.lists.specs.Rows.{from}
 use Rattle.lists.specs.Padded.{zeros}
-use Rattle.lists.proofs.Rows.{from-next, from-end}
-use Rattle.lists.proofs.Fill.{Fills, fills-start, fills-put, fills-padded, length-zeros}
+use Rattle.lists.proofs.Fill.{Filled, filled-start, filled-put, filled-end}
 use Rattle.field.specs.Fields.{power}
 use Rattle.field.proofs.Bounds.{power-below}
+use Rattle.field.proofs.KindLaws.{size-fits}
 use Rattle.generator.specs.Records.{modulusOf, distance}
 use Rattle.generator.specs.Generator.{baseAt, entryAt}
 use Rattle.generator.proofs.Bounds.{entryAt-below}
@@ -21,7 +20,7 @@ Inv-loop h field root n k scale pole last out₀ x₀ entry₀ j₀ out x entry 
     (j ≤ last)
     × (x ≡ power (modulusOf h) (h .root) (j + (h .k - 1)))
     × (entry ≡ baseAt h x)
-    × Fills (zeros 255) out (j + 1) (from (entryAt h 0) (j + 1) (distance h - (j + 1))) (from (entryAt h 0) 0 (distance h))
+    × Filled 255 (distance h) (entryAt h 0) (j + 1) out
 
 abbrev μ-loop : tie.MeasureT-loop
 μ-loop h field root n k scale pole last out₀ x₀ entry₀ j₀ out x entry j = last - j
@@ -66,7 +65,7 @@ first c =
 cast-out : tie.Need-cast-out Inv-loop μ-loop
 cast-out c =
     let s = c .before .before .before .before .before .pre in
-    omega (arith, c .first-entry .ensures, entryAt-below _ s 0 0, s .bytes)
+    omega (arith, c .first-entry .ensures, entryAt-below _ s 0 0, size-fits _ (s .usable-field))
 
 array-write-out : tie.Need-array-write-out Inv-loop μ-loop
 array-write-out c = omega arith
@@ -74,13 +73,11 @@ array-write-out c = omega arith
 loop-holds : tie.Need-loop-holds Inv-loop μ-loop
 unfolding zeros distance
 loop-holds c =
-    let h = c .before .before .before .before .before .args .h in
-    let whole = from (entryAt h 0) 0 (distance h) in
-    let start : Fills (zeros 255) (zeros 255) 0 (from (entryAt h 0) 0 (distance h - 0)) whole = rw sub-zero (fills-start (zeros 255) whole) in (
+    let h = c .before .before .before .before .before .args .h in (
       omega arith,
       rw zero-add (c .before .before .power .ensures),
       first c,
-      rw (c .first-entry .ensures) (fills-put (rw (from-next (entryAt h 0) (distance h) 0 (omega arith)) at start) (omega (arith, length-zeros 255))),
+      filled-put (filled-start 255 (distance h) (entryAt h 0) (omega arith)) (omega arith) (c .first-entry .ensures),
     )
 
 next-entry-requires : tie.Need-next-entry-requires Inv-loop μ-loop
@@ -122,7 +119,10 @@ add-j c = omega arith
 cast-out-2 : tie.Need-cast-out-2 Inv-loop μ-loop
 cast-out-2 c =
     let s = c .before .before .before .before .before .before .before .before .before .pre in
-    omega (arith, turn c .2, entryAt-below _ s 0 (c .before .before .before .loop .j + 1), s .bytes)
+    omega (arith, turn c .2, entryAt-below _ s 0 (c .before .before .before .loop .j + 1), size-fits _ (s .usable-field))
+
+mul-out : tie.Need-mul-out Inv-loop μ-loop
+mul-out c = omega arith
 
 array-write-out-2 : tie.Need-array-write-out-2 Inv-loop μ-loop
 array-write-out-2 c = omega arith
@@ -139,7 +139,7 @@ loop-again c =
       omega arith,
       t .0,
       t .1,
-      rw (t .2) (fills-put (rw (from-next (entryAt h 0) (distance h) (l .j + 1) (omega arith)) at (l .inv .3)) (omega (arith, length-zeros 255))),
+      filled-put (l .inv .3) (omega arith) (t .2),
     )
 
 returns : tie.Need-returns Inv-loop μ-loop
@@ -148,7 +148,7 @@ returns c =
     let h = c .before .before .before .before .before .before .before .args .h in
     let s = c .before .before .before .before .before .before .before .pre in
     let l = c .before .loop in
-    fills-padded 255 (rw (from-end (entryAt h 0) (distance h) (l .j + 1) (omega arith)) at (l .inv .3))
+    filled-end (l .inv .3) (omega arith)
     ∙ sym (base-padded h s 255 (omega arith))
 
 pub fill-base-spec : {M : Type 1} → statement M
@@ -174,6 +174,7 @@ fill-base-spec =
     mul-requires
     add-j
     cast-out-2
+    mul-out
     array-write-out-2
     loop-less
     loop-again

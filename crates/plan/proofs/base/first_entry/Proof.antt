@@ -9,7 +9,8 @@ use Rattle.field.proofs.Bounds.{one-below, sub-below, mul-below, power-below}
 use Rattle.generator.specs.declared.Header.{Header}
 use Rattle.generator.specs.Records.{size}
 use Rattle.generator.specs.Generator.{baseFrom, baseAt}
-use Rattle.generator.proofs.BaseWord.{power-next, baseFrom-next, entry-is}
+use Rattle.field.proofs.Powers.{power-next}
+use Rattle.generator.proofs.BaseWord.{baseFrom-next, entry-is}
 use Rattle.plan.proofs.base.first_entry.Statement.{statement}
 use Rattle.plan.proofs.base.first_entry.Tie as tie
 

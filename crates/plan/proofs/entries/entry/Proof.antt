@@ -1,20 +1,21 @@
--- `entry` meets its contract.
-use Prim.Native.Nat.{_<_}
+-- `entry` meets its contract: the shift may be reduced modulo n first.
+use mathlib.Core.Path.{_≡_, sym, _∙_}
 use mathlib.Core.Logic.{⊎-elim}
-use native.Mathlib.Nat.{mod-lt, lt-of-lt-of-le}
+use Prim.Native.Nat.{_%_, _<_}
+use native.Mathlib.Nat.{mod-lt, add-mod-mod}
 use native.Mathlib.Omega.{arith}
-use mir.Syntax.{w8}
-use mir.Val.{Fits}
 use borrow.Author.Needs.{needs}
 use borrow.Author.Tests.{lt-ltb, le-ltb, leb-true, leb-false}
-use lib.ListN.{getD}
+use lib.ListN.{length, getD}
 use Rattle.plan.specs.Plans.{entryIn}
 use Rattle.plan.proofs.entries.entry.Statement.{statement}
 use Rattle.plan.proofs.entries.entry.Tie as tie
 
--- the node is below n
-node : (c : tie.Else2) → c .before .before .args .j < c .before .before .args .t1 .n
-node c = leb-false _ _ (c .if2 .left)
+-- the node is below n, and so is the shift modulo n
+node : (c : tie.Else2)
+    → let a = c .before .before .args in
+    (a .j < a .t1 .n) × (getD (a .t1 .shifts) (a .r) 0 % a .t1 .n < a .t1 .n)
+node c = let low = leb-false _ _ (c .if2 .left) in (low, mod-lt _ (omega arith))
 
 cast-n : tie.Need-cast-n
 cast-n c = search needs
@@ -36,24 +37,28 @@ element-copy-out-shift c = search needs
 cast-shift : tie.Need-cast-shift
 cast-shift c = search needs
 
-add-place : tie.Need-add-place
-add-place c =
-    let a = c .before .before .before .args in
-    let byte : Fits w8 (getD (a .t1 .shifts) (a .r) 0) = search needs in
-    omega (arith, node (c .before))
+cast-entry-at : tie.Need-cast-entry-at
+cast-entry-at c = search needs
 
-rem-place : tie.Need-rem-place
-rem-place c = omega (arith, node (c .before))
+rem-entry-at : tie.Need-rem-entry-at
+rem-entry-at c = omega (arith, node (c .before) .0)
 
-cast-result : tie.Need-cast-result
-cast-result c = record { fits = lt-of-lt-of-le (mod-lt _ (omega (arith, node (c .before)))) (omega arith) }
+cast-entry-at-2 : tie.Need-cast-entry-at-2
+cast-entry-at-2 c = omega (arith, node (c .before) .1)
 
-element-copy-out-result : tie.Need-element-copy-out-result
-element-copy-out-result c = lt-of-lt-of-le (mod-lt _ (omega (arith, node (c .before)))) (omega arith)
+entry-at-requires : tie.Need-entry-at-requires
+entry-at-requires c κs =
+    let a = c .before .before .before .before .before .before .args in
+    let t = node (c .before .before .before .before) in
+    let long : 255 ≡ length (a .t1 .base) = search needs in
+    (omega arith, t .1, t .0, omega arith)
 
 returns-2 : tie.Need-returns-2
 unfolding entryIn
-returns-2 c = rw (lt-ltb _ _ (c .before .before .before .if1 .left), lt-ltb _ _ (node (c .before .before)))
+returns-2 c =
+    let at = c .before .before .before .before .before in
+    let a = at .before .before .args in
+    rw (lt-ltb _ _ (at .before .if1 .left), lt-ltb _ _ (node at .0), ← add-mod-mod (a .j) (getD (a .t1 .shifts) (a .r) 0) (a .t1 .n)) (c .entry-at .ensures)
 
 pub entry-spec : {M : Type 1} → statement M
 entry-spec =
@@ -64,8 +69,8 @@ entry-spec =
     returns
     element-copy-out-shift
     cast-shift
-    add-place
-    rem-place
-    cast-result
-    element-copy-out-result
+    cast-entry-at
+    rem-entry-at
+    cast-entry-at-2
+    entry-at-requires
     returns-2)

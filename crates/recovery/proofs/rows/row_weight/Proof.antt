@@ -2,9 +2,10 @@
 use mathlib.Core.Path.{_∙_}
 use borrow.Author.Needs.{needs}
 use Rattle.field.proofs.Bounds.{mul-below}
+use Rattle.field.proofs.Sums.{dot-below}
 use Rattle.field.proofs.KindLaws.{usable-field}
 use Rattle.recovery.specs.Rows.{weightOf}
-use Rattle.interpolation.proofs.Coefficients.{quotientOf-below, dot-below}
+use Rattle.interpolation.proofs.Coefficients.{quotientOf-below}
 use Rattle.recovery.proofs.rows.row_weight.Statement.{statement}
 use Rattle.recovery.proofs.rows.row_weight.Tie as tie
 

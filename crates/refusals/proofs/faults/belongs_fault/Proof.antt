@@ -4,6 +4,7 @@ use borrow.Author.Needs.{needs}
 use Prim.Native.Nat.{_≤_}
 use native.Mathlib.Omega.{arith}
 use Rattle.refusals.specs.Faults.{belongsFault}
+use Rattle.refusals.proofs.OneByte.{times-width}
 use Rattle.refusals.proofs.NotMet.{buffer-small, length-good}
 use Rattle.refusals.proofs.faults.belongs_fault.Statement.{statement}
 use Rattle.refusals.proofs.faults.belongs_fault.Tie as tie
@@ -16,7 +17,7 @@ lanes-bad-requires c κs = search needs
 
 returns : tie.Need-returns
 unfolding belongsFault
-returns c = rw (sym (c .before .lanes-bad .ensures) ∙ c .if1 .taken)
+returns c = rw (times-width, sym (c .before .lanes-bad .ensures) ∙ c .if1 .taken)
 
 mul-length-bad : tie.Need-mul-length-bad
 mul-length-bad c =
@@ -29,6 +30,7 @@ length-bad-requires c κs = search needs
 returns-2 : tie.Need-returns-2
 unfolding belongsFault
 returns-2 c = rw (
+  times-width,
   sym (c .before .before .before .lanes-bad .ensures) ∙ c .before .before .if1 .left,
   sym (c .before .length-bad .ensures) ∙ c .if2 .taken,
 )
@@ -39,6 +41,7 @@ shares-bad-requires c κs = (c .before .before .before .before .before .before .
 returns-3 : tie.Need-returns-3
 unfolding belongsFault
 returns-3 c = rw (
+  times-width,
   sym (c .before .before .before .before .before .lanes-bad .ensures) ∙ c .before .before .before .before .if1 .left,
   sym (c .before .before .before .length-bad .ensures) ∙ c .before .before .if2 .left,
   sym (c .before .shares-bad .ensures) ∙ c .if3 .taken,
@@ -47,6 +50,7 @@ returns-3 c = rw (
 returns-4 : tie.Need-returns-4
 unfolding belongsFault
 returns-4 c = rw (
+  times-width,
   sym (c .before .before .before .before .before .lanes-bad .ensures) ∙ c .before .before .before .before .if1 .left,
   sym (c .before .before .before .length-bad .ensures) ∙ c .before .before .if2 .left,
   sym (c .before .shares-bad .ensures) ∙ c .if3 .left,

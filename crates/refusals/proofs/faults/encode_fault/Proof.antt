@@ -4,6 +4,7 @@ use borrow.Author.Needs.{needs}
 use Prim.Native.Nat.{_≤_}
 use native.Mathlib.Omega.{arith}
 use Rattle.refusals.specs.Faults.{encodeFault}
+use Rattle.refusals.proofs.OneByte.{times-width}
 use Rattle.refusals.proofs.NotMet.{buffer-small}
 use Rattle.refusals.proofs.faults.encode_fault.Statement.{statement}
 use Rattle.refusals.proofs.faults.encode_fault.Tie as tie
@@ -19,7 +20,7 @@ lanes-bad-requires c κs = search needs
 
 returns : tie.Need-returns
 unfolding encodeFault
-returns c = rw (sym (c .before .lanes-bad .ensures) ∙ c .if1 .taken)
+returns c = rw (times-width, times-width, sym (c .before .lanes-bad .ensures) ∙ c .if1 .taken)
 
 mul-length-bad : tie.Need-mul-length-bad
 mul-length-bad c =
@@ -32,6 +33,8 @@ length-bad-requires c κs = search needs
 returns-2 : tie.Need-returns-2
 unfolding encodeFault
 returns-2 c = rw (
+  times-width,
+  times-width,
   sym (c .before .before .before .lanes-bad .ensures) ∙ c .before .before .if1 .left,
   sym (c .before .length-bad .ensures) ∙ c .if2 .taken,
 )
@@ -47,6 +50,8 @@ length-bad-requires-2 c κs = search needs
 returns-3 : tie.Need-returns-3
 unfolding encodeFault
 returns-3 c = rw (
+  times-width,
+  times-width,
   sym (c .before .before .before .before .before .lanes-bad .ensures) ∙ c .before .before .before .before .if1 .left,
   sym (c .before .before .before .length-bad .ensures) ∙ c .before .before .if2 .left,
   sym (c .before .length-bad2 .ensures) ∙ c .if3 .taken,
@@ -58,6 +63,8 @@ symbols-bad-requires c κs = search needs
 returns-4 : tie.Need-returns-4
 unfolding encodeFault
 returns-4 c = rw (
+  times-width,
+  times-width,
   sym (c .before .before .before .before .before .before .before .lanes-bad .ensures) ∙ c .before .before .before .before .before .before .if1 .left,
   sym (c .before .before .before .before .before .length-bad .ensures) ∙ c .before .before .before .before .if2 .left,
   sym (c .before .before .before .length-bad2 .ensures) ∙ c .before .before .if3 .left,
@@ -67,6 +74,8 @@ returns-4 c = rw (
 returns-5 : tie.Need-returns-5
 unfolding encodeFault
 returns-5 c = rw (
+  times-width,
+  times-width,
   sym (c .before .before .before .before .before .before .before .lanes-bad .ensures) ∙ c .before .before .before .before .before .before .if1 .left,
   sym (c .before .before .before .before .before .length-bad .ensures) ∙ c .before .before .before .before .if2 .left,
   sym (c .before .before .before .length-bad2 .ensures) ∙ c .before .before .if3 .left,

@@ -4,6 +4,7 @@ use borrow.Author.Needs.{needs}
 use Prim.Native.Nat.{_≤_}
 use native.Mathlib.Omega.{arith}
 use Rattle.refusals.specs.Faults.{rebuildFault}
+use Rattle.refusals.proofs.OneByte.{times-width}
 use Rattle.refusals.proofs.NotMet.{buffer-small, length-good}
 use Rattle.refusals.proofs.faults.rebuild_fault.Statement.{statement}
 use Rattle.refusals.proofs.faults.rebuild_fault.Tie as tie
@@ -19,7 +20,7 @@ lanes-bad-requires c κs = search needs
 
 returns : tie.Need-returns
 unfolding rebuildFault
-returns c = rw (sym (c .before .lanes-bad .ensures) ∙ c .if1 .taken)
+returns c = rw (times-width, times-width, sym (c .before .lanes-bad .ensures) ∙ c .if1 .taken)
 
 length-bad-requires : tie.Need-length-bad-requires
 length-bad-requires c κs = search needs
@@ -27,6 +28,8 @@ length-bad-requires c κs = search needs
 returns-2 : tie.Need-returns-2
 unfolding rebuildFault
 returns-2 c = rw (
+  times-width,
+  times-width,
   sym (c .before .before .before .lanes-bad .ensures) ∙ c .before .before .if1 .left,
   sym (c .before .length-bad .ensures) ∙ c .if2 .taken,
 )
@@ -42,6 +45,8 @@ length-bad-requires-2 c κs = search needs
 returns-3 : tie.Need-returns-3
 unfolding rebuildFault
 returns-3 c = rw (
+  times-width,
+  times-width,
   sym (c .before .before .before .before .before .lanes-bad .ensures) ∙ c .before .before .before .before .if1 .left,
   sym (c .before .before .before .length-bad .ensures) ∙ c .before .before .if2 .left,
   sym (c .before .length-bad2 .ensures) ∙ c .if3 .taken,
@@ -53,6 +58,8 @@ length-bad-requires-3 c κs = search needs
 returns-4 : tie.Need-returns-4
 unfolding rebuildFault
 returns-4 c = rw (
+  times-width,
+  times-width,
   sym (c .before .before .before .before .before .before .before .lanes-bad .ensures) ∙ c .before .before .before .before .before .before .if1 .left,
   sym (c .before .before .before .before .before .length-bad .ensures) ∙ c .before .before .before .before .if2 .left,
   sym (c .before .before .before .length-bad2 .ensures) ∙ c .before .before .if3 .left,
@@ -65,6 +72,8 @@ number-bad-requires c κs = search needs
 returns-5 : tie.Need-returns-5
 unfolding rebuildFault
 returns-5 c = rw (
+  times-width,
+  times-width,
   sym (c .before .before .before .before .before .before .before .before .before .lanes-bad .ensures) ∙ c .before .before .before .before .before .before .before .before .if1 .left,
   sym (c .before .before .before .before .before .before .before .length-bad .ensures) ∙ c .before .before .before .before .before .before .if2 .left,
   sym (c .before .before .before .before .before .length-bad2 .ensures) ∙ c .before .before .before .before .if3 .left,
@@ -78,6 +87,8 @@ list-fault-requires c κs = (c .before .before .before .before .before .before .
 returns-6 : tie.Need-returns-6
 unfolding rebuildFault
 returns-6 c = rw (
+  times-width,
+  times-width,
   sym (c .before .before .before .before .before .before .before .before .before .before .lanes-bad .ensures) ∙ c .before .before .before .before .before .before .before .before .before .if1 .left,
   sym (c .before .before .before .before .before .before .before .before .length-bad .ensures) ∙ c .before .before .before .before .before .before .before .if2 .left,
   sym (c .before .before .before .before .before .before .length-bad2 .ensures) ∙ c .before .before .before .before .before .if3 .left,

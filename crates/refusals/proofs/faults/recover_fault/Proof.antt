@@ -4,6 +4,7 @@ use borrow.Author.Needs.{needs}
 use Prim.Native.Nat.{_≤_}
 use native.Mathlib.Omega.{arith}
 use Rattle.refusals.specs.Faults.{recoverFault}
+use Rattle.refusals.proofs.OneByte.{times-width}
 use Rattle.refusals.proofs.NotMet.{buffer-small, length-good}
 use Rattle.refusals.proofs.faults.recover_fault.Statement.{statement}
 use Rattle.refusals.proofs.faults.recover_fault.Tie as tie
@@ -16,7 +17,7 @@ lanes-bad-requires c κs = search needs
 
 returns : tie.Need-returns
 unfolding recoverFault
-returns c = rw (sym (c .before .lanes-bad .ensures) ∙ c .if1 .taken)
+returns c = rw (times-width, sym (c .before .lanes-bad .ensures) ∙ c .if1 .taken)
 
 length-bad-requires : tie.Need-length-bad-requires
 length-bad-requires c κs = search needs
@@ -24,6 +25,7 @@ length-bad-requires c κs = search needs
 returns-2 : tie.Need-returns-2
 unfolding recoverFault
 returns-2 c = rw (
+  times-width,
   sym (c .before .before .before .lanes-bad .ensures) ∙ c .before .before .if1 .left,
   sym (c .before .length-bad .ensures) ∙ c .if2 .taken,
 )
@@ -39,6 +41,7 @@ length-bad-requires-2 c κs = search needs
 returns-3 : tie.Need-returns-3
 unfolding recoverFault
 returns-3 c = rw (
+  times-width,
   sym (c .before .before .before .before .before .lanes-bad .ensures) ∙ c .before .before .before .before .if1 .left,
   sym (c .before .before .before .length-bad .ensures) ∙ c .before .before .if2 .left,
   sym (c .before .length-bad2 .ensures) ∙ c .if3 .taken,
@@ -50,6 +53,7 @@ length-bad-requires-3 c κs = search needs
 returns-4 : tie.Need-returns-4
 unfolding recoverFault
 returns-4 c = rw (
+  times-width,
   sym (c .before .before .before .before .before .before .before .lanes-bad .ensures) ∙ c .before .before .before .before .before .before .if1 .left,
   sym (c .before .before .before .before .before .length-bad .ensures) ∙ c .before .before .before .before .if2 .left,
   sym (c .before .before .before .length-bad2 .ensures) ∙ c .before .before .if3 .left,
@@ -62,6 +66,7 @@ list-fault-requires c κs = (c .before .before .before .before .before .before .
 returns-5 : tie.Need-returns-5
 unfolding recoverFault
 returns-5 c = rw (
+  times-width,
   sym (c .before .before .before .before .before .before .before .before .lanes-bad .ensures) ∙ c .before .before .before .before .before .before .before .if1 .left,
   sym (c .before .before .before .before .before .before .length-bad .ensures) ∙ c .before .before .before .before .before .if2 .left,
   sym (c .before .before .before .before .length-bad2 .ensures) ∙ c .before .before .before .if3 .left,

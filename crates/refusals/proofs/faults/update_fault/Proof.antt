@@ -4,6 +4,7 @@ use borrow.Author.Needs.{needs}
 use Prim.Native.Nat.{_≤_}
 use native.Mathlib.Omega.{arith}
 use Rattle.refusals.specs.Faults.{updateFault}
+use Rattle.refusals.proofs.OneByte.{times-width}
 use Rattle.refusals.proofs.NotMet.{buffer-small, length-good, number-good}
 use Rattle.refusals.proofs.faults.update_fault.Statement.{statement}
 use Rattle.refusals.proofs.faults.update_fault.Tie as tie
@@ -19,7 +20,7 @@ lanes-bad-requires c κs = search needs
 
 returns : tie.Need-returns
 unfolding updateFault
-returns c = rw (sym (c .before .lanes-bad .ensures) ∙ c .if1 .taken)
+returns c = rw (times-width, sym (c .before .lanes-bad .ensures) ∙ c .if1 .taken)
 
 mul-length-bad : tie.Need-mul-length-bad
 mul-length-bad c =
@@ -32,6 +33,7 @@ length-bad-requires c κs = search needs
 returns-2 : tie.Need-returns-2
 unfolding updateFault
 returns-2 c = rw (
+  times-width,
   sym (c .before .before .before .lanes-bad .ensures) ∙ c .before .before .if1 .left,
   sym (c .before .length-bad .ensures) ∙ c .if2 .taken,
 )
@@ -42,6 +44,7 @@ number-bad-requires c κs = search needs
 returns-3 : tie.Need-returns-3
 unfolding updateFault
 returns-3 c = rw (
+  times-width,
   sym (c .before .before .before .before .before .lanes-bad .ensures) ∙ c .before .before .before .before .if1 .left,
   sym (c .before .before .before .length-bad .ensures) ∙ c .before .before .if2 .left,
   sym (c .before .number-bad .ensures) ∙ c .if3 .taken,
@@ -53,6 +56,7 @@ number-bad-requires-2 c κs = search needs
 returns-4 : tie.Need-returns-4
 unfolding updateFault
 returns-4 c = rw (
+  times-width,
   sym (c .before .before .before .before .before .before .before .lanes-bad .ensures) ∙ c .before .before .before .before .before .before .if1 .left,
   sym (c .before .before .before .before .before .length-bad .ensures) ∙ c .before .before .before .before .if2 .left,
   sym (c .before .before .before .number-bad .ensures) ∙ c .before .before .if3 .left,
@@ -65,6 +69,7 @@ symbol-bad-requires c κs = search needs
 returns-5 : tie.Need-returns-5
 unfolding updateFault
 returns-5 c = rw (
+  times-width,
   sym (c .before .before .before .before .before .before .before .before .before .lanes-bad .ensures) ∙ c .before .before .before .before .before .before .before .before .if1 .left,
   sym (c .before .before .before .before .before .before .before .length-bad .ensures) ∙ c .before .before .before .before .before .before .if2 .left,
   sym (c .before .before .before .before .before .number-bad .ensures) ∙ c .before .before .before .before .if3 .left,
@@ -78,6 +83,7 @@ symbol-bad-requires-2 c κs = search needs
 returns-6 : tie.Need-returns-6
 unfolding updateFault
 returns-6 c = rw (
+  times-width,
   sym (c .before .before .before .before .before .before .before .before .before .before .before .lanes-bad .ensures) ∙ c .before .before .before .before .before .before .before .before .before .before .if1 .left,
   sym (c .before .before .before .before .before .before .before .before .before .length-bad .ensures) ∙ c .before .before .before .before .before .before .before .before .if2 .left,
   sym (c .before .before .before .before .before .before .before .number-bad .ensures) ∙ c .before .before .before .before .before .before .if3 .left,
@@ -92,6 +98,7 @@ lane-bad-requires c κs = (c .before .before .before .before .before .before .be
 returns-7 : tie.Need-returns-7
 unfolding updateFault
 returns-7 c = rw (
+  times-width,
   sym (c .before .before .before .before .before .before .before .before .before .before .before .before .before .lanes-bad .ensures) ∙ c .before .before .before .before .before .before .before .before .before .before .before .before .if1 .left,
   sym (c .before .before .before .before .before .before .before .before .before .before .before .length-bad .ensures) ∙ c .before .before .before .before .before .before .before .before .before .before .if2 .left,
   sym (c .before .before .before .before .before .before .before .before .before .number-bad .ensures) ∙ c .before .before .before .before .before .before .before .before .if3 .left,
@@ -104,6 +111,7 @@ returns-7 c = rw (
 returns-8 : tie.Need-returns-8
 unfolding updateFault
 returns-8 c = rw (
+  times-width,
   sym (c .before .before .before .before .before .before .before .before .before .before .before .before .before .lanes-bad .ensures) ∙ c .before .before .before .before .before .before .before .before .before .before .before .before .if1 .left,
   sym (c .before .before .before .before .before .before .before .before .before .before .before .length-bad .ensures) ∙ c .before .before .before .before .before .before .before .before .before .before .if2 .left,
   sym (c .before .before .before .before .before .before .before .before .before .number-bad .ensures) ∙ c .before .before .before .before .before .before .before .before .if3 .left,

@@ -8,7 +8,7 @@ use lib.ListN.{length}
 use Rattle.lists.specs.Numbers.{allBelow}
 use Rattle.lists.proofs.Rows.{row-inside}
 use Rattle.layout.specs.Layout.{laneOf, shareLayout}
-use Rattle.refusals.specs.Conditions.{symbolsBad}
+use Rattle.refusals.proofs.OneByte.{lane-test}
 use Rattle.refusals.proofs.Walks.{laneFrom, lane-start, lane-good, lane-bad, lane-end}
 use Rattle.refusals.proofs.symbols.lane_bad.Statement.{statement}
 use Rattle.refusals.proofs.symbols.lane_bad.Tie as tie
@@ -52,12 +52,11 @@ cast-if1 c =
     omega (arith, c .shared-slice-known2 .given (c .before .before .loop .node * a .lanes + a .lane))
 
 returns : tie.Need-returns Inv-loop μ-loop
-unfolding symbolsBad
 returns c =
     let a = c .before .before .before .before .before .before .before .args in
     let at = c .before .before .before .loop in
     let size-is = c .before .before .before .before .size .ensures in
-    ap not (sym (rw size-is at (at .inv .1 ∙ lane-bad _ (a .h .n) (a .lanes) (a .lane) (a .shares .now) (at .node) (c .before .before .loop-test .taken) (c .if1 .taken))))
+    rw lane-test (ap not (sym (rw size-is at (at .inv .1 ∙ lane-bad _ (a .h .n) (a .lanes) (a .lane) (a .shares .now) (at .node) (c .before .before .loop-test .taken) (c .if1 .taken)))))
 
 add-node : tie.Need-add-node Inv-loop μ-loop
 add-node c = omega arith
@@ -72,12 +71,11 @@ loop-again c =
     (omega arith, at .inv .1 ∙ lane-good _ (a .h .n) (a .lanes) (a .lane) (a .shares .now) (at .node) (c .before .before .loop-test .taken) (c .if1 .left))
 
 returns-2 : tie.Need-returns-2 Inv-loop μ-loop
-unfolding symbolsBad
 returns-2 c =
     let a = c .before .before .before .before .before .args in
     let at = c .before .loop in
     let size-is = c .before .before .size .ensures in
-    ap not (sym (rw size-is at (at .inv .1 ∙ lane-end _ (a .h .n) (a .lanes) (a .lane) (a .shares .now) (at .node) (c .loop-test .left))))
+    rw lane-test (ap not (sym (rw size-is at (at .inv .1 ∙ lane-end _ (a .h .n) (a .lanes) (a .lane) (a .shares .now) (at .node) (c .loop-test .left)))))
 
 pub lane-bad-spec : {M : Type 1} → statement M
 lane-bad-spec =

@@ -2,7 +2,7 @@
 use mathlib.Core.Path.{ap, _∙_}
 use mathlib.Core.Bool.{not}
 use borrow.Author.Needs.{needs}
-use Rattle.refusals.specs.Conditions.{symbolsBad}
+use Rattle.refusals.proofs.OneByte.{symbols-test}
 use Rattle.refusals.proofs.symbols.symbols_bad.Statement.{statement}
 use Rattle.refusals.proofs.symbols.symbols_bad.Tie as tie
 
@@ -13,8 +13,7 @@ all-below-requires : tie.Need-all-below-requires
 all-below-requires c κs = search needs
 
 returns : tie.Need-returns
-unfolding symbolsBad
-returns c = ap not (c .all-below .ensures) ∙ rw (c .before .size .ensures)
+returns c = ap not (c .all-below .ensures) ∙ rw (symbols-test, c .before .size .ensures)
 
 pub symbols-bad-spec : {M : Type 1} → statement M
 symbols-bad-spec = tie.close (tie.spec size-requires all-below-requires returns)

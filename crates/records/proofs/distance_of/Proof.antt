@@ -1,9 +1,9 @@
--- `weight_of` meets its contract.
+-- `distance_of` meets its contract.
 use mathlib.Core.Path.{refl}
 use borrow.Author.Needs.{needs}
 use Rattle.generator.specs.Records.{distance}
-use Rattle.compare_text.proofs.weight_of.Statement.{statement}
-use Rattle.compare_text.proofs.weight_of.Tie as tie
+use Rattle.records.proofs.distance_of.Statement.{statement}
+use Rattle.records.proofs.distance_of.Tie as tie
 
 sub-result : tie.Need-sub-result
 sub-result c = search needs
@@ -15,5 +15,5 @@ returns : tie.Need-returns
 unfolding distance
 returns c = refl
 
-pub weight-of-spec : {M : Type 1} → statement M
-weight-of-spec = tie.close (tie.spec sub-result add-result returns)
+pub distance-of-spec : {M : Type 1} → statement M
+distance-of-spec = tie.close (tie.spec sub-result add-result returns)

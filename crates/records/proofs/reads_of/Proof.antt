@@ -1,11 +1,11 @@
--- `balanced_reads` meets its contract: b fits a byte because k is at most n.
+-- `reads_of` meets its contract: b fits a byte because k is at most n.
 use Prim.Native.Nat.{_≤_, _<_}
 use native.Mathlib.Nat.{mul-le-mul, div-lt-iff-lt-mul}
 use native.Mathlib.Omega.{arith}
 use borrow.Author.Needs.{needs}
 use Rattle.generator.specs.Comparison.{balancedReads}
-use Rattle.compare_text.proofs.balanced_reads.Statement.{statement}
-use Rattle.compare_text.proofs.balanced_reads.Tie as tie
+use Rattle.records.proofs.reads_of.Statement.{statement}
+use Rattle.records.proofs.reads_of.Tie as tie
 
 cast-n : tie.Need-cast-n
 cast-n c = search needs
@@ -13,8 +13,8 @@ cast-n c = search needs
 cast-k : tie.Need-cast-k
 cast-k c = search needs
 
-weight-of-requires : tie.Need-weight-of-requires
-weight-of-requires c κs = search needs
+distance-of-requires : tie.Need-distance-of-requires
+distance-of-requires c κs = search needs
 
 cast-d : tie.Need-cast-d
 cast-d c = search needs
@@ -22,7 +22,7 @@ cast-d c = search needs
 mul-result : tie.Need-mul-result
 mul-result c =
     let k : c .before .before .before .args .h .k ≤ 255 = omega arith in
-    let d : c .weight-of .result ≤ 255 = omega arith in
+    let d : c .distance-of .result ≤ 255 = omega arith in
     omega (arith, mul-le-mul k d)
 
 div-result : tie.Need-div-result
@@ -31,15 +31,15 @@ div-result c = search needs
 cast-result : tie.Need-cast-result
 cast-result c =
     let start = c .before .before .before in
-    let d : c .weight-of .result ≤ 255 = omega arith in
+    let d : c .distance-of .result ≤ 255 = omega arith in
     let some : 0 < start .args .h .n = omega arith in
     record { fits = div-lt-iff-lt-mul some .1 (omega (arith, mul-le-mul (start .pre .fits) d)) }
 
 returns : tie.Need-returns
 unfolding balancedReads
-returns c = rw (c .weight-of .ensures)
+returns c = rw (c .distance-of .ensures)
 
-pub balanced-reads-spec : {M : Type 1} → statement M
-balanced-reads-spec =
+pub reads-of-spec : {M : Type 1} → statement M
+reads-of-spec =
     tie.close
-    (tie.spec cast-n cast-k weight-of-requires cast-d mul-result div-result cast-result returns)
+    (tie.spec cast-n cast-k distance-of-requires cast-d mul-result div-result cast-result returns)

@@ -1,0 +1,34 @@
+-- A symbol has one byte: symbols are the bytes, and a buffer has as many bytes as symbols.
+use mathlib.Core.Path.{_≡_, ap}
+use mathlib.Core.Bool.{not}
+use mathlib.Core.List.{List}
+use Prim.Native.Nat.{ℕ, _*_}
+use native.Mathlib.Nat.{mul-one}
+use Rattle.lists.specs.Numbers.{allBelow}
+use Rattle.layout.specs.Layout.{laneOf, shareLayout}
+use Rattle.layout.specs.Width.{symbolsOf, bytesOf}
+use Rattle.layout.proofs.Widths.{symbols-one, bytes-one}
+use Rattle.generator.specs.declared.Header.{Header}
+use Rattle.generator.specs.Records.{size, width}
+use Rattle.refusals.specs.Conditions.{symbolsBad, laneBad}
+
+module _ (h : Header) where
+  pub symbols-are : (s : List ℕ) → symbolsOf (width h) s ≡ s
+  unfolding width
+  symbols-are = symbols-one
+
+  pub bytes-are : (xs : List ℕ) → bytesOf (width h) xs ≡ xs
+  unfolding width
+  bytes-are = bytes-one
+
+  pub times-width : (count : ℕ) → count * width h ≡ count
+  unfolding width
+  times-width = mul-one
+
+  pub symbols-test : (s : List ℕ) → symbolsBad h s ≡ not (allBelow (size h) s)
+  unfolding symbolsBad
+  symbols-test s = rw (symbols-are s)
+
+  pub lane-test : (l t : ℕ) (s : List ℕ) → laneBad h l t s ≡ not (allBelow (size h) (laneOf shareLayout (h .n) l t s))
+  unfolding laneBad
+  lane-test l t s = rw (symbols-are s)
