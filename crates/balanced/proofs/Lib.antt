@@ -1,2 +1,5 @@
 -- The demands, proved.
+pub mod Coding
+pub mod Updates
+pub mod Calls
 pub mod Demands

@@ -1,2 +1,5 @@
--- The demands, as statements over the definitions that the calls promise.
+-- The demands, as statements over the definitions that the calls promise, and of the calls themselves.
+pub mod Coding
+pub mod Updates
+pub mod Calls
 pub mod Demands

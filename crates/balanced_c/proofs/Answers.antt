@@ -1,12 +1,8 @@
 -- From the answers of the calls to what the functions of the C interface promise.
-use mathlib.Core.Path.{_≡_, refl, sym, ap, _∙_}
+use mathlib.Core.Path.{_≡_, sym, ap, _∙_}
 use mathlib.Core.List.{List}
-use Prim.Native.Nat.{ℕ, zero, suc}
-use native.Mathlib.Omega.{arith}
-use borrow.Author.Tests.{eqb-true}
-use lib.Dec.{eqb}
+use Prim.Native.Nat.{ℕ}
 use lib.ListN.{length}
-use Rattle.lists.proofs.Cases.{by-test}
 use Rattle.generator.specs.Records.{headerOf}
 use Rattle.blocks.specs.declared.Outcome.{Outcome}
 use Rattle.blocks.specs.declared.Update.{Update}
@@ -15,17 +11,12 @@ use Rattle.blocks.specs.declared.Membership.{Membership}
 use Rattle.blocks.specs.declared.Membership.the-variants as M
 use Rattle.blocks.specs.Bytes.{wrongLane}
 use Rattle.refusals.specs.Faults.{encodeFault, updateFault, recoverFault, rebuildFault, belongsFault, faultOf}
-use Rattle.blocks.specs.Answers.{outcomeOf, updateOf, membershipOf, outcomeNumber}
+use Rattle.blocks.specs.Answers.{outcomeOf, outcomeNumber}
 use Rattle.blocks.specs.Promises.{EncodeSays, UpdateSays, RecoverSays, RebuildSays, BelongsSays}
+use Rattle.blocks.proofs.Answered.{outcome-number, altered-means, refused-means, yes-means, no-means, refusal-means}
 use Rattle.blocks.proofs.Bytes.{altered-symbols}
 use Rattle.blocks.proofs.Refused.{update-refused, refused-value}
 use Rattle.balanced_c.specs.Calls.{EncodeGives, UpdateGives, RecoverGives, RebuildGives, BelongsGives}
-
--- the number of an outcome is the one that it was made of
-outcome-number : (f : ℕ) → outcomeNumber (outcomeOf f) ≡ f
-unfolding outcomeOf outcomeNumber
-outcome-number zero = refl
-outcome-number (suc f) = refl
 
 -- an outcome that a call says, by its number
 by-number : (a : Outcome) (r f : ℕ) → r ≡ outcomeNumber a → a ≡ outcomeOf f → r ≡ f
@@ -46,21 +37,6 @@ rebuild-gives rec l nodes shares target share share′ a r e says =
     let number = by-number a r (faultOf rec (λ h. rebuildFault h l nodes shares target (length share))) e (says .promise .answer) in
     record { number = number; says = record { promise = record { answer = ap outcomeOf number; written = says .promise .written } } }
 
--- two cases of an enum are never equal
-never : {A : Type 0} → _≡_ {A = ℕ} 0 1 → A
-never z = absurd (omega arith)
-
--- an update that altered nodes met no number; one that was refused met its number
-altered-means : (f count x : ℕ) → U.Altered x ≡ updateOf f count → (f ≡ 0) × (x ≡ count)
-unfolding updateOf
-altered-means zero count x e = (refl, cc)
-altered-means (suc f) count x e = never cc
-
-refused-means : (f count g : ℕ) → U.Refused g ≡ updateOf f count → (g ≡ f) × (g ≡ 0 → ⊥)
-unfolding updateOf
-refused-means zero count g e = never cc
-refused-means (suc f) count g e = let same : g ≡ suc f = cc in (same, λ z. omega arith)
-
 module _ (rec : List ℕ) (l symbol lane old new : ℕ) (shares : List ℕ) (altered : ℕ) (shares′ : List ℕ) (a : Update) (says : UpdateSays rec l symbol lane old new shares shares′ a) where
   pub update-done : (count : ℕ) → a ≡ U.Altered count → UpdateGives rec l symbol lane old new shares altered shares′ count 0
   update-done count e =
@@ -80,22 +56,6 @@ module _ (rec : List ℕ) (l symbol lane old new : ℕ) (shares : List ℕ) (alt
         altered-is = sym (refused-value g _ altered some);
       }
 
--- a membership that is yes, names a lane, or was refused
-yes-means : (f l wrong : ℕ) → M.Yes ≡ membershipOf f l wrong → (f ≡ 0) × (wrong ≡ l)
-unfolding membershipOf
-yes-means zero l wrong e = (refl, by-test (eqb wrong l) (λ q. eqb-true wrong l q) (λ q. let w : M.Yes ≡ M.No wrong = rw q at e in never cc))
-yes-means (suc f) l wrong e = never cc
-
-no-means : (f l wrong t : ℕ) → M.No t ≡ membershipOf f l wrong → (f ≡ 0) × (wrong ≡ t)
-unfolding membershipOf
-no-means zero l wrong t e = (refl, by-test (eqb wrong l) (λ q. let w : M.No t ≡ M.Yes = rw q at e in never cc) (λ q. let w : M.No t ≡ M.No wrong = rw q at e in cc))
-no-means (suc f) l wrong t e = never cc
-
-refusal-means : (f l wrong g : ℕ) → M.Refused g ≡ membershipOf f l wrong → (g ≡ f) × (g ≡ 0 → ⊥)
-unfolding membershipOf
-refusal-means zero l wrong g e = by-test (eqb wrong l) (λ q. let w : M.Refused g ≡ M.Yes = rw q at e in never cc) (λ q. let w : M.Refused g ≡ M.No wrong = rw q at e in never cc)
-refusal-means (suc f) l wrong g e = let same : g ≡ suc f = cc in (same, λ z. omega arith)
-
 module _ (rec : List ℕ) (l : ℕ) (shares : List ℕ) (first : ℕ) (a : Membership) (says : BelongsSays rec l shares a) where
   pub belongs-yes : a ≡ M.Yes → BelongsGives rec l shares first l 0
   belongs-yes e =
@@ -104,7 +64,7 @@ module _ (rec : List ℕ) (l : ℕ) (shares : List ℕ) (first : ℕ) (a : Membe
 
   pub belongs-no : (t : ℕ) → a ≡ M.No t → BelongsGives rec l shares first t 0
   belongs-no t e =
-      let (none, at) = no-means (faultOf rec (λ h. belongsFault h l shares)) l (wrongLane (headerOf rec) l shares) t (sym e ∙ says .promise .answer) in
+      let (none, at, other) = no-means (faultOf rec (λ h. belongsFault h l shares)) l (wrongLane (headerOf rec) l shares) t (sym e ∙ says .promise .answer) in
       record { number = sym none; first-is = sym at }
 
   pub belongs-refuses : (g : ℕ) → a ≡ M.Refused g → BelongsGives rec l shares first first g

@@ -5,6 +5,7 @@ pub mod Messages
 pub mod Words
 pub mod Bytes
 pub mod Refused
+pub mod Answered
 pub mod Notebook
 -- The same definitions as document 03 has them.
 pub mod Agreement

@@ -30,7 +30,7 @@ unfolding differ
 differ-same s = count-none (length s) 0 _ (λ i low high. rw (eq-eqb (getD s i 0) (getD s i 0) refl))
 
 -- what node j of an encoding holds
-node-at : (h : Header) (ms : List ℕ) (j : ℕ) → j < h .n → getD (encoding h ms) j 0 ≡ nodeOf h ms j
+pub node-at : (h : Header) (ms : List ℕ) (j : ℕ) → j < h .n → getD (encoding h ms) j 0 ≡ nodeOf h ms j
 unfolding encoding
 node-at h ms j node = rw zero-add at (getD-from (nodeOf h ms) 0 (h .n) j 0 node)
 

@@ -11,7 +11,7 @@ use Rattle.generator.proofs.Accepts.{accepted-sound}
 use Rattle.generator.proofs.Shifts.{shifts-first}
 use Rattle.generator.proofs.Entries.{row-weight, rows-base}
 use Rattle.generator.proofs.Recovery.{some-message, one-message}
-use Rattle.generator.proofs.Words.{words-poly, words-encode}
+use Rattle.generator.proofs.Words.{words-poly, words-encode, encoding-symbols, encoding-word}
 use Rattle.generator.proofs.Changes.{alters}
 use Rattle.generator.proofs.Costs.{depends, whole, depends-means}
 use Rattle.generator.proofs.SchemeOf.{our-scheme}
@@ -24,6 +24,8 @@ ours h s =
       one-message = one-message h s;
       words-poly = words-poly h s;
       words-encode = words-encode h s;
+      encodes-symbols = encoding-symbols h s;
+      encodes-word = encoding-word h s;
       row-weight = λ r j row node. row-weight h s r j;
       alters = λ ms r x m row low other. alters h s ms r x m row low other;
       depends = depends h s;

@@ -13,6 +13,8 @@ use lib.ListN.{length}
 use Rattle.lists.specs.Rows.{range}
 use Rattle.lists.specs.Numbers.{allBelow}
 use Rattle.lists.proofs.Cases.{and-left, and-right, both-true}
+use Rattle.lists.proofs.Numbers.{at-below}
+use Rattle.lists.proofs.Rows.{length-from, getD-from}
 use Rattle.algebra.specs.Field.{Field}
 use Rattle.algebra.proofs.Poly.{values}
 use Rattle.algebra.proofs.Nodes.{node, words}
@@ -23,8 +25,9 @@ use Rattle.field.proofs.FieldOf.{size-pos}
 use Rattle.generator.specs.declared.Header.{Header}
 use Rattle.generator.specs.Records.{modulusOf, size, Sound}
 use Rattle.generator.specs.Shifts.{shifts}
-use Rattle.generator.specs.Codewords.{encoding, valuesOf, checkFrom, checksFrom, isWord}
-use Rattle.generator.specs.Claims.{isMessage}
+use Rattle.generator.specs.Codewords.{nodeOf, encoding, valuesOf, checkFrom, checksFrom, isWord}
+use Rattle.generator.specs.Claims.{isMessage, Codeword}
+use Rattle.generator.proofs.Bounds.{nodeFrom-below}
 use Rattle.generator.proofs.Sound.{fieldFor, rootFor, root-order}
 use Rattle.generator.proofs.Bridge.{valuesOf-is, checkFrom-is, encoding-map}
 use Rattle.generator.proofs.Recovery.{the-code, lifted, lifted-numbers, length-lifted, message-size, message-below, numbers-message, held}
@@ -64,7 +67,7 @@ module _ (h : Header) (s : Sound h) where
       sum e = checkFrom-is h s e 0 ws ∙ ap (λ (x : ℕ). check (fieldFor h s) (rootFor h s) e ws (range 0 x) .0) l
 
   -- words are the values of polynomials of degree below k
-  pub words-poly : (ws : List ℕ) → length ws ≡ h .n → allBelow (size h) ws ≡ true → (isWord h ws ≡ true) ↔ ((cs : List ℕ) × (length cs ≡ h .k) × (allBelow (size h) cs ≡ true) × (valuesOf h cs ≡ ws))
+  pub words-poly : (ws : List ℕ) → length ws ≡ h .n → allBelow (size h) ws ≡ true → (isWord h ws ≡ true) ↔ Codeword h ws
   words-poly ws l b = (to, back)
     where
       is : numbers (size h) (lifted h s ws) ≡ ws
@@ -73,12 +76,12 @@ module _ (h : Header) (s : Sound h) where
       test : (isWord h (numbers (size h) (lifted h s ws)) ≡ true) ↔ Polynomial (lifted h s ws)
       test = word-polynomial (lifted h s ws) (length-lifted h s ws ∙ l)
 
-      to : isWord h ws ≡ true → (cs : List ℕ) × (length cs ≡ h .k) × (allBelow (size h) cs ≡ true) × (valuesOf h cs ≡ ws)
+      to : isWord h ws ≡ true → Codeword h ws
       to t =
           let (f, size-is, at) = test .0 (ap (isWord h) is ∙ t) in
           (numbers (size h) f, length-numbers (size h) f ∙ size-is, numbers-below (size h) f, valuesOf-is h s f ∙ ap (numbers (size h)) at ∙ is)
 
-      back : (cs : List ℕ) × (length cs ≡ h .k) × (allBelow (size h) cs ≡ true) × (valuesOf h cs ≡ ws) → isWord h ws ≡ true
+      back : Codeword h ws → isWord h ws ≡ true
       back (cs, size-is, low, at) =
           ap (isWord h) (sym is)
           ∙ test .1 (lifted h s cs, length-lifted h s cs ∙ size-is, numbers-path (size h) (size-pos (modulusOf h) (s .field)) _ (lifted h s ws) (sym (valuesOf-is h s (lifted h s cs)) ∙ ap (valuesOf h) (lifted-numbers h s cs low) ∙ at ∙ sym is))
@@ -107,3 +110,18 @@ module _ (h : Header) (s : Sound h) where
           let lm : length M ≡ h .k = length-lifted h s ms ∙ message-size h ms m in
           ap (isWord h) (sym is)
           ∙ test .1 (both .0 (M, lm, numbers-path (size h) (size-pos (modulusOf h) (s .field)) _ (lifted h s ws) (sym (held h s M (range 0 (h .n)) lm) ∙ sym (encoding-map h s (numbers (size h) M)) ∙ ap (encoding h) (lifted-numbers h s ms (message-below h ms m)) ∙ at ∙ sym is)))
+
+  -- the encoding of a message has a symbol for each node
+  pub encoding-size : (ms : List ℕ) → length (encoding h ms) ≡ h .n
+  unfolding encoding
+  encoding-size ms = length-from (nodeOf h ms) 0 (h .n)
+
+  pub encoding-symbols : (ms : List ℕ) → isMessage h ms ≡ true → allBelow (size h) (encoding h ms) ≡ true
+  unfolding encoding nodeOf
+  encoding-symbols ms m = at-below (size h) (encoding h ms) (λ j b. rw (getD-from (nodeOf h ms) 0 (h .n) j 0 (omega (arith, encoding-size ms))) (nodeFrom-below h s 0 ms (0 + j) (message-below h ms m)))
+
+  -- and is a word
+  pub encoding-word : (ms : List ℕ) → isMessage h ms ≡ true → Codeword h (encoding h ms)
+  encoding-word ms m =
+      let low = encoding-symbols ms m in
+      words-poly (encoding h ms) (encoding-size ms) low .0 (words-encode (encoding h ms) (encoding-size ms) low .1 (ms, m, refl))

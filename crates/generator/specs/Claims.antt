@@ -36,14 +36,21 @@ atNodes h ms js = map (nodeOf h ms) js
 unfoldable pub reads : Header → ℕ → ℕ
 reads h j = countFrom (h .k) 0 (λ r. not (eqb (entry h r j) 0))
 
+-- a word of the code: the values of a polynomial of degree below k
+abbrev pub Codeword : Header → List ℕ → Type 0
+Codeword h ws = (cs : List ℕ) × (length cs ≡ h .k) × (allBelow (size h) cs ≡ true) × (valuesOf h cs ≡ ws)
+
 -- the code of the plan: recovery, words, weights
 pub record Ours (h : Header) : Type 0 where
   -- any k symbols on k nodes are of exactly one message
   pub some-message : (js ys : List ℕ) → areNodes h js ≡ true → length ys ≡ h .k → allBelow (size h) ys ≡ true → (ms : List ℕ) × (isMessage h ms ≡ true) × (atNodes h ms js ≡ ys)
   pub one-message : (js ms us : List ℕ) → areNodes h js ≡ true → isMessage h ms ≡ true → isMessage h us ≡ true → atNodes h ms js ≡ atNodes h us js → ms ≡ us
   -- words are the values of polynomials of degree below k, and the encodings of messages
-  pub words-poly : (ws : List ℕ) → length ws ≡ h .n → allBelow (size h) ws ≡ true → (isWord h ws ≡ true) ↔ ((cs : List ℕ) × (length cs ≡ h .k) × (allBelow (size h) cs ≡ true) × (valuesOf h cs ≡ ws))
+  pub words-poly : (ws : List ℕ) → length ws ≡ h .n → allBelow (size h) ws ≡ true → (isWord h ws ≡ true) ↔ Codeword h ws
   pub words-encode : (ws : List ℕ) → length ws ≡ h .n → allBelow (size h) ws ≡ true → (isWord h ws ≡ true) ↔ ((ms : List ℕ) × (isMessage h ms ≡ true) × (encoding h ms ≡ ws))
+  -- the encoding of every message consists of symbols and is a word of the code
+  pub encodes-symbols : (ms : List ℕ) → isMessage h ms ≡ true → allBelow (size h) (encoding h ms) ≡ true
+  pub encodes-word : (ms : List ℕ) → isMessage h ms ≡ true → Codeword h (encoding h ms)
   -- an entry is not zero exactly where (j + shift) modulo n lies below d
   pub row-weight : (r j : ℕ) → r < h .k → j < h .n → eqb (entry h r j) 0 ≡ not (ltb ((j + getD (shifts h) r 0) % h .n) (distance h))
   -- each change of one symbol alters exactly d nodes

@@ -4,10 +4,11 @@ use mathlib.Core.List.{List}
 use Prim.Native.Nat.{ℕ, zero, suc}
 use native.Mathlib.Omega.{arith}
 use Rattle.lists.specs.Choice.{firstOf}
+use Rattle.lists.proofs.Cases.{first-zero}
 use Rattle.generator.specs.declared.Header.{Header}
 use Rattle.generator.specs.declared.Record.the-variants.{Holds, Meets}
-use Rattle.generator.specs.Records.{headerOf, recordFault, judged, recordOf}
-use Rattle.generator.proofs.Accepts.{held-header}
+use Rattle.generator.specs.Records.{headerOf, recordFault, judged, recordOf, Sound}
+use Rattle.generator.proofs.Accepts.{held-header, faultless-sound}
 use Rattle.refusals.specs.Faults.{faultOf}
 use Rattle.refusals.specs.Promise.{OnRecord}
 
@@ -26,6 +27,13 @@ met-number rec g e = go (recordFault rec) refl
 first-given : (g a : ℕ) → (g ≡ 0 → ⊥) → firstOf g a ≡ g
 first-given zero a n = absurd (n refl)
 first-given (suc g) a n = refl
+
+-- where neither the record nor the call has a number
+pub none-met : (rec : List ℕ) (call : Header → ℕ) → faultOf rec call ≡ 0 → Sound (headerOf rec) × (call (headerOf rec) ≡ 0)
+unfolding faultOf
+none-met rec call e =
+    let (none, after) = first-zero (recordFault rec) (call (headerOf rec)) e in
+    (faultless-sound rec none, after)
 
 module _ {rec : List ℕ} {call : Header → ℕ} {P : Header → ℕ → Type 0} where
   -- a record that holds a header leaves the number to the call

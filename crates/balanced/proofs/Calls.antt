@@ -1,0 +1,139 @@
+-- The demands of the calls themselves, from what each call promises.
+use mathlib.Core.Path.{_≡_, sym, ap, subst, _∙_}
+use mathlib.Core.Bool.{true}
+use mathlib.Core.List.{List}
+use Prim.Native.Nat.{ℕ, _*_, _<_}
+use native.Mathlib.Omega.{arith}
+use lib.ListN.{length, getD}
+use Rattle.layout.specs.Layout.{byRow, laneOf, shareLayout}
+use Rattle.layout.specs.Width.{symbolsOf, bytesOf}
+use Rattle.layout.proofs.Places.{share-lawful}
+use Rattle.generator.specs.declared.Header.{Header}
+use Rattle.generator.specs.Records.{headerOf, width}
+use Rattle.generator.specs.Codewords.{encoding}
+use Rattle.generator.specs.Claims.{isMessage}
+use Rattle.refusals.specs.Faults.{encodeFault, updateFault, recoverFault, rebuildFault, belongsFault, faultOf}
+use Rattle.refusals.specs.Accepted.{SymbolRows}
+use Rattle.refusals.proofs.Accepts.{encode-accepts, update-accepts, recover-accepts, rebuild-accepts, belongs-accepts}
+use Rattle.refusals.proofs.OnRecord.{none-met}
+use Rattle.blocks.specs.declared.Outcome.the-variants as O
+use Rattle.blocks.specs.declared.Update.the-variants as U
+use Rattle.blocks.specs.declared.Membership.the-variants as M
+use Rattle.blocks.specs.Blocks.{shareOf, sharesOf, updated, firstWrong, MessageFor}
+use Rattle.blocks.specs.Bytes.{RecoveredBytes, RebuiltBytes, wrongLane}
+use Rattle.blocks.specs.Promises.{EncodeSays, UpdateSays, RecoverSays, RebuildSays, BelongsSays}
+use Rattle.blocks.proofs.Answered.{done-means, altered-means, yes-means, no-means}
+use Rattle.blocks.proofs.Bytes.{symbols-are, bytes-are, encoded-bytes, updated-bytes, altered-symbols, wrong-lane}
+use Rattle.blocks.proofs.Messages.{one-buffer}
+use Rattle.blocks.proofs.Shares.{length-share}
+use Rattle.blocks.proofs.Words.{wrong-most}
+use Rattle.balanced.specs.Coding.{Symbols}
+use Rattle.balanced.specs.Calls.{read, EncodeDone, RecoverDone, RebuildDone, AllWords, SmallestWrong, UpdateDone, CallDemands}
+use Rattle.balanced.proofs.Coding.{code-demands}
+use Rattle.balanced.proofs.Updates.{update-demands}
+
+-- rows of symbols that no number turned away
+rows-are : (h : Header) (rows l : ℕ) (s : List ℕ) → SymbolRows h rows l s → Symbols h rows l s
+rows-are h rows l s r = record { long = r .long; symbols = r .symbols }
+
+module _ (rec : List ℕ) (l : ℕ) where
+  -- the record's header
+  abbrev h : Header
+  h = headerOf rec
+
+  encode : (message out out′ : List ℕ) → EncodeSays rec l message out out′ O.Done → EncodeDone h l message out′
+  encode message out out′ says =
+      let none = done-means (faultOf rec (λ h. encodeFault h l (length out) message)) (says .promise .answer) in
+      let (sound, own) = none-met rec (λ h. encodeFault h l (length out) message) none in
+      let (rows, long) = encode-accepts h sound l (length out) message own in
+      let written : out′ ≡ sharesOf shareLayout h l message = rw none at (says .promise .written) ∙ encoded-bytes h l message in
+      let code = code-demands h sound in
+      record {
+        lanes = λ t inside. rw (symbols-are h out′, symbols-are h message, written) (code .encodes l message t inside);
+        words = λ t inside. rw (symbols-are h out′, written) (code .word l message (rows-are h (h .k) l message rows) t inside);
+      }
+
+  module _ (nodes shares : List ℕ) where
+    recover : (out out′ : List ℕ) → RecoverSays rec l nodes shares out out′ O.Done → RecoverDone h l nodes shares out′
+    unfolding RecoveredBytes
+    recover out out′ says =
+        let none = done-means (faultOf rec (λ h. recoverFault h l nodes shares (length out))) (says .promise .answer) in
+        let (sound, own) = none-met rec (λ h. recoverFault h l nodes shares (length out)) none in
+        let (listed, long) = recover-accepts h sound l nodes shares (length out) own in
+        let (m, is, written) = rw none at (says .promise .written) in
+        let same : read h out′ ≡ m = symbols-are h out′ ∙ written ∙ bytes-are h m in
+        let code = code-demands h sound in
+        record {
+          encodes = rw same is;
+          one = λ u other. code .one l nodes (read h shares) u m (listed .different) other is ∙ sym same;
+          returns = λ u symbols e. same ∙ code .returns l nodes u m (listed .different) symbols (subst (λ (x : List ℕ). MessageFor shareLayout h l nodes x m) e is);
+        }
+
+    rebuild : (target : ℕ) (out out′ : List ℕ) → RebuildSays rec l nodes shares target out out′ O.Done → RebuildDone h l nodes shares target out′
+    unfolding RebuiltBytes
+    rebuild target out out′ says =
+        let none = done-means (faultOf rec (λ h. rebuildFault h l nodes shares target (length out))) (says .promise .answer) in
+        let (sound, own) = none-met rec (λ h. rebuildFault h l nodes shares target (length out)) none in
+        let (listed, node, long) = rebuild-accepts h sound l nodes shares target (length out) own in
+        let (m, is, written) = rw none at (says .promise .written) in
+        let same : read h out′ ≡ shareOf h l m target = symbols-are h out′ ∙ written ∙ bytes-are h (shareOf h l m target) in
+        let code = code-demands h sound in
+        record {
+          some = (m, is);
+          long = ap length same ∙ length-share h l m target;
+          symbols = λ u other t inside.
+              let equal : m ≡ u = code .one l nodes (read h shares) m u (listed .different) is other in
+              rw (same, equal) (code .rebuilds l u target t node inside);
+        }
+
+  module _ (shares : List ℕ) where
+    passes : BelongsSays rec l shares M.Yes → AllWords h l shares
+    passes says =
+        let (none, all) = yes-means (faultOf rec (λ h. belongsFault h l shares)) l (wrongLane h l shares) (says .promise .answer) in
+        let (sound, own) = none-met rec (λ h. belongsFault h l shares) none in
+        let rows = belongs-accepts h sound l shares own in
+        λ t inside. rw (symbols-are h shares) (code-demands h sound .passes l shares (rows-are h (h .n) l shares rows) .0 (sym (wrong-lane h l shares) ∙ all) t inside)
+
+    names : (wrong : ℕ) → BelongsSays rec l shares (M.No wrong) → SmallestWrong h l shares wrong
+    names wrong says =
+        let (none, at, other) = no-means (faultOf rec (λ h. belongsFault h l shares)) l (wrongLane h l shares) wrong (says .promise .answer) in
+        let (sound, own) = none-met rec (λ h. belongsFault h l shares) none in
+        let rows = belongs-accepts h sound l shares own in
+        let is : firstWrong shareLayout h l shares ≡ wrong = sym (wrong-lane h l shares) ∙ at in
+        let inside : firstWrong shareLayout h l shares < l = omega (arith, wrong-most shareLayout h l shares) in
+        let (no-word, smaller) = rw is at (code-demands h sound .names l shares (rows-are h (h .n) l shares rows) inside) in
+        record {
+          lane = omega arith;
+          no-word = rw (symbols-are h shares) no-word;
+          smaller = rw (symbols-are h shares) smaller;
+        }
+
+  update : (r t old new : ℕ) (shares shares′ : List ℕ) (count : ℕ) → UpdateSays rec l r t old new shares shares′ (U.Altered count) → (ms : List ℕ) → isMessage h ms ≡ true → getD ms r 0 ≡ old → laneOf shareLayout (h .n) l t (read h shares) ≡ encoding h ms → UpdateDone h ms shares shares′ l r t new count
+  update r t old new shares shares′ count says ms message held encodes =
+      let (none, same) = altered-means (faultOf rec (λ h. updateFault h l r t old new shares)) _ count (says .promise .answer) in
+      let (sound, own) = none-met rec (λ h. updateFault h l r t old new shares) none in
+      let (lane, old-symbol, new-symbol) = update-accepts h sound l r t old new shares own in
+      let written = rw none at (says .promise .written) in
+      let now : shares′ ≡ updated shareLayout h l r t (getD ms r 0) new shares = rw held (written ∙ updated-bytes h l r t old new shares) in
+      record {
+        after = rw (symbols-are h shares, symbols-are h shares′, now) (update-demands h sound .updates ms shares l r t new (record {
+          message = message;
+          row = lane .row;
+          lane = lane .lane;
+          symbol = new-symbol;
+          long = lane .long;
+          encodes = rw symbols-are at encodes;
+        }));
+        reports = same ∙ altered-symbols h l r t old new shares shares′ written;
+      }
+
+pub call-demands : CallDemands
+call-demands =
+    record {
+      encode = encode;
+      recover = recover;
+      rebuild = rebuild;
+      passes = passes;
+      names = names;
+      update = update;
+    }
