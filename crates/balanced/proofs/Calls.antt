@@ -2,19 +2,18 @@
 use mathlib.Core.Path.{_≡_, sym, ap, subst, _∙_}
 use mathlib.Core.Bool.{true}
 use mathlib.Core.List.{List}
-use Prim.Native.Nat.{ℕ, _*_, _<_}
+use Prim.Native.Nat.{ℕ, _<_}
 use native.Mathlib.Omega.{arith}
 use lib.ListN.{length, getD}
-use Rattle.layout.specs.Layout.{byRow, laneOf, shareLayout}
-use Rattle.layout.specs.Width.{symbolsOf, bytesOf}
-use Rattle.layout.proofs.Places.{share-lawful}
+use Rattle.layout.specs.Layout.{laneOf, shareLayout}
 use Rattle.generator.specs.declared.Header.{Header}
-use Rattle.generator.specs.Records.{headerOf, width}
+use Rattle.generator.specs.Records.{headerOf}
 use Rattle.generator.specs.Codewords.{encoding}
 use Rattle.generator.specs.Claims.{isMessage}
 use Rattle.refusals.specs.Faults.{encodeFault, updateFault, recoverFault, rebuildFault, belongsFault, faultOf}
 use Rattle.refusals.specs.Accepted.{SymbolRows}
 use Rattle.refusals.proofs.Accepts.{encode-accepts, update-accepts, recover-accepts, rebuild-accepts, belongs-accepts}
+use Rattle.refusals.proofs.OneByte.{symbols-are, bytes-are}
 use Rattle.refusals.proofs.OnRecord.{none-met}
 use Rattle.blocks.specs.declared.Outcome.the-variants as O
 use Rattle.blocks.specs.declared.Update.the-variants as U
@@ -23,8 +22,7 @@ use Rattle.blocks.specs.Blocks.{shareOf, sharesOf, updated, firstWrong, Message
 use Rattle.blocks.specs.Bytes.{RecoveredBytes, RebuiltBytes, wrongLane}
 use Rattle.blocks.specs.Promises.{EncodeSays, UpdateSays, RecoverSays, RebuildSays, BelongsSays}
 use Rattle.blocks.proofs.Answered.{done-means, altered-means, yes-means, no-means}
-use Rattle.blocks.proofs.Bytes.{symbols-are, bytes-are, encoded-bytes, updated-bytes, altered-symbols, wrong-lane}
-use Rattle.blocks.proofs.Messages.{one-buffer}
+use Rattle.blocks.proofs.Bytes.{encoded-bytes, updated-bytes, altered-symbols, wrong-lane}
 use Rattle.blocks.proofs.Shares.{length-share}
 use Rattle.blocks.proofs.Words.{wrong-most}
 use Rattle.balanced.specs.Coding.{Symbols}
