@@ -24,10 +24,10 @@ def run(program, record):
 
 
 def sheet(record):
-    """n, k, d, b, and for each row its shift and its entries."""
+    """n, k, d, b, which may be one of two numbers, and for each row its shift and its entries."""
     head, *rows = run("sheet", record)
-    n, k, d, b = map(int, head[1:])
-    return n, k, d, b, [(int(row[2]), [int(x) for x in row[3:]]) for row in rows]
+    n, k, d, *b = map(int, head[1:])
+    return n, k, d, " or ".join(map(str, b)), [(int(row[2]), [int(x) for x in row[3:]]) for row in rows]
 
 
 def compare(record):
@@ -227,9 +227,10 @@ def has_functions(name):
 
 # ---------------------------------------------------------------- all of them
 
-SMALL, LARGE = (1, 7, 3, 6, 4), (2, 2, 255, 120)
+SMALL, UNEVEN, LARGE = (1, 7, 3, 6, 4), (1, 7, 3, 6, 5), (2, 2, 255, 120)
 PICTURES = {
     "generator-6-4.svg": lambda: small_generator(SMALL),
+    "generator-6-5.svg": lambda: small_generator(UNEVEN),
     "generator-255-120.svg": lambda: large_generator(LARGE),
     "reads-6-4.svg": lambda: reads_per_node(SMALL),
     "reads-255-120.svg": lambda: reads_per_node(LARGE),

@@ -2,7 +2,7 @@
  * balanced.h: the interface for C of the balanced image store.
  *
  * The store lays a message over n nodes so that any k of them give it back, a change of one symbol writes n-k+1 nodes,
- * and every node depends on the same number of symbols. Link with libbalanced_c.a (docs/LINKING.md). The functions are
+ * and the symbols that nodes depend on are shared out as evenly as can be. Link with libbalanced_c.a (docs/LINKING.md). The functions are
  * written in Rattle and proved: crates/balanced_c has the contract of each.
  *
  *
@@ -15,9 +15,9 @@
  *   kind 2, the field of 256 elements:  2 a n k     (4 bytes)   every byte is a symbol; products are modulo 0x11D
  *
  * n is the number of nodes, at least 2. k is the number of symbols of a message, from 1 to n. a is a root: a symbol
- * of multiplicative order exactly n. With d = n-k+1, the number b = k*d/n must be whole. d is the number of nodes that
- * a change of one symbol writes, and b is the number of symbols that each node depends on.
- * For example { 2, 11, 15, 10 } is a code for bytes with n = 15 and k = 10, so d = 6 and b = 4.
+ * of multiplicative order exactly n. d = n-k+1 is the number of nodes that a change of one symbol writes. Each node
+ * depends on k*d/n symbols, rounded down or up.
+ * For example { 2, 11, 15, 10 } is a code for bytes with n = 15 and k = 10, so d = 6 and every node depends on 4 symbols.
  *
  *
  * Blocks
@@ -70,7 +70,7 @@ enum balanced_number {
     BALANCED_FIELD = 3,   /* kind 1, and p is not a prime from 3 to 251 */
     BALANCED_SIZE = 4,    /* n is below 2, k is 0, or k is above n */
     BALANCED_ROOT = 5,    /* the root is not a symbol of order exactly n */
-    BALANCED_UNEVEN = 6,  /* n does not divide k * d */
+    BALANCED_UNEVEN = 6,  /* reserved: no longer given */
     BALANCED_LANES = 7,   /* lanes is 0 or above 4,096 */
     BALANCED_LENGTH = 8,  /* a buffer or a list of nodes has another length than stated */
     BALANCED_RANGE = 9,   /* a node, symbol or lane number is outside its range */
@@ -81,21 +81,21 @@ enum balanced_number {
 /* The largest numbers of lanes and of nodes; the lengths of the buffers of balanced_plan. */
 #define BALANCED_MAX_LANES 4096
 #define BALANCED_MAX_NODES 255
-#define BALANCED_PLAN_NUMBERS 4
+#define BALANCED_PLAN_NUMBERS 5
 #define BALANCED_PLAN_SHIFTS 255
 #define BALANCED_PLAN_BASE 255
 
 /*
  * The plan of a record.
  *
- *   numbers  4 bytes, written: n, k, d, b
- *   shifts   255 bytes, written: the k shifts, rising, then zeros
+ *   numbers  5 bytes, written: n, k, d, and k * d / n rounded down and rounded up, which are equal where it is whole
+ *   shifts   255 bytes, written: the k shifts in the order of the rows, then zeros
  *   base     255 bytes, written: the n entries of the base word, then zeros
  *
  * Entry (r, j) of the generator, by which symbol r of a message goes into node j, is base[(j + shifts[r]) % n]. It is
  * not 0 exactly where (j + shifts[r]) % n is below d.
  *
- * Returns 0 or one of 1 to 6, 8.
+ * Returns 0 or one of 1 to 5, 8.
  */
 uint8_t balanced_plan(const uint8_t *record, size_t record_len,
                       uint8_t *numbers, size_t numbers_len,
@@ -108,7 +108,7 @@ uint8_t balanced_plan(const uint8_t *record, size_t record_len,
  *   message  k * lanes bytes, read
  *   shares   n * lanes bytes, written
  *
- * Returns 0 or one of 1 to 8, 11.
+ * Returns 0 or one of 1 to 5, 7, 8, 11.
  */
 uint8_t balanced_encode(const uint8_t *record, size_t record_len,
                         uint32_t lanes,
@@ -128,7 +128,7 @@ uint8_t balanced_encode(const uint8_t *record, size_t record_len,
  * place, and *altered is n-k+1, or 0 where the two symbols are equal. The caller sees to it that old_symbol is the
  * true one. Bytes of other lanes are neither read nor changed.
  *
- * Returns 0 or one of 1 to 9, 11. For 11 the two symbols and the n bytes of the lane count.
+ * Returns 0 or one of 1 to 5, 7 to 9, 11. For 11 the two symbols and the n bytes of the lane count.
  */
 uint8_t balanced_update(const uint8_t *record, size_t record_len,
                         uint32_t lanes, uint32_t symbol, uint32_t lane,
@@ -146,7 +146,7 @@ uint8_t balanced_update(const uint8_t *record, size_t record_len,
  * The message is the one whose encoding holds the given shares at those nodes. There is exactly one, whatever symbols
  * the shares hold.
  *
- * Returns 0 or one of 1 to 11.
+ * Returns 0 or one of 1 to 5, 7 to 11.
  */
 uint8_t balanced_recover(const uint8_t *record, size_t record_len,
                          uint32_t lanes,
@@ -162,7 +162,7 @@ uint8_t balanced_recover(const uint8_t *record, size_t record_len,
  *   target   the node to rebuild, below n; it may stand in the list
  *   share    lanes bytes, written: the target's share of the encoding of the message that balanced_recover would give
  *
- * Returns 0 or one of 1 to 11.
+ * Returns 0 or one of 1 to 5, 7 to 11.
  */
 uint8_t balanced_rebuild(const uint8_t *record, size_t record_len,
                          uint32_t lanes,
@@ -179,7 +179,7 @@ uint8_t balanced_rebuild(const uint8_t *record, size_t record_len,
  *
  * A block that does not belong to the code is a result, and the call returns 0.
  *
- * Returns 0 or one of 1 to 8, 11.
+ * Returns 0 or one of 1 to 5, 7, 8, 11.
  */
 uint8_t balanced_belongs(const uint8_t *record, size_t record_len,
                          uint32_t lanes,

@@ -40,8 +40,8 @@ static void even(void) {
     for (unsigned k = 1; k <= 255; k++) {
         const uint8_t record[4] = { 2, 2, 255, (uint8_t)k };
         uint8_t number = balanced_plan(record, 4, numbers, sizeof numbers, shifts, sizeof shifts, base, sizeof base);
-        if (number == BALANCED_OK) printf(" k %u d %u b %u", numbers[1], numbers[2], numbers[3]);
-        else if (number != BALANCED_UNEVEN) printf(" refused %u", number);
+        if (number != BALANCED_OK) printf(" refused %u", number);
+        else if (numbers[3] == numbers[4]) printf(" k %u d %u b %u", numbers[1], numbers[2], numbers[3]);
     }
     puts("");
 }
@@ -129,6 +129,7 @@ int main(void) {
         { { 1, 251, 6, 250, 125 }, 5, 250, 250, 125, 4096 },
         { { 2, 32, 51, 18 }, 4, 255, 51, 18, 1000 },
         { { 1, 251, 246, 50, 25 }, 5, 250, 50, 25, 1001 },
+        { { 2, 2, 255, 119 }, 4, 255, 255, 119, 1000 },
         { { 1, 251, 250, 2, 1 }, 5, 250, 2, 1, 4097 },
     };
     even();

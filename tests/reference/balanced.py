@@ -117,12 +117,10 @@ def read(record):
         return 4
     if root >= field.size or order(field, root) != n:
         return 5
-    if k * (n - k + 1) % n:
-        return 6
     return p, root, n, k
 
 
-def shifts_of(n, k, d):
+def even_shifts(n, k, d):
     """Going round 0 to n - 1: take k/g places, skip (d - 1)/g, and repeat."""
     g = gcd(k, n)
     taken, place = [], 0
@@ -135,13 +133,26 @@ def shifts_of(n, k, d):
     return taken
 
 
+def first_nodes(n, k, d):
+    """The nodes at which rows begin that are laid end to end; m of them come round, and the next begins one node further."""
+    m = n // gcd(n, d)
+    return [(r // m + r % m * d) % n for r in range(k)]
+
+
+def shifts_of(n, k, d):
+    """Lemma 2's shifts where the nodes can share evenly, and else those of rows laid end to end."""
+    if k * d % n == 0:
+        return even_shifts(n, k, d)
+    return [-node % n for node in first_nodes(n, k, d)]
+
+
 class Plan:
     """The plan of an accepted record; `entries[r][j]` is the generator."""
 
     def __init__(self, p, root, n, k):
         self.field = field = field_of(p)
         self.n, self.k, self.d = n, k, n - k + 1
-        self.b = k * self.d // n
+        self.low, self.high = k * self.d // n, -(-k * self.d // n)
         self.shifts = shifts_of(n, k, self.d)
         self.powers = [1]
         for _ in range(n - 1):

@@ -23,7 +23,7 @@ def answer(name, record, arguments):
         number, plan = build_plan(record)
         if number:
             return f"refused {number}, all places 0"
-        numbers = f"n {plan.n} k {plan.k} d {plan.d} b {plan.b}"
+        numbers = f"n {plan.n} k {plan.k} d {plan.d} reads {plan.low} {plan.high}"
         return f"{numbers} shifts{block(bytes(plan.shifts))} then 0 base{block(bytes(plan.entries[0]))} then 0"
     if name == "update":
         number, result = update(record, *arguments)

@@ -8,7 +8,7 @@ def even():
     line = "even 2 2 255:"
     for k in range(1, 256):
         number, plan = build_plan([2, 2, 255, k])
-        line += f" k {plan.k} d {plan.d} b {plan.b}" if not number else "" if number == 6 else f" refused {number}"
+        line += f" refused {number}" if number else f" k {plan.k} d {plan.d} b {plan.low}" if plan.low == plan.high else ""
     print(line)
 
 
@@ -72,4 +72,5 @@ block([2, 2, 255, 120], 4096)
 block([1, 251, 6, 250, 125], 4096)
 block([2, 32, 51, 18], 1000)
 block([1, 251, 246, 50, 25], 1001)
+block([2, 2, 255, 119], 1000)
 block([1, 251, 250, 2, 1], 4097)

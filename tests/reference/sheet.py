@@ -11,7 +11,8 @@ def sheet(record):
     number, plan = build_plan(record)
     if number:
         return [f"refused {number}"]
-    lines = [f"plan {plan.n} {plan.k} {plan.d} {plan.b}"]
+    reads = [plan.low] if plan.low == plan.high else [plan.low, plan.high]
+    lines = [" ".join(map(str, ["plan", plan.n, plan.k, plan.d, *reads]))]
     for r, (shift, entries) in enumerate(zip(plan.shifts, plan.entries)):
         lines.append(" ".join(map(str, ["row", r, shift, *entries])))
     return lines

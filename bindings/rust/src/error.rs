@@ -16,7 +16,7 @@ pub enum Error {
     Size = 4,
     /// The root is not a symbol of order exactly n.
     Root = 5,
-    /// n does not divide k·d.
+    /// Reserved: no call gives it any longer. It turned a record away whose nodes cannot share evenly.
     Uneven = 6,
     /// The number of lanes is 0 or above 4,096.
     Lanes = 7,
@@ -90,7 +90,7 @@ impl fmt::Display for Error {
             Error::Field => "p is not a prime from 3 to 251",
             Error::Size => "n is below 2, k is 0, or k is above n",
             Error::Root => "the root is not a symbol of order exactly n",
-            Error::Uneven => "n does not divide k·d",
+            Error::Uneven => "reserved, no longer given",
             Error::Lanes => "the number of lanes is 0 or above 4,096",
             Error::Length => "a buffer or a list of nodes has another length than stated",
             Error::Range => "a node, symbol or lane number is outside its range",

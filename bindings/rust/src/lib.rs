@@ -1,5 +1,5 @@
 //! The balanced image store: a message of k symbols per lane is laid over n nodes so that any k of them give it back, a
-//! change of one symbol writes n−k+1 nodes, and every node depends on the same number of symbols.
+//! change of one symbol writes n−k+1 nodes, and the symbols that nodes depend on are shared out as evenly as can be.
 //!
 //! This crate is a safe interface to `libbalanced_c.a`, whose functions are written in Rattle and proved to do what their
 //! contracts say (`crates/balanced_c`). It has no other dependency.
@@ -13,7 +13,8 @@
 //! | 1, a prime field | `[1, p, root, n, k]`, p a prime from 3 to 251 | the bytes 0 to p−1 |
 //! | 2, the field of 256 elements | `[2, root, n, k]` | every byte; products are reduced by 0x11D |
 //!
-//! n is at least 2, k runs from 1 to n, the root has order exactly n, and with d = n−k+1 the number b = k·d/n is whole.
+//! n is at least 2, k runs from 1 to n, and the root has order exactly n. With d = n−k+1, each node depends on k·d/n symbols,
+//! rounded down or up.
 //! A [`Plan`] is a record that was accepted, with what it stands for. Its methods are the calls of the store. The
 //! functions of this module are the same calls on a record that was not looked at before.
 //!
@@ -32,7 +33,8 @@
 //!
 //! // The field of 7 elements, 6 nodes, any 3 of which give the message back.
 //! let plan = Plan::new(&[1, 7, 3, 6, 3])?;
-//! assert_eq!((plan.n(), plan.k(), plan.d(), plan.b()), (6, 3, 4, 2));
+//! assert_eq!((plan.n(), plan.k(), plan.d()), (6, 3, 4));
+//! assert_eq!((plan.low_reads(), plan.high_reads()), (2, 2));
 //! assert_eq!(plan.shifts(), [0, 2, 4]);
 //! assert_eq!(plan.base_word(), [6, 1, 3, 1, 0, 0]);
 //!

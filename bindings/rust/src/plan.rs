@@ -7,18 +7,18 @@ use crate::{calls, sys, Error, MAX_NODES};
 pub struct Plan {
     record: [u8; 5],
     record_len: usize,
-    numbers: [u8; 4],
+    numbers: [u8; 5],
     shifts: [u8; MAX_NODES],
     base: [u8; MAX_NODES],
 }
 
 impl Plan {
-    /// The plan of a record, or what turns the record away: one of the errors from `Kind` to `Uneven`.
+    /// The plan of a record, or what turns the record away: one of the errors from `Kind` to `Root`.
     pub fn new(record: &[u8]) -> Result<Plan, Error> {
         let mut plan = Plan {
             record: [0; 5],
             record_len: record.len(),
-            numbers: [0; 4],
+            numbers: [0; 5],
             shifts: [0; MAX_NODES],
             base: [0; MAX_NODES],
         };
@@ -61,12 +61,17 @@ impl Plan {
         self.numbers[2].into()
     }
 
-    /// k·d/n, the number of symbols that each node depends on.
-    pub fn b(&self) -> usize {
+    /// k·d/n rounded down, the least number of symbols that a node depends on.
+    pub fn low_reads(&self) -> usize {
         self.numbers[3].into()
     }
 
-    /// The k shifts, rising.
+    /// k·d/n rounded up, the greatest number of symbols that a node depends on. No scheme has a lesser greatest number.
+    pub fn high_reads(&self) -> usize {
+        self.numbers[4].into()
+    }
+
+    /// The k shifts, in the order of the rows.
     pub fn shifts(&self) -> &[u8] {
         &self.shifts[..self.k()]
     }
@@ -129,7 +134,8 @@ impl fmt::Debug for Plan {
             .field("n", &self.n())
             .field("k", &self.k())
             .field("d", &self.d())
-            .field("b", &self.b())
+            .field("low_reads", &self.low_reads())
+            .field("high_reads", &self.high_reads())
             .finish()
     }
 }

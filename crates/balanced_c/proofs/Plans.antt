@@ -27,21 +27,22 @@ plan-number rec = go (recordFault rec) (headerOf rec)
     go (suc f) h = refl
 
 -- number 8 is not met
-lengths : (numbers shifts base : ℕ) → lengthFault numbers shifts base ≡ 0 → (numbers ≡ 4) × (shifts ≡ 255) × (base ≡ 255)
+lengths : (numbers shifts base : ℕ) → lengthFault numbers shifts base ≡ 0 → (numbers ≡ 5) × (shifts ≡ 255) × (base ≡ 255)
 unfolding lengthFault
 lengths numbers shifts base e =
-    let all : (eqb numbers 4 && (eqb shifts 255 && eqb base 255)) ≡ true = not-false _ (when-zero _ 7 e) in
-    let two : (eqb shifts 255 && eqb base 255) ≡ true = and-right (eqb numbers 4) _ all in
-    (eqb-true numbers 4 (and-left _ _ all), eqb-true shifts 255 (and-left _ (eqb base 255) two), eqb-true base 255 (and-right (eqb shifts 255) _ two))
+    let all : (eqb numbers 5 && (eqb shifts 255 && eqb base 255)) ≡ true = not-false _ (when-zero _ 7 e) in
+    let two : (eqb shifts 255 && eqb base 255) ≡ true = and-right (eqb numbers 5) _ all in
+    (eqb-true numbers 5 (and-left _ _ all), eqb-true shifts 255 (and-left _ (eqb base 255) two), eqb-true base 255 (and-right (eqb shifts 255) _ two))
 
--- four numbers written one after the other
-pub four-set : (s : List ℕ) (a b c d : ℕ) → length s ≡ 4 → set (set (set (set s 0 a) 1 b) 2 c) 3 d ≡ a ∷ b ∷ c ∷ d ∷ []
-four-set [] a b c d e = absurd (omega arith)
-four-set (w ∷ []) a b c d e = absurd (omega arith)
-four-set (w ∷ x ∷ []) a b c d e = absurd (omega arith)
-four-set (w ∷ x ∷ y ∷ []) a b c d e = absurd (omega arith)
-four-set (w ∷ x ∷ y ∷ z ∷ []) a b c d e = refl
-four-set (w ∷ x ∷ y ∷ z ∷ v ∷ t) a b c d e = absurd (omega arith)
+-- five numbers written one after the other
+pub five-set : (s : List ℕ) (a b c d e : ℕ) → length s ≡ 5 → set (set (set (set (set s 0 a) 1 b) 2 c) 3 d) 4 e ≡ a ∷ b ∷ c ∷ d ∷ e ∷ []
+five-set [] a b c d e h = absurd (omega arith)
+five-set (v ∷ []) a b c d e h = absurd (omega arith)
+five-set (v ∷ w ∷ []) a b c d e h = absurd (omega arith)
+five-set (v ∷ w ∷ x ∷ []) a b c d e h = absurd (omega arith)
+five-set (v ∷ w ∷ x ∷ y ∷ []) a b c d e h = absurd (omega arith)
+five-set (v ∷ w ∷ x ∷ y ∷ z ∷ []) a b c d e h = refl
+five-set (v ∷ w ∷ x ∷ y ∷ z ∷ u ∷ t) a b c d e h = absurd (omega arith)
 
 module _ (rec numbers shifts base : List ℕ) (p : Plan) (r : ℕ) (says : PlanSays rec p) (e : r ≡ firstOf (p .number) (lengthFault (length numbers) (length shifts) (length base))) where
   number-is : r ≡ faultOf rec (λ h. lengthFault (length numbers) (length shifts) (length base))
@@ -49,7 +50,7 @@ module _ (rec numbers shifts base : List ℕ) (p : Plan) (r : ℕ) (says : PlanS
   number-is = e ∙ ap (λ (f : ℕ). firstOf f (lengthFault (length numbers) (length shifts) (length base))) (ap (λ (q : Plan). q .number) (says .plan) ∙ plan-number rec)
 
   -- where no number is met, the buffers have the stated lengths
-  pub plan-lengths : r ≡ 0 → (length numbers ≡ 4) × (length shifts ≡ 255) × (length base ≡ 255)
+  pub plan-lengths : r ≡ 0 → (length numbers ≡ 5) × (length shifts ≡ 255) × (length base ≡ 255)
   plan-lengths none = lengths (length numbers) (length shifts) (length base) (first-zero (p .number) _ (sym e ∙ none) .1)
 
   pub plan-refused : (r ≡ 0 → ⊥) → PlanGives rec numbers shifts base numbers shifts base r

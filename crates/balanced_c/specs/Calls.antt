@@ -19,11 +19,11 @@ use Rattle.blocks.specs.Promises.{EncodeSays, UpdateSays, RecoverSays, RebuildS
 
 -- number 8 of `balanced_plan`, from the lengths of its buffers
 unfoldable pub lengthFault : ℕ → ℕ → ℕ → ℕ
-lengthFault numbers shifts base = when (not (eqb numbers 4 && (eqb shifts 255 && eqb base 255))) 8
+lengthFault numbers shifts base = when (not (eqb numbers 5 && (eqb shifts 255 && eqb base 255))) 8
 
--- n, k, d, b
+-- n, k, d, and k·d / n rounded down and up
 unfoldable pub numbersOf : Plan → List ℕ
-numbersOf p = p .n ∷ p .k ∷ p .d ∷ p .b ∷ []
+numbersOf p = p .n ∷ p .k ∷ p .d ∷ p .low ∷ p .high ∷ []
 
 -- `balanced_plan`: the plan's parts, and what is claimed of every accepted record
 pub record PlanGives (rec numbers shifts base numbers′ shifts′ base′ : List ℕ) (r : ℕ) : Type 0 where

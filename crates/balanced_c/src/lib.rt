@@ -28,21 +28,22 @@ fn plan_fault(number: u8, numbers: usize, shifts: usize, base: usize) -> u8
     if number != 0 {
         return number;
     }
-    if numbers != 4 || shifts != 255 || base != 255 {
+    if numbers != 5 || shifts != 255 || base != 255 {
         return 8;
     }
     0
 }
 
-// Writes n, k, d, b.
+// Writes n, k, d, and k·d / n rounded down and up.
 fn put_numbers(plan: Plan, numbers: &mut [u8])
-    requires { ⌜ length (now numbers) ≡ 4 ⌝ }
+    requires { ⌜ length (now numbers) ≡ 5 ⌝ }
     ensures { λ r. ⌜ now (numbers .exit) ≡ numbersOf plan ⌝ }
 {
     numbers[0] = plan.n;
     numbers[1] = plan.k;
     numbers[2] = plan.d;
-    numbers[3] = plan.b;
+    numbers[3] = plan.low;
+    numbers[4] = plan.high;
 }
 
 // Copies a slice to another of the same length.
@@ -69,7 +70,7 @@ fn copy_bytes(from: &[u16], to: &mut [u8])
     }
 }
 
-// The plan of a record: n, k, d, b; the shifts; the base word.
+// The plan of a record: n, k, d, k·d / n rounded down and up; the shifts; the base word.
 #[no_mangle]
 pub extern "C" fn balanced_plan(
     rec: &[u8],

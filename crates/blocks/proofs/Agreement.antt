@@ -1,11 +1,11 @@
--- Lanes, shares, updates, the code test and recovered messages as document 03 states them (specs/Blocks.antt and specs/Says.antt), and that ours, with shares row after row, are the same for every sound header.
+-- Lanes, shares, updates, the code test and recovered messages as document 03 states them (specs/Blocks.antt and specs/Says.antt), and that ours, with shares row after row, are the same for every sound header whose n divides k·d, as document 03 asks.
 -- Its text stands here but for the marks: what it has as `abbrev` is `unfoldable`. Its numbers 7 to 11 are quoted in FaultsAgreement, its records and generator in the crate `generator`, its arithmetic in the crate `field`;
 -- its `when` and `allBelow` are those of `lists`, the same recursions.
 use mathlib.Core.Path.{_≡_, refl, sym, ap, ap₂, _∙_}
 use mathlib.Core.Logic.{_↔_}
 use mathlib.Core.Bool.{true, false, not}
 use mathlib.Core.List.{List, [], _∷_, _++_}
-use Prim.Native.Nat.{ℕ, zero, suc, _+_, _*_, _≤_, _<_}
+use Prim.Native.Nat.{ℕ, zero, suc, _+_, _*_, _%_, _≤_, _<_}
 use native.Mathlib.Nat.{zero-add, zero-mul, le-refl}
 use native.Mathlib.Numerals.{add-one}
 use native.Mathlib.Omega.{arith}
@@ -116,12 +116,12 @@ differ-agrees (x ∷ xs) (y ∷ ys) e =
     ap (λ (c : ℕ). when (not (eqb x y)) 1 + c)
     (differ-agrees xs ys (omega arith) ∙ sym (simp add-one at (count-move (length xs) 0 1 (λ i. not (eqb (getD (x ∷ xs) i 0) (getD (y ∷ ys) i 0))))))
 
-module _ (h : Own.Header) (sound : R.Sound h) where
+module _ (h : Own.Header) (sound : R.Sound h) (even : h .k * R.distance h % h .n ≡ 0) where
   -- the shares of a message buffer
   module _ (l : ℕ) (s : List ℕ) (long : length s ≡ h .k * l) (symbols : allBelow (R.size h) s ≡ true) where
     -- what node j holds in lane t
     node-agrees : (t j : ℕ) → t < l → nodeOf (given h) (laneOf (h .k) l t s) j ≡ Codewords.nodeOf h (Layout.laneOf byRow (h .k) l t s) j
-    node-agrees t j inside = rw (laneOf-agrees (h .k) l t s) (nodeOf-agrees h sound (Layout.laneOf byRow (h .k) l t s) j (lane-symbols by-row (h .k) l (R.size h) t s inside long symbols))
+    node-agrees t j inside = rw (laneOf-agrees (h .k) l t s) (nodeOf-agrees h sound even (Layout.laneOf byRow (h .k) l t s) j (lane-symbols by-row (h .k) l (R.size h) t s inside long symbols))
 
     shareFrom-agrees : (f t j : ℕ) → t + f ≤ l → shareFrom f t (given h) l j s ≡ from (Ours.shareAt h l s j) t f
     unfolding shareFrom from Ours.shareAt
@@ -153,7 +153,7 @@ module _ (h : Own.Header) (sound : R.Sound h) where
   -- a symbol with a multiple of an entry added
   byte-agrees : (r j x b : ℕ) → x < R.size h → b < R.size h → add (R.modulusOf h) b (mul (R.modulusOf h) x (entry (given h) r j)) ≡ F.add (R.modulusOf h) b (F.mul (R.modulusOf h) x (G.entry h r j))
   byte-agrees r j x b low symbol =
-      ap (add (R.modulusOf h) b) (mul-agrees (R.modulusOf h) x (entry (given h) r j) low ∙ ap (F.mul (R.modulusOf h) x) (entry-agrees h sound r j))
+      ap (add (R.modulusOf h) b) (mul-agrees (R.modulusOf h) x (entry (given h) r j) low ∙ ap (F.mul (R.modulusOf h) x) (entry-agrees h sound even r j))
       ∙ add-agrees (R.modulusOf h) b (F.mul (R.modulusOf h) x (G.entry h r j)) symbol (mul-below (R.modulusOf h) (sound .field) low (entry-below h sound r j))
 
   -- updates of a lane of symbols
@@ -194,7 +194,7 @@ module _ (h : Own.Header) (sound : R.Sound h) where
   -- the code test of a full share buffer
   module _ (l : ℕ) (s : List ℕ) (long : length s ≡ h .n * l) (symbols : allBelow (R.size h) s ≡ true) where
     word-agrees : (t : ℕ) → t < l → isWord (given h) (laneOf (h .n) l t s) ≡ Codewords.isWord h (Layout.laneOf byRow (h .n) l t s)
-    word-agrees t inside = rw (laneOf-agrees (h .n) l t s) (isWord-agrees h sound (Layout.laneOf byRow (h .n) l t s) (lane-symbols by-row (h .n) l (R.size h) t s inside long symbols))
+    word-agrees t inside = rw (laneOf-agrees (h .n) l t s) (isWord-agrees h sound even (Layout.laneOf byRow (h .n) l t s) (lane-symbols by-row (h .n) l (R.size h) t s inside long symbols))
 
     -- the first of f lanes from t on that is no word, or t + f
     abbrev wrong : ℕ → ℕ → ℕ
@@ -222,7 +222,7 @@ module _ (h : Own.Header) (sound : R.Sound h) where
 
     module _ (long : length m ≡ h .k * l) (symbols : allBelow (R.size h) m ≡ true) where
       lane-agrees : (t : ℕ) → t < l → C.at-nodes (given h) (laneOf (h .k) l t m) js ≡ atNodes h (Layout.laneOf byRow (h .k) l t m) js
-      lane-agrees t inside = rw (laneOf-agrees (h .k) l t m) (at-nodes-agrees h sound (Layout.laneOf byRow (h .k) l t m) js (lane-symbols by-row (h .k) l (R.size h) t m inside long symbols))
+      lane-agrees t inside = rw (laneOf-agrees (h .k) l t m) (at-nodes-agrees h sound even (Layout.laneOf byRow (h .k) l t m) js (lane-symbols by-row (h .k) l (R.size h) t m inside long symbols))
 
       lanesAre-all : (f : ℕ) → f ≤ l → lanesAre f (given h) l js s m → All Recovered (below f)
       unfolding lanesAre

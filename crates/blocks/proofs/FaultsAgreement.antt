@@ -1,10 +1,10 @@
--- Numbers 7 to 11 as document 03 states them (specs/Blocks.antt), and that ours are the same for every record and every input.
+-- Numbers 7 to 11 as document 03 states them (specs/Blocks.antt), and that ours are the same for every record whose n divides k·d and every input: number 6, which document 03 gives to the others, is no longer given.
 -- Its text stands here but for the marks: what it has as `abbrev` is `unfoldable`. Its records are quoted in the crate `generator`, its `sizeOf` in the crate `field`, its lanes in Agreement;
 -- its `firstOf`, `when`, `allBelow`, `isIn` and `distinct` are those of `lists`, the same recursions. Its faults take the record itself, ours a header: `faultOf` puts the record's number before them.
 use mathlib.Core.Path.{_≡_, refl}
 use mathlib.Core.Bool.{Bool, true, false, _&&_, _||_, not, or-comm}
 use mathlib.Core.List.{List}
-use Prim.Native.Nat.{ℕ, suc, _*_}
+use Prim.Native.Nat.{ℕ, suc, _*_, _%_}
 use borrow.Author.Tests.{ltb-true, ltb-false, le-leb, lt-leb}
 use lib.Dec.{eqb, ltb, leb}
 use lib.ListN.{length}
@@ -61,23 +61,23 @@ not-and false b = refl
 not-below : (x m : ℕ) → not (ltb x m) ≡ leb m x
 not-below x m = by-test (ltb x m) (λ e. rw (e, lt-leb m x (ltb-true x m e))) (λ e. rw (e, le-leb m x (ltb-false x m e)))
 
-module _ (rec : List ℕ) (l : ℕ) where
+module _ (rec : List ℕ) (l : ℕ) (even : R.headerOf rec .k * R.distance (R.headerOf rec) % R.headerOf rec .n ≡ 0) where
   pub encodeFault-agrees : (out : ℕ) (s : List ℕ) → encodeFault rec l out s ≡ Ours.faultOf rec (λ h. Ours.encodeFault h l out s)
   unfolding encodeFault Ours.faultOf Ours.encodeFault Conditions.lengthBad
-  encodeFault-agrees out s = rw (headerOf-agrees rec, recordFault-agrees rec, lanesBad-agrees l, sizeOf-agrees (R.modulusOf (R.headerOf rec)), times-width, times-width, symbols-test, not-and, either)
+  encodeFault-agrees out s = rw (headerOf-agrees rec, recordFault-agrees rec even, lanesBad-agrees l, sizeOf-agrees (R.modulusOf (R.headerOf rec)), times-width, times-width, symbols-test, not-and, either)
 
   pub updateFault-agrees : (r t old new : ℕ) (s : List ℕ) → updateFault rec l r t old new s ≡ Ours.faultOf rec (λ h. Ours.updateFault h l r t old new s)
   unfolding updateFault shareLayout Ours.faultOf Ours.updateFault Conditions.lengthBad Conditions.numberBad Conditions.symbolBad
-  updateFault-agrees r t old new s = rw (headerOf-agrees rec, recordFault-agrees rec, lanesBad-agrees l, sizeOf-agrees (R.modulusOf (R.headerOf rec)), times-width, lane-test, laneOf-agrees (R.headerOf rec .n) l t s, not-and, not-and, not-below, not-below, either, either-last, either-last)
+  updateFault-agrees r t old new s = rw (headerOf-agrees rec, recordFault-agrees rec even, lanesBad-agrees l, sizeOf-agrees (R.modulusOf (R.headerOf rec)), times-width, lane-test, laneOf-agrees (R.headerOf rec .n) l t s, not-and, not-and, not-below, not-below, either, either-last, either-last)
 
   pub recoverFault-agrees : (nodes s : List ℕ) (out : ℕ) → recoverFault rec l nodes s out ≡ Ours.faultOf rec (λ h. Ours.recoverFault h l nodes s out)
   unfolding recoverFault Ours.faultOf Ours.recoverFault Ours.listFault Conditions.lengthBad Conditions.nodesBad Conditions.twiceBad
-  recoverFault-agrees nodes s out = rw (headerOf-agrees rec, recordFault-agrees rec, lanesBad-agrees l, sizeOf-agrees (R.modulusOf (R.headerOf rec)), times-width, symbols-test, not-and, not-and, either, either)
+  recoverFault-agrees nodes s out = rw (headerOf-agrees rec, recordFault-agrees rec even, lanesBad-agrees l, sizeOf-agrees (R.modulusOf (R.headerOf rec)), times-width, symbols-test, not-and, not-and, either, either)
 
   pub rebuildFault-agrees : (nodes s : List ℕ) (target out : ℕ) → rebuildFault rec l nodes s target out ≡ Ours.faultOf rec (λ h. Ours.rebuildFault h l nodes s target out)
   unfolding rebuildFault Ours.faultOf Ours.rebuildFault Ours.listFault Conditions.lengthBad Conditions.numberBad Conditions.nodesBad Conditions.twiceBad
-  rebuildFault-agrees nodes s target out = rw (headerOf-agrees rec, recordFault-agrees rec, lanesBad-agrees l, sizeOf-agrees (R.modulusOf (R.headerOf rec)), times-width, times-width, symbols-test, not-and, not-and, either, either, or-comm, either)
+  rebuildFault-agrees nodes s target out = rw (headerOf-agrees rec, recordFault-agrees rec even, lanesBad-agrees l, sizeOf-agrees (R.modulusOf (R.headerOf rec)), times-width, times-width, symbols-test, not-and, not-and, either, either, or-comm, either)
 
   pub belongsFault-agrees : (s : List ℕ) → belongsFault rec l s ≡ Ours.faultOf rec (λ h. Ours.belongsFault h l s)
   unfolding belongsFault Ours.faultOf Ours.belongsFault Conditions.lengthBad
-  belongsFault-agrees s = rw (headerOf-agrees rec, recordFault-agrees rec, lanesBad-agrees l, sizeOf-agrees (R.modulusOf (R.headerOf rec)), times-width, symbols-test)
+  belongsFault-agrees s = rw (headerOf-agrees rec, recordFault-agrees rec even, lanesBad-agrees l, sizeOf-agrees (R.modulusOf (R.headerOf rec)), times-width, symbols-test)

@@ -37,7 +37,7 @@ fn refused(number: u8, all_zero: bool) {
 
 // Whether all places beside the number hold 0.
 fn empty(plan: Plan) -> bool {
-    let numbers = [plan.n, plan.k, plan.d, plan.b];
+    let numbers = [plan.n, plan.k, plan.d, plan.low, plan.high];
     let shifts = plan.shifts;
     let base = as_bytes(&plan.base);
     untouched(0, &numbers) && untouched(0, &shifts) && untouched(0, &base)
@@ -68,8 +68,14 @@ fn as_byte(x: u16) -> u8 {
 
 fn print_numbers(plan: Plan) {
     form(
-        b": n # k # d # b #",
-        &[plan.n as u64, plan.k as u64, plan.d as u64, plan.b as u64],
+        b": n # k # d # reads # #",
+        &[
+            plan.n as u64,
+            plan.k as u64,
+            plan.d as u64,
+            plan.low as u64,
+            plan.high as u64,
+        ],
     );
 }
 

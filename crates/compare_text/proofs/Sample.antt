@@ -8,8 +8,8 @@ use Rattle.field.specs.Primes.{dividesSome, isPrime}
 use Rattle.field.specs.Bytes.{timesX, productFrom, product}
 use Rattle.field.specs.Fields.{sizeOf, mul, orderFrom, orderOf}
 use Rattle.field.specs.Kinds.{modulus}
-use Rattle.generator.specs.Records.{headerOf, distance, kindBad, bodyBad, fieldBad, sizeBad, rootBad, unevenBad, headerFault, recordFault, judged, recordOf}
-use Rattle.generator.specs.Comparison.{balancedReads, plainGreatest}
+use Rattle.generator.specs.Records.{headerOf, distance, lowReads, highReads, kindBad, bodyBad, fieldBad, sizeBad, rootBad, headerFault, recordFault, judged, recordOf}
+use Rattle.generator.specs.Comparison.{plainGreatest}
 use Rattle.text.specs.Text.{ascii, decimal, field, fields, line}
 use Rattle.compare_text.specs.Comparison.{costLine, plainLine, balancedLine, boundLine, comparisonFor}
 
@@ -25,10 +25,11 @@ samples =
     prints (1 ∷ 7 ∷ 3 ∷ 6 ∷ 4 ∷ []) "compare 6 4\nplain writes 3 reads 1 4\nbalanced writes 3 reads 2 2\nbound writes 3 reads 2\n"
     ∷ prints (1 ∷ 7 ∷ 3 ∷ 6 ∷ 1 ∷ []) "compare 6 1\nplain writes 6 reads 1 1\nbalanced writes 6 reads 1 1\nbound writes 6 reads 1\n"
     ∷ prints (2 ∷ 214 ∷ 3 ∷ 3 ∷ []) "compare 3 3\nplain writes 1 reads 1 1\nbalanced writes 1 reads 1 1\nbound writes 1 reads 1\n"
-    ∷ prints (1 ∷ 7 ∷ 3 ∷ 6 ∷ 2 ∷ []) "refused 6\n"
+    ∷ prints (1 ∷ 7 ∷ 3 ∷ 6 ∷ 5 ∷ []) "compare 6 5\nplain writes 2 reads 1 5\nbalanced writes 2 reads 1 2\nbound writes 2 reads 2\n"
+    ∷ prints (1 ∷ 7 ∷ 2 ∷ 6 ∷ 3 ∷ []) "refused 5\n"
     ∷ []
 
 -- every case of the table holds
 pub samples-hold : All Says samples
-unfolding Says samples ascii decimal field fields line plainGreatest balancedReads costLine plainLine balancedLine boundLine comparisonFor recordOf judged recordFault headerFault kindBad bodyBad fieldBad sizeBad rootBad unevenBad headerOf distance modulus sizeOf mul orderOf orderFrom product productFrom timesX isPrime dividesSome
-samples-hold = (refl, (refl, (refl, (refl, tt))))
+unfolding Says samples ascii decimal field fields line plainGreatest costLine plainLine balancedLine boundLine comparisonFor recordOf judged recordFault headerFault kindBad bodyBad fieldBad sizeBad rootBad headerOf distance lowReads highReads modulus sizeOf mul orderOf orderFrom product productFrom timesX isPrime dividesSome
+samples-hold = (refl, (refl, (refl, (refl, (refl, tt)))))

@@ -6,8 +6,8 @@ use Prim.Native.Nat.{ℕ}
 use Rattle.generator.specs.declared.Header.{Header}
 use Rattle.generator.specs.declared.Record.{Record}
 use Rattle.generator.specs.declared.Record.the-variants.{Holds, Meets}
-use Rattle.generator.specs.Records.{distance}
-use Rattle.generator.specs.Comparison.{balancedReads, plainGreatest}
+use Rattle.generator.specs.Records.{distance, lowReads, highReads}
+use Rattle.generator.specs.Comparison.{plainGreatest}
 use Rattle.text.specs.Text.{ascii, field, line}
 
 -- a line of costs: words and the writes, then the reads
@@ -18,13 +18,13 @@ costLine words writes reads = words ++ (field writes ++ line (ascii " reads") re
 unfoldable pub plainLine : Header → List ℕ
 plainLine h = costLine (ascii "plain writes") (distance h) (1 ∷ plainGreatest h ∷ [])
 
--- the least and the greatest reads of the balanced layout
+-- the least and the greatest reads of the balanced layout: k·d / n rounded down and up
 unfoldable pub balancedLine : Header → List ℕ
-balancedLine h = costLine (ascii "balanced writes") (distance h) (balancedReads h ∷ balancedReads h ∷ [])
+balancedLine h = costLine (ascii "balanced writes") (distance h) (lowReads h ∷ highReads h ∷ [])
 
 -- what no layout can go below: the writes, and the reads of the busiest node
 unfoldable pub boundLine : Header → List ℕ
-boundLine h = costLine (ascii "bound writes") (distance h) (balancedReads h ∷ [])
+boundLine h = costLine (ascii "bound writes") (distance h) (highReads h ∷ [])
 
 -- the comparison of a record: n and k, then the lines of costs; or the number that turned it away
 unfoldable pub comparisonFor : Record → List ℕ

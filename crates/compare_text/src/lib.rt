@@ -2,8 +2,9 @@
 use generator::Header;
 use generator::Record;
 use records::distance_of;
+use records::high_reads;
+use records::low_reads;
 use records::read_record;
-use records::reads_of;
 use text::put_field;
 use text::put_line;
 use text::put_word;
@@ -12,8 +13,8 @@ ghost use mathlib.Core.List.{_++_};
 ghost use Prim.Native.Nat.{_+_, _*_, _≤_};
 ghost use lib.ListN.{length, take, drop};
 ghost use Rattle.lists.specs.Padded.{zeros};
-ghost use Rattle.generator.specs.Records.{distance, recordOf, Sound};
-ghost use Rattle.generator.specs.Comparison.{balancedReads, plainGreatest, ComparedRecord};
+ghost use Rattle.generator.specs.Records.{recordOf, Sound};
+ghost use Rattle.generator.specs.Comparison.{plainGreatest, ComparedRecord};
 ghost use Rattle.text.specs.Writing.{Puts};
 ghost use Rattle.compare_text.specs.Comparison.{costLine, plainLine, balancedLine, boundLine, comparisonFor};
 
@@ -55,8 +56,9 @@ fn put_balanced(out: &mut [u8], at: usize, h: Header) -> usize
     ensures { λ r. ⌜ r ≤ at + 34 ⌝ }
 {
     let d = distance_of(h);
-    let b = reads_of(h);
-    put_cost(out, at, b"balanced writes", d, &[b, b])
+    let low = low_reads(h);
+    let high = high_reads(h);
+    put_cost(out, at, b"balanced writes", d, &[low, high])
 }
 
 fn put_bound(out: &mut [u8], at: usize, h: Header) -> usize
@@ -65,8 +67,8 @@ fn put_bound(out: &mut [u8], at: usize, h: Header) -> usize
     ensures { λ r. ⌜ r ≤ at + 27 ⌝ }
 {
     let d = distance_of(h);
-    let b = reads_of(h);
-    put_cost(out, at, b"bound writes", d, &[b])
+    let high = high_reads(h);
+    put_cost(out, at, b"bound writes", d, &[high])
 }
 
 // The comparison of what an accepted record holds: its lines have at most 16, 31, 34 and 27 bytes.

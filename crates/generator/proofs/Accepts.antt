@@ -2,7 +2,7 @@
 use mathlib.Core.Path.{_≡_, refl, subst}
 use mathlib.Core.Bool.{Bool, true, false, _&&_}
 use mathlib.Core.List.{List}
-use Prim.Native.Nat.{ℕ, zero, suc, _*_, _%_, _≤_}
+use Prim.Native.Nat.{ℕ, zero, suc, _≤_}
 use native.Mathlib.Omega.{arith}
 use native.Mathlib.Nat.{le-refl}
 use borrow.Author.Tests.{ltb-true, leb-true, le-leb, eqb-true, not-false}
@@ -18,15 +18,14 @@ use Rattle.field.proofs.Meanings.{prime-size}
 use Rattle.field.proofs.KindLaws.{usable-field}
 use Rattle.generator.specs.declared.Header.{Header}
 use Rattle.generator.specs.declared.Record.the-variants.{Holds}
-use Rattle.generator.specs.Records.{headerOf, modulusOf, size, distance, kindBad, bodyBad, fieldBad, sizeBad, rootBad, unevenBad, headerFault, recordFault, judged, recordOf, Sound}
+use Rattle.generator.specs.Records.{headerOf, modulusOf, size, kindBad, bodyBad, fieldBad, sizeBad, rootBad, headerFault, recordFault, judged, recordOf, Sound}
 use Rattle.generator.proofs.Faults.{sizes}
 
--- a header that numbers 4 to 6 pass
+-- a header that numbers 4 and 5 pass
 pub header-sound : (h : Header) → usable (h .field) ≡ true → size h ≤ 256 → headerFault h ≡ 0 → Sound h
-unfolding headerFault rootBad unevenBad
+unfolding headerFault rootBad
 header-sound h u small-field e =
-    let (four, rest) = first-zero (when (sizeBad h) 4) (firstOf (when (rootBad h) 5) (when (unevenBad h) 6)) e in
-    let (five, six) = first-zero (when (rootBad h) 5) (when (unevenBad h) 6) rest in
+    let (four, five) = first-zero (when (sizeBad h) 4) (when (rootBad h) 5) e in
     let (two, some, fits) = sizes h (when-zero (sizeBad h) 3 four) in
     let root : (ltb (h .root) (size h) && eqb (orderOf (modulusOf h) (h .root)) (h .n)) ≡ true = not-false _ (when-zero (rootBad h) 4 five) in
     record {
@@ -38,7 +37,6 @@ header-sound h u small-field e =
       fits = fits;
       root-below = ltb-true (h .root) (size h) (and-left _ (eqb (orderOf (modulusOf h) (h .root)) (h .n)) root);
       order = eqb-true (orderOf (modulusOf h) (h .root)) (h .n) (and-right (ltb (h .root) (size h)) _ root);
-      even = eqb-true (h .k * distance h % h .n) 0 (not-false _ (when-zero (unevenBad h) 5 six));
     }
 
 -- a prime from 3 to 251 names a usable field, whose symbols are bytes

@@ -1,4 +1,4 @@
--- The generator, encodings, words, messages and nodes as document 03 states them (specs/Plans.antt and specs/Claims.antt), and that ours are the same for every sound header.
+-- The generator, encodings, words, messages and nodes as document 03 states them (specs/Plans.antt and specs/Claims.antt), and that ours are the same for every sound header whose n divides k·d, as document 03 asks.
 -- Its text stands here but for the marks: what it has as `abbrev` is `unfoldable`. Its records and shifts are quoted in RecordsAgreement and ShiftsAgreement, its arithmetic in the crate `field`;
 -- its `when`, `allBelow`, `isIn` and `distinct` are those of `lists`, the same recursions.
 use mathlib.Core.Path.{_≡_, refl, ap, ap₂, _∙_}
@@ -118,7 +118,7 @@ polyAt-agrees p v (c ∷ cs) x b low =
     ap (add p c) (mul-agrees p x (polyAt p cs x) low ∙ ap (F.mul p x) (polyAt-agrees p v cs x others low))
     ∙ add-agrees p c (F.mul p x (C.polyAt p cs x)) first (mul-below p v low (polyAt-below p v cs x others low))
 
-module _ (h : Own.Header) (s : R.Sound h) where
+module _ (h : Own.Header) (s : R.Sound h) (even : h .k * R.distance h % h .n ≡ 0) where
   -- powers of the root
   root-power : (e : ℕ) → power (R.modulusOf h) (h .root) e ≡ F.power (R.modulusOf h) (h .root) e
   root-power e = power-agrees (R.modulusOf h) (h .root) e (s .root-below)
@@ -145,7 +145,7 @@ module _ (h : Own.Header) (s : R.Sound h) where
 
   pub entry-agrees : (r j : ℕ) → entry (given h) r j ≡ G.entry h r j
   unfolding entry G.entry
-  entry-agrees r j = rw (shifts-agrees h) (entryAt-agrees (getD (S.shifts h) r 0) j)
+  entry-agrees r j = rw (shifts-agrees h even) (entryAt-agrees (getD (S.shifts h) r 0) j)
 
   wordFrom-agrees : (f j t : ℕ) → wordFrom f j (given h) t ≡ from (G.entryAt h t) j f
   unfolding wordFrom from

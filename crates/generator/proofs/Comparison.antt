@@ -3,23 +3,21 @@ use mathlib.Core.Path.{_≡_, refl}
 use mathlib.Core.Logic.{_≢_}
 use mathlib.Core.List.{List}
 use Prim.Native.Nat.{ℕ, _≤_}
-use native.Mathlib.Nat.{le-of-mul-le-mul-left}
 use native.Mathlib.Omega.{arith}
 use Rattle.scheme.proofs.Plain.{plain-figures}
 use Rattle.scheme.proofs.Figures.{tight-figures, figures-bound}
 use Rattle.generator.specs.declared.Header.{Header}
 use Rattle.generator.specs.declared.Record.{Record}
 use Rattle.generator.specs.declared.Record.the-variants.{Holds, Meets}
-use Rattle.generator.specs.Records.{recordOf, distance, Sound}
-use Rattle.generator.specs.Comparison.{balancedReads, plainGreatest, Compared, ComparedRecord}
+use Rattle.generator.specs.Records.{recordOf, distance, lowReads, highReads, Sound}
+use Rattle.generator.specs.Comparison.{plainGreatest, Compared, ComparedRecord}
 use Rattle.generator.proofs.Accepts.{accepted-sound}
-use Rattle.generator.proofs.Costs.{whole}
 use Rattle.generator.proofs.SchemeOf.{our-scheme, zero-symbol, one-symbol, two-symbols}
 use Rattle.generator.proofs.PlainLayout.{plain-scheme}
 
 -- the comparison holds of every sound header
 comparison : (h : Header) → Sound h → Compared h
-unfolding distance balancedReads plainGreatest
+unfolding distance lowReads highReads plainGreatest
 comparison h s =
     let ours = our-scheme h s in
     let plain = plain-scheme h s in
@@ -27,13 +25,11 @@ comparison h s =
     let two : _≢_ {A = ℕ} 0 1 = λ e. omega arith in
     record {
       ours = ours;
-      our-figures = tight-figures (ours .scheme) nodes (balancedReads h) (whole h s) (ours .tight);
+      our-figures = tight-figures (ours .scheme) nodes (ours .tight);
       plain = plain;
       plain-figures = plain-figures (plain .scheme) (s .some) (s .fits) (zero-symbol h s) (one-symbol h s) (two-symbols h s) (plain .plain);
       every-plain = λ t is. plain-figures t (s .some) (s .fits) 0 1 two is;
-      bound = λ t w l g has.
-          let (writes, reads) = figures-bound t (s .some) (s .fits) 0 1 two w l g has in
-          (writes, le-of-mul-le-mul-left (rw (whole h s) reads) nodes);
+      bound = λ t w l g has. figures-bound t (s .some) (s .fits) 0 1 two w l g has;
     }
 
 -- and so of every record that was read

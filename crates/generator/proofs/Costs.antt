@@ -1,11 +1,11 @@
 -- How many symbols a node depends on, and what that means.
 use mathlib.Core.Path.{_≡_, refl, sym, ap, ap₂, _∙_}
-use mathlib.Core.Logic.{_↔_}
+use mathlib.Core.Logic.{_↔_, _⊎_}
 use mathlib.Core.Bool.{Bool, true, false, not, true≢false}
 use mathlib.Core.List.{List}
-use Prim.Native.Nat.{ℕ, _+_, _-_, _*_, _/_, _%_, _<_}
+use Prim.Native.Nat.{ℕ, _+_, _-_, _*_, _%_, _<_}
 use native.Mathlib.Omega.{arith}
-use native.Mathlib.Nat.{div-add-mod, suc-ne-zero}
+use native.Mathlib.Nat.{le-of-eq, suc-ne-zero}
 use borrow.Author.Tests.{eq-eqb, eqb-true, eqb-false}
 use lib.Dec.{eqb, ltb}
 use lib.ListN.{length, getD, set, replicate, length-replicate, getD-replicate}
@@ -18,15 +18,17 @@ use Rattle.lists.proofs.Count.{count-ext}
 use Rattle.lists.proofs.Numbers.{all-below}
 use Rattle.field.proofs.Bounds.{one-below}
 use Rattle.field.proofs.FieldOf.{size-pos}
+use Rattle.scheme.specs.Sums.{sum}
+use Rattle.scheme.proofs.Sums.{sum-ext, sum-const, count-swap, busiest, floor-is-ceil, upper-column}
 use Rattle.generator.specs.declared.Header.{Header}
-use Rattle.generator.specs.Records.{modulusOf, size, distance, Sound}
+use Rattle.generator.specs.Records.{modulusOf, size, distance, lowReads, highReads, Sound}
 use Rattle.generator.specs.Shifts.{shifts}
 use Rattle.generator.specs.Generator.{entry}
 use Rattle.generator.specs.Codewords.{nodeOf}
 use Rattle.generator.specs.Claims.{isMessage, reads}
 use Rattle.generator.proofs.Sound.{weight-fits}
 use Rattle.generator.proofs.Windows.{row-nodes}
-use Rattle.generator.proofs.Shifts.{balance-count}
+use Rattle.generator.proofs.Shifts.{shifts-balance}
 use Rattle.generator.proofs.Entries.{row-weight}
 use Rattle.generator.proofs.Recovery.{message-is}
 use Rattle.generator.proofs.Changes.{altered-entry}
@@ -42,16 +44,32 @@ module _ (h : Header) (s : Sound h) where
       count-ext (h .n) 0 _ (λ j. ltb ((j + getD (shifts h) r 0) % h .n) (distance h)) (λ j l u. inside r j)
       ∙ row-nodes (h .n) (distance h) (getD (shifts h) r 0) (omega (arith, s .two)) (weight-fits h s)
 
-  -- node j lies in b = k·d / n rows
-  pub depends : (j : ℕ) → j < h .n → reads h j ≡ h .k * distance h / h .n
-  unfolding reads
+  -- node j lies in k·d / n rows, rounded down or up
+  pub depends : (j : ℕ) → j < h .n → (reads h j ≡ lowReads h) ⊎ (reads h j ≡ highReads h)
+  unfolding reads lowReads highReads distance
   depends j node =
-      count-ext (h .k) 0 _ (λ r. ltb ((j + getD (shifts h) r 0) % h .n) (distance h)) (λ r l u. inside r j)
-      ∙ balance-count (h .n) (h .k) (s .some) (s .fits) (distance h) j (weight-fits h s) (s .even) node
+      rw (count-ext (h .k) 0 (λ r. not (eqb (entry h r j) 0)) (λ r. ltb ((j + getD (shifts h) r 0) % h .n) (distance h)) (λ r l u. inside r j))
+      (shifts-balance (h .n) (h .k) (s .some) (s .fits) j node)
 
-  -- and b is whole
-  pub whole : h .n * (h .k * distance h / h .n) ≡ h .k * distance h
-  whole = omega (arith, div-add-mod (h .k * distance h) (h .n), s .even)
+  -- the two are equal exactly if n divides k·d
+  pub whole : (lowReads h ≡ highReads h) ↔ (h .k * distance h % h .n ≡ 0)
+  unfolding lowReads highReads
+  whole = floor-is-ceil (h .k * distance h) (h .n) (omega (arith, s .two))
+
+  -- the rows that nodes lie in, and the nodes that rows lie on, are as many
+  pub total : sum (h .n) (reads h) ≡ h .k * distance h
+  unfolding reads
+  total =
+      sym (count-swap (h .k) (h .n) (λ r j. not (eqb (entry h r j) 0)))
+      ∙ sum-ext (h .k) _ (λ r. distance h) (λ r row. row-count r)
+      ∙ sum-const (h .k) (distance h)
+
+  -- so some node lies in as many as k·d / n rounded up
+  pub upper-node : (j : ℕ) × (j < h .n) × (reads h j ≡ highReads h)
+  unfolding reads lowReads highReads
+  upper-node =
+      let (j, node, many) = busiest (h .k) (h .n) (distance h) (λ r i. not (eqb (entry h r i) 0)) (omega (arith, s .two)) (λ r row. le-of-eq (sym (row-count r))) in
+      (j, node, upper-column (h .k * distance h) (h .n) _ (omega (arith, s .two)) (depends j node) many)
 
   -- the message of zeros
   zero-message : isMessage h (replicate (h .k) 0) ≡ true

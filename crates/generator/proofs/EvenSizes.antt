@@ -1,15 +1,14 @@
 -- The k for which n divides k·d, so that every node can depend on the same number of symbols: for bytes, at each n.
 use mathlib.Core.Path.{_≡_, refl}
 use mathlib.Core.List.{List, [], _∷_}
-use Prim.Native.Nat.{ℕ, _*_, _%_}
-use lib.Dec.{eqb}
+use Prim.Native.Nat.{ℕ}
 use Rattle.lists.specs.Counting.{passingFrom}
 use Rattle.lists.proofs.All.{All}
-use Rattle.generator.specs.Records.{headerOf, distance}
+use Rattle.generator.specs.Shifts.{isEven}
 
--- the k from 1 to n for which n divides k·d, in a record of bytes
+-- the k from 1 to n for which n divides k·d
 unfoldable pub evenSizes : ℕ → List ℕ
-evenSizes n = passingFrom n 1 (λ k. let h = headerOf (2 ∷ 0 ∷ n ∷ k ∷ []) in eqb (h .k * distance h % h .n) 0)
+evenSizes n = passingFrom n 1 (isEven n)
 
 -- n and those k
 pub data Case : Type 0 where
@@ -32,5 +31,5 @@ sizes =
 
 -- every line of the table holds
 pub sizes-hold : All Says sizes
-unfolding Says sizes evenSizes passingFrom headerOf distance
+unfolding Says sizes evenSizes isEven passingFrom
 sizes-hold = (refl, (refl, (refl, (refl, (refl, (refl, (refl, tt)))))))

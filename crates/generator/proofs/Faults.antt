@@ -1,4 +1,4 @@
--- The first of the numbers 4 to 6 whose condition holds turns a header away.
+-- The first of the numbers 4 and 5 whose condition holds turns a header away.
 use mathlib.Core.Path.{_≡_}
 use mathlib.Core.Bool.{true, false, _||_}
 use Prim.Native.Nat.{_≤_, _<_}
@@ -8,7 +8,7 @@ use lib.Dec.{eqb, ltb}
 use Rattle.lists.proofs.Cases.{or-left-false, or-right-false}
 use Rattle.generator.specs.declared.Header.{Header}
 use Rattle.generator.specs.declared.Record.the-variants.{Holds, Meets}
-use Rattle.generator.specs.Records.{sizeBad, rootBad, unevenBad, headerFault, judged}
+use Rattle.generator.specs.Records.{sizeBad, rootBad, headerFault, judged}
 
 module _ (h : Header) where
   pub meets-four : sizeBad h ≡ true → Meets 4 ≡ judged (headerFault h) h
@@ -19,13 +19,9 @@ module _ (h : Header) where
   unfolding judged headerFault
   meets-five four five = rw (four, five)
 
-  pub meets-six : sizeBad h ≡ false → rootBad h ≡ false → unevenBad h ≡ true → Meets 6 ≡ judged (headerFault h) h
+  pub meets-none : sizeBad h ≡ false → rootBad h ≡ false → Holds h ≡ judged (headerFault h) h
   unfolding judged headerFault
-  meets-six four five six = rw (four, five, six)
-
-  pub meets-none : sizeBad h ≡ false → rootBad h ≡ false → unevenBad h ≡ false → Holds h ≡ judged (headerFault h) h
-  unfolding judged headerFault
-  meets-none four five six = rw (four, five, six)
+  meets-none four five = rw (four, five)
 
   -- the sizes that number 4 passes
   pub sizes : sizeBad h ≡ false → (2 ≤ h .n) × (0 < h .k) × (h .k ≤ h .n)

@@ -1,6 +1,8 @@
 -- Laws of records, shifts, the generator and codewords, and what holds of every accepted plan.
 pub mod Gcd
 pub mod Windows
+pub mod EvenShifts
+pub mod LaidShifts
 pub mod Shifts
 pub mod Sound
 pub mod Bridge

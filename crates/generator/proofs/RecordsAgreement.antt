@@ -1,14 +1,14 @@
--- Records as document 03 states them (specs/Fields.antt), and that ours are the same.
+-- Records as document 03 states them (specs/Fields.antt), and that ours are the same but for number 6: it turned a record away whose store does not share out evenly, which ticket 4 makes a plan.
 -- Its text stands here but for the marks: what it has as `abbrev` is `unfoldable`. Its arithmetic is quoted in the crate `field`; its `pick`, `firstOf` and `when` are those of `lists`.
 use mathlib.Core.Path.{_≡_, refl, sym, ap, _∙_}
-use mathlib.Core.Bool.{_&&_, _||_, not}
+use mathlib.Core.Bool.{Bool, _&&_, _||_, not}
 use mathlib.Core.List.{List}
-use Prim.Native.Nat.{ℕ, _+_, _-_, _*_, _%_}
-use borrow.Author.Tests.{ltb-true}
+use Prim.Native.Nat.{ℕ, zero, suc, _+_, _-_, _*_, _%_}
+use borrow.Author.Tests.{ltb-true, eqb-true, not-false}
 use lib.Dec.{eqb, ltb, leb}
 use lib.ListN.{length, getD}
 use Rattle.lists.specs.Choice.{pick, firstOf, when}
-use Rattle.lists.proofs.Cases.{by-test}
+use Rattle.lists.proofs.Cases.{by-test, first-zero, when-zero}
 use Rattle.field.specs.Kinds.{modulus}
 use Rattle.field.proofs.Agreement.{rest, sizeOf, isPrime, orderOf, rest-agrees, sizeOf-agrees, isPrime-agrees, orderOf-agrees}
 use Rattle.generator.specs.declared.Header as Own
@@ -55,16 +55,34 @@ root-agrees h =
     rw (sizeOf-agrees (Ours.modulusOf h))
     (by-test (ltb (h .root) (Ours.size h)) (λ t. rw (orderOf-agrees (Ours.modulusOf h) (h .root) (ltb-true _ _ t))) (λ t. rw t))
 
--- number 6
-uneven-agrees : (h : Own.Header) → not (eqb (rest (h .k * weight (given h)) (h .n)) 0) ≡ Ours.unevenBad h
-unfolding Ours.unevenBad
+-- number 6, which ours no longer has
+abbrev pub uneven : Own.Header → Bool
+uneven h = not (eqb (h .k * Ours.distance h % h .n) 0)
+
+uneven-agrees : (h : Own.Header) → not (eqb (rest (h .k * weight (given h)) (h .n)) 0) ≡ uneven h
 uneven-agrees h = ap (λ (x : ℕ). not (eqb x 0)) (rest-agrees (h .k * weight (given h)) (h .n) ∙ ap (λ (d : ℕ). h .k * d % h .n) (weight-agrees h))
 
--- the number of every record, whatever it holds
-pub recordFault-agrees : (s : List ℕ) → recordFault s ≡ Ours.recordFault s
-unfolding recordFault Ours.recordFault Ours.kindBad Ours.bodyBad Ours.headerFault Ours.sizeBad
-recordFault-agrees s = rw (headerOf-agrees s, field-agrees s, root-agrees (Ours.headerOf s), uneven-agrees (Ours.headerOf s))
+-- a number after others
+first-first : (a b c : ℕ) → firstOf a (firstOf b c) ≡ firstOf (firstOf a b) c
+first-first zero b c = refl
+first-first (suc a) b c = refl
 
--- its domain: what it accepts has a sound header
-pub given-sound : (s : List ℕ) → recordFault s ≡ 0 → Ours.Sound (Ours.headerOf s)
-given-sound s e = faultless-sound s (sym (recordFault-agrees s) ∙ e)
+-- no number after others
+first-none : (a : ℕ) → firstOf a 0 ≡ a
+first-none zero = refl
+first-none (suc a) = refl
+
+-- the number of every record, whatever it holds: ours, and 6 where ours is none and n does not divide k·d
+pub recordFault-six : (s : List ℕ) → recordFault s ≡ firstOf (Ours.recordFault s) (when (uneven (Ours.headerOf s)) 6)
+unfolding recordFault Ours.recordFault Ours.kindBad Ours.bodyBad Ours.headerFault Ours.sizeBad
+recordFault-six s = rw (headerOf-agrees s, field-agrees s, root-agrees (Ours.headerOf s), uneven-agrees (Ours.headerOf s)) (simp first-first)
+
+-- so the same where n divides k·d
+pub recordFault-agrees : (s : List ℕ) → Ours.headerOf s .k * Ours.distance (Ours.headerOf s) % Ours.headerOf s .n ≡ 0 → recordFault s ≡ Ours.recordFault s
+recordFault-agrees s even = recordFault-six s ∙ rw even (first-none (Ours.recordFault s))
+
+-- its domain: what it accepts has a sound header, and n divides k·d
+pub given-sound : (s : List ℕ) → recordFault s ≡ 0 → Ours.Sound (Ours.headerOf s) × (Ours.headerOf s .k * Ours.distance (Ours.headerOf s) % Ours.headerOf s .n ≡ 0)
+given-sound s e =
+    let (none, six) = first-zero (Ours.recordFault s) (when (uneven (Ours.headerOf s)) 6) (sym (recordFault-six s) ∙ e) in
+    (faultless-sound s none, eqb-true _ 0 (not-false _ (when-zero (uneven (Ours.headerOf s)) 5 six)))

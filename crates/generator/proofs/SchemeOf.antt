@@ -3,7 +3,7 @@ use mathlib.Core.Path.{_≡_, refl, sym, ap, ap₂, _∙_}
 use mathlib.Core.Logic.{_≢_, _↔_}
 use mathlib.Core.Bool.{Bool, true, false, not, or-true}
 use mathlib.Core.List.{List, [], _∷_, map}
-use Prim.Native.Nat.{ℕ, _+_, _-_, _*_, _/_, _<_, Fin}
+use Prim.Native.Nat.{ℕ, _<_, Fin}
 use native.Mathlib.Omega.{arith}
 use native.Mathlib.Decide.{ℕ-discrete}
 use borrow.Author.Tests.{eq-eqb, ne-eqb, eqb-false, not-true}
@@ -23,13 +23,13 @@ use Rattle.scheme.specs.Costs.{Tight, CostsAtLeast}
 use Rattle.scheme.proofs.Messages.{length-symbols, getD-symbols, symbols-change, list-scheme}
 use Rattle.scheme.proofs.Tightness.{tight, tight-least}
 use Rattle.generator.specs.declared.Header.{Header}
-use Rattle.generator.specs.Records.{modulusOf, size, distance, Sound}
+use Rattle.generator.specs.Records.{modulusOf, size, distance, lowReads, highReads, Sound}
 use Rattle.generator.specs.Generator.{entry}
 use Rattle.generator.specs.Codewords.{nodeOf}
 use Rattle.generator.specs.Claims.{isMessage, areNodes, atNodes, reads, OurScheme}
 use Rattle.generator.proofs.Recovery.{numbers-message, one-message}
 use Rattle.generator.proofs.Changes.{map-set, altered-entry}
-use Rattle.generator.proofs.Costs.{row-count, depends, whole}
+use Rattle.generator.proofs.Costs.{row-count, depends}
 
 -- functions that agree on the numbers of a list
 pub map-isIn : {A : Type 0} (f g : ℕ → A) (js : List ℕ) → ((j : ℕ) → isIn j js ≡ true → f j ≡ g j) → map f js ≡ map g js
@@ -99,11 +99,11 @@ module _ (h : Header) (s : Sound h) where
   unfolding zero-symbol one-symbol
   two-symbols e = let z : _≡_ {A = ℕ} 0 1 = ap (λ (a : Symbol (size h)). a .0) e in omega arith
 
-  -- each change alters exactly d nodes, each node depends on exactly k·d / n symbols
+  -- each change alters exactly d nodes, each node depends on exactly k·d / n symbols, rounded down or up
   pub scheme-tight : Tight schemeOf
-  unfolding reads distance
+  unfolding reads lowReads highReads distance
   scheme-tight =
-      tight schemeOf zero-symbol one-symbol two-symbols (h .k * distance h / h .n) (whole h s) (λ r j. not (eqb (entry h r j) 0)) means (λ r. row-count h s (r .0)) (λ j. depends h s (j .0) (j .1))
+      tight schemeOf zero-symbol one-symbol two-symbols (s .some) (s .fits) (λ r j. not (eqb (entry h r j) 0)) means (λ r. row-count h s (r .0)) (λ j. depends h s (j .0) (j .1))
 
   -- no scheme of any kind of symbols and contents costs less
   pub scheme-least {ℓ κ} : {S : Type ℓ} {C : Fin (h .n) → Type κ} (t : Scheme (h .k) (h .n) S C) (x y : S) → x ≢ y → CostsAtLeast t schemeOf

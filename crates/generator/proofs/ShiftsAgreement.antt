@@ -1,9 +1,9 @@
--- The shifts as document 03 states them (specs/Plans.antt), and that ours are the same for every header.
+-- The shifts as document 03 states them (specs/Plans.antt), and that ours are the same for every header whose n divides k·d.
 -- Its text stands here but for one mark: `shifts` is `unfoldable`. Its `rest` is quoted in the crate `field`; its `pick` is that of `lists`.
 use mathlib.Core.Path.{_≡_, refl, sym, ap, _∙_}
 use mathlib.Core.Bool.{Bool, true, false}
 use mathlib.Core.List.{List, [], _∷_, _++_}
-use Prim.Native.Nat.{ℕ, zero, suc, _+_, _-_, _/_, _%_}
+use Prim.Native.Nat.{ℕ, zero, suc, _+_, _-_, _*_, _/_, _%_}
 use native.Mathlib.Nat.{div-zero}
 use native.Mathlib.Numerals.{add-one}
 use native.Mathlib.Omega.{arith}
@@ -59,8 +59,14 @@ shiftsFrom-agrees (suc f) i t s place =
     rw (add-one i, add-one place)
     (ap (λ (l : List ℕ). pick (ltb place t) (i ∷ []) [] ++ l) (shiftsFrom-agrees f (suc i) t s (pick (eqb (suc place) (t + s)) 0 (suc place))))
 
-pub shifts-agrees : (h : Own.Header) → shifts (given h) ≡ Ours.shifts h
-unfolding shifts Ours.shiftsOf Records.distance
-shifts-agrees h =
+-- the rule of Lemma 2, for every header
+even-agrees : (h : Own.Header) → shifts (given h) ≡ Ours.evenShifts (h .n) (h .k)
+unfolding shifts Ours.evenShifts Records.distance
+even-agrees h =
     let same : Records.distance h - 1 ≡ h .n - h .k = omega arith in
     rw (shiftsFrom-agrees, gcd-agrees, divided-agrees (h .k), weight-agrees h, same, divided-agrees (h .n - h .k))
+
+-- the shifts, where n divides k·d
+pub shifts-agrees : (h : Own.Header) → h .k * Records.distance h % h .n ≡ 0 → shifts (given h) ≡ Ours.shifts h
+unfolding Ours.shiftsOf Ours.isEven Records.distance
+shifts-agrees h even = even-agrees h ∙ rw even

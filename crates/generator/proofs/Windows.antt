@@ -1,12 +1,14 @@
--- The test for an entry that is not zero, (j + s) mod n < d, for any shift s.
+-- The test for an entry that is not zero, (j + s) mod n < d, for any shift s; and counts that lie near a quotient.
 use mathlib.Core.Path.{_≡_, refl, sym, _∙_}
+use mathlib.Core.Logic.{inl, inr, ⊎-elim}
 use mathlib.Core.Bool.{Bool, true, _&&_, and-true, and-false}
-use Prim.Native.Nat.{ℕ, _+_, _-_, _%_, _≤_, _<_}
-use native.Mathlib.Nat.{add-comm, add-assoc, add-mod-left, add-mod-right, mod-add-mod, mod-eq-of-lt, mod-lt}
+use Prim.Native.Nat.{ℕ, _+_, _-_, _*_, _/_, _%_, _≤_, _<_}
+use native.Mathlib.Nat.{add-comm, add-assoc, add-mod-left, add-mod-right, mod-add-mod, mod-eq-of-lt, mod-lt, div-lt-iff-lt-mul, le-div-iff-mul-le, lt-div-mul-add, eq-or-lt-of-le}
 use native.Mathlib.Omega.{arith}
 use lib.Dec.{ltb}
 use borrow.Author.Tests.{lt-ltb, le-ltb}
 use Rattle.lists.specs.Counting.{countFrom}
+use Rattle.scheme.specs.Costs.{Rounded}
 use Rattle.lists.proofs.Count.{count-add, count-ext, count-all, count-none, count-period}
 
 -- the test comes round with n
@@ -40,3 +42,17 @@ row-nodes n d s pos small =
     ∙ sym (count-period n (λ j. ltb ((b + j) % n) d) (below-period n d b) (n - b))
     ∙ count-stretch n d b (n - b) (λ j. true) small (omega arith)
     ∙ count-all d (n - b) (λ j. true) (λ j u v. refl)
+
+-- n times w lies less than n from x
+pub record Near (n x w : ℕ) : Type 0 where
+  pub above : x < n * w + n
+  pub below : n * w < x + n
+
+-- so w is x / n, rounded down or up
+pub near-rounded : (n x w : ℕ) → 0 < n → Near n x w → Rounded x n w
+near-rounded n x w pos near =
+    let low : x / n < w + 1 = div-lt-iff-lt-mul pos .1 (omega arith) in
+    let high : w ≤ (x + (n - 1)) / n = le-div-iff-mul-le pos .1 (omega arith) in
+    let most = lt-div-mul-add {a = x} pos in
+    let close : (x + (n - 1)) / n < x / n + 2 = div-lt-iff-lt-mul pos .1 (omega arith) in
+    ⊎-elim (λ e. inl (sym e)) (λ h. inr (omega arith)) (eq-or-lt-of-le {n = x / n} {m = w} (omega arith))

@@ -1,9 +1,9 @@
 -- What holds of every accepted plan.
 use mathlib.Core.Path.{_≡_}
-use mathlib.Core.Logic.{_↔_}
+use mathlib.Core.Logic.{_↔_, _⊎_}
 use mathlib.Core.Bool.{Bool, true, false, _&&_, not}
 use mathlib.Core.List.{List, map}
-use Prim.Native.Nat.{ℕ, _+_, _*_, _/_, _%_, _<_, Fin}
+use Prim.Native.Nat.{ℕ, _+_, _*_, _%_, _<_, Fin}
 use lib.Dec.{eqb, ltb}
 use lib.ListN.{length, getD, set}
 use Rattle.lists.specs.Counting.{countFrom, differ}
@@ -11,11 +11,12 @@ use Rattle.lists.specs.Numbers.{allBelow, distinct}
 use Rattle.field.specs.Symbols.{Symbol, numbers}
 use Rattle.scheme.specs.Messages.{Message, symbols}
 use Rattle.scheme.specs.Schemes.{Scheme}
+use Rattle.scheme.specs.Sums.{sum}
 use Rattle.scheme.specs.Costs.{Tight, CostsAtLeast}
 use Rattle.generator.specs.declared.Header.{Header}
 use Rattle.generator.specs.declared.Record.{Record}
 use Rattle.generator.specs.declared.Record.the-variants.{Holds, Meets}
-use Rattle.generator.specs.Records.{size, distance}
+use Rattle.generator.specs.Records.{size, distance, lowReads, highReads}
 use Rattle.generator.specs.Shifts.{shifts}
 use Rattle.generator.specs.Generator.{entry, baseWord}
 use Rattle.generator.specs.Codewords.{nodeOf, encoding, valuesOf, isWord}
@@ -55,20 +56,27 @@ pub record Ours (h : Header) : Type 0 where
   pub row-weight : (r j : ℕ) → r < h .k → j < h .n → eqb (entry h r j) 0 ≡ not (ltb ((j + getD (shifts h) r 0) % h .n) (distance h))
   -- each change of one symbol alters exactly d nodes
   pub alters : (ms : List ℕ) (r x : ℕ) → isMessage h ms ≡ true → r < h .k → x < size h → (x ≡ getD ms r 0 → ⊥) → differ (encoding h ms) (encoding h (set ms r x)) ≡ distance h
-  -- each node depends on exactly b = k·d / n symbols, a whole number
-  pub depends : (j : ℕ) → j < h .n → reads h j ≡ h .k * distance h / h .n
-  pub whole : h .n * (h .k * distance h / h .n) ≡ h .k * distance h
+  -- each node depends on k·d / n symbols, rounded down or up; the two are equal exactly if n divides k·d
+  pub depends : (j : ℕ) → j < h .n → (reads h j ≡ lowReads h) ⊎ (reads h j ≡ highReads h)
+  pub whole : (lowReads h ≡ highReads h) ↔ (h .k * distance h % h .n ≡ 0)
+  -- these counts sum to k·d, and some node has the upper one
+  pub total : sum (h .n) (reads h) ≡ h .k * distance h
+  pub upper-node : (j : ℕ) × (j < h .n) × (reads h j ≡ highReads h)
   -- a node depends on a symbol exactly where the entry is not zero
   pub depends-means : (r j : ℕ) → r < h .k → j < h .n → (eqb (entry h r j) 0 ≡ false) ↔ ((ms : List ℕ) × (z : ℕ) × (isMessage h ms ≡ true) × (z < size h) × (eqb (nodeOf h ms j) (nodeOf h (set ms r z) j) ≡ false))
-  -- row r at j is the base word at (j + shift) modulo n; the first shift is 0
-  pub rows-base : (r j : ℕ) → r < h .k → j < h .n → entry h r j ≡ getD (baseWord h) ((j + getD (shifts h) r 0) % h .n) 0
+  -- the shifts are k different numbers below n, the first of them 0
+  pub shifts-many : length (shifts h) ≡ h .k
+  pub shifts-below : allBelow (h .n) (shifts h) ≡ true
+  pub shifts-different : distinct (shifts h) ≡ true
   pub first-shift : getD (shifts h) 0 0 ≡ 0
+  -- row r at j is the base word at (j + shift) modulo n
+  pub rows-base : (r j : ℕ) → r < h .k → j < h .n → entry h r j ≡ getD (baseWord h) ((j + getD (shifts h) r 0) % h .n) 0
 
 -- the scheme of the plan: it takes the field's symbols and has node j hold the sum of symbol r times entry (r, j)
 pub record OurScheme (h : Header) : Type 0 where
   pub scheme : Scheme (h .k) (h .n) (Symbol (size h)) (λ j. ℕ)
   pub holds-is : (m : Message (Symbol (size h)) (h .k)) (j : Fin (h .n)) → scheme .holds m j ≡ nodeOf h (numbers (size h) (symbols (h .k) m)) (j .0)
-  -- each change alters exactly d nodes, each node depends on exactly k·d / n symbols
+  -- each change alters exactly d nodes, each node depends on exactly k·d / n symbols, rounded down or up
   pub tight : Tight scheme
   -- every scheme of numbers for the same k and n costs at least as much
   pub least : (s : Scheme (h .k) (h .n) ℕ (λ j. ℕ)) → CostsAtLeast s scheme

@@ -1,7 +1,7 @@
 -- The plan held against the plain layout for the same k and n: the plain layout of the same code, and the figures of both.
 use mathlib.Core.Path.{_≡_}
 use mathlib.Core.Bool.{true}
-use Prim.Native.Nat.{ℕ, _*_, _/_, _≤_, Fin}
+use Prim.Native.Nat.{ℕ, _≤_, Fin}
 use Rattle.lists.specs.Numbers.{allBelow}
 use Rattle.field.specs.Symbols.{Symbol}
 use Rattle.scheme.specs.Messages.{Message, symbols}
@@ -10,7 +10,7 @@ use Rattle.scheme.specs.Layouts.{HasFigures, Plain, plainReads}
 use Rattle.generator.specs.declared.Header.{Header}
 use Rattle.generator.specs.declared.Record.{Record}
 use Rattle.generator.specs.declared.Record.the-variants.{Holds, Meets}
-use Rattle.generator.specs.Records.{size, distance}
+use Rattle.generator.specs.Records.{size, distance, lowReads, highReads}
 use Rattle.generator.specs.Codewords.{isWord}
 use Rattle.generator.specs.Claims.{OurScheme}
 
@@ -22,26 +22,22 @@ pub record PlainScheme (h : Header) : Type 0 where
   pub word : (m : Message (Symbol (size h)) (h .k)) → isWord h (symbols (h .n) (scheme .holds m)) ≡ true
   pub plain : Plain scheme
 
--- b = k·d / n, the number of symbols that each node of the plan depends on
-unfoldable pub balancedReads : Header → ℕ
-balancedReads h = h .k * distance h / h .n
-
 -- the greatest number of symbols that a node of a plain layout depends on
 unfoldable pub plainGreatest : Header → ℕ
 plainGreatest h = plainReads (h .k) (h .n)
 
 -- the comparison, for the header of an accepted record
 pub record Compared (h : Header) : Type 0 where
-  -- the scheme of the plan: each change alters exactly d nodes, each node depends on exactly b symbols
+  -- the scheme of the plan: each change alters exactly d nodes, each node depends on k·d / n symbols, rounded down or up
   pub ours : OurScheme h
-  pub our-figures : HasFigures (ours .scheme) (distance h) (balancedReads h) (balancedReads h)
+  pub our-figures : HasFigures (ours .scheme) (distance h) (lowReads h) (highReads h)
   -- the plain layout of the same code: d nodes too, and from 1 to `plainGreatest` symbols
   pub plain : PlainScheme h
   pub plain-figures : HasFigures (plain .scheme) (distance h) 1 (plainGreatest h)
   -- every plain layout of numbers has these figures
   pub every-plain : (s : Scheme (h .k) (h .n) ℕ (λ j. ℕ)) → Plain s → HasFigures s (distance h) 1 (plainGreatest h)
   -- no scheme of numbers alters fewer nodes, or has a lesser greatest number of symbols
-  pub bound : (s : Scheme (h .k) (h .n) ℕ (λ j. ℕ)) (w l g : ℕ) → HasFigures s w l g → (distance h ≤ w) × (balancedReads h ≤ g)
+  pub bound : (s : Scheme (h .k) (h .n) ℕ (λ j. ℕ)) (w l g : ℕ) → HasFigures s w l g → (distance h ≤ w) × (highReads h ≤ g)
 
 -- the same of a record that was read
 unfoldable pub ComparedRecord : Record → Type 0

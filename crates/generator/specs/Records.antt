@@ -1,8 +1,8 @@
--- Records: what one holds, and the numbers 1 to 6 that turn one away.
+-- Records: what one holds, and the numbers 1 to 5 that turn one away.
 use mathlib.Core.Path.{_≡_}
 use mathlib.Core.Bool.{Bool, true, false, _&&_, _||_, not}
 use mathlib.Core.List.{List}
-use Prim.Native.Nat.{ℕ, zero, suc, _+_, _-_, _*_, _%_, _≤_, _<_}
+use Prim.Native.Nat.{ℕ, zero, suc, _+_, _-_, _*_, _≤_, _<_}
 use lib.Dec.{eqb, ltb, leb}
 use lib.ListN.{length, getD}
 use Rattle.lists.specs.Choice.{pick, firstOf, when}
@@ -10,6 +10,7 @@ use Rattle.field.specs.declared.Field.the-variants.{Prime, Binary}
 use Rattle.field.specs.Primes.{isPrime}
 use Rattle.field.specs.Fields.{isField, sizeOf, orderOf}
 use Rattle.field.specs.Kinds.{primeOf, gf256, modulus, usable}
+use Rattle.scheme.specs.Costs.{floor, ceil}
 use Rattle.generator.specs.declared.Header.{Header}
 use Rattle.generator.specs.declared.Record.{Record}
 use Rattle.generator.specs.declared.Record.the-variants.{Holds, Meets}
@@ -37,6 +38,13 @@ width h = 1
 unfoldable pub distance : Header → ℕ
 distance h = h .n - h .k + 1
 
+-- k·d / n rounded down and up: the least and the greatest number of symbols that a node of the plan depends on
+unfoldable pub lowReads : Header → ℕ
+lowReads h = floor (h .k * distance h) (h .n)
+
+unfoldable pub highReads : Header → ℕ
+highReads h = ceil (h .k * distance h) (h .n)
+
 -- number 1: empty, or of neither kind
 unfoldable pub kindBad : List ℕ → Bool
 kindBad s = eqb (length s) 0 || not (eqb (getD s 0 0) 1 || eqb (getD s 0 0) 2)
@@ -57,13 +65,9 @@ sizeBad h = ltb (h .n) 2 || (eqb (h .k) 0 || ltb (h .n) (h .k))
 unfoldable pub rootBad : Header → Bool
 rootBad h = not (ltb (h .root) (size h) && eqb (orderOf (modulusOf h) (h .root)) (h .n))
 
--- number 6: n does not divide k·d
-unfoldable pub unevenBad : Header → Bool
-unevenBad h = not (eqb (h .k * distance h % h .n) 0)
-
--- numbers 4 to 6
+-- numbers 4 and 5
 unfoldable pub headerFault : Header → ℕ
-headerFault h = firstOf (when (sizeBad h) 4) (firstOf (when (rootBad h) 5) (when (unevenBad h) 6))
+headerFault h = firstOf (when (sizeBad h) 4) (when (rootBad h) 5)
 
 -- the lowest number that holds, or 0
 unfoldable pub recordFault : List ℕ → ℕ
@@ -81,7 +85,7 @@ judged (suc f) h = Meets (suc f)
 unfoldable pub recordOf : List ℕ → Record
 recordOf s = judged (recordFault s) (headerOf s)
 
--- what is known of a header that numbers 3 to 6 pass
+-- what is known of a header that numbers 3 to 5 pass
 pub record Sound (h : Header) : Type 0 where
   pub usable-field : usable (h .field) ≡ true
   pub field : isField (modulusOf h) ≡ true
@@ -92,4 +96,3 @@ pub record Sound (h : Header) : Type 0 where
   pub fits : h .k ≤ h .n
   pub root-below : h .root < size h
   pub order : orderOf (modulusOf h) (h .root) ≡ h .n
-  pub even : h .k * distance h % h .n ≡ 0

@@ -1,9 +1,10 @@
--- The shifts of the generator's rows, by the rule of Lemma 2.
+-- The shifts of the generator's rows. In comments d is n − k + 1.
 use mathlib.Core.Bool.{Bool, true, false}
 use mathlib.Core.List.{List, [], _∷_, _++_}
-use Prim.Native.Nat.{ℕ, zero, suc, _+_, _-_, _/_, _%_}
+use Prim.Native.Nat.{ℕ, zero, suc, _+_, _-_, _*_, _/_, _%_}
 use lib.Dec.{eqb, ltb}
 use Rattle.lists.specs.Choice.{pick}
+use Rattle.lists.specs.Rows.{from}
 use Rattle.generator.specs.declared.Header.{Header}
 
 -- the greatest common divisor, by at most f steps of Euclid's algorithm
@@ -23,9 +24,33 @@ unfoldable pub shiftsFrom : ℕ → ℕ → ℕ → ℕ → ℕ → List ℕ
 shiftsFrom zero i t s place = []
 shiftsFrom (suc f) i t s place = pick (ltb place t) (i ∷ []) [] ++ shiftsFrom f (i + 1) t s (nextPlace (t + s) place)
 
--- with g = gcd(k, n) and d − 1 = n − k: k / g taken, (d − 1) / g skipped
+-- the rule of Lemma 2, with g = gcd(k, n) and d − 1 = n − k: k / g taken, (d − 1) / g skipped
+unfoldable pub evenShifts : ℕ → ℕ → List ℕ
+evenShifts n k = shiftsFrom n 0 (k / gcd k n) ((n - k) / gcd k n) 0
+
+-- −x modulo n, for x up to n: the shift of a row by its first node, and the first node by the shift
+unfoldable pub negative : ℕ → ℕ → ℕ
+negative n x = (n - x) % n
+
+-- the number of rows laid end to end before they come round: the period of the multiples of d modulo n
+unfoldable pub period : ℕ → ℕ → ℕ
+period n d = n / gcd n d
+
+-- the node at which row r begins where rows are laid end to end; after each period they begin one node further
+unfoldable pub laidAt : ℕ → ℕ → ℕ → ℕ
+laidAt n d r = (r / period n d + r % period n d * d) % n
+
+-- rows laid end to end
+unfoldable pub laidShifts : ℕ → ℕ → List ℕ
+laidShifts n k = from (λ r. negative n (laidAt n (n - k + 1) r)) 0 k
+
+-- the test whether every node has the same share: n divides k·d
+unfoldable pub isEven : ℕ → ℕ → Bool
+isEven n k = eqb (k * (n - k + 1) % n) 0
+
+-- the shifts of the k rows
 unfoldable pub shiftsOf : ℕ → ℕ → List ℕ
-shiftsOf n k = shiftsFrom n 0 (k / gcd k n) ((n - k) / gcd k n) 0
+shiftsOf n k = pick (isEven n k) (evenShifts n k) (laidShifts n k)
 
 abbrev pub shifts : Header → List ℕ
 shifts h = shiftsOf (h .n) (h .k)

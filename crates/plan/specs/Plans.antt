@@ -2,7 +2,7 @@
 use mathlib.Core.Path.{_≡_}
 use mathlib.Core.Bool.{_&&_}
 use mathlib.Core.List.{List}
-use Prim.Native.Nat.{ℕ, _+_, _*_, _/_, _%_}
+use Prim.Native.Nat.{ℕ, _+_, _%_}
 use lib.Dec.{ltb}
 use lib.ListN.{getD}
 use Rattle.lists.specs.Choice.{pick}
@@ -11,21 +11,22 @@ use Rattle.generator.specs.declared.Header.{Header}
 use Rattle.generator.specs.declared.Record.{Record}
 use Rattle.generator.specs.declared.Record.the-variants.{Holds, Meets}
 use Rattle.plan.specs.declared.Plan.{Plan}
-use Rattle.generator.specs.Records.{distance, recordOf}
+use Rattle.generator.specs.Records.{distance, lowReads, highReads, recordOf}
 use Rattle.generator.specs.Claims.{Promised}
 use Rattle.generator.specs.Shifts.{shifts}
 use Rattle.generator.specs.Generator.{baseWord}
 
 -- the plan of a record: the places beyond the k shifts and the n entries hold 0, and all do beside a number
 unfoldable pub planFor : Record → Plan
-planFor (Meets f) = record { number = f; n = 0; k = 0; d = 0; b = 0; shifts = zeros 255; base = zeros 255 }
+planFor (Meets f) = record { number = f; n = 0; k = 0; d = 0; low = 0; high = 0; shifts = zeros 255; base = zeros 255 }
 planFor (Holds h) =
     record {
       number = 0;
       n = h .n;
       k = h .k;
       d = distance h;
-      b = h .k * distance h / h .n;
+      low = lowReads h;
+      high = highReads h;
       shifts = padded 255 (shifts h);
       base = padded 255 (baseWord h);
     }

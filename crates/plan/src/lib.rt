@@ -12,13 +12,14 @@ pub use entries::entry;
 pub use entries::entry_at;
 pub use records::read_record;
 
-// A plan; all places hold 0 beside a number.
+// A plan; all places hold 0 beside a number. `low` and `high` are k·d / n rounded down and up.
 pub struct Plan {
     pub number: u8,
     pub n: u8,
     pub k: u8,
     pub d: u8,
-    pub b: u8,
+    pub low: u8,
+    pub high: u8,
     pub shifts: [u8; 255],
     pub base: [u16; 255],
 }
@@ -32,7 +33,8 @@ fn refused(number: u8) -> Plan
         n: 0,
         k: 0,
         d: 0,
-        b: 0,
+        low: 0,
+        high: 0,
         shifts: [0; 255],
         base: [0; 255],
     }
@@ -46,7 +48,8 @@ pub fn plan_of(h: Header) -> Plan
     let n = h.n;
     let k = h.k;
     let d = records::distance_of(h);
-    let b = records::reads_of(h);
+    let low = records::low_reads(h);
+    let high = records::high_reads(h);
     let shifts = shifts::fill_shifts(n, k);
     let base = base::fill_base(h);
     Plan {
@@ -54,7 +57,8 @@ pub fn plan_of(h: Header) -> Plan
         n: n,
         k: k,
         d: d,
-        b: b,
+        low: low,
+        high: high,
         shifts: shifts,
         base: base,
     }

@@ -1,18 +1,22 @@
 // Records as they are read: what one holds, or the lowest number that turns it away.
 ghost use mathlib.Core.Path.{_≡_};
 ghost use mathlib.Core.Bool.{true, false, _&&_};
-ghost use Prim.Native.Nat.{_<_, _≤_};
 ghost use lib.Dec.{leb};
 ghost use Rattle.field.specs.Primes.{isPrime};
 ghost use Rattle.field.specs.Kinds.{usable};
-ghost use Rattle.generator.specs.Records.{distance, sizeBad, rootBad, unevenBad, headerFault, judged, recordOf, Sound};
-ghost use Rattle.generator.specs.Comparison.{balancedReads};
+ghost use Rattle.generator.specs.Records.{sizeBad, rootBad, headerFault, judged, recordOf};
+
+mod sizes;
+
 use field::Field;
 use field::Gf256;
 use field::PrimeField;
 use field::is_prime;
 use generator::Header;
 use generator::Record;
+pub use sizes::distance_of;
+pub use sizes::high_reads;
+pub use sizes::low_reads;
 
 // A prime from 3 to 251.
 fn is_prime_byte(p: u32) -> bool
@@ -41,39 +45,7 @@ fn root_bad(h: Header) -> bool
     root >= f.size() || f.order(root) != n
 }
 
-// d, the number of nodes that each row of the generator lies on.
-pub fn distance_of(h: Header) -> u8
-    requires { ⌜ (0 < h .k) × (h .k ≤ h .n) ⌝ }
-    ensures { λ r. ⌜ r ≡ distance h ⌝ }
-{
-    let n = h.n;
-    let k = h.k;
-    n - k + 1
-}
-
-// b, the number of symbols that each node depends on.
-pub fn reads_of(h: Header) -> u8
-    requires { ⌜ Sound h ⌝ }
-    ensures { λ r. ⌜ r ≡ balancedReads h ⌝ }
-{
-    let n = h.n as u32;
-    let k = h.k as u32;
-    let d = distance_of(h) as u32;
-    (k * d / n) as u8
-}
-
-// Number 6: n does not divide k·d.
-fn uneven_bad(h: Header) -> bool
-    requires { ⌜ sizeBad h ≡ false ⌝ }
-    ensures { λ r. ⌜ r ≡ unevenBad h ⌝ }
-{
-    let n = h.n as u32;
-    let k = h.k as u32;
-    let d = distance_of(h) as u32;
-    k * d % n != 0
-}
-
-// Numbers 4 to 6.
+// Numbers 4 and 5.
 fn judge(h: Header) -> Record
     requires { ⌜ usable (h .field) ≡ true ⌝ }
     ensures { λ r. ⌜ r ≡ judged (headerFault h) h ⌝ }
@@ -83,9 +55,6 @@ fn judge(h: Header) -> Record
     }
     if root_bad(h) {
         return Record::Meets(5);
-    }
-    if uneven_bad(h) {
-        return Record::Meets(6);
     }
     Record::Holds(h)
 }

@@ -1,4 +1,4 @@
--- The price line: each change alters at least d = n − k + 1 nodes of any scheme, and some node depends on at least k · d / n symbols.
+-- The price line: each change alters at least d = n − k + 1 nodes of any scheme, and some node depends on at least k · d / n symbols, rounded up.
 use mathlib.Core.Path.{_≡_, refl, ap, _∙_}
 use mathlib.Core.Logic.{_≢_}
 use mathlib.Core.Bool.{Bool, not, cond}
@@ -64,12 +64,12 @@ module _ {ℓ κ} {k n : ℕ} {S : Type ℓ} {C : Fin n → Type κ} (s : Scheme
       let j : Fin n = (f .0, f .1) in
       (j, _, f .2, at-least k (λ r. differs m (u r) (f .0)) (DependsOn s j) _ (λ r e. (m, u (r .0), change r, unlike-true (s .same) (s .holds m) (s .holds (u (r .0))) j .0 e)) (le-refl _))
 
-  -- the price line
-  pub price : 1 ≤ k → k ≤ n → Price s
-  price l₁ l = record { writes = writes l; reads = reads l₁ l }
-
   -- a count is whole, so some node depends on at least k · d / n symbols, rounded up
   pub reads-up : 1 ≤ k → k ≤ n → (x y : S) → x ≢ y → (j : Fin n) × AtLeast (ceil (k * (n - k + 1)) n) k (DependsOn s j)
   reads-up l₁ l x y ne =
       let b = reads l₁ l x y ne in
       (b .0, fewer (b .3) (ceil-least (k * (n - k + 1)) n (b .1) (le-trans l₁ l) (b .2)))
+
+  -- the price line
+  pub price : 1 ≤ k → k ≤ n → Price s
+  price l₁ l = record { writes = writes l; reads = reads l₁ l; reads-up = reads-up l₁ l }

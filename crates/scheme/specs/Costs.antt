@@ -1,6 +1,6 @@
 -- What a scheme costs: nodes written at a change, and symbols that a node depends on. In comments d is n − k + 1.
 use mathlib.Core.Path.{_≡_}
-use mathlib.Core.Logic.{_≢_}
+use mathlib.Core.Logic.{_≢_, _⊎_}
 use mathlib.Core.Bool.{true}
 use mathlib.Core.List.{List}
 use Prim.Native.Nat.{ℕ, _+_, _-_, _*_, _/_, _≤_, Fin}
@@ -24,9 +24,16 @@ AtMost c n P = (is : List ℕ) → allBelow n is ≡ true → distinct is ≡ tr
 abbrev pub Exactly {ℓ} : (c n : ℕ) → (Fin n → Type ℓ) → Type ℓ
 Exactly c n P = AtLeast c n P × AtMost c n P
 
--- a / n rounded up
+-- a / n rounded down and up
+abbrev pub floor : ℕ → ℕ → ℕ
+floor a n = a / n
+
 abbrev pub ceil : ℕ → ℕ → ℕ
 ceil a n = (a + (n - 1)) / n
+
+-- c is a / n, rounded down or up
+abbrev pub Rounded : ℕ → ℕ → ℕ → Type 0
+Rounded a n c = (c ≡ floor a n) ⊎ (c ≡ ceil a n)
 
 module _ {ℓ κ} {k n : ℕ} {S : Type ℓ} {C : Fin n → Type κ} (s : Scheme k n S C) where
   -- what no scheme can spare
@@ -35,15 +42,20 @@ module _ {ℓ κ} {k n : ℕ} {S : Type ℓ} {C : Fin n → Type κ} (s : Scheme
     pub writes : (r : Fin k) (m u : Message S k) → Change r m u → AtLeast (n - k + 1) n (Altered s m u)
     -- some node depends on at least k · d / n symbols, if the alphabet has two
     pub reads : (x y : S) → x ≢ y → (j : Fin n) × (b : ℕ) × (k * (n - k + 1) ≤ n * b) × AtLeast b k (DependsOn s j)
+    -- so, a count being whole, on at least k · d / n rounded up
+    pub reads-up : (x y : S) → x ≢ y → (j : Fin n) × AtLeast (ceil (k * (n - k + 1)) n) k (DependsOn s j)
 
-  -- a scheme at the least price, shared out evenly
+  -- a scheme at the least price, shared out as evenly as whole numbers allow
   pub record Tight : Type (ℓ ⊔ κ) where
     -- each change of one symbol alters exactly d nodes
     pub writes : (r : Fin k) (m u : Message S k) → Change r m u → Exactly (n - k + 1) n (Altered s m u)
-    -- each node depends on exactly k · d / n symbols
-    pub reads : (j : Fin n) → (b : ℕ) × (n * b ≡ k * (n - k + 1)) × Exactly b k (DependsOn s j)
+    -- each node depends on exactly k · d / n symbols, rounded down or up
+    pub reads : (j : Fin n) → Exactly (floor (k * (n - k + 1)) n) k (DependsOn s j) ⊎ Exactly (ceil (k * (n - k + 1)) n) k (DependsOn s j)
+    -- some node has the lower number, and some node the upper
+    pub lower-node : (j : Fin n) × Exactly (floor (k * (n - k + 1)) n) k (DependsOn s j)
+    pub upper-node : (j : Fin n) × Exactly (ceil (k * (n - k + 1)) n) k (DependsOn s j)
 
-  -- a scheme at the least price, also where n does not divide k · d
+  -- a scheme that costs no more than the least price
   pub record Frugal : Type (ℓ ⊔ κ) where
     -- each change of one symbol alters at most d nodes
     pub writes : (r : Fin k) (m u : Message S k) → Change r m u → AtMost (n - k + 1) n (Altered s m u)

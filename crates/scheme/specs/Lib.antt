@@ -1,5 +1,6 @@
 -- What a scheme is, what it costs, and the plain layout.
 pub mod Messages
 pub mod Schemes
+pub mod Sums
 pub mod Costs
 pub mod Layouts

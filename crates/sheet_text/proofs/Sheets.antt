@@ -1,7 +1,7 @@
 -- The sheet of the plan of a record says what the definitions of the generator say.
 use mathlib.Core.Path.{_≡_, refl, ap, ap₂, _∙_}
 use mathlib.Core.List.{List, [], _∷_, _++_, append-nil}
-use Prim.Native.Nat.{ℕ, zero, suc, _+_, _*_, _/_, _≤_, _<_}
+use Prim.Native.Nat.{ℕ, zero, suc, _+_, _≤_, _<_}
 use native.Mathlib.Omega.{arith}
 use borrow.Author.Tests.{ne-eqb}
 use lib.ListN.{getD}
@@ -10,14 +10,14 @@ use Rattle.lists.proofs.Rows.{from-ext}
 use Rattle.generator.specs.declared.Header.{Header}
 use Rattle.generator.specs.declared.Record.{Record}
 use Rattle.generator.specs.declared.Record.the-variants.{Holds, Meets}
-use Rattle.generator.specs.Records.{distance, recordFault, headerOf, judged, recordOf, Sound}
+use Rattle.generator.specs.Records.{distance, lowReads, highReads, recordFault, headerOf, judged, recordOf, Sound}
 use Rattle.generator.specs.Shifts.{shifts}
 use Rattle.generator.specs.Generator.{entry}
 use Rattle.plan.specs.Plans.{planFor, entryIn}
 use Rattle.plan.proofs.Plans.{shift-in, entry-in}
 use Rattle.generator.proofs.Accepts.{accepted-sound}
 use Rattle.text.specs.Text.{ascii, line}
-use Rattle.sheet_text.specs.Sheet.{headLine, rowLine, sheetOf, sheetFor}
+use Rattle.sheet_text.specs.Sheet.{roundings, numbersLine, headLine, rowLine, sheetOf, sheetFor}
 
 -- rows that agree where they are asked give the same text
 rows-ext : (f g : ℕ → List ℕ) (i n : ℕ) → ((k : ℕ) → i ≤ k → k < i + n → f k ≡ g k) → rowsFrom f i n ≡ rowsFrom g i n
@@ -36,9 +36,9 @@ row-is h s r row =
 
 -- the sheet of a sound header
 pub sheet-holds : (h : Header) → Sound h → sheetOf (planFor (Holds h)) ≡ sheetFor (Holds h)
-unfolding sheetOf headLine sheetFor planFor
+unfolding sheetOf headLine numbersLine sheetFor planFor
 sheet-holds h s =
-    ap (λ (xs : List ℕ). line (ascii "plan") (h .n ∷ h .k ∷ distance h ∷ (h .k * distance h / h .n) ∷ []) ++ xs)
+    ap (λ (xs : List ℕ). line (ascii "plan") (h .n ∷ h .k ∷ distance h ∷ roundings (lowReads h) (highReads h)) ++ xs)
     (rows-ext (rowLine (planFor (Holds h))) _ 0 (h .k) (λ r a row. row-is h s r (omega arith)))
 
 -- the sheet of a record that was turned away

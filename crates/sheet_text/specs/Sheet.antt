@@ -1,6 +1,6 @@
 -- The text of a plan sheet.
 use mathlib.Core.List.{List, [], _∷_, _++_}
-use Prim.Native.Nat.{ℕ, _*_, _/_}
+use Prim.Native.Nat.{ℕ}
 use lib.Dec.{eqb}
 use lib.ListN.{getD}
 use Rattle.lists.specs.Choice.{pick}
@@ -8,17 +8,25 @@ use Rattle.lists.specs.Rows.{from, rowsFrom}
 use Rattle.generator.specs.declared.Record.{Record}
 use Rattle.generator.specs.declared.Record.the-variants.{Holds, Meets}
 use Rattle.plan.specs.declared.Plan.{Plan}
-use Rattle.generator.specs.Records.{distance}
+use Rattle.generator.specs.Records.{distance, lowReads, highReads}
 use Rattle.generator.specs.Shifts.{shifts}
 use Rattle.generator.specs.Generator.{entry}
 use Rattle.plan.specs.Plans.{entryIn}
 use Rattle.text.specs.Text.{ascii, line}
 
--- the first line of a plan's sheet: n, k, d, b; or the number that turned the record away
+-- the two roundings of k·d / n, the lower first; one number where they are equal
+unfoldable pub roundings : ℕ → ℕ → List ℕ
+roundings low high = pick (eqb low high) (low ∷ []) (low ∷ high ∷ [])
+
+-- the line of a plan's numbers
+unfoldable pub numbersLine : Plan → List ℕ
+numbersLine p = line (ascii "plan") (p .n ∷ p .k ∷ p .d ∷ roundings (p .low) (p .high))
+
+-- the first line of a plan's sheet: its numbers, or the number that turned the record away
 unfoldable pub headLine : Plan → List ℕ
 headLine p =
     pick (eqb (p .number) 0)
-    (line (ascii "plan") (p .n ∷ p .k ∷ p .d ∷ p .b ∷ []))
+    (numbersLine p)
     (line (ascii "refused") (p .number ∷ []))
 
 -- the line of row r: its number, its shift, its n entries
@@ -33,5 +41,5 @@ sheetOf p = headLine p ++ pick (eqb (p .number) 0) (rowsFrom (rowLine p) 0 (p .k
 unfoldable pub sheetFor : Record → List ℕ
 sheetFor (Meets f) = line (ascii "refused") (f ∷ [])
 sheetFor (Holds h) =
-    line (ascii "plan") (h .n ∷ h .k ∷ distance h ∷ (h .k * distance h / h .n) ∷ [])
+    line (ascii "plan") (h .n ∷ h .k ∷ distance h ∷ roundings (lowReads h) (highReads h))
     ++ rowsFrom (λ r. line (ascii "row") (r ∷ getD (shifts h) r 0 ∷ from (entry h r) 0 (h .n))) 0 (h .k)

@@ -18,21 +18,35 @@ ghost use Rattle.generator.specs.Records.{recordOf};
 ghost use Rattle.plan.specs.Plans.{entryIn};
 ghost use Rattle.text.specs.Text.{fields};
 ghost use Rattle.text.specs.Writing.{Puts};
-ghost use Rattle.sheet_text.specs.Sheet.{headLine, rowLine, sheetOf, sheetFor};
+ghost use Rattle.sheet_text.specs.Sheet.{numbersLine, headLine, rowLine, sheetOf, sheetFor};
 
 // Each `put_` function puts its text at a place of a buffer that has room for it, and gives the next place.
 
+// n, k, d and the two roundings of k·d / n, or the one where they are equal.
+fn put_numbers(out: &mut [u8], at: usize, plan: Plan) -> usize
+    requires { ⌜ at + 25 ≤ length (now out) ⌝ }
+    ensures { λ r. ⌜ Puts (now (out .entry)) (now (out .exit)) at r (numbersLine plan) ⌝ }
+    ensures { λ r. ⌜ r ≤ at + 25 ⌝ }
+{
+    let low = plan.low;
+    let high = plan.high;
+    if low == high {
+        return put_line(out, at, b"plan", &[plan.n, plan.k, plan.d, low]);
+    }
+    put_line(out, at, b"plan", &[plan.n, plan.k, plan.d, low, high])
+}
+
 // The first line.
 fn put_head(out: &mut [u8], at: usize, plan: Plan) -> usize
-    requires { ⌜ at + 21 ≤ length (now out) ⌝ }
+    requires { ⌜ at + 25 ≤ length (now out) ⌝ }
     ensures { λ r. ⌜ Puts (now (out .entry)) (now (out .exit)) at r (headLine plan) ⌝ }
-    ensures { λ r. ⌜ r ≤ at + 21 ⌝ }
+    ensures { λ r. ⌜ r ≤ at + 25 ⌝ }
 {
     let number = plan.number;
     if number != 0 {
         return put_line(out, at, b"refused", &[number]);
     }
-    put_line(out, at, b"plan", &[plan.n, plan.k, plan.d, plan.b])
+    put_numbers(out, at, plan)
 }
 
 // The entries of row r, and the line feed.
@@ -64,9 +78,9 @@ fn put_row(out: &mut [u8], at: usize, plan: Plan, r: u8) -> usize
     put_entries(out, shifted, plan, r)
 }
 
-// The sheet of a plan: the first line has at most 21 bytes, and each of at most 255 rows has at most 1,032.
+// The sheet of a plan: the first line has at most 25 bytes, and each of at most 255 rows has at most 1,032.
 fn put_sheet(out: &mut [u8], at: usize, plan: Plan) -> usize
-    requires { ⌜ (at + 263181 ≤ length (now out)) × (allBelow 256 (plan .base) ≡ true) ⌝ }
+    requires { ⌜ (at + 263185 ≤ length (now out)) × (allBelow 256 (plan .base) ≡ true) ⌝ }
     ensures { λ r. ⌜ Puts (now (out .entry)) (now (out .exit)) at r (sheetOf plan) ⌝ }
 {
     let number = plan.number;
@@ -84,15 +98,15 @@ fn put_sheet(out: &mut [u8], at: usize, plan: Plan) -> usize
 }
 
 // An empty page: zeros, with room for any sheet.
-pub fn page() -> [u8; 263181]
-    ensures { λ r. ⌜ (r ≡ zeros 263181) × (263181 ≡ length r) ⌝ }
+pub fn page() -> [u8; 263185]
+    ensures { λ r. ⌜ (r ≡ zeros 263185) × (263185 ≡ length r) ⌝ }
 {
-    [0; 263181]
+    [0; 263185]
 }
 
 // Puts the sheet of a record at the front of a page, and gives its length. `fits` follows from the other two, and is what a
 // caller needs to lend `&out[..r]`.
-pub fn sheet(rec: &[u8], out: &mut [u8; 263181]) -> usize
+pub fn sheet(rec: &[u8], out: &mut [u8; 263185]) -> usize
     ensures text { λ r. ⌜ now (out .exit) ≡ sheetFor (recordOf (now (rec .entry))) ++ drop r (now (out .entry)) ⌝ }
     ensures size { λ r. ⌜ r ≡ length (sheetFor (recordOf (now (rec .entry)))) ⌝ }
     ensures fits { λ r. ⌜ (r ≤ length (now (out .exit))) × (r ≡ length (take r (now (out .exit)))) ⌝ }

@@ -121,7 +121,7 @@ fn many_nodes() {
         let shape = random.pick(&shapes);
         calls += round(&mut random, shape, lanes);
     }
-    for shape in shapes.iter().filter(|shape| shape.n == 255) {
+    for shape in shapes.iter().filter(|shape| shape.n == 255 && shape.k % 17 == 0) {
         calls += round(&mut random, shape, 1);
     }
     println!("{calls} calls on blocks of many nodes");

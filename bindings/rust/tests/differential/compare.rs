@@ -60,8 +60,8 @@ pub fn plan(record: &[u8]) -> u8 {
     match (&got, &expect) {
         (Ok(plan), Ok(code)) => {
             assert_eq!(
-                (plan.n(), plan.k(), plan.d(), plan.b()),
-                (code.n, code.k, code.d, code.b),
+                (plan.n(), plan.k(), plan.d(), plan.low_reads(), plan.high_reads()),
+                (code.n, code.k, code.d, code.low, code.high),
                 "{record:?}"
             );
             assert_eq!(
@@ -75,7 +75,7 @@ pub fn plan(record: &[u8]) -> u8 {
             "{record:?}"
         ),
     }
-    plan_in(record, 4, 255, 255)
+    plan_in(record, 5, 255, 255)
 }
 
 /// The plan through the C function, in buffers of these lengths.
@@ -83,14 +83,14 @@ pub fn plan_in(record: &[u8], numbers: usize, shifts: usize, base: usize) -> u8 
     let before = [vec![1; numbers], vec![2; shifts], vec![3; base]];
     let number = match Code::of(record) {
         Err(number) => number,
-        Ok(_) if (numbers, shifts, base) != (4, 255, 255) => 8,
+        Ok(_) if (numbers, shifts, base) != (5, 255, 255) => 8,
         Ok(_) => 0,
     };
     let after = match Code::of(record) {
         Ok(code) if number == 0 => {
             let padded = |list: &[u8]| [list, &vec![0; 255 - list.len()]].concat();
             [
-                vec![code.n as u8, code.k as u8, code.d as u8, code.b as u8],
+                [code.n, code.k, code.d, code.low, code.high].map(|x| x as u8).to_vec(),
                 padded(&code.shifts),
                 padded(&code.base),
             ]

@@ -12,7 +12,8 @@ fn rows(record: &[u8]) -> Vec<Vec<u8>> {
 #[test]
 fn plans() {
     let plan = Plan::new(&[1, 7, 3, 6, 4]).unwrap();
-    assert_eq!((plan.n(), plan.k(), plan.d(), plan.b()), (6, 4, 3, 2));
+    assert_eq!((plan.n(), plan.k(), plan.d()), (6, 4, 3));
+    assert_eq!((plan.low_reads(), plan.high_reads()), (2, 2));
     assert_eq!(plan.shifts(), [0, 1, 3, 4]);
     let expect = [[4, 6, 3, 0, 0, 0], [6, 3, 0, 0, 0, 4], [0, 0, 0, 4, 6, 3], [0, 0, 4, 6, 3, 0]];
     assert_eq!(rows(&[1, 7, 3, 6, 4]), expect);
@@ -22,10 +23,34 @@ fn plans() {
     );
     assert_eq!(rows(&[1, 7, 3, 6, 1]), [[1; 6]]);
     assert_eq!(rows(&[2, 214, 3, 3]), [[214, 0, 0], [0, 0, 214], [0, 214, 0]]);
-    let even: Vec<u8> = (1..=255).filter(|&k| Plan::new(&[2, 2, 255, k]).is_ok()).collect();
+    let is_even = |k: u8| {
+        let plan = Plan::new(&[2, 2, 255, k]).unwrap();
+        plan.low_reads() == plan.high_reads()
+    };
+    let even: Vec<u8> = (1..=255).filter(|&k| is_even(k)).collect();
     assert_eq!(even, [1, 51, 85, 120, 136, 171, 205, 255]);
     let plan = Plan::new(&[2, 2, 255, 120]).unwrap();
-    assert_eq!((plan.d(), plan.b()), (136, 64));
+    assert_eq!((plan.d(), plan.low_reads(), plan.high_reads()), (136, 64, 64));
+}
+
+#[test]
+fn uneven_plans() {
+    let plan = Plan::new(&[1, 7, 3, 6, 5]).unwrap();
+    assert_eq!((plan.d(), plan.low_reads(), plan.high_reads()), (2, 1, 2));
+    assert_eq!(plan.shifts(), [0, 4, 2, 5, 3]);
+    assert_eq!(
+        rows(&[1, 7, 3, 6, 5]),
+        [
+            [2, 4, 0, 0, 0, 0],
+            [0, 0, 2, 4, 0, 0],
+            [0, 0, 0, 0, 2, 4],
+            [0, 2, 4, 0, 0, 0],
+            [0, 0, 0, 2, 4, 0]
+        ]
+    );
+    let weight = |j: usize| (0..5).filter(|&r| plan.entry(r, j) != 0).count();
+    assert_eq!([0, 1, 2, 3, 4, 5].map(weight), [1, 2, 2, 2, 2, 1]);
+    assert_eq!(rows(&[1, 7, 3, 6, 2]), [[2, 1, 5, 3, 4, 0], [1, 5, 3, 4, 0, 2]]);
 }
 
 #[test]
@@ -42,8 +67,6 @@ fn records_turned_away() {
     assert_eq!(error(&[1, 7, 3, 6, 0]), Error::Size);
     assert_eq!(error(&[1, 7, 3, 6, 7]), Error::Size);
     assert_eq!(error(&[1, 7, 2, 6, 3]), Error::Root);
-    assert_eq!(error(&[1, 7, 3, 6, 2]), Error::Uneven);
-    assert_eq!(error(&[1, 7, 3, 6, 5]), Error::Uneven);
 }
 
 #[test]

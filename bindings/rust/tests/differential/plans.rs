@@ -1,6 +1,7 @@
 //! Plans: of every shape, of random records, and in buffers of other lengths.
 use crate::compare;
 use crate::random::{shapes, Random};
+use balanced::Plan;
 
 #[test]
 fn every_shape() {
@@ -13,10 +14,28 @@ fn every_shape() {
     println!("{} plans, one of each field, n and k", shapes.len());
 }
 
+/// The rows that are not zero at a node are the lower or the upper number for every node, and sum to k·d.
+#[test]
+fn every_share() {
+    let mut random = Random::new(4);
+    let shapes = shapes(61);
+    for shape in &shapes {
+        let plan = Plan::new(&shape.record(&mut random)).unwrap();
+        let rows: Vec<usize> = (0..plan.n())
+            .map(|j| (0..plan.k()).filter(|&r| plan.entry(r, j) != 0).count())
+            .collect();
+        assert_eq!(rows.iter().sum::<usize>(), plan.k() * plan.d());
+        assert_eq!(rows.iter().min(), Some(&plan.low_reads()));
+        assert_eq!(rows.iter().max(), Some(&plan.high_reads()));
+        assert!(plan.high_reads() - plan.low_reads() <= 1);
+    }
+    println!("{} plans whose nodes share as evenly as can be", shapes.len());
+}
+
 #[test]
 fn every_root() {
     let mut count = 0;
-    for shape in shapes(30) {
+    for shape in shapes(16) {
         for root in 0..=255 {
             let mut record = shape.kind.clone();
             record.extend([root, shape.n as u8, shape.k as u8]);
@@ -57,7 +76,8 @@ fn random_records() {
         seen[compare::plan(&record) as usize] += 1;
     }
     println!("60,000 records, by their number: {seen:?}");
-    assert!(seen[..=6].iter().all(|&count| count >= 100));
+    assert!(seen[..=5].iter().all(|&count| count >= 100));
+    assert!(seen[6..].iter().all(|&count| count == 0));
 }
 
 #[test]
@@ -70,10 +90,10 @@ fn other_lengths() {
         for &shifts in &lengths {
             for &base in &lengths {
                 let record = random.pick(&shapes).record(&mut random);
-                let fits = (numbers, shifts, base) == (4, 255, 255);
+                let fits = (numbers, shifts, base) == (5, 255, 255);
                 assert_eq!(compare::plan_in(&record, numbers, shifts, base), if fits { 0 } else { 8 });
                 // the record's number comes first
-                assert_eq!(compare::plan_in(&[1, 7, 3, 6, 2], numbers, shifts, base), 6);
+                assert_eq!(compare::plan_in(&[1, 7, 2, 6, 3], numbers, shifts, base), 5);
                 count += 2;
             }
         }

@@ -85,7 +85,7 @@ pub fn shapes(most: usize) -> Vec<Shape> {
         let orders: Vec<usize> = (0..size).map(|a| field.order(a as u8)).collect();
         for n in (2..=most).filter(|n| (size as usize - 1) % n == 0) {
             let roots: Vec<u8> = (0..size).filter(|&a| orders[a as usize] == n).map(|a| a as u8).collect();
-            for k in (1..=n).filter(|k| k * (n - k + 1) % n == 0) {
+            for k in 1..=n {
                 shapes.push(Shape {
                     kind: kind.clone(),
                     size,

@@ -146,7 +146,7 @@ fn run(
 
 #[test]
 fn encode() {
-    let numbers = [0, 1, 2, 3, 4, 5, 6, 7, 8, 11];
+    let numbers = [0, 1, 2, 3, 4, 5, 7, 8, 11];
     run(
         20,
         "encode",
@@ -159,7 +159,7 @@ fn encode() {
 
 #[test]
 fn update() {
-    let numbers = [0, 1, 2, 3, 4, 5, 6, 7, 8, 9, 11];
+    let numbers = [0, 1, 2, 3, 4, 5, 7, 8, 9, 11];
     run(
         21,
         "update",
@@ -172,7 +172,7 @@ fn update() {
 
 #[test]
 fn recover() {
-    let numbers = [0, 1, 2, 3, 4, 5, 6, 7, 8, 9, 10, 11];
+    let numbers = [0, 1, 2, 3, 4, 5, 7, 8, 9, 10, 11];
     run(
         22,
         "recover",
@@ -185,7 +185,7 @@ fn recover() {
 
 #[test]
 fn rebuild() {
-    let numbers = [0, 1, 2, 3, 4, 5, 6, 7, 8, 9, 10, 11];
+    let numbers = [0, 1, 2, 3, 4, 5, 7, 8, 9, 10, 11];
     run(
         23,
         "rebuild",
@@ -198,7 +198,7 @@ fn rebuild() {
 
 #[test]
 fn belongs() {
-    let numbers = [0, 1, 2, 3, 4, 5, 6, 7, 8, 11];
+    let numbers = [0, 1, 2, 3, 4, 5, 7, 8, 11];
     run(
         24,
         "belongs",

@@ -17,7 +17,7 @@ returns : tie.Need-returns
 returns c = plan-refused _ _ _ _ _ _ (c .before .before .build-plan .ensures) (c .before .plan-fault .ensures) (c .if1 .taken)
 
 -- the lengths that no number leaves
-lengths : (c : tie.Else1) → let a = c .before .before .before .before .before .before .before .args in (length (a .numbers .now) ≡ 4) × (length (a .shifts .now) ≡ 255) × (length (a .base .now) ≡ 255)
+lengths : (c : tie.Else1) → let a = c .before .before .before .before .before .before .before .args in (length (a .numbers .now) ≡ 5) × (length (a .shifts .now) ≡ 255) × (length (a .base .now) ≡ 255)
 lengths c =
     let a = c .before .before .before .before .before .before .before .args in
     plan-lengths (a .rec .now) (a .numbers .now) (a .shifts .now) (a .base .now) _ _ (c .before .before .build-plan .ensures) (c .before .plan-fault .ensures) (c .if1 .left)

@@ -20,10 +20,10 @@ unfolding lengthFault
 met c =
     let a = c .before .before .args in
     ⊎-elim
-    (λ w. rw (ne-eqb (a .numbers) 4 (w .taken)))
+    (λ w. rw (ne-eqb (a .numbers) 5 (w .taken)))
     (⊎-elim
-    (λ w. rw (eq-eqb (a .numbers) 4 (w .0 .left), not-true (eqb (a .shifts) 255) (w .1 .taken)))
-    (λ w. rw (eq-eqb (a .numbers) 4 (w .0 .left), not-false (eqb (a .shifts) 255) (w .1 .left), not-true (eqb (a .base) 255) (w .2 .taken))))
+    (λ w. rw (eq-eqb (a .numbers) 5 (w .0 .left), not-true (eqb (a .shifts) 255) (w .1 .taken)))
+    (λ w. rw (eq-eqb (a .numbers) 5 (w .0 .left), not-false (eqb (a .shifts) 255) (w .1 .left), not-true (eqb (a .base) 255) (w .2 .taken))))
     (c .if2 .came)
 
 returns : tie.Need-returns
@@ -36,7 +36,7 @@ returns-3 : tie.Need-returns-3
 unfolding lengthFault
 returns-3 c =
     let a = c .before .before .before .before .args in
-    rw (c .before .before .before .if1 .left, eq-eqb (a .numbers) 4 (c .before .before .if2 .left), not-false (eqb (a .shifts) 255) (c .before .if3 .left), not-false (eqb (a .base) 255) (c .if4 .left))
+    rw (c .before .before .before .if1 .left, eq-eqb (a .numbers) 5 (c .before .before .if2 .left), not-false (eqb (a .shifts) 255) (c .before .if3 .left), not-false (eqb (a .base) 255) (c .if4 .left))
 
 pub plan-fault-spec : {M : Type 1} → statement M
 plan-fault-spec = tie.close (tie.spec returns returns-2 returns-3)

@@ -9,8 +9,11 @@ use Rattle.compare_text.proofs.put_balanced.Tie as tie
 distance-of-requires : tie.Need-distance-of-requires
 distance-of-requires c κs = search needs
 
-reads-of-requires : tie.Need-reads-of-requires
-reads-of-requires c κs = search needs
+low-reads-requires : tie.Need-low-reads-requires
+low-reads-requires c κs = search needs
+
+high-reads-requires : tie.Need-high-reads-requires
+high-reads-requires c κs = search needs
 
 slice-aggregate-put-cost : tie.Need-slice-aggregate-put-cost
 slice-aggregate-put-cost c = search needs
@@ -29,14 +32,15 @@ unfolding balancedLine ascii
 returns c =
     let put = c .before .before in
     let figure = put .before .before .before .before in
-    (rw (← figure .before .distance-of .ensures, ← figure .reads-of .ensures) (put .put-cost .ensures .0), omega arith)
+    (rw (← figure .before .before .distance-of .ensures, ← figure .before .low-reads .ensures, ← figure .high-reads .ensures) (put .put-cost .ensures .0), omega arith)
 
 pub put-balanced-spec : {M : Type 1} → statement M
 put-balanced-spec =
     tie.close
     (tie.spec
     distance-of-requires
-    reads-of-requires
+    low-reads-requires
+    high-reads-requires
     slice-aggregate-put-cost
     slice-aggregate-put-cost-2
     put-cost-requires

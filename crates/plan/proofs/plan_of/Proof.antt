@@ -1,6 +1,5 @@
 -- `plan_of` meets its contract.
 use borrow.Author.Needs.{needs}
-use Rattle.generator.specs.Comparison.{balancedReads}
 use Rattle.plan.specs.Plans.{planFor}
 use Rattle.plan.proofs.plan_of.Statement.{statement}
 use Rattle.plan.proofs.plan_of.Tie as tie
@@ -8,8 +7,11 @@ use Rattle.plan.proofs.plan_of.Tie as tie
 distance-of-requires : tie.Need-distance-of-requires
 distance-of-requires c κs = search needs
 
-reads-of-requires : tie.Need-reads-of-requires
-reads-of-requires c κs = search needs
+low-reads-requires : tie.Need-low-reads-requires
+low-reads-requires c κs = search needs
+
+high-reads-requires : tie.Need-high-reads-requires
+high-reads-requires c κs = search needs
 
 fill-shifts-requires : tie.Need-fill-shifts-requires
 fill-shifts-requires c κs = search needs
@@ -18,10 +20,20 @@ fill-base-requires : tie.Need-fill-base-requires
 fill-base-requires c κs = search needs
 
 returns : tie.Need-returns
-unfolding planFor balancedReads
-returns c = simp (c .before .before .before .distance-of .ensures, c .before .before .reads-of .ensures, c .before .fill-shifts .ensures, c .fill-base .ensures)
+unfolding planFor
+returns c =
+    let shifted = c .before in
+    let high = shifted .before in
+    let low = high .before in
+    simp (low .before .distance-of .ensures, low .low-reads .ensures, high .high-reads .ensures, shifted .fill-shifts .ensures, c .fill-base .ensures)
 
 pub plan-of-spec : {M : Type 1} → statement M
 plan-of-spec =
     tie.close
-    (tie.spec distance-of-requires reads-of-requires fill-shifts-requires fill-base-requires returns)
+    (tie.spec
+    distance-of-requires
+    low-reads-requires
+    high-reads-requires
+    fill-shifts-requires
+    fill-base-requires
+    returns)

@@ -1,7 +1,7 @@
 -- `judge` meets its contract.
 use mathlib.Core.Path.{sym, _∙_}
 use borrow.Author.Needs.{needs}
-use Rattle.generator.proofs.Faults.{meets-four, meets-five, meets-six, meets-none}
+use Rattle.generator.proofs.Faults.{meets-four, meets-five, meets-none}
 use Rattle.records.proofs.judge.Statement.{statement}
 use Rattle.records.proofs.judge.Tie as tie
 
@@ -19,29 +19,10 @@ returns-2 c =
     let no-four = sym (c .before .before .before .size-bad .ensures) ∙ c .before .before .if1 .left in
     meets-five _ no-four (sym (c .before .root-bad .ensures) ∙ c .if2 .taken)
 
-uneven-bad-requires : tie.Need-uneven-bad-requires
-uneven-bad-requires c κs = sym (c .before .before .before .size-bad .ensures) ∙ c .before .before .if1 .left
-
 returns-3 : tie.Need-returns-3
 returns-3 c =
-    let no-four = sym (c .before .before .before .before .before .size-bad .ensures) ∙ c .before .before .before .before .if1 .left in
-    let no-five = sym (c .before .before .before .root-bad .ensures) ∙ c .before .before .if2 .left in
-    meets-six _ no-four no-five (sym (c .before .uneven-bad .ensures) ∙ c .if3 .taken)
-
-returns-4 : tie.Need-returns-4
-returns-4 c =
-    let no-four = sym (c .before .before .before .before .before .size-bad .ensures) ∙ c .before .before .before .before .if1 .left in
-    let no-five = sym (c .before .before .before .root-bad .ensures) ∙ c .before .before .if2 .left in
-    meets-none _ no-four no-five (sym (c .before .uneven-bad .ensures) ∙ c .if3 .left)
+    let no-four = sym (c .before .before .before .size-bad .ensures) ∙ c .before .before .if1 .left in
+    meets-none _ no-four (sym (c .before .root-bad .ensures) ∙ c .if2 .left)
 
 pub judge-spec : {M : Type 1} → statement M
-judge-spec =
-    tie.close
-    (tie.spec
-    size-bad-requires
-    returns
-    root-bad-requires
-    returns-2
-    uneven-bad-requires
-    returns-3
-    returns-4)
+judge-spec = tie.close (tie.spec size-bad-requires returns root-bad-requires returns-2 returns-3)

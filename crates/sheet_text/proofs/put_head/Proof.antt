@@ -1,4 +1,4 @@
--- `put_head` meets its contract: the line of the number, or that of n, k, d and b.
+-- `put_head` meets its contract: the line of the number, or that of the plan.
 use native.Mathlib.Omega.{arith}
 use borrow.Author.Needs.{needs}
 use borrow.Author.Tests.{eq-eqb, ne-eqb}
@@ -25,23 +25,17 @@ returns c =
     let put = c .before .before in
     (rw (ne-eqb _ 0 (put .before .before .before .before .if1 .taken)) (put .put-line .ensures .0), omega arith)
 
-slice-aggregate-put-line-3 : tie.Need-slice-aggregate-put-line-3
-slice-aggregate-put-line-3 c = search needs
-
-slice-aggregate-put-line-4 : tie.Need-slice-aggregate-put-line-4
-slice-aggregate-put-line-4 c = search needs
-
-put-line-requires-2 : tie.Need-put-line-requires-2
-put-line-requires-2 c κs = search needs
+put-numbers-requires : tie.Need-put-numbers-requires
+put-numbers-requires c κs = search needs
 
 same-length-2 : tie.Need-same-length-2
 same-length-2 c = search needs
 
 returns-2 : tie.Need-returns-2
-unfolding headLine ascii
+unfolding headLine
 returns-2 c =
     let put = c .before .before in
-    (rw (eq-eqb _ 0 (put .before .before .before .before .if1 .left)) (put .put-line2 .ensures .0), omega arith)
+    (rw (eq-eqb _ 0 (put .before .before .if1 .left)) (put .put-numbers .ensures .0), omega arith)
 
 pub put-head-spec : {M : Type 1} → statement M
 put-head-spec =
@@ -52,8 +46,6 @@ put-head-spec =
     put-line-requires
     same-length
     returns
-    slice-aggregate-put-line-3
-    slice-aggregate-put-line-4
-    put-line-requires-2
+    put-numbers-requires
     same-length-2
     returns-2)

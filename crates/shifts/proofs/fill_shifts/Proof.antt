@@ -1,48 +1,27 @@
--- `fill_shifts` meets its contract: one round takes k / g places and skips (n − k) / g.
-use mathlib.Core.Path.{_∙_}
+-- `fill_shifts` meets its contract: the rule is that of `shiftsOf`.
+use mathlib.Core.Path.{_≡_, sym, _∙_}
 use native.Mathlib.Omega.{arith}
 use borrow.Author.Needs.{needs}
 use Rattle.generator.specs.Shifts.{shiftsOf}
-use Rattle.generator.proofs.Gcd.{gcd-pos}
-use Rattle.generator.proofs.Shifts.{pos-around, around-within}
 use Rattle.shifts.proofs.fill_shifts.Statement.{statement}
 use Rattle.shifts.proofs.fill_shifts.Tie as tie
 
-gcd-requires : tie.Need-gcd-requires
-gcd-requires c κs = search needs
+is-even-requires : tie.Need-is-even-requires
+is-even-requires c κs = search needs
 
-div-taken : tie.Need-div-taken
-div-taken c = let a = c .before .args in rw (c .gcd .ensures) (gcd-pos (a .k) (a .n) (omega arith))
+fill-even-requires : tie.Need-fill-even-requires
+fill-even-requires c κs = search needs
 
-sub-skipped : tie.Need-sub-skipped
-sub-skipped c = search needs
-
-cast-skipped : tie.Need-cast-skipped
-cast-skipped c = search needs
-
-div-skipped : tie.Need-div-skipped
-div-skipped c = let a = c .before .args in rw (c .gcd .ensures) (gcd-pos (a .k) (a .n) (omega arith))
-
-fill-rounds-requires : tie.Need-fill-rounds-requires
-fill-rounds-requires c κs =
-    let a = c .before .args in
-    let p = c .before .pre in
-    let some = pos-around (a .n) (a .k) (p .0) (p .1) in
-    let within = around-within (a .n) (a .k) (p .0) (p .1) in
-    rw (c .gcd .ensures) (omega arith, omega arith)
+fill-laid-requires : tie.Need-fill-laid-requires
+fill-laid-requires c κs = search needs
 
 returns : tie.Need-returns
 unfolding shiftsOf
-returns c = c .fill-rounds .ensures ∙ rw (c .before .gcd .ensures)
+returns c = rw (← c .before .before .is-even .ensures, c .before .if1 .taken) (c .fill-even .ensures)
+
+returns-2 : tie.Need-returns-2
+unfolding shiftsOf
+returns-2 c = rw (← c .before .before .is-even .ensures, c .before .if1 .left) (c .fill-laid .ensures)
 
 pub fill-shifts-spec : {M : Type 1} → statement M
-fill-shifts-spec =
-    tie.close
-    (tie.spec
-    gcd-requires
-    div-taken
-    sub-skipped
-    cast-skipped
-    div-skipped
-    fill-rounds-requires
-    returns)
+fill-shifts-spec = tie.close (tie.spec is-even-requires fill-even-requires returns fill-laid-requires returns-2)

@@ -9,6 +9,31 @@ fn gcd(a: usize, b: usize) -> usize {
     }
 }
 
+/// Lemma 2's shifts: of each n/g places the first k/g, where g = gcd(k, n).
+fn even_shifts(n: usize, k: usize) -> Vec<u8> {
+    let g = gcd(k, n);
+    let shifts: Vec<u8> = (0..n).filter(|place| place % (n / g) < k / g).map(|place| place as u8).collect();
+    assert_eq!(shifts.len(), k);
+    shifts
+}
+
+/// Rows of n−k+1 nodes laid end to end: each begins where the last one ended, and one node further if a row began there.
+fn laid_shifts(n: usize, k: usize) -> Vec<u8> {
+    let mut taken = vec![false; n];
+    let mut node = 0;
+    (0..k)
+        .map(|_| {
+            if taken[node] {
+                node = (node + 1) % n;
+            }
+            taken[node] = true;
+            let shift = (n - node) % n;
+            node = (node + n - k + 1) % n;
+            shift as u8
+        })
+        .collect()
+}
+
 /// What a record stands for.
 pub struct Code {
     pub field: Field,
@@ -16,7 +41,8 @@ pub struct Code {
     pub n: usize,
     pub k: usize,
     pub d: usize,
-    pub b: usize,
+    pub low: usize,
+    pub high: usize,
     pub shifts: Vec<u8>,
     pub base: Vec<u8>,
     /// Node j's point, root^j.
@@ -54,16 +80,7 @@ impl Code {
             return Err(5);
         }
         let d = n - k + 1;
-        if k * d % n != 0 {
-            return Err(6);
-        }
-        let g = gcd(k, n);
-        let (take, skip) = (k / g, (d - 1) / g);
-        let shifts: Vec<u8> = (0..n)
-            .filter(|place| place % (take + skip) < take)
-            .map(|place| place as u8)
-            .collect();
-        assert_eq!(shifts.len(), k);
+        let shifts = if k * d % n == 0 { even_shifts(n, k) } else { laid_shifts(n, k) };
         let mut points = vec![1];
         for j in 1..n {
             points.push(field.mul(points[j - 1], root));
@@ -74,7 +91,8 @@ impl Code {
             n,
             k,
             d,
-            b: k * d / n,
+            low: k * d / n,
+            high: k * d / n + usize::from(k * d % n != 0),
             shifts,
             base: Vec::new(),
             points,

@@ -7,9 +7,9 @@ use borrow.Author.Tests.{lt-ltb, le-ltb}
 use Rattle.lists.specs.Padded.{zeros}
 use Rattle.lists.proofs.Fill.{Fills, fills-start, fills-put, fills-padded, length-zeros}
 use Rattle.generator.specs.Shifts.{shiftsFrom}
-use Rattle.generator.proofs.Shifts.{shifts-next, shifts-end}
-use Rattle.shifts.proofs.fill_rounds.Statement.{statement}
-use Rattle.shifts.proofs.fill_rounds.Tie as tie
+use Rattle.generator.proofs.EvenShifts.{shifts-next, shifts-end}
+use Rattle.shifts.proofs.even.fill_rounds.Statement.{statement}
+use Rattle.shifts.proofs.even.fill_rounds.Tie as tie
 
 abbrev Inv-loop : tie.InvT-loop
 Inv-loop n taken skipped out₀ count₀ place₀ i₀ out count place i =

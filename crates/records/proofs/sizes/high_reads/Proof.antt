@@ -1,11 +1,11 @@
--- `reads_of` meets its contract: b fits a byte because k is at most n.
+-- `high_reads` meets its contract: it fits a byte because k is at most n.
 use Prim.Native.Nat.{_≤_, _<_}
 use native.Mathlib.Nat.{mul-le-mul, div-lt-iff-lt-mul}
 use native.Mathlib.Omega.{arith}
 use borrow.Author.Needs.{needs}
-use Rattle.generator.specs.Comparison.{balancedReads}
-use Rattle.records.proofs.reads_of.Statement.{statement}
-use Rattle.records.proofs.reads_of.Tie as tie
+use Rattle.generator.specs.Records.{highReads}
+use Rattle.records.proofs.sizes.high_reads.Statement.{statement}
+use Rattle.records.proofs.sizes.high_reads.Tie as tie
 
 cast-n : tie.Need-cast-n
 cast-n c = search needs
@@ -25,6 +25,15 @@ mul-result c =
     let d : c .distance-of .result ≤ 255 = omega arith in
     omega (arith, mul-le-mul k d)
 
+sub-result : tie.Need-sub-result
+sub-result c = search needs
+
+add-result : tie.Need-add-result
+add-result c =
+    let k : c .before .before .before .args .h .k ≤ 255 = omega arith in
+    let d : c .distance-of .result ≤ 255 = omega arith in
+    omega (arith, mul-le-mul k d)
+
 div-result : tie.Need-div-result
 div-result c = search needs
 
@@ -36,10 +45,10 @@ cast-result c =
     record { fits = div-lt-iff-lt-mul some .1 (omega (arith, mul-le-mul (start .pre .fits) d)) }
 
 returns : tie.Need-returns
-unfolding balancedReads
+unfolding highReads
 returns c = rw (c .distance-of .ensures)
 
-pub reads-of-spec : {M : Type 1} → statement M
-reads-of-spec =
+pub high-reads-spec : {M : Type 1} → statement M
+high-reads-spec =
     tie.close
-    (tie.spec cast-n cast-k distance-of-requires cast-d mul-result div-result cast-result returns)
+    (tie.spec cast-n cast-k distance-of-requires cast-d mul-result sub-result add-result div-result cast-result returns)

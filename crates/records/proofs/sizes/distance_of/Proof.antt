@@ -2,8 +2,8 @@
 use mathlib.Core.Path.{refl}
 use borrow.Author.Needs.{needs}
 use Rattle.generator.specs.Records.{distance}
-use Rattle.records.proofs.distance_of.Statement.{statement}
-use Rattle.records.proofs.distance_of.Tie as tie
+use Rattle.records.proofs.sizes.distance_of.Statement.{statement}
+use Rattle.records.proofs.sizes.distance_of.Tie as tie
 
 sub-result : tie.Need-sub-result
 sub-result c = search needs

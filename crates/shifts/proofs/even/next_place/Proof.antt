@@ -2,8 +2,8 @@
 use native.Mathlib.Omega.{arith}
 use borrow.Author.Needs.{needs}
 use borrow.Author.Tests.{eq-eqb, ne-eqb}
-use Rattle.shifts.proofs.next_place.Statement.{statement}
-use Rattle.shifts.proofs.next_place.Tie as tie
+use Rattle.shifts.proofs.even.next_place.Statement.{statement}
+use Rattle.shifts.proofs.even.next_place.Tie as tie
 
 add-if1 : tie.Need-add-if1
 add-if1 c = search needs
