@@ -10,7 +10,6 @@ mod entries;
 
 pub use entries::entry;
 pub use entries::entry_at;
-pub use records::read_record;
 
 // A plan; all places hold 0 beside a number. `low` and `high` are k·d / n rounded down and up.
 pub struct Plan {
