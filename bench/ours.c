@@ -14,8 +14,8 @@ struct build {
 static struct build this, older;
 
 void read_plan(void) {
-    uint8_t numbers[BALANCED_PLAN_NUMBERS], shifts[BALANCED_PLAN_SHIFTS], base[BALANCED_PLAN_BASE];
-    if (this.plan(record, length, numbers, sizeof numbers, shifts, sizeof shifts, base, sizeof base)) fail("no plan");
+    uint8_t numbers[BALANCED_PLAN_NUMBERS], shifts[BALANCED_PLAN_SHIFTS], firsts[BALANCED_PLAN_FIRSTS], base[BALANCED_PLAN_BASE];
+    if (this.plan(record, length, numbers, sizeof numbers, shifts, sizeof shifts, firsts, sizeof firsts, base, sizeof base)) fail("no plan");
     for (int j = 0; j < n; j++)
         for (int r = 0; r < k; r++) planned.generator[j * k + r] = base[(j + shifts[r]) % n];
 }

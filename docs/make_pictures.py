@@ -27,7 +27,7 @@ def sheet(record):
     """n, k, d, b, which may be one of two numbers, and for each row its shift and its entries."""
     head, *rows = run("sheet", record)
     n, k, d, *b = map(int, head[1:])
-    return n, k, d, " or ".join(map(str, b)), [(int(row[2]), [int(x) for x in row[3:]]) for row in rows]
+    return n, k, d, " or ".join(map(str, b)), [(int(row[2]), [int(x) for x in row[4:]]) for row in rows]
 
 
 def compare(record):

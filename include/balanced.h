@@ -83,6 +83,7 @@ enum balanced_number {
 #define BALANCED_MAX_NODES 255
 #define BALANCED_PLAN_NUMBERS 5
 #define BALANCED_PLAN_SHIFTS 255
+#define BALANCED_PLAN_FIRSTS 255
 #define BALANCED_PLAN_BASE 255
 
 /*
@@ -90,16 +91,18 @@ enum balanced_number {
  *
  *   numbers  5 bytes, written: n, k, d, and k * d / n rounded down and rounded up, which are equal where it is whole
  *   shifts   255 bytes, written: the k shifts in the order of the rows, then zeros
+ *   firsts   255 bytes, written: the node at which each of the k rows begins, (n - shift) % n, then zeros
  *   base     255 bytes, written: the n entries of the base word, then zeros
  *
  * Entry (r, j) of the generator, by which symbol r of a message goes into node j, is base[(j + shifts[r]) % n]. It is
- * not 0 exactly where (j + shifts[r]) % n is below d.
+ * not 0 exactly where (j + shifts[r]) % n is below d: at the d nodes from firsts[r] on, going round.
  *
  * Returns 0 or one of 1 to 5, 8.
  */
 uint8_t balanced_plan(const uint8_t *record, size_t record_len,
                       uint8_t *numbers, size_t numbers_len,
                       uint8_t *shifts, size_t shifts_len,
+                      uint8_t *firsts, size_t firsts_len,
                       uint8_t *base, size_t base_len);
 
 /*

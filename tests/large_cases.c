@@ -35,11 +35,11 @@ static size_t message_size(const struct code *c) { return (size_t)c->k * c->lane
 static size_t shares_size(const struct code *c) { return (size_t)c->n * c->lanes; }
 
 static void even(void) {
-    uint8_t numbers[BALANCED_PLAN_NUMBERS], shifts[BALANCED_PLAN_SHIFTS], base[BALANCED_PLAN_BASE];
+    uint8_t numbers[BALANCED_PLAN_NUMBERS], shifts[BALANCED_PLAN_SHIFTS], firsts[BALANCED_PLAN_FIRSTS], base[BALANCED_PLAN_BASE];
     printf("even 2 2 255:");
     for (unsigned k = 1; k <= 255; k++) {
         const uint8_t record[4] = { 2, 2, 255, (uint8_t)k };
-        uint8_t number = balanced_plan(record, 4, numbers, sizeof numbers, shifts, sizeof shifts, base, sizeof base);
+        uint8_t number = balanced_plan(record, 4, numbers, sizeof numbers, shifts, sizeof shifts, firsts, sizeof firsts, base, sizeof base);
         if (number != BALANCED_OK) printf(" refused %u", number);
         else if (numbers[3] == numbers[4]) printf(" k %u d %u b %u", numbers[1], numbers[2], numbers[3]);
     }

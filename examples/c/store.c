@@ -92,7 +92,7 @@ static void change(size_t n, size_t k, size_t d, uint8_t *message) {
 }
 
 int main(int argc, char **argv) {
-    uint8_t numbers[BALANCED_PLAN_NUMBERS], shifts[BALANCED_PLAN_SHIFTS], base[BALANCED_PLAN_BASE];
+    uint8_t numbers[BALANCED_PLAN_NUMBERS], shifts[BALANCED_PLAN_SHIFTS], firsts[BALANCED_PLAN_FIRSTS], base[BALANCED_PLAN_BASE];
     size_t n, k, d, size, blocks, i;
     uint8_t *bytes, *message;
 
@@ -100,7 +100,8 @@ int main(int argc, char **argv) {
         fprintf(stderr, "usage: store FILE\n");
         return 2;
     }
-    accepted("plan", balanced_plan(record, sizeof record, numbers, sizeof numbers, shifts, sizeof shifts, base, sizeof base));
+    accepted("plan", balanced_plan(record, sizeof record, numbers, sizeof numbers, shifts, sizeof shifts,
+                                   firsts, sizeof firsts, base, sizeof base));
     n = numbers[0];
     k = numbers[1];
     d = numbers[2];

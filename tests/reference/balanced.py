@@ -133,7 +133,7 @@ def even_shifts(n, k, d):
     return taken
 
 
-def first_nodes(n, k, d):
+def laid_nodes(n, k, d):
     """The nodes at which rows begin that are laid end to end; m of them come round, and the next begins one node further."""
     m = n // gcd(n, d)
     return [(r // m + r % m * d) % n for r in range(k)]
@@ -143,7 +143,12 @@ def shifts_of(n, k, d):
     """Lemma 2's shifts where the nodes can share evenly, and else those of rows laid end to end."""
     if k * d % n == 0:
         return even_shifts(n, k, d)
-    return [-node % n for node in first_nodes(n, k, d)]
+    return [-node % n for node in laid_nodes(n, k, d)]
+
+
+def first_node(row):
+    """The node at which the entries that are not zero begin, going round; 0 where all are not zero."""
+    return next((j for j in range(len(row)) if row[j] and not row[j - 1]), 0)
 
 
 class Plan:
@@ -159,6 +164,7 @@ class Plan:
             self.powers.append(field.times(self.powers[-1], root))
         at_power = [self.base_polynomial(x) for x in self.powers]
         self.entries = [[at_power[(j + s - self.d) % n] for j in range(n)] for s in self.shifts]
+        self.firsts = [first_node(row) for row in self.entries]
 
     def base_polynomial(self, x):
         """The product of (x - root^i) for i from 0 to k - 2."""

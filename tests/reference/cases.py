@@ -24,7 +24,8 @@ def answer(name, record, arguments):
         if number:
             return f"refused {number}, all places 0"
         numbers = f"n {plan.n} k {plan.k} d {plan.d} reads {plan.low} {plan.high}"
-        return f"{numbers} shifts{block(bytes(plan.shifts))} then 0 base{block(bytes(plan.entries[0]))} then 0"
+        rows = f"shifts{block(bytes(plan.shifts))} then 0 firsts{block(bytes(plan.firsts))} then 0"
+        return f"{numbers} {rows} base{block(bytes(plan.entries[0]))} then 0"
     if name == "update":
         number, result = update(record, *arguments)
         return refused(number) if number else f"altered {result[0]} shares{block(result[1])}"

@@ -13,8 +13,8 @@ def sheet(record):
         return [f"refused {number}"]
     reads = [plan.low] if plan.low == plan.high else [plan.low, plan.high]
     lines = [" ".join(map(str, ["plan", plan.n, plan.k, plan.d, *reads]))]
-    for r, (shift, entries) in enumerate(zip(plan.shifts, plan.entries)):
-        lines.append(" ".join(map(str, ["row", r, shift, *entries])))
+    for r, (shift, first, entries) in enumerate(zip(plan.shifts, plan.firsts, plan.entries)):
+        lines.append(" ".join(map(str, ["row", r, shift, first, *entries])))
     return lines
 
 

@@ -36,6 +36,7 @@
 //! assert_eq!((plan.n(), plan.k(), plan.d()), (6, 3, 4));
 //! assert_eq!((plan.low_reads(), plan.high_reads()), (2, 2));
 //! assert_eq!(plan.shifts(), [0, 2, 4]);
+//! assert_eq!(plan.firsts(), [0, 4, 2]);
 //! assert_eq!(plan.base_word(), [6, 1, 3, 1, 0, 0]);
 //!
 //! // One lane.

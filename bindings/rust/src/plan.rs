@@ -9,6 +9,7 @@ pub struct Plan {
     record_len: usize,
     numbers: [u8; 5],
     shifts: [u8; MAX_NODES],
+    firsts: [u8; MAX_NODES],
     base: [u8; MAX_NODES],
 }
 
@@ -20,9 +21,10 @@ impl Plan {
             record_len: record.len(),
             numbers: [0; 5],
             shifts: [0; MAX_NODES],
+            firsts: [0; MAX_NODES],
             base: [0; MAX_NODES],
         };
-        // the slice and the three arrays are not null, have the lengths beside them and do not overlap
+        // the slice and the four arrays are not null, have the lengths beside them and do not overlap
         let number = unsafe {
             sys::balanced_plan(
                 record.as_ptr(),
@@ -31,6 +33,8 @@ impl Plan {
                 plan.numbers.len(),
                 plan.shifts.as_mut_ptr(),
                 plan.shifts.len(),
+                plan.firsts.as_mut_ptr(),
+                plan.firsts.len(),
                 plan.base.as_mut_ptr(),
                 plan.base.len(),
             )
@@ -74,6 +78,12 @@ impl Plan {
     /// The k shifts, in the order of the rows.
     pub fn shifts(&self) -> &[u8] {
         &self.shifts[..self.k()]
+    }
+
+    /// The node at which each of the k rows begins, (−shift) modulo n: its entries are not zero at the d nodes from there on,
+    /// going round.
+    pub fn firsts(&self) -> &[u8] {
+        &self.firsts[..self.k()]
     }
 
     /// The n entries of the base word, which is row 0 of the generator.

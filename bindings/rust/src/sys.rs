@@ -11,6 +11,8 @@ extern "C" {
         numbers_len: usize,
         shifts: *mut u8,
         shifts_len: usize,
+        firsts: *mut u8,
+        firsts_len: usize,
         base: *mut u8,
         base_len: usize,
     ) -> u8;

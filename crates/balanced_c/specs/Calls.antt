@@ -18,18 +18,19 @@ use Rattle.blocks.specs.Answers.{outcomeOf, updateOf}
 use Rattle.blocks.specs.Promises.{EncodeSays, UpdateSays, RecoverSays, RebuildSays}
 
 -- number 8 of `balanced_plan`, from the lengths of its buffers
-unfoldable pub lengthFault : ℕ → ℕ → ℕ → ℕ
-lengthFault numbers shifts base = when (not (eqb numbers 5 && (eqb shifts 255 && eqb base 255))) 8
+unfoldable pub lengthFault : ℕ → ℕ → ℕ → ℕ → ℕ
+lengthFault numbers shifts firsts base = when (not (eqb numbers 5 && (eqb shifts 255 && (eqb firsts 255 && eqb base 255)))) 8
 
 -- n, k, d, and k·d / n rounded down and up
 unfoldable pub numbersOf : Plan → List ℕ
 numbersOf p = p .n ∷ p .k ∷ p .d ∷ p .low ∷ p .high ∷ []
 
 -- `balanced_plan`: the plan's parts, and what is claimed of every accepted record
-pub record PlanGives (rec numbers shifts base numbers′ shifts′ base′ : List ℕ) (r : ℕ) : Type 0 where
-  pub number : r ≡ faultOf rec (λ h. lengthFault (length numbers) (length shifts) (length base))
+pub record PlanGives (rec numbers shifts firsts base numbers′ shifts′ firsts′ base′ : List ℕ) (r : ℕ) : Type 0 where
+  pub number : r ≡ faultOf rec (λ h. lengthFault (length numbers) (length shifts) (length firsts) (length base))
   pub numbers-are : numbers′ ≡ pick (eqb r 0) (numbersOf (planFor (recordOf rec))) numbers
   pub shifts-are : shifts′ ≡ pick (eqb r 0) (planFor (recordOf rec) .shifts) shifts
+  pub firsts-are : firsts′ ≡ pick (eqb r 0) (planFor (recordOf rec) .firsts) firsts
   pub base-is : base′ ≡ pick (eqb r 0) (planFor (recordOf rec) .base) base
   pub claims : Promised (recordOf rec)
 

@@ -22,13 +22,13 @@ fn number_of(answer: Outcome) -> u8
 }
 
 // The record's number, else 8 where a buffer for a part of a plan has another length than stated, else 0.
-fn plan_fault(number: u8, numbers: usize, shifts: usize, base: usize) -> u8
-    ensures { λ r. ⌜ r ≡ firstOf number (lengthFault numbers shifts base) ⌝ }
+fn plan_fault(number: u8, numbers: usize, shifts: usize, firsts: usize, base: usize) -> u8
+    ensures { λ r. ⌜ r ≡ firstOf number (lengthFault numbers shifts firsts base) ⌝ }
 {
     if number != 0 {
         return number;
     }
-    if numbers != 5 || shifts != 255 || base != 255 {
+    if numbers != 5 || shifts != 255 || firsts != 255 || base != 255 {
         return 8;
     }
     0
@@ -70,23 +70,39 @@ fn copy_bytes(from: &[u16], to: &mut [u8])
     }
 }
 
-// The plan of a record: n, k, d, k·d / n rounded down and up; the shifts; the base word.
+// Writes the shifts and the first nodes.
+fn put_rows(plan: Plan, shifts: &mut [u8], firsts: &mut [u8])
+    requires { ⌜ (length (now shifts) ≡ 255) × (length (now firsts) ≡ 255) ⌝ }
+    ensures { λ r. ⌜ (now (shifts .exit) ≡ plan .shifts) × (now (firsts .exit) ≡ plan .firsts) ⌝ }
+{
+    copy(&plan.shifts, shifts);
+    copy(&plan.firsts, firsts);
+}
+
+// The plan of a record: n, k, d, k·d / n rounded down and up; the shifts; the first nodes; the base word.
 #[no_mangle]
 pub extern "C" fn balanced_plan(
     rec: &[u8],
     numbers: &mut [u8],
     shifts: &mut [u8],
+    firsts: &mut [u8],
     base: &mut [u8],
 ) -> u8
-    ensures { λ r. ⌜ PlanGives (now (rec .entry)) (now (numbers .entry)) (now (shifts .entry)) (now (base .entry)) (now (numbers .exit)) (now (shifts .exit)) (now (base .exit)) r ⌝ }
+    ensures { λ r. ⌜ PlanGives (now (rec .entry)) (now (numbers .entry)) (now (shifts .entry)) (now (firsts .entry)) (now (base .entry)) (now (numbers .exit)) (now (shifts .exit)) (now (firsts .exit)) (now (base .exit)) r ⌝ }
 {
     let plan = balanced::build_plan(rec);
-    let number = plan_fault(plan.number, numbers.len(), shifts.len(), base.len());
+    let number = plan_fault(
+        plan.number,
+        numbers.len(),
+        shifts.len(),
+        firsts.len(),
+        base.len(),
+    );
     if number != 0 {
         return number;
     }
     put_numbers(plan, numbers);
-    copy(&plan.shifts, shifts);
+    put_rows(plan, shifts, firsts);
     copy_bytes(&plan.base, base);
     0
 }

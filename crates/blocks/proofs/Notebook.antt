@@ -17,7 +17,7 @@ use Rattle.field.specs.Fields.{sizeOf, add, sub, mul, power, orderFrom, orderOf
 use Rattle.field.specs.Kinds.{modulus}
 use Rattle.generator.specs.declared.Record.the-variants.{Holds, Meets}
 use Rattle.generator.specs.Records.{headerOf, distance, lowReads, highReads, kindBad, bodyBad, fieldBad, sizeBad, rootBad, headerFault, recordFault, judged, recordOf}
-use Rattle.generator.specs.Shifts.{gcdFrom, gcd, shiftsFrom, evenShifts, negative, period, laidAt, laidShifts, isEven, shiftsOf, shifts}
+use Rattle.generator.specs.Shifts.{gcdFrom, gcd, shiftsFrom, evenShifts, negative, period, laidAt, laidShifts, isEven, shiftsOf, shifts, firstsOf, firsts}
 use Rattle.generator.specs.Generator.{baseFrom, baseAt, entryAt, entry, baseWord}
 use Rattle.generator.specs.Claims.{reads}
 use Rattle.generator.specs.Codewords.{nodeFrom, nodeOf}
@@ -26,10 +26,10 @@ use Rattle.refusals.specs.Conditions.{lanesBad}
 
 -- a case of the notebook
 pub data Case : Type 0 where
-  -- a record, its n, k, d, k·d / n rounded down and up, its shifts and the rows of its generator
-  sheet : (rec : List ℕ) (n k d low high : ℕ) (shifts : List ℕ) (rows : List (List ℕ)) → Case
-  -- a record that is not shared out evenly, the nodes at which its rows begin, and how many symbols each node depends on
-  uneven : (rec begins counts : List ℕ) → Case
+  -- a record, its n, k, d, k·d / n rounded down and up, its shifts, its first nodes and the rows of its generator
+  sheet : (rec : List ℕ) (n k d low high : ℕ) (shifts firsts : List ℕ) (rows : List (List ℕ)) → Case
+  -- a record that is not shared out evenly, and how many symbols each node depends on
+  uneven : (rec counts : List ℕ) → Case
   -- a record, a message and its shares
   encodes : (rec message shares : List ℕ) → Case
   -- a record, shares, a symbol number, its old and new symbol, the shares afterwards and how many symbols differ
@@ -43,10 +43,10 @@ pub data Case : Type 0 where
 
 -- what a case says of the definitions
 unfoldable pub Says : Case → Type 0
-Says (sheet rec n k d low high ss rows) =
+Says (sheet rec n k d low high ss fs rows) =
     let h = headerOf rec in
-    (recordOf rec ≡ Holds h) × (h .n ≡ n) × (h .k ≡ k) × (distance h ≡ d) × (lowReads h ≡ low) × (highReads h ≡ high) × (shifts h ≡ ss) × (from (λ r. from (entry h r) 0 n) 0 k ≡ rows)
-Says (uneven rec begins counts) = let h = headerOf rec in (isEven (h .n) (h .k) ≡ false) × (from (laidAt (h .n) (distance h)) 0 (h .k) ≡ begins) × (from (reads h) 0 (h .n) ≡ counts)
+    (recordOf rec ≡ Holds h) × (h .n ≡ n) × (h .k ≡ k) × (distance h ≡ d) × (lowReads h ≡ low) × (highReads h ≡ high) × (shifts h ≡ ss) × (firsts h ≡ fs) × (from (λ r. from (entry h r) 0 n) 0 k ≡ rows)
+Says (uneven rec counts) = let h = headerOf rec in (isEven (h .n) (h .k) ≡ false) × (from (reads h) 0 (h .n) ≡ counts)
 Says (encodes rec message shares) = sharesOf shareLayout (headerOf rec) 1 message ≡ shares
 Says (updates rec shares r old new after count) = (updated shareLayout (headerOf rec) 1 r 0 old new shares ≡ after) × (differ shares after ≡ count)
 Says (recovers rec nodes shares message target share) = MessageFor shareLayout (headerOf rec) 1 nodes shares message × (shareOf (headerOf rec) 1 message target ≡ share)
@@ -55,25 +55,25 @@ Says (lanes count bad) = lanesBad count ≡ bad
 
 unfoldable pub notebook : List Case
 notebook =
-    sheet (1 ∷ 7 ∷ 3 ∷ 6 ∷ 4 ∷ []) 6 4 3 2 2 (0 ∷ 1 ∷ 3 ∷ 4 ∷ []) (
+    sheet (1 ∷ 7 ∷ 3 ∷ 6 ∷ 4 ∷ []) 6 4 3 2 2 (0 ∷ 1 ∷ 3 ∷ 4 ∷ []) (0 ∷ 5 ∷ 3 ∷ 2 ∷ []) (
     (4 ∷ 6 ∷ 3 ∷ 0 ∷ 0 ∷ 0 ∷ [])
     ∷ (6 ∷ 3 ∷ 0 ∷ 0 ∷ 0 ∷ 4 ∷ [])
     ∷ (0 ∷ 0 ∷ 0 ∷ 4 ∷ 6 ∷ 3 ∷ [])
     ∷ (0 ∷ 0 ∷ 4 ∷ 6 ∷ 3 ∷ 0 ∷ [])
     ∷ []
     )
-    ∷ sheet (1 ∷ 7 ∷ 3 ∷ 6 ∷ 3 ∷ []) 6 3 4 2 2 (0 ∷ 2 ∷ 4 ∷ []) ((6 ∷ 1 ∷ 3 ∷ 1 ∷ 0 ∷ 0 ∷ []) ∷ (3 ∷ 1 ∷ 0 ∷ 0 ∷ 6 ∷ 1 ∷ []) ∷ (0 ∷ 0 ∷ 6 ∷ 1 ∷ 3 ∷ 1 ∷ []) ∷ [])
+    ∷ sheet (1 ∷ 7 ∷ 3 ∷ 6 ∷ 3 ∷ []) 6 3 4 2 2 (0 ∷ 2 ∷ 4 ∷ []) (0 ∷ 4 ∷ 2 ∷ []) ((6 ∷ 1 ∷ 3 ∷ 1 ∷ 0 ∷ 0 ∷ []) ∷ (3 ∷ 1 ∷ 0 ∷ 0 ∷ 6 ∷ 1 ∷ []) ∷ (0 ∷ 0 ∷ 6 ∷ 1 ∷ 3 ∷ 1 ∷ []) ∷ [])
     ∷ encodes (1 ∷ 7 ∷ 3 ∷ 6 ∷ 3 ∷ []) (1 ∷ 0 ∷ 2 ∷ []) (6 ∷ 1 ∷ 1 ∷ 3 ∷ 6 ∷ 2 ∷ [])
     ∷ updates (1 ∷ 7 ∷ 3 ∷ 6 ∷ 3 ∷ []) (6 ∷ 1 ∷ 1 ∷ 3 ∷ 6 ∷ 2 ∷ []) 1 0 5 (0 ∷ 6 ∷ 1 ∷ 3 ∷ 1 ∷ 0 ∷ []) 4
     ∷ updates (1 ∷ 7 ∷ 3 ∷ 6 ∷ 3 ∷ []) (6 ∷ 1 ∷ 1 ∷ 3 ∷ 6 ∷ 2 ∷ []) 1 0 0 (6 ∷ 1 ∷ 1 ∷ 3 ∷ 6 ∷ 2 ∷ []) 0
     ∷ recovers (1 ∷ 7 ∷ 3 ∷ 6 ∷ 3 ∷ []) (2 ∷ 3 ∷ 4 ∷ []) (1 ∷ 3 ∷ 1 ∷ []) (1 ∷ 5 ∷ 2 ∷ []) 0 (0 ∷ [])
     ∷ encodes (1 ∷ 7 ∷ 3 ∷ 6 ∷ 4 ∷ []) (1 ∷ 1 ∷ 0 ∷ 0 ∷ []) (3 ∷ 2 ∷ 3 ∷ 0 ∷ 0 ∷ 4 ∷ [])
-    ∷ sheet (1 ∷ 7 ∷ 3 ∷ 6 ∷ 1 ∷ []) 6 1 6 1 1 (0 ∷ []) ((1 ∷ 1 ∷ 1 ∷ 1 ∷ 1 ∷ 1 ∷ []) ∷ [])
-    ∷ sheet (2 ∷ 214 ∷ 3 ∷ 3 ∷ []) 3 3 1 1 1 (0 ∷ 1 ∷ 2 ∷ []) ((214 ∷ 0 ∷ 0 ∷ []) ∷ (0 ∷ 0 ∷ 214 ∷ []) ∷ (0 ∷ 214 ∷ 0 ∷ []) ∷ [])
-    ∷ sheet (1 ∷ 7 ∷ 3 ∷ 6 ∷ 2 ∷ []) 6 2 5 1 2 (0 ∷ 1 ∷ []) ((2 ∷ 1 ∷ 5 ∷ 3 ∷ 4 ∷ 0 ∷ []) ∷ (1 ∷ 5 ∷ 3 ∷ 4 ∷ 0 ∷ 2 ∷ []) ∷ [])
-    ∷ uneven (1 ∷ 7 ∷ 3 ∷ 6 ∷ 2 ∷ []) (0 ∷ 5 ∷ []) (2 ∷ 2 ∷ 2 ∷ 2 ∷ 1 ∷ 1 ∷ [])
-    ∷ sheet (1 ∷ 7 ∷ 3 ∷ 6 ∷ 5 ∷ []) 6 5 2 1 2 (0 ∷ 4 ∷ 2 ∷ 5 ∷ 3 ∷ []) ((2 ∷ 4 ∷ 0 ∷ 0 ∷ 0 ∷ 0 ∷ []) ∷ (0 ∷ 0 ∷ 2 ∷ 4 ∷ 0 ∷ 0 ∷ []) ∷ (0 ∷ 0 ∷ 0 ∷ 0 ∷ 2 ∷ 4 ∷ []) ∷ (0 ∷ 2 ∷ 4 ∷ 0 ∷ 0 ∷ 0 ∷ []) ∷ (0 ∷ 0 ∷ 0 ∷ 2 ∷ 4 ∷ 0 ∷ []) ∷ [])
-    ∷ uneven (1 ∷ 7 ∷ 3 ∷ 6 ∷ 5 ∷ []) (0 ∷ 2 ∷ 4 ∷ 1 ∷ 3 ∷ []) (1 ∷ 2 ∷ 2 ∷ 2 ∷ 2 ∷ 1 ∷ [])
+    ∷ sheet (1 ∷ 7 ∷ 3 ∷ 6 ∷ 1 ∷ []) 6 1 6 1 1 (0 ∷ []) (0 ∷ []) ((1 ∷ 1 ∷ 1 ∷ 1 ∷ 1 ∷ 1 ∷ []) ∷ [])
+    ∷ sheet (2 ∷ 214 ∷ 3 ∷ 3 ∷ []) 3 3 1 1 1 (0 ∷ 1 ∷ 2 ∷ []) (0 ∷ 2 ∷ 1 ∷ []) ((214 ∷ 0 ∷ 0 ∷ []) ∷ (0 ∷ 0 ∷ 214 ∷ []) ∷ (0 ∷ 214 ∷ 0 ∷ []) ∷ [])
+    ∷ sheet (1 ∷ 7 ∷ 3 ∷ 6 ∷ 2 ∷ []) 6 2 5 1 2 (0 ∷ 1 ∷ []) (0 ∷ 5 ∷ []) ((2 ∷ 1 ∷ 5 ∷ 3 ∷ 4 ∷ 0 ∷ []) ∷ (1 ∷ 5 ∷ 3 ∷ 4 ∷ 0 ∷ 2 ∷ []) ∷ [])
+    ∷ uneven (1 ∷ 7 ∷ 3 ∷ 6 ∷ 2 ∷ []) (2 ∷ 2 ∷ 2 ∷ 2 ∷ 1 ∷ 1 ∷ [])
+    ∷ sheet (1 ∷ 7 ∷ 3 ∷ 6 ∷ 5 ∷ []) 6 5 2 1 2 (0 ∷ 4 ∷ 2 ∷ 5 ∷ 3 ∷ []) (0 ∷ 2 ∷ 4 ∷ 1 ∷ 3 ∷ []) ((2 ∷ 4 ∷ 0 ∷ 0 ∷ 0 ∷ 0 ∷ []) ∷ (0 ∷ 0 ∷ 2 ∷ 4 ∷ 0 ∷ 0 ∷ []) ∷ (0 ∷ 0 ∷ 0 ∷ 0 ∷ 2 ∷ 4 ∷ []) ∷ (0 ∷ 2 ∷ 4 ∷ 0 ∷ 0 ∷ 0 ∷ []) ∷ (0 ∷ 0 ∷ 0 ∷ 2 ∷ 4 ∷ 0 ∷ []) ∷ [])
+    ∷ uneven (1 ∷ 7 ∷ 3 ∷ 6 ∷ 5 ∷ []) (1 ∷ 2 ∷ 2 ∷ 2 ∷ 2 ∷ 1 ∷ [])
     ∷ refused (1 ∷ 7 ∷ 2 ∷ 6 ∷ 3 ∷ []) 5
     ∷ lanes 1 false
     ∷ lanes 4096 false
@@ -88,5 +88,5 @@ one-lane P p (suc t) inside = absurd (omega arith)
 
 -- every case of the table holds
 pub notebook-holds : All Says notebook
-unfolding Says notebook recordOf judged recordFault headerFault kindBad bodyBad fieldBad sizeBad rootBad headerOf distance lowReads highReads shiftsOf isEven evenShifts shiftsFrom laidShifts laidAt period negative gcd gcdFrom reads baseWord entry entryAt baseAt baseFrom nodeFrom nodeOf byRow held laneOf buffer withLane shareLayout shareAt shareOf sharesOf addedAt rowAdded updated lanesBad differ countFrom from allBelow modulus sizeOf add sub mul power orderOf orderFrom product productFrom timesX isPrime dividesSome
-notebook-holds = ((refl, refl, refl, refl, refl, refl, refl, refl), ((refl, refl, refl, refl, refl, refl, refl, refl), (refl, ((refl, refl), ((refl, refl), ((record { size-is = refl; symbols = refl; lanes = one-lane _ refl }, refl), (refl, ((refl, refl, refl, refl, refl, refl, refl, refl), ((refl, refl, refl, refl, refl, refl, refl, refl), ((refl, refl, refl, refl, refl, refl, refl, refl), ((refl, refl, refl), ((refl, refl, refl, refl, refl, refl, refl, refl), ((refl, refl, refl), (refl, (refl, (refl, (refl, (refl, tt))))))))))))))))))
+unfolding Says notebook recordOf judged recordFault headerFault kindBad bodyBad fieldBad sizeBad rootBad headerOf distance lowReads highReads firstsOf shiftsOf isEven evenShifts shiftsFrom laidShifts laidAt period negative gcd gcdFrom reads baseWord entry entryAt baseAt baseFrom nodeFrom nodeOf byRow held laneOf buffer withLane shareLayout shareAt shareOf sharesOf addedAt rowAdded updated lanesBad differ countFrom from allBelow modulus sizeOf add sub mul power orderOf orderFrom product productFrom timesX isPrime dividesSome
+notebook-holds = ((refl, refl, refl, refl, refl, refl, refl, refl, refl), ((refl, refl, refl, refl, refl, refl, refl, refl, refl), (refl, ((refl, refl), ((refl, refl), ((record { size-is = refl; symbols = refl; lanes = one-lane _ refl }, refl), (refl, ((refl, refl, refl, refl, refl, refl, refl, refl, refl), ((refl, refl, refl, refl, refl, refl, refl, refl, refl), ((refl, refl, refl, refl, refl, refl, refl, refl, refl), ((refl, refl), ((refl, refl, refl, refl, refl, refl, refl, refl, refl), ((refl, refl), (refl, (refl, (refl, (refl, (refl, tt))))))))))))))))))

@@ -39,14 +39,16 @@ fn refused(number: u8, all_zero: bool) {
 fn empty(plan: Plan) -> bool {
     let numbers = [plan.n, plan.k, plan.d, plan.low, plan.high];
     let shifts = plan.shifts;
+    let firsts = plan.firsts;
     let base = as_bytes(&plan.base);
-    untouched(0, &numbers) && untouched(0, &shifts) && untouched(0, &base)
+    untouched(0, &numbers) && untouched(0, &shifts) && untouched(0, &firsts) && untouched(0, &base)
 }
 
-// The numbers, the shifts and the base word.
+// The numbers, the shifts, the first nodes and the base word.
 fn accepted(plan: Plan) {
     print_numbers(plan);
     front(b" shifts", &plan.shifts, plan.k as usize);
+    front(b" firsts", &plan.firsts, plan.k as usize);
     let base = as_bytes(&plan.base);
     front(b" base", &base, plan.n as usize);
 }

@@ -10,12 +10,12 @@ use Rattle.generator.specs.Records.{recordOf, Sound}
 use Rattle.generator.specs.Shifts.{shifts}
 use Rattle.generator.specs.Claims.{Ours, Accepted, Promised}
 use Rattle.generator.proofs.Accepts.{accepted-sound}
-use Rattle.generator.proofs.Shifts.{shifts-places, shifts-length, shifts-first}
+use Rattle.generator.proofs.Shifts.{shifts-places, shifts-length, shifts-first, firsts-at}
 use Rattle.generator.proofs.Entries.{row-weight, rows-base}
 use Rattle.generator.proofs.Recovery.{some-message, one-message}
 use Rattle.generator.proofs.Words.{words-poly, words-encode, encoding-symbols, encoding-word}
 use Rattle.generator.proofs.Changes.{alters}
-use Rattle.generator.proofs.Costs.{depends, whole, total, upper-node, depends-means}
+use Rattle.generator.proofs.Costs.{depends, whole, total, upper-node, begins, depends-means}
 use Rattle.generator.proofs.SchemeOf.{our-scheme}
 
 -- the code of a sound header
@@ -40,6 +40,8 @@ ours h s =
       shifts-below = all-below (h .n) (shifts h) (places .low);
       shifts-different = all-distinct (shifts h) (places .distinct);
       first-shift = shifts-first (h .n) (h .k) (s .some) (s .fits);
+      firsts-negative = firsts-at (h .n) (h .k) (s .some) (s .fits);
+      begins = begins h s;
       rows-base = λ r j row node. rows-base h s r j;
     }
 

@@ -6,7 +6,7 @@ use mathlib.Core.List.{List}
 use Prim.Native.Nat.{ℕ, _+_, _-_, _*_, _%_, _<_}
 use native.Mathlib.Omega.{arith}
 use native.Mathlib.Nat.{le-of-eq, suc-ne-zero}
-use borrow.Author.Tests.{eq-eqb, eqb-true, eqb-false}
+use borrow.Author.Tests.{eq-eqb, eqb-true, eqb-false, not-true}
 use lib.Dec.{eqb, ltb}
 use lib.ListN.{length, getD, set, replicate, length-replicate, getD-replicate}
 use lib.Seq.{set-getD}
@@ -22,13 +22,13 @@ use Rattle.scheme.specs.Sums.{sum}
 use Rattle.scheme.proofs.Sums.{sum-ext, sum-const, count-swap, busiest, floor-is-ceil, upper-column}
 use Rattle.generator.specs.declared.Header.{Header}
 use Rattle.generator.specs.Records.{modulusOf, size, distance, lowReads, highReads, Sound}
-use Rattle.generator.specs.Shifts.{shifts}
+use Rattle.generator.specs.Shifts.{shifts, negative, firsts}
 use Rattle.generator.specs.Generator.{entry}
 use Rattle.generator.specs.Codewords.{nodeOf}
 use Rattle.generator.specs.Claims.{isMessage, reads}
 use Rattle.generator.proofs.Sound.{weight-fits}
-use Rattle.generator.proofs.Windows.{row-nodes}
-use Rattle.generator.proofs.Shifts.{shifts-balance}
+use Rattle.generator.proofs.Windows.{row-nodes, row-window}
+use Rattle.generator.proofs.Shifts.{shifts-balance, shifts-at, firsts-below}
 use Rattle.generator.proofs.Entries.{row-weight}
 use Rattle.generator.proofs.Recovery.{message-is}
 use Rattle.generator.proofs.Changes.{altered-entry}
@@ -43,6 +43,15 @@ module _ (h : Header) (s : Sound h) where
   row-count r =
       count-ext (h .n) 0 _ (λ j. ltb ((j + getD (shifts h) r 0) % h .n) (distance h)) (λ j l u. inside r j)
       ∙ row-nodes (h .n) (distance h) (getD (shifts h) r 0) (omega (arith, s .two)) (weight-fits h s)
+
+  -- the d nodes from the first node on, going round
+  pub begins : (r j : ℕ) → r < h .k → j < h .n → (eqb (entry h r j) 0 ≡ false) ↔ ((x : ℕ) × (x < distance h) × ((getD (firsts h) r 0 + x) % h .n ≡ j))
+  begins r j row node =
+      let low = firsts-below (h .n) (h .k) (s .some) (s .fits) r row in
+      let window = row-window (h .n) (distance h) (getD (firsts h) r 0) j (weight-fits h s) node (omega arith) in
+      let test : not (eqb (entry h r j) 0) ≡ ltb ((j + negative (h .n) (getD (firsts h) r 0)) % h .n) (distance h) =
+      inside r j ∙ ap (λ (t : ℕ). ltb ((j + t) % h .n) (distance h)) (shifts-at (h .n) (h .k) (s .some) (s .fits) r row) in
+      (λ e. window .0 (sym test ∙ ap not e), λ b. not-true _ (test ∙ window .1 b))
 
   -- node j lies in k·d / n rows, rounded down or up
   pub depends : (j : ℕ) → j < h .n → (reads h j ≡ lowReads h) ⊎ (reads h j ≡ highReads h)

@@ -1,13 +1,14 @@
 -- The test for an entry that is not zero, (j + s) mod n < d, for any shift s; and counts that lie near a quotient.
 use mathlib.Core.Path.{_≡_, refl, sym, _∙_}
-use mathlib.Core.Logic.{inl, inr, ⊎-elim}
+use mathlib.Core.Logic.{_↔_, inl, inr, ⊎-elim}
 use mathlib.Core.Bool.{Bool, true, _&&_, and-true, and-false}
 use Prim.Native.Nat.{ℕ, _+_, _-_, _*_, _/_, _%_, _≤_, _<_}
-use native.Mathlib.Nat.{add-comm, add-assoc, add-mod-left, add-mod-right, mod-add-mod, mod-eq-of-lt, mod-lt, div-lt-iff-lt-mul, le-div-iff-mul-le, lt-div-mul-add, eq-or-lt-of-le}
+use native.Mathlib.Nat.{add-comm, add-assoc, add-mod-left, add-mod-right, add-mod-mod, mod-add-mod, mod-eq-of-lt, mod-lt, div-lt-iff-lt-mul, le-div-iff-mul-le, lt-div-mul-add, eq-or-lt-of-le}
 use native.Mathlib.Omega.{arith}
 use lib.Dec.{ltb}
-use borrow.Author.Tests.{lt-ltb, le-ltb}
+use borrow.Author.Tests.{lt-ltb, le-ltb, ltb-true}
 use Rattle.lists.specs.Counting.{countFrom}
+use Rattle.generator.specs.Shifts.{negative}
 use Rattle.scheme.specs.Costs.{Rounded}
 use Rattle.lists.proofs.Count.{count-add, count-ext, count-all, count-none, count-period}
 
@@ -42,6 +43,28 @@ row-nodes n d s pos small =
     ∙ sym (count-period n (λ j. ltb ((b + j) % n) d) (below-period n d b) (n - b))
     ∙ count-stretch n d b (n - b) (λ j. true) small (omega arith)
     ∙ count-all d (n - b) (λ j. true) (λ j u v. refl)
+
+-- b on and b back
+turn-back : (n b y : ℕ) → b ≤ n → (b + y + (n - b) % n) % n ≡ y % n
+turn-back n b y within =
+    let whole : b + y + (n - b) ≡ y + n = omega arith in
+    rw (add-mod-mod (b + y) (n - b) n, whole) (add-mod-right y n)
+
+-- a row whose shift is the negative of b lies on node j exactly if j is one of the d nodes from b on, going round
+pub row-window : (n d b j : ℕ) → d ≤ n → j < n → b ≤ n → (ltb ((j + negative n b) % n) d ≡ true) ↔ ((x : ℕ) × (x < d) × ((b + x) % n ≡ j))
+unfolding negative
+row-window n d b j small node within = (to, back)
+  where
+    far : ℕ
+    far = (j + (n - b) % n) % n
+
+    to : ltb far d ≡ true → (x : ℕ) × (x < d) × ((b + x) % n ≡ j)
+    to e = (far, ltb-true far d e, rw (add-mod-mod b (j + (n - b) % n) n, ← add-assoc b j, turn-back n b j within) (mod-eq-of-lt node))
+
+    back : (x : ℕ) × (x < d) × ((b + x) % n ≡ j) → ltb far d ≡ true
+    back (x, h, e) =
+        let same : far ≡ x = rw (← e, mod-add-mod, turn-back n b x within) (mod-eq-of-lt (omega arith)) in
+        rw same (lt-ltb x d h)
 
 -- n times w lies less than n from x
 pub record Near (n x w : ℕ) : Type 0 where

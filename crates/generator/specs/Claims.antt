@@ -17,7 +17,7 @@ use Rattle.generator.specs.declared.Header.{Header}
 use Rattle.generator.specs.declared.Record.{Record}
 use Rattle.generator.specs.declared.Record.the-variants.{Holds, Meets}
 use Rattle.generator.specs.Records.{size, distance, lowReads, highReads}
-use Rattle.generator.specs.Shifts.{shifts}
+use Rattle.generator.specs.Shifts.{shifts, negative, firsts}
 use Rattle.generator.specs.Generator.{entry, baseWord}
 use Rattle.generator.specs.Codewords.{nodeOf, encoding, valuesOf, isWord}
 
@@ -69,6 +69,9 @@ pub record Ours (h : Header) : Type 0 where
   pub shifts-below : allBelow (h .n) (shifts h) ≡ true
   pub shifts-different : distinct (shifts h) ≡ true
   pub first-shift : getD (shifts h) 0 0 ≡ 0
+  -- row r begins at its first node, (−shift) modulo n: an entry is not zero exactly at the d nodes from there on, going round
+  pub firsts-negative : (r : ℕ) → r < h .k → getD (firsts h) r 0 ≡ negative (h .n) (getD (shifts h) r 0)
+  pub begins : (r j : ℕ) → r < h .k → j < h .n → (eqb (entry h r j) 0 ≡ false) ↔ ((x : ℕ) × (x < distance h) × ((getD (firsts h) r 0 + x) % h .n ≡ j))
   -- row r at j is the base word at (j + shift) modulo n
   pub rows-base : (r j : ℕ) → r < h .k → j < h .n → entry h r j ≡ getD (baseWord h) ((j + getD (shifts h) r 0) % h .n) 0
 

@@ -3,6 +3,7 @@ use mathlib.Core.Bool.{Bool, true, false}
 use mathlib.Core.List.{List, [], _∷_, _++_}
 use Prim.Native.Nat.{ℕ, zero, suc, _+_, _-_, _*_, _/_, _%_}
 use lib.Dec.{eqb, ltb}
+use lib.ListN.{getD}
 use Rattle.lists.specs.Choice.{pick}
 use Rattle.lists.specs.Rows.{from}
 use Rattle.generator.specs.declared.Header.{Header}
@@ -54,3 +55,10 @@ shiftsOf n k = pick (isEven n k) (evenShifts n k) (laidShifts n k)
 
 abbrev pub shifts : Header → List ℕ
 shifts h = shiftsOf (h .n) (h .k)
+
+-- the first nodes of the k rows, each its shift's negative
+unfoldable pub firstsOf : ℕ → ℕ → List ℕ
+firstsOf n k = from (λ r. negative n (getD (shiftsOf n k) r 0)) 0 k
+
+abbrev pub firsts : Header → List ℕ
+firsts h = firstsOf (h .n) (h .k)

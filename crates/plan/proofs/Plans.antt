@@ -18,13 +18,13 @@ use Rattle.generator.specs.declared.Header.{Header}
 use Rattle.generator.specs.declared.Record.{Record}
 use Rattle.generator.specs.declared.Record.the-variants.{Holds, Meets}
 use Rattle.generator.specs.Records.{recordOf, Sound}
-use Rattle.generator.specs.Shifts.{shifts}
+use Rattle.generator.specs.Shifts.{shifts, firsts}
 use Rattle.generator.specs.Generator.{entryAt, entry, baseWord}
 use Rattle.generator.proofs.Accepts.{accepted-sound}
 use Rattle.generator.proofs.Bounds.{entryAt-below}
 use Rattle.plan.specs.declared.Plan.{Plan}
 use Rattle.plan.specs.Plans.{planFor, entryIn}
-use Rattle.generator.proofs.Shifts.{shifts-length, shifts-below}
+use Rattle.generator.proofs.Shifts.{shifts-length, shifts-below, firsts-length}
 use Rattle.generator.proofs.Entries.{rows-base}
 
 length-base : (h : Header) → length (baseWord h) ≡ h .n
@@ -69,6 +69,11 @@ module _ (h : Header) (s : Sound h) where
   -- a shift is below n
   pub shift-below : (r : ℕ) → r < h .k → getD (planFor (Holds h) .shifts) r 0 < h .n
   shift-below r row = rw (shift-in r row) (shifts-below (h .n) (h .k) (s .some) (s .fits) r row)
+
+  -- a row's first node
+  pub first-in : (r : ℕ) → r < h .k → getD (planFor (Holds h) .firsts) r 0 ≡ getD (firsts h) r 0
+  unfolding planFor
+  first-in r row = getD-padded 255 (firsts h) r (omega (arith, firsts-length (h .n) (h .k) (s .some) (s .fits)))
 
   pub base-in : (i : ℕ) → i < h .n → getD (planFor (Holds h) .base) i 0 ≡ getD (baseWord h) i 0
   unfolding planFor

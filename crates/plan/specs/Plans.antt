@@ -13,12 +13,12 @@ use Rattle.generator.specs.declared.Record.the-variants.{Holds, Meets}
 use Rattle.plan.specs.declared.Plan.{Plan}
 use Rattle.generator.specs.Records.{distance, lowReads, highReads, recordOf}
 use Rattle.generator.specs.Claims.{Promised}
-use Rattle.generator.specs.Shifts.{shifts}
+use Rattle.generator.specs.Shifts.{shifts, firsts}
 use Rattle.generator.specs.Generator.{baseWord}
 
--- the plan of a record: the places beyond the k shifts and the n entries hold 0, and all do beside a number
+-- the plan of a record: the places beyond the k shifts, the k first nodes and the n entries hold 0, and all do beside a number
 unfoldable pub planFor : Record → Plan
-planFor (Meets f) = record { number = f; n = 0; k = 0; d = 0; low = 0; high = 0; shifts = zeros 255; base = zeros 255 }
+planFor (Meets f) = record { number = f; n = 0; k = 0; d = 0; low = 0; high = 0; shifts = zeros 255; firsts = zeros 255; base = zeros 255 }
 planFor (Holds h) =
     record {
       number = 0;
@@ -28,6 +28,7 @@ planFor (Holds h) =
       low = lowReads h;
       high = highReads h;
       shifts = padded 255 (shifts h);
+      firsts = padded 255 (firsts h);
       base = padded 255 (baseWord h);
     }
 

@@ -1,4 +1,4 @@
-// Plans: the numbers, the shifts and the base word that a record stands for.
+// Plans: the numbers, the shifts, the first nodes and the base word that a record stands for.
 ghost use mathlib.Core.Path.{_≡_};
 ghost use Rattle.generator.specs.Records.{Sound};
 ghost use Rattle.plan.specs.Plans.{planFor, PlanSays};
@@ -20,6 +20,7 @@ pub struct Plan {
     pub low: u8,
     pub high: u8,
     pub shifts: [u8; 255],
+    pub firsts: [u8; 255],
     pub base: [u16; 255],
 }
 
@@ -35,6 +36,7 @@ fn refused(number: u8) -> Plan
         low: 0,
         high: 0,
         shifts: [0; 255],
+        firsts: [0; 255],
         base: [0; 255],
     }
 }
@@ -49,7 +51,9 @@ pub fn plan_of(h: Header) -> Plan
     let d = records::distance_of(h);
     let low = records::low_reads(h);
     let high = records::high_reads(h);
-    let shifts = shifts::fill_shifts(n, k);
+    let rows = shifts::place_rows(n, k);
+    let shifts = rows.shifts;
+    let firsts = rows.firsts;
     let base = base::fill_base(h);
     Plan {
         number: 0,
@@ -59,6 +63,7 @@ pub fn plan_of(h: Header) -> Plan
         low: low,
         high: high,
         shifts: shifts,
+        firsts: firsts,
         base: base,
     }
 }

@@ -11,10 +11,10 @@ use Rattle.generator.specs.declared.Header.{Header}
 use Rattle.generator.specs.declared.Record.{Record}
 use Rattle.generator.specs.declared.Record.the-variants.{Holds, Meets}
 use Rattle.generator.specs.Records.{distance, lowReads, highReads, recordFault, headerOf, judged, recordOf, Sound}
-use Rattle.generator.specs.Shifts.{shifts}
+use Rattle.generator.specs.Shifts.{shifts, firsts}
 use Rattle.generator.specs.Generator.{entry}
 use Rattle.plan.specs.Plans.{planFor, entryIn}
-use Rattle.plan.proofs.Plans.{shift-in, entry-in}
+use Rattle.plan.proofs.Plans.{shift-in, first-in, entry-in}
 use Rattle.generator.proofs.Accepts.{accepted-sound}
 use Rattle.text.specs.Text.{ascii, line}
 use Rattle.sheet_text.specs.Sheet.{roundings, numbersLine, headLine, rowLine, sheetOf, sheetFor}
@@ -28,11 +28,11 @@ rows-ext f g i (suc n) h =
     (rows-ext f g (i + 1) n (λ k a b. h k (omega arith) (omega arith)))
 
 -- the line of a row of a sound header
-row-is : (h : Header) → Sound h → (r : ℕ) → r < h .k → rowLine (planFor (Holds h)) r ≡ line (ascii "row") (r ∷ getD (shifts h) r 0 ∷ from (entry h r) 0 (h .n))
+row-is : (h : Header) → Sound h → (r : ℕ) → r < h .k → rowLine (planFor (Holds h)) r ≡ line (ascii "row") (r ∷ getD (shifts h) r 0 ∷ getD (firsts h) r 0 ∷ from (entry h r) 0 (h .n))
 unfolding rowLine planFor
 row-is h s r row =
-    ap₂ (λ (t : ℕ) (xs : List ℕ). line (ascii "row") (r ∷ t ∷ xs)) (shift-in h s r row)
-    (from-ext (entryIn (planFor (Holds h)) r) (entry h r) 0 (h .n) (λ j a node. entry-in h s r j row (omega arith)))
+    rw (shift-in h s r row, first-in h s r row)
+    (ap (λ (xs : List ℕ). line (ascii "row") (r ∷ getD (shifts h) r 0 ∷ getD (firsts h) r 0 ∷ xs)) (from-ext (entryIn (planFor (Holds h)) r) (entry h r) 0 (h .n) (λ j a node. entry-in h s r j row (omega arith))))
 
 -- the sheet of a sound header
 pub sheet-holds : (h : Header) → Sound h → sheetOf (planFor (Holds h)) ≡ sheetFor (Holds h)

@@ -9,7 +9,7 @@ use Rattle.generator.specs.declared.Record.{Record}
 use Rattle.generator.specs.declared.Record.the-variants.{Holds, Meets}
 use Rattle.plan.specs.declared.Plan.{Plan}
 use Rattle.generator.specs.Records.{distance, lowReads, highReads}
-use Rattle.generator.specs.Shifts.{shifts}
+use Rattle.generator.specs.Shifts.{shifts, firsts}
 use Rattle.generator.specs.Generator.{entry}
 use Rattle.plan.specs.Plans.{entryIn}
 use Rattle.text.specs.Text.{ascii, line}
@@ -29,9 +29,9 @@ headLine p =
     (numbersLine p)
     (line (ascii "refused") (p .number ∷ []))
 
--- the line of row r: its number, its shift, its n entries
+-- the line of row r: its number, its shift, its first node, its n entries
 unfoldable pub rowLine : Plan → ℕ → List ℕ
-rowLine p r = line (ascii "row") (r ∷ getD (p .shifts) r 0 ∷ from (entryIn p r) 0 (p .n))
+rowLine p r = line (ascii "row") (r ∷ getD (p .shifts) r 0 ∷ getD (p .firsts) r 0 ∷ from (entryIn p r) 0 (p .n))
 
 -- the sheet of a plan: the first line, and the k rows unless the record was turned away
 unfoldable pub sheetOf : Plan → List ℕ
@@ -42,4 +42,4 @@ unfoldable pub sheetFor : Record → List ℕ
 sheetFor (Meets f) = line (ascii "refused") (f ∷ [])
 sheetFor (Holds h) =
     line (ascii "plan") (h .n ∷ h .k ∷ distance h ∷ roundings (lowReads h) (highReads h))
-    ++ rowsFrom (λ r. line (ascii "row") (r ∷ getD (shifts h) r 0 ∷ from (entry h r) 0 (h .n))) 0 (h .k)
+    ++ rowsFrom (λ r. line (ascii "row") (r ∷ getD (shifts h) r 0 ∷ getD (firsts h) r 0 ∷ from (entry h r) 0 (h .n))) 0 (h .k)

@@ -68,19 +68,20 @@ fn put_entries(out: &mut [u8], at: usize, plan: Plan, r: u8) -> usize
 
 // The line of row r.
 fn put_row(out: &mut [u8], at: usize, plan: Plan, r: u8) -> usize
-    requires { ⌜ (r < plan .k) × (at + 1032 ≤ length (now out)) × (allBelow 256 (plan .base) ≡ true) ⌝ }
+    requires { ⌜ (r < plan .k) × (at + 1036 ≤ length (now out)) × (allBelow 256 (plan .base) ≡ true) ⌝ }
     ensures { λ x. ⌜ Puts (now (out .entry)) (now (out .exit)) at x (rowLine plan r) ⌝ }
-    ensures { λ x. ⌜ x ≤ at + 1032 ⌝ }
+    ensures { λ x. ⌜ x ≤ at + 1036 ⌝ }
 {
     let named = put_word(out, at, b"row");
     let numbered = put_field(out, named, r);
     let shifted = put_field(out, numbered, plan.shifts[r as usize]);
-    put_entries(out, shifted, plan, r)
+    let begun = put_field(out, shifted, plan.firsts[r as usize]);
+    put_entries(out, begun, plan, r)
 }
 
-// The sheet of a plan: the first line has at most 25 bytes, and each of at most 255 rows has at most 1,032.
+// The sheet of a plan: the first line has at most 25 bytes, and each of at most 255 rows has at most 1,036.
 fn put_sheet(out: &mut [u8], at: usize, plan: Plan) -> usize
-    requires { ⌜ (at + 263185 ≤ length (now out)) × (allBelow 256 (plan .base) ≡ true) ⌝ }
+    requires { ⌜ (at + 264205 ≤ length (now out)) × (allBelow 256 (plan .base) ≡ true) ⌝ }
     ensures { λ r. ⌜ Puts (now (out .entry)) (now (out .exit)) at r (sheetOf plan) ⌝ }
 {
     let number = plan.number;
@@ -98,15 +99,15 @@ fn put_sheet(out: &mut [u8], at: usize, plan: Plan) -> usize
 }
 
 // An empty page: zeros, with room for any sheet.
-pub fn page() -> [u8; 263185]
-    ensures { λ r. ⌜ (r ≡ zeros 263185) × (263185 ≡ length r) ⌝ }
+pub fn page() -> [u8; 264205]
+    ensures { λ r. ⌜ (r ≡ zeros 264205) × (264205 ≡ length r) ⌝ }
 {
-    [0; 263185]
+    [0; 264205]
 }
 
 // Puts the sheet of a record at the front of a page, and gives its length. `fits` follows from the other two, and is what a
 // caller needs to lend `&out[..r]`.
-pub fn sheet(rec: &[u8], out: &mut [u8; 263185]) -> usize
+pub fn sheet(rec: &[u8], out: &mut [u8; 264205]) -> usize
     ensures text { λ r. ⌜ now (out .exit) ≡ sheetFor (recordOf (now (rec .entry))) ++ drop r (now (out .entry)) ⌝ }
     ensures size { λ r. ⌜ r ≡ length (sheetFor (recordOf (now (rec .entry)))) ⌝ }
     ensures fits { λ r. ⌜ (r ≤ length (now (out .exit))) × (r ≡ length (take r (now (out .exit)))) ⌝ }

@@ -2,16 +2,9 @@
 ghost use mathlib.Core.Path.{_≡_};
 ghost use Prim.Native.Nat.{_-_, _≤_, _<_};
 ghost use Rattle.lists.specs.Padded.{padded};
-ghost use Rattle.generator.specs.Shifts.{negative as negativeOf, period as periodOf, laidAt, laidShifts};
+ghost use Rattle.generator.specs.Shifts.{period as periodOf, laidAt, laidShifts};
 use crate::gcd;
-
-// −x modulo n.
-fn negative(n: u32, x: u32) -> u32
-    requires { ⌜ x < n ⌝ }
-    ensures { λ r. ⌜ (r ≡ negativeOf n x) × (r < n) ⌝ }
-{
-    (n - x) % n
-}
+use crate::negative;
 
 // The number of rows that are laid before they come round.
 fn period(n: u32, d: u32) -> u32

@@ -1,11 +1,17 @@
-// The shifts of the generator's rows: by the rule of Lemma 2 where n divides k·d, and else by rows laid end to end.
+// The shifts of the generator's rows, and the nodes at which the rows begin. The shifts are by the rule of Lemma 2 where n divides k·d, and else those of rows laid end to end.
 ghost use mathlib.Core.Path.{_≡_};
 ghost use Prim.Native.Nat.{_≤_, _<_};
 ghost use Rattle.lists.specs.Padded.{padded};
-ghost use Rattle.generator.specs.Shifts.{gcd as gcdOf, isEven, shiftsOf};
+ghost use Rattle.generator.specs.Shifts.{gcd as gcdOf, negative as negativeOf, isEven, shiftsOf, firstsOf};
 
 mod even;
 mod laid;
+
+// Where the rows stand: for each its shift and its first node.
+pub struct Rows {
+    pub shifts: [u8; 255],
+    pub firsts: [u8; 255],
+}
 
 // The greatest common divisor, by Euclid's algorithm.
 fn gcd(x: u32, y: u32) -> u32
@@ -19,6 +25,14 @@ fn gcd(x: u32, y: u32) -> u32
         b = r;
     }
     a
+}
+
+// −x modulo n.
+fn negative(n: u32, x: u32) -> u32
+    requires { ⌜ x < n ⌝ }
+    ensures { λ r. ⌜ (r ≡ negativeOf n x) × (r < n) ⌝ }
+{
+    (n - x) % n
 }
 
 // Whether n divides k·d.
@@ -38,4 +52,34 @@ pub fn fill_shifts(n: u8, k: u8) -> [u8; 255]
         return even::fill_even(n, k);
     }
     laid::fill_laid(n, k)
+}
+
+// The k first nodes in the order of the rows, each the negative of its shift, and zeros after them.
+fn fill_firsts(n: u8, k: u8, shifts: &[u8; 255]) -> [u8; 255]
+    requires { ⌜ (0 < k) × (k ≤ n) × (now shifts ≡ padded 255 (shiftsOf n k)) ⌝ }
+    ensures { λ r. ⌜ r ≡ padded 255 (firstsOf n k) ⌝ }
+{
+    let nodes = n as u32;
+    let mut out = [0u8; 255];
+    let mut r: u8 = 0;
+    while r < k {
+        let shift = shifts[r as usize] as u32;
+        let first = negative(nodes, shift);
+        out[r as usize] = first as u8;
+        r += 1;
+    }
+    out
+}
+
+// The shifts and the first nodes of the k rows, and zeros after them.
+pub fn place_rows(n: u8, k: u8) -> Rows
+    requires { ⌜ (0 < k) × (k ≤ n) ⌝ }
+    ensures { λ r. ⌜ (r .shifts ≡ padded 255 (shiftsOf n k)) × (r .firsts ≡ padded 255 (firstsOf n k)) ⌝ }
+{
+    let shifts = fill_shifts(n, k);
+    let firsts = fill_firsts(n, k, &shifts);
+    Rows {
+        shifts: shifts,
+        firsts: firsts,
+    }
 }

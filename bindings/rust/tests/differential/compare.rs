@@ -65,8 +65,8 @@ pub fn plan(record: &[u8]) -> u8 {
                 "{record:?}"
             );
             assert_eq!(
-                (plan.record(), plan.shifts(), plan.base_word()),
-                (record, &code.shifts[..], &code.base[..])
+                (plan.record(), plan.shifts(), plan.firsts(), plan.base_word()),
+                (record, &code.shifts[..], &code.firsts()[..], &code.base[..])
             );
         }
         _ => assert_eq!(
@@ -75,15 +75,15 @@ pub fn plan(record: &[u8]) -> u8 {
             "{record:?}"
         ),
     }
-    plan_in(record, 5, 255, 255)
+    plan_in(record, 5, 255, 255, 255)
 }
 
 /// The plan through the C function, in buffers of these lengths.
-pub fn plan_in(record: &[u8], numbers: usize, shifts: usize, base: usize) -> u8 {
-    let before = [vec![1; numbers], vec![2; shifts], vec![3; base]];
+pub fn plan_in(record: &[u8], numbers: usize, shifts: usize, firsts: usize, base: usize) -> u8 {
+    let before = [vec![1; numbers], vec![2; shifts], vec![3; firsts], vec![4; base]];
     let number = match Code::of(record) {
         Err(number) => number,
-        Ok(_) if (numbers, shifts, base) != (5, 255, 255) => 8,
+        Ok(_) if (numbers, shifts, firsts, base) != (5, 255, 255, 255) => 8,
         Ok(_) => 0,
     };
     let after = match Code::of(record) {
@@ -92,14 +92,15 @@ pub fn plan_in(record: &[u8], numbers: usize, shifts: usize, base: usize) -> u8 
             [
                 [code.n, code.k, code.d, code.low, code.high].map(|x| x as u8).to_vec(),
                 padded(&code.shifts),
+                padded(&code.firsts()),
                 padded(&code.base),
             ]
         }
         _ => before.clone(),
     };
     let mut lent = before.map(|list| Lent::new(&list));
-    let [a, b, c] = &mut lent;
-    let (a, b, c) = (a.slice(), b.slice(), c.slice());
+    let [a, b, c, d] = &mut lent;
+    let (a, b, c, d) = (a.slice(), b.slice(), c.slice(), d.slice());
     let got = unsafe {
         sys::balanced_plan(
             record.as_ptr(),
@@ -110,9 +111,11 @@ pub fn plan_in(record: &[u8], numbers: usize, shifts: usize, base: usize) -> u8 
             b.len(),
             c.as_mut_ptr(),
             c.len(),
+            d.as_mut_ptr(),
+            d.len(),
         )
     };
-    assert_eq!(got, number, "plan of {record:?} in {numbers}, {shifts}, {base}");
+    assert_eq!(got, number, "plan of {record:?} in {numbers}, {shifts}, {firsts}, {base}");
     assert!(
         lent.iter().zip(&after).all(|(lent, after)| lent.holds(after)),
         "plan of {record:?}"

@@ -15,6 +15,7 @@ fn plans() {
     assert_eq!((plan.n(), plan.k(), plan.d()), (6, 4, 3));
     assert_eq!((plan.low_reads(), plan.high_reads()), (2, 2));
     assert_eq!(plan.shifts(), [0, 1, 3, 4]);
+    assert_eq!(plan.firsts(), [0, 5, 3, 2]);
     let expect = [[4, 6, 3, 0, 0, 0], [6, 3, 0, 0, 0, 4], [0, 0, 0, 4, 6, 3], [0, 0, 4, 6, 3, 0]];
     assert_eq!(rows(&[1, 7, 3, 6, 4]), expect);
     assert_eq!(
@@ -38,6 +39,7 @@ fn uneven_plans() {
     let plan = Plan::new(&[1, 7, 3, 6, 5]).unwrap();
     assert_eq!((plan.d(), plan.low_reads(), plan.high_reads()), (2, 1, 2));
     assert_eq!(plan.shifts(), [0, 4, 2, 5, 3]);
+    assert_eq!(plan.firsts(), [0, 2, 4, 1, 3]);
     assert_eq!(
         rows(&[1, 7, 3, 6, 5]),
         [

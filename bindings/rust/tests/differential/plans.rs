@@ -84,19 +84,20 @@ fn random_records() {
 fn other_lengths() {
     let mut random = Random::new(3);
     let shapes = shapes(255);
-    let lengths = [0, 1, 3, 4, 5, 254, 255, 256, 1000];
+    let lengths: [usize; 7] = [0, 4, 5, 6, 254, 255, 256];
     let mut count = 0;
-    for &numbers in &lengths {
-        for &shifts in &lengths {
-            for &base in &lengths {
-                let record = random.pick(&shapes).record(&mut random);
-                let fits = (numbers, shifts, base) == (5, 255, 255);
-                assert_eq!(compare::plan_in(&record, numbers, shifts, base), if fits { 0 } else { 8 });
-                // the record's number comes first
-                assert_eq!(compare::plan_in(&[1, 7, 2, 6, 3], numbers, shifts, base), 5);
-                count += 2;
-            }
-        }
+    for choice in 0..lengths.len().pow(4) {
+        let length = |i: u32| lengths[choice / lengths.len().pow(i) % lengths.len()];
+        let [numbers, shifts, firsts, base] = [0, 1, 2, 3].map(length);
+        let record = random.pick(&shapes).record(&mut random);
+        let fits = (numbers, shifts, firsts, base) == (5, 255, 255, 255);
+        assert_eq!(
+            compare::plan_in(&record, numbers, shifts, firsts, base),
+            if fits { 0 } else { 8 }
+        );
+        // the record's number comes first
+        assert_eq!(compare::plan_in(&[1, 7, 2, 6, 3], numbers, shifts, firsts, base), 5);
+        count += 2;
     }
     println!("{count} plans in buffers of other lengths");
 }

@@ -13,8 +13,8 @@ low-reads-requires c κs = search needs
 high-reads-requires : tie.Need-high-reads-requires
 high-reads-requires c κs = search needs
 
-fill-shifts-requires : tie.Need-fill-shifts-requires
-fill-shifts-requires c κs = search needs
+place-rows-requires : tie.Need-place-rows-requires
+place-rows-requires c κs = search needs
 
 fill-base-requires : tie.Need-fill-base-requires
 fill-base-requires c κs = search needs
@@ -22,10 +22,10 @@ fill-base-requires c κs = search needs
 returns : tie.Need-returns
 unfolding planFor
 returns c =
-    let shifted = c .before in
-    let high = shifted .before in
+    let placed = c .before .before .before in
+    let high = placed .before in
     let low = high .before in
-    simp (low .before .distance-of .ensures, low .low-reads .ensures, high .high-reads .ensures, shifted .fill-shifts .ensures, c .fill-base .ensures)
+    simp (low .before .distance-of .ensures, low .low-reads .ensures, high .high-reads .ensures, placed .place-rows .ensures .0, placed .place-rows .ensures .1, c .fill-base .ensures)
 
 pub plan-of-spec : {M : Type 1} → statement M
 plan-of-spec =
@@ -34,6 +34,6 @@ plan-of-spec =
     distance-of-requires
     low-reads-requires
     high-reads-requires
-    fill-shifts-requires
+    place-rows-requires
     fill-base-requires
     returns)

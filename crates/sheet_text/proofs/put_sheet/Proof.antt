@@ -16,7 +16,7 @@ use Rattle.sheet_text.proofs.put_sheet.Tie as tie
 abbrev Inv-loop : tie.InvT-loop
 Inv-loop out₀ at plan number k place₀ r₀ out place r =
     (r ≤ k)
-    × (place ≤ at + 25 + 1032 * r)
+    × (place ≤ at + 25 + 1036 * r)
     × Fills out₀ out place (rowsFrom (rowLine plan) r (k - r)) (take place₀ out₀ ++ rowsFrom (rowLine plan) 0 k)
 
 abbrev μ-loop : tie.MeasureT-loop

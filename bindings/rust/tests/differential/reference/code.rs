@@ -12,7 +12,10 @@ fn gcd(a: usize, b: usize) -> usize {
 /// Lemma 2's shifts: of each n/g places the first k/g, where g = gcd(k, n).
 fn even_shifts(n: usize, k: usize) -> Vec<u8> {
     let g = gcd(k, n);
-    let shifts: Vec<u8> = (0..n).filter(|place| place % (n / g) < k / g).map(|place| place as u8).collect();
+    let shifts: Vec<u8> = (0..n)
+        .filter(|place| place % (n / g) < k / g)
+        .map(|place| place as u8)
+        .collect();
     assert_eq!(shifts.len(), k);
     shifts
 }
@@ -80,7 +83,11 @@ impl Code {
             return Err(5);
         }
         let d = n - k + 1;
-        let shifts = if k * d % n == 0 { even_shifts(n, k) } else { laid_shifts(n, k) };
+        let shifts = if k * d % n == 0 {
+            even_shifts(n, k)
+        } else {
+            laid_shifts(n, k)
+        };
         let mut points = vec![1];
         for j in 1..n {
             points.push(field.mul(points[j - 1], root));
@@ -111,6 +118,12 @@ impl Code {
             power = self.field.mul(power, self.root);
         }
         product
+    }
+
+    /// The node at which each row begins: its entry is not zero, and that of the node before it is, unless none is.
+    pub fn firsts(&self) -> Vec<u8> {
+        let begins = |row: &Vec<u8>| (0..self.n).find(|&j| row[j] != 0 && row[(j + self.n - 1) % self.n] == 0);
+        self.generator().iter().map(|row| begins(row).unwrap_or(0) as u8).collect()
     }
 
     /// The generator, row by row.

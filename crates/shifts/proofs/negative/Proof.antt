@@ -4,8 +4,8 @@ use native.Mathlib.Nat.{mod-lt}
 use native.Mathlib.Omega.{arith}
 use borrow.Author.Needs.{needs}
 use Rattle.generator.specs.Shifts.{negative}
-use Rattle.shifts.proofs.laid.negative.Statement.{statement}
-use Rattle.shifts.proofs.laid.negative.Tie as tie
+use Rattle.shifts.proofs.negative.Statement.{statement}
+use Rattle.shifts.proofs.negative.Tie as tie
 
 sub-result : tie.Need-sub-result
 sub-result c = search needs
