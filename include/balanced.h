@@ -34,7 +34,8 @@
  *
  * 0 (BALANCED_OK), or the number that turned the call away. Conditions are tested in the order of the numbers, and the
  * lowest that holds is returned. A call that is turned away has changed nothing: no byte of a buffer, and not
- * *altered or *first_wrong. No other value is ever returned.
+ * *altered, *first_wrong or *enough; only balanced_roster_start writes a roster without nodes. No other value is ever
+ * returned.
  *
  *
  * What the caller sees to
@@ -43,7 +44,7 @@
  *   so many bytes that may be read and, where it is not `const`, written. Bytes that are read have been initialised;
  *   a buffer that is only written need not be. A length that is not what the call asks for meets BALANCED_LENGTH.
  * - Null. No pointer is null, not even with the length 0.
- * - Alignment. Byte buffers may start anywhere. `altered` and `first_wrong` are aligned as a uint32_t is.
+ * - Alignment. Byte buffers may start anywhere. `altered`, `first_wrong` and `enough` are aligned as a uint32_t is.
  * - Aliasing. What a call writes overlaps nothing else that is lent to the same call. Buffers that are only read may
  *   overlap, or be one.
  * - Threads. There is no state outside the buffers. Calls may run at the same time in any number of threads as long as
@@ -75,7 +76,8 @@ enum balanced_number {
     BALANCED_LENGTH = 8,  /* a buffer or a list of nodes has another length than stated */
     BALANCED_RANGE = 9,   /* a node, symbol or lane number is outside its range */
     BALANCED_TWICE = 10,  /* a node stands twice in a list */
-    BALANCED_SYMBOL = 11  /* kind 1, and a byte that the call reads as a symbol is p or more */
+    BALANCED_SYMBOL = 11, /* kind 1, and a byte that the call reads as a symbol is p or more */
+    BALANCED_ALREADY = 15 /* the node already is what the event says: absent, or present */
 };
 
 /* The largest numbers of lanes and of nodes; the lengths of the buffers of balanced_plan. */
@@ -85,6 +87,7 @@ enum balanced_number {
 #define BALANCED_PLAN_SHIFTS 255
 #define BALANCED_PLAN_FIRSTS 255
 #define BALANCED_PLAN_BASE 255
+#define BALANCED_ROSTER 256
 
 /*
  * The plan of a record.
@@ -188,6 +191,60 @@ uint8_t balanced_belongs(const uint8_t *record, size_t record_len,
                          uint32_t lanes,
                          const uint8_t *shares, size_t shares_len,
                          uint32_t *first_wrong);
+
+/*
+ * Rosters: which nodes are present.
+ *
+ * A roster is 256 bytes that the caller keeps. Byte j, for j from 0 to 254, is the mark of node j: 0 for an absent node,
+ * 1 for a present one; any other byte counts as present. Byte 255 is the number of the next job. Every call takes the
+ * record beside it, and a roster belongs to the record that it was started with. Marks at n and above play no part.
+ *
+ * A node is present exactly if the last event that names it is a return, or no event names it. A refused event leaves
+ * the roster as it was.
+ */
+
+/*
+ * Starts a roster: all n nodes are present.
+ *
+ *   roster   256 bytes, written; where the record is turned away, 256 zeros: no node is present
+ *
+ * Returns 0 or one of 1 to 5, 8.
+ */
+uint8_t balanced_roster_start(const uint8_t *record, size_t record_len,
+                              uint8_t *roster, size_t roster_len);
+
+/*
+ * A node leaves; a node returns.
+ *
+ *   roster   256 bytes, read and written
+ *   node     below n
+ *
+ * An accepted event sets the number of the next job to 0.
+ *
+ * Returns 0 or one of 1 to 5, 8, 9, 15.
+ */
+uint8_t balanced_roster_leave(const uint8_t *record, size_t record_len,
+                              uint8_t *roster, size_t roster_len,
+                              uint32_t node);
+uint8_t balanced_roster_rejoin(const uint8_t *record, size_t record_len,
+                               uint8_t *roster, size_t roster_len,
+                               uint32_t node);
+
+/*
+ * The k lowest present nodes, rising: a list that balanced_recover and balanced_rebuild take.
+ *
+ *   roster   256 bytes, read
+ *   list     k bytes, written where k nodes are present, else left as they were
+ *   enough   receives 1 where the list was written, 0 where fewer than k nodes are present
+ *
+ * Too few nodes are a result, and the call returns 0.
+ *
+ * Returns 0 or one of 1 to 5, 8.
+ */
+uint8_t balanced_roster_lowest(const uint8_t *record, size_t record_len,
+                               const uint8_t *roster, size_t roster_len,
+                               uint8_t *list, size_t list_len,
+                               uint32_t *enough);
 
 #ifdef __cplusplus
 }

@@ -6,6 +6,7 @@ An empty line or a comment, which starts with #, is printed as it is.
 import sys
 from balanced import belongs, build_plan, encode, rebuild, recover, update
 from data import block, refused
+from roster import History
 from words import NotRead, is_comment, read_line
 
 CALLS = {
@@ -15,10 +16,31 @@ CALLS = {
     "belongs": ["lanes", "shares"],
     "recover": ["lanes", "nodes", "shares", "room"],
     "rebuild": ["lanes", "nodes", "shares", "target", "room"],
+    "roster": [],
+    "leave": ["node"],
+    "rejoin": ["node"],
+    "lowest": ["room"],
 }
+HISTORY = History()  # of the roster that the calls on a roster share
+
+
+def stepped(number):
+    """The number, where there is one, and the nodes that are present afterwards."""
+    return (f"refused {number}, " if number else "") + "present" + "".join(f" {node}" for node in HISTORY.present(HISTORY.n))
+
+
+def on_roster(name, record, arguments):
+    if name == "roster":
+        return stepped(HISTORY.start(record))
+    if name in ("leave", "rejoin"):
+        return stepped(HISTORY.event(record, *arguments, name == "rejoin"))
+    number, nodes = HISTORY.lowest(record, *arguments)
+    return refused(number) if number else "too few, unchanged" if nodes is None else f"done{block(bytes(nodes))}"
 
 
 def answer(name, record, arguments):
+    if name in ("roster", "leave", "rejoin", "lowest"):
+        return on_roster(name, record, arguments)
     if name == "plan":
         number, plan = build_plan(record)
         if number:

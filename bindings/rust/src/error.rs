@@ -28,11 +28,13 @@ pub enum Error {
     Twice = 10,
     /// Kind 1, and a byte that the call reads as a symbol is p or more.
     Symbol = 11,
+    /// The node already is what the event says: absent, or present.
+    Already = 15,
 }
 
 impl Error {
     /// Every error, in the order of the numbers.
-    pub const ALL: [Error; 11] = [
+    pub const ALL: [Error; 12] = [
         Error::Kind,
         Error::Body,
         Error::Field,
@@ -44,9 +46,10 @@ impl Error {
         Error::Range,
         Error::Twice,
         Error::Symbol,
+        Error::Already,
     ];
 
-    /// The number of the table, 1 to 11.
+    /// The number of the table.
     pub fn number(self) -> u8 {
         self as u8
     }
@@ -70,6 +73,7 @@ impl Error {
             Error::Range => "range",
             Error::Twice => "twice",
             Error::Symbol => "symbol",
+            Error::Already => "already",
         }
     }
 
@@ -78,7 +82,7 @@ impl Error {
         if number == 0 {
             return Ok(());
         }
-        Err(Error::from_number(number).expect("the library returns 0 or a number from 1 to 11"))
+        Err(Error::from_number(number).expect("the library returns 0 or a number of the table"))
     }
 }
 
@@ -96,6 +100,7 @@ impl fmt::Display for Error {
             Error::Range => "a node, symbol or lane number is outside its range",
             Error::Twice => "a node stands twice in a list",
             Error::Symbol => "a byte that the call reads as a symbol is p or more",
+            Error::Already => "the node already is what the event says",
         };
         write!(f, "{} ({}): {}", self.name(), self.number(), condition)
     }

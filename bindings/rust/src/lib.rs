@@ -68,11 +68,13 @@
 mod calls;
 mod error;
 mod plan;
+mod roster;
 pub mod sys;
 
 pub use calls::{belongs, encode, rebuild, recover, update};
 pub use error::Error;
 pub use plan::Plan;
+pub use roster::Roster;
 
 /// The largest number of lanes of a block.
 pub const MAX_LANES: u32 = 4096;

@@ -73,4 +73,21 @@ extern "C" {
         shares_len: usize,
         first_wrong: *mut u32,
     ) -> u8;
+
+    pub fn balanced_roster_start(record: *const u8, record_len: usize, roster: *mut u8, roster_len: usize) -> u8;
+
+    pub fn balanced_roster_leave(record: *const u8, record_len: usize, roster: *mut u8, roster_len: usize, node: u32) -> u8;
+
+    pub fn balanced_roster_rejoin(record: *const u8, record_len: usize, roster: *mut u8, roster_len: usize, node: u32)
+        -> u8;
+
+    pub fn balanced_roster_lowest(
+        record: *const u8,
+        record_len: usize,
+        roster: *const u8,
+        roster_len: usize,
+        list: *mut u8,
+        list_len: usize,
+        enough: *mut u32,
+    ) -> u8;
 }

@@ -1,5 +1,6 @@
--- The demands, proved.
+-- The demands and what holds of rosters, proved.
 pub mod Coding
 pub mod Updates
 pub mod Calls
 pub mod Demands
+pub mod Rosters

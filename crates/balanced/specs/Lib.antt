@@ -1,5 +1,6 @@
--- The demands, as statements over the definitions that the calls promise, and of the calls themselves.
+-- The demands and what holds of rosters, as statements over the definitions that the calls promise, and of the calls themselves.
 pub mod Coding
 pub mod Updates
 pub mod Calls
 pub mod Demands
+pub mod Rosters

@@ -1,7 +1,10 @@
-// The calls of the balanced image store. Every call takes the record itself; none has a precondition.
+// The calls of the balanced image store; those of a roster are methods of `Roster`. Every call takes the record itself; none has a precondition.
 pub use belongs::block_belongs;
 pub use encode::encode_block;
 pub use plan::build_plan;
 pub use recover::rebuild_share;
 pub use recover::recover_block;
+pub use roster::Listing;
+pub use roster::Roster;
+pub use roster::Step;
 pub use update::update_lane;

@@ -6,6 +6,9 @@ ghost use Rattle.lists.specs.Choice.{firstOf};
 ghost use Rattle.lists.specs.Numbers.{allBelow};
 ghost use Rattle.blocks.specs.Answers.{outcomeNumber};
 ghost use Rattle.balanced_c.specs.Calls.{lengthFault, numbersOf, PlanGives, EncodeGives, UpdateGives, RecoverGives, RebuildGives, BelongsGives};
+
+mod rosters;
+
 use blocks::Membership;
 use blocks::Outcome;
 use blocks::Update;

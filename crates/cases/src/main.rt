@@ -1,5 +1,6 @@
 // Reads calls in words, one a line ("encode 1 7 3 6 3 lanes 1 message 1 0 2 room 6"), and writes each line with the call's answer, or with
 // what makes it no call. A list has at most 64 numbers. An empty line or a comment is written as it is.
+use balanced::Roster;
 use libc::STDIN_FILENO;
 use test_tools::not_read;
 use test_tools::text;
@@ -13,6 +14,7 @@ mod outcome;
 mod plans;
 mod rebuilding;
 mod recovering;
+mod rosters;
 mod updating;
 
 // The call by its name.
@@ -49,18 +51,41 @@ fn call_on_nodes(line: &[u8]) {
     not_read(b"call", test_words::CALL);
 }
 
-fn answer(line: &[u8]) {
-    text(line);
-    if !is_comment(line) {
-        call(line);
+// The calls of a roster, which give the next one, and the calls that leave it.
+fn call_with(line: &[u8], roster: Roster) -> Roster {
+    if is_call(line, b"roster") {
+        return rosters::start(line, roster);
     }
+    if is_call(line, b"leave") {
+        return rosters::event(line, roster, false);
+    }
+    if is_call(line, b"rejoin") {
+        return rosters::event(line, roster, true);
+    }
+    if is_call(line, b"lowest") {
+        rosters::lowest(line, roster);
+        return roster;
+    }
+    call(line);
+    roster
 }
 
+fn answer(line: &[u8], roster: Roster) -> Roster {
+    text(line);
+    if is_comment(line) {
+        return roster;
+    }
+    call_with(line, roster)
+}
+
+// At first there is a roster with no node.
 fn answers(input: &[u8]) {
+    let step = Roster::start(b"");
+    let mut roster = step.roster;
     let mut at = 0;
     while at < input.len() {
         let end = line_end(input, at);
-        answer(&input[at..end]);
+        roster = answer(&input[at..end], roster);
         text(b"\n");
         at = end + 1;
     }

@@ -13,6 +13,7 @@ pub mod Padding  -- lists padded with zeros
 pub mod Count  -- `countFrom`: steps, joins, moves, periods
 pub mod Passing  -- `passingFrom`: those that pass, as a list that rises
 pub mod Search  -- `firstFalse`: the first that fails
+pub mod Around  -- `around`: a list read going round: what all have, none twice
 pub mod Chosen  -- as many as pass can be chosen, and no more
 pub mod Along  -- counted along different places
 -- Elements of a list

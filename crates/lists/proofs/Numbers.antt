@@ -11,7 +11,7 @@ use borrow.Author.Tests.{lt-ltb, ne-eqb, eq-eqb, ltb-true, eqb-true, not-true}
 use Rattle.lists.specs.Numbers.{allBelow, isIn, distinct}
 use Rattle.lists.proofs.All.{All, All-imp, All-at, All-of, Distinct}
 use Rattle.lists.proofs.Places.{Places}
-use Rattle.lists.proofs.Cases.{or-right-false}
+use Rattle.lists.proofs.Cases.{by-test, or-right-false}
 
 -- a list whose first number and rest are below n, taken apart
 pub below-cons : (n i : ℕ) (is : List ℕ) → allBelow n (i ∷ is) ≡ true → (i < n) × (allBelow n is ≡ true)
@@ -49,6 +49,23 @@ isIn-cons i n is h = go (eqb i n) refl h
     go : (t : Bool) → eqb i n ≡ t → (t || isIn i is) ≡ true → (i ≡ n) ⊎ (isIn i is ≡ true)
     go true e h = inl (eqb-true i n e)
     go false e h = inr h
+
+-- j stands at some place
+abbrev pub StandsIn : ℕ → List ℕ → Type 0
+StandsIn j l = (u : ℕ) × (u < length l) × (getD l u 0 ≡ j)
+
+-- what is in a list stands at some place
+pub isIn-place : (j : ℕ) (l : List ℕ) → isIn j l ≡ true → StandsIn j l
+unfolding isIn
+isIn-place j [] e = absurd (false≢true e)
+isIn-place j (x ∷ l) e = ⊎-elim (λ (d : j ≡ x). (0, omega arith, sym d)) (λ (d : isIn j l ≡ true). let (u, low, is) = isIn-place j l d in (suc u, omega arith, is)) (isIn-cons j x l e)
+
+-- and what stands at a place is in it
+pub place-isIn : (l : List ℕ) (u : ℕ) → u < length l → isIn (getD l u 0) l ≡ true
+unfolding isIn
+place-isIn [] u low = absurd (omega arith)
+place-isIn (x ∷ l) zero low = rw (eq-eqb x x refl)
+place-isIn (x ∷ l) (suc u) low = by-test (eqb (getD l u 0) x) (λ e. rw e) (λ e. rw e (place-isIn l u (omega arith)))
 
 -- what is among numbers below n is below n
 pub isIn-below : (n i : ℕ) (is : List ℕ) → allBelow n is ≡ true → isIn i is ≡ true → i < n

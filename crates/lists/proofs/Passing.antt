@@ -1,18 +1,20 @@
 -- The numbers of a stretch that pass a test, as a list.
-use mathlib.Core.Path.{_≡_, refl, ap}
-use mathlib.Core.Bool.{Bool, true, false, _&&_}
+use mathlib.Core.Path.{_≡_, refl, sym, ap, ap₂, _∙_}
+use mathlib.Core.Bool.{Bool, true, false, _&&_, true≢false}
 use mathlib.Core.List.{List, [], _∷_, _++_}
-use mathlib.Core.Logic.{by-cases}
-use Prim.Native.Nat.{ℕ, zero, suc, _+_, _≤_, _<_}
-use native.Mathlib.Nat.{not-suc-le-zero}
+use mathlib.Core.Logic.{⊎-elim, by-cases}
+use Prim.Native.Nat.{ℕ, zero, suc, _+_, _-_, _≤_, _<_}
+use native.Mathlib.Nat.{not-suc-le-zero, eq-or-lt-of-le}
 use native.Mathlib.Decide.{decLt}
 use native.Mathlib.Numerals.{add-one}
 use native.Mathlib.Omega.{arith}
 use lib.ListN.{length, getD}
 use Rattle.lists.specs.Choice.{pick, when}
 use Rattle.lists.specs.Counting.{countFrom, passingFrom}
-use Rattle.lists.proofs.Count.{count-move}
+use Rattle.lists.proofs.Count.{count-move, count-not}
+use Rattle.lists.proofs.Rows.{sub-next, sub-end}
 use Rattle.lists.proofs.All.{All, All-imp, All-at, Distinct, Distinct-of}
+use Rattle.lists.proofs.Numbers.{StandsIn}
 
 -- what holds of a list with i in front where the test passes, and of the list where it fails
 in-front : (P : List ℕ → Type 0) (b : Bool) (i : ℕ) (l : List ℕ) → (b ≡ true → P (i ∷ l)) → (b ≡ false → P l) → P (pick b (i ∷ []) [] ++ l)
@@ -27,6 +29,25 @@ length-passing (suc f) i p =
     in-front (λ l. length l ≡ when (p i) 1 + countFrom f (i + 1) p) (p i) i (passingFrom f (i + 1) p)
     (λ e. rw (e, length-passing f (i + 1) p) (omega arith))
     (λ e. rw (e, length-passing f (i + 1) p) (omega arith))
+
+-- at most all of the stretch
+pub passing-most : (f i : ℕ) (p : ℕ → Bool) → length (passingFrom f i p) ≤ f
+passing-most f i p = omega (arith, length-passing f i p, count-not f i p)
+
+-- one step of a list of those that pass, with what is left of n at i
+pub passing-next : (n i : ℕ) (p : ℕ → Bool) → i < n → passingFrom (n - i) i p ≡ pick (p i) (i ∷ []) [] ++ passingFrom (n - (i + 1)) (i + 1) p
+unfolding passingFrom
+passing-next n i p h = ap (λ (f : ℕ). passingFrom f i p) (sub-next n i h)
+
+pub passing-end : (n i : ℕ) (p : ℕ → Bool) → n ≤ i → passingFrom (n - i) i p ≡ []
+unfolding passingFrom
+passing-end n i p h = ap (λ (f : ℕ). passingFrom f i p) (sub-end n i h)
+
+-- tests that agree on a stretch pass the same numbers
+pub passing-ext : (f i : ℕ) (p q : ℕ → Bool) → ((j : ℕ) → i ≤ j → j < i + f → p j ≡ q j) → passingFrom f i p ≡ passingFrom f i q
+unfolding passingFrom
+passing-ext zero i p q h = refl
+passing-ext (suc f) i p q h = ap₂ (λ (t : Bool) (l : List ℕ). pick t (i ∷ []) [] ++ l) (h i (omega arith) (omega arith)) (passing-ext f (i + 1) p q (λ j a b. h j (omega arith) (omega arith)))
 
 -- the places of a list whose members pass a test
 abbrev pub countList : List ℕ → (ℕ → Bool) → ℕ
@@ -53,6 +74,24 @@ passing-within zero i p = tt
 passing-within (suc f) i p =
     let rest = All-imp (λ j. (i + 1 ≤ j) × (j < i + 1 + f)) (λ j. (i ≤ j) × (j < i + suc f)) (λ j h. (omega arith, omega arith)) (passingFrom f (i + 1) p) (passing-within f (i + 1) p) in
     in-front (All (λ j. (i ≤ j) × (j < i + suc f))) (p i) i (passingFrom f (i + 1) p) (λ e. ((omega arith, omega arith), rest)) (λ e. rest)
+
+-- they pass
+pub passing-pass : (f i : ℕ) (p : ℕ → Bool) → All (λ j. p j ≡ true) (passingFrom f i p)
+unfolding passingFrom
+passing-pass zero i p = tt
+passing-pass (suc f) i p = in-front (All (λ j. p j ≡ true)) (p i) i (passingFrom f (i + 1) p) (λ e. (e, passing-pass f (i + 1) p)) (λ e. passing-pass f (i + 1) p)
+
+-- and every number of the stretch that passes stands at some place
+pub passing-place : (f i : ℕ) (p : ℕ → Bool) (j : ℕ) → i ≤ j → j < i + f → p j ≡ true → StandsIn j (passingFrom f i p)
+unfolding passingFrom
+passing-place zero i p j low high e = absurd (omega arith)
+passing-place (suc f) i p j low high e =
+    let all = pick (p i) (i ∷ []) [] ++ passingFrom f (i + 1) p in
+    let here : i ≡ j → StandsIn j all = λ d. in-front (StandsIn j) (p i) i (passingFrom f (i + 1) p) (λ t. (0, omega arith, d)) (λ t. absurd (true≢false (sym e ∙ ap p (sym d) ∙ t))) in
+    let later : i < j → StandsIn j all = λ d.
+    let (u, inside, is) = passing-place f (i + 1) p j (omega arith) (omega arith) e in
+    in-front (StandsIn j) (p i) i (passingFrom f (i + 1) p) (λ t. (suc u, omega arith, is)) (λ t. (u, inside, is)) in
+    ⊎-elim here later (eq-or-lt-of-le low)
 
 -- where the first number passes, it is the first of them
 pub passing-first : (f i : ℕ) (p : ℕ → Bool) → 0 < f → p i ≡ true → getD (passingFrom f i p) 0 0 ≡ i

@@ -1,12 +1,14 @@
 -- Definitions that contracts of several crates name; their laws are listed in proofs/Lib.antt. What is where:
 --   Choice    pick, pickT, firstOf, when: choices by a test
 --   Rows      from, rowsFrom, range: lists by a function of the index
+--   Around    around: lists that are gone round
 --   Padded    zeros, padded: zeros up to a length
 --   Counting  countFrom, passingFrom, differ: the numbers that pass a test, the places where two lists differ
 --   Numbers   allBelow, isIn, distinct: tests of lists of numbers
 --   Search    firstFalse: the first number of a stretch that fails a test
 pub mod Choice
 pub mod Rows
+pub mod Around
 pub mod Padded
 pub mod Counting
 pub mod Numbers

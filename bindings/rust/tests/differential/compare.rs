@@ -4,7 +4,7 @@ use crate::reference::{self, Code};
 use balanced::{sys, Error, Plan};
 
 /// A buffer that the library writes, inside a larger one: a write beside it is found.
-struct Lent {
+pub struct Lent {
     all: Vec<u8>,
     start: usize,
     len: usize,
@@ -14,7 +14,7 @@ impl Lent {
     const GUARD: usize = 32;
     const MARK: u8 = 0xa7;
 
-    fn new(before: &[u8]) -> Lent {
+    pub fn new(before: &[u8]) -> Lent {
         let start = Lent::GUARD + before.len() % 16;
         let mut all = vec![Lent::MARK; start + before.len() + Lent::GUARD];
         all[start..start + before.len()].copy_from_slice(before);
@@ -25,11 +25,11 @@ impl Lent {
         }
     }
 
-    fn slice(&mut self) -> &mut [u8] {
+    pub fn slice(&mut self) -> &mut [u8] {
         &mut self.all[self.start..self.start + self.len]
     }
 
-    fn holds(&self, after: &[u8]) -> bool {
+    pub fn holds(&self, after: &[u8]) -> bool {
         let end = self.start + self.len;
         let beside = self.all[..self.start]
             .iter()

@@ -6,3 +6,4 @@ mod plans;
 mod random;
 mod reference;
 mod refusals;
+mod rosters;

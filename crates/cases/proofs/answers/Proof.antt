@@ -6,10 +6,16 @@ use Rattle.cases.proofs.answers.Statement.{statement}
 use Rattle.cases.proofs.answers.Tie as tie
 
 abbrev Inv-loop : tie.InvT-loop
-Inv-loop input at₀ t4 at = Unit {0}
+Inv-loop input roster₀ at₀ t7 roster at = Unit {0}
 
 abbrev μ-loop : tie.MeasureT-loop
-μ-loop input at₀ t4 at = length input - at
+μ-loop input roster₀ at₀ t7 roster at = length input - at
+
+slice-aggregate-start : tie.Need-slice-aggregate-start Inv-loop μ-loop
+slice-aggregate-start c = search needs
+
+start-requires : tie.Need-start-requires Inv-loop μ-loop
+start-requires c κs = search needs
 
 loop-holds : tie.Need-loop-holds Inv-loop μ-loop
 loop-holds c = search needs
@@ -53,6 +59,8 @@ answers-spec =
     (tie.spec
     Inv-loop
     μ-loop
+    slice-aggregate-start
+    start-requires
     loop-holds
     line-end-requires
     sub-answer

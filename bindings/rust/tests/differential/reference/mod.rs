@@ -3,9 +3,11 @@
 //! interpolation. Nothing here is shared with the library.
 mod code;
 mod field;
+mod roster;
 
 pub use code::Code;
 pub use field::{is_prime, Field};
+pub use roster::{Event, History};
 
 pub fn encode(record: &[u8], lanes: u32, message: &[u8], out: usize) -> Result<Vec<u8>, u8> {
     let code = Code::of(record)?;

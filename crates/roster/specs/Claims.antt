@@ -1,0 +1,77 @@
+-- What holds of the rosters of every record.
+use mathlib.Core.Path.{_≡_}
+use mathlib.Core.Logic.{_↔_}
+use mathlib.Core.Bool.{true, false}
+use mathlib.Core.List.{List, _∷_, _++_}
+use Prim.Native.Nat.{ℕ, _<_}
+use lib.ListN.{length, getD, take}
+use Rattle.lists.specs.Numbers.{isIn}
+use Rattle.generator.specs.declared.Header.{Header}
+use Rattle.generator.specs.declared.Record.{Record}
+use Rattle.generator.specs.declared.Record.the-variants.{Holds, Meets}
+use Rattle.generator.specs.Claims.{areNodes}
+use Rattle.roster.specs.declared.Roster.{Roster}
+use Rattle.roster.specs.declared.Listing.the-variants.{Written, TooFew}
+use Rattle.roster.specs.Events.{Event, named, says}
+use Rattle.roster.specs.Rosters.{isPresent, presentOf, startOf, stepOf, listing, listed, lowestOf, lowestList}
+use Rattle.roster.specs.Histories.{afterEvents, lastSays, presentBy, NoneNames}
+
+-- the roster after events from the start
+abbrev pub reached : Header → List Event → Roster
+reached h es = afterEvents (Holds h) es (startOf (Holds h) .roster)
+
+-- node j is among the n and marked as present
+abbrev pub IsIn : Header → Roster → ℕ → Type 0
+IsIn h r j = (j < h .n) × (isPresent (r .marks) j ≡ true)
+
+-- how many nodes are present
+abbrev pub presentCount : Header → Roster → ℕ
+presentCount h r = length (presentOf (h .n) (r .marks))
+
+-- the roster is that of the history of events
+pub record Kept (h : Header) : Type 0 where
+  -- a node is present exactly if the last event that names it says so, or none names it
+  pub node : (es : List Event) (j : ℕ) → j < h .n → isPresent (reached h es .marks) j ≡ lastSays j es true
+  -- the query's answer and the list afterwards, worked out from the events alone
+  pub answer : (es : List Event) (list : List ℕ) → lowestOf (Holds h) (reached h es) list ≡ listing (h .k) (length (presentBy (h .n) es)) (length list)
+  pub written : (es : List Event) (list : List ℕ) → lowestList (Holds h) (reached h es) list ≡ listed (listing (h .k) (length (presentBy (h .n) es)) (length list)) (take (h .k) (presentBy (h .n) es)) list
+  -- what the last event says, in words
+  pub last : (j : ℕ) (before : List Event) (e : Event) (later : List Event) → named e ≡ j → NoneNames j later → lastSays j (before ++ (e ∷ later)) true ≡ says e
+  pub none : (j : ℕ) (es : List Event) → NoneNames j es → lastSays j es true ≡ true
+
+-- one event, on any roster
+pub record Stepping (h : Header) : Type 0 where
+  -- a refused event leaves the roster equal
+  pub refused : (r : Roster) (e : Event) → (stepOf (Holds h) e r .number ≡ 0 → ⊥) → stepOf (Holds h) e r .roster ≡ r
+  -- an accepted one names a node below n that was not what the event says, and the jobs are counted from 0
+  pub accepted : (r : Roster) (e : Event) → stepOf (Holds h) e r .number ≡ 0 → (stepOf (Holds h) e r .roster .job ≡ 0) × (named e < h .n) × (isPresent (r .marks) (named e) ≡ says e → ⊥)
+
+-- the query, on any roster
+pub record Lowest (h : Header) : Type 0 where
+  -- with a list of k bytes, too few exactly if fewer than k are present
+  pub few : (r : Roster) (list : List ℕ) → length list ≡ h .k → (lowestOf (Holds h) r list ≡ TooFew) ↔ (presentCount h r < h .k)
+  -- what is written are k different nodes, which Recover and Rebuild take as a list of nodes, all present
+  pub nodes : (r : Roster) (list : List ℕ) → lowestOf (Holds h) r list ≡ Written → areNodes h (lowestList (Holds h) r list) ≡ true
+  pub here : (r : Roster) (list : List ℕ) → lowestOf (Holds h) r list ≡ Written → (j : ℕ) → isIn j (lowestList (Holds h) r list) ≡ true → isPresent (r .marks) j ≡ true
+  -- they rise, and every other present node is above them
+  pub rises : (r : Roster) (list : List ℕ) → lowestOf (Holds h) r list ≡ Written → (i j : ℕ) → i < j → j < h .k → getD (lowestList (Holds h) r list) i 0 < getD (lowestList (Holds h) r list) j 0
+  pub least : (r : Roster) (list : List ℕ) → lowestOf (Holds h) r list ≡ Written → (i j : ℕ) → isIn i (lowestList (Holds h) r list) ≡ true → IsIn h r j → isIn j (lowestList (Holds h) r list) ≡ false → i < j
+  -- marks at n and above play no part
+  pub beyond : (r q : Roster) (list : List ℕ) → ((j : ℕ) → j < h .n → isPresent (r .marks) j ≡ isPresent (q .marks) j) → (lowestOf (Holds h) r list ≡ lowestOf (Holds h) q list) × (lowestList (Holds h) r list ≡ lowestList (Holds h) q list)
+
+-- the rosters of an accepted record
+pub record RosterSays (h : Header) : Type 0 where
+  pub kept : Kept h
+  pub stepping : Stepping h
+  pub lowest : Lowest h
+
+-- beside a number no node is present at first, and no call changes anything
+pub record RosterRefused (f : ℕ) : Type 0 where
+  pub empty : (j : ℕ) → isPresent (startOf (Meets f) .roster .marks) j ≡ false
+  pub event : (r : Roster) (e : Event) → stepOf (Meets f) e r .roster ≡ r
+  pub query : (r : Roster) (list : List ℕ) → lowestList (Meets f) r list ≡ list
+
+-- what is promised of a record
+unfoldable pub RosterPromised : Record → Type 0
+RosterPromised (Holds h) = RosterSays h
+RosterPromised (Meets f) = RosterRefused f

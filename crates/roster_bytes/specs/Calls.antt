@@ -1,0 +1,32 @@
+-- What the calls of a roster on lent bytes promise: the number, and every lent byte and number afterwards.
+use mathlib.Core.Path.{_≡_}
+use mathlib.Core.Bool.{_&&_, not}
+use mathlib.Core.List.{List}
+use Prim.Native.Nat.{ℕ}
+use lib.Dec.{eqb, leb}
+use lib.ListN.{length}
+use Rattle.lists.specs.Choice.{pick, firstOf, when}
+use Rattle.generator.specs.Records.{headerOf, recordFault, recordOf}
+use Rattle.roster.specs.Events.{Event, named, says}
+use Rattle.roster.specs.Rosters.{presentOf, startOf, eventFault, stepOf, lowestList}
+use Rattle.roster_bytes.specs.Bytes.{rosterOf, bytesOf, eventBytes}
+
+-- number 8: the roster has another length than 256
+unfoldable pub lengthFault : ℕ → ℕ
+lengthFault l = when (not (eqb l 256)) 8
+
+-- the start: the bytes are written beside a number too, and are then those of a roster with no node
+pub record StartGives (rec bytes bytes′ : List ℕ) (r : ℕ) : Type 0 where
+  pub number : r ≡ firstOf (recordFault rec) (lengthFault (length bytes))
+  pub bytes-are : bytes′ ≡ pick (eqb (length bytes) 256) (bytesOf (startOf (recordOf rec) .roster)) bytes
+
+-- an event: the bytes of the next roster, or the same beside a number
+pub record EventGives (rec bytes : List ℕ) (e : Event) (bytes′ : List ℕ) (r : ℕ) : Type 0 where
+  pub number : r ≡ firstOf (recordFault rec) (firstOf (lengthFault (length bytes)) (eventFault (headerOf rec .n) (named e) (says e) (rosterOf bytes .marks)))
+  pub bytes-are : bytes′ ≡ pick (eqb (length bytes) 256) (eventBytes rec e bytes) bytes
+
+-- the query: whether k nodes are present, and the list afterwards; both as they were beside a number
+pub record LowestGives (rec bytes list : List ℕ) (enough : ℕ) (list′ : List ℕ) (enough′ r : ℕ) : Type 0 where
+  pub number : r ≡ firstOf (recordFault rec) (when (not (eqb (length bytes) 256 && eqb (length list) (headerOf rec .k))) 8)
+  pub list-is : list′ ≡ pick (eqb r 0) (lowestList (recordOf rec) (rosterOf bytes) list) list
+  pub enough-is : enough′ ≡ pick (eqb r 0) (when (leb (headerOf rec .k) (length (presentOf (headerOf rec .n) (rosterOf bytes .marks)))) 1) enough
