@@ -7,7 +7,7 @@ BYTES = $(patsubst .%,%,$(or $(DOTTED),$(error RECORD is not a list of numbers f
 # proves a program, quietly unless that fails
 proved = @mkdir -p target && { rt check $(1) >target/$(1).log 2>&1 || { cat target/$(1).log; exit 1; }; }
 
-.PHONY: help build test wrong sheet compare bench docs
+.PHONY: help build test wrong sheet compare weights bench docs
 
 help: ## this list
 	@awk -F ':.*## ' '/^[a-z]+:.*## / { printf "make %-8s %s\n", $$1, $$2 }' Makefile
@@ -29,11 +29,15 @@ compare: ## the costs of the plain layout and of ours: make compare RECORD='2 2 
 	$(call proved,compare)
 	@printf '$(BYTES)' | target/bin/compare
 
+weights: ## a record's messages by their nodes that are not zero: make weights RECORD='1 7 3 6 3'
+	$(call proved,weights)
+	@printf '$(BYTES)' | target/bin/weights
+
 bench: ## our times beside those of other libraries, in one run, as ratios
 	bench/run.sh
 
 docs: ## draw the pictures anew and check what the documents show and cite
-	rt check sheet compare cases
+	rt check sheet compare weights cases
 	rt staticlib balanced_c
 	docs/make_pictures.py
 	tests/check_claims.py

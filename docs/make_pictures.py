@@ -1,10 +1,10 @@
 #!/usr/bin/env python3
-"""Draws the pictures of docs/pictures from the output of the programs `sheet` and `compare`, and from crates.txt.
+"""Draws the pictures of docs/pictures from the output of the programs `sheet`, `compare` and `weights`, and from crates.txt.
 
     docs/make_pictures.py            writes the pictures
     docs/make_pictures.py --check    says which stored picture is not the one that would be written
 
-The programs are those of target/bin (`rt check sheet compare` makes them).
+The programs are those of target/bin (`rt check sheet compare weights` makes them).
 """
 import os
 import subprocess
@@ -34,6 +34,11 @@ def compare(record):
     """For each layout its writes, least and greatest reads; for the bound its writes and reads."""
     lines = run("compare", record)
     return {line[0]: [int(word) for word in line[1:] if word.isdigit()] for line in lines}
+
+
+def weights(record):
+    """For each number of nodes that are not zero the number of messages."""
+    return [int(count) for _, count in run("weights", record)]
 
 
 # ---------------------------------------------------------------- drawing
@@ -153,6 +158,26 @@ def reads_per_node(record):
     return picture.done()
 
 
+def messages_by_weight(record):
+    """A bar for each number of nodes that are not zero: how many messages have it."""
+    counts = weights(record)
+    total, tallest = sum(counts), max(counts)
+    step, height, left, top = 96, 180, 60, 66
+    name = " ".join(map(str, record))
+    picture = Drawing(left + len(counts) * step + 20, top + height + 66, f"Messages by nodes that are not zero, record {name}")
+    picture.text(left, 24, f"Messages of the record {name} by the nodes that hold something other than zero", 14)
+    picture.text(left, 44, f"{total} messages, {sum(w * count for w, count in enumerate(counts)) / total:.2f} nodes on average", 12)
+    for w, count in enumerate(counts):
+        x, tall = left + w * step, height * count / tallest
+        picture.box(x + 8, top + height - tall, step - 16, tall, OURS)
+        picture.text(x + step / 2, top + height - tall - 6, str(count), 13, "middle")
+        picture.text(x + step / 2, top + height + 18, f"{w} nodes", 12, "middle")
+    picture.line(left, top + height, left + len(counts) * step, top + height, INK)
+    lowest = next(w for w, count in enumerate(counts) if w and count)
+    picture.text(left, top + height + 44, f"Apart from the message of zeros none has fewer than {lowest} nodes that are not zero.", 12)
+    return picture.done()
+
+
 # ---------------------------------------------------------------- the crates
 
 def crates():
@@ -234,6 +259,7 @@ PICTURES = {
     "generator-255-120.svg": lambda: large_generator(LARGE),
     "reads-6-4.svg": lambda: reads_per_node(SMALL),
     "reads-255-120.svg": lambda: reads_per_node(LARGE),
+    "weights-6-3.svg": lambda: messages_by_weight((1, 7, 3, 6, 3)),
     "crates.svg": crate_map,
 }
 

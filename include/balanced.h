@@ -44,7 +44,7 @@
  *   so many bytes that may be read and, where it is not `const`, written. Bytes that are read have been initialised;
  *   a buffer that is only written need not be. A length that is not what the call asks for meets BALANCED_LENGTH.
  * - Null. No pointer is null, not even with the length 0.
- * - Alignment. Byte buffers may start anywhere. `altered`, `first_wrong` and `enough` are aligned as a uint32_t is.
+ * - Alignment. Byte buffers may start anywhere. `altered`, `first_wrong`, `enough` and `counts` are aligned as a uint32_t is.
  * - Aliasing. What a call writes overlaps nothing else that is lent to the same call. Buffers that are only read may
  *   overlap, or be one.
  * - Threads. There is no state outside the buffers. Calls may run at the same time in any number of threads as long as
@@ -77,7 +77,8 @@ enum balanced_number {
     BALANCED_RANGE = 9,   /* a node, symbol or lane number is outside its range */
     BALANCED_TWICE = 10,  /* a node stands twice in a list */
     BALANCED_SYMBOL = 11, /* kind 1, and a byte that the call reads as a symbol is p or more */
-    BALANCED_ALREADY = 15 /* the node already is what the event says: absent, or present */
+    BALANCED_ALREADY = 15, /* the node already is what the event says: absent, or present */
+    BALANCED_MANY = 16    /* there are more than 65,536 messages */
 };
 
 /* The largest numbers of lanes and of nodes; the lengths of the buffers of balanced_plan. */
@@ -191,6 +192,19 @@ uint8_t balanced_belongs(const uint8_t *record, size_t record_len,
                          uint32_t lanes,
                          const uint8_t *shares, size_t shares_len,
                          uint32_t *first_wrong);
+
+/*
+ * Counts the messages by the nodes that hold something other than zero: counts[w] is the number of messages of k symbols
+ * whose encoding has just w nodes that are not zero, the Hamming weight w. counts[0] is 1, for the message of zeros,
+ * counts[w] is 0 for w from 1 to n-k, and all counts together are q to the power k, where q is the number of symbols.
+ *
+ *   counts      written: n + 1 numbers, for w from 0 to n
+ *   counts_len  the number of numbers, not of bytes
+ *
+ * Returns 0 or one of 1 to 5, 8, 16.
+ */
+uint8_t balanced_weights(const uint8_t *record, size_t record_len,
+                         uint32_t *counts, size_t counts_len);
 
 /*
  * Rosters: which nodes are present.

@@ -5,6 +5,7 @@ recovered by solving the linear system of the listed nodes, and a lane is a word
 symbols has the other symbols as values too. A row is `bytes`, one symbol for each lane.
 """
 from functools import lru_cache, reduce
+from itertools import product
 from math import gcd
 from operator import xor
 
@@ -307,5 +308,25 @@ def belongs(record, lanes, shares):
         values = (combine(plan.field, plan.monomials(j), coefficients) for j in range(plan.n))
         wrong = [t for row, value in zip(rows, values) if row != value for t in range(lanes) if row[t] != value[t]]
         return min(wrong, default=None)
+
+    return call(record, faults, work)
+
+
+def weights(record, room):
+    """(number, how many messages have a word with w nodes that are not zero, w from 0 to n), by going through all messages"""
+
+    def faults(plan):
+        yield 8, room != plan.n + 1
+        yield 16, plan.field.size ** plan.k > 65536
+
+    def work(plan):
+        # all messages at a time, one in each lane
+        messages = list(product(range(plan.field.size), repeat=plan.k))
+        rows = [bytes(message[r] for message in messages) for r in range(plan.k)]
+        words = zip(*(combine(plan.field, plan.column(j), rows) for j in range(plan.n)))
+        counts = [0] * (plan.n + 1)
+        for word in words:
+            counts[plan.n - word.count(0)] += 1
+        return counts
 
     return call(record, faults, work)

@@ -4,7 +4,7 @@
 An empty line or a comment, which starts with #, is printed as it is.
 """
 import sys
-from balanced import belongs, build_plan, encode, rebuild, recover, update
+from balanced import belongs, build_plan, encode, rebuild, recover, update, weights
 from data import block, refused
 from roster import History
 from words import NotRead, is_comment, read_line
@@ -20,6 +20,7 @@ CALLS = {
     "leave": ["node"],
     "rejoin": ["node"],
     "lowest": ["room"],
+    "weights": ["room"],
 }
 HISTORY = History()  # of the roster that the calls on a roster share
 
@@ -54,6 +55,9 @@ def answer(name, record, arguments):
     if name == "belongs":
         number, lane = belongs(record, *arguments)
         return f"refused {number}" if number else "yes" if lane is None else f"no, lane {lane}"
+    if name == "weights":
+        number, counts = weights(record, *arguments)
+        return refused(number) if number else "done" + "".join(f" {count}" for count in counts)
     number, result = {"encode": encode, "recover": recover, "rebuild": rebuild}[name](record, *arguments)
     return refused(number) if number else f"done{block(result)}"
 

@@ -105,3 +105,13 @@ pub fn belongs(record: &[u8], lanes: u32, shares: &[u8]) -> Result<Option<u32>, 
     };
     Error::check(number).map(|()| (first_wrong != lanes).then_some(first_wrong))
 }
+
+/// Counts the messages by the nodes that hold something other than zero: `counts[w]` is the number of messages whose
+/// encoding has just w nodes that are not zero, the Hamming weight w.
+///
+/// `counts` has n+1 numbers. `counts[0]` is 1, for the message of zeros, and no other message has fewer than n−k+1 nodes
+/// that are not zero. There are at most 65,536 messages, or the call is turned away.
+pub fn weights(record: &[u8], counts: &mut [u32]) -> Result<(), Error> {
+    let number = unsafe { sys::balanced_weights(record.as_ptr(), record.len(), counts.as_mut_ptr(), counts.len()) };
+    Error::check(number)
+}

@@ -30,6 +30,8 @@ pub enum Error {
     Symbol = 11,
     /// The node already is what the event says: absent, or present.
     Already = 15,
+    /// There are more than 65,536 messages.
+    Many = 16,
 }
 
 impl Error {
@@ -47,6 +49,7 @@ impl Error {
         Error::Twice,
         Error::Symbol,
         Error::Already,
+        Error::Many,
     ];
 
     /// The number of the table.
@@ -74,6 +77,7 @@ impl Error {
             Error::Twice => "twice",
             Error::Symbol => "symbol",
             Error::Already => "already",
+            Error::Many => "many",
         }
     }
 
@@ -101,6 +105,7 @@ impl fmt::Display for Error {
             Error::Twice => "a node stands twice in a list",
             Error::Symbol => "a byte that the call reads as a symbol is p or more",
             Error::Already => "the node already is what the event says",
+            Error::Many => "there are more than 65,536 messages",
         };
         write!(f, "{} ({}): {}", self.name(), self.number(), condition)
     }

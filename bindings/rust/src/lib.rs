@@ -62,6 +62,11 @@
 //! assert_eq!(plan.belongs(1, &shares)?, Some(0));
 //! assert_eq!(plan.recover(1, &[2, 3, 2], &[1, 3, 1], &mut message), Err(Error::Twice));
 //! assert_eq!(message, [1, 5, 2]);
+//!
+//! // Of the 343 messages 90 have an encoding with four nodes that are not zero, 108 one with five, 144 one with six.
+//! let mut counts = [0; 7];
+//! plan.weights(&mut counts)?;
+//! assert_eq!(counts, [1, 0, 0, 0, 90, 108, 144]);
 //! # Ok::<(), Error>(())
 //! ```
 
@@ -71,7 +76,7 @@ mod plan;
 mod roster;
 pub mod sys;
 
-pub use calls::{belongs, encode, rebuild, recover, update};
+pub use calls::{belongs, encode, rebuild, recover, update, weights};
 pub use error::Error;
 pub use plan::Plan;
 pub use roster::Roster;

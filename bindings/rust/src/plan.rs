@@ -135,6 +135,11 @@ impl Plan {
     pub fn belongs(&self, lanes: u32, shares: &[u8]) -> Result<Option<u32>, Error> {
         calls::belongs(self.record(), lanes, shares)
     }
+
+    /// [`weights`](crate::weights) with this plan's record.
+    pub fn weights(&self, counts: &mut [u32]) -> Result<(), Error> {
+        calls::weights(self.record(), counts)
+    }
 }
 
 impl fmt::Debug for Plan {

@@ -90,4 +90,6 @@ extern "C" {
         list_len: usize,
         enough: *mut u32,
     ) -> u8;
+
+    pub fn balanced_weights(record: *const u8, record_len: usize, counts: *mut u32, counts_len: usize) -> u8;
 }

@@ -7,6 +7,7 @@ use Rattle.scheme.specs.Schemes.{Scheme}
 use Rattle.scheme.specs.Costs.{Price, CostsAtLeast}
 use Rattle.generator.specs.Records.{headerOf, recordFault}
 use Rattle.generator.specs.Claims.{Accepted}
+use Rattle.weight_counts.specs.Weights.{Distribution}
 use Rattle.balanced.specs.Coding.{CodeDemands}
 use Rattle.balanced.specs.Updates.{UpdateDemands}
 use Rattle.balanced.specs.Calls.{CallDemands}
@@ -23,3 +24,5 @@ pub record Demands : Type 1 where
   pub updating : (rec : List ℕ) → recordFault rec ≡ 0 → UpdateDemands (headerOf rec)
   -- both of the calls themselves
   pub calls : CallDemands
+  -- the textbook's weight distribution is that of every accepted record
+  pub weights : (rec : List ℕ) → recordFault rec ≡ 0 → Distribution (headerOf rec)

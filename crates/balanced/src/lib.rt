@@ -8,3 +8,4 @@ pub use roster::Listing;
 pub use roster::Roster;
 pub use roster::Step;
 pub use update::update_lane;
+pub use weight_counts::weight_counts;

@@ -16,7 +16,8 @@ use Rattle.blocks.specs.Promises.{EncodeSays, UpdateSays, RecoverSays, RebuildS
 use Rattle.blocks.proofs.Answered.{outcome-number, altered-means, refused-means, yes-means, no-means, refusal-means}
 use Rattle.blocks.proofs.Bytes.{altered-symbols}
 use Rattle.blocks.proofs.Refused.{update-refused, refused-value}
-use Rattle.balanced_c.specs.Calls.{EncodeGives, UpdateGives, RecoverGives, RebuildGives, BelongsGives}
+use Rattle.weight_counts.specs.Weights.{weightsFault, WeightsSay}
+use Rattle.balanced_c.specs.Calls.{EncodeGives, UpdateGives, RecoverGives, RebuildGives, BelongsGives, WeightsGive}
 
 -- an outcome that a call says, by its number
 by-number : (a : Outcome) (r f : ℕ) → r ≡ outcomeNumber a → a ≡ outcomeOf f → r ≡ f
@@ -36,6 +37,11 @@ pub rebuild-gives : (rec : List ℕ) (l : ℕ) (nodes shares : List ℕ) (target
 rebuild-gives rec l nodes shares target share share′ a r e says =
     let number = by-number a r (faultOf rec (λ h. rebuildFault h l nodes shares target (length share))) e (says .promise .answer) in
     record { number = number; says = record { promise = record { answer = ap outcomeOf number; written = says .promise .written } } }
+
+pub weights-give : (rec counts counts′ : List ℕ) (a : Outcome) (r : ℕ) → r ≡ outcomeNumber a → WeightsSay rec counts counts′ a → WeightsGive rec counts counts′ r
+weights-give rec counts counts′ a r e says =
+    let number = by-number a r (faultOf rec (λ h. weightsFault h (length counts))) e (says .counted .promise .answer) in
+    record { number = number; says = record { counted = record { promise = record { answer = ap outcomeOf number; written = says .counted .promise .written } }; claims = says .claims } }
 
 module _ (rec : List ℕ) (l symbol lane old new : ℕ) (shares : List ℕ) (altered : ℕ) (shares′ : List ℕ) (a : Update) (says : UpdateSays rec l symbol lane old new shares shares′ a) where
   pub update-done : (count : ℕ) → a ≡ U.Altered count → UpdateGives rec l symbol lane old new shares altered shares′ count 0

@@ -16,6 +16,7 @@ use Rattle.blocks.specs.Bytes.{wrongLane}
 use Rattle.refusals.specs.Faults.{encodeFault, updateFault, recoverFault, rebuildFault, belongsFault, faultOf}
 use Rattle.blocks.specs.Answers.{outcomeOf, updateOf}
 use Rattle.blocks.specs.Promises.{EncodeSays, UpdateSays, RecoverSays, RebuildSays}
+use Rattle.weight_counts.specs.Weights.{weightsFault, WeightsSay}
 
 -- number 8 of `balanced_plan`, from the lengths of its buffers
 unfoldable pub lengthFault : ℕ → ℕ → ℕ → ℕ → ℕ
@@ -59,3 +60,8 @@ pub record RebuildGives (rec : List ℕ) (l : ℕ) (nodes shares : List ℕ) (ta
 pub record BelongsGives (rec : List ℕ) (l : ℕ) (shares : List ℕ) (first first′ r : ℕ) : Type 0 where
   pub number : r ≡ faultOf rec (λ h. belongsFault h l shares)
   pub first-is : first′ ≡ pick (eqb r 0) (wrongLane (headerOf rec) l shares) first
+
+-- `balanced_weights`: the number, and what the call says of the counts
+pub record WeightsGive (rec counts counts′ : List ℕ) (r : ℕ) : Type 0 where
+  pub number : r ≡ faultOf rec (λ h. weightsFault h (length counts))
+  pub says : WeightsSay rec counts counts′ (outcomeOf r)

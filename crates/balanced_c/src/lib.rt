@@ -5,7 +5,7 @@ ghost use mathlib.Core.Bool.{true};
 ghost use Rattle.lists.specs.Choice.{firstOf};
 ghost use Rattle.lists.specs.Numbers.{allBelow};
 ghost use Rattle.blocks.specs.Answers.{outcomeNumber};
-ghost use Rattle.balanced_c.specs.Calls.{lengthFault, numbersOf, PlanGives, EncodeGives, UpdateGives, RecoverGives, RebuildGives, BelongsGives};
+ghost use Rattle.balanced_c.specs.Calls.{lengthFault, numbersOf, PlanGives, EncodeGives, UpdateGives, RecoverGives, RebuildGives, BelongsGives, WeightsGive};
 
 mod rosters;
 
@@ -191,4 +191,12 @@ pub extern "C" fn balanced_belongs(
         }
         Membership::Refused(number) => number,
     }
+}
+
+// How many messages have a word with w nodes that are not zero, w from 0 to n.
+#[no_mangle]
+pub extern "C" fn balanced_weights(rec: &[u8], counts: &mut [u32]) -> u8
+    ensures { λ r. ⌜ WeightsGive (now (rec .entry)) (now (counts .entry)) (now (counts .exit)) r ⌝ }
+{
+    number_of(balanced::weight_counts(rec, counts))
 }

@@ -13,7 +13,7 @@ use Rattle.blocks.specs.Answers.{outcomeOf, updateOf, membershipOf}
 use Rattle.blocks.specs.Promises.{EncodePromise, UpdatePromise, RecoverPromise, RebuildPromise, BelongsPromise}
 
 -- the answers
-outcome-refused : (g : ℕ) → (g ≡ 0 → ⊥) → outcomeOf g ≡ O.Refused g
+pub outcome-refused : (g : ℕ) → (g ≡ 0 → ⊥) → outcomeOf g ≡ O.Refused g
 unfolding outcomeOf
 outcome-refused zero n = absurd (n refl)
 outcome-refused (suc g) n = refl

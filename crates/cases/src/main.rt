@@ -9,6 +9,7 @@ use test_words::is_comment;
 use test_words::line_end;
 
 mod belonging;
+mod counting;
 mod encoding;
 mod outcome;
 mod plans;
@@ -46,6 +47,15 @@ fn call_on_nodes(line: &[u8]) {
     }
     if is_call(line, b"belongs") {
         belonging::belongs(line);
+        return;
+    }
+    call_on_records(line);
+}
+
+// The calls on a record alone.
+fn call_on_records(line: &[u8]) {
+    if is_call(line, b"weights") {
+        counting::weights(line);
         return;
     }
     not_read(b"call", test_words::CALL);

@@ -14,14 +14,22 @@ ascii (c ∷ s) = code c ∷ ascii s
 abbrev pub digit : ℕ → ℕ
 digit d = 48 + d
 
--- a number below 1000 in base ten, with no zeros in front
+-- a number below 100,000 in base ten, with no zeros in front
 unfoldable pub decimal : ℕ → List ℕ
 decimal x =
     pick (ltb x 10)
     (digit x ∷ [])
     (pick (ltb x 100)
     (digit (x / 10) ∷ digit (x % 10) ∷ [])
-    (digit (x / 100) ∷ digit (x / 10 % 10) ∷ digit (x % 10) ∷ []))
+    (pick (ltb x 1000)
+    (digit (x / 100) ∷ digit (x / 10 % 10) ∷ digit (x % 10) ∷ [])
+    (pick (ltb x 10000)
+    (digit (x / 1000) ∷ digit (x / 100 % 10) ∷ digit (x / 10 % 10) ∷ digit (x % 10) ∷ [])
+    (digit (x / 10000) ∷ digit (x / 1000 % 10) ∷ digit (x / 100 % 10) ∷ digit (x / 10 % 10) ∷ digit (x % 10) ∷ []))))
+
+-- how many of five digits are zeros in front of the number
+unfoldable pub zerosBefore : ℕ → ℕ
+zerosBefore x = pick (ltb x 10) 4 (pick (ltb x 100) 3 (pick (ltb x 1000) 2 (pick (ltb x 10000) 1 0)))
 
 -- a field: a space and a number
 unfoldable pub field : ℕ → List ℕ

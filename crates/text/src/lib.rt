@@ -1,9 +1,9 @@
 // Texts put into a buffer. Each function puts its text at a place of a buffer that has room for it, and gives the next place.
 ghost use mathlib.Core.Path.{_≡_};
 ghost use mathlib.Core.List.{[], _∷_};
-ghost use Prim.Native.Nat.{_+_, _*_, _≤_, _<_};
+ghost use Prim.Native.Nat.{_+_, _*_, _%_, _≤_, _<_};
 ghost use lib.ListN.{length};
-ghost use Rattle.text.specs.Text.{field, fields, line};
+ghost use Rattle.text.specs.Text.{digit, decimal, zerosBefore, field, fields, line};
 ghost use Rattle.text.specs.Writing.{Puts};
 
 pub fn put_byte(out: &mut [u8], at: usize, b: u8) -> usize
@@ -26,6 +26,46 @@ pub fn put_word(out: &mut [u8], at: usize, word: &[u8]) -> usize
         i += 1;
     }
     place
+}
+
+// The last digit of a number.
+fn last_digit(x: u32) -> u8
+    ensures { λ r. ⌜ r ≡ digit (x % 10) ⌝ }
+{
+    b'0' + (x % 10) as u8
+}
+
+// How many of five digits are zeros in front of a number.
+fn zeros_before(x: u32) -> usize
+    ensures { λ r. ⌜ (r ≡ zerosBefore x) × (r ≤ 4) ⌝ }
+{
+    if x < 10 {
+        return 4;
+    }
+    if x < 100 {
+        return 3;
+    }
+    if x < 1000 {
+        return 2;
+    }
+    if x < 10000 { 1 } else { 0 }
+}
+
+// A number below 100,000 in base ten.
+pub fn put_number(out: &mut [u8], at: usize, x: u32) -> usize
+    requires { ⌜ (x < 100000) × (at + 5 ≤ length (now out)) ⌝ }
+    ensures { λ r. ⌜ Puts (now (out .entry)) (now (out .exit)) at r (decimal x) ⌝ }
+    ensures { λ r. ⌜ r ≤ at + 5 ⌝ }
+{
+    let first = zeros_before(x);
+    let digits = [
+        last_digit(x / 10000),
+        last_digit(x / 1000),
+        last_digit(x / 100),
+        last_digit(x / 10),
+        last_digit(x),
+    ];
+    put_word(out, at, &digits[first..])
 }
 
 // A space and a number in base ten.

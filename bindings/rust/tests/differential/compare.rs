@@ -208,3 +208,16 @@ pub fn belongs(record: &[u8], lanes: u32, shares: &[u8]) -> (u8, u32) {
     assert_eq!((got, lane), (expect, wrong), "belongs {record:?} {lanes}");
     (got, lane)
 }
+
+/// The counts, inside a larger list: a write beside them is found.
+pub fn weights(record: &[u8], before: &[u32]) -> u8 {
+    const MARK: u32 = 0x5a5a_5a5a;
+    let (expect, after) = expected(reference::weights(record, before.len()), before.to_vec());
+    let mut lent = vec![MARK; before.len() + 2];
+    let end = before.len() + 1;
+    lent[1..end].copy_from_slice(before);
+    let (got, _) = number(balanced::weights(record, &mut lent[1..end]));
+    assert_eq!(got, expect, "weights {record:?} {}", before.len());
+    assert!(lent[1..end] == after && lent[0] == MARK && lent[end] == MARK, "weights {record:?}");
+    got
+}

@@ -7,3 +7,4 @@ mod random;
 mod reference;
 mod refusals;
 mod rosters;
+mod weights;

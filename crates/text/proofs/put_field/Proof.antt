@@ -64,7 +64,7 @@ same-length-3 c = search needs
 returns-3 : tie.Need-returns-3
 returns-3 c =
     let put = c .before .before in
-    (rw (three-digits _ (put .before .before .before .if2 .left)) (put .put-word3 .ensures), omega arith)
+    (rw (three-digits _ (put .before .before .before .if2 .left) (omega arith)) (put .put-word3 .ensures), omega arith)
 
 pub put-field-spec : {M : Type 1} → statement M
 put-field-spec =

@@ -167,6 +167,23 @@ impl Code {
         shares
     }
 
+    /// Adds to the counts, by their nodes that are not zero, the words that begin with the rows before r as `word` has them.
+    pub fn count_words(&self, r: usize, word: &[u8], counts: &mut [u32]) {
+        if r == self.k {
+            counts[word.iter().filter(|&&x| x != 0).count()] += 1;
+            return;
+        }
+        let row = &self.generator()[r];
+        for symbol in 0..self.field.size() {
+            let next: Vec<u8> = word
+                .iter()
+                .zip(row)
+                .map(|(&x, &entry)| self.field.add(x, self.field.mul(symbol as u8, entry)))
+                .collect();
+            self.count_words(r + 1, &next, counts);
+        }
+    }
+
     /// The message whose encoding holds the shares at the nodes: the inverse of the k columns, by elimination.
     pub fn message(&self, lanes: usize, nodes: &[u8], shares: &[u8]) -> Vec<u8> {
         let (f, k) = (&self.field, self.k);

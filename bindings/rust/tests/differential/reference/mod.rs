@@ -104,3 +104,21 @@ pub fn belongs(record: &[u8], lanes: u32, shares: &[u8]) -> Result<u32, u8> {
     };
     Ok((0..l).find(|&t| !is_word(t)).unwrap_or(l) as u32)
 }
+
+/// How many messages have an encoding with each number of nodes that are not zero, by going through all messages.
+pub fn weights(record: &[u8], out: usize) -> Result<Vec<u32>, u8> {
+    let code = Code::of(record)?;
+    if out != code.n + 1 {
+        return Err(8);
+    }
+    let mut messages = 1u64;
+    for _ in 0..code.k {
+        messages = (messages * u64::from(code.field.size())).min(1 << 20);
+    }
+    if messages > 65_536 {
+        return Err(16);
+    }
+    let mut counts = vec![0; code.n + 1];
+    code.count_words(0, &vec![0; code.n], &mut counts);
+    Ok(counts)
+}

@@ -1,0 +1,2 @@
+-- Weight distributions: the count over all messages, and the textbook count.
+pub mod Counts

@@ -1,0 +1,2 @@
+-- The text of a weight distribution.
+pub mod Weights
