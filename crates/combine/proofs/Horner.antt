@@ -47,7 +47,7 @@ product-halved a w ha hw =
     ∙ ap (product a) parts
 
 -- the sum over listed values with i in front where the digit is 1
-sum-front : (x : ℕ → ℕ) (i d : ℕ) (js : List ℕ) → d < 2 → sumOf x (pick (eqb d 1) (i ∷ []) [] ++ js) ≡ bitXor (x i * d) (sumOf x js)
+pub sum-front : (x : ℕ → ℕ) (i d : ℕ) (js : List ℕ) → d < 2 → sumOf x (pick (eqb d 1) (i ∷ []) [] ++ js) ≡ bitXor (x i * d) (sumOf x js)
 unfolding sumOf
 sum-front x i zero js h = rw (mul-zero)
 sum-front x i (suc zero) js h = rw (mul-one)

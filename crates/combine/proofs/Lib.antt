@@ -3,5 +3,6 @@ pub mod Combined
 pub mod Horner
 pub mod Listing
 pub mod Adding
+pub mod OneLane
 pub mod Turns
 pub mod Columns

@@ -2,10 +2,10 @@
 // multiplied by x, and the rows whose weight has the digit are added.
 ghost use mathlib.Core.Path.{_≡_};
 ghost use Prim.Native.Nat.{_+_, _-_, _*_, _%_, _≤_, _<_};
-ghost use lib.ListN.{length, take, drop};
+ghost use lib.ListN.{length, getD, take, drop};
 ghost use Rattle.layout.specs.Layout.{byRow};
 ghost use Rattle.combine.specs.Combined.{Weighted, combined};
-ghost use Rattle.combine.specs.Digits.{rowsWith, added, multiplied, ListedRows, Started};
+ghost use Rattle.combine.specs.Digits.{rowsWith, sumOf, added, multiplied, ListedRows, Started};
 use kernel::gf256;
 
 // Lists those of the first rows whose weight has the digit, and gives how many they are. Each row is written after those listed,
@@ -69,14 +69,50 @@ fn add_pairs(list: &[u8], first: usize, lanes: usize, rows: &[u8], acc: &mut [u8
     }
 }
 
-// One step of Horner's rule; `list` has a place for each row.
-fn step(digit: u8, weights: &[u16], lanes: usize, rows: &[u8], list: &mut [u8], acc: &mut [u8])
+// One step of Horner's rule, by a list of the rows that are added.
+fn step_rows(digit: u8, weights: &[u16], lanes: usize, rows: &[u8], list: &mut [u8], acc: &mut [u8])
     requires { ⌜ (digit < 8) × Weighted 256 (length (now list)) lanes (now weights) (now rows) (length (now acc)) ⌝ }
     ensures { λ r. ⌜ now (acc .exit) ≡ added lanes (now (rows .entry)) (rowsWith digit (length (now (list .entry))) (now (weights .entry))) (multiplied (now (acc .entry))) ⌝ }
 {
     let count = list_rows(digit, weights, list);
     let first = multiply_x_first(&list[..count], lanes, rows, acc);
     add_pairs(&list[..count], first, lanes, rows, acc);
+}
+
+// The sum of the symbols whose weight has the digit: all symbols are read, each times its digit, with no branch and no list.
+fn digit_sum(digit: u8, weights: &[u16], symbols: &[u8]) -> u8
+    requires { ⌜ (digit < 8) × (length (now symbols) ≤ length (now weights)) ⌝ }
+    ensures { λ r. ⌜ r ≡ sumOf (λ j. getD (now (symbols .entry)) j 0) (rowsWith digit (length (now (symbols .entry))) (now (weights .entry))) ⌝ }
+{
+    let mut sum: u8 = 0;
+    let mut i = 0;
+    while i < symbols.len() {
+        let factor = ((weights[i] >> digit) % 2) as u8;
+        sum = sum ^ (symbols[i] * factor);
+        i += 1;
+    }
+    sum
+}
+
+// One step of Horner's rule for one lane.
+fn step_lane(digit: u8, weights: &[u16], symbols: &[u8], acc: &mut [u8])
+    requires { ⌜ (digit < 8) × (length (now symbols) ≤ length (now weights)) × (length (now acc) ≡ 1) ⌝ }
+    ensures { λ r. ⌜ now (acc .exit) ≡ added 1 (now (symbols .entry)) (rowsWith digit (length (now (symbols .entry))) (now (weights .entry))) (multiplied (now (acc .entry))) ⌝ }
+{
+    gf256::multiply_x(acc);
+    acc[0] = acc[0] ^ digit_sum(digit, weights, symbols);
+}
+
+// One step of Horner's rule; `list` has a place for each row. One lane takes less time without the list.
+fn step(digit: u8, weights: &[u16], lanes: usize, rows: &[u8], list: &mut [u8], acc: &mut [u8])
+    requires { ⌜ (digit < 8) × Weighted 256 (length (now list)) lanes (now weights) (now rows) (length (now acc)) ⌝ }
+    ensures { λ r. ⌜ now (acc .exit) ≡ added lanes (now (rows .entry)) (rowsWith digit (length (now (list .entry))) (now (weights .entry))) (multiplied (now (acc .entry))) ⌝ }
+{
+    if lanes == 1 {
+        step_lane(digit, weights, rows, acc);
+        return;
+    }
+    step_rows(digit, weights, lanes, rows, list, acc);
 }
 
 // In each lane the sum of the rows' symbols times the weights.

@@ -1,11 +1,10 @@
 // Encode: the shares of all nodes, each lane encoded by itself.
 ghost use mathlib.Core.Path.{_≡_};
 ghost use Prim.Native.Nat.{_+_, _*_, _%_, _≤_, _<_};
-ghost use lib.ListN.{length};
+ghost use lib.ListN.{length, getD};
 ghost use Rattle.lists.specs.Padded.{padded};
 ghost use Rattle.layout.specs.Layout.{shareLayout};
 ghost use Rattle.generator.specs.Records.{Sound};
-ghost use Rattle.generator.specs.Generator.{entry};
 ghost use Rattle.blocks.specs.Blocks.{shareOf, sharesOf};
 ghost use Rattle.refusals.specs.Faults.{encodeFault};
 ghost use Rattle.refusals.specs.Accepted.{SymbolRows};
@@ -15,10 +14,10 @@ use blocks::Outcome;
 use generator::Header;
 use generator::Record;
 
-// Entry (r, node) of the generator, read from the base word by the shift of row r.
+// Entry (r, node) of the generator: the base word at (node + shift of row r) modulo n. No row is copied.
 fn coefficient(h: Header, shifts: &[u8], base: &[u16], r: usize, node: usize) -> u16
-    requires { ⌜ Planned h (now shifts) (now base) × (r < h .k) × (node < h .n) ⌝ }
-    ensures { λ c. ⌜ c ≡ entry h r node ⌝ }
+    requires { ⌜ (r < length (now shifts)) × (getD (now shifts) r 0 < h .n) × (node < h .n) × (h .n ≤ length (now base)) ⌝ }
+    ensures { λ c. ⌜ c ≡ getD (now (base .entry)) ((node + getD (now (shifts .entry)) r 0) % h .n) 0 ⌝ }
 {
     let n = h.n as usize;
     let shift = shifts[r] as usize;

@@ -1,65 +1,50 @@
--- `step` meets its contract: the listed rows are those of the digit.
-use mathlib.Core.Path.{sym, ap, _∙_}
-use mathlib.Core.List.{List}
-use Prim.Native.Nat.{ℕ}
+-- `step` meets its contract: with one lane the rows are as many as the symbols.
+use mathlib.Core.Path.{_≡_, ap, _∙_}
+use Prim.Native.Nat.{ℕ, _*_}
+use native.Mathlib.Nat.{mul-one}
 use native.Mathlib.Omega.{arith}
 use borrow.Author.Needs.{needs}
-use lib.Seq.{length-take-le}
-use Rattle.combine.specs.Digits.{added, multiplied}
-use Rattle.combine.proofs.Listing.{listed-rows}
+use lib.ListN.{length}
 use Rattle.combine.proofs.gf256.step.Statement.{statement}
 use Rattle.combine.proofs.gf256.step.Tie as tie
 
-list-rows-requires : tie.Need-list-rows-requires
-list-rows-requires c κs = search needs
+-- so many rows
+rows-are : (c : tie.Then1) → let a = c .before .before .before .before .before .args in length (a .rows .now) ≡ length (a .list .now)
+rows-are c =
+    let s = c .before .before .before .before .before in
+    s .pre .1 .long ∙ ap (λ (l : ℕ). length (s .args .list .now) * l) (c .if1 .taken) ∙ mul-one (length (s .args .list .now))
 
-slice-reshare-prefix-multiply-x-first : tie.Need-slice-reshare-prefix-multiply-x-first
-slice-reshare-prefix-multiply-x-first c = search needs
-
-slice-aggregate-multiply-x-first : tie.Need-slice-aggregate-multiply-x-first
-slice-aggregate-multiply-x-first c = sym (length-take-le _ _ (omega arith))
-
-multiply-x-first-requires : tie.Need-multiply-x-first-requires
-multiply-x-first-requires c κs =
-    let st = c .before .before .before .before .before .before .before .before .before .before in
-    rw (c .before .before .before .before .list-rows .ensures .1) (listed-rows (st .args .digit) _ (st .args .weights .now) (st .pre .1) _ (st .pre .1 .out-long))
-
-slice-reshare-prefix-add-pairs : tie.Need-slice-reshare-prefix-add-pairs
-slice-reshare-prefix-add-pairs c = search needs
-
-slice-aggregate-add-pairs : tie.Need-slice-aggregate-add-pairs
-slice-aggregate-add-pairs c = sym (length-take-le _ _ (omega arith))
-
-add-pairs-requires : tie.Need-add-pairs-requires
-add-pairs-requires c κs =
-    let st = c .before .before .before .before .before .before .before .before .before .before .before .before .before .before .before in
-    let started = c .before .before .before .before .multiply-x-first .ensures in
-    (rw (c .before .before .before .before .before .before .before .before .before .list-rows .ensures .1) (listed-rows (st .args .digit) _ (st .args .weights .now) (st .pre .1) _ (search needs)), started .few, started .even)
+step-lane-requires : tie.Need-step-lane-requires
+step-lane-requires c κs =
+    let s = c .before .before .before .before .before .before in
+    (s .pre .0, omega (arith, rows-are (c .before), s .pre .1 .weights), omega (arith, s .pre .1 .out-long, c .before .if1 .taken))
 
 same-length : tie.Need-same-length
 same-length c = search needs
 
+returns : tie.Need-returns
+returns c = rw (c .before .before .before .before .if1 .taken, ← rows-are (c .before .before .before .before)) (c .before .before .step-lane .ensures)
+
+step-rows-requires : tie.Need-step-rows-requires
+step-rows-requires c κs = search needs
+
 same-length-2 : tie.Need-same-length-2
 same-length-2 c = search needs
 
-returns : tie.Need-returns
-returns c =
-    let st = c .before .before .before .before .before .before .before .before .before .before .before .before .before .before .before .before .before .before in
-    c .before .before .add-pairs .ensures
-    ∙ c .before .before .before .before .before .before .before .multiply-x-first .ensures .rest
-    ∙ ap (λ (js : List ℕ). added (st .args .lanes) (st .args .rows .now) js (multiplied (st .args .acc .now))) (c .before .before .before .before .before .before .before .before .before .before .before .before .list-rows .ensures .1)
+same-length-3 : tie.Need-same-length-3
+same-length-3 c = search needs
+
+returns-2 : tie.Need-returns-2
+returns-2 c = search needs
 
 pub step-spec : {M : Type 1} → statement M
 step-spec =
     tie.close
     (tie.spec
-    list-rows-requires
-    slice-reshare-prefix-multiply-x-first
-    slice-aggregate-multiply-x-first
-    multiply-x-first-requires
-    slice-reshare-prefix-add-pairs
-    slice-aggregate-add-pairs
-    add-pairs-requires
+    step-lane-requires
     same-length
+    returns
+    step-rows-requires
     same-length-2
-    returns)
+    same-length-3
+    returns-2)
