@@ -1,10 +1,10 @@
 #!/usr/bin/env python3
-"""Draws the pictures of docs/pictures from the output of the programs `sheet`, `compare` and `weights`, and from crates.txt.
+"""Draws the pictures of docs/pictures from the output of the programs `sheet`, `compare`, `weights` and `cases`, and from crates.txt.
 
     docs/make_pictures.py            writes the pictures
     docs/make_pictures.py --check    says which stored picture is not the one that would be written
 
-The programs are those of target/bin (`rt check sheet compare weights` makes them).
+The programs are those of target/bin (`rt check sheet compare weights cases` makes them).
 """
 import os
 import subprocess
@@ -39,6 +39,25 @@ def compare(record):
 def weights(record):
     """For each number of nodes that are not zero the number of messages."""
     return [int(count) for _, count in run("weights", record)]
+
+
+def answers(lines):
+    """What the program `cases` says to each of the lines."""
+    path = os.path.join(TOP, "target", "bin", "cases")
+    output = subprocess.run([path], input="".join(line + "\n" for line in lines), capture_output=True, check=True, text=True).stdout
+    return [line.split(": ", 1)[1] for line in output.splitlines()]
+
+
+def reads(record, left, call, count):
+    """How often each node stands in the lists of so many calls, after some nodes have left."""
+    words = " ".join(map(str, record))
+    n, k = record[-2:]
+    lines = [f"roster {words}", *(f"leave {words} node {node}" for node in left), *[f"{call} {words} room {k}"] * count]
+    found = [0] * n
+    for answer in answers(lines)[1 + len(left):]:
+        for node in answer.split(",")[0].split()[1:]:
+            found[int(node)] += 1
+    return found
 
 
 # ---------------------------------------------------------------- drawing
@@ -178,6 +197,28 @@ def messages_by_weight(record):
     return picture.done()
 
 
+def reads_per_job(record, left, count):
+    """How often each node is read by so many rebuilds: always the k lowest, and job after job."""
+    n, k = record[-2:]
+    lowest, jobs = reads(record, left, "lowest", count), reads(record, left, "job", count)
+    width, height, start, top, gap = 600, 110, 60, 60, 56
+    step, scale = width / n, height / max(lowest)
+    name, gone = " ".join(map(str, record)), " and ".join(map(str, left))
+    picture = Drawing(start + width + 20, top + 2 * (height + gap) + 4, f"Reads of each node in {count} rebuilds, record {name}")
+    picture.text(start, 22, f"Reads of each node in {count} rebuilds, record {name} (n = {n}, k = {k}); nodes {gone} have left", 14)
+    for panel, (counts, colour, words) in enumerate([(lowest, PLAIN, "always the k lowest present nodes"), (jobs, OURS, "job after job, each node in its turn")]):
+        y = top + panel * (height + gap) + height
+        picture.text(start, y - height - 8, words, 12)
+        for j, times in enumerate(counts):
+            picture.box(start + j * step, y - times * scale, step - 8, times * scale, colour)
+            if times:
+                picture.text(start + j * step + (step - 8) / 2, y - times * scale + 14, str(times), 12, "middle", "white")
+            picture.text(start + j * step + (step - 8) / 2, y + 15, str(j), 11, "middle")
+        picture.line(start, y, start + width, y, INK)
+        picture.text(start - 8, y + 15, "node", 11, "end")
+    return picture.done()
+
+
 # ---------------------------------------------------------------- the crates
 
 def crates():
@@ -260,6 +301,7 @@ PICTURES = {
     "reads-6-4.svg": lambda: reads_per_node(SMALL),
     "reads-255-120.svg": lambda: reads_per_node(LARGE),
     "weights-6-3.svg": lambda: messages_by_weight((1, 7, 3, 6, 3)),
+    "jobs-15-6.svg": lambda: reads_per_job((2, 11, 15, 6), (1, 4), 20),
     "crates.svg": crate_map,
 }
 

@@ -260,6 +260,24 @@ uint8_t balanced_roster_lowest(const uint8_t *record, size_t record_len,
                                uint8_t *list, size_t list_len,
                                uint32_t *enough);
 
+/*
+ * The nodes that the next job reads, and the roster after it. With s present nodes, s at least k, job i reads those at
+ * the places (i * k + t) mod s for t from 0 to k-1, in this order; place 0 is the lowest present node. So over a run of
+ * jobs no present node is read more than once oftener than another, and each has its turn within s/k jobs, rounded up.
+ *
+ *   roster   256 bytes, read; where the list is written, the job number goes up by one, modulo s
+ *   list     k bytes, written where k nodes are present, else left as they were
+ *   enough   receives 1 where the list was written, 0 where fewer than k nodes are present
+ *
+ * A job number that is s or more, of a roster that was made elsewhere, is taken modulo s.
+ *
+ * Returns 0 or one of 1 to 5, 8.
+ */
+uint8_t balanced_roster_job(const uint8_t *record, size_t record_len,
+                            uint8_t *roster, size_t roster_len,
+                            uint8_t *list, size_t list_len,
+                            uint32_t *enough);
+
 #ifdef __cplusplus
 }
 #endif

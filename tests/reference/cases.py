@@ -20,6 +20,7 @@ CALLS = {
     "leave": ["node"],
     "rejoin": ["node"],
     "lowest": ["room"],
+    "job": ["room"],
     "weights": ["room"],
 }
 HISTORY = History()  # of the roster that the calls on a roster share
@@ -35,12 +36,13 @@ def on_roster(name, record, arguments):
         return stepped(HISTORY.start(record))
     if name in ("leave", "rejoin"):
         return stepped(HISTORY.event(record, *arguments, name == "rejoin"))
-    number, nodes = HISTORY.lowest(record, *arguments)
-    return refused(number) if number else "too few, unchanged" if nodes is None else f"done{block(bytes(nodes))}"
+    number, nodes = HISTORY.lowest(record, *arguments) if name == "lowest" else HISTORY.job(record, *arguments)
+    listed = refused(number) if number else "too few, unchanged" if nodes is None else f"done{block(bytes(nodes))}"
+    return listed if name == "lowest" else f"{listed}, next job {HISTORY.next_job()}"
 
 
 def answer(name, record, arguments):
-    if name in ("roster", "leave", "rejoin", "lowest"):
+    if name in ("roster", "leave", "rejoin", "lowest", "job"):
         return on_roster(name, record, arguments)
     if name == "plan":
         number, plan = build_plan(record)

@@ -1,5 +1,5 @@
 #!/usr/bin/env python3
-"""Prints histories of rosters, in the words of cases.py: events that are mostly accepted, and the query after each.
+"""Prints histories of rosters, in the words of cases.py: events that are mostly accepted, and after each the query and some jobs.
 
 The data are pseudo-random and the same at each run.
 """
@@ -19,6 +19,8 @@ def histories():
         for node, kind in zip(nodes, kinds):
             yield f"{'rejoin' if kind == 0 else 'leave'} {words} node {node}"
             yield f"lowest {words} room {k}"
+            for _ in range(node % 4):
+                yield f"job {words} room {k}"
 
 
 print("\n".join(histories()))

@@ -26,6 +26,11 @@
 //!
 //! A call that is turned away gives the [`Error`] and has changed nothing that it was lent.
 //!
+//! # Rosters
+//!
+//! A [`Roster`] says which nodes are present, as nodes leave and return, and gives the nodes to read from: the k lowest, or
+//! those of the next rebuild job, each present node in its turn.
+//!
 //! # Example
 //!
 //! ```

@@ -76,6 +76,46 @@ impl Roster {
         Error::check(number).map(|()| enough != 0)
     }
 
+    /// Writes the nodes that the next job reads into a list of k bytes, and moves the roster on: with s present nodes, job i
+    /// reads those at the places (i·k + t) mod s for t from 0 to k−1. Over a run of jobs no present node is read more than
+    /// once oftener than another. False where fewer than k nodes are present: list and roster are then as they were.
+    ///
+    /// ```
+    /// use balanced::{Error, Roster};
+    ///
+    /// let record = [1, 7, 3, 6, 3];
+    /// let mut roster = Roster::start(&record)?;
+    /// roster.leave(&record, 4)?;
+    /// let mut list = [0; 3];
+    /// let mut reads = Vec::new();
+    /// for _ in 0..3 {
+    ///     assert!(roster.next_job(&record, &mut list)?);
+    ///     reads.push(list);
+    /// }
+    /// assert_eq!(reads, [[0, 1, 2], [3, 5, 0], [1, 2, 3]]);
+    /// # Ok::<(), Error>(())
+    /// ```
+    pub fn next_job(&mut self, record: &[u8], list: &mut [u8]) -> Result<bool, Error> {
+        let mut enough = 0;
+        let number = unsafe {
+            sys::balanced_roster_job(
+                record.as_ptr(),
+                record.len(),
+                self.bytes.as_mut_ptr(),
+                self.bytes.len(),
+                list.as_mut_ptr(),
+                list.len(),
+                &mut enough,
+            )
+        };
+        Error::check(number).map(|()| enough != 0)
+    }
+
+    /// The number of the next job.
+    pub fn job(&self) -> u8 {
+        self.bytes[MAX_NODES]
+    }
+
     /// Whether a node is marked as present.
     pub fn is_present(&self, node: usize) -> bool {
         node < MAX_NODES && self.bytes[node] != 0

@@ -91,5 +91,15 @@ extern "C" {
         enough: *mut u32,
     ) -> u8;
 
+    pub fn balanced_roster_job(
+        record: *const u8,
+        record_len: usize,
+        roster: *mut u8,
+        roster_len: usize,
+        list: *mut u8,
+        list_len: usize,
+        enough: *mut u32,
+    ) -> u8;
+
     pub fn balanced_weights(record: *const u8, record_len: usize, counts: *mut u32, counts_len: usize) -> u8;
 }

@@ -10,7 +10,7 @@ use Rattle.roster.specs.Rosters.{eventFault, stepOf}
 use Rattle.roster.specs.Claims.{RosterSays, RosterPromised}
 
 pub record Rosters : Type 0 where
-  -- the rosters of an accepted record: the history of events, one event, the query
+  -- the rosters of an accepted record: the history of events, one event, the query, one job, runs of jobs
   pub accepted : (rec : List ℕ) → recordFault rec ≡ 0 → RosterSays (headerOf rec)
   -- the rosters of every record, accepted or not
   pub promised : (rec : List ℕ) → RosterPromised (recordOf rec)

@@ -4,6 +4,7 @@ pub use encode::encode_block;
 pub use plan::build_plan;
 pub use recover::rebuild_share;
 pub use recover::recover_block;
+pub use roster::Job;
 pub use roster::Listing;
 pub use roster::Roster;
 pub use roster::Step;

@@ -1,6 +1,6 @@
 // The calls of a roster, which is 256 bytes that the caller keeps: the marks of the nodes 0 to 254, then the job number.
 ghost use Rattle.roster.specs.Events.{leaves, returns};
-ghost use Rattle.roster_bytes.specs.Calls.{StartGives, EventGives, LowestGives};
+ghost use Rattle.roster_bytes.specs.Calls.{StartGives, EventGives, LowestGives, JobGives};
 
 // All nodes present; beside the record's number 256 zeros.
 #[no_mangle]
@@ -37,4 +37,17 @@ pub extern "C" fn balanced_roster_lowest(
     ensures { λ r. ⌜ LowestGives (now (rec .entry)) (now (roster .entry)) (now (list .entry)) (now (enough .entry)) (now (list .exit)) (now (enough .exit)) r ⌝ }
 {
     roster_bytes::lowest(rec, roster, list, enough)
+}
+
+// The nodes that the next job reads; the roster moves on where they are written.
+#[no_mangle]
+pub extern "C" fn balanced_roster_job(
+    rec: &[u8],
+    roster: &mut [u8],
+    list: &mut [u8],
+    enough: &mut u32,
+) -> u8
+    ensures { λ r. ⌜ JobGives (now (rec .entry)) (now (roster .entry)) (now (list .entry)) (now (enough .entry)) (now (roster .exit)) (now (list .exit)) (now (enough .exit)) r ⌝ }
+{
+    roster_bytes::next_job(rec, roster, list, enough)
 }

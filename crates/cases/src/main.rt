@@ -76,6 +76,9 @@ fn call_with(line: &[u8], roster: Roster) -> Roster {
         rosters::lowest(line, roster);
         return roster;
     }
+    if is_call(line, b"job") {
+        return rosters::job(line, roster);
+    }
     call(line);
     roster
 }

@@ -113,3 +113,33 @@ fn too_few(kept: bool) {
     }
     text(b", changed");
 }
+
+pub fn job(line: &[u8], roster: Roster) -> Roster {
+    let rec = record(line);
+    let size = room(line, rec);
+    let fault = end_fault(line, size);
+    if fault != 0 {
+        not_read(b"call", fault);
+        return roster;
+    }
+    job_groups(rec, roster, size.value)
+}
+
+fn job_groups(rec: Group, roster: Roster, size: u32) -> Roster {
+    let mut out = [170u8; 64];
+    job_to(
+        part(&rec.bytes, rec.count),
+        roster,
+        front(&mut out, size as usize),
+    )
+}
+
+// The job's list, then the number of the next job.
+fn job_to(rec: &[u8], roster: Roster, out: &mut [u8]) -> Roster {
+    let job = roster.next_job(rec, out);
+    let next = job.roster;
+    let listing = job.listing;
+    print(listing, out);
+    value(b", next job", next.job as u64);
+    next
+}

@@ -19,3 +19,8 @@ passingFrom (suc f) i p = pick (p i) (i ∷ []) [] ++ passingFrom f (i + 1) p
 -- the places of s at which t holds another number
 unfoldable pub differ : List ℕ → List ℕ → ℕ
 differ s t = countFrom (length s) 0 (λ i. not (eqb (getD s i 0) (getD t i 0)))
+
+-- how often a number stands in a list
+unfoldable pub occurrences : ℕ → List ℕ → ℕ
+occurrences x [] = 0
+occurrences x (y ∷ ys) = when (eqb y x) 1 + occurrences x ys

@@ -3,7 +3,7 @@
 --   Rows      from, rowsFrom, range: lists by a function of the index
 --   Around    around: lists that are gone round
 --   Padded    zeros, padded: zeros up to a length
---   Counting  countFrom, passingFrom, differ: the numbers that pass a test, the places where two lists differ
+--   Counting  countFrom, passingFrom, differ, occurrences: the numbers that pass a test, the places where two lists differ, how often a number stands in a list
 --   Numbers   allBelow, isIn, distinct: tests of lists of numbers
 --   Search    firstFalse: the first number of a stretch that fails a test
 pub mod Choice

@@ -12,10 +12,12 @@ use Rattle.roster.proofs.Sizes.{n-byte}
 use Rattle.roster.proofs.History.{kept}
 use Rattle.roster.proofs.Stepping.{stepping, turned-away}
 use Rattle.roster.proofs.Lowest.{lowest}
+use Rattle.roster.proofs.OneJob.{jobs}
+use Rattle.roster.proofs.Turns.{turns}
 
 -- of a sound header
 sound-says : (h : Header) → Sound h → RosterSays h
-sound-says h s = record { kept = kept h (n-byte h s); stepping = stepping h; lowest = lowest h (s .some) }
+sound-says h s = record { kept = kept h (n-byte h s); stepping = stepping h; lowest = lowest h (s .some); jobs = jobs h (s .some); turns = turns h (s .some) }
 
 -- of an accepted record
 pub roster-says : (rec : List ℕ) → recordFault rec ≡ 0 → RosterSays (headerOf rec)

@@ -16,10 +16,12 @@ use Rattle.generator.specs.declared.Header.{Header}
 use Rattle.generator.specs.declared.Record.the-variants.{Holds}
 use Rattle.roster.specs.declared.Roster.{Roster}
 use Rattle.roster.specs.Events.{Event, named, says}
-use Rattle.roster.specs.Rosters.{firstMarks, isPresent, presentOf, firstStep, startOf, eventFault, marked, stepWith, stepBy, stepOf, lowestNodes, lowestOf, lowestList}
+use Rattle.roster.specs.Rosters.{firstMarks, isPresent, presentOf, firstStep, startOf, eventFault, marked, stepWith, stepBy, stepOf, lowestNodes, lowestOf, lowestList, jobOf}
 use Rattle.roster.specs.Histories.{afterEvents, lastSays, presentBy, NoneNames}
+use Rattle.roster.specs.Runs.{Call, event, job, eventsIn, next, afterCalls}
 use Rattle.roster.specs.Claims.{reached, Kept}
-use Rattle.roster.proofs.Stepping.{step-length}
+use Rattle.roster.proofs.Stepping.{step-length, step-marks}
+use Rattle.roster.proofs.OneJob.{job-marks}
 
 -- two marks that are the same
 same-mark : (a b : Bool) → Bool·beq a b ≡ true → a ≡ b
@@ -85,6 +87,13 @@ unfolding lastSays
 last-named j [] e later first is none = ap (λ (t : Bool). lastSays j later (pick t (says e) first)) (eq-eqb (named e) j is) ∙ last-unnamed j later none (says e)
 last-named j (d ∷ before) e later first is none = last-named j before e later (pick (eqb (named d) j) (says d) first) is none
 
+-- jobs between the events play no part
+calls-marks : (h : Header) (cs : List Call) (r q : Roster) → r .marks ≡ q .marks → afterCalls (Holds h) cs r .marks ≡ afterEvents (Holds h) (eventsIn cs) q .marks
+unfolding afterCalls afterEvents eventsIn next
+calls-marks h [] r q same = same
+calls-marks h (event e ∷ cs) r q same = calls-marks h cs (stepOf (Holds h) e r .roster) (stepOf (Holds h) e q .roster) (step-marks e r h q same)
+calls-marks h (job list ∷ cs) r q same = calls-marks h cs (jobOf (Holds h) r list .roster) q (job-marks h r list ∙ same)
+
 pub kept : (h : Header) → h .n ≤ 255 → Kept h
 unfolding lowestOf lowestList lowestNodes
 kept h small =
@@ -94,4 +103,5 @@ kept h small =
       written = λ es list. rw (reached-present h small es);
       last = λ j before e later is none. last-named j before e later true is none;
       none = λ j es free. last-unnamed j es free true;
+      between = λ cs r. calls-marks h cs r r refl;
     }

@@ -1,8 +1,10 @@
--- Laws of rosters and events, and what holds of every accepted record's rosters.
+-- Laws of rosters, events and jobs, and what holds of every accepted record's rosters.
 pub mod Nodes
 pub mod Sizes
 pub mod Stepping
-pub mod History
 pub mod Lowest
+pub mod OneJob
+pub mod History
+pub mod Turns
 pub mod Claims
 pub mod Examples

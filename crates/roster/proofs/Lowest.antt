@@ -136,7 +136,7 @@ module _ (r : Roster) (list : List ℕ) where
       go (Refused f) bad = refl
 
 -- the present nodes are settled by the marks below n
-same-present : (h : Header) (r q : Roster) → ((j : ℕ) → j < h .n → isPresent (r .marks) j ≡ isPresent (q .marks) j) → presentOf (h .n) (r .marks) ≡ presentOf (h .n) (q .marks)
+pub same-present : (h : Header) (r q : Roster) → ((j : ℕ) → j < h .n → isPresent (r .marks) j ≡ isPresent (q .marks) j) → presentOf (h .n) (r .marks) ≡ presentOf (h .n) (q .marks)
 unfolding presentOf
 same-present h r q same = passing-ext (h .n) 0 (isPresent (r .marks)) (isPresent (q .marks)) (λ j a b. same j (omega arith))
 

@@ -1,5 +1,5 @@
 -- One event on any roster, and every call of a record that is turned away.
-use mathlib.Core.Path.{_≡_, refl, sym, _∙_}
+use mathlib.Core.Path.{_≡_, refl, sym, ap, _∙_}
 use mathlib.Core.Bool.{Bool, Bool·beq, true, false, true≢false}
 use mathlib.Core.List.{List}
 use mathlib.Core.Logic.{by-cases}
@@ -7,7 +7,7 @@ use Prim.Native.Nat.{ℕ, zero, suc, _+_, _<_}
 use native.Mathlib.Decide.{decLt}
 use native.Mathlib.Omega.{arith}
 use lib.Dec.{ltb, leb}
-use lib.ListN.{length, length-set, List·getD-eq-default}
+use lib.ListN.{length, set, length-set, List·getD-eq-default}
 use borrow.Author.Tests.{le-ltb, leb-false}
 use Rattle.lists.specs.Choice.{firstOf, when}
 use Rattle.lists.proofs.Cases.{first-zero, when-zero}
@@ -18,7 +18,7 @@ use Rattle.generator.specs.declared.Record.the-variants.{Holds, Meets}
 use Rattle.generator.specs.Records.{headerOf, recordFault, judged, recordOf}
 use Rattle.roster.specs.declared.Roster.{Roster}
 use Rattle.roster.specs.Events.{Event, named, says}
-use Rattle.roster.specs.Rosters.{firstMarks, isPresent, firstStep, startOf, eventFault, marked, stepWith, stepBy, stepOf, lowestList}
+use Rattle.roster.specs.Rosters.{firstMarks, isPresent, firstStep, startOf, eventFault, marked, stepWith, stepBy, stepOf, lowestList, jobOf, jobList}
 use Rattle.roster.specs.Claims.{Stepping, RosterRefused}
 
 -- a mark that is what an event says is the same mark
@@ -57,6 +57,11 @@ module _ (node : ℕ) (here : Bool) (r : Roster) where
   marked-same zero bad = absurd (bad refl)
   marked-same (suc f) bad = refl
 
+  marked-marks : (q : Roster) → r .marks ≡ q .marks → (f : ℕ) → marked f node here r .roster .marks ≡ marked f node here q .roster .marks
+  unfolding marked
+  marked-marks q e zero = ap (λ (ms : List Bool). set ms node here) e
+  marked-marks q e (suc f) = e
+
   marked-length : (f : ℕ) → length (marked f node here r .roster .marks) ≡ length (r .marks)
   unfolding marked
   marked-length zero = length-set (r .marks) node here
@@ -77,6 +82,13 @@ module _ (e : Event) (r : Roster) where
   unfolding stepBy stepWith
   step-same (Meets f) bad = refl
   step-same (Holds h) bad = marked-same (named e) (says e) r (eventFault (h .n) (named e) (says e) (r .marks)) bad
+
+  -- the marks afterwards are settled by the marks before
+  pub step-marks : (h : Header) (q : Roster) → r .marks ≡ q .marks → stepOf (Holds h) e r .roster .marks ≡ stepOf (Holds h) e q .roster .marks
+  unfolding stepBy stepWith
+  step-marks h q same =
+      marked-marks (named e) (says e) r q same (eventFault (h .n) (named e) (says e) (r .marks))
+      ∙ ap (λ (ms : List Bool). marked (eventFault (h .n) (named e) (says e) ms) (named e) (says e) q .roster .marks) same
 
   -- as many marks as before
   pub step-length : (rec : Record) → length (stepOf rec e r .roster .marks) ≡ length (r .marks)
@@ -110,5 +122,5 @@ nothing f j =
     (λ l. List·getD-eq-default (firstMarks 0) false (omega (arith, length-from (λ i. ltb i 0) 0 255)))
 
 pub turned-away : (f : ℕ) → RosterRefused f
-unfolding stepBy lowestList
-turned-away f = record { empty = nothing f; event = λ r e. refl; query = λ r list. refl }
+unfolding stepBy lowestList jobOf jobList
+turned-away f = record { empty = nothing f; event = λ r e. refl; query = λ r list. refl; job = λ r list. (refl, refl) }

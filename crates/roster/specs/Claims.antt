@@ -3,8 +3,11 @@ use mathlib.Core.Path.{_≡_}
 use mathlib.Core.Logic.{_↔_}
 use mathlib.Core.Bool.{true, false}
 use mathlib.Core.List.{List, _∷_, _++_}
-use Prim.Native.Nat.{ℕ, _<_}
+use Prim.Native.Nat.{ℕ, _+_, _-_, _*_, _/_, _%_, _≤_, _<_}
 use lib.ListN.{length, getD, take}
+use Rattle.lists.specs.Rows.{from}
+use Rattle.lists.specs.Around.{around}
+use Rattle.lists.specs.Counting.{occurrences}
 use Rattle.lists.specs.Numbers.{isIn}
 use Rattle.generator.specs.declared.Header.{Header}
 use Rattle.generator.specs.declared.Record.{Record}
@@ -13,8 +16,9 @@ use Rattle.generator.specs.Claims.{areNodes}
 use Rattle.roster.specs.declared.Roster.{Roster}
 use Rattle.roster.specs.declared.Listing.the-variants.{Written, TooFew}
 use Rattle.roster.specs.Events.{Event, named, says}
-use Rattle.roster.specs.Rosters.{isPresent, presentOf, startOf, stepOf, listing, listed, lowestOf, lowestList}
+use Rattle.roster.specs.Rosters.{isPresent, presentOf, startOf, stepOf, listing, listed, lowestOf, lowestList, jobOf, jobList}
 use Rattle.roster.specs.Histories.{afterEvents, lastSays, presentBy, NoneNames}
+use Rattle.roster.specs.Runs.{Call, eventsIn, afterCalls, readsOf, jobsIn, Quiet}
 
 -- the roster after events from the start
 abbrev pub reached : Header → List Event → Roster
@@ -38,6 +42,8 @@ pub record Kept (h : Header) : Type 0 where
   -- what the last event says, in words
   pub last : (j : ℕ) (before : List Event) (e : Event) (later : List Event) → named e ≡ j → NoneNames j later → lastSays j (before ++ (e ∷ later)) true ≡ says e
   pub none : (j : ℕ) (es : List Event) → NoneNames j es → lastSays j es true ≡ true
+  -- jobs between the events play no part
+  pub between : (cs : List Call) (r : Roster) → afterCalls (Holds h) cs r .marks ≡ afterEvents (Holds h) (eventsIn cs) r .marks
 
 -- one event, on any roster
 pub record Stepping (h : Header) : Type 0 where
@@ -59,17 +65,43 @@ pub record Lowest (h : Header) : Type 0 where
   -- marks at n and above play no part
   pub beyond : (r q : Roster) (list : List ℕ) → ((j : ℕ) → j < h .n → isPresent (r .marks) j ≡ isPresent (q .marks) j) → (lowestOf (Holds h) r list ≡ lowestOf (Holds h) q list) × (lowestList (Holds h) r list ≡ lowestList (Holds h) q list)
 
+-- one job, on any roster with any job number
+pub record Jobs (h : Header) : Type 0 where
+  -- it answers as the query does
+  pub answer : (r : Roster) (list : List ℕ) → jobOf (Holds h) r list .listing ≡ lowestOf (Holds h) r list
+  -- what is written are k different nodes, which Rebuild takes as a list of nodes, all present
+  pub nodes : (r : Roster) (list : List ℕ) → jobOf (Holds h) r list .listing ≡ Written → areNodes h (jobList (Holds h) r list) ≡ true
+  pub here : (r : Roster) (list : List ℕ) → jobOf (Holds h) r list .listing ≡ Written → (j : ℕ) → isIn j (jobList (Holds h) r list) ≡ true → isPresent (r .marks) j ≡ true
+  -- a job that writes nothing leaves roster and list equal
+  pub idle : (r : Roster) (list : List ℕ) → (jobOf (Holds h) r list .listing ≡ Written → ⊥) → (jobOf (Holds h) r list .roster ≡ r) × (jobList (Holds h) r list ≡ list)
+  -- after a job that writes, the marks are the same and the job number is below the number of present nodes
+  pub moves : (r : Roster) (list : List ℕ) → jobOf (Holds h) r list .listing ≡ Written → (jobOf (Holds h) r list .roster .marks ≡ r .marks) × (jobOf (Holds h) r list .roster .job < presentCount h r)
+  -- marks at n and above play no part, and the job number counts modulo the number of present nodes
+  pub beyond : (r q : Roster) (list : List ℕ) → ((j : ℕ) → j < h .n → isPresent (r .marks) j ≡ isPresent (q .marks) j) → r .job % presentCount h r ≡ q .job % presentCount h r → jobList (Holds h) r list ≡ jobList (Holds h) q list
+
+-- runs of jobs, whatever is refused between them, on any roster with any job number
+pub record Turns (h : Header) : Type 0 where
+  -- job after job, k places each, the present nodes are read in succession, going round
+  pub reads : (r : Roster) (cs : List Call) → Quiet (Holds h) cs r → readsOf (Holds h) cs r ≡ from (around (presentOf (h .n) (r .marks))) (r .job * h .k) (jobsIn (Holds h) cs r * h .k)
+  -- no present node is read more than once oftener than another
+  pub fair : (r : Roster) (cs : List Call) → Quiet (Holds h) cs r → (i j : ℕ) → IsIn h r i → IsIn h r j → occurrences i (readsOf (Holds h) cs r) ≤ occurrences j (readsOf (Holds h) cs r) + 1
+  -- in s / k jobs of the run, rounded up, wherever they begin in it, every present node is read
+  pub waits : (r : Roster) (before cs : List Call) → Quiet (Holds h) (before ++ cs) r → (j : ℕ) → IsIn h r j → (presentCount h r + h .k - 1) / h .k ≤ jobsIn (Holds h) cs (afterCalls (Holds h) before r) → 0 < occurrences j (readsOf (Holds h) cs (afterCalls (Holds h) before r))
+
 -- the rosters of an accepted record
 pub record RosterSays (h : Header) : Type 0 where
   pub kept : Kept h
   pub stepping : Stepping h
   pub lowest : Lowest h
+  pub jobs : Jobs h
+  pub turns : Turns h
 
 -- beside a number no node is present at first, and no call changes anything
 pub record RosterRefused (f : ℕ) : Type 0 where
   pub empty : (j : ℕ) → isPresent (startOf (Meets f) .roster .marks) j ≡ false
   pub event : (r : Roster) (e : Event) → stepOf (Meets f) e r .roster ≡ r
   pub query : (r : Roster) (list : List ℕ) → lowestList (Meets f) r list ≡ list
+  pub job : (r : Roster) (list : List ℕ) → (jobOf (Meets f) r list .roster ≡ r) × (jobList (Meets f) r list ≡ list)
 
 -- what is promised of a record
 unfoldable pub RosterPromised : Record → Type 0

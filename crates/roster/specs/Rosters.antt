@@ -1,11 +1,13 @@
--- Rosters: the present nodes, events and the query.
+-- Rosters: the present nodes, events, the query and the jobs.
+use mathlib.Core.Path.{_≡_}
 use mathlib.Core.Bool.{Bool, Bool·beq, true, false, not}
 use mathlib.Core.List.{List}
-use Prim.Native.Nat.{ℕ, zero, suc}
+use Prim.Native.Nat.{ℕ, zero, suc, _+_, _*_, _%_}
 use lib.Dec.{eqb, ltb, leb}
 use lib.ListN.{length, getD, set, take}
 use Rattle.lists.specs.Choice.{firstOf, when}
 use Rattle.lists.specs.Rows.{from}
+use Rattle.lists.specs.Around.{around}
 use Rattle.lists.specs.Padded.{padded}
 use Rattle.lists.specs.Counting.{passingFrom}
 use Rattle.generator.specs.declared.Record.{Record}
@@ -14,6 +16,7 @@ use Rattle.roster.specs.declared.Roster.{Roster}
 use Rattle.roster.specs.declared.Step.{Step}
 use Rattle.roster.specs.declared.Listing.{Listing}
 use Rattle.roster.specs.declared.Listing.the-variants.{Written, TooFew, Refused}
+use Rattle.roster.specs.declared.Job.{Job}
 use Rattle.roster.specs.declared.present.Present.{Present}
 use Rattle.roster.specs.Events.{Event, named, says}
 
@@ -102,3 +105,36 @@ lowestOf (Holds h) r list = listing (h .k) (length (presentOf (h .n) (r .marks))
 unfoldable pub lowestList : Record → Roster → List ℕ → List ℕ
 lowestList (Meets f) r list = list
 lowestList (Holds h) r list = listed (lowestOf (Holds h) r list) (lowestNodes (h .n) (h .k) (r .marks)) list
+
+-- the nodes that job i reads: the present nodes at places i·k + t, going round, for t from 0 to k − 1
+unfoldable pub nodesAt : List ℕ → ℕ → ℕ → List ℕ
+nodesAt ps k i = from (around ps) (i * k) k
+
+-- the job number is held modulo the number of present nodes
+unfoldable pub jobNodes : ℕ → ℕ → Roster → List ℕ
+jobNodes n k r = nodesAt (presentOf n (r .marks)) k (r .job % length (presentOf n (r .marks)))
+
+-- a job that writes moves the job number on by one
+unfoldable pub movedOn : ℕ → Roster → Roster
+movedOn n r = record { marks = r .marks; job = (r .job + 1) % length (presentOf n (r .marks)) }
+
+-- the roster after a job
+unfoldable pub after : Listing → ℕ → Roster → Roster
+after Written n r = movedOn n r
+after TooFew n r = r
+after (Refused f) n r = r
+
+-- what a job answers, which is what the query would, with the roster after it; and the list afterwards
+unfoldable pub jobOf : Record → Roster → List ℕ → Job
+jobOf (Meets f) r list = record { roster = r; listing = Refused f }
+jobOf (Holds h) r list = record { roster = after (lowestOf (Holds h) r list) (h .n) r; listing = lowestOf (Holds h) r list }
+
+unfoldable pub jobList : Record → Roster → List ℕ → List ℕ
+jobList (Meets f) r list = list
+jobList (Holds h) r list = listed (lowestOf (Holds h) r list) (jobNodes (h .n) (h .k) r) list
+
+-- what a job promises for n and k
+pub record JobSays (n k : ℕ) (r : Roster) (list list′ : List ℕ) (a : Job) : Type 0 where
+  pub answer : a .listing ≡ listing k (length (presentOf n (r .marks))) (length list)
+  pub roster : a .roster ≡ after (a .listing) n r
+  pub written : list′ ≡ listed (a .listing) (jobNodes n k r) list

@@ -1,11 +1,12 @@
-// Rosters: which nodes are present, as nodes leave and return, and the lowest of them.
+// Rosters: which nodes are present, as nodes leave and return, the lowest of them, and the nodes that rebuild jobs read in turn.
 ghost use mathlib.Core.Path.{_≡_};
 ghost use Rattle.generator.specs.Records.{recordOf};
 ghost use Rattle.roster.specs.Events.{leaves, returns};
-ghost use Rattle.roster.specs.Rosters.{firstStep, startOf, stepOf, lowestOf, lowestList};
+ghost use Rattle.roster.specs.Rosters.{firstStep, startOf, stepOf, lowestOf, lowestList, jobOf, jobList};
 use generator::Record;
 
 mod events;
+mod jobs;
 mod present;
 mod queries;
 
@@ -26,6 +27,12 @@ pub enum Listing {
     Written,
     TooFew,
     Refused(u8),
+}
+
+// The roster after a job, and what became of the list.
+pub struct Job {
+    pub roster: Roster,
+    pub listing: Listing,
 }
 
 // The nodes below n present, beside a number.
@@ -81,6 +88,23 @@ impl Roster {
                 queries::write_lowest(self, n, k, list)
             }
             Record::Meets(number) => Listing::Refused(number),
+        }
+    }
+
+    // Writes the nodes that the next job reads, and moves the job number on.
+    pub fn next_job(self, rec: &[u8], list: &mut [u8]) -> Job
+        ensures { λ r. ⌜ (r ≡ jobOf (recordOf (now (rec .entry))) self (now (list .entry))) × (now (list .exit) ≡ jobList (recordOf (now (rec .entry))) self (now (list .entry))) ⌝ }
+    {
+        match records::read_record(rec) {
+            Record::Holds(h) => {
+                let n = h.n;
+                let k = h.k;
+                jobs::write_job(self, n, k, list)
+            }
+            Record::Meets(number) => Job {
+                roster: self,
+                listing: Listing::Refused(number),
+            },
         }
     }
 }

@@ -1,22 +1,26 @@
 -- From the answers of a roster's calls to what the calls on lent bytes promise.
 use mathlib.Core.Path.{_≡_, refl, sym, ap, _∙_}
-use mathlib.Core.Bool.{not, _&&_}
+use mathlib.Core.Bool.{false, not, _&&_}
 use mathlib.Core.List.{List}
 use Prim.Native.Nat.{ℕ, zero, suc}
 use native.Mathlib.Omega.{arith}
-use lib.Dec.{eqb, leb}
+use lib.Dec.{eqb}
 use lib.ListN.{length}
-use borrow.Author.Tests.{eq-eqb, ne-eqb}
+use borrow.Author.Tests.{eq-eqb, ne-eqb, eqb-true, eqb-false}
 use Rattle.lists.specs.Choice.{pick, firstOf, when}
-use Rattle.generator.specs.Records.{headerOf, recordFault, recordOf}
+use Rattle.lists.proofs.Cases.{by-test}
+use Rattle.generator.specs.Records.{recordFault, recordOf}
 use Rattle.roster.specs.declared.Step.{Step}
+use Rattle.roster.specs.declared.Roster.{Roster}
 use Rattle.roster.specs.declared.Listing.{Listing}
-use Rattle.roster.specs.Events.{Event, named, says}
-use Rattle.roster.specs.Rosters.{presentOf, startOf, eventFault, stepOf, listingNumber, wrote, lowestOf, lowestList}
+use Rattle.roster.specs.declared.Listing.the-variants.{Written, TooFew, Refused}
+use Rattle.roster.specs.Events.{Event}
+use Rattle.roster.specs.Rosters.{startOf, stepOf, listingNumber, wrote, lowestOf, lowestList, jobOf, jobList}
 use Rattle.roster.proofs.Stepping.{start-number, step-number}
-use Rattle.roster.proofs.Lowest.{lowest-number, lowest-wrote, lowest-kept}
+use Rattle.roster.proofs.Lowest.{lowest-number, lowest-wrote, lowest-kept, lowest-refused}
+use Rattle.roster.proofs.OneJob.{job-kept}
 use Rattle.roster_bytes.specs.Bytes.{rosterOf, bytesOf, bytesFault, eventBytes}
-use Rattle.roster_bytes.specs.Calls.{lengthFault, StartGives, EventGives, LowestGives}
+use Rattle.roster_bytes.specs.Calls.{lengthFault, toldOf, listFault, isEnough, StartGives, EventGives, LowestGives, JobGives}
 
 -- no second number
 first-none : (f : ℕ) → firstOf f 0 ≡ f
@@ -27,6 +31,13 @@ first-none (suc f) = refl
 number-some : (f : ℕ) → firstOf f 8 ≡ 0 → ⊥
 number-some zero e = omega arith
 number-some (suc f) e = omega arith
+
+-- beside a number nothing is written
+unwritten : (a : Listing) → (listingNumber a ≡ 0 → ⊥) → wrote a ≡ false
+unfolding listingNumber wrote
+unwritten Written bad = absurd (bad refl)
+unwritten TooFew bad = refl
+unwritten (Refused f) bad = refl
 
 -- the number for another length than 256
 pub length-none : (rec : List ℕ) (step : Step) → step ≡ startOf (recordOf rec) → step .number ≡ 0 → 8 ≡ firstOf (recordFault rec) 8
@@ -51,9 +62,16 @@ module _ (rec bytes : List ℕ) where
     event-short d = record { number = rw (ne-eqb (length bytes) 256 short) e; bytes-are = rw (ne-eqb (length bytes) 256 short) }
 
     pub lowest-short : (list : List ℕ) (enough : ℕ) → LowestGives rec bytes list enough list enough r
+    unfolding listFault
     lowest-short list enough =
-        let some : eqb r 0 ≡ _ = ne-eqb r 0 (λ z. number-some (recordFault rec) (sym e ∙ z)) in
+        let some : eqb r 0 ≡ false = ne-eqb r 0 (λ z. number-some (recordFault rec) (sym e ∙ z)) in
         record { number = rw (ne-eqb (length bytes) 256 short) e; list-is = rw some; enough-is = rw some }
+
+    pub job-short : (list : List ℕ) (enough : ℕ) → JobGives rec bytes list enough bytes list enough r
+    unfolding listFault
+    job-short list enough =
+        let some : eqb r 0 ≡ false = ne-eqb r 0 (λ z. number-some (recordFault rec) (sym e ∙ z)) in
+        record { number = rw (ne-eqb (length bytes) 256 short) e; list-is = rw some; enough-is = rw some; bytes-are = rw some }
 
   -- 256 bytes
   module _ (long : length bytes ≡ 256) where
@@ -74,20 +92,48 @@ module _ (rec bytes : List ℕ) where
           bytes-are = rw (eq-eqb (length bytes) 256 long) (w ∙ ap (λ (f : ℕ). pick (eqb f 0) (bytesOf (step .roster)) bytes) number ∙ ap (λ (s : Step). pick (eqb (bytesFault rec d bytes) 0) (bytesOf (s .roster)) bytes) e);
         }
 
-    -- the answer, its number, and what `enough` receives
-    pub lowest-done : (list list′ : List ℕ) (enough enough′ r : ℕ) (a : Listing) → a ≡ lowestOf (recordOf rec) (rosterOf bytes) list → list′ ≡ lowestList (recordOf rec) (rosterOf bytes) list → r ≡ listingNumber a → enough′ ≡ pick (eqb r 0) (when (wrote a) 1) enough → LowestGives rec bytes list enough list′ enough′ r
-    lowest-done list list′ enough enough′ r a e w n x =
-        let number : r ≡ listingNumber (lowestOf (recordOf rec) (rosterOf bytes) list) = n ∙ ap listingNumber e in
-        record {
-          number = rw (eq-eqb (length bytes) 256 long) (number ∙ lowest-number (rosterOf bytes) list rec);
-          list-is = w ∙ kept r number;
-          enough-is = x ∙ told r number;
-        }
-      where
-        kept : (r : ℕ) → r ≡ listingNumber (lowestOf (recordOf rec) (rosterOf bytes) list) → lowestList (recordOf rec) (rosterOf bytes) list ≡ pick (eqb r 0) (lowestList (recordOf rec) (rosterOf bytes) list) list
-        kept zero q = refl
-        kept (suc f) q = rw (ne-eqb (suc f) 0 (λ z. omega arith)) (lowest-kept (rosterOf bytes) list (recordOf rec) (λ z. omega arith))
+    -- the answer to a list, its number, and what `enough` receives
+    module _ (list : List ℕ) (enough enough′ r : ℕ) (a : Listing) (e : a ≡ lowestOf (recordOf rec) (rosterOf bytes) list) (n : r ≡ listingNumber a) (x : enough′ ≡ toldOf a enough) where
+      number-is : r ≡ listFault rec (length bytes) (length list)
+      unfolding listFault
+      number-is = rw (eq-eqb (length bytes) 256 long) (n ∙ ap listingNumber e ∙ lowest-number (rosterOf bytes) list rec)
 
-        told : (r : ℕ) → r ≡ listingNumber (lowestOf (recordOf rec) (rosterOf bytes) list) → pick (eqb r 0) (when (wrote a) 1) enough ≡ pick (eqb r 0) (when (leb (headerOf rec .k) (length (presentOf (headerOf rec .n) (rosterOf bytes .marks)))) 1) enough
-        told zero q = ap (λ t. when t 1) (ap wrote e ∙ lowest-wrote (rosterOf bytes) list rec (sym q))
-        told (suc f) q = rw (ne-eqb (suc f) 0 (λ z. omega arith))
+      -- by the case of the answer
+      told : (a : Listing) → a ≡ lowestOf (recordOf rec) (rosterOf bytes) list → toldOf a enough ≡ pick (eqb (listingNumber a) 0) (when (wrote a) 1) enough
+      unfolding toldOf listingNumber wrote
+      told Written q = refl
+      told TooFew q = refl
+      told (Refused f) q = rw (ne-eqb f 0 (lowest-refused (rosterOf bytes) list rec f (sym q)))
+
+      wrote-is : listingNumber a ≡ 0 → wrote a ≡ isEnough rec bytes
+      unfolding isEnough
+      wrote-is z = ap wrote e ∙ lowest-wrote (rosterOf bytes) list rec (sym (ap listingNumber e) ∙ z)
+
+      enough-told : enough′ ≡ pick (eqb r 0) (when (isEnough rec bytes) 1) enough
+      enough-told =
+          x ∙ told a e ∙ rw n (by-test (eqb (listingNumber a) 0) (λ t. rw (t, wrote-is (eqb-true (listingNumber a) 0 t))) (λ t. rw t))
+
+      -- what is written beside no number is as it was beside a number
+      list-kept : (full : List ℕ) → ((listingNumber a ≡ 0 → ⊥) → full ≡ list) → full ≡ pick (eqb r 0) full list
+      list-kept full same = rw n (by-test (eqb (listingNumber a) 0) (λ t. rw t) (λ t. rw t (same (eqb-false (listingNumber a) 0 t))))
+
+      pub lowest-done : (list′ : List ℕ) → list′ ≡ lowestList (recordOf rec) (rosterOf bytes) list → LowestGives rec bytes list enough list′ enough′ r
+      lowest-done list′ w =
+          record {
+            number = number-is;
+            list-is = w ∙ list-kept (lowestList (recordOf rec) (rosterOf bytes) list) (λ bad. lowest-kept (rosterOf bytes) list (recordOf rec) (λ z. bad (ap listingNumber e ∙ z)));
+            enough-is = enough-told;
+          }
+
+      -- where a job writes, no number is met and k nodes are present
+      wrote-both : wrote a ≡ (eqb (listingNumber a) 0 && isEnough rec bytes)
+      wrote-both = by-test (eqb (listingNumber a) 0) (λ t. rw (t, wrote-is (eqb-true (listingNumber a) 0 t))) (λ t. rw t (unwritten a (eqb-false (listingNumber a) 0 t)))
+
+      pub job-done : (bytes′ list′ : List ℕ) (next : Roster) → next ≡ jobOf (recordOf rec) (rosterOf bytes) list .roster → bytes′ ≡ pick (wrote a) (bytesOf next) bytes → list′ ≡ jobList (recordOf rec) (rosterOf bytes) list → JobGives rec bytes list enough bytes′ list′ enough′ r
+      job-done bytes′ list′ next q b w =
+          record {
+            number = number-is;
+            list-is = w ∙ list-kept (jobList (recordOf rec) (rosterOf bytes) list) (λ bad. job-kept (rosterOf bytes) list (recordOf rec) (λ z. bad (ap listingNumber e ∙ z)));
+            enough-is = enough-told;
+            bytes-are = b ∙ rw (q, n) (ap (λ t. pick t (bytesOf (jobOf (recordOf rec) (rosterOf bytes) list .roster)) bytes) wrote-both);
+          }

@@ -1,14 +1,16 @@
 -- What the calls of a roster on lent bytes promise: the number, and every lent byte and number afterwards.
 use mathlib.Core.Path.{_≡_}
-use mathlib.Core.Bool.{_&&_, not}
+use mathlib.Core.Bool.{Bool, _&&_, not}
 use mathlib.Core.List.{List}
 use Prim.Native.Nat.{ℕ}
 use lib.Dec.{eqb, leb}
 use lib.ListN.{length}
 use Rattle.lists.specs.Choice.{pick, firstOf, when}
 use Rattle.generator.specs.Records.{headerOf, recordFault, recordOf}
+use Rattle.roster.specs.declared.Listing.{Listing}
+use Rattle.roster.specs.declared.Listing.the-variants.{Written, TooFew, Refused}
 use Rattle.roster.specs.Events.{Event, named, says}
-use Rattle.roster.specs.Rosters.{presentOf, startOf, eventFault, stepOf, lowestList}
+use Rattle.roster.specs.Rosters.{presentOf, startOf, eventFault, stepOf, lowestList, jobOf, jobList}
 use Rattle.roster_bytes.specs.Bytes.{rosterOf, bytesOf, eventBytes}
 
 -- number 8: the roster has another length than 256
@@ -25,8 +27,29 @@ pub record EventGives (rec bytes : List ℕ) (e : Event) (bytes′ : List ℕ) (
   pub number : r ≡ firstOf (recordFault rec) (firstOf (lengthFault (length bytes)) (eventFault (headerOf rec .n) (named e) (says e) (rosterOf bytes .marks)))
   pub bytes-are : bytes′ ≡ pick (eqb (length bytes) 256) (eventBytes rec e bytes) bytes
 
+-- what `enough` receives
+unfoldable pub toldOf : Listing → ℕ → ℕ
+toldOf Written enough = 1
+toldOf TooFew enough = 0
+toldOf (Refused f) enough = enough
+
+-- the number of the query and of a job: the record's, then 8 for the roster or the list
+unfoldable pub listFault : List ℕ → ℕ → ℕ → ℕ
+listFault rec bytes list = firstOf (recordFault rec) (when (not (eqb bytes 256 && eqb list (headerOf rec .k))) 8)
+
+-- whether k nodes are present on the roster that bytes hold
+unfoldable pub isEnough : List ℕ → List ℕ → Bool
+isEnough rec bytes = leb (headerOf rec .k) (length (presentOf (headerOf rec .n) (rosterOf bytes .marks)))
+
 -- the query: whether k nodes are present, and the list afterwards; both as they were beside a number
 pub record LowestGives (rec bytes list : List ℕ) (enough : ℕ) (list′ : List ℕ) (enough′ r : ℕ) : Type 0 where
-  pub number : r ≡ firstOf (recordFault rec) (when (not (eqb (length bytes) 256 && eqb (length list) (headerOf rec .k))) 8)
+  pub number : r ≡ listFault rec (length bytes) (length list)
   pub list-is : list′ ≡ pick (eqb r 0) (lowestList (recordOf rec) (rosterOf bytes) list) list
-  pub enough-is : enough′ ≡ pick (eqb r 0) (when (leb (headerOf rec .k) (length (presentOf (headerOf rec .n) (rosterOf bytes .marks)))) 1) enough
+  pub enough-is : enough′ ≡ pick (eqb r 0) (when (isEnough rec bytes) 1) enough
+
+-- a job: the same with its list; the roster moves on where the list is written, else its bytes are the same
+pub record JobGives (rec bytes list : List ℕ) (enough : ℕ) (bytes′ list′ : List ℕ) (enough′ r : ℕ) : Type 0 where
+  pub number : r ≡ listFault rec (length bytes) (length list)
+  pub list-is : list′ ≡ pick (eqb r 0) (jobList (recordOf rec) (rosterOf bytes) list) list
+  pub enough-is : enough′ ≡ pick (eqb r 0) (when (isEnough rec bytes) 1) enough
+  pub bytes-are : bytes′ ≡ pick (eqb r 0 && isEnough rec bytes) (bytesOf (jobOf (recordOf rec) (rosterOf bytes) list .roster)) bytes

@@ -5,10 +5,12 @@ ghost use lib.ListN.{length};
 ghost use Rattle.lists.specs.Choice.{pick, firstOf};
 ghost use Rattle.generator.specs.Records.{recordFault};
 ghost use Rattle.roster.specs.Events.{leaves, returns};
+ghost use Rattle.roster.specs.Rosters.{listingNumber, wrote};
 ghost use Rattle.roster_bytes.specs.Bytes.{bytesOf};
-ghost use Rattle.roster_bytes.specs.Calls.{StartGives, EventGives, LowestGives};
+ghost use Rattle.roster_bytes.specs.Calls.{toldOf, StartGives, EventGives, LowestGives, JobGives};
 use crate::bytes::read_roster;
 use crate::bytes::write_roster;
+use roster::Job;
 use roster::Listing;
 use roster::Roster;
 use roster::Step;
@@ -35,6 +37,46 @@ fn put_step(step: Step, bytes: &mut [u8]) -> u8
         write_roster(roster, bytes);
     }
     number
+}
+
+// Gives the number of an answer; `enough` receives 1 where the list was written, 0 where too few nodes are present.
+fn tell(listing: Listing, enough: &mut u32) -> u8
+    ensures { λ r. ⌜ (r ≡ listingNumber listing) × (now (enough .exit) ≡ toldOf listing (now (enough .entry))) ⌝ }
+{
+    match listing {
+        Listing::Written => {
+            *enough = 1;
+            0
+        }
+        Listing::TooFew => {
+            *enough = 0;
+            0
+        }
+        Listing::Refused(number) => number,
+    }
+}
+
+// Whether the list was written.
+fn is_written(listing: Listing) -> bool
+    ensures { λ r. ⌜ r ≡ wrote listing ⌝ }
+{
+    match listing {
+        Listing::Written => true,
+        Listing::TooFew => false,
+        Listing::Refused(_) => false,
+    }
+}
+
+// Writes the roster after a job that wrote its list.
+fn put_job(job: Job, bytes: &mut [u8])
+    requires { ⌜ length (now bytes) ≡ 256 ⌝ }
+    ensures { λ r. ⌜ now (bytes .exit) ≡ pick (wrote (job .listing)) (bytesOf (job .roster)) (now (bytes .entry)) ⌝ }
+{
+    let listing = job.listing;
+    if is_written(listing) {
+        let roster = job.roster;
+        write_roster(roster, bytes);
+    }
 }
 
 // All n nodes of the record present; beside the record's number no node is, and all bytes are 0.
@@ -78,15 +120,18 @@ pub fn lowest(rec: &[u8], bytes: &[u8], list: &mut [u8], enough: &mut u32) -> u8
     if bytes.len() != 256 {
         return length_number(rec);
     }
-    match read_roster(bytes).lowest(rec, list) {
-        Listing::Written => {
-            *enough = 1;
-            0
-        }
-        Listing::TooFew => {
-            *enough = 0;
-            0
-        }
-        Listing::Refused(number) => number,
+    tell(read_roster(bytes).lowest(rec, list), enough)
+}
+
+// Writes the nodes that the next job reads, and the roster after it; `enough` as above.
+pub fn next_job(rec: &[u8], bytes: &mut [u8], list: &mut [u8], enough: &mut u32) -> u8
+    ensures { λ r. ⌜ JobGives (now (rec .entry)) (now (bytes .entry)) (now (list .entry)) (now (enough .entry)) (now (bytes .exit)) (now (list .exit)) (now (enough .exit)) r ⌝ }
+{
+    if bytes.len() != 256 {
+        return length_number(rec);
     }
+    let job = read_roster(bytes).next_job(rec, list);
+    let listing = job.listing;
+    put_job(job, bytes);
+    tell(listing, enough)
 }

@@ -4,5 +4,6 @@ mod calls;
 
 pub use calls::leave;
 pub use calls::lowest;
+pub use calls::next_job;
 pub use calls::rejoin;
 pub use calls::start;

@@ -37,6 +37,61 @@ fn query(roster: &Roster, history: &History, list: usize) {
     assert!(lent.holds(&after), "{history:?}");
 }
 
+/// A job beside the history's answer.
+fn job(roster: &mut Roster, history: &mut History, list: usize) {
+    let before = vec![0xee; list];
+    let mut lent = Lent::new(&before);
+    let kept = *roster;
+    let got = roster.next_job(&history.record, lent.slice()).map_err(Error::number);
+    let expect = history.job(list);
+    assert_eq!(got, expect.clone().map(|nodes| nodes.is_some()), "{history:?}");
+    let nodes = expect.ok().flatten();
+    match &nodes {
+        Some(_) => history.jobs += 1,
+        None => assert!(*roster == kept),
+    }
+    assert!(lent.holds(&nodes.unwrap_or(before)), "{history:?}");
+}
+
+/// Runs of jobs: no present node is read more than once oftener than another, and each has its turn in time.
+#[test]
+fn turns() {
+    let mut random = Random::new(32);
+    let mut jobs = 0;
+    for shape in shapes(60).iter().step_by(2) {
+        let record = shape.record(&mut random);
+        let mut roster = Roster::start(&record).unwrap();
+        for _ in 0..random.below(shape.n - shape.k + 1) {
+            let _ = roster.leave(&record, random.below(shape.n) as u32);
+        }
+        let present: Vec<usize> = (0..shape.n).filter(|&node| roster.is_present(node)).collect();
+        // any job number
+        let mut bytes = *roster.as_bytes();
+        bytes[255] = random.byte();
+        roster = Roster::from_bytes(bytes);
+        let wait = present.len().div_ceil(shape.k);
+        let (mut counts, mut last) = ([0; 255], [0; 255]);
+        let mut list = vec![0; shape.k];
+        for job in 1..=3 * present.len() + 2 {
+            assert!(roster.next_job(&record, &mut list).unwrap());
+            for &node in &list {
+                counts[node as usize] += 1;
+                last[node as usize] = job;
+            }
+            let read = present.iter().map(|&node| counts[node]);
+            assert!(read.clone().max().unwrap() <= read.clone().min().unwrap() + 1, "{record:?}");
+            assert_eq!(read.sum::<usize>(), job * shape.k);
+            assert!(
+                present.iter().all(|&node| job - last[node] < wait || job < wait),
+                "{record:?}"
+            );
+            assert!((roster.job() as usize) < present.len());
+            jobs += 1;
+        }
+    }
+    println!("{jobs} jobs in runs");
+}
+
 impl std::fmt::Debug for History {
     fn fmt(&self, f: &mut std::fmt::Formatter<'_>) -> std::fmt::Result {
         write!(f, "{:?} after {} events", self.record, self.events.len())
@@ -53,6 +108,7 @@ fn histories() {
         let mut history = History {
             record: record.clone(),
             events: Vec::new(),
+            jobs: 0,
         };
         let count = if shape.n > 16 { 40 } else { 24 };
         for _ in 0..count {
@@ -63,9 +119,13 @@ fn histories() {
             if number != 0 {
                 assert!(roster == before);
             } else {
-                assert_eq!(roster.as_bytes()[255], 0);
+                assert_eq!(roster.job(), 0);
+                history.jobs = 0;
             }
             history.events.push(event);
+            for _ in 0..random.below(4) {
+                job(&mut roster, &mut history, shape.k);
+            }
             seen[number as usize] += 1;
             events += 1;
         }
@@ -119,7 +179,8 @@ fn any_bytes() {
         assert!(lent.holds(&after), "{record:?} {event:?}");
         seen[got as usize] += 1;
         start(&record, &before);
-        lowest(&mut random, &record, &before);
+        query_bytes(&mut random, &record, &before, false);
+        query_bytes(&mut random, &record, &before, true);
     }
     println!("events on any bytes, by their number: {seen:?}");
     assert!([0, 8, 9, 15].iter().all(|&number| seen[number] > 100));
@@ -143,36 +204,41 @@ fn start(record: &[u8], before: &[u8]) {
     assert!(lent.holds(&after), "{record:?}");
 }
 
-fn lowest(random: &mut Random, record: &[u8], roster: &[u8]) {
+/// The query, or a job, on these bytes.
+fn query_bytes(random: &mut Random, record: &[u8], before: &[u8], job: bool) {
     let code = Code::of(record);
     let k = code.as_ref().map_or(3, |code| code.k);
-    let before = vec![0xee; *random.pick(&[k, k, k, k + 1, 0])];
-    let (mut number, mut after, mut enough) = (0, before.clone(), UNTOUCHED);
+    let list_before = vec![0xee; *random.pick(&[k, k, k, k + 1, 0])];
+    let (mut number, mut enough) = (0, UNTOUCHED);
+    let (mut list_after, mut after) = (list_before.clone(), before.to_vec());
     match code {
         Err(fault) => number = fault,
-        Ok(_) if roster.len() != 256 || before.len() != k => number = 8,
+        Ok(_) if before.len() != 256 || list_before.len() != k => number = 8,
         Ok(code) => {
-            let nodes: Vec<u8> = (0..code.n).filter(|&j| roster[j] != 0).map(|j| j as u8).collect();
+            let nodes: Vec<u8> = (0..code.n).filter(|&j| before[j] != 0).map(|j| j as u8).collect();
             enough = (nodes.len() >= k) as u32;
             if enough == 1 {
-                after = nodes[..k].to_vec();
+                let first = if job { before[255] as usize * k } else { 0 };
+                list_after = (0..k).map(|t| nodes[(first + t) % nodes.len()]).collect();
+                if job {
+                    after.iter_mut().for_each(|mark| *mark = (*mark != 0) as u8);
+                    after[255] = ((before[255] as usize + 1) % nodes.len()) as u8;
+                }
             }
         }
     }
-    let mut lent = Lent::new(&before);
-    let list = lent.slice();
+    let (mut list, mut bytes) = (Lent::new(&list_before), Lent::new(before));
     let mut told = UNTOUCHED;
+    let (lent, roster) = (list.slice(), bytes.slice());
+    let (record_len, roster_len, lent_len) = (record.len(), roster.len(), lent.len());
+    let (record, roster, lent) = (record.as_ptr(), roster.as_mut_ptr(), lent.as_mut_ptr());
     let got = unsafe {
-        sys::balanced_roster_lowest(
-            record.as_ptr(),
-            record.len(),
-            roster.as_ptr(),
-            roster.len(),
-            list.as_mut_ptr(),
-            list.len(),
-            &mut told,
-        )
+        if job {
+            sys::balanced_roster_job(record, record_len, roster, roster_len, lent, lent_len, &mut told)
+        } else {
+            sys::balanced_roster_lowest(record, record_len, roster, roster_len, lent, lent_len, &mut told)
+        }
     };
-    assert_eq!((got, told), (number, enough), "{record:?} {roster:?}");
-    assert!(lent.holds(&after), "{record:?} {roster:?}");
+    assert_eq!((got, told), (number, enough), "{before:?}");
+    assert!(list.holds(&list_after) && bytes.holds(&after), "{before:?}");
 }

@@ -19,10 +19,11 @@ impl Event {
     }
 }
 
-/// The events of one record, accepted and refused.
+/// The events of one record, accepted and refused, and how many jobs have written since the last accepted one.
 pub struct History {
     pub record: Vec<u8>,
     pub events: Vec<Event>,
+    pub jobs: usize,
 }
 
 impl History {
@@ -61,5 +62,20 @@ impl History {
         }
         nodes.truncate(code.k);
         Ok(Some(nodes))
+    }
+
+    /// The nodes that the next job reads, worked out from the number of jobs before it, which is not held modulo anything.
+    pub fn job(&self, list: usize) -> Result<Option<Vec<u8>>, u8> {
+        let code = Code::of(&self.record)?;
+        if list != code.k {
+            return Err(8);
+        }
+        let nodes = self.nodes(code.n);
+        if nodes.len() < code.k {
+            return Ok(None);
+        }
+        Ok(Some(
+            (0..code.k).map(|t| nodes[(self.jobs * code.k + t) % nodes.len()]).collect(),
+        ))
     }
 }
