@@ -10,7 +10,7 @@ static const struct { uint8_t record[5]; int length, n, k; } codes[] = {
     {{2, 11, 15, 10}, 4, 15, 10}, {{2, 32, 51, 34}, 4, 51, 34}, {{2, 2, 255, 120}, 4, 255, 120}, {{1, 251, 6, 250, 125}, 5, 250, 125},
 };
 static const int all_lanes[] = {1, 16, 64, 256, 1024, 4096};
-static const char *const call_names[CALLS] = {"encode", "update", "recover", "rebuild", "belongs"};
+static const char *const call_names[CALLS] = {"encode", "update", "recover", "rebuild", "belongs", "plan"};
 static struct method *const methods[] = {&this_build, &older_build, &isal, &jerasure, &isal_kept, &jerasure_kept};
 enum { METHODS = sizeof methods / sizeof *methods };
 
@@ -107,6 +107,11 @@ static int is_right(int call, const struct layout *y, int runs) {
     if (call == RECOVER) return !memcmp(out, message, (size_t)recovered * lanes);
     if (call == REBUILD) return !memcmp(out, y->rows[0], lanes);
     if (call == BELONGS) return belongs;
+    if (call == PLAN) {
+        for (int j = 0; j < n; j++)
+            if (out[j] != y->generator[j * k]) return 0;
+        return 1;
+    }
     for (int j = 0; j < n; j++)
         if (work[j * lanes + lane] != states[runs % 2][j]) return 0;
     return 1;
@@ -151,7 +156,7 @@ static void measure(int call, int rounds) {
             if (!best[m] || time < best[m]) best[m] = time;
         }
     printf("%5d %5d %6d  %-8s %10.2f us", n, k, lanes, call_names[call], best[0] * 1e6);
-    if (call == UPDATE) printf(" %13s", "");
+    if (call == UPDATE || call == PLAN) printf(" %13s", "");
     else printf(" %8.0f MB/s", (double)k * lanes / best[0] / 1e6);
     for (int m = 1; m < METHODS; m++)
         if (best[m]) printf(" %10.2f", best[0] / best[m]);
@@ -180,7 +185,8 @@ int main(int argc, char **argv) {
             fill_buffers();
             for (int m = 0; m < METHODS; m++)
                 if (methods[m]->keep && !alone()) methods[m]->keep();
-            for (int call = 0; call < CALLS; call++) measure(call, atoi(argv[1]));
+            for (int call = 0; call < CALLS; call++)
+                if (call != PLAN || l == 0) measure(call, atoi(argv[1]));
         }
     }
     return 0;

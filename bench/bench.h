@@ -6,7 +6,7 @@
 #include <string.h>
 
 enum { MAX = 255, MOST_LANES = 4096 };
-enum { ENCODE, UPDATE, RECOVER, REBUILD, BELONGS, CALLS };
+enum { ENCODE, UPDATE, RECOVER, REBUILD, BELONGS, PLAN, CALLS };
 
 /* A generator, node by node, and the shares that it makes of the message, node by node. */
 struct layout {

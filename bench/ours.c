@@ -39,18 +39,25 @@ static void test(const struct build *b) {
     belongs = wrong == (uint32_t)lanes;
 }
 
+static void plan(const struct build *b) {
+    uint8_t numbers[BALANCED_PLAN_NUMBERS], shifts[BALANCED_PLAN_SHIFTS], firsts[BALANCED_PLAN_FIRSTS];
+    if (b->plan(record, length, numbers, sizeof numbers, shifts, sizeof shifts, firsts, sizeof firsts, out, BALANCED_PLAN_BASE)) fail("plan was turned away");
+}
+
 static void this_encode(void) { encode(&this); }
 static void this_update(void) { update(&this); }
 static void this_recover(void) { recover(&this); }
 static void this_rebuild(void) { rebuild(&this); }
 static void this_belongs(void) { test(&this); }
+static void this_plan(void) { plan(&this); }
 static void older_encode(void) { encode(&older); }
 static void older_update(void) { update(&older); }
 static void older_recover(void) { recover(&older); }
 static void older_rebuild(void) { rebuild(&older); }
 static void older_belongs(void) { test(&older); }
+static void older_plan(void) { plan(&older); }
 
-struct method this_build = {"ours", 1, &planned, NULL, {this_encode, this_update, this_recover, this_rebuild, this_belongs}};
+struct method this_build = {"ours", 1, &planned, NULL, {this_encode, this_update, this_recover, this_rebuild, this_belongs, this_plan}};
 struct method older_build = {"older", 1, &planned, NULL, {NULL}};
 
 static void *found(void *object, const char *name) {
@@ -74,6 +81,6 @@ void load_builds(const char *this_path, const char *older_path) {
     load(&this, this_path);
     if (!older_path) return;
     load(&older, older_path);
-    void (*const run[CALLS])(void) = {older_encode, older_update, older_recover, older_rebuild, older_belongs};
+    void (*const run[CALLS])(void) = {older_encode, older_update, older_recover, older_rebuild, older_belongs, older_plan};
     memcpy(older_build.run, run, sizeof run);
 }

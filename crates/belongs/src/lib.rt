@@ -5,6 +5,7 @@ ghost use lib.Dec.{eqb};
 ghost use lib.ListN.{length, getD};
 ghost use Rattle.lists.specs.Rows.{from};
 ghost use Rattle.lists.specs.Padded.{padded};
+ghost use Rattle.field.specs.Tables.{AreTables};
 ghost use Rattle.generator.specs.Records.{Sound};
 ghost use Rattle.generator.specs.Codewords.{checkFrom};
 ghost use Rattle.refusals.specs.Faults.{belongsFault};
@@ -23,6 +24,15 @@ fn powers(h: Header) -> [u16; 255]
     requires { ⌜ Sound h ⌝ }
     ensures { λ r. ⌜ r ≡ padded 255 (powersOf h) ⌝ }
 {
+    let t = field::constant_tables();
+    powers_with(h, &t.powers, &t.logarithms)
+}
+
+// The same with the field's tables as they are lent to it.
+fn powers_with<'a>(h: Header, powers: &'a [u8; 255], logarithms: &'a [u8; 255]) -> [u16; 255]
+    requires { ⌜ Sound h × AreTables (now powers) (now logarithms) ⌝ }
+    ensures { λ r. ⌜ r ≡ padded 255 (powersOf h) ⌝ }
+{
     let field = h.field;
     let root = h.root;
     let n = h.n as usize;
@@ -31,7 +41,7 @@ fn powers(h: Header) -> [u16; 255]
     let mut i: usize = 0;
     while i < n {
         out[i] = x as u16;
-        x = field.mul(root, x);
+        x = field.mul_with(powers, logarithms, root, x);
         i += 1;
     }
     out

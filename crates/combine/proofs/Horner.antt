@@ -1,7 +1,7 @@
 -- Horner's rule over the binary digits of the weights, in the field of 256 elements: twice the sum with the weights' halves, and the values whose weight is odd, are the sum with the weights.
 use mathlib.Core.Path.{_≡_, refl, sym, ap, ap₂, _∙_}
 use mathlib.Core.List.{List, [], _∷_, _++_}
-use Prim.Native.Nat.{ℕ, zero, suc, _+_, _*_, _/_, _%_, _^_, _≤_, _<_}
+use Prim.Native.Nat.{ℕ, zero, suc, _+_, _*_, _/_, _%_, _≤_, _<_}
 use native.Mathlib.Nat.{mul-zero, mul-one}
 use native.Mathlib.Omega.{arith}
 use lib.Bits.{bitXor, xor-lt, xor-shifted}
@@ -9,25 +9,13 @@ use lib.Dec.{eqb}
 use Rattle.lists.specs.Choice.{pick}
 use Rattle.lists.specs.Counting.{passingFrom}
 use Rattle.lists.specs.Rows.{from}
-use Rattle.field.specs.Bytes.{timesX, productFrom, product}
+use Rattle.field.specs.Bytes.{timesX, product}
 use Rattle.field.specs.Fields.{add, mul}
 use Rattle.field.specs.Sums.{dot}
-use Rattle.field.proofs.Additive.{agree}
-use Rattle.field.proofs.Computed.{equal-at}
 use Rattle.field.proofs.Xor.{xor-swap}
 use Rattle.field.proofs.ByteSteps.{timesX-low}
-use Rattle.field.proofs.Product.{timesX-additive, product-byte, product-zero, product-one, product-left, product-right, product-assoc}
+use Rattle.field.proofs.Product.{timesX-additive, product-byte, product-zero, product-one, product-right, product-timesX}
 use Rattle.combine.specs.Digits.{sumOf}
-
--- x times a byte as a product
-product-two : (b : ℕ) → b < 256 → product b 2 ≡ timesX b
-unfolding product productFrom timesX
-product-two = agree (λ b. product b 2) timesX (product-left 2) timesX-additive (equal-at 8 (λ i. product (2 ^ i) 2) (λ i. timesX (2 ^ i)) tt)
-
--- it passes out of a product
-product-times-x : (a b : ℕ) → a < 256 → b < 256 → product a (timesX b) ≡ timesX (product a b)
-product-times-x a b ha hb =
-    ap (product a) (sym (product-two b hb)) ∙ sym (product-assoc a b 2 ha hb) ∙ product-two (product a b) (product-byte a b ha)
 
 -- the product with a digit
 product-digit : (a d : ℕ) → a < 256 → d < 2 → product a d ≡ a * d
@@ -42,7 +30,7 @@ product-halved a w ha hw =
     let digit : w % 2 < 2 = omega arith in
     let whole : w / 2 * 2 + w % 2 ≡ w = omega arith in
     let parts : bitXor (w / 2 * 2) (w % 2) ≡ w = xor-shifted (w / 2) 1 (w % 2) digit ∙ whole in
-    ap₂ bitXor (sym (product-times-x a (w / 2) ha (omega arith)) ∙ ap (product a) (sym (timesX-low (w / 2) half))) (sym (product-digit a (w % 2) ha digit))
+    ap₂ bitXor (sym (product-timesX a (w / 2) ha (omega arith)) ∙ ap (product a) (sym (timesX-low (w / 2) half))) (sym (product-digit a (w % 2) ha digit))
     ∙ sym (product-right a (w / 2 * 2) (w % 2) (omega arith) (omega arith))
     ∙ ap (product a) parts
 

@@ -7,10 +7,8 @@ use borrow.Author.Tests.{eqb-true, eqb-false, ne-eqb}
 use lib.Dec.{eqb}
 use Rattle.lists.proofs.Cases.{by-test}
 use Rattle.field.specs.Primes.{isPrime}
-use Rattle.field.specs.Bytes.{timesX, productFrom, product}
 use Rattle.field.specs.Fields.{isField, sizeOf, mul, inverseFrom, inverse}
-use Rattle.field.proofs.Meanings.{prime-field, prime-size, byte-field}
-use Rattle.field.proofs.ByteInverse.{squares, squares-byte, product-squares}
+use Rattle.field.proofs.Meanings.{prime-field, prime-size}
 use Rattle.field.proofs.Arithmetic.{zero-mul, one-inverse}
 use Rattle.field.proofs.BothKinds.{arithmetic}
 
@@ -71,10 +69,3 @@ prime-inverse p prime a r ha hr e =
     let la : a < sizeOf p = rw (prime-size p prime) ha in
     let lr : r < sizeOf p = rw (prime-size p prime) hr in
     inverse-unique p v a r la lr (arithmetic p v .mul-comm a r la lr ∙ e)
-
--- of bytes the inverse is a^254, also for 0
-pub squares-inverse : (a : ℕ) → a < 256 → squares 7 a ≡ inverse 0 a
-unfolding sizeOf mul squares product productFrom timesX
-squares-inverse zero ha = sym (inverse-zero 0 byte-field)
-squares-inverse (suc a) ha =
-    inverse-unique 0 byte-field (suc a) (squares 7 (suc a)) ha (squares-byte 7 (suc a) ha) (product-squares (suc a) (omega arith) ha)

@@ -1,7 +1,8 @@
 -- Powers: one more, and by squaring.
-use mathlib.Core.Path.{_≡_, refl, ap, _∙_}
+use mathlib.Core.Path.{_≡_, refl, sym, ap, _∙_}
 use mathlib.Core.Bool.{true}
 use Prim.Native.Nat.{ℕ, zero, suc, _+_, _/_, _%_, _<_}
+use native.Mathlib.Nat.{zero-add, suc-add}
 use native.Mathlib.Numerals.{add-one}
 use native.Mathlib.Omega.{arith}
 use Rattle.field.specs.Fields.{isField, sizeOf, mul, power}
@@ -15,6 +16,15 @@ unfolding power
 power-next p a e = ap (power p a) (add-one e)
 
 module _ (p : ℕ) (v : isField p ≡ true) where
+  -- exponents add
+  pub power-add : (a i j : ℕ) → a < sizeOf p → mul p (power p a i) (power p a j) ≡ power p a (i + j)
+  unfolding power
+  power-add a zero j ha = one-mul (arithmetic p v) (power p a j) (power-below p v j ha) ∙ ap (power p a) (sym (zero-add j))
+  power-add a (suc i) j ha =
+      arithmetic p v .mul-assoc a (power p a i) (power p a j) ha (power-below p v i ha) (power-below p v j ha)
+      ∙ ap (mul p a) (power-add a i j ha)
+      ∙ ap (power p a) (sym (suc-add i j))
+
   -- a power of a square
   power-square : (a m : ℕ) → a < sizeOf p → power p (mul p a a) m ≡ power p a (m + m)
   unfolding power

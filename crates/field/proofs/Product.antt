@@ -80,6 +80,11 @@ pub product-one : (a : ℕ) → a < 256 → product a 1 ≡ a
 unfolding product productFrom timesX
 product-one = agree (λ a. product a 1) (λ a. a) (product-left 1) (λ a b ha hb. refl) (equal-at 8 (λ i. product (2 ^ i) 1) (λ i. 2 ^ i) tt)
 
+-- x times a byte as a product
+pub product-two : (b : ℕ) → b < 256 → product b 2 ≡ timesX b
+unfolding product productFrom timesX
+product-two = agree (λ b. product b 2) timesX (product-left 2) timesX-additive (equal-at 8 (λ i. product (2 ^ i) 2) (λ i. timesX (2 ^ i)) tt)
+
 -- two powers of x commute, so x^i and a byte do, so two bytes do
 basis-comm : (i j : ℕ) → i < 8 → j < 8 → product (2 ^ i) (2 ^ j) ≡ product (2 ^ j) (2 ^ i)
 unfolding product productFrom timesX
@@ -100,7 +105,7 @@ productFrom-timesX (suc f) a b ha =
     ∙ sym (timesX-additive (a * (b % 2)) (productFrom f (timesX a) (b / 2)) (times-digit a (b % 2) ha (digit b))
     (productFrom-byte f (timesX a) (b / 2) (timesX-byte a ha)))
 
-product-timesX : (a b : ℕ) → a < 256 → b < 256 → product a (timesX b) ≡ timesX (product a b)
+pub product-timesX : (a b : ℕ) → a < 256 → b < 256 → product a (timesX b) ≡ timesX (product a b)
 unfolding product
 product-timesX a b ha hb =
     product-comm a (timesX b) ha (timesX-byte b hb) ∙ productFrom-timesX 8 b a hb ∙ ap timesX (product-comm b a hb ha)

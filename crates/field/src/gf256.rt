@@ -1,9 +1,11 @@
 // The field of 256 elements: bytes as polynomials over two elements modulo 0x11D. Its number is 0.
 ghost use mathlib.Core.Path.{_≡_};
-ghost use Prim.Native.Nat.{_<_};
-ghost use Rattle.field.specs.Bytes.{timesX};
+ghost use Prim.Native.Nat.{_-_, _%_, _<_};
+ghost use lib.ListN.{getD};
 ghost use Rattle.field.specs.Fields.{add, sub, mul, inverse};
 ghost use Rattle.field.specs.Kinds.{gf256};
+ghost use Rattle.field.specs.Tables.{AreTables};
+use crate::tables::constant_tables;
 
 pub struct Gf256 {}
 
@@ -36,42 +38,76 @@ impl Gf256 {
         requires { ⌜ (a < 256) × (b < 256) ⌝ }
         ensures { λ r. ⌜ r ≡ mul 0 a b ⌝ }
     {
-        let mut sum: u32 = Self::ZERO;
-        let mut x = a;
-        let mut y = b;
-        let mut i: u32 = 0;
-        while i < 8 {
-            if y % 2 == 1 {
-                sum = sum ^ x;
-            }
-            x = times_x(x);
-            y = y / 2;
-            i += 1;
-        }
-        sum
+        let t = constant_tables();
+        self.mul_with(&t.powers, &t.logarithms, a, b)
     }
 
-    // a^254, by squares; 0 for 0.
+    // The exponents add, modulo 255; 0 times a byte is 0.
+    pub fn mul_with<'a>(
+        self,
+        powers: &'a [u8; 255],
+        logarithms: &'a [u8; 255],
+        a: u32,
+        b: u32,
+    ) -> u32
+        requires { ⌜ AreTables (now powers) (now logarithms) × (a < 256) × (b < 256) ⌝ }
+        ensures { λ r. ⌜ r ≡ mul 0 a b ⌝ }
+    {
+        if a == Self::ZERO {
+            return Self::ZERO;
+        }
+        if b == Self::ZERO {
+            return Self::ZERO;
+        }
+        let e = logarithm(logarithms, a) as u32 + logarithm(logarithms, b) as u32;
+        power(powers, reduced(e)) as u32
+    }
+
+    // 0 for 0.
     pub fn inverse(self, a: u32) -> u32
         requires { ⌜ a < 256 ⌝ }
         ensures { λ r. ⌜ r ≡ inverse 0 a ⌝ }
     {
-        let mut q = a;
-        let mut r = Self::ONE;
-        let mut i: u32 = 0;
-        while i < 7 {
-            q = self.mul(q, q);
-            r = self.mul(r, q);
-            i += 1;
+        let t = constant_tables();
+        self.inverse_with(&t.powers, &t.logarithms, a)
+    }
+
+    // The power whose exponent is the negative of a's, modulo 255.
+    pub fn inverse_with<'a>(self, powers: &'a [u8; 255], logarithms: &'a [u8; 255], a: u32) -> u32
+        requires { ⌜ AreTables (now powers) (now logarithms) × (a < 256) ⌝ }
+        ensures { λ r. ⌜ r ≡ inverse 0 a ⌝ }
+    {
+        if a == Self::ZERO {
+            return Self::ZERO;
         }
-        r
+        let e = logarithm(logarithms, a) as u32;
+        if e == 0 {
+            Self::ONE
+        } else {
+            power(powers, 255 - e) as u32
+        }
     }
 }
 
-// x times a byte.
-fn times_x(a: u32) -> u32
-    requires { ⌜ a < 256 ⌝ }
-    ensures { λ r. ⌜ r ≡ timesX a ⌝ }
+// e modulo 255, for a sum of two exponents, with no branch: 256 stands for 1.
+fn reduced(e: u32) -> u32
+    requires { ⌜ e < 510 ⌝ }
+    ensures { λ r. ⌜ r ≡ e % 255 ⌝ }
 {
-    if a < 128 { a * 2 } else { ((a - 128) * 2) ^ 29 }
+    let s = e + 1;
+    (s + s / 256) % 256 - 1
+}
+
+fn power(powers: &[u8; 255], e: u32) -> u8
+    requires { ⌜ e < 255 ⌝ }
+    ensures { λ r. ⌜ r ≡ getD (now (powers .entry)) e 0 ⌝ }
+{
+    powers[e as usize]
+}
+
+fn logarithm(logarithms: &[u8; 255], a: u32) -> u8
+    requires { ⌜ (0 < a) × (a < 256) ⌝ }
+    ensures { λ r. ⌜ r ≡ getD (now (logarithms .entry)) (a - 1) 0 ⌝ }
+{
+    logarithms[(a - 1) as usize]
 }

@@ -5,13 +5,17 @@ ghost use Prim.Native.Nat.{_<_};
 ghost use lib.Dec.{leb};
 ghost use Rattle.field.specs.Fields.{isField, sizeOf, add, sub, mul, power, inverse, orderOf};
 ghost use Rattle.field.specs.Kinds.{modulus, usable};
+ghost use Rattle.field.specs.Tables.{AreTables};
 
 mod gf256;
 mod prime;
+mod tables;
 
 pub use gf256::Gf256;
 pub use prime::PrimeField;
 pub use prime::is_prime;
+pub use tables::Tables;
+pub use tables::constant_tables;
 
 pub enum Field {
     Prime(PrimeField),
@@ -74,6 +78,23 @@ impl Field {
         }
     }
 
+    // The same with lent tables, for loops that take many products; a prime field needs none.
+    pub fn mul_with<'a>(
+        self,
+        powers: &'a [u8; 255],
+        logarithms: &'a [u8; 255],
+        a: u32,
+        b: u32,
+    ) -> u32
+        requires { ⌜ (usable self ≡ true) × (a < sizeOf (modulus self)) × (b < sizeOf (modulus self)) × AreTables (now powers) (now logarithms) ⌝ }
+        ensures { λ r. ⌜ r ≡ mul (modulus self) a b ⌝ }
+    {
+        match self {
+            Field::Prime(f) => f.mul(a, b),
+            Field::Binary(g) => g.mul_with(powers, logarithms, a, b),
+        }
+    }
+
     // The symbol whose product with a is 1; 0 for 0.
     pub fn inverse(self, a: u32) -> u32
         requires { ⌜ (usable self ≡ true) × (a < sizeOf (modulus self)) ⌝ }
@@ -85,9 +106,27 @@ impl Field {
         }
     }
 
-    // By squaring: the result so far times base^k is the power.
+    pub fn inverse_with<'a>(self, powers: &'a [u8; 255], logarithms: &'a [u8; 255], a: u32) -> u32
+        requires { ⌜ (usable self ≡ true) × (a < sizeOf (modulus self)) × AreTables (now powers) (now logarithms) ⌝ }
+        ensures { λ r. ⌜ r ≡ inverse (modulus self) a ⌝ }
+    {
+        match self {
+            Field::Prime(f) => f.inverse(a),
+            Field::Binary(g) => g.inverse_with(powers, logarithms, a),
+        }
+    }
+
     pub fn power(self, a: u32, e: u32) -> u32
         requires { ⌜ (usable self ≡ true) × (a < sizeOf (modulus self)) ⌝ }
+        ensures { λ r. ⌜ r ≡ power (modulus self) a e ⌝ }
+    {
+        let t = constant_tables();
+        self.power_with(&t.powers, &t.logarithms, a, e)
+    }
+
+    // By squaring: the result so far times base^k is the power.
+    fn power_with<'a>(self, powers: &'a [u8; 255], logarithms: &'a [u8; 255], a: u32, e: u32) -> u32
+        requires { ⌜ (usable self ≡ true) × (a < sizeOf (modulus self)) × AreTables (now powers) (now logarithms) ⌝ }
         ensures { λ r. ⌜ r ≡ power (modulus self) a e ⌝ }
     {
         let mut base = a;
@@ -95,9 +134,9 @@ impl Field {
         let mut r = Self::ONE;
         while k > 0 {
             if k % 2 == 1 {
-                r = self.mul(r, base);
+                r = self.mul_with(powers, logarithms, r, base);
             }
-            base = self.mul(base, base);
+            base = self.mul_with(powers, logarithms, base, base);
             k = k / 2;
         }
         r
@@ -108,13 +147,21 @@ impl Field {
         requires { ⌜ (usable self ≡ true) × (a < sizeOf (modulus self)) ⌝ }
         ensures { λ r. ⌜ r ≡ orderOf (modulus self) a ⌝ }
     {
+        let t = constant_tables();
+        self.order_with(&t.powers, &t.logarithms, a)
+    }
+
+    fn order_with<'a>(self, powers: &'a [u8; 255], logarithms: &'a [u8; 255], a: u32) -> u32
+        requires { ⌜ (usable self ≡ true) × (a < sizeOf (modulus self)) × AreTables (now powers) (now logarithms) ⌝ }
+        ensures { λ r. ⌜ r ≡ orderOf (modulus self) a ⌝ }
+    {
         let mut e: u32 = 1;
         let mut x = a;
         while e <= 256 {
             if x == Self::ONE {
                 return e;
             }
-            x = self.mul(a, x);
+            x = self.mul_with(powers, logarithms, a, x);
             e += 1;
         }
         0

@@ -3,27 +3,19 @@ use mathlib.Core.Path.{_≡_, refl, sym, ap, _∙_}
 use mathlib.Core.Bool.{true}
 use mathlib.Core.List.{List, [], _∷_}
 use Prim.Native.Nat.{ℕ, zero, suc, _+_, _-_, _≤_, _<_}
-use native.Mathlib.Nat.{zero-add}
 use native.Mathlib.Numerals.{add-one}
 use native.Mathlib.Omega.{arith}
-use lib.ListN.{length, getD, take, drop, set, length-map, drop-of-length-le}
-use lib.Seq.{drop-length, ext-getD}
+use lib.ListN.{length, getD, drop, set, length-map, drop-of-length-le}
+use lib.Seq.{drop-length}
 use Rattle.lists.specs.Numbers.{allBelow}
 use Rattle.lists.specs.Padded.{zeros, padded}
-use Rattle.lists.specs.Rows.{from}
 use Rattle.lists.proofs.Front.{drop-next, drop-before}
-use Rattle.lists.proofs.Numbers.{below-cons, cons-below, below-getD}
-use Rattle.lists.proofs.Padding.{take-padded}
-use Rattle.lists.proofs.Rows.{length-from, getD-from}
-use Rattle.field.specs.declared.Field.{Field}
+use Rattle.lists.proofs.Numbers.{below-cons, cons-below, below-getD, below-drop}
 use Rattle.field.specs.Fields.{isField, sizeOf, add, sub, mul, power, inverse}
 use Rattle.field.proofs.Bounds.{one-below, add-below, sub-below, mul-below, power-below}
 use Rattle.field.proofs.FieldOf.{size-pos}
 use Rattle.field.proofs.Inverse.{inverse-below}
-use Rattle.field.proofs.KindLaws.{usable-field}
-use Rattle.field.specs.Kinds.{modulus}
 use Rattle.field.specs.Sums.{dot}
-use Rattle.interpolation.specs.Points.{SymbolList}
 use Rattle.interpolation.specs.Polynomials.{timesLinear, productOf, baseOf, quotientOf, termwise, inversesOf}
 
 -- the polynomial 1, with zeros after it
@@ -71,24 +63,43 @@ module _ (p : ℕ) where
   length-baseOf root (suc m) = length-timesLinear (power p root m) 0 (baseOf p root m) ∙ ap suc (length-baseOf root m)
 
   -- the quotient, from the highest coefficient down
-  pub quotientOf-next : (a : ℕ) (cs : List ℕ) (i : ℕ) → 0 < i → i ≤ length cs → quotientOf p a (drop (i - 1) cs) ≡ add p (mul p a (getD (quotientOf p a (drop i cs)) 0 0)) (getD cs (i - 1) 0) ∷ quotientOf p a (drop i cs)
+  quotientOf-next : (a : ℕ) (cs : List ℕ) (i : ℕ) → 0 < i → i ≤ length cs → quotientOf p a (drop (i - 1) cs) ≡ add p (mul p a (getD (quotientOf p a (drop i cs)) 0 0)) (getD cs (i - 1) 0) ∷ quotientOf p a (drop i cs)
   unfolding quotientOf
   quotientOf-next a cs i pos h = ap (quotientOf p a) (drop-before cs i 0 pos h)
 
   -- its next coefficient
-  pub quotient-first : (a : ℕ) (cs : List ℕ) (i : ℕ) → 0 < i → i ≤ length cs → getD (quotientOf p a (drop (i - 1) cs)) 0 0 ≡ add p (mul p a (getD (quotientOf p a (drop i cs)) 0 0)) (getD cs (i - 1) 0)
+  quotient-first : (a : ℕ) (cs : List ℕ) (i : ℕ) → 0 < i → i ≤ length cs → getD (quotientOf p a (drop (i - 1) cs)) 0 0 ≡ add p (mul p a (getD (quotientOf p a (drop i cs)) 0 0)) (getD cs (i - 1) 0)
   quotient-first a cs i pos h = ap (λ (l : List ℕ). getD l 0 0) (quotientOf-next a cs i pos h)
 
-  pub quotientOf-end : (a : ℕ) (cs : List ℕ) → quotientOf p a (drop (length cs) cs) ≡ []
+  quotientOf-end : (a : ℕ) (cs : List ℕ) → quotientOf p a (drop (length cs) cs) ≡ []
   unfolding quotientOf
   quotientOf-end a cs = ap (quotientOf p a) (drop-length cs)
+
+  -- the division, from the highest coefficient down: q is coefficient i of the quotient
+  pub record Dividing (a : ℕ) (cs : List ℕ) (i q : ℕ) : Type 0 where
+    pub some : i ≤ length cs
+    pub first : q ≡ getD (quotientOf p a (drop i cs)) 0 0
+
+  pub dividing-start : (a : ℕ) (cs : List ℕ) → Dividing a cs (length cs) 0
+  dividing-start a cs = record { some = omega arith; first = sym (ap (λ (l : List ℕ). getD l 0 0) (quotientOf-end a cs)) }
+
+  pub dividing-next : {a : ℕ} {cs : List ℕ} {i q r : ℕ} → Dividing a cs i q → 0 < i → r ≡ add p (mul p a q) (getD cs (i - 1) 0) → Dividing a cs (i - 1) r
+  dividing-next {a} {cs} {i} d pos e = record { some = omega (arith, d .some); first = e ∙ rw (d .first) (sym (quotient-first a cs i pos (d .some))) }
 
   pub length-quotientOf : (a : ℕ) (cs : List ℕ) → length (quotientOf p a cs) ≡ length cs
   unfolding quotientOf
   length-quotientOf a [] = refl
   length-quotientOf a (c ∷ cs) = ap suc (length-quotientOf a cs)
 
-  -- products term by term
+  -- its coefficients times factors
+  pub terms-next : (a : ℕ) (cs ds : List ℕ) (i : ℕ) → 0 < i → i ≤ length cs → i ≤ length ds → termwise p (quotientOf p a (drop (i - 1) cs)) (drop (i - 1) ds) ≡ mul p (getD (quotientOf p a (drop (i - 1) cs)) 0 0) (getD ds (i - 1) 0) ∷ termwise p (quotientOf p a (drop i cs)) (drop i ds)
+  unfolding termwise
+  terms-next a cs ds i pos h k = rw (quotientOf-next a cs i pos h, drop-before ds i 0 pos k)
+
+  pub terms-end : (a : ℕ) (cs ds : List ℕ) → termwise p (quotientOf p a (drop (length cs) cs)) ds ≡ []
+  unfolding termwise
+  terms-end a cs ds = ap (λ (l : List ℕ). termwise p l ds) (quotientOf-end a cs)
+
   pub length-termwise : (cs ds : List ℕ) → length ds ≡ length cs → length (termwise p cs ds) ≡ length cs
   unfolding termwise
   length-termwise [] ds h = refl
@@ -102,18 +113,10 @@ module _ (p : ℕ) where
   getD-termwise (c ∷ cs) (d ∷ ds) zero h k = refl
   getD-termwise (c ∷ cs) (d ∷ ds) (suc i) h k = getD-termwise cs ds i (omega arith) (omega arith)
 
-  -- .. by index
-  pub termwise-from : (cs ds : List ℕ) → length ds ≡ length cs → termwise p cs ds ≡ from (λ i. mul p (getD cs i 0) (getD ds i 0)) 0 (length cs)
-  termwise-from cs ds h =
-      let f : ℕ → ℕ = λ i. mul p (getD cs i 0) (getD ds i 0) in
-      let size : length (termwise p cs ds) ≡ length cs = length-termwise cs ds h in
-      ext-getD 0 (termwise p cs ds) (from f 0 (length cs)) (size ∙ sym (length-from f 0 (length cs)))
-      (λ i l. getD-termwise cs ds i (omega arith) (omega arith) ∙ sym (getD-from f 0 (length cs) i 0 (omega arith) ∙ ap f (zero-add i)))
-
-  -- their sum, from the last down
-  pub dot-next : (ys ws : List ℕ) (i : ℕ) → 0 < i → i ≤ length ys → i ≤ length ws → dot p (drop (i - 1) ys) (drop (i - 1) ws) ≡ add p (mul p (getD ys (i - 1) 0) (getD ws (i - 1) 0)) (dot p (drop i ys) (drop i ws))
+  -- the sum of its coefficients times terms
+  pub dot-next : (a : ℕ) (cs ys : List ℕ) (i : ℕ) → 0 < i → i ≤ length cs → i ≤ length ys → dot p (drop (i - 1) ys) (quotientOf p a (drop (i - 1) cs)) ≡ add p (mul p (getD ys (i - 1) 0) (getD (quotientOf p a (drop (i - 1) cs)) 0 0)) (dot p (drop i ys) (quotientOf p a (drop i cs)))
   unfolding dot
-  dot-next ys ws i pos h k = rw (drop-before ys i 0 pos h, drop-before ws i 0 pos k)
+  dot-next a cs ys i pos h k = rw (quotientOf-next a cs i pos h, drop-before ys i 0 pos k)
 
   pub dot-end : (ys ws : List ℕ) → dot p (drop (length ys) ys) ws ≡ 0
   unfolding dot
@@ -151,17 +154,13 @@ module _ (p : ℕ) where
     baseOf-below root zero l = one-list
     baseOf-below root (suc m) l = timesLinear-below (power p root m) 0 (baseOf p root m) (power-below p v m l) (size-pos p v) (baseOf-below root m l)
 
-    -- the first of a list of symbols, or 0
-    pub first-below : (xs : List ℕ) → Below xs → getD xs 0 0 < sizeOf p
-    first-below xs h = below-getD (sizeOf p) xs (size-pos p v) h 0
-
     pub quotientOf-below : (a : ℕ) (cs : List ℕ) → a < sizeOf p → Below cs → Below (quotientOf p a cs)
     unfolding quotientOf
     quotientOf-below a [] la h = h
     quotientOf-below a (c ∷ cs) la h =
         let b = below-cons (sizeOf p) c cs h in
         let rest = quotientOf-below a cs la (b .1) in
-        cons-below (sizeOf p) (add p (mul p a (getD (quotientOf p a cs) 0 0)) c) (quotientOf p a cs) (add-below p v (mul-below p v la (first-below (quotientOf p a cs) rest)) (b .0)) rest
+        cons-below (sizeOf p) (add p (mul p a (getD (quotientOf p a cs) 0 0)) c) (quotientOf p a cs) (add-below p v (mul-below p v la (below-getD (sizeOf p) (quotientOf p a cs) (size-pos p v) rest 0)) (b .0)) rest
 
     pub termwise-below : (cs ds : List ℕ) → Below cs → Below ds → Below (termwise p cs ds)
     unfolding termwise
@@ -179,10 +178,6 @@ module _ (p : ℕ) where
         let a = below-cons (sizeOf p) c cs h in
         cons-below (sizeOf p) (inverse p c) (inversesOf p cs) (inverse-below p v (a .0)) (inversesOf-below cs (a .1))
 
--- a quotient as code lends it, and that it is a list of symbols
-pub quotient-part : {f : Field} {cs : List ℕ} (a : ℕ) → SymbolList f cs → a < sizeOf (modulus f) → (take (length cs) (padded 255 (quotientOf (modulus f) a cs)) ≡ quotientOf (modulus f) a cs) × SymbolList f (quotientOf (modulus f) a cs)
-quotient-part {f} {cs} a s low =
-    let size = length-quotientOf (modulus f) a cs in (
-      take-padded 255 (length cs) (quotientOf (modulus f) a cs) size,
-      record { usable-field = s .usable-field; below = quotientOf-below (modulus f) (usable-field f (s .usable-field)) a cs low (s .below); short = omega (arith, s .short) },
-    )
+    -- the quotient's coefficients are symbols
+    pub dividing-below : {a : ℕ} {cs : List ℕ} {i q : ℕ} → Dividing a cs i q → a < sizeOf p → Below cs → q < sizeOf p
+    dividing-below {a} {cs} {i} d la h = rw (d .first) (below-getD (sizeOf p) _ (size-pos p v) (quotientOf-below a (drop i cs) la (below-drop (sizeOf p) i cs h)) 0)

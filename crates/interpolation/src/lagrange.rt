@@ -1,10 +1,11 @@
-// Lagrange's basis polynomials of listed points, by their values.
+// Lagrange's basis polynomials of listed points, by their values. A function that ends in `_with` takes the field's tables as they are lent to it.
 ghost use mathlib.Core.Path.{_≡_};
 ghost use Prim.Native.Nat.{_<_};
 ghost use lib.ListN.{length};
 ghost use Rattle.lists.specs.Padded.{padded};
 ghost use Rattle.field.specs.Fields.{sizeOf};
 ghost use Rattle.field.specs.Kinds.{modulus};
+ghost use Rattle.field.specs.Tables.{AreTables};
 ghost use Rattle.interpolation.specs.Points.{SymbolList};
 ghost use Rattle.interpolation.specs.Lagrange.{productAt, othersAt, scaleAt, basisAt, basisValues, scalesOf};
 use field::Field;
@@ -14,11 +15,26 @@ fn product_at(field: Field, points: &[u16], z: u32) -> u32
     requires { ⌜ SymbolList field (now points) × (z < sizeOf (modulus field)) ⌝ }
     ensures { λ r. ⌜ r ≡ productAt (modulus field) (now (points .entry)) z ⌝ }
 {
+    let t = field::constant_tables();
+    product_with(field, &t.powers, &t.logarithms, points, z)
+}
+
+fn product_with<'a>(
+    field: Field,
+    powers: &'a [u8; 255],
+    logarithms: &'a [u8; 255],
+    points: &[u16],
+    z: u32,
+) -> u32
+    requires { ⌜ SymbolList field (now points) × (z < sizeOf (modulus field)) × AreTables (now powers) (now logarithms) ⌝ }
+    ensures { λ r. ⌜ r ≡ productAt (modulus field) (now (points .entry)) z ⌝ }
+{
     let mut product = Field::ONE;
     let mut i = points.len();
     while i > 0 {
         i -= 1;
-        product = field.mul(field.sub(z, points[i] as u32), product);
+        let factor = field.sub(z, points[i] as u32);
+        product = field.mul_with(powers, logarithms, factor, product);
     }
     product
 }

@@ -1,4 +1,4 @@
-// Polynomials by their coefficients, the constant first.
+// Polynomials by their coefficients, the constant first. A function that ends in `_with` takes the field's tables as they are lent to it.
 ghost use mathlib.Core.Path.{_≡_};
 ghost use mathlib.Core.Bool.{true};
 ghost use Prim.Native.Nat.{_<_, _≤_};
@@ -7,6 +7,7 @@ ghost use Rattle.lists.specs.Padded.{padded};
 ghost use Rattle.field.specs.Fields.{sizeOf, add, mul};
 ghost use Rattle.field.specs.Kinds.{modulus, usable};
 ghost use Rattle.field.specs.Sums.{dot};
+ghost use Rattle.field.specs.Tables.{AreTables};
 ghost use Rattle.interpolation.specs.Points.{SymbolList};
 ghost use Rattle.interpolation.specs.Polynomials.{timesLinear, productOf, baseOf, quotientOf, termwise, inversesOf};
 use field::Field;
@@ -16,12 +17,27 @@ fn times_linear(field: Field, a: u32, coefficients: &[u16]) -> [u16; 256]
     requires { ⌜ SymbolList field (now coefficients) × (a < sizeOf (modulus field)) ⌝ }
     ensures { λ r. ⌜ r ≡ padded 256 (timesLinear (modulus field) a 0 (now (coefficients .entry))) ⌝ }
 {
+    let t = field::constant_tables();
+    times_linear_with(field, &t.powers, &t.logarithms, a, coefficients)
+}
+
+fn times_linear_with<'a>(
+    field: Field,
+    powers: &'a [u8; 255],
+    logarithms: &'a [u8; 255],
+    a: u32,
+    coefficients: &[u16],
+) -> [u16; 256]
+    requires { ⌜ SymbolList field (now coefficients) × (a < sizeOf (modulus field)) × AreTables (now powers) (now logarithms) ⌝ }
+    ensures { λ r. ⌜ r ≡ padded 256 (timesLinear (modulus field) a 0 (now (coefficients .entry))) ⌝ }
+{
     let mut out = [0u16; 256];
     let mut last = Field::ZERO;
     let mut i = 0;
     while i < coefficients.len() {
         let c = coefficients[i] as u32;
-        out[i] = field.sub(last, field.mul(a, c)) as u16;
+        let term = field.mul_with(powers, logarithms, a, c);
+        out[i] = field.sub(last, term) as u16;
         last = c;
         i += 1;
     }
@@ -81,73 +97,70 @@ pub fn inverses(field: Field, coefficients: &[u16]) -> [u16; 255]
 }
 
 // a·b + c.
-fn multiply_add(field: Field, a: u32, b: u32, c: u32) -> u32
-    requires { ⌜ (usable field ≡ true) × (a < sizeOf (modulus field)) × (b < sizeOf (modulus field)) × (c < sizeOf (modulus field)) ⌝ }
+fn multiply_add<'a>(
+    field: Field,
+    powers: &'a [u8; 255],
+    logarithms: &'a [u8; 255],
+    a: u32,
+    b: u32,
+    c: u32,
+) -> u32
+    requires { ⌜ (usable field ≡ true) × (a < sizeOf (modulus field)) × (b < sizeOf (modulus field)) × (c < sizeOf (modulus field)) × AreTables (now powers) (now logarithms) ⌝ }
     ensures { λ r. ⌜ r ≡ add (modulus field) (mul (modulus field) a b) c ⌝ }
 {
-    field.add(field.mul(a, b), c)
+    field.add(field.mul_with(powers, logarithms, a, b), c)
 }
 
-// The quotient by x − a, from the highest coefficient down, and zeros after it.
-fn quotient(field: Field, a: u32, coefficients: &[u16]) -> [u16; 255]
-    requires { ⌜ SymbolList field (now coefficients) × (a < sizeOf (modulus field)) ⌝ }
-    ensures { λ r. ⌜ r ≡ padded 255 (quotientOf (modulus field) a (now (coefficients .entry))) ⌝ }
+// The coefficients of the quotient by x − a, from the highest down, each times its factor, and zeros after them.
+pub fn quotient_terms(field: Field, a: u32, coefficients: &[u16], factors: &[u16]) -> [u16; 255]
+    requires { ⌜ SymbolList field (now coefficients) × SymbolList field (now factors) × (length (now factors) ≡ length (now coefficients)) × (a < sizeOf (modulus field)) ⌝ }
+    ensures { λ r. ⌜ r ≡ padded 255 (termwise (modulus field) (quotientOf (modulus field) a (now (coefficients .entry))) (now (factors .entry))) ⌝ }
+{
+    let t = field::constant_tables();
+    quotient_terms_with(field, &t.powers, &t.logarithms, a, coefficients, factors)
+}
+
+fn quotient_terms_with<'a>(
+    field: Field,
+    powers: &'a [u8; 255],
+    logarithms: &'a [u8; 255],
+    a: u32,
+    coefficients: &[u16],
+    factors: &[u16],
+) -> [u16; 255]
+    requires { ⌜ SymbolList field (now coefficients) × SymbolList field (now factors) × (length (now factors) ≡ length (now coefficients)) × (a < sizeOf (modulus field)) × AreTables (now powers) (now logarithms) ⌝ }
+    ensures { λ r. ⌜ r ≡ padded 255 (termwise (modulus field) (quotientOf (modulus field) a (now (coefficients .entry))) (now (factors .entry))) ⌝ }
 {
     let mut out = [0u16; 255];
     let mut q = Field::ZERO;
     let mut i = coefficients.len();
     while i > 0 {
         i -= 1;
-        q = multiply_add(field, a, q, coefficients[i] as u32);
-        out[i] = q as u16;
+        q = multiply_add(field, powers, logarithms, a, q, coefficients[i] as u32);
+        out[i] = field.mul_with(powers, logarithms, q, factors[i] as u32) as u16;
     }
     out
-}
-
-// The products of the symbols of two lists, and zeros after them.
-fn products(field: Field, ys: &[u16], ws: &[u16]) -> [u16; 255]
-    requires { ⌜ SymbolList field (now ys) × SymbolList field (now ws) × (length (now ws) ≡ length (now ys)) ⌝ }
-    ensures { λ r. ⌜ r ≡ padded 255 (termwise (modulus field) (now (ys .entry)) (now (ws .entry))) ⌝ }
-{
-    let mut out = [0u16; 255];
-    let mut i = 0;
-    while i < ys.len() {
-        out[i] = field.mul(ys[i] as u32, ws[i] as u32) as u16;
-        i += 1;
-    }
-    out
-}
-
-// Their sum.
-fn sum_of_products(field: Field, ys: &[u16], ws: &[u16]) -> u32
-    requires { ⌜ SymbolList field (now ys) × SymbolList field (now ws) × (length (now ws) ≡ length (now ys)) ⌝ }
-    ensures { λ r. ⌜ r ≡ dot (modulus field) (now (ys .entry)) (now (ws .entry)) ⌝ }
-{
-    let mut sum = Field::ZERO;
-    let mut i = ys.len();
-    while i > 0 {
-        i -= 1;
-        sum = multiply_add(field, ys[i] as u32, ws[i] as u32, sum);
-    }
-    sum
-}
-
-// The coefficients of the quotient by x − a, each times its factor, and zeros after them.
-pub fn quotient_terms(field: Field, a: u32, coefficients: &[u16], factors: &[u16]) -> [u16; 255]
-    requires { ⌜ SymbolList field (now coefficients) × SymbolList field (now factors) × (length (now factors) ≡ length (now coefficients)) × (a < sizeOf (modulus field)) ⌝ }
-    ensures { λ r. ⌜ r ≡ padded 255 (termwise (modulus field) (quotientOf (modulus field) a (now (coefficients .entry))) (now (factors .entry))) ⌝ }
-{
-    let count = coefficients.len();
-    let q = quotient(field, a, coefficients);
-    products(field, &q[..count], factors)
 }
 
 // The sum of the terms times the coefficients of the quotient by x − a.
-pub fn quotient_sum(field: Field, a: u32, coefficients: &[u16], terms: &[u16]) -> u32
-    requires { ⌜ SymbolList field (now coefficients) × SymbolList field (now terms) × (length (now terms) ≡ length (now coefficients)) × (a < sizeOf (modulus field)) ⌝ }
+pub fn quotient_sum_with<'a>(
+    field: Field,
+    powers: &'a [u8; 255],
+    logarithms: &'a [u8; 255],
+    a: u32,
+    coefficients: &[u16],
+    terms: &[u16],
+) -> u32
+    requires { ⌜ SymbolList field (now coefficients) × SymbolList field (now terms) × (length (now terms) ≡ length (now coefficients)) × (a < sizeOf (modulus field)) × AreTables (now powers) (now logarithms) ⌝ }
     ensures { λ r. ⌜ r ≡ dot (modulus field) (now (terms .entry)) (quotientOf (modulus field) a (now (coefficients .entry))) ⌝ }
 {
-    let count = coefficients.len();
-    let q = quotient(field, a, coefficients);
-    sum_of_products(field, terms, &q[..count])
+    let mut sum = Field::ZERO;
+    let mut q = Field::ZERO;
+    let mut i = coefficients.len();
+    while i > 0 {
+        i -= 1;
+        q = multiply_add(field, powers, logarithms, a, q, coefficients[i] as u32);
+        sum = multiply_add(field, powers, logarithms, terms[i] as u32, q, sum);
+    }
+    sum
 }

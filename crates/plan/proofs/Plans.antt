@@ -46,14 +46,11 @@ base-bytes rec = go (recordOf rec) refl
 -- and so is an entry that is read from it
 pub entry-byte : (p : Plan) → allBelow 256 (p .base) ≡ true → (r j : ℕ) → entryIn p r j < 256
 unfolding entryIn
-entry-byte p h r j = go (ltb r (p .k) && ltb j (p .n))
+entry-byte p h r j = go (ltb r (p .k) && ltb j (p .n)) _
   where
-    place : ℕ
-    place = (j + getD (p .shifts) r 0) % p .n
-
-    go : (b : Bool) → pick b (getD (p .base) place 0) 0 < 256
-    go true = below-getD 256 (p .base) (omega arith) h place
-    go false = omega arith
+    go : (b : Bool) (i : ℕ) → pick b (getD (p .base) i 0) 0 < 256
+    go true i = below-getD 256 (p .base) (omega arith) h i
+    go false i = omega arith
 
 -- there is a place for each entry of the base word
 pub base-room : (h : Header) → h .n ≤ length (planFor (Holds h) .base)

@@ -5,18 +5,29 @@ ghost use lib.ListN.{length};
 ghost use Rattle.lists.specs.Padded.{padded};
 ghost use Rattle.field.specs.Fields.{sizeOf};
 ghost use Rattle.field.specs.Kinds.{modulus};
+ghost use Rattle.field.specs.Tables.{AreTables};
 ghost use Rattle.interpolation.specs.Points.{SymbolList};
 ghost use Rattle.recovery.specs.Rows.{weightOf, weightsOf};
 use field::Field;
 use interpolation::polynomials;
 
 // The weight of a node with the point x and the scale `own`: the scales times the sum of the row's terms times the coefficients of the product over the other nodes' points.
-fn row_weight(field: Field, scale: u32, terms: &[u16], product: &[u16], x: u32, own: u32) -> u32
-    requires { ⌜ SymbolList field (now product) × SymbolList field (now terms) × (length (now terms) ≡ length (now product)) × (scale < sizeOf (modulus field)) × (x < sizeOf (modulus field)) × (own < sizeOf (modulus field)) ⌝ }
+fn row_weight<'a>(
+    field: Field,
+    powers: &'a [u8; 255],
+    logarithms: &'a [u8; 255],
+    scale: u32,
+    terms: &[u16],
+    product: &[u16],
+    x: u32,
+    own: u32,
+) -> u32
+    requires { ⌜ SymbolList field (now product) × SymbolList field (now terms) × (length (now terms) ≡ length (now product)) × (scale < sizeOf (modulus field)) × (x < sizeOf (modulus field)) × (own < sizeOf (modulus field)) × AreTables (now powers) (now logarithms) ⌝ }
     ensures { λ r. ⌜ r ≡ weightOf (modulus field) scale (now (terms .entry)) (now (product .entry)) x own ⌝ }
 {
-    let sum = polynomials::quotient_sum(field, x, product, terms);
-    field.mul(field.mul(scale, own), sum)
+    let sum = polynomials::quotient_sum_with(field, powers, logarithms, x, product, terms);
+    let scales = field.mul_with(powers, logarithms, scale, own);
+    field.mul_with(powers, logarithms, scales, sum)
 }
 
 // The weights of all nodes, and zeros after them.
@@ -31,11 +42,40 @@ pub fn row_weights(
     requires { ⌜ SymbolList field (now product) × SymbolList field (now terms) × (length (now terms) ≡ length (now product)) × (scale < sizeOf (modulus field)) × SymbolList field (now points) × SymbolList field (now scales) × (length (now scales) ≡ length (now points)) ⌝ }
     ensures { λ r. ⌜ r ≡ padded 255 (weightsOf (modulus field) scale (now (terms .entry)) (now (product .entry)) (now (points .entry)) (now (scales .entry))) ⌝ }
 {
+    let t = field::constant_tables();
+    row_weights_with(
+        field,
+        &t.powers,
+        &t.logarithms,
+        scale,
+        terms,
+        product,
+        points,
+        scales,
+    )
+}
+
+// The same with the field's tables as they are lent to it.
+fn row_weights_with<'a>(
+    field: Field,
+    powers: &'a [u8; 255],
+    logarithms: &'a [u8; 255],
+    scale: u32,
+    terms: &[u16],
+    product: &[u16],
+    points: &[u16],
+    scales: &[u16],
+) -> [u16; 255]
+    requires { ⌜ SymbolList field (now product) × SymbolList field (now terms) × (length (now terms) ≡ length (now product)) × (scale < sizeOf (modulus field)) × SymbolList field (now points) × SymbolList field (now scales) × (length (now scales) ≡ length (now points)) × AreTables (now powers) (now logarithms) ⌝ }
+    ensures { λ r. ⌜ r ≡ padded 255 (weightsOf (modulus field) scale (now (terms .entry)) (now (product .entry)) (now (points .entry)) (now (scales .entry))) ⌝ }
+{
     let mut out = [0u16; 255];
     let mut i = 0;
     while i < points.len() {
         out[i] = row_weight(
             field,
+            powers,
+            logarithms,
             scale,
             terms,
             product,

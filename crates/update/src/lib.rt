@@ -4,6 +4,7 @@ ghost use Prim.Native.Nat.{_<_};
 ghost use Rattle.lists.specs.Counting.{differ};
 ghost use Rattle.layout.specs.Layout.{shareLayout};
 ghost use Rattle.field.specs.Fields.{add, mul};
+ghost use Rattle.field.specs.Tables.{AreTables};
 ghost use Rattle.generator.specs.Records.{modulusOf, size, Sound};
 ghost use Rattle.plan.specs.Plans.{planFor};
 ghost use Rattle.refusals.specs.Faults.{updateFault};
@@ -16,17 +17,27 @@ use generator::Record;
 use plan::Plan;
 
 // What a node holds after x times its entry is added to what it held.
-fn renewed(h: Header, x: u32, entry: u16, before: u8) -> u8
-    requires { ⌜ Sound h × (x < size h) × (entry < size h) × (before < size h) ⌝ }
+fn renewed<'a>(
+    h: Header,
+    powers: &'a [u8; 255],
+    logarithms: &'a [u8; 255],
+    x: u32,
+    entry: u16,
+    before: u8,
+) -> u8
+    requires { ⌜ Sound h × (x < size h) × (entry < size h) × (before < size h) × AreTables (now powers) (now logarithms) ⌝ }
     ensures { λ r. ⌜ r ≡ add (modulusOf h) before (mul (modulusOf h) x entry) ⌝ }
 {
     let field = h.field;
-    field.add(before as u32, field.mul(x, entry as u32)) as u8
+    let term = field.mul_with(powers, logarithms, x, entry as u32);
+    field.add(before as u32, term) as u8
 }
 
 // Adds x times a row of the generator to a lane: rewrites the nodes whose byte becomes another one, and counts them.
-fn rewrite(
+fn rewrite<'a>(
     h: Header,
+    powers: &'a [u8; 255],
+    logarithms: &'a [u8; 255],
     plan: Plan,
     lanes: u32,
     which: u32,
@@ -34,7 +45,7 @@ fn rewrite(
     x: u32,
     shares: &mut [u8],
 ) -> u32
-    requires { ⌜ UpdatableLane h lanes which lane (now shares) × (x < size h) × (plan ≡ planFor (Record.Holds h)) ⌝ }
+    requires { ⌜ UpdatableLane h lanes which lane (now shares) × (x < size h) × (plan ≡ planFor (Record.Holds h)) × AreTables (now powers) (now logarithms) ⌝ }
     ensures { λ r. ⌜ (now (shares .exit) ≡ rowAdded shareLayout h lanes which lane x (now (shares .entry))) × (r ≡ differ (now (shares .entry)) (now (shares .exit))) ⌝ }
 {
     let n = h.n as u32;
@@ -45,7 +56,7 @@ fn rewrite(
         let entry = plan::entry_at(n as usize, shift, &plan.base, j as usize);
         let at = (j * lanes + lane) as usize;
         let before = shares[at];
-        let after = renewed(h, x, entry, before);
+        let after = renewed(h, powers, logarithms, x, entry, before);
         if after != before {
             shares[at] = after;
             count += 1;
@@ -82,7 +93,19 @@ fn update_accepted(
         return Update::Refused(number);
     }
     let x = field.sub(new as u32, old as u32);
-    let count = rewrite(h, plan::plan_of(h), lanes, which, lane, x, shares);
+    let plan = plan::plan_of(h);
+    let t = field::constant_tables();
+    let count = rewrite(
+        h,
+        &t.powers,
+        &t.logarithms,
+        plan,
+        lanes,
+        which,
+        lane,
+        x,
+        shares,
+    );
     Update::Altered(count)
 }
 

@@ -5,21 +5,21 @@ use Rattle.field.proofs.Bounds.{add-below, mul-below}
 use Rattle.update.proofs.renewed.Statement.{statement}
 use Rattle.update.proofs.renewed.Tie as tie
 
-mul-requires : tie.Need-mul-requires
-mul-requires c κs = search needs
+mul-with-requires : tie.Need-mul-with-requires
+mul-with-requires c κs = search needs
 
 add-requires : tie.Need-add-requires
 add-requires c κs =
-    let (s, factor, entry, before) = c .before .pre in
-    (s .usable-field, before, rw (c .mul .ensures) (mul-below _ (s .field) factor entry))
+    let (s, factor, entry, before, tables) = c .before .pre in
+    (s .usable-field, before, rw (c .mul-with .ensures) (mul-below _ (s .field) factor entry))
 
 cast-result : tie.Need-cast-result
 cast-result c =
-    let (s, factor, entry, before) = c .before .before .pre in
-    record { fits = lt-of-lt-of-le (rw (c .add .ensures, c .before .mul .ensures) (add-below _ (s .field) before (mul-below _ (s .field) factor entry))) (s .one-byte) }
+    let (s, factor, entry, before, tables) = c .before .before .pre in
+    record { fits = lt-of-lt-of-le (rw (c .add .ensures, c .before .mul-with .ensures) (add-below _ (s .field) before (mul-below _ (s .field) factor entry))) (s .one-byte) }
 
 returns : tie.Need-returns
-returns c = rw (c .add .ensures, c .before .mul .ensures)
+returns c = rw (c .add .ensures, c .before .mul-with .ensures)
 
 pub renewed-spec : {M : Type 1} → statement M
-renewed-spec = tie.close (tie.spec mul-requires add-requires cast-result returns)
+renewed-spec = tie.close (tie.spec mul-with-requires add-requires cast-result returns)

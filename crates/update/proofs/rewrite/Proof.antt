@@ -18,10 +18,10 @@ use Rattle.update.proofs.rewrite.Statement.{statement}
 use Rattle.update.proofs.rewrite.Tie as tie
 
 abbrev Inv-loop : tie.InvT-loop
-Inv-loop h lanes which lane x shares₀ plan n shift count₀ j₀ shares count j = Rewriting h lanes which lane x shares₀ shares count j
+Inv-loop h powers logarithms lanes which lane x shares₀ plan n shift count₀ j₀ shares count j = Rewriting h lanes which lane x shares₀ shares count j
 
 abbrev μ-loop : tie.MeasureT-loop
-μ-loop h lanes which lane x shares₀ plan n shift count₀ j₀ shares count j = n - j
+μ-loop h powers logarithms lanes which lane x shares₀ plan n shift count₀ j₀ shares count j = n - j
 
 -- the loop keeps the buffer's length
 kept : (c : tie.At-loop Inv-loop μ-loop) → length (c .loop .shares) ≡ length (c .before .before .before .before .args .shares .now)
@@ -33,7 +33,7 @@ inside : (c : tie.In-loop Inv-loop μ-loop)
     (c .before .loop .j * a .lanes + a .lane < length (c .before .loop .shares)) × (length (c .before .loop .shares) ≤ 1044480)
 inside c =
     let a = c .before .before .before .before .before .args in
-    let (ready, factor, plan) = c .before .before .before .before .before .pre in
+    let (ready, factor, plan, tables) = c .before .before .before .before .before .pre in
     let few : a .h .n ≤ 255 = omega arith in
     rw (kept (c .before), ready .long) (place-fits (a .h .n) (c .before .loop .j) (a .lanes) (a .lane) few (ready .few-lanes) (c .loop-test .taken) (ready .lane))
 
@@ -42,7 +42,7 @@ held : (c : tie.In-loop Inv-loop μ-loop)
     → let a = c .before .before .before .before .before .args in
     getD (c .before .loop .shares) (c .before .loop .j * a .lanes + a .lane) 0 < size (a .h)
 held c =
-    let (ready, factor, plan) = c .before .before .before .before .before .pre in
+    let (ready, factor, plan, tables) = c .before .before .before .before .before .pre in
     rw (rewriting-held _ _ _ _ _ _ (ready .lane) (c .before .loop .inv) (c .loop-test .taken)) (lane-symbol _ _ _ _ _ (ready .symbols) _ (c .loop-test .taken))
 
 -- and becomes what the update says
@@ -52,7 +52,7 @@ after : (c : tie.After-renewed Inv-loop μ-loop)
     c .renewed .result ≡ addedAt shareLayout (a .h) (a .lanes) (a .which) (a .lane) (a .x) (a .shares .now) (l .j)
 unfolding addedAt
 after c =
-    let (ready, factor, plan) = c .before .before .before .before .before .before .before .before .before .before .before .pre in
+    let (ready, factor, plan, tables) = c .before .before .before .before .before .before .before .before .before .before .before .pre in
     let node = c .before .before .before .before .before .before .loop-test .taken in
     rw (← entry-read _ (ready .sound) _ plan _ _ (ready .row) node, ← c .before .before .entry-at .ensures, ← rewriting-held _ _ _ _ _ _ (ready .lane) (c .before .before .before .before .before .before .before .loop .inv) node) (c .renewed .ensures)
 
@@ -76,7 +76,7 @@ cast-entry-at-2 c = omega arith
 
 entry-at-requires : tie.Need-entry-at-requires Inv-loop μ-loop
 entry-at-requires c κs =
-    let (ready, factor, plan) = c .before .before .before .before .before .before .before .before .pre in
+    let (ready, factor, plan, tables) = c .before .before .before .before .before .before .before .before .pre in
     (omega arith, rw plan (shift-below _ (ready .sound) _ (ready .row)), c .before .before .before .loop-test .taken, rw plan (base-room _))
 
 mul-at : tie.Need-mul-at Inv-loop μ-loop
@@ -93,11 +93,12 @@ slice-read-before c = omega (arith, inside (c .before .before .before .before .b
 
 renewed-requires : tie.Need-renewed-requires Inv-loop μ-loop
 renewed-requires c κs =
-    let (ready, factor, plan) = c .before .before .before .before .before .before .before .before .before .before .pre in (
+    let (ready, factor, plan, tables) = c .before .before .before .before .before .before .before .before .before .before .pre in (
       ready .sound,
       factor,
       rw (c .before .entry-at .ensures, entry-read _ (ready .sound) _ plan _ _ (ready .row) (c .before .before .before .before .before .loop-test .taken)) (entry-below _ (ready .sound) _ _),
       held (c .before .before .before .before .before),
+      tables,
     )
 
 slice-write-shares : tie.Need-slice-write-shares Inv-loop μ-loop
@@ -114,7 +115,7 @@ loop-less c = omega arith
 
 loop-again : tie.Need-loop-again Inv-loop μ-loop
 loop-again c =
-    let (ready, factor, plan) = c .before .before .before .before .before .before .before .before .before .before .before .before .pre in
+    let (ready, factor, plan, tables) = c .before .before .before .before .before .before .before .before .before .before .before .before .pre in
     let turn = c .before .before .before .before .before .before .before .before .loop .inv in
     let node = c .before .before .before .before .before .before .before .loop-test .taken in
     ⊎-elim
@@ -127,7 +128,7 @@ same-length c = kept (c .before)
 
 returns : tie.Need-returns Inv-loop μ-loop
 returns c =
-    let (ready, factor, plan) = c .before .before .before .before .before .pre in
+    let (ready, factor, plan, tables) = c .before .before .before .before .before .pre in
     rewriting-end _ _ _ _ _ _ (ready .lane) (c .before .loop .inv) (c .loop-test .left) (ready .long)
 
 pub rewrite-spec : {M : Type 1} → statement M

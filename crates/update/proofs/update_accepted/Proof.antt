@@ -42,10 +42,13 @@ sub-requires c κs =
 plan-of-requires : tie.Need-plan-of-requires
 plan-of-requires c κs = search needs
 
+constant-tables-requires : tie.Need-constant-tables-requires
+constant-tables-requires c κs = search needs
+
 rewrite-requires : tie.Need-rewrite-requires
 rewrite-requires c κs =
-    let (lane, old, new) = ready (c .before .before .before) in
-    (lane, rw (c .before .before .sub .ensures) (sub-below _ (lane .sound .field) new old), c .before .plan-of .ensures)
+    let (lane, old, new) = ready (c .before .before .before .before .before .before .before) in
+    (lane, rw (c .before .before .before .before .before .before .sub .ensures) (sub-below _ (lane .sound .field) new old), c .before .before .before .before .before .plan-of .ensures, c .before .before .before .before .constant-tables .ensures)
 
 same-length-2 : tie.Need-same-length-2
 same-length-2 c = search needs
@@ -54,7 +57,7 @@ returns-2 : tie.Need-returns-2
 unfolding updated
 returns-2 c =
     let (done, counted) = c .before .before .rewrite .ensures in
-    altered-says _ _ _ _ _ _ _ _ _ _ (none (c .before .before .before .before .before .before)) (rw (← c .before .before .before .before .before .sub .ensures) done) counted
+    altered-says _ _ _ _ _ _ _ _ _ _ (none (c .before .before .before .before .before .before .before .before .before .before)) (rw (← c .before .before .before .before .before .before .before .before .before .sub .ensures) done) counted
 
 pub update-accepted-spec : {M : Type 1} → statement M
 update-accepted-spec =
@@ -65,6 +68,7 @@ update-accepted-spec =
     returns
     sub-requires
     plan-of-requires
+    constant-tables-requires
     rewrite-requires
     same-length-2
     returns-2)

@@ -15,17 +15,17 @@ symbols : (c : tie.Start)
     → let q = size (c .args .h) in
     (c .args .scale < q) × (c .args .pole < q) × (c .args .x < q) × (c .args .entry < q)
 symbols c =
-    let (s, scale, pole, low, apart, entry) = c .pre in
+    let (s, scale, pole, low, apart, entry, tables) = c .pre in
     (rw scale (power-below _ (s .field) _ (s .root-below)), rw pole (power-below _ (s .field) _ (s .root-below)), low, rw entry (baseAt-below _ s low))
 
-mul-requires : tie.Need-mul-requires
-mul-requires c κs = let t = symbols c in (c .pre .0 .usable-field, omega arith, omega arith)
+mul-with-requires : tie.Need-mul-with-requires
+mul-with-requires c κs = let t = symbols c in (c .pre .0 .usable-field, omega arith, omega arith, c .pre .6)
 
 sub-requires : tie.Need-sub-requires
 sub-requires c κs =
     let s = c .before .pre .0 in
     let t = symbols (c .before) in
-    (s .usable-field, rw (c .mul .ensures) (mul-below _ (s .field) (omega arith) (omega arith)), t .1)
+    (s .usable-field, rw (c .mul-with .ensures) (mul-below _ (s .field) (omega arith) (omega arith)), t .1)
 
 sub-requires-2 : tie.Need-sub-requires-2
 sub-requires-2 c κs = let t = symbols (c .before .before) in (c .before .before .pre .0 .usable-field, omega arith, omega arith)
@@ -37,40 +37,41 @@ differences : (c : tie.After-sub2)
 differences c =
     let v = c .before .before .before .pre .0 .field in
     let t = symbols (c .before .before .before) in (
-      rw (c .before .sub .ensures, c .before .before .mul .ensures) (sub-below _ v (mul-below _ v (omega arith) (omega arith)) (omega arith)),
+      rw (c .before .sub .ensures, c .before .before .mul-with .ensures) (sub-below _ v (mul-below _ v (omega arith) (omega arith)) (omega arith)),
       rw (c .sub2 .ensures) (sub-below _ v (omega arith) (omega arith)),
     )
 
-mul-requires-2 : tie.Need-mul-requires-2
-mul-requires-2 c κs =
+mul-with-requires-2 : tie.Need-mul-with-requires-2
+mul-with-requires-2 c κs =
     let t = symbols (c .before .before .before) in
     let d = differences c in
-    (c .before .before .before .pre .0 .usable-field, omega arith, omega arith)
+    (c .before .before .before .pre .0 .usable-field, omega arith, omega arith, c .before .before .before .pre .6)
 
-inverse-requires : tie.Need-inverse-requires
-inverse-requires c κs = let d = differences (c .before) in (c .before .before .before .before .pre .0 .usable-field, omega arith)
+inverse-with-requires : tie.Need-inverse-with-requires
+inverse-with-requires c κs = let d = differences (c .before) in (c .before .before .before .before .pre .0 .usable-field, omega arith, c .before .before .before .before .pre .6)
 
-mul-requires-3 : tie.Need-mul-requires-3
-mul-requires-3 c κs =
+mul-with-requires-3 : tie.Need-mul-with-requires-3
+mul-with-requires-3 c κs =
     let s = c .before .before .before .before .before .pre .0 in
     let t = symbols (c .before .before .before .before .before) in
     let d = differences (c .before .before) in (
       s .usable-field,
-      rw (c .before .mul2 .ensures) (mul-below _ (s .field) (omega arith) (omega arith)),
-      rw (c .inverse .ensures) (inverse-below _ (s .field) (omega arith)),
+      rw (c .before .mul-with2 .ensures) (mul-below _ (s .field) (omega arith) (omega arith)),
+      rw (c .inverse-with .ensures) (inverse-below _ (s .field) (omega arith)),
+      c .before .before .before .before .before .pre .6,
     )
 
 returns : tie.Need-returns
 returns c =
     let a = c .before .before .before .before .before .before .args in
-    let (s, scale, pole, low, apart, entry) = c .before .before .before .before .before .before .pre in
+    let (s, scale, pole, low, apart, entry, tables) = c .before .before .before .before .before .before .pre in
     rw (
-      c .mul3 .ensures,
-      c .before .inverse .ensures,
-      c .before .before .mul2 .ensures,
+      c .mul-with3 .ensures,
+      c .before .inverse-with .ensures,
+      c .before .before .mul-with2 .ensures,
       c .before .before .before .sub2 .ensures,
       c .before .before .before .before .sub .ensures,
-      c .before .before .before .before .before .mul .ensures,
+      c .before .before .before .before .before .mul-with .ensures,
       scale,
       pole,
       entry,
@@ -80,10 +81,10 @@ pub next-entry-spec : {M : Type 1} → statement M
 next-entry-spec =
     tie.close
     (tie.spec
-    mul-requires
+    mul-with-requires
     sub-requires
     sub-requires-2
-    mul-requires-2
-    inverse-requires
-    mul-requires-3
+    mul-with-requires-2
+    inverse-with-requires
+    mul-with-requires-3
     returns)
