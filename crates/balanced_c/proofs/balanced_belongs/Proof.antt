@@ -27,12 +27,4 @@ returns-3 c = belongs-refuses _ _ _ _ _ (c .before .before .before .block-belong
 
 pub balanced-belongs-spec : {M : Type 1} → statement M
 balanced-belongs-spec =
-    tie.close
-    (tie.spec
-    block-belongs-requires
-    enum-told
-    enum-known-lane
-    enum-known-number
-    returns
-    returns-2
-    returns-3)
+    tie.close (tie.spec block-belongs-requires enum-told enum-known-lane enum-known-number returns returns-2 returns-3)

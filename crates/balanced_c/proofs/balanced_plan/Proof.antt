@@ -60,16 +60,4 @@ returns-2 c =
 
 pub balanced-plan-spec : {M : Type 1} → statement M
 balanced-plan-spec =
-    tie.close
-    (tie.spec
-    build-plan-requires
-    plan-fault-requires
-    returns
-    put-numbers-requires
-    put-rows-requires
-    copy-bytes-requires
-    same-length
-    same-length-2
-    same-length-3
-    same-length-4
-    returns-2)
+    tie.close (tie.spec build-plan-requires plan-fault-requires returns put-numbers-requires put-rows-requires copy-bytes-requires same-length same-length-2 same-length-3 same-length-4 returns-2)

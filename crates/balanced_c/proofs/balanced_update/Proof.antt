@@ -27,12 +27,4 @@ returns-2 c = update-refuses _ _ _ _ _ _ _ _ _ _ (c .before .before .before .bef
 
 pub balanced-update-spec : {M : Type 1} → statement M
 balanced-update-spec =
-    tie.close
-    (tie.spec
-    update-lane-requires
-    enum-known-count
-    enum-known-number
-    same-length
-    returns
-    same-length-2
-    returns-2)
+    tie.close (tie.spec update-lane-requires enum-known-count enum-known-number same-length returns same-length-2 returns-2)

@@ -38,15 +38,4 @@ returns c = fills-copied (c .before .loop .inv .1) (c .loop-test .left) (omega a
 
 pub copy-spec : {M : Type 1} → statement M
 copy-spec =
-    tie.close
-    (tie.spec
-    Inv-loop
-    μ-loop
-    loop-holds
-    shared-slice-read-to
-    slice-write-to
-    add-i
-    loop-less
-    loop-again
-    same-length
-    returns)
+    tie.close (tie.spec Inv-loop μ-loop loop-holds shared-slice-read-to slice-write-to add-i loop-less loop-again same-length returns)

@@ -47,17 +47,4 @@ returns c = fills-copied (c .before .loop .inv .1) (c .loop-test .left) (omega a
 
 pub copy-bytes-spec : {M : Type 1} → statement M
 copy-bytes-spec =
-    tie.close
-    (tie.spec
-    Inv-loop
-    μ-loop
-    loop-holds
-    mul-to
-    shared-slice-read-to
-    cast-to
-    slice-write-to
-    add-i
-    loop-less
-    loop-again
-    same-length
-    returns)
+    tie.close (tie.spec Inv-loop μ-loop loop-holds mul-to shared-slice-read-to cast-to slice-write-to add-i loop-less loop-again same-length returns)

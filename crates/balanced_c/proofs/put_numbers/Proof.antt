@@ -31,12 +31,4 @@ returns c = five-set (c .args .numbers .now) _ _ _ _ _ (c .pre)
 
 pub put-numbers-spec : {M : Type 1} → statement M
 put-numbers-spec =
-    tie.close
-    (tie.spec
-    slice-write-numbers
-    slice-write-numbers-2
-    slice-write-numbers-3
-    slice-write-numbers-4
-    slice-write-numbers-5
-    same-length
-    returns)
+    tie.close (tie.spec slice-write-numbers slice-write-numbers-2 slice-write-numbers-3 slice-write-numbers-4 slice-write-numbers-5 same-length returns)

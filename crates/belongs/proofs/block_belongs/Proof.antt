@@ -31,11 +31,4 @@ returns-2 c =
 
 pub block-belongs-spec : {M : Type 1} → statement M
 block-belongs-spec =
-    tie.close
-    (tie.spec
-    read-record-requires
-    enum-known-h
-    test-accepted-requires
-    enum-known-number
-    returns
-    returns-2)
+    tie.close (tie.spec read-record-requires enum-known-h test-accepted-requires enum-known-number returns returns-2)

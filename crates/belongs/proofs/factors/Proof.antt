@@ -76,19 +76,4 @@ returns c =
 
 pub factors-spec : {M : Type 1} → statement M
 factors-spec =
-    tie.close
-    (tie.spec
-    Inv-loop
-    μ-loop
-    cast-n
-    loop-holds
-    mul-i
-    rem-i
-    mul-out
-    shared-slice-read-out
-    mul-out-2
-    array-write-out
-    add-j
-    loop-less
-    loop-again
-    returns)
+    tie.close (tie.spec Inv-loop μ-loop cast-n loop-holds mul-i rem-i mul-out shared-slice-read-out mul-out-2 array-write-out add-j loop-less loop-again returns)

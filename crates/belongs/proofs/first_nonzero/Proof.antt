@@ -41,14 +41,4 @@ returns-2 c = sym (c .before .loop .inv .1 ∙ search-end _ _ _ (c .loop-test .l
 
 pub first-nonzero-spec : {M : Type 1} → statement M
 first-nonzero-spec =
-    tie.close
-    (tie.spec
-    Inv-loop
-    μ-loop
-    loop-holds
-    shared-slice-read-if1
-    add-t
-    loop-less
-    loop-again
-    returns
-    returns-2)
+    tie.close (tie.spec Inv-loop μ-loop loop-holds shared-slice-read-if1 add-t loop-less loop-again returns returns-2)

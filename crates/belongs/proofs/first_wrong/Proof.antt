@@ -90,24 +90,4 @@ returns c =
 
 pub first-wrong-spec : {M : Type 1} → statement M
 first-wrong-spec =
-    tie.close
-    (tie.spec
-    Inv-loop
-    μ-loop
-    sub-checks
-    cast-checks
-    powers-requires
-    loop-holds
-    slice-aggregate-lane-sums
-    add-lane-sums
-    array-borrow-prefix-sums
-    slice-aggregate-lane-sums-2
-    lane-sums-requires
-    array-share-prefix-sums
-    slice-aggregate-first-nonzero
-    first-nonzero-requires
-    smaller-requires
-    add-e
-    loop-less
-    loop-again
-    returns)
+    tie.close (tie.spec Inv-loop μ-loop sub-checks cast-checks powers-requires loop-holds slice-aggregate-lane-sums add-lane-sums array-borrow-prefix-sums slice-aggregate-lane-sums-2 lane-sums-requires array-share-prefix-sums slice-aggregate-first-nonzero first-nonzero-requires smaller-requires add-e loop-less loop-again returns)

@@ -62,17 +62,4 @@ returns c = filled-end (c .before .loop .inv .1) (c .loop-test .left)
 
 pub powers-with-spec : {M : Type 1} → statement M
 powers-with-spec =
-    tie.close
-    (tie.spec
-    Inv-loop
-    μ-loop
-    cast-n
-    loop-holds
-    cast-out
-    mul-out
-    array-write-out
-    mul-with-requires
-    add-i
-    loop-less
-    loop-again
-    returns)
+    tie.close (tie.spec Inv-loop μ-loop cast-n loop-holds cast-out mul-out array-write-out mul-with-requires add-i loop-less loop-again returns)

@@ -55,21 +55,4 @@ returns c = search needs
 
 pub answers-spec : {M : Type 1} → statement M
 answers-spec =
-    tie.close
-    (tie.spec
-    Inv-loop
-    μ-loop
-    slice-aggregate-start
-    start-requires
-    loop-holds
-    line-end-requires
-    sub-answer
-    part-answer-start
-    part-answer-end
-    answer-requires
-    slice-aggregate-text
-    text-requires
-    add-at
-    loop-less
-    loop-again
-    returns)
+    tie.close (tie.spec Inv-loop μ-loop slice-aggregate-start start-requires loop-holds line-end-requires sub-answer part-answer-start part-answer-end answer-requires slice-aggregate-text text-requires add-at loop-less loop-again returns)

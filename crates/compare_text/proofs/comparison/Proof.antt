@@ -60,14 +60,4 @@ returns-2 c =
 
 pub comparison-spec : {M : Type 1} → statement M
 comparison-spec =
-    tie.close
-    (tie.spec
-    read-record-requires
-    enum-known-h
-    put-comparison-requires
-    enum-known-number
-    slice-aggregate-put-line
-    slice-aggregate-put-line-2
-    put-line-requires
-    returns
-    returns-2)
+    tie.close (tie.spec read-record-requires enum-known-h put-comparison-requires enum-known-number slice-aggregate-put-line slice-aggregate-put-line-2 put-line-requires returns returns-2)

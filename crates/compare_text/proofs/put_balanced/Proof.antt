@@ -36,13 +36,4 @@ returns c =
 
 pub put-balanced-spec : {M : Type 1} → statement M
 put-balanced-spec =
-    tie.close
-    (tie.spec
-    distance-of-requires
-    low-reads-requires
-    high-reads-requires
-    slice-aggregate-put-cost
-    slice-aggregate-put-cost-2
-    put-cost-requires
-    same-length
-    returns)
+    tie.close (tie.spec distance-of-requires low-reads-requires high-reads-requires slice-aggregate-put-cost slice-aggregate-put-cost-2 put-cost-requires same-length returns)

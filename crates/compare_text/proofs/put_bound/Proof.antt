@@ -33,12 +33,4 @@ returns c =
 
 pub put-bound-spec : {M : Type 1} → statement M
 put-bound-spec =
-    tie.close
-    (tie.spec
-    distance-of-requires
-    high-reads-requires
-    slice-aggregate-put-cost
-    slice-aggregate-put-cost-2
-    put-cost-requires
-    same-length
-    returns)
+    tie.close (tie.spec distance-of-requires high-reads-requires slice-aggregate-put-cost slice-aggregate-put-cost-2 put-cost-requires same-length returns)

@@ -41,13 +41,4 @@ returns c =
 
 pub put-comparison-spec : {M : Type 1} → statement M
 put-comparison-spec =
-    tie.close
-    (tie.spec
-    slice-aggregate-put-line
-    slice-aggregate-put-line-2
-    put-line-requires
-    put-plain-requires
-    put-balanced-requires
-    put-bound-requires
-    same-length
-    returns)
+    tie.close (tie.spec slice-aggregate-put-line slice-aggregate-put-line-2 put-line-requires put-plain-requires put-balanced-requires put-bound-requires same-length returns)

@@ -33,12 +33,4 @@ returns c =
 
 pub put-plain-spec : {M : Type 1} → statement M
 put-plain-spec =
-    tie.close
-    (tie.spec
-    distance-of-requires
-    plain-greatest-requires
-    slice-aggregate-put-cost
-    slice-aggregate-put-cost-2
-    put-cost-requires
-    same-length
-    returns)
+    tie.close (tie.spec distance-of-requires plain-greatest-requires slice-aggregate-put-cost slice-aggregate-put-cost-2 put-cost-requires same-length returns)

@@ -59,16 +59,4 @@ returns c = filled-end (c .before .loop .inv) (c .loop-test .left)
 
 pub column-spec : {M : Type 1} → statement M
 column-spec =
-    tie.close
-    (tie.spec
-    Inv-loop
-    μ-loop
-    cast-k
-    loop-holds
-    coefficient-requires
-    mul-out
-    array-write-out
-    add-r
-    loop-less
-    loop-again
-    returns)
+    tie.close (tie.spec Inv-loop μ-loop cast-k loop-holds coefficient-requires mul-out array-write-out add-r loop-less loop-again returns)

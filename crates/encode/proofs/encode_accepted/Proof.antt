@@ -37,11 +37,4 @@ returns-2 c =
 
 pub encode-accepted-spec : {M : Type 1} → statement M
 encode-accepted-spec =
-    tie.close
-    (tie.spec
-    encode-fault-requires
-    returns
-    plan-of-requires
-    fill-shares-requires
-    same-length
-    returns-2)
+    tie.close (tie.spec encode-fault-requires returns plan-of-requires fill-shares-requires same-length returns-2)

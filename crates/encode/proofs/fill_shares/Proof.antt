@@ -88,20 +88,4 @@ returns c =
 
 pub fill-shares-spec : {M : Type 1} → statement M
 fill-shares-spec =
-    tie.close
-    (tie.spec
-    Inv-loop
-    μ-loop
-    cast-n
-    loop-holds
-    mul-start
-    add-end
-    sub-fill-share
-    part-fill-share-start
-    part-fill-share-end
-    fill-share-requires
-    add-node
-    loop-less
-    loop-again
-    same-length
-    returns)
+    tie.close (tie.spec Inv-loop μ-loop cast-n loop-holds mul-start add-end sub-fill-share part-fill-share-start part-fill-share-end fill-share-requires add-node loop-less loop-again same-length returns)

@@ -45,18 +45,4 @@ returns-2 c = search needs
 
 pub inverses-spec : {M : Type 1} → statement M
 inverses-spec =
-    tie.close
-    (tie.spec
-    Inv-loop
-    μ-loop
-    slice-aggregate-text
-    text-requires
-    loop-holds
-    inverse-requires
-    cast-number
-    number-requires
-    add-a
-    loop-less
-    loop-again
-    returns
-    returns-2)
+    tie.close (tie.spec Inv-loop μ-loop slice-aggregate-text text-requires loop-holds inverse-requires cast-number number-requires add-a loop-less loop-again returns returns-2)

@@ -45,18 +45,4 @@ returns-2 c = search needs
 
 pub row-spec : {M : Type 1} → statement M
 row-spec =
-    tie.close
-    (tie.spec
-    Inv-loop
-    μ-loop
-    slice-aggregate-value
-    value-requires
-    slice-aggregate-text
-    text-requires
-    loop-holds
-    print-product-requires
-    add-b
-    loop-less
-    loop-again
-    returns
-    returns-2)
+    tie.close (tie.spec Inv-loop μ-loop slice-aggregate-value value-requires slice-aggregate-text text-requires loop-holds print-product-requires add-b loop-less loop-again returns returns-2)

@@ -45,15 +45,4 @@ returns c m = c .before .loop .inv .1 m ∙ below-end m _ _ _ (c .before .loop .
 
 pub largest-spec : {M : Type 1} → statement M
 largest-spec =
-    tie.close
-    (tie.spec
-    Inv-loop
-    μ-loop
-    shared-slice-read-top
-    loop-holds
-    shared-slice-read-larger
-    larger-requires
-    add-t
-    loop-less
-    loop-again
-    returns)
+    tie.close (tie.spec Inv-loop μ-loop shared-slice-read-top loop-holds shared-slice-read-larger larger-requires add-t loop-less loop-again returns)

@@ -39,12 +39,4 @@ returns-2 c = says _ _ _ _ (c .before .before .before .before .read-record .ensu
 
 pub build-plan-spec : {M : Type 1} → statement M
 build-plan-spec =
-    tie.close
-    (tie.spec
-    read-record-requires
-    enum-known-h
-    plan-of-requires
-    enum-known-number
-    refused-requires
-    returns
-    returns-2)
+    tie.close (tie.spec read-record-requires enum-known-h plan-of-requires enum-known-number refused-requires returns returns-2)

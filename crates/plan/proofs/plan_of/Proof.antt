@@ -29,11 +29,4 @@ returns c =
 
 pub plan-of-spec : {M : Type 1} → statement M
 plan-of-spec =
-    tie.close
-    (tie.spec
-    distance-of-requires
-    low-reads-requires
-    high-reads-requires
-    place-rows-requires
-    fill-base-requires
-    returns)
+    tie.close (tie.spec distance-of-requires low-reads-requires high-reads-requires place-rows-requires fill-base-requires returns)

@@ -104,28 +104,4 @@ returns-7 c = search tests
 
 pub read-record-spec : {M : Type 1} → statement M
 read-record-spec =
-    tie.close
-    (tie.spec
-    returns
-    shared-slice-read-kind
-    returns-2
-    shared-slice-read-p
-    cast-p
-    is-prime-byte-requires
-    returns-3
-    new-requires
-    shared-slice-read-t14
-    cast-t18
-    shared-slice-read-t20
-    shared-slice-read-t22
-    judge-requires
-    returns-4
-    new-requires-2
-    shared-slice-read-t28
-    cast-t29
-    shared-slice-read-t31
-    shared-slice-read-t33
-    judge-requires-2
-    returns-5
-    returns-6
-    returns-7)
+    tie.close (tie.spec returns shared-slice-read-kind returns-2 shared-slice-read-p cast-p is-prime-byte-requires returns-3 new-requires shared-slice-read-t14 cast-t18 shared-slice-read-t20 shared-slice-read-t22 judge-requires returns-4 new-requires-2 shared-slice-read-t28 cast-t29 shared-slice-read-t31 shared-slice-read-t33 judge-requires-2 returns-5 returns-6 returns-7)

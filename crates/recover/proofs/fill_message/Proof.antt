@@ -121,23 +121,4 @@ returns c =
 
 pub fill-message-spec : {M : Type 1} → statement M
 fill-message-spec =
-    tie.close
-    (tie.spec
-    Inv-loop
-    μ-loop
-    cast-k
-    loop-holds
-    cast-recover-weights
-    recover-weights-requires
-    mul-start
-    add-end
-    slice-aggregate-combine
-    sub-combine
-    part-combine-start
-    part-combine-end
-    combine-requires
-    add-r
-    loop-less
-    loop-again
-    same-length
-    returns)
+    tie.close (tie.spec Inv-loop μ-loop cast-k loop-holds cast-recover-weights recover-weights-requires mul-start add-end slice-aggregate-combine sub-combine part-combine-start part-combine-end combine-requires add-r loop-less loop-again same-length returns)

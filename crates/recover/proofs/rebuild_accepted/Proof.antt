@@ -64,13 +64,4 @@ returns-2 c =
 
 pub rebuild-accepted-spec : {M : Type 1} → statement M
 rebuild-accepted-spec =
-    tie.close
-    (tie.spec
-    rebuild-fault-requires
-    returns
-    cast-k
-    rebuild-weights-requires
-    slice-aggregate-combine
-    combine-requires
-    same-length
-    returns-2)
+    tie.close (tie.spec rebuild-fault-requires returns cast-k rebuild-weights-requires slice-aggregate-combine combine-requires same-length returns-2)

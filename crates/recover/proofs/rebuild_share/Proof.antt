@@ -34,12 +34,4 @@ returns-2 c =
 
 pub rebuild-share-spec : {M : Type 1} → statement M
 rebuild-share-spec =
-    tie.close
-    (tie.spec
-    read-record-requires
-    enum-known-h
-    rebuild-accepted-requires
-    enum-known-number
-    same-length
-    returns
-    returns-2)
+    tie.close (tie.spec read-record-requires enum-known-h rebuild-accepted-requires enum-known-number same-length returns returns-2)

@@ -86,15 +86,4 @@ returns-2 c =
 
 pub recover-accepted-spec : {M : Type 1} → statement M
 recover-accepted-spec =
-    tie.close
-    (tie.spec
-    recover-fault-requires
-    returns
-    cast-k
-    fill-shifts-requires
-    array-share-prefix-shifts
-    slice-aggregate-prepare
-    prepare-requires
-    fill-message-requires
-    same-length
-    returns-2)
+    tie.close (tie.spec recover-fault-requires returns cast-k fill-shifts-requires array-share-prefix-shifts slice-aggregate-prepare prepare-requires fill-message-requires same-length returns-2)

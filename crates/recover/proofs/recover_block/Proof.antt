@@ -34,12 +34,4 @@ returns-2 c =
 
 pub recover-block-spec : {M : Type 1} → statement M
 recover-block-spec =
-    tie.close
-    (tie.spec
-    read-record-requires
-    enum-known-h
-    recover-accepted-requires
-    enum-known-number
-    same-length
-    returns
-    returns-2)
+    tie.close (tie.spec read-record-requires enum-known-h recover-accepted-requires enum-known-number same-length returns returns-2)

@@ -55,13 +55,4 @@ returns c =
 
 pub lagrange-basis-spec : {M : Type 1} → statement M
 lagrange-basis-spec =
-    tie.close
-    (tie.spec
-    points-requires
-    array-share-prefix-points
-    slice-aggregate-scales
-    scales-requires
-    array-share-prefix-points-2
-    slice-aggregate-product
-    product-requires
-    returns)
+    tie.close (tie.spec points-requires array-share-prefix-points slice-aggregate-scales scales-requires array-share-prefix-points-2 slice-aggregate-product product-requires returns)

@@ -72,15 +72,4 @@ returns c =
 
 pub prepare-spec : {M : Type 1} → statement M
 prepare-spec =
-    tie.close
-    (tie.spec
-    cast-k
-    sub-m
-    base-requires
-    array-share-prefix-base
-    slice-aggregate-inverses
-    inverses-requires
-    lagrange-basis-requires
-    cast-lagrange-basis
-    lagrange-basis-requires-2
-    returns)
+    tie.close (tie.spec cast-k sub-m base-requires array-share-prefix-base slice-aggregate-inverses inverses-requires lagrange-basis-requires cast-lagrange-basis lagrange-basis-requires-2 returns)

@@ -63,12 +63,4 @@ returns c =
 
 pub rebuild-weights-spec : {M : Type 1} → statement M
 rebuild-weights-spec =
-    tie.close
-    (tie.spec
-    cast-k
-    power-requires
-    points-requires
-    array-share-prefix-points
-    slice-aggregate-basis-values
-    basis-values-requires
-    returns)
+    tie.close (tie.spec cast-k power-requires points-requires array-share-prefix-points slice-aggregate-basis-values basis-values-requires returns)

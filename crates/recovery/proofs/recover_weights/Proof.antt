@@ -139,23 +139,4 @@ returns c =
 
 pub recover-weights-spec : {M : Type 1} → statement M
 recover-weights-spec =
-    tie.close
-    (tie.spec
-    cast-k
-    add-end
-    row-terms-requires
-    mul-row-weights
-    array-read-row-weights
-    cast-row-weights
-    array-share-prefix-terms
-    slice-aggregate-row-weights
-    mul-row-weights-2
-    sub-row-weights
-    part-row-weights-start
-    part-row-weights-end
-    array-share-prefix-points
-    slice-aggregate-row-weights-2
-    array-share-prefix-scales
-    slice-aggregate-row-weights-3
-    row-weights-requires
-    returns)
+    tie.close (tie.spec cast-k add-end row-terms-requires mul-row-weights array-read-row-weights cast-row-weights array-share-prefix-terms slice-aggregate-row-weights mul-row-weights-2 sub-row-weights part-row-weights-start part-row-weights-end array-share-prefix-points slice-aggregate-row-weights-2 array-share-prefix-scales slice-aggregate-row-weights-3 row-weights-requires returns)

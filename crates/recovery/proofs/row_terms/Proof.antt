@@ -83,18 +83,4 @@ returns c =
 
 pub row-terms-spec : {M : Type 1} → statement M
 row-terms-spec =
-    tie.close
-    (tie.spec
-    cast-k
-    add-end
-    mul-quotient-terms
-    array-read-quotient-terms
-    cast-quotient-terms
-    mul-quotient-terms-2
-    sub-quotient-terms
-    part-quotient-terms-start
-    part-quotient-terms-end
-    array-share-prefix-base
-    slice-aggregate-quotient-terms
-    quotient-terms-requires
-    returns)
+    tie.close (tie.spec cast-k add-end mul-quotient-terms array-read-quotient-terms cast-quotient-terms mul-quotient-terms-2 sub-quotient-terms part-quotient-terms-start part-quotient-terms-end array-share-prefix-base slice-aggregate-quotient-terms quotient-terms-requires returns)

@@ -43,17 +43,4 @@ returns c = search needs
 
 pub answers-spec : {M : Type 1} → statement M
 answers-spec =
-    tie.close
-    (tie.spec
-    Inv-loop
-    μ-loop
-    loop-holds
-    line-end-requires
-    sub-answer
-    part-answer-start
-    part-answer-end
-    answer-requires
-    add-at
-    loop-less
-    loop-again
-    returns)
+    tie.close (tie.spec Inv-loop μ-loop loop-holds line-end-requires sub-answer part-answer-start part-answer-end answer-requires add-at loop-less loop-again returns)

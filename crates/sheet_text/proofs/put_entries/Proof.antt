@@ -72,18 +72,4 @@ returns c =
 
 pub put-entries-spec : {M : Type 1} → statement M
 put-entries-spec =
-    tie.close
-    (tie.spec
-    Inv-loop
-    μ-loop
-    loop-holds
-    cast-entry
-    entry-requires
-    cast-put-field
-    put-field-requires
-    add-j
-    loop-less
-    loop-again
-    put-byte-requires
-    same-length
-    returns)
+    tie.close (tie.spec Inv-loop μ-loop loop-holds cast-entry entry-requires cast-put-field put-field-requires add-j loop-less loop-again put-byte-requires same-length returns)

@@ -39,13 +39,4 @@ returns-2 c =
 
 pub put-head-spec : {M : Type 1} → statement M
 put-head-spec =
-    tie.close
-    (tie.spec
-    slice-aggregate-put-line
-    slice-aggregate-put-line-2
-    put-line-requires
-    same-length
-    returns
-    put-numbers-requires
-    same-length-2
-    returns-2)
+    tie.close (tie.spec slice-aggregate-put-line slice-aggregate-put-line-2 put-line-requires same-length returns put-numbers-requires same-length-2 returns-2)

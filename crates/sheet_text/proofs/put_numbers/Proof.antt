@@ -45,15 +45,4 @@ returns-2 c =
 
 pub put-numbers-spec : {M : Type 1} → statement M
 put-numbers-spec =
-    tie.close
-    (tie.spec
-    slice-aggregate-put-line
-    slice-aggregate-put-line-2
-    put-line-requires
-    same-length
-    returns
-    slice-aggregate-put-line-3
-    slice-aggregate-put-line-4
-    put-line-requires-2
-    same-length-2
-    returns-2)
+    tie.close (tie.spec slice-aggregate-put-line slice-aggregate-put-line-2 put-line-requires same-length returns slice-aggregate-put-line-3 slice-aggregate-put-line-4 put-line-requires-2 same-length-2 returns-2)

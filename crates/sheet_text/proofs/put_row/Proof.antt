@@ -48,15 +48,4 @@ returns c =
 
 pub put-row-spec : {M : Type 1} → statement M
 put-row-spec =
-    tie.close
-    (tie.spec
-    slice-aggregate-put-word
-    put-word-requires
-    put-field-requires
-    element-copy-out-put-field
-    put-field-requires-2
-    element-copy-out-put-field-2
-    put-field-requires-3
-    put-entries-requires
-    same-length
-    returns)
+    tie.close (tie.spec slice-aggregate-put-word put-word-requires put-field-requires element-copy-out-put-field put-field-requires-2 element-copy-out-put-field-2 put-field-requires-3 put-entries-requires same-length returns)

@@ -66,17 +66,4 @@ returns-2 c =
 
 pub put-sheet-spec : {M : Type 1} → statement M
 put-sheet-spec =
-    tie.close
-    (tie.spec
-    Inv-loop
-    μ-loop
-    put-head-requires
-    same-length
-    returns
-    loop-holds
-    put-row-requires
-    add-r
-    loop-less
-    loop-again
-    same-length-2
-    returns-2)
+    tie.close (tie.spec Inv-loop μ-loop put-head-requires same-length returns loop-holds put-row-requires add-r loop-less loop-again same-length-2 returns-2)

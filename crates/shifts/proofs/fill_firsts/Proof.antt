@@ -71,19 +71,4 @@ returns c = filled-end (c .before .loop .inv) (c .loop-test .left)
 
 pub fill-firsts-spec : {M : Type 1} → statement M
 fill-firsts-spec =
-    tie.close
-    (tie.spec
-    Inv-loop
-    μ-loop
-    loop-holds
-    cast-shift
-    element-copy-out-shift
-    cast-shift-2
-    negative-requires
-    cast-out
-    cast-out-2
-    array-write-out
-    add-r
-    loop-less
-    loop-again
-    returns)
+    tie.close (tie.spec Inv-loop μ-loop loop-holds cast-shift element-copy-out-shift cast-shift-2 negative-requires cast-out cast-out-2 array-write-out add-r loop-less loop-again returns)

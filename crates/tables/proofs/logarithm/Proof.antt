@@ -35,14 +35,4 @@ returns-2 c = search needs
 
 pub logarithm-spec : {M : Type 1} → statement M
 logarithm-spec =
-    tie.close
-    (tie.spec
-    Inv-loop
-    μ-loop
-    loop-holds
-    next-requires
-    add-e
-    loop-less
-    loop-again
-    returns
-    returns-2)
+    tie.close (tie.spec Inv-loop μ-loop loop-holds next-requires add-e loop-less loop-again returns returns-2)

@@ -33,14 +33,4 @@ returns c = search needs
 
 pub logarithms-spec : {M : Type 1} → statement M
 logarithms-spec =
-    tie.close
-    (tie.spec
-    Inv-loop
-    μ-loop
-    loop-holds
-    logarithm-requires
-    line-requires
-    add-a
-    loop-less
-    loop-again
-    returns)
+    tie.close (tie.spec Inv-loop μ-loop loop-holds logarithm-requires line-requires add-a loop-less loop-again returns)

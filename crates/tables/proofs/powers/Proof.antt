@@ -35,14 +35,4 @@ returns c = search needs
 
 pub powers-spec : {M : Type 1} → statement M
 powers-spec =
-    tie.close
-    (tie.spec
-    Inv-loop
-    μ-loop
-    loop-holds
-    line-requires
-    next-requires
-    add-e
-    loop-less
-    loop-again
-    returns)
+    tie.close (tie.spec Inv-loop μ-loop loop-holds line-requires next-requires add-e loop-less loop-again returns)

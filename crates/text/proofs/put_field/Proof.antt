@@ -68,23 +68,4 @@ returns-3 c =
 
 pub put-field-spec : {M : Type 1} → statement M
 put-field-spec =
-    tie.close
-    (tie.spec
-    add-t8
-    slice-aggregate-put-word
-    put-word-requires
-    same-length
-    returns
-    add-t15
-    add-t17
-    slice-aggregate-put-word-2
-    put-word-requires-2
-    same-length-2
-    returns-2
-    add-t24
-    add-t27
-    add-t29
-    slice-aggregate-put-word-3
-    put-word-requires-3
-    same-length-3
-    returns-3)
+    tie.close (tie.spec add-t8 slice-aggregate-put-word put-word-requires same-length returns add-t15 add-t17 slice-aggregate-put-word-2 put-word-requires-2 same-length-2 returns-2 add-t24 add-t27 add-t29 slice-aggregate-put-word-3 put-word-requires-3 same-length-3 returns-3)

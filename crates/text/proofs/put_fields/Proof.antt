@@ -58,16 +58,4 @@ returns c =
 
 pub put-fields-spec : {M : Type 1} → statement M
 put-fields-spec =
-    tie.close
-    (tie.spec
-    Inv-loop
-    μ-loop
-    loop-holds
-    shared-slice-read-put-field
-    put-field-requires
-    add-i
-    loop-less
-    loop-again
-    put-byte-requires
-    same-length
-    returns)
+    tie.close (tie.spec Inv-loop μ-loop loop-holds shared-slice-read-put-field put-field-requires add-i loop-less loop-again put-byte-requires same-length returns)

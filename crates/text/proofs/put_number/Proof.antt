@@ -58,17 +58,4 @@ returns c =
 
 pub put-number-spec : {M : Type 1} → statement M
 put-number-spec =
-    tie.close
-    (tie.spec
-    zeros-before-requires
-    last-digit-requires
-    last-digit-requires-2
-    last-digit-requires-3
-    last-digit-requires-4
-    last-digit-requires-5
-    sub-put-word
-    part-put-word-start
-    part-put-word-end
-    put-word-requires
-    same-length
-    returns)
+    tie.close (tie.spec zeros-before-requires last-digit-requires last-digit-requires-2 last-digit-requires-3 last-digit-requires-4 last-digit-requires-5 sub-put-word part-put-word-start part-put-word-end put-word-requires same-length returns)

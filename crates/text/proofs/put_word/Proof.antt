@@ -52,16 +52,4 @@ returns c =
 
 pub put-word-spec : {M : Type 1} → statement M
 put-word-spec =
-    tie.close
-    (tie.spec
-    Inv-loop
-    μ-loop
-    loop-holds
-    shared-slice-read-out
-    slice-write-out
-    add-place
-    add-i
-    loop-less
-    loop-again
-    same-length
-    returns)
+    tie.close (tie.spec Inv-loop μ-loop loop-holds shared-slice-read-out slice-write-out add-place add-i loop-less loop-again same-length returns)

@@ -133,26 +133,4 @@ returns c =
 
 pub rewrite-spec : {M : Type 1} → statement M
 rewrite-spec =
-    tie.close
-    (tie.spec
-    Inv-loop
-    μ-loop
-    cast-n
-    element-copy-out-shift
-    cast-shift
-    loop-holds
-    cast-entry-at
-    cast-entry-at-2
-    entry-at-requires
-    mul-at
-    add-at
-    cast-at
-    slice-read-before
-    renewed-requires
-    slice-write-shares
-    add-count
-    add-j
-    loop-less
-    loop-again
-    same-length
-    returns)
+    tie.close (tie.spec Inv-loop μ-loop cast-n element-copy-out-shift cast-shift loop-holds cast-entry-at cast-entry-at-2 entry-at-requires mul-at add-at cast-at slice-read-before renewed-requires slice-write-shares add-count add-j loop-less loop-again same-length returns)

@@ -61,14 +61,4 @@ returns-2 c =
 
 pub update-accepted-spec : {M : Type 1} → statement M
 update-accepted-spec =
-    tie.close
-    (tie.spec
-    update-fault-requires
-    same-length
-    returns
-    sub-requires
-    plan-of-requires
-    constant-tables-requires
-    rewrite-requires
-    same-length-2
-    returns-2)
+    tie.close (tie.spec update-fault-requires same-length returns sub-requires plan-of-requires constant-tables-requires rewrite-requires same-length-2 returns-2)

@@ -33,12 +33,4 @@ returns-2 c =
 
 pub update-lane-spec : {M : Type 1} → statement M
 update-lane-spec =
-    tie.close
-    (tie.spec
-    read-record-requires
-    enum-known-h
-    update-accepted-requires
-    enum-known-number
-    same-length
-    returns
-    returns-2)
+    tie.close (tie.spec read-record-requires enum-known-h update-accepted-requires enum-known-number same-length returns returns-2)

@@ -67,21 +67,4 @@ returns c =
 
 pub add-previous-spec : {M : Type 1} → statement M
 add-previous-spec =
-    tie.close
-    (tie.spec
-    Inv-loop
-    μ-loop
-    loop-holds
-    sub-b
-    mul-wrapping-add-u32
-    slice-read-wrapping-add-u32
-    sub-wrapping-add-u32
-    mul-wrapping-add-u32-2
-    slice-read-wrapping-add-u32-2
-    wrapping-add-u32-requires
-    mul-row
-    slice-write-row
-    loop-less
-    loop-again
-    same-length
-    returns)
+    tie.close (tie.spec Inv-loop μ-loop loop-holds sub-b mul-wrapping-add-u32 slice-read-wrapping-add-u32 sub-wrapping-add-u32 mul-wrapping-add-u32-2 slice-read-wrapping-add-u32-2 wrapping-add-u32-requires mul-row slice-write-row loop-less loop-again same-length returns)

@@ -50,12 +50,4 @@ returns c =
 
 pub fill-counts-spec : {M : Type 1} → statement M
 fill-counts-spec =
-    tie.close
-    (tie.spec
-    put-powers-requires
-    take-differences-requires
-    pascal-row-requires
-    slice-aggregate-scale
-    scale-requires
-    same-length
-    returns)
+    tie.close (tie.spec put-powers-requires take-differences-requires pascal-row-requires slice-aggregate-scale scale-requires same-length returns)

@@ -46,15 +46,4 @@ returns c =
 
 pub pascal-row-spec : {M : Type 1} → statement M
 pascal-row-spec =
-    tie.close
-    (tie.spec
-    Inv-loop
-    μ-loop
-    array-write-row
-    loop-holds
-    slice-aggregate-add-previous
-    add-previous-requires
-    add-a
-    loop-less
-    loop-again
-    returns)
+    tie.close (tie.spec Inv-loop μ-loop array-write-row loop-holds slice-aggregate-add-previous add-previous-requires add-a loop-less loop-again returns)

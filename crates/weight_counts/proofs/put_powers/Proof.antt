@@ -90,19 +90,4 @@ returns c =
 
 pub put-powers-spec : {M : Type 1} → statement M
 put-powers-spec =
-    tie.close
-    (tie.spec
-    Inv-loop
-    μ-loop
-    size-requires
-    sub-fixed
-    cast-fixed
-    loop-holds
-    mul-counts
-    slice-write-counts
-    mul-x
-    add-y
-    loop-less
-    loop-again
-    same-length
-    returns)
+    tie.close (tie.spec Inv-loop μ-loop size-requires sub-fixed cast-fixed loop-holds mul-counts slice-write-counts mul-x add-y loop-less loop-again same-length returns)

@@ -67,20 +67,4 @@ returns c =
 
 pub scale-spec : {M : Type 1} → statement M
 scale-spec =
-    tie.close
-    (tie.spec
-    Inv-loop
-    μ-loop
-    loop-holds
-    mul-counts
-    slice-read-counts
-    mul-counts-2
-    shared-slice-read-counts
-    mul-counts-3
-    mul-counts-4
-    slice-write-counts
-    add-w
-    loop-less
-    loop-again
-    same-length
-    returns)
+    tie.close (tie.spec Inv-loop μ-loop loop-holds mul-counts slice-read-counts mul-counts-2 shared-slice-read-counts mul-counts-3 mul-counts-4 slice-write-counts add-w loop-less loop-again same-length returns)

@@ -64,21 +64,4 @@ returns c =
 
 pub subtract-previous-spec : {M : Type 1} → statement M
 subtract-previous-spec =
-    tie.close
-    (tie.spec
-    Inv-loop
-    μ-loop
-    loop-holds
-    sub-y
-    mul-counts
-    slice-read-counts
-    sub-counts
-    mul-counts-2
-    slice-read-counts-2
-    sub-counts-2
-    mul-counts-3
-    slice-write-counts
-    loop-less
-    loop-again
-    same-length
-    returns)
+    tie.close (tie.spec Inv-loop μ-loop loop-holds sub-y mul-counts slice-read-counts sub-counts mul-counts-2 slice-read-counts-2 sub-counts-2 mul-counts-3 slice-write-counts loop-less loop-again same-length returns)

@@ -61,15 +61,4 @@ returns c =
 
 pub take-differences-spec : {M : Type 1} → statement M
 take-differences-spec =
-    tie.close
-    (tie.spec
-    Inv-loop
-    μ-loop
-    cast-n
-    loop-holds
-    add-w
-    subtract-previous-requires
-    loop-less
-    loop-again
-    same-length
-    returns)
+    tie.close (tie.spec Inv-loop μ-loop cast-n loop-holds add-w subtract-previous-requires loop-less loop-again same-length returns)

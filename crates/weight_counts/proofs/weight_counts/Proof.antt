@@ -36,12 +36,4 @@ returns-2 c =
 
 pub weight-counts-spec : {M : Type 1} → statement M
 weight-counts-spec =
-    tie.close
-    (tie.spec
-    read-record-requires
-    enum-known-h
-    counts-accepted-requires
-    enum-known-number
-    same-length
-    returns
-    returns-2)
+    tie.close (tie.spec read-record-requires enum-known-h counts-accepted-requires enum-known-number same-length returns returns-2)

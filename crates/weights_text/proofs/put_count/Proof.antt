@@ -33,11 +33,4 @@ returns c =
 
 pub put-count-spec : {M : Type 1} → statement M
 put-count-spec =
-    tie.close
-    (tie.spec
-    put-number-requires
-    put-byte-requires
-    put-number-requires-2
-    put-byte-requires-2
-    same-length
-    returns)
+    tie.close (tie.spec put-number-requires put-byte-requires put-number-requires-2 put-byte-requires-2 same-length returns)

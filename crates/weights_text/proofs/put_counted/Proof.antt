@@ -64,18 +64,4 @@ returns-2 c =
 
 pub put-counted-spec : {M : Type 1} → statement M
 put-counted-spec =
-    tie.close
-    (tie.spec
-    counts-accepted-requires
-    enum-told
-    put-counts-requires
-    enum-known-number
-    slice-aggregate-put-line
-    slice-aggregate-put-line-2
-    put-line-requires
-    same-length
-    same-length-2
-    returns
-    same-length-3
-    same-length-4
-    returns-2)
+    tie.close (tie.spec counts-accepted-requires enum-told put-counts-requires enum-known-number slice-aggregate-put-line slice-aggregate-put-line-2 put-line-requires same-length same-length-2 returns same-length-3 same-length-4 returns-2)

@@ -70,17 +70,4 @@ returns c =
 
 pub put-counts-spec : {M : Type 1} → statement M
 put-counts-spec =
-    tie.close
-    (tie.spec
-    Inv-loop
-    μ-loop
-    loop-holds
-    cast-put-count
-    mul-put-count
-    shared-slice-read-put-count
-    put-count-requires
-    add-w
-    loop-less
-    loop-again
-    same-length
-    returns)
+    tie.close (tie.spec Inv-loop μ-loop loop-holds cast-put-count mul-put-count shared-slice-read-put-count put-count-requires add-w loop-less loop-again same-length returns)

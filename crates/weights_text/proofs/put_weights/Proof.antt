@@ -36,13 +36,4 @@ returns c = search needs
 
 pub put-weights-spec : {M : Type 1} → statement M
 put-weights-spec =
-    tie.close
-    (tie.spec
-    cast-size
-    add-size
-    room-requires
-    array-borrow-prefix-counts
-    slice-aggregate-put-counted
-    put-counted-requires
-    same-length
-    returns)
+    tie.close (tie.spec cast-size add-size room-requires array-borrow-prefix-counts slice-aggregate-put-counted put-counted-requires same-length returns)

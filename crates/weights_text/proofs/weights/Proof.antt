@@ -57,14 +57,4 @@ returns-2 c =
 
 pub weights-spec : {M : Type 1} → statement M
 weights-spec =
-    tie.close
-    (tie.spec
-    read-record-requires
-    enum-known-h
-    put-weights-requires
-    enum-known-number
-    slice-aggregate-put-line
-    slice-aggregate-put-line-2
-    put-line-requires
-    returns
-    returns-2)
+    tie.close (tie.spec read-record-requires enum-known-h put-weights-requires enum-known-number slice-aggregate-put-line slice-aggregate-put-line-2 put-line-requires returns returns-2)

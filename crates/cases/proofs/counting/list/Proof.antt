@@ -37,15 +37,4 @@ returns c = search needs
 
 pub list-spec : {M : Type 1} → statement M
 list-spec =
-    tie.close
-    (tie.spec
-    Inv-loop
-    μ-loop
-    loop-holds
-    mul-count
-    shared-slice-read-count
-    count-requires
-    add-i
-    loop-less
-    loop-again
-    returns)
+    tie.close (tie.spec Inv-loop μ-loop loop-holds mul-count shared-slice-read-count count-requires add-i loop-less loop-again returns)

@@ -39,16 +39,4 @@ returns c = search needs
 
 pub as-bytes-spec : {M : Type 1} → statement M
 as-bytes-spec =
-    tie.close
-    (tie.spec
-    Inv-loop
-    μ-loop
-    loop-holds
-    mul-as-byte
-    element-copy-out-as-byte
-    as-byte-requires
-    array-write-out
-    add-i
-    loop-less
-    loop-again
-    returns)
+    tie.close (tie.spec Inv-loop μ-loop loop-holds mul-as-byte element-copy-out-as-byte as-byte-requires array-write-out add-i loop-less loop-again returns)

@@ -33,14 +33,4 @@ returns c = search needs
 
 pub print-present-spec : {M : Type 1} → statement M
 print-present-spec =
-    tie.close
-    (tie.spec
-    Inv-loop
-    μ-loop
-    loop-holds
-    array-read-if1
-    number-requires
-    add-j
-    loop-less
-    loop-again
-    returns)
+    tie.close (tie.spec Inv-loop μ-loop loop-holds array-read-if1 number-requires add-j loop-less loop-again returns)

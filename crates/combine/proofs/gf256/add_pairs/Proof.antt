@@ -93,27 +93,4 @@ returns c =
 
 pub add-pairs-spec : {M : Type 1} → statement M
 add-pairs-spec =
-    tie.close
-    (tie.spec
-    Inv-loop
-    μ-loop
-    loop-holds
-    shared-slice-read-start-of
-    start-of-requires
-    add-start-of
-    shared-slice-read-start-of-2
-    start-of-requires-2
-    add-a-end
-    add-b-end
-    sub-add-two
-    part-add-two-start
-    part-add-two-end
-    sub-add-two-2
-    part-add-two-start-2
-    part-add-two-end-2
-    add-two-requires
-    add-i
-    loop-less
-    loop-again
-    same-length
-    returns)
+    tie.close (tie.spec Inv-loop μ-loop loop-holds shared-slice-read-start-of start-of-requires add-start-of shared-slice-read-start-of-2 start-of-requires-2 add-a-end add-b-end sub-add-two part-add-two-start part-add-two-end sub-add-two-2 part-add-two-start-2 part-add-two-end-2 add-two-requires add-i loop-less loop-again same-length returns)

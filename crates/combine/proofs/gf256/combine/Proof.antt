@@ -69,17 +69,4 @@ returns c =
 
 pub combine-spec : {M : Type 1} → statement M
 combine-spec =
-    tie.close
-    (tie.spec
-    Inv-loop
-    μ-loop
-    clear-requires
-    loop-holds
-    sub-digit
-    array-borrow-prefix-list
-    slice-aggregate-step
-    step-requires
-    loop-less
-    loop-again
-    same-length
-    returns)
+    tie.close (tie.spec Inv-loop μ-loop clear-requires loop-holds sub-digit array-borrow-prefix-list slice-aggregate-step step-requires loop-less loop-again same-length returns)

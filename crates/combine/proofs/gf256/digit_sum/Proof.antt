@@ -52,18 +52,4 @@ returns c = let l = c .before .loop in summed-all _ _ _ _ (l .sum) (l .i) (omega
 
 pub digit-sum-spec : {M : Type 1} → statement M
 digit-sum-spec =
-    tie.close
-    (tie.spec
-    Inv-loop
-    μ-loop
-    loop-holds
-    mul-factor
-    shared-slice-read-factor
-    shr-factor
-    cast-factor
-    shared-slice-read-sum
-    mul-sum
-    add-i
-    loop-less
-    loop-again
-    returns)
+    tie.close (tie.spec Inv-loop μ-loop loop-holds mul-factor shared-slice-read-factor shr-factor cast-factor shared-slice-read-sum mul-sum add-i loop-less loop-again returns)

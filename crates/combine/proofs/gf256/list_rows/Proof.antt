@@ -57,20 +57,4 @@ returns c = let l = c .before .loop in (omega arith, listed-all _ _ _ (l .list) 
 
 pub list-rows-spec : {M : Type 1} → statement M
 list-rows-spec =
-    tie.close
-    (tie.spec
-    Inv-loop
-    μ-loop
-    loop-holds
-    cast-list
-    slice-write-list
-    mul-count
-    shared-slice-read-count
-    shr-count
-    cast-count
-    add-count
-    add-i
-    loop-less
-    loop-again
-    same-length
-    returns)
+    tie.close (tie.spec Inv-loop μ-loop loop-holds cast-list slice-write-list mul-count shared-slice-read-count shr-count cast-count add-count add-i loop-less loop-again same-length returns)

@@ -100,29 +100,4 @@ returns-3 c =
 
 pub multiply-x-first-spec : {M : Type 1} → statement M
 multiply-x-first-spec =
-    tie.close
-    (tie.spec
-    multiply-x-requires
-    same-length
-    returns
-    shared-slice-read-start-of
-    start-of-requires
-    add-end
-    sub-multiply-x-add
-    part-multiply-x-add-start
-    part-multiply-x-add-end
-    multiply-x-add-requires
-    same-length-2
-    returns-2
-    shared-slice-read-start-of-2
-    start-of-requires-2
-    add-next-end
-    sub-multiply-x-add-two
-    part-multiply-x-add-two-start
-    part-multiply-x-add-two-end
-    sub-multiply-x-add-two-2
-    part-multiply-x-add-two-start-2
-    part-multiply-x-add-two-end-2
-    multiply-x-add-two-requires
-    same-length-3
-    returns-3)
+    tie.close (tie.spec multiply-x-requires same-length returns shared-slice-read-start-of start-of-requires add-end sub-multiply-x-add part-multiply-x-add-start part-multiply-x-add-end multiply-x-add-requires same-length-2 returns-2 shared-slice-read-start-of-2 start-of-requires-2 add-next-end sub-multiply-x-add-two part-multiply-x-add-two-start part-multiply-x-add-two-end sub-multiply-x-add-two-2 part-multiply-x-add-two-start-2 part-multiply-x-add-two-end-2 multiply-x-add-two-requires same-length-3 returns-3)

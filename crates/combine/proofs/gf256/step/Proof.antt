@@ -39,12 +39,4 @@ returns-2 c = search needs
 
 pub step-spec : {M : Type 1} → statement M
 step-spec =
-    tie.close
-    (tie.spec
-    step-lane-requires
-    same-length
-    returns
-    step-rows-requires
-    same-length-2
-    same-length-3
-    returns-2)
+    tie.close (tie.spec step-lane-requires same-length returns step-rows-requires same-length-2 same-length-3 returns-2)

@@ -31,11 +31,4 @@ returns c =
 
 pub step-lane-spec : {M : Type 1} → statement M
 step-lane-spec =
-    tie.close
-    (tie.spec
-    multiply-x-requires
-    slice-read-acc
-    digit-sum-requires
-    slice-write-acc
-    same-length
-    returns)
+    tie.close (tie.spec multiply-x-requires slice-read-acc digit-sum-requires slice-write-acc same-length returns)

@@ -51,15 +51,4 @@ returns c =
 
 pub step-rows-spec : {M : Type 1} → statement M
 step-rows-spec =
-    tie.close
-    (tie.spec
-    list-rows-requires
-    slice-reshare-prefix-multiply-x-first
-    slice-aggregate-multiply-x-first
-    multiply-x-first-requires
-    slice-reshare-prefix-add-pairs
-    slice-aggregate-add-pairs
-    add-pairs-requires
-    same-length
-    same-length-2
-    returns)
+    tie.close (tie.spec list-rows-requires slice-reshare-prefix-multiply-x-first slice-aggregate-multiply-x-first multiply-x-first-requires slice-reshare-prefix-add-pairs slice-aggregate-add-pairs add-pairs-requires same-length same-length-2 returns)

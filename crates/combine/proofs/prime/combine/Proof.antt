@@ -93,22 +93,4 @@ returns c =
 
 pub combine-spec : {M : Type 1} → statement M
 combine-spec =
-    tie.close
-    (tie.spec
-    Inv-loop
-    μ-loop
-    clear-requires
-    loop-holds
-    mul-start
-    add-end
-    mul-add-scaled
-    shared-slice-read-add-scaled
-    sub-add-scaled
-    part-add-scaled-start
-    part-add-scaled-end
-    add-scaled-requires
-    add-i
-    loop-less
-    loop-again
-    same-length
-    returns)
+    tie.close (tie.spec Inv-loop μ-loop clear-requires loop-holds mul-start add-end mul-add-scaled shared-slice-read-add-scaled sub-add-scaled part-add-scaled-start part-add-scaled-end add-scaled-requires add-i loop-less loop-again same-length returns)

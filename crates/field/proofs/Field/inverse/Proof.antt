@@ -30,11 +30,4 @@ returns-2 c = rw (c .before .before .self2 .given .1) (c .inverse2 .ensures)
 
 pub inverse-spec : {M : Type 1} → statement M
 inverse-spec =
-    tie.close
-    (tie.spec
-    enum-known-self
-    inverse-requires
-    enum-known-self-2
-    inverse-requires-2
-    returns
-    returns-2)
+    tie.close (tie.spec enum-known-self inverse-requires enum-known-self-2 inverse-requires-2 returns returns-2)

@@ -33,11 +33,4 @@ returns-2 c = rw (c .before .before .self2 .given .1) (c .inverse-with .ensures)
 
 pub inverse-with-spec : {M : Type 1} → statement M
 inverse-with-spec =
-    tie.close
-    (tie.spec
-    enum-known-self
-    inverse-requires
-    enum-known-self-2
-    inverse-with-requires
-    returns
-    returns-2)
+    tie.close (tie.spec enum-known-self inverse-requires enum-known-self-2 inverse-with-requires returns returns-2)

@@ -51,16 +51,4 @@ returns-3 c = sym (trial _ _ (c .before .before .if1 .left) (omega arith) (c .be
 
 pub is-prime-spec : {M : Type 1} → statement M
 is-prime-spec =
-    tie.close
-    (tie.spec
-    Inv-loop
-    μ-loop
-    returns
-    loop-holds
-    div-loop
-    rem-if2
-    returns-2
-    add-d
-    loop-less
-    loop-again
-    returns-3)
+    tie.close (tie.spec Inv-loop μ-loop returns loop-holds div-loop rem-if2 returns-2 add-d loop-less loop-again returns-3)

@@ -58,15 +58,4 @@ returns c =
 
 pub others-at-spec : {M : Type 1} → statement M
 others-at-spec =
-    tie.close
-    (tie.spec
-    add-next
-    slice-aggregate-product-at
-    product-at-requires
-    mul-product-at
-    sub-product-at
-    part-product-at-start
-    part-product-at-end
-    product-at-requires-2
-    mul-requires
-    returns)
+    tie.close (tie.spec add-next slice-aggregate-product-at product-at-requires mul-product-at sub-product-at part-product-at-start part-product-at-end product-at-requires-2 mul-requires returns)

@@ -75,17 +75,4 @@ returns c =
 
 pub product-with-spec : {M : Type 1} → statement M
 product-with-spec =
-    tie.close
-    (tie.spec
-    Inv-loop
-    μ-loop
-    loop-holds
-    sub-i
-    mul-sub
-    shared-slice-read-sub
-    cast-sub
-    sub-requires
-    mul-with-requires
-    loop-less
-    loop-again
-    returns)
+    tie.close (tie.spec Inv-loop μ-loop loop-holds sub-i mul-sub shared-slice-read-sub cast-sub sub-requires mul-with-requires loop-less loop-again returns)

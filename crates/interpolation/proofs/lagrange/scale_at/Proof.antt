@@ -33,11 +33,4 @@ returns c = c .inverse .ensures ∙ rw (c .before .others-at .ensures)
 
 pub scale-at-spec : {M : Type 1} → statement M
 scale-at-spec =
-    tie.close
-    (tie.spec
-    mul-others-at
-    shared-slice-read-others-at
-    cast-others-at
-    others-at-requires
-    inverse-requires
-    returns)
+    tie.close (tie.spec mul-others-at shared-slice-read-others-at cast-others-at others-at-requires inverse-requires returns)

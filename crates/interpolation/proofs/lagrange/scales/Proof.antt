@@ -51,16 +51,4 @@ returns c = filled-end (c .before .loop .inv) (c .loop-test .left)
 
 pub scales-spec : {M : Type 1} → statement M
 scales-spec =
-    tie.close
-    (tie.spec
-    Inv-loop
-    μ-loop
-    loop-holds
-    scale-at-requires
-    cast-out
-    mul-out
-    array-write-out
-    add-i
-    loop-less
-    loop-again
-    returns)
+    tie.close (tie.spec Inv-loop μ-loop loop-holds scale-at-requires cast-out mul-out array-write-out add-i loop-less loop-again returns)

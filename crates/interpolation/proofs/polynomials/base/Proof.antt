@@ -93,18 +93,4 @@ returns c =
 
 pub base-spec : {M : Type 1} → statement M
 base-spec =
-    tie.close
-    (tie.spec
-    Inv-loop
-    μ-loop
-    array-write-out
-    loop-holds
-    add-size
-    array-share-prefix-out
-    slice-aggregate-times-linear
-    times-linear-requires
-    mul-requires
-    add-i
-    loop-less
-    loop-again
-    returns)
+    tie.close (tie.spec Inv-loop μ-loop array-write-out loop-holds add-size array-share-prefix-out slice-aggregate-times-linear times-linear-requires mul-requires add-i loop-less loop-again returns)

@@ -73,19 +73,4 @@ returns c =
 
 pub inverses-spec : {M : Type 1} → statement M
 inverses-spec =
-    tie.close
-    (tie.spec
-    Inv-loop
-    μ-loop
-    loop-holds
-    mul-c
-    shared-slice-read-c
-    cast-c
-    inverse-requires
-    cast-out
-    mul-out
-    array-write-out
-    add-i
-    loop-less
-    loop-again
-    returns)
+    tie.close (tie.spec Inv-loop μ-loop loop-holds mul-c shared-slice-read-c cast-c inverse-requires cast-out mul-out array-write-out add-i loop-less loop-again returns)

@@ -90,20 +90,4 @@ returns c =
 
 pub product-spec : {M : Type 1} → statement M
 product-spec =
-    tie.close
-    (tie.spec
-    Inv-loop
-    μ-loop
-    array-write-out
-    loop-holds
-    sub-i
-    mul-times-linear
-    shared-slice-read-times-linear
-    cast-times-linear
-    array-share-prefix-out
-    slice-aggregate-times-linear
-    times-linear-requires
-    add-size
-    loop-less
-    loop-again
-    returns)
+    tie.close (tie.spec Inv-loop μ-loop array-write-out loop-holds sub-i mul-times-linear shared-slice-read-times-linear cast-times-linear array-share-prefix-out slice-aggregate-times-linear times-linear-requires add-size loop-less loop-again returns)

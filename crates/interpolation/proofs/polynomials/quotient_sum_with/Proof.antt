@@ -105,20 +105,4 @@ returns c =
 
 pub quotient-sum-with-spec : {M : Type 1} → statement M
 quotient-sum-with-spec =
-    tie.close
-    (tie.spec
-    Inv-loop
-    μ-loop
-    loop-holds
-    sub-i
-    mul-multiply-add
-    shared-slice-read-multiply-add
-    cast-multiply-add
-    multiply-add-requires
-    mul-multiply-add-2
-    shared-slice-read-multiply-add-2
-    cast-multiply-add-2
-    multiply-add-requires-2
-    loop-less
-    loop-again
-    returns)
+    tie.close (tie.spec Inv-loop μ-loop loop-holds sub-i mul-multiply-add shared-slice-read-multiply-add cast-multiply-add multiply-add-requires mul-multiply-add-2 shared-slice-read-multiply-add-2 cast-multiply-add-2 multiply-add-requires-2 loop-less loop-again returns)

@@ -126,23 +126,4 @@ returns c =
 
 pub quotient-terms-with-spec : {M : Type 1} → statement M
 quotient-terms-with-spec =
-    tie.close
-    (tie.spec
-    Inv-loop
-    μ-loop
-    loop-holds
-    sub-i
-    mul-multiply-add
-    shared-slice-read-multiply-add
-    cast-multiply-add
-    multiply-add-requires
-    mul-mul-with
-    shared-slice-read-mul-with
-    cast-mul-with
-    mul-with-requires
-    cast-out
-    mul-out
-    array-write-out
-    loop-less
-    loop-again
-    returns)
+    tie.close (tie.spec Inv-loop μ-loop loop-holds sub-i mul-multiply-add shared-slice-read-multiply-add cast-multiply-add multiply-add-requires mul-mul-with shared-slice-read-mul-with cast-mul-with mul-with-requires cast-out mul-out array-write-out loop-less loop-again returns)

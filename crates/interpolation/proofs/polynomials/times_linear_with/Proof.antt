@@ -98,23 +98,4 @@ returns c =
 
 pub times-linear-with-spec : {M : Type 1} → statement M
 times-linear-with-spec =
-    tie.close
-    (tie.spec
-    Inv-loop
-    μ-loop
-    loop-holds
-    mul-c
-    shared-slice-read-c
-    cast-c
-    mul-with-requires
-    sub-requires
-    cast-out
-    mul-out
-    array-write-out
-    add-i
-    loop-less
-    loop-again
-    cast-out-2
-    mul-out-2
-    array-write-out-2
-    returns)
+    tie.close (tie.spec Inv-loop μ-loop loop-holds mul-c shared-slice-read-c cast-c mul-with-requires sub-requires cast-out mul-out array-write-out add-i loop-less loop-again cast-out-2 mul-out-2 array-write-out-2 returns)

@@ -66,19 +66,4 @@ returns c =
 
 pub points-spec : {M : Type 1} → statement M
 points-spec =
-    tie.close
-    (tie.spec
-    Inv-loop
-    μ-loop
-    loop-holds
-    shared-slice-read-power
-    cast-power
-    add-power
-    power-requires
-    cast-out
-    mul-out
-    array-write-out
-    add-i
-    loop-less
-    loop-again
-    returns)
+    tie.close (tie.spec Inv-loop μ-loop loop-holds shared-slice-read-power cast-power add-power power-requires cast-out mul-out array-write-out add-i loop-less loop-again returns)

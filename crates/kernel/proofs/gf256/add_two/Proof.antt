@@ -46,17 +46,4 @@ returns c = changed-all _ _ (c .before .loop .inv .1) (omega arith)
 
 pub add-two-spec : {M : Type 1} → statement M
 add-two-spec =
-    tie.close
-    (tie.spec
-    Inv-loop
-    μ-loop
-    loop-holds
-    slice-read-acc
-    shared-slice-read-acc
-    shared-slice-read-acc-2
-    slice-write-acc
-    add-t
-    loop-less
-    loop-again
-    same-length
-    returns)
+    tie.close (tie.spec Inv-loop μ-loop loop-holds slice-read-acc shared-slice-read-acc shared-slice-read-acc-2 slice-write-acc add-t loop-less loop-again same-length returns)

@@ -45,16 +45,4 @@ returns c = changed-all _ _ (c .before .loop .inv .1) (omega arith)
 
 pub multiply-x-spec : {M : Type 1} → statement M
 multiply-x-spec =
-    tie.close
-    (tie.spec
-    Inv-loop
-    μ-loop
-    loop-holds
-    slice-read-times-x
-    times-x-requires
-    slice-write-acc
-    add-t
-    loop-less
-    loop-again
-    same-length
-    returns)
+    tie.close (tie.spec Inv-loop μ-loop loop-holds slice-read-times-x times-x-requires slice-write-acc add-t loop-less loop-again same-length returns)

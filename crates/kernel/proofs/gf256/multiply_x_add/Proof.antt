@@ -49,17 +49,4 @@ returns c = changed-all _ _ (c .before .loop .inv .1) (omega arith)
 
 pub multiply-x-add-spec : {M : Type 1} → statement M
 multiply-x-add-spec =
-    tie.close
-    (tie.spec
-    Inv-loop
-    μ-loop
-    loop-holds
-    slice-read-times-x
-    times-x-requires
-    shared-slice-read-acc
-    slice-write-acc
-    add-t
-    loop-less
-    loop-again
-    same-length
-    returns)
+    tie.close (tie.spec Inv-loop μ-loop loop-holds slice-read-times-x times-x-requires shared-slice-read-acc slice-write-acc add-t loop-less loop-again same-length returns)

@@ -68,20 +68,4 @@ returns-2 c = changed-all _ _ (c .before .loop .inv .1) (omega arith)
 
 pub add-scaled-spec : {M : Type 1} → statement M
 add-scaled-spec =
-    tie.close
-    (tie.spec
-    Inv-loop
-    μ-loop
-    returns
-    mul-ratio
-    div-ratio
-    loop-holds
-    shared-slice-read-lane
-    slice-read-lane
-    lane-requires
-    slice-write-acc
-    add-t
-    loop-less
-    loop-again
-    same-length
-    returns-2)
+    tie.close (tie.spec Inv-loop μ-loop returns mul-ratio div-ratio loop-holds shared-slice-read-lane slice-read-lane lane-requires slice-write-acc add-t loop-less loop-again same-length returns-2)

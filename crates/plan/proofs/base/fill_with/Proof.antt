@@ -154,29 +154,4 @@ returns c =
 
 pub fill-with-spec : {M : Type 1} → statement M
 fill-with-spec =
-    tie.close
-    (tie.spec
-    Inv-loop
-    μ-loop
-    cast-n
-    cast-k
-    sub-power
-    power-requires
-    add-power
-    sub-power-2
-    power-requires-2
-    sub-last
-    cast-last
-    first-entry-requires
-    cast-out
-    array-write-out
-    loop-holds
-    next-entry-requires
-    mul-with-requires
-    add-j
-    cast-out-2
-    mul-out
-    array-write-out-2
-    loop-less
-    loop-again
-    returns)
+    tie.close (tie.spec Inv-loop μ-loop cast-n cast-k sub-power power-requires add-power sub-power-2 power-requires-2 sub-last cast-last first-entry-requires cast-out array-write-out loop-holds next-entry-requires mul-with-requires add-j cast-out-2 mul-out array-write-out-2 loop-less loop-again returns)

@@ -90,18 +90,4 @@ returns c =
 
 pub first-entry-spec : {M : Type 1} → statement M
 first-entry-spec =
-    tie.close
-    (tie.spec
-    Inv-loop
-    μ-loop
-    sub-count
-    cast-power
-    power-requires
-    loop-holds
-    sub-requires
-    mul-with-requires
-    mul-with-requires-2
-    add-i
-    loop-less
-    loop-again
-    returns)
+    tie.close (tie.spec Inv-loop μ-loop sub-count cast-power power-requires loop-holds sub-requires mul-with-requires mul-with-requires-2 add-i loop-less loop-again returns)

@@ -79,12 +79,4 @@ returns c =
 
 pub next-entry-spec : {M : Type 1} → statement M
 next-entry-spec =
-    tie.close
-    (tie.spec
-    mul-with-requires
-    sub-requires
-    sub-requires-2
-    mul-with-requires-2
-    inverse-with-requires
-    mul-with-requires-3
-    returns)
+    tie.close (tie.spec mul-with-requires sub-requires sub-requires-2 mul-with-requires-2 inverse-with-requires mul-with-requires-3 returns)

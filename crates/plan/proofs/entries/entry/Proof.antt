@@ -62,15 +62,4 @@ returns-2 c =
 
 pub entry-spec : {M : Type 1} → statement M
 entry-spec =
-    tie.close
-    (tie.spec
-    cast-n
-    cast-k
-    returns
-    element-copy-out-shift
-    cast-shift
-    cast-entry-at
-    rem-entry-at
-    cast-entry-at-2
-    entry-at-requires
-    returns-2)
+    tie.close (tie.spec cast-n cast-k returns element-copy-out-shift cast-shift cast-entry-at rem-entry-at cast-entry-at-2 entry-at-requires returns-2)

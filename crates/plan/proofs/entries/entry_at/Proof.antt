@@ -35,12 +35,4 @@ returns-2 c =
 
 pub entry-at-spec : {M : Type 1} → statement M
 entry-at-spec =
-    tie.close
-    (tie.spec
-    add-i
-    mul-result
-    shared-slice-read-result
-    mul-result-2
-    shared-slice-read-result-2
-    returns
-    returns-2)
+    tie.close (tie.spec add-i mul-result shared-slice-read-result mul-result-2 shared-slice-read-result-2 returns returns-2)

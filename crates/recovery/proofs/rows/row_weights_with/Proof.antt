@@ -85,22 +85,4 @@ returns c = filled-end (c .before .loop .inv) (c .loop-test .left)
 
 pub row-weights-with-spec : {M : Type 1} → statement M
 row-weights-with-spec =
-    tie.close
-    (tie.spec
-    Inv-loop
-    μ-loop
-    loop-holds
-    mul-row-weight
-    shared-slice-read-row-weight
-    cast-row-weight
-    mul-row-weight-2
-    shared-slice-read-row-weight-2
-    cast-row-weight-2
-    row-weight-requires
-    cast-out
-    mul-out
-    array-write-out
-    add-i
-    loop-less
-    loop-again
-    returns)
+    tie.close (tie.spec Inv-loop μ-loop loop-holds mul-row-weight shared-slice-read-row-weight cast-row-weight mul-row-weight-2 shared-slice-read-row-weight-2 cast-row-weight-2 row-weight-requires cast-out mul-out array-write-out add-i loop-less loop-again returns)

@@ -58,14 +58,4 @@ returns-4 c = rw (
 
 pub belongs-fault-spec : {M : Type 1} → statement M
 belongs-fault-spec =
-    tie.close
-    (tie.spec
-    cast-n
-    lanes-bad-requires
-    returns
-    mul-length-bad
-    length-bad-requires
-    returns-2
-    shares-bad-requires
-    returns-3
-    returns-4)
+    tie.close (tie.spec cast-n lanes-bad-requires returns mul-length-bad length-bad-requires returns-2 shares-bad-requires returns-3 returns-4)

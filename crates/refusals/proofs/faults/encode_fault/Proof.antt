@@ -84,18 +84,4 @@ returns-5 c = rw (
 
 pub encode-fault-spec : {M : Type 1} → statement M
 encode-fault-spec =
-    tie.close
-    (tie.spec
-    cast-n
-    cast-k
-    lanes-bad-requires
-    returns
-    mul-length-bad
-    length-bad-requires
-    returns-2
-    mul-length-bad-2
-    length-bad-requires-2
-    returns-3
-    symbols-bad-requires
-    returns-4
-    returns-5)
+    tie.close (tie.spec cast-n cast-k lanes-bad-requires returns mul-length-bad length-bad-requires returns-2 mul-length-bad-2 length-bad-requires-2 returns-3 symbols-bad-requires returns-4 returns-5)

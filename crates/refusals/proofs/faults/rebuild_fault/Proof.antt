@@ -99,20 +99,4 @@ returns-6 c = rw (
 
 pub rebuild-fault-spec : {M : Type 1} → statement M
 rebuild-fault-spec =
-    tie.close
-    (tie.spec
-    cast-n
-    cast-k
-    lanes-bad-requires
-    returns
-    length-bad-requires
-    returns-2
-    mul-length-bad
-    length-bad-requires-2
-    returns-3
-    length-bad-requires-3
-    returns-4
-    number-bad-requires
-    returns-5
-    list-fault-requires
-    returns-6)
+    tie.close (tie.spec cast-n cast-k lanes-bad-requires returns length-bad-requires returns-2 mul-length-bad length-bad-requires-2 returns-3 length-bad-requires-3 returns-4 number-bad-requires returns-5 list-fault-requires returns-6)

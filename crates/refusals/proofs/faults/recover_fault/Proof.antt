@@ -76,17 +76,4 @@ returns-5 c = rw (
 
 pub recover-fault-spec : {M : Type 1} → statement M
 recover-fault-spec =
-    tie.close
-    (tie.spec
-    cast-k
-    lanes-bad-requires
-    returns
-    length-bad-requires
-    returns-2
-    mul-long
-    length-bad-requires-2
-    returns-3
-    length-bad-requires-3
-    returns-4
-    list-fault-requires
-    returns-5)
+    tie.close (tie.spec cast-k lanes-bad-requires returns length-bad-requires returns-2 mul-long length-bad-requires-2 returns-3 length-bad-requires-3 returns-4 list-fault-requires returns-5)

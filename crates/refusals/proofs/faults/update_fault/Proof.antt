@@ -123,23 +123,4 @@ returns-8 c = rw (
 
 pub update-fault-spec : {M : Type 1} → statement M
 update-fault-spec =
-    tie.close
-    (tie.spec
-    cast-n
-    cast-k
-    lanes-bad-requires
-    returns
-    mul-length-bad
-    length-bad-requires
-    returns-2
-    number-bad-requires
-    returns-3
-    number-bad-requires-2
-    returns-4
-    symbol-bad-requires
-    returns-5
-    symbol-bad-requires-2
-    returns-6
-    lane-bad-requires
-    returns-7
-    returns-8)
+    tie.close (tie.spec cast-n cast-k lanes-bad-requires returns mul-length-bad length-bad-requires returns-2 number-bad-requires returns-3 number-bad-requires-2 returns-4 symbol-bad-requires returns-5 symbol-bad-requires-2 returns-6 lane-bad-requires returns-7 returns-8)

@@ -47,13 +47,4 @@ returns-4 c =
 
 pub list-fault-spec : {M : Type 1} → statement M
 list-fault-spec =
-    tie.close
-    (tie.spec
-    cast-k
-    nodes-bad-requires
-    twice-bad-requires
-    returns
-    returns-2
-    shares-bad-requires
-    returns-3
-    returns-4)
+    tie.close (tie.spec cast-k nodes-bad-requires twice-bad-requires returns returns-2 shares-bad-requires returns-3 returns-4)

@@ -84,22 +84,4 @@ returns-2 c =
 
 pub twice-bad-spec : {M : Type 1} → statement M
 twice-bad-spec =
-    tie.close
-    (tie.spec
-    Inv-loop
-    μ-loop
-    Inv-places
-    μ-places
-    places-holds
-    add-j
-    loop-holds
-    shared-slice-read-if1
-    shared-slice-read-if1-2
-    add-j-2
-    loop-less
-    loop-again
-    add-i
-    places-less
-    places-again
-    returns
-    returns-2)
+    tie.close (tie.spec Inv-loop μ-loop Inv-places μ-places places-holds add-j loop-holds shared-slice-read-if1 shared-slice-read-if1-2 add-j-2 loop-less loop-again add-i places-less places-again returns returns-2)

@@ -79,19 +79,4 @@ returns-2 c =
 
 pub lane-bad-spec : {M : Type 1} → statement M
 lane-bad-spec =
-    tie.close
-    (tie.spec
-    Inv-loop
-    μ-loop
-    cast-n
-    size-requires
-    loop-holds
-    mul-at
-    add-at
-    shared-slice-read-if1
-    cast-if1
-    returns
-    add-node
-    loop-less
-    loop-again
-    returns-2)
+    tie.close (tie.spec Inv-loop μ-loop cast-n size-requires loop-holds mul-at add-at shared-slice-read-if1 cast-if1 returns add-node loop-less loop-again returns-2)

@@ -69,19 +69,4 @@ returns-2 c =
 
 pub shares-bad-spec : {M : Type 1} → statement M
 shares-bad-spec =
-    tie.close
-    (tie.spec
-    Inv-loop
-    μ-loop
-    loop-holds
-    mul-start
-    add-end
-    sub-symbols-bad
-    part-symbols-bad-start
-    part-symbols-bad-end
-    symbols-bad-requires
-    returns
-    add-node
-    loop-less
-    loop-again
-    returns-2)
+    tie.close (tie.spec Inv-loop μ-loop loop-holds mul-start add-end sub-symbols-bad part-symbols-bad-start part-symbols-bad-end symbols-bad-requires returns add-node loop-less loop-again returns-2)

@@ -44,12 +44,4 @@ returns-2 c =
 
 pub next-job-spec : {M : Type 1} → statement M
 next-job-spec =
-    tie.close
-    (tie.spec
-    read-record-requires
-    enum-known-h
-    write-job-requires
-    enum-known-number
-    same-length
-    returns
-    returns-2)
+    tie.close (tie.spec read-record-requires enum-known-h write-job-requires enum-known-number same-length returns returns-2)

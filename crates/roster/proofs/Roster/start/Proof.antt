@@ -30,12 +30,4 @@ returns-2 c = as-read startOf (c .before .before .before .before .before .before
 
 pub start-spec : {M : Type 1} → statement M
 start-spec =
-    tie.close
-    (tie.spec
-    read-record-requires
-    enum-known-h
-    first-step-requires
-    enum-known-number
-    first-step-requires-2
-    returns
-    returns-2)
+    tie.close (tie.spec read-record-requires enum-known-h first-step-requires enum-known-number first-step-requires-2 returns returns-2)

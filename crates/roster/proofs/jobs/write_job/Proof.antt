@@ -93,17 +93,4 @@ returns-3 c =
 
 pub write-job-spec : {M : Type 1} → statement M
 write-job-spec =
-    tie.close
-    (tie.spec
-    returns
-    cast-job
-    list-present-requires
-    returns-2
-    rem-write-nodes
-    mul-write-nodes
-    write-nodes-requires
-    add-t10
-    rem-t15
-    cast-t18
-    same-length
-    returns-3)
+    tie.close (tie.spec returns cast-job list-present-requires returns-2 rem-write-nodes mul-write-nodes write-nodes-requires add-t10 rem-t15 cast-t18 same-length returns-3)

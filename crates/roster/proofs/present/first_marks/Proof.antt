@@ -42,14 +42,4 @@ returns c = fills-all (rw (from-end _ _ _ (c .loop-test .left)) at (c .before .l
 
 pub first-marks-spec : {M : Type 1} → statement M
 first-marks-spec =
-    tie.close
-    (tie.spec
-    Inv-loop
-    μ-loop
-    loop-holds
-    cast-marks
-    array-write-marks
-    add-j
-    loop-less
-    loop-again
-    returns)
+    tie.close (tie.spec Inv-loop μ-loop loop-holds cast-marks array-write-marks add-j loop-less loop-again returns)

@@ -60,16 +60,4 @@ returns c = present-made _ _ (rw (passing-end _ _ _ (c .loop-test .left)) at (c 
 
 pub list-present-spec : {M : Type 1} → statement M
 list-present-spec =
-    tie.close
-    (tie.spec
-    Inv-loop
-    μ-loop
-    loop-holds
-    cast-if1
-    array-read-if1
-    array-write-nodes
-    add-count
-    add-j
-    loop-less
-    loop-again
-    returns)
+    tie.close (tie.spec Inv-loop μ-loop loop-holds cast-if1 array-read-if1 array-write-nodes add-count add-j loop-less loop-again returns)

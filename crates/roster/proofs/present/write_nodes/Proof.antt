@@ -58,17 +58,4 @@ returns c =
 
 pub write-nodes-spec : {M : Type 1} → statement M
 write-nodes-spec =
-    tie.close
-    (tie.spec
-    Inv-loop
-    μ-loop
-    loop-holds
-    add-list
-    rem-list
-    array-read-list
-    slice-write-list
-    add-t
-    loop-less
-    loop-again
-    same-length
-    returns)
+    tie.close (tie.spec Inv-loop μ-loop loop-holds add-list rem-list array-read-list slice-write-list add-t loop-less loop-again same-length returns)

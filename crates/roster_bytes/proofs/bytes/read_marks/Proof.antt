@@ -44,14 +44,4 @@ returns c = fills-all (rw (from-end _ _ _ (c .loop-test .left)) at (c .before .l
 
 pub read-marks-spec : {M : Type 1} → statement M
 read-marks-spec =
-    tie.close
-    (tie.spec
-    Inv-loop
-    μ-loop
-    loop-holds
-    shared-slice-read-marks
-    array-write-marks
-    add-j
-    loop-less
-    loop-again
-    returns)
+    tie.close (tie.spec Inv-loop μ-loop loop-holds shared-slice-read-marks array-write-marks add-j loop-less loop-again returns)

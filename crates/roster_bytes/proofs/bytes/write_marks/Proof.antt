@@ -54,16 +54,4 @@ returns c =
 
 pub write-marks-spec : {M : Type 1} → statement M
 write-marks-spec =
-    tie.close
-    (tie.spec
-    Inv-loop
-    μ-loop
-    loop-holds
-    array-read-mark-byte
-    mark-byte-requires
-    slice-write-bytes
-    add-j
-    loop-less
-    loop-again
-    same-length
-    returns)
+    tie.close (tie.spec Inv-loop μ-loop loop-holds array-read-mark-byte mark-byte-requires slice-write-bytes add-j loop-less loop-again same-length returns)

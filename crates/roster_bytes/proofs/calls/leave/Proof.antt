@@ -34,12 +34,4 @@ returns-2 c =
 
 pub leave-spec : {M : Type 1} → statement M
 leave-spec =
-    tie.close
-    (tie.spec
-    length-number-requires
-    returns
-    read-roster-requires
-    leave-requires
-    put-step-requires
-    same-length
-    returns-2)
+    tie.close (tie.spec length-number-requires returns read-roster-requires leave-requires put-step-requires same-length returns-2)

@@ -34,12 +34,4 @@ returns-2 c =
 
 pub lowest-spec : {M : Type 1} → statement M
 lowest-spec =
-    tie.close
-    (tie.spec
-    length-number-requires
-    returns
-    read-roster-requires
-    lowest-requires
-    tell-requires
-    same-length
-    returns-2)
+    tie.close (tie.spec length-number-requires returns read-roster-requires lowest-requires tell-requires same-length returns-2)

@@ -43,14 +43,4 @@ returns-2 c =
 
 pub next-job-spec : {M : Type 1} → statement M
 next-job-spec =
-    tie.close
-    (tie.spec
-    length-number-requires
-    returns
-    read-roster-requires
-    next-job-requires
-    put-job-requires
-    tell-requires
-    same-length
-    same-length-2
-    returns-2)
+    tie.close (tie.spec length-number-requires returns read-roster-requires next-job-requires put-job-requires tell-requires same-length same-length-2 returns-2)

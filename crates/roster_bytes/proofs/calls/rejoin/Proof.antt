@@ -34,12 +34,4 @@ returns-2 c =
 
 pub rejoin-spec : {M : Type 1} → statement M
 rejoin-spec =
-    tie.close
-    (tie.spec
-    length-number-requires
-    returns
-    read-roster-requires
-    rejoin-requires
-    put-step-requires
-    same-length
-    returns-2)
+    tie.close (tie.spec length-number-requires returns read-roster-requires rejoin-requires put-step-requires same-length returns-2)

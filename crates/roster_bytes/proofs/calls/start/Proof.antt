@@ -25,11 +25,4 @@ returns-2 c = start-done _ _ (c .before .before .before .before .before .before 
 
 pub start-spec : {M : Type 1} → statement M
 start-spec =
-    tie.close
-    (tie.spec
-    length-number-requires
-    returns
-    start-requires
-    write-roster-requires
-    same-length
-    returns-2)
+    tie.close (tie.spec length-number-requires returns start-requires write-roster-requires same-length returns-2)

@@ -37,12 +37,4 @@ returns c = c .fill-rounds .ensures ∙ rw (c .before .gcd .ensures)
 
 pub fill-even-spec : {M : Type 1} → statement M
 fill-even-spec =
-    tie.close
-    (tie.spec
-    gcd-requires
-    div-taken
-    sub-skipped
-    cast-skipped
-    div-skipped
-    fill-rounds-requires
-    returns)
+    tie.close (tie.spec gcd-requires div-taken sub-skipped cast-skipped div-skipped fill-rounds-requires returns)

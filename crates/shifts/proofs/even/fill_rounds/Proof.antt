@@ -64,16 +64,4 @@ returns c = fills-padded 255 (rw (shifts-end _ _ _ _ _ (c .loop-test .left)) at 
 
 pub fill-rounds-spec : {M : Type 1} → statement M
 fill-rounds-spec =
-    tie.close
-    (tie.spec
-    Inv-loop
-    μ-loop
-    loop-holds
-    array-write-out
-    add-count
-    add-next-place
-    next-place-requires
-    add-i
-    loop-less
-    loop-again
-    returns)
+    tie.close (tie.spec Inv-loop μ-loop loop-holds array-write-out add-count add-next-place next-place-requires add-i loop-less loop-again returns)

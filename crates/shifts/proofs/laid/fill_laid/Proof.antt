@@ -61,21 +61,4 @@ returns c = filled-end (c .before .loop .inv) (c .loop-test .left)
 
 pub fill-laid-spec : {M : Type 1} → statement M
 fill-laid-spec =
-    tie.close
-    (tie.spec
-    Inv-loop
-    μ-loop
-    sub-d
-    add-d
-    period-requires
-    loop-holds
-    cast-laid-at
-    laid-at-requires
-    negative-requires
-    cast-out
-    cast-out-2
-    array-write-out
-    add-r
-    loop-less
-    loop-again
-    returns)
+    tie.close (tie.spec Inv-loop μ-loop sub-d add-d period-requires loop-holds cast-laid-at laid-at-requires negative-requires cast-out cast-out-2 array-write-out add-r loop-less loop-again returns)

@@ -34,14 +34,4 @@ returns c = search needs
 
 pub sum-spec : {M : Type 1} → statement M
 sum-spec =
-    tie.close
-    (tie.spec
-    Inv-loop
-    μ-loop
-    loop-holds
-    shared-slice-read-with
-    with-requires
-    add-i
-    loop-less
-    loop-again
-    returns)
+    tie.close (tie.spec Inv-loop μ-loop loop-holds shared-slice-read-with with-requires add-i loop-less loop-again returns)

@@ -34,14 +34,4 @@ returns c = search needs
 
 pub bytes-spec : {M : Type 1} → statement M
 bytes-spec =
-    tie.close
-    (tie.spec
-    Inv-loop
-    μ-loop
-    loop-holds
-    shared-slice-read-byte
-    byte-requires
-    add-i
-    loop-less
-    loop-again
-    returns)
+    tie.close (tie.spec Inv-loop μ-loop loop-holds shared-slice-read-byte byte-requires add-i loop-less loop-again returns)

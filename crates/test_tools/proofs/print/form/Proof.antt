@@ -45,17 +45,4 @@ returns c = search needs
 
 pub form-spec : {M : Type 1} → statement M
 form-spec =
-    tie.close
-    (tie.spec
-    Inv-loop
-    μ-loop
-    loop-holds
-    shared-slice-read-if1
-    decimal-requires
-    add-used
-    shared-slice-read-letter
-    letter-requires
-    add-i
-    loop-less
-    loop-again
-    returns)
+    tie.close (tie.spec Inv-loop μ-loop loop-holds shared-slice-read-if1 decimal-requires add-used shared-slice-read-letter letter-requires add-i loop-less loop-again returns)

@@ -36,14 +36,4 @@ returns-2 c = search needs
 
 pub with-numbers-spec : {M : Type 1} → statement M
 with-numbers-spec =
-    tie.close
-    (tie.spec
-    Inv-loop
-    μ-loop
-    loop-holds
-    number-end-requires
-    with-number-requires
-    loop-less
-    loop-again
-    returns
-    returns-2)
+    tie.close (tie.spec Inv-loop μ-loop loop-holds number-end-requires with-number-requires loop-less loop-again returns returns-2)

@@ -34,14 +34,4 @@ returns c = search needs
 
 pub value-of-spec : {M : Type 1} → statement M
 value-of-spec =
-    tie.close
-    (tie.spec
-    Inv-loop
-    μ-loop
-    loop-holds
-    shared-slice-read-with-digit
-    with-digit-requires
-    add-i
-    loop-less
-    loop-again
-    returns)
+    tie.close (tie.spec Inv-loop μ-loop loop-holds shared-slice-read-with-digit with-digit-requires add-i loop-less loop-again returns)

@@ -42,13 +42,4 @@ returns-3 c = c .power .ensures ∙ power-at (c .before .before .before .before 
 
 pub inverse-with-spec : {M : Type 1} → statement M
 inverse-with-spec =
-    tie.close
-    (tie.spec
-    returns
-    logarithm-requires
-    cast-e
-    sub-power
-    power-requires
-    cast-result
-    returns-2
-    returns-3)
+    tie.close (tie.spec returns logarithm-requires cast-e sub-power power-requires cast-result returns-2 returns-3)

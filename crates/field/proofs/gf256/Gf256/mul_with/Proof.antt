@@ -56,16 +56,4 @@ returns-3 c =
 
 pub mul-with-spec : {M : Type 1} → statement M
 mul-with-spec =
-    tie.close
-    (tie.spec
-    returns
-    returns-2
-    logarithm-requires
-    cast-e
-    logarithm-requires-2
-    cast-e-2
-    add-e
-    reduced-requires
-    power-requires
-    cast-result
-    returns-3)
+    tie.close (tie.spec returns returns-2 logarithm-requires cast-e logarithm-requires-2 cast-e-2 add-e reduced-requires power-requires cast-result returns-3)

@@ -93,22 +93,4 @@ returns-2 c =
 
 pub inverse-spec : {M : Type 1} → statement M
 inverse-spec =
-    tie.close
-    (tie.spec
-    Inv-loop
-    μ-loop
-    returns
-    loop-holds
-    div-q
-    rem-r
-    sub-if2
-    mul-requires
-    sub-requires
-    loop-less
-    loop-again
-    add-mul
-    mul-requires-2
-    sub-x
-    loop-less-2
-    loop-again-2
-    returns-2)
+    tie.close (tie.spec Inv-loop μ-loop returns loop-holds div-q rem-r sub-if2 mul-requires sub-requires loop-less loop-again add-mul mul-requires-2 sub-x loop-less-2 loop-again-2 returns-2)
