@@ -36,7 +36,7 @@ pub enum Error {
 
 impl Error {
     /// Every error, in the order of the numbers.
-    pub const ALL: [Error; 12] = [
+    pub const ALL: [Error; 13] = [
         Error::Kind,
         Error::Body,
         Error::Field,

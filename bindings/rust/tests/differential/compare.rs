@@ -218,6 +218,9 @@ pub fn weights(record: &[u8], before: &[u32]) -> u8 {
     lent[1..end].copy_from_slice(before);
     let (got, _) = number(balanced::weights(record, &mut lent[1..end]));
     assert_eq!(got, expect, "weights {record:?} {}", before.len());
-    assert!(lent[1..end] == after && lent[0] == MARK && lent[end] == MARK, "weights {record:?}");
+    assert!(
+        lent[1..end] == after && lent[0] == MARK && lent[end] == MARK,
+        "weights {record:?}"
+    );
     got
 }

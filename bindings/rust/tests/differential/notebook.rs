@@ -107,6 +107,7 @@ fn numbers_and_names() {
         (10, "twice"),
         (11, "symbol"),
         (15, "already"),
+        (16, "many"),
     ];
     assert_eq!(names, expect);
     for error in Error::ALL {

@@ -4,7 +4,9 @@ use crate::random::{shapes, Random};
 
 /// q^k, if it is at most 65,536.
 fn few(size: u32, k: usize) -> Option<usize> {
-    (0..k).try_fold(1, |count: usize, _| Some(count * size as usize).filter(|&next| next <= 65_536))
+    (0..k).try_fold(1, |count: usize, _| {
+        Some(count * size as usize).filter(|&next| next <= 65_536)
+    })
 }
 
 #[test]
