@@ -1,0 +1,1 @@
+// What one bad read does, and how far a change of several symbols reaches: theory, no code.
