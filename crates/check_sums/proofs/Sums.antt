@@ -18,7 +18,7 @@ use Rattle.generator.specs.Codewords.{checkFrom}
 use Rattle.refusals.specs.Accepted.{SymbolRows}
 use Rattle.combine.specs.Combined.{combined, WeightedRows}
 use Rattle.combine.proofs.Columns.{column-ready, combined-column}
-use Rattle.belongs.specs.Ready.{powersOf, factorsOf}
+use Rattle.check_sums.specs.Powers.{powersOf, factorsOf}
 
 module _ (h : Header) (i : ℕ) (low : i < h .n) where
   in-powers : i < length (powersOf h)

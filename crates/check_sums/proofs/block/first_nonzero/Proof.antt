@@ -7,8 +7,8 @@ use lib.Dec.{eqb}
 use lib.ListN.{length, getD}
 use Rattle.lists.specs.Search.{firstFalse}
 use Rattle.lists.proofs.Search.{search-next, search-found, search-end}
-use Rattle.belongs.proofs.first_nonzero.Statement.{statement}
-use Rattle.belongs.proofs.first_nonzero.Tie as tie
+use Rattle.check_sums.proofs.block.first_nonzero.Statement.{statement}
+use Rattle.check_sums.proofs.block.first_nonzero.Tie as tie
 
 abbrev Inv-loop : tie.InvT-loop
 Inv-loop sums t₀ t =

@@ -8,10 +8,10 @@ use lib.Seq.{length-take-le}
 use Rattle.generator.specs.Codewords.{isWord}
 use Rattle.layout.specs.Layout.{shareLayout}
 use Rattle.blocks.specs.Blocks.{firstWrong}
-use Rattle.belongs.proofs.Prefix.{prefix-long, prefix-fits, prefix-is, length-prefix}
-use Rattle.belongs.proofs.Wrong.{checkIn, failing, failing-none, failing-more}
-use Rattle.belongs.proofs.first_wrong.Statement.{statement}
-use Rattle.belongs.proofs.first_wrong.Tie as tie
+use Rattle.check_sums.proofs.Prefix.{prefix-long, prefix-fits, prefix-is, length-prefix}
+use Rattle.check_sums.proofs.Wrong.{checkIn, failing, failing-none, failing-more}
+use Rattle.check_sums.proofs.block.first_wrong.Statement.{statement}
+use Rattle.check_sums.proofs.block.first_wrong.Tie as tie
 
 abbrev Inv-loop : tie.InvT-loop
 Inv-loop h lanes shares checks table sums₀ best₀ e₀ sums best e = (e ≤ checks) × (length sums ≡ 4096) × (best ≡ failing shareLayout h lanes shares e)

@@ -4,9 +4,9 @@ use native.Mathlib.Omega.{arith}
 use borrow.Author.Needs.{needs}
 use Rattle.layout.specs.Layout.{shareLayout}
 use Rattle.layout.proofs.Places.{share-by-row}
-use Rattle.belongs.proofs.Sums.{check-sums, rows-ready}
-use Rattle.belongs.proofs.lane_sums.Statement.{statement}
-use Rattle.belongs.proofs.lane_sums.Tie as tie
+use Rattle.check_sums.proofs.Sums.{check-sums, rows-ready}
+use Rattle.check_sums.proofs.block.lane_sums.Statement.{statement}
+use Rattle.check_sums.proofs.block.lane_sums.Tie as tie
 
 cast-n : tie.Need-cast-n
 cast-n c = search needs

@@ -11,9 +11,9 @@ use Rattle.field.proofs.Bounds.{power-below}
 use Rattle.field.proofs.KindLaws.{size-fits}
 use Rattle.field.proofs.Powers.{power-next}
 use Rattle.generator.specs.Records.{size}
-use Rattle.belongs.specs.Ready.{powersOf}
-use Rattle.belongs.proofs.powers_with.Statement.{statement}
-use Rattle.belongs.proofs.powers_with.Tie as tie
+use Rattle.check_sums.specs.Powers.{powersOf}
+use Rattle.check_sums.proofs.powers.powers_with.Statement.{statement}
+use Rattle.check_sums.proofs.powers.powers_with.Tie as tie
 
 abbrev Inv-loop : tie.InvT-loop
 Inv-loop powers logarithms field root n out₀ x₀ i₀ out x i =

@@ -9,10 +9,10 @@ use lib.ListN.{getD}
 use Rattle.lists.specs.Padded.{zeros, padded}
 use Rattle.lists.proofs.Rows.{from-ext}
 use Rattle.lists.proofs.Fill.{Filled, filled-start, filled-put, filled-end}
-use Rattle.belongs.specs.Ready.{factorsOf}
-use Rattle.belongs.proofs.Sums.{power-place, power-at}
-use Rattle.belongs.proofs.factors.Statement.{statement}
-use Rattle.belongs.proofs.factors.Tie as tie
+use Rattle.check_sums.specs.Powers.{factorsOf}
+use Rattle.check_sums.proofs.Sums.{power-place, power-at}
+use Rattle.check_sums.proofs.powers.factors.Statement.{statement}
+use Rattle.check_sums.proofs.powers.factors.Tie as tie
 
 -- node j's factor, as it is read
 abbrev read : List ℕ → ℕ → ℕ → ℕ → ℕ

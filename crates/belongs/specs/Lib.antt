@@ -1,2 +1,0 @@
--- What the check sums rely on.
-pub mod Ready

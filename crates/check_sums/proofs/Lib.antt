@@ -1,0 +1,4 @@
+-- The laws of the check sums, and what the first wrong lane says.
+pub mod Sums
+pub mod Prefix
+pub mod Wrong

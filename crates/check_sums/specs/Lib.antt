@@ -1,0 +1,2 @@
+-- Powers of the root, as the check sums use them.
+pub mod Powers

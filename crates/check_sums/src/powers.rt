@@ -1,0 +1,52 @@
+// Powers of the root, and the nodes' factors in a check sum.
+ghost use mathlib.Core.Path.{_≡_};
+ghost use Prim.Native.Nat.{_≤_};
+ghost use Rattle.lists.specs.Padded.{padded};
+ghost use Rattle.field.specs.Tables.{AreTables};
+ghost use Rattle.generator.specs.Records.{Sound};
+ghost use Rattle.check_sums.specs.Powers.{powersOf, factorsOf};
+use generator::Header;
+
+// The powers of the root below its order, and zeros after them.
+pub fn powers(h: Header) -> [u16; 255]
+    requires { ⌜ Sound h ⌝ }
+    ensures { λ r. ⌜ r ≡ padded 255 (powersOf h) ⌝ }
+{
+    let t = field::constant_tables();
+    powers_with(h, &t.powers, &t.logarithms)
+}
+
+// The same with the field's tables as they are lent to it.
+fn powers_with<'a>(h: Header, powers: &'a [u8; 255], logarithms: &'a [u8; 255]) -> [u16; 255]
+    requires { ⌜ Sound h × AreTables (now powers) (now logarithms) ⌝ }
+    ensures { λ r. ⌜ r ≡ padded 255 (powersOf h) ⌝ }
+{
+    let field = h.field;
+    let root = h.root;
+    let n = h.n as usize;
+    let mut out = [0u16; 255];
+    let mut x: u32 = 1;
+    let mut i: usize = 0;
+    while i < n {
+        out[i] = x as u16;
+        x = field.mul_with(powers, logarithms, root, x);
+        i += 1;
+    }
+    out
+}
+
+// The nodes' factors in check sum e, root^(j·e) with the exponent modulo n, and zeros after them.
+pub fn factors(h: Header, powers: &[u16], e: usize) -> [u16; 255]
+    requires { ⌜ Sound h × (now powers ≡ padded 255 (powersOf h)) × (e ≤ 255) ⌝ }
+    ensures { λ r. ⌜ r ≡ padded 255 (factorsOf h e) ⌝ }
+{
+    let n = h.n as usize;
+    let mut out = [0u16; 255];
+    let mut j: usize = 0;
+    while j < n {
+        let i = j * e % n;
+        out[j] = powers[i];
+        j += 1;
+    }
+    out
+}
