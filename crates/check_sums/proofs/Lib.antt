@@ -2,3 +2,4 @@
 pub mod Sums
 pub mod Prefix
 pub mod Wrong
+pub mod OneLane

@@ -1,2 +1,3 @@
--- Powers of the root, as the check sums use them.
+-- Powers of the root, and the check sums of one lane.
 pub mod Powers
+pub mod Sums

@@ -1,0 +1,133 @@
+// Check sums of one lane, all of them at once: the rows are the nodes' powers of the root, a row's lanes the exponents, and the
+// lane's symbols are the weights.
+ghost use mathlib.Core.Path.{_≡_};
+ghost use mathlib.Core.Bool.{true};
+ghost use Prim.Native.Nat.{_+_, _-_, _*_, _%_, _≤_, _<_};
+ghost use lib.ListN.{length};
+ghost use Rattle.lists.specs.Numbers.{allBelow};
+ghost use Rattle.lists.specs.Padded.{padded};
+ghost use Rattle.generator.specs.Records.{size, Sound};
+ghost use Rattle.generator.specs.Codewords.{isWord};
+ghost use Rattle.check_sums.specs.Powers.{powersOf};
+ghost use Rattle.check_sums.specs.Sums.{checkSums, powerRow, powerRows};
+use crate::powers;
+use generator::Header;
+
+// The place of the next power: (i + step) modulo n.
+fn stepped(i: usize, step: usize, n: usize) -> usize
+    requires { ⌜ (i < n) × (step < n) × (n ≤ 255) ⌝ }
+    ensures { λ r. ⌜ r ≡ (i + step) % n ⌝ }
+{
+    let next = i + step;
+    if next < n { next } else { next - n }
+}
+
+// Node j's row: its factors in check sums 1, 2, ..
+fn fill_row(h: Header, powers: &[u16], j: usize, row: &mut [u8])
+    requires { ⌜ Sound h × (now powers ≡ padded 255 (powersOf h)) × (j < h .n) ⌝ }
+    ensures { λ r. ⌜ now (row .exit) ≡ powerRow h (length (now (row .entry))) j ⌝ }
+{
+    let n = h.n as usize;
+    let mut i = j;
+    let mut e = 0;
+    while e < row.len() {
+        row[e] = powers[i] as u8;
+        i = stepped(i, j, n);
+        e += 1;
+    }
+}
+
+// The rows of all nodes.
+pub fn fill_power_rows(h: Header, rows: &mut [u8])
+    requires { ⌜ Sound h × (length (now rows) ≡ h .n * (h .n - h .k)) ⌝ }
+    ensures { λ r. ⌜ now (rows .exit) ≡ powerRows h ⌝ }
+{
+    let n = h.n as usize;
+    let checks = (h.n - h.k) as usize;
+    let table = powers::powers(h);
+    let mut j: usize = 0;
+    while j < n {
+        let start = j * checks;
+        let end = start + checks;
+        fill_row(h, &table, j, &mut rows[start..end]);
+        j += 1;
+    }
+}
+
+// The check sums of a lane, from the rows of powers.
+fn fill_sums(h: Header, rows: &[u8], lane: &[u16], sums: &mut [u8])
+    requires { ⌜ Sound h × (now rows ≡ powerRows h) × (length (now lane) ≡ h .n) × (allBelow (size h) (now lane) ≡ true) × (length (now sums) ≡ h .n - h .k) ⌝ }
+    ensures { λ r. ⌜ now (sums .exit) ≡ checkSums h (now (lane .entry)) ⌝ }
+{
+    let field = h.field;
+    let n = h.n as usize;
+    let checks = (h.n - h.k) as usize;
+    combine::combine(field, lane, n, checks, rows, sums);
+}
+
+// Symbols of one byte as numbers, and zeros after them.
+fn widened(s: &[u8]) -> [u16; 255]
+    requires { ⌜ length (now s) ≤ 255 ⌝ }
+    ensures { λ r. ⌜ r ≡ padded 255 (now (s .entry)) ⌝ }
+{
+    let mut out = [0u16; 255];
+    let mut i = 0;
+    while i < s.len() {
+        out[i] = s[i] as u16;
+        i += 1;
+    }
+    out
+}
+
+// The check sums of a lane, from the rows of powers, and zeros after them.
+pub fn sums_with(h: Header, rows: &[u8], lane: &[u16]) -> [u16; 255]
+    requires { ⌜ Sound h × (now rows ≡ powerRows h) × (length (now lane) ≡ h .n) × (allBelow (size h) (now lane) ≡ true) ⌝ }
+    ensures { λ r. ⌜ r ≡ padded 255 (checkSums h (now (lane .entry))) ⌝ }
+{
+    let checks = (h.n - h.k) as usize;
+    let mut sums = [0u8; 255];
+    fill_sums(h, rows, lane, &mut sums[..checks]);
+    widened(&sums[..checks])
+}
+
+// Room for the rows of powers.
+fn room() -> [u8; 65025]
+    ensures { λ r. ⌜ length r ≡ 65025 ⌝ }
+{
+    [0u8; 65025]
+}
+
+// The check sums of a lane, and zeros after them.
+pub fn sums(h: Header, lane: &[u16]) -> [u16; 255]
+    requires { ⌜ Sound h × (length (now lane) ≡ h .n) × (allBelow (size h) (now lane) ≡ true) ⌝ }
+    ensures { λ r. ⌜ r ≡ padded 255 (checkSums h (now (lane .entry))) ⌝ }
+{
+    let size = h.n as usize * (h.n - h.k) as usize;
+    let mut rows = room();
+    fill_power_rows(h, &mut rows[..size]);
+    sums_with(h, &rows[..size], lane)
+}
+
+// Whether every sum is 0.
+pub fn all_zero(sums: &[u16]) -> bool
+    ensures { λ r. ⌜ r ≡ allBelow 1 (now (sums .entry)) ⌝ }
+{
+    let mut i = 0;
+    while i < sums.len() {
+        if sums[i] != 0 {
+            return false;
+        }
+        i += 1;
+    }
+    true
+}
+
+// Whether a lane is a word of the code.
+pub fn is_word(h: Header, lane: &[u16]) -> bool
+    requires { ⌜ Sound h × (length (now lane) ≡ h .n) × (allBelow (size h) (now lane) ≡ true) ⌝ }
+    ensures { λ r. ⌜ r ≡ isWord h (now (lane .entry)) ⌝ }
+{
+    let checks = (h.n - h.k) as usize;
+    let found = sums(h, lane);
+    all_zero(&found[..checks])
+}
