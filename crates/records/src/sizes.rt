@@ -1,6 +1,6 @@
 // The numbers of a plan: d, and k·d / n rounded down and up.
 ghost use mathlib.Core.Path.{_≡_};
-ghost use Prim.Native.Nat.{_≤_, _<_};
+ghost use Prim.Native.Nat.{_*_, _≤_, _<_};
 ghost use Rattle.generator.specs.Records.{distance, lowReads, highReads, Sound};
 use generator::Header;
 
@@ -14,15 +14,23 @@ pub fn distance_of(h: Header) -> u8
     n - k + 1
 }
 
+// k·d, the number of entries of the generator that are not zero.
+fn entries(h: Header) -> u32
+    requires { ⌜ Sound h ⌝ }
+    ensures { λ r. ⌜ (r ≡ h .k * distance h) × (r ≤ h .n * 255) ⌝ }
+{
+    let k = h.k as u32;
+    let d = distance_of(h) as u32;
+    k * d
+}
+
 // The least number of symbols that a node depends on.
 pub fn low_reads(h: Header) -> u8
     requires { ⌜ Sound h ⌝ }
     ensures { λ r. ⌜ r ≡ lowReads h ⌝ }
 {
     let n = h.n as u32;
-    let k = h.k as u32;
-    let d = distance_of(h) as u32;
-    (k * d / n) as u8
+    (entries(h) / n) as u8
 }
 
 // The greatest.
@@ -31,7 +39,5 @@ pub fn high_reads(h: Header) -> u8
     ensures { λ r. ⌜ r ≡ highReads h ⌝ }
 {
     let n = h.n as u32;
-    let k = h.k as u32;
-    let d = distance_of(h) as u32;
-    ((k * d + (n - 1)) / n) as u8
+    ((entries(h) + (n - 1)) / n) as u8
 }

@@ -1,45 +1,29 @@
--- `low_reads` meets its contract: it fits a byte because k is at most n.
-use Prim.Native.Nat.{_≤_, _<_}
-use native.Mathlib.Nat.{mul-le-mul, div-lt-iff-lt-mul}
+-- `low_reads` meets its contract: it fits a byte because k·d is at most n·255.
+use Prim.Native.Nat.{_<_}
+use native.Mathlib.Nat.{div-lt-iff-lt-mul}
 use native.Mathlib.Omega.{arith}
-use borrow.Author.Needs.{needs}
 use Rattle.generator.specs.Records.{lowReads}
+use borrow.Author.Needs.{needs}
 use Rattle.records.proofs.sizes.low_reads.Statement.{statement}
 use Rattle.records.proofs.sizes.low_reads.Tie as tie
 
 cast-n : tie.Need-cast-n
 cast-n c = search needs
 
-cast-k : tie.Need-cast-k
-cast-k c = search needs
-
-distance-of-requires : tie.Need-distance-of-requires
-distance-of-requires c κs = search needs
-
-cast-d : tie.Need-cast-d
-cast-d c = search needs
-
-mul-result : tie.Need-mul-result
-mul-result c =
-    let k : c .before .before .before .args .h .k ≤ 255 = omega arith in
-    let d : c .distance-of .result ≤ 255 = omega arith in
-    omega (arith, mul-le-mul k d)
+entries-requires : tie.Need-entries-requires
+entries-requires c κs = search needs
 
 div-result : tie.Need-div-result
 div-result c = search needs
 
 cast-result : tie.Need-cast-result
 cast-result c =
-    let start = c .before .before .before in
-    let d : c .distance-of .result ≤ 255 = omega arith in
-    let some : 0 < start .args .h .n = omega arith in
-    record { fits = div-lt-iff-lt-mul some .1 (omega (arith, mul-le-mul (start .pre .fits) d)) }
+    let some : 0 < c .before .before .args .h .n = omega arith in
+    record { fits = div-lt-iff-lt-mul some .1 (omega (arith, c .entries .ensures .1)) }
 
 returns : tie.Need-returns
 unfolding lowReads
-returns c = rw (c .distance-of .ensures)
+returns c = rw (c .entries .ensures .0)
 
 pub low-reads-spec : {M : Type 1} → statement M
-low-reads-spec =
-    tie.close
-    (tie.spec cast-n cast-k distance-of-requires cast-d mul-result div-result cast-result returns)
+low-reads-spec = tie.close (tie.spec cast-n entries-requires div-result cast-result returns)
