@@ -33,9 +33,9 @@
  * What a call returns
  *
  * 0 (BALANCED_OK), or the number that turned the call away. Conditions are tested in the order of the numbers, and the
- * lowest that holds is returned. A call that is turned away has changed nothing: no byte of a buffer, and not
- * *altered, *first_wrong or *enough; only balanced_roster_start writes a roster without nodes. No other value is ever
- * returned.
+ * lowest that holds is returned. A call that is turned away has changed nothing: no byte of a buffer, and none of the
+ * numbers that it hands over through a pointer; only balanced_roster_start writes a roster without nodes. No other value
+ * is ever returned.
  *
  *
  * What the caller sees to
@@ -44,7 +44,7 @@
  *   so many bytes that may be read and, where it is not `const`, written. Bytes that are read have been initialised;
  *   a buffer that is only written need not be. A length that is not what the call asks for meets BALANCED_LENGTH.
  * - Null. No pointer is null, not even with the length 0.
- * - Alignment. Byte buffers may start anywhere. `altered`, `first_wrong`, `enough` and `counts` are aligned as a uint32_t is.
+ * - Alignment. Byte buffers may start anywhere. What has the type uint32_t is aligned as that type is.
  * - Aliasing. What a call writes overlaps nothing else that is lent to the same call. Buffers that are only read may
  *   overlap, or be one.
  * - Threads. There is no state outside the buffers. Calls may run at the same time in any number of threads as long as
@@ -79,6 +79,13 @@ enum balanced_number {
     BALANCED_SYMBOL = 11, /* kind 1, and a byte that the call reads as a symbol is p or more */
     BALANCED_ALREADY = 15, /* the node already is what the event says: absent, or present */
     BALANCED_MANY = 16    /* there are more than 65,536 messages */
+};
+
+/* What balanced_find_update answers. */
+enum balanced_finding {
+    BALANCED_FIND_UNCHANGED = 0,
+    BALANCED_FIND_ADDED = 1,
+    BALANCED_FIND_NONE = 2
 };
 
 /* The largest numbers of lanes and of nodes; the lengths of the buffers of balanced_plan. */
@@ -192,6 +199,25 @@ uint8_t balanced_belongs(const uint8_t *record, size_t record_len,
                          uint32_t lanes,
                          const uint8_t *shares, size_t shares_len,
                          uint32_t *first_wrong);
+
+/*
+ * Finds the update that leads from one lane to another: the symbol of the message and the amount that was added to it.
+ * Adding *amount times row *symbol of the generator to `before` gives `after`, taking it away from `after` gives `before`,
+ * and no other symbol and amount do. The lanes need not be words of the code.
+ *
+ *   before, after  n bytes each
+ *   answer         receives one of BALANCED_FIND_UNCHANGED, exactly if the two lanes are equal; BALANCED_FIND_ADDED;
+ *                  BALANCED_FIND_NONE, exactly if they differ and no symbol and amount lead from one to the other
+ *   symbol         receives the symbol's number with BALANCED_FIND_ADDED, and 0 otherwise
+ *   amount         receives the amount with BALANCED_FIND_ADDED, and 0 otherwise: a symbol of the field, in kind 2 the
+ *                  exclusive or of what the symbol was and what it became
+ *
+ * Returns 0 or one of 1 to 5, 8, 11.
+ */
+uint8_t balanced_find_update(const uint8_t *record, size_t record_len,
+                             const uint8_t *before, size_t before_len,
+                             const uint8_t *after, size_t after_len,
+                             uint32_t *answer, uint32_t *symbol, uint32_t *amount);
 
 /*
  * Counts the messages by the nodes that hold something other than zero: counts[w] is the number of messages of k symbols

@@ -312,6 +312,25 @@ def belongs(record, lanes, shares):
     return call(record, faults, work)
 
 
+def find_update(record, before, after):
+    """(number, "unchanged", (symbol, amount) or None), by trying every symbol and amount"""
+
+    def faults(plan):
+        yield 8, len(before) != plan.n or len(after) != plan.n
+        yield 11, symbols_bad(plan, before + after)
+
+    def added(plan, symbol, amount):
+        return bytes(plan.field.plus(x, plan.field.times(amount, entry)) for x, entry in zip(before, plan.entries[symbol]))
+
+    def work(plan):
+        if before == after:
+            return "unchanged"
+        tried = product(range(plan.k), range(plan.field.size))
+        return next((update for update in tried if added(plan, *update) == after), None)
+
+    return call(record, faults, work)
+
+
 def weights(record, room):
     """(number, how many messages have a word with w nodes that are not zero, w from 0 to n), by going through all messages"""
 

@@ -4,7 +4,7 @@
 An empty line or a comment, which starts with #, is printed as it is.
 """
 import sys
-from balanced import belongs, build_plan, encode, rebuild, recover, update, weights
+from balanced import belongs, build_plan, encode, find_update, rebuild, recover, update, weights
 from data import block, refused
 from roster import History
 from words import NotRead, is_comment, read_line
@@ -21,6 +21,7 @@ CALLS = {
     "rejoin": ["node"],
     "lowest": ["room"],
     "job": ["room"],
+    "find": ["before", "after"],
     "weights": ["room"],
 }
 HISTORY = History()  # of the roster that the calls on a roster share
@@ -57,6 +58,11 @@ def answer(name, record, arguments):
     if name == "belongs":
         number, lane = belongs(record, *arguments)
         return f"refused {number}" if number else "yes" if lane is None else f"no, lane {lane}"
+    if name == "find":
+        number, found = find_update(record, *arguments)
+        if number or found == "unchanged":
+            return f"refused {number}" if number else found
+        return f"symbol {found[0]} amount {found[1]}" if found else "no single update"
     if name == "weights":
         number, counts = weights(record, *arguments)
         return refused(number) if number else "done" + "".join(f" {count}" for count in counts)

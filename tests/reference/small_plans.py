@@ -1,8 +1,9 @@
 #!/usr/bin/env python3
 """Prints calls over every accepted record of some small fields, in the words of cases.py.
 
-For each record a message is encoded, one symbol updated, the result tested as it is and with one symbol changed, the new message recovered
-from k nodes in some order, and a node rebuilt from them. The data are pseudo-random and the same at each run.
+For each record a message is encoded, one symbol updated, the update found again from the lane before and after it and not found where a node
+is changed besides, the result tested as it is and with one symbol changed, the new message recovered from k nodes in some order, and a node
+rebuilt from them. The data are pseudo-random and the same at each run.
 """
 from balanced import encode, read, update
 from data import fill
@@ -29,6 +30,10 @@ def words(name, record, **arguments):
     return " ".join(map(str, line))
 
 
+def lane_of(shares, lane):
+    return shares[lane::LANES]
+
+
 def calls(record, seed):
     p, _, n, k = read(record)
     size = p or 256
@@ -39,7 +44,13 @@ def calls(record, seed):
     symbol, lane = next(draw) % k, next(draw) % LANES
     old, new = message[symbol * LANES + lane], next(draw) % size
     yield words("update", record, lanes=LANES, symbol=symbol, lane=lane, old=old, new=new, shares=shares)
+    before = lane_of(shares, lane)
     _, (_, shares) = update(record, LANES, symbol, lane, old, new, shares)
+    after = lane_of(shares, lane)
+    yield words("find", record, before=before, after=after)
+    changed, node = bytearray(after), next(draw) % n
+    changed[node] = (changed[node] + 1) % size
+    yield words("find", record, before=before, after=bytes(changed))
     yield words("belongs", record, lanes=LANES, shares=shares)
     damaged, at = bytearray(shares), next(draw) % (n * LANES)
     damaged[at] = (damaged[at] + 1) % size

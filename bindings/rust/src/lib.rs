@@ -34,7 +34,7 @@
 //! # Example
 //!
 //! ```
-//! use balanced::{Error, Plan};
+//! use balanced::{Error, Finding, Plan};
 //!
 //! // The field of 7 elements, 6 nodes, any 3 of which give the message back.
 //! let plan = Plan::new(&[1, 7, 3, 6, 3])?;
@@ -53,6 +53,10 @@
 //! assert_eq!(plan.update(1, 1, 0, 0, 5, &mut shares)?, 4);
 //! assert_eq!(shares, [0, 6, 1, 3, 1, 0]);
 //! assert_eq!(plan.belongs(1, &shares)?, None);
+//!
+//! // The update is found again from the lane before and after it.
+//! let found = plan.find_update(&[6, 1, 1, 3, 6, 2], &shares)?;
+//! assert_eq!(found, Finding::Added { symbol: 1, amount: 5 });
 //!
 //! // Nodes 2, 3 and 4 are left, and give back the message and what node 0 held.
 //! let mut message = [0; 3];
@@ -77,12 +81,14 @@
 
 mod calls;
 mod error;
+mod lanes;
 mod plan;
 mod roster;
 pub mod sys;
 
 pub use calls::{belongs, encode, rebuild, recover, update, weights};
 pub use error::Error;
+pub use lanes::{find_update, Finding};
 pub use plan::Plan;
 pub use roster::Roster;
 

@@ -1,6 +1,6 @@
 use std::fmt;
 
-use crate::{calls, sys, Error, MAX_NODES};
+use crate::{calls, lanes, sys, Error, Finding, MAX_NODES};
 
 /// A record that was accepted, and the plan that it stands for.
 #[derive(Clone, Copy, PartialEq, Eq)]
@@ -134,6 +134,11 @@ impl Plan {
     /// [`belongs`](crate::belongs) with this plan's record.
     pub fn belongs(&self, lanes: u32, shares: &[u8]) -> Result<Option<u32>, Error> {
         calls::belongs(self.record(), lanes, shares)
+    }
+
+    /// [`find_update`](crate::find_update) with this plan's record.
+    pub fn find_update(&self, before: &[u8], after: &[u8]) -> Result<Finding, Error> {
+        lanes::find_update(self.record(), before, after)
     }
 
     /// [`weights`](crate::weights) with this plan's record.

@@ -101,5 +101,17 @@ extern "C" {
         enough: *mut u32,
     ) -> u8;
 
+    pub fn balanced_find_update(
+        record: *const u8,
+        record_len: usize,
+        before: *const u8,
+        before_len: usize,
+        after: *const u8,
+        after_len: usize,
+        answer: *mut u32,
+        symbol: *mut u32,
+        amount: *mut u32,
+    ) -> u8;
+
     pub fn balanced_weights(record: *const u8, record_len: usize, counts: *mut u32, counts_len: usize) -> u8;
 }

@@ -18,6 +18,7 @@ use Rattle.lists.proofs.All.{Distinct, Distinct-at, Distinct-of}
 use Rattle.lists.proofs.Cases.{by-test, both-true, or-left-false, or-right-false}
 use Rattle.lists.proofs.Chosen.{Chosen, choose}
 use Rattle.lists.proofs.Count.{count-ext, count-none, count-not, count-either, count-below}
+use Rattle.lists.proofs.Differ.{differ-same}
 use Rattle.lists.proofs.Numbers.{below-at, at-below, all-below, all-distinct}
 use Rattle.lists.proofs.Rows.{length-from, getD-from}
 use Rattle.generator.specs.declared.Header.{Header}
@@ -83,11 +84,6 @@ mixed-all : (ms us : List ℕ) → length ms ≡ length us → mixed ms us (leng
 mixed-all ms us e =
     ext-getD 0 (mixed ms us (length ms)) us (length-mixed ms us (length ms) ∙ e) (λ r l. mixed-new ms us (length ms) r (omega (arith, length-mixed ms us (length ms))) (le-refl (length ms)))
 
--- a list does not differ from itself
-differ-self : (s : List ℕ) → differ s s ≡ 0
-unfolding differ
-differ-self s = count-none (length s) 0 _ (λ i l b. ap not (eq-eqb (getD s i 0) (getD s i 0) refl))
-
 module _ (h : Header) (s : Sound h) where
   -- node j holds different symbols for two messages
   abbrev apart : List ℕ → List ℕ → ℕ → Bool
@@ -138,7 +134,7 @@ module _ (h : Header) (s : Sound h) where
       same c = one-message h s (c .which) ms us (nodes-are (c .which) (c .size) (c .below) (c .different)) m u (map-isIn (nodeOf h ms) (nodeOf h us) (c .which) (λ j i. eqb-true _ _ (c .pass j i)))
 
       go : Dec (h .k ≤ countFrom (h .n) 0 (λ j. eqb (nodeOf h ms j) (nodeOf h us j))) → h .n - h .k + 1 ≤ countFrom (h .n) 0 (apart ms us)
-      go (yes l) = absurd (omega (arith, ap (differ ms) (sym (same (choose (h .n) (h .k) _ l))), differ-self ms))
+      go (yes l) = absurd (omega (arith, ap (differ ms) (sym (same (choose (h .n) (h .k) _ l))), differ-same ms))
       go (no l) = omega (arith, count-not (h .n) 0 (λ j. eqb (nodeOf h ms j) (nodeOf h us j)))
 
   module _ (ms us : List ℕ) (m : isMessage h ms ≡ true) (u : isMessage h us ≡ true) where

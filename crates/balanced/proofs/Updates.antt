@@ -10,6 +10,7 @@ use lib.Seq.{set-getD}
 use Rattle.lists.specs.Choice.{pick}
 use Rattle.lists.specs.Counting.{differ}
 use Rattle.lists.proofs.Cases.{by-test}
+use Rattle.lists.proofs.Differ.{differ-same}
 use Rattle.layout.specs.Layout.{held, laneOf, shareLayout}
 use Rattle.layout.proofs.Buffers.{getD-lane}
 use Rattle.layout.proofs.Places.{share-lawful}
@@ -19,7 +20,7 @@ use Rattle.generator.specs.Codewords.{encoding}
 use Rattle.generator.specs.Claims.{isMessage}
 use Rattle.generator.proofs.Changes.{alters}
 use Rattle.blocks.specs.Blocks.{updated}
-use Rattle.blocks.proofs.Updates.{differ-same, updated-encodes, updated-others, updated-count}
+use Rattle.blocks.proofs.Updates.{updated-encodes, updated-others, updated-count}
 use Rattle.balanced.specs.Updates.{Premise, Afterwards, UpdateDemands}
 
 -- how many nodes a change alters

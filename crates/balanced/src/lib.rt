@@ -1,6 +1,8 @@
 // The calls of the balanced image store; those of a roster are methods of `Roster`. Every call takes the record itself; none has a precondition.
 pub use belongs::block_belongs;
 pub use encode::encode_block;
+pub use find_update::Finding;
+pub use find_update::find_update;
 pub use plan::build_plan;
 pub use recover::rebuild_share;
 pub use recover::recover_block;

@@ -1,3 +1,4 @@
 -- What the proofs of the C interface's functions share.
 mod Answers
 mod Plans
+mod Lanes

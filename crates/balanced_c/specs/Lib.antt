@@ -1,2 +1,3 @@
 -- What the functions of the C interface promise.
 pub mod Calls
+pub mod Lanes

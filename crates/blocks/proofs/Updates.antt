@@ -5,11 +5,10 @@ use mathlib.Core.List.{List}
 use Prim.Native.Nat.{ℕ, _+_, _*_, _<_}
 use native.Mathlib.Nat.{zero-add}
 use native.Mathlib.Omega.{arith}
-use borrow.Author.Tests.{eq-eqb}
 use lib.Dec.{eqb}
 use lib.ListN.{length, getD, set}
 use Rattle.lists.specs.Counting.{countFrom, differ}
-use Rattle.lists.proofs.Count.{count-ext, count-none}
+use Rattle.lists.proofs.Count.{count-ext}
 use Rattle.lists.proofs.Rows.{from-ext, getD-from, length-from}
 use Rattle.layout.specs.Layout.{Arrangement, held, laneOf}
 use Rattle.layout.proofs.Lawful.{Lawful}
@@ -23,11 +22,6 @@ use Rattle.generator.specs.Codewords.{nodeOf, encoding}
 use Rattle.generator.specs.Claims.{isMessage}
 use Rattle.generator.proofs.Changes.{node-change}
 use Rattle.blocks.specs.Blocks.{addedAt, rowAdded, updated}
-
--- a list differs nowhere from itself
-pub differ-same : (s : List ℕ) → differ s s ≡ 0
-unfolding differ
-differ-same s = count-none (length s) 0 _ (λ i low high. rw (eq-eqb (getD s i 0) (getD s i 0) refl))
 
 -- what node j of an encoding holds
 pub node-at : (h : Header) (ms : List ℕ) (j : ℕ) → j < h .n → getD (encoding h ms) j 0 ≡ nodeOf h ms j

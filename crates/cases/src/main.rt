@@ -11,6 +11,7 @@ use test_words::line_end;
 mod belonging;
 mod counting;
 mod encoding;
+mod finding;
 mod outcome;
 mod plans;
 mod rebuilding;
@@ -47,6 +48,15 @@ fn call_on_nodes(line: &[u8]) {
     }
     if is_call(line, b"belongs") {
         belonging::belongs(line);
+        return;
+    }
+    call_on_lanes(line);
+}
+
+// The calls on single lanes.
+fn call_on_lanes(line: &[u8]) {
+    if is_call(line, b"find") {
+        finding::find(line);
         return;
     }
     call_on_records(line);
@@ -104,8 +114,13 @@ fn answers(input: &[u8]) {
     }
 }
 
+// Room for all calls.
+fn room() -> [u8; 262144] {
+    [0; 262144]
+}
+
 fn main() {
-    let mut input = io::large_buffer();
+    let mut input = room();
     let size = io::read_full(STDIN_FILENO, &mut input);
     answers(&input[..size]);
 }

@@ -57,3 +57,13 @@ module _ {q : ℕ} {add sub mul : ℕ → ℕ → ℕ} (A : Arithmetic q add sub
   one-inverse a r s ha hr hs e f =
       sym (mul-one r hr) ∙ ap (mul r) (sym f) ∙ sym (mul-assoc r a s hr ha hs)
       ∙ ap (λ (x : ℕ). mul x s) (mul-comm r a hr ha ∙ e) ∙ one-mul s hs
+
+  -- a product with a number that is not 0 is 0 only where the other factor is
+  pub no-divisors : (a b : ℕ) → a < q → b < q → (a ≡ 0 → ⊥) → mul a b ≡ 0 → b ≡ 0
+  no-divisors a b ha hb some e =
+      let (r, hr, one) = A .invertible a (omega arith) ha in
+      sym (one-mul b hb)
+      ∙ ap (λ (x : ℕ). mul x b) (sym (mul-comm r a hr ha ∙ one))
+      ∙ mul-assoc r a b hr ha hb
+      ∙ ap (mul r) e
+      ∙ mul-zero r hr

@@ -81,7 +81,7 @@ module _ (h : Header) (s : Sound h) where
       (j, node, upper-column (h .k * distance h) (h .n) _ (omega (arith, s .two)) (depends j node) many)
 
   -- the message of zeros
-  zero-message : isMessage h (replicate (h .k) 0) ≡ true
+  pub zero-message : isMessage h (replicate (h .k) 0) ≡ true
   zero-message =
       message-is h (replicate (h .k) 0) (length-replicate (h .k) 0)
       (all-below (size h) (replicate (h .k) 0) (All-replicate (λ x. x < size h) (h .k) 0 (size-pos (modulusOf h) (s .field))))

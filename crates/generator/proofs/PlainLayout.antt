@@ -39,7 +39,7 @@ symbols-from f n =
 
 module _ (h : Header) (s : Sound h) where
   -- the nodes 0 to k − 1
-  first-nodes : areNodes h (range 0 (h .k)) ≡ true
+  pub first-nodes : areNodes h (range 0 (h .k)) ≡ true
   unfolding areNodes
   first-nodes =
       let p = Places-range (h .n) 0 (h .k) (omega (arith, s .fits)) in

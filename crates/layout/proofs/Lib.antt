@@ -5,3 +5,4 @@ pub mod OneLane
 pub mod Rewritten
 pub mod Places
 pub mod Widths
+pub mod Readings

@@ -16,7 +16,7 @@ pub length-symbols : (w : ℕ) (s : List ℕ) → length (symbolsOf w s) ≡ len
 unfolding symbolsOf
 length-symbols w s = length-from (symbolAt w s) 0 (length s / w)
 
-length-symbol : (w x : ℕ) → length (symbolBytes w x) ≡ w
+pub length-symbol : (w x : ℕ) → length (symbolBytes w x) ≡ w
 unfolding symbolBytes
 length-symbol zero x = refl
 length-symbol (suc zero) x = refl
@@ -33,7 +33,7 @@ unfolding symbolsOf
 getD-symbols w s i h = rw zero-add at (getD-from (symbolAt w s) 0 (length s / w) i 0 h)
 
 -- a symbol of one byte is the byte
-symbol-byte : (s : List ℕ) (i : ℕ) → i < length s → symbolAt 1 s i ≡ getD s i 0
+pub symbol-byte : (s : List ℕ) (i : ℕ) → i < length s → symbolAt 1 s i ≡ getD s i 0
 unfolding symbolAt valueFrom
 symbol-byte s i h = rw (mul-one i, drop-next s i 0 h) (omega arith)
 
@@ -52,7 +52,7 @@ bytes-one [] = refl
 bytes-one (x ∷ xs) = ap (λ (ys : List ℕ). x ∷ ys) (bytes-one xs)
 
 -- the value of joined digits
-value-append : (a : ℕ) (xs ys : List ℕ) → valueFrom a (xs ++ ys) ≡ valueFrom (valueFrom a xs) ys
+pub value-append : (a : ℕ) (xs ys : List ℕ) → valueFrom a (xs ++ ys) ≡ valueFrom (valueFrom a xs) ys
 unfolding valueFrom
 value-append a [] ys = refl
 value-append a (x ∷ xs) ys = value-append (a * 256 + x) xs ys
@@ -68,7 +68,7 @@ value-symbol (suc (suc w)) x h =
     ∙ div-add-mod' x 256
 
 -- the bytes of the symbols from i on
-drop-bytes : (w i : ℕ) (xs : List ℕ) → drop (i * w) (bytesOf w xs) ≡ bytesOf w (drop i xs)
+pub drop-bytes : (w i : ℕ) (xs : List ℕ) → drop (i * w) (bytesOf w xs) ≡ bytesOf w (drop i xs)
 unfolding bytesOf
 drop-bytes w zero xs = rw (zero-mul w)
 drop-bytes w (suc i) [] = drop-of-length-le {A = ℕ} [] {i = suc i * w} (omega arith)

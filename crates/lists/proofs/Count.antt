@@ -1,5 +1,5 @@
 -- Counting the numbers of a stretch that pass a test.
-use mathlib.Core.Path.{_≡_, refl, ap, ap₂, _∙_}
+use mathlib.Core.Path.{_≡_, refl, sym, ap, ap₂, _∙_}
 use mathlib.Core.Bool.{Bool, true, false, _&&_, not, true≢false}
 use mathlib.Core.Logic.{⊎-elim}
 use Prim.Native.Nat.{ℕ, zero, suc, _+_, _-_, _*_, _≤_, _<_, zero-le}
@@ -9,6 +9,7 @@ use lib.Dec.{eqb}
 use borrow.Author.Tests.{eq-eqb, ne-eqb}
 use Rattle.lists.specs.Choice.{when}
 use Rattle.lists.specs.Counting.{countFrom}
+use Rattle.lists.proofs.Cases.{by-test}
 use Rattle.lists.proofs.Rows.{sub-next, sub-end}
 
 -- one step of a loop that counts, with what is left of n at i
@@ -64,6 +65,17 @@ pub count-none : (f i : ℕ) (p : ℕ → Bool) → ((j : ℕ) → i ≤ j → j
 unfolding countFrom
 count-none zero i p h = refl
 count-none (suc f) i p h = rw (h i (omega arith) (omega arith), count-none f (i + 1) p (λ j l m. h j (omega arith) (omega arith))) refl
+
+-- where none counts, none passes
+pub none-pass : (f i : ℕ) (p : ℕ → Bool) → countFrom f i p ≡ 0 → (j : ℕ) → i ≤ j → j < i + f → p j ≡ false
+unfolding countFrom
+none-pass zero i p e j low high = absurd (omega arith)
+none-pass (suc f) i p e j low high =
+    by-test (p i)
+    (λ t. absurd (let w : 1 + countFrom f (i + 1) p ≡ 0 = rw t at e in omega arith))
+    (λ t.
+    let rest : 0 + countFrom f (i + 1) p ≡ 0 = rw t at e in
+    ⊎-elim (λ q. ap p (sym q) ∙ t) (λ next. none-pass f (i + 1) p (omega arith) j (omega arith) (omega arith)) (eq-or-lt-of-le low))
 
 -- passes and failures make the stretch
 pub count-not : (f i : ℕ) (p : ℕ → Bool) → countFrom f i p + countFrom f i (λ j. not (p j)) ≡ f

@@ -11,6 +11,7 @@ pub mod Fill  -- a loop that fills a list, by elements or parts; zeros
 pub mod Padding  -- lists padded with zeros
 -- Numbers of a stretch
 pub mod Count  -- `countFrom`: steps, joins, moves, periods
+pub mod Differ  -- `differ`: lists that differ nowhere are equal
 pub mod Passing  -- `passingFrom`: those that pass, as a list that rises
 pub mod Search  -- `firstFalse`: the first that fails
 pub mod Around  -- `around`: a list read going round: what all have, none twice

@@ -1,10 +1,12 @@
 -- The first number of a stretch that fails a test.
 use mathlib.Core.Path.{_≡_, refl, sym, ap, ap₂, _∙_}
 use mathlib.Core.Logic.{⊎-elim}
-use mathlib.Core.Bool.{Bool, true, false, _&&_}
+use mathlib.Core.Bool.{Bool, true, false, _&&_, true≢false}
 use Prim.Native.Nat.{ℕ, zero, suc, _+_, _-_, _≤_, _<_, min}
 use native.Mathlib.Nat.{le-refl, eq-or-lt-of-le}
 use native.Mathlib.Omega.{arith}
+use borrow.Author.Tests.{ltb-true, ltb-false}
+use lib.Dec.{ltb}
 use Rattle.lists.specs.Choice.{pick}
 use Rattle.lists.proofs.Cases.{by-test}
 use Rattle.lists.proofs.Rows.{sub-next, sub-end}
@@ -80,3 +82,10 @@ search-fails (suc f) t p h =
     by-test (p t)
     (λ e. rw e (search-fails f (t + 1) p (let w : firstFalse f (t + 1) p < t + suc f = rw e at h in omega arith)))
     (λ e. rw e e)
+
+-- a number of the stretch that fails is not before it
+pub search-within : (f t : ℕ) (p : ℕ → Bool) (i : ℕ) → t ≤ i → i < t + f → p i ≡ false → firstFalse f t p ≤ i
+search-within f t p i low high e =
+    by-test (ltb i (firstFalse f t p))
+    (λ l. absurd (true≢false (sym (search-passes f t p i low (ltb-true i (firstFalse f t p) l)) ∙ e)))
+    (λ l. ltb-false i (firstFalse f t p) l)

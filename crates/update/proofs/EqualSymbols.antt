@@ -7,6 +7,7 @@ use native.Mathlib.Omega.{arith}
 use lib.ListN.{length}
 use Rattle.lists.specs.Counting.{differ}
 use Rattle.lists.specs.Numbers.{allBelow}
+use Rattle.lists.proofs.Differ.{differ-same}
 use Rattle.lists.proofs.Numbers.{below-at}
 use Rattle.layout.specs.Layout.{Arrangement, held, laneOf}
 use Rattle.layout.proofs.Lawful.{Lawful}
@@ -20,7 +21,6 @@ use Rattle.generator.specs.Records.{modulusOf, size, Sound}
 use Rattle.generator.specs.Generator.{entry}
 use Rattle.generator.proofs.Bounds.{entry-below}
 use Rattle.blocks.specs.Blocks.{addedAt, rowAdded, updated}
-use Rattle.blocks.proofs.Updates.{differ-same}
 
 module _ {y : Arrangement} (a : Lawful y) (h : Header) (sound : Sound h) (l r t : ℕ) (s : List ℕ) (symbols : allBelow (size h) (laneOf y (h .n) l t s) ≡ true) where
   -- 0 times an entry added to a symbol

@@ -1,7 +1,7 @@
 //! One call of the library beside the same call of the reference: the same number, and every lent byte and number the same
 //! afterwards. Where the reference gives a number, that is as it was before. Each function gives the number.
 use crate::reference::{self, Code};
-use balanced::{sys, Error, Plan};
+use balanced::{sys, Error, Finding, Plan};
 
 /// A buffer that the library writes, inside a larger one: a write beside it is found.
 pub struct Lent {
@@ -223,4 +223,33 @@ pub fn weights(record: &[u8], before: &[u32]) -> u8 {
         "weights {record:?}"
     );
     got
+}
+
+/// The finding through the safe interface and through the C function, whose numbers are lent. Gives the number and the answer.
+pub fn find_update(record: &[u8], before: &[u8], after: &[u8]) -> (u8, u32) {
+    const MARK: u32 = 0x5a5a_5a5a;
+    let (expect, found) = expected(reference::find_update(record, before, after), (MARK, MARK, MARK));
+    let (got, finding) = number(balanced::find_update(record, before, after));
+    let safe = finding.map_or((MARK, MARK, MARK), |finding| match finding {
+        Finding::Unchanged => (0, 0, 0),
+        Finding::Added { symbol, amount } => (1, symbol, amount),
+        Finding::NoSingleUpdate => (2, 0, 0),
+    });
+    assert_eq!((got, safe), (expect, found), "find_update {record:?} {before:?} {after:?}");
+    let mut lent = (MARK, MARK, MARK);
+    let got = unsafe {
+        sys::balanced_find_update(
+            record.as_ptr(),
+            record.len(),
+            before.as_ptr(),
+            before.len(),
+            after.as_ptr(),
+            after.len(),
+            &mut lent.0,
+            &mut lent.1,
+            &mut lent.2,
+        )
+    };
+    assert_eq!((got, lent), (expect, found), "find_update {record:?} {before:?} {after:?}");
+    (got, found.0)
 }

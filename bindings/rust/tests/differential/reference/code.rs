@@ -127,7 +127,7 @@ impl Code {
     }
 
     /// The generator, row by row.
-    fn generator(&self) -> Vec<Vec<u8>> {
+    pub fn generator(&self) -> Vec<Vec<u8>> {
         (0..self.k)
             .map(|r| {
                 (0..self.n)

@@ -3,10 +3,12 @@
 //! interpolation. Nothing here is shared with the library.
 mod code;
 mod field;
+mod lanes;
 mod roster;
 
 pub use code::Code;
 pub use field::{is_prime, Field};
+pub use lanes::{added, find_update};
 pub use roster::{Event, History};
 
 pub fn encode(record: &[u8], lanes: u32, message: &[u8], out: usize) -> Result<Vec<u8>, u8> {

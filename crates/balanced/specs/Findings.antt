@@ -1,0 +1,28 @@
+-- Which update it was, sentence by sentence: of the definition that `find_update` promises, of the call itself, and after an update.
+use mathlib.Core.Path.{_≡_}
+use mathlib.Core.Bool.{true}
+use mathlib.Core.List.{List}
+use Prim.Native.Nat.{ℕ, _<_}
+use Rattle.lists.specs.Numbers.{allBelow}
+use Rattle.layout.specs.Layout.{laneOf, shareLayout}
+use Rattle.field.specs.Fields.{sub}
+use Rattle.generator.specs.Records.{headerOf, recordFault, modulusOf, size}
+use Rattle.blocks.specs.Blocks.{updated}
+use Rattle.find_update.specs.declared.Finding.{Finding}
+use Rattle.find_update.specs.declared.Finding.the-variants.{Added, Refused}
+use Rattle.find_update.specs.Finding.{findingOf, IsLane, Finds}
+use Rattle.find_update.specs.Promise.{FindSays}
+use Rattle.balanced.specs.Calls.{read}
+
+pub record Findings : Type 0 where
+  -- of every two lanes of an accepted record
+  pub accepted : (rec : List ℕ) → recordFault rec ≡ 0 → (us vs : List ℕ) → IsLane (headerOf rec) us → IsLane (headerOf rec) vs → Finds (headerOf rec) us vs
+  -- of the two lanes of a call that no number turned away
+  pub call : (rec before after : List ℕ) (r : Finding) → FindSays rec before after r → ((g : ℕ) → r ≡ Refused g → ⊥) →
+      let h = headerOf rec in
+      (r ≡ findingOf h (read h before) (read h after)) × Finds h (read h before) (read h after)
+  -- an update of a lane of symbols to another symbol is found again
+  pub again : (rec : List ℕ) → recordFault rec ≡ 0 → (l r t old new : ℕ) (s : List ℕ) →
+      let h = headerOf rec in
+      let lane = laneOf shareLayout (h .n) l t in
+      allBelow (size h) (lane s) ≡ true → r < h .k → t < l → old < size h → new < size h → (new ≡ old → ⊥) → findingOf h (lane s) (lane (updated shareLayout h l r t old new s)) ≡ Added r (sub (modulusOf h) new old)

@@ -1,0 +1,48 @@
+-- `update_in` meets its contract: the tests are those of the definition.
+use borrow.Author.Tests.{eq-eqb, ne-eqb, lt-ltb, le-ltb}
+use Rattle.find_update.specs.Starts.{updateIn}
+use Rattle.find_update.proofs.Behind.{amount-symbol}
+use borrow.Author.Needs.{needs}
+use Rattle.find_update.proofs.update_in.Statement.{statement}
+use Rattle.find_update.proofs.update_in.Tie as tie
+
+cast-k : tie.Need-cast-k
+cast-k c = search needs
+
+row-at-requires : tie.Need-row-at-requires
+row-at-requires c κs = search needs
+
+returns : tie.Need-returns
+unfolding updateIn
+returns c = rw (le-ltb _ _ (rw (c .before .row-at .ensures) at (c .if1 .taken)))
+
+amount-in-requires : tie.Need-amount-in-requires
+amount-in-requires c κs = search needs
+
+first-other-requires : tie.Need-first-other-requires
+first-other-requires c κs =
+    let (sound, plan, lane) = c .before .before .before .before .before .pre in
+    (sound, plan, c .before .if1 .left, rw (c .amount-in .ensures) (amount-symbol _ sound _ lane _ (c .before .if1 .left)), lane .long)
+
+returns-2 : tie.Need-returns-2
+unfolding updateIn
+returns-2 c =
+    let (sound, plan, lane) = c .before .before .before .before .before .before .before .pre in
+    let row = c .before .before .before .before .row-at .ensures in
+    let amount = c .before .before .amount-in .ensures in
+    rw (← row, lt-ltb _ _ (c .before .before .before .if1 .left), ← amount, ← c .before .first-other .ensures, ne-eqb _ _ (rw (lane .long) at (c .if2 .taken)))
+
+cast-t10 : tie.Need-cast-t10
+cast-t10 c = search needs
+
+returns-3 : tie.Need-returns-3
+unfolding updateIn
+returns-3 c =
+    let (sound, plan, lane) = c .before .before .before .before .before .before .before .pre in
+    let row = c .before .before .before .before .row-at .ensures in
+    let amount = c .before .before .amount-in .ensures in
+    rw (← row, lt-ltb _ _ (c .before .before .before .if1 .left), ← amount, ← c .before .first-other .ensures, eq-eqb _ _ (rw (lane .long) at (c .if2 .left)))
+
+pub update-in-spec : {M : Type 1} → statement M
+update-in-spec =
+    tie.close (tie.spec cast-k row-at-requires returns amount-in-requires first-other-requires returns-2 cast-t10 returns-3)
