@@ -26,8 +26,11 @@
  * numbered from 0.
  *
  *   A message has k * lanes bytes: symbol r of lane t stands at r * lanes + t.
- *   The shares of a block have n * lanes bytes: what node j holds of lane t stands at j * lanes + t. So the share of
- *   node j is the part of `lanes` bytes that starts at j * lanes.
+ *   The shares of a block have n * lanes bytes: what node j holds of lane t stands at t * n + j. So lane t is the part of
+ *   n bytes that starts at t * n. The shares of k listed nodes have k * lanes bytes: what node i of the list holds of lane
+ *   t stands at t * k + i. What balanced_rebuild writes is one share: its symbol of lane t stands at t.
+ *   Shares of an older store stand node after node, node j of lane t at j * lanes + t; balanced_to_lanes and
+ *   balanced_to_nodes rearrange them.
  *
  *
  * What a call returns
@@ -49,7 +52,7 @@
  *   overlap, or be one.
  * - Threads. There is no state outside the buffers. Calls may run at the same time in any number of threads as long as
  *   none writes what another reads or writes.
- * - Memory. No call allocates. Each takes less than 16 KiB of stack (measured).
+ * - Memory. No call allocates. Each takes less than 288 KiB of stack (measured); Update, the plan and the calls on one lane less than 16 KiB.
  *
  * A call always returns: none reads or writes a file, waits, or ends the program.
  */
@@ -120,7 +123,7 @@ uint8_t balanced_plan(const uint8_t *record, size_t record_len,
  * Encodes a message: writes the shares of all n nodes.
  *
  *   message  k * lanes bytes, read
- *   shares   n * lanes bytes, written
+ *   shares   n * lanes bytes, written: the encoding of lane 0, that of lane 1, and so on
  *
  * Returns 0 or one of 1 to 5, 7, 8, 11.
  */
@@ -154,7 +157,7 @@ uint8_t balanced_update(const uint8_t *record, size_t record_len,
  * Recovers a message from the shares of any k nodes.
  *
  *   nodes    k bytes, read: k different node numbers below n, in any order
- *   shares   k * lanes bytes, read: the shares of those nodes, in the order of the list
+ *   shares   k * lanes bytes, read: in each lane what those nodes hold, in the order of the list
  *   message  k * lanes bytes, written
  *
  * The message is the one whose encoding holds the given shares at those nodes. There is exactly one, whatever symbols
@@ -172,7 +175,7 @@ uint8_t balanced_recover(const uint8_t *record, size_t record_len,
  * Rebuilds what one node holds from the shares of any k nodes.
  *
  *   nodes    k bytes, read: k different node numbers below n, in any order
- *   shares   k * lanes bytes, read: the shares of those nodes, in the order of the list
+ *   shares   k * lanes bytes, read: in each lane what those nodes hold, in the order of the list
  *   target   the node to rebuild, below n; it may stand in the list
  *   share    lanes bytes, written: the target's share of the encoding of the message that balanced_recover would give
  *
@@ -218,6 +221,25 @@ uint8_t balanced_find_update(const uint8_t *record, size_t record_len,
                              const uint8_t *before, size_t before_len,
                              const uint8_t *after, size_t after_len,
                              uint32_t *answer, uint32_t *symbol, uint32_t *amount);
+
+/*
+ * Rearranges the shares of a block: from node after node, as an older store has them, to lane after lane, and back. What
+ * stands at j * lanes + t of `by_node` stands at t * n + j of `by_lane`, for each node j below n and each lane t. The two
+ * undo each other. Bytes are moved, not judged: they need not be symbols.
+ *
+ *   by_node  n * lanes bytes, read by balanced_to_lanes, written by balanced_to_nodes
+ *   by_lane  n * lanes bytes, written by balanced_to_lanes, read by balanced_to_nodes
+ *
+ * Returns 0 or one of 1 to 5, 7, 8.
+ */
+uint8_t balanced_to_lanes(const uint8_t *record, size_t record_len,
+                          uint32_t lanes,
+                          const uint8_t *by_node, size_t by_node_len,
+                          uint8_t *by_lane, size_t by_lane_len);
+uint8_t balanced_to_nodes(const uint8_t *record, size_t record_len,
+                          uint32_t lanes,
+                          const uint8_t *by_lane, size_t by_lane_len,
+                          uint8_t *by_node, size_t by_node_len);
 
 /*
  * Counts the messages by the nodes that hold something other than zero: counts[w] is the number of messages of k symbols

@@ -1,5 +1,5 @@
 /* Large blocks through the C interface, by checksums: which k are even with n = 255; blocks with the largest n and the largest number of
-   lanes, which are encoded, updated, damaged, recovered from k of their nodes and rebuilt; and a block with one lane too many.
+   lanes, which are encoded, updated, rearranged, damaged, recovered from k of their nodes and rebuilt; and a block with one lane too many.
    tests/reference/large_cases.py prints the same lines by another implementation. */
 #include "balanced.h"
 #include <stdio.h>
@@ -87,7 +87,7 @@ static void update(const struct code *c, unsigned symbol, uint32_t lane, unsigne
 static void restore(const struct code *c, unsigned first, unsigned step) {
     for (unsigned i = 0; i < c->k; i++) {
         nodes[i] = (uint8_t)((first + i * step) % c->n);
-        memcpy(held + (size_t)i * c->lanes, shares + (size_t)nodes[i] * c->lanes, c->lanes);
+        for (size_t t = 0; t < c->lanes; t++) held[t * c->k + i] = shares[t * c->n + nodes[i]];
     }
     uint8_t one = balanced_recover(c->record, c->length, c->lanes, nodes, c->k, held, message_size(c), back, message_size(c));
     printf("from node %u by %u: ", first, step);
@@ -98,10 +98,29 @@ static void restore(const struct code *c, unsigned first, unsigned step) {
     else printf("node 0 sum %llu\n", (unsigned long long)checksum(back, c->lanes));
 }
 
+/* A rearrangement into a buffer of zeros. */
+static void rearranged(const struct code *c, const char *name, uint8_t number, const uint8_t *written) {
+    size_t kept = 0;
+    while (kept < shares_size(c) && written[kept] == 0) kept++;
+    if (number != BALANCED_OK) printf("%s: refused %u, %s\n", name, number, kept < shares_size(c) ? "CHANGED" : "unchanged");
+    else printf("%s: done, sum %llu\n", name, (unsigned long long)checksum(written, shares_size(c)));
+}
+
+/* The shares node after node, and those lane after lane again. */
+static void rearrange(const struct code *c) {
+    size_t size = shares_size(c);
+    memset(held, 0, size);
+    memset(back, 0, size);
+    uint8_t one = balanced_to_nodes(c->record, c->length, c->lanes, shares, size, held, size);
+    rearranged(c, "node after node", one, held);
+    uint8_t two = balanced_to_lanes(c->record, c->length, c->lanes, one == BALANCED_OK ? held : shares, size, back, size);
+    rearranged(c, "lane after lane", two, back);
+}
+
 /* A node's symbol in a lane becomes another. The smallest spoiled lane is named, whichever was spoiled first. */
 static void spoil(const struct code *c, unsigned node, uint32_t lane) {
-    size_t at = (size_t)node * c->lanes + lane;
-    if (at < shares_size(c)) shares[at] = shares[at] ? 0 : 1;
+    size_t at = (size_t)lane * c->n + node;
+    if (node < c->n) shares[at] = shares[at] ? 0 : 1;
     printf("spoiled node %u lane %u\n", node, (unsigned)lane);
     belongs(c);
 }
@@ -117,6 +136,7 @@ static void block(const struct code *c) {
     belongs(c);
     restore(c, c->n - c->k, 1);
     restore(c, 0, 7);
+    rearrange(c);
     spoil(c, 1, c->lanes - 1);
     spoil(c, 49, 500);
     spoil(c, 0, 17);

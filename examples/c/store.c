@@ -1,7 +1,7 @@
 /*
  * Cuts the bytes of a file into blocks, of which the last is padded with zeros, encodes each, drops n-k shares of it, recovers
- * the message from the k shares that are left, and compares. Then it rebuilds the dropped shares, and updates one symbol in
- * place. A file of a whole number of blocks has no padding, and an empty one no block.
+ * the message from the k shares that are left, and compares. Then it rebuilds the dropped shares, updates one symbol in
+ * place, and puts the shares node after node and back. A file of a whole number of blocks has no padding, and an empty one no block.
  *
  *     make -C examples/c check
  */
@@ -49,7 +49,7 @@ static void keep(size_t n, size_t k, size_t block, const uint8_t *message) {
     uint8_t *shares = room(n * LANES), *left = room(k * LANES), *nodes = room(k);
     uint8_t *got = room(k * LANES), *share = room(LANES);
     uint32_t wrong;
-    size_t i, j;
+    size_t i, j, t;
 
     accepted("encode", balanced_encode(record, sizeof record, LANES, message, k * LANES, shares, n * LANES));
     accepted("belongs", balanced_belongs(record, sizeof record, LANES, shares, n * LANES, &wrong));
@@ -58,7 +58,7 @@ static void keep(size_t n, size_t k, size_t block, const uint8_t *message) {
     /* the k nodes that are left: others in every block, in no order (7 and 15 have no common divisor) */
     for (i = 0; i < k; i++) {
         nodes[i] = (uint8_t)((block + 7 * i) % n);
-        memcpy(left + i * LANES, shares + nodes[i] * LANES, LANES);
+        for (t = 0; t < LANES; t++) left[t * k + i] = shares[t * n + nodes[i]];
     }
 
     accepted("recover", balanced_recover(record, sizeof record, LANES, nodes, k, left, k * LANES, got, k * LANES));
@@ -66,7 +66,8 @@ static void keep(size_t n, size_t k, size_t block, const uint8_t *message) {
 
     for (j = 0; j < n; j++) {
         accepted("rebuild", balanced_rebuild(record, sizeof record, LANES, nodes, k, left, k * LANES, (uint32_t)j, share, LANES));
-        if (memcmp(share, shares + j * LANES, LANES) != 0) fail("a rebuilt share differs", (unsigned)j);
+        for (t = 0; t < LANES; t++)
+            if (share[t] != shares[t * n + j]) fail("a rebuilt share differs", (unsigned)j);
     }
     free(shares);
     free(left);
@@ -89,6 +90,23 @@ static void change(size_t n, size_t k, size_t d, uint8_t *message) {
     if (altered != d) fail("another number of nodes was altered", altered);
     free(shares);
     free(anew);
+}
+
+/* Shares node after node, as blocks of an older store stand, lane after lane, and back. */
+static void rearrange(size_t n, size_t k, const uint8_t *message) {
+    uint8_t *shares = room(n * LANES), *by_node = room(n * LANES), *by_lane = room(n * LANES);
+    size_t j, t;
+
+    accepted("encode", balanced_encode(record, sizeof record, LANES, message, k * LANES, shares, n * LANES));
+    accepted("to nodes", balanced_to_nodes(record, sizeof record, LANES, shares, n * LANES, by_node, n * LANES));
+    for (j = 0; j < n; j++)
+        for (t = 0; t < LANES; t++)
+            if (by_node[j * LANES + t] != shares[t * n + j]) fail("a share stands elsewhere", (unsigned)j);
+    accepted("to lanes", balanced_to_lanes(record, sizeof record, LANES, by_node, n * LANES, by_lane, n * LANES));
+    if (memcmp(by_lane, shares, n * LANES) != 0) fail("shares rearranged twice differ", 0);
+    free(shares);
+    free(by_node);
+    free(by_lane);
 }
 
 int main(int argc, char **argv) {
@@ -114,6 +132,7 @@ int main(int argc, char **argv) {
         memcpy(message, bytes + start, part);
         keep(n, k, i, message);
         change(n, k, d, message);
+        rearrange(n, k, message);
     }
     printf("%lu bytes in %lu blocks: %lu of %lu shares dropped, every message and share got back\n", (unsigned long)size,
            (unsigned long)blocks, (unsigned long)(n - k), (unsigned long)n);

@@ -1,8 +1,9 @@
-"""The balanced image store by its definitions, written from the scope document alone and sharing nothing with the crates.
+"""The balanced image store by its definitions, written from the documents alone and sharing nothing with the crates.
 
 Every entry of the generator is the product of the differences itself, the shifts are taken by going round, a message is
 recovered by solving the linear system of the listed nodes, and a lane is a word if the polynomial through its first k
-symbols has the other symbols as values too. A row is `bytes`, one symbol for each lane.
+symbols has the other symbols as values too. A row is `bytes`, one symbol for each lane. A message stands row after row,
+shares stand lane after lane.
 """
 from functools import lru_cache, reduce
 from itertools import product
@@ -193,7 +194,22 @@ def plan_of(*accepted):
 
 
 def rows_of(buffer, lanes):
+    """The rows of a buffer that stands row after row."""
     return [buffer[at:at + lanes] for at in range(0, len(buffer), lanes)]
+
+
+def lanes_of(shares, nodes):
+    """The lanes of a buffer that stands lane after lane, so many nodes in each."""
+    return [shares[at:at + nodes] for at in range(0, len(shares), nodes)]
+
+
+def shares_of(shares, nodes):
+    """What each node holds, a row for each, of a buffer that stands lane after lane."""
+    return [bytes(lane[j] for lane in lanes_of(shares, nodes)) for j in range(nodes)]
+
+
+def lane_after_lane(rows):
+    return b"".join(bytes(lane) for lane in zip(*rows))
 
 
 def symbols_bad(plan, buffer):
@@ -233,7 +249,7 @@ def encode(record, lanes, message, room):
 
     def work(plan):
         rows = rows_of(message, lanes)
-        return b"".join(combine(plan.field, plan.column(j), rows) for j in range(plan.n))
+        return lane_after_lane([combine(plan.field, plan.column(j), rows) for j in range(plan.n)])
 
     return call(record, faults, work)
 
@@ -245,13 +261,13 @@ def update(record, lanes, symbol, lane, old, new, shares):
         yield 7, lanes_bad(lanes)
         yield 8, len(shares) != plan.n * lanes
         yield 9, symbol >= plan.k or lane >= lanes
-        yield 11, symbols_bad(plan, [old, new, *shares[lane::lanes]])
+        yield 11, symbols_bad(plan, [old, new, *lanes_of(shares, plan.n)[lane]])
 
     def work(plan):
         field, after = plan.field, bytearray(shares)
         difference = field.minus(new, old)
         for j in range(plan.n):
-            at = j * lanes + lane
+            at = lane * plan.n + j
             after[at] = field.plus(shares[at], field.times(difference, plan.entries[symbol][j]))
         return sum(a != b for a, b in zip(shares, after)), bytes(after)
 
@@ -266,10 +282,10 @@ def listed_faults(plan, lanes, nodes, shares, room_bad, targets):
     yield 11, symbols_bad(plan, shares)
 
 
-def message_of(plan, lanes, nodes, shares):
+def message_of(plan, nodes, shares):
     """The rows of the message, by the inverse of the generator's columns at the nodes."""
     matrix = inverse_matrix(plan.field, [plan.column(j) for j in nodes])
-    rows = rows_of(shares, lanes)
+    rows = shares_of(shares, plan.k)
     return [combine(plan.field, line, rows) for line in matrix]
 
 
@@ -279,7 +295,7 @@ def recover(record, lanes, nodes, shares, room):
     def faults(plan):
         return listed_faults(plan, lanes, nodes, shares, room != plan.k * lanes, [])
 
-    return call(record, faults, lambda plan: b"".join(message_of(plan, lanes, nodes, shares)))
+    return call(record, faults, lambda plan: b"".join(message_of(plan, nodes, shares)))
 
 
 def rebuild(record, lanes, nodes, shares, target, room):
@@ -289,7 +305,7 @@ def rebuild(record, lanes, nodes, shares, target, room):
         return listed_faults(plan, lanes, nodes, shares, room != lanes, [target])
 
     def work(plan):
-        return combine(plan.field, plan.column(target), message_of(plan, lanes, nodes, shares))
+        return combine(plan.field, plan.column(target), message_of(plan, nodes, shares))
 
     return call(record, faults, work)
 
@@ -303,7 +319,7 @@ def belongs(record, lanes, shares):
         yield 11, symbols_bad(plan, shares)
 
     def work(plan):
-        rows = rows_of(shares, lanes)
+        rows = shares_of(shares, plan.n)
         coefficients = [combine(plan.field, line, rows[:plan.k]) for line in plan.interpolation()]
         values = (combine(plan.field, plan.monomials(j), coefficients) for j in range(plan.n))
         wrong = [t for row, value in zip(rows, values) if row != value for t in range(lanes) if row[t] != value[t]]
@@ -329,6 +345,21 @@ def find_update(record, before, after):
         return next((update for update in tried if added(plan, *update) == after), None)
 
     return call(record, faults, work)
+
+
+def rearrange_faults(plan, lanes, source, room):
+    yield 7, lanes_bad(lanes)
+    yield 8, len(source) != plan.n * lanes or room != plan.n * lanes
+
+
+def to_lanes(record, lanes, by_node, room):
+    """(number, the shares lane after lane)"""
+    return call(record, lambda plan: rearrange_faults(plan, lanes, by_node, room), lambda plan: lane_after_lane(rows_of(by_node, lanes)))
+
+
+def to_nodes(record, lanes, by_lane, room):
+    """(number, the shares node after node)"""
+    return call(record, lambda plan: rearrange_faults(plan, lanes, by_lane, room), lambda plan: b"".join(shares_of(by_lane, plan.n)))
 
 
 def weights(record, room):

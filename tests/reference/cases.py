@@ -4,7 +4,7 @@
 An empty line or a comment, which starts with #, is printed as it is.
 """
 import sys
-from balanced import belongs, build_plan, encode, find_update, rebuild, recover, update, weights
+from balanced import belongs, build_plan, encode, find_update, rebuild, recover, to_lanes, to_nodes, update, weights
 from data import block, refused
 from roster import History
 from words import NotRead, is_comment, read_line
@@ -23,7 +23,10 @@ CALLS = {
     "job": ["room"],
     "find": ["before", "after"],
     "weights": ["room"],
+    "to_lanes": ["lanes", "shares", "room"],
+    "to_nodes": ["lanes", "shares", "room"],
 }
+WRITERS = {"encode": encode, "recover": recover, "rebuild": rebuild, "to_lanes": to_lanes, "to_nodes": to_nodes}
 HISTORY = History()  # of the roster that the calls on a roster share
 
 
@@ -66,7 +69,7 @@ def answer(name, record, arguments):
     if name == "weights":
         number, counts = weights(record, *arguments)
         return refused(number) if number else "done" + "".join(f" {count}" for count in counts)
-    number, result = {"encode": encode, "recover": recover, "rebuild": rebuild}[name](record, *arguments)
+    number, result = WRITERS[name](record, *arguments)
     return refused(number) if number else f"done{block(result)}"
 
 

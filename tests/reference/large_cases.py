@@ -1,6 +1,6 @@
 #!/usr/bin/env python3
 """Prints what tests/large_cases.c must: which k are even with n = 255, and large blocks by checksums."""
-from balanced import belongs, build_plan, encode, rebuild, recover, update
+from balanced import belongs, build_plan, encode, lane_after_lane, rebuild, recover, shares_of, to_lanes, to_nodes, update
 from data import checksum, fill, refused
 
 
@@ -24,15 +24,23 @@ def print_belongs(record, lanes, shares):
 
 
 def print_restored(record, n, k, lanes, shares):
+    rows = shares_of(shares, n)
     for first, step in LISTS:
         first = n - k if first < 0 else first
         nodes = bytes((first + i * step) % n for i in range(k))
-        held = b"".join(shares[j * lanes:(j + 1) * lanes] for j in nodes)
+        held = lane_after_lane([rows[j] for j in nodes])
         one, message = recover(record, lanes, nodes, held, k * lanes)
         two, share = rebuild(record, lanes, nodes, held, 0, lanes)
         print(f"from node {first} by {step}:",
               f"refused {one}" if one else f"message sum {checksum(message)}",
               f"refused {two}" if two else f"node 0 sum {checksum(share)}")
+
+
+def print_rearranged(record, n, lanes, shares):
+    one, by_node = to_nodes(record, lanes, shares, n * lanes)
+    print("node after node:", refused(one) if one else f"done, sum {checksum(by_node)}")
+    two, by_lane = to_lanes(record, lanes, shares if one else by_node, n * lanes)
+    print("lane after lane:", refused(two) if two else f"done, sum {checksum(by_lane)}")
 
 
 def block(record, lanes):
@@ -58,10 +66,11 @@ def block(record, lanes):
     assert encode(record, lanes, bytes(message), n * lanes)[1] in (None, shares), "not the encoding of the changed message"
     print_belongs(record, lanes, shares)
     print_restored(record, n, k, lanes, shares)
+    print_rearranged(record, n, lanes, shares)
     for node, lane in DAMAGE:
         lane %= lanes
-        at = node * lanes + lane
-        if at < len(shares):
+        at = lane * n + node
+        if node < n:
             shares = shares[:at] + bytes([0 if shares[at] else 1]) + shares[at + 1:]
         print(f"spoiled node {node} lane {lane}")
         print_belongs(record, lanes, shares)

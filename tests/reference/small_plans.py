@@ -3,9 +3,9 @@
 
 For each record a message is encoded, one symbol updated, the update found again from the lane before and after it and not found where a node
 is changed besides, the result tested as it is and with one symbol changed, the new message recovered from k nodes in some order, and a node
-rebuilt from them. The data are pseudo-random and the same at each run.
+rebuilt from them; where k = n, the shares are rearranged both ways. The data are pseudo-random and the same at each run.
 """
-from balanced import encode, read, update
+from balanced import encode, lane_after_lane, read, shares_of, to_nodes, update
 from data import fill
 
 LANES = 2
@@ -30,8 +30,8 @@ def words(name, record, **arguments):
     return " ".join(map(str, line))
 
 
-def lane_of(shares, lane):
-    return shares[lane::LANES]
+def lane_of(shares, n, lane):
+    return shares[lane * n : (lane + 1) * n]
 
 
 def calls(record, seed):
@@ -44,21 +44,26 @@ def calls(record, seed):
     symbol, lane = next(draw) % k, next(draw) % LANES
     old, new = message[symbol * LANES + lane], next(draw) % size
     yield words("update", record, lanes=LANES, symbol=symbol, lane=lane, old=old, new=new, shares=shares)
-    before = lane_of(shares, lane)
+    before = lane_of(shares, n, lane)
     _, (_, shares) = update(record, LANES, symbol, lane, old, new, shares)
-    after = lane_of(shares, lane)
+    after = lane_of(shares, n, lane)
     yield words("find", record, before=before, after=after)
     changed, node = bytearray(after), next(draw) % n
     changed[node] = (changed[node] + 1) % size
     yield words("find", record, before=before, after=bytes(changed))
     yield words("belongs", record, lanes=LANES, shares=shares)
-    damaged, at = bytearray(shares), next(draw) % (n * LANES)
+    damaged, (node, lane) = bytearray(shares), divmod(next(draw) % (n * LANES), LANES)
+    at = lane * n + node
     damaged[at] = (damaged[at] + 1) % size
     yield words("belongs", record, lanes=LANES, shares=bytes(damaged))
     nodes = sorted(range(n), key=lambda j: (next(draw), j))[:k]
-    held = b"".join(shares[j * LANES:(j + 1) * LANES] for j in nodes)
+    held = lane_after_lane([shares_of(shares, n)[j] for j in nodes])
     yield words("recover", record, lanes=LANES, nodes=nodes, shares=held, room=k * LANES)
     yield words("rebuild", record, lanes=LANES, nodes=nodes, shares=held, target=next(draw) % n, room=LANES)
+    if k == n:
+        yield words("to_nodes", record, lanes=LANES, shares=shares, room=n * LANES)
+        _, by_node = to_nodes(record, LANES, shares, n * LANES)
+        yield words("to_lanes", record, lanes=LANES, shares=by_node, room=n * LANES)
 
 
 print("# Every n up to 12 and every k, over the fields of 3, 5, 7, 11, 13 and 256 elements.")

@@ -4,7 +4,7 @@ use crate::Error;
 // Each call lends slices and a local, which are not null, have the length beside them and do not overlap: a `&mut` of
 // Rust is the only way to what it lends. So every duty of the header is met.
 
-/// Encodes a message: writes the shares of all n nodes.
+/// Encodes a message: writes the shares of all n nodes, lane after lane.
 ///
 /// `message` has k·lanes bytes and `shares` n·lanes.
 pub fn encode(record: &[u8], lanes: u32, message: &[u8], shares: &mut [u8]) -> Result<(), Error> {
@@ -48,8 +48,8 @@ pub fn update(record: &[u8], lanes: u32, symbol: u32, lane: u32, old: u8, new: u
 
 /// Recovers a message from the shares of any k nodes.
 ///
-/// `nodes` lists k different nodes in any order, `shares` has their shares in list order, k·lanes bytes, and `message` has
-/// k·lanes bytes. The message is the only one whose encoding holds these shares at these nodes.
+/// `nodes` lists k different nodes in any order, `shares` has k·lanes bytes, in each lane what these nodes hold in list
+/// order, and `message` has k·lanes bytes. The message is the only one whose encoding holds these shares at these nodes.
 pub fn recover(record: &[u8], lanes: u32, nodes: &[u8], shares: &[u8], message: &mut [u8]) -> Result<(), Error> {
     let number = unsafe {
         sys::balanced_recover(
@@ -104,6 +104,41 @@ pub fn belongs(record: &[u8], lanes: u32, shares: &[u8]) -> Result<Option<u32>, 
         )
     };
     Error::check(number).map(|()| (first_wrong != lanes).then_some(first_wrong))
+}
+
+/// Puts shares that stand node after node, as those of an older store do, lane after lane.
+///
+/// Both buffers have n·lanes bytes: what stands at j·lanes + t of `by_node` goes to t·n + j of `by_lane`, for each node j and
+/// lane t. Bytes are moved, not judged: they need not be symbols.
+pub fn to_lanes(record: &[u8], lanes: u32, by_node: &[u8], by_lane: &mut [u8]) -> Result<(), Error> {
+    let number = unsafe {
+        sys::balanced_to_lanes(
+            record.as_ptr(),
+            record.len(),
+            lanes,
+            by_node.as_ptr(),
+            by_node.len(),
+            by_lane.as_mut_ptr(),
+            by_lane.len(),
+        )
+    };
+    Error::check(number)
+}
+
+/// Puts shares that stand lane after lane node after node: undoes [`to_lanes`].
+pub fn to_nodes(record: &[u8], lanes: u32, by_lane: &[u8], by_node: &mut [u8]) -> Result<(), Error> {
+    let number = unsafe {
+        sys::balanced_to_nodes(
+            record.as_ptr(),
+            record.len(),
+            lanes,
+            by_lane.as_ptr(),
+            by_lane.len(),
+            by_node.as_mut_ptr(),
+            by_node.len(),
+        )
+    };
+    Error::check(number)
 }
 
 /// Counts the messages by the nodes that hold something other than zero: `counts[w]` is the number of messages whose

@@ -21,8 +21,11 @@
 //! # Blocks
 //!
 //! A block has L lanes, L from 1 to 4,096, and each lane is encoded by itself. A message has k·L bytes: symbol r of lane t
-//! stands at r·L + t. The shares of a block have n·L bytes, and the share of node j is the part of L bytes that starts at
-//! j·L. Nodes, symbols and lanes are numbered from 0.
+//! stands at r·L + t. The shares of a block have n·L bytes and stand lane after lane: what node j holds of lane t stands at
+//! t·n + j, so lane t is the part of n bytes that starts at t·n. Nodes, symbols and lanes are numbered from 0.
+//!
+//! Shares of an older store stand node after node: what node j holds of lane t at j·L + t. [`to_lanes`] and [`to_nodes`]
+//! rearrange them.
 //!
 //! A call that is turned away gives the [`Error`] and has changed nothing that it was lent.
 //!
@@ -72,6 +75,14 @@
 //! assert_eq!(plan.recover(1, &[2, 3, 2], &[1, 3, 1], &mut message), Err(Error::Twice));
 //! assert_eq!(message, [1, 5, 2]);
 //!
+//! // Two lanes: lane 0 and then lane 1. Node after node, the two symbols of node 0 come first.
+//! let mut shares = [0; 12];
+//! plan.encode(2, &[1, 1, 0, 5, 2, 2], &mut shares)?;
+//! assert_eq!(shares, [6, 1, 1, 3, 6, 2, 0, 6, 1, 3, 1, 0]);
+//! let mut by_node = [0; 12];
+//! plan.to_nodes(2, &shares, &mut by_node)?;
+//! assert_eq!(by_node, [6, 0, 1, 6, 1, 1, 3, 3, 6, 1, 2, 0]);
+//!
 //! // Of the 343 messages 90 have an encoding with four nodes that are not zero, 108 one with five, 144 one with six.
 //! let mut counts = [0; 7];
 //! plan.weights(&mut counts)?;
@@ -86,7 +97,7 @@ mod plan;
 mod roster;
 pub mod sys;
 
-pub use calls::{belongs, encode, rebuild, recover, update, weights};
+pub use calls::{belongs, encode, rebuild, recover, to_lanes, to_nodes, update, weights};
 pub use error::Error;
 pub use lanes::{find_update, Finding};
 pub use plan::Plan;

@@ -141,6 +141,16 @@ impl Plan {
         lanes::find_update(self.record(), before, after)
     }
 
+    /// [`to_lanes`](crate::to_lanes) with this plan's record.
+    pub fn to_lanes(&self, lanes: u32, by_node: &[u8], by_lane: &mut [u8]) -> Result<(), Error> {
+        calls::to_lanes(self.record(), lanes, by_node, by_lane)
+    }
+
+    /// [`to_nodes`](crate::to_nodes) with this plan's record.
+    pub fn to_nodes(&self, lanes: u32, by_lane: &[u8], by_node: &mut [u8]) -> Result<(), Error> {
+        calls::to_nodes(self.record(), lanes, by_lane, by_node)
+    }
+
     /// [`weights`](crate::weights) with this plan's record.
     pub fn weights(&self, counts: &mut [u32]) -> Result<(), Error> {
         calls::weights(self.record(), counts)

@@ -74,6 +74,26 @@ extern "C" {
         first_wrong: *mut u32,
     ) -> u8;
 
+    pub fn balanced_to_lanes(
+        record: *const u8,
+        record_len: usize,
+        lanes: u32,
+        by_node: *const u8,
+        by_node_len: usize,
+        by_lane: *mut u8,
+        by_lane_len: usize,
+    ) -> u8;
+
+    pub fn balanced_to_nodes(
+        record: *const u8,
+        record_len: usize,
+        lanes: u32,
+        by_lane: *const u8,
+        by_lane_len: usize,
+        by_node: *mut u8,
+        by_node_len: usize,
+    ) -> u8;
+
     pub fn balanced_roster_start(record: *const u8, record_len: usize, roster: *mut u8, roster_len: usize) -> u8;
 
     pub fn balanced_roster_leave(record: *const u8, record_len: usize, roster: *mut u8, roster_len: usize, node: u32) -> u8;

@@ -102,7 +102,7 @@ module _ (h : Header) (l i t : ℕ) (shares wrong : List ℕ) (off : OneOff h l 
         (one-message h s nodes (laneOf byRow (h .k) l q u) (laneOf byRow (h .k) l q m) different (message′ q inside) (message q inside) (misread .lanes q inside ∙ other-lane q inside other ∙ sym (read .lanes q inside)))
 
 -- what a call that is done relied on and gave
-done-call : (rec : List ℕ) (l : ℕ) (nodes shares : List ℕ) (target : ℕ) (out out′ : List ℕ) → RebuildSays rec l nodes shares target out out′ O.Done → Sound (headerOf rec) × (areNodes (headerOf rec) nodes ≡ true) × (target < headerOf rec .n) × RebuiltBytes (headerOf rec) l nodes shares target out′
+done-call : (rec : List ℕ) (l : ℕ) (nodes shares : List ℕ) (target : ℕ) (out out′ : List ℕ) → RebuildSays rec l nodes shares target out out′ O.Done → Sound (headerOf rec) × (areNodes (headerOf rec) nodes ≡ true) × (target < headerOf rec .n) × RebuiltBytes shareLayout (headerOf rec) l nodes shares target out′
 unfolding faultOf
 done-call rec l nodes shares target out out′ says =
     let none = done-means (faultOf rec (λ h. rebuildFault h l nodes shares target (length out))) (says .promise .answer) in

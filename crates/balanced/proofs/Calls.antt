@@ -44,7 +44,7 @@ module _ (rec : List ℕ) (l : ℕ) where
       let none = done-means (faultOf rec (λ h. encodeFault h l (length out) message)) (says .promise .answer) in
       let (sound, own) = none-met rec (λ h. encodeFault h l (length out) message) none in
       let (rows, long) = encode-accepts h sound l (length out) message own in
-      let written : out′ ≡ sharesOf shareLayout h l message = rw none at (says .promise .written) ∙ encoded-bytes h l message in
+      let written : out′ ≡ sharesOf shareLayout h l message = rw none at (says .promise .written) ∙ encoded-bytes h shareLayout l message in
       let code = code-demands h sound in
       record {
         lanes = λ t inside. rw (symbols-are h out′, symbols-are h message, written) (code .encodes l message t inside);
@@ -87,17 +87,17 @@ module _ (rec : List ℕ) (l : ℕ) where
   module _ (shares : List ℕ) where
     passes : BelongsSays rec l shares M.Yes → AllWords h l shares
     passes says =
-        let (none, all) = yes-means (faultOf rec (λ h. belongsFault h l shares)) l (wrongLane h l shares) (says .promise .answer) in
+        let (none, all) = yes-means (faultOf rec (λ h. belongsFault h l shares)) l (wrongLane shareLayout h l shares) (says .promise .answer) in
         let (sound, own) = none-met rec (λ h. belongsFault h l shares) none in
         let rows = belongs-accepts h sound l shares own in
-        λ t inside. rw (symbols-are h shares) (code-demands h sound .passes l shares (rows-are h (h .n) l shares rows) .0 (sym (wrong-lane h l shares) ∙ all) t inside)
+        λ t inside. rw (symbols-are h shares) (code-demands h sound .passes l shares (rows-are h (h .n) l shares rows) .0 (sym (wrong-lane h shareLayout l shares) ∙ all) t inside)
 
     names : (wrong : ℕ) → BelongsSays rec l shares (M.No wrong) → SmallestWrong h l shares wrong
     names wrong says =
-        let (none, at, other) = no-means (faultOf rec (λ h. belongsFault h l shares)) l (wrongLane h l shares) wrong (says .promise .answer) in
+        let (none, at, other) = no-means (faultOf rec (λ h. belongsFault h l shares)) l (wrongLane shareLayout h l shares) wrong (says .promise .answer) in
         let (sound, own) = none-met rec (λ h. belongsFault h l shares) none in
         let rows = belongs-accepts h sound l shares own in
-        let is : firstWrong shareLayout h l shares ≡ wrong = sym (wrong-lane h l shares) ∙ at in
+        let is : firstWrong shareLayout h l shares ≡ wrong = sym (wrong-lane h shareLayout l shares) ∙ at in
         let inside : firstWrong shareLayout h l shares < l = omega (arith, wrong-most shareLayout h l shares) in
         let (no-word, smaller) = rw is at (code-demands h sound .names l shares (rows-are h (h .n) l shares rows) inside) in
         record {
@@ -108,11 +108,11 @@ module _ (rec : List ℕ) (l : ℕ) where
 
   update : (r t old new : ℕ) (shares shares′ : List ℕ) (count : ℕ) → UpdateSays rec l r t old new shares shares′ (U.Altered count) → (ms : List ℕ) → isMessage h ms ≡ true → getD ms r 0 ≡ old → laneOf shareLayout (h .n) l t (read h shares) ≡ encoding h ms → UpdateDone h ms shares shares′ l r t new count
   update r t old new shares shares′ count says ms message held encodes =
-      let (none, same) = altered-means (faultOf rec (λ h. updateFault h l r t old new shares)) _ count (says .promise .answer) in
-      let (sound, own) = none-met rec (λ h. updateFault h l r t old new shares) none in
+      let (none, same) = altered-means (faultOf rec (λ h. updateFault shareLayout h l r t old new shares)) _ count (says .promise .answer) in
+      let (sound, own) = none-met rec (λ h. updateFault shareLayout h l r t old new shares) none in
       let (lane, old-symbol, new-symbol) = update-accepts h sound l r t old new shares own in
       let written = rw none at (says .promise .written) in
-      let now : shares′ ≡ updated shareLayout h l r t (getD ms r 0) new shares = rw held (written ∙ updated-bytes h l r t old new shares) in
+      let now : shares′ ≡ updated shareLayout h l r t (getD ms r 0) new shares = rw held (written ∙ updated-bytes h shareLayout l r t old new shares) in
       record {
         after = rw (symbols-are h shares, symbols-are h shares′, now) (update-demands h sound .updates ms shares l r t new (record {
           message = message;
@@ -122,7 +122,7 @@ module _ (rec : List ℕ) (l : ℕ) where
           long = lane .long;
           encodes = rw symbols-are at encodes;
         }));
-        reports = same ∙ altered-symbols h l r t old new shares shares′ written;
+        reports = same ∙ altered-symbols h shareLayout l r t old new shares shares′ written;
       }
 
 pub call-demands : CallDemands

@@ -4,6 +4,7 @@ use Rattle.generator.specs.Records.{headerOf}
 use Rattle.generator.proofs.Accepts.{faultless-sound}
 use Rattle.generator.proofs.Claims.{ours}
 use Rattle.generator.proofs.SchemeOf.{our-scheme, scheme-least}
+use Rattle.rearrange.proofs.Lanes.{lane-after-lane}
 use Rattle.weight_counts.proofs.Weights.{distribution}
 use Rattle.balanced.specs.Demands.{Demands}
 use Rattle.balanced.proofs.Coding.{code-demands}
@@ -20,5 +21,6 @@ demands =
       least = λ rec none S C t x y two. scheme-least (headerOf rec) (faultless-sound rec none) t x y two;
       updating = λ rec none. update-demands (headerOf rec) (faultless-sound rec none);
       calls = call-demands;
+      lanes = lane-after-lane;
       weights = λ rec none. distribution (headerOf rec) (faultless-sound rec none);
     }

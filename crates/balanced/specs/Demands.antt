@@ -1,4 +1,4 @@
--- Demands 2 and 3 in one statement: over every accepted record, every scheme and every call.
+-- Demands 2 and 3 in one statement: over every accepted record, every scheme and every call; and what holds besides.
 use mathlib.Core.Path.{_≡_}
 use mathlib.Core.Logic.{_≢_}
 use mathlib.Core.List.{List}
@@ -7,6 +7,7 @@ use Rattle.scheme.specs.Schemes.{Scheme}
 use Rattle.scheme.specs.Costs.{Price, CostsAtLeast}
 use Rattle.generator.specs.Records.{headerOf, recordFault}
 use Rattle.generator.specs.Claims.{Accepted}
+use Rattle.rearrange.specs.Lanes.{LaneAfterLane}
 use Rattle.weight_counts.specs.Weights.{Distribution}
 use Rattle.balanced.specs.Coding.{CodeDemands}
 use Rattle.balanced.specs.Updates.{UpdateDemands}
@@ -24,5 +25,7 @@ pub record Demands : Type 1 where
   pub updating : (rec : List ℕ) → recordFault rec ≡ 0 → UpdateDemands (headerOf rec)
   -- both of the calls themselves
   pub calls : CallDemands
+  -- shares lane after lane beside shares node after node
+  pub lanes : LaneAfterLane
   -- the textbook's weight distribution is that of every accepted record
   pub weights : (rec : List ℕ) → recordFault rec ≡ 0 → Distribution (headerOf rec)

@@ -4,6 +4,8 @@ pub use encode::encode_block;
 pub use find_update::Finding;
 pub use find_update::find_update;
 pub use plan::build_plan;
+pub use rearrange::to_lanes;
+pub use rearrange::to_nodes;
 pub use recover::rebuild_share;
 pub use recover::recover_block;
 pub use roster::Job;

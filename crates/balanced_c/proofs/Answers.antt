@@ -3,6 +3,7 @@ use mathlib.Core.Path.{_≡_, sym, ap, _∙_}
 use mathlib.Core.List.{List}
 use Prim.Native.Nat.{ℕ}
 use lib.ListN.{length}
+use Rattle.layout.specs.Layout.{Arrangement, shareLayout}
 use Rattle.generator.specs.Records.{headerOf}
 use Rattle.blocks.specs.declared.Outcome.{Outcome}
 use Rattle.blocks.specs.declared.Update.{Update}
@@ -16,8 +17,9 @@ use Rattle.blocks.specs.Promises.{EncodeSays, UpdateSays, RecoverSays, RebuildS
 use Rattle.blocks.proofs.Answered.{outcome-number, altered-means, refused-means, yes-means, no-means, refusal-means}
 use Rattle.blocks.proofs.Bytes.{altered-symbols}
 use Rattle.blocks.proofs.Refused.{update-refused, refused-value}
+use Rattle.rearrange.specs.Calls.{rearrangeFault, RearrangeSays}
 use Rattle.weight_counts.specs.Weights.{weightsFault, WeightsSay}
-use Rattle.balanced_c.specs.Calls.{EncodeGives, UpdateGives, RecoverGives, RebuildGives, BelongsGives, WeightsGive}
+use Rattle.balanced_c.specs.Calls.{EncodeGives, UpdateGives, RecoverGives, RebuildGives, BelongsGives, RearrangeGives, WeightsGive}
 
 -- an outcome that a call says, by its number
 by-number : (a : Outcome) (r f : ℕ) → r ≡ outcomeNumber a → a ≡ outcomeOf f → r ≡ f
@@ -38,6 +40,11 @@ rebuild-gives rec l nodes shares target share share′ a r e says =
     let number = by-number a r (faultOf rec (λ h. rebuildFault h l nodes shares target (length share))) e (says .promise .answer) in
     record { number = number; says = record { promise = record { answer = ap outcomeOf number; written = says .promise .written } } }
 
+pub rearrange-gives : (y z : Arrangement) (rec : List ℕ) (l : ℕ) (source out out′ : List ℕ) (a : Outcome) (r : ℕ) → r ≡ outcomeNumber a → RearrangeSays y z rec l source out out′ a → RearrangeGives y z rec l source out out′ r
+rearrange-gives y z rec l source out out′ a r e says =
+    let number = by-number a r (faultOf rec (λ h. rearrangeFault h l (length source) (length out))) e (says .promise .answer) in
+    record { number = number; says = record { promise = record { answer = ap outcomeOf number; written = says .promise .written } } }
+
 pub weights-give : (rec counts counts′ : List ℕ) (a : Outcome) (r : ℕ) → r ≡ outcomeNumber a → WeightsSay rec counts counts′ a → WeightsGive rec counts counts′ r
 weights-give rec counts counts′ a r e says =
     let number = by-number a r (faultOf rec (λ h. weightsFault h (length counts))) e (says .counted .promise .answer) in
@@ -46,16 +53,16 @@ weights-give rec counts counts′ a r e says =
 module _ (rec : List ℕ) (l symbol lane old new : ℕ) (shares : List ℕ) (altered : ℕ) (shares′ : List ℕ) (a : Update) (says : UpdateSays rec l symbol lane old new shares shares′ a) where
   pub update-done : (count : ℕ) → a ≡ U.Altered count → UpdateGives rec l symbol lane old new shares altered shares′ count 0
   update-done count e =
-      let (none, same) = altered-means (faultOf rec (λ h. updateFault h l symbol lane old new shares)) _ count (sym e ∙ says .promise .answer) in
+      let (none, same) = altered-means (faultOf rec (λ h. updateFault shareLayout h l symbol lane old new shares)) _ count (sym e ∙ says .promise .answer) in
       record {
         number = sym none;
         says = record { promise = record { answer = rw (none, same); written = says .promise .written } };
-        altered-is = same ∙ altered-symbols (headerOf rec) l symbol lane old new shares shares′ (rw none at (says .promise .written));
+        altered-is = same ∙ altered-symbols (headerOf rec) shareLayout l symbol lane old new shares shares′ (rw none at (says .promise .written));
       }
 
   pub update-refuses : (g : ℕ) → a ≡ U.Refused g → UpdateGives rec l symbol lane old new shares altered shares′ altered g
   update-refuses g e =
-      let (same, some) = refused-means (faultOf rec (λ h. updateFault h l symbol lane old new shares)) _ g (sym e ∙ says .promise .answer) in
+      let (same, some) = refused-means (faultOf rec (λ h. updateFault shareLayout h l symbol lane old new shares)) _ g (sym e ∙ says .promise .answer) in
       record {
         number = same;
         says = record { promise = record { answer = update-refused g altered some ∙ sym e ∙ says .promise .answer; written = says .promise .written } };
@@ -65,15 +72,15 @@ module _ (rec : List ℕ) (l symbol lane old new : ℕ) (shares : List ℕ) (alt
 module _ (rec : List ℕ) (l : ℕ) (shares : List ℕ) (first : ℕ) (a : Membership) (says : BelongsSays rec l shares a) where
   pub belongs-yes : a ≡ M.Yes → BelongsGives rec l shares first l 0
   belongs-yes e =
-      let (none, all) = yes-means (faultOf rec (λ h. belongsFault h l shares)) l (wrongLane (headerOf rec) l shares) (sym e ∙ says .promise .answer) in
+      let (none, all) = yes-means (faultOf rec (λ h. belongsFault h l shares)) l (wrongLane shareLayout (headerOf rec) l shares) (sym e ∙ says .promise .answer) in
       record { number = sym none; first-is = sym all }
 
   pub belongs-no : (t : ℕ) → a ≡ M.No t → BelongsGives rec l shares first t 0
   belongs-no t e =
-      let (none, at, other) = no-means (faultOf rec (λ h. belongsFault h l shares)) l (wrongLane (headerOf rec) l shares) t (sym e ∙ says .promise .answer) in
+      let (none, at, other) = no-means (faultOf rec (λ h. belongsFault h l shares)) l (wrongLane shareLayout (headerOf rec) l shares) t (sym e ∙ says .promise .answer) in
       record { number = sym none; first-is = sym at }
 
   pub belongs-refuses : (g : ℕ) → a ≡ M.Refused g → BelongsGives rec l shares first first g
   belongs-refuses g e =
-      let (same, some) = refusal-means (faultOf rec (λ h. belongsFault h l shares)) l (wrongLane (headerOf rec) l shares) g (sym e ∙ says .promise .answer) in
+      let (same, some) = refusal-means (faultOf rec (λ h. belongsFault h l shares)) l (wrongLane shareLayout (headerOf rec) l shares) g (sym e ∙ says .promise .answer) in
       record { number = same; first-is = sym (refused-value g _ first some) }

@@ -7,6 +7,7 @@ use lib.Dec.{eqb}
 use lib.ListN.{length}
 use Rattle.lists.specs.Choice.{pick, when}
 use Rattle.lists.specs.Counting.{differ}
+use Rattle.layout.specs.Layout.{Arrangement, byRow, byLane, shareLayout}
 use Rattle.layout.specs.Width.{symbolsOf}
 use Rattle.generator.specs.Records.{headerOf, recordOf, width}
 use Rattle.generator.specs.Claims.{Promised}
@@ -16,6 +17,7 @@ use Rattle.blocks.specs.Bytes.{wrongLane}
 use Rattle.refusals.specs.Faults.{encodeFault, updateFault, recoverFault, rebuildFault, belongsFault, faultOf}
 use Rattle.blocks.specs.Answers.{outcomeOf, updateOf}
 use Rattle.blocks.specs.Promises.{EncodeSays, UpdateSays, RecoverSays, RebuildSays}
+use Rattle.rearrange.specs.Calls.{rearrangeFault, RearrangeSays}
 use Rattle.weight_counts.specs.Weights.{weightsFault, WeightsSay}
 
 -- number 8 of `balanced_plan`, from the lengths of its buffers
@@ -42,7 +44,7 @@ pub record EncodeGives (rec : List ℕ) (l : ℕ) (message shares shares′ : Li
 
 -- `balanced_update`: the number, what Update says of the shares, and how many of their symbols differ afterwards
 pub record UpdateGives (rec : List ℕ) (l symbol lane old new : ℕ) (shares : List ℕ) (altered : ℕ) (shares′ : List ℕ) (altered′ r : ℕ) : Type 0 where
-  pub number : r ≡ faultOf rec (λ h. updateFault h l symbol lane old new shares)
+  pub number : r ≡ faultOf rec (λ h. updateFault shareLayout h l symbol lane old new shares)
   pub says : UpdateSays rec l symbol lane old new shares shares′ (updateOf r altered′)
   pub altered-is : altered′ ≡ pick (eqb r 0) (let w = width (headerOf rec) in differ (symbolsOf w shares) (symbolsOf w shares′)) altered
 
@@ -59,7 +61,18 @@ pub record RebuildGives (rec : List ℕ) (l : ℕ) (nodes shares : List ℕ) (ta
 -- `balanced_belongs`: the smallest lane that is no word of the code, or the number of lanes where all are
 pub record BelongsGives (rec : List ℕ) (l : ℕ) (shares : List ℕ) (first first′ r : ℕ) : Type 0 where
   pub number : r ≡ faultOf rec (λ h. belongsFault h l shares)
-  pub first-is : first′ ≡ pick (eqb r 0) (wrongLane (headerOf rec) l shares) first
+  pub first-is : first′ ≡ pick (eqb r 0) (wrongLane shareLayout (headerOf rec) l shares) first
+
+-- `balanced_to_lanes` and `balanced_to_nodes`: the number, and the source rearranged
+pub record RearrangeGives (y z : Arrangement) (rec : List ℕ) (l : ℕ) (source out out′ : List ℕ) (r : ℕ) : Type 0 where
+  pub number : r ≡ faultOf rec (λ h. rearrangeFault h l (length source) (length out))
+  pub says : RearrangeSays y z rec l source out out′ (outcomeOf r)
+
+abbrev pub ToLanesGives : List ℕ → ℕ → List ℕ → List ℕ → List ℕ → ℕ → Type 0
+ToLanesGives = RearrangeGives byRow byLane
+
+abbrev pub ToNodesGives : List ℕ → ℕ → List ℕ → List ℕ → List ℕ → ℕ → Type 0
+ToNodesGives = RearrangeGives byLane byRow
 
 -- `balanced_weights`: the number, and what the call says of the counts
 pub record WeightsGive (rec counts counts′ : List ℕ) (r : ℕ) : Type 0 where

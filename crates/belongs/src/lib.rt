@@ -1,5 +1,6 @@
 // Belongs: whether every lane of a block is a word of the code.
 ghost use Rattle.generator.specs.Records.{Sound};
+ghost use Rattle.layout.specs.Layout.{shareLayout};
 ghost use Rattle.refusals.specs.Faults.{belongsFault};
 ghost use Rattle.blocks.specs.Promises.{BelongsPromise, BelongsSays};
 use blocks::Membership;
@@ -9,7 +10,7 @@ use generator::Record;
 // Tests a block over an accepted record's header.
 fn test_accepted(h: Header, lanes: usize, shares: &[u8]) -> Membership
     requires { ⌜ Sound h ⌝ }
-    ensures { λ r. ⌜ BelongsPromise lanes (now (shares .entry)) r h (belongsFault h lanes (now (shares .entry))) ⌝ }
+    ensures { λ r. ⌜ BelongsPromise shareLayout lanes (now (shares .entry)) r h (belongsFault h lanes (now (shares .entry))) ⌝ }
 {
     let number = refusals::belongs_fault(h, lanes, shares);
     if number != 0 {

@@ -1,5 +1,6 @@
 -- Laws of blocks, and the demands as theorems.
 pub mod Shares
+pub mod Tiles
 pub mod Updates
 pub mod Messages
 pub mod Words

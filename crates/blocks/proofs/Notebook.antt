@@ -10,7 +10,7 @@ use Rattle.lists.specs.Counting.{countFrom, differ}
 use Rattle.lists.specs.Numbers.{allBelow}
 use Rattle.lists.specs.Rows.{from}
 use Rattle.lists.proofs.All.{All}
-use Rattle.layout.specs.Layout.{byRow, held, laneOf, buffer, withLane, shareLayout}
+use Rattle.layout.specs.Layout.{byRow, byLane, held, laneOf, buffer, withLane, shareLayout}
 use Rattle.field.specs.Primes.{dividesSome, isPrime}
 use Rattle.field.specs.Bytes.{timesX, productFrom, product}
 use Rattle.field.specs.Fields.{sizeOf, add, sub, mul, power, orderFrom, orderOf}
@@ -88,5 +88,5 @@ one-lane P p (suc t) inside = absurd (omega arith)
 
 -- every case of the table holds
 pub notebook-holds : All Says notebook
-unfolding Says notebook recordOf judged recordFault headerFault kindBad bodyBad fieldBad sizeBad rootBad headerOf distance lowReads highReads firstsOf shiftsOf isEven evenShifts shiftsFrom laidShifts laidAt period negative gcd gcdFrom reads baseWord entry entryAt baseAt baseFrom nodeFrom nodeOf byRow held laneOf buffer withLane shareLayout shareAt shareOf sharesOf addedAt rowAdded updated lanesBad differ countFrom from allBelow modulus sizeOf add sub mul power orderOf orderFrom product productFrom timesX isPrime dividesSome
+unfolding Says notebook recordOf judged recordFault headerFault kindBad bodyBad fieldBad sizeBad rootBad headerOf distance lowReads highReads firstsOf shiftsOf isEven evenShifts shiftsFrom laidShifts laidAt period negative gcd gcdFrom reads baseWord entry entryAt baseAt baseFrom nodeFrom nodeOf byRow byLane held laneOf buffer withLane shareLayout shareAt shareOf sharesOf addedAt rowAdded updated lanesBad differ countFrom from allBelow modulus sizeOf add sub mul power orderOf orderFrom product productFrom timesX isPrime dividesSome
 notebook-holds = ((refl, refl, refl, refl, refl, refl, refl, refl, refl), ((refl, refl, refl, refl, refl, refl, refl, refl, refl), (refl, ((refl, refl), ((refl, refl), ((record { size-is = refl; symbols = refl; lanes = one-lane _ refl }, refl), (refl, ((refl, refl, refl, refl, refl, refl, refl, refl, refl), ((refl, refl, refl, refl, refl, refl, refl, refl, refl), ((refl, refl, refl, refl, refl, refl, refl, refl, refl), ((refl, refl), ((refl, refl, refl, refl, refl, refl, refl, refl, refl), ((refl, refl), (refl, (refl, (refl, (refl, (refl, tt))))))))))))))))))

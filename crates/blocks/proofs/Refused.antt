@@ -5,6 +5,7 @@ use Prim.Native.Nat.{ℕ, zero, suc}
 use borrow.Author.Tests.{ne-eqb}
 use lib.Dec.{eqb}
 use Rattle.lists.specs.Choice.{pick, pickT}
+use Rattle.layout.specs.Layout.{Arrangement}
 use Rattle.generator.specs.declared.Header.{Header}
 use Rattle.blocks.specs.declared.Outcome.the-variants as O
 use Rattle.blocks.specs.declared.Update.the-variants as U
@@ -35,18 +36,18 @@ refused-value g a b n = rw (ne-eqb g 0 n)
 refused-claim : (g : ℕ) (A B : Type 0) → (g ≡ 0 → ⊥) → B → pickT (eqb g 0) A B
 refused-claim g A B n b = rw (ne-eqb g 0 n) b
 
-module _ (h : Header) (g : ℕ) (some : g ≡ 0 → ⊥) (l : ℕ) where
-  pub encode-refuses : (message out : List ℕ) → EncodePromise l message out out (O.Refused g) h g
+module _ {y : Arrangement} (h : Header) (g : ℕ) (some : g ≡ 0 → ⊥) (l : ℕ) where
+  pub encode-refuses : (message out : List ℕ) → EncodePromise y l message out out (O.Refused g) h g
   encode-refuses message out = record { answer = sym (outcome-refused g some); written = sym (refused-value g _ out some) }
 
-  pub update-refuses : (r t old new : ℕ) (shares : List ℕ) → UpdatePromise l r t old new shares shares (U.Refused g) h g
+  pub update-refuses : (r t old new : ℕ) (shares : List ℕ) → UpdatePromise y l r t old new shares shares (U.Refused g) h g
   update-refuses r t old new shares = record { answer = sym (update-refused g _ some); written = sym (refused-value g _ shares some) }
 
-  pub recover-refuses : (nodes shares out : List ℕ) → RecoverPromise l nodes shares out out (O.Refused g) h g
+  pub recover-refuses : (nodes shares out : List ℕ) → RecoverPromise y l nodes shares out out (O.Refused g) h g
   recover-refuses nodes shares out = record { answer = sym (outcome-refused g some); written = refused-claim g _ _ some refl }
 
-  pub rebuild-refuses : (nodes shares : List ℕ) (target : ℕ) (out : List ℕ) → RebuildPromise l nodes shares target out out (O.Refused g) h g
+  pub rebuild-refuses : (nodes shares : List ℕ) (target : ℕ) (out : List ℕ) → RebuildPromise y l nodes shares target out out (O.Refused g) h g
   rebuild-refuses nodes shares target out = record { answer = sym (outcome-refused g some); written = refused-claim g _ _ some refl }
 
-  pub belongs-refuses : (shares : List ℕ) → BelongsPromise l shares (M.Refused g) h g
+  pub belongs-refuses : (shares : List ℕ) → BelongsPromise y l shares (M.Refused g) h g
   belongs-refuses shares = record { answer = sym (membership-refused g l _ some) }

@@ -7,10 +7,10 @@ use lib.ListN.{length}
 use Rattle.lists.specs.Numbers.{allBelow}
 use Rattle.lists.specs.Rows.{rowsFrom}
 use Rattle.lists.proofs.Rows.{length-from}
-use Rattle.layout.specs.Layout.{Arrangement, byRow, laneOf, shareLayout}
+use Rattle.layout.specs.Layout.{Arrangement, byRow, laneOf}
 use Rattle.layout.proofs.Lawful.{Lawful}
 use Rattle.layout.proofs.Buffers.{length-buffer, lane-buffer}
-use Rattle.layout.proofs.Places.{buffer-share}
+use Rattle.layout.proofs.Places.{buffer-by-row}
 use Rattle.generator.specs.declared.Header.{Header}
 use Rattle.generator.specs.Codewords.{encoding}
 use Rattle.blocks.specs.Blocks.{shareAt, shareOf, sharesOf}
@@ -31,7 +31,7 @@ module _ (h : Header) (l : ℕ) (m : List ℕ) where
   unfolding sharesOf encoding shareAt
   lane-encodes a t inside = lane-buffer a (h .n) l (shareAt h l m) t inside
 
-  -- as code writes them: one share after the other
-  pub shares-parts : sharesOf shareLayout h l m ≡ rowsFrom (shareOf h l m) 0 (h .n)
+  -- one share after the other
+  pub shares-by-row : sharesOf byRow h l m ≡ rowsFrom (shareOf h l m) 0 (h .n)
   unfolding sharesOf shareOf
-  shares-parts = buffer-share (h .n) l (shareAt h l m)
+  shares-by-row = buffer-by-row (h .n) l (shareAt h l m)

@@ -1,17 +1,19 @@
 -- An update of a lane that encodes a message: the lane, the other lanes, and how many symbols differ.
 use mathlib.Core.Path.{_≡_, refl, sym, ap, ap₂, _∙_}
 use mathlib.Core.Bool.{true, not}
-use mathlib.Core.List.{List}
-use Prim.Native.Nat.{ℕ, _+_, _*_, _<_}
-use native.Mathlib.Nat.{zero-add}
+use mathlib.Core.List.{List, _++_}
+use Prim.Native.Nat.{ℕ, _+_, _-_, _*_, _≤_, _<_}
+use native.Mathlib.Nat.{zero-add, mul-comm}
 use native.Mathlib.Omega.{arith}
 use lib.Dec.{eqb}
-use lib.ListN.{length, getD, set}
+use lib.ListN.{length, getD, take, drop, set}
 use Rattle.lists.specs.Counting.{countFrom, differ}
 use Rattle.lists.proofs.Count.{count-ext}
-use Rattle.lists.proofs.Rows.{from-ext, getD-from, length-from}
-use Rattle.layout.specs.Layout.{Arrangement, held, laneOf}
-use Rattle.layout.proofs.Lawful.{Lawful}
+use Rattle.lists.specs.Rows.{from}
+use Rattle.lists.proofs.Rows.{from-ext, getD-from, length-from, part-size, part-length, row-inside}
+use Rattle.layout.specs.Layout.{Arrangement, byLane, held, laneOf}
+use Rattle.layout.proofs.Lawful.{Lawful, by-lane}
+use Rattle.layout.proofs.Runs.{lane-part, with-lane-part}
 use Rattle.layout.proofs.Buffers.{getD-lane}
 use Rattle.layout.proofs.OneLane.{length-with-lane, lane-changed, lane-kept, differ-lane}
 use Rattle.field.specs.Fields.{add, sub, mul}
@@ -21,7 +23,7 @@ use Rattle.generator.specs.Generator.{entry}
 use Rattle.generator.specs.Codewords.{nodeOf, encoding}
 use Rattle.generator.specs.Claims.{isMessage}
 use Rattle.generator.proofs.Changes.{node-change}
-use Rattle.blocks.specs.Blocks.{addedAt, rowAdded, updated}
+use Rattle.blocks.specs.Blocks.{addedAt, rowAdded, wordAdded, updated}
 
 -- what node j of an encoding holds
 pub node-at : (h : Header) (ms : List ℕ) (j : ℕ) → j < h .n → getD (encoding h ms) j 0 ≡ nodeOf h ms j
@@ -33,6 +35,39 @@ module _ {y : Arrangement} (a : Lawful y) (h : Header) (l r t x : ℕ) (shares :
   pub differ-added : t < l → length shares ≡ h .n * l → differ shares (rowAdded y h l r t x shares) ≡ countFrom (h .n) 0 (λ j. not (eqb (held y (h .n) l shares j t) (addedAt y h l r t x shares j)))
   unfolding rowAdded
   differ-added = differ-lane a (h .n) l t (addedAt y h l r t x shares) shares
+
+module _ (h : Header) (l r t x : ℕ) (shares : List ℕ) (long : length shares ≡ h .n * l) (inside : t < l) where
+  -- the lane as a part of the buffer
+  abbrev part : List ℕ
+  part = take (t * h .n + h .n - t * h .n) (drop (t * h .n) shares)
+
+  -- what the part becomes by itself is what the lane becomes
+  part-added : wordAdded h r x part ≡ from (addedAt byLane h l r t x shares) 0 (h .n)
+  unfolding wordAdded addedAt
+  part-added =
+      from-ext _ (addedAt byLane h l r t x shares) 0 (h .n)
+      (λ j above below.
+      let held-is : getD part j 0 ≡ held byLane (h .n) l shares j t =
+      ap (λ (w : List ℕ). getD w j 0) (lane-part (h .n) l shares long t inside) ∙ getD-lane byLane (h .n) l t shares j (omega arith) in
+      ap (λ (b : ℕ). add (modulusOf h) b (mul (modulusOf h) x (entry h r j))) held-is)
+
+  -- a row added through the lane's part is added to the lane
+  pub added-part : take (t * h .n) shares ++ (wordAdded h r x part ++ drop (t * h .n + h .n - t * h .n) (drop (t * h .n) shares)) ≡ rowAdded byLane h l r t x shares
+  unfolding rowAdded
+  added-part = rw (part-added, part-size) (with-lane-part (h .n) l t (addedAt byLane h l r t x shares) shares long inside)
+
+  -- and as many symbols differ in the buffer as in the part
+  pub differ-part : differ part (wordAdded h r x part) ≡ differ shares (rowAdded byLane h l r t x shares)
+  unfolding differ
+  differ-part =
+      let place : t * h .n + h .n ≤ length shares = rw (long, mul-comm (h .n) l) (row-inside l t (h .n) inside) in
+      ap (λ (f : ℕ). countFrom f 0 (λ j. not (eqb (getD part j 0) (getD (wordAdded h r x part) j 0)))) (part-length (t * h .n) (h .n) shares place)
+      ∙ count-ext (h .n) 0 _ _
+      (λ j above below.
+      ap not
+      (ap₂ eqb (ap (λ (w : List ℕ). getD w j 0) (lane-part (h .n) l shares long t inside) ∙ getD-lane byLane (h .n) l t shares j (omega arith))
+      (ap (λ (w : List ℕ). getD w j 0) part-added ∙ rw zero-add at (getD-from (addedAt byLane h l r t x shares) 0 (h .n) j 0 (omega arith)))))
+      ∙ sym (differ-added by-lane h l r t x shares inside long)
 
 module _ {y : Arrangement} (a : Lawful y) (h : Header) (l r t old new : ℕ) (shares : List ℕ) where
   -- an update gives a buffer of n·l symbols

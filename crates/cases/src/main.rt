@@ -14,6 +14,7 @@ mod encoding;
 mod finding;
 mod outcome;
 mod plans;
+mod rearranging;
 mod rebuilding;
 mod recovering;
 mod rosters;
@@ -57,6 +58,19 @@ fn call_on_nodes(line: &[u8]) {
 fn call_on_lanes(line: &[u8]) {
     if is_call(line, b"find") {
         finding::find(line);
+        return;
+    }
+    call_on_shares(line);
+}
+
+// The rearrangements.
+fn call_on_shares(line: &[u8]) {
+    if is_call(line, b"to_lanes") {
+        rearranging::rearrange(line, true);
+        return;
+    }
+    if is_call(line, b"to_nodes") {
+        rearranging::rearrange(line, false);
         return;
     }
     call_on_records(line);

@@ -1,4 +1,4 @@
-// The answer of Encode, Recover or Rebuild: the bytes written, or the number and whether every byte still holds 170.
+// The answer of Encode, Recover, Rebuild or a rearrangement: the bytes written, or the number and whether every byte still holds 170.
 use blocks::Outcome;
 use test_tools::list;
 use test_tools::refused;

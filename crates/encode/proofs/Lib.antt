@@ -1,2 +1,4 @@
 -- A node's column of the generator.
 pub mod Columns
+-- The lanes of a tile among the shares.
+pub mod Lanes

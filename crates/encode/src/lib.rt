@@ -1,9 +1,9 @@
-// Encode: the shares of all nodes, each lane encoded by itself.
+// Encode: the shares of all nodes, each lane encoded by itself. Lanes are encoded some at a time, as rows of a tile.
 ghost use mathlib.Core.Path.{_≡_};
 ghost use Prim.Native.Nat.{_+_, _*_, _%_, _≤_, _<_};
 ghost use lib.ListN.{length, getD};
 ghost use Rattle.lists.specs.Padded.{padded};
-ghost use Rattle.layout.specs.Layout.{shareLayout};
+ghost use Rattle.layout.specs.Layout.{byRow, byLane, someLanes, shareLayout};
 ghost use Rattle.generator.specs.Records.{Sound};
 ghost use Rattle.blocks.specs.Blocks.{shareOf, sharesOf};
 ghost use Rattle.refusals.specs.Faults.{encodeFault};
@@ -58,7 +58,7 @@ fn fill_share(
     combine::combine(field, &entries, k, lanes, message, share);
 }
 
-// Fills every node's share through its own part.
+// Fills every node's share through its own part: the words of some lanes, as rows.
 fn fill_shares<'a>(
     h: Header,
     shifts: &'a [u8],
@@ -68,7 +68,7 @@ fn fill_shares<'a>(
     out: &mut [u8],
 )
     requires { ⌜ Planned h (now shifts) (now base) × SymbolRows h (h .k) lanes (now message) × (length (now out) ≡ h .n * lanes) ⌝ }
-    ensures { λ r. ⌜ now (out .exit) ≡ sharesOf shareLayout h lanes (now (message .entry)) ⌝ }
+    ensures { λ r. ⌜ now (out .exit) ≡ sharesOf byRow h lanes (now (message .entry)) ⌝ }
 {
     let n = h.n as usize;
     let mut node: usize = 0;
@@ -80,17 +80,106 @@ fn fill_shares<'a>(
     }
 }
 
+// Fills `count` lanes, from lane `first` on: their symbols are gathered, the words made row by row, and each lane is filled through its own part.
+fn fill_tile<'a>(
+    h: Header,
+    shifts: &'a [u8],
+    base: &'a [u16],
+    lanes: usize,
+    first: usize,
+    count: usize,
+    message: &[u8],
+    rows: &mut [u8],
+    words: &mut [u8],
+    out: &mut [u8],
+)
+    requires { ⌜ Planned h (now shifts) (now base) × SymbolRows h (h .k) lanes (now message) × (0 < count) × (first + count ≤ lanes) × (length (now rows) ≡ h .k * count) × (length (now words) ≡ h .n * count) × (length (now out) ≡ h .n * count) ⌝ }
+    ensures { λ r. ⌜ now (out .exit) ≡ sharesOf byLane h count (someLanes byRow byRow (h .k) lanes first count (now (message .entry))) ⌝ }
+{
+    let n = h.n as usize;
+    let k = h.k as usize;
+    tiles::gather_rows(k, lanes, first, count, message, rows);
+    fill_shares(h, shifts, base, count, rows, words);
+    tiles::scatter(n, count, words, out);
+}
+
+// Fills all lanes, tile by tile.
+fn fill_lanes<'a>(
+    h: Header,
+    shifts: &'a [u8],
+    base: &'a [u16],
+    lanes: usize,
+    message: &[u8],
+    rows: &mut [u8],
+    words: &mut [u8],
+    out: &mut [u8],
+)
+    requires { ⌜ Planned h (now shifts) (now base) × SymbolRows h (h .k) lanes (now message) × (h .n ≤ length (now words)) × (length (now rows) ≡ length (now words)) × (length (now out) ≡ h .n * lanes) ⌝ }
+    ensures { λ r. ⌜ now (out .exit) ≡ sharesOf byLane h lanes (now (message .entry)) ⌝ }
+{
+    let n = h.n as usize;
+    let k = h.k as usize;
+    let mut first: usize = 0;
+    while first < lanes {
+        let count = tiles::tile_lanes(n, words.len(), lanes - first);
+        let symbols = k * count;
+        let size = n * count;
+        let start = first * n;
+        let end = start + count * n;
+        fill_tile(
+            h,
+            shifts,
+            base,
+            lanes,
+            first,
+            count,
+            message,
+            &mut rows[..symbols],
+            &mut words[..size],
+            &mut out[start..end],
+        );
+        first += count;
+    }
+}
+
+// Fills all lanes in scratch of this call: none for one lane, which stands as a row stands, and little where the block is small.
+fn encode_lanes<'a>(
+    h: Header,
+    shifts: &'a [u8],
+    base: &'a [u16],
+    lanes: usize,
+    message: &[u8],
+    out: &mut [u8],
+)
+    requires { ⌜ Planned h (now shifts) (now base) × SymbolRows h (h .k) lanes (now message) × (length (now out) ≡ h .n * lanes) ⌝ }
+    ensures { λ r. ⌜ now (out .exit) ≡ sharesOf byLane h lanes (now (message .entry)) ⌝ }
+{
+    if lanes == 1 {
+        fill_shares(h, shifts, base, lanes, message, out);
+        return;
+    }
+    if out.len() <= 4096 {
+        let mut rows = tiles::small_scratch();
+        let mut words = tiles::small_scratch();
+        fill_lanes(h, shifts, base, lanes, message, &mut rows, &mut words, out);
+        return;
+    }
+    let mut rows = tiles::scratch();
+    let mut words = tiles::scratch();
+    fill_lanes(h, shifts, base, lanes, message, &mut rows, &mut words, out);
+}
+
 // Encodes over the header of an accepted record. Everything is judged before the first byte is written.
 fn encode_accepted(h: Header, lanes: usize, message: &[u8], out: &mut [u8]) -> Outcome
     requires { ⌜ Sound h ⌝ }
-    ensures { λ r. ⌜ EncodePromise lanes (now (message .entry)) (now (out .entry)) (now (out .exit)) r h (encodeFault h lanes (length (now (out .entry))) (now (message .entry))) ⌝ }
+    ensures { λ r. ⌜ EncodePromise shareLayout lanes (now (message .entry)) (now (out .entry)) (now (out .exit)) r h (encodeFault h lanes (length (now (out .entry))) (now (message .entry))) ⌝ }
 {
     let number = refusals::encode_fault(h, lanes, message, out.len());
     if number != 0 {
         return Outcome::Refused(number);
     }
     let plan = plan::plan_of(h);
-    fill_shares(h, &plan.shifts, &plan.base, lanes, message, out);
+    encode_lanes(h, &plan.shifts, &plan.base, lanes, message, out);
     Outcome::Done
 }
 

@@ -4,5 +4,7 @@ pub mod Buffers
 pub mod OneLane
 pub mod Rewritten
 pub mod Places
+pub mod Runs
+pub mod Stretches
 pub mod Widths
 pub mod Readings

@@ -8,7 +8,7 @@ use lib.ListN.{length, getD}
 use Rattle.lists.specs.Rows.{from, rowsFrom}
 use Rattle.lists.proofs.Rows.{length-from, getD-from}
 use Rattle.lists.proofs.Lanes.{length-rows, getD-rows}
-use Rattle.layout.specs.Layout.{byRow, byLane, held, rowOf, buffer, shareLayout}
+use Rattle.layout.specs.Layout.{byRow, byLane, held, laneOf, rowOf, buffer, shareLayout}
 use Rattle.layout.proofs.Lawful.{Lawful, by-row, by-lane}
 use Rattle.layout.proofs.Buffers.{length-buffer, held-buffer, held-equal, buffer-held}
 
@@ -51,23 +51,27 @@ buffer-by-lane rows l f =
     (length-rows (λ t. from (λ i. f i t) 0 rows) rows (λ t. length-from (λ i. f i t) 0 rows) 0 l ∙ mul-comm l rows)
     (λ i t hi ht. held-buffer by-lane rows l f i t hi ht ∙ sym (held-by-lane rows l _ i t ∙ parts-at (λ t i. f i t) l rows t i ht hi))
 
+pub lanes-whole : (rows l : ℕ) (s : List ℕ) → length s ≡ rows * l → rowsFrom (λ t. laneOf byLane rows l t s) 0 l ≡ s
+unfolding laneOf
+lanes-whole rows l s long = sym (buffer-by-lane rows l (held byLane rows l s)) ∙ buffer-held by-lane rows l s long
+
 -- the layout of shares
 pub share-lawful : Lawful shareLayout
 unfolding shareLayout
-share-lawful = by-row
+share-lawful = by-lane
 
-pub place-share : (rows l i t : ℕ) → shareLayout rows l .place i t ≡ i * l + t
+pub place-share : (rows l i t : ℕ) → shareLayout rows l .place i t ≡ t * rows + i
 unfolding shareLayout
-place-share = place-by-row
+place-share = place-by-lane
 
-pub held-share : (rows l : ℕ) (s : List ℕ) (i t : ℕ) → held shareLayout rows l s i t ≡ getD s (i * l + t) 0
+pub held-share : (rows l : ℕ) (s : List ℕ) (i t : ℕ) → held shareLayout rows l s i t ≡ getD s (t * rows + i) 0
 unfolding shareLayout
-held-share = held-by-row
+held-share = held-by-lane
 
-pub buffer-share : (rows l : ℕ) (f : ℕ → ℕ → ℕ) → buffer shareLayout rows l f ≡ rowsFrom (λ i. from (f i) 0 l) 0 rows
+pub buffer-share : (rows l : ℕ) (f : ℕ → ℕ → ℕ) → buffer shareLayout rows l f ≡ rowsFrom (λ t. from (λ i. f i t) 0 rows) 0 l
 unfolding shareLayout
-buffer-share = buffer-by-row
+buffer-share = buffer-by-lane
 
-pub share-by-row : shareLayout ≡ byRow
+pub share-by-lane : shareLayout ≡ byLane
 unfolding shareLayout
-share-by-row = refl
+share-by-lane = refl

@@ -48,6 +48,10 @@ rearranged y z rows l s = buffer z rows l (held y rows l s)
 unfoldable pub withLane : Arrangement → ℕ → ℕ → ℕ → (ℕ → ℕ) → List ℕ → List ℕ
 withLane y rows l t g s = buffer y rows l (λ i q. pick (eqb q t) (g i) (held y rows l s i q))
 
+-- the c lanes from lane t on of a buffer arranged as y, as a buffer of c lanes arranged as z
+unfoldable pub someLanes : Arrangement → Arrangement → ℕ → ℕ → ℕ → ℕ → List ℕ → List ℕ
+someLanes y z rows l t c s = buffer z rows c (λ i q. held y rows l s i (t + q))
+
 -- how shares stand in a buffer; a message stands row after row
 unfoldable pub shareLayout : Arrangement
-shareLayout = byRow
+shareLayout = byLane

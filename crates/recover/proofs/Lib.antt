@@ -1,3 +1,5 @@
--- Weighted sums of the listed shares are shares and rows of the message.
+-- Weighted sums of the listed shares are shares and rows of the message, also tile by tile.
 pub mod Rebuilding
 pub mod Recovering
+pub mod Tiles
+pub mod WeightRows

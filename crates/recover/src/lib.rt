@@ -1,40 +1,22 @@
 // Recover and Rebuild: the message, or what one node holds, from the shares of any k nodes.
 ghost use mathlib.Core.Path.{_≡_};
-ghost use Prim.Native.Nat.{_*_};
 ghost use lib.ListN.{length};
 ghost use Rattle.layout.specs.Layout.{shareLayout};
 ghost use Rattle.generator.specs.Records.{Sound};
 ghost use Rattle.refusals.specs.Faults.{recoverFault, rebuildFault};
-ghost use Rattle.refusals.specs.Accepted.{ListedShares};
-ghost use Rattle.blocks.specs.Blocks.{MessageFor};
 ghost use Rattle.blocks.specs.Promises.{RecoverPromise, RebuildPromise, RecoverSays, RebuildSays};
-ghost use Rattle.recovery.specs.Rows.{setupOf};
 use blocks::Outcome;
 use generator::Header;
 use generator::Record;
-use recovery::Setup;
 
-// Fills the message row by row, each through its own part: the sums of the listed shares times the weights of that row.
-fn fill_message(h: Header, lanes: usize, nodes: &[u8], shares: &[u8], setup: Setup, out: &mut [u8])
-    requires { ⌜ ListedShares h lanes (now nodes) (now shares) × (setup ≡ setupOf h (now nodes)) × (length (now out) ≡ h .k * lanes) ⌝ }
-    ensures { λ r. ⌜ MessageFor shareLayout h lanes (now (nodes .entry)) (now (shares .entry)) (now (out .exit)) ⌝ }
-{
-    let field = h.field;
-    let k = h.k as usize;
-    let mut r: usize = 0;
-    while r < k {
-        let weights = recovery::recover_weights(h, nodes, setup, r as u32);
-        let start = r * lanes;
-        let end = start + lanes;
-        combine::combine(field, &weights, k, lanes, shares, &mut out[start..end]);
-        r += 1;
-    }
-}
+mod messages;
+mod shares;
+mod weights;
 
 // Recovers over an accepted record's header.
 fn recover_accepted(h: Header, lanes: usize, nodes: &[u8], shares: &[u8], out: &mut [u8]) -> Outcome
     requires { ⌜ Sound h ⌝ }
-    ensures { λ r. ⌜ RecoverPromise lanes (now (nodes .entry)) (now (shares .entry)) (now (out .entry)) (now (out .exit)) r h (recoverFault h lanes (now (nodes .entry)) (now (shares .entry)) (length (now (out .entry)))) ⌝ }
+    ensures { λ r. ⌜ RecoverPromise shareLayout lanes (now (nodes .entry)) (now (shares .entry)) (now (out .entry)) (now (out .exit)) r h (recoverFault h lanes (now (nodes .entry)) (now (shares .entry)) (length (now (out .entry)))) ⌝ }
 {
     let number = refusals::recover_fault(h, lanes, nodes, shares, out.len());
     if number != 0 {
@@ -43,7 +25,7 @@ fn recover_accepted(h: Header, lanes: usize, nodes: &[u8], shares: &[u8], out: &
     let k = h.k as usize;
     let shifts = shifts::fill_shifts(h.n, h.k);
     let setup = recovery::prepare(h, nodes, &shifts[..k]);
-    fill_message(h, lanes, nodes, shares, setup, out);
+    messages::recover_lanes(h, lanes, nodes, shares, setup, out);
     Outcome::Done
 }
 
@@ -67,16 +49,14 @@ fn rebuild_accepted(
     out: &mut [u8],
 ) -> Outcome
     requires { ⌜ Sound h ⌝ }
-    ensures { λ r. ⌜ RebuildPromise lanes (now (nodes .entry)) (now (shares .entry)) target (now (out .entry)) (now (out .exit)) r h (rebuildFault h lanes (now (nodes .entry)) (now (shares .entry)) target (length (now (out .entry)))) ⌝ }
+    ensures { λ r. ⌜ RebuildPromise shareLayout lanes (now (nodes .entry)) (now (shares .entry)) target (now (out .entry)) (now (out .exit)) r h (rebuildFault h lanes (now (nodes .entry)) (now (shares .entry)) target (length (now (out .entry)))) ⌝ }
 {
     let number = refusals::rebuild_fault(h, lanes, nodes, shares, target as usize, out.len());
     if number != 0 {
         return Outcome::Refused(number);
     }
-    let field = h.field;
-    let k = h.k as usize;
     let weights = recovery::rebuild_weights(h, nodes, target);
-    combine::combine(field, &weights, k, lanes, shares, out);
+    shares::rebuild_lanes(h, lanes, &weights, shares, out);
     Outcome::Done
 }
 

@@ -7,6 +7,7 @@ use borrow.Author.Tests.{eq-eqb}
 use lib.ListN.{length}
 use Rattle.lists.specs.Choice.{firstOf, when}
 use Rattle.lists.proofs.Cases.{both-true, first-zero, when-zero}
+use Rattle.layout.specs.Layout.{shareLayout}
 use Rattle.generator.specs.declared.Header.{Header}
 use Rattle.generator.specs.Records.{size, width, Sound}
 use Rattle.generator.specs.Claims.{areNodes}
@@ -52,7 +53,7 @@ module _ (h : Header) (sound : Sound h) (l : ℕ) where
       rows-good (h .n) shares seven eight (when-zero (symbolsBad h shares) 10 last)
 
   -- Update: the lane holds symbols, and so are the old and the new one
-  pub update-accepts : (r t old new : ℕ) (shares : List ℕ) → updateFault h l r t old new shares ≡ 0 → UpdatableLane h l r t shares × (old < size h) × (new < size h)
+  pub update-accepts : (r t old new : ℕ) (shares : List ℕ) → updateFault shareLayout h l r t old new shares ≡ 0 → UpdatableLane h l r t shares × (old < size h) × (new < size h)
   unfolding updateFault
   update-accepts r t old new shares e =
       let (seven, a) = not-met (lanesBad l) 6 _ e in
@@ -67,7 +68,7 @@ module _ (h : Header) (sound : Sound h) (l : ℕ) where
           row = number-good (h .k) r row;
           lane = number-good l t lane;
           long = buffer-good h (h .n * l) (length shares) eight;
-          symbols = lane-good h l t shares (when-zero (laneBad h l t shares) 10 g);
+          symbols = lane-good h shareLayout l t shares (when-zero (laneBad shareLayout h l t shares) 10 g);
         },
         symbol-good h old first,
         symbol-good h new second,

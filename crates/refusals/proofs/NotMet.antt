@@ -9,7 +9,7 @@ use borrow.Author.Tests.{eqb-true, eqb-false, ltb-false, leb-false, not-false}
 use lib.Dec.{eqb, ltb}
 use Rattle.lists.specs.Numbers.{allBelow, distinct}
 use Rattle.lists.proofs.Cases.{or-left-false, or-right-false}
-use Rattle.layout.specs.Layout.{laneOf, shareLayout}
+use Rattle.layout.specs.Layout.{Arrangement, laneOf}
 use Rattle.generator.specs.declared.Header.{Header}
 use Rattle.generator.specs.Records.{size, width}
 use Rattle.refusals.specs.Conditions.{lanesBad, lengthBad, numberBad, nodesBad, twiceBad, symbolBad, symbolsBad, laneBad}
@@ -53,8 +53,8 @@ module _ (h : Header) where
   pub symbols-good : (s : List ℕ) → symbolsBad h s ≡ false → allBelow (size h) s ≡ true
   symbols-good s e = not-false _ (rw symbols-test at e)
 
-  pub lane-good : (l t : ℕ) (shares : List ℕ) → laneBad h l t shares ≡ false → allBelow (size h) (laneOf shareLayout (h .n) l t shares) ≡ true
-  lane-good l t shares e = not-false _ (rw lane-test at e)
+  pub lane-good : (y : Arrangement) (l t : ℕ) (shares : List ℕ) → laneBad y h l t shares ≡ false → allBelow (size h) (laneOf y (h .n) l t shares) ≡ true
+  lane-good y l t shares e = not-false _ (rw lane-test at e)
 
 -- number 10
 pub twice-good : (nodes : List ℕ) → twiceBad nodes ≡ false → distinct nodes ≡ true

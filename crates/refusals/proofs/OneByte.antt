@@ -5,7 +5,7 @@ use mathlib.Core.List.{List}
 use Prim.Native.Nat.{ℕ, _*_}
 use native.Mathlib.Nat.{mul-one}
 use Rattle.lists.specs.Numbers.{allBelow}
-use Rattle.layout.specs.Layout.{laneOf, shareLayout}
+use Rattle.layout.specs.Layout.{Arrangement, laneOf}
 use Rattle.layout.specs.Width.{symbolsOf, bytesOf}
 use Rattle.layout.proofs.Widths.{symbols-one, bytes-one}
 use Rattle.generator.specs.declared.Header.{Header}
@@ -29,6 +29,6 @@ module _ (h : Header) where
   unfolding symbolsBad
   symbols-test s = rw (symbols-are s)
 
-  pub lane-test : (l t : ℕ) (s : List ℕ) → laneBad h l t s ≡ not (allBelow (size h) (laneOf shareLayout (h .n) l t s))
+  pub lane-test : (y : Arrangement) (l t : ℕ) (s : List ℕ) → laneBad y h l t s ≡ not (allBelow (size h) (laneOf y (h .n) l t s))
   unfolding laneBad
-  lane-test l t s = rw (symbols-are s)
+  lane-test y l t s = rw (symbols-are s)

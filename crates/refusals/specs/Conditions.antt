@@ -4,7 +4,7 @@ use mathlib.Core.List.{List}
 use Prim.Native.Nat.{ℕ}
 use lib.Dec.{eqb, ltb, leb}
 use Rattle.lists.specs.Numbers.{allBelow, distinct}
-use Rattle.layout.specs.Layout.{laneOf, shareLayout}
+use Rattle.layout.specs.Layout.{Arrangement, laneOf}
 use Rattle.layout.specs.Width.{symbolsOf}
 use Rattle.generator.specs.declared.Header.{Header}
 use Rattle.generator.specs.Records.{size, width}
@@ -37,6 +37,6 @@ symbolBad h x = leb (size h) x
 unfoldable pub symbolsBad : Header → List ℕ → Bool
 symbolsBad h s = not (allBelow (size h) (symbolsOf (width h) s))
 
--- number 11: lane t of n shares does
-unfoldable pub laneBad : Header → ℕ → ℕ → List ℕ → Bool
-laneBad h l t shares = not (allBelow (size h) (laneOf shareLayout (h .n) l t (symbolsOf (width h) shares)))
+-- number 11: lane t of n shares does, which are arranged as y says
+unfoldable pub laneBad : Arrangement → Header → ℕ → ℕ → List ℕ → Bool
+laneBad y h l t shares = not (allBelow (size h) (laneOf y (h .n) l t (symbolsOf (width h) shares)))

@@ -3,6 +3,7 @@ use mathlib.Core.List.{List}
 use Prim.Native.Nat.{ℕ, _*_}
 use lib.ListN.{length}
 use Rattle.lists.specs.Choice.{firstOf, when}
+use Rattle.layout.specs.Layout.{Arrangement}
 use Rattle.generator.specs.declared.Header.{Header}
 use Rattle.generator.specs.Records.{headerOf, recordFault, width}
 use Rattle.refusals.specs.Conditions.{lanesBad, lengthBad, numberBad, nodesBad, twiceBad, symbolBad, symbolsBad, laneBad}
@@ -15,16 +16,16 @@ encodeFault h l out message =
     (firstOf (when (lengthBad (h .n * l * width h) out) 8)
     (when (symbolsBad h message) 11)))
 
--- Update takes the number of a symbol and of a lane, and reads the two symbols and its lane
-unfoldable pub updateFault : Header → ℕ → ℕ → ℕ → ℕ → ℕ → List ℕ → ℕ
-updateFault h l r t old new shares =
+-- Update takes the number of a symbol and of a lane, and reads the two symbols and its lane of shares that are arranged as y says
+unfoldable pub updateFault : Arrangement → Header → ℕ → ℕ → ℕ → ℕ → ℕ → List ℕ → ℕ
+updateFault y h l r t old new shares =
     firstOf (when (lanesBad l) 7)
     (firstOf (when (lengthBad (h .n * l * width h) (length shares)) 8)
     (firstOf (when (numberBad (h .k) r) 9)
     (firstOf (when (numberBad l t) 9)
     (firstOf (when (symbolBad h old) 11)
     (firstOf (when (symbolBad h new) 11)
-    (when (laneBad h l t shares) 11))))))
+    (when (laneBad y h l t shares) 11))))))
 
 -- a list of k nodes and their shares
 unfoldable pub listFault : Header → List ℕ → List ℕ → ℕ

@@ -2,6 +2,7 @@
 ghost use mathlib.Core.Path.{_≡_};
 ghost use mathlib.Core.Bool.{true};
 ghost use Rattle.field.specs.Kinds.{usable};
+ghost use Rattle.layout.specs.Layout.{shareLayout};
 ghost use Rattle.refusals.specs.Faults.{encodeFault, updateFault, recoverFault, rebuildFault, belongsFault};
 use crate::conditions::lanes_bad;
 use crate::conditions::length_bad;
@@ -46,7 +47,7 @@ pub fn update_fault(
     shares: &[u8],
 ) -> u8
     requires { ⌜ usable (h .field) ≡ true ⌝ }
-    ensures { λ r. ⌜ r ≡ updateFault h lanes which lane old new (now (shares .entry)) ⌝ }
+    ensures { λ r. ⌜ r ≡ updateFault shareLayout h lanes which lane old new (now (shares .entry)) ⌝ }
 {
     let n = h.n as usize;
     let k = h.k as usize;

@@ -1,9 +1,10 @@
-// The condition of number 11 on a number, on a buffer, on the shares of a buffer one after the other, and on one lane.
+// The condition of number 11 on a number, on a buffer, on the lanes of a buffer one after the other, and on one lane.
 ghost use mathlib.Core.Path.{_≡_};
 ghost use mathlib.Core.Bool.{true};
 ghost use Prim.Native.Nat.{_*_, _≤_, _<_};
 ghost use lib.ListN.{length};
 ghost use Rattle.field.specs.Kinds.{usable};
+ghost use Rattle.layout.specs.Layout.{shareLayout};
 ghost use Rattle.refusals.specs.Conditions.{symbolBad, symbolsBad, laneBad};
 use generator::Header;
 
@@ -25,38 +26,30 @@ pub fn symbols_bad(h: Header, s: &[u8]) -> bool
     !kernel::all_below(field.size(), s)
 }
 
-// The same for the shares of some nodes: each share is handed on as the part from its start to the next one's.
+// The same for the shares of some nodes, lane by lane: each lane is handed on as the part from its start to the next one's.
 pub fn shares_bad(h: Header, nodes: usize, lanes: usize, shares: &[u8]) -> bool
     requires { ⌜ (usable (h .field) ≡ true) × (length (now shares) ≡ nodes * lanes) ⌝ }
     ensures { λ r. ⌜ r ≡ symbolsBad h (now (shares .entry)) ⌝ }
 {
-    let mut node: usize = 0;
-    while node < nodes {
-        let start = node * lanes;
-        let end = start + lanes;
+    let mut lane: usize = 0;
+    while lane < lanes {
+        let start = lane * nodes;
+        let end = start + nodes;
         if symbols_bad(h, &shares[start..end]) {
             return true;
         }
-        node += 1;
+        lane += 1;
     }
     false
 }
 
-// A byte of one lane that is no symbol; no other byte is read.
+// A byte of one lane that is no symbol: the lane is handed on likewise, and no other byte is read.
 pub fn lane_bad(h: Header, lanes: usize, lane: usize, shares: &[u8]) -> bool
     requires { ⌜ (usable (h .field) ≡ true) × (lane < lanes) × (length (now shares) ≡ h .n * lanes) ⌝ }
-    ensures { λ r. ⌜ r ≡ laneBad h lanes lane (now (shares .entry)) ⌝ }
+    ensures { λ r. ⌜ r ≡ laneBad shareLayout h lanes lane (now (shares .entry)) ⌝ }
 {
     let n = h.n as usize;
-    let field = h.field;
-    let size = field.size();
-    let mut node: usize = 0;
-    while node < n {
-        let at = node * lanes + lane;
-        if size <= shares[at] as u32 {
-            return true;
-        }
-        node += 1;
-    }
-    false
+    let start = lane * n;
+    let end = start + n;
+    symbols_bad(h, &shares[start..end])
 }

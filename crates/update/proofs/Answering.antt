@@ -11,6 +11,6 @@ use Rattle.blocks.specs.Answers.{updateOf}
 use Rattle.blocks.specs.Promises.{UpdatePromise}
 use Rattle.blocks.proofs.Bytes.{updated-bytes, altered-count}
 
-pub altered-says : (h : Header) (l r t old new : ℕ) (s s′ : List ℕ) (f count : ℕ) → f ≡ 0 → s′ ≡ updated shareLayout h l r t old new s → count ≡ differ s s′ → UpdatePromise l r t old new s s′ (Altered count) h f
+pub altered-says : (h : Header) (l r t old new : ℕ) (s s′ : List ℕ) (f count : ℕ) → f ≡ 0 → s′ ≡ updated shareLayout h l r t old new s → count ≡ differ s s′ → UpdatePromise shareLayout l r t old new s s′ (Altered count) h f
 unfolding updateOf
-altered-says h l r t old new s s′ f count none done counted = record { answer = rw (none, altered-count h l r t old new s, ← done, counted); written = rw (none, updated-bytes h l r t old new s, done) }
+altered-says h l r t old new s s′ f count none done counted = record { answer = rw (none, altered-count h shareLayout l r t old new s, ← done, counted); written = rw (none, updated-bytes h shareLayout l r t old new s, done) }

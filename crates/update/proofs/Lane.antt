@@ -1,16 +1,14 @@
--- The bytes of one lane, node by node, and the generator's entries for them.
-use mathlib.Core.Path.{_≡_}
-use mathlib.Core.Bool.{true}
-use mathlib.Core.List.{List}
-use Prim.Native.Nat.{ℕ, _+_, _*_, _%_, _≤_, _<_}
-use native.Mathlib.Nat.{mul-le-mul}
-use native.Mathlib.Omega.{arith}
-use lib.ListN.{getD}
-use Rattle.lists.specs.Numbers.{allBelow}
-use Rattle.lists.proofs.Numbers.{below-at}
-use Rattle.lists.proofs.Rows.{row-inside}
-use Rattle.layout.specs.Layout.{held, laneOf, shareLayout}
-use Rattle.layout.proofs.Buffers.{length-lane, getD-lane}
+-- A lane of the shares as a part that can be updated, and the generator's entries for it.
+use mathlib.Core.Path.{_≡_, _∙_}
+use mathlib.Core.List.{List, _++_}
+use Prim.Native.Nat.{ℕ, _+_, _-_, _*_, _%_, _≤_, _<_}
+use native.Mathlib.Nat.{mul-comm}
+use lib.ListN.{length, getD, take, drop}
+use Rattle.lists.proofs.Rows.{row-inside, part-length}
+use Rattle.lists.specs.Counting.{differ}
+use Rattle.layout.specs.Layout.{shareLayout}
+use Rattle.layout.proofs.Places.{share-by-lane}
+use Rattle.layout.proofs.Runs.{lane-part}
 use Rattle.generator.specs.declared.Header.{Header}
 use Rattle.generator.specs.declared.Record.the-variants.{Holds}
 use Rattle.generator.specs.Records.{Sound}
@@ -18,16 +16,31 @@ use Rattle.generator.specs.Generator.{entry}
 use Rattle.plan.specs.declared.Plan.{Plan}
 use Rattle.plan.specs.Plans.{planFor}
 use Rattle.plan.proofs.Plans as Plans
-
--- the place of a node's byte lies in the buffer, which has at most 255·4096 bytes
-pub place-fits : (n j l t : ℕ) → n ≤ 255 → l ≤ 4096 → j < n → t < l → (j * l + t < n * l) × (n * l ≤ 1044480)
-place-fits n j l t small few node lane = (omega (arith, row-inside n j l node), mul-le-mul small few)
+use Rattle.refusals.specs.Accepted.{UpdatableLane}
+use Rattle.blocks.specs.Blocks.{rowAdded, wordAdded}
+use Rattle.blocks.proofs.Updates.{added-part, differ-part}
+use Rattle.update.specs.Words.{UpdatableWord}
 
 -- an entry, read from the plan's base word by the shift of its row
 pub entry-read : (h : Header) → Sound h → (p : Plan) → p ≡ planFor (Holds h) → (r j : ℕ) → r < h .k → j < h .n → getD (p .base) ((j + getD (p .shifts) r 0) % h .n) 0 ≡ entry h r j
 entry-read h s p e r j row node = rw e (Plans.entry-read h s r j row node)
 
-module _ (q n l t : ℕ) (s : List ℕ) where
-  -- what a node holds, where all are symbols
-  pub lane-symbol : allBelow q (laneOf shareLayout n l t s) ≡ true → (j : ℕ) → j < n → held shareLayout n l s j t < q
-  lane-symbol good j node = rw getD-lane at (below-at q (laneOf shareLayout n l t s) good j (rw length-lane node))
+module _ {h : Header} {l r t : ℕ} {shares : List ℕ} (ready : UpdatableLane h l r t shares) where
+  -- the lane lies within the shares
+  pub lane-inside : t * h .n + h .n ≤ length shares
+  lane-inside = rw (ready .long, mul-comm (h .n) l) (row-inside l t (h .n) (ready .lane))
+
+  -- its part is a word that can be updated
+  pub lane-word : UpdatableWord h r (take (t * h .n + h .n - t * h .n) (drop (t * h .n) shares))
+  lane-word =
+      record {
+        sound = ready .sound;
+        row = ready .row;
+        long = part-length (t * h .n) (h .n) shares lane-inside;
+        symbols = rw (lane-part (h .n) l shares (ready .long) t (ready .lane)) (rw share-by-lane at (ready .symbols));
+      }
+
+  -- the shares after the part was rewritten: the row is added to the lane, and as many symbols differ as in the part
+  pub lane-rewritten : (x count : ℕ) (lane : List ℕ) → let part : List ℕ = take (t * h .n + h .n - t * h .n) (drop (t * h .n) shares) in lane ≡ wordAdded h r x part → count ≡ differ part lane → let shares′ : List ℕ = take (t * h .n) shares ++ (lane ++ drop (t * h .n + h .n - t * h .n) (drop (t * h .n) shares)) in (shares′ ≡ rowAdded shareLayout h l r t x shares) × (count ≡ differ shares shares′)
+  lane-rewritten x count lane e counted =
+      (rw (e, share-by-lane) (added-part h l r t x shares (ready .long) (ready .lane)), counted ∙ rw (e, added-part h l r t x shares (ready .long) (ready .lane)) (differ-part h l r t x shares (ready .long) (ready .lane)))

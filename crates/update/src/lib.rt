@@ -9,8 +9,9 @@ ghost use Rattle.generator.specs.Records.{modulusOf, size, Sound};
 ghost use Rattle.plan.specs.Plans.{planFor};
 ghost use Rattle.refusals.specs.Faults.{updateFault};
 ghost use Rattle.refusals.specs.Accepted.{UpdatableLane};
-ghost use Rattle.blocks.specs.Blocks.{rowAdded};
+ghost use Rattle.blocks.specs.Blocks.{rowAdded, wordAdded};
 ghost use Rattle.blocks.specs.Promises.{UpdatePromise, UpdateSays};
+ghost use Rattle.update.specs.Words.{UpdatableWord};
 use blocks::Update;
 use generator::Header;
 use generator::Record;
@@ -39,31 +40,57 @@ fn rewrite<'a>(
     powers: &'a [u8; 255],
     logarithms: &'a [u8; 255],
     plan: Plan,
-    lanes: u32,
     which: u32,
-    lane: u32,
+    x: u32,
+    lane: &mut [u8],
+) -> u32
+    requires { ⌜ UpdatableWord h which (now lane) × (x < size h) × (plan ≡ planFor (Record.Holds h)) × AreTables (now powers) (now logarithms) ⌝ }
+    ensures { λ r. ⌜ (now (lane .exit) ≡ wordAdded h which x (now (lane .entry))) × (r ≡ differ (now (lane .entry)) (now (lane .exit))) ⌝ }
+{
+    let n = h.n as usize;
+    let shift = plan.shifts[which as usize] as usize;
+    let mut count: u32 = 0;
+    let mut j: usize = 0;
+    while j < n {
+        let entry = plan::entry_at(n, shift, &plan.base, j);
+        let before = lane[j];
+        let after = renewed(h, powers, logarithms, x, entry, before);
+        if after != before {
+            lane[j] = after;
+            count += 1;
+        }
+        j += 1;
+    }
+    count
+}
+
+// The same for one lane of the shares, which is handed on as the part from its start to the next one's.
+fn rewrite_lane<'a>(
+    h: Header,
+    powers: &'a [u8; 255],
+    logarithms: &'a [u8; 255],
+    plan: Plan,
+    lanes: usize,
+    which: u32,
+    lane: usize,
     x: u32,
     shares: &mut [u8],
 ) -> u32
     requires { ⌜ UpdatableLane h lanes which lane (now shares) × (x < size h) × (plan ≡ planFor (Record.Holds h)) × AreTables (now powers) (now logarithms) ⌝ }
     ensures { λ r. ⌜ (now (shares .exit) ≡ rowAdded shareLayout h lanes which lane x (now (shares .entry))) × (r ≡ differ (now (shares .entry)) (now (shares .exit))) ⌝ }
 {
-    let n = h.n as u32;
-    let shift = plan.shifts[which as usize] as usize;
-    let mut count: u32 = 0;
-    let mut j: u32 = 0;
-    while j < n {
-        let entry = plan::entry_at(n as usize, shift, &plan.base, j as usize);
-        let at = (j * lanes + lane) as usize;
-        let before = shares[at];
-        let after = renewed(h, powers, logarithms, x, entry, before);
-        if after != before {
-            shares[at] = after;
-            count += 1;
-        }
-        j += 1;
-    }
-    count
+    let n = h.n as usize;
+    let start = lane * n;
+    let end = start + n;
+    rewrite(
+        h,
+        powers,
+        logarithms,
+        plan,
+        which,
+        x,
+        &mut shares[start..end],
+    )
 }
 
 // Updates over an accepted record's header.
@@ -77,7 +104,7 @@ fn update_accepted(
     shares: &mut [u8],
 ) -> Update
     requires { ⌜ Sound h ⌝ }
-    ensures { λ a. ⌜ UpdatePromise lanes which lane old new (now (shares .entry)) (now (shares .exit)) a h (updateFault h lanes which lane old new (now (shares .entry))) ⌝ }
+    ensures { λ a. ⌜ UpdatePromise shareLayout lanes which lane old new (now (shares .entry)) (now (shares .exit)) a h (updateFault shareLayout h lanes which lane old new (now (shares .entry))) ⌝ }
 {
     let field = h.field;
     let number = refusals::update_fault(
@@ -95,14 +122,14 @@ fn update_accepted(
     let x = field.sub(new as u32, old as u32);
     let plan = plan::plan_of(h);
     let t = field::constant_tables();
-    let count = rewrite(
+    let count = rewrite_lane(
         h,
         &t.powers,
         &t.logarithms,
         plan,
-        lanes,
+        lanes as usize,
         which,
-        lane,
+        lane as usize,
         x,
         shares,
     );

@@ -18,9 +18,9 @@ fn round(random: &mut Random, shape: &Shape, lanes: usize) -> usize {
     balanced::encode(&record, l, &message, &mut shares).unwrap();
 
     let nodes = random.nodes(n, k);
-    let left: Vec<u8> = nodes
-        .iter()
-        .flat_map(|&j| shares[j as usize * lanes..][..lanes].to_vec())
+    let left: Vec<u8> = shares
+        .chunks(n)
+        .flat_map(|lane| nodes.iter().map(|&j| lane[j as usize]))
         .collect();
     accepted(compare::recover(&record, l, &nodes, &left, &random.bytes(k * lanes)));
     let mut back = vec![0; k * lanes];
@@ -38,7 +38,7 @@ fn round(random: &mut Random, shape: &Shape, lanes: usize) -> usize {
     ));
     let mut share = vec![0; lanes];
     balanced::rebuild(&record, l, &nodes, &left, target as u32, &mut share).unwrap();
-    assert!(share == shares[target * lanes..][..lanes]);
+    assert!(share.iter().eq(shares.chunks(n).map(|lane| &lane[target])));
 
     // any symbols on k nodes
     let any = random.symbols(size, k * lanes);
@@ -79,9 +79,18 @@ fn round(random: &mut Random, shape: &Shape, lanes: usize) -> usize {
     // bytes of other lanes do not matter to an update, even where they are no symbols
     let mut others = random.bytes(n * lanes);
     for j in 0..n {
-        others[j * lanes + lane] = shares[j * lanes + lane];
+        others[lane * n + j] = shares[lane * n + j];
     }
     accepted(compare::update(&record, l, s, t, old, new, &others));
+
+    // bytes that need be no symbols, rearranged, and back
+    accepted(compare::to_nodes(&record, l, &others, &random.bytes(n * lanes)));
+    let mut by_node = vec![0; n * lanes];
+    balanced::to_nodes(&record, l, &others, &mut by_node).unwrap();
+    accepted(compare::to_lanes(&record, l, &by_node, &random.bytes(n * lanes)));
+    let mut by_lane = vec![0; n * lanes];
+    balanced::to_lanes(&record, l, &by_node, &mut by_lane).unwrap();
+    assert!(by_lane == others);
     calls + 1
 }
 

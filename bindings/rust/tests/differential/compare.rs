@@ -209,6 +209,24 @@ pub fn belongs(record: &[u8], lanes: u32, shares: &[u8]) -> (u8, u32) {
     (got, lane)
 }
 
+pub fn to_lanes(record: &[u8], lanes: u32, by_node: &[u8], before: &[u8]) -> u8 {
+    let (expect, after) = expected(reference::to_lanes(record, lanes, by_node, before.len()), before.to_vec());
+    let mut by_lane = Lent::new(before);
+    let (got, _) = number(balanced::to_lanes(record, lanes, by_node, by_lane.slice()));
+    assert_eq!(got, expect, "to_lanes {record:?} {lanes}");
+    assert!(by_lane.holds(&after), "to_lanes {record:?} {lanes}");
+    got
+}
+
+pub fn to_nodes(record: &[u8], lanes: u32, by_lane: &[u8], before: &[u8]) -> u8 {
+    let (expect, after) = expected(reference::to_nodes(record, lanes, by_lane, before.len()), before.to_vec());
+    let mut by_node = Lent::new(before);
+    let (got, _) = number(balanced::to_nodes(record, lanes, by_lane, by_node.slice()));
+    assert_eq!(got, expect, "to_nodes {record:?} {lanes}");
+    assert!(by_node.holds(&after), "to_nodes {record:?} {lanes}");
+    got
+}
+
 /// The counts, inside a larger list: a write beside them is found.
 pub fn weights(record: &[u8], before: &[u32]) -> u8 {
     const MARK: u32 = 0x5a5a_5a5a;

@@ -197,6 +197,32 @@ fn rebuild() {
 }
 
 #[test]
+fn to_lanes() {
+    let numbers = [0, 1, 2, 3, 4, 5, 7, 8];
+    run(
+        25,
+        "to_lanes",
+        |s| s.n,
+        |s| s.n,
+        &numbers,
+        |i| compare::to_lanes(&i.record, i.lanes, &i.read, &i.written),
+    );
+}
+
+#[test]
+fn to_nodes() {
+    let numbers = [0, 1, 2, 3, 4, 5, 7, 8];
+    run(
+        26,
+        "to_nodes",
+        |s| s.n,
+        |s| s.n,
+        &numbers,
+        |i| compare::to_nodes(&i.record, i.lanes, &i.read, &i.written),
+    );
+}
+
+#[test]
 fn belongs() {
     let numbers = [0, 1, 2, 3, 4, 5, 7, 8, 11];
     run(

@@ -22,14 +22,14 @@ use Rattle.belongs.proofs.test_accepted.Tie as tie
 
 module _ (h : Header) (l : ℕ) (s : List ℕ) (number : ℕ) (none : number ≡ 0) (lane : ℕ) (lane-is : lane ≡ firstWrong shareLayout h l s) where
   -- no number is met, and no lane is wrong
-  passed : lane ≡ l → BelongsPromise l s Yes h number
+  passed : lane ≡ l → BelongsPromise shareLayout l s Yes h number
   unfolding membershipOf
-  passed end = record { answer = rw (none, wrong-lane h l s, ← lane-is, eq-eqb lane l end) }
+  passed end = record { answer = rw (none, wrong-lane h shareLayout l s, ← lane-is, eq-eqb lane l end) }
 
   -- none is met, and this lane is the first wrong one
-  failed : (lane ≡ l → ⊥) → BelongsPromise l s (No lane) h number
+  failed : (lane ≡ l → ⊥) → BelongsPromise shareLayout l s (No lane) h number
   unfolding membershipOf
-  failed inside = record { answer = rw (none, wrong-lane h l s, ← lane-is, ne-eqb lane l inside) }
+  failed inside = record { answer = rw (none, wrong-lane h shareLayout l s, ← lane-is, ne-eqb lane l inside) }
 
 -- no number is met
 none-met : (c : tie.Else1) → let a = c .before .before .before .args in belongsFault (a .h) (a .lanes) (a .shares .now) ≡ 0

@@ -3,9 +3,9 @@ use mathlib.Core.Path.{sym, ap, _∙_}
 use borrow.Author.Needs.{needs}
 use Rattle.refusals.proofs.Accepts.{encode-accepts}
 use Rattle.blocks.specs.Answers.{outcomeOf}
-use Rattle.blocks.proofs.Bytes.{encoded-bytes}
 use Rattle.blocks.proofs.Refused.{encode-refuses}
 use Rattle.plan.specs.declared.Plan.{Plan}
+use Rattle.encode.proofs.Lanes.{encoded-lanes}
 use Rattle.encode.proofs.encode_accepted.Statement.{statement}
 use Rattle.encode.proofs.encode_accepted.Tie as tie
 
@@ -18,8 +18,8 @@ returns c = rw (← c .before .encode-fault .ensures) (encode-refuses _ _ (c .if
 plan-of-requires : tie.Need-plan-of-requires
 plan-of-requires c κs = search needs
 
-fill-shares-requires : tie.Need-fill-shares-requires
-fill-shares-requires c κs =
+encode-lanes-requires : tie.Need-encode-lanes-requires
+encode-lanes-requires c κs =
     let s = c .before .before .before .before .before .before .before .before .before .before .before in
     let none = sym (c .before .before .before .before .before .before .before .before .encode-fault .ensures) ∙ c .before .before .before .before .before .before .before .if1 .left in
     let a = encode-accepts (s .args .h) (s .pre) (s .args .lanes) _ (s .args .message .now) none in
@@ -33,8 +33,8 @@ returns-2 : tie.Need-returns-2
 unfolding outcomeOf
 returns-2 c =
     let none = sym (c .before .before .before .before .before .before .before .before .before .before .before .encode-fault .ensures) ∙ c .before .before .before .before .before .before .before .before .before .before .if1 .left in
-    record { answer = rw none; written = rw none (c .before .before .fill-shares .ensures ∙ sym (encoded-bytes _ _ _)) }
+    record { answer = rw none; written = rw none (c .before .before .encode-lanes .ensures ∙ sym (encoded-lanes _ _ _)) }
 
 pub encode-accepted-spec : {M : Type 1} → statement M
 encode-accepted-spec =
-    tie.close (tie.spec encode-fault-requires returns plan-of-requires fill-shares-requires same-length returns-2)
+    tie.close (tie.spec encode-fault-requires returns plan-of-requires encode-lanes-requires same-length returns-2)

@@ -9,7 +9,7 @@ use Rattle.lists.specs.Rows.{rowsFrom}
 use Rattle.lists.proofs.Rows.{rows-next, rows-end, row-after, row-inside, part-size, part-length}
 use Rattle.lists.proofs.Fill.{Fills, fills-start, fills-part, fills-all}
 use Rattle.blocks.specs.Blocks.{shareOf}
-use Rattle.blocks.proofs.Shares.{length-share, shares-parts}
+use Rattle.blocks.proofs.Shares.{length-share, shares-by-row}
 use Rattle.encode.proofs.fill_shares.Statement.{statement}
 use Rattle.encode.proofs.fill_shares.Tie as tie
 
@@ -84,7 +84,7 @@ returns : tie.Need-returns Inv-loop μ-loop
 returns c =
     fills-all (rw (rows-end _ _ _ (c .loop-test .left)) at (c .before .loop .inv .1))
     (rw (c .before .before .before .before .before .before .before .pre .2) (mul-le-mul (c .loop-test .left) (le-refl _)))
-    ∙ sym (shares-parts _ _ _)
+    ∙ sym (shares-by-row _ _ _)
 
 pub fill-shares-spec : {M : Type 1} → statement M
 fill-shares-spec =

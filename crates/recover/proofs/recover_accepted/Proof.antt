@@ -9,9 +9,9 @@ use Rattle.generator.proofs.Shifts.{shifts-length}
 use Rattle.refusals.specs.Accepted.{ListedShares}
 use Rattle.refusals.proofs.Accepts.{recover-accepts}
 use Rattle.blocks.specs.Answers.{outcomeOf}
-use Rattle.blocks.proofs.Bytes.{recovered-bytes}
 use Rattle.blocks.proofs.Refused.{recover-refuses}
 use Rattle.recover.proofs.Recovering.{shifts-part}
+use Rattle.recover.proofs.Tiles.{recovered-lanes}
 use Rattle.recover.proofs.recover_accepted.Statement.{statement}
 use Rattle.recover.proofs.recover_accepted.Tie as tie
 
@@ -66,8 +66,8 @@ prepare-requires c κs =
     let listed = accepted (c .before .before) .0 in
     (listed .rows .sound, listed .different, part (c .before))
 
-fill-message-requires : tie.Need-fill-message-requires
-fill-message-requires c κs =
+recover-lanes-requires : tie.Need-recover-lanes-requires
+recover-lanes-requires c κs =
     let known = accepted (c .before .before .before .before) in
     (known .0, c .before .prepare .ensures, known .1)
 
@@ -81,9 +81,9 @@ returns-2 c =
     let none = sym (at .before .before .recover-fault .ensures) ∙ at .before .if1 .left in
     record {
       answer = rw none refl;
-      written = rw none (recovered-bytes _ _ _ _ _ (c .before .before .fill-message .ensures));
+      written = rw none (recovered-lanes (accepted at .0) (c .before .before .recover-lanes .ensures));
     }
 
 pub recover-accepted-spec : {M : Type 1} → statement M
 recover-accepted-spec =
-    tie.close (tie.spec recover-fault-requires returns cast-k fill-shifts-requires array-share-prefix-shifts slice-aggregate-prepare prepare-requires fill-message-requires same-length returns-2)
+    tie.close (tie.spec recover-fault-requires returns cast-k fill-shifts-requires array-share-prefix-shifts slice-aggregate-prepare prepare-requires recover-lanes-requires same-length returns-2)

@@ -4,6 +4,7 @@ use mathlib.Core.Path.{_≡_, sym, _∙_}
 use native.Mathlib.Omega.{arith}
 use borrow.Author.Needs.{needs}
 use Rattle.field.proofs.Bounds.{sub-below}
+use Rattle.layout.specs.Layout.{shareLayout}
 use Rattle.generator.specs.Records.{size}
 use Rattle.refusals.specs.Faults.{updateFault}
 use Rattle.refusals.specs.Accepted.{UpdatableLane}
@@ -17,7 +18,7 @@ use Rattle.update.proofs.update_accepted.Tie as tie
 -- no number turns the update away
 none : (c : tie.Else1)
     → let a = c .before .before .before .before .args in
-    updateFault (a .h) (a .lanes) (a .which) (a .lane) (a .old) (a .new) (a .shares .now) ≡ 0
+    updateFault shareLayout (a .h) (a .lanes) (a .which) (a .lane) (a .old) (a .new) (a .shares .now) ≡ 0
 none c = sym (c .before .update-fault .ensures) ∙ c .if1 .left
 
 ready : (c : tie.Else1)
@@ -45,8 +46,8 @@ plan-of-requires c κs = search needs
 constant-tables-requires : tie.Need-constant-tables-requires
 constant-tables-requires c κs = search needs
 
-rewrite-requires : tie.Need-rewrite-requires
-rewrite-requires c κs =
+rewrite-lane-requires : tie.Need-rewrite-lane-requires
+rewrite-lane-requires c κs =
     let (lane, old, new) = ready (c .before .before .before .before .before .before .before) in
     (lane, rw (c .before .before .before .before .before .before .sub .ensures) (sub-below _ (lane .sound .field) new old), c .before .before .before .before .before .plan-of .ensures, c .before .before .before .before .constant-tables .ensures)
 
@@ -56,9 +57,9 @@ same-length-2 c = search needs
 returns-2 : tie.Need-returns-2
 unfolding updated
 returns-2 c =
-    let (done, counted) = c .before .before .rewrite .ensures in
+    let (done, counted) = c .before .before .rewrite-lane .ensures in
     altered-says _ _ _ _ _ _ _ _ _ _ (none (c .before .before .before .before .before .before .before .before .before .before)) (rw (← c .before .before .before .before .before .before .before .before .before .sub .ensures) done) counted
 
 pub update-accepted-spec : {M : Type 1} → statement M
 update-accepted-spec =
-    tie.close (tie.spec update-fault-requires same-length returns sub-requires plan-of-requires constant-tables-requires rewrite-requires same-length-2 returns-2)
+    tie.close (tie.spec update-fault-requires same-length returns sub-requires plan-of-requires constant-tables-requires rewrite-lane-requires same-length-2 returns-2)

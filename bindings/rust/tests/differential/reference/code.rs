@@ -153,13 +153,14 @@ impl Code {
         }
     }
 
+    /// The encoding of each lane, lane after lane.
     pub fn encoding(&self, lanes: usize, message: &[u8]) -> Vec<u8> {
         let rows = self.generator();
         let mut shares = vec![0; self.n * lanes];
         for (r, row) in rows.iter().enumerate() {
             for (j, &entry) in row.iter().enumerate() {
                 for t in 0..lanes {
-                    let at = j * lanes + t;
+                    let at = t * self.n + j;
                     shares[at] = self.field.add(shares[at], self.field.mul(entry, message[r * lanes + t]));
                 }
             }
@@ -216,7 +217,7 @@ impl Code {
             for i in 0..k {
                 for t in 0..lanes {
                     let at = r * lanes + t;
-                    message[at] = f.add(message[at], f.mul(m[r][k + i], shares[i * lanes + t]));
+                    message[at] = f.add(message[at], f.mul(m[r][k + i], shares[t * k + i]));
                 }
             }
         }

@@ -38,7 +38,7 @@ pub fn update(
     if symbol as usize >= code.k || lane >= lanes {
         return Err(9);
     }
-    let at = |j: usize| j * l + lane as usize;
+    let at = |j: usize| lane as usize * code.n + j;
     code.symbols_fault(&[old, new])?;
     code.symbols_fault(&(0..code.n).map(|j| shares[at(j)]).collect::<Vec<u8>>())?;
     let mut after = shares.to_vec();
@@ -83,7 +83,7 @@ pub fn rebuild(record: &[u8], lanes: u32, nodes: &[u8], shares: &[u8], target: u
     }
     list_faults(&code, nodes, target, shares)?;
     let all = code.encoding(l, &code.message(l, nodes, shares));
-    Ok(all[target as usize * l..(target as usize + 1) * l].to_vec())
+    Ok((0..l).map(|t| all[t * code.n + target as usize]).collect())
 }
 
 /// The smallest lane that is no word, or the number of lanes.
@@ -100,11 +100,32 @@ pub fn belongs(record: &[u8], lanes: u32, shares: &[u8]) -> Result<u32, u8> {
             let value = row
                 .iter()
                 .enumerate()
-                .fold(0, |sum, (e, &c)| code.field.add(sum, code.field.mul(c, shares[e * l + t])));
-            value == shares[(code.k + i) * l + t]
+                .fold(0, |sum, (e, &c)| code.field.add(sum, code.field.mul(c, shares[t * code.n + e])));
+            value == shares[t * code.n + code.k + i]
         })
     };
     Ok((0..l).find(|&t| !is_word(t)).unwrap_or(l) as u32)
+}
+
+/// Shares from node after node to lane after lane.
+pub fn to_lanes(record: &[u8], lanes: u32, by_node: &[u8], out: usize) -> Result<Vec<u8>, u8> {
+    let (n, l) = rearranged_size(record, lanes, by_node, out)?;
+    Ok((0..l).flat_map(|t| (0..n).map(move |j| by_node[j * l + t])).collect())
+}
+
+/// And back.
+pub fn to_nodes(record: &[u8], lanes: u32, by_lane: &[u8], out: usize) -> Result<Vec<u8>, u8> {
+    let (n, l) = rearranged_size(record, lanes, by_lane, out)?;
+    Ok((0..n).flat_map(|j| (0..l).map(move |t| by_lane[t * n + j])).collect())
+}
+
+fn rearranged_size(record: &[u8], lanes: u32, read: &[u8], out: usize) -> Result<(usize, usize), u8> {
+    let code = Code::of(record)?;
+    let l = Code::lanes_fault(lanes)?;
+    if read.len() != code.n * l || out != code.n * l {
+        return Err(8);
+    }
+    Ok((code.n, l))
 }
 
 /// How many messages have an encoding with each number of nodes that are not zero, by going through all messages.

@@ -2,8 +2,7 @@
 use mathlib.Core.Path.{_∙_}
 use native.Mathlib.Omega.{arith}
 use borrow.Author.Needs.{needs}
-use Rattle.layout.specs.Layout.{shareLayout}
-use Rattle.layout.proofs.Places.{share-by-row}
+use Rattle.layout.specs.Layout.{byRow}
 use Rattle.check_sums.proofs.Sums.{check-sums, rows-ready}
 use Rattle.check_sums.proofs.block.lane_sums.Statement.{statement}
 use Rattle.check_sums.proofs.block.lane_sums.Tie as tie
@@ -29,7 +28,7 @@ same-length c = search needs
 returns : tie.Need-returns
 returns c =
     let a = c .before .before .before .before .before .before .before .before .before .before .args in
-    rw (← share-by-row) at (c .before .before .combine .ensures) ∙ rw (c .before .before .before .before .before .factors .ensures) (check-sums (a .h) (a .e) (a .lanes) (a .shares .now) shareLayout)
+    c .before .before .combine .ensures ∙ rw (c .before .before .before .before .before .factors .ensures) (check-sums (a .h) (a .e) (a .lanes) (a .shares .now) byRow)
 
 pub lane-sums-spec : {M : Type 1} → statement M
 lane-sums-spec =

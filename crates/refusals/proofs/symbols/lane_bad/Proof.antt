@@ -1,82 +1,47 @@
--- `lane_bad` meets its contract. Invariant: the answer for the lane is the answer for what is left of it.
-use Prim.Native.Nat.{_+_, _-_, _*_, _≤_, _<_}
-use mathlib.Core.Path.{_≡_, sym, ap, _∙_}
-use mathlib.Core.Bool.{not}
+-- `lane_bad` meets its contract: the lane is a part of the shares.
+use Prim.Native.Nat.{_+_, _*_, _≤_}
+use mathlib.Core.Path.{_∙_}
+use native.Mathlib.Nat.{mul-comm}
 use native.Mathlib.Omega.{arith}
 use borrow.Author.Needs.{needs}
 use lib.ListN.{length}
-use Rattle.lists.specs.Numbers.{allBelow}
 use Rattle.lists.proofs.Rows.{row-inside}
-use Rattle.layout.specs.Layout.{laneOf, shareLayout}
-use Rattle.refusals.proofs.OneByte.{lane-test}
-use Rattle.refusals.proofs.Walks.{laneFrom, lane-start, lane-good, lane-bad, lane-end}
+use Rattle.refusals.proofs.Walks.{lane-bytes}
 use Rattle.refusals.proofs.symbols.lane_bad.Statement.{statement}
 use Rattle.refusals.proofs.symbols.lane_bad.Tie as tie
 
-abbrev Inv-loop : tie.InvT-loop
-Inv-loop lanes lane shares n size node₀ node =
-    (node ≤ n) × (allBelow size (laneOf shareLayout n lanes lane shares) ≡ allBelow size (laneFrom n lanes lane shares node))
+-- the lane lies within the shares
+lane-in : (c : tie.After-struct-known) → let a = c .before .before .args in a .lane * a .h .n + a .h .n ≤ length (a .shares .now)
+lane-in c =
+    let s = c .before .before in
+    rw (s .pre .2, mul-comm (s .args .h .n) (s .args .lanes)) (row-inside (s .args .lanes) (s .args .lane) (s .args .h .n) (s .pre .1))
 
-abbrev μ-loop : tie.MeasureT-loop
-μ-loop lanes lane shares n size node₀ node = n - node
-
--- the node's byte lies in the buffer
-place : (c : tie.In-loop Inv-loop μ-loop)
-    → let a = c .before .before .before .before .before .args in
-    c .before .loop .node * a .lanes + a .lane < length (a .shares .now)
-place c =
-    let s = c .before .before .before .before .before in
-    omega (arith, row-inside (s .args .h .n) (c .before .loop .node) (s .args .lanes) (c .loop-test .taken))
-
-cast-n : tie.Need-cast-n Inv-loop μ-loop
+cast-n : tie.Need-cast-n
 cast-n c = search needs
 
-size-requires : tie.Need-size-requires Inv-loop μ-loop
-size-requires c κs = search needs
+mul-start : tie.Need-mul-start
+mul-start c = omega (arith, lane-in c)
 
-loop-holds : tie.Need-loop-holds Inv-loop μ-loop
-loop-holds c = (omega arith, lane-start _ _ _ _ _)
+add-end : tie.Need-add-end
+add-end c = omega (arith, lane-in c)
 
-mul-at : tie.Need-mul-at Inv-loop μ-loop
-mul-at c = omega (arith, place c)
+sub-symbols-bad : tie.Need-sub-symbols-bad
+sub-symbols-bad c = search needs
 
-add-at : tie.Need-add-at Inv-loop μ-loop
-add-at c = omega (arith, place c)
+part-symbols-bad-start : tie.Need-part-symbols-bad-start
+part-symbols-bad-start c = search needs
 
-shared-slice-read-if1 : tie.Need-shared-slice-read-if1 Inv-loop μ-loop
-shared-slice-read-if1 c = omega (arith, place (c .before))
+part-symbols-bad-end : tie.Need-part-symbols-bad-end
+part-symbols-bad-end c = omega (arith, lane-in c)
 
-cast-if1 : tie.Need-cast-if1 Inv-loop μ-loop
-cast-if1 c =
-    let a = c .before .before .before .before .before .before .args in
-    omega (arith, c .shared-slice-known2 .given (c .before .before .loop .node * a .lanes + a .lane))
+symbols-bad-requires : tie.Need-symbols-bad-requires
+symbols-bad-requires c κs = search needs
 
-returns : tie.Need-returns Inv-loop μ-loop
+returns : tie.Need-returns
 returns c =
-    let a = c .before .before .before .before .before .before .before .args in
-    let at = c .before .before .before .loop in
-    let size-is = c .before .before .before .before .size .ensures in
-    rw lane-test (ap not (sym (rw size-is at (at .inv .1 ∙ lane-bad _ (a .h .n) (a .lanes) (a .lane) (a .shares .now) (at .node) (c .before .before .loop-test .taken) (c .if1 .taken)))))
-
-add-node : tie.Need-add-node Inv-loop μ-loop
-add-node c = omega arith
-
-loop-less : tie.Need-loop-less Inv-loop μ-loop
-loop-less c = omega arith
-
-loop-again : tie.Need-loop-again Inv-loop μ-loop
-loop-again c =
-    let a = c .before .before .before .before .before .before .before .args in
-    let at = c .before .before .before .loop in
-    (omega arith, at .inv .1 ∙ lane-good _ (a .h .n) (a .lanes) (a .lane) (a .shares .now) (at .node) (c .before .before .loop-test .taken) (c .if1 .left))
-
-returns-2 : tie.Need-returns-2 Inv-loop μ-loop
-returns-2 c =
-    let a = c .before .before .before .before .before .args in
-    let at = c .before .loop in
-    let size-is = c .before .before .size .ensures in
-    rw lane-test (ap not (sym (rw size-is at (at .inv .1 ∙ lane-end _ (a .h .n) (a .lanes) (a .lane) (a .shares .now) (at .node) (c .loop-test .left)))))
+    let s = c .before .before .before .before in
+    c .symbols-bad .ensures ∙ lane-bytes (s .args .h) (s .args .lanes) (s .args .lane) (s .args .shares .now) (s .pre .2) (s .pre .1)
 
 pub lane-bad-spec : {M : Type 1} → statement M
 lane-bad-spec =
-    tie.close (tie.spec Inv-loop μ-loop cast-n size-requires loop-holds mul-at add-at shared-slice-read-if1 cast-if1 returns add-node loop-less loop-again returns-2)
+    tie.close (tie.spec cast-n mul-start add-end sub-symbols-bad part-symbols-bad-start part-symbols-bad-end symbols-bad-requires returns)

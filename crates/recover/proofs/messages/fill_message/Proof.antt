@@ -9,20 +9,21 @@ use lib.ListN.{length}
 use Rattle.lists.specs.Rows.{rowsFrom}
 use Rattle.lists.proofs.Rows.{rows-next, rows-end, row-after, row-inside, part-size, part-length}
 use Rattle.lists.proofs.Fill.{Fills, fills-start, fills-part, fills-all}
-use Rattle.layout.specs.Layout.{byRow, rowOf, shareLayout}
+use Rattle.layout.specs.Layout.{byRow, rowOf}
 use Rattle.layout.proofs.Buffers.{length-row}
-use Rattle.layout.proofs.Places.{share-lawful, share-by-row, rows-whole}
+use Rattle.layout.proofs.Lawful.{by-row}
+use Rattle.layout.proofs.Places.{rows-whole}
 use Rattle.blocks.specs.Blocks.{MessageFor}
 use Rattle.blocks.proofs.Messages.{some-buffer}
 use Rattle.combine.proofs.Columns.{rows-ready}
 use Rattle.recover.proofs.Recovering.{recovered}
-use Rattle.recover.proofs.fill_message.Statement.{statement}
-use Rattle.recover.proofs.fill_message.Tie as tie
+use Rattle.recover.proofs.messages.fill_message.Statement.{statement}
+use Rattle.recover.proofs.messages.fill_message.Tie as tie
 
 abbrev Inv-loop : tie.InvT-loop
 Inv-loop h lanes nodes shares setup out₀ field k r₀ out r =
     (r ≤ h .k)
-    × (m : List ℕ) × MessageFor shareLayout h lanes nodes shares m × Fills out₀ out (r * lanes) (rowsFrom (λ i. rowOf byRow (h .k) lanes i m) r (h .k - r)) m
+    × (m : List ℕ) × MessageFor byRow h lanes nodes shares m × Fills out₀ out (r * lanes) (rowsFrom (λ i. rowOf byRow (h .k) lanes i m) r (h .k - r)) m
 
 abbrev μ-loop : tie.MeasureT-loop
 μ-loop h lanes nodes shares setup out₀ field k r₀ out r = h .k - r
@@ -43,7 +44,7 @@ loop-holds c =
     let s = c .before .before .before .before in
     let a = s .args in
     let listed = s .pre .0 in
-    let (m, is) = some-buffer share-lawful (a .h) (listed .rows .sound) (a .lanes) (a .nodes .now) (listed .different) (a .shares .now) (listed .rows .long) (listed .rows .symbols) in
+    let (m, is) = some-buffer by-row (a .h) (listed .rows .sound) (a .lanes) (a .nodes .now) (listed .different) (a .shares .now) (listed .rows .long) (listed .rows .symbols) in
     (omega arith, m, is, rw (sub-zero, zero-mul, rows-whole (a .h .k) (a .lanes) m (is .size-is)) (fills-start _ _))
 
 cast-recover-weights : tie.Need-cast-recover-weights Inv-loop μ-loop
@@ -97,7 +98,7 @@ loop-again c =
     let r = old .before .loop .r in
     let (low, m, is, fills) = old .before .loop .inv in
     let weights = c .before .before .before .before .before .recover-weights in
-    let row = rw (← share-by-row) at (c .before .before .combine .ensures) ∙ recovered is r (weights .result) (old .loop-test .taken) (weights .ensures) in (
+    let row = c .before .before .combine .ensures ∙ recovered is r (weights .result) (old .loop-test .taken) (weights .ensures) in (
       omega arith,
       m,
       is,

@@ -1,0 +1,136 @@
+-- The same as bytes, and the same numbers that turn calls away.
+use mathlib.Core.Path.{_≡_, refl, sym, ap, ap₂, _∙_}
+use mathlib.Core.Bool.{Bool, true, false, not}
+use mathlib.Core.List.{List}
+use Prim.Native.Nat.{ℕ, _*_, _/_, _<_}
+use native.Mathlib.Nat.{mul-div-cancel}
+use native.Mathlib.Omega.{arith}
+use lib.ListN.{length}
+use Rattle.lists.specs.Choice.{firstOf, when}
+use Rattle.lists.specs.Numbers.{allBelow}
+use Rattle.lists.proofs.Cases.{by-test}
+use Rattle.layout.specs.Layout.{Arrangement, rearranged, laneOf}
+use Rattle.layout.specs.Width.{symbolsOf, bytesOf}
+use Rattle.layout.proofs.Lawful.{Lawful}
+use Rattle.layout.proofs.Buffers.{rearranged-lane, rearranged-back}
+use Rattle.layout.proofs.Widths.{length-symbols, length-bytes, symbols-bytes}
+use Rattle.generator.specs.declared.Header.{Header}
+use Rattle.generator.specs.Records.{size, width}
+use Rattle.refusals.specs.Conditions.{lanesBad, lengthBad, numberBad, nodesBad, twiceBad, symbolBad, symbolsBad, laneBad}
+use Rattle.refusals.specs.Faults.{updateFault, listFault, recoverFault, rebuildFault, belongsFault}
+use Rattle.refusals.proofs.NotMet.{number-good}
+use Rattle.refusals.proofs.OneByte.{symbols-are, bytes-are}
+use Rattle.blocks.specs.Blocks.{updated, firstWrong, MessageFor}
+use Rattle.blocks.specs.Bytes.{encodedBytes, updatedBytes, alteredCount, wrongLane, rearrangedBytes}
+use Rattle.blocks.proofs.Tiles.{shares-rearranged}
+use Rattle.rearrange.proofs.Symbols.{length-rearranged, same-below, same-updated, same-altered, same-wrong, same-message}
+
+-- a symbol has a byte
+width-some : (h : Header) → 0 < width h
+unfolding width
+width-some h = omega arith
+
+module _ (h : Header) (rows l : ℕ) (s : List ℕ) where
+  -- the symbols of a full buffer
+  symbols-full : length s ≡ rows * l * width h → length (symbolsOf (width h) s) ≡ rows * l
+  symbols-full full = length-symbols (width h) s ∙ ap (λ (x : ℕ). x / width h) full ∙ mul-div-cancel (rows * l) (width-some h)
+
+  -- a rearranged buffer is full, and its symbols are the symbols rearranged
+  pub length-turned : (y z : Arrangement) → length (rearrangedBytes y z h rows l s) ≡ rows * l * width h
+  unfolding rearrangedBytes
+  length-turned y z = length-bytes (width h) _ ∙ ap (λ (x : ℕ). x * width h) (length-rearranged y z rows l (symbolsOf (width h) s))
+
+  symbols-turned : (y z : Arrangement) → symbolsOf (width h) (rearrangedBytes y z h rows l s) ≡ rearranged y z rows l (symbolsOf (width h) s)
+  unfolding rearrangedBytes
+  symbols-turned y z = symbols-bytes (width h) _ (width-some h)
+
+-- rearranged twice, a buffer is as it was
+pub turned-back : {y z : Arrangement} → Lawful y → Lawful z → (h : Header) (rows l : ℕ) (s : List ℕ) → length s ≡ rows * l * width h → rearrangedBytes z y h rows l (rearrangedBytes y z h rows l s) ≡ s
+unfolding rearrangedBytes
+turned-back {y} {z} a b h rows l s full =
+    ap (λ (x : List ℕ). bytesOf (width h) (rearranged z y rows l x)) (symbols-bytes (width h) _ (width-some h))
+    ∙ ap (bytesOf (width h)) (rearranged-back a b rows l (symbolsOf (width h) s) (symbols-full h rows l s full))
+    ∙ bytes-are h (symbolsOf (width h) s)
+    ∙ symbols-are h s
+
+module _ {y z : Arrangement} (a : Lawful y) (b : Lawful z) (h : Header) (l : ℕ) where
+  -- the shares of a message
+  pub encoded-turned : (message : List ℕ) → encodedBytes z h l message ≡ rearrangedBytes y z h (h .n) l (encodedBytes y h l message)
+  unfolding encodedBytes rearrangedBytes
+  encoded-turned message =
+      ap (bytesOf (width h))
+      (sym (ap (rearranged y z (h .n) l) (symbols-bytes (width h) _ (width-some h)) ∙ shares-rearranged a b h l (symbolsOf (width h) message)))
+
+  -- number 11 of a full buffer
+  same-symbols : (rows : ℕ) (s : List ℕ) → length s ≡ rows * l * width h → symbolsBad h (rearrangedBytes y z h rows l s) ≡ symbolsBad h s
+  unfolding symbolsBad
+  same-symbols rows s full = ap not (ap (allBelow (size h)) (symbols-turned h rows l s y z) ∙ same-below a b (size h) rows l (symbolsOf (width h) s) (symbols-full h rows l s full))
+
+  module _ (shares : List ℕ) (full : length shares ≡ h .n * l * width h) where
+    -- all shares, rearranged
+    abbrev turned : List ℕ
+    turned = rearrangedBytes y z h (h .n) l shares
+
+    same-length : length turned ≡ length shares
+    same-length = length-turned h (h .n) l shares y z ∙ sym full
+
+    -- Belongs: the number and the smallest wrong lane
+    pub belongs-turned : belongsFault h l turned ≡ belongsFault h l shares
+    unfolding belongsFault
+    belongs-turned = rw (same-length, same-symbols (h .n) shares full)
+
+    pub wrong-turned : wrongLane z h l turned ≡ wrongLane y h l shares
+    unfolding wrongLane
+    wrong-turned = ap (firstWrong z h l) (symbols-turned h (h .n) l shares y z) ∙ same-wrong a b h l (symbolsOf (width h) shares)
+
+    module _ (r t old new : ℕ) where
+      -- Update: the number, the shares and the count
+      same-lane : t < l → laneBad z h l t turned ≡ laneBad y h l t shares
+      unfolding laneBad
+      same-lane inside =
+          ap (λ (w : List ℕ). not (allBelow (size h) w))
+          (ap (laneOf z (h .n) l t) (symbols-turned h (h .n) l shares y z) ∙ rearranged-lane a b (h .n) l (symbolsOf (width h) shares) t inside)
+
+      -- the lane is judged only where it is one
+      lane-number : (f : Bool → ℕ) → firstOf (when (numberBad l t) 9) (f (laneBad z h l t turned)) ≡ firstOf (when (numberBad l t) 9) (f (laneBad y h l t shares))
+      lane-number f =
+          by-test (numberBad l t)
+          (λ outside. rw outside)
+          (λ inside. ap (λ (x : Bool). firstOf (when (numberBad l t) 9) (f x)) (same-lane (number-good l t inside)))
+
+      pub update-turned : updateFault z h l r t old new turned ≡ updateFault y h l r t old new shares
+      unfolding updateFault
+      update-turned =
+          rw (same-length, lane-number (λ (x : Bool). firstOf (when (symbolBad h old) 11) (firstOf (when (symbolBad h new) 11) (when x 11))))
+
+      pub updated-turned : t < l → updatedBytes z h l r t old new turned ≡ rearrangedBytes y z h (h .n) l (updatedBytes y h l r t old new shares)
+      unfolding updatedBytes rearrangedBytes
+      updated-turned inside =
+          ap (bytesOf (width h))
+          (ap (updated z h l r t old new) (symbols-bytes (width h) _ (width-some h))
+          ∙ same-updated a b h l (symbolsOf (width h) shares) r t inside old new
+          ∙ ap (rearranged y z (h .n) l) (sym (symbols-bytes (width h) _ (width-some h))))
+
+      pub altered-turned : t < l → alteredCount z h l r t old new turned ≡ alteredCount y h l r t old new shares
+      unfolding alteredCount
+      altered-turned inside = rw (symbols-turned h (h .n) l shares y z) (same-altered a b h l (symbolsOf (width h) shares) r t inside old new (symbols-full h (h .n) l shares full))
+
+  module _ (nodes shares : List ℕ) (full : length shares ≡ h .k * l * width h) where
+    -- the listed shares, rearranged
+    abbrev listed : List ℕ
+    listed = rearrangedBytes y z h (h .k) l shares
+
+    same-listed : length listed ≡ length shares
+    same-listed = length-turned h (h .k) l shares y z ∙ sym full
+
+    -- Recover and Rebuild: the numbers and the message
+    pub recover-turned : (out : ℕ) → recoverFault h l nodes listed out ≡ recoverFault h l nodes shares out
+    unfolding recoverFault listFault
+    recover-turned out = rw (same-listed, same-symbols (h .k) shares full)
+
+    pub rebuild-turned : (target out : ℕ) → rebuildFault h l nodes listed target out ≡ rebuildFault h l nodes shares target out
+    unfolding rebuildFault listFault
+    rebuild-turned target out = rw (same-listed, same-symbols (h .k) shares full)
+
+    pub message-turned : (m : List ℕ) → MessageFor y h l nodes (symbolsOf (width h) shares) m → MessageFor z h l nodes (symbolsOf (width h) listed) m
+    message-turned m is = rw (symbols-turned h (h .k) l shares y z) (same-message a b h l nodes (symbolsOf (width h) shares) m is)

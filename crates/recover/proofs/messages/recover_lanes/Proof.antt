@@ -1,0 +1,40 @@
+-- `recover_lanes` meets its contract: both ways give the message.
+use mathlib.Core.Path.{sym, _∙_}
+use native.Mathlib.Omega.{arith}
+use lib.Seq.{length-take-le}
+use borrow.Author.Needs.{needs}
+use Rattle.recover.proofs.messages.recover_lanes.Statement.{statement}
+use Rattle.recover.proofs.messages.recover_lanes.Tie as tie
+
+small-scratch-requires : tie.Need-small-scratch-requires
+small-scratch-requires c κs = search needs
+
+array-borrow-prefix-tile : tie.Need-array-borrow-prefix-tile
+array-borrow-prefix-tile c = search needs
+
+slice-aggregate-recover-tile : tie.Need-slice-aggregate-recover-tile
+slice-aggregate-recover-tile c = sym (length-take-le _ _ (omega arith))
+
+recover-tile-requires : tie.Need-recover-tile-requires
+recover-tile-requires c κs =
+    let (listed, setup, out) = c .before .before .before .before .before .before .before .pre in
+    (listed, setup, length-take-le _ _ (omega arith) ∙ listed .rows .long, out)
+
+same-length : tie.Need-same-length
+same-length c = search needs
+
+returns : tie.Need-returns
+returns c = search needs
+
+recover-tiles-requires : tie.Need-recover-tiles-requires
+recover-tiles-requires c κs = search needs
+
+same-length-2 : tie.Need-same-length-2
+same-length-2 c = search needs
+
+returns-2 : tie.Need-returns-2
+returns-2 c = search needs
+
+pub recover-lanes-spec : {M : Type 1} → statement M
+recover-lanes-spec =
+    tie.close (tie.spec small-scratch-requires array-borrow-prefix-tile slice-aggregate-recover-tile recover-tile-requires same-length returns recover-tiles-requires same-length-2 returns-2)

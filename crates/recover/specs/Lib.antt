@@ -1,0 +1,2 @@
+-- What the functions behind the calls rely on and give.
+pub mod Sums

@@ -1,0 +1,77 @@
+// One node's share from listed shares, some lanes at a time, as rows of a tile.
+ghost use mathlib.Core.Path.{_≡_};
+ghost use mathlib.Core.Bool.{true};
+ghost use Prim.Native.Nat.{_+_, _*_, _≤_, _<_};
+ghost use lib.ListN.{length};
+ghost use Rattle.lists.specs.Numbers.{allBelow};
+ghost use Rattle.layout.specs.Layout.{byRow, byLane, someLanes};
+ghost use Rattle.generator.specs.Records.{modulusOf, size};
+ghost use Rattle.refusals.specs.Accepted.{SymbolRows};
+ghost use Rattle.combine.specs.Combined.{combined};
+use generator::Header;
+
+// Sums of `count` lanes of the listed shares times the weights, from lane `first` on.
+fn fill_tile(
+    h: Header,
+    lanes: usize,
+    first: usize,
+    count: usize,
+    weights: &[u16],
+    shares: &[u8],
+    tile: &mut [u8],
+    out: &mut [u8],
+)
+    requires { ⌜ SymbolRows h (h .k) lanes (now shares) × (length (now weights) ≡ 255) × (allBelow (size h) (now weights) ≡ true) × (0 < count) × (first + count ≤ lanes) × (length (now tile) ≡ h .k * count) × (length (now out) ≡ count) ⌝ }
+    ensures { λ r. ⌜ now (out .exit) ≡ combined byRow (modulusOf h) (h .k) count (now (weights .entry)) (someLanes byLane byRow (h .k) lanes first count (now (shares .entry))) ⌝ }
+{
+    let field = h.field;
+    let k = h.k as usize;
+    tiles::gather_lanes(k, lanes, first, count, shares, tile);
+    combine::combine(field, weights, k, count, tile, out);
+}
+
+// Sums of the listed shares times the weights, tile by tile.
+fn fill_share(
+    h: Header,
+    lanes: usize,
+    weights: &[u16],
+    shares: &[u8],
+    tile: &mut [u8],
+    out: &mut [u8],
+)
+    requires { ⌜ SymbolRows h (h .k) lanes (now shares) × (length (now weights) ≡ 255) × (allBelow (size h) (now weights) ≡ true) × (h .k ≤ length (now tile)) × (length (now out) ≡ lanes) ⌝ }
+    ensures { λ r. ⌜ now (out .exit) ≡ combined byLane (modulusOf h) (h .k) lanes (now (weights .entry)) (now (shares .entry)) ⌝ }
+{
+    let k = h.k as usize;
+    let mut first: usize = 0;
+    while first < lanes {
+        let count = tiles::tile_lanes(k, tile.len(), lanes - first);
+        let size = k * count;
+        let next = first + count;
+        fill_tile(
+            h,
+            lanes,
+            first,
+            count,
+            weights,
+            shares,
+            &mut tile[..size],
+            &mut out[first..next],
+        );
+        first = next;
+    }
+}
+
+// The same in scratch of this call, little where the block is small.
+pub fn rebuild_lanes(h: Header, lanes: usize, weights: &[u16], shares: &[u8], out: &mut [u8])
+    requires { ⌜ SymbolRows h (h .k) lanes (now shares) × (length (now weights) ≡ 255) × (allBelow (size h) (now weights) ≡ true) × (length (now out) ≡ lanes) ⌝ }
+    ensures { λ r. ⌜ now (out .exit) ≡ combined byLane (modulusOf h) (h .k) lanes (now (weights .entry)) (now (shares .entry)) ⌝ }
+{
+    if shares.len() <= 4096 {
+        let mut tile = tiles::small_scratch();
+        fill_share(h, lanes, weights, shares, &mut tile, out);
+        return;
+    }
+    let mut tile = tiles::scratch();
+    fill_share(h, lanes, weights, shares, &mut tile, out);
+}

@@ -1,0 +1,2 @@
+-- A buffer that is written part by part.
+pub mod Parts

@@ -1,0 +1,38 @@
+// Scratch for tiles, and how many lanes a tile has.
+ghost use mathlib.Core.Path.{_≡_};
+ghost use Prim.Native.Nat.{_*_, _≤_, _<_};
+ghost use lib.ListN.{length};
+
+// No more lanes than these are in a tile, so that a column's bytes do not fall on the same places of the cache.
+const MOST: usize = 1040;
+
+// Scratch for a tile of many lanes: 528 lanes of 255 rows.
+pub fn scratch() -> [u8; 134640]
+    ensures { λ r. ⌜ length r ≡ 134640 ⌝ }
+{
+    [0u8; 134640]
+}
+
+// Scratch for a tile where the rows and lanes are few: clearing the other would take longer than the work.
+pub fn small_scratch() -> [u8; 4096]
+    ensures { λ r. ⌜ length r ≡ 4096 ⌝ }
+{
+    [0u8; 4096]
+}
+
+// The smaller of two numbers.
+fn smaller(a: usize, b: usize) -> usize
+    requires { ⌜ (0 < a) × (0 < b) ⌝ }
+    ensures { λ r. ⌜ (0 < r) × (r ≤ a) × (r ≤ b) ⌝ }
+{
+    if a < b { a } else { b }
+}
+
+// How many of the lanes that are left the next tile takes, in scratch of that size.
+pub fn tile_lanes(rows: usize, size: usize, left: usize) -> usize
+    requires { ⌜ (0 < rows) × (rows ≤ size) × (0 < left) ⌝ }
+    ensures { λ r. ⌜ (0 < r) × (r ≤ left) × (rows * r ≤ size) ⌝ }
+{
+    let fitting = smaller(size / rows, MOST);
+    smaller(fitting, left)
+}

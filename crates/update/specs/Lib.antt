@@ -1,0 +1,2 @@
+-- What the functions behind the call rely on.
+pub mod Words
