@@ -11,13 +11,13 @@ static const struct { uint8_t record[5]; int length, n, k; } codes[] = {
 };
 static const int all_lanes[] = {1, 16, 64, 256, 1024, 4096};
 static const char *const call_names[CALLS] = {"encode", "update", "recover", "rebuild", "belongs", "plan"};
-static struct method *const methods[] = {&this_build, &older_build, &isal, &jerasure, &isal_kept, &jerasure_kept};
+static struct method *const methods[] = {&this_build, &older_build, &isal, &isal_turned, &jerasure, &jerasure_turned, &isal_kept, &jerasure_kept};
 enum { METHODS = sizeof methods / sizeof *methods };
 
 struct layout planned, systematic;
 const uint8_t *record;
 int length, n, k, lanes, prime, lost, belongs, symbol, lane;
-uint8_t nodes[MAX], checks[MAX * MAX], *message, *data[MAX], *out, *outs[MAX], *work, from, to;
+uint8_t nodes[MAX], checks[MAX * MAX], *message, *data[MAX], *out, *outs[MAX], *work, from, to, *listed_lanes, *turned, *turned_rows[MAX];
 
 /* The products of the field, and the bytes of the lane that Update changes, before and after. */
 static uint8_t products[256][256], states[2][MAX];
@@ -25,6 +25,14 @@ static uint8_t products[256][256], states[2][MAX];
 void fail(const char *what) {
     fprintf(stderr, "bench: %s\n", what);
     exit(1);
+}
+
+void turn(const uint8_t *table, int rows, int width, uint8_t *to) {
+    enum { SIDE = 16 };
+    for (int i = 0; i < rows; i += SIDE)
+        for (int t = 0; t < width; t += SIDE)
+            for (int q = t; q < t + SIDE && q < width; q++)
+                for (int j = i; j < i + SIDE && j < rows; j++) to[(size_t)q * rows + j] = table[(size_t)j * width + q];
 }
 
 /* The processor time that was used, so that other work on the machine counts little. */
@@ -80,19 +88,22 @@ static void fill_layout(struct layout *y) {
         y->rows[j] = y->shares + (size_t)j * lanes;
         for (int t = 0; t < lanes; t++) y->rows[j][t] = share(y, j, t);
     }
+    turn(y->shares, n, lanes, y->lanes);
 }
 
 static void fill_buffers(void) {
     for (int i = 0; i < k * lanes; i++) message[i] = rand() % (prime ? prime : 256);
-    for (int j = 0; j < n; j++) outs[j] = out + (size_t)j * lanes, data[j] = message + (size_t)j * lanes;
+    for (int j = 0; j < n; j++)
+        outs[j] = out + (size_t)j * lanes, data[j] = message + (size_t)j * lanes, turned_rows[j] = turned + (size_t)j * lanes;
     fill_layout(&planned);
+    turn(listed(&planned)[0], k, lanes, listed_lanes);
     if (!prime) fill_layout(&systematic);
     symbol = k / 2, lane = lanes / 3;
 }
 
 /* The lane that Update changes, as it is and with another symbol. */
-static void fill_states(const struct layout *y) {
-    memcpy(work, y->shares, (size_t)n * lanes);
+static void fill_states(const struct layout *y, int by_lane) {
+    memcpy(work, by_lane ? y->lanes : y->shares, (size_t)n * lanes);
     from = message[symbol * lanes + lane], to = plus(from, 1);
     for (int j = 0; j < n; j++) {
         states[0][j] = y->rows[j][lane];
@@ -101,8 +112,10 @@ static void fill_states(const struct layout *y) {
 }
 
 /* Whether so many calls wrote what they must. */
-static int is_right(int call, const struct layout *y, int runs) {
+static int is_right(int call, const struct method *m, int runs) {
+    const struct layout *y = m->layout;
     int front = y == &systematic ? k : 0, recovered = y == &systematic ? lost : k;
+    if (call == ENCODE && m->by_lane) return !memcmp(m == &this_build || m == &older_build ? out : turned, y->lanes, (size_t)n * lanes);
     if (call == ENCODE) return !memcmp(out, y->rows[front], (size_t)(n - front) * lanes);
     if (call == RECOVER) return !memcmp(out, message, (size_t)recovered * lanes);
     if (call == REBUILD) return !memcmp(out, y->rows[0], lanes);
@@ -113,7 +126,7 @@ static int is_right(int call, const struct layout *y, int runs) {
         return 1;
     }
     for (int j = 0; j < n; j++)
-        if (work[j * lanes + lane] != states[runs % 2][j]) return 0;
+        if (work[m->by_lane ? lane * n + j : j * lanes + lane] != states[runs % 2][j]) return 0;
     return 1;
 }
 
@@ -121,7 +134,7 @@ static int is_right(int call, const struct layout *y, int runs) {
 static double run(int call, const struct method *m, int runs) {
     memset(out, 0xA5, (size_t)n * lanes);
     belongs = 0;
-    fill_states(m->layout);
+    fill_states(m->layout, m->by_lane);
     double start = used();
     for (int i = 0; i < runs; i++) {
         m->run[call]();
@@ -129,7 +142,7 @@ static double run(int call, const struct method *m, int runs) {
         from = to, to = turned;
     }
     double time = used() - start;
-    if (is_right(call, m->layout, runs)) return time;
+    if (is_right(call, m, runs)) return time;
     fprintf(stderr, "bench: n = %d, k = %d, %d lanes, %s: %s differs\n", n, k, lanes, call_names[call], m->name);
     exit(1);
 }
@@ -144,7 +157,8 @@ static double timed(int call, const struct method *m, int *runs) {
 /* The peers have no prime fields, and their rows are whole words. */
 static int alone(void) { return prime || lanes < 16; }
 
-/* One line: our time, the bytes of the message a second, and our time over that of each other method. */
+/* One line: our time, the bytes of the message a second, and our time over that of each other method; then each ratio on a line of its own,
+   to be read by programs: ratio CALL N K LANES METHOD VALUE. */
 static void measure(int call, int rounds) {
     double best[METHODS] = {0};
     int runs[METHODS];
@@ -159,9 +173,11 @@ static void measure(int call, int rounds) {
     if (call == UPDATE || call == PLAN) printf(" %13s", "");
     else printf(" %8.0f MB/s", (double)k * lanes / best[0] / 1e6);
     for (int m = 1; m < METHODS; m++)
-        if (best[m]) printf(" %10.2f", best[0] / best[m]);
-        else printf(" %10s", "-");
+        if (best[m]) printf(" %12.2f", best[0] / best[m]);
+        else printf(" %12s", "-");
     printf("\n");
+    for (int m = 1; m < METHODS; m++)
+        if (best[m]) printf("ratio %s %d %d %d %s %.3f\n", call_names[call], n, k, lanes, methods[m]->label, best[0] / best[m]);
     fflush(stdout);
 }
 
@@ -175,8 +191,9 @@ int main(int argc, char **argv) {
     if (argc < 3) fail("bench ROUNDS THIS.so [OLDER.so]");
     load_builds(argv[2], argc > 3 ? argv[3] : NULL);
     message = room(), out = room(), work = room(), planned.shares = room(), systematic.shares = room();
+    planned.lanes = room(), systematic.lanes = room(), listed_lanes = room(), turned = room();
     printf("%5s %5s %6s  %-8s %13s %13s", "n", "k", "lanes", "call", "time", "message");
-    for (int m = 1; m < METHODS; m++) printf(" %10s", methods[m]->name);
+    for (int m = 1; m < METHODS; m++) printf(" %12s", methods[m]->name);
     printf("\n");
     for (size_t c = 0; c < sizeof codes / sizeof *codes; c++) {
         read_code(c);

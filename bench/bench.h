@@ -8,9 +8,9 @@
 enum { MAX = 255, MOST_LANES = 4096 };
 enum { ENCODE, UPDATE, RECOVER, REBUILD, BELONGS, PLAN, CALLS };
 
-/* A generator, node by node, and the shares that it makes of the message, node by node. */
+/* A generator, node by node, and the shares that it makes of the message: node after node, and lane after lane. */
 struct layout {
-    uint8_t generator[MAX * MAX], *shares, *rows[MAX];
+    uint8_t generator[MAX * MAX], *shares, *rows[MAX], *lanes;
 };
 
 /* The layout of the plan, and a systematic one: the k nodes in front hold the message, the others the rows of a Cauchy matrix. */
@@ -26,20 +26,24 @@ extern uint8_t nodes[MAX], checks[MAX * MAX];
 extern uint8_t *message, *data[MAX], *out, *outs[MAX], *work;
 extern int belongs;
 
+/* The plan's shares of the nodes that Recover and Rebuild read, lane after lane, and room for shares that are turned, with its rows. */
+extern uint8_t *listed_lanes, *turned, *turned_rows[MAX];
+
 /* Update changes one symbol of one lane. */
 extern int symbol, lane;
 extern uint8_t from, to;
 
-/* A method: its name, whether it does prime fields, its layout, what it keeps from call to call (not timed), and its calls. */
+/* A method: its name, a word for it, whether it does prime fields, whether its shares stand lane after lane, its layout, what it keeps from call to
+   call (not timed), and its calls. */
 struct method {
-    const char *name;
-    int primes;
+    const char *name, *label;
+    int primes, by_lane;
     struct layout *layout;
     void (*keep)(void);
     void (*run[CALLS])(void);
 };
 
-extern struct method this_build, older_build, isal, isal_kept, jerasure, jerasure_kept;
+extern struct method this_build, older_build, isal, isal_turned, isal_kept, jerasure, jerasure_turned, jerasure_kept;
 
 /* Loads this build of the library and an older one, if there is one: shared objects. */
 void load_builds(const char *this_path, const char *older_path);
@@ -48,6 +52,9 @@ void load_builds(const char *this_path, const char *older_path);
 void read_plan(void);
 
 void fail(const char *what);
+
+/* A table of so many rows of so many bytes, turned: its columns become rows. In squares, so that both sides stay in the cache. */
+void turn(const uint8_t *table, int rows, int width, uint8_t *to);
 
 /* The shares of the nodes that Recover and Rebuild read. */
 static inline uint8_t **listed(struct layout *y) { return y->rows + (n - k); }

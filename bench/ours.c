@@ -10,6 +10,7 @@ struct build {
     __typeof__(balanced_recover) *recover;
     __typeof__(balanced_rebuild) *rebuild;
     __typeof__(balanced_belongs) *belongs;
+    int by_lane;
 };
 static struct build this, older;
 
@@ -20,6 +21,9 @@ void read_plan(void) {
         for (int r = 0; r < k; r++) planned.generator[j * k + r] = base[(j + shifts[r]) % n];
 }
 
+/* The shares of the listed nodes, as the build has them. */
+static const uint8_t *held(const struct build *b) { return b->by_lane ? listed_lanes : listed(&planned)[0]; }
+
 static void encode(const struct build *b) {
     if (b->encode(record, length, lanes, message, (size_t)k * lanes, out, (size_t)n * lanes)) fail("encode was turned away");
 }
@@ -28,14 +32,14 @@ static void update(const struct build *b) {
     if (b->update(record, length, lanes, symbol, lane, from, to, work, (size_t)n * lanes, &altered)) fail("update was turned away");
 }
 static void recover(const struct build *b) {
-    if (b->recover(record, length, lanes, nodes, k, listed(&planned)[0], (size_t)k * lanes, out, (size_t)k * lanes)) fail("recover was turned away");
+    if (b->recover(record, length, lanes, nodes, k, held(b), (size_t)k * lanes, out, (size_t)k * lanes)) fail("recover was turned away");
 }
 static void rebuild(const struct build *b) {
-    if (b->rebuild(record, length, lanes, nodes, k, listed(&planned)[0], (size_t)k * lanes, 0, out, lanes)) fail("rebuild was turned away");
+    if (b->rebuild(record, length, lanes, nodes, k, held(b), (size_t)k * lanes, 0, out, lanes)) fail("rebuild was turned away");
 }
 static void test(const struct build *b) {
     uint32_t wrong;
-    if (b->belongs(record, length, lanes, planned.shares, (size_t)n * lanes, &wrong)) fail("belongs was turned away");
+    if (b->belongs(record, length, lanes, b->by_lane ? planned.lanes : planned.shares, (size_t)n * lanes, &wrong)) fail("belongs was turned away");
     belongs = wrong == (uint32_t)lanes;
 }
 
@@ -57,8 +61,8 @@ static void older_rebuild(void) { rebuild(&older); }
 static void older_belongs(void) { test(&older); }
 static void older_plan(void) { plan(&older); }
 
-struct method this_build = {"ours", 1, &planned, NULL, {this_encode, this_update, this_recover, this_rebuild, this_belongs, this_plan}};
-struct method older_build = {"older", 1, &planned, NULL, {NULL}};
+struct method this_build = {"ours", "ours", 1, 1, &planned, NULL, {this_encode, this_update, this_recover, this_rebuild, this_belongs, this_plan}};
+struct method older_build = {"older", "older", 1, 0, &planned, NULL, {NULL}};
 
 static void *found(void *object, const char *name) {
     void *function = dlsym(object, name);
@@ -75,12 +79,15 @@ static void load(struct build *b, const char *path) {
     b->recover = found(object, "balanced_recover");
     b->rebuild = found(object, "balanced_rebuild");
     b->belongs = found(object, "balanced_belongs");
+    /* a build from before the two rearrangements has shares node after node */
+    b->by_lane = dlsym(object, "balanced_to_lanes") != NULL;
 }
 
 void load_builds(const char *this_path, const char *older_path) {
     load(&this, this_path);
     if (!older_path) return;
     load(&older, older_path);
+    older_build.by_lane = older.by_lane;
     void (*const run[CALLS])(void) = {older_encode, older_update, older_recover, older_rebuild, older_belongs, older_plan};
     memcpy(older_build.run, run, sizeof run);
 }
