@@ -80,6 +80,8 @@ enum balanced_number {
     BALANCED_RANGE = 9,   /* a node, symbol or lane number is outside its range */
     BALANCED_TWICE = 10,  /* a node stands twice in a list */
     BALANCED_SYMBOL = 11, /* kind 1, and a byte that the call reads as a symbol is p or more */
+    BALANCED_WORD = 12,   /* the lane that an update is to change is no word of the code */
+    BALANCED_STALE = 13,  /* the message of that lane holds another symbol than the old one */
     BALANCED_ALREADY = 15, /* the node already is what the event says: absent, or present */
     BALANCED_MANY = 16    /* there are more than 65,536 messages */
 };
@@ -141,11 +143,12 @@ uint8_t balanced_encode(const uint8_t *record, size_t record_len,
  *   shares   n * lanes bytes, of which the lane's n bytes are read, and written at the nodes that are altered
  *   altered  receives the number of nodes that were altered, which is the number of bytes that differ afterwards
  *
- * If the lane encodes a message that holds old_symbol there, it afterwards encodes the message with new_symbol in its
- * place, and *altered is n-k+1, or 0 where the two symbols are equal. The caller sees to it that old_symbol is the
- * true one. Bytes of other lanes are neither read nor changed.
+ * An update is accepted only if the lane encodes a message, which then is the only one, and this message holds old_symbol
+ * there. Afterwards the lane encodes the message with new_symbol in its place, and *altered is n-k+1, or 0 where the two
+ * symbols are equal. An update that was made already, or that another one overtook, meets BALANCED_STALE. Bytes of other
+ * lanes are neither read nor changed.
  *
- * Returns 0 or one of 1 to 5, 7 to 9, 11. For 11 the two symbols and the n bytes of the lane count.
+ * Returns 0 or one of 1 to 5, 7 to 9, 11 to 13. For 11 the two symbols and the n bytes of the lane count.
  */
 uint8_t balanced_update(const uint8_t *record, size_t record_len,
                         uint32_t lanes, uint32_t symbol, uint32_t lane,

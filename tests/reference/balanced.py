@@ -187,6 +187,22 @@ class Plan:
         """What takes the values at the first k nodes to the polynomial's coefficients."""
         return inverse_matrix(self.field, [self.monomials(j) for j in range(self.k)])
 
+    @lru_cache(maxsize=None)
+    def decoding(self):
+        """What takes the symbols of the first k nodes to the message."""
+        return inverse_matrix(self.field, [self.column(j) for j in range(self.k)])
+
+    def is_word(self, lane):
+        """Whether the polynomial through the first k symbols has the others as values too."""
+        symbols = [bytes([x]) for x in lane]
+        coefficients = [combine(self.field, line, symbols[:self.k]) for line in self.interpolation()]
+        return all(combine(self.field, self.monomials(j), coefficients) == symbols[j] for j in range(self.n))
+
+    def message(self, lane):
+        """The message whose encoding has the lane's symbols at the first k nodes."""
+        symbols = [bytes([x]) for x in lane[:self.k]]
+        return [combine(self.field, line, symbols)[0] for line in self.decoding()]
+
 
 @lru_cache(maxsize=None)
 def plan_of(*accepted):
@@ -261,7 +277,10 @@ def update(record, lanes, symbol, lane, old, new, shares):
         yield 7, lanes_bad(lanes)
         yield 8, len(shares) != plan.n * lanes
         yield 9, symbol >= plan.k or lane >= lanes
-        yield 11, symbols_bad(plan, [old, new, *lanes_of(shares, plan.n)[lane]])
+        word = lanes_of(shares, plan.n)[lane]
+        yield 11, symbols_bad(plan, [old, new, *word])
+        yield 12, not plan.is_word(word)
+        yield 13, plan.message(word)[symbol] != old
 
     def work(plan):
         field, after = plan.field, bytearray(shares)

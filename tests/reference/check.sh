@@ -5,7 +5,7 @@ here=$(cd "$(dirname "$0")" && pwd)
 crates=$here/../../crates
 work=$(mktemp -d)
 trap 'rm -rf "$work"' EXIT
-mkdir -p "$work"/{sheet,compare,sheet_cases,cases}
+mkdir -p "$work"/{sheet,compare,sheet_cases,small_plans,cases}
 "$here/make_sheets.sh" "$work"
 "$here/make_cases.sh" "$work"
 for file in $(cd "$work" && find . -type f); do

@@ -25,8 +25,9 @@ pub fn encode(record: &[u8], lanes: u32, message: &[u8], shares: &mut [u8]) -> R
 /// Changes one symbol of one lane in shares that are in place: adds (new − old) times the symbol's row of the generator to
 /// that lane. Gives the number of nodes that it altered.
 ///
-/// `shares` has n·lanes bytes. The caller sees to it that `old` is the lane's true symbol; then the lane encodes the message
-/// with `new` in its place afterwards. Bytes of other lanes neither matter nor change.
+/// `shares` has n·lanes bytes. The lane must encode a message, else the update meets [`Error::Word`], and this message must
+/// hold `old` there, else it meets [`Error::Stale`]; afterwards the lane encodes the message with `new` in its place. Bytes of
+/// other lanes neither matter nor change.
 pub fn update(record: &[u8], lanes: u32, symbol: u32, lane: u32, old: u8, new: u8, shares: &mut [u8]) -> Result<u32, Error> {
     let mut altered = 0;
     let number = unsafe {

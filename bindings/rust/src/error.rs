@@ -28,6 +28,10 @@ pub enum Error {
     Twice = 10,
     /// Kind 1, and a byte that the call reads as a symbol is p or more.
     Symbol = 11,
+    /// The lane that an update is to change is no word of the code.
+    Word = 12,
+    /// The message of that lane holds another symbol than the old one.
+    Stale = 13,
     /// The node already is what the event says: absent, or present.
     Already = 15,
     /// There are more than 65,536 messages.
@@ -36,7 +40,7 @@ pub enum Error {
 
 impl Error {
     /// Every error, in the order of the numbers.
-    pub const ALL: [Error; 13] = [
+    pub const ALL: [Error; 15] = [
         Error::Kind,
         Error::Body,
         Error::Field,
@@ -48,6 +52,8 @@ impl Error {
         Error::Range,
         Error::Twice,
         Error::Symbol,
+        Error::Word,
+        Error::Stale,
         Error::Already,
         Error::Many,
     ];
@@ -76,6 +82,8 @@ impl Error {
             Error::Range => "range",
             Error::Twice => "twice",
             Error::Symbol => "symbol",
+            Error::Word => "word",
+            Error::Stale => "stale",
             Error::Already => "already",
             Error::Many => "many",
         }
@@ -104,6 +112,8 @@ impl fmt::Display for Error {
             Error::Range => "a node, symbol or lane number is outside its range",
             Error::Twice => "a node stands twice in a list",
             Error::Symbol => "a byte that the call reads as a symbol is p or more",
+            Error::Word => "the lane is no word of the code",
+            Error::Stale => "the lane's message holds another symbol than the old one",
             Error::Already => "the node already is what the event says",
             Error::Many => "there are more than 65,536 messages",
         };

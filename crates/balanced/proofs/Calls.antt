@@ -106,22 +106,14 @@ module _ (rec : List ℕ) (l : ℕ) where
           smaller = rw (symbols-are h shares) smaller;
         }
 
-  update : (r t old new : ℕ) (shares shares′ : List ℕ) (count : ℕ) → UpdateSays rec l r t old new shares shares′ (U.Altered count) → (ms : List ℕ) → isMessage h ms ≡ true → getD ms r 0 ≡ old → laneOf shareLayout (h .n) l t (read h shares) ≡ encoding h ms → UpdateDone h ms shares shares′ l r t new count
-  update r t old new shares shares′ count says ms message held encodes =
+  update : (r t old new : ℕ) (shares shares′ : List ℕ) (count : ℕ) → UpdateSays rec l r t old new shares shares′ (U.Altered count) → UpdateDone h shares shares′ l r t old new count
+  update r t old new shares shares′ count says =
       let (none, same) = altered-means (faultOf rec (λ h. updateFault shareLayout h l r t old new shares)) _ count (says .promise .answer) in
       let (sound, own) = none-met rec (λ h. updateFault shareLayout h l r t old new shares) none in
-      let (lane, old-symbol, new-symbol) = update-accepts h sound l r t old new shares own in
       let written = rw none at (says .promise .written) in
-      let now : shares′ ≡ updated shareLayout h l r t (getD ms r 0) new shares = rw held (written ∙ updated-bytes h shareLayout l r t old new shares) in
+      let now : read h shares′ ≡ updated shareLayout h l r t old new (read h shares) = rw (symbols-are h shares, symbols-are h shares′) (written ∙ updated-bytes h shareLayout l r t old new shares) in
       record {
-        after = rw (symbols-are h shares, symbols-are h shares′, now) (update-demands h sound .updates ms shares l r t new (record {
-          message = message;
-          row = lane .row;
-          lane = lane .lane;
-          symbol = new-symbol;
-          long = lane .long;
-          encodes = rw symbols-are at encodes;
-        }));
+        change = rw now (update-demands h sound .updates shares l r t old new own);
         reports = same ∙ altered-symbols h shareLayout l r t old new shares shares′ written;
       }
 

@@ -14,7 +14,7 @@ use Rattle.generator.proofs.Words.{encoding-word}
 use Rattle.blocks.specs.Blocks.{shareAt, shareOf}
 use Rattle.blocks.proofs.Shares.{lane-encodes}
 use Rattle.blocks.proofs.Messages.{lane-message, some-buffer, one-buffer, gathered-message}
-use Rattle.blocks.proofs.Updates.{node-at}
+use Rattle.generator.proofs.Messages.{node-at}
 use Rattle.blocks.proofs.Words.{passes-code, names-code}
 use Rattle.balanced.specs.Coding.{CodeDemands}
 

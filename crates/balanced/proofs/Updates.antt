@@ -1,27 +1,38 @@
--- Demand 3's sentence on updates, proved for every sound header.
-use mathlib.Core.Path.{_≡_, sym, ap, ap₂, _∙_}
-use mathlib.Core.Bool.{true}
+-- Demand 3's sentence on updates, and what numbers 12 and 13 say, proved for every sound header.
+use mathlib.Core.Path.{_≡_, refl, sym, ap, ap₂, _∙_}
+use mathlib.Core.Logic.{_↔_}
+use mathlib.Core.Bool.{Bool, true, false, not}
 use mathlib.Core.List.{List}
-use Prim.Native.Nat.{ℕ, _<_}
-use borrow.Author.Tests.{eqb-true, eqb-false}
+use Prim.Native.Nat.{ℕ, _*_, _<_}
+use native.Mathlib.Omega.{arith}
+use borrow.Author.Tests.{eqb-true, eqb-false, ne-eqb}
 use lib.Dec.{eqb}
-use lib.ListN.{getD, set}
+use lib.ListN.{length, getD, set}
 use lib.Seq.{set-getD}
-use Rattle.lists.specs.Choice.{pick}
+use Rattle.lists.specs.Choice.{pick, firstOf, when}
 use Rattle.lists.specs.Counting.{differ}
+use Rattle.lists.specs.Numbers.{allBelow}
 use Rattle.lists.proofs.Cases.{by-test}
 use Rattle.lists.proofs.Differ.{differ-same}
 use Rattle.layout.specs.Layout.{held, laneOf, shareLayout}
-use Rattle.layout.proofs.Buffers.{getD-lane}
+use Rattle.layout.specs.Width.{symbolsOf}
+use Rattle.layout.proofs.Buffers.{length-lane, getD-lane}
 use Rattle.layout.proofs.Places.{share-lawful}
 use Rattle.generator.specs.declared.Header.{Header}
-use Rattle.generator.specs.Records.{size, distance, Sound}
-use Rattle.generator.specs.Codewords.{encoding}
-use Rattle.generator.specs.Claims.{isMessage}
+use Rattle.generator.specs.Records.{size, width, distance, Sound}
+use Rattle.generator.specs.Codewords.{encoding, isWord}
+use Rattle.generator.specs.Messages.{messageOf}
+use Rattle.generator.specs.Claims.{isMessage, Codeword}
 use Rattle.generator.proofs.Changes.{alters}
+use Rattle.generator.proofs.Messages.{encoding-injective, message-back, word-message}
+use Rattle.generator.proofs.Words.{words-poly, words-encode}
+use Rattle.refusals.specs.Conditions.{noWord, otherSymbol}
+use Rattle.refusals.specs.Faults.{inputFault, staleFault, updateFault}
+use Rattle.refusals.proofs.Accepts.{input-accepts, update-accepts}
+use Rattle.refusals.proofs.OneByte.{symbols-are}
 use Rattle.blocks.specs.Blocks.{updated}
 use Rattle.blocks.proofs.Updates.{updated-encodes, updated-others, updated-count}
-use Rattle.balanced.specs.Updates.{Premise, Afterwards, UpdateDemands}
+use Rattle.balanced.specs.Updates.{Afterwards, Updated, laneFor, UpdateDemands}
 
 -- how many nodes a change alters
 count : (h : Header) → Sound h → (ms : List ℕ) (r new : ℕ) → isMessage h ms ≡ true → r < h .k → new < size h → differ (encoding h ms) (encoding h (set ms r new)) ≡ pick (eqb new (getD ms r 0)) 0 (distance h)
@@ -34,17 +45,88 @@ count h s ms r new m row low =
 held-lane : (h : Header) (l t : ℕ) (s ws : List ℕ) → laneOf shareLayout (h .n) l t s ≡ ws → (j : ℕ) → j < h .n → held shareLayout (h .n) l s j t ≡ getD ws j 0
 held-lane h l t s ws is j node = sym (getD-lane shareLayout (h .n) l t s j node) ∙ ap (λ (w : List ℕ). getD w j 0) is
 
+-- an update of a lane that encodes a message, from the symbol that the message holds
+module _ (h : Header) (s : Sound h) (ms b : List ℕ) (l r t new : ℕ) (message : isMessage h ms ≡ true) (row : r < h .k) (lane : t < l) (symbol : new < size h) (long : length b ≡ h .n * l) (encodes : laneOf shareLayout (h .n) l t b ≡ encoding h ms) where
+  afterwards : Afterwards h ms b (updated shareLayout h l r t (getD ms r 0) new b) l r t new
+  afterwards =
+      let now = updated-encodes share-lawful h s ms b l r t new message row lane symbol long encodes in
+      let differing = updated-count share-lawful h s ms b l r t new message row lane symbol long encodes in
+      record {
+        lane = now;
+        nodes = λ j node. ap₂ eqb (held-lane h l t b (encoding h ms) encodes j node) (held-lane h l t (updated shareLayout h l r t (getD ms r 0) new b) (encoding h (set ms r new)) now j node);
+        altered = differing;
+        count = differing ∙ count h s ms r new message row symbol;
+        others = updated-others share-lawful h l r t (getD ms r 0) new b;
+      }
+
+module _ (h : Header) (s : Sound h) (shares : List ℕ) (l r t old new : ℕ) where
+  -- an accepted update
+  pub accepted : updateFault shareLayout h l r t old new shares ≡ 0 → Updated h (symbolsOf (width h) shares) (updated shareLayout h l r t old new (symbolsOf (width h) shares)) l r t old new
+  accepted none =
+      let (lane, old-symbol, new-symbol, fresh) = update-accepts h s l r t old new shares none in
+      let ws = laneOf shareLayout (h .n) l t shares in
+      let (message, at) = word-message h s ws (length-lane shareLayout (h .n) l t shares) (lane .symbols) (fresh .word) in
+      rw (symbols-are h shares)
+      record {
+        message = messageOf h ws;
+        is-message = message;
+        encoded = sym at;
+        only = λ ms m e. encoding-injective h s ms (messageOf h ws) m message (sym e ∙ sym at);
+        held-old = fresh .holds;
+        after = rw (← fresh .holds) (afterwards h s (messageOf h ws) shares l r t new message (lane .row) (lane .lane) new-symbol (lane .long) (sym at));
+      }
+
+  -- where what is given meets no number, the lane decides
+  module _ (given : inputFault shareLayout h l r t old new shares ≡ 0) where
+    abbrev ws : List ℕ
+    ws = laneFor h l t shares
+
+    decided : updateFault shareLayout h l r t old new shares ≡ staleFault h ws r old
+    unfolding updateFault
+    decided = rw given
+
+    long : length ws ≡ h .n
+    long = length-lane shareLayout (h .n) l t (symbolsOf (width h) shares)
+
+    below : allBelow (size h) ws ≡ true
+    below = rw (symbols-are h shares) (input-accepts h s l r t old new shares given .0 .symbols)
+
+    word : (isWord h ws ≡ true) ↔ Codeword h ws
+    word = words-poly h s ws long below
+
+    pub no-word : (updateFault shareLayout h l r t old new shares ≡ 12) ↔ (Codeword h ws → ⊥)
+    unfolding staleFault noWord otherSymbol
+    no-word = (
+      λ e c. let f : staleFault h ws r old ≡ 12 = sym decided ∙ e in let g = rw (word .1 c) at f in never-twelve (eqb (getD (messageOf h ws) r 0) old) g,
+      λ none. decided ∙ rw (by-test (isWord h ws) (λ t. absurd (none (word .0 t))) (λ t. t)),
+    )
+      where
+        never-twelve : (b : Bool) → when (not b) 13 ≡ 12 → ⊥
+        never-twelve true e = omega arith
+        never-twelve false e = omega arith
+
+    pub other-symbol : (updateFault shareLayout h l r t old new shares ≡ 13) ↔ ((ms : List ℕ) × (isMessage h ms ≡ true) × (encoding h ms ≡ ws) × (getD ms r 0 ≡ old → ⊥))
+    unfolding staleFault noWord otherSymbol
+    other-symbol = (to, back)
+      where
+        not-twelve : (b : Bool) (rest : ℕ) → firstOf (when (not b) 12) rest ≡ 13 → (b ≡ true) × (rest ≡ 13)
+        not-twelve true rest e = (refl, e)
+        not-twelve false rest e = absurd (omega arith)
+
+        is-thirteen : (b : Bool) → when (not b) 13 ≡ 13 → b ≡ false
+        is-thirteen true e = absurd (omega arith)
+        is-thirteen false e = refl
+
+        to : updateFault shareLayout h l r t old new shares ≡ 13 → (ms : List ℕ) × (isMessage h ms ≡ true) × (encoding h ms ≡ ws) × (getD ms r 0 ≡ old → ⊥)
+        to e =
+            let (passes, last) = not-twelve (isWord h ws) (when (not (eqb (getD (messageOf h ws) r 0) old)) 13) (sym decided ∙ e) in
+            let (message, at) = word-message h s ws long below passes in
+            (messageOf h ws, message, at, eqb-false _ old (is-thirteen (eqb (getD (messageOf h ws) r 0) old) last))
+
+        back : (ms : List ℕ) × (isMessage h ms ≡ true) × (encoding h ms ≡ ws) × (getD ms r 0 ≡ old → ⊥) → updateFault shareLayout h l r t old new shares ≡ 13
+        back (ms, m, at, other) =
+            let is : messageOf h ws ≡ ms = ap (messageOf h) (sym at) ∙ message-back h s ms m in
+            decided ∙ rw (words-encode h s ws long below .1 (ms, m, at), is, ne-eqb (getD ms r 0) old other)
+
 pub update-demands : (h : Header) → Sound h → UpdateDemands h
-update-demands h s = record { updates = after }
-  where
-    after : (ms b : List ℕ) (l r t new : ℕ) → Premise h ms b l r t new → Afterwards h ms b (updated shareLayout h l r t (getD ms r 0) new b) l r t new
-    after ms b l r t new p =
-        let now = updated-encodes share-lawful h s ms b l r t new (p .message) (p .row) (p .lane) (p .symbol) (p .long) (p .encodes) in
-        let differing = updated-count share-lawful h s ms b l r t new (p .message) (p .row) (p .lane) (p .symbol) (p .long) (p .encodes) in
-        record {
-          lane = now;
-          nodes = λ j node. ap₂ eqb (held-lane h l t b (encoding h ms) (p .encodes) j node) (held-lane h l t (updated shareLayout h l r t (getD ms r 0) new b) (encoding h (set ms r new)) now j node);
-          altered = differing;
-          count = differing ∙ count h s ms r new (p .message) (p .row) (p .symbol);
-          others = updated-others share-lawful h l r t (getD ms r 0) new b;
-        }
+update-demands h s = record { updates = accepted h s; no-word = no-word h s; other-symbol = other-symbol h s }

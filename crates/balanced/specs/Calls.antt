@@ -1,6 +1,5 @@
 -- Demands 2 and 3 of the calls themselves: what follows from the promise of a call that no number turned away. Buffers are read as symbols.
 use mathlib.Core.Path.{_≡_}
-use mathlib.Core.Bool.{true}
 use mathlib.Core.List.{List}
 use Prim.Native.Nat.{ℕ, _<_}
 use lib.ListN.{length, getD}
@@ -10,14 +9,14 @@ use Rattle.layout.specs.Width.{symbolsOf}
 use Rattle.generator.specs.declared.Header.{Header}
 use Rattle.generator.specs.Records.{headerOf, width}
 use Rattle.generator.specs.Codewords.{encoding}
-use Rattle.generator.specs.Claims.{isMessage, Codeword}
+use Rattle.generator.specs.Claims.{Codeword}
 use Rattle.blocks.specs.declared.Outcome.the-variants as O
 use Rattle.blocks.specs.declared.Update.the-variants as U
 use Rattle.blocks.specs.declared.Membership.the-variants as M
 use Rattle.blocks.specs.Blocks.{gathered, MessageFor}
 use Rattle.blocks.specs.Promises.{EncodeSays, UpdateSays, RecoverSays, RebuildSays, BelongsSays}
 use Rattle.balanced.specs.Coding.{Symbols}
-use Rattle.balanced.specs.Updates.{Afterwards}
+use Rattle.balanced.specs.Updates.{Updated}
 
 -- the symbols of a lent buffer
 abbrev pub read : Header → List ℕ → List ℕ
@@ -50,9 +49,9 @@ pub record SmallestWrong (h : Header) (l : ℕ) (shares : List ℕ) (wrong : ℕ
   pub no-word : Codeword h (laneOf shareLayout (h .n) l wrong (read h shares)) → ⊥
   pub smaller : (t : ℕ) → t < wrong → Codeword h (laneOf shareLayout (h .n) l t (read h shares))
 
--- Update is done, and its lane encoded the message ms, which held the old symbol
-pub record UpdateDone (h : Header) (ms shares shares′ : List ℕ) (l r t new count : ℕ) : Type 0 where
-  pub after : Afterwards h ms (read h shares) (read h shares′) l r t new
+-- Update is done: the one message that the lane encoded held the old symbol, and the lane encodes it with the new one
+pub record UpdateDone (h : Header) (shares shares′ : List ℕ) (l r t old new count : ℕ) : Type 0 where
+  pub change : Updated h (read h shares) (read h shares′) l r t old new
   -- the count is the number of altered nodes
   pub reports : count ≡ differ (read h shares) (read h shares′)
 
@@ -63,6 +62,4 @@ pub record CallDemands : Type 0 where
   pub rebuild : (rec : List ℕ) (l : ℕ) (nodes shares : List ℕ) (target : ℕ) (out out′ : List ℕ) → RebuildSays rec l nodes shares target out out′ O.Done → RebuildDone (headerOf rec) l nodes shares target out′
   pub passes : (rec : List ℕ) (l : ℕ) (shares : List ℕ) → BelongsSays rec l shares M.Yes → AllWords (headerOf rec) l shares
   pub names : (rec : List ℕ) (l : ℕ) (shares : List ℕ) (wrong : ℕ) → BelongsSays rec l shares (M.No wrong) → SmallestWrong (headerOf rec) l shares wrong
-  pub update : (rec : List ℕ) (l r t old new : ℕ) (shares shares′ : List ℕ) (count : ℕ) → UpdateSays rec l r t old new shares shares′ (U.Altered count)
-      → (ms : List ℕ) → isMessage (headerOf rec) ms ≡ true → getD ms r 0 ≡ old → laneOf shareLayout (headerOf rec .n) l t (read (headerOf rec) shares) ≡ encoding (headerOf rec) ms
-      → UpdateDone (headerOf rec) ms shares shares′ l r t new count
+  pub update : (rec : List ℕ) (l r t old new : ℕ) (shares shares′ : List ℕ) (count : ℕ) → UpdateSays rec l r t old new shares shares′ (U.Altered count) → UpdateDone (headerOf rec) shares shares′ l r t old new count

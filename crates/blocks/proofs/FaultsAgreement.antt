@@ -1,4 +1,4 @@
--- Numbers 7 to 11 as document 03 states them (specs/Blocks.antt), and that ours are the same for every record whose n divides k·d and every input, with shares row after row: number 6, which document 03 gives to the others, is no longer given.
+-- Numbers 7 to 11 as document 03 states them (specs/Blocks.antt), and that ours are the same for every record whose n divides k·d and every input, with shares row after row: number 6, which document 03 gives to the others, is no longer given. Of an update these are the numbers of what it is given; 12 and 13 come after them.
 -- Its text stands here but for the marks: what it has as `abbrev` is `unfoldable`. Its records are quoted in the crate `generator`, its `sizeOf` in the crate `field`, its lanes in Agreement;
 -- its `firstOf`, `when`, `allBelow`, `isIn` and `distinct` are those of `lists`, the same recursions. Its faults take the record itself, ours a header: `faultOf` puts the record's number before them.
 use mathlib.Core.Path.{_≡_, refl}
@@ -66,8 +66,8 @@ module _ (rec : List ℕ) (l : ℕ) (even : R.headerOf rec .k * R.distance (R.he
   unfolding encodeFault Ours.faultOf Ours.encodeFault Conditions.lengthBad
   encodeFault-agrees out s = rw (headerOf-agrees rec, recordFault-agrees rec even, lanesBad-agrees l, sizeOf-agrees (R.modulusOf (R.headerOf rec)), times-width, times-width, symbols-test, not-and, either)
 
-  pub updateFault-agrees : (r t old new : ℕ) (s : List ℕ) → updateFault rec l r t old new s ≡ Ours.faultOf rec (λ h. Ours.updateFault byRow h l r t old new s)
-  unfolding updateFault Ours.faultOf Ours.updateFault Conditions.lengthBad Conditions.numberBad Conditions.symbolBad
+  pub updateFault-agrees : (r t old new : ℕ) (s : List ℕ) → updateFault rec l r t old new s ≡ Ours.faultOf rec (λ h. Ours.inputFault byRow h l r t old new s)
+  unfolding updateFault Ours.faultOf Ours.inputFault Conditions.lengthBad Conditions.numberBad Conditions.symbolBad
   updateFault-agrees r t old new s = rw (headerOf-agrees rec, recordFault-agrees rec even, lanesBad-agrees l, sizeOf-agrees (R.modulusOf (R.headerOf rec)), times-width, lane-test, laneOf-agrees (R.headerOf rec .n) l t s, not-and, not-and, not-below, not-below, either, either-last, either-last)
 
   pub recoverFault-agrees : (nodes s : List ℕ) (out : ℕ) → recoverFault rec l nodes s out ≡ Ours.faultOf rec (λ h. Ours.recoverFault h l nodes s out)

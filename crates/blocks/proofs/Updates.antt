@@ -23,12 +23,8 @@ use Rattle.generator.specs.Generator.{entry}
 use Rattle.generator.specs.Codewords.{nodeOf, encoding}
 use Rattle.generator.specs.Claims.{isMessage}
 use Rattle.generator.proofs.Changes.{node-change}
+use Rattle.generator.proofs.Messages.{node-at}
 use Rattle.blocks.specs.Blocks.{addedAt, rowAdded, wordAdded, updated}
-
--- what node j of an encoding holds
-pub node-at : (h : Header) (ms : List ℕ) (j : ℕ) → j < h .n → getD (encoding h ms) j 0 ≡ nodeOf h ms j
-unfolding encoding
-node-at h ms j node = rw zero-add at (getD-from (nodeOf h ms) 0 (h .n) j 0 node)
 
 module _ {y : Arrangement} (a : Lawful y) (h : Header) (l r t x : ℕ) (shares : List ℕ) where
   -- as many symbols differ as nodes hold another symbol in the lane

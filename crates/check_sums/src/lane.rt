@@ -14,7 +14,7 @@ use crate::powers;
 use generator::Header;
 
 // The place of the next power: (i + step) modulo n.
-fn stepped(i: usize, step: usize, n: usize) -> usize
+pub fn stepped(i: usize, step: usize, n: usize) -> usize
     requires { ⌜ (i < n) × (step < n) × (n ≤ 255) ⌝ }
     ensures { λ r. ⌜ r ≡ (i + step) % n ⌝ }
 {

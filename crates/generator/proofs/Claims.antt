@@ -14,6 +14,7 @@ use Rattle.generator.proofs.Shifts.{shifts-places, shifts-length, shift
 use Rattle.generator.proofs.Entries.{row-weight, rows-base}
 use Rattle.generator.proofs.Recovery.{some-message, one-message}
 use Rattle.generator.proofs.Words.{words-poly, words-encode, encoding-symbols, encoding-word}
+use Rattle.generator.proofs.Messages.{message-back, word-message}
 use Rattle.generator.proofs.Changes.{alters}
 use Rattle.generator.proofs.Costs.{depends, whole, total, upper-node, begins, depends-means}
 use Rattle.generator.proofs.SchemeOf.{our-scheme}
@@ -29,6 +30,8 @@ ours h s =
       words-encode = words-encode h s;
       encodes-symbols = encoding-symbols h s;
       encodes-word = encoding-word h s;
+      message-back = message-back h s;
+      word-message = word-message h s;
       row-weight = λ r j row node. row-weight h s r j;
       alters = λ ms r x m row low other. alters h s ms r x m row low other;
       depends = depends h s;

@@ -15,6 +15,7 @@ pub mod Changes
 pub mod Costs
 pub mod SchemeOf
 pub mod PlainLayout
+pub mod Messages
 pub mod Faults
 pub mod Accepts
 pub mod Claims

@@ -20,6 +20,7 @@ use Rattle.generator.specs.Records.{size, distance, lowReads, highReads}
 use Rattle.generator.specs.Shifts.{shifts, negative, firsts}
 use Rattle.generator.specs.Generator.{entry, baseWord}
 use Rattle.generator.specs.Codewords.{nodeOf, encoding, valuesOf, isWord}
+use Rattle.generator.specs.Messages.{messageOf}
 
 -- k symbols of the field
 unfoldable pub isMessage : Header → List ℕ → Bool
@@ -52,6 +53,9 @@ pub record Ours (h : Header) : Type 0 where
   -- the encoding of every message consists of symbols and is a word of the code
   pub encodes-symbols : (ms : List ℕ) → isMessage h ms ≡ true → allBelow (size h) (encoding h ms) ≡ true
   pub encodes-word : (ms : List ℕ) → isMessage h ms ≡ true → Codeword h (encoding h ms)
+  -- a message is that of its encoding, and a word is the encoding of its message
+  pub message-back : (ms : List ℕ) → isMessage h ms ≡ true → messageOf h (encoding h ms) ≡ ms
+  pub word-message : (ws : List ℕ) → length ws ≡ h .n → allBelow (size h) ws ≡ true → isWord h ws ≡ true → (isMessage h (messageOf h ws) ≡ true) × (encoding h (messageOf h ws) ≡ ws)
   -- an entry is not zero exactly where (j + shift) modulo n lies below d
   pub row-weight : (r j : ℕ) → r < h .k → j < h .n → eqb (entry h r j) 0 ≡ not (ltb ((j + getD (shifts h) r 0) % h .n) (distance h))
   -- each change of one symbol alters exactly d nodes

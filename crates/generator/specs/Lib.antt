@@ -3,5 +3,6 @@ pub mod Records
 pub mod Shifts
 pub mod Generator
 pub mod Codewords
+pub mod Messages
 pub mod Claims
 pub mod Comparison

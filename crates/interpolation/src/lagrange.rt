@@ -51,7 +51,7 @@ fn others_at(field: Field, points: &[u16], i: usize, z: u32) -> u32
 }
 
 // 1 over that product at point number i itself.
-fn scale_at(field: Field, points: &[u16], i: usize) -> u32
+pub fn scale_at(field: Field, points: &[u16], i: usize) -> u32
     requires { ⌜ SymbolList field (now points) × (i < length (now points)) ⌝ }
     ensures { λ r. ⌜ r ≡ scaleAt (modulus field) (now (points .entry)) i ⌝ }
 {

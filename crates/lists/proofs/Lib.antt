@@ -21,3 +21,4 @@ pub mod Along  -- counted along different places
 pub mod All  -- a property of all elements, distinct elements, images
 pub mod Places  -- distinct numbers below n; `range`
 pub mod Numbers  -- `allBelow`, `isIn`, `distinct` as tests
+pub mod AllLists  -- `anyList`, `firstList`: the search through all lists

@@ -6,6 +6,7 @@
 --   Counting  countFrom, passingFrom, differ, occurrences: the numbers that pass a test, the places where two lists differ, how often a number stands in a list
 --   Numbers   allBelow, isIn, distinct: tests of lists of numbers
 --   Search    firstFalse: the first number of a stretch that fails a test
+--   AllLists  anyList, firstList: the search through all lists of n numbers below q
 pub mod Choice
 pub mod Rows
 pub mod Around
@@ -13,3 +14,4 @@ pub mod Padded
 pub mod Counting
 pub mod Numbers
 pub mod Search
+pub mod AllLists

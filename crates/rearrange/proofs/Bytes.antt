@@ -2,7 +2,7 @@
 use mathlib.Core.Path.{_≡_, refl, sym, ap, ap₂, _∙_}
 use mathlib.Core.Bool.{Bool, true, false, not}
 use mathlib.Core.List.{List}
-use Prim.Native.Nat.{ℕ, _*_, _/_, _<_}
+use Prim.Native.Nat.{ℕ, zero, suc, _*_, _/_, _<_}
 use native.Mathlib.Nat.{mul-div-cancel}
 use native.Mathlib.Omega.{arith}
 use lib.ListN.{length}
@@ -17,13 +17,24 @@ use Rattle.layout.proofs.Widths.{length-symbols, length-bytes, symbols-bytes}
 use Rattle.generator.specs.declared.Header.{Header}
 use Rattle.generator.specs.Records.{size, width}
 use Rattle.refusals.specs.Conditions.{lanesBad, lengthBad, numberBad, nodesBad, twiceBad, symbolBad, symbolsBad, laneBad}
-use Rattle.refusals.specs.Faults.{updateFault, listFault, recoverFault, rebuildFault, belongsFault}
+use Rattle.refusals.specs.Faults.{inputFault, staleFault, updateFault, listFault, recoverFault, rebuildFault, belongsFault}
+use Rattle.refusals.proofs.Accepts.{not-met}
 use Rattle.refusals.proofs.NotMet.{number-good}
 use Rattle.refusals.proofs.OneByte.{symbols-are, bytes-are}
 use Rattle.blocks.specs.Blocks.{updated, firstWrong, MessageFor}
 use Rattle.blocks.specs.Bytes.{encodedBytes, updatedBytes, alteredCount, wrongLane, rearrangedBytes}
 use Rattle.blocks.proofs.Tiles.{shares-rearranged}
 use Rattle.rearrange.proofs.Symbols.{length-rearranged, same-below, same-updated, same-altered, same-wrong, same-message}
+
+-- the lane of an update that numbers 7 to 11 do not turn away
+pub input-inside : (y : Arrangement) (h : Header) (l r t old new : ℕ) (shares : List ℕ) → inputFault y h l r t old new shares ≡ 0 → t < l
+unfolding inputFault
+input-inside y h l r t old new shares e =
+    let (seven, b) = not-met (lanesBad l) 6 _ e in
+    let (eight, c) = not-met (lengthBad (h .n * l * width h) (length shares)) 7 _ b in
+    let (row, d) = not-met (numberBad (h .k) r) 8 _ c in
+    let (lane, f) = not-met (numberBad l t) 8 _ d in
+    number-good l t lane
 
 -- a symbol has a byte
 width-some : (h : Header) → 0 < width h
@@ -85,11 +96,12 @@ module _ {y z : Arrangement} (a : Lawful y) (b : Lawful z) (h : Header) (l : ℕ
 
     module _ (r t old new : ℕ) where
       -- Update: the number, the shares and the count
+      lane-turned : t < l → laneOf z (h .n) l t (symbolsOf (width h) turned) ≡ laneOf y (h .n) l t (symbolsOf (width h) shares)
+      lane-turned inside = ap (laneOf z (h .n) l t) (symbols-turned h (h .n) l shares y z) ∙ rearranged-lane a b (h .n) l (symbolsOf (width h) shares) t inside
+
       same-lane : t < l → laneBad z h l t turned ≡ laneBad y h l t shares
       unfolding laneBad
-      same-lane inside =
-          ap (λ (w : List ℕ). not (allBelow (size h) w))
-          (ap (laneOf z (h .n) l t) (symbols-turned h (h .n) l shares y z) ∙ rearranged-lane a b (h .n) l (symbolsOf (width h) shares) t inside)
+      same-lane inside = ap (λ (w : List ℕ). not (allBelow (size h) w)) (lane-turned inside)
 
       -- the lane is judged only where it is one
       lane-number : (f : Bool → ℕ) → firstOf (when (numberBad l t) 9) (f (laneBad z h l t turned)) ≡ firstOf (when (numberBad l t) 9) (f (laneBad y h l t shares))
@@ -98,10 +110,18 @@ module _ {y z : Arrangement} (a : Lawful y) (b : Lawful z) (h : Header) (l : ℕ
           (λ outside. rw outside)
           (λ inside. ap (λ (x : Bool). firstOf (when (numberBad l t) 9) (f x)) (same-lane (number-good l t inside)))
 
+      input-turned : inputFault z h l r t old new turned ≡ inputFault y h l r t old new shares
+      unfolding inputFault
+      input-turned =
+          rw (same-length, lane-number (λ (x : Bool). firstOf (when (symbolBad h old) 11) (firstOf (when (symbolBad h new) 11) (when x 11))))
+
       pub update-turned : updateFault z h l r t old new turned ≡ updateFault y h l r t old new shares
       unfolding updateFault
-      update-turned =
-          rw (same-length, lane-number (λ (x : Bool). firstOf (when (symbolBad h old) 11) (firstOf (when (symbolBad h new) 11) (when x 11))))
+      update-turned = go (inputFault y h l r t old new shares) refl
+        where
+          go : (f : ℕ) → inputFault y h l r t old new shares ≡ f → firstOf (inputFault z h l r t old new turned) (staleFault h (laneOf z (h .n) l t (symbolsOf (width h) turned)) r old) ≡ firstOf (inputFault y h l r t old new shares) (staleFault h (laneOf y (h .n) l t (symbolsOf (width h) shares)) r old)
+          go zero e = rw (input-turned, e) (ap (λ (w : List ℕ). staleFault h w r old) (lane-turned (input-inside y h l r t old new shares e)))
+          go (suc f) e = rw (input-turned, e)
 
       pub updated-turned : t < l → updatedBytes z h l r t old new turned ≡ rearrangedBytes y z h (h .n) l (updatedBytes y h l r t old new shares)
       unfolding updatedBytes rearrangedBytes

@@ -8,15 +8,14 @@ use borrow.Author.Tests.{ne-eqb}
 use lib.Dec.{eqb}
 use lib.ListN.{length}
 use Rattle.lists.specs.Choice.{firstOf, pickT}
+use Rattle.lists.proofs.Cases.{first-zero}
 use Rattle.layout.specs.Layout.{Arrangement, byRow, byLane, shareLayout}
 use Rattle.layout.specs.Width.{symbolsOf, bytesOf}
 use Rattle.layout.proofs.Lawful.{Lawful, by-row, by-lane}
 use Rattle.generator.specs.declared.Header.{Header}
 use Rattle.generator.specs.Records.{headerOf, recordFault, width, Sound}
-use Rattle.refusals.specs.Conditions.{lanesBad, lengthBad, numberBad}
-use Rattle.refusals.specs.Faults.{encodeFault, updateFault, recoverFault, rebuildFault, belongsFault, faultOf}
-use Rattle.refusals.proofs.Accepts.{not-met, recover-accepts, rebuild-accepts}
-use Rattle.refusals.proofs.NotMet.{number-good}
+use Rattle.refusals.specs.Faults.{encodeFault, inputFault, updateFault, recoverFault, rebuildFault, belongsFault, faultOf}
+use Rattle.refusals.proofs.Accepts.{recover-accepts, rebuild-accepts}
 use Rattle.refusals.proofs.OneByte.{times-width}
 use Rattle.refusals.proofs.OnRecord.{none-met}
 use Rattle.blocks.specs.declared.Outcome.{Outcome}
@@ -33,17 +32,12 @@ use Rattle.blocks.proofs.Refused.{update-refused, refused-value}
 use Rattle.rearrange.specs.Calls.{rearrangeFault, RearrangeSays}
 use Rattle.rearrange.specs.Lanes.{Full, LaneAfterLane}
 use Rattle.rearrange.proofs.Refused.{rearrange-accepts}
-use Rattle.rearrange.proofs.Bytes.{turned-back, encoded-turned, belongs-turned, wrong-turned, update-turned, updated-turned, altered-turned, recover-turned, rebuild-turned, message-turned}
+use Rattle.rearrange.proofs.Bytes.{input-inside, turned-back, encoded-turned, belongs-turned, wrong-turned, update-turned, updated-turned, altered-turned, recover-turned, rebuild-turned, message-turned}
 
 -- the lane of an update that no number turns away
 update-inside : (y : Arrangement) (h : Header) (l r t old new : ℕ) (shares : List ℕ) → updateFault y h l r t old new shares ≡ 0 → t < l
 unfolding updateFault
-update-inside y h l r t old new shares e =
-    let (seven, b) = not-met (lanesBad l) 6 _ e in
-    let (eight, c) = not-met (lengthBad (h .n * l * width h) (length shares)) 7 _ b in
-    let (row, d) = not-met (numberBad (h .k) r) 8 _ c in
-    let (lane, f) = not-met (numberBad l t) 8 _ d in
-    number-good l t lane
+update-inside y h l r t old new shares e = input-inside y h l r t old new shares (first-zero (inputFault y h l r t old new shares) _ e .0)
 
 module _ {y z : Arrangement} (a : Lawful y) (b : Lawful z) (rec : List ℕ) (l : ℕ) where
   -- the record's header

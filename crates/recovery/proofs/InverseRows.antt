@@ -80,14 +80,14 @@ module _ (p : ℕ) (v : isField p ≡ true) (k : ℕ) (bs cs xs : List (Symbol (
   abbrev term : ℕ → Symbol (sizeOf p)
   term c = fieldOf p v .mul (at (others (fieldOf p v) bs (at bs r)) c) (fieldOf p v .inv (at cs c))
 
-  length-terms : length (termsOf p (nums bs) (nums cs) r) ≡ k
+  pub length-terms : length (termsOf p (nums bs) (nums cs) r) ≡ k
   length-terms =
       let q = rest-is bs r in
       let n = length-rest bs r in
       let m = length-inversesOf p (nums cs) ∙ length-numbers (sizeOf p) cs in
       ap (λ (l : List ℕ). length (termwise p l (inversesOf p (nums cs)))) q ∙ length-termwise p (nums (others (fieldOf p v) bs (at bs r))) (inversesOf p (nums cs)) (omega arith) ∙ omega arith
 
-  term-is : (c : ℕ) → c < k → getD (termsOf p (nums bs) (nums cs) r) c 0 ≡ term c .0
+  pub term-is : (c : ℕ) → c < k → getD (termsOf p (nums bs) (nums cs) r) c 0 ≡ term c .0
   term-is c b =
       let F = fieldOf p v in
       let o = others F bs (at bs r) in

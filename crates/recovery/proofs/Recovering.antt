@@ -41,7 +41,7 @@ rowOf h xs r = weightsOf (modulusOf h) (getD (scalesOf (modulusOf h) (rowPoints 
 
 module _ (h : Header) (s : Sound h) where
   -- the rows' points, as symbols
-  row-points : rowPoints h ≡ numbers (size h) (shifted (fieldFor h s) (rootFor h s) (pow (fieldFor h s) (rootFor h s) (h .k - 1)) (shifts h))
+  pub row-points : rowPoints h ≡ numbers (size h) (shifted (fieldFor h s) (rootFor h s) (pow (fieldFor h s) (rootFor h s) (h .k - 1)) (shifts h))
   unfolding rowPoints
   row-points =
       pointsOf-is (modulusOf h) (s .field) (rootFor h s) (h .k - 1) (shifts h)

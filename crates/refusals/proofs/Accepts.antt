@@ -1,4 +1,4 @@
--- What holds where a call meets none of the numbers 7 to 11.
+-- What holds where a call meets none of the numbers 7 to 13.
 use mathlib.Core.Path.{_≡_}
 use mathlib.Core.Bool.{Bool, false}
 use mathlib.Core.List.{List}
@@ -7,14 +7,16 @@ use borrow.Author.Tests.{eq-eqb}
 use lib.ListN.{length}
 use Rattle.lists.specs.Choice.{firstOf, when}
 use Rattle.lists.proofs.Cases.{both-true, first-zero, when-zero}
-use Rattle.layout.specs.Layout.{shareLayout}
+use Rattle.layout.specs.Layout.{laneOf, shareLayout}
+use Rattle.layout.specs.Width.{symbolsOf}
 use Rattle.generator.specs.declared.Header.{Header}
 use Rattle.generator.specs.Records.{size, width, Sound}
 use Rattle.generator.specs.Claims.{areNodes}
-use Rattle.refusals.specs.Conditions.{lanesBad, lengthBad, numberBad, nodesBad, twiceBad, symbolBad, symbolsBad, laneBad}
-use Rattle.refusals.specs.Faults.{encodeFault, updateFault, listFault, recoverFault, rebuildFault, belongsFault}
-use Rattle.refusals.specs.Accepted.{SymbolRows, ListedShares, UpdatableLane}
-use Rattle.refusals.proofs.NotMet.{lanes-good, length-good, buffer-good, number-good, nodes-good, twice-good, symbol-good, symbols-good, lane-good}
+use Rattle.refusals.specs.Conditions.{lanesBad, lengthBad, numberBad, nodesBad, twiceBad, symbolBad, symbolsBad, laneBad, noWord, otherSymbol}
+use Rattle.refusals.specs.Faults.{encodeFault, inputFault, staleFault, updateFault, listFault, recoverFault, rebuildFault, belongsFault}
+use Rattle.refusals.specs.Accepted.{SymbolRows, ListedShares, UpdatableLane, FreshLane}
+use Rattle.refusals.proofs.OneByte.{symbols-are}
+use Rattle.refusals.proofs.NotMet.{lanes-good, length-good, buffer-good, number-good, nodes-good, twice-good, symbol-good, symbols-good, lane-good, word-good, held-good}
 
 -- a number that is not met, and the numbers after it
 pub not-met : (t : Bool) (n rest : ℕ) → firstOf (when t (suc n)) rest ≡ 0 → (t ≡ false) × (rest ≡ 0)
@@ -52,10 +54,10 @@ module _ (h : Header) (sound : Sound h) (l : ℕ) where
       let (eight, last) = not-met (lengthBad (h .n * l * width h) (length shares)) 7 _ after in
       rows-good (h .n) shares seven eight (when-zero (symbolsBad h shares) 10 last)
 
-  -- Update: the lane holds symbols, and so are the old and the new one
-  pub update-accepts : (r t old new : ℕ) (shares : List ℕ) → updateFault shareLayout h l r t old new shares ≡ 0 → UpdatableLane h l r t shares × (old < size h) × (new < size h)
-  unfolding updateFault
-  update-accepts r t old new shares e =
+  -- Update: the lane holds symbols, and so are the old and the new one ..
+  pub input-accepts : (r t old new : ℕ) (shares : List ℕ) → inputFault shareLayout h l r t old new shares ≡ 0 → UpdatableLane h l r t shares × (old < size h) × (new < size h)
+  unfolding inputFault
+  input-accepts r t old new shares e =
       let (seven, a) = not-met (lanesBad l) 6 _ e in
       let (eight, b) = not-met (lengthBad (h .n * l * width h) (length shares)) 7 _ a in
       let (row, c) = not-met (numberBad (h .k) r) 8 _ b in
@@ -72,6 +74,22 @@ module _ (h : Header) (sound : Sound h) (l : ℕ) where
         },
         symbol-good h old first,
         symbol-good h new second,
+      )
+
+  -- .. and it is a word, whose message holds the old symbol
+  pub update-accepts : (r t old new : ℕ) (shares : List ℕ) → updateFault shareLayout h l r t old new shares ≡ 0 → UpdatableLane h l r t shares × (old < size h) × (new < size h) × FreshLane h l r t old shares
+  unfolding updateFault staleFault
+  update-accepts r t old new shares e =
+      let (given, fresh) = first-zero (inputFault shareLayout h l r t old new shares) _ e in
+      let (lane, first, second) = input-accepts r t old new shares given in
+      let (twelve, thirteen) = not-met (noWord h (laneOf shareLayout (h .n) l t (symbolsOf (width h) shares))) 11 _ fresh in (
+        lane,
+        first,
+        second,
+        record {
+          word = rw symbols-are at (word-good h _ twelve);
+          holds = rw symbols-are at (held-good h _ r old (when-zero (otherSymbol h (laneOf shareLayout (h .n) l t (symbolsOf (width h) shares)) r old) 12 thirteen));
+        },
       )
 
   module _ (nodes shares : List ℕ) where

@@ -7,12 +7,15 @@ use native.Mathlib.Nat.{mul-le-mul}
 use native.Mathlib.Omega.{arith}
 use borrow.Author.Tests.{eqb-true, eqb-false, ltb-false, leb-false, not-false}
 use lib.Dec.{eqb, ltb}
+use lib.ListN.{getD}
 use Rattle.lists.specs.Numbers.{allBelow, distinct}
 use Rattle.lists.proofs.Cases.{or-left-false, or-right-false}
 use Rattle.layout.specs.Layout.{Arrangement, laneOf}
 use Rattle.generator.specs.declared.Header.{Header}
 use Rattle.generator.specs.Records.{size, width}
-use Rattle.refusals.specs.Conditions.{lanesBad, lengthBad, numberBad, nodesBad, twiceBad, symbolBad, symbolsBad, laneBad}
+use Rattle.generator.specs.Codewords.{isWord}
+use Rattle.generator.specs.Messages.{messageOf}
+use Rattle.refusals.specs.Conditions.{lanesBad, lengthBad, numberBad, nodesBad, twiceBad, symbolBad, symbolsBad, laneBad, noWord, otherSymbol}
 use Rattle.refusals.proofs.OneByte.{times-width, symbols-test, lane-test}
 
 -- number 7
@@ -55,6 +58,16 @@ module _ (h : Header) where
 
   pub lane-good : (y : Arrangement) (l t : ℕ) (shares : List ℕ) → laneBad y h l t shares ≡ false → allBelow (size h) (laneOf y (h .n) l t shares) ≡ true
   lane-good y l t shares e = not-false _ (rw lane-test at e)
+
+  -- number 12
+  pub word-good : (ws : List ℕ) → noWord h ws ≡ false → isWord h ws ≡ true
+  unfolding noWord
+  word-good ws e = not-false _ e
+
+  -- number 13
+  pub held-good : (ws : List ℕ) (r old : ℕ) → otherSymbol h ws r old ≡ false → getD (messageOf h ws) r 0 ≡ old
+  unfolding otherSymbol
+  held-good ws r old e = eqb-true _ old (not-false _ e)
 
 -- number 10
 pub twice-good : (nodes : List ℕ) → twiceBad nodes ≡ false → distinct nodes ≡ true

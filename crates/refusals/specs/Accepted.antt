@@ -3,10 +3,12 @@ use mathlib.Core.Path.{_≡_}
 use mathlib.Core.Bool.{true}
 use mathlib.Core.List.{List}
 use Prim.Native.Nat.{ℕ, _*_, _≤_, _<_}
-use lib.ListN.{length}
+use lib.ListN.{length, getD}
 use Rattle.lists.specs.Numbers.{allBelow}
 use Rattle.generator.specs.declared.Header.{Header}
 use Rattle.generator.specs.Records.{size, Sound}
+use Rattle.generator.specs.Codewords.{isWord}
+use Rattle.generator.specs.Messages.{messageOf}
 use Rattle.generator.specs.Claims.{areNodes}
 use Rattle.layout.specs.Layout.{laneOf, shareLayout}
 
@@ -31,3 +33,8 @@ pub record UpdatableLane (h : Header) (l r t : ℕ) (shares : List ℕ) : Type 0
   pub lane : t < l
   pub long : length shares ≡ h .n * l
   pub symbols : allBelow (size h) (laneOf shareLayout (h .n) l t shares) ≡ true
+
+-- lane t is a word of the code, and its message holds `old` at number r
+pub record FreshLane (h : Header) (l r t old : ℕ) (shares : List ℕ) : Type 0 where
+  pub word : isWord h (laneOf shareLayout (h .n) l t shares) ≡ true
+  pub holds : getD (messageOf h (laneOf shareLayout (h .n) l t shares)) r 0 ≡ old

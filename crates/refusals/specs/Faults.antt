@@ -1,12 +1,13 @@
--- What turns a call away: the lowest of numbers 7 to 11 whose condition holds, or 0. `out` is the length of a written buffer; a symbol has `width` bytes.
+-- What turns a call away: the lowest of numbers 7 to 13 whose condition holds, or 0. `out` is the length of a written buffer; a symbol has `width` bytes.
 use mathlib.Core.List.{List}
 use Prim.Native.Nat.{ℕ, _*_}
 use lib.ListN.{length}
 use Rattle.lists.specs.Choice.{firstOf, when}
-use Rattle.layout.specs.Layout.{Arrangement}
+use Rattle.layout.specs.Layout.{Arrangement, laneOf}
+use Rattle.layout.specs.Width.{symbolsOf}
 use Rattle.generator.specs.declared.Header.{Header}
 use Rattle.generator.specs.Records.{headerOf, recordFault, width}
-use Rattle.refusals.specs.Conditions.{lanesBad, lengthBad, numberBad, nodesBad, twiceBad, symbolBad, symbolsBad, laneBad}
+use Rattle.refusals.specs.Conditions.{lanesBad, lengthBad, numberBad, nodesBad, twiceBad, symbolBad, symbolsBad, laneBad, noWord, otherSymbol}
 
 -- Encode reads a message and writes n shares
 unfoldable pub encodeFault : Header → ℕ → ℕ → List ℕ → ℕ
@@ -16,9 +17,9 @@ encodeFault h l out message =
     (firstOf (when (lengthBad (h .n * l * width h) out) 8)
     (when (symbolsBad h message) 11)))
 
--- Update takes the number of a symbol and of a lane, and reads the two symbols and its lane of shares that are arranged as y says
-unfoldable pub updateFault : Arrangement → Header → ℕ → ℕ → ℕ → ℕ → ℕ → List ℕ → ℕ
-updateFault y h l r t old new shares =
+-- Update takes the number of a symbol and of a lane, and reads the two symbols and its lane of shares that are arranged as y says: numbers 7 to 11 of what it is given
+unfoldable pub inputFault : Arrangement → Header → ℕ → ℕ → ℕ → ℕ → ℕ → List ℕ → ℕ
+inputFault y h l r t old new shares =
     firstOf (when (lanesBad l) 7)
     (firstOf (when (lengthBad (h .n * l * width h) (length shares)) 8)
     (firstOf (when (numberBad (h .k) r) 9)
@@ -26,6 +27,14 @@ updateFault y h l r t old new shares =
     (firstOf (when (symbolBad h old) 11)
     (firstOf (when (symbolBad h new) 11)
     (when (laneBad y h l t shares) 11))))))
+
+-- a lane that an update is to change: it is a word, and its message holds the old symbol at number r
+unfoldable pub staleFault : Header → List ℕ → ℕ → ℕ → ℕ
+staleFault h ws r old = firstOf (when (noWord h ws) 12) (when (otherSymbol h ws r old) 13)
+
+-- Update: what it is given, then the lane
+unfoldable pub updateFault : Arrangement → Header → ℕ → ℕ → ℕ → ℕ → ℕ → List ℕ → ℕ
+updateFault y h l r t old new shares = firstOf (inputFault y h l r t old new shares) (staleFault h (laneOf y (h .n) l t (symbolsOf (width h) shares)) r old)
 
 -- a list of k nodes and their shares
 unfoldable pub listFault : Header → List ℕ → List ℕ → ℕ

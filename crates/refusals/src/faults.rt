@@ -3,7 +3,7 @@ ghost use mathlib.Core.Path.{_≡_};
 ghost use mathlib.Core.Bool.{true};
 ghost use Rattle.field.specs.Kinds.{usable};
 ghost use Rattle.layout.specs.Layout.{shareLayout};
-ghost use Rattle.refusals.specs.Faults.{encodeFault, updateFault, recoverFault, rebuildFault, belongsFault};
+ghost use Rattle.refusals.specs.Faults.{encodeFault, inputFault, recoverFault, rebuildFault, belongsFault};
 use crate::conditions::lanes_bad;
 use crate::conditions::length_bad;
 use crate::conditions::number_bad;
@@ -36,8 +36,8 @@ pub fn encode_fault(h: Header, lanes: usize, message: &[u8], size: usize) -> u8
     0
 }
 
-// Update.
-pub fn update_fault(
+// Update: what it is given. Whether its lane is stale is judged afterwards.
+pub fn input_fault(
     h: Header,
     lanes: usize,
     which: usize,
@@ -47,7 +47,7 @@ pub fn update_fault(
     shares: &[u8],
 ) -> u8
     requires { ⌜ usable (h .field) ≡ true ⌝ }
-    ensures { λ r. ⌜ r ≡ updateFault shareLayout h lanes which lane old new (now (shares .entry)) ⌝ }
+    ensures { λ r. ⌜ r ≡ inputFault shareLayout h lanes which lane old new (now (shares .entry)) ⌝ }
 {
     let n = h.n as usize;
     let k = h.k as usize;

@@ -6,6 +6,6 @@ mod symbols;
 
 pub use faults::belongs_fault;
 pub use faults::encode_fault;
+pub use faults::input_fault;
 pub use faults::rebuild_fault;
 pub use faults::recover_fault;
-pub use faults::update_fault;

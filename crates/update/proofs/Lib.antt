@@ -1,5 +1,6 @@
 -- Laws of an update: the bytes of its lane, the loop over the nodes, its answers, equal symbols.
 pub mod Lane
+pub mod Judging
 pub mod Rewriting
 pub mod Answering
 pub mod EqualSymbols

@@ -2,12 +2,12 @@
 ghost use mathlib.Core.Path.{_≡_};
 ghost use Prim.Native.Nat.{_<_};
 ghost use Rattle.lists.specs.Counting.{differ};
-ghost use Rattle.layout.specs.Layout.{shareLayout};
+ghost use Rattle.layout.specs.Layout.{laneOf, shareLayout};
 ghost use Rattle.field.specs.Fields.{add, mul};
 ghost use Rattle.field.specs.Tables.{AreTables};
 ghost use Rattle.generator.specs.Records.{modulusOf, size, Sound};
 ghost use Rattle.plan.specs.Plans.{planFor};
-ghost use Rattle.refusals.specs.Faults.{updateFault};
+ghost use Rattle.refusals.specs.Faults.{staleFault, updateFault};
 ghost use Rattle.refusals.specs.Accepted.{UpdatableLane};
 ghost use Rattle.blocks.specs.Blocks.{rowAdded, wordAdded};
 ghost use Rattle.blocks.specs.Promises.{UpdatePromise, UpdateSays};
@@ -93,6 +93,27 @@ fn rewrite_lane<'a>(
     )
 }
 
+// The number that a lane meets: 12 where it is no word of the code, else 13 where its message holds another symbol than `old`, else 0.
+fn judge(h: Header, which: u32, old: u32, lane: &[u8]) -> u8
+    requires { ⌜ UpdatableWord h which (now lane) ⌝ }
+    ensures { λ f. ⌜ f ≡ staleFault h (now (lane .entry)) which old ⌝ }
+{
+    let n = h.n as usize;
+    let symbols = symbols::read_symbols(1, lane);
+    word_message::stale_fault(h, &symbols[..n], which as usize, old)
+}
+
+// The same for one lane of the shares, which is handed on likewise.
+fn judge_lane(h: Header, lanes: usize, which: u32, lane: usize, old: u32, shares: &[u8]) -> u8
+    requires { ⌜ UpdatableLane h lanes which lane (now shares) ⌝ }
+    ensures { λ f. ⌜ f ≡ staleFault h (laneOf shareLayout (h .n) lanes lane (now (shares .entry))) which old ⌝ }
+{
+    let n = h.n as usize;
+    let start = lane * n;
+    let end = start + n;
+    judge(h, which, old, &shares[start..end])
+}
+
 // Updates over an accepted record's header.
 fn update_accepted(
     h: Header,
@@ -107,7 +128,7 @@ fn update_accepted(
     ensures { λ a. ⌜ UpdatePromise shareLayout lanes which lane old new (now (shares .entry)) (now (shares .exit)) a h (updateFault shareLayout h lanes which lane old new (now (shares .entry))) ⌝ }
 {
     let field = h.field;
-    let number = refusals::update_fault(
+    let number = refusals::input_fault(
         h,
         lanes as usize,
         which as usize,
@@ -118,6 +139,10 @@ fn update_accepted(
     );
     if number != 0 {
         return Update::Refused(number);
+    }
+    let stale = judge_lane(h, lanes as usize, which, lane as usize, old as u32, shares);
+    if stale != 0 {
+        return Update::Refused(stale);
     }
     let x = field.sub(new as u32, old as u32);
     let plan = plan::plan_of(h);

@@ -64,14 +64,17 @@ fn round(random: &mut Random, shape: &Shape, lanes: usize) -> usize {
     accepted(compare::belongs(&record, l, &damaged).0);
     accepted(compare::belongs(&record, l, &random.symbols(size, n * lanes)).0);
 
-    // an update of a true symbol, of another, of an equal one; of a block that is none
+    // an update of a true symbol, and of one that may be another, of a block that may be damaged, with equal symbols
     let (symbol, lane) = (random.below(k), random.below(lanes));
     let old = message[symbol * lanes + lane];
     let [other, new] = [random.below(size as usize) as u8, random.below(size as usize) as u8];
     let (s, t) = (symbol as u32, lane as u32);
     accepted(compare::update(&record, l, s, t, old, new, &shares));
-    accepted(compare::update(&record, l, s, t, other, new, &damaged));
-    accepted(compare::update(&record, l, s, t, new, new, &shares));
+    accepted(compare::update(&record, l, s, t, old, old, &shares));
+    let whole = [0, 13].contains(&compare::update(&record, l, s, t, other, new, &shares));
+    let stale = [0, 13].contains(&compare::update(&record, l, s, t, new, new, &shares));
+    let spoiled = [0, 12, 13].contains(&compare::update(&record, l, s, t, other, new, &damaged));
+    assert!(whole && stale && spoiled);
     let altered = balanced::update(&record, l, s, t, old, new, &mut shares).unwrap();
     assert_eq!(altered as usize, if old == new { 0 } else { n - k + 1 });
     assert_eq!(compare::belongs(&record, l, &shares), (0, l));
@@ -81,7 +84,7 @@ fn round(random: &mut Random, shape: &Shape, lanes: usize) -> usize {
     for j in 0..n {
         others[lane * n + j] = shares[lane * n + j];
     }
-    accepted(compare::update(&record, l, s, t, old, new, &others));
+    accepted(compare::update(&record, l, s, t, new, old, &others));
 
     // bytes that need be no symbols, rearranged, and back
     accepted(compare::to_nodes(&record, l, &others, &random.bytes(n * lanes)));

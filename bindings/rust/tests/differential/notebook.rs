@@ -87,8 +87,22 @@ fn blocks() {
 
     // equal symbols alter nothing
     let mut shares = [6, 1, 1, 3, 6, 2];
-    assert_eq!(plan.update(1, 1, 0, 4, 4, &mut shares), Ok(0));
+    assert_eq!(plan.update(1, 1, 0, 0, 0, &mut shares), Ok(0));
     assert_eq!(shares, [6, 1, 1, 3, 6, 2]);
+
+    // a lane that is no word, and a message that holds another symbol: also with equal symbols, and nothing is altered
+    assert_eq!(plan.update(1, 1, 0, 4, 4, &mut shares), Err(Error::Stale));
+    assert_eq!(plan.update(1, 1, 0, 4, 5, &mut shares), Err(Error::Stale));
+    assert_eq!(shares, [6, 1, 1, 3, 6, 2]);
+    let mut spoiled = [6, 1, 1, 3, 6, 3];
+    assert_eq!(plan.update(1, 1, 0, 0, 0, &mut spoiled), Err(Error::Word));
+    assert_eq!(plan.update(1, 1, 0, 4, 5, &mut spoiled), Err(Error::Word));
+    assert_eq!(spoiled, [6, 1, 1, 3, 6, 3]);
+
+    // the same update twice: the second one is stale
+    assert_eq!(plan.update(1, 1, 0, 0, 5, &mut shares), Ok(4));
+    assert_eq!(plan.update(1, 1, 0, 0, 5, &mut shares), Err(Error::Stale));
+    assert_eq!(shares, [0, 6, 1, 3, 1, 0]);
 }
 
 #[test]
@@ -106,6 +120,8 @@ fn numbers_and_names() {
         (9, "range"),
         (10, "twice"),
         (11, "symbol"),
+        (12, "word"),
+        (13, "stale"),
         (15, "already"),
         (16, "many"),
     ];

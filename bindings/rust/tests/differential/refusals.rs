@@ -37,10 +37,18 @@ impl Input {
         }
     }
 
+    /// Shares that encode a message, and the old symbol as the message has it.
+    fn encode(&mut self, random: &mut Random, shape: &Shape) {
+        let lanes = self.lanes as usize;
+        let message = random.symbols(shape.size, shape.k * lanes);
+        self.old = message[self.symbol as usize * lanes + self.lane as usize];
+        balanced::encode(&self.record, self.lanes, &message, &mut self.read).unwrap();
+    }
+
     /// One thing made wrong: mostly so that a number is met, and sometimes so that none is.
     fn damage(&mut self, random: &mut Random, shape: &Shape) {
         let at = |random: &mut Random, len: usize| if len == 0 { None } else { Some(random.below(len)) };
-        match random.below(12) {
+        match random.below(14) {
             0 => {
                 if let Some(i) = at(random, self.record.len()) {
                     self.record[i] = random.byte();
@@ -101,6 +109,12 @@ impl Input {
                     _ => {}
                 }
             }
+            11 => self.old = random.below(shape.size as usize) as u8,
+            12 => {
+                if let Some(i) = at(random, self.read.len()) {
+                    self.read[i] = random.below(shape.size as usize) as u8;
+                }
+            }
             _ => {
                 let bad = *random.pick(&[(shape.size % 256) as u8, 255]);
                 if let Some(i) = at(random, self.read.len()) {
@@ -121,14 +135,16 @@ fn run(
     read: fn(&Shape) -> usize,
     written: fn(&Shape) -> usize,
     numbers: &[usize],
+    prepare: fn(&mut Input, &mut Random, &Shape),
     call: fn(&Input) -> u8,
 ) {
     let mut random = Random::new(seed);
     let shapes = shapes(16);
-    let mut seen = [0; 12];
+    let mut seen = [0; 14];
     for _ in 0..ROUNDS {
         let shape = random.pick(&shapes);
         let mut input = Input::new(&mut random, shape, read(shape), written(shape));
+        prepare(&mut input, &mut random, shape);
         for _ in 0..random.below(4) {
             input.damage(&mut random, shape);
         }
@@ -153,19 +169,21 @@ fn encode() {
         |s| s.k,
         |s| s.n,
         &numbers,
+        |_, _, _| {},
         |i| compare::encode(&i.record, i.lanes, &i.read, &i.written),
     );
 }
 
 #[test]
 fn update() {
-    let numbers = [0, 1, 2, 3, 4, 5, 7, 8, 9, 11];
+    let numbers = [0, 1, 2, 3, 4, 5, 7, 8, 9, 11, 12, 13];
     run(
         21,
         "update",
         |s| s.n,
         |_| 0,
         &numbers,
+        Input::encode,
         |i| compare::update(&i.record, i.lanes, i.symbol, i.lane, i.old, i.new, &i.read),
     );
 }
@@ -179,6 +197,7 @@ fn recover() {
         |s| s.k,
         |s| s.k,
         &numbers,
+        |_, _, _| {},
         |i| compare::recover(&i.record, i.lanes, &i.nodes, &i.read, &i.written),
     );
 }
@@ -192,6 +211,7 @@ fn rebuild() {
         |s| s.k,
         |_| 1,
         &numbers,
+        |_, _, _| {},
         |i| compare::rebuild(&i.record, i.lanes, &i.nodes, &i.read, i.target, &i.written),
     );
 }
@@ -205,6 +225,7 @@ fn to_lanes() {
         |s| s.n,
         |s| s.n,
         &numbers,
+        |_, _, _| {},
         |i| compare::to_lanes(&i.record, i.lanes, &i.read, &i.written),
     );
 }
@@ -218,6 +239,7 @@ fn to_nodes() {
         |s| s.n,
         |s| s.n,
         &numbers,
+        |_, _, _| {},
         |i| compare::to_nodes(&i.record, i.lanes, &i.read, &i.written),
     );
 }
@@ -231,6 +253,7 @@ fn belongs() {
         |s| s.n,
         |_| 0,
         &numbers,
+        |_, _, _| {},
         |i| compare::belongs(&i.record, i.lanes, &i.read).0,
     );
 }

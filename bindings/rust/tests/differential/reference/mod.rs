@@ -41,6 +41,14 @@ pub fn update(
     let at = |j: usize| lane as usize * code.n + j;
     code.symbols_fault(&[old, new])?;
     code.symbols_fault(&(0..code.n).map(|j| shares[at(j)]).collect::<Vec<u8>>())?;
+    let word = &shares[at(0)..at(0) + code.n];
+    if belongs(record, 1, word)? != 1 {
+        return Err(12);
+    }
+    let first: Vec<u8> = (0..code.k as u8).collect();
+    if code.message(1, &first, &word[..code.k])[symbol as usize] != old {
+        return Err(13);
+    }
     let mut after = shares.to_vec();
     let change = code.field.sub(new, old);
     for j in 0..code.n {

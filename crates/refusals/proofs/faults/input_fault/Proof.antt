@@ -1,13 +1,13 @@
--- `update_fault` meets its contract: the tests are those of the definition, in its order.
+-- `input_fault` meets its contract: the tests are those of the definition, in its order.
 use mathlib.Core.Path.{sym, _∙_}
 use borrow.Author.Needs.{needs}
 use Prim.Native.Nat.{_≤_}
 use native.Mathlib.Omega.{arith}
-use Rattle.refusals.specs.Faults.{updateFault}
+use Rattle.refusals.specs.Faults.{inputFault}
 use Rattle.refusals.proofs.OneByte.{times-width}
 use Rattle.refusals.proofs.NotMet.{buffer-small, length-good, number-good}
-use Rattle.refusals.proofs.faults.update_fault.Statement.{statement}
-use Rattle.refusals.proofs.faults.update_fault.Tie as tie
+use Rattle.refusals.proofs.faults.input_fault.Statement.{statement}
+use Rattle.refusals.proofs.faults.input_fault.Tie as tie
 
 cast-n : tie.Need-cast-n
 cast-n c = search needs
@@ -19,7 +19,7 @@ lanes-bad-requires : tie.Need-lanes-bad-requires
 lanes-bad-requires c κs = search needs
 
 returns : tie.Need-returns
-unfolding updateFault
+unfolding inputFault
 returns c = rw (times-width, sym (c .before .lanes-bad .ensures) ∙ c .if1 .taken)
 
 mul-length-bad : tie.Need-mul-length-bad
@@ -31,7 +31,7 @@ length-bad-requires : tie.Need-length-bad-requires
 length-bad-requires c κs = search needs
 
 returns-2 : tie.Need-returns-2
-unfolding updateFault
+unfolding inputFault
 returns-2 c = rw (
   times-width,
   sym (c .before .before .before .lanes-bad .ensures) ∙ c .before .before .if1 .left,
@@ -42,7 +42,7 @@ number-bad-requires : tie.Need-number-bad-requires
 number-bad-requires c κs = search needs
 
 returns-3 : tie.Need-returns-3
-unfolding updateFault
+unfolding inputFault
 returns-3 c = rw (
   times-width,
   sym (c .before .before .before .before .before .lanes-bad .ensures) ∙ c .before .before .before .before .if1 .left,
@@ -54,7 +54,7 @@ number-bad-requires-2 : tie.Need-number-bad-requires-2
 number-bad-requires-2 c κs = search needs
 
 returns-4 : tie.Need-returns-4
-unfolding updateFault
+unfolding inputFault
 returns-4 c = rw (
   times-width,
   sym (c .before .before .before .before .before .before .before .lanes-bad .ensures) ∙ c .before .before .before .before .before .before .if1 .left,
@@ -67,7 +67,7 @@ symbol-bad-requires : tie.Need-symbol-bad-requires
 symbol-bad-requires c κs = search needs
 
 returns-5 : tie.Need-returns-5
-unfolding updateFault
+unfolding inputFault
 returns-5 c = rw (
   times-width,
   sym (c .before .before .before .before .before .before .before .before .before .lanes-bad .ensures) ∙ c .before .before .before .before .before .before .before .before .if1 .left,
@@ -81,7 +81,7 @@ symbol-bad-requires-2 : tie.Need-symbol-bad-requires-2
 symbol-bad-requires-2 c κs = search needs
 
 returns-6 : tie.Need-returns-6
-unfolding updateFault
+unfolding inputFault
 returns-6 c = rw (
   times-width,
   sym (c .before .before .before .before .before .before .before .before .before .before .before .lanes-bad .ensures) ∙ c .before .before .before .before .before .before .before .before .before .before .if1 .left,
@@ -96,7 +96,7 @@ lane-bad-requires : tie.Need-lane-bad-requires
 lane-bad-requires c κs = (c .before .before .before .before .before .before .before .before .before .before .before .before .before .before .before .pre, number-good _ _ (sym (c .before .before .before .before .before .number-bad2 .ensures) ∙ c .before .before .before .before .if4 .left), length-good _ _ (sym (c .before .before .before .before .before .before .before .before .before .length-bad .ensures) ∙ c .before .before .before .before .before .before .before .before .if2 .left))
 
 returns-7 : tie.Need-returns-7
-unfolding updateFault
+unfolding inputFault
 returns-7 c = rw (
   times-width,
   sym (c .before .before .before .before .before .before .before .before .before .before .before .before .before .lanes-bad .ensures) ∙ c .before .before .before .before .before .before .before .before .before .before .before .before .if1 .left,
@@ -109,7 +109,7 @@ returns-7 c = rw (
 )
 
 returns-8 : tie.Need-returns-8
-unfolding updateFault
+unfolding inputFault
 returns-8 c = rw (
   times-width,
   sym (c .before .before .before .before .before .before .before .before .before .before .before .before .before .lanes-bad .ensures) ∙ c .before .before .before .before .before .before .before .before .before .before .before .before .if1 .left,
@@ -121,6 +121,6 @@ returns-8 c = rw (
   sym (c .before .lane-bad .ensures) ∙ c .if7 .left,
 )
 
-pub update-fault-spec : {M : Type 1} → statement M
-update-fault-spec =
+pub input-fault-spec : {M : Type 1} → statement M
+input-fault-spec =
     tie.close (tie.spec cast-n cast-k lanes-bad-requires returns mul-length-bad length-bad-requires returns-2 number-bad-requires returns-3 number-bad-requires-2 returns-4 symbol-bad-requires returns-5 symbol-bad-requires-2 returns-6 lane-bad-requires returns-7 returns-8)

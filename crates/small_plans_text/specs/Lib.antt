@@ -1,0 +1,2 @@
+-- The text of the small plans.
+pub mod SmallPlans

@@ -1,0 +1,2 @@
+-- The spectrum of a lane, and how it is computed.
+pub mod Spectrum

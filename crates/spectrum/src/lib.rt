@@ -1,0 +1,43 @@
+// The spectrum of a lane: for each e below n the sum of its symbols times root^(j·e).
+ghost use mathlib.Core.Path.{_≡_};
+ghost use mathlib.Core.Bool.{true};
+ghost use lib.ListN.{length};
+ghost use Rattle.lists.specs.Numbers.{allBelow};
+ghost use Rattle.lists.specs.Padded.{padded};
+ghost use Rattle.field.specs.Tables.{AreTables};
+ghost use Rattle.generator.specs.Records.{size, Sound};
+ghost use Rattle.check_sums.specs.Powers.{powersOf};
+ghost use Rattle.spectrum.specs.Spectrum.{spectrumOf};
+
+mod chirps;
+mod windows;
+
+use generator::Header;
+
+// The spectrum, and zeros after it, with the powers of the root and the field's tables as they are lent to it.
+pub fn spectrum_with<'a>(
+    h: Header,
+    tables: &'a [u8; 255],
+    logarithms: &'a [u8; 255],
+    powers: &[u16],
+    lane: &[u16],
+) -> [u16; 255]
+    requires { ⌜ Sound h × (now powers ≡ padded 255 (powersOf h)) × (length (now lane) ≡ h .n) × (allBelow (size h) (now lane) ≡ true) × AreTables (now tables) (now logarithms) ⌝ }
+    ensures { λ r. ⌜ r ≡ padded 255 (spectrumOf h (now (lane .entry))) ⌝ }
+{
+    let field = h.field;
+    let n = h.n as usize;
+    let exponents = chirps::exponents(n);
+    let row = chirps::chirps(h, powers, &exponents);
+    let weights = chirps::unchirp(h, tables, logarithms, powers, &exponents, lane);
+    let mut sums = windows::blank();
+    windows::window_sums(
+        field,
+        tables,
+        logarithms,
+        &weights[..n],
+        &row,
+        &mut sums[..n],
+    );
+    chirps::unchirp(h, tables, logarithms, powers, &exponents, &sums[..n])
+}

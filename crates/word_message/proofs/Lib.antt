@@ -1,0 +1,7 @@
+-- A symbol of a word's message from the word's spectrum.
+pub mod Dots
+pub mod Formula
+pub mod SpectrumParts
+pub mod Points
+pub mod Reading
+pub mod Numbers

@@ -1,0 +1,2 @@
+-- A symbol of a word's message, from the word's sums.
+pub mod Symbols

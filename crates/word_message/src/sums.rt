@@ -1,0 +1,65 @@
+// Sums of symbols, and the parts of a spectrum.
+ghost use mathlib.Core.Path.{_≡_};
+ghost use mathlib.Core.Bool.{true};
+ghost use Prim.Native.Nat.{_≤_, _<_};
+ghost use lib.ListN.{length, getD};
+ghost use Rattle.lists.specs.Rows.{from};
+ghost use Rattle.lists.specs.Numbers.{allBelow};
+ghost use Rattle.lists.specs.Padded.{padded};
+ghost use Rattle.field.specs.Fields.{sizeOf};
+ghost use Rattle.field.specs.Kinds.{modulus, usable};
+ghost use Rattle.field.specs.Sums.{dot};
+ghost use Rattle.field.specs.Tables.{AreTables};
+ghost use Rattle.generator.specs.Shifts.{negative};
+ghost use Rattle.word_message.specs.Symbols.{onesOf};
+use field::Field;
+
+// n ones added up.
+pub fn ones(field: Field, n: usize) -> u32
+    requires { ⌜ usable field ≡ true ⌝ }
+    ensures { λ r. ⌜ (r ≡ onesOf (modulus field) n) × (r < sizeOf (modulus field)) ⌝ }
+{
+    let mut sum = Field::ZERO;
+    let mut i: usize = 0;
+    while i < n {
+        sum = field.add(Field::ONE, sum);
+        i += 1;
+    }
+    sum
+}
+
+// Sums n, n − 1, .., n − k + 1 of a spectrum, sum n being sum 0, and zeros after them.
+pub fn coefficients(n: usize, k: usize, spectrum: &[u16]) -> [u16; 255]
+    requires { ⌜ (length (now spectrum) ≡ n) × (0 < k) × (k ≤ n) × (n ≤ 255) ⌝ }
+    ensures { λ r. ⌜ r ≡ padded 255 (from (λ c. getD (now (spectrum .entry)) (negative n c) 0) 0 k) ⌝ }
+{
+    let mut out = [0u16; 255];
+    let mut c: usize = 0;
+    while c < k {
+        let e = (n - c) % n;
+        out[c] = spectrum[e];
+        c += 1;
+    }
+    out
+}
+
+// The sum of the symbols times their weights.
+pub fn weighted_sum<'a>(
+    field: Field,
+    tables: &'a [u8; 255],
+    logarithms: &'a [u8; 255],
+    symbols: &[u16],
+    weights: &[u16],
+) -> u32
+    requires { ⌜ (usable field ≡ true) × (allBelow (sizeOf (modulus field)) (now symbols) ≡ true) × (allBelow (sizeOf (modulus field)) (now weights) ≡ true) × (length (now symbols) ≤ length (now weights)) × AreTables (now tables) (now logarithms) ⌝ }
+    ensures { λ r. ⌜ r ≡ dot (modulus field) (now (symbols .entry)) (now (weights .entry)) ⌝ }
+{
+    let mut sum = Field::ZERO;
+    let mut i = symbols.len();
+    while i > 0 {
+        i -= 1;
+        let term = field.mul_with(tables, logarithms, symbols[i] as u32, weights[i] as u32);
+        sum = field.add(term, sum);
+    }
+    sum
+}
