@@ -40,7 +40,7 @@ column-ready {h} f {rows} sound few low long symbols out-long =
 -- g r is the sum over symbols, the first being that of row r, times the weights f
 module _ (p : ℕ) (f : ℕ → ℕ) (g : ℕ → List ℕ → ℕ) (none : (r : ℕ) → g r [] ≡ 0) (more : (r m : ℕ) (ms : List ℕ) → g r (m ∷ ms) ≡ add p (mul p m (f r)) (g (r + 1) ms)) where
   -- whatever follows the weights
-  dot-column : (r n : ℕ) (ms rest : List ℕ) → length ms ≤ n → dot p ms (from f r n ++ rest) ≡ g r ms
+  pub dot-column : (r n : ℕ) (ms rest : List ℕ) → length ms ≤ n → dot p ms (from f r n ++ rest) ≡ g r ms
   unfolding dot from
   dot-column r n [] rest fits = sym (none r)
   dot-column r zero (m ∷ ms) rest fits = absurd (omega arith)

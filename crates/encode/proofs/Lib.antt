@@ -1,4 +1,6 @@
 -- A node's column of the generator.
 pub mod Columns
 -- The lanes of a tile among the shares.
-pub mod Lanes
+pub mod Shares
+-- The lanes of a tile's words.
+pub mod Words

@@ -1,9 +1,9 @@
-// Encode: the shares of all nodes, each lane encoded by itself. Lanes are encoded some at a time, as rows of a tile.
+// Encode: the shares of all nodes, each lane encoded by itself. Lanes are encoded 64 at a time, as rows of a tile.
 ghost use mathlib.Core.Path.{_≡_};
 ghost use Prim.Native.Nat.{_+_, _*_, _%_, _≤_, _<_};
 ghost use lib.ListN.{length, getD};
 ghost use Rattle.lists.specs.Padded.{padded};
-ghost use Rattle.layout.specs.Layout.{byRow, byLane, someLanes, shareLayout};
+ghost use Rattle.layout.specs.Layout.{byRow, byLane, shareLayout};
 ghost use Rattle.generator.specs.Records.{Sound};
 ghost use Rattle.blocks.specs.Blocks.{shareOf, sharesOf};
 ghost use Rattle.refusals.specs.Faults.{encodeFault};
@@ -13,6 +13,9 @@ ghost use Rattle.encode.specs.Inner.{Planned, columnOf};
 use blocks::Outcome;
 use generator::Header;
 use generator::Record;
+
+mod lanes;
+mod scratch;
 
 // Entry (r, node) of the generator: the base word at (node + shift of row r) modulo n. No row is copied.
 fn coefficient(h: Header, shifts: &[u8], base: &[u16], r: usize, node: usize) -> u16
@@ -80,69 +83,7 @@ fn fill_shares<'a>(
     }
 }
 
-// Fills `count` lanes, from lane `first` on: their symbols are gathered, the words made row by row, and each lane is filled through its own part.
-fn fill_tile<'a>(
-    h: Header,
-    shifts: &'a [u8],
-    base: &'a [u16],
-    lanes: usize,
-    first: usize,
-    count: usize,
-    message: &[u8],
-    rows: &mut [u8],
-    words: &mut [u8],
-    out: &mut [u8],
-)
-    requires { ⌜ Planned h (now shifts) (now base) × SymbolRows h (h .k) lanes (now message) × (0 < count) × (first + count ≤ lanes) × (length (now rows) ≡ h .k * count) × (length (now words) ≡ h .n * count) × (length (now out) ≡ h .n * count) ⌝ }
-    ensures { λ r. ⌜ now (out .exit) ≡ sharesOf byLane h count (someLanes byRow byRow (h .k) lanes first count (now (message .entry))) ⌝ }
-{
-    let n = h.n as usize;
-    let k = h.k as usize;
-    tiles::gather_rows(k, lanes, first, count, message, rows);
-    fill_shares(h, shifts, base, count, rows, words);
-    tiles::scatter(n, count, words, out);
-}
-
-// Fills all lanes, tile by tile.
-fn fill_lanes<'a>(
-    h: Header,
-    shifts: &'a [u8],
-    base: &'a [u16],
-    lanes: usize,
-    message: &[u8],
-    rows: &mut [u8],
-    words: &mut [u8],
-    out: &mut [u8],
-)
-    requires { ⌜ Planned h (now shifts) (now base) × SymbolRows h (h .k) lanes (now message) × (h .n ≤ length (now words)) × (length (now rows) ≡ length (now words)) × (length (now out) ≡ h .n * lanes) ⌝ }
-    ensures { λ r. ⌜ now (out .exit) ≡ sharesOf byLane h lanes (now (message .entry)) ⌝ }
-{
-    let n = h.n as usize;
-    let k = h.k as usize;
-    let mut first: usize = 0;
-    while first < lanes {
-        let count = tiles::tile_lanes(n, words.len(), lanes - first);
-        let symbols = k * count;
-        let size = n * count;
-        let start = first * n;
-        let end = start + count * n;
-        fill_tile(
-            h,
-            shifts,
-            base,
-            lanes,
-            first,
-            count,
-            message,
-            &mut rows[..symbols],
-            &mut words[..size],
-            &mut out[start..end],
-        );
-        first += count;
-    }
-}
-
-// Fills all lanes in scratch of this call: none for one lane, which stands as a row stands, and little where the block is small.
+// Fills all lanes: one lane stands as a row stands, more go through tiles.
 fn encode_lanes<'a>(
     h: Header,
     shifts: &'a [u8],
@@ -158,15 +99,15 @@ fn encode_lanes<'a>(
         fill_shares(h, shifts, base, lanes, message, out);
         return;
     }
-    if out.len() <= 4096 {
-        let mut rows = tiles::small_scratch();
-        let mut words = tiles::small_scratch();
-        fill_lanes(h, shifts, base, lanes, message, &mut rows, &mut words, out);
+    if h.n <= 16 {
+        scratch::encode_small(h, shifts, base, lanes, message, out);
         return;
     }
-    let mut rows = tiles::scratch();
-    let mut words = tiles::scratch();
-    fill_lanes(h, shifts, base, lanes, message, &mut rows, &mut words, out);
+    if h.n <= 64 {
+        scratch::encode_middle(h, shifts, base, lanes, message, out);
+        return;
+    }
+    scratch::encode_large(h, shifts, base, lanes, message, out);
 }
 
 // Encodes over the header of an accepted record. Everything is judged before the first byte is written.

@@ -54,7 +54,7 @@ pub fn multiply_x_add_two(a: &[u8], b: &[u8], acc: &mut [u8])
 }
 
 // x times a byte, with no branch.
-fn times_x(a: u8) -> u8
+pub fn times_x(a: u8) -> u8
     ensures { λ r. ⌜ r ≡ timesX a ⌝ }
 {
     (a << 1) ^ times_digit(0x1D, a >> 7)

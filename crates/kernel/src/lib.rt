@@ -21,6 +21,18 @@ pub fn clear(acc: &mut [u8])
     }
 }
 
+// Copies a row.
+pub fn copy(row: &[u8], out: &mut [u8])
+    requires { ⌜ length (now row) ≡ length (now out) ⌝ }
+    ensures { λ r. ⌜ now (out .exit) ≡ now (row .entry) ⌝ }
+{
+    let mut t = 0;
+    while t < out.len() {
+        out[t] = row[t];
+        t += 1;
+    }
+}
+
 // Whether every byte is a symbol of a field of that size: below it.
 pub fn all_below(size: u32, s: &[u8]) -> bool
     ensures { λ r. ⌜ r ≡ allBelow size (now (s .entry)) ⌝ }

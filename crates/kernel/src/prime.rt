@@ -40,7 +40,7 @@ fn times(p: u16, c: u16, ratio: u16, x: u8) -> u16
 }
 
 // x modulo p, for x below 2·p.
-fn reduced(p: u16, x: u16) -> u16
+pub fn reduced(p: u16, x: u16) -> u16
     requires { ⌜ x < 2 * p ⌝ }
     ensures { λ r. ⌜ r ≡ x % p ⌝ }
 {

@@ -5,7 +5,7 @@ use Rattle.refusals.proofs.Accepts.{encode-accepts}
 use Rattle.blocks.specs.Answers.{outcomeOf}
 use Rattle.blocks.proofs.Refused.{encode-refuses}
 use Rattle.plan.specs.declared.Plan.{Plan}
-use Rattle.encode.proofs.Lanes.{encoded-lanes}
+use Rattle.encode.proofs.Shares.{encoded-lanes}
 use Rattle.encode.proofs.encode_accepted.Statement.{statement}
 use Rattle.encode.proofs.encode_accepted.Tie as tie
 

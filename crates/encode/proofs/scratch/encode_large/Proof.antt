@@ -1,0 +1,71 @@
+-- `encode_large` meets its contract: its scratch is long enough.
+use Prim.Native.Nat.{ℕ, _+_, _*_, _/_, _≤_}
+use Rattle.encode.proofs.Words.{groups-few, lists-fit}
+use native.Mathlib.Omega.{arith}
+use borrow.Author.Needs.{needs}
+use Rattle.encode.proofs.scratch.encode_large.Statement.{statement}
+use Rattle.encode.proofs.scratch.encode_large.Tie as tie
+
+codes-requires : tie.Need-codes-requires
+codes-requires c κs = search needs
+
+large-lists-requires : tie.Need-large-lists-requires
+large-lists-requires c κs = search needs
+
+large-counts-requires : tie.Need-large-counts-requires
+large-counts-requires c κs = search needs
+
+large-rows-requires : tie.Need-large-rows-requires
+large-rows-requires c κs = search needs
+
+large-table-requires : tie.Need-large-table-requires
+large-table-requires c κs = search needs
+
+large-rows-requires-2 : tie.Need-large-rows-requires-2
+large-rows-requires-2 c κs = search needs
+
+slice-aggregate-encode-with : tie.Need-slice-aggregate-encode-with
+slice-aggregate-encode-with c = search needs
+
+slice-aggregate-encode-with-2 : tie.Need-slice-aggregate-encode-with-2
+slice-aggregate-encode-with-2 c = search needs
+
+slice-aggregate-encode-with-3 : tie.Need-slice-aggregate-encode-with-3
+slice-aggregate-encode-with-3 c = search needs
+
+slice-aggregate-encode-with-4 : tie.Need-slice-aggregate-encode-with-4
+slice-aggregate-encode-with-4 c = search needs
+
+slice-aggregate-encode-with-5 : tie.Need-slice-aggregate-encode-with-5
+slice-aggregate-encode-with-5 c = search needs
+
+slice-aggregate-encode-with-6 : tie.Need-slice-aggregate-encode-with-6
+slice-aggregate-encode-with-6 c = search needs
+
+encode-with-requires : tie.Need-encode-with-requires
+encode-with-requires c κs = let st = c .before .before .before .before .before .before .before .before .before .before .before .before .before .before .before .before .before in
+    let h = st .args .h in
+    let sound = st .pre .0 .sound in
+    let few : h .k ≤ 4 * 64 = omega (arith, sound .fits, st .pre .1) in
+    let groups = groups-few (h .k) 64 few in (
+      st .pre .0,
+      c .before .before .before .before .before .before .before .before .before .before .before .before .codes .ensures,
+      omega (arith, c .before .before .before .before .before .before .before .before .before .before .before .large-lists .ensures, lists-fit (h .n) (h .k) 64 255 (st .pre .1) few),
+      omega (arith, c .before .before .before .before .before .before .before .before .before .before .large-counts .ensures, st .pre .1),
+      omega (arith, c .before .before .before .before .before .before .before .before .before .large-rows .ensures, groups),
+      omega (arith, c .before .before .before .before .before .before .before .before .large-table .ensures, groups),
+      omega (arith, c .before .before .before .before .before .before .before .before .large-table .ensures, st .pre .1),
+      omega (arith, c .before .before .before .before .before .before .before .large-rows2 .ensures, st .pre .1),
+      st .pre .2,
+      st .pre .3,
+    )
+
+same-length : tie.Need-same-length
+same-length c = search needs
+
+returns : tie.Need-returns
+returns c = search needs
+
+pub encode-large-spec : {M : Type 1} → statement M
+encode-large-spec =
+    tie.close (tie.spec codes-requires large-lists-requires large-counts-requires large-rows-requires large-table-requires large-rows-requires-2 slice-aggregate-encode-with slice-aggregate-encode-with-2 slice-aggregate-encode-with-3 slice-aggregate-encode-with-4 slice-aggregate-encode-with-5 slice-aggregate-encode-with-6 encode-with-requires same-length returns)

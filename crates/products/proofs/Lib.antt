@@ -1,0 +1,6 @@
+-- Laws of products over a prime field that are reduced at the end.
+pub mod Reduction
+pub mod Held
+pub mod Scaling
+pub mod Arms
+pub mod Beginning

@@ -1,0 +1,61 @@
+-- `list_weights` meets its contract: each arm makes the lists of its kind.
+use mathlib.Core.Path.{_∙_}
+use native.Mathlib.Omega.{arith}
+use borrow.Author.Needs.{needs}
+use Rattle.products.proofs.Arms.{prime-kind, scale-ready, prime-lists, list-ready, byte-lists}
+use Rattle.products.proofs.list_weights.Statement.{statement}
+use Rattle.products.proofs.list_weights.Tie as tie
+
+enum-known-field : tie.Need-enum-known-field
+enum-known-field c = search needs
+
+cast-scale : tie.Need-cast-scale
+cast-scale c = omega (arith, prime-kind _ (rw (c .before .before .field .given .1) at (c .before .before .before .before .before .before .before .before .pre .0)))
+
+scale-requires : tie.Need-scale-requires
+scale-requires c κs =
+    let e = c .before .before .before .field .given .1 in
+    let st = c .before .before .before .before .before .before .before .before .before in
+    let pre = st .pre in
+    scale-ready _ (rw e at (pre .0)) (st .args .weights .now) (st .args .list .now) (rw e at (pre .1)) (pre .2) (rw e at (pre .3)) (pre .4)
+
+enum-told : tie.Need-enum-told
+enum-told c = search needs
+
+groups-of-requires : tie.Need-groups-of-requires
+groups-of-requires c κs = search needs
+
+list-output-requires : tie.Need-list-output-requires
+list-output-requires c κs =
+    let e = c .before .before .before .enum-told .given .1 in
+    let st = c .before .before .before .before .before .before .before .before .before in
+    let pre = st .pre in
+    let g = c .before .before .groups-of .ensures in
+    let r = list-ready _ (st .args .weights .now) (rw e at (pre .1)) (rw e at (pre .3)) in
+    (r .0, r .1, g .1, omega (arith, pre .4, g .0), pre .5)
+
+same-length : tie.Need-same-length
+same-length c = search needs
+
+returns : tie.Need-returns
+returns c =
+    let e = c .before .before .before .before .before .before .field .given .1 in
+    let pre = c .before .before .before .before .before .before .before .before .before .before .before .before .pre in
+    rw e (prime-lists _ (rw e at (pre .0)) (pre .2) (rw e at (pre .3)) (c .before .before .scale .ensures .0 ∙ pre .4) (pre .5) (c .before .before .scale .ensures .1))
+
+same-length-2 : tie.Need-same-length-2
+same-length-2 c = search needs
+
+same-length-3 : tie.Need-same-length-3
+same-length-3 c = search needs
+
+returns-2 : tie.Need-returns-2
+returns-2 c =
+    let e = c .before .before .before .before .before .before .before .before .enum-told .given .1 in
+    let pre = c .before .before .before .before .before .before .before .before .before .before .before .before .before .before .pre in
+    let g = c .before .before .before .before .before .before .before .groups-of .ensures in
+    rw e (byte-lists _ _ (g .0) (pre .2) (rw e at (pre .3)) (c .before .before .before .before .list-output .ensures))
+
+pub list-weights-spec : {M : Type 1} → statement M
+list-weights-spec =
+    tie.close (tie.spec enum-known-field cast-scale scale-requires enum-told groups-of-requires list-output-requires same-length returns same-length-2 same-length-3 returns-2)

@@ -1,0 +1,27 @@
+-- `apply` meets its contract: the tile is loaded, and every output made.
+use borrow.Author.Needs.{needs}
+use Rattle.products.proofs.matrix.apply.Statement.{statement}
+use Rattle.products.proofs.matrix.apply.Tie as tie
+
+groups-of-requires : tie.Need-groups-of-requires
+groups-of-requires c κs = search needs
+
+load-requires : tie.Need-load-requires
+load-requires c κs = search needs
+
+outputs-requires : tie.Need-outputs-requires
+outputs-requires c κs = let pre = c .before .before .before .before .before .before .before .before .before .before .before .before .pre in (pre .0, pre .1, pre .2, rw (c .before .before .before .before .before .before .groups-of .ensures .0) at (c .before .before .before .before .load .ensures), pre .5)
+
+same-length : tie.Need-same-length
+same-length c = search needs
+
+same-length-2 : tie.Need-same-length-2
+same-length-2 c = search needs
+
+returns : tie.Need-returns
+returns c = search needs
+
+pub apply-spec : {M : Type 1} → statement M
+apply-spec =
+    tie.close
+    (tie.spec groups-of-requires load-requires outputs-requires same-length same-length-2 returns)

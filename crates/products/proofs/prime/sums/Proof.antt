@@ -1,0 +1,13 @@
+use mathlib.Core.Path.{refl}
+use Rattle.lists.specs.Padded.{zeros}
+use borrow.Author.Needs.{needs}
+use native.Mathlib.Omega.{arith}
+use Rattle.products.proofs.prime.sums.Statement.{statement}
+use Rattle.products.proofs.prime.sums.Tie as tie
+
+returns : tie.Need-returns
+unfolding zeros
+returns c = refl
+
+pub sums-spec : {M : Type 1} → statement M
+sums-spec = tie.close (tie.spec returns)

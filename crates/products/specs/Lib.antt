@@ -1,0 +1,4 @@
+-- Products of a matrix of weights and a tile of rows.
+pub mod Ratios
+pub mod Products
+pub mod Matrices

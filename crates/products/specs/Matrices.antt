@@ -1,0 +1,29 @@
+-- A matrix of weights, w j being those of output j, as lists that stand one after the other.
+use mathlib.Core.Path.{_≡_}
+use mathlib.Core.List.{List}
+use Prim.Native.Nat.{ℕ, _+_, _-_, _*_, _≤_, _<_}
+use lib.ListN.{length, take, drop}
+use Rattle.layout.specs.Layout.{byRow, laneOf}
+use Rattle.field.specs.Sums.{dot}
+use Rattle.tiles64.specs.Tiles.{TileOf}
+use Rattle.products.specs.Products.{groupsOf, Prepared, Lists}
+
+-- part j of parts of that size, as code lends it
+abbrev pub partOf : ℕ → ℕ → List ℕ → List ℕ
+partOf size j s = take (j * size + size - j * size) (drop (j * size) s)
+
+-- the first j outputs have their lists
+pub record Begun (p rows : ℕ) (w : ℕ → List ℕ) (j : ℕ) (lists counts : List ℕ) : Type 0 where
+  pub size : (i : ℕ) → length (w i) ≡ rows
+  pub each : (i : ℕ) → i < j → Prepared p (w i) (partOf (8 * groupsOf rows) i lists) (partOf 8 i counts)
+
+-- the first outputs have lists that are made of some weights
+pub record Made (p rows outputs : ℕ) (lists counts : List ℕ) : Type 0 where
+  pub few : outputs ≤ 255
+  pub lists-room : outputs * (8 * groupsOf rows) ≤ length lists
+  pub counts-room : outputs * 8 ≤ length counts
+  pub each : (i : ℕ) → i < outputs → Lists p rows (partOf (8 * groupsOf rows) i lists) (partOf 8 i counts)
+
+-- the outputs of a tile's rows: in each lane the sum of the symbols times the weights
+abbrev pub OutputsOf : ℕ → ℕ → ℕ → (ℕ → List ℕ) → List ℕ → ℕ → List ℕ → Type 0
+OutputsOf p rows outputs w tile j out = TileOf outputs j 64 (λ i t. dot p (laneOf byRow rows 64 t tile) (w i)) out

@@ -1,0 +1,94 @@
+// A matrix of weights: the lists of all its outputs, one after the other, and its product with a tile.
+ghost use mathlib.Core.Path.{_≡_};
+ghost use mathlib.Core.Bool.{true};
+ghost use mathlib.Core.List.{List};
+ghost use Prim.Native.Nat.{ℕ, _+_, _*_, _≤_};
+ghost use lib.ListN.{length};
+ghost use Rattle.lists.specs.Numbers.{allBelow};
+ghost use Rattle.field.specs.Fields.{sizeOf};
+ghost use Rattle.field.specs.Kinds.{modulus};
+ghost use Rattle.products.specs.Products.{OneByte, groupsOf, Codes, Loaded};
+ghost use Rattle.products.specs.Matrices.{Begun, Made, OutputsOf};
+use crate::groups_of;
+use field::Field;
+
+// The lists of output j, after those of the outputs before it.
+pub fn prepare(
+    field: Field,
+    codes: &[u64],
+    weights: &[u16],
+    j: usize,
+    lists: &mut [u16],
+    counts: &mut [u8],
+)
+    requires { ⌜ OneByte field × Codes (modulus field) (now codes) × (length (now weights) ≤ 255) × (allBelow (sizeOf (modulus field)) (now weights) ≡ true) × (j ≤ 255) × (j * (8 * groupsOf (length (now weights))) + 8 * groupsOf (length (now weights)) ≤ length (now lists)) × (j * 8 + 8 ≤ length (now counts)) ⌝ }
+    ensures { λ r. ⌜ ((w : ℕ → List ℕ) → w j ≡ now (weights .entry) → Begun (modulus field) (length (now (weights .entry))) w j (now (lists .entry)) (now (counts .entry)) → Begun (modulus field) (length (now (weights .entry))) w (j + 1) (now (lists .exit)) (now (counts .exit))) ⌝ }
+{
+    let size = 8 * groups_of(weights.len());
+    let start = j * size;
+    let end = start + size;
+    let at = j * 8;
+    let at_end = at + 8;
+    crate::list_weights(
+        field,
+        codes,
+        weights,
+        &mut lists[start..end],
+        &mut counts[at..at_end],
+    );
+}
+
+// Every output, each through its own part.
+fn outputs(
+    field: Field,
+    count: usize,
+    rows: usize,
+    lists: &[u16],
+    counts: &[u8],
+    tile: &[u8],
+    table: &[u8],
+    out: &mut [u8],
+)
+    requires { ⌜ OneByte field × (rows ≤ 255) × Made (modulus field) rows count (now lists) (now counts) × Loaded (modulus field) (groupsOf rows) (now tile) (now table) × (count * 64 ≤ length (now out)) ⌝ }
+    ensures { λ r. ⌜ ((w : ℕ → List ℕ) → Begun (modulus field) rows w count (now (lists .entry)) (now (counts .entry)) → OutputsOf (modulus field) rows count w (now (tile .entry)) count (now (out .exit))) ⌝ }
+{
+    let size = 8 * groups_of(rows);
+    let mut j = 0;
+    while j < count {
+        let start = j * size;
+        let end = start + size;
+        let at = j * 8;
+        let at_end = at + 8;
+        let to = j * 64;
+        let to_end = to + 64;
+        crate::output(
+            field,
+            rows,
+            &lists[start..end],
+            &counts[at..at_end],
+            tile,
+            table,
+            &mut out[to..to_end],
+        );
+        j += 1;
+    }
+}
+
+// The product of a matrix and a tile; `table` is scratch.
+pub fn apply(
+    field: Field,
+    count: usize,
+    rows: usize,
+    lists: &[u16],
+    counts: &[u8],
+    tile: &[u8],
+    table: &mut [u8],
+    out: &mut [u8],
+)
+    requires { ⌜ OneByte field × (rows ≤ 255) × Made (modulus field) rows count (now lists) (now counts) × (length (now tile) ≡ groupsOf rows * 256) × (length (now table) ≡ groupsOf rows * 1024) × (count * 64 ≤ length (now out)) ⌝ }
+    ensures { λ r. ⌜ ((w : ℕ → List ℕ) → Begun (modulus field) rows w count (now (lists .entry)) (now (counts .entry)) → OutputsOf (modulus field) rows count w (now (tile .entry)) count (now (out .exit))) ⌝ }
+{
+    let groups = groups_of(rows);
+    crate::load(field, groups, tile, table);
+    outputs(field, count, rows, lists, counts, tile, table, out);
+}

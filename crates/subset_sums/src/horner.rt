@@ -1,0 +1,74 @@
+// An output: Horner's rule over the binary digits of its weights, adding the listed slices.
+ghost use mathlib.Core.Path.{_≡_};
+ghost use Prim.Native.Nat.{ℕ, _+_, _≤_, _<_};
+ghost use lib.Bits.{bitXor};
+ghost use lib.ListN.{length, getD};
+ghost use Rattle.field.specs.Bytes.{timesX};
+ghost use Rattle.kernel.specs.Lanes.{lanewise};
+ghost use Rattle.subset_sums.specs.Lists.{slicesAdded, turnsOf, Slices};
+use crate::slice;
+use kernel::gf256;
+
+// x times acc. The loops here have the constant 64 and not a length, so that acc stays in registers.
+fn double(acc: &mut [u8; 64])
+    requires { ⌜ length (now acc) ≡ 64 ⌝ }
+    ensures { λ r. ⌜ now (acc .exit) ≡ lanewise (λ t y. timesX y) (now (acc .entry)) ⌝ }
+{
+    let mut t = 0;
+    while t < 64 {
+        acc[t] = gf256::times_x(acc[t]);
+        t += 1;
+    }
+}
+
+// The slice at o added to acc.
+fn add_slice(tab: &[u8], o: usize, acc: &mut [u8; 64])
+    requires { ⌜ (length (now acc) ≡ 64) × (o + 64 ≤ length (now tab)) ⌝ }
+    ensures { λ r. ⌜ now (acc .exit) ≡ lanewise (λ t y. bitXor y (getD (now (tab .entry)) (o + t) 0)) (now (acc .entry)) ⌝ }
+{
+    let mut t = 0;
+    while t < 64 {
+        acc[t] = acc[t] ^ tab[o + t];
+        t += 1;
+    }
+}
+
+// The listed slices added to acc.
+fn add_listed(tab: &[u8], list: &[u16], acc: &mut [u8; 64])
+    requires { ⌜ (length (now acc) ≡ 64) × ((i : ℕ) → i < length (now list) → getD (now list) i 0 + 64 ≤ length (now tab)) ⌝ }
+    ensures { λ r. ⌜ now (acc .exit) ≡ slicesAdded (now (tab .entry)) (now (list .entry)) (now (acc .entry)) ⌝ }
+{
+    let mut i = 0;
+    while i < list.len() {
+        add_slice(tab, list[i] as usize, acc);
+        i += 1;
+    }
+}
+
+fn store(acc: &[u8; 64], out: &mut [u8])
+    requires { ⌜ (length (now acc) ≡ 64) × (length (now out) ≡ 64) ⌝ }
+    ensures { λ r. ⌜ now (out .exit) ≡ now (acc .entry) ⌝ }
+{
+    let mut t = 0;
+    while t < 64 {
+        out[t] = acc[t];
+        t += 1;
+    }
+}
+
+// From the highest digit to the lowest: x times the sum, and the slices of the digit added.
+pub fn output(groups: usize, tab: &[u8], list: &[u16], counts: &[u8], out: &mut [u8])
+    requires { ⌜ (groups ≤ 64) × Slices groups (now tab) (now list) (now counts) × (length (now out) ≡ 64) ⌝ }
+    ensures { λ r. ⌜ now (out .exit) ≡ turnsOf 8 groups (now (tab .entry)) (now (list .entry)) (now (counts .entry)) ⌝ }
+{
+    let mut acc = slice();
+    let mut b = 0;
+    while b < 8 {
+        double(&mut acc);
+        let start = b * groups;
+        let end = start + counts[b] as usize;
+        add_listed(tab, &list[start..end], &mut acc);
+        b += 1;
+    }
+    store(&acc, out);
+}

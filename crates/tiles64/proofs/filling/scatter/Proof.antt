@@ -1,0 +1,30 @@
+-- `scatter` meets its contract: the rows become blocks, and the blocks lanes.
+use mathlib.Core.Path.{_≡_, ap, _∙_}
+use Rattle.tiles64.proofs.Scattered.{lanes-of-tile}
+use borrow.Author.Needs.{needs}
+use Rattle.tiles64.proofs.filling.scatter.Statement.{statement}
+use Rattle.tiles64.proofs.filling.scatter.Tie as tie
+
+add-rows : tie.Need-add-rows
+add-rows c = search needs
+
+fill-blocks-requires : tie.Need-fill-blocks-requires
+fill-blocks-requires c κs = search needs
+
+fill-lanes-requires : tie.Need-fill-lanes-requires
+fill-lanes-requires c κs = search needs
+
+same-length : tie.Need-same-length
+same-length c = search needs
+
+same-length-2 : tie.Need-same-length-2
+same-length-2 c = search needs
+
+returns : tie.Need-returns
+returns c = let st = c .before .before .before .before .before .before .before .before .before .before .before .before in
+    rw (c .before .before .fill-lanes .ensures, c .before .before .before .before .before .before .before .fill-blocks .ensures) (lanes-of-tile (st .args .tile .now) (st .args .n) (st .args .count) (st .pre .1))
+
+pub scatter-spec : {M : Type 1} → statement M
+scatter-spec =
+    tie.close
+    (tie.spec add-rows fill-blocks-requires fill-lanes-requires same-length same-length-2 returns)

@@ -1,0 +1,81 @@
+// Tiles of 64 lanes filled: row i of lane t stands at i·64 + t. Lanes from `count` on hold anything.
+ghost use mathlib.Core.Path.{_≡_};
+ghost use Prim.Native.Nat.{ℕ, _+_, _*_, _/_, _≤_, _<_};
+ghost use lib.ListN.{length};
+ghost use Rattle.layout.specs.Layout.{byRow, byLane, laneOf};
+ghost use Rattle.tiles64.specs.Tiles.{Read, BlockOf};
+use crate::moves;
+use crate::turning;
+
+// 16 bytes from place `at` on, or those that there are.
+fn read16(part: &[u8], at: usize, to: usize, block: &mut [u8])
+    requires { ⌜ (at < length (now part)) × (to + 16 ≤ length (now block)) ⌝ }
+    ensures { λ r. ⌜ Read (now (part .entry)) at to (now (block .entry)) (now (block .exit)) ⌝ }
+{
+    let left = part.len() - at;
+    if 16 <= left {
+        let end = at + 16;
+        let to_end = to + 16;
+        moves::move16(&part[at..end], &mut block[to..to_end]);
+        return;
+    }
+    let to_end = to + left;
+    kernel::copy(&part[at..], &mut block[to..to_end]);
+}
+
+// 16 rows of each lane, from row j on, as lanes of 16.
+fn fill_block(rows: usize, j: usize, count: usize, part: &[u8], block: &mut [u8])
+    requires { ⌜ (rows ≤ 65535) × (count ≤ 64) × (length (now part) ≡ count * rows) × (j < rows) × (length (now block) ≡ 1024) ⌝ }
+    ensures { λ r. ⌜ BlockOf rows j count (now (part .entry)) (now (block .exit)) ⌝ }
+{
+    let mut t = 0;
+    while t < count {
+        read16(part, t * rows + j, t * 16, block);
+        t += 1;
+    }
+}
+
+fn block() -> [u8; 1024]
+    ensures { λ r. ⌜ length r ≡ 1024 ⌝ }
+{
+    [0u8; 1024]
+}
+
+// Lanes that stand side by side, 16 rows at a time.
+pub fn gather(rows: usize, count: usize, part: &[u8], tile: &mut [u8])
+    requires { ⌜ (rows ≤ 65535) × (count ≤ 64) × (length (now part) ≡ count * rows) × ((rows + 15) / 16 * 1024 ≤ length (now tile)) ⌝ }
+    ensures { λ r. ⌜ (length (now (tile .exit)) ≡ length (now (tile .entry))) × ((t : ℕ) → t < count → laneOf byRow rows 64 t (now (tile .exit)) ≡ laneOf byLane rows count t (now (part .entry))) ⌝ }
+{
+    let mut lanes = block();
+    let mut j = 0;
+    while j < rows {
+        fill_block(rows, j, count, part, &mut lanes);
+        let start = j * 64;
+        let end = start + 1024;
+        turning::lanes_to_rows(&lanes, &mut tile[start..end]);
+        j += 16;
+    }
+}
+
+// `count` lanes of rows that stand one after the other, from lane `first` on.
+pub fn load_rows(
+    rows: usize,
+    lanes: usize,
+    first: usize,
+    count: usize,
+    source: &[u8],
+    tile: &mut [u8],
+)
+    requires { ⌜ (length (now source) ≡ rows * lanes) × (first + count ≤ lanes) × (count ≤ 64) × (rows * 64 ≤ length (now tile)) ⌝ }
+    ensures { λ r. ⌜ (length (now (tile .exit)) ≡ length (now (tile .entry))) × ((t : ℕ) → t < count → laneOf byRow rows 64 t (now (tile .exit)) ≡ laneOf byRow rows lanes (first + t) (now (source .entry))) ⌝ }
+{
+    let mut r: usize = 0;
+    while r < rows {
+        let from = r * lanes + first;
+        let to = from + count;
+        let start = r * 64;
+        let end = start + count;
+        kernel::copy(&source[from..to], &mut tile[start..end]);
+        r += 1;
+    }
+}
