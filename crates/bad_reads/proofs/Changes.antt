@@ -1,16 +1,16 @@
 -- How far a change reaches, of every accepted record.
-use mathlib.Core.Path.{_≡_, refl, sym, ap, ap₂, subst, _∙_}
+use mathlib.Core.Path.{_≡_, refl, sym, ap, ap₂, _∙_}
 use mathlib.Core.Bool.{Bool, true, false, not}
-use mathlib.Core.List.{List, [], _∷_, map}
+use mathlib.Core.List.{List, [], _∷_}
 use Prim.Native.Nat.{ℕ, zero, suc, _+_, _-_, _*_, _≤_, _<_, min}
-use native.Mathlib.Nat.{zero-add, zero-mul, one-mul, add-mul, le-min, le-refl, le-of-eq, le-trans}
-use native.Mathlib.Decide.{ℕ-discrete, decLe, decLt}
+use native.Mathlib.Nat.{zero-add, zero-mul, one-mul, add-mul, le-min, le-refl, le-of-eq}
+use native.Mathlib.Decide.{ℕ-discrete, decLe}
 use native.Mathlib.Omega.{arith}
-use lib.Dec.{eqb, ltb}
+use lib.Dec.{eqb}
 use lib.ListN.{length, getD, set, length-set, length-map}
 use lib.Seq.{getD-set-same, getD-set-other, set-getD, set-set, ext-getD}
 use borrow.Author.Tests.{eqb-true, eqb-false, eq-eqb, not-false}
-use Rattle.lists.specs.Choice.{pick, when}
+use Rattle.lists.specs.Choice.{when}
 use Rattle.lists.specs.Counting.{countFrom, differ}
 use Rattle.lists.specs.Numbers.{allBelow, isIn, distinct}
 use Rattle.lists.specs.Rows.{from}
@@ -19,7 +19,7 @@ use Rattle.lists.proofs.Cases.{by-test, both-true, or-left-false, or-right-fals
 use Rattle.lists.proofs.Chosen.{Chosen, choose}
 use Rattle.lists.proofs.Count.{count-ext, count-none, count-not, count-either, count-below}
 use Rattle.lists.proofs.Differ.{differ-same}
-use Rattle.lists.proofs.Numbers.{below-at, at-below, all-below, all-distinct}
+use Rattle.lists.proofs.Numbers.{all-below, below-set, all-distinct}
 use Rattle.lists.proofs.Rows.{length-from, getD-from}
 use Rattle.generator.specs.declared.Header.{Header}
 use Rattle.generator.specs.Records.{headerOf, recordFault, size, distance, Sound}
@@ -27,7 +27,7 @@ use Rattle.generator.specs.Codewords.{nodeOf, encoding}
 use Rattle.generator.specs.Claims.{isMessage, areNodes, atNodes}
 use Rattle.bad_reads.specs.Changes.{Reaches}
 use Rattle.generator.proofs.Accepts.{faultless-sound}
-use Rattle.generator.proofs.Recovery.{message-size, message-below, nodes-places, one-message}
+use Rattle.generator.proofs.Recovery.{message-size, nodes-places, one-message}
 use Rattle.generator.proofs.Changes.{map-set, set-message, message-symbol, alters}
 use Rattle.generator.proofs.SchemeOf.{map-isIn}
 
@@ -47,14 +47,6 @@ distinct-set js i t d f = Distinct-of 0 (set js i t) (λ a b la lb e. go a b (rw
     go a b la lb e (yes p) (no q) = absurd (not-in t js f b lb (sym (getD-set-other js i b t 0 q) ∙ sym e ∙ ap (λ c. getD (set js i t) c 0) p ∙ getD-set-same js i t 0 (omega arith)))
     go a b la lb e (no p) (yes q) = absurd (not-in t js f a la (sym (getD-set-other js i a t 0 p) ∙ e ∙ ap (λ c. getD (set js i t) c 0) q ∙ getD-set-same js i t 0 (omega arith)))
     go a b la lb e (no p) (no q) = Distinct-at 0 js d a b la lb (sym (getD-set-other js i a t 0 p) ∙ e ∙ getD-set-other js i b t 0 q)
-
--- and numbers below n
-below-set : (n : ℕ) (js : List ℕ) (i t : ℕ) → allBelow n js ≡ true → t < n → allBelow n (set js i t) ≡ true
-below-set n js i t b low = at-below n (set js i t) (λ a l. go a (rw (length-set js i t) at l) (ℕ-discrete a i))
-  where
-    go : (a : ℕ) → a < length js → Dec (a ≡ i) → getD (set js i t) a 0 < n
-    go a l (yes e) = rw (e, getD-set-same js i t 0 (omega arith)) low
-    go a l (no e) = rw (getD-set-other js i a t 0 e) (below-at n js b a l)
 
 -- the first i symbols of us, and then those of ms
 unfoldable mixed : List ℕ → List ℕ → ℕ → List ℕ
@@ -114,7 +106,7 @@ module _ (h : Header) (s : Sound h) where
   elsewhere : (js ms us : List ℕ) (i x t : ℕ) → areNodes h js ≡ true → isMessage h ms ≡ true → isMessage h us ≡ true → i < h .k → (x ≡ getD (atNodes h ms js) i 0 → ⊥) → atNodes h us js ≡ set (atNodes h ms js) i x → t < h .n → isIn t js ≡ false → nodeOf h us t ≡ nodeOf h ms t → ⊥
   elsewhere js ms us i x t p m u row other at low out e =
       let places = nodes-places h js p in
-      let nodes = nodes-are (set js i t) (length-set js i t ∙ places .size) (below-set (h .n) js i t (all-below (h .n) js (places .low)) low) (all-distinct (set js i t) (distinct-set js i t (places .distinct) out)) in
+      let nodes = nodes-are (set js i t) (length-set js i t ∙ places .size) (below-set (h .n) js i t low (all-below (h .n) js (places .low))) (all-distinct (set js i t) (distinct-set js i t (places .distinct) out)) in
       let same : atNodes h us (set js i t) ≡ atNodes h ms (set js i t) =
       map-set (nodeOf h us) js i t
       ∙ ap (λ (l : List ℕ). set l i (nodeOf h us t)) at

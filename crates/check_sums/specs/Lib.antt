@@ -1,3 +1,4 @@
 -- Powers of the root, and the check sums of one lane.
 pub mod Powers
 pub mod Sums
+pub mod Marks

@@ -15,7 +15,7 @@ use crate::powers;
 use generator::Header;
 
 // Check sum e of each lane, from the rows of a tile.
-fn lane_sums(h: Header, powers: &[u16], e: usize, lanes: usize, shares: &[u8], sums: &mut [u8])
+pub fn lane_sums(h: Header, powers: &[u16], e: usize, lanes: usize, shares: &[u8], sums: &mut [u8])
     requires { ⌜ SymbolRows h (h .n) lanes (now shares) × (now powers ≡ padded 255 (powersOf h)) × (e ≤ 255) × (length (now sums) ≡ lanes) ⌝ }
     ensures { λ r. ⌜ now (sums .exit) ≡ from (λ t. checkFrom h e 0 (laneOf byRow (h .n) lanes t (now (shares .entry)))) 0 lanes ⌝ }
 {

@@ -122,6 +122,16 @@ pub fn all_zero(sums: &[u16]) -> bool
     true
 }
 
+// Whether a lane is a word of the code, from the rows of powers.
+pub fn is_word_with(h: Header, rows: &[u8], lane: &[u16]) -> bool
+    requires { ⌜ Sound h × (now rows ≡ powerRows h) × (length (now lane) ≡ h .n) × (allBelow (size h) (now lane) ≡ true) ⌝ }
+    ensures { λ r. ⌜ r ≡ isWord h (now (lane .entry)) ⌝ }
+{
+    let checks = (h.n - h.k) as usize;
+    let found = sums_with(h, rows, lane);
+    all_zero(&found[..checks])
+}
+
 // Whether a lane is a word of the code.
 pub fn is_word(h: Header, lane: &[u16]) -> bool
     requires { ⌜ Sound h × (length (now lane) ≡ h .n) × (allBelow (size h) (now lane) ≡ true) ⌝ }

@@ -1,23 +1,20 @@
 -- Changing one symbol of a message: what each node then holds, and how many nodes are altered.
 use mathlib.Core.Path.{_≡_, refl, sym, ap, ap₂, _∙_}
-use mathlib.Core.Logic.{_↔_}
-use mathlib.Core.Bool.{Bool, true, false, not, true≢false}
+use mathlib.Core.Bool.{true, not}
 use mathlib.Core.List.{List, [], _∷_, map}
-use Prim.Native.Nat.{ℕ, zero, suc, _+_, _-_, _*_, _/_, _%_, _≤_, _<_}
+use Prim.Native.Nat.{ℕ, zero, suc, _+_, _-_, _%_, _<_}
 use native.Mathlib.Omega.{arith}
-use native.Mathlib.Nat.{le-of-eq, zero-add, mod-eq-of-lt}
+use native.Mathlib.Nat.{le-of-eq, zero-add}
 use borrow.Author.Tests.{eq-eqb, ne-eqb, eqb-true, eqb-false}
 use lib.Dec.{eqb, ltb}
-use lib.ListN.{length, getD, set, drop, length-set, List·getD-map}
+use lib.ListN.{length, getD, set, length-set}
 use Rattle.lists.specs.Rows.{from}
 use Rattle.lists.specs.Counting.{countFrom, differ}
-use Rattle.lists.specs.Numbers.{allBelow}
-use Rattle.lists.proofs.All.{All, All-at}
+use Rattle.lists.proofs.All.{All-at}
 use Rattle.lists.proofs.Cases.{by-test, not-not}
 use Rattle.lists.proofs.Count.{count-ext}
-use Rattle.lists.proofs.Numbers.{below-all, below-cons, cons-below}
+use Rattle.lists.proofs.Numbers.{below-all, below-set}
 use Rattle.lists.proofs.Rows.{getD-from, length-from}
-use Rattle.algebra.specs.Field.{Field}
 use Rattle.algebra.specs.Powers.{pow}
 use Rattle.algebra.proofs.Poly.{eval}
 use Rattle.algebra.proofs.Ring.{mul-zero}
@@ -26,7 +23,7 @@ use Rattle.algebra.proofs.BasePolynomial.{base}
 use Rattle.algebra.proofs.Nodes.{node}
 use Rattle.field.specs.Fields.{add, sub, mul}
 use Rattle.field.specs.Symbols.{Symbol, numbers}
-use Rattle.field.proofs.Symbols.{symbol, symbol-path, getD-numbers, symbols, residue}
+use Rattle.field.proofs.Symbols.{symbol, symbol-path, getD-numbers}
 use Rattle.field.proofs.FieldOf.{size-pos, number-sub}
 use Rattle.generator.specs.declared.Header.{Header}
 use Rattle.generator.specs.Records.{modulusOf, size, distance, Sound}
@@ -46,13 +43,6 @@ pub map-set : {A B : Type 0} (f : A → B) (xs : List A) (i : ℕ) (x : A) → m
 map-set f [] i x = refl
 map-set f (y ∷ xs) zero x = refl
 map-set f (y ∷ xs) (suc i) x = ap (λ l. f y ∷ l) (map-set f xs i x)
-
--- numbers below a bound stay so where one below it replaces another
-below-set : (n : ℕ) (xs : List ℕ) (i x : ℕ) → x < n → allBelow n xs ≡ true → allBelow n (set xs i x) ≡ true
-unfolding allBelow
-below-set n [] i x l h = refl
-below-set n (y ∷ xs) zero x l h = cons-below n x xs l (below-cons n y xs h .1)
-below-set n (y ∷ xs) (suc i) x l h = let both = below-cons n y xs h in cons-below n y (set xs i x) (both .0) (below-set n xs i x l (both .1))
 
 module _ (h : Header) (s : Sound h) where
   -- a message with one symbol replaced is a message

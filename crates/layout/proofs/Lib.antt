@@ -8,3 +8,5 @@ pub mod Runs
 pub mod Stretches
 pub mod Widths
 pub mod Readings
+pub mod Tiles
+pub mod LaneParts

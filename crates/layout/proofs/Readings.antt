@@ -6,14 +6,15 @@ use Prim.Native.Nat.{ℕ, zero, suc, _+_, _*_, _/_, _%_, _^_, _≤_, _<_}
 use native.Mathlib.Nat.{mul-one, zero-mul, zero-add, add-zero, add-mul, one-mul, mul-assoc, mul-le-mul-right, lt-of-lt-of-le, le-div-iff-mul-le, div-lt-iff-lt-mul, mod-lt, mul-div-cancel, pow-zero, pow-suc, pow-succ'}
 use native.Mathlib.Omega.{arith}
 use lib.Arith.{digits-div, digits-mod}
-use lib.ListN.{length, getD, take, drop, length-take, length-drop, take-append-drop, drop-of-length-le}
+use lib.ListN.{length, getD, take, drop, length-take, length-drop, take-append-drop, drop-of-length-le, List·getD-append}
 use lib.Seq.{ext-getD, take-suc, take-all, length-take-le, drop-drop, getD-take, getD-drop}
 use Rattle.lists.specs.Rows.{from}
 use Rattle.lists.specs.Numbers.{allBelow}
+use Rattle.lists.proofs.Front.{drop-next}
 use Rattle.lists.proofs.Numbers.{below-cons, cons-below, below-at, at-below, below-take, below-drop, below-append}
 use Rattle.lists.proofs.Rows.{length-from, getD-from}
 use Rattle.layout.specs.Width.{valueFrom, symbolAt, symbolsOf, symbolBytes, bytesOf}
-use Rattle.layout.proofs.Widths.{length-symbols, getD-symbols, value-append}
+use Rattle.layout.proofs.Widths.{length-symbols, getD-symbols, value-append, length-symbol, drop-bytes}
 
 -- so many symbols have w bytes each
 pub count-symbols : (w count : ℕ) (s : List ℕ) → 0 < w → length s ≡ count * w → length (symbolsOf w s) ≡ count
@@ -125,3 +126,11 @@ bytes-symbols w count s some long low =
 pub symbol-pair : (s : List ℕ) (i : ℕ) → i * 2 + 2 ≤ length s → symbolAt 2 s i ≡ getD s (i * 2) 0 * 256 + getD s (i * 2 + 1) 0
 unfolding from valueFrom
 symbol-pair s i inside = symbol-digits 2 s i inside ∙ rw (add-zero (i * 2)) (omega arith)
+
+-- byte v of symbol i of symbols that are written
+pub getD-bytes : (w : ℕ) (xs : List ℕ) (i v : ℕ) → i < length xs → v < w → getD (bytesOf w xs) (i * w + v) 0 ≡ getD (symbolBytes w (getD xs i 0)) v 0
+unfolding bytesOf
+getD-bytes w xs i v h low =
+    sym (getD-drop (i * w) (bytesOf w xs) v 0)
+    ∙ ap (λ (l : List ℕ). getD l v 0) (drop-bytes w i xs ∙ ap (bytesOf w) (drop-next xs i 0 h))
+    ∙ List·getD-append (symbolBytes w (getD xs i 0)) (bytesOf w (drop (i + 1) xs)) 0 v (omega (arith, length-symbol w (getD xs i 0)))

@@ -2,3 +2,4 @@
 pub mod Layout
 pub mod Filling
 pub mod Width
+pub mod Tiles

@@ -12,12 +12,12 @@ pub mod Parts  -- a loop that fills a list of values by parts
 pub mod Padding  -- lists padded with zeros
 -- Numbers of a stretch
 pub mod Count  -- `countFrom`: steps, joins, moves, periods
-pub mod Differ  -- `differ`: lists that differ nowhere are equal
 pub mod Passing  -- `passingFrom`: those that pass, as a list that rises
 pub mod Search  -- `firstFalse`: the first that fails
 pub mod Around  -- `around`: a list read going round: what all have, none twice
 pub mod Chosen  -- as many as pass can be chosen, and no more
 pub mod Along  -- counted along different places
+pub mod Differ  -- `differ`: the places at which two lists differ
 -- Elements of a list
 pub mod All  -- a property of all elements, distinct elements, images
 pub mod Places  -- distinct numbers below n; `range`

@@ -6,7 +6,7 @@ use mathlib.Core.List.{List, [], _∷_, _++_}
 use Prim.Native.Nat.{ℕ, zero, suc, _<_}
 use native.Mathlib.Omega.{arith}
 use lib.Dec.{eqb, ltb}
-use lib.ListN.{length, getD, take, drop}
+use lib.ListN.{length, getD, set, take, drop}
 use borrow.Author.Tests.{lt-ltb, ne-eqb, eq-eqb, ltb-true, eqb-true, not-true}
 use Rattle.lists.specs.Numbers.{allBelow, isIn, distinct}
 use Rattle.lists.proofs.All.{All, All-imp, All-at, All-of, Distinct}
@@ -111,6 +111,13 @@ pub below-drop : (n i : ℕ) (js : List ℕ) → allBelow n js ≡ true → allB
 below-drop n zero js h = h
 below-drop n (suc i) [] h = h
 below-drop n (suc i) (j ∷ js) h = below-drop n i js (below-cons n j js h .1)
+
+-- of a list in which another number takes a place
+pub below-set : (n : ℕ) (xs : List ℕ) (i x : ℕ) → x < n → allBelow n xs ≡ true → allBelow n (set xs i x) ≡ true
+unfolding allBelow
+below-set n [] i x l h = refl
+below-set n (y ∷ xs) zero x l h = cons-below n x xs l (below-cons n y xs h .1)
+below-set n (y ∷ xs) (suc i) x l h = let both = below-cons n y xs h in cons-below n y (set xs i x) (both .0) (below-set n xs i x l (both .1))
 
 pub below-append : (n : ℕ) (js ks : List ℕ) → allBelow n js ≡ true → allBelow n ks ≡ true → allBelow n (js ++ ks) ≡ true
 below-append n [] ks h k = k

@@ -49,7 +49,7 @@ pub fn rebuild_weights(h: Header, nodes: &[u8], target: u32) -> [u16; 255]
 }
 
 // The basis of the points root^(j + offset).
-fn lagrange_basis(field: Field, root: u32, places: &[u8], offset: u32) -> Basis
+pub fn lagrange_basis(field: Field, root: u32, places: &[u8], offset: u32) -> Basis
     requires { ⌜ (usable field ≡ true) × (root < sizeOf (modulus field)) × (length (now places) ≤ 255) × (offset < 256) ⌝ }
     ensures { λ r. ⌜ r ≡ basisOf (modulus field) (pointsOf (modulus field) root offset (now (places .entry))) ⌝ }
 {

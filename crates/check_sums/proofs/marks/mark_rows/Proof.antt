@@ -1,0 +1,66 @@
+-- `mark_rows` meets its contract. The loop's invariant: the marks after check sums 1 to e.
+use mathlib.Core.Path.{_≡_, sym, ap, _∙_}
+use Prim.Native.Nat.{_-_, _≤_}
+use native.Mathlib.Omega.{arith}
+use borrow.Author.Needs.{needs}
+use lib.ListN.{length}
+use Rattle.lists.proofs.Fill.{length-zeros}
+use Rattle.lists.proofs.Rows.{length-from}
+use Rattle.layout.specs.Layout.{byRow}
+use Rattle.kernel.specs.Lanes.{lanewise}
+use Rattle.check_sums.proofs.Marking.{marksTo, marks-none, marks-more, marks-end}
+use Rattle.check_sums.proofs.marks.mark_rows.Statement.{statement}
+use Rattle.check_sums.proofs.marks.mark_rows.Tie as tie
+
+abbrev Inv-loop : tie.InvT-loop
+Inv-loop h powers lanes rows sums₀ marks₀ checks e₀ sums marks e = (e ≤ checks) × (length sums ≡ lanes) × (marks ≡ marksTo byRow h lanes rows e)
+
+abbrev μ-loop : tie.MeasureT-loop
+μ-loop h powers lanes rows sums₀ marks₀ checks e₀ sums marks e = checks - e
+
+sub-checks : tie.Need-sub-checks Inv-loop μ-loop
+sub-checks c = search needs
+
+cast-checks : tie.Need-cast-checks Inv-loop μ-loop
+cast-checks c = search needs
+
+loop-holds : tie.Need-loop-holds Inv-loop μ-loop
+loop-holds c = let s = c .before .before .before .before .before in (omega arith, s .pre .2, s .pre .3 ∙ marks-none byRow (s .args .h) (s .args .lanes) (s .args .rows .now))
+
+add-add-sum : tie.Need-add-add-sum Inv-loop μ-loop
+add-add-sum c = omega arith
+
+add-sum-requires : tie.Need-add-sum-requires Inv-loop μ-loop
+add-sum-requires c κs =
+    let s = c .before .before .before .before .before .before .before .before .before .pre in
+    let l = c .before .before .before .loop .inv in
+    (s .0, s .1, omega (arith, c .before .before .before .before .struct-known .given), l .1, rw (l .2) (length-from _ 0 _))
+
+add-e : tie.Need-add-e Inv-loop μ-loop
+add-e c = omega arith
+
+loop-less : tie.Need-loop-less Inv-loop μ-loop
+loop-less c = omega arith
+
+loop-again : tie.Need-loop-again Inv-loop μ-loop
+loop-again c =
+    let s = c .before .before .before .before .before .before .before .before .before .before .before .before .before .before .args in
+    let l = c .before .before .before .before .before .before .before .before .loop in
+    (omega arith, search needs, c .before .before .before .before .add-sum .ensures ∙ ap (lanewise _) (l .inv .2) ∙ marks-more byRow (s .h) (s .lanes) (s .rows .now) (l .e))
+
+same-length : tie.Need-same-length Inv-loop μ-loop
+same-length c = search needs
+
+same-length-2 : tie.Need-same-length-2 Inv-loop μ-loop
+same-length-2 c = rw (c .before .loop .inv .2) (length-from _ 0 _) ∙ sym (ap length (c .before .before .before .before .before .before .before .pre .3) ∙ length-zeros _)
+
+returns : tie.Need-returns Inv-loop μ-loop
+returns c =
+    let s = c .before .before .before .before .before .before .before .args in
+    let l = c .before .loop in
+    let end : l .e ≡ s .h .n - s .h .k = omega arith in
+    l .inv .2 ∙ ap (marksTo byRow (s .h) (s .lanes) (s .rows .now)) end ∙ marks-end byRow (s .h) (s .lanes) (s .rows .now)
+
+pub mark-rows-spec : {M : Type 1} → statement M
+mark-rows-spec =
+    tie.close (tie.spec Inv-loop μ-loop sub-checks cast-checks loop-holds add-add-sum add-sum-requires add-e loop-less loop-again same-length same-length-2 returns)

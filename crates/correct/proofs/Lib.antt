@@ -1,0 +1,10 @@
+-- Laws of blocks that are set right.
+pub mod Shares
+pub mod LaneBytes
+pub mod Counting
+pub mod LaneSymbols
+pub mod Answers
+pub mod MarkedBytes
+pub mod Meaning
+pub mod Turned
+pub mod Corrections

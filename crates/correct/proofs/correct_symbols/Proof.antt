@@ -1,0 +1,51 @@
+-- `correct_symbols` meets its contract: the marks of all lanes, then the lanes are set right.
+use mathlib.Core.Path.{_≡_, sym, ap, _∙_}
+use Prim.Native.Nat.{ℕ, _+_, _-_, _≤_}
+use native.Mathlib.Omega.{arith}
+use borrow.Author.Needs.{needs}
+use lib.ListN.{take}
+use lib.Seq.{length-take-le}
+use Rattle.lists.specs.Padded.{zeros}
+use Rattle.layout.specs.Layout.{shareLayout}
+use Rattle.check_sums.proofs.Prefix.{whole-fits, whole-is, length-whole}
+use Rattle.check_sums.proofs.Marking.{zeros-part, length-marks}
+use Rattle.correct.proofs.MarkedBytes.{marked-shares}
+use Rattle.correct.proofs.correct_symbols.Statement.{statement}
+use Rattle.correct.proofs.correct_symbols.Tie as tie
+
+-- the marks are 0 before
+cleared : (n l : ℕ) → l ≤ n → take l (zeros n) ≡ zeros l
+cleared n l few =
+    let front : 0 + l - 0 ≡ l = omega arith in
+    ap (λ (m : ℕ). take m (zeros n)) (sym front) ∙ zeros-part n 0 l (omega arith)
+
+array-borrow-prefix-marks : tie.Need-array-borrow-prefix-marks
+array-borrow-prefix-marks c = omega (arith, c .before .before .pre .few-lanes)
+
+slice-aggregate-mark-lanes : tie.Need-slice-aggregate-mark-lanes
+slice-aggregate-mark-lanes c = sym (length-take-le _ _ (omega (arith, c .before .before .before .pre .few-lanes)))
+
+mark-lanes-requires : tie.Need-mark-lanes-requires
+unfolding zeros
+mark-lanes-requires c κs = let s = c .before .before .before in (s .pre, cleared 4096 (s .args .lanes) (s .pre .few-lanes))
+
+array-share-prefix-marks : tie.Need-array-share-prefix-marks
+array-share-prefix-marks c = whole-fits _ _ _ _ (c .before .mark-lanes .ensures) (length-marks shareLayout _ _ _)
+
+slice-aggregate-correct-wrong : tie.Need-slice-aggregate-correct-wrong
+slice-aggregate-correct-wrong c = sym (length-whole _ _ _ _ (c .before .before .mark-lanes .ensures) (length-marks shareLayout _ _ _))
+
+correct-wrong-requires : tie.Need-correct-wrong-requires
+correct-wrong-requires c κs =
+    let s = c .before .before .before .before .before .before .before in
+    marked-shares (s .args .h) (s .args .lanes) _ (s .args .shares .now) (s .pre) (whole-is _ _ _ _ (c .before .before .before .mark-lanes .ensures) (length-marks shareLayout _ _ _))
+
+same-length : tie.Need-same-length
+same-length c = search needs
+
+returns : tie.Need-returns
+returns c = c .before .before .correct-wrong .ensures
+
+pub correct-symbols-spec : {M : Type 1} → statement M
+correct-symbols-spec =
+    tie.close (tie.spec array-borrow-prefix-marks slice-aggregate-mark-lanes mark-lanes-requires array-share-prefix-marks slice-aggregate-correct-wrong correct-wrong-requires same-length returns)

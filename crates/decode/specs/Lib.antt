@@ -1,0 +1,4 @@
+-- What the functions return.
+pub mod Locating
+pub mod Errors
+pub mod Candidates
