@@ -52,7 +52,7 @@
  *   overlap, or be one.
  * - Threads. There is no state outside the buffers. Calls may run at the same time in any number of threads as long as
  *   none writes what another reads or writes.
- * - Memory. No call allocates. Each takes less than 288 KiB of stack (measured); Update, the plan and the calls on one lane less than 16 KiB.
+ * - Memory. No call allocates. Each takes less than 368 KiB of stack (measured); Update, the plan and the calls on one lane less than 16 KiB.
  *
  * A call always returns: none reads or writes a file, waits, or ends the program.
  */
