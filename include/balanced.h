@@ -52,7 +52,7 @@
  *   overlap, or be one.
  * - Threads. There is no state outside the buffers. Calls may run at the same time in any number of threads as long as
  *   none writes what another reads or writes.
- * - Memory. No call allocates. Each takes less than 368 KiB of stack (measured); Update, the plan and the calls on one lane less than 16 KiB.
+ * - Memory. No call allocates. Each takes less than 368 KiB of stack (measured); Update, the plan and balanced_find_update less than 16 KiB.
  *
  * A call always returns: none reads or writes a file, waits, or ends the program.
  */
@@ -224,6 +224,24 @@ uint8_t balanced_find_update(const uint8_t *record, size_t record_len,
                              const uint8_t *before, size_t before_len,
                              const uint8_t *after, size_t after_len,
                              uint32_t *answer, uint32_t *symbol, uint32_t *amount);
+
+/*
+ * Lists the single changes that make a lane a word of the code, lowest node first: with symbols[i] in the place of what
+ * node nodes[i] holds, the lane is one. A lane that is a word has none. Another has one for each node where k = n-1, and
+ * at most one where k is below that. Where k = n every lane is a word.
+ *
+ *   lane     n bytes, read
+ *   nodes    n bytes: the first *count are written, the others are left as they are
+ *   symbols  n bytes: likewise
+ *   count    receives how many changes are listed
+ *
+ * Returns 0 or one of 1 to 5, 8, 11.
+ */
+uint8_t balanced_mends(const uint8_t *record, size_t record_len,
+                       const uint8_t *lane, size_t lane_len,
+                       uint8_t *nodes, size_t nodes_len,
+                       uint8_t *symbols, size_t symbols_len,
+                       uint32_t *count);
 
 /*
  * Rearranges the shares of a block: from node after node, as an older store has them, to lane after lane, and back. What

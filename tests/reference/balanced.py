@@ -366,6 +366,31 @@ def find_update(record, before, after):
     return call(record, faults, work)
 
 
+def words_at(plan, lane, node):
+    """The symbols with which the lane is a word when they stand at the node, by trying every one"""
+    size = plan.field.size
+    rows = [bytes([x] * size) for x in lane]
+    rows[node] = bytes(range(size))
+    coefficients = [combine(plan.field, line, rows[:plan.k]) for line in plan.interpolation()]
+    values = [combine(plan.field, plan.monomials(j), coefficients) for j in range(plan.n)]
+    return [x for x in range(size) if all(row[x] == value[x] for row, value in zip(rows, values))]
+
+
+def single_mends(record, lane, nodes_room, symbols_room):
+    """(number, the nodes and new symbols whose single change makes the lane a word)"""
+
+    def faults(plan):
+        yield 8, len(lane) != plan.n or nodes_room != plan.n or symbols_room != plan.n
+        yield 11, symbols_bad(plan, lane)
+
+    def work(plan):
+        if lane[0] in words_at(plan, lane, 0):
+            return []
+        return [(node, x) for node in range(plan.n) for x in words_at(plan, lane, node)]
+
+    return call(record, faults, work)
+
+
 def rearrange_faults(plan, lanes, source, room):
     yield 7, lanes_bad(lanes)
     yield 8, len(source) != plan.n * lanes or room != plan.n * lanes

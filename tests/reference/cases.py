@@ -4,7 +4,7 @@
 An empty line or a comment, which starts with #, is printed as it is.
 """
 import sys
-from balanced import belongs, build_plan, encode, find_update, rebuild, recover, to_lanes, to_nodes, update, weights
+from balanced import belongs, build_plan, encode, find_update, rebuild, recover, single_mends, to_lanes, to_nodes, update, weights
 from data import block, refused
 from roster import History
 from words import NotRead, is_comment, read_line
@@ -22,6 +22,7 @@ CALLS = {
     "lowest": ["room"],
     "job": ["room"],
     "find": ["before", "after"],
+    "mends": ["symbols", "room", "room"],
     "weights": ["room"],
     "to_lanes": ["lanes", "shares", "room"],
     "to_nodes": ["lanes", "shares", "room"],
@@ -45,6 +46,12 @@ def on_roster(name, record, arguments):
     return listed if name == "lowest" else f"{listed}, next job {HISTORY.next_job()}"
 
 
+def listed(mends, nodes_room, symbols_room):
+    """How many changes there are, and both lists, with 170 at every place after them."""
+    nodes, symbols = (bytes(change[i] for change in mends).ljust(room, bytes([170])) for i, room in enumerate([nodes_room, symbols_room]))
+    return f"count {len(mends)} nodes{block(nodes)} symbols{block(symbols)}"
+
+
 def answer(name, record, arguments):
     if name in ("roster", "leave", "rejoin", "lowest", "job"):
         return on_roster(name, record, arguments)
@@ -66,6 +73,9 @@ def answer(name, record, arguments):
         if number or found == "unchanged":
             return f"refused {number}" if number else found
         return f"symbol {found[0]} amount {found[1]}" if found else "no single update"
+    if name == "mends":
+        number, mends = single_mends(record, *arguments)
+        return refused(number) if number else listed(mends, *arguments[1:])
     if name == "weights":
         number, counts = weights(record, *arguments)
         return refused(number) if number else "done" + "".join(f" {count}" for count in counts)

@@ -2,7 +2,8 @@
 """Prints calls over every accepted record of some small fields, in the words of cases.py.
 
 For each record a message is encoded, one symbol updated, the update found again from the lane before and after it and not found where a node
-is changed besides, the result tested as it is and with one symbol changed, the new message recovered from k nodes in some order, and a node
+is changed besides, the single changes listed that mend the lane as it is, with that node changed and with a second,
+the result tested as it is and with one symbol changed, the new message recovered from k nodes in some order, and a node
 rebuilt from them; where k = n, the shares are rearranged both ways. The data are pseudo-random and the same at each run.
 """
 from balanced import encode, lane_after_lane, read, shares_of, to_nodes, update
@@ -30,6 +31,10 @@ def words(name, record, **arguments):
     return " ".join(map(str, line))
 
 
+def mends(record, n, lane):
+    return words("mends", record, symbols=bytes(lane)) + f" room {n} room {n}"
+
+
 def lane_of(shares, n, lane):
     return shares[lane * n : (lane + 1) * n]
 
@@ -51,6 +56,11 @@ def calls(record, seed):
     changed, node = bytearray(after), next(draw) % n
     changed[node] = (changed[node] + 1) % size
     yield words("find", record, before=before, after=bytes(changed))
+    yield mends(record, n, after)
+    yield mends(record, n, changed)
+    node = (node + 1 + changed[node] % (n - 1)) % n
+    changed[node] = (changed[node] + 1) % size
+    yield mends(record, n, changed)
     yield words("belongs", record, lanes=LANES, shares=shares)
     damaged, (node, lane) = bytearray(shares), divmod(next(draw) % (n * LANES), LANES)
     at = lane * n + node

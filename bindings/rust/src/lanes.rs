@@ -44,3 +44,26 @@ pub fn find_update(record: &[u8], before: &[u8], after: &[u8]) -> Result<Finding
         _ => Finding::NoSingleUpdate,
     })
 }
+
+/// Lists the single changes that make a lane a word of the code, lowest node first, and gives how many there are.
+///
+/// `lane`, `nodes` and `symbols` have n bytes each. Change i puts `symbols[i]` in the place of what node `nodes[i]` holds.
+/// Places after the last change hold what they held. A lane that is a word has none; another has one at most where k is
+/// below n−1, and one for each node where k is n−1. Where k is n every lane is a word.
+pub fn mends(record: &[u8], lane: &[u8], nodes: &mut [u8], symbols: &mut [u8]) -> Result<usize, Error> {
+    let mut count = 0;
+    let number = unsafe {
+        sys::balanced_mends(
+            record.as_ptr(),
+            record.len(),
+            lane.as_ptr(),
+            lane.len(),
+            nodes.as_mut_ptr(),
+            nodes.len(),
+            symbols.as_mut_ptr(),
+            symbols.len(),
+            &mut count,
+        )
+    };
+    Error::check(number).map(|()| count as usize)
+}

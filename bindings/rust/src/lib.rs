@@ -75,6 +75,11 @@
 //! assert_eq!(plan.recover(1, &[2, 3, 2], &[1, 3, 1], &mut message), Err(Error::Twice));
 //! assert_eq!(message, [1, 5, 2]);
 //!
+//! // It is a word again if node 5 holds 0, and no other single change makes it one.
+//! let (mut nodes, mut symbols) = ([9; 6], [9; 6]);
+//! assert_eq!(plan.mends(&shares, &mut nodes, &mut symbols)?, 1);
+//! assert_eq!((nodes[0], symbols[0]), (5, 0));
+//!
 //! // Two lanes: lane 0 and then lane 1. Node after node, the two symbols of node 0 come first.
 //! let mut shares = [0; 12];
 //! plan.encode(2, &[1, 1, 0, 5, 2, 2], &mut shares)?;
@@ -99,7 +104,7 @@ pub mod sys;
 
 pub use calls::{belongs, encode, rebuild, recover, to_lanes, to_nodes, update, weights};
 pub use error::Error;
-pub use lanes::{find_update, Finding};
+pub use lanes::{find_update, mends, Finding};
 pub use plan::Plan;
 pub use roster::Roster;
 

@@ -141,6 +141,11 @@ impl Plan {
         lanes::find_update(self.record(), before, after)
     }
 
+    /// [`mends`](crate::mends) with this plan's record.
+    pub fn mends(&self, lane: &[u8], nodes: &mut [u8], symbols: &mut [u8]) -> Result<usize, Error> {
+        lanes::mends(self.record(), lane, nodes, symbols)
+    }
+
     /// [`to_lanes`](crate::to_lanes) with this plan's record.
     pub fn to_lanes(&self, lanes: u32, by_node: &[u8], by_lane: &mut [u8]) -> Result<(), Error> {
         calls::to_lanes(self.record(), lanes, by_node, by_lane)

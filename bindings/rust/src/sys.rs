@@ -133,5 +133,17 @@ extern "C" {
         amount: *mut u32,
     ) -> u8;
 
+    pub fn balanced_mends(
+        record: *const u8,
+        record_len: usize,
+        lane: *const u8,
+        lane_len: usize,
+        nodes: *mut u8,
+        nodes_len: usize,
+        symbols: *mut u8,
+        symbols_len: usize,
+        count: *mut u32,
+    ) -> u8;
+
     pub fn balanced_weights(record: *const u8, record_len: usize, counts: *mut u32, counts_len: usize) -> u8;
 }

@@ -3,6 +3,8 @@ pub use belongs::block_belongs;
 pub use encode::encode_block;
 pub use find_update::Finding;
 pub use find_update::find_update;
+pub use mends::Mending;
+pub use mends::single_mends;
 pub use plan::build_plan;
 pub use rearrange::to_lanes;
 pub use rearrange::to_nodes;

@@ -3,6 +3,7 @@ use mathlib.Core.Path.{_≡_, sym, ap, _∙_}
 use mathlib.Core.List.{List}
 use Prim.Native.Nat.{ℕ}
 use native.Mathlib.Omega.{arith}
+use lib.ListN.{length}
 use Rattle.refusals.specs.Faults.{faultOf}
 use Rattle.blocks.proofs.Refused.{refused-value}
 use Rattle.find_update.specs.declared.Finding.{Finding}
@@ -11,7 +12,11 @@ use Rattle.find_update.specs.Promise.{findFault, FindSays}
 use Rattle.find_update.specs.Numbers.{caseOf, foundSymbol, foundAmount}
 use Rattle.find_update.proofs.Meaning.{not-refused}
 use Rattle.find_update.proofs.Accepts.{found-means, refused-means}
-use Rattle.balanced_c.specs.Lanes.{foundIn, FindGives}
+use Rattle.mends.specs.declared.Mending.{Mending}
+use Rattle.mends.specs.declared.Mending.the-variants as M
+use Rattle.mends.specs.Promise.{mendsFault, MendsSay}
+use Rattle.mends.proofs.Accepts.{listed-count, refused-number}
+use Rattle.balanced_c.specs.Lanes.{foundIn, FindGives, mendedNodes, mendedBytes, MendsGive}
 
 module _ (rec before after : List ℕ) (answer symbol amount : ℕ) (a : Finding) (says : FindSays rec before after a) where
   -- the finding in numbers
@@ -48,5 +53,37 @@ module _ (rec before after : List ℕ) (answer symbol amount : ℕ) (a : Finding
         answer-is = sym (refused-value g _ answer some);
         symbol-is = sym (refused-value g _ symbol some);
         amount-is = sym (refused-value g _ amount some);
+        claims = says .claims;
+      }
+
+module _ (rec lane nodes symbols nodes′ symbols′ : List ℕ) (a : Mending) (says : MendsSay rec lane nodes symbols nodes′ symbols′ a) (count : ℕ) where
+  abbrev fault : ℕ
+  fault = faultOf rec (λ h. mendsFault h lane (length nodes) (length symbols))
+
+  -- the list, and how many entries it has
+  pub mends-listed : (c : ℕ) → a ≡ M.Listed c → MendsGive rec lane nodes symbols count nodes′ symbols′ c 0
+  unfolding mendedNodes mendedBytes
+  mends-listed c e =
+      let promise = says .listed .promise in
+      let (none, same) = listed-count fault (length (mendedNodes rec lane)) c (sym e ∙ promise .answer) in
+      record {
+        number = sym none;
+        count-is = same;
+        nodes-are = rw none at (promise .nodes-written);
+        symbols-are = rw none at (promise .symbols-written);
+        claims = says .claims;
+      }
+
+  -- the number: the count is as it was
+  pub mends-refused : (g : ℕ) → a ≡ M.Refused g → MendsGive rec lane nodes symbols count nodes′ symbols′ count g
+  unfolding mendedNodes mendedBytes
+  mends-refused g e =
+      let promise = says .listed .promise in
+      let (same, some) = refused-number fault (length (mendedNodes rec lane)) g (sym e ∙ promise .answer) in
+      record {
+        number = same;
+        count-is = sym (refused-value g _ count some);
+        nodes-are = rw (← same) at (promise .nodes-written);
+        symbols-are = rw (← same) at (promise .symbols-written);
         claims = says .claims;
       }

@@ -1,6 +1,7 @@
 // The calls on single lanes.
-ghost use Rattle.balanced_c.specs.Lanes.{FindGives};
+ghost use Rattle.balanced_c.specs.Lanes.{FindGives, MendsGive};
 use balanced::Finding;
+use balanced::Mending;
 
 // Which update it was: `answer` receives 0 where the lanes are equal, 1 where an update was found and 2 where there is none; `symbol` and `amount` receive what was found, and 0 otherwise.
 #[no_mangle]
@@ -34,5 +35,25 @@ pub extern "C" fn balanced_find_update(
             0
         }
         Finding::Refused(number) => number,
+    }
+}
+
+// Every node and new symbol whose single change makes the lane a word, lowest node first: `count` receives how many; places past them hold what they held.
+#[no_mangle]
+pub extern "C" fn balanced_mends(
+    rec: &[u8],
+    lane: &[u8],
+    nodes: &mut [u8],
+    symbols: &mut [u8],
+    count: &mut u32,
+) -> u8
+    ensures { λ r. ⌜ MendsGive (now (rec .entry)) (now (lane .entry)) (now (nodes .entry)) (now (symbols .entry)) (now (count .entry)) (now (nodes .exit)) (now (symbols .exit)) (now (count .exit)) r ⌝ }
+{
+    match balanced::single_mends(rec, lane, nodes, symbols) {
+        Mending::Listed(listed) => {
+            *count = listed;
+            0
+        }
+        Mending::Refused(number) => number,
     }
 }

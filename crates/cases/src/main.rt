@@ -12,6 +12,7 @@ mod belonging;
 mod counting;
 mod encoding;
 mod finding;
+mod mending;
 mod outcome;
 mod plans;
 mod rearranging;
@@ -58,6 +59,10 @@ fn call_on_nodes(line: &[u8]) {
 fn call_on_lanes(line: &[u8]) {
     if is_call(line, b"find") {
         finding::find(line);
+        return;
+    }
+    if is_call(line, b"mends") {
+        mending::mend(line);
         return;
     }
     call_on_shares(line);

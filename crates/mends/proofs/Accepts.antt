@@ -71,3 +71,20 @@ pub mended-lanes : (rec : List ℕ) (r : Record) → recordOf rec ≡ r → Mend
 unfolding Mended
 mended-lanes rec (Meets f) e = tt
 mended-lanes rec (Holds h) e = λ ws lane. mends h (accepted-sound rec h e) ws lane
+
+-- an answer that is no refusal met no number
+pub listed-means : (f count : ℕ) (r : Mending) → r ≡ mendingOf f count → ((g : ℕ) → r ≡ Refused g → ⊥) → f ≡ 0
+unfolding mendingOf
+listed-means zero count r e other = refl
+listed-means (suc f) count r e other = absurd (other (suc f) e)
+
+-- what each answer says of the number and the count
+pub listed-count : (f count c : ℕ) → Listed c ≡ mendingOf f count → (f ≡ 0) × (c ≡ count)
+unfolding mendingOf
+listed-count zero count c e = let same : c ≡ count = cc in (refl, same)
+listed-count (suc f) count c e = let z : _≡_ {A = ℕ} 0 1 = cc in absurd (omega arith)
+
+pub refused-number : (f count g : ℕ) → Refused g ≡ mendingOf f count → (g ≡ f) × (g ≡ 0 → ⊥)
+unfolding mendingOf
+refused-number zero count g e = let z : _≡_ {A = ℕ} 0 1 = cc in absurd (omega arith)
+refused-number (suc f) count g e = let same : g ≡ suc f = cc in (same, λ z. omega arith)

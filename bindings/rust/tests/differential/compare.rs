@@ -271,3 +271,45 @@ pub fn find_update(record: &[u8], before: &[u8], after: &[u8]) -> (u8, u32) {
     assert_eq!((got, lent), (expect, found), "find_update {record:?} {before:?} {after:?}");
     (got, found.0)
 }
+
+/// The list through the safe interface and through the C function, whose number is lent. Gives the number and the count.
+pub fn mends(record: &[u8], lane: &[u8], nodes: &[u8], symbols: &[u8]) -> (u8, u32) {
+    const MARK: u32 = 0x5a5a_5a5a;
+    let (expect, list) = expected(reference::mends(record, lane, nodes.len(), symbols.len()), Vec::new());
+    let count = if expect == 0 { list.len() as u32 } else { MARK };
+    let (mut nodes_after, mut symbols_after) = (nodes.to_vec(), symbols.to_vec());
+    for (i, &(node, symbol)) in list.iter().enumerate() {
+        (nodes_after[i], symbols_after[i]) = (node, symbol);
+    }
+    let (mut nodes_lent, mut symbols_lent) = (Lent::new(nodes), Lent::new(symbols));
+    let (got, listed) = number(balanced::mends(record, lane, nodes_lent.slice(), symbols_lent.slice()));
+    assert_eq!(
+        (got, listed),
+        (expect, (expect == 0).then_some(list.len())),
+        "mends {record:?} {lane:?}"
+    );
+    assert!(
+        nodes_lent.holds(&nodes_after) && symbols_lent.holds(&symbols_after),
+        "mends {record:?} {lane:?}"
+    );
+    let (mut nodes_lent, mut symbols_lent, mut lent) = (Lent::new(nodes), Lent::new(symbols), MARK);
+    let got = unsafe {
+        sys::balanced_mends(
+            record.as_ptr(),
+            record.len(),
+            lane.as_ptr(),
+            lane.len(),
+            nodes_lent.slice().as_mut_ptr(),
+            nodes.len(),
+            symbols_lent.slice().as_mut_ptr(),
+            symbols.len(),
+            &mut lent,
+        )
+    };
+    assert_eq!((got, lent), (expect, count), "mends {record:?} {lane:?}");
+    assert!(
+        nodes_lent.holds(&nodes_after) && symbols_lent.holds(&symbols_after),
+        "mends {record:?} {lane:?}"
+    );
+    (got, list.len() as u32)
+}

@@ -2,6 +2,7 @@
 mod calls;
 mod compare;
 mod findings;
+mod mends;
 mod notebook;
 mod plans;
 mod random;

@@ -32,3 +32,38 @@ pub fn find_update(record: &[u8], before: &[u8], after: &[u8]) -> Result<(u32, u
     }
     Ok((2, 0, 0))
 }
+
+/// The nodes and new symbols whose single change makes the lane a word. What each node from k on holds less what the first k
+/// nodes say that it holds must be made zero: that is tried at each node with the one change that is right at the first.
+pub fn mends(record: &[u8], lane: &[u8], nodes: usize, symbols: usize) -> Result<Vec<(u8, u8)>, u8> {
+    let code = Code::of(record)?;
+    if lane.len() != code.n || nodes != code.n || symbols != code.n {
+        return Err(8);
+    }
+    code.symbols_fault(lane)?;
+    let (f, rows) = (&code.field, code.extension());
+    let wrong: Vec<u8> = rows
+        .iter()
+        .enumerate()
+        .map(|(i, row)| {
+            row.iter()
+                .zip(lane)
+                .fold(lane[code.k + i], |sum, (&c, &x)| f.sub(sum, f.mul(c, x)))
+        })
+        .collect();
+    if wrong.iter().all(|&x| x == 0) {
+        return Ok(Vec::new());
+    }
+    // what 1 more at node j adds to each
+    let adds = |i: usize, j: usize| match j.checked_sub(code.k) {
+        None => f.sub(0, rows[i][j]),
+        Some(own) => u8::from(own == i),
+    };
+    let mended = (0..code.n).filter_map(|j| {
+        let first = (0..rows.len()).find(|&i| adds(i, j) != 0).expect("every node is checked");
+        let more = f.mul(f.sub(0, wrong[first]), f.inverse(adds(first, j)));
+        let zero = (0..rows.len()).all(|i| f.add(wrong[i], f.mul(adds(i, j), more)) == 0);
+        zero.then(|| (j as u8, f.add(lane[j], more)))
+    });
+    Ok(mended.collect())
+}

@@ -8,7 +8,7 @@ mod roster;
 
 pub use code::Code;
 pub use field::{is_prime, Field};
-pub use lanes::{added, find_update};
+pub use lanes::{added, find_update, mends};
 pub use roster::{Event, History};
 
 pub fn encode(record: &[u8], lanes: u32, message: &[u8], out: usize) -> Result<Vec<u8>, u8> {
@@ -105,10 +105,9 @@ pub fn belongs(record: &[u8], lanes: u32, shares: &[u8]) -> Result<u32, u8> {
     let rows = code.extension();
     let is_word = |t: usize| {
         rows.iter().enumerate().all(|(i, row)| {
-            let value = row
-                .iter()
-                .enumerate()
-                .fold(0, |sum, (e, &c)| code.field.add(sum, code.field.mul(c, shares[t * code.n + e])));
+            let value = row.iter().enumerate().fold(0, |sum, (e, &c)| {
+                code.field.add(sum, code.field.mul(c, shares[t * code.n + e]))
+            });
             value == shares[t * code.n + code.k + i]
         })
     };
