@@ -1,4 +1,4 @@
-/* The time of the calls in this build, beside an older build, ISA-L and Jerasure, where they are there. The methods run in turn, round
+/* The time of the calls in this build, beside an older build, ISA-L, Jerasure and libfec, where they are there. The methods run in turn, round
    after round, the best time of each counts, and all that is written is compared byte for byte with products made one by one.
    bench ROUNDS THIS.so [OLDER.so] */
 #include "bench.h"
@@ -10,13 +10,13 @@ static const struct { uint8_t record[5]; int length, n, k; } codes[] = {
     {{2, 11, 15, 10}, 4, 15, 10}, {{2, 32, 51, 34}, 4, 51, 34}, {{2, 2, 255, 120}, 4, 255, 120}, {{1, 251, 6, 250, 125}, 5, 250, 125},
 };
 static const int all_lanes[] = {1, 16, 64, 256, 1024, 4096};
-static const char *const call_names[CALLS] = {"encode", "update", "recover", "rebuild", "belongs", "plan"};
-static struct method *const methods[] = {&this_build, &older_build, &isal, &isal_turned, &jerasure, &jerasure_turned, &isal_kept, &jerasure_kept};
+static const char *const call_names[CALLS] = {"encode", "update", "recover", "rebuild", "belongs", "correct", "correct_wrong", "plan"};
+static struct method *const methods[] = {&this_build, &older_build, &isal, &isal_turned, &jerasure, &jerasure_turned, &isal_kept, &jerasure_kept, &libfec};
 enum { METHODS = sizeof methods / sizeof *methods };
 
 struct layout planned, systematic;
 const uint8_t *record;
-int length, n, k, lanes, prime, lost, belongs, symbol, lane;
+int length, n, k, lanes, prime, lost, belongs, altered, symbol, lane;
 uint8_t nodes[MAX], checks[MAX * MAX], *message, *data[MAX], *out, *outs[MAX], *work, from, to, *listed_lanes, *turned, *turned_rows[MAX];
 
 /* The products of the field, and the bytes of the lane that Update changes, before and after. */
@@ -111,6 +111,35 @@ static void fill_states(const struct layout *y, int by_lane) {
     }
 }
 
+/* libfec takes a lane from the last node to the first. */
+static int reversed(const struct method *m) { return m == &libfec; }
+
+static void reverse_lanes(void) {
+    for (int t = 0; t < lanes; t++)
+        for (int i = 0, j = n - 1; i < j; i++, j--) {
+            uint8_t *w = work + (size_t)t * n, x = w[i];
+            w[i] = w[j], w[j] = x;
+        }
+}
+
+/* The block that Correct takes, as the method has it. */
+static void fill_lanes(const struct method *m) {
+    memcpy(work, planned.lanes, (size_t)n * lanes);
+    if (reversed(m)) reverse_lanes();
+}
+
+static int spoiled_lanes(void) { return lanes < 64 ? lanes : 64; }
+static int wrong_symbols(void) { return (n - k) / 2 * spoiled_lanes(); }
+
+void spoil(void) {
+    int some = spoiled_lanes();
+    for (int i = 0; i < some; i++)
+        for (int j = 0; j < (n - k) / 2; j++) {
+            uint8_t *at = work + (size_t)(i * (lanes / some)) * n + (i + 2 * j) % n;
+            *at = plus(*at, 1 + (i + j) % 100);
+        }
+}
+
 /* Whether so many calls wrote what they must. */
 static int is_right(int call, const struct method *m, int runs) {
     const struct layout *y = m->layout;
@@ -120,6 +149,10 @@ static int is_right(int call, const struct method *m, int runs) {
     if (call == RECOVER) return !memcmp(out, message, (size_t)recovered * lanes);
     if (call == REBUILD) return !memcmp(out, y->rows[0], lanes);
     if (call == BELONGS) return belongs;
+    if (call == CORRECT || call == CORRECT_WRONG) {
+        if (reversed(m)) reverse_lanes();
+        return altered == (call == CORRECT_WRONG ? wrong_symbols() : 0) && !memcmp(work, planned.lanes, (size_t)n * lanes);
+    }
     if (call == PLAN) {
         for (int j = 0; j < n; j++)
             if (out[j] != y->generator[j * k]) return 0;
@@ -135,6 +168,7 @@ static double run(int call, const struct method *m, int runs) {
     memset(out, 0xA5, (size_t)n * lanes);
     belongs = 0;
     fill_states(m->layout, m->by_lane);
+    if (call == CORRECT || call == CORRECT_WRONG) fill_lanes(m);
     double start = used();
     for (int i = 0; i < runs; i++) {
         m->run[call]();
@@ -154,8 +188,9 @@ static double timed(int call, const struct method *m, int *runs) {
     return time / *runs;
 }
 
-/* The peers have no prime fields, and their rows are whole words. */
+/* The peers have no prime fields, and their rows are whole words; libfec has our code for 255 nodes alone. */
 static int alone(void) { return prime || lanes < 16; }
+static int left_out(int call, const struct method *m) { return !m->run[call] || (alone() && !m->primes) || (reversed(m) && n != 255); }
 
 /* One line: our time, the bytes of the message a second, and our time over that of each other method; then each ratio on a line of its own,
    to be read by programs: ratio CALL N K LANES METHOD VALUE. */
@@ -165,11 +200,11 @@ static void measure(int call, int rounds) {
     for (int m = 0; m < METHODS; m++) runs[m] = 1;
     for (int round = 0; round < rounds; round++)
         for (int m = 0; m < METHODS; m++) {
-            if (!methods[m]->run[call] || (alone() && !methods[m]->primes)) continue;
+            if (left_out(call, methods[m])) continue;
             double time = timed(call, methods[m], &runs[m]);
             if (!best[m] || time < best[m]) best[m] = time;
         }
-    printf("%5d %5d %6d  %-8s %10.2f us", n, k, lanes, call_names[call], best[0] * 1e6);
+    printf("%5d %5d %6d  %-13s %10.2f us", n, k, lanes, call_names[call], best[0] * 1e6);
     if (call == UPDATE || call == PLAN) printf(" %13s", "");
     else printf(" %8.0f MB/s", (double)k * lanes / best[0] / 1e6);
     for (int m = 1; m < METHODS; m++)
@@ -178,6 +213,9 @@ static void measure(int call, int rounds) {
     printf("\n");
     for (int m = 1; m < METHODS; m++)
         if (best[m]) printf("ratio %s %d %d %d %s %.3f\n", call_names[call], n, k, lanes, methods[m]->label, best[0] / best[m]);
+    static double belongs_time;
+    if (call == BELONGS) belongs_time = best[0];
+    if (call == CORRECT || call == CORRECT_WRONG) printf("ratio %s %d %d %d belongs %.3f\n", call_names[call], n, k, lanes, best[0] / belongs_time);
     fflush(stdout);
 }
 
@@ -192,7 +230,7 @@ int main(int argc, char **argv) {
     load_builds(argv[2], argc > 3 ? argv[3] : NULL);
     message = room(), out = room(), work = room(), planned.shares = room(), systematic.shares = room();
     planned.lanes = room(), systematic.lanes = room(), listed_lanes = room(), turned = room();
-    printf("%5s %5s %6s  %-8s %13s %13s", "n", "k", "lanes", "call", "time", "message");
+    printf("%5s %5s %6s  %-13s %13s %13s", "n", "k", "lanes", "call", "time", "message");
     for (int m = 1; m < METHODS; m++) printf(" %12s", methods[m]->name);
     printf("\n");
     for (size_t c = 0; c < sizeof codes / sizeof *codes; c++) {

@@ -10,6 +10,7 @@ struct build {
     __typeof__(balanced_recover) *recover;
     __typeof__(balanced_rebuild) *rebuild;
     __typeof__(balanced_belongs) *belongs;
+    __typeof__(balanced_correct) *correct;
     int by_lane;
 };
 static struct build this, older;
@@ -43,6 +44,16 @@ static void test(const struct build *b) {
     belongs = wrong == (uint32_t)lanes;
 }
 
+static void set_right(const struct build *b) {
+    uint32_t count;
+    if (b->correct(record, length, lanes, work, (size_t)n * lanes, &count)) fail("correct was turned away");
+    altered = count;
+}
+static void correct_wrong(const struct build *b) {
+    spoil();
+    set_right(b);
+}
+
 static void plan(const struct build *b) {
     uint8_t numbers[BALANCED_PLAN_NUMBERS], shifts[BALANCED_PLAN_SHIFTS], firsts[BALANCED_PLAN_FIRSTS];
     if (b->plan(record, length, numbers, sizeof numbers, shifts, sizeof shifts, firsts, sizeof firsts, out, BALANCED_PLAN_BASE)) fail("plan was turned away");
@@ -53,15 +64,19 @@ static void this_update(void) { update(&this); }
 static void this_recover(void) { recover(&this); }
 static void this_rebuild(void) { rebuild(&this); }
 static void this_belongs(void) { test(&this); }
+static void this_correct(void) { set_right(&this); }
+static void this_correct_wrong(void) { correct_wrong(&this); }
 static void this_plan(void) { plan(&this); }
 static void older_encode(void) { encode(&older); }
 static void older_update(void) { update(&older); }
 static void older_recover(void) { recover(&older); }
 static void older_rebuild(void) { rebuild(&older); }
 static void older_belongs(void) { test(&older); }
+static void older_correct(void) { set_right(&older); }
+static void older_correct_wrong(void) { correct_wrong(&older); }
 static void older_plan(void) { plan(&older); }
 
-struct method this_build = {"ours", "ours", 1, 1, &planned, NULL, {this_encode, this_update, this_recover, this_rebuild, this_belongs, this_plan}};
+struct method this_build = {"ours", "ours", 1, 1, &planned, NULL, {this_encode, this_update, this_recover, this_rebuild, this_belongs, this_correct, this_correct_wrong, this_plan}};
 struct method older_build = {"older", "older", 1, 0, &planned, NULL, {NULL}};
 
 static void *found(void *object, const char *name) {
@@ -79,6 +94,7 @@ static void load(struct build *b, const char *path) {
     b->recover = found(object, "balanced_recover");
     b->rebuild = found(object, "balanced_rebuild");
     b->belongs = found(object, "balanced_belongs");
+    b->correct = dlsym(object, "balanced_correct");
     /* a build from before the two rearrangements has shares node after node */
     b->by_lane = dlsym(object, "balanced_to_lanes") != NULL;
 }
@@ -88,6 +104,7 @@ void load_builds(const char *this_path, const char *older_path) {
     if (!older_path) return;
     load(&older, older_path);
     older_build.by_lane = older.by_lane;
-    void (*const run[CALLS])(void) = {older_encode, older_update, older_recover, older_rebuild, older_belongs, older_plan};
+    void (*const run[CALLS])(void) = {older_encode, older_update, older_recover, older_rebuild, older_belongs, older.correct ? older_correct : NULL,
+                                      older.correct ? older_correct_wrong : NULL, older_plan};
     memcpy(older_build.run, run, sizeof run);
 }

@@ -1,5 +1,5 @@
 #!/usr/bin/env bash
-# Times the calls beside ISA-L and Jerasure, whose results are compared with ours: bench/run.sh [ROUNDS]
+# Times the calls beside ISA-L, Jerasure and libfec, whose results are compared with ours: bench/run.sh [ROUNDS]
 # LIBRARY=path/to/libbalanced_c.a names an older build of the library, which is timed beside this one in the same run.
 # Needs rt and gcc; a peer that is missing is left out.
 set -euo pipefail
@@ -21,6 +21,7 @@ peers=()
 found() { printf '#include <stdio.h>\n#include <%s>\nint main(void) { return 0; }\n' "$1" | gcc -x c - "${@:2}" -o /dev/null 2>/dev/null; }
 if found isa-l.h -lisal; then peers+=(-DISAL -lisal); else echo "ISA-L is left out: apt-get install libisal-dev"; fi
 if found jerasure.h -I/usr/include/jerasure -lJerasure; then peers+=(-DJERASURE -I/usr/include/jerasure -lJerasure); else echo "Jerasure is left out: apt-get install libjerasure-dev libgf-complete-dev"; fi
+if found fec.h -lfec; then peers+=(-DLIBFEC -lfec); else echo "libfec is left out: apt-get install libfec-dev"; fi
 
-gcc -std=gnu11 -O2 -Wall -Wextra -Iinclude -o target/bench/bench bench/bench.c bench/ours.c bench/isal.c bench/jerasure.c "${peers[@]}" -ldl
+gcc -std=gnu11 -O2 -Wall -Wextra -Iinclude -o target/bench/bench bench/bench.c bench/ours.c bench/isal.c bench/jerasure.c bench/libfec.c "${peers[@]}" -ldl
 target/bench/bench "${1:-15}" "${builds[@]}"

@@ -82,6 +82,7 @@ enum balanced_number {
     BALANCED_SYMBOL = 11, /* kind 1, and a byte that the call reads as a symbol is p or more */
     BALANCED_WORD = 12,   /* the lane that an update is to change is no word of the code */
     BALANCED_STALE = 13,  /* the message of that lane holds another symbol than the old one */
+    BALANCED_FAR = 14,    /* some lane has no word of the code within (n-k)/2 nodes */
     BALANCED_ALREADY = 15, /* the node already is what the event says: absent, or present */
     BALANCED_MANY = 16    /* there are more than 65,536 messages */
 };
@@ -224,6 +225,24 @@ uint8_t balanced_find_update(const uint8_t *record, size_t record_len,
                              const uint8_t *before, size_t before_len,
                              const uint8_t *after, size_t after_len,
                              uint32_t *answer, uint32_t *symbol, uint32_t *amount);
+
+/*
+ * Sets wrong symbols right: each lane becomes the word of the code that differs from it at no more than (n-k)/2 nodes,
+ * rounded down. There is at most one such word, and for a lane that is a word it is the lane itself.
+ *
+ *   shares   n * lanes bytes, read, and written at the nodes that are altered
+ *   altered  receives the number of symbols that were altered, over all lanes
+ *
+ * If some lane has no word that near, the call returns BALANCED_FAR and no lane is touched. For k = n and k = n-1 every
+ * lane must be a word. A lane with more than (n-k)/2 wrong symbols may be near to another word than the one it was; it
+ * then becomes that word.
+ *
+ * Returns 0 or one of 1 to 5, 7, 8, 11, 14.
+ */
+uint8_t balanced_correct(const uint8_t *record, size_t record_len,
+                         uint32_t lanes,
+                         uint8_t *shares, size_t shares_len,
+                         uint32_t *altered);
 
 /*
  * Lists the single changes that make a lane a word of the code, lowest node first: with symbols[i] in the place of what

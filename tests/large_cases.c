@@ -1,5 +1,5 @@
 /* Large blocks through the C interface, by checksums: which k are even with n = 255; blocks with the largest n and the largest number of
-   lanes, which are encoded, updated, rearranged, damaged, recovered from k of their nodes and rebuilt; and a block with one lane too many.
+   lanes, which are encoded, updated, rearranged, damaged, set right, recovered from k of their nodes and rebuilt; and a block with one lane too many.
    tests/reference/large_cases.py prints the same lines by another implementation. */
 #include "balanced.h"
 #include <stdio.h>
@@ -125,6 +125,36 @@ static void spoil(const struct code *c, unsigned node, uint32_t lane) {
     belongs(c);
 }
 
+/* The first nodes of a lane hold other symbols. */
+static void spoil_lane(const struct code *c, unsigned wrong, uint32_t lane) {
+    for (unsigned j = 0; j < wrong; j++) {
+        size_t at = (size_t)lane * c->n + j;
+        shares[at] = shares[at] ? 0 : 1;
+    }
+    printf("spoiled %u nodes of lane %u\n", wrong, (unsigned)lane);
+}
+
+static void correct(const struct code *c) {
+    uint32_t altered;
+    memcpy(before, shares, shares_size(c));
+    printf("correct: ");
+    uint8_t number = balanced_correct(c->record, c->length, c->lanes, shares, shares_size(c), &altered);
+    if (number != BALANCED_OK) refused(c, number);
+    else printf("altered %u, sum %llu\n", (unsigned)altered, (unsigned long long)checksum(shares, shares_size(c)));
+}
+
+/* The block as it was spoiled; two lanes with as many wrong symbols as can be borne; the last lane with one more. */
+static void correct_lanes(const struct code *c) {
+    unsigned most = (c->n - c->k) / 2;
+    correct(c);
+    spoil_lane(c, most, 0);
+    spoil_lane(c, most, c->lanes / 2);
+    correct(c);
+    spoil_lane(c, most, 0);
+    spoil_lane(c, most + 1, c->lanes - 1);
+    correct(c);
+}
+
 static void block(const struct code *c) {
     fill(c);
     encode(c);
@@ -141,6 +171,7 @@ static void block(const struct code *c) {
     spoil(c, 49, 500);
     spoil(c, 0, 17);
     spoil(c, 30, 800);
+    correct_lanes(c);
 }
 
 int main(void) {

@@ -2,7 +2,7 @@
 
 Every entry of the generator is the product of the differences itself, the shifts are taken by going round, a message is
 recovered by solving the linear system of the listed nodes, and a lane is a word if the polynomial through its first k
-symbols has the other symbols as values too. A row is `bytes`, one symbol for each lane. A message stands row after row,
+symbols has the other symbols as values too. The word near to a lane is found by Berlekamp and Welch's linear system. A row is `bytes`, one symbol for each lane. A message stands row after row,
 shares stand lane after lane.
 """
 from functools import lru_cache, reduce
@@ -89,6 +89,28 @@ def inverse_matrix(field, matrix):
             if i != c and rows[i][c]:
                 rows[i] = combine(field, [1, field.minus(0, rows[i][c])], [rows[i], rows[c]])
     return [row[size:] for row in rows]
+
+
+def null_vector(field, matrix, width):
+    """A vector other than zero that every row takes to zero, or None, by Gauss and Jordan's elimination."""
+    rows, pivots = [bytes(row) for row in matrix], []
+    for c in range(width):
+        at = len(pivots)
+        pivot = next((i for i in range(at, len(rows)) if rows[i][c]), None)
+        if pivot is None:
+            # column c is a sum of the columns of the pivots
+            vector = [0] * width
+            vector[c] = 1
+            for i, column in enumerate(pivots):
+                vector[column] = field.minus(0, rows[i][c])
+            return vector
+        rows[at], rows[pivot] = rows[pivot], rows[at]
+        rows[at] = rows[at].translate(field.products[inverse(field, rows[at][c])])
+        for i in range(len(rows)):
+            if i != at and rows[i][c]:
+                rows[i] = combine(field, [1, field.minus(0, rows[i][c])], [rows[i], rows[at]])
+        pivots.append(c)
+    return None
 
 
 def order(field, a):
@@ -197,6 +219,31 @@ class Plan:
         symbols = [bytes([x]) for x in lane]
         coefficients = [combine(self.field, line, symbols[:self.k]) for line in self.interpolation()]
         return all(combine(self.field, self.monomials(j), coefficients) == symbols[j] for j in range(self.n))
+
+    def nearest(self, lane):
+        """The word that differs from the lane at no more than (n - k)/2 nodes, or None, by Berlekamp and Welch.
+
+        If there is one, the polynomials E of degree up to t and N of degree below k + t with N = lane·E at every node, not both
+        zero, have N = f·E, where f is the word's polynomial. So E is zero wherever the lane is wrong, and the other nodes, of
+        which there are k, give the word.
+        """
+        field, most = self.field, (self.n - self.k) // 2
+        times = [self.power_row(j, most + 1, field.minus(0, lane[j])) for j in range(self.n)]
+        equations = [[*self.power_row(j, self.k + most, 1), *times[j]] for j in range(self.n)]
+        solution = null_vector(field, equations, self.k + 2 * most + 1)
+        if solution is None:
+            return None
+        errors = [bytes([c]) for c in solution[self.k + most:]]
+        left = [j for j in range(self.n) if combine(field, self.power_row(j, most + 1, 1), errors) != b"\0"][:self.k]
+        if len(left) < self.k:
+            return None
+        message = message_of(self, left, bytes(lane[j] for j in left))
+        word = [combine(field, self.column(j), message)[0] for j in range(self.n)]
+        return word if sum(x != y for x, y in zip(word, lane)) <= most else None
+
+    def power_row(self, j, count, scale):
+        """scale·root^(j·e) for e below count."""
+        return [self.field.times(scale, self.powers[j * e % self.n]) for e in range(count)]
 
     def message(self, lane):
         """The message whose encoding has the lane's symbols at the first k nodes."""
@@ -329,6 +376,14 @@ def rebuild(record, lanes, nodes, shares, target, room):
     return call(record, faults, work)
 
 
+def wrong_lanes(plan, shares):
+    """The lanes that are no words, all at a time."""
+    rows = shares_of(shares, plan.n)
+    coefficients = [combine(plan.field, line, rows[:plan.k]) for line in plan.interpolation()]
+    values = (combine(plan.field, plan.monomials(j), coefficients) for j in range(plan.n))
+    return {t for row, value in zip(rows, values) if row != value for t in range(len(row)) if row[t] != value[t]}
+
+
 def belongs(record, lanes, shares):
     """(number, the smallest lane that is no word, or None)"""
 
@@ -337,12 +392,23 @@ def belongs(record, lanes, shares):
         yield 8, len(shares) != plan.n * lanes
         yield 11, symbols_bad(plan, shares)
 
+    return call(record, faults, lambda plan: min(wrong_lanes(plan, shares), default=None))
+
+
+def correct(record, lanes, shares):
+    """(number, (count, shares afterwards))"""
+    words = {}
+
+    def faults(plan):
+        yield 7, lanes_bad(lanes)
+        yield 8, len(shares) != plan.n * lanes
+        yield 11, symbols_bad(plan, shares)
+        words.update((t, plan.nearest(lanes_of(shares, plan.n)[t])) for t in wrong_lanes(plan, shares))
+        yield 14, None in words.values()
+
     def work(plan):
-        rows = shares_of(shares, plan.n)
-        coefficients = [combine(plan.field, line, rows[:plan.k]) for line in plan.interpolation()]
-        values = (combine(plan.field, plan.monomials(j), coefficients) for j in range(plan.n))
-        wrong = [t for row, value in zip(rows, values) if row != value for t in range(lanes) if row[t] != value[t]]
-        return min(wrong, default=None)
+        after = b"".join(bytes(words.get(t, lane)) for t, lane in enumerate(lanes_of(shares, plan.n)))
+        return sum(a != b for a, b in zip(shares, after)), after
 
     return call(record, faults, work)
 

@@ -4,7 +4,9 @@
 An empty line or a comment, which starts with #, is printed as it is.
 """
 import sys
-from balanced import belongs, build_plan, encode, find_update, rebuild, recover, single_mends, to_lanes, to_nodes, update, weights
+from balanced import (
+    belongs, build_plan, correct, encode, find_update, rebuild, recover, single_mends, to_lanes, to_nodes, update, weights,
+)
 from data import block, refused
 from roster import History
 from words import NotRead, is_comment, read_line
@@ -14,6 +16,7 @@ CALLS = {
     "encode": ["lanes", "message", "room"],
     "update": ["lanes", "symbol", "lane", "old", "new", "shares"],
     "belongs": ["lanes", "shares"],
+    "correct": ["lanes", "shares"],
     "recover": ["lanes", "nodes", "shares", "room"],
     "rebuild": ["lanes", "nodes", "shares", "target", "room"],
     "roster": [],
@@ -62,8 +65,8 @@ def answer(name, record, arguments):
         numbers = f"n {plan.n} k {plan.k} d {plan.d} reads {plan.low} {plan.high}"
         rows = f"shifts{block(bytes(plan.shifts))} then 0 firsts{block(bytes(plan.firsts))} then 0"
         return f"{numbers} {rows} base{block(bytes(plan.entries[0]))} then 0"
-    if name == "update":
-        number, result = update(record, *arguments)
+    if name in ("update", "correct"):
+        number, result = (update if name == "update" else correct)(record, *arguments)
         return refused(number) if number else f"altered {result[0]} shares{block(result[1])}"
     if name == "belongs":
         number, lane = belongs(record, *arguments)

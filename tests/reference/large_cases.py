@@ -1,6 +1,6 @@
 #!/usr/bin/env python3
 """Prints what tests/large_cases.c must: which k are even with n = 255, and large blocks by checksums."""
-from balanced import belongs, build_plan, encode, lane_after_lane, rebuild, recover, shares_of, to_lanes, to_nodes, update
+from balanced import belongs, build_plan, correct, encode, lane_after_lane, rebuild, recover, shares_of, to_lanes, to_nodes, update
 from data import checksum, fill, refused
 
 
@@ -43,6 +43,27 @@ def print_rearranged(record, n, lanes, shares):
     print("lane after lane:", refused(two) if two else f"done, sum {checksum(by_lane)}")
 
 
+def spoiled(shares, at):
+    return shares[:at] + bytes([0 if shares[at] else 1]) + shares[at + 1:]
+
+
+def spoiled_lane(shares, n, wrong, lane):
+    print(f"spoiled {wrong} nodes of lane {lane}")
+    for j in range(wrong):
+        shares = spoiled(shares, lane * n + j)
+    return shares
+
+
+def print_corrected(record, n, k, lanes, shares):
+    most = (n - k) // 2
+    for damage in [[], [(most, 0), (most, lanes // 2)], [(most, 0), (most + 1, lanes - 1)]]:
+        for wrong, lane in damage:
+            shares = spoiled_lane(shares, n, wrong, lane)
+        number, result = correct(record, lanes, shares)
+        count, shares = (0, shares) if number else result
+        print("correct:", refused(number) if number else f"altered {count}, sum {checksum(shares)}")
+
+
 def block(record, lanes):
     """A block of pseudo-random symbols."""
     size, n, k = record[1] if record[0] == 1 else 256, *record[-2:]
@@ -71,9 +92,10 @@ def block(record, lanes):
         lane %= lanes
         at = lane * n + node
         if node < n:
-            shares = shares[:at] + bytes([0 if shares[at] else 1]) + shares[at + 1:]
+            shares = spoiled(shares, at)
         print(f"spoiled node {node} lane {lane}")
         print_belongs(record, lanes, shares)
+    print_corrected(record, n, k, lanes, shares)
 
 
 even()

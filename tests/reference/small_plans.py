@@ -4,7 +4,8 @@
 For each record a message is encoded, one symbol updated, the update found again from the lane before and after it and not found where a node
 is changed besides, the single changes listed that mend the lane as it is, with that node changed and with a second,
 the result tested as it is and with one symbol changed, the new message recovered from k nodes in some order, and a node
-rebuilt from them; where k = n, the shares are rearranged both ways. The data are pseudo-random and the same at each run.
+rebuilt from them; where k = n, the shares are rearranged both ways. Last the block is set right with as many wrong
+symbols in a lane as can be borne, and with one more. The data are pseudo-random and the same at each run.
 """
 from balanced import encode, lane_after_lane, read, shares_of, to_nodes, update
 from data import fill
@@ -37,6 +38,15 @@ def mends(record, n, lane):
 
 def lane_of(shares, n, lane):
     return shares[lane * n : (lane + 1) * n]
+
+
+def spoiled(shares, size, start, n, first, wrong):
+    """So many nodes in a row, from some node on and going round, hold other symbols in the lane that starts there."""
+    damaged = bytearray(shares)
+    for i in range(wrong):
+        at = start + (first + i) % n
+        damaged[at] = (damaged[at] + 1 + (first + i) % (size - 1)) % size
+    return bytes(damaged)
 
 
 def calls(record, seed):
@@ -74,6 +84,8 @@ def calls(record, seed):
         yield words("to_nodes", record, lanes=LANES, shares=shares, room=n * LANES)
         _, by_node = to_nodes(record, LANES, shares, n * LANES)
         yield words("to_lanes", record, lanes=LANES, shares=by_node, room=n * LANES)
+    for wrong in ((n - k) // 2, (n - k) // 2 + 1):
+        yield words("correct", record, lanes=LANES, shares=spoiled(shares, size, lane * n, n, next(draw), wrong))
 
 
 print("# Every n up to 12 and every k, over the fields of 3, 5, 7, 11, 13 and 256 elements.")

@@ -107,6 +107,27 @@ pub fn belongs(record: &[u8], lanes: u32, shares: &[u8]) -> Result<Option<u32>, 
     Error::check(number).map(|()| (first_wrong != lanes).then_some(first_wrong))
 }
 
+/// Sets wrong symbols right: each lane becomes the word of the code that differs from it at no more than (n−k)/2 nodes,
+/// rounded down. Gives the number of symbols that it altered.
+///
+/// `shares` has n·lanes bytes. There is at most one such word, and for a lane that is a word it is the lane itself. If some
+/// lane has no word that near, the call meets [`Error::Far`] and no lane is touched; for k = n and k = n−1 every lane must be
+/// a word. A lane with more wrong symbols than that may be near to another word than the one it was, and becomes that one.
+pub fn correct(record: &[u8], lanes: u32, shares: &mut [u8]) -> Result<u32, Error> {
+    let mut altered = 0;
+    let number = unsafe {
+        sys::balanced_correct(
+            record.as_ptr(),
+            record.len(),
+            lanes,
+            shares.as_mut_ptr(),
+            shares.len(),
+            &mut altered,
+        )
+    };
+    Error::check(number).map(|()| altered)
+}
+
 /// Puts shares that stand node after node, as those of an older store do, lane after lane.
 ///
 /// Both buffers have n·lanes bytes: what stands at j·lanes + t of `by_node` goes to t·n + j of `by_lane`, for each node j and

@@ -32,6 +32,8 @@ pub enum Error {
     Word = 12,
     /// The message of that lane holds another symbol than the old one.
     Stale = 13,
+    /// Some lane has no word of the code within (n−k)/2 nodes.
+    Far = 14,
     /// The node already is what the event says: absent, or present.
     Already = 15,
     /// There are more than 65,536 messages.
@@ -40,7 +42,7 @@ pub enum Error {
 
 impl Error {
     /// Every error, in the order of the numbers.
-    pub const ALL: [Error; 15] = [
+    pub const ALL: [Error; 16] = [
         Error::Kind,
         Error::Body,
         Error::Field,
@@ -54,6 +56,7 @@ impl Error {
         Error::Symbol,
         Error::Word,
         Error::Stale,
+        Error::Far,
         Error::Already,
         Error::Many,
     ];
@@ -84,6 +87,7 @@ impl Error {
             Error::Symbol => "symbol",
             Error::Word => "word",
             Error::Stale => "stale",
+            Error::Far => "far",
             Error::Already => "already",
             Error::Many => "many",
         }
@@ -114,6 +118,7 @@ impl fmt::Display for Error {
             Error::Symbol => "a byte that the call reads as a symbol is p or more",
             Error::Word => "the lane is no word of the code",
             Error::Stale => "the lane's message holds another symbol than the old one",
+            Error::Far => "some lane has no word of the code within (n−k)/2 nodes",
             Error::Already => "the node already is what the event says",
             Error::Many => "there are more than 65,536 messages",
         };

@@ -80,6 +80,13 @@
 //! assert_eq!(plan.mends(&shares, &mut nodes, &mut symbols)?, 1);
 //! assert_eq!((nodes[0], symbols[0]), (5, 0));
 //!
+//! // Any wrong symbol is set right, for (n − k)/2 is 1 here. With two in one lane nothing is touched.
+//! assert_eq!(plan.correct(1, &mut shares)?, 1);
+//! assert_eq!(shares, [0, 6, 1, 3, 1, 0]);
+//! let mut spoiled = [5, 5, 1, 3, 1, 0];
+//! assert_eq!(plan.correct(1, &mut spoiled), Err(Error::Far));
+//! assert_eq!(spoiled, [5, 5, 1, 3, 1, 0]);
+//!
 //! // Two lanes: lane 0 and then lane 1. Node after node, the two symbols of node 0 come first.
 //! let mut shares = [0; 12];
 //! plan.encode(2, &[1, 1, 0, 5, 2, 2], &mut shares)?;
@@ -102,7 +109,7 @@ mod plan;
 mod roster;
 pub mod sys;
 
-pub use calls::{belongs, encode, rebuild, recover, to_lanes, to_nodes, update, weights};
+pub use calls::{belongs, correct, encode, rebuild, recover, to_lanes, to_nodes, update, weights};
 pub use error::Error;
 pub use lanes::{find_update, mends, Finding};
 pub use plan::Plan;

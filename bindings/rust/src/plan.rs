@@ -136,6 +136,11 @@ impl Plan {
         calls::belongs(self.record(), lanes, shares)
     }
 
+    /// [`correct`](crate::correct) with this plan's record.
+    pub fn correct(&self, lanes: u32, shares: &mut [u8]) -> Result<u32, Error> {
+        calls::correct(self.record(), lanes, shares)
+    }
+
     /// [`find_update`](crate::find_update) with this plan's record.
     pub fn find_update(&self, before: &[u8], after: &[u8]) -> Result<Finding, Error> {
         lanes::find_update(self.record(), before, after)

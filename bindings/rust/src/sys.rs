@@ -74,6 +74,15 @@ extern "C" {
         first_wrong: *mut u32,
     ) -> u8;
 
+    pub fn balanced_correct(
+        record: *const u8,
+        record_len: usize,
+        lanes: u32,
+        shares: *mut u8,
+        shares_len: usize,
+        altered: *mut u32,
+    ) -> u8;
+
     pub fn balanced_to_lanes(
         record: *const u8,
         record_len: usize,

@@ -5,6 +5,7 @@ use Rattle.generator.proofs.Accepts.{faultless-sound}
 use Rattle.generator.proofs.Claims.{ours}
 use Rattle.generator.proofs.SchemeOf.{our-scheme, scheme-least}
 use Rattle.rearrange.proofs.Lanes.{lane-after-lane}
+use Rattle.correct.proofs.Corrections.{corrections}
 use Rattle.weight_counts.proofs.Weights.{distribution}
 use Rattle.balanced.specs.Demands.{Demands}
 use Rattle.balanced.proofs.Coding.{code-demands}
@@ -23,4 +24,5 @@ demands =
       calls = call-demands;
       lanes = lane-after-lane;
       weights = λ rec none. distribution (headerOf rec) (faultless-sound rec none);
+      corrections = corrections;
     }

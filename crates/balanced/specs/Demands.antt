@@ -8,6 +8,7 @@ use Rattle.scheme.specs.Costs.{Price, CostsAtLeast}
 use Rattle.generator.specs.Records.{headerOf, recordFault}
 use Rattle.generator.specs.Claims.{Accepted}
 use Rattle.rearrange.specs.Lanes.{LaneAfterLane}
+use Rattle.correct.specs.Corrections.{Corrections}
 use Rattle.weight_counts.specs.Weights.{Distribution}
 use Rattle.balanced.specs.Coding.{CodeDemands}
 use Rattle.balanced.specs.Updates.{UpdateDemands}
@@ -29,3 +30,5 @@ pub record Demands : Type 1 where
   pub lanes : LaneAfterLane
   -- the textbook's weight distribution is that of every accepted record
   pub weights : (rec : List ℕ) → recordFault rec ≡ 0 → Distribution (headerOf rec)
+  -- setting a block right
+  pub corrections : Corrections

@@ -1,5 +1,7 @@
 // The calls of the balanced image store; those of a roster are methods of `Roster`. Every call takes the record itself; none has a precondition.
 pub use belongs::block_belongs;
+pub use correct::Correction;
+pub use correct::correct_block;
 pub use encode::encode_block;
 pub use find_update::Finding;
 pub use find_update::find_update;

@@ -2,3 +2,4 @@
 mod Answers
 mod Plans
 mod Lanes
+mod Corrections

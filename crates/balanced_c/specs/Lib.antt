@@ -1,3 +1,4 @@
 -- What the functions of the C interface promise.
 pub mod Calls
 pub mod Lanes
+pub mod Corrections

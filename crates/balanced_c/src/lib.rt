@@ -7,6 +7,7 @@ ghost use Rattle.lists.specs.Numbers.{allBelow};
 ghost use Rattle.blocks.specs.Answers.{outcomeNumber};
 ghost use Rattle.balanced_c.specs.Calls.{lengthFault, numbersOf, PlanGives, EncodeGives, UpdateGives, RecoverGives, RebuildGives, BelongsGives, ToLanesGives, ToNodesGives, WeightsGive};
 
+mod correction;
 mod one_lane;
 mod rosters;
 

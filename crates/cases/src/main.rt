@@ -9,6 +9,7 @@ use test_words::is_comment;
 use test_words::line_end;
 
 mod belonging;
+mod correcting;
 mod counting;
 mod encoding;
 mod finding;
@@ -68,8 +69,12 @@ fn call_on_lanes(line: &[u8]) {
     call_on_shares(line);
 }
 
-// The rearrangements.
+// Setting right, and the rearrangements.
 fn call_on_shares(line: &[u8]) {
+    if is_call(line, b"correct") {
+        correcting::correct(line);
+        return;
+    }
     if is_call(line, b"to_lanes") {
         rearranging::rearrange(line, true);
         return;

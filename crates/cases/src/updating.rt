@@ -75,7 +75,7 @@ fn print(answer: Update, before: &[u8], after: &[u8]) {
     }
 }
 
-fn altered(count: u32, shares: &[u8]) {
+pub fn altered(count: u32, shares: &[u8]) {
     value(b": altered", count as u64);
     list(b" shares", shares);
 }

@@ -13,20 +13,15 @@ use Rattle.generator.specs.Records.{width}
 use Rattle.refusals.specs.Faults.{belongsFault}
 use Rattle.blocks.proofs.Refused.{refused-value}
 use Rattle.decoding.specs.Nearest.{hasNear}
+use Rattle.correct.proofs.Answered.{means-refused}
 use Rattle.correct.specs.declared.Correction.the-variants.{Altered, Refused}
 use Rattle.correct.specs.Blocks.{firstFar, correctedBytes, correctedCount, farBad}
 use Rattle.correct.specs.Promises.{correctFault, correctionOf, CorrectPromise}
 
--- the answer beside a number
-correction-refused : (g count : ℕ) → (g ≡ 0 → ⊥) → correctionOf g count ≡ Refused g
-unfolding correctionOf
-correction-refused zero count n = absurd (n refl)
-correction-refused (suc g) count n = refl
-
 module _ (y : Arrangement) (h : Header) (l : ℕ) (shares : List ℕ) where
   -- a number turns the call away, and nothing is written
   pub correct-refuses : (g : ℕ) → (g ≡ 0 → ⊥) → CorrectPromise y l shares shares (Refused g) h g
-  correct-refuses g some = record { answer = sym (correction-refused g _ some); written = sym (refused-value g _ shares some) }
+  correct-refuses g some = record { answer = sym (means-refused g _ some); written = sym (refused-value g _ shares some) }
 
   -- no number does
   pub correct-done : (count : ℕ) (shares′ : List ℕ) → shares′ ≡ correctedBytes y h l shares → count ≡ correctedCount y h l shares → CorrectPromise y l shares shares′ (Altered count) h 0

@@ -50,29 +50,11 @@ use Rattle.correct.specs.Blocks.{correctedShares, firstFar, correctedByt
 use Rattle.correct.specs.Promises.{correctFault, correctionOf, CorrectSaysIn, CorrectSays}
 use Rattle.correct.specs.Meaning.{NearWord, laneIn, CorrectDone}
 use Rattle.correct.specs.Corrections.{Corrections}
+use Rattle.correct.proofs.Answered.{altered-means, refused-means, means-refused}
 use Rattle.correct.proofs.LaneSymbols.{width-some}
 use Rattle.correct.proofs.Shares.{is-lane, lane-corrected, length-corrected, corrected-symbols}
 use Rattle.correct.proofs.Meaning.{far-apart, one-near, has-near, none-near, corrected-is-near, corrected-only, corrected-stays, test-word, all-near, one-far, far-not}
 use Rattle.correct.proofs.Turned.{far-turned, corrected-turned, count-turned}
-
--- what an answer says of the number that turned the call away, and of the count
-never : {A : Type 0} → _≡_ {A = ℕ} 0 1 → A
-never z = absurd (omega arith)
-
-altered-means : (f count x : ℕ) → C.Altered x ≡ correctionOf f count → (f ≡ 0) × (x ≡ count)
-unfolding correctionOf
-altered-means zero count x e = (refl, cc)
-altered-means (suc f) count x e = never cc
-
-refused-means : (f count g : ℕ) → C.Refused g ≡ correctionOf f count → (g ≡ f) × (g ≡ 0 → ⊥)
-unfolding correctionOf
-refused-means zero count g e = never cc
-refused-means (suc f) count g e = let same : g ≡ suc f = cc in (same, λ z. omega arith)
-
-means-refused : (f count : ℕ) → (f ≡ 0 → ⊥) → correctionOf f count ≡ C.Refused f
-unfolding correctionOf
-means-refused zero count n = absurd (n refl)
-means-refused (suc f) count n = refl
 
 -- lengths and symbols that pass
 length-passes : (stated long : ℕ) → long ≡ stated → lengthBad stated long ≡ false

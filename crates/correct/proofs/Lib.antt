@@ -3,6 +3,7 @@ pub mod Shares
 pub mod LaneBytes
 pub mod Counting
 pub mod LaneSymbols
+pub mod Answered
 pub mod Answers
 pub mod MarkedBytes
 pub mod Meaning

@@ -64,6 +64,12 @@ fn round(random: &mut Random, shape: &Shape, lanes: usize) -> usize {
     accepted(compare::belongs(&record, l, &damaged).0);
     accepted(compare::belongs(&record, l, &random.symbols(size, n * lanes)).0);
 
+    // set right: as it was encoded; with some bytes changed; of any symbols
+    accepted(compare::correct(&record, l, &shares));
+    let some = [0, 14].contains(&compare::correct(&record, l, &damaged));
+    let any = [0, 14].contains(&compare::correct(&record, l, &random.symbols(size, n * lanes)));
+    assert!(some && any);
+
     // an update of a true symbol, and of one that may be another, of a block that may be damaged, with equal symbols
     let (symbol, lane) = (random.below(k), random.below(lanes));
     let old = message[symbol * lanes + lane];

@@ -209,6 +209,33 @@ pub fn belongs(record: &[u8], lanes: u32, shares: &[u8]) -> (u8, u32) {
     (got, lane)
 }
 
+/// Setting right through the safe interface and through the C function, whose count is lent.
+pub fn correct(record: &[u8], lanes: u32, before: &[u8]) -> u8 {
+    const MARK: u32 = 0x5a5a_5a5a;
+    let (expect, (after, altered)) = expected(reference::correct(record, lanes, before), (before.to_vec(), MARK));
+    let mut shares = Lent::new(before);
+    let (got, count) = number(balanced::correct(record, lanes, shares.slice()));
+    assert_eq!((got, count.unwrap_or(MARK)), (expect, altered), "correct {record:?} {lanes}");
+    assert!(shares.holds(&after), "correct {record:?} {lanes}");
+
+    let mut shares = Lent::new(before);
+    let lent = shares.slice();
+    let mut count = MARK;
+    let got = unsafe {
+        sys::balanced_correct(
+            record.as_ptr(),
+            record.len(),
+            lanes,
+            lent.as_mut_ptr(),
+            lent.len(),
+            &mut count,
+        )
+    };
+    assert_eq!((got, count), (expect, altered), "correct {record:?} {lanes}");
+    assert!(shares.holds(&after), "correct {record:?} {lanes}");
+    got
+}
+
 pub fn to_lanes(record: &[u8], lanes: u32, by_node: &[u8], before: &[u8]) -> u8 {
     let (expect, after) = expected(reference::to_lanes(record, lanes, by_node, before.len()), before.to_vec());
     let mut by_lane = Lent::new(before);

@@ -1,6 +1,7 @@
 //! Every call of the interface against an independent implementation, on random inputs: short and long, valid and damaged.
 mod calls;
 mod compare;
+mod corrections;
 mod findings;
 mod mends;
 mod notebook;

@@ -122,6 +122,7 @@ fn numbers_and_names() {
         (11, "symbol"),
         (12, "word"),
         (13, "stale"),
+        (14, "far"),
         (15, "already"),
         (16, "many"),
     ];

@@ -140,7 +140,7 @@ fn run(
 ) {
     let mut random = Random::new(seed);
     let shapes = shapes(16);
-    let mut seen = [0; 14];
+    let mut seen = [0; 15];
     for _ in 0..ROUNDS {
         let shape = random.pick(&shapes);
         let mut input = Input::new(&mut random, shape, read(shape), written(shape));
@@ -213,6 +213,20 @@ fn rebuild() {
         &numbers,
         |_, _, _| {},
         |i| compare::rebuild(&i.record, i.lanes, &i.nodes, &i.read, i.target, &i.written),
+    );
+}
+
+#[test]
+fn correct() {
+    let numbers = [0, 1, 2, 3, 4, 5, 7, 8, 11, 14];
+    run(
+        27,
+        "correct",
+        |s| s.n,
+        |_| 0,
+        &numbers,
+        Input::encode,
+        |i| compare::correct(&i.record, i.lanes, &i.read),
     );
 }
 

@@ -13,9 +13,7 @@ same-length : tie.Need-same-length
 same-length c = search needs
 
 returns : tie.Need-returns
-returns c =
-    let a = c .before .before .before .before .before .before .args in
-    rw (far-met shareLayout (a .h) (a .lanes) (a .shares .now) _ (c .before .first-far .ensures) (c .if1 .taken)) (correct-refuses shareLayout (a .h) (a .lanes) (a .shares .now) 14 (λ e. omega arith))
+returns c = rw (far-met _ _ _ _ _ (c .before .first-far .ensures) (c .if1 .taken)) (correct-refuses _ _ _ _ 14 (λ e. omega arith))
 
 correct-lanes-requires : tie.Need-correct-lanes-requires
 correct-lanes-requires c κs = search needs

@@ -49,7 +49,7 @@ pub struct Code {
     pub shifts: Vec<u8>,
     pub base: Vec<u8>,
     /// Node j's point, root^j.
-    points: Vec<u8>,
+    pub points: Vec<u8>,
 }
 
 impl Code {

@@ -1,9 +1,10 @@
 //! The calls of the store once more, written from the description of the product alone, as plainly as possible: powers and
 //! logarithms for the field of 256 elements, every entry of the generator as a product, messages by elimination, words by
-//! interpolation. Nothing here is shared with the library.
+//! interpolation, near words by Euclid's algorithm. Nothing here is shared with the library.
 mod code;
 mod field;
 mod lanes;
+mod nearest;
 mod roster;
 
 pub use code::Code;
@@ -103,15 +104,35 @@ pub fn belongs(record: &[u8], lanes: u32, shares: &[u8]) -> Result<u32, u8> {
     }
     code.symbols_fault(shares)?;
     let rows = code.extension();
-    let is_word = |t: usize| {
-        rows.iter().enumerate().all(|(i, row)| {
-            let value = row.iter().enumerate().fold(0, |sum, (e, &c)| {
-                code.field.add(sum, code.field.mul(c, shares[t * code.n + e]))
-            });
-            value == shares[t * code.n + code.k + i]
-        })
-    };
-    Ok((0..l).find(|&t| !is_word(t)).unwrap_or(l) as u32)
+    let wrong = shares.chunks(code.n).position(|lane| !is_word(&code, &rows, lane));
+    Ok(wrong.unwrap_or(l) as u32)
+}
+
+fn is_word(code: &Code, rows: &[Vec<u8>], lane: &[u8]) -> bool {
+    rows.iter().enumerate().all(|(i, row)| {
+        let value = row
+            .iter()
+            .enumerate()
+            .fold(0, |sum, (e, &c)| code.field.add(sum, code.field.mul(c, lane[e])));
+        value == lane[code.k + i]
+    })
+}
+
+/// Each lane replaced by the word near to it, and the number of symbols that differ.
+pub fn correct(record: &[u8], lanes: u32, shares: &[u8]) -> Result<(Vec<u8>, u32), u8> {
+    let code = Code::of(record)?;
+    let l = Code::lanes_fault(lanes)?;
+    if shares.len() != code.n * l {
+        return Err(8);
+    }
+    code.symbols_fault(shares)?;
+    let rows = code.extension();
+    let mut after = shares.to_vec();
+    for lane in after.chunks_mut(code.n).filter(|lane| !is_word(&code, &rows, lane)) {
+        lane.copy_from_slice(&nearest::nearest(&code, lane).ok_or(14)?);
+    }
+    let altered = shares.iter().zip(&after).filter(|(x, y)| x != y).count();
+    Ok((after, altered as u32))
 }
 
 /// Shares from node after node to lane after lane.
