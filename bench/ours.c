@@ -16,10 +16,11 @@ struct build {
 static struct build this, older;
 
 void read_plan(void) {
-    uint8_t numbers[BALANCED_PLAN_NUMBERS], shifts[BALANCED_PLAN_SHIFTS], firsts[BALANCED_PLAN_FIRSTS], base[BALANCED_PLAN_BASE];
-    if (this.plan(record, length, numbers, sizeof numbers, shifts, sizeof shifts, firsts, sizeof firsts, base, sizeof base)) fail("no plan");
+    uint8_t numbers[BALANCED_PLAN_NUMBERS], shifts[BALANCED_PLAN_SHIFTS], firsts[BALANCED_PLAN_FIRSTS];
+    uint16_t base[BALANCED_PLAN_BASE];
+    if (this.plan(record, length, numbers, sizeof numbers, shifts, sizeof shifts, firsts, sizeof firsts, base, BALANCED_PLAN_BASE)) fail("no plan");
     for (int j = 0; j < n; j++)
-        for (int r = 0; r < k; r++) planned.generator[j * k + r] = base[(j + shifts[r]) % n];
+        for (int r = 0; r < k; r++) planned.generator[j * k + r] = (uint8_t)base[(j + shifts[r]) % n];
 }
 
 /* The shares of the listed nodes, as the build has them. */
@@ -56,7 +57,9 @@ static void correct_wrong(const struct build *b) {
 
 static void plan(const struct build *b) {
     uint8_t numbers[BALANCED_PLAN_NUMBERS], shifts[BALANCED_PLAN_SHIFTS], firsts[BALANCED_PLAN_FIRSTS];
-    if (b->plan(record, length, numbers, sizeof numbers, shifts, sizeof shifts, firsts, sizeof firsts, out, BALANCED_PLAN_BASE)) fail("plan was turned away");
+    uint16_t base[BALANCED_PLAN_BASE];
+    if (b->plan(record, length, numbers, sizeof numbers, shifts, sizeof shifts, firsts, sizeof firsts, base, BALANCED_PLAN_BASE)) fail("plan was turned away");
+    for (int j = 0; j < n; j++) out[j] = (uint8_t)base[j];
 }
 
 static void this_encode(void) { encode(&this); }

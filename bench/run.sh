@@ -25,3 +25,6 @@ if found fec.h -lfec; then peers+=(-DLIBFEC -lfec); else echo "libfec is left ou
 
 gcc -std=gnu11 -O2 -Wall -Wextra -Iinclude -o target/bench/bench bench/bench.c bench/ours.c bench/isal.c bench/jerasure.c bench/libfec.c "${peers[@]}" -ldl
 target/bench/bench "${1:-15}" "${builds[@]}"
+
+gcc -std=gnu11 -O2 -Wall -Wextra -Iinclude -o target/bench/wide bench/wide.c target/staticlib/libbalanced_c.a
+target/bench/wide "${1:-15}"

@@ -11,8 +11,10 @@
  * A record fixes a code. Every call takes the record itself; there is nothing to set up and nothing to free. It is
  * one byte of kind, then a body:
  *
- *   kind 1, a prime field:              1 p a n k   (5 bytes)   p is a prime from 3 to 251; symbols are the bytes 0 to p-1
- *   kind 2, the field of 256 elements:  2 a n k     (4 bytes)   every byte is a symbol; products are modulo 0x11D
+ *   kind 1, a prime field:              1 p a n k       (5 bytes)   p is a prime from 3 to 251; symbols are the bytes 0 to p-1
+ *   kind 2, the field of 256 elements:  2 a n k         (4 bytes)   every byte is a symbol; products are modulo 0x11D
+ *   kind 3, a prime field above a byte: 3 p p a a n k   (7 bytes)   p is a prime from 257 to 65,521; symbols are the numbers
+ *                                                                   0 to p-1; p and a are two bytes each, high byte first
  *
  * n is the number of nodes, at least 2. k is the number of symbols of a message, from 1 to n. a is a root: a symbol
  * of multiplicative order exactly n. d = n-k+1 is the number of nodes that a change of one symbol writes. Each node
@@ -23,11 +25,12 @@
  * Blocks
  *
  * A block has `lanes` lanes, from 1 to 4,096, and each lane is encoded by itself. Nodes, symbols and lanes are
- * numbered from 0.
+ * numbered from 0. In every buffer a symbol is one byte, and in kind 3 two bytes, high byte first. Places count symbols;
+ * lengths that a call is given count bytes, so in kind 3 a buffer of symbols has twice as many as symbols.
  *
- *   A message has k * lanes bytes: symbol r of lane t stands at r * lanes + t.
- *   The shares of a block have n * lanes bytes: what node j holds of lane t stands at t * n + j. So lane t is the part of
- *   n bytes that starts at t * n. The shares of k listed nodes have k * lanes bytes: what node i of the list holds of lane
+ *   A message has k * lanes symbols: symbol r of lane t stands at r * lanes + t.
+ *   The shares of a block have n * lanes symbols: what node j holds of lane t stands at t * n + j. So lane t is the part of
+ *   n symbols that starts at t * n. The shares of k listed nodes have k * lanes symbols: what node i of the list holds of lane
  *   t stands at t * k + i. What balanced_rebuild writes is one share: its symbol of lane t stands at t.
  *   Shares of an older store stand node after node, node j of lane t at j * lanes + t; balanced_to_lanes and
  *   balanced_to_nodes rearrange them.
@@ -47,7 +50,7 @@
  *   so many bytes that may be read and, where it is not `const`, written. Bytes that are read have been initialised;
  *   a buffer that is only written need not be. A length that is not what the call asks for meets BALANCED_LENGTH.
  * - Null. No pointer is null, not even with the length 0.
- * - Alignment. Byte buffers may start anywhere. What has the type uint32_t is aligned as that type is.
+ * - Alignment. Byte buffers may start anywhere. What has the type uint16_t or uint32_t is aligned as that type is.
  * - Aliasing. What a call writes overlaps nothing else that is lent to the same call. Buffers that are only read may
  *   overlap, or be one.
  * - Threads. There is no state outside the buffers. Calls may run at the same time in any number of threads as long as
@@ -69,9 +72,9 @@ extern "C" {
 /* What a call returns. */
 enum balanced_number {
     BALANCED_OK = 0,      /* the call was accepted */
-    BALANCED_KIND = 1,    /* the record is empty or its first byte is neither 1 nor 2 */
+    BALANCED_KIND = 1,    /* the record is empty or its first byte is none of 1, 2 and 3 */
     BALANCED_BODY = 2,    /* the record's body has another length than its kind's */
-    BALANCED_FIELD = 3,   /* kind 1, and p is not a prime from 3 to 251 */
+    BALANCED_FIELD = 3,   /* p is not a prime from 3 to 251 in kind 1, from 257 to 65,521 in kind 3 */
     BALANCED_SIZE = 4,    /* n is below 2, k is 0, or k is above n */
     BALANCED_ROOT = 5,    /* the root is not a symbol of order exactly n */
     BALANCED_UNEVEN = 6,  /* reserved: no longer given */
@@ -79,7 +82,7 @@ enum balanced_number {
     BALANCED_LENGTH = 8,  /* a buffer or a list of nodes has another length than stated */
     BALANCED_RANGE = 9,   /* a node, symbol or lane number is outside its range */
     BALANCED_TWICE = 10,  /* a node stands twice in a list */
-    BALANCED_SYMBOL = 11, /* kind 1, and a byte that the call reads as a symbol is p or more */
+    BALANCED_SYMBOL = 11, /* a number that the call reads as a symbol is p or more, in kind 2 above 255 */
     BALANCED_WORD = 12,   /* the lane that an update is to change is no word of the code */
     BALANCED_STALE = 13,  /* the message of that lane holds another symbol than the old one */
     BALANCED_FAR = 14,    /* some lane has no word of the code within (n-k)/2 nodes */
@@ -109,7 +112,7 @@ enum balanced_finding {
  *   numbers  5 bytes, written: n, k, d, and k * d / n rounded down and rounded up, which are equal where it is whole
  *   shifts   255 bytes, written: the k shifts in the order of the rows, then zeros
  *   firsts   255 bytes, written: the node at which each of the k rows begins, (n - shift) % n, then zeros
- *   base     255 bytes, written: the n entries of the base word, then zeros
+ *   base     255 numbers, written: the n entries of the base word, then zeros; base_len is 255, the number of numbers
  *
  * Entry (r, j) of the generator, by which symbol r of a message goes into node j, is base[(j + shifts[r]) % n]. It is
  * not 0 exactly where (j + shifts[r]) % n is below d: at the d nodes from firsts[r] on, going round.
@@ -120,13 +123,13 @@ uint8_t balanced_plan(const uint8_t *record, size_t record_len,
                       uint8_t *numbers, size_t numbers_len,
                       uint8_t *shifts, size_t shifts_len,
                       uint8_t *firsts, size_t firsts_len,
-                      uint8_t *base, size_t base_len);
+                      uint16_t *base, size_t base_len);
 
 /*
  * Encodes a message: writes the shares of all n nodes.
  *
- *   message  k * lanes bytes, read
- *   shares   n * lanes bytes, written: the encoding of lane 0, that of lane 1, and so on
+ *   message  k * lanes symbols, read
+ *   shares   n * lanes symbols, written: the encoding of lane 0, that of lane 1, and so on
  *
  * Returns 0 or one of 1 to 5, 7, 8, 11.
  */
@@ -141,19 +144,19 @@ uint8_t balanced_encode(const uint8_t *record, size_t record_len,
  *
  *   symbol   below k
  *   lane     below lanes
- *   shares   n * lanes bytes, of which the lane's n bytes are read, and written at the nodes that are altered
- *   altered  receives the number of nodes that were altered, which is the number of bytes that differ afterwards
+ *   shares   n * lanes symbols, of which the lane's n symbols are read, and written at the nodes that are altered
+ *   altered  receives the number of nodes that were altered, which is the number of symbols that differ afterwards
  *
  * An update is accepted only if the lane encodes a message, which then is the only one, and this message holds old_symbol
  * there. Afterwards the lane encodes the message with new_symbol in its place, and *altered is n-k+1, or 0 where the two
  * symbols are equal. An update that was made already, or that another one overtook, meets BALANCED_STALE. Bytes of other
- * lanes are neither read nor changed.
+ * lanes are neither read nor changed. The symbols are numbers: one that the field does not have meets BALANCED_SYMBOL.
  *
- * Returns 0 or one of 1 to 5, 7 to 9, 11 to 13. For 11 the two symbols and the n bytes of the lane count.
+ * Returns 0 or one of 1 to 5, 7 to 9, 11 to 13. For 11 the two symbols and the n symbols of the lane count.
  */
 uint8_t balanced_update(const uint8_t *record, size_t record_len,
                         uint32_t lanes, uint32_t symbol, uint32_t lane,
-                        uint8_t old_symbol, uint8_t new_symbol,
+                        uint32_t old_symbol, uint32_t new_symbol,
                         uint8_t *shares, size_t shares_len,
                         uint32_t *altered);
 
@@ -161,8 +164,8 @@ uint8_t balanced_update(const uint8_t *record, size_t record_len,
  * Recovers a message from the shares of any k nodes.
  *
  *   nodes    k bytes, read: k different node numbers below n, in any order
- *   shares   k * lanes bytes, read: in each lane what those nodes hold, in the order of the list
- *   message  k * lanes bytes, written
+ *   shares   k * lanes symbols, read: in each lane what those nodes hold, in the order of the list
+ *   message  k * lanes symbols, written
  *
  * The message is the one whose encoding holds the given shares at those nodes. There is exactly one, whatever symbols
  * the shares hold.
@@ -179,9 +182,9 @@ uint8_t balanced_recover(const uint8_t *record, size_t record_len,
  * Rebuilds what one node holds from the shares of any k nodes.
  *
  *   nodes    k bytes, read: k different node numbers below n, in any order
- *   shares   k * lanes bytes, read: in each lane what those nodes hold, in the order of the list
+ *   shares   k * lanes symbols, read: in each lane what those nodes hold, in the order of the list
  *   target   the node to rebuild, below n; it may stand in the list
- *   share    lanes bytes, written: the target's share of the encoding of the message that balanced_recover would give
+ *   share    lanes symbols, written: the target's share of the encoding of the message that balanced_recover would give
  *
  * Returns 0 or one of 1 to 5, 7 to 11.
  */
@@ -195,7 +198,7 @@ uint8_t balanced_rebuild(const uint8_t *record, size_t record_len,
 /*
  * Tests whether every lane of a block is a word of the code, that is the encoding of some message.
  *
- *   shares       n * lanes bytes, read
+ *   shares       n * lanes symbols, read
  *   first_wrong  receives the smallest lane that is no word, or `lanes` where every lane is one
  *
  * A block that does not belong to the code is a result, and the call returns 0.
@@ -212,7 +215,7 @@ uint8_t balanced_belongs(const uint8_t *record, size_t record_len,
  * Adding *amount times row *symbol of the generator to `before` gives `after`, taking it away from `after` gives `before`,
  * and no other symbol and amount do. The lanes need not be words of the code.
  *
- *   before, after  n bytes each
+ *   before, after  n symbols each
  *   answer         receives one of BALANCED_FIND_UNCHANGED, exactly if the two lanes are equal; BALANCED_FIND_ADDED;
  *                  BALANCED_FIND_NONE, exactly if they differ and no symbol and amount lead from one to the other
  *   symbol         receives the symbol's number with BALANCED_FIND_ADDED, and 0 otherwise
@@ -230,7 +233,7 @@ uint8_t balanced_find_update(const uint8_t *record, size_t record_len,
  * Sets wrong symbols right: each lane becomes the word of the code that differs from it at no more than (n-k)/2 nodes,
  * rounded down. There is at most one such word, and for a lane that is a word it is the lane itself.
  *
- *   shares   n * lanes bytes, read, and written at the nodes that are altered
+ *   shares   n * lanes symbols, read, and written at the nodes that are altered
  *   altered  receives the number of symbols that were altered, over all lanes
  *
  * If some lane has no word that near, the call returns BALANCED_FAR and no lane is touched. For k = n and k = n-1 every
@@ -245,13 +248,13 @@ uint8_t balanced_correct(const uint8_t *record, size_t record_len,
                          uint32_t *altered);
 
 /*
- * Lists the single changes that make a lane a word of the code, lowest node first: with symbols[i] in the place of what
+ * Lists the single changes that make a lane a word of the code, lowest node first: with symbol i of `symbols` in the place of what
  * node nodes[i] holds, the lane is one. A lane that is a word has none. Another has one for each node where k = n-1, and
  * at most one where k is below that. Where k = n every lane is a word.
  *
- *   lane     n bytes, read
+ *   lane     n symbols, read
  *   nodes    n bytes: the first *count are written, the others are left as they are
- *   symbols  n bytes: likewise
+ *   symbols  n symbols: likewise
  *   count    receives how many changes are listed
  *
  * Returns 0 or one of 1 to 5, 8, 11.
@@ -265,10 +268,10 @@ uint8_t balanced_mends(const uint8_t *record, size_t record_len,
 /*
  * Rearranges the shares of a block: from node after node, as an older store has them, to lane after lane, and back. What
  * stands at j * lanes + t of `by_node` stands at t * n + j of `by_lane`, for each node j below n and each lane t. The two
- * undo each other. Bytes are moved, not judged: they need not be symbols.
+ * undo each other. Symbols are moved, not judged: they need not be symbols of the field.
  *
- *   by_node  n * lanes bytes, read by balanced_to_lanes, written by balanced_to_nodes
- *   by_lane  n * lanes bytes, written by balanced_to_lanes, read by balanced_to_nodes
+ *   by_node  n * lanes symbols, read by balanced_to_lanes, written by balanced_to_nodes
+ *   by_lane  n * lanes symbols, written by balanced_to_lanes, read by balanced_to_nodes
  *
  * Returns 0 or one of 1 to 5, 7, 8.
  */

@@ -14,7 +14,7 @@ tail -n 1 "$log"
 library=target/staticlib/libbalanced_c.a
 mkdir -p target/examples
 strict=(-pedantic -Wall -Wextra -Werror -Iinclude)
-printf '#include "balanced.h"\nint main(void) { unsigned char b[1] = { 0 }; return balanced_plan(b, 0, b, 0, b, 0, b, 0, b, 0) != BALANCED_KIND; }\n' >target/examples/plain.c
+printf '#include "balanced.h"\nint main(void) { unsigned char b[1] = { 0 }; uint16_t s[1]; return balanced_plan(b, 0, b, 0, b, 0, b, 0, s, 0) != BALANCED_KIND; }\n' >target/examples/plain.c
 gcc -std=c99 "${strict[@]}" -o target/examples/plain target/examples/plain.c "$library"
 target/examples/plain
 if command -v g++ >/dev/null; then

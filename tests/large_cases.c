@@ -5,12 +5,12 @@
 #include <stdio.h>
 #include <string.h>
 
-enum { MOST = BALANCED_MAX_NODES * BALANCED_MAX_LANES };
+enum { MOST = 2 * BALANCED_MAX_NODES * (BALANCED_MAX_LANES + 1) };
 static uint8_t message[MOST], shares[MOST], before[MOST], held[MOST], back[MOST], nodes[BALANCED_MAX_NODES];
 
 /* A record, the largest symbol of its field, n, k and the number of lanes. */
 struct code {
-    uint8_t record[5];
+    uint8_t record[7];
     size_t length;
     unsigned top, n, k;
     uint32_t lanes;
@@ -22,24 +22,37 @@ static uint64_t checksum(const uint8_t *s, size_t size) {
     return total;
 }
 
-/* The symbols of a linear congruential generator's states. */
+/* The bytes of a symbol, and of a message, of all shares and of one. */
+static size_t width(const struct code *c) { return c->top < 256 ? 1 : 2; }
+static size_t message_size(const struct code *c) { return (size_t)c->k * c->lanes * width(c); }
+static size_t shares_size(const struct code *c) { return (size_t)c->n * c->lanes * width(c); }
+static size_t share_size(const struct code *c) { return c->lanes * width(c); }
+
+/* Symbol i of a buffer, high byte first. */
+static uint32_t symbol_at(const struct code *c, const uint8_t *s, size_t i) {
+    return width(c) == 1 ? s[i] : s[2 * i] * 256u + s[2 * i + 1];
+}
+static void put_symbol(const struct code *c, uint8_t *s, size_t i, uint32_t x) {
+    if (width(c) == 2) s[2 * i] = (uint8_t)(x / 256);
+    s[width(c) * (i + 1) - 1] = (uint8_t)x;
+}
+
+/* Symbols from a linear congruential generator's states. */
 static void fill(const struct code *c) {
-    uint64_t x = 1;
+    uint64_t x = 1, low = width(c) == 1 ? 65536 : 256;
     for (size_t i = 0; i < (size_t)c->k * c->lanes; i++) {
         x = (x * 1103515245u + 12345) % 2147483648u;
-        message[i] = (uint8_t)(x / 65536 % (c->top + 1));
+        put_symbol(c, message, i, (uint32_t)(x / low % (c->top + 1)));
     }
 }
 
-static size_t message_size(const struct code *c) { return (size_t)c->k * c->lanes; }
-static size_t shares_size(const struct code *c) { return (size_t)c->n * c->lanes; }
-
 static void even(void) {
-    uint8_t numbers[BALANCED_PLAN_NUMBERS], shifts[BALANCED_PLAN_SHIFTS], firsts[BALANCED_PLAN_FIRSTS], base[BALANCED_PLAN_BASE];
+    uint8_t numbers[BALANCED_PLAN_NUMBERS], shifts[BALANCED_PLAN_SHIFTS], firsts[BALANCED_PLAN_FIRSTS];
+    uint16_t base[BALANCED_PLAN_BASE];
     printf("even 2 2 255:");
     for (unsigned k = 1; k <= 255; k++) {
         const uint8_t record[4] = { 2, 2, 255, (uint8_t)k };
-        uint8_t number = balanced_plan(record, 4, numbers, sizeof numbers, shifts, sizeof shifts, firsts, sizeof firsts, base, sizeof base);
+        uint8_t number = balanced_plan(record, 4, numbers, sizeof numbers, shifts, sizeof shifts, firsts, sizeof firsts, base, BALANCED_PLAN_BASE);
         if (number != BALANCED_OK) printf(" refused %u", number);
         else if (numbers[3] == numbers[4]) printf(" k %u d %u b %u", numbers[1], numbers[2], numbers[3]);
     }
@@ -73,11 +86,11 @@ static void belongs(const struct code *c) {
 /* A symbol of a lane moves so many symbols up. */
 static void update(const struct code *c, unsigned symbol, uint32_t lane, unsigned up) {
     size_t at = (size_t)symbol * c->lanes + lane;
-    uint8_t old = at < message_size(c) ? message[at] : 0, new_symbol = (uint8_t)((old + up) % (c->top + 1));
-    uint32_t altered;
-    if (at < message_size(c)) message[at] = new_symbol;
+    int inside = at < (size_t)c->k * c->lanes;
+    uint32_t old = inside ? symbol_at(c, message, at) : 0, new_symbol = (old + up) % (c->top + 1), altered;
+    if (inside) put_symbol(c, message, at, new_symbol);
     memcpy(before, shares, shares_size(c));
-    printf("update symbol %u lane %u old %u new %u: ", symbol, (unsigned)lane, old, new_symbol);
+    printf("update symbol %u lane %u old %u new %u: ", symbol, (unsigned)lane, (unsigned)old, (unsigned)new_symbol);
     uint8_t number = balanced_update(c->record, c->length, c->lanes, symbol, lane, old, new_symbol, shares, shares_size(c), &altered);
     if (number != BALANCED_OK) refused(c, number);
     else printf("altered %u, sum %llu\n", (unsigned)altered, (unsigned long long)checksum(shares, shares_size(c)));
@@ -87,15 +100,15 @@ static void update(const struct code *c, unsigned symbol, uint32_t lane, unsigne
 static void restore(const struct code *c, unsigned first, unsigned step) {
     for (unsigned i = 0; i < c->k; i++) {
         nodes[i] = (uint8_t)((first + i * step) % c->n);
-        for (size_t t = 0; t < c->lanes; t++) held[t * c->k + i] = shares[t * c->n + nodes[i]];
+        for (size_t t = 0; t < c->lanes; t++) put_symbol(c, held, t * c->k + i, symbol_at(c, shares, t * c->n + nodes[i]));
     }
     uint8_t one = balanced_recover(c->record, c->length, c->lanes, nodes, c->k, held, message_size(c), back, message_size(c));
     printf("from node %u by %u: ", first, step);
     if (one != BALANCED_OK) printf("refused %u ", one);
     else printf("message sum %llu ", (unsigned long long)checksum(back, message_size(c)));
-    uint8_t two = balanced_rebuild(c->record, c->length, c->lanes, nodes, c->k, held, message_size(c), 0, back, c->lanes);
+    uint8_t two = balanced_rebuild(c->record, c->length, c->lanes, nodes, c->k, held, message_size(c), 0, back, share_size(c));
     if (two != BALANCED_OK) printf("refused %u\n", two);
-    else printf("node 0 sum %llu\n", (unsigned long long)checksum(back, c->lanes));
+    else printf("node 0 sum %llu\n", (unsigned long long)checksum(back, share_size(c)));
 }
 
 /* A rearrangement into a buffer of zeros. */
@@ -120,7 +133,7 @@ static void rearrange(const struct code *c) {
 /* A node's symbol in a lane becomes another. The smallest spoiled lane is named, whichever was spoiled first. */
 static void spoil(const struct code *c, unsigned node, uint32_t lane) {
     size_t at = (size_t)lane * c->n + node;
-    if (node < c->n) shares[at] = shares[at] ? 0 : 1;
+    if (node < c->n) put_symbol(c, shares, at, symbol_at(c, shares, at) ? 0 : 1);
     printf("spoiled node %u lane %u\n", node, (unsigned)lane);
     belongs(c);
 }
@@ -129,7 +142,7 @@ static void spoil(const struct code *c, unsigned node, uint32_t lane) {
 static void spoil_lane(const struct code *c, unsigned wrong, uint32_t lane) {
     for (unsigned j = 0; j < wrong; j++) {
         size_t at = (size_t)lane * c->n + j;
-        shares[at] = shares[at] ? 0 : 1;
+        put_symbol(c, shares, at, symbol_at(c, shares, at) ? 0 : 1);
     }
     printf("spoiled %u nodes of lane %u\n", wrong, (unsigned)lane);
 }
@@ -161,16 +174,16 @@ static void block(const struct code *c) {
     belongs(c);
     update(c, 0, 0, 1);
     update(c, 17, c->lanes - 1, 100);
-    update(c, 9, 500, 7);
-    update(c, 9, 500, 0);
+    update(c, 9, 500 % c->lanes, 7);
+    update(c, 9, 500 % c->lanes, 0);
     belongs(c);
     restore(c, c->n - c->k, 1);
     restore(c, 0, 7);
     rearrange(c);
     spoil(c, 1, c->lanes - 1);
-    spoil(c, 49, 500);
-    spoil(c, 0, 17);
-    spoil(c, 30, 800);
+    spoil(c, 49, 500 % c->lanes);
+    spoil(c, 0, 17 % c->lanes);
+    spoil(c, 30, 800 % c->lanes);
     correct_lanes(c);
 }
 
@@ -182,6 +195,9 @@ int main(void) {
         { { 1, 251, 246, 50, 25 }, 5, 250, 50, 25, 1001 },
         { { 2, 2, 255, 119 }, 4, 255, 255, 119, 1000 },
         { { 1, 251, 250, 2, 1 }, 5, 250, 2, 1, 4097 },
+        { { 3, 255, 241, 15, 41, 16, 8 }, 7, 65520, 16, 8, 4096 },
+        { { 3, 252, 1, 6, 145, 252, 126 }, 7, 64512, 252, 126, 40 },
+        { { 3, 1, 1, 0, 2, 16, 5 }, 7, 256, 16, 5, 4097 },
     };
     even();
     for (size_t i = 0; i < sizeof codes / sizeof *codes; i++) block(&codes[i]);

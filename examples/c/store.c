@@ -110,7 +110,8 @@ static void rearrange(size_t n, size_t k, const uint8_t *message) {
 }
 
 int main(int argc, char **argv) {
-    uint8_t numbers[BALANCED_PLAN_NUMBERS], shifts[BALANCED_PLAN_SHIFTS], firsts[BALANCED_PLAN_FIRSTS], base[BALANCED_PLAN_BASE];
+    uint8_t numbers[BALANCED_PLAN_NUMBERS], shifts[BALANCED_PLAN_SHIFTS], firsts[BALANCED_PLAN_FIRSTS];
+    uint16_t base[BALANCED_PLAN_BASE];
     size_t n, k, d, size, blocks, i;
     uint8_t *bytes, *message;
 
@@ -119,7 +120,7 @@ int main(int argc, char **argv) {
         return 2;
     }
     accepted("plan", balanced_plan(record, sizeof record, numbers, sizeof numbers, shifts, sizeof shifts,
-                                   firsts, sizeof firsts, base, sizeof base));
+                                   firsts, sizeof firsts, base, BALANCED_PLAN_BASE));
     n = numbers[0];
     k = numbers[1];
     d = numbers[2];

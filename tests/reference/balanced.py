@@ -2,8 +2,9 @@
 
 Every entry of the generator is the product of the differences itself, the shifts are taken by going round, a message is
 recovered by solving the linear system of the listed nodes, and a lane is a word if the polynomial through its first k
-symbols has the other symbols as values too. The word near to a lane is found by Berlekamp and Welch's linear system. A row is `bytes`, one symbol for each lane. A message stands row after row,
-shares stand lane after lane.
+symbols has the other symbols as values too. The word near to a lane is found by Berlekamp and Welch's linear system. A
+row has one symbol for each lane. A message stands row after row, shares stand lane after lane. In buffers a symbol of a
+field of more than 256 elements is two bytes, the high one first.
 """
 from functools import lru_cache, reduce
 from itertools import product
@@ -11,10 +12,27 @@ from math import gcd
 from operator import xor
 
 
+class OneByte:
+    """Rows of a field whose symbols are bytes: `bytes` and tables of products."""
+    width = 1
+    row = bytes
+
+    def multiple(self, c, row):
+        return row.translate(self.products[c])
+
+
+class TwoBytes:
+    """Rows of any other field: tuples."""
+    width = 2
+    row = tuple
+
+    def multiple(self, c, row):
+        return tuple(self.times(c, x) for x in row)
+
+
 class PrimeField:
     def __init__(self, p):
         self.size = p
-        self.products = [bytes(a * b % p for b in range(256)) for a in range(p)]
 
     def plus(self, a, b):
         return (a + b) % self.size
@@ -27,10 +45,20 @@ class PrimeField:
 
     def total(self, rows):
         """The sum of the rows, lane by lane."""
-        return bytes(sum(column) % self.size for column in zip(*rows))
+        return self.row(sum(column) % self.size for column in zip(*rows))
 
 
-class Field256:
+class SmallPrimeField(PrimeField, OneByte):
+    def __init__(self, p):
+        super().__init__(p)
+        self.products = [bytes(a * b % p for b in range(256)) for a in range(p)]
+
+
+class LargePrimeField(PrimeField, TwoBytes):
+    pass
+
+
+class Field256(OneByte):
     size = 256
     modulus = 0x11D
 
@@ -65,12 +93,12 @@ class Field256:
 @lru_cache(maxsize=None)
 def field_of(p):
     """The field of p elements, or of 256 for 0."""
-    return PrimeField(p) if p else Field256()
+    return Field256() if p == 0 else SmallPrimeField(p) if p < 256 else LargePrimeField(p)
 
 
 def combine(field, coefficients, rows):
     """The sum of the rows, each times its coefficient."""
-    return field.total([row.translate(field.products[c]) for c, row in zip(coefficients, rows)])
+    return field.total([field.multiple(c, row) for c, row in zip(coefficients, rows)])
 
 
 def inverse(field, a):
@@ -80,11 +108,11 @@ def inverse(field, a):
 def inverse_matrix(field, matrix):
     """The inverse, by Gauss and Jordan's elimination over the matrix with the identity beside it."""
     size = len(matrix)
-    rows = [bytes(row) + bytes(int(i == j) for j in range(size)) for i, row in enumerate(matrix)]
+    rows = [field.row([*row, *(int(i == j) for j in range(size))]) for i, row in enumerate(matrix)]
     for c in range(size):
         pivot = next(i for i in range(c, size) if rows[i][c])
         rows[c], rows[pivot] = rows[pivot], rows[c]
-        rows[c] = rows[c].translate(field.products[inverse(field, rows[c][c])])
+        rows[c] = field.multiple(inverse(field, rows[c][c]), rows[c])
         for i in range(size):
             if i != c and rows[i][c]:
                 rows[i] = combine(field, [1, field.minus(0, rows[i][c])], [rows[i], rows[c]])
@@ -93,7 +121,7 @@ def inverse_matrix(field, matrix):
 
 def null_vector(field, matrix, width):
     """A vector other than zero that every row takes to zero, or None, by Gauss and Jordan's elimination."""
-    rows, pivots = [bytes(row) for row in matrix], []
+    rows, pivots = [field.row(row) for row in matrix], []
     for c in range(width):
         at = len(pivots)
         pivot = next((i for i in range(at, len(rows)) if rows[i][c]), None)
@@ -105,7 +133,7 @@ def null_vector(field, matrix, width):
                 vector[column] = field.minus(0, rows[i][c])
             return vector
         rows[at], rows[pivot] = rows[pivot], rows[at]
-        rows[at] = rows[at].translate(field.products[inverse(field, rows[at][c])])
+        rows[at] = field.multiple(inverse(field, rows[at][c]), rows[at])
         for i in range(len(rows)):
             if i != at and rows[i][c]:
                 rows[i] = combine(field, [1, field.minus(0, rows[i][c])], [rows[i], rows[at]])
@@ -123,18 +151,25 @@ def order(field, a):
     return None
 
 
+@lru_cache(maxsize=None)
 def is_prime(p):
     return p >= 2 and all(p % q for q in range(2, p))
 
 
+def pairs(buffer):
+    """The numbers of two bytes, high byte first."""
+    return [high * 256 + low for high, low in zip(buffer[0::2], buffer[1::2])]
+
+
 def read(record):
     """The number that turns the record away, or (p, root, n, k), where p is 0 for kind 2."""
-    if not record or record[0] not in (1, 2):
+    if not record or record[0] not in (1, 2, 3):
         return 1
-    if len(record) != {1: 5, 2: 4}[record[0]]:
+    if len(record) != {1: 5, 2: 4, 3: 7}[record[0]]:
         return 2
-    p, root, n, k = record[1:] if record[0] == 1 else [0, *record[1:]]
-    if record[0] == 1 and not (3 <= p <= 251 and is_prime(p)):
+    p, root, n, k = {1: record[1:], 2: [0, *record[1:]], 3: [*pairs(record[1:5]), *record[5:]]}[record[0]]
+    least, greatest = {1: (3, 251), 2: (0, 0), 3: (257, 65521)}[record[0]]
+    if record[0] != 2 and not (least <= p <= greatest and is_prime(p)):
         return 3
     field = field_of(p)
     if n < 2 or k == 0 or k > n:
@@ -216,7 +251,7 @@ class Plan:
 
     def is_word(self, lane):
         """Whether the polynomial through the first k symbols has the others as values too."""
-        symbols = [bytes([x]) for x in lane]
+        symbols = [self.field.row([x]) for x in lane]
         coefficients = [combine(self.field, line, symbols[:self.k]) for line in self.interpolation()]
         return all(combine(self.field, self.monomials(j), coefficients) == symbols[j] for j in range(self.n))
 
@@ -233,11 +268,11 @@ class Plan:
         solution = null_vector(field, equations, self.k + 2 * most + 1)
         if solution is None:
             return None
-        errors = [bytes([c]) for c in solution[self.k + most:]]
-        left = [j for j in range(self.n) if combine(field, self.power_row(j, most + 1, 1), errors) != b"\0"][:self.k]
+        errors = [field.row([c]) for c in solution[self.k + most:]]
+        left = [j for j in range(self.n) if combine(field, self.power_row(j, most + 1, 1), errors)[0]][:self.k]
         if len(left) < self.k:
             return None
-        message = message_of(self, left, bytes(lane[j] for j in left))
+        message = message_of(self, left, self.bytes([lane[j] for j in left]))
         word = [combine(field, self.column(j), message)[0] for j in range(self.n)]
         return word if sum(x != y for x, y in zip(word, lane)) <= most else None
 
@@ -247,8 +282,21 @@ class Plan:
 
     def message(self, lane):
         """The message whose encoding has the lane's symbols at the first k nodes."""
-        symbols = [bytes([x]) for x in lane[:self.k]]
+        symbols = [self.field.row([x]) for x in lane[:self.k]]
         return [combine(self.field, line, symbols)[0] for line in self.decoding()]
+
+
+    def size(self, count):
+        """The bytes of so many symbols."""
+        return count * self.field.width
+
+    def symbols(self, buffer):
+        """The symbols of a buffer."""
+        return bytes(buffer) if self.field.width == 1 else tuple(pairs(buffer))
+
+    def bytes(self, symbols):
+        """The buffer of the symbols."""
+        return bytes(symbols) if self.field.width == 1 else b"".join(x.to_bytes(2, "big") for x in symbols)
 
 
 @lru_cache(maxsize=None)
@@ -256,27 +304,38 @@ def plan_of(*accepted):
     return Plan(*accepted)
 
 
-def rows_of(buffer, lanes):
-    """The rows of a buffer that stands row after row."""
-    return [buffer[at:at + lanes] for at in range(0, len(buffer), lanes)]
+def rows_of(symbols, lanes):
+    """The rows of symbols that stand row after row."""
+    return [symbols[at:at + lanes] for at in range(0, len(symbols), lanes)]
 
 
 def lanes_of(shares, nodes):
-    """The lanes of a buffer that stands lane after lane, so many nodes in each."""
+    """The lanes of symbols that stand lane after lane, so many nodes in each."""
     return [shares[at:at + nodes] for at in range(0, len(shares), nodes)]
 
 
-def shares_of(shares, nodes):
+def shares_of(plan, shares, nodes):
     """What each node holds, a row for each, of a buffer that stands lane after lane."""
-    return [bytes(lane[j] for lane in lanes_of(shares, nodes)) for j in range(nodes)]
+    return [plan.field.row(row) for row in zip(*lanes_of(plan.symbols(shares), nodes))]
 
 
-def lane_after_lane(rows):
-    return b"".join(bytes(lane) for lane in zip(*rows))
+def lane_after_lane(plan, rows):
+    return plan.bytes([x for lane in zip(*rows) for x in lane])
+
+
+def listed_shares(plan, shares, nodes):
+    """What the listed nodes hold, lane after lane, of all shares."""
+    rows = shares_of(plan, shares, plan.n)
+    return lane_after_lane(plan, [rows[j] for j in nodes])
+
+
+def above(plan, symbols):
+    """Whether one of the numbers is no symbol."""
+    return any(x >= plan.field.size for x in symbols)
 
 
 def symbols_bad(plan, buffer):
-    return any(x >= plan.field.size for x in buffer)
+    return above(plan, plan.symbols(buffer))
 
 
 def call(record, faults, work):
@@ -307,12 +366,12 @@ def encode(record, lanes, message, room):
 
     def faults(plan):
         yield 7, lanes_bad(lanes)
-        yield 8, len(message) != plan.k * lanes or room != plan.n * lanes
+        yield 8, len(message) != plan.size(plan.k * lanes) or room != plan.size(plan.n * lanes)
         yield 11, symbols_bad(plan, message)
 
     def work(plan):
-        rows = rows_of(message, lanes)
-        return lane_after_lane([combine(plan.field, plan.column(j), rows) for j in range(plan.n)])
+        rows = rows_of(plan.symbols(message), lanes)
+        return lane_after_lane(plan, [combine(plan.field, plan.column(j), rows) for j in range(plan.n)])
 
     return call(record, faults, work)
 
@@ -322,27 +381,28 @@ def update(record, lanes, symbol, lane, old, new, shares):
 
     def faults(plan):
         yield 7, lanes_bad(lanes)
-        yield 8, len(shares) != plan.n * lanes
+        yield 8, len(shares) != plan.size(plan.n * lanes)
         yield 9, symbol >= plan.k or lane >= lanes
-        word = lanes_of(shares, plan.n)[lane]
-        yield 11, symbols_bad(plan, [old, new, *word])
+        word = lanes_of(plan.symbols(shares), plan.n)[lane]
+        yield 11, above(plan, [old, new, *word])
         yield 12, not plan.is_word(word)
         yield 13, plan.message(word)[symbol] != old
 
     def work(plan):
-        field, after = plan.field, bytearray(shares)
+        field, before = plan.field, plan.symbols(shares)
+        after = list(before)
         difference = field.minus(new, old)
         for j in range(plan.n):
             at = lane * plan.n + j
-            after[at] = field.plus(shares[at], field.times(difference, plan.entries[symbol][j]))
-        return sum(a != b for a, b in zip(shares, after)), bytes(after)
+            after[at] = field.plus(before[at], field.times(difference, plan.entries[symbol][j]))
+        return sum(a != b for a, b in zip(before, after)), plan.bytes(after)
 
     return call(record, faults, work)
 
 
 def listed_faults(plan, lanes, nodes, shares, room_bad, targets):
     yield 7, lanes_bad(lanes)
-    yield 8, len(nodes) != plan.k or len(shares) != plan.k * lanes or room_bad
+    yield 8, len(nodes) != plan.k or len(shares) != plan.size(plan.k * lanes) or room_bad
     yield 9, any(j >= plan.n for j in [*nodes, *targets])
     yield 10, len(set(nodes)) < len(nodes)
     yield 11, symbols_bad(plan, shares)
@@ -351,7 +411,7 @@ def listed_faults(plan, lanes, nodes, shares, room_bad, targets):
 def message_of(plan, nodes, shares):
     """The rows of the message, by the inverse of the generator's columns at the nodes."""
     matrix = inverse_matrix(plan.field, [plan.column(j) for j in nodes])
-    rows = shares_of(shares, plan.k)
+    rows = shares_of(plan, shares, plan.k)
     return [combine(plan.field, line, rows) for line in matrix]
 
 
@@ -359,26 +419,26 @@ def recover(record, lanes, nodes, shares, room):
     """(number, message)"""
 
     def faults(plan):
-        return listed_faults(plan, lanes, nodes, shares, room != plan.k * lanes, [])
+        return listed_faults(plan, lanes, nodes, shares, room != plan.size(plan.k * lanes), [])
 
-    return call(record, faults, lambda plan: b"".join(message_of(plan, nodes, shares)))
+    return call(record, faults, lambda plan: b"".join(plan.bytes(row) for row in message_of(plan, nodes, shares)))
 
 
 def rebuild(record, lanes, nodes, shares, target, room):
     """(number, the target's share): the recovered message encoded anew."""
 
     def faults(plan):
-        return listed_faults(plan, lanes, nodes, shares, room != lanes, [target])
+        return listed_faults(plan, lanes, nodes, shares, room != plan.size(lanes), [target])
 
     def work(plan):
-        return combine(plan.field, plan.column(target), message_of(plan, nodes, shares))
+        return plan.bytes(combine(plan.field, plan.column(target), message_of(plan, nodes, shares)))
 
     return call(record, faults, work)
 
 
 def wrong_lanes(plan, shares):
     """The lanes that are no words, all at a time."""
-    rows = shares_of(shares, plan.n)
+    rows = shares_of(plan, shares, plan.n)
     coefficients = [combine(plan.field, line, rows[:plan.k]) for line in plan.interpolation()]
     values = (combine(plan.field, plan.monomials(j), coefficients) for j in range(plan.n))
     return {t for row, value in zip(rows, values) if row != value for t in range(len(row)) if row[t] != value[t]}
@@ -389,7 +449,7 @@ def belongs(record, lanes, shares):
 
     def faults(plan):
         yield 7, lanes_bad(lanes)
-        yield 8, len(shares) != plan.n * lanes
+        yield 8, len(shares) != plan.size(plan.n * lanes)
         yield 11, symbols_bad(plan, shares)
 
     return call(record, faults, lambda plan: min(wrong_lanes(plan, shares), default=None))
@@ -401,14 +461,16 @@ def correct(record, lanes, shares):
 
     def faults(plan):
         yield 7, lanes_bad(lanes)
-        yield 8, len(shares) != plan.n * lanes
+        yield 8, len(shares) != plan.size(plan.n * lanes)
         yield 11, symbols_bad(plan, shares)
-        words.update((t, plan.nearest(lanes_of(shares, plan.n)[t])) for t in wrong_lanes(plan, shares))
+        before = lanes_of(plan.symbols(shares), plan.n)
+        words.update((t, plan.nearest(before[t])) for t in wrong_lanes(plan, shares))
         yield 14, None in words.values()
 
     def work(plan):
-        after = b"".join(bytes(words.get(t, lane)) for t, lane in enumerate(lanes_of(shares, plan.n)))
-        return sum(a != b for a, b in zip(shares, after)), after
+        before = plan.symbols(shares)
+        after = [x for t, lane in enumerate(lanes_of(before, plan.n)) for x in words.get(t, lane)]
+        return sum(a != b for a, b in zip(before, after)), plan.bytes(after)
 
     return call(record, faults, work)
 
@@ -417,17 +479,18 @@ def find_update(record, before, after):
     """(number, "unchanged", (symbol, amount) or None), by trying every symbol and amount"""
 
     def faults(plan):
-        yield 8, len(before) != plan.n or len(after) != plan.n
+        yield 8, len(before) != plan.size(plan.n) or len(after) != plan.size(plan.n)
         yield 11, symbols_bad(plan, before + after)
 
-    def added(plan, symbol, amount):
-        return bytes(plan.field.plus(x, plan.field.times(amount, entry)) for x, entry in zip(before, plan.entries[symbol]))
+    def leads(plan, symbol, amount):
+        places = zip(plan.symbols(before), plan.entries[symbol], plan.symbols(after))
+        return all(plan.field.plus(x, plan.field.times(amount, entry)) == y for x, entry, y in places)
 
     def work(plan):
         if before == after:
             return "unchanged"
         tried = product(range(plan.k), range(plan.field.size))
-        return next((update for update in tried if added(plan, *update) == after), None)
+        return next((update for update in tried if leads(plan, *update)), None)
 
     return call(record, faults, work)
 
@@ -435,41 +498,43 @@ def find_update(record, before, after):
 def words_at(plan, lane, node):
     """The symbols with which the lane is a word when they stand at the node, by trying every one"""
     size = plan.field.size
-    rows = [bytes([x] * size) for x in lane]
-    rows[node] = bytes(range(size))
+    rows = [plan.field.row([x] * size) for x in lane]
+    rows[node] = plan.field.row(range(size))
     coefficients = [combine(plan.field, line, rows[:plan.k]) for line in plan.interpolation()]
     values = [combine(plan.field, plan.monomials(j), coefficients) for j in range(plan.n)]
     return [x for x in range(size) if all(row[x] == value[x] for row, value in zip(rows, values))]
 
 
 def single_mends(record, lane, nodes_room, symbols_room):
-    """(number, the nodes and new symbols whose single change makes the lane a word)"""
+    """(number, (the nodes and the new symbols whose single change makes the lane a word))"""
 
     def faults(plan):
-        yield 8, len(lane) != plan.n or nodes_room != plan.n or symbols_room != plan.n
+        yield 8, len(lane) != plan.size(plan.n) or nodes_room != plan.n or symbols_room != plan.size(plan.n)
         yield 11, symbols_bad(plan, lane)
 
     def work(plan):
-        if lane[0] in words_at(plan, lane, 0):
-            return []
-        return [(node, x) for node in range(plan.n) for x in words_at(plan, lane, node)]
+        symbols = plan.symbols(lane)
+        if symbols[0] in words_at(plan, symbols, 0):
+            return b"", b""
+        changes = [(node, x) for node in range(plan.n) for x in words_at(plan, symbols, node)]
+        return bytes(node for node, _ in changes), plan.bytes([x for _, x in changes])
 
     return call(record, faults, work)
 
 
 def rearrange_faults(plan, lanes, source, room):
     yield 7, lanes_bad(lanes)
-    yield 8, len(source) != plan.n * lanes or room != plan.n * lanes
+    yield 8, len(source) != plan.size(plan.n * lanes) or room != plan.size(plan.n * lanes)
 
 
 def to_lanes(record, lanes, by_node, room):
     """(number, the shares lane after lane)"""
-    return call(record, lambda plan: rearrange_faults(plan, lanes, by_node, room), lambda plan: lane_after_lane(rows_of(by_node, lanes)))
+    return call(record, lambda plan: rearrange_faults(plan, lanes, by_node, room), lambda plan: lane_after_lane(plan, rows_of(plan.symbols(by_node), lanes)))
 
 
 def to_nodes(record, lanes, by_lane, room):
     """(number, the shares node after node)"""
-    return call(record, lambda plan: rearrange_faults(plan, lanes, by_lane, room), lambda plan: b"".join(shares_of(by_lane, plan.n)))
+    return call(record, lambda plan: rearrange_faults(plan, lanes, by_lane, room), lambda plan: b"".join(plan.bytes(row) for row in shares_of(plan, by_lane, plan.n)))
 
 
 def weights(record, room):
@@ -482,7 +547,7 @@ def weights(record, room):
     def work(plan):
         # all messages at a time, one in each lane
         messages = list(product(range(plan.field.size), repeat=plan.k))
-        rows = [bytes(message[r] for message in messages) for r in range(plan.k)]
+        rows = [plan.field.row(message[r] for message in messages) for r in range(plan.k)]
         words = zip(*(combine(plan.field, plan.column(j), rows) for j in range(plan.n)))
         counts = [0] * (plan.n + 1)
         for word in words:

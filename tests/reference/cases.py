@@ -49,10 +49,10 @@ def on_roster(name, record, arguments):
     return listed if name == "lowest" else f"{listed}, next job {HISTORY.next_job()}"
 
 
-def listed(mends, nodes_room, symbols_room):
+def listed(mends, *rooms):
     """How many changes there are, and both lists, with 170 at every place after them."""
-    nodes, symbols = (bytes(change[i] for change in mends).ljust(room, bytes([170])) for i, room in enumerate([nodes_room, symbols_room]))
-    return f"count {len(mends)} nodes{block(nodes)} symbols{block(symbols)}"
+    nodes, symbols = (written.ljust(room, bytes([170])) for written, room in zip(mends, rooms))
+    return f"count {len(mends[0])} nodes{block(nodes)} symbols{block(symbols)}"
 
 
 def answer(name, record, arguments):
@@ -64,7 +64,7 @@ def answer(name, record, arguments):
             return f"refused {number}, all places 0"
         numbers = f"n {plan.n} k {plan.k} d {plan.d} reads {plan.low} {plan.high}"
         rows = f"shifts{block(bytes(plan.shifts))} then 0 firsts{block(bytes(plan.firsts))} then 0"
-        return f"{numbers} {rows} base{block(bytes(plan.entries[0]))} then 0"
+        return f"{numbers} {rows} base{block(plan.bytes(plan.entries[0]))} then 0"
     if name in ("update", "correct"):
         number, result = (update if name == "update" else correct)(record, *arguments)
         return refused(number) if number else f"altered {result[0]} shares{block(result[1])}"

@@ -2,12 +2,12 @@
 
 
 def fill(seed, size, count):
-    """The symbols of a linear congruential generator's states after the seed."""
-    out, x = bytearray(), seed
+    """Symbols from a linear congruential generator's states after the seed, by their higher digits."""
+    out, x, low = [], seed, 65536 if size <= 256 else 256
     for _ in range(count):
         x = (x * 1103515245 + 12345) % 2147483648
-        out.append(x // 65536 % size)
-    return bytes(out)
+        out.append(x // low % size)
+    return out
 
 
 def checksum(s):

@@ -1,6 +1,6 @@
 #!/usr/bin/env python3
 """Prints what tests/large_cases.c must: which k are even with n = 255, and large blocks by checksums."""
-from balanced import belongs, build_plan, correct, encode, lane_after_lane, rebuild, recover, shares_of, to_lanes, to_nodes, update
+from balanced import belongs, build_plan, correct, encode, listed_shares, plan_of, read, rebuild, recover, to_lanes, to_nodes, update
 from data import checksum, fill, refused
 
 
@@ -23,42 +23,43 @@ def print_belongs(record, lanes, shares):
     print("belongs:", f"refused {number}" if number else "yes" if lane is None else f"no, lane {lane}")
 
 
-def print_restored(record, n, k, lanes, shares):
-    rows = shares_of(shares, n)
+def print_restored(record, plan, lanes, shares):
+    n, k = plan.n, plan.k
     for first, step in LISTS:
         first = n - k if first < 0 else first
         nodes = bytes((first + i * step) % n for i in range(k))
-        held = lane_after_lane([rows[j] for j in nodes])
-        one, message = recover(record, lanes, nodes, held, k * lanes)
-        two, share = rebuild(record, lanes, nodes, held, 0, lanes)
+        held = listed_shares(plan, shares, nodes)
+        one, message = recover(record, lanes, nodes, held, plan.size(k * lanes))
+        two, share = rebuild(record, lanes, nodes, held, 0, plan.size(lanes))
         print(f"from node {first} by {step}:",
               f"refused {one}" if one else f"message sum {checksum(message)}",
               f"refused {two}" if two else f"node 0 sum {checksum(share)}")
 
 
-def print_rearranged(record, n, lanes, shares):
-    one, by_node = to_nodes(record, lanes, shares, n * lanes)
+def print_rearranged(record, lanes, shares):
+    one, by_node = to_nodes(record, lanes, shares, len(shares))
     print("node after node:", refused(one) if one else f"done, sum {checksum(by_node)}")
-    two, by_lane = to_lanes(record, lanes, shares if one else by_node, n * lanes)
+    two, by_lane = to_lanes(record, lanes, shares if one else by_node, len(shares))
     print("lane after lane:", refused(two) if two else f"done, sum {checksum(by_lane)}")
 
 
-def spoiled(shares, at):
-    return shares[:at] + bytes([0 if shares[at] else 1]) + shares[at + 1:]
+def spoiled(plan, shares, *places):
+    symbols = list(plan.symbols(shares))
+    for at in places:
+        symbols[at] = 0 if symbols[at] else 1
+    return plan.bytes(symbols)
 
 
-def spoiled_lane(shares, n, wrong, lane):
+def spoiled_lane(plan, shares, wrong, lane):
     print(f"spoiled {wrong} nodes of lane {lane}")
-    for j in range(wrong):
-        shares = spoiled(shares, lane * n + j)
-    return shares
+    return spoiled(plan, shares, *range(lane * plan.n, lane * plan.n + wrong))
 
 
-def print_corrected(record, n, k, lanes, shares):
-    most = (n - k) // 2
+def print_corrected(record, plan, lanes, shares):
+    most = (plan.n - plan.k) // 2
     for damage in [[], [(most, 0), (most, lanes // 2)], [(most, 0), (most + 1, lanes - 1)]]:
         for wrong, lane in damage:
-            shares = spoiled_lane(shares, n, wrong, lane)
+            shares = spoiled_lane(plan, shares, wrong, lane)
         number, result = correct(record, lanes, shares)
         count, shares = (0, shares) if number else result
         print("correct:", refused(number) if number else f"altered {count}, sum {checksum(shares)}")
@@ -66,12 +67,13 @@ def print_corrected(record, n, k, lanes, shares):
 
 def block(record, lanes):
     """A block of pseudo-random symbols."""
-    size, n, k = record[1] if record[0] == 1 else 256, *record[-2:]
-    message = bytearray(fill(1, size, k * lanes))
-    print("block", *record, "lanes", lanes, "message sum", checksum(message))
-    number, encoded = encode(record, lanes, bytes(message), n * lanes)
+    plan = plan_of(*read(record))
+    n, k, size = plan.n, plan.k, plan.field.size
+    message, shares_size = fill(1, size, k * lanes), plan.size(n * lanes)
+    print("block", *record, "lanes", lanes, "message sum", checksum(plan.bytes(message)))
+    number, encoded = encode(record, lanes, plan.bytes(message), shares_size)
     print("encode:", refused(number) if number else f"done, sum {checksum(encoded)}")
-    shares = bytes(n * lanes) if number else encoded
+    shares = bytes(shares_size) if number else encoded
     print_belongs(record, lanes, shares)
     for symbol, lane, step in CHANGES:
         lane %= lanes
@@ -84,18 +86,18 @@ def block(record, lanes):
         count, shares = (0, shares) if number else result
         answer = refused(number) if number else f"altered {count}, sum {checksum(shares)}"
         print(f"update symbol {symbol} lane {lane} old {old} new {new}: {answer}")
-    assert encode(record, lanes, bytes(message), n * lanes)[1] in (None, shares), "not the encoding of the changed message"
+    assert encode(record, lanes, plan.bytes(message), shares_size)[1] in (None, shares), "not the encoding of the changed message"
     print_belongs(record, lanes, shares)
-    print_restored(record, n, k, lanes, shares)
-    print_rearranged(record, n, lanes, shares)
+    print_restored(record, plan, lanes, shares)
+    print_rearranged(record, lanes, shares)
     for node, lane in DAMAGE:
         lane %= lanes
         at = lane * n + node
         if node < n:
-            shares = spoiled(shares, at)
+            shares = spoiled(plan, shares, at)
         print(f"spoiled node {node} lane {lane}")
         print_belongs(record, lanes, shares)
-    print_corrected(record, n, k, lanes, shares)
+    print_corrected(record, plan, lanes, shares)
 
 
 even()
@@ -105,3 +107,6 @@ block([2, 32, 51, 18], 1000)
 block([1, 251, 246, 50, 25], 1001)
 block([2, 2, 255, 119], 1000)
 block([1, 251, 250, 2, 1], 4097)
+block([3, 255, 241, 15, 41, 16, 8], 4096)
+block([3, 252, 1, 6, 145, 252, 126], 40)
+block([3, 1, 1, 0, 2, 16, 5], 4097)

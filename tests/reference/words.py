@@ -1,13 +1,12 @@
 """Calls in words, read strictly.
 
 A line is a name and the record's bytes, then words with the numbers that they stand for, in base ten, each after one space. `message`,
-`nodes`, `shares`, `before`, `after` and `symbols` stand for up to 64 bytes, `old` and `new` for a byte, `room`, the length of the buffer that is written, for a number up to
+`nodes`, `shares`, `before`, `after` and `symbols` stand for up to 64 bytes, `room`, the length of the buffer that is written, for a number up to
 64, and every other word for a number below 2^32.
 """
 import re
 
 LISTS = {"message", "nodes", "shares", "before", "after", "symbols"}
-BYTES = {"old", "new"}
 MOST = 64
 
 
@@ -36,7 +35,7 @@ class Line:
         self.words.pop(0)
         if word in LISTS:
             return bytes(self.take(MOST, 255))
-        numbers = self.take(1, 255 if word in BYTES else 2**32 - 1)
+        numbers = self.take(1, 2**32 - 1)
         if not numbers:
             raise NotRead("number missing")
         if word == "room" and numbers[0] > MOST:

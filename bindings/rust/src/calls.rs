@@ -6,7 +6,7 @@ use crate::Error;
 
 /// Encodes a message: writes the shares of all n nodes, lane after lane.
 ///
-/// `message` has k·lanes bytes and `shares` n·lanes.
+/// `message` has k·lanes symbols and `shares` n·lanes.
 pub fn encode(record: &[u8], lanes: u32, message: &[u8], shares: &mut [u8]) -> Result<(), Error> {
     let number = unsafe {
         sys::balanced_encode(
@@ -25,10 +25,10 @@ pub fn encode(record: &[u8], lanes: u32, message: &[u8], shares: &mut [u8]) -> R
 /// Changes one symbol of one lane in shares that are in place: adds (new − old) times the symbol's row of the generator to
 /// that lane. Gives the number of nodes that it altered.
 ///
-/// `shares` has n·lanes bytes. The lane must encode a message, else the update meets [`Error::Word`], and this message must
+/// `shares` has n·lanes symbols. The lane must encode a message, else the update meets [`Error::Word`], and this message must
 /// hold `old` there, else it meets [`Error::Stale`]; afterwards the lane encodes the message with `new` in its place. Bytes of
-/// other lanes neither matter nor change.
-pub fn update(record: &[u8], lanes: u32, symbol: u32, lane: u32, old: u8, new: u8, shares: &mut [u8]) -> Result<u32, Error> {
+/// other lanes neither matter nor change. A number that is no symbol of the field meets [`Error::Symbol`].
+pub fn update(record: &[u8], lanes: u32, symbol: u32, lane: u32, old: u32, new: u32, shares: &mut [u8]) -> Result<u32, Error> {
     let mut altered = 0;
     let number = unsafe {
         sys::balanced_update(
@@ -49,8 +49,8 @@ pub fn update(record: &[u8], lanes: u32, symbol: u32, lane: u32, old: u8, new: u
 
 /// Recovers a message from the shares of any k nodes.
 ///
-/// `nodes` lists k different nodes in any order, `shares` has k·lanes bytes, in each lane what these nodes hold in list
-/// order, and `message` has k·lanes bytes. The message is the only one whose encoding holds these shares at these nodes.
+/// `nodes` lists k different nodes in any order, `shares` has k·lanes symbols, in each lane what these nodes hold in list
+/// order, and `message` has k·lanes symbols. The message is the only one whose encoding holds these shares at these nodes.
 pub fn recover(record: &[u8], lanes: u32, nodes: &[u8], shares: &[u8], message: &mut [u8]) -> Result<(), Error> {
     let number = unsafe {
         sys::balanced_recover(
@@ -70,7 +70,7 @@ pub fn recover(record: &[u8], lanes: u32, nodes: &[u8], shares: &[u8], message: 
 
 /// Rebuilds what one node holds from the shares of any k nodes.
 ///
-/// `nodes` and `shares` are as in [`recover`]; the target may be in the list. `share` has `lanes` bytes.
+/// `nodes` and `shares` are as in [`recover`]; the target may be in the list. `share` has `lanes` symbols.
 pub fn rebuild(record: &[u8], lanes: u32, nodes: &[u8], shares: &[u8], target: u32, share: &mut [u8]) -> Result<(), Error> {
     let number = unsafe {
         sys::balanced_rebuild(
@@ -91,7 +91,7 @@ pub fn rebuild(record: &[u8], lanes: u32, nodes: &[u8], shares: &[u8], target: u
 
 /// Tests whether every lane of a block is a word of the code: `None`, or the smallest lane that is none.
 ///
-/// `shares` has n·lanes bytes.
+/// `shares` has n·lanes symbols.
 pub fn belongs(record: &[u8], lanes: u32, shares: &[u8]) -> Result<Option<u32>, Error> {
     let mut first_wrong = 0;
     let number = unsafe {
@@ -110,7 +110,7 @@ pub fn belongs(record: &[u8], lanes: u32, shares: &[u8]) -> Result<Option<u32>, 
 /// Sets wrong symbols right: each lane becomes the word of the code that differs from it at no more than (n−k)/2 nodes,
 /// rounded down. Gives the number of symbols that it altered.
 ///
-/// `shares` has n·lanes bytes. There is at most one such word, and for a lane that is a word it is the lane itself. If some
+/// `shares` has n·lanes symbols. There is at most one such word, and for a lane that is a word it is the lane itself. If some
 /// lane has no word that near, the call meets [`Error::Far`] and no lane is touched; for k = n and k = n−1 every lane must be
 /// a word. A lane with more wrong symbols than that may be near to another word than the one it was, and becomes that one.
 pub fn correct(record: &[u8], lanes: u32, shares: &mut [u8]) -> Result<u32, Error> {
@@ -130,8 +130,8 @@ pub fn correct(record: &[u8], lanes: u32, shares: &mut [u8]) -> Result<u32, Erro
 
 /// Puts shares that stand node after node, as those of an older store do, lane after lane.
 ///
-/// Both buffers have n·lanes bytes: what stands at j·lanes + t of `by_node` goes to t·n + j of `by_lane`, for each node j and
-/// lane t. Bytes are moved, not judged: they need not be symbols.
+/// Both buffers have n·lanes symbols: what stands at j·lanes + t of `by_node` goes to t·n + j of `by_lane`, for each node j and
+/// lane t. Symbols are moved, not judged: they need not be symbols of the field.
 pub fn to_lanes(record: &[u8], lanes: u32, by_node: &[u8], by_lane: &mut [u8]) -> Result<(), Error> {
     let number = unsafe {
         sys::balanced_to_lanes(

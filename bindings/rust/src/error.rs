@@ -6,11 +6,11 @@ use std::fmt;
 #[derive(Clone, Copy, Debug, PartialEq, Eq, PartialOrd, Ord, Hash)]
 #[repr(u8)]
 pub enum Error {
-    /// The record is empty or its first byte is neither 1 nor 2.
+    /// The record is empty or its first byte is none of 1, 2 and 3.
     Kind = 1,
     /// The record's body has another length than its kind's.
     Body = 2,
-    /// Kind 1, and p is not a prime from 3 to 251.
+    /// p is not a prime from 3 to 251 in kind 1, from 257 to 65,521 in kind 3.
     Field = 3,
     /// n is below 2, k is 0, or k is above n.
     Size = 4,
@@ -26,7 +26,7 @@ pub enum Error {
     Range = 9,
     /// A node stands twice in a list.
     Twice = 10,
-    /// Kind 1, and a byte that the call reads as a symbol is p or more.
+    /// A number that the call reads as a symbol is p or more, in kind 2 above 255.
     Symbol = 11,
     /// The lane that an update is to change is no word of the code.
     Word = 12,
@@ -105,9 +105,9 @@ impl Error {
 impl fmt::Display for Error {
     fn fmt(&self, f: &mut fmt::Formatter<'_>) -> fmt::Result {
         let condition = match self {
-            Error::Kind => "the record is empty or of neither kind",
+            Error::Kind => "the record is empty or of no kind",
             Error::Body => "the record's body has another length than its kind's",
-            Error::Field => "p is not a prime from 3 to 251",
+            Error::Field => "p is not a prime of the record's kind",
             Error::Size => "n is below 2, k is 0, or k is above n",
             Error::Root => "the root is not a symbol of order exactly n",
             Error::Uneven => "reserved, no longer given",
@@ -115,7 +115,7 @@ impl fmt::Display for Error {
             Error::Length => "a buffer or a list of nodes has another length than stated",
             Error::Range => "a node, symbol or lane number is outside its range",
             Error::Twice => "a node stands twice in a list",
-            Error::Symbol => "a byte that the call reads as a symbol is p or more",
+            Error::Symbol => "a number that the call reads as a symbol is none of the field",
             Error::Word => "the lane is no word of the code",
             Error::Stale => "the lane's message holds another symbol than the old one",
             Error::Far => "some lane has no word of the code within (n−k)/2 nodes",

@@ -20,7 +20,7 @@ pub enum Finding {
 
 /// Finds the update that leads from one lane to another.
 ///
-/// `before` and `after` have n bytes each, and need not be words of the code. Where an update is found, adding the amount
+/// `before` and `after` have n symbols each, and need not be words of the code. Where an update is found, adding the amount
 /// times the symbol's row of the generator to `before` gives `after`, taking it away again gives `before`, and no other
 /// symbol and amount do.
 pub fn find_update(record: &[u8], before: &[u8], after: &[u8]) -> Result<Finding, Error> {
@@ -47,7 +47,7 @@ pub fn find_update(record: &[u8], before: &[u8], after: &[u8]) -> Result<Finding
 
 /// Lists the single changes that make a lane a word of the code, lowest node first, and gives how many there are.
 ///
-/// `lane`, `nodes` and `symbols` have n bytes each. Change i puts `symbols[i]` in the place of what node `nodes[i]` holds.
+/// `lane` and `symbols` have n symbols each, `nodes` n bytes. Change i puts symbol i of `symbols` in the place of what node `nodes[i]` holds.
 /// Places after the last change hold what they held. A lane that is a word has none; another has one at most where k is
 /// below n−1, and one for each node where k is n−1. Where k is n every lane is a word.
 pub fn mends(record: &[u8], lane: &[u8], nodes: &mut [u8], symbols: &mut [u8]) -> Result<usize, Error> {

@@ -12,17 +12,23 @@
 //! |---|---|---|
 //! | 1, a prime field | `[1, p, root, n, k]`, p a prime from 3 to 251 | the bytes 0 to p−1 |
 //! | 2, the field of 256 elements | `[2, root, n, k]` | every byte; products are reduced by 0x11D |
+//! | 3, a prime field above a byte | `[3, p, p, root, root, n, k]`, p a prime from 257 to 65,521 | the numbers 0 to p−1, two bytes each |
 //!
-//! n is at least 2, k runs from 1 to n, and the root has order exactly n. With d = n−k+1, each node depends on k·d/n symbols,
+//! In kind 3 p and the root are two bytes each, high byte first. n is at least 2, k runs from 1 to n, and the root has order
+//! exactly n. With d = n−k+1, each node depends on k·d/n symbols,
 //! rounded down or up.
 //! A [`Plan`] is a record that was accepted, with what it stands for. Its methods are the calls of the store. The
 //! functions of this module are the same calls on a record that was not looked at before.
 //!
 //! # Blocks
 //!
-//! A block has L lanes, L from 1 to 4,096, and each lane is encoded by itself. A message has k·L bytes: symbol r of lane t
-//! stands at r·L + t. The shares of a block have n·L bytes and stand lane after lane: what node j holds of lane t stands at
-//! t·n + j, so lane t is the part of n bytes that starts at t·n. Nodes, symbols and lanes are numbered from 0.
+//! A block has L lanes, L from 1 to 4,096, and each lane is encoded by itself. A message has k·L symbols: symbol r of lane t
+//! stands at r·L + t. The shares of a block have n·L symbols and stand lane after lane: what node j holds of lane t stands at
+//! t·n + j, so lane t is the part of n symbols that starts at t·n. Nodes, symbols and lanes are numbered from 0.
+//!
+//! In every buffer a symbol is one byte, and in kind 3 two bytes, high byte first ([`Plan::symbol_len`]); buffers are slices of
+//! bytes, so in kind 3 they are twice as long. [`symbols_to_bytes`] and [`symbols_from_bytes`] turn slices of `u16` into such
+//! buffers and back.
 //!
 //! Shares of an older store stand node after node: what node j holds of lane t at j·L + t. [`to_lanes`] and [`to_nodes`]
 //! rearrange them.
@@ -37,7 +43,7 @@
 //! # Example
 //!
 //! ```
-//! use balanced::{Error, Finding, Plan};
+//! use balanced::{symbols_from_bytes, symbols_to_bytes, Error, Finding, Plan};
 //!
 //! // The field of 7 elements, 6 nodes, any 3 of which give the message back.
 //! let plan = Plan::new(&[1, 7, 3, 6, 3])?;
@@ -99,6 +105,15 @@
 //! let mut counts = [0; 7];
 //! plan.weights(&mut counts)?;
 //! assert_eq!(counts, [1, 0, 0, 0, 90, 108, 144]);
+//!
+//! // 257 elements, 4 nodes, any 2 of which give the message back: symbols of two bytes.
+//! let plan = Plan::new(&[3, 1, 1, 0, 16, 4, 2])?;
+//! assert_eq!((plan.symbol_len(), plan.base_word()), (2, &[15, 255, 240, 0][..]));
+//! let mut shares = vec![0; plan.shares_len(1)];
+//! plan.encode(1, &symbols_to_bytes(&[1, 256]), &mut shares)?;
+//! assert_eq!(symbols_from_bytes(&shares), [17, 15, 240, 242]);
+//! assert_eq!(plan.update(1, 1, 0, 256, 0, &mut shares)?, 3);
+//! assert_eq!(symbols_from_bytes(&shares), [15, 255, 240, 0]);
 //! # Ok::<(), Error>(())
 //! ```
 
@@ -107,6 +122,7 @@ mod error;
 mod lanes;
 mod plan;
 mod roster;
+mod symbols;
 pub mod sys;
 
 pub use calls::{belongs, correct, encode, rebuild, recover, to_lanes, to_nodes, update, weights};
@@ -114,6 +130,7 @@ pub use error::Error;
 pub use lanes::{find_update, mends, Finding};
 pub use plan::Plan;
 pub use roster::Roster;
+pub use symbols::{symbols_from_bytes, symbols_to_bytes};
 
 /// The largest number of lanes of a block.
 pub const MAX_LANES: u32 = 4096;

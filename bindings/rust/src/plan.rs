@@ -5,19 +5,19 @@ use crate::{calls, lanes, sys, Error, Finding, MAX_NODES};
 /// A record that was accepted, and the plan that it stands for.
 #[derive(Clone, Copy, PartialEq, Eq)]
 pub struct Plan {
-    record: [u8; 5],
+    record: [u8; 7],
     record_len: usize,
     numbers: [u8; 5],
     shifts: [u8; MAX_NODES],
     firsts: [u8; MAX_NODES],
-    base: [u8; MAX_NODES],
+    base: [u16; MAX_NODES],
 }
 
 impl Plan {
     /// The plan of a record, or what turns the record away: one of the errors from `Kind` to `Root`.
     pub fn new(record: &[u8]) -> Result<Plan, Error> {
         let mut plan = Plan {
-            record: [0; 5],
+            record: [0; 7],
             record_len: record.len(),
             numbers: [0; 5],
             shifts: [0; MAX_NODES],
@@ -40,7 +40,7 @@ impl Plan {
             )
         };
         Error::check(number)?;
-        // an accepted record has 4 or 5 bytes
+        // an accepted record has 4, 5 or 7 bytes
         plan.record[..record.len()].copy_from_slice(record);
         Ok(plan)
     }
@@ -87,7 +87,7 @@ impl Plan {
     }
 
     /// The n entries of the base word, which is row 0 of the generator.
-    pub fn base_word(&self) -> &[u8] {
+    pub fn base_word(&self) -> &[u16] {
         &self.base[..self.n()]
     }
 
@@ -96,19 +96,33 @@ impl Plan {
     /// # Panics
     ///
     /// If `row` is not below k or `node` is not below n.
-    pub fn entry(&self, row: usize, node: usize) -> u8 {
+    pub fn entry(&self, row: usize, node: usize) -> u16 {
         assert!(node < self.n(), "node {} is not below {}", node, self.n());
         self.base_word()[(node + usize::from(self.shifts()[row])) % self.n()]
     }
 
+    /// The bytes of a symbol: two in kind 3, else one.
+    pub fn symbol_len(&self) -> usize {
+        if self.record[0] == 3 {
+            2
+        } else {
+            1
+        }
+    }
+
     /// The length of a message of so many lanes.
     pub fn message_len(&self, lanes: u32) -> usize {
-        self.k() * lanes as usize
+        self.k() * lanes as usize * self.symbol_len()
     }
 
     /// The length of the shares of a block of so many lanes.
     pub fn shares_len(&self, lanes: u32) -> usize {
-        self.n() * lanes as usize
+        self.n() * lanes as usize * self.symbol_len()
+    }
+
+    /// The length of one node's share of a block of so many lanes.
+    pub fn share_len(&self, lanes: u32) -> usize {
+        lanes as usize * self.symbol_len()
     }
 
     /// [`encode`](crate::encode) with this plan's record.
@@ -117,7 +131,7 @@ impl Plan {
     }
 
     /// [`update`](crate::update) with this plan's record.
-    pub fn update(&self, lanes: u32, symbol: u32, lane: u32, old: u8, new: u8, shares: &mut [u8]) -> Result<u32, Error> {
+    pub fn update(&self, lanes: u32, symbol: u32, lane: u32, old: u32, new: u32, shares: &mut [u8]) -> Result<u32, Error> {
         calls::update(self.record(), lanes, symbol, lane, old, new, shares)
     }
 

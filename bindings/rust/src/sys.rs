@@ -13,7 +13,7 @@ extern "C" {
         shifts_len: usize,
         firsts: *mut u8,
         firsts_len: usize,
-        base: *mut u8,
+        base: *mut u16,
         base_len: usize,
     ) -> u8;
 
@@ -33,8 +33,8 @@ extern "C" {
         lanes: u32,
         symbol: u32,
         lane: u32,
-        old_symbol: u8,
-        new_symbol: u8,
+        old_symbol: u32,
+        new_symbol: u32,
         shares: *mut u8,
         shares_len: usize,
         altered: *mut u32,

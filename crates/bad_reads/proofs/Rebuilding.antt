@@ -2,23 +2,22 @@
 use mathlib.Core.Path.{_≡_, refl, sym, ap, _∙_}
 use mathlib.Core.Bool.{true, false}
 use mathlib.Core.List.{List}
-use Prim.Native.Nat.{ℕ, zero, suc, _*_, _<_}
+use Prim.Native.Nat.{ℕ, zero, suc, _<_}
 use native.Mathlib.Decide.{ℕ-discrete}
 use native.Mathlib.Nat.{zero-add}
 use native.Mathlib.Omega.{arith}
 use lib.ListN.{length, getD, set, length-set}
 use lib.Seq.{getD-set-same, getD-set-other, ext-getD}
-use Rattle.lists.specs.Choice.{pickT}
-use Rattle.lists.specs.Numbers.{allBelow, isIn}
-use Rattle.lists.specs.Rows.{from}
+use Rattle.lists.specs.Numbers.{isIn}
 use Rattle.lists.proofs.Cases.{first-zero}
 use Rattle.lists.proofs.Rows.{from-ext, getD-from}
-use Rattle.layout.specs.Layout.{byRow, shareLayout, held, laneOf}
+use Rattle.layout.specs.Layout.{byRow, shareLayout, laneOf}
 use Rattle.layout.specs.Width.{symbolsOf, bytesOf}
 use Rattle.layout.proofs.Buffers.{length-lane, getD-lane}
 use Rattle.layout.proofs.Widths.{symbols-bytes}
 use Rattle.generator.specs.declared.Header.{Header}
-use Rattle.generator.specs.Records.{headerOf, recordFault, size, width, Sound}
+use Rattle.generator.proofs.Widths.{width-some}
+use Rattle.generator.specs.Records.{headerOf, recordFault, width, Sound}
 use Rattle.generator.specs.Codewords.{nodeOf}
 use Rattle.generator.specs.Claims.{isMessage, areNodes, atNodes}
 use Rattle.generator.proofs.Accepts.{faultless-sound}
@@ -31,7 +30,7 @@ use Rattle.blocks.specs.Blocks.{shareAt, shareOf, MessageFor}
 use Rattle.blocks.specs.Bytes.{RebuiltBytes}
 use Rattle.blocks.specs.Promises.{RebuildSays}
 use Rattle.blocks.proofs.Messages.{lane-message}
-use Rattle.bad_reads.specs.Rebuilding.{readAt, OneOff, rebuiltAt, OneLaneOff, BadRead}
+use Rattle.bad_reads.specs.Rebuilding.{readAt, OneOff, rebuiltAt, BadRead}
 use Rattle.bad_reads.proofs.Changes.{reaches}
 
 -- a call that is done met no number
@@ -40,18 +39,13 @@ unfolding outcomeOf
 done-means zero e = refl
 done-means (suc f) e = let z : _≡_ {A = ℕ} 0 1 = cc in absurd (omega arith)
 
--- symbols have bytes
-width-pos : (h : Header) → 0 < width h
-unfolding width
-width-pos h = omega arith
-
 module _ (h : Header) (l target : ℕ) (m out : List ℕ) (is : out ≡ bytesOf (width h) (shareOf h l m target)) where
   -- what a rebuilt share has in a lane
   rebuilt-lane : (q : ℕ) → q < l → rebuiltAt h out q ≡ nodeOf h (laneOf byRow (h .k) l q m) target
   unfolding rebuiltAt shareOf shareAt
   rebuilt-lane q inside =
       ap (λ (s : List ℕ). getD (symbolsOf (width h) s) q 0) is
-      ∙ ap (λ (s : List ℕ). getD s q 0) (symbols-bytes (width h) (shareOf h l m target) (width-pos h))
+      ∙ ap (λ (s : List ℕ). getD s q 0) (symbols-bytes (width h) (shareOf h l m target) (width-some h))
       ∙ getD-from (shareAt h l m target) 0 l q 0 inside
       ∙ ap (shareAt h l m target) (zero-add q)
 

@@ -6,23 +6,25 @@ use Prim.Native.Nat.{ℕ, _<_}
 use native.Mathlib.Omega.{arith}
 use lib.ListN.{length, getD}
 use Rattle.layout.specs.Layout.{laneOf, shareLayout}
+use Rattle.layout.specs.Width.{bytesOf}
+use Rattle.layout.proofs.Widths.{symbols-bytes}
 use Rattle.generator.specs.declared.Header.{Header}
-use Rattle.generator.specs.Records.{headerOf}
+use Rattle.generator.specs.Records.{headerOf, width}
 use Rattle.generator.specs.Codewords.{encoding}
 use Rattle.generator.specs.Claims.{isMessage}
+use Rattle.generator.proofs.Widths.{width-some}
 use Rattle.refusals.specs.Faults.{encodeFault, updateFault, recoverFault, rebuildFault, belongsFault, faultOf}
 use Rattle.refusals.specs.Accepted.{SymbolRows}
 use Rattle.refusals.proofs.Accepts.{encode-accepts, update-accepts, recover-accepts, rebuild-accepts, belongs-accepts}
-use Rattle.refusals.proofs.OneByte.{symbols-are, bytes-are}
 use Rattle.refusals.proofs.OnRecord.{none-met}
 use Rattle.blocks.specs.declared.Outcome.the-variants as O
 use Rattle.blocks.specs.declared.Update.the-variants as U
 use Rattle.blocks.specs.declared.Membership.the-variants as M
 use Rattle.blocks.specs.Blocks.{shareOf, sharesOf, updated, firstWrong, MessageFor}
-use Rattle.blocks.specs.Bytes.{RecoveredBytes, RebuiltBytes, wrongLane}
+use Rattle.blocks.specs.Bytes.{encodedBytes, updatedBytes, RecoveredBytes, RebuiltBytes, wrongLane}
 use Rattle.blocks.specs.Promises.{EncodeSays, UpdateSays, RecoverSays, RebuildSays, BelongsSays}
 use Rattle.blocks.proofs.Answered.{done-means, altered-means, yes-means, no-means}
-use Rattle.blocks.proofs.Bytes.{encoded-bytes, updated-bytes, altered-symbols, wrong-lane}
+use Rattle.blocks.proofs.Bytes.{altered-symbols}
 use Rattle.blocks.proofs.Shares.{length-share}
 use Rattle.blocks.proofs.Words.{wrong-most}
 use Rattle.balanced.specs.Coding.{Symbols}
@@ -34,21 +36,26 @@ use Rattle.balanced.proofs.Updates.{update-demands}
 rows-are : (h : Header) (rows l : ℕ) (s : List ℕ) → SymbolRows h rows l s → Symbols h rows l s
 rows-are h rows l s r = record { long = r .long; symbols = r .symbols }
 
+-- a buffer that was written as the bytes of symbols is read as these
+read-written : (h : Header) (out xs : List ℕ) → out ≡ bytesOf (width h) xs → read h out ≡ xs
+read-written h out xs e = ap (read h) e ∙ symbols-bytes (width h) xs (width-some h)
+
 module _ (rec : List ℕ) (l : ℕ) where
   -- the record's header
   abbrev h : Header
   h = headerOf rec
 
   encode : (message out out′ : List ℕ) → EncodeSays rec l message out out′ O.Done → EncodeDone h l message out′
+  unfolding encodedBytes
   encode message out out′ says =
       let none = done-means (faultOf rec (λ h. encodeFault h l (length out) message)) (says .promise .answer) in
       let (sound, own) = none-met rec (λ h. encodeFault h l (length out) message) none in
       let (rows, long) = encode-accepts h sound l (length out) message own in
-      let written : out′ ≡ sharesOf shareLayout h l message = rw none at (says .promise .written) ∙ encoded-bytes h shareLayout l message in
+      let now : read h out′ ≡ sharesOf shareLayout h l (read h message) = read-written h out′ _ (rw none at (says .promise .written)) in
       let code = code-demands h sound in
       record {
-        lanes = λ t inside. rw (symbols-are h out′, symbols-are h message, written) (code .encodes l message t inside);
-        words = λ t inside. rw (symbols-are h out′, written) (code .word l message (rows-are h (h .k) l message rows) t inside);
+        lanes = λ t inside. rw now (code .encodes l (read h message) t inside);
+        words = λ t inside. rw now (code .word l (read h message) (rows-are h (h .k) l (read h message) (rows .symbol-rows)) t inside);
       }
 
   module _ (nodes shares : List ℕ) where
@@ -59,7 +66,7 @@ module _ (rec : List ℕ) (l : ℕ) where
         let (sound, own) = none-met rec (λ h. recoverFault h l nodes shares (length out)) none in
         let (listed, long) = recover-accepts h sound l nodes shares (length out) own in
         let (m, is, written) = rw none at (says .promise .written) in
-        let same : read h out′ ≡ m = symbols-are h out′ ∙ written ∙ bytes-are h m in
+        let same : read h out′ ≡ m = read-written h out′ m written in
         let code = code-demands h sound in
         record {
           encodes = rw same is;
@@ -74,7 +81,7 @@ module _ (rec : List ℕ) (l : ℕ) where
         let (sound, own) = none-met rec (λ h. rebuildFault h l nodes shares target (length out)) none in
         let (listed, node, long) = rebuild-accepts h sound l nodes shares target (length out) own in
         let (m, is, written) = rw none at (says .promise .written) in
-        let same : read h out′ ≡ shareOf h l m target = symbols-are h out′ ∙ written ∙ bytes-are h (shareOf h l m target) in
+        let same : read h out′ ≡ shareOf h l m target = read-written h out′ (shareOf h l m target) written in
         let code = code-demands h sound in
         record {
           some = (m, is);
@@ -86,32 +93,35 @@ module _ (rec : List ℕ) (l : ℕ) where
 
   module _ (shares : List ℕ) where
     passes : BelongsSays rec l shares M.Yes → AllWords h l shares
+    unfolding wrongLane
     passes says =
         let (none, all) = yes-means (faultOf rec (λ h. belongsFault h l shares)) l (wrongLane shareLayout h l shares) (says .promise .answer) in
         let (sound, own) = none-met rec (λ h. belongsFault h l shares) none in
         let rows = belongs-accepts h sound l shares own in
-        λ t inside. rw (symbols-are h shares) (code-demands h sound .passes l shares (rows-are h (h .n) l shares rows) .0 (sym (wrong-lane h shareLayout l shares) ∙ all) t inside)
+        λ t inside. code-demands h sound .passes l (read h shares) (rows-are h (h .n) l (read h shares) (rows .symbol-rows)) .0 all t inside
 
     names : (wrong : ℕ) → BelongsSays rec l shares (M.No wrong) → SmallestWrong h l shares wrong
+    unfolding wrongLane
     names wrong says =
         let (none, at, other) = no-means (faultOf rec (λ h. belongsFault h l shares)) l (wrongLane shareLayout h l shares) wrong (says .promise .answer) in
         let (sound, own) = none-met rec (λ h. belongsFault h l shares) none in
         let rows = belongs-accepts h sound l shares own in
-        let is : firstWrong shareLayout h l shares ≡ wrong = sym (wrong-lane h shareLayout l shares) ∙ at in
-        let inside : firstWrong shareLayout h l shares < l = omega (arith, wrong-most shareLayout h l shares) in
-        let (no-word, smaller) = rw is at (code-demands h sound .names l shares (rows-are h (h .n) l shares rows) inside) in
+        let is : firstWrong shareLayout h l (read h shares) ≡ wrong = at in
+        let inside : firstWrong shareLayout h l (read h shares) < l = omega (arith, wrong-most shareLayout h l (read h shares)) in
+        let (no-word, smaller) = rw is at (code-demands h sound .names l (read h shares) (rows-are h (h .n) l (read h shares) (rows .symbol-rows)) inside) in
         record {
           lane = omega arith;
-          no-word = rw (symbols-are h shares) no-word;
-          smaller = rw (symbols-are h shares) smaller;
+          no-word = no-word;
+          smaller = smaller;
         }
 
   update : (r t old new : ℕ) (shares shares′ : List ℕ) (count : ℕ) → UpdateSays rec l r t old new shares shares′ (U.Altered count) → UpdateDone h shares shares′ l r t old new count
+  unfolding updatedBytes
   update r t old new shares shares′ count says =
       let (none, same) = altered-means (faultOf rec (λ h. updateFault shareLayout h l r t old new shares)) _ count (says .promise .answer) in
       let (sound, own) = none-met rec (λ h. updateFault shareLayout h l r t old new shares) none in
       let written = rw none at (says .promise .written) in
-      let now : read h shares′ ≡ updated shareLayout h l r t old new (read h shares) = rw (symbols-are h shares, symbols-are h shares′) (written ∙ updated-bytes h shareLayout l r t old new shares) in
+      let now : read h shares′ ≡ updated shareLayout h l r t old new (read h shares) = read-written h shares′ _ written in
       record {
         change = rw now (update-demands h sound .updates shares l r t old new own);
         reports = same ∙ altered-symbols h shareLayout l r t old new shares shares′ written;

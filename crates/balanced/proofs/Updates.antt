@@ -18,18 +18,19 @@ use Rattle.layout.specs.Layout.{held, laneOf, shareLayout}
 use Rattle.layout.specs.Width.{symbolsOf}
 use Rattle.layout.proofs.Buffers.{length-lane, getD-lane}
 use Rattle.layout.proofs.Places.{share-lawful}
+use Rattle.layout.proofs.Readings.{count-symbols}
 use Rattle.generator.specs.declared.Header.{Header}
 use Rattle.generator.specs.Records.{size, width, distance, Sound}
 use Rattle.generator.specs.Codewords.{encoding, isWord}
 use Rattle.generator.specs.Messages.{messageOf}
 use Rattle.generator.specs.Claims.{isMessage, Codeword}
 use Rattle.generator.proofs.Changes.{alters}
+use Rattle.generator.proofs.Widths.{width-some}
 use Rattle.generator.proofs.Messages.{encoding-injective, message-back, word-message}
 use Rattle.generator.proofs.Words.{words-poly, words-encode}
 use Rattle.refusals.specs.Conditions.{noWord, otherSymbol}
 use Rattle.refusals.specs.Faults.{inputFault, staleFault, updateFault}
 use Rattle.refusals.proofs.Accepts.{input-accepts, update-accepts}
-use Rattle.refusals.proofs.OneByte.{symbols-are}
 use Rattle.blocks.specs.Blocks.{updated}
 use Rattle.blocks.proofs.Updates.{updated-encodes, updated-others, updated-count}
 use Rattle.balanced.specs.Updates.{Afterwards, Updated, laneFor, UpdateDemands}
@@ -64,16 +65,17 @@ module _ (h : Header) (s : Sound h) (shares : List ℕ) (l r t old new : ℕ) wh
   pub accepted : updateFault shareLayout h l r t old new shares ≡ 0 → Updated h (symbolsOf (width h) shares) (updated shareLayout h l r t old new (symbolsOf (width h) shares)) l r t old new
   accepted none =
       let (lane, old-symbol, new-symbol, fresh) = update-accepts h s l r t old new shares none in
-      let ws = laneOf shareLayout (h .n) l t shares in
-      let (message, at) = word-message h s ws (length-lane shareLayout (h .n) l t shares) (lane .symbols) (fresh .word) in
-      rw (symbols-are h shares)
+      let b = symbolsOf (width h) shares in
+      let ws = laneOf shareLayout (h .n) l t b in
+      let (message, at) = word-message h s ws (length-lane shareLayout (h .n) l t b) (lane .symbols) (fresh .word) in
+      let long : length b ≡ h .n * l = count-symbols (width h) (h .n * l) shares (width-some h) (lane .bytes) in
       record {
         message = messageOf h ws;
         is-message = message;
         encoded = sym at;
         only = λ ms m e. encoding-injective h s ms (messageOf h ws) m message (sym e ∙ sym at);
         held-old = fresh .holds;
-        after = rw (← fresh .holds) (afterwards h s (messageOf h ws) shares l r t new message (lane .row) (lane .lane) new-symbol (lane .long) (sym at));
+        after = rw (← fresh .holds) (afterwards h s (messageOf h ws) b l r t new message (lane .row) (lane .lane) new-symbol long (sym at));
       }
 
   -- where what is given meets no number, the lane decides
@@ -89,7 +91,7 @@ module _ (h : Header) (s : Sound h) (shares : List ℕ) (l r t old new : ℕ) wh
     long = length-lane shareLayout (h .n) l t (symbolsOf (width h) shares)
 
     below : allBelow (size h) ws ≡ true
-    below = rw (symbols-are h shares) (input-accepts h s l r t old new shares given .0 .symbols)
+    below = input-accepts h s l r t old new shares given .0 .symbols
 
     word : (isWord h ws ≡ true) ↔ Codeword h ws
     word = words-poly h s ws long below

@@ -14,10 +14,10 @@ use Rattle.generator.specs.Claims.{Promised}
 use Rattle.plan.specs.declared.Plan.{Plan}
 use Rattle.plan.specs.Plans.{planFor}
 use Rattle.blocks.specs.Bytes.{wrongLane}
-use Rattle.refusals.specs.Faults.{encodeFault, updateFault, recoverFault, rebuildFault, belongsFault, faultOf}
+use Rattle.refusals.specs.Faults.{encodeFault, updateFault, recoverFault, rebuildFault, belongsFault, rearrangeFault, faultOf}
 use Rattle.blocks.specs.Answers.{outcomeOf, updateOf}
 use Rattle.blocks.specs.Promises.{EncodeSays, UpdateSays, RecoverSays, RebuildSays}
-use Rattle.rearrange.specs.Calls.{rearrangeFault, RearrangeSays}
+use Rattle.rearrange.specs.Calls.{RearrangeSays}
 use Rattle.weight_counts.specs.Weights.{weightsFault, WeightsSay}
 
 -- number 8 of `balanced_plan`, from the lengths of its buffers

@@ -1,9 +1,7 @@
 // The interface for C: each call of the store under a plain name. A call returns 0 or the number that turned it away, and hands its other values over through what it is lent.
 ghost use mathlib.Core.Path.{_≡_};
 ghost use lib.ListN.{length};
-ghost use mathlib.Core.Bool.{true};
 ghost use Rattle.lists.specs.Choice.{firstOf};
-ghost use Rattle.lists.specs.Numbers.{allBelow};
 ghost use Rattle.blocks.specs.Answers.{outcomeNumber};
 ghost use Rattle.balanced_c.specs.Calls.{lengthFault, numbersOf, PlanGives, EncodeGives, UpdateGives, RecoverGives, RebuildGives, BelongsGives, ToLanesGives, ToNodesGives, WeightsGive};
 
@@ -63,14 +61,14 @@ fn copy(from: &[u8], to: &mut [u8])
     }
 }
 
-// Copies symbols to a slice of bytes of the same length.
-fn copy_bytes(from: &[u16], to: &mut [u8])
-    requires { ⌜ (length (now from) ≡ length (now to)) × (allBelow 256 (now from) ≡ true) ⌝ }
+// Copies symbols to a slice of the same length.
+fn copy_symbols(from: &[u16], to: &mut [u16])
+    requires { ⌜ length (now from) ≡ length (now to) ⌝ }
     ensures { λ r. ⌜ now (to .exit) ≡ now (from .entry) ⌝ }
 {
     let mut i = 0;
     while i < from.len() {
-        to[i] = from[i] as u8;
+        to[i] = from[i];
         i += 1;
     }
 }
@@ -91,7 +89,7 @@ pub extern "C" fn balanced_plan(
     numbers: &mut [u8],
     shifts: &mut [u8],
     firsts: &mut [u8],
-    base: &mut [u8],
+    base: &mut [u16],
 ) -> u8
     ensures { λ r. ⌜ PlanGives (now (rec .entry)) (now (numbers .entry)) (now (shifts .entry)) (now (firsts .entry)) (now (base .entry)) (now (numbers .exit)) (now (shifts .exit)) (now (firsts .exit)) (now (base .exit)) r ⌝ }
 {
@@ -108,7 +106,7 @@ pub extern "C" fn balanced_plan(
     }
     put_numbers(plan, numbers);
     put_rows(plan, shifts, firsts);
-    copy_bytes(&plan.base, base);
+    copy_symbols(&plan.base, base);
     0
 }
 
@@ -127,8 +125,8 @@ pub extern "C" fn balanced_update(
     lanes: u32,
     symbol: u32,
     lane: u32,
-    old: u8,
-    new: u8,
+    old: u32,
+    new: u32,
     shares: &mut [u8],
     altered: &mut u32,
 ) -> u8

@@ -16,7 +16,7 @@ use Rattle.field.specs.Bytes.{timesX, productFrom, product}
 use Rattle.field.specs.Fields.{sizeOf, add, sub, mul, power, orderFrom, orderOf}
 use Rattle.field.specs.Kinds.{modulus}
 use Rattle.generator.specs.declared.Record.the-variants.{Holds, Meets}
-use Rattle.generator.specs.Records.{headerOf, distance, lowReads, highReads, kindBad, bodyBad, fieldBad, sizeBad, rootBad, headerFault, recordFault, judged, recordOf}
+use Rattle.generator.specs.Records.{headerOf, distance, lowReads, highReads, kindBad, bodyBad, primeIn, fieldBad, sizeBad, rootBad, headerFault, recordFault, judged, recordOf}
 use Rattle.generator.specs.Shifts.{gcdFrom, gcd, shiftsFrom, evenShifts, negative, period, laidAt, laidShifts, isEven, shiftsOf, shifts, firstsOf, firsts}
 use Rattle.generator.specs.Generator.{baseFrom, baseAt, entryAt, entry, baseWord}
 use Rattle.generator.specs.Claims.{reads}
@@ -88,5 +88,5 @@ one-lane P p (suc t) inside = absurd (omega arith)
 
 -- every case of the table holds
 pub notebook-holds : All Says notebook
-unfolding Says notebook recordOf judged recordFault headerFault kindBad bodyBad fieldBad sizeBad rootBad headerOf distance lowReads highReads firstsOf shiftsOf isEven evenShifts shiftsFrom laidShifts laidAt period negative gcd gcdFrom reads baseWord entry entryAt baseAt baseFrom nodeFrom nodeOf byRow byLane held laneOf buffer withLane shareLayout shareAt shareOf sharesOf addedAt rowAdded updated lanesBad differ countFrom from allBelow modulus sizeOf add sub mul power orderOf orderFrom product productFrom timesX isPrime dividesSome
+unfolding Says notebook recordOf judged recordFault headerFault kindBad bodyBad fieldBad primeIn sizeBad rootBad headerOf distance lowReads highReads firstsOf shiftsOf isEven evenShifts shiftsFrom laidShifts laidAt period negative gcd gcdFrom reads baseWord entry entryAt baseAt baseFrom nodeFrom nodeOf byRow byLane held laneOf buffer withLane shareLayout shareAt shareOf sharesOf addedAt rowAdded updated lanesBad differ countFrom from allBelow modulus sizeOf add sub mul power orderOf orderFrom product productFrom timesX isPrime dividesSome
 notebook-holds = ((refl, refl, refl, refl, refl, refl, refl, refl, refl), ((refl, refl, refl, refl, refl, refl, refl, refl, refl), (refl, ((refl, refl), ((refl, refl), ((record { size-is = refl; symbols = refl; lanes = one-lane _ refl }, refl), (refl, ((refl, refl, refl, refl, refl, refl, refl, refl, refl), ((refl, refl, refl, refl, refl, refl, refl, refl, refl), ((refl, refl, refl, refl, refl, refl, refl, refl, refl), ((refl, refl), ((refl, refl, refl, refl, refl, refl, refl, refl, refl), ((refl, refl), (refl, (refl, (refl, (refl, (refl, tt))))))))))))))))))

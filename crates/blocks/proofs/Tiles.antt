@@ -12,6 +12,9 @@ use Rattle.lists.specs.Search.{firstFalse}
 use Rattle.lists.proofs.Rows.{from-ext, from-move}
 use Rattle.lists.proofs.Search.{search-ext}
 use Rattle.layout.specs.Layout.{Arrangement, byRow, byLane, held, laneOf, buffer, rearranged, someLanes}
+use Rattle.layout.specs.Width.{symbolsOf}
+use Rattle.layout.specs.Tiles.{tileSymbols}
+use Rattle.layout.proofs.TileLanes.{tile-read, tile-lanes}
 use Rattle.layout.proofs.Lawful.{Lawful, by-row, by-lane}
 use Rattle.layout.proofs.Buffers.{length-buffer, held-buffer, buffer-ext}
 use Rattle.layout.proofs.Runs.{lane-some, length-some, some-below}
@@ -19,7 +22,8 @@ use Rattle.generator.specs.declared.Header.{Header}
 use Rattle.generator.specs.Records.{size}
 use Rattle.generator.specs.Codewords.{nodeOf, isWord}
 use Rattle.generator.specs.Claims.{atNodes}
-use Rattle.refusals.specs.Accepted.{SymbolRows}
+use Rattle.generator.proofs.Widths.{width-some}
+use Rattle.refusals.specs.Accepted.{SymbolRows, SymbolBytes, SymbolTile}
 use Rattle.blocks.specs.Blocks.{shareAt, shareOf, sharesOf, firstWrong, MessageFor}
 
 -- shares rearranged are the shares in the other arrangement
@@ -79,3 +83,22 @@ module _ (h : Header) (l t c : ℕ) where
   pub wrong-tile : {y z : Arrangement} → Lawful y → Lawful z → (s : List ℕ) → firstWrong z h c (someLanes y z (h .n) l t c s) ≡ firstFalse c 0 (λ q. isWord h (laneOf y (h .n) l (t + q) s))
   unfolding firstWrong
   wrong-tile a b s = search-ext c 0 _ _ (λ q low high. ap (isWord h) (lane-some a b (h .n) l t c s q (omega arith)))
+
+-- lanes that stand side by side, gathered into a tile
+module _ (h : Header) (w rows l t c : ℕ) (s : List ℕ) (is : SymbolBytes h w rows l s) (low : allBelow 256 s ≡ true) (fits : t + c ≤ l) where
+  some-width : 0 < w
+  some-width = rw (is .wide) (width-some h)
+
+  -- their symbols
+  pub lanes-symbols : tileSymbols w rows c (someLanes byLane byRow (w * rows) l t c s) ≡ someLanes byLane byRow rows l t c (symbolsOf w s)
+  lanes-symbols =
+      ap (tileSymbols w rows c) (tile-lanes w rows l s some-width (is .bytes) low t c fits)
+      ∙ tile-read w rows c some-width (someLanes byLane byRow rows l t c (symbolsOf w s)) (length-some by-lane by-row rows l t c (symbolsOf w s))
+
+  pub lanes-tile : 0 < c → SymbolTile h w rows c (someLanes byLane byRow (w * rows) l t c s)
+  lanes-tile some =
+      record {
+        wide = is .wide;
+        bytes = length-some by-lane by-row (w * rows) l t c s;
+        symbol-rows = rw lanes-symbols (rows-tile h l t c by-lane by-row fits some (is .symbol-rows));
+      }

@@ -27,7 +27,15 @@ fn planned(rec: &[u8]) {
         refused(number, empty(plan));
         return;
     }
-    accepted(plan);
+    accepted(plan, width(rec));
+}
+
+// The bytes of a symbol: two for a record of kind 3.
+fn width(rec: &[u8]) -> usize {
+    if 0 < rec.len() && rec[0] == 3 {
+        return 2;
+    }
+    1
 }
 
 fn refused(number: u8, all_zero: bool) {
@@ -40,30 +48,66 @@ fn empty(plan: Plan) -> bool {
     let numbers = [plan.n, plan.k, plan.d, plan.low, plan.high];
     let shifts = plan.shifts;
     let firsts = plan.firsts;
-    let base = as_bytes(&plan.base);
+    let base = as_bytes(2, &plan.base);
     untouched(0, &numbers) && untouched(0, &shifts) && untouched(0, &firsts) && untouched(0, &base)
 }
 
-// The numbers, the shifts, the first nodes and the base word.
-fn accepted(plan: Plan) {
+// The numbers, the shifts, the first nodes and the base word, each of its symbols as w bytes.
+fn accepted(plan: Plan, w: usize) {
     print_numbers(plan);
     front(b" shifts", &plan.shifts, plan.k as usize);
     front(b" firsts", &plan.firsts, plan.k as usize);
-    let base = as_bytes(&plan.base);
-    front(b" base", &base, plan.n as usize);
+    let base = as_bytes(w, &plan.base);
+    front(b" base", &base, length_in(w, plan.n));
 }
 
-// The symbols as bytes, which they are for every kind; any other would stand as 255.
-fn as_bytes(symbols: &[u16; 255]) -> [u8; 255] {
-    let mut out = [0u8; 255];
+// The bytes of so many symbols.
+fn length_in(w: usize, count: u8) -> usize {
+    let symbols = count as usize;
+    if w == 2 {
+        return symbols + symbols;
+    }
+    symbols
+}
+
+// The symbols as w bytes each.
+fn as_bytes(w: usize, symbols: &[u16; 255]) -> [u8; 510] {
+    let mut out = [0u8; 510];
     let mut i: usize = 0;
-    while i < 255 {
-        out[i] = as_byte(symbols[i]);
+    while i < 510 {
+        out[i] = byte_at(w, symbols, i);
         i += 1;
     }
     out
 }
 
+// Byte i of the symbols' bytes, and 0 after them.
+fn byte_at(w: usize, symbols: &[u16; 255], i: usize) -> u8 {
+    if w == 2 {
+        return half_at(symbols, i);
+    }
+    if i < 255 {
+        return as_byte(symbols[i]);
+    }
+    0
+}
+
+fn half_at(symbols: &[u16; 255], i: usize) -> u8 {
+    if i < 510 {
+        return digit(symbols[i / 2], i % 2 == 0);
+    }
+    0
+}
+
+// The high or the low byte of a symbol of two.
+fn digit(x: u16, high: bool) -> u8 {
+    if high {
+        return (x / 256) as u8;
+    }
+    (x % 256) as u8
+}
+
+// A symbol of one byte; any other would stand as 255.
 fn as_byte(x: u16) -> u8 {
     if x < 256 { x as u8 } else { 255 }
 }

@@ -7,7 +7,6 @@ use test_tools::part;
 use test_tools::refused;
 use test_tools::value;
 use test_words::Group;
-use test_words::byte;
 use test_words::bytes;
 use test_words::end_fault;
 use test_words::number;
@@ -17,8 +16,8 @@ struct Change {
     lanes: u32,
     symbol: u32,
     lane: u32,
-    old: u8,
-    new: u8,
+    old: u32,
+    new: u32,
 }
 
 pub fn update(line: &[u8]) {
@@ -26,8 +25,8 @@ pub fn update(line: &[u8]) {
     let lanes = number(line, rec, b" lanes");
     let symbol = number(line, lanes, b" symbol");
     let lane = number(line, symbol, b" lane");
-    let old = byte(line, lane, b" old");
-    let new = byte(line, old, b" new");
+    let old = number(line, lane, b" old");
+    let new = number(line, old, b" new");
     let shares = bytes(line, new, b" shares");
     let fault = end_fault(line, shares);
     if fault != 0 {
@@ -38,8 +37,8 @@ pub fn update(line: &[u8]) {
         lanes: lanes.value,
         symbol: symbol.value,
         lane: lane.value,
-        old: old.bytes[0],
-        new: new.bytes[0],
+        old: old.value,
+        new: new.value,
     };
     update_groups(rec, change, shares);
 }

@@ -21,6 +21,7 @@ use Rattle.generator.specs.Codewords.{checkFrom, checksFrom, isWord}
 use Rattle.kernel.specs.Lanes.{lanewise}
 use Rattle.tiles.proofs.Parts.{from-part}
 use Rattle.check_sums.specs.Marks.{wordMarks}
+use Rattle.check_sums.specs.Zeros.{ZeroWhere}
 
 -- a part of zeros
 pub zeros-part : (l t c : ℕ) → t + c ≤ l → take (t + c - t) (drop t (zeros l)) ≡ zeros c
@@ -30,14 +31,15 @@ zeros-part l t c fits =
     ∙ sym (from-part none l t c fits)
     ∙ from-zeros none t c (λ x a b. refl)
 
--- sums that are those of a function of the lane
-pub sums-marked : (f : ℕ → ℕ) (l : ℕ) (sums marks : List ℕ) → sums ≡ from f 0 l → length marks ≡ l → lanewise (λ t y. pick (eqb (getD sums t 0) 0) y 1) marks ≡ lanewise (λ t y. pick (eqb (f t) 0) y 1) marks
+-- bytes that tell which values of a function of the lane are 0
+pub sums-marked : (f : ℕ → ℕ) (l : ℕ) (bytes marks : List ℕ) → ZeroWhere l bytes (from f 0 l) → length marks ≡ l → lanewise (λ t y. pick (eqb (getD bytes t 0) 0) y 1) marks ≡ lanewise (λ t y. pick (eqb (f t) 0) y 1) marks
 unfolding lanewise
-sums-marked f l sums marks is long =
+sums-marked f l bytes marks is long =
     from-ext _ _ 0 (length marks)
     (λ t low high.
-    let sum : getD sums t 0 ≡ f t = ap (λ (x : List ℕ). getD x t 0) is ∙ rw zero-add at (getD-from f 0 l t 0 (omega arith)) in
-    rw sum)
+    let value : getD (from f 0 l) t 0 ≡ f t = rw zero-add at (getD-from f 0 l t 0 (omega arith)) in
+    let same : eqb (getD bytes t 0) 0 ≡ eqb (f t) 0 = is .zero t (omega arith) ∙ rw value in
+    rw same)
 
 -- the mark of a test
 abbrev mark : Bool → ℕ

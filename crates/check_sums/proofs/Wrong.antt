@@ -7,21 +7,21 @@ use native.Mathlib.Nat.{zero-add, min-comm}
 use native.Mathlib.Numerals.{add-one}
 use native.Mathlib.Omega.{arith}
 use lib.Dec.{eqb}
-use lib.ListN.{length, getD}
+use lib.ListN.{getD}
 use Rattle.lists.specs.Rows.{from}
 use Rattle.lists.specs.Search.{firstFalse}
-use Rattle.lists.proofs.Rows.{length-from, getD-from}
+use Rattle.lists.proofs.Rows.{getD-from}
 use Rattle.lists.proofs.Search.{search-ext, search-none, search-both}
 use Rattle.layout.specs.Layout.{Arrangement, laneOf}
 use Rattle.generator.specs.declared.Header.{Header}
 use Rattle.generator.specs.Codewords.{checkFrom, checksFrom}
+use Rattle.check_sums.specs.Zeros.{ZeroWhere}
 
--- the first value that is not 0, of values by a function of the index
-search-from : (f : ℕ → ℕ) (l : ℕ) (s : List ℕ) → s ≡ from f 0 l → firstFalse (length s) 0 (λ t. eqb (getD s t 0) 0) ≡ firstFalse l 0 (λ t. eqb (f t) 0)
-search-from f l s q =
-    ap (λ (x : ℕ). firstFalse x 0 (λ t. eqb (getD s t 0) 0)) (ap length q ∙ length-from f 0 l)
-    ∙ search-ext l 0 (λ t. eqb (getD s t 0) 0) (λ t. eqb (f t) 0)
-    (λ t low high. let value : getD (from f 0 l) t 0 ≡ f t = rw zero-add at (getD-from f 0 l t 0 (omega arith)) in rw (q, value))
+-- the first value that is not 0, by bytes that tell which are
+search-from : (f : ℕ → ℕ) (l : ℕ) (bytes : List ℕ) → ZeroWhere l bytes (from f 0 l) → firstFalse l 0 (λ t. eqb (getD bytes t 0) 0) ≡ firstFalse l 0 (λ t. eqb (f t) 0)
+search-from f l bytes q =
+    search-ext l 0 (λ t. eqb (getD bytes t 0) 0) (λ t. eqb (f t) 0)
+    (λ t low high. let value : getD (from f 0 l) t 0 ≡ f t = rw zero-add at (getD-from f 0 l t 0 (omega arith)) in q .zero t (omega arith) ∙ rw value)
 
 -- one check sum more
 checks-next : (e : ℕ) (h : Header) (ws : List ℕ) → (eqb (checkFrom h (e + 1) 0 ws) 0 && checksFrom e h ws) ≡ checksFrom (e + 1) h ws
@@ -41,9 +41,9 @@ module _ (y : Arrangement) (h : Header) (l : ℕ) (s : List ℕ) where
   unfolding checksFrom
   failing-none = search-none l 0 (λ t. true) (λ i a b. refl) ∙ zero-add l
 
-  pub failing-more : (e : ℕ) (sums : List ℕ) → sums ≡ from (checkIn (e + 1)) 0 l → min (failing e) (firstFalse (length sums) 0 (λ t. eqb (getD sums t 0) 0)) ≡ failing (e + 1)
-  failing-more e sums q =
-      min-comm (failing e) (firstFalse (length sums) 0 (λ t. eqb (getD sums t 0) 0))
-      ∙ ap (λ (x : ℕ). min x (failing e)) (search-from (checkIn (e + 1)) l sums q)
+  pub failing-more : (e : ℕ) (bytes : List ℕ) → ZeroWhere l bytes (from (checkIn (e + 1)) 0 l) → min (failing e) (firstFalse l 0 (λ t. eqb (getD bytes t 0) 0)) ≡ failing (e + 1)
+  failing-more e bytes q =
+      min-comm (failing e) (firstFalse l 0 (λ t. eqb (getD bytes t 0) 0))
+      ∙ ap (λ (x : ℕ). min x (failing e)) (search-from (checkIn (e + 1)) l bytes q)
       ∙ sym (search-both l 0 (λ t. eqb (checkIn (e + 1) t) 0) (λ t. checksFrom e h (laneOf y (h .n) l t s)))
       ∙ search-ext l 0 _ (λ t. checksFrom (e + 1) h (laneOf y (h .n) l t s)) (λ t low high. checks-next e h (laneOf y (h .n) l t s))

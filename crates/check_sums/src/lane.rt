@@ -2,14 +2,16 @@
 // lane's symbols are the weights.
 ghost use mathlib.Core.Path.{_≡_};
 ghost use mathlib.Core.Bool.{true};
-ghost use Prim.Native.Nat.{_+_, _-_, _*_, _%_, _≤_, _<_};
+ghost use Prim.Native.Nat.{_+_, _-_, _*_, _/_, _%_, _≤_, _<_};
 ghost use lib.ListN.{length};
+ghost use Rattle.lists.specs.Choice.{pick};
 ghost use Rattle.lists.specs.Numbers.{allBelow};
 ghost use Rattle.lists.specs.Padded.{padded};
-ghost use Rattle.generator.specs.Records.{size, Sound};
+ghost use Rattle.layout.specs.Width.{bytesOf};
+ghost use Rattle.generator.specs.Records.{size, width, Sound};
 ghost use Rattle.generator.specs.Codewords.{isWord};
 ghost use Rattle.check_sums.specs.Powers.{powersOf};
-ghost use Rattle.check_sums.specs.Sums.{checkSums, powerRow, powerRows};
+ghost use Rattle.check_sums.specs.Sums.{checkSums, powerBytes, powerRows};
 use crate::powers;
 use generator::Header;
 
@@ -22,16 +24,28 @@ pub fn stepped(i: usize, step: usize, n: usize) -> usize
     if next < n { next } else { next - n }
 }
 
-// Node j's row: its factors in check sums 1, 2, ..
-fn fill_row(h: Header, powers: &[u16], j: usize, row: &mut [u8])
-    requires { ⌜ Sound h × (now powers ≡ padded 255 (powersOf h)) × (j < h .n) ⌝ }
-    ensures { λ r. ⌜ now (row .exit) ≡ powerRow h (length (now (row .entry))) j ⌝ }
+// The last byte of a symbol, or what is left before it.
+fn byte_of(x: u16, last: bool) -> u8
+    ensures { λ r. ⌜ r ≡ pick last (x % 256) (x / 256) ⌝ }
+{
+    if last {
+        (x % 256) as u8
+    } else {
+        (x / 256) as u8
+    }
+}
+
+// Byte v of the w bytes of node j's factors in check sums 1, 2, ..
+fn fill_row(h: Header, w: usize, v: usize, powers: &[u16], j: usize, row: &mut [u8])
+    requires { ⌜ Sound h × (w ≡ width h) × (v < w) × (now powers ≡ padded 255 (powersOf h)) × (j < h .n) ⌝ }
+    ensures { λ r. ⌜ now (row .exit) ≡ powerBytes h (length (now (row .entry))) w v j ⌝ }
 {
     let n = h.n as usize;
+    let last = v + 1 == w;
     let mut i = j;
     let mut e = 0;
     while e < row.len() {
-        row[e] = powers[i] as u8;
+        row[e] = byte_of(powers[i], last);
         i = stepped(i, j, n);
         e += 1;
     }
@@ -39,44 +53,31 @@ fn fill_row(h: Header, powers: &[u16], j: usize, row: &mut [u8])
 
 // The rows of all nodes.
 pub fn fill_power_rows(h: Header, rows: &mut [u8])
-    requires { ⌜ Sound h × (length (now rows) ≡ h .n * (h .n - h .k)) ⌝ }
+    requires { ⌜ Sound h × (length (now rows) ≡ width h * h .n * (h .n - h .k)) ⌝ }
     ensures { λ r. ⌜ now (rows .exit) ≡ powerRows h ⌝ }
 {
-    let n = h.n as usize;
+    let w = symbols::width_of(h);
+    let count = w * h.n as usize;
     let checks = (h.n - h.k) as usize;
     let table = powers::powers(h);
-    let mut j: usize = 0;
-    while j < n {
-        let start = j * checks;
+    let mut i: usize = 0;
+    while i < count {
+        let start = i * checks;
         let end = start + checks;
-        fill_row(h, &table, j, &mut rows[start..end]);
-        j += 1;
+        fill_row(h, w, i % w, &table, i / w, &mut rows[start..end]);
+        i += 1;
     }
 }
 
 // The check sums of a lane, from the rows of powers.
 fn fill_sums(h: Header, rows: &[u8], lane: &[u16], sums: &mut [u8])
-    requires { ⌜ Sound h × (now rows ≡ powerRows h) × (length (now lane) ≡ h .n) × (allBelow (size h) (now lane) ≡ true) × (length (now sums) ≡ h .n - h .k) ⌝ }
-    ensures { λ r. ⌜ now (sums .exit) ≡ checkSums h (now (lane .entry)) ⌝ }
+    requires { ⌜ Sound h × (now rows ≡ powerRows h) × (length (now lane) ≡ h .n) × (allBelow (size h) (now lane) ≡ true) × (length (now sums) ≡ width h * (h .n - h .k)) ⌝ }
+    ensures { λ r. ⌜ now (sums .exit) ≡ bytesOf (width h) (checkSums h (now (lane .entry))) ⌝ }
 {
     let field = h.field;
     let n = h.n as usize;
     let checks = (h.n - h.k) as usize;
-    combine::combine(field, lane, n, checks, rows, sums);
-}
-
-// Symbols of one byte as numbers, and zeros after them.
-fn widened(s: &[u8]) -> [u16; 255]
-    requires { ⌜ length (now s) ≤ 255 ⌝ }
-    ensures { λ r. ⌜ r ≡ padded 255 (now (s .entry)) ⌝ }
-{
-    let mut out = [0u16; 255];
-    let mut i = 0;
-    while i < s.len() {
-        out[i] = s[i] as u16;
-        i += 1;
-    }
-    out
+    combine::combine_symbols(field, lane, n, checks, rows, sums);
 }
 
 // The check sums of a lane, from the rows of powers, and zeros after them.
@@ -84,17 +85,18 @@ pub fn sums_with(h: Header, rows: &[u8], lane: &[u16]) -> [u16; 255]
     requires { ⌜ Sound h × (now rows ≡ powerRows h) × (length (now lane) ≡ h .n) × (allBelow (size h) (now lane) ≡ true) ⌝ }
     ensures { λ r. ⌜ r ≡ padded 255 (checkSums h (now (lane .entry))) ⌝ }
 {
-    let checks = (h.n - h.k) as usize;
-    let mut sums = [0u8; 255];
-    fill_sums(h, rows, lane, &mut sums[..checks]);
-    widened(&sums[..checks])
+    let w = symbols::width_of(h);
+    let size = w * (h.n - h.k) as usize;
+    let mut sums = [0u8; 510];
+    fill_sums(h, rows, lane, &mut sums[..size]);
+    symbols::read_symbols(w, &sums[..size])
 }
 
 // Room for the rows of powers.
-fn room() -> [u8; 65025]
-    ensures { λ r. ⌜ length r ≡ 65025 ⌝ }
+pub fn room() -> [u8; 130050]
+    ensures { λ r. ⌜ length r ≡ 130050 ⌝ }
 {
-    [0u8; 65025]
+    [0u8; 130050]
 }
 
 // The check sums of a lane, and zeros after them.
@@ -102,7 +104,8 @@ pub fn sums(h: Header, lane: &[u16]) -> [u16; 255]
     requires { ⌜ Sound h × (length (now lane) ≡ h .n) × (allBelow (size h) (now lane) ≡ true) ⌝ }
     ensures { λ r. ⌜ r ≡ padded 255 (checkSums h (now (lane .entry))) ⌝ }
 {
-    let size = h.n as usize * (h.n - h.k) as usize;
+    let w = symbols::width_of(h);
+    let size = w * h.n as usize * (h.n - h.k) as usize;
     let mut rows = room();
     fill_power_rows(h, &mut rows[..size]);
     sums_with(h, &rows[..size], lane)

@@ -3,3 +3,4 @@ pub mod block;
 pub mod lane;
 pub mod marks;
 pub mod powers;
+mod tile_sums;

@@ -6,13 +6,16 @@ ghost use lib.ListN.{length, getD};
 ghost use Rattle.lists.specs.Choice.{pick};
 ghost use Rattle.lists.specs.Padded.{zeros, padded};
 ghost use Rattle.layout.specs.Layout.{byRow, byLane, laneOf, someLanes, shareLayout};
+ghost use Rattle.layout.specs.Width.{symbolsOf};
+ghost use Rattle.layout.specs.Tiles.{tileSymbols};
+ghost use Rattle.generator.specs.Records.{width};
 ghost use Rattle.generator.specs.Codewords.{checkFrom};
 ghost use Rattle.kernel.specs.Lanes.{lanewise};
-ghost use Rattle.refusals.specs.Accepted.{SymbolRows};
+ghost use Rattle.refusals.specs.Accepted.{SymbolBuffer, SymbolBytes, SymbolTile};
 ghost use Rattle.check_sums.specs.Powers.{powersOf};
 ghost use Rattle.check_sums.specs.Marks.{wordMarks};
-use crate::block::lane_sums;
 use crate::powers;
+use crate::tile_sums::zero_sums;
 use generator::Header;
 
 // The mark of a lane after one check sum more: 1 where one was not 0.
@@ -23,7 +26,7 @@ fn marked(sum: u8, mark: u8) -> u8
 }
 
 fn add_marks(sums: &[u8], marks: &mut [u8])
-    requires { ⌜ length (now sums) ≡ length (now marks) ⌝ }
+    requires { ⌜ length (now marks) ≤ length (now sums) ⌝ }
     ensures { λ r. ⌜ now (marks .exit) ≡ lanewise (λ t y. pick (eqb (getD (now (sums .entry)) t 0) 0) y 1) (now (marks .entry)) ⌝ }
 {
     let mut t = 0;
@@ -36,6 +39,7 @@ fn add_marks(sums: &[u8], marks: &mut [u8])
 // One check sum more of each lane of a tile.
 fn add_sum(
     h: Header,
+    w: usize,
     powers: &[u16],
     e: usize,
     lanes: usize,
@@ -43,29 +47,30 @@ fn add_sum(
     sums: &mut [u8],
     marks: &mut [u8],
 )
-    requires { ⌜ SymbolRows h (h .n) lanes (now rows) × (now powers ≡ padded 255 (powersOf h)) × (e ≤ 255) × (length (now sums) ≡ lanes) × (length (now marks) ≡ lanes) ⌝ }
-    ensures { λ r. ⌜ now (marks .exit) ≡ lanewise (λ t y. pick (eqb (checkFrom h e 0 (laneOf byRow (h .n) lanes t (now (rows .entry)))) 0) y 1) (now (marks .entry)) ⌝ }
+    requires { ⌜ SymbolTile h w (h .n) lanes (now rows) × (now powers ≡ padded 255 (powersOf h)) × (e ≤ 255) × (length (now sums) ≡ w * lanes) × (length (now marks) ≡ lanes) ⌝ }
+    ensures { λ r. ⌜ now (marks .exit) ≡ lanewise (λ t y. pick (eqb (checkFrom h e 0 (laneOf byRow (h .n) lanes t (tileSymbols w (h .n) lanes (now (rows .entry))))) 0) y 1) (now (marks .entry)) ⌝ }
 {
-    lane_sums(h, powers, e, lanes, rows, sums);
+    zero_sums(h, w, powers, e, lanes, rows, sums);
     add_marks(sums, marks);
 }
 
 // Marks the lanes of a tile: 0 for a word of the code, 1 for any other lane.
 fn mark_rows(
     h: Header,
+    w: usize,
     powers: &[u16],
     lanes: usize,
     rows: &[u8],
     sums: &mut [u8],
     marks: &mut [u8],
 )
-    requires { ⌜ SymbolRows h (h .n) lanes (now rows) × (now powers ≡ padded 255 (powersOf h)) × (length (now sums) ≡ lanes) × (now marks ≡ zeros lanes) ⌝ }
-    ensures { λ r. ⌜ now (marks .exit) ≡ wordMarks byRow h lanes (now (rows .entry)) ⌝ }
+    requires { ⌜ SymbolTile h w (h .n) lanes (now rows) × (now powers ≡ padded 255 (powersOf h)) × (length (now sums) ≡ w * lanes) × (now marks ≡ zeros lanes) ⌝ }
+    ensures { λ r. ⌜ now (marks .exit) ≡ wordMarks byRow h lanes (tileSymbols w (h .n) lanes (now (rows .entry))) ⌝ }
 {
     let checks = (h.n - h.k) as usize;
     let mut e: usize = 0;
     while e < checks {
-        add_sum(h, powers, e + 1, lanes, rows, sums, marks);
+        add_sum(h, w, powers, e + 1, lanes, rows, sums, marks);
         e += 1;
     }
 }
@@ -73,6 +78,7 @@ fn mark_rows(
 // The same for `count` lanes of the shares, from lane `first` on.
 fn mark_tile(
     h: Header,
+    w: usize,
     powers: &[u16],
     lanes: usize,
     first: usize,
@@ -82,36 +88,38 @@ fn mark_tile(
     sums: &mut [u8],
     marks: &mut [u8],
 )
-    requires { ⌜ SymbolRows h (h .n) lanes (now shares) × (now powers ≡ padded 255 (powersOf h)) × (0 < count) × (first + count ≤ lanes) × (length (now tile) ≡ h .n * count) × (length (now sums) ≡ count) × (now marks ≡ zeros count) ⌝ }
-    ensures { λ r. ⌜ now (marks .exit) ≡ wordMarks byRow h count (someLanes byLane byRow (h .n) lanes first count (now (shares .entry))) ⌝ }
+    requires { ⌜ SymbolBytes h w (h .n) lanes (now shares) × (now powers ≡ padded 255 (powersOf h)) × (0 < count) × (first + count ≤ lanes) × (length (now tile) ≡ w * h .n * count) × (length (now sums) ≡ w * count) × (now marks ≡ zeros count) ⌝ }
+    ensures { λ r. ⌜ now (marks .exit) ≡ wordMarks byRow h count (someLanes byLane byRow (h .n) lanes first count (symbolsOf w (now (shares .entry)))) ⌝ }
 {
     let n = h.n as usize;
-    tiles::gather_lanes(n, lanes, first, count, shares, tile);
-    mark_rows(h, powers, count, tile, sums, marks);
+    tiles::gather_lanes(w * n, lanes, first, count, shares, tile);
+    mark_rows(h, w, powers, count, tile, sums, marks);
 }
 
 // All lanes, tile by tile.
-fn mark_tiles(h: Header, lanes: usize, shares: &[u8], tile: &mut [u8], marks: &mut [u8])
-    requires { ⌜ SymbolRows h (h .n) lanes (now shares) × (h .n ≤ length (now tile)) × (now marks ≡ zeros lanes) ⌝ }
-    ensures { λ r. ⌜ now (marks .exit) ≡ wordMarks byLane h lanes (now (shares .entry)) ⌝ }
+fn mark_tiles(h: Header, w: usize, lanes: usize, shares: &[u8], tile: &mut [u8], marks: &mut [u8])
+    requires { ⌜ SymbolBytes h w (h .n) lanes (now shares) × (w * h .n ≤ length (now tile)) × (now marks ≡ zeros lanes) ⌝ }
+    ensures { λ r. ⌜ now (marks .exit) ≡ wordMarks byLane h lanes (symbolsOf w (now (shares .entry))) ⌝ }
 {
-    let n = h.n as usize;
+    let rows = w * h.n as usize;
     let table = powers::powers(h);
-    let mut sums = [0u8; 4096];
+    let mut sums = [0u8; 8192];
     let mut first: usize = 0;
     while first < lanes {
-        let count = tiles::tile_lanes(n, tile.len(), lanes - first);
-        let size = n * count;
+        let count = tiles::tile_lanes(rows, tile.len(), lanes - first);
+        let size = rows * count;
+        let sums_size = w * count;
         let last = first + count;
         mark_tile(
             h,
+            w,
             &table,
             lanes,
             first,
             count,
             shares,
             &mut tile[..size],
-            &mut sums[..count],
+            &mut sums[..sums_size],
             &mut marks[first..last],
         );
         first = last;
@@ -120,14 +128,15 @@ fn mark_tiles(h: Header, lanes: usize, shares: &[u8], tile: &mut [u8], marks: &m
 
 // Marks all lanes, which have the mark 0 before, in scratch of this call, little where the block is small.
 pub fn mark_lanes(h: Header, lanes: usize, shares: &[u8], marks: &mut [u8])
-    requires { ⌜ SymbolRows h (h .n) lanes (now shares) × (now marks ≡ zeros lanes) ⌝ }
-    ensures { λ r. ⌜ now (marks .exit) ≡ wordMarks shareLayout h lanes (now (shares .entry)) ⌝ }
+    requires { ⌜ SymbolBuffer h (h .n) lanes (now shares) × (now marks ≡ zeros lanes) ⌝ }
+    ensures { λ r. ⌜ now (marks .exit) ≡ wordMarks shareLayout h lanes (symbolsOf (width h) (now (shares .entry))) ⌝ }
 {
+    let w = symbols::width_of(h);
     if shares.len() <= 4096 {
         let mut tile = tiles::small_scratch();
-        mark_tiles(h, lanes, shares, &mut tile, marks);
+        mark_tiles(h, w, lanes, shares, &mut tile, marks);
         return;
     }
     let mut tile = tiles::scratch();
-    mark_tiles(h, lanes, shares, &mut tile, marks);
+    mark_tiles(h, w, lanes, shares, &mut tile, marks);
 }

@@ -1,5 +1,5 @@
 -- What `combine` requires, over a sound header's field. Weights by the number of the row, padded with zeros: the sums with them are what a recursion over the rows gives.
-use mathlib.Core.Path.{_≡_, sym, ap, _∙_}
+use mathlib.Core.Path.{_≡_, refl, sym, ap, _∙_}
 use mathlib.Core.Bool.{true}
 use mathlib.Core.List.{List, [], _∷_, _++_}
 use Prim.Native.Nat.{ℕ, zero, suc, _+_, _-_, _*_, _≤_, _<_}
@@ -11,31 +11,49 @@ use Rattle.lists.specs.Rows.{from}
 use Rattle.lists.proofs.Numbers.{at-below}
 use Rattle.lists.proofs.Padding.{length-padded, below-padded}
 use Rattle.lists.proofs.Rows.{length-from, getD-from, from-ext}
-use Rattle.layout.specs.Layout.{Arrangement, laneOf}
+use Rattle.layout.specs.Layout.{Arrangement, byRow, laneOf}
+use Rattle.layout.specs.Width.{bytesOf}
+use Rattle.layout.specs.Tiles.{tileSymbols, tileBytes}
 use Rattle.layout.proofs.Buffers.{length-lane}
+use Rattle.layout.proofs.Tiles.{length-tile-symbols}
 use Rattle.field.specs.Fields.{add, mul}
 use Rattle.field.specs.Sums.{dot}
 use Rattle.field.proofs.FieldOf.{size-pos}
 use Rattle.generator.specs.declared.Header.{Header}
-use Rattle.generator.specs.Records.{modulusOf, size, Sound}
-use Rattle.combine.specs.Combined.{combined, WeightedRows}
+use Rattle.generator.specs.Records.{modulusOf, size, width, Sound}
+use Rattle.combine.specs.Combined.{combined, combinedTile, combinedBytes, WeightedRows}
 
--- symbols of a sound header's field in a buffer and in an array of weights can be combined
-pub rows-ready : {h : Header} {rows l : ℕ} {ws s : List ℕ} {out : ℕ} → Sound h → rows ≤ 255 → length ws ≡ 255 → allBelow (size h) ws ≡ true → length s ≡ rows * l → allBelow (size h) s ≡ true → out ≡ l → WeightedRows (h .field) rows l ws s out
-rows-ready sound few weights below long symbols out-long =
+-- symbols of a sound header's field in a tile and in an array of weights can be combined
+pub rows-ready : {h : Header} {rows l : ℕ} {ws s : List ℕ} {out : ℕ} → Sound h → rows ≤ 255 → l ≤ 4096 → length ws ≡ 255 → allBelow (size h) ws ≡ true → length s ≡ width h * rows * l → allBelow (size h) (tileSymbols (width h) rows l s) ≡ true → out ≡ width h * l → WeightedRows (h .field) rows l ws s out
+unfolding width
+rows-ready {h} {rows} {l} {ws} {s} sound few lanes weights below long symbols out-long =
     record {
       usable-field = sound .usable-field;
-      one-byte = sound .one-byte;
-      weighted = record { few = few; weights = omega arith; weights-below = below; long = long; symbols = symbols; out-long = out-long };
+      tile = record {
+        few-lanes = lanes;
+        bytes = long;
+        weighted = record { few = few; weights = omega arith; weights-below = below; long = length-tile-symbols (width h) rows l s; symbols = symbols; out-long = refl };
+        out-bytes = out-long;
+      };
     }
 
 -- the same where the weight of row r is f r
-pub column-ready : {h : Header} (f : ℕ → ℕ) {rows l : ℕ} {s : List ℕ} {out : ℕ} → Sound h → rows ≤ 255 → ((r : ℕ) → f r < size h) → length s ≡ rows * l → allBelow (size h) s ≡ true → out ≡ l → WeightedRows (h .field) rows l (padded 255 (from f 0 rows)) s out
-column-ready {h} f {rows} sound few low long symbols out-long =
+pub column-ready : {h : Header} (f : ℕ → ℕ) {rows l : ℕ} {s : List ℕ} {out : ℕ} → Sound h → rows ≤ 255 → l ≤ 4096 → ((r : ℕ) → f r < size h) → length s ≡ width h * rows * l → allBelow (size h) (tileSymbols (width h) rows l s) ≡ true → out ≡ width h * l → WeightedRows (h .field) rows l (padded 255 (from f 0 rows)) s out
+column-ready {h} f {rows} sound few lanes low long symbols out-long =
     let n = length-from f 0 rows in
-    rows-ready sound few (length-padded 255 (from f 0 rows) (omega arith))
+    rows-ready sound few lanes (length-padded 255 (from f 0 rows) (omega arith))
     (below-padded (size h) 255 (from f 0 rows) (size-pos (modulusOf h) (sound .field)) (at-below (size h) (from f 0 rows) (λ i h. rw (getD-from f 0 rows i 0 (omega arith)) (low (0 + i)))))
     long symbols out-long
+
+-- what a tile's sums are as symbols one after the other
+pub combined-symbols : (h : Header) (w rows l : ℕ) (ws s : List ℕ) → w ≡ width h → combinedBytes (modulusOf h) rows l ws s ≡ bytesOf w (combined byRow (modulusOf h) rows l ws (tileSymbols w rows l s))
+unfolding combinedBytes width
+combined-symbols h w rows l ws s wide = rw wide
+
+-- what a tile's sums are in bytes, over a header's field
+pub combined-tile : (h : Header) (rows l : ℕ) (ws s : List ℕ) → combinedTile (modulusOf h) rows l ws s ≡ tileBytes (width h) 1 l (combined byRow (modulusOf h) rows l ws (tileSymbols (width h) rows l s))
+unfolding combinedTile width
+combined-tile h rows l ws s = refl
 
 -- g r is the sum over symbols, the first being that of row r, times the weights f
 module _ (p : ℕ) (f : ℕ → ℕ) (g : ℕ → List ℕ → ℕ) (none : (r : ℕ) → g r [] ≡ 0) (more : (r m : ℕ) (ms : List ℕ) → g r (m ∷ ms) ≡ add p (mul p m (f r)) (g (r + 1) ms)) where

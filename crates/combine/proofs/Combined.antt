@@ -31,7 +31,7 @@ use Rattle.combine.specs.Combined.{combined, Weighted}
 pub other-row : {q rows l : ℕ} {ws s : List ℕ} {n : ℕ} → Weighted q rows l ws s n → (m : ℕ) → m ≡ l → Weighted q rows l ws s m
 other-row a m e = record { few = a .few; weights = a .weights; weights-below = a .weights-below; long = a .long; symbols = a .symbols; out-long = e }
 
-getD-zeros : (l t : ℕ) → t < l → getD (zeros l) t 0 ≡ 0
+pub getD-zeros : (l t : ℕ) → t < l → getD (zeros l) t 0 ≡ 0
 getD-zeros l t h = rw (← from-zeros (λ t. 0) 0 l (λ t low high. refl)) (getD-from (λ t. 0) 0 l t 0 h)
 
 module _ (p rows l : ℕ) (ws s : List ℕ) where

@@ -5,4 +5,6 @@ pub mod Listing
 pub mod Adding
 pub mod OneLane
 pub mod Turns
+pub mod ByteSums
+pub mod TileSums
 pub mod Columns

@@ -6,11 +6,14 @@ use Prim.Native.Nat.{ℕ, _*_, _≤_}
 use lib.ListN.{length}
 use Rattle.lists.specs.Rows.{from}
 use Rattle.lists.specs.Numbers.{allBelow}
-use Rattle.layout.specs.Layout.{Arrangement, laneOf}
+use Rattle.layout.specs.Layout.{Arrangement, byRow, laneOf}
+use Rattle.layout.specs.Width.{bytesOf}
+use Rattle.layout.specs.Tiles.{tileSymbols, tileBytes}
 use Rattle.field.specs.declared.Field.{Field}
 use Rattle.field.specs.Fields.{sizeOf}
 use Rattle.field.specs.Kinds.{modulus, usable}
 use Rattle.field.specs.Sums.{dot}
+use Rattle.field.specs.Widths.{bytesFor}
 
 -- in each lane the sum of the rows' symbols times the weights
 unfoldable pub combined : Arrangement → ℕ → ℕ → ℕ → List ℕ → List ℕ → List ℕ
@@ -25,8 +28,21 @@ pub record Weighted (q rows l : ℕ) (ws s : List ℕ) (out : ℕ) : Type 0 wher
   pub symbols : allBelow q s ≡ true
   pub out-long : out ≡ l
 
--- the same over a field; the rows are bytes, so a symbol fits one
+-- the same in a tile over the field that p names: a row of symbols is as many rows of bytes as a symbol has
+pub record TileRows (p rows l : ℕ) (ws s : List ℕ) (out : ℕ) : Type 0 where
+  pub few-lanes : l ≤ 4096
+  pub bytes : length s ≡ bytesFor p * rows * l
+  pub weighted : Weighted (sizeOf p) rows l ws (tileSymbols (bytesFor p) rows l s) l
+  pub out-bytes : out ≡ bytesFor p * l
+
 pub record WeightedRows (field : Field) (rows l : ℕ) (ws s : List ℕ) (out : ℕ) : Type 0 where
   pub usable-field : usable field ≡ true
-  pub one-byte : sizeOf (modulus field) ≤ 256
-  pub weighted : Weighted (sizeOf (modulus field)) rows l ws s out
+  pub tile : TileRows (modulus field) rows l ws s out
+
+-- the row of bytes, or the rows, that the sums of a tile's rows are
+unfoldable pub combinedTile : ℕ → ℕ → ℕ → List ℕ → List ℕ → List ℕ
+combinedTile p rows l ws s = tileBytes (bytesFor p) 1 l (combined byRow p rows l ws (tileSymbols (bytesFor p) rows l s))
+
+-- the same as symbols one after the other
+unfoldable pub combinedBytes : ℕ → ℕ → ℕ → List ℕ → List ℕ → List ℕ
+combinedBytes p rows l ws s = bytesOf (bytesFor p) (combined byRow p rows l ws (tileSymbols (bytesFor p) rows l s))

@@ -1,10 +1,10 @@
-// Reads a record from standard input and writes the comparison of its layouts. At most six bytes are taken: a longer record
+// Reads a record from standard input and writes the comparison of its layouts. At most eight bytes are taken: a longer record
 // meets number 2.
 use libc::STDIN_FILENO;
 use libc::STDOUT_FILENO;
 
 fn main() {
-    let mut rec = [0u8; 6];
+    let mut rec = [0u8; 8];
     let size = io::read_full(STDIN_FILENO, &mut rec);
     let mut page = compare_text::page();
     let end = compare_text::comparison(&rec[..size], &mut page);

@@ -28,10 +28,10 @@ use Rattle.generator.specs.Records.{headerOf, kindBad, bodyBad, fieldBad, sizeB
 use Rattle.generator.specs.Codewords.{isWord}
 use Rattle.generator.specs.Claims.{Codeword}
 use Rattle.generator.proofs.Accepts.{faultless-sound}
+use Rattle.generator.proofs.Widths.{width-some}
 use Rattle.refusals.specs.Conditions.{lanesBad, lengthBad, symbolsBad}
 use Rattle.refusals.specs.Faults.{belongsFault, faultOf}
 use Rattle.refusals.proofs.Accepts.{not-met, belongs-accepts}
-use Rattle.refusals.proofs.OneByte.{symbols-are}
 use Rattle.refusals.proofs.OnRecord.{none-met}
 use Rattle.blocks.specs.declared.Membership.{Membership}
 use Rattle.blocks.specs.declared.Membership.the-variants as M
@@ -51,7 +51,6 @@ use Rattle.correct.specs.Promises.{correctFault, correctionOf, CorrectSa
 use Rattle.correct.specs.Meaning.{NearWord, laneIn, CorrectDone}
 use Rattle.correct.specs.Corrections.{Corrections}
 use Rattle.correct.proofs.Answered.{altered-means, refused-means, means-refused}
-use Rattle.correct.proofs.LaneSymbols.{width-some}
 use Rattle.correct.proofs.Shares.{is-lane, lane-corrected, length-corrected, corrected-symbols}
 use Rattle.correct.proofs.Meaning.{far-apart, one-near, has-near, none-near, corrected-is-near, corrected-only, corrected-stays, test-word, all-near, one-far, far-not}
 use Rattle.correct.proofs.Turned.{far-turned, corrected-turned, count-turned}
@@ -71,10 +70,10 @@ module _ (h : Header) (sound : Sound h) (l : ℕ) (shares : List ℕ) (none : be
   s = symbolsOf (width h) shares
 
   symbols-long : length s ≡ h .n * l
-  symbols-long = rw (symbols-are h shares) (belongs-accepts h sound l shares none .long)
+  symbols-long = belongs-accepts h sound l shares none .symbol-rows .long
 
   symbols-below : allBelow (size h) s ≡ true
-  symbols-below = rw (symbols-are h shares) (belongs-accepts h sound l shares none .symbols)
+  symbols-below = belongs-accepts h sound l shares none .symbol-rows .symbols
 
   -- number 14 is not given: no lane is too far
   near-all : farBad shareLayout h l shares ≡ false → (t : ℕ) → t < l → hasNear h (laneIn h l shares t) ≡ true

@@ -2,7 +2,7 @@
 use mathlib.Core.Path.{_≡_, sym, ap, _∙_}
 use mathlib.Core.Bool.{true}
 use mathlib.Core.List.{List}
-use Prim.Native.Nat.{ℕ, _*_, _^_, _≤_, _<_}
+use Prim.Native.Nat.{ℕ, _*_, _^_, _≤_}
 use native.Mathlib.Nat.{mul-comm, mul-le-mul, le-refl}
 use native.Mathlib.Omega.{arith}
 use lib.ListN.{length, take}
@@ -15,15 +15,11 @@ use Rattle.layout.specs.Width.{symbolsOf, bytesOf}
 use Rattle.layout.proofs.Readings.{bytes-symbols}
 use Rattle.generator.specs.declared.Header.{Header}
 use Rattle.generator.specs.Records.{width}
+use Rattle.generator.proofs.Widths.{width-some}
 use Rattle.symbols.proofs.Fits.{symbols-fit}
 use Rattle.decoding.specs.Nearest.{hasNear, corrected}
 use Rattle.decoding.proofs.Corrected.{word-near, word-stays, corrected-long, corrected-below}
 use Rattle.correct.specs.Marked.{MarkedLane}
-
--- a symbol has some bytes
-pub width-some : (h : Header) → 0 < width h
-unfolding width
-width-some h = omega arith
 
 module _ {h : Header} {mark : ℕ} {lane : List ℕ} (m : MarkedLane h mark lane) where
   abbrev w : ℕ

@@ -1,11 +1,10 @@
 // Setting a block right: each lane becomes the word of the code that differs from it at no more than (n - k) / 2 nodes.
 ghost use mathlib.Core.Path.{_≡_};
-ghost use lib.ListN.{length};
 ghost use Rattle.lists.specs.Choice.{when};
 ghost use Rattle.layout.specs.Layout.{shareLayout};
 ghost use Rattle.layout.specs.Width.{symbolsOf};
 ghost use Rattle.generator.specs.Records.{Sound, width};
-ghost use Rattle.refusals.specs.Accepted.{SymbolRows};
+ghost use Rattle.refusals.specs.Accepted.{SymbolBuffer};
 ghost use Rattle.check_sums.specs.Sums.{powerRows};
 ghost use Rattle.correct.specs.Blocks.{firstFar, correctedBytes, correctedCount, farBad};
 ghost use Rattle.correct.specs.Promises.{correctFault, CorrectPromise, CorrectSays};
@@ -80,27 +79,21 @@ fn correct_marked(
     Correction::Altered(count)
 }
 
-// Room for the rows of powers of the check sums.
-fn room() -> [u8; 65025]
-    ensures { λ r. ⌜ length r ≡ 65025 ⌝ }
-{
-    [0u8; 65025]
-}
-
 // The same with the rows of powers made here.
 fn correct_wrong(h: Header, lanes: usize, marks: &[u8], shares: &mut [u8]) -> Correction
     requires { ⌜ MarkedShares h lanes (now marks) (now shares) ⌝ }
     ensures { λ r. ⌜ CorrectPromise shareLayout lanes (now (shares .entry)) (now (shares .exit)) r h (when (farBad shareLayout h lanes (now (shares .entry))) 14) ⌝ }
 {
-    let size = h.n as usize * (h.n - h.k) as usize;
-    let mut rows = room();
+    let w = symbols::width_of(h);
+    let size = w * h.n as usize * (h.n - h.k) as usize;
+    let mut rows = check_sums::lane::room();
     check_sums::lane::fill_power_rows(h, &mut rows[..size]);
     correct_marked(h, &rows[..size], lanes, marks, shares)
 }
 
 // The same for shares of symbols: the lanes that are no word of the code are marked, all at once.
 fn correct_symbols(h: Header, lanes: usize, shares: &mut [u8]) -> Correction
-    requires { ⌜ SymbolRows h (h .n) lanes (now shares) ⌝ }
+    requires { ⌜ SymbolBuffer h (h .n) lanes (now shares) ⌝ }
     ensures { λ r. ⌜ CorrectPromise shareLayout lanes (now (shares .entry)) (now (shares .exit)) r h (when (farBad shareLayout h lanes (now (shares .entry))) 14) ⌝ }
 {
     let mut marks = [0u8; 4096];

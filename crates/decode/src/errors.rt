@@ -8,8 +8,8 @@ ghost use Rattle.field.specs.Kinds.{modulus};
 ghost use Rattle.field.specs.Tables.{AreTables};
 ghost use Rattle.interpolation.specs.Points.{SymbolList, pointsOf};
 ghost use Rattle.decode.specs.Errors.{errorOf, errorsFrom, errorsOf};
-use crate::symbols::narrow;
-use crate::symbols::wide;
+use crate::field_symbols::narrow;
+use crate::field_symbols::wide;
 use field::Field;
 use interpolation::polynomials;
 

@@ -9,8 +9,8 @@ ghost use Rattle.lists.specs.Padded.{padded};
 ghost use Rattle.field.specs.Kinds.{modulus};
 ghost use Rattle.interpolation.specs.Points.{SymbolList};
 ghost use Rattle.decode.specs.Errors.{removed as removedFrom};
-use crate::symbols::narrow;
-use crate::symbols::wide;
+use crate::field_symbols::narrow;
+use crate::field_symbols::wide;
 use field::Field;
 
 // A lane, and zeros after it.

@@ -14,10 +14,10 @@ ghost use Rattle.decode.specs.Candidates.{IsLane, WrongNodes, Candidate}
 use generator::Header;
 
 mod errors;
+mod field_symbols;
 mod lanes;
 mod locator;
 mod roots;
-mod symbols;
 
 use errors::errors;
 use lanes::copied;

@@ -9,8 +9,8 @@ ghost use Rattle.field.specs.Fields.{sizeOf, mul};
 ghost use Rattle.field.specs.Kinds.{modulus, usable};
 ghost use Rattle.field.specs.Tables.{AreTables};
 ghost use Rattle.decode.specs.Locating.{Below, partial, shifted, amendedAt, Locates};
-use crate::symbols::narrow;
-use crate::symbols::wide;
+use crate::field_symbols::narrow;
+use crate::field_symbols::wide;
 use field::Field;
 
 // Coefficient i as a symbol's number.

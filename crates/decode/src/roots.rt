@@ -9,7 +9,7 @@ ghost use Rattle.field.specs.Tables.{AreTables};
 ghost use Rattle.generator.specs.Codewords.{polyAt};
 ghost use Rattle.interpolation.specs.Points.{SymbolList};
 ghost use Rattle.decode.specs.Errors.{rootsOf};
-use crate::symbols::wide;
+use crate::field_symbols::wide;
 use field::Field;
 
 // The value at x, by Horner's rule.

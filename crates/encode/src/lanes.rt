@@ -4,11 +4,10 @@ ghost use Prim.Native.Nat.{_+_, _*_, _/_, _≤_, _<_};
 ghost use lib.ListN.{length};
 ghost use Rattle.layout.specs.Layout.{byRow, byLane, someLanes};
 ghost use Rattle.generator.specs.Records.{modulusOf};
-ghost use Rattle.refusals.specs.Accepted.{SymbolRows};
 ghost use Rattle.blocks.specs.Blocks.{sharesOf};
-ghost use Rattle.products.specs.Products.{groupsOf, Codes};
+ghost use Rattle.products.specs.Products.{OneByte, groupsOf, Codes};
 ghost use Rattle.products.specs.Matrices.{Begun};
-ghost use Rattle.encode.specs.Inner.{Planned, columnOf};
+ghost use Rattle.encode.specs.Inner.{Planned, ByteMessage, columnOf};
 ghost use Rattle.encode.specs.Tiles.{Room, Columns};
 use crate::column;
 use generator::Header;
@@ -22,7 +21,7 @@ fn fill_lists(
     lists: &mut [u16],
     counts: &mut [u8],
 )
-    requires { ⌜ Planned h (now shifts) (now base) × Codes (modulusOf h) (now codes) × (h .n * (8 * groupsOf (h .k)) ≤ length (now lists)) × (h .n * 8 ≤ length (now counts)) ⌝ }
+    requires { ⌜ Planned h (now shifts) (now base) × Codes (modulusOf h) (now codes) × (h .n * (8 * groupsOf (h .k)) ≤ length (now lists)) × (h .n * 8 ≤ length (now counts)) × OneByte (h .field) ⌝ }
     ensures { λ r. ⌜ Begun (modulusOf h) (h .k) (columnOf h) (h .n) (now (lists .exit)) (now (counts .exit)) ⌝ }
 {
     let field = h.field;
@@ -50,7 +49,7 @@ fn fill_tile(
     words: &mut [u8],
     out: &mut [u8],
 )
-    requires { ⌜ Columns h (now lists) (now counts) × Room h (length (now tile)) (length (now table)) (length (now words)) × SymbolRows h (h .k) lanes (now message) × (count ≤ 64) × (first + count ≤ lanes) × (length (now out) ≡ count * h .n) ⌝ }
+    requires { ⌜ Columns h (now lists) (now counts) × Room h (length (now tile)) (length (now table)) (length (now words)) × ByteMessage h lanes (now message) × (count ≤ 64) × (first + count ≤ lanes) × (length (now out) ≡ count * h .n) ⌝ }
     ensures { λ r. ⌜ now (out .exit) ≡ sharesOf byLane h count (someLanes byRow byRow (h .k) lanes first count (now (message .entry))) ⌝ }
 {
     let field = h.field;
@@ -75,7 +74,7 @@ fn fill_lanes(
     words: &mut [u8],
     out: &mut [u8],
 )
-    requires { ⌜ Columns h (now lists) (now counts) × Room h (length (now tile)) (length (now table)) (length (now words)) × SymbolRows h (h .k) lanes (now message) × (length (now out) ≡ h .n * lanes) ⌝ }
+    requires { ⌜ Columns h (now lists) (now counts) × Room h (length (now tile)) (length (now table)) (length (now words)) × ByteMessage h lanes (now message) × (length (now out) ≡ h .n * lanes) ⌝ }
     ensures { λ r. ⌜ now (out .exit) ≡ sharesOf byLane h lanes (now (message .entry)) ⌝ }
 {
     let n = h.n as usize;
@@ -116,7 +115,7 @@ pub fn encode_with<'a>(
     words: &mut [u8],
     out: &mut [u8],
 )
-    requires { ⌜ Planned h (now shifts) (now base) × (length (now codes) ≡ 256) × (h .n * (8 * groupsOf (h .k)) ≤ length (now lists)) × (h .n * 8 ≤ length (now counts)) × (groupsOf (h .k) * 256 ≤ length (now tile)) × (groupsOf (h .k) * 1024 ≤ length (now table)) × ((h .n + 15) / 16 * 1024 ≤ length (now table)) × ((h .n + 15) / 16 * 1024 ≤ length (now words)) × SymbolRows h (h .k) lanes (now message) × (length (now out) ≡ h .n * lanes) ⌝ }
+    requires { ⌜ Planned h (now shifts) (now base) × (length (now codes) ≡ 256) × (h .n * (8 * groupsOf (h .k)) ≤ length (now lists)) × (h .n * 8 ≤ length (now counts)) × (groupsOf (h .k) * 256 ≤ length (now tile)) × (groupsOf (h .k) * 1024 ≤ length (now table)) × ((h .n + 15) / 16 * 1024 ≤ length (now table)) × ((h .n + 15) / 16 * 1024 ≤ length (now words)) × ByteMessage h lanes (now message) × (length (now out) ≡ h .n * lanes) ⌝ }
     ensures { λ r. ⌜ now (out .exit) ≡ sharesOf byLane h lanes (now (message .entry)) ⌝ }
 {
     let field = h.field;

@@ -3,9 +3,8 @@ ghost use mathlib.Core.Path.{_≡_};
 ghost use Prim.Native.Nat.{_*_, _≤_};
 ghost use lib.ListN.{length};
 ghost use Rattle.layout.specs.Layout.{byLane};
-ghost use Rattle.refusals.specs.Accepted.{SymbolRows};
 ghost use Rattle.blocks.specs.Blocks.{sharesOf};
-ghost use Rattle.encode.specs.Inner.{Planned};
+ghost use Rattle.encode.specs.Inner.{Planned, ByteMessage};
 use crate::lanes;
 use generator::Header;
 use products::scratch;
@@ -19,7 +18,7 @@ pub fn encode_small<'a>(
     message: &[u8],
     out: &mut [u8],
 )
-    requires { ⌜ Planned h (now shifts) (now base) × (h .n ≤ 16) × SymbolRows h (h .k) count (now message) × (length (now out) ≡ h .n * count) ⌝ }
+    requires { ⌜ Planned h (now shifts) (now base) × (h .n ≤ 16) × ByteMessage h count (now message) × (length (now out) ≡ h .n * count) ⌝ }
     ensures { λ r. ⌜ now (out .exit) ≡ sharesOf byLane h count (now (message .entry)) ⌝ }
 {
     let mut codes = scratch::codes();
@@ -53,7 +52,7 @@ pub fn encode_middle<'a>(
     message: &[u8],
     out: &mut [u8],
 )
-    requires { ⌜ Planned h (now shifts) (now base) × (h .n ≤ 64) × SymbolRows h (h .k) count (now message) × (length (now out) ≡ h .n * count) ⌝ }
+    requires { ⌜ Planned h (now shifts) (now base) × (h .n ≤ 64) × ByteMessage h count (now message) × (length (now out) ≡ h .n * count) ⌝ }
     ensures { λ r. ⌜ now (out .exit) ≡ sharesOf byLane h count (now (message .entry)) ⌝ }
 {
     let mut codes = scratch::codes();
@@ -87,7 +86,7 @@ pub fn encode_large<'a>(
     message: &[u8],
     out: &mut [u8],
 )
-    requires { ⌜ Planned h (now shifts) (now base) × (h .n ≤ 255) × SymbolRows h (h .k) count (now message) × (length (now out) ≡ h .n * count) ⌝ }
+    requires { ⌜ Planned h (now shifts) (now base) × (h .n ≤ 255) × ByteMessage h count (now message) × (length (now out) ≡ h .n * count) ⌝ }
     ensures { λ r. ⌜ now (out .exit) ≡ sharesOf byLane h count (now (message .entry)) ⌝ }
 {
     let mut codes = scratch::codes();
@@ -110,4 +109,27 @@ pub fn encode_large<'a>(
         &mut words,
         out,
     );
+}
+
+// In the smallest that the record's nodes fit.
+pub fn encode_bytes<'a>(
+    h: Header,
+    shifts: &'a [u8],
+    base: &'a [u16],
+    count: usize,
+    message: &[u8],
+    out: &mut [u8],
+)
+    requires { ⌜ Planned h (now shifts) (now base) × ByteMessage h count (now message) × (length (now out) ≡ h .n * count) ⌝ }
+    ensures { λ r. ⌜ now (out .exit) ≡ sharesOf byLane h count (now (message .entry)) ⌝ }
+{
+    if h.n <= 16 {
+        encode_small(h, shifts, base, count, message, out);
+        return;
+    }
+    if h.n <= 64 {
+        encode_middle(h, shifts, base, count, message, out);
+        return;
+    }
+    encode_large(h, shifts, base, count, message, out);
 }

@@ -17,6 +17,7 @@ pub mod Inverse
 pub mod Bounds
 pub mod Powers
 pub mod KindLaws
+pub mod Widths
 -- Tables of the field of 256 elements.
 pub mod TableLaws
 -- The field of symbols, sums and orders in it.

@@ -1,8 +1,8 @@
 -- What the search for the order of a symbol finds is its order in the field.
 use mathlib.Core.Path.{_≡_, sym, ap, _∙_}
-use mathlib.Core.Bool.{true}
+use mathlib.Core.Bool.{true, false}
 use mathlib.Core.Logic.{⊎-elim}
-use Prim.Native.Nat.{ℕ, zero, suc, _+_, _≤_, _<_}
+use Prim.Native.Nat.{ℕ, zero, suc, _+_, _-_, _≤_, _<_}
 use native.Mathlib.Omega.{arith}
 use native.Mathlib.Numerals.{add-one}
 use native.Mathlib.Nat.{eq-or-lt-of-le}
@@ -46,7 +46,7 @@ module _ (p a : ℕ) where
             (eq-or-lt-of-le low);
       })
 
-  -- one step of the search: it ends where x is 1, else goes on with the next power, and ends with 0 after the last exponent
+  -- one step of the search: it ends where x is 1, else goes on with the next power
   pub order-stop : (f e x : ℕ) → 0 < f → x ≡ 1 → orderFrom f e p a x ≡ e
   unfolding orderFrom
   order-stop zero e x pos h = absurd (omega arith)
@@ -56,9 +56,28 @@ module _ (p a : ℕ) where
   unfolding orderFrom
   order-step f g e x more h = rw (more, ne-eqb x 1 h)
 
-  pub order-end : (f e x : ℕ) → f ≡ 0 → orderFrom f e p a x ≡ 0
+  -- it does not find what lies before it
+  order-past : (f e x n : ℕ) → 1 ≤ n → n < e → orderFrom f e p a x ≡ n → ⊥
   unfolding orderFrom
-  order-end f e x h = rw h
+  order-past f e x n some past found = go f e x past found
+    where
+      go : (f e x : ℕ) → n < e → orderFrom f e p a x ≡ n → ⊥
+      go zero e x past found = omega arith
+      go (suc f) e x past found =
+          by-test (eqb x 1)
+          (λ (t : eqb x 1 ≡ true). let here : e ≡ n = rw t at found in omega arith)
+          (λ (t : eqb x 1 ≡ false). go f (e + 1) (mul p a x) (omega arith) (rw t at found))
+
+  -- at n: it is the order where the power is 1, and not where it is another
+  pub order-at : (f n x : ℕ) → 0 < f → 1 ≤ n → eqb x 1 ≡ eqb (orderFrom f n p a x) n
+  order-at f n x pos some =
+      by-test (eqb x 1)
+      (λ t. t ∙ sym (eq-eqb _ n (order-stop f n x pos (eqb-true x 1 t))))
+      (λ t. t ∙ sym (ne-eqb _ n (λ found. order-past (f - 1) (n + 1) (mul p a x) n some (omega arith) (sym (order-step f (f - 1) n x (omega arith) (eqb-false x 1 t)) ∙ found))))
+
+  -- before n it is another number
+  pub order-before : (f e n x : ℕ) → 0 < f → e < n → x ≡ 1 → false ≡ eqb (orderFrom f e p a x) n
+  order-before f e n x pos low one = sym (ne-eqb _ n (λ found. let here : e ≡ n = sym (order-stop f e x pos one) ∙ found in omega arith))
 
 -- an order that is not 0 is the order in the field
 pub order-is : (p : ℕ) (v : isField p ≡ true) (a : Symbol (sizeOf p)) (n : ℕ) → orderOf p (a .0) ≡ n → 1 ≤ n → Order (fieldOf p v) a n

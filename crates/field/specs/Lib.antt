@@ -4,5 +4,6 @@ pub mod Bytes
 pub mod Tables
 pub mod Fields
 pub mod Kinds
+pub mod Widths
 pub mod Symbols
 pub mod Sums

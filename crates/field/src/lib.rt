@@ -1,11 +1,12 @@
 // The two kinds of field, and the type that is one or the other. Symbols are numbers below the field's size.
 ghost use mathlib.Core.Path.{_≡_};
 ghost use mathlib.Core.Bool.{true, _&&_};
-ghost use Prim.Native.Nat.{_<_};
-ghost use lib.Dec.{leb};
+ghost use Prim.Native.Nat.{_≤_, _<_};
+ghost use lib.Dec.{eqb, leb};
 ghost use Rattle.field.specs.Fields.{isField, sizeOf, add, sub, mul, power, inverse, orderOf};
 ghost use Rattle.field.specs.Kinds.{modulus, usable};
 ghost use Rattle.field.specs.Tables.{AreTables};
+ghost use Rattle.field.specs.Widths.{bytesFor};
 
 mod gf256;
 mod prime;
@@ -46,6 +47,14 @@ impl Field {
             Field::Prime(f) => f.p,
             Field::Binary(_) => 256,
         }
+    }
+
+    // The bytes of a symbol.
+    pub fn width(self) -> usize
+        requires { ⌜ usable self ≡ true ⌝ }
+        ensures { λ r. ⌜ r ≡ bytesFor (modulus self) ⌝ }
+    {
+        if self.size() <= 256 { 1 } else { 2 }
     }
 
     pub fn add(self, a: u32, b: u32) -> u32
@@ -142,28 +151,34 @@ impl Field {
         r
     }
 
-    // The first exponent from 1 to 256 whose power of a is 1; 0 where there is none.
-    pub fn order(self, a: u32) -> u32
-        requires { ⌜ (usable self ≡ true) × (a < sizeOf (modulus self)) ⌝ }
-        ensures { λ r. ⌜ r ≡ orderOf (modulus self) a ⌝ }
+    // Whether the order of a is n: the first exponent whose power of a is 1. It takes n − 1 products.
+    pub fn has_order(self, a: u32, n: u32) -> bool
+        requires { ⌜ (usable self ≡ true) × (a < sizeOf (modulus self)) × (1 ≤ n) × (n ≤ 256) ⌝ }
+        ensures { λ r. ⌜ r ≡ eqb (orderOf (modulus self) a) n ⌝ }
     {
         let t = constant_tables();
-        self.order_with(&t.powers, &t.logarithms, a)
+        self.has_order_with(&t.powers, &t.logarithms, a, n)
     }
 
-    fn order_with<'a>(self, powers: &'a [u8; 255], logarithms: &'a [u8; 255], a: u32) -> u32
-        requires { ⌜ (usable self ≡ true) × (a < sizeOf (modulus self)) × AreTables (now powers) (now logarithms) ⌝ }
-        ensures { λ r. ⌜ r ≡ orderOf (modulus self) a ⌝ }
+    fn has_order_with<'a>(
+        self,
+        powers: &'a [u8; 255],
+        logarithms: &'a [u8; 255],
+        a: u32,
+        n: u32,
+    ) -> bool
+        requires { ⌜ (usable self ≡ true) × (a < sizeOf (modulus self)) × (1 ≤ n) × (n ≤ 256) × AreTables (now powers) (now logarithms) ⌝ }
+        ensures { λ r. ⌜ r ≡ eqb (orderOf (modulus self) a) n ⌝ }
     {
         let mut e: u32 = 1;
         let mut x = a;
-        while e <= 256 {
+        while e < n {
             if x == Self::ONE {
-                return e;
+                return false;
             }
             x = self.mul_with(powers, logarithms, a, x);
             e += 1;
         }
-        0
+        x == Self::ONE
     }
 }

@@ -2,7 +2,7 @@
 use mathlib.Core.Path.{_≡_, refl, sym}
 use mathlib.Core.Bool.{false}
 use mathlib.Core.List.{List}
-use Prim.Native.Nat.{ℕ, zero, suc, _*_, _≤_, _<_}
+use Prim.Native.Nat.{ℕ, zero, suc, _*_, _≤_}
 use native.Mathlib.Nat.{mul-le-mul-right}
 use native.Mathlib.Omega.{arith}
 use borrow.Author.Tests.{not-false}
@@ -17,6 +17,7 @@ use Rattle.generator.specs.declared.Record.{Record}
 use Rattle.generator.specs.declared.Record.the-variants.{Holds, Meets}
 use Rattle.generator.specs.Records.{recordOf, width}
 use Rattle.generator.proofs.Accepts.{accepted-sound}
+use Rattle.generator.proofs.Widths.{width-some}
 use Rattle.refusals.specs.Conditions.{lengthBad, symbolsBad}
 use Rattle.refusals.proofs.Accepts.{not-met}
 use Rattle.refusals.proofs.NotMet.{length-good}
@@ -25,11 +26,6 @@ use Rattle.find_update.specs.declared.Finding.the-variants.{Refused}
 use Rattle.find_update.specs.Finding.{IsLane}
 use Rattle.find_update.specs.Promise.{findFault, answerOf, Found, FindPromise}
 use Rattle.find_update.proofs.Meaning.{finds}
-
--- a symbol has some bytes
-width-some : (h : Header) → 0 < width h
-unfolding width
-width-some h = omega arith
 
 -- a lane whose length and symbols pass
 lane-good : (h : Header) (s : List ℕ) → lengthBad (h .n * width h) (length s) ≡ false → symbolsBad h s ≡ false → IsLane h (symbolsOf (width h) s)

@@ -24,12 +24,14 @@ module _ (h : Header) where
   meets-none four five = rw (four, five)
 
   -- the sizes that number 4 passes
-  pub sizes : sizeBad h ≡ false → (2 ≤ h .n) × (0 < h .k) × (h .k ≤ h .n)
+  pub sizes : sizeBad h ≡ false → (2 ≤ h .n) × (h .n ≤ 255) × (0 < h .k) × (h .k ≤ h .n)
   unfolding sizeBad
   sizes e =
-      let later : (eqb (h .k) 0 || ltb (h .n) (h .k)) ≡ false = or-right-false (ltb (h .n) 2) _ e in
-      let some : h .k ≡ 0 → ⊥ = eqb-false (h .k) 0 (or-left-false _ (ltb (h .n) (h .k)) later) in (
-        ltb-false (h .n) 2 (or-left-false _ (eqb (h .k) 0 || ltb (h .n) (h .k)) e),
+      let a : (ltb 255 (h .n) || (eqb (h .k) 0 || ltb (h .n) (h .k))) ≡ false = or-right-false (ltb (h .n) 2) _ e in
+      let b : (eqb (h .k) 0 || ltb (h .n) (h .k)) ≡ false = or-right-false (ltb 255 (h .n)) _ a in
+      let some : h .k ≡ 0 → ⊥ = eqb-false (h .k) 0 (or-left-false _ (ltb (h .n) (h .k)) b) in (
+        ltb-false (h .n) 2 (or-left-false _ (ltb 255 (h .n) || (eqb (h .k) 0 || ltb (h .n) (h .k))) e),
+        ltb-false 255 (h .n) (or-left-false _ (eqb (h .k) 0 || ltb (h .n) (h .k)) a),
         omega arith,
-        ltb-false (h .n) (h .k) (or-right-false (eqb (h .k) 0) _ later),
+        ltb-false (h .n) (h .k) (or-right-false (eqb (h .k) 0) _ b),
       )

@@ -5,6 +5,8 @@ pub mod EvenShifts
 pub mod LaidShifts
 pub mod Shifts
 pub mod Sound
+pub mod Widths
+pub mod Older
 pub mod Bridge
 pub mod Entries
 pub mod Bounds

@@ -1,10 +1,10 @@
--- Records as document 03 states them (specs/Fields.antt), and that ours are the same but for number 6: it turned a record away whose store does not share out evenly, which ticket 4 makes a plan.
+-- Records as document 03 states them (specs/Fields.antt), and that ours of kinds 1 and 2 are the same but for number 6: it turned a record away whose store does not share out evenly, which ticket 4 makes a plan.
 -- Its text stands here but for the marks: what it has as `abbrev` is `unfoldable`. Its arithmetic is quoted in the crate `field`; its `pick`, `firstOf` and `when` are those of `lists`.
 use mathlib.Core.Path.{_≡_, refl, sym, ap, _∙_}
-use mathlib.Core.Bool.{Bool, _&&_, _||_, not}
+use mathlib.Core.Bool.{Bool, _&&_, _||_, not, or-false}
 use mathlib.Core.List.{List}
 use Prim.Native.Nat.{ℕ, zero, suc, _+_, _-_, _*_, _%_}
-use borrow.Author.Tests.{ltb-true, eqb-true, not-false}
+use borrow.Author.Tests.{ltb-true, le-ltb, eqb-true, not-false}
 use lib.Dec.{eqb, ltb, leb}
 use lib.ListN.{length, getD}
 use Rattle.lists.specs.Choice.{pick, firstOf, when}
@@ -14,6 +14,7 @@ use Rattle.field.proofs.Agreement.{rest, sizeOf, isPrime, orderOf, rest-agrees,
 use Rattle.generator.specs.declared.Header as Own
 use Rattle.generator.specs.Records as Ours
 use Rattle.generator.proofs.Accepts.{faultless-sound}
+use Rattle.generator.proofs.Older.{Older, older-nodes}
 
 -- document 03's definitions
 pub record Header : Type 0 where
@@ -35,18 +36,32 @@ recordFault s = let b = getD s 0 0 in let h = headerOf s in firstOf (when (eqb (
 abbrev pub given : Own.Header → Header
 given h = record { p = Ours.modulusOf h; root = h .root; n = h .n; k = h .k }
 
-pub headerOf-agrees : (s : List ℕ) → headerOf s ≡ given (Ours.headerOf s)
+pub headerOf-agrees : (s : List ℕ) → Older s → headerOf s ≡ given (Ours.headerOf s)
 unfolding headerOf Ours.headerOf modulus
-headerOf-agrees s = by-test (eqb (getD s 0 0) 1) (λ t. rw t) (λ t. rw t)
+headerOf-agrees s old = by-test (eqb (getD s 0 0) 1) (λ t. rw t) (λ t. rw (t, old .kind))
 
 pub weight-agrees : (h : Own.Header) → weight (given h) ≡ Ours.distance h
 unfolding weight Ours.distance
 weight-agrees h = refl
 
+-- numbers 1 and 2
+kind-agrees : (s : List ℕ) → Older s → (eqb (length s) 0 || not (eqb (getD s 0 0) 1 || eqb (getD s 0 0) 2)) ≡ Ours.kindBad s
+unfolding Ours.kindBad
+kind-agrees s old = rw (old .kind, or-false)
+
+body-agrees : (s : List ℕ) → Older s → not (eqb (length s) (pick (eqb (getD s 0 0) 1) 5 4)) ≡ Ours.bodyBad s
+unfolding Ours.bodyBad
+body-agrees s old = rw (old .kind)
+
 -- number 3
-field-agrees : (s : List ℕ) → (eqb (getD s 0 0) 1 && not (leb 3 (given (Ours.headerOf s) .p) && (leb (given (Ours.headerOf s) .p) 251 && isPrime (given (Ours.headerOf s) .p)))) ≡ Ours.fieldBad s
-unfolding Ours.headerOf Ours.fieldBad modulus
-field-agrees s = by-test (eqb (getD s 0 0) 1) (λ t. rw (t, isPrime-agrees (getD s 1 0))) (λ t. rw t)
+field-agrees : (s : List ℕ) → Older s → (eqb (getD s 0 0) 1 && not (leb 3 (given (Ours.headerOf s) .p) && (leb (given (Ours.headerOf s) .p) 251 && isPrime (given (Ours.headerOf s) .p)))) ≡ Ours.fieldBad s
+unfolding Ours.headerOf Ours.fieldBad Ours.primeIn modulus
+field-agrees s old = by-test (eqb (getD s 0 0) 1) (λ t. rw (t, isPrime-agrees (getD s 1 0))) (λ t. rw (t, old .kind))
+
+-- number 4: n is a byte
+size-agrees : (s : List ℕ) → Older s → let h = Ours.headerOf s in (ltb (h .n) 2 || (eqb (h .k) 0 || ltb (h .n) (h .k))) ≡ Ours.sizeBad h
+unfolding Ours.sizeBad
+size-agrees s old = rw (le-ltb 255 (Ours.headerOf s .n) (older-nodes s old))
 
 -- number 5: the order is asked of symbols alone
 root-agrees : (h : Own.Header) → not (ltb (h .root) (sizeOf (Ours.modulusOf h)) && eqb (orderOf (Ours.modulusOf h) (h .root)) (h .n)) ≡ Ours.rootBad h
@@ -72,17 +87,17 @@ first-none : (a : ℕ) → firstOf a 0 ≡ a
 first-none zero = refl
 first-none (suc a) = refl
 
--- the number of every record, whatever it holds: ours, and 6 where ours is none and n does not divide k·d
-pub recordFault-six : (s : List ℕ) → recordFault s ≡ firstOf (Ours.recordFault s) (when (uneven (Ours.headerOf s)) 6)
-unfolding recordFault Ours.recordFault Ours.kindBad Ours.bodyBad Ours.headerFault Ours.sizeBad
-recordFault-six s = rw (headerOf-agrees s, field-agrees s, root-agrees (Ours.headerOf s), uneven-agrees (Ours.headerOf s)) (simp first-first)
+-- the number of every record of kinds 1 and 2 and of any other but 3, whatever it holds: ours, and 6 where ours is none and n does not divide k·d
+pub recordFault-six : (s : List ℕ) → Older s → recordFault s ≡ firstOf (Ours.recordFault s) (when (uneven (Ours.headerOf s)) 6)
+unfolding recordFault Ours.recordFault Ours.headerFault
+recordFault-six s old = rw (headerOf-agrees s old, kind-agrees s old, body-agrees s old, field-agrees s old, size-agrees s old, root-agrees (Ours.headerOf s), uneven-agrees (Ours.headerOf s)) (simp first-first)
 
 -- so the same where n divides k·d
-pub recordFault-agrees : (s : List ℕ) → Ours.headerOf s .k * Ours.distance (Ours.headerOf s) % Ours.headerOf s .n ≡ 0 → recordFault s ≡ Ours.recordFault s
-recordFault-agrees s even = recordFault-six s ∙ rw even (first-none (Ours.recordFault s))
+pub recordFault-agrees : (s : List ℕ) → Older s → Ours.headerOf s .k * Ours.distance (Ours.headerOf s) % Ours.headerOf s .n ≡ 0 → recordFault s ≡ Ours.recordFault s
+recordFault-agrees s old even = recordFault-six s old ∙ rw even (first-none (Ours.recordFault s))
 
 -- its domain: what it accepts has a sound header, and n divides k·d
-pub given-sound : (s : List ℕ) → recordFault s ≡ 0 → Ours.Sound (Ours.headerOf s) × (Ours.headerOf s .k * Ours.distance (Ours.headerOf s) % Ours.headerOf s .n ≡ 0)
-given-sound s e =
-    let (none, six) = first-zero (Ours.recordFault s) (when (uneven (Ours.headerOf s)) 6) (sym (recordFault-six s) ∙ e) in
+pub given-sound : (s : List ℕ) → Older s → recordFault s ≡ 0 → Ours.Sound (Ours.headerOf s) × (Ours.headerOf s .k * Ours.distance (Ours.headerOf s) % Ours.headerOf s .n ≡ 0)
+given-sound s old e =
+    let (none, six) = first-zero (Ours.recordFault s) (when (uneven (Ours.headerOf s)) 6) (sym (recordFault-six s old) ∙ e) in
     (faultless-sound s none, eqb-true _ 0 (not-false _ (when-zero (uneven (Ours.headerOf s)) 5 six)))

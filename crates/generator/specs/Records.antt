@@ -10,17 +10,24 @@ use Rattle.field.specs.declared.Field.the-variants.{Prime, Binary}
 use Rattle.field.specs.Primes.{isPrime}
 use Rattle.field.specs.Fields.{isField, sizeOf, orderOf}
 use Rattle.field.specs.Kinds.{primeOf, gf256, modulus, usable}
+use Rattle.field.specs.Widths.{bytesFor}
 use Rattle.scheme.specs.Costs.{floor, ceil}
 use Rattle.generator.specs.declared.Header.{Header}
 use Rattle.generator.specs.declared.Record.{Record}
 use Rattle.generator.specs.declared.Record.the-variants.{Holds, Meets}
 
--- kind 1: p, root, n, k; kind 2: root, n, k
+-- a number of two bytes, high byte first
+abbrev pub pairAt : List ℕ → ℕ → ℕ
+pairAt s i = getD s i 0 * 256 + getD s (i + 1) 0
+
+-- kind 1: p, root, n, k; kind 2: root, n, k; kind 3: p and root in two bytes each, n, k
 unfoldable pub headerOf : List ℕ → Header
 headerOf s =
     pick (eqb (getD s 0 0) 1)
     (record { field = Prime (primeOf (getD s 1 0)); root = getD s 2 0; n = getD s 3 0; k = getD s 4 0 })
-    (record { field = Binary gf256; root = getD s 1 0; n = getD s 2 0; k = getD s 3 0 })
+    (pick (eqb (getD s 0 0) 3)
+    (record { field = Prime (primeOf (pairAt s 1)); root = pairAt s 3; n = getD s 5 0; k = getD s 6 0 })
+    (record { field = Binary gf256; root = getD s 1 0; n = getD s 2 0; k = getD s 3 0 }))
 
 -- the prime of the record's field, or 0 for the field of 256 elements
 abbrev pub modulusOf : Header → ℕ
@@ -32,7 +39,7 @@ size h = sizeOf (modulusOf h)
 
 -- the bytes of a symbol in a lent buffer
 unfoldable pub width : Header → ℕ
-width h = 1
+width h = bytesFor (modulusOf h)
 
 -- d = n − k + 1, the number of nodes that each row of the generator lies on
 unfoldable pub distance : Header → ℕ
@@ -45,21 +52,27 @@ lowReads h = floor (h .k * distance h) (h .n)
 unfoldable pub highReads : Header → ℕ
 highReads h = ceil (h .k * distance h) (h .n)
 
--- number 1: empty, or of neither kind
+-- number 1: empty, or of none of the three kinds
 unfoldable pub kindBad : List ℕ → Bool
-kindBad s = eqb (length s) 0 || not (eqb (getD s 0 0) 1 || eqb (getD s 0 0) 2)
+kindBad s = eqb (length s) 0 || not (eqb (getD s 0 0) 1 || (eqb (getD s 0 0) 2 || eqb (getD s 0 0) 3))
 
 -- number 2: a body of another length than the kind's
 unfoldable pub bodyBad : List ℕ → Bool
-bodyBad s = not (eqb (length s) (pick (eqb (getD s 0 0) 1) 5 4))
+bodyBad s = not (eqb (length s) (pick (eqb (getD s 0 0) 1) 5 (pick (eqb (getD s 0 0) 3) 7 4)))
 
--- number 3: kind 1, and p is no prime from 3 to 251
+-- p is a prime from `low` to `high`
+unfoldable pub primeIn : ℕ → ℕ → ℕ → Bool
+primeIn low high p = leb low p && (leb p high && isPrime p)
+
+-- number 3: kind 1, and p is no prime from 3 to 251, or kind 3, and p is none from 257 to 65,521
 unfoldable pub fieldBad : List ℕ → Bool
-fieldBad s = eqb (getD s 0 0) 1 && not (leb 3 (getD s 1 0) && (leb (getD s 1 0) 251 && isPrime (getD s 1 0)))
+fieldBad s =
+    pick (eqb (getD s 0 0) 1) (not (primeIn 3 251 (getD s 1 0)))
+    (pick (eqb (getD s 0 0) 3) (not (primeIn 257 65521 (pairAt s 1))) false)
 
--- number 4: n below 2, k zero, or k above n
+-- number 4: n below 2 or no byte, k zero, or k above n
 unfoldable pub sizeBad : Header → Bool
-sizeBad h = ltb (h .n) 2 || (eqb (h .k) 0 || ltb (h .n) (h .k))
+sizeBad h = ltb (h .n) 2 || (ltb 255 (h .n) || (eqb (h .k) 0 || ltb (h .n) (h .k)))
 
 -- number 5: the root is no symbol of order exactly n
 unfoldable pub rootBad : Header → Bool
@@ -89,9 +102,8 @@ recordOf s = judged (recordFault s) (headerOf s)
 pub record Sound (h : Header) : Type 0 where
   pub usable-field : usable (h .field) ≡ true
   pub field : isField (modulusOf h) ≡ true
-  -- a symbol fits the one byte that lent buffers have for it
-  pub one-byte : size h ≤ 256
   pub two : 2 ≤ h .n
+  pub byte : h .n ≤ 255
   pub some : 0 < h .k
   pub fits : h .k ≤ h .n
   pub root-below : h .root < size h

@@ -9,6 +9,7 @@ ghost use Rattle.lists.specs.Padded.{zeros};
 
 pub mod gf256;
 pub mod prime;
+pub mod wide;
 
 // Writes 0 to every lane.
 pub fn clear(acc: &mut [u8])

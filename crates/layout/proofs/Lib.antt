@@ -10,3 +10,4 @@ pub mod Widths
 pub mod Readings
 pub mod Tiles
 pub mod LaneParts
+pub mod TileLanes

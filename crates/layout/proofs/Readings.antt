@@ -3,16 +3,16 @@ use mathlib.Core.Path.{_≡_, refl, sym, ap, ap₂, _∙_}
 use mathlib.Core.Bool.{true}
 use mathlib.Core.List.{List, [], _∷_, _++_}
 use Prim.Native.Nat.{ℕ, zero, suc, _+_, _*_, _/_, _%_, _^_, _≤_, _<_}
-use native.Mathlib.Nat.{mul-one, zero-mul, zero-add, add-zero, add-mul, one-mul, mul-assoc, mul-le-mul-right, lt-of-lt-of-le, le-div-iff-mul-le, div-lt-iff-lt-mul, mod-lt, mul-div-cancel, pow-zero, pow-suc, pow-succ'}
+use native.Mathlib.Nat.{mul-one, zero-mul, zero-add, add-zero, add-mul, one-mul, mul-assoc, mul-le-mul-right, lt-of-lt-of-le, le-div-iff-mul-le, div-lt-iff-lt-mul, mod-lt, mul-div-cancel, mul-add-div-right, pow-zero, pow-suc, pow-succ'}
 use native.Mathlib.Omega.{arith}
 use lib.Arith.{digits-div, digits-mod}
-use lib.ListN.{length, getD, take, drop, length-take, length-drop, take-append-drop, drop-of-length-le, List·getD-append}
-use lib.Seq.{ext-getD, take-suc, take-all, length-take-le, drop-drop, getD-take, getD-drop}
+use lib.ListN.{length, getD, take, drop, length-drop, take-append-drop, length-append, drop-of-length-le, List·getD-append}
+use lib.Seq.{take-append-le, drop-append-le, drop-append-add, ext-getD, take-suc, take-all, length-take-le, drop-drop, getD-take, getD-drop}
 use Rattle.lists.specs.Rows.{from}
 use Rattle.lists.specs.Numbers.{allBelow}
 use Rattle.lists.proofs.Front.{drop-next}
 use Rattle.lists.proofs.Numbers.{below-cons, cons-below, below-at, at-below, below-take, below-drop, below-append}
-use Rattle.lists.proofs.Rows.{length-from, getD-from}
+use Rattle.lists.proofs.Rows.{length-from, getD-from, from-ext, from-append, from-move, row-inside}
 use Rattle.layout.specs.Width.{valueFrom, symbolAt, symbolsOf, symbolBytes, bytesOf}
 use Rattle.layout.proofs.Widths.{length-symbols, getD-symbols, value-append, length-symbol, drop-bytes}
 
@@ -134,3 +134,33 @@ getD-bytes w xs i v h low =
     sym (getD-drop (i * w) (bytesOf w xs) v 0)
     ∙ ap (λ (l : List ℕ). getD l v 0) (drop-bytes w i xs ∙ ap (bytesOf w) (drop-next xs i 0 h))
     ∙ List·getD-append (symbolBytes w (getD xs i 0)) (bytesOf w (drop (i + 1) xs)) 0 v (omega (arith, length-symbol w (getD xs i 0)))
+
+-- symbols of bytes that are joined where a symbol ends
+module _ (w count : ℕ) (xs ys : List ℕ) (some : 0 < w) (long : length xs ≡ count * w) where
+  -- a symbol of the first ones, and of the others
+  symbol-first : (i : ℕ) → i < count → symbolAt w (xs ++ ys) i ≡ symbolAt w xs i
+  unfolding symbolAt
+  symbol-first i h =
+      let ends : i * w + w ≤ length xs = rw long (row-inside count i w h) in
+      ap (valueFrom 0)
+      (ap (take w) (drop-append-le (i * w) xs ys (omega arith))
+      ∙ take-append-le w (drop (i * w) xs) ys (omega (arith, length-drop (i * w) xs)))
+
+  symbol-after : (i : ℕ) → symbolAt w (xs ++ ys) (count + i) ≡ symbolAt w ys i
+  unfolding symbolAt
+  symbol-after i =
+      let place : (count + i) * w ≡ length xs + i * w = omega (arith, add-mul count i w) in
+      ap (λ (l : List ℕ). valueFrom 0 (take w l)) (ap (λ (x : ℕ). drop x (xs ++ ys)) place ∙ drop-append-add xs ys (i * w))
+
+  pub symbols-append : symbolsOf w (xs ++ ys) ≡ symbolsOf w xs ++ symbolsOf w ys
+  unfolding symbolsOf
+  symbols-append =
+      let first : length xs / w ≡ count = ap (λ (n : ℕ). n / w) long ∙ mul-div-cancel count some in
+      let all : length (xs ++ ys) / w ≡ count + length ys / w = ap (λ (n : ℕ). n / w) (length-append xs ys ∙ ap (λ (n : ℕ). n + length ys) long) ∙ mul-add-div-right some count (length ys) in
+      ap (from (symbolAt w (xs ++ ys)) 0) all
+      ∙ from-append (symbolAt w (xs ++ ys)) 0 count (length ys / w)
+      ∙ ap₂ _++_
+      (from-ext _ (symbolAt w xs) 0 count (λ i low high. symbol-first i (omega arith)) ∙ ap (from (symbolAt w xs) 0) (sym first))
+      (ap (λ (x : ℕ). from (symbolAt w (xs ++ ys)) x (length ys / w)) (omega arith)
+      ∙ sym (from-move (symbolAt w (xs ++ ys)) count 0 (length ys / w))
+      ∙ from-ext _ (symbolAt w ys) 0 (length ys / w) (λ i low high. symbol-after i))

@@ -1,21 +1,24 @@
 -- Tiles: what a row holds in a lane, gathering and scattering, and tiles of symbols of one byte.
-use mathlib.Core.Path.{_≡_, refl, sym, ap, _∙_}
-use mathlib.Core.List.{List}
+use mathlib.Core.Path.{_≡_, sym, ap, _∙_}
+use mathlib.Core.List.{List, _++_}
+use mathlib.Core.Logic.{by-cases}
 use Prim.Native.Nat.{ℕ, _+_, _*_, _/_, _%_, _<_}
-use native.Mathlib.Nat.{zero-add, zero-mul, add-mul, mul-assoc, mul-comm, mul-one, one-mul, mul-div-cancel, div-lt-iff-lt-mul, mod-lt, div-add-mod'}
+use native.Mathlib.Decide.{ℕ-discrete}
+use native.Mathlib.Nat.{two-mul, zero-add, zero-mul, add-mul, mul-assoc, mul-comm, mul-one, one-mul, mul-div-cancel, div-lt-iff-lt-mul, mod-lt, div-add-mod'}
 use native.Mathlib.Omega.{arith}
 use lib.Arith.{digits-lt}
-use lib.ListN.{length, getD}
+use lib.ListN.{length, getD, length-append, List·getD-append}
+use lib.Seq.{getD-append-add}
 use Rattle.lists.specs.Rows.{from, rowsFrom}
-use Rattle.lists.proofs.Rows.{from-ext}
+use Rattle.lists.proofs.Rows.{from-ext, length-from, getD-from}
 use Rattle.lists.proofs.Lanes.{getD-rows, length-rows}
 use Rattle.layout.specs.Layout.{byRow, byLane, held, rearranged}
-use Rattle.layout.specs.Width.{valueFrom, symbolAt, symbolsOf, symbolBytes, bytesOf}
+use Rattle.layout.specs.Width.{valueFrom, symbolsOf, symbolBytes, bytesOf}
 use Rattle.layout.specs.Tiles.{tileSymbols, tileBytes}
-use Rattle.layout.proofs.Lawful.{Lawful, by-row, by-lane}
+use Rattle.layout.proofs.Lawful.{by-row, by-lane}
 use Rattle.layout.proofs.Buffers.{length-buffer, held-buffer, held-equal, rearranged-back}
 use Rattle.layout.proofs.Places.{held-by-row, held-by-lane}
-use Rattle.layout.proofs.Widths.{length-symbols, getD-symbols, length-symbol, length-bytes, symbols-one, bytes-one}
+use Rattle.layout.proofs.Widths.{length-symbols, getD-symbols, length-bytes, symbols-one, bytes-one}
 use Rattle.layout.proofs.Readings.{symbol-inside, symbol-digits, getD-bytes}
 
 module _ (rows l : ℕ) (s : List ℕ) where
@@ -217,3 +220,40 @@ module _ (w rows l : ℕ) (some : 0 < w) where
             ∙ getD-rows g (w * l) long 0 rows i (v * l + t) hi within
             ∙ ap (λ (x : ℕ). getD (g x) (v * l + t) 0) (zero-add i)
             ∙ sym (held-by-row (w * 1) l (g i) (0 * w + v) t ∙ ap (λ (x : ℕ). getD (g i) (x * l + t) 0) first)
+
+-- a row of symbols of two bytes is a row of high bytes and a row of low bytes
+pub tile-pair : (l : ℕ) (xs : List ℕ) → tileBytes 2 1 l xs ≡ from (λ t. getD xs t 0 / 256) 0 l ++ from (λ t. getD xs t 0 % 256) 0 l
+unfolding symbolBytes
+tile-pair l xs =
+    held-equal by-row (2 * 1) l _ _ (length-tile-bytes 2 1 l xs)
+    (length-append high low ∙ omega (arith, length-from (λ t. getD xs t 0 / 256) 0 l, length-from (λ t. getD xs t 0 % 256) 0 l, one-mul l, two-mul l))
+    (λ v t hv ht. by-cases (ℕ-discrete v 0) (λ e. rw e (first t ht)) (λ n. let e : v ≡ 1 = omega arith in rw e (second t ht)))
+  where
+    high : List ℕ
+    high = from (λ t. getD xs t 0 / 256) 0 l
+
+    low : List ℕ
+    low = from (λ t. getD xs t 0 % 256) 0 l
+
+    symbol : (t : ℕ) → held byRow 1 l xs 0 t ≡ getD xs t 0
+    symbol t = let none : 0 * l + t ≡ t = omega (arith, zero-mul l) in held-by-row 1 l xs 0 t ∙ ap (λ (x : ℕ). getD xs x 0) none
+
+    first : (t : ℕ) → t < l → held byRow (2 * 1) l (tileBytes 2 1 l xs) 0 t ≡ held byRow (2 * 1) l (high ++ low) 0 t
+    first t ht =
+        let none : 0 * l + t ≡ t = omega (arith, zero-mul l) in
+        held-tile-bytes 2 1 l xs 0 0 t (omega arith) (omega arith) ht
+        ∙ ap (λ (x : ℕ). x / 256) (symbol t)
+        ∙ sym (held-by-row (2 * 1) l (high ++ low) 0 t
+        ∙ ap (λ (x : ℕ). getD (high ++ low) x 0) none
+        ∙ List·getD-append high low 0 t (omega (arith, length-from (λ t. getD xs t 0 / 256) 0 l))
+        ∙ rw zero-add at (getD-from (λ t. getD xs t 0 / 256) 0 l t 0 ht))
+
+    second : (t : ℕ) → t < l → held byRow (2 * 1) l (tileBytes 2 1 l xs) 1 t ≡ held byRow (2 * 1) l (high ++ low) 1 t
+    second t ht =
+        let place : 1 * l + t ≡ length high + t = omega (arith, one-mul l, length-from (λ t. getD xs t 0 / 256) 0 l) in
+        held-tile-bytes 2 1 l xs 0 1 t (omega arith) (omega arith) ht
+        ∙ ap (λ (x : ℕ). x % 256) (symbol t)
+        ∙ sym (held-by-row (2 * 1) l (high ++ low) 1 t
+        ∙ ap (λ (x : ℕ). getD (high ++ low) x 0) place
+        ∙ getD-append-add high low t 0
+        ∙ rw zero-add at (getD-from (λ t. getD xs t 0 % 256) 0 l t 0 ht))

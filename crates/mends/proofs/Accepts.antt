@@ -1,8 +1,7 @@
 -- What holds where no number is met: a lane of n symbols, and buffers of their lengths; and what the call says beside a number.
-use mathlib.Core.Path.{_≡_, refl, sym}
-use mathlib.Core.Bool.{false}
+use mathlib.Core.Path.{_≡_, refl}
 use mathlib.Core.List.{List}
-use Prim.Native.Nat.{ℕ, zero, suc, _*_, _≤_, _<_}
+use Prim.Native.Nat.{ℕ, zero, suc, _*_, _≤_}
 use native.Mathlib.Nat.{mul-le-mul-right}
 use native.Mathlib.Omega.{arith}
 use borrow.Author.Tests.{not-false, ne-eqb}
@@ -17,6 +16,7 @@ use Rattle.generator.specs.declared.Record.{Record}
 use Rattle.generator.specs.declared.Record.the-variants.{Holds, Meets}
 use Rattle.generator.specs.Records.{recordOf, width}
 use Rattle.generator.proofs.Accepts.{accepted-sound}
+use Rattle.generator.proofs.Widths.{width-some}
 use Rattle.refusals.specs.Conditions.{lengthBad, symbolsBad}
 use Rattle.refusals.proofs.Accepts.{not-met}
 use Rattle.refusals.proofs.NotMet.{length-good}
@@ -25,11 +25,6 @@ use Rattle.mends.specs.declared.Mending.the-variants.{Listed, Refused}
 use Rattle.mends.specs.Mends.{IsLane}
 use Rattle.mends.specs.Promise.{mendsFault, mendingOf, Mended, MendsPromise}
 use Rattle.mends.proofs.Meaning.{mends}
-
--- a symbol has some bytes
-width-some : (h : Header) → 0 < width h
-unfolding width
-width-some h = omega arith
 
 -- a lane of n symbols, and two buffers of n entries
 pub record Given (h : Header) (lane : List ℕ) (nodes symbols : ℕ) : Type 0 where

@@ -1,28 +1,18 @@
 -- What is read from the plan of a sound header.
-use mathlib.Core.Path.{_≡_, refl, sym}
-use mathlib.Core.Bool.{Bool, true, false, _&&_}
-use mathlib.Core.List.{List}
+use mathlib.Core.Path.{_≡_, sym}
 use Prim.Native.Nat.{ℕ, _+_, _%_, _≤_, _<_}
 use native.Mathlib.Omega.{arith}
-use native.Mathlib.Nat.{mod-lt, lt-of-lt-of-le}
+use native.Mathlib.Nat.{mod-lt}
 use borrow.Author.Tests.{lt-ltb}
-use lib.Dec.{ltb}
 use lib.ListN.{length, getD, length-append}
-use Rattle.lists.specs.Choice.{pick}
-use Rattle.lists.specs.Numbers.{allBelow}
 use Rattle.lists.specs.Padded.{padded}
-use Rattle.lists.proofs.Numbers.{below-getD, at-below}
-use Rattle.lists.proofs.Rows.{length-from, getD-from}
-use Rattle.lists.proofs.Padding.{getD-padded, in-padded, below-zeros, below-padded}
+use Rattle.lists.proofs.Rows.{length-from}
+use Rattle.lists.proofs.Padding.{getD-padded, in-padded}
 use Rattle.generator.specs.declared.Header.{Header}
-use Rattle.generator.specs.declared.Record.{Record}
-use Rattle.generator.specs.declared.Record.the-variants.{Holds, Meets}
-use Rattle.generator.specs.Records.{recordOf, Sound}
+use Rattle.generator.specs.declared.Record.the-variants.{Holds}
+use Rattle.generator.specs.Records.{Sound}
 use Rattle.generator.specs.Shifts.{shifts, firsts}
 use Rattle.generator.specs.Generator.{entryAt, entry, baseWord}
-use Rattle.generator.proofs.Accepts.{accepted-sound}
-use Rattle.generator.proofs.Bounds.{entryAt-below}
-use Rattle.plan.specs.declared.Plan.{Plan}
 use Rattle.plan.specs.Plans.{planFor, entryIn}
 use Rattle.generator.proofs.Shifts.{shifts-length, shifts-below, firsts-length}
 use Rattle.generator.proofs.Entries.{rows-base}
@@ -30,27 +20,6 @@ use Rattle.generator.proofs.Entries.{rows-base}
 length-base : (h : Header) → length (baseWord h) ≡ h .n
 unfolding baseWord
 length-base h = length-from (entryAt h 0) 0 (h .n)
-
--- while every kind's symbols are bytes, so is the base word of a record's plan
-pub base-bytes : (rec : List ℕ) → allBelow 256 (planFor (recordOf rec) .base) ≡ true
-unfolding planFor baseWord
-base-bytes rec = go (recordOf rec) refl
-  where
-    go : (r : Record) → recordOf rec ≡ r → allBelow 256 (planFor r .base) ≡ true
-    go (Meets f) e = below-zeros 256 255 (omega arith)
-    go (Holds h) e =
-        let s = accepted-sound rec h e in
-        below-padded 256 255 (baseWord h) (omega arith)
-        (at-below 256 (baseWord h) (λ i l. rw (getD-from (entryAt h 0) 0 (h .n) i 0 (omega (arith, length-base h))) (lt-of-lt-of-le (entryAt-below h s 0 (0 + i)) (s .one-byte))))
-
--- and so is an entry that is read from it
-pub entry-byte : (p : Plan) → allBelow 256 (p .base) ≡ true → (r j : ℕ) → entryIn p r j < 256
-unfolding entryIn
-entry-byte p h r j = go (ltb r (p .k) && ltb j (p .n)) _
-  where
-    go : (b : Bool) (i : ℕ) → pick b (getD (p .base) i 0) 0 < 256
-    go true i = below-getD 256 (p .base) (omega arith) h i
-    go false i = omega arith
 
 -- there is a place for each entry of the base word
 pub base-room : (h : Header) → h .n ≤ length (planFor (Holds h) .base)

@@ -13,14 +13,15 @@ use Rattle.layout.specs.Layout.{Arrangement, rearranged, laneOf}
 use Rattle.layout.specs.Width.{symbolsOf, bytesOf}
 use Rattle.layout.proofs.Lawful.{Lawful}
 use Rattle.layout.proofs.Buffers.{rearranged-lane, rearranged-back}
+use Rattle.layout.proofs.Readings.{bytes-symbols}
 use Rattle.layout.proofs.Widths.{length-symbols, length-bytes, symbols-bytes}
 use Rattle.generator.specs.declared.Header.{Header}
 use Rattle.generator.specs.Records.{size, width}
+use Rattle.generator.proofs.Widths.{width-some}
 use Rattle.refusals.specs.Conditions.{lanesBad, lengthBad, numberBad, nodesBad, twiceBad, symbolBad, symbolsBad, laneBad}
 use Rattle.refusals.specs.Faults.{inputFault, staleFault, updateFault, listFault, recoverFault, rebuildFault, belongsFault}
 use Rattle.refusals.proofs.Accepts.{not-met}
 use Rattle.refusals.proofs.NotMet.{number-good}
-use Rattle.refusals.proofs.OneByte.{symbols-are, bytes-are}
 use Rattle.blocks.specs.Blocks.{updated, firstWrong, MessageFor}
 use Rattle.blocks.specs.Bytes.{encodedBytes, updatedBytes, alteredCount, wrongLane, rearrangedBytes}
 use Rattle.blocks.proofs.Tiles.{shares-rearranged}
@@ -36,11 +37,6 @@ input-inside y h l r t old new shares e =
     let (lane, f) = not-met (numberBad l t) 8 _ d in
     number-good l t lane
 
--- a symbol has a byte
-width-some : (h : Header) → 0 < width h
-unfolding width
-width-some h = omega arith
-
 module _ (h : Header) (rows l : ℕ) (s : List ℕ) where
   -- the symbols of a full buffer
   symbols-full : length s ≡ rows * l * width h → length (symbolsOf (width h) s) ≡ rows * l
@@ -55,14 +51,13 @@ module _ (h : Header) (rows l : ℕ) (s : List ℕ) where
   unfolding rearrangedBytes
   symbols-turned y z = symbols-bytes (width h) _ (width-some h)
 
--- rearranged twice, a buffer is as it was
-pub turned-back : {y z : Arrangement} → Lawful y → Lawful z → (h : Header) (rows l : ℕ) (s : List ℕ) → length s ≡ rows * l * width h → rearrangedBytes z y h rows l (rearrangedBytes y z h rows l s) ≡ s
+-- rearranged twice, a buffer of bytes is as it was
+pub turned-back : {y z : Arrangement} → Lawful y → Lawful z → (h : Header) (rows l : ℕ) (s : List ℕ) → length s ≡ rows * l * width h → allBelow 256 s ≡ true → rearrangedBytes z y h rows l (rearrangedBytes y z h rows l s) ≡ s
 unfolding rearrangedBytes
-turned-back {y} {z} a b h rows l s full =
+turned-back {y} {z} a b h rows l s full bytes =
     ap (λ (x : List ℕ). bytesOf (width h) (rearranged z y rows l x)) (symbols-bytes (width h) _ (width-some h))
     ∙ ap (bytesOf (width h)) (rearranged-back a b rows l (symbolsOf (width h) s) (symbols-full h rows l s full))
-    ∙ bytes-are h (symbolsOf (width h) s)
-    ∙ symbols-are h s
+    ∙ bytes-symbols (width h) (rows * l) s (width-some h) full bytes
 
 module _ {y z : Arrangement} (a : Lawful y) (b : Lawful z) (h : Header) (l : ℕ) where
   -- the shares of a message

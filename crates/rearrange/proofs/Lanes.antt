@@ -1,5 +1,6 @@
 -- With shares rearranged, each call gives the old results, and share buffers are the old ones rearranged.
 use mathlib.Core.Path.{_≡_, refl, sym, ap, ap₂, _∙_}
+use mathlib.Core.Bool.{true}
 use mathlib.Core.List.{List}
 use mathlib.Core.Logic.{by-cases}
 use Prim.Native.Nat.{ℕ, zero, suc, _*_, _<_}
@@ -8,15 +9,15 @@ use borrow.Author.Tests.{ne-eqb}
 use lib.Dec.{eqb}
 use lib.ListN.{length}
 use Rattle.lists.specs.Choice.{firstOf, pickT}
+use Rattle.lists.specs.Numbers.{allBelow}
 use Rattle.lists.proofs.Cases.{first-zero}
 use Rattle.layout.specs.Layout.{Arrangement, byRow, byLane, shareLayout}
 use Rattle.layout.specs.Width.{symbolsOf, bytesOf}
 use Rattle.layout.proofs.Lawful.{Lawful, by-row, by-lane}
 use Rattle.generator.specs.declared.Header.{Header}
 use Rattle.generator.specs.Records.{headerOf, recordFault, width, Sound}
-use Rattle.refusals.specs.Faults.{encodeFault, inputFault, updateFault, recoverFault, rebuildFault, belongsFault, faultOf}
-use Rattle.refusals.proofs.Accepts.{recover-accepts, rebuild-accepts}
-use Rattle.refusals.proofs.OneByte.{times-width}
+use Rattle.refusals.specs.Faults.{encodeFault, inputFault, updateFault, recoverFault, rebuildFault, belongsFault, rearrangeFault, faultOf}
+use Rattle.refusals.proofs.Accepts.{recover-accepts, rebuild-accepts, rearrange-accepts}
 use Rattle.refusals.proofs.OnRecord.{none-met}
 use Rattle.blocks.specs.declared.Outcome.{Outcome}
 use Rattle.blocks.specs.declared.Outcome.the-variants.{Done}
@@ -29,9 +30,8 @@ use Rattle.blocks.specs.Promises.{EncodeSaysIn, UpdateSaysIn, RecoverSaysIn, Re
 use Rattle.blocks.proofs.Answered.{done-means}
 use Rattle.blocks.proofs.Messages.{one-buffer}
 use Rattle.blocks.proofs.Refused.{update-refused, refused-value}
-use Rattle.rearrange.specs.Calls.{rearrangeFault, RearrangeSays}
+use Rattle.rearrange.specs.Calls.{RearrangeSays}
 use Rattle.rearrange.specs.Lanes.{Full, LaneAfterLane}
-use Rattle.rearrange.proofs.Refused.{rearrange-accepts}
 use Rattle.rearrange.proofs.Bytes.{input-inside, turned-back, encoded-turned, belongs-turned, wrong-turned, update-turned, updated-turned, altered-turned, recover-turned, rebuild-turned, message-turned}
 
 -- the lane of an update that no number turns away
@@ -145,15 +145,15 @@ module _ {y z : Arrangement} (a : Lawful y) (b : Lawful z) (rec : List ℕ) (l :
         same = same-number (λ h. rebuildFault h l nodes shares target (length out)) (λ h. rebuildFault h l nodes listed target (length out)) (rebuild-turned a b h l nodes shares full target (length out))
 
   -- the two calls
-  calls : (s out out′ end end′ : List ℕ) → RearrangeSays y z rec l s out out′ Done → RearrangeSays z y rec l out′ end end′ Done → end′ ≡ s
-  calls s out out′ end end′ first second =
+  calls : (s out out′ end end′ : List ℕ) → allBelow 256 s ≡ true → RearrangeSays y z rec l s out out′ Done → RearrangeSays z y rec l out′ end end′ Done → end′ ≡ s
+  calls s out out′ end end′ bytes first second =
       let none = done-means (faultOf rec (λ h. rearrangeFault h l (length s) (length out))) (first .promise .answer) in
       let after = done-means (faultOf rec (λ h. rearrangeFault h l (length out′) (length end))) (second .promise .answer) in
       let (sound, own) = none-met rec (λ h. rearrangeFault h l (length s) (length out)) none in
-      let (long, room) = rearrange-accepts h l (length s) (length out) own in
+      let (long, room) = rearrange-accepts h sound l (length s) (length out) own in
       rw after at (second .promise .written)
       ∙ ap (rearrangedBytes z y h (h .n) l) (rw none at (first .promise .written))
-      ∙ turned-back a b h (h .n) l s (long ∙ sym (times-width h (h .n * l)))
+      ∙ turned-back a b h (h .n) l s long bytes
 
 pub lane-after-lane : LaneAfterLane
 unfolding shareLayout

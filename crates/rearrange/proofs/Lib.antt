@@ -5,3 +5,5 @@ pub mod Symbols
 pub mod Bytes
 -- The calls with shares lane after lane, beside the calls with shares node after node.
 pub mod Lanes
+-- A column of a table of symbols.
+pub mod Columns

@@ -1,25 +1,17 @@
--- Shares that are arranged as y says, rearranged as z says: what turns the call away, and what it promises.
+-- Shares that are arranged as y says, rearranged as z says: what the call promises.
 use mathlib.Core.Path.{_≡_}
 use mathlib.Core.List.{List}
-use Prim.Native.Nat.{ℕ, _*_}
+use Prim.Native.Nat.{ℕ}
 use lib.Dec.{eqb}
 use lib.ListN.{length}
-use Rattle.lists.specs.Choice.{firstOf, when, pick}
+use Rattle.lists.specs.Choice.{pick}
 use Rattle.layout.specs.Layout.{Arrangement, byRow, byLane}
 use Rattle.generator.specs.declared.Header.{Header}
-use Rattle.generator.specs.Records.{width}
-use Rattle.refusals.specs.Conditions.{lanesBad, lengthBad}
+use Rattle.refusals.specs.Faults.{rearrangeFault}
 use Rattle.refusals.specs.Promise.{OnRecord}
 use Rattle.blocks.specs.declared.Outcome.{Outcome}
 use Rattle.blocks.specs.Answers.{outcomeOf}
 use Rattle.blocks.specs.Bytes.{rearrangedBytes}
-
--- the number, from the lanes and the lengths of the two buffers, or 0
-unfoldable pub rearrangeFault : Header → ℕ → ℕ → ℕ → ℕ
-rearrangeFault h l source out =
-    firstOf (when (lanesBad l) 7)
-    (firstOf (when (lengthBad (h .n * l * width h) source) 8)
-    (when (lengthBad (h .n * l * width h) out) 8))
 
 -- the n shares of the source, rearranged; nothing is written beside a number
 pub record RearrangePromise (y z : Arrangement) (l : ℕ) (source out out′ : List ℕ) (r : Outcome) (h : Header) (f : ℕ) : Type 0 where

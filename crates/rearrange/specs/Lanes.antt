@@ -1,8 +1,10 @@
 -- Each call with shares lane after lane, beside the same call with shares node after node: the promises are the same definitions in two arrangements. With shares rearranged, each share buffer that is written is the old one rearranged, and every other result is the old one.
 use mathlib.Core.Path.{_≡_}
+use mathlib.Core.Bool.{true}
 use mathlib.Core.List.{List}
 use Prim.Native.Nat.{ℕ, _*_}
 use lib.ListN.{length}
+use Rattle.lists.specs.Numbers.{allBelow}
 use Rattle.layout.specs.Layout.{byRow, byLane}
 use Rattle.generator.specs.declared.Header.{Header}
 use Rattle.generator.specs.Records.{headerOf, width}
@@ -46,9 +48,9 @@ pub record LaneAfterLane : Type 0 where
   pub belongs : (rec : List ℕ) (l : ℕ) (s : List ℕ) (r u : Membership) → Full (headerOf rec) (headerOf rec .n) l s
       → BelongsSaysIn byRow rec l s r → BelongsSays rec l (toLanes (headerOf rec) (headerOf rec .n) l s) u
       → u ≡ r
-  -- the two rearrangements undo each other
-  pub back : (h : Header) (rows l : ℕ) (s : List ℕ) → Full h rows l s → toNodes h rows l (toLanes h rows l s) ≡ s
-  pub forth : (h : Header) (rows l : ℕ) (s : List ℕ) → Full h rows l s → toLanes h rows l (toNodes h rows l s) ≡ s
+  -- the two rearrangements of bytes undo each other
+  pub back : (h : Header) (rows l : ℕ) (s : List ℕ) → Full h rows l s → allBelow 256 s ≡ true → toNodes h rows l (toLanes h rows l s) ≡ s
+  pub forth : (h : Header) (rows l : ℕ) (s : List ℕ) → Full h rows l s → allBelow 256 s ≡ true → toLanes h rows l (toNodes h rows l s) ≡ s
   -- so do the two calls
-  pub calls-back : (rec : List ℕ) (l : ℕ) (s out out′ end end′ : List ℕ) → ToLanesSays rec l s out out′ Done → ToNodesSays rec l out′ end end′ Done → end′ ≡ s
-  pub calls-forth : (rec : List ℕ) (l : ℕ) (s out out′ end end′ : List ℕ) → ToNodesSays rec l s out out′ Done → ToLanesSays rec l out′ end end′ Done → end′ ≡ s
+  pub calls-back : (rec : List ℕ) (l : ℕ) (s out out′ end end′ : List ℕ) → allBelow 256 s ≡ true → ToLanesSays rec l s out out′ Done → ToNodesSays rec l out′ end end′ Done → end′ ≡ s
+  pub calls-forth : (rec : List ℕ) (l : ℕ) (s out out′ end end′ : List ℕ) → allBelow 256 s ≡ true → ToNodesSays rec l s out out′ Done → ToLanesSays rec l out′ end end′ Done → end′ ≡ s

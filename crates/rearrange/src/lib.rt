@@ -1,46 +1,28 @@
-// Shares that stand node after node, put lane after lane, and back. Bytes are moved, not judged.
+// Shares that stand node after node, put lane after lane, and back. Symbols are moved, not judged.
 ghost use mathlib.Core.Path.{_≡_};
-ghost use Prim.Native.Nat.{_*_, _≤_};
 ghost use lib.ListN.{length};
 ghost use Rattle.layout.specs.Layout.{byRow, byLane};
 ghost use Rattle.generator.specs.Records.{Sound};
-ghost use Rattle.rearrange.specs.Calls.{rearrangeFault, RearrangePromise, ToLanesSays, ToNodesSays};
+ghost use Rattle.refusals.specs.Faults.{rearrangeFault};
+ghost use Rattle.rearrange.specs.Calls.{RearrangePromise, ToLanesSays, ToNodesSays};
 use blocks::Outcome;
 use generator::Header;
 use generator::Record;
 
-// Numbers 7 and 8, or 0, from the lengths of the two buffers.
-fn rearrange_fault(h: Header, lanes: usize, source: usize, out: usize) -> u8
-    ensures { λ r. ⌜ r ≡ rearrangeFault h lanes source out ⌝ }
-{
-    let n = h.n as usize;
-    if lanes == 0 {
-        return 7;
-    }
-    if 4096 < lanes {
-        return 7;
-    }
-    let long = n * lanes;
-    if source != long {
-        return 8;
-    }
-    if out != long {
-        return 8;
-    }
-    0
-}
+mod turning;
 
-// Over the header of an accepted record: node j's byte of lane t goes from j·lanes + t to t·n + j.
+// Over the header of an accepted record: node j's symbol of lane t goes from j·lanes + t to t·n + j.
 fn lanes_accepted(h: Header, lanes: usize, by_node: &[u8], by_lane: &mut [u8]) -> Outcome
     requires { ⌜ Sound h ⌝ }
     ensures { λ r. ⌜ RearrangePromise byRow byLane lanes (now («by_node» .entry)) (now («by_lane» .entry)) (now («by_lane» .exit)) r h (rearrangeFault h lanes (length (now («by_node» .entry))) (length (now («by_lane» .entry)))) ⌝ }
 {
-    let number = rearrange_fault(h, lanes, by_node.len(), by_lane.len());
+    let number = refusals::rearrange_fault(h, lanes, by_node.len(), by_lane.len());
     if number != 0 {
         return Outcome::Refused(number);
     }
     let n = h.n as usize;
-    tiles::scatter(n, lanes, by_node, by_lane);
+    let w = symbols::width_of(h);
+    turning::turn(w, n, lanes, by_node, by_lane);
     Outcome::Done
 }
 
@@ -49,12 +31,13 @@ fn nodes_accepted(h: Header, lanes: usize, by_lane: &[u8], by_node: &mut [u8]) -
     requires { ⌜ Sound h ⌝ }
     ensures { λ r. ⌜ RearrangePromise byLane byRow lanes (now («by_lane» .entry)) (now («by_node» .entry)) (now («by_node» .exit)) r h (rearrangeFault h lanes (length (now («by_lane» .entry))) (length (now («by_node» .entry)))) ⌝ }
 {
-    let number = rearrange_fault(h, lanes, by_lane.len(), by_node.len());
+    let number = refusals::rearrange_fault(h, lanes, by_lane.len(), by_node.len());
     if number != 0 {
         return Outcome::Refused(number);
     }
     let n = h.n as usize;
-    tiles::gather(n, lanes, by_lane, by_node);
+    let w = symbols::width_of(h);
+    turning::turn(w, lanes, n, by_lane, by_node);
     Outcome::Done
 }
 

@@ -1,1 +1,2 @@
--- No laws of its own: the reader rests on those of the generator.
+-- A record as it is read, by its kind.
+pub mod Reading

@@ -1,13 +1,19 @@
 -- Sums over the rows of a tile are those of the lanes that it was gathered from, and the message by them.
-use mathlib.Core.Path.{_≡_, sym, ap, _∙_}
+use mathlib.Core.Path.{_≡_, refl, sym, ap, _∙_}
+use mathlib.Core.Bool.{true}
 use mathlib.Core.List.{List}
 use Prim.Native.Nat.{ℕ, _+_, _-_, _*_, _≤_, _<_}
-use native.Mathlib.Nat.{add-zero, zero-add}
+use native.Mathlib.Nat.{add-zero, zero-add, mul-comm, mul-le-mul, le-trans}
 use native.Mathlib.Omega.{arith}
 use lib.ListN.{length, getD, take, drop}
 use Rattle.lists.specs.Rows.{from}
-use Rattle.lists.proofs.Rows.{from-ext, from-move, length-from, getD-from}
+use Rattle.lists.proofs.Rows.{from-ext, from-move, length-from, getD-from, part-size}
 use Rattle.layout.specs.Layout.{Arrangement, byRow, byLane, held, laneOf, buffer, rearranged, someLanes, shareLayout}
+use Rattle.layout.specs.Width.{symbolsOf, bytesOf}
+use Rattle.layout.specs.Tiles.{tileSymbols}
+use Rattle.layout.proofs.Tiles.{length-rearranged-rows, tile-gathered}
+use Rattle.layout.proofs.Widths.{length-bytes}
+use Rattle.layout.proofs.LaneParts.{lanes-long, bytes-part}
 use Rattle.layout.proofs.Lawful.{by-row, by-lane}
 use Rattle.layout.proofs.Buffers.{getD-lane, length-buffer, held-below, buffer-below, buffer-ext, buffer-held, rearranged-lane}
 use Rattle.layout.proofs.Places.{share-by-lane}
@@ -15,15 +21,16 @@ use Rattle.layout.proofs.Runs.{lane-some}
 use Rattle.tiles.proofs.Parts.{from-part}
 use Rattle.field.specs.Sums.{dot}
 use Rattle.generator.specs.declared.Header.{Header}
-use Rattle.generator.specs.Records.{modulusOf, size}
-use Rattle.refusals.specs.Accepted.{SymbolRows, ListedShares}
+use Rattle.generator.specs.Records.{modulusOf, size, width, Sound}
+use Rattle.generator.specs.Claims.{areNodes}
+use Rattle.generator.proofs.Widths.{width-range}
+use Rattle.refusals.specs.Accepted.{SymbolRows, SymbolBytes, SymbolTile, ListedShares}
 use Rattle.blocks.specs.Blocks.{MessageFor}
 use Rattle.blocks.specs.Bytes.{RecoveredBytes, RebuiltBytes}
-use Rattle.blocks.proofs.Bytes.{recovered-bytes, rebuilt-bytes}
 use Rattle.blocks.proofs.Messages.{lane-message, some-buffer}
 use Rattle.combine.specs.Combined.{combined}
 use Rattle.recovery.specs.Weights.{Rebuilds}
-use Rattle.recover.specs.Sums.{weightRow, WeightRows, sumAt}
+use Rattle.recover.specs.Sums.{weightRow, WeightRows, sumAt, MessageWritten}
 use Rattle.recover.proofs.Rebuilding.{rebuilt}
 
 module _ (p rows l : ℕ) (s : List ℕ) (t c : ℕ) where
@@ -39,59 +46,95 @@ module _ (p rows l : ℕ) (s : List ℕ) (t c : ℕ) where
       ∙ rw add-zero at (from-move (λ q. dot p (laneOf byLane rows l q s) ws) t 0 c)
       ∙ from-part (λ q. dot p (laneOf byLane rows l q s) ws) l t c fits
 
+  -- the same of bytes
+  pub combined-part : (w : ℕ) (ws : List ℕ) → t + c ≤ l → bytesOf w (combined byRow p rows c ws (someLanes byLane byRow rows l t c s)) ≡ take (t * w + c * w - t * w) (drop (t * w) (bytesOf w (combined byLane p rows l ws s)))
+  combined-part w ws fits =
+      ap (bytesOf w) (combined-tile ws fits ∙ ap (λ (x : ℕ). take x (drop t (combined byLane p rows l ws s))) (part-size t c))
+      ∙ sym (bytes-part w t c (combined byLane p rows l ws s))
+      ∙ ap (λ (x : ℕ). take x (drop (t * w) (bytesOf w (combined byLane p rows l ws s)))) (sym (part-size (t * w) (c * w)))
+
 -- a row of sums has a place for each lane
 pub length-combined : (y : Arrangement) (p rows c : ℕ) (ws s : List ℕ) → length (combined y p rows c ws s) ≡ c
 unfolding combined
 length-combined y p rows c ws s = length-from (λ t. dot p (laneOf y rows c t s) ws) 0 c
+
+pub length-sums : (h : Header) (w l : ℕ) (ws s : List ℕ) → length (bytesOf w (combined byLane (modulusOf h) (h .k) l ws s)) ≡ w * l
+length-sums h w l ws s = length-bytes w _ ∙ ap (λ (x : ℕ). x * w) (length-combined byLane (modulusOf h) (h .k) l ws s) ∙ mul-comm l w
 
 -- place q of it
 pub combined-at : (p rows c : ℕ) (ws s : List ℕ) (q : ℕ) → q < c → getD (combined byRow p rows c ws s) q 0 ≡ dot p (laneOf byRow rows c q s) ws
 unfolding combined
 combined-at p rows c ws s q inside = rw zero-add at (getD-from (λ t. dot p (laneOf byRow rows c t s) ws) 0 c q 0 inside)
 
+-- listed shares, with the bytes of a symbol told
+pub listed-bytes : {h : Header} {l : ℕ} {nodes shares : List ℕ} (w : ℕ) → w ≡ width h → ListedShares h l nodes shares → SymbolBytes h w (h .k) l shares
+listed-bytes {h} {l} w wide listed =
+    rw wide record { wide = refl; bytes = listed .buffer .bytes ∙ lanes-long (width h) (h .k) l; symbol-rows = listed .buffer .symbol-rows }
+
+-- a row of symbols has at most 510 bytes
+pub row-small : (h : Header) → Sound h → (w : ℕ) → w ≡ width h → w * h .k ≤ 510
+row-small h s w is = let two : w ≤ 2 = rw is (width-range h .1) in mul-le-mul two (le-trans (s .fits) (s .byte))
+
 module _ {h : Header} {l : ℕ} {nodes shares : List ℕ} (listed : ListedShares h l nodes shares) where
-  -- listed shares as rows
-  pub listed-rows : ListedShares h l nodes (rearranged byLane byRow (h .k) l shares)
-  unfolding rearranged
-  listed-rows =
-      let is = listed .rows in
-      record {
-        rows = record {
-          sound = is .sound;
-          some-lane = is .some-lane;
-          few-lanes = is .few-lanes;
-          long = length-buffer byRow (h .k) l (held byLane (h .k) l shares);
-          symbols = buffer-below by-row (h .k) l (size h) _ (held-below by-lane (h .k) l (size h) shares (is .long) (is .symbols));
-        };
-        different = listed .different;
-      }
-
-  -- their message is that of the shares
-  pub message-rows : {m : List ℕ} → MessageFor byRow h l nodes (rearranged byLane byRow (h .k) l shares) m → MessageFor byLane h l nodes shares m
-  message-rows is =
-      record { size-is = is .size-is; symbols = is .symbols; lanes = λ t inside. is .lanes t inside ∙ rearranged-lane by-lane by-row (h .k) l shares t inside }
-
-  -- the sums with all rows of weights are the message
-  pub sums-message : {ws : List ℕ} → WeightRows h nodes ws → (out : List ℕ) → out ≡ buffer byRow (h .k) l (sumAt h l ws shares) → MessageFor byLane h l nodes shares out
-  unfolding sumAt
-  sums-message {ws} all out e =
-      let (m, is) = some-buffer by-lane h (listed .rows .sound) l nodes (listed .different) shares (listed .rows .long) (listed .rows .symbols) in
-      let same : out ≡ m =
-      e
-      ∙ buffer-ext by-row (h .k) l (sumAt h l ws shares) (held byRow (h .k) l m)
-      (λ r t row inside.
-      ap (λ (w : List ℕ). dot (modulusOf h) w (weightRow ws r)) (sym (is .lanes t inside))
-      ∙ sym (all .rows r row .gives (laneOf byRow (h .k) l t m) (lane-message h l m t inside (is .size-is) (is .symbols)))
-      ∙ getD-lane byRow (h .k) l t m r row)
-      ∙ buffer-held by-row (h .k) l m (is .size-is) in
-      rw same is
-
-  -- as bytes
-  pub recovered-lanes : {out : List ℕ} → MessageFor byLane h l nodes shares out → RecoveredBytes shareLayout h l nodes shares out
-  recovered-lanes {out} is = rw share-by-lane (recovered-bytes h byLane l nodes shares out is)
+  abbrev all-rows : SymbolRows h (h .k) l (symbolsOf (width h) shares)
+  all-rows = listed .buffer .symbol-rows
 
   -- sums with weights that rebuild a node are its share
-  pub rebuilt-lanes : {out : List ℕ} (target : ℕ) (ws : List ℕ) → Rebuilds h nodes target ws → out ≡ combined byLane (modulusOf h) (h .k) l ws shares → RebuiltBytes shareLayout h l nodes shares target out
+  pub rebuilt-lanes : {out : List ℕ} (target : ℕ) (ws : List ℕ) → Rebuilds h nodes target ws → out ≡ bytesOf (width h) (combined byLane (modulusOf h) (h .k) l ws (symbolsOf (width h) shares)) → RebuiltBytes shareLayout h l nodes shares target out
+  unfolding RebuiltBytes
   rebuilt-lanes {out} target ws w e =
-      let (m, is) = some-buffer by-lane h (listed .rows .sound) l nodes (listed .different) shares (listed .rows .long) (listed .rows .symbols) in
-      rw share-by-lane (rebuilt-bytes h byLane l nodes shares target m out is (e ∙ rebuilt is target ws w))
+      let (m, is) = some-buffer by-lane h (all-rows .sound) l nodes (listed .different) (symbolsOf (width h) shares) (all-rows .long) (all-rows .symbols) in
+      rw share-by-lane (m, is, e ∙ ap (bytesOf (width h)) (rebuilt is target ws w))
+
+  -- the message as bytes
+  pub recovered-lanes : {out : List ℕ} → MessageWritten byLane h (width h) l nodes (symbolsOf (width h) shares) out → RecoveredBytes shareLayout h l nodes shares out
+  unfolding RecoveredBytes
+  recovered-lanes a = rw share-by-lane (a .message, a .is, a .written)
+
+-- the sums with all rows of weights are the message
+pub sums-message : {h : Header} {l : ℕ} {nodes xs ws : List ℕ} → SymbolRows h (h .k) l xs → areNodes h nodes ≡ true → WeightRows h nodes ws → MessageFor byLane h l nodes xs (buffer byRow (h .k) l (sumAt h l ws xs))
+unfolding sumAt
+sums-message {h} {l} {nodes} {xs} {ws} rows different all =
+    let (m, is) = some-buffer by-lane h (rows .sound) l nodes different xs (rows .long) (rows .symbols) in
+    let same : buffer byRow (h .k) l (sumAt h l ws xs) ≡ m =
+    buffer-ext by-row (h .k) l (sumAt h l ws xs) (held byRow (h .k) l m)
+    (λ r t row inside.
+    ap (λ (w : List ℕ). dot (modulusOf h) w (weightRow ws r)) (sym (is .lanes t inside))
+    ∙ sym (all .rows r row .gives (laneOf byRow (h .k) l t m) (lane-message h l m t inside (is .size-is) (is .symbols)))
+    ∙ getD-lane byRow (h .k) l t m r row)
+    ∙ buffer-held by-row (h .k) l m (is .size-is) in
+    rw same is
+
+-- a block that is one tile: its rows, and the message by them
+module _ (h : Header) (w l : ℕ) (nodes s : List ℕ) (is : SymbolBytes h w (h .k) l s) where
+  abbrev tile : List ℕ
+  tile = rearranged byLane byRow (w * h .k) l s
+
+  tile-symbols : tileSymbols w (h .k) l (rearranged byLane byRow (w * h .k) l s) ≡ rearranged byLane byRow (h .k) l (symbolsOf w s)
+  tile-symbols = tile-gathered w (h .k) l s (is .bytes)
+
+  pub block-tile : SymbolTile h w (h .k) l (rearranged byLane byRow (w * h .k) l s)
+  unfolding rearranged
+  block-tile =
+      let rows = is .symbol-rows in
+      record {
+        wide = is .wide;
+        bytes = length-rearranged-rows (w * h .k) l s;
+        symbol-rows = rw tile-symbols
+            record {
+              sound = rows .sound;
+              some-lane = rows .some-lane;
+              few-lanes = rows .few-lanes;
+              long = length-rearranged-rows (h .k) l (symbolsOf w s);
+              symbols = buffer-below by-row (h .k) l (size h) _ (held-below by-lane (h .k) l (size h) (symbolsOf w s) (rows .long) (rows .symbols));
+            };
+      }
+
+  pub block-message : {out : List ℕ} → MessageWritten byRow h w l nodes (tileSymbols w (h .k) l (rearranged byLane byRow (w * h .k) l s)) out → MessageWritten byLane h w l nodes (symbolsOf w s) out
+  block-message a =
+      let m = a .is in
+      record {
+        message = a .message;
+        is = record { size-is = m .size-is; symbols = m .symbols; lanes = λ t inside. m .lanes t inside ∙ ap (laneOf byRow (h .k) l t) tile-symbols ∙ rearranged-lane by-lane by-row (h .k) l (symbolsOf w s) t inside };
+        written = a .written;
+      }

@@ -25,7 +25,8 @@ fn recover_accepted(h: Header, lanes: usize, nodes: &[u8], shares: &[u8], out: &
     let k = h.k as usize;
     let shifts = shifts::fill_shifts(h.n, h.k);
     let setup = recovery::prepare(h, nodes, &shifts[..k]);
-    messages::recover_lanes(h, lanes, nodes, shares, setup, out);
+    let w = symbols::width_of(h);
+    messages::recover_lanes(h, w, lanes, nodes, shares, setup, out);
     Outcome::Done
 }
 
@@ -55,8 +56,9 @@ fn rebuild_accepted(
     if number != 0 {
         return Outcome::Refused(number);
     }
+    let w = symbols::width_of(h);
     let weights = recovery::rebuild_weights(h, nodes, target);
-    shares::rebuild_lanes(h, lanes, &weights, shares, out);
+    shares::rebuild_lanes(h, w, lanes, &weights, shares, out);
     Outcome::Done
 }
 

@@ -5,14 +5,16 @@ ghost use Prim.Native.Nat.{_+_, _*_, _≤_, _<_};
 ghost use lib.ListN.{length};
 ghost use Rattle.lists.specs.Numbers.{allBelow};
 ghost use Rattle.layout.specs.Layout.{byRow, byLane, someLanes};
+ghost use Rattle.layout.specs.Width.{symbolsOf, bytesOf};
 ghost use Rattle.generator.specs.Records.{modulusOf, size};
-ghost use Rattle.refusals.specs.Accepted.{SymbolRows};
+ghost use Rattle.refusals.specs.Accepted.{SymbolBytes};
 ghost use Rattle.combine.specs.Combined.{combined};
 use generator::Header;
 
 // Sums of `count` lanes of the listed shares times the weights, from lane `first` on.
 fn fill_tile(
     h: Header,
+    w: usize,
     lanes: usize,
     first: usize,
     count: usize,
@@ -21,57 +23,67 @@ fn fill_tile(
     tile: &mut [u8],
     out: &mut [u8],
 )
-    requires { ⌜ SymbolRows h (h .k) lanes (now shares) × (length (now weights) ≡ 255) × (allBelow (size h) (now weights) ≡ true) × (0 < count) × (first + count ≤ lanes) × (length (now tile) ≡ h .k * count) × (length (now out) ≡ count) ⌝ }
-    ensures { λ r. ⌜ now (out .exit) ≡ combined byRow (modulusOf h) (h .k) count (now (weights .entry)) (someLanes byLane byRow (h .k) lanes first count (now (shares .entry))) ⌝ }
+    requires { ⌜ SymbolBytes h w (h .k) lanes (now shares) × (length (now weights) ≡ 255) × (allBelow (size h) (now weights) ≡ true) × (0 < count) × (first + count ≤ lanes) × (length (now tile) ≡ w * h .k * count) × (length (now out) ≡ w * count) ⌝ }
+    ensures { λ r. ⌜ now (out .exit) ≡ bytesOf w (combined byRow (modulusOf h) (h .k) count (now (weights .entry)) (someLanes byLane byRow (h .k) lanes first count (symbolsOf w (now (shares .entry))))) ⌝ }
 {
     let field = h.field;
     let k = h.k as usize;
-    tiles::gather_lanes(k, lanes, first, count, shares, tile);
-    combine::combine(field, weights, k, count, tile, out);
+    tiles::gather_lanes(w * k, lanes, first, count, shares, tile);
+    combine::combine_symbols(field, weights, k, count, tile, out);
 }
 
 // Sums of the listed shares times the weights, tile by tile.
 fn fill_share(
     h: Header,
+    w: usize,
     lanes: usize,
     weights: &[u16],
     shares: &[u8],
     tile: &mut [u8],
     out: &mut [u8],
 )
-    requires { ⌜ SymbolRows h (h .k) lanes (now shares) × (length (now weights) ≡ 255) × (allBelow (size h) (now weights) ≡ true) × (h .k ≤ length (now tile)) × (length (now out) ≡ lanes) ⌝ }
-    ensures { λ r. ⌜ now (out .exit) ≡ combined byLane (modulusOf h) (h .k) lanes (now (weights .entry)) (now (shares .entry)) ⌝ }
+    requires { ⌜ SymbolBytes h w (h .k) lanes (now shares) × (length (now weights) ≡ 255) × (allBelow (size h) (now weights) ≡ true) × (w * h .k ≤ length (now tile)) × (length (now out) ≡ w * lanes) ⌝ }
+    ensures { λ r. ⌜ now (out .exit) ≡ bytesOf w (combined byLane (modulusOf h) (h .k) lanes (now (weights .entry)) (symbolsOf w (now (shares .entry)))) ⌝ }
 {
-    let k = h.k as usize;
+    let rows = w * h.k as usize;
     let mut first: usize = 0;
     while first < lanes {
-        let count = tiles::tile_lanes(k, tile.len(), lanes - first);
-        let size = k * count;
-        let next = first + count;
+        let count = tiles::tile_lanes(rows, tile.len(), lanes - first);
+        let size = rows * count;
+        let start = first * w;
+        let end = start + count * w;
         fill_tile(
             h,
+            w,
             lanes,
             first,
             count,
             weights,
             shares,
             &mut tile[..size],
-            &mut out[first..next],
+            &mut out[start..end],
         );
-        first = next;
+        first += count;
     }
 }
 
 // The same in scratch of this call, little where the block is small.
-pub fn rebuild_lanes(h: Header, lanes: usize, weights: &[u16], shares: &[u8], out: &mut [u8])
-    requires { ⌜ SymbolRows h (h .k) lanes (now shares) × (length (now weights) ≡ 255) × (allBelow (size h) (now weights) ≡ true) × (length (now out) ≡ lanes) ⌝ }
-    ensures { λ r. ⌜ now (out .exit) ≡ combined byLane (modulusOf h) (h .k) lanes (now (weights .entry)) (now (shares .entry)) ⌝ }
+pub fn rebuild_lanes(
+    h: Header,
+    w: usize,
+    lanes: usize,
+    weights: &[u16],
+    shares: &[u8],
+    out: &mut [u8],
+)
+    requires { ⌜ SymbolBytes h w (h .k) lanes (now shares) × (length (now weights) ≡ 255) × (allBelow (size h) (now weights) ≡ true) × (length (now out) ≡ w * lanes) ⌝ }
+    ensures { λ r. ⌜ now (out .exit) ≡ bytesOf w (combined byLane (modulusOf h) (h .k) lanes (now (weights .entry)) (symbolsOf w (now (shares .entry)))) ⌝ }
 {
     if shares.len() <= 4096 {
         let mut tile = tiles::small_scratch();
-        fill_share(h, lanes, weights, shares, &mut tile, out);
+        fill_share(h, w, lanes, weights, shares, &mut tile, out);
         return;
     }
     let mut tile = tiles::scratch();
-    fill_share(h, lanes, weights, shares, &mut tile, out);
+    fill_share(h, w, lanes, weights, shares, &mut tile, out);
 }

@@ -9,14 +9,15 @@ use Rattle.lists.specs.Choice.{firstOf, when}
 use Rattle.lists.proofs.Cases.{both-true, first-zero, when-zero}
 use Rattle.layout.specs.Layout.{laneOf, shareLayout}
 use Rattle.layout.specs.Width.{symbolsOf}
+use Rattle.layout.proofs.Readings.{count-symbols}
 use Rattle.generator.specs.declared.Header.{Header}
 use Rattle.generator.specs.Records.{size, width, Sound}
 use Rattle.generator.specs.Claims.{areNodes}
+use Rattle.generator.proofs.Widths.{width-some}
 use Rattle.refusals.specs.Conditions.{lanesBad, lengthBad, numberBad, nodesBad, twiceBad, symbolBad, symbolsBad, laneBad, noWord, otherSymbol}
-use Rattle.refusals.specs.Faults.{encodeFault, inputFault, staleFault, updateFault, listFault, recoverFault, rebuildFault, belongsFault}
-use Rattle.refusals.specs.Accepted.{SymbolRows, ListedShares, UpdatableLane, FreshLane}
-use Rattle.refusals.proofs.OneByte.{symbols-are}
-use Rattle.refusals.proofs.NotMet.{lanes-good, length-good, buffer-good, number-good, nodes-good, twice-good, symbol-good, symbols-good, lane-good, word-good, held-good}
+use Rattle.refusals.specs.Faults.{encodeFault, inputFault, staleFault, updateFault, listFault, recoverFault, rebuildFault, belongsFault, rearrangeFault}
+use Rattle.refusals.specs.Accepted.{SymbolBuffer, ListedShares, UpdatableLane, FreshLane}
+use Rattle.refusals.proofs.NotMet.{lanes-good, length-good, number-good, nodes-good, twice-good, symbol-good, symbols-good, lane-good, word-good, held-good}
 
 -- a number that is not met, and the numbers after it
 pub not-met : (t : Bool) (n rest : ℕ) → firstOf (when t (suc n)) rest ≡ 0 → (t ≡ false) × (rest ≡ 0)
@@ -26,28 +27,32 @@ not-met t n rest e =
 
 module _ (h : Header) (sound : Sound h) (l : ℕ) where
   -- rows whose lanes, length and symbols pass
-  rows-good : (rows : ℕ) (s : List ℕ) → lanesBad l ≡ false → lengthBad (rows * l * width h) (length s) ≡ false → symbolsBad h s ≡ false → SymbolRows h rows l s
+  rows-good : (rows : ℕ) (s : List ℕ) → lanesBad l ≡ false → lengthBad (rows * l * width h) (length s) ≡ false → symbolsBad h s ≡ false → SymbolBuffer h rows l s
   rows-good rows s seven eight eleven =
       let (some, few) = lanes-good l seven in
+      let bytes = length-good (rows * l * width h) (length s) eight in
       record {
-        sound = sound;
-        some-lane = some;
-        few-lanes = few;
-        long = buffer-good h (rows * l) (length s) eight;
-        symbols = symbols-good h s eleven;
+        bytes = bytes;
+        symbol-rows = record {
+          sound = sound;
+          some-lane = some;
+          few-lanes = few;
+          long = count-symbols (width h) (rows * l) s (width-some h) bytes;
+          symbols = symbols-good h s eleven;
+        };
       }
 
   -- Encode: the message is a buffer of symbols, and the shares fill the written buffer
-  pub encode-accepts : (out : ℕ) (message : List ℕ) → encodeFault h l out message ≡ 0 → SymbolRows h (h .k) l message × (out ≡ h .n * l)
+  pub encode-accepts : (out : ℕ) (message : List ℕ) → encodeFault h l out message ≡ 0 → SymbolBuffer h (h .k) l message × (out ≡ h .n * l * width h)
   unfolding encodeFault
   encode-accepts out message e =
       let (seven, after) = not-met (lanesBad l) 6 _ e in
       let (read, later) = not-met (lengthBad (h .k * l * width h) (length message)) 7 _ after in
       let (written, last) = not-met (lengthBad (h .n * l * width h) out) 7 _ later in
-      (rows-good (h .k) message seven read (when-zero (symbolsBad h message) 10 last), buffer-good h (h .n * l) out written)
+      (rows-good (h .k) message seven read (when-zero (symbolsBad h message) 10 last), length-good (h .n * l * width h) out written)
 
   -- Belongs: the shares are a full buffer of symbols
-  pub belongs-accepts : (shares : List ℕ) → belongsFault h l shares ≡ 0 → SymbolRows h (h .n) l shares
+  pub belongs-accepts : (shares : List ℕ) → belongsFault h l shares ≡ 0 → SymbolBuffer h (h .n) l shares
   unfolding belongsFault
   belongs-accepts shares e =
       let (seven, after) = not-met (lanesBad l) 6 _ e in
@@ -69,7 +74,7 @@ module _ (h : Header) (sound : Sound h) (l : ℕ) where
           few-lanes = lanes-good l seven .1;
           row = number-good (h .k) r row;
           lane = number-good l t lane;
-          long = buffer-good h (h .n * l) (length shares) eight;
+          bytes = length-good (h .n * l * width h) (length shares) eight;
           symbols = lane-good h shareLayout l t shares (when-zero (laneBad shareLayout h l t shares) 10 g);
         },
         symbol-good h old first,
@@ -87,10 +92,18 @@ module _ (h : Header) (sound : Sound h) (l : ℕ) where
         first,
         second,
         record {
-          word = rw symbols-are at (word-good h _ twelve);
-          holds = rw symbols-are at (held-good h _ r old (when-zero (otherSymbol h (laneOf shareLayout (h .n) l t (symbolsOf (width h) shares)) r old) 12 thirteen));
+          word = word-good h _ twelve;
+          holds = held-good h _ r old (when-zero (otherSymbol h (laneOf shareLayout (h .n) l t (symbolsOf (width h) shares)) r old) 12 thirteen);
         },
       )
+
+  -- to_lanes and to_nodes: both buffers have a symbol for each node and lane
+  pub rearrange-accepts : (source out : ℕ) → rearrangeFault h l source out ≡ 0 → (source ≡ h .n * l * width h) × (out ≡ h .n * l * width h)
+  unfolding rearrangeFault
+  rearrange-accepts source out e =
+      let (seven, after) = not-met (lanesBad l) 6 _ e in
+      let (read, last) = not-met (lengthBad (h .n * l * width h) source) 7 _ after in
+      (length-good (h .n * l * width h) source read, length-good (h .n * l * width h) out (when-zero (lengthBad (h .n * l * width h) out) 7 last))
 
   module _ (nodes shares : List ℕ) where
     -- a list of nodes and its shares
@@ -100,22 +113,22 @@ module _ (h : Header) (sound : Sound h) (l : ℕ) where
         let (nine, after) = not-met (nodesBad h nodes) 8 _ e in
         let (ten, last) = not-met (twiceBad nodes) 9 _ after in
         record {
-          rows = rows-good (h .k) shares seven long (when-zero (symbolsBad h shares) 10 last);
+          buffer = rows-good (h .k) shares seven long (when-zero (symbolsBad h shares) 10 last);
           different = both-true (eq-eqb (length nodes) (h .k) (length-good (h .k) (length nodes) count)) (both-true (nodes-good h nodes nine) (twice-good nodes ten));
         }
 
     -- Recover: the message fills the written buffer
-    pub recover-accepts : (out : ℕ) → recoverFault h l nodes shares out ≡ 0 → ListedShares h l nodes shares × (out ≡ h .k * l)
+    pub recover-accepts : (out : ℕ) → recoverFault h l nodes shares out ≡ 0 → ListedShares h l nodes shares × (out ≡ h .k * l * width h)
     unfolding recoverFault
     recover-accepts out e =
         let (seven, a) = not-met (lanesBad l) 6 _ e in
         let (count, b) = not-met (lengthBad (h .k) (length nodes)) 7 _ a in
         let (long, c) = not-met (lengthBad (h .k * l * width h) (length shares)) 7 _ b in
         let (written, rest) = not-met (lengthBad (h .k * l * width h) out) 7 _ c in
-        (list-accepts seven count long rest, buffer-good h (h .k * l) out written)
+        (list-accepts seven count long rest, length-good (h .k * l * width h) out written)
 
     -- Rebuild: the target is a node, and its share fills the written buffer
-    pub rebuild-accepts : (target out : ℕ) → rebuildFault h l nodes shares target out ≡ 0 → ListedShares h l nodes shares × (target < h .n) × (out ≡ l)
+    pub rebuild-accepts : (target out : ℕ) → rebuildFault h l nodes shares target out ≡ 0 → ListedShares h l nodes shares × (target < h .n) × (out ≡ l * width h)
     unfolding rebuildFault
     rebuild-accepts target out e =
         let (seven, a) = not-met (lanesBad l) 6 _ e in
@@ -123,4 +136,4 @@ module _ (h : Header) (sound : Sound h) (l : ℕ) where
         let (long, c) = not-met (lengthBad (h .k * l * width h) (length shares)) 7 _ b in
         let (written, d) = not-met (lengthBad (l * width h) out) 7 _ c in
         let (node, rest) = not-met (numberBad (h .n) target) 8 _ d in
-        (list-accepts seven count long rest, number-good (h .n) target node, buffer-good h l out written)
+        (list-accepts seven count long rest, number-good (h .n) target node, length-good (l * width h) out written)

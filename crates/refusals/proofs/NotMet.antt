@@ -1,5 +1,5 @@
 -- What holds where the condition of a number fails.
-use mathlib.Core.Path.{_≡_, _∙_}
+use mathlib.Core.Path.{_≡_}
 use mathlib.Core.Bool.{true, false}
 use mathlib.Core.List.{List}
 use Prim.Native.Nat.{ℕ, _*_, _≤_, _<_}
@@ -11,12 +11,12 @@ use lib.ListN.{getD}
 use Rattle.lists.specs.Numbers.{allBelow, distinct}
 use Rattle.lists.proofs.Cases.{or-left-false, or-right-false}
 use Rattle.layout.specs.Layout.{Arrangement, laneOf}
+use Rattle.layout.specs.Width.{symbolsOf}
 use Rattle.generator.specs.declared.Header.{Header}
 use Rattle.generator.specs.Records.{size, width}
 use Rattle.generator.specs.Codewords.{isWord}
 use Rattle.generator.specs.Messages.{messageOf}
 use Rattle.refusals.specs.Conditions.{lanesBad, lengthBad, numberBad, nodesBad, twiceBad, symbolBad, symbolsBad, laneBad, noWord, otherSymbol}
-use Rattle.refusals.proofs.OneByte.{times-width, symbols-test, lane-test}
 
 -- number 7
 pub lanes-good : (l : ℕ) → lanesBad l ≡ false → (0 < l) × (l ≤ 4096)
@@ -40,10 +40,6 @@ unfolding numberBad
 number-good end x e = leb-false end x e
 
 module _ (h : Header) where
-  -- number 8 of a buffer
-  pub buffer-good : (count long : ℕ) → lengthBad (count * width h) long ≡ false → long ≡ count
-  buffer-good count long e = length-good (count * width h) long e ∙ times-width h count
-
   pub nodes-good : (nodes : List ℕ) → nodesBad h nodes ≡ false → allBelow (h .n) nodes ≡ true
   unfolding nodesBad
   nodes-good nodes e = not-false _ e
@@ -53,11 +49,13 @@ module _ (h : Header) where
   unfolding symbolBad
   symbol-good x e = leb-false (size h) x e
 
-  pub symbols-good : (s : List ℕ) → symbolsBad h s ≡ false → allBelow (size h) s ≡ true
-  symbols-good s e = not-false _ (rw symbols-test at e)
+  pub symbols-good : (s : List ℕ) → symbolsBad h s ≡ false → allBelow (size h) (symbolsOf (width h) s) ≡ true
+  unfolding symbolsBad
+  symbols-good s e = not-false _ e
 
-  pub lane-good : (y : Arrangement) (l t : ℕ) (shares : List ℕ) → laneBad y h l t shares ≡ false → allBelow (size h) (laneOf y (h .n) l t shares) ≡ true
-  lane-good y l t shares e = not-false _ (rw lane-test at e)
+  pub lane-good : (y : Arrangement) (l t : ℕ) (shares : List ℕ) → laneBad y h l t shares ≡ false → allBelow (size h) (laneOf y (h .n) l t (symbolsOf (width h) shares)) ≡ true
+  unfolding laneBad
+  lane-good y l t shares e = not-false _ e
 
   -- number 12
   pub word-good : (ws : List ℕ) → noWord h ws ≡ false → isWord h ws ≡ true

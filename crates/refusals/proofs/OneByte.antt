@@ -1,5 +1,5 @@
--- A symbol has one byte: symbols are the bytes, and a buffer has as many bytes as symbols.
-use mathlib.Core.Path.{_≡_, ap}
+-- Where a symbol has one byte: symbols are the bytes, and a buffer has as many bytes as symbols.
+use mathlib.Core.Path.{_≡_, ap, _∙_}
 use mathlib.Core.Bool.{not}
 use mathlib.Core.List.{List}
 use Prim.Native.Nat.{ℕ, _*_}
@@ -12,18 +12,15 @@ use Rattle.generator.specs.declared.Header.{Header}
 use Rattle.generator.specs.Records.{size, width}
 use Rattle.refusals.specs.Conditions.{symbolsBad, laneBad}
 
-module _ (h : Header) where
+module _ (h : Header) (one : width h ≡ 1) where
   pub symbols-are : (s : List ℕ) → symbolsOf (width h) s ≡ s
-  unfolding width
-  symbols-are = symbols-one
+  symbols-are s = ap (λ (w : ℕ). symbolsOf w s) one ∙ symbols-one s
 
   pub bytes-are : (xs : List ℕ) → bytesOf (width h) xs ≡ xs
-  unfolding width
-  bytes-are = bytes-one
+  bytes-are xs = ap (λ (w : ℕ). bytesOf w xs) one ∙ bytes-one xs
 
   pub times-width : (count : ℕ) → count * width h ≡ count
-  unfolding width
-  times-width = mul-one
+  times-width count = ap (λ (w : ℕ). count * w) one ∙ mul-one count
 
   pub symbols-test : (s : List ℕ) → symbolsBad h s ≡ not (allBelow (size h) s)
   unfolding symbolsBad

@@ -6,11 +6,13 @@ use Prim.Native.Nat.{ℕ, _*_, _≤_, _<_}
 use lib.ListN.{length, getD}
 use Rattle.lists.specs.Numbers.{allBelow}
 use Rattle.generator.specs.declared.Header.{Header}
-use Rattle.generator.specs.Records.{size, Sound}
+use Rattle.generator.specs.Records.{size, width, Sound}
 use Rattle.generator.specs.Codewords.{isWord}
 use Rattle.generator.specs.Messages.{messageOf}
 use Rattle.generator.specs.Claims.{areNodes}
 use Rattle.layout.specs.Layout.{laneOf, shareLayout}
+use Rattle.layout.specs.Width.{symbolsOf}
+use Rattle.layout.specs.Tiles.{tileSymbols}
 
 -- rows of symbols in l lanes, over a sound header
 pub record SymbolRows (h : Header) (rows l : ℕ) (s : List ℕ) : Type 0 where
@@ -20,9 +22,25 @@ pub record SymbolRows (h : Header) (rows l : ℕ) (s : List ℕ) : Type 0 where
   pub long : length s ≡ rows * l
   pub symbols : allBelow (size h) s ≡ true
 
+-- a buffer of such rows as bytes
+pub record SymbolBuffer (h : Header) (rows l : ℕ) (s : List ℕ) : Type 0 where
+  pub bytes : length s ≡ rows * l * width h
+  pub symbol-rows : SymbolRows h rows l (symbolsOf (width h) s)
+
+-- the same where a symbol's bytes are told, and a tile of such rows
+pub record SymbolBytes (h : Header) (w rows l : ℕ) (s : List ℕ) : Type 0 where
+  pub wide : w ≡ width h
+  pub bytes : length s ≡ w * rows * l
+  pub symbol-rows : SymbolRows h rows l (symbolsOf w s)
+
+pub record SymbolTile (h : Header) (w rows l : ℕ) (s : List ℕ) : Type 0 where
+  pub wide : w ≡ width h
+  pub bytes : length s ≡ w * rows * l
+  pub symbol-rows : SymbolRows h rows l (tileSymbols w rows l s)
+
 -- shares of k different nodes
 pub record ListedShares (h : Header) (l : ℕ) (nodes shares : List ℕ) : Type 0 where
-  pub rows : SymbolRows h (h .k) l shares
+  pub buffer : SymbolBuffer h (h .k) l shares
   pub different : areNodes h nodes ≡ true
 
 -- shares of which lane t holds symbols, and row r of the generator
@@ -31,10 +49,10 @@ pub record UpdatableLane (h : Header) (l r t : ℕ) (shares : List ℕ) : Type 0
   pub few-lanes : l ≤ 4096
   pub row : r < h .k
   pub lane : t < l
-  pub long : length shares ≡ h .n * l
-  pub symbols : allBelow (size h) (laneOf shareLayout (h .n) l t shares) ≡ true
+  pub bytes : length shares ≡ h .n * l * width h
+  pub symbols : allBelow (size h) (laneOf shareLayout (h .n) l t (symbolsOf (width h) shares)) ≡ true
 
 -- lane t is a word of the code, and its message holds `old` at number r
 pub record FreshLane (h : Header) (l r t old : ℕ) (shares : List ℕ) : Type 0 where
-  pub word : isWord h (laneOf shareLayout (h .n) l t shares) ≡ true
-  pub holds : getD (messageOf h (laneOf shareLayout (h .n) l t shares)) r 0 ≡ old
+  pub word : isWord h (laneOf shareLayout (h .n) l t (symbolsOf (width h) shares)) ≡ true
+  pub holds : getD (messageOf h (laneOf shareLayout (h .n) l t (symbolsOf (width h) shares))) r 0 ≡ old

@@ -69,6 +69,13 @@ belongsFault h l shares =
     (firstOf (when (lengthBad (h .n * l * width h) (length shares)) 8)
     (when (symbolsBad h shares) 11))
 
+-- to_lanes and to_nodes read n shares and write them in another arrangement; `source` is the length of the buffer that is read
+unfoldable pub rearrangeFault : Header → ℕ → ℕ → ℕ → ℕ
+rearrangeFault h l source out =
+    firstOf (when (lanesBad l) 7)
+    (firstOf (when (lengthBad (h .n * l * width h) source) 8)
+    (when (lengthBad (h .n * l * width h) out) 8))
+
 -- the record's number, 1 to 6, else the call's
 unfoldable pub faultOf : List ℕ → (Header → ℕ) → ℕ
 faultOf rec call = firstOf (recordFault rec) (call (headerOf rec))

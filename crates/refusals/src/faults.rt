@@ -3,15 +3,16 @@ ghost use mathlib.Core.Path.{_≡_};
 ghost use mathlib.Core.Bool.{true};
 ghost use Rattle.field.specs.Kinds.{usable};
 ghost use Rattle.layout.specs.Layout.{shareLayout};
-ghost use Rattle.refusals.specs.Faults.{encodeFault, inputFault, recoverFault, rebuildFault, belongsFault};
+ghost use Rattle.refusals.specs.Faults.{encodeFault, inputFault, recoverFault, rebuildFault, belongsFault, rearrangeFault};
+use crate::conditions::buffer_bad;
 use crate::conditions::lanes_bad;
 use crate::conditions::length_bad;
 use crate::conditions::number_bad;
+use crate::field_symbols::lane_bad;
+use crate::field_symbols::shares_bad;
+use crate::field_symbols::symbol_bad;
+use crate::field_symbols::symbols_bad;
 use crate::nodes::list_fault;
-use crate::symbols::lane_bad;
-use crate::symbols::shares_bad;
-use crate::symbols::symbol_bad;
-use crate::symbols::symbols_bad;
 use generator::Header;
 
 // Encode.
@@ -24,10 +25,10 @@ pub fn encode_fault(h: Header, lanes: usize, message: &[u8], size: usize) -> u8
     if lanes_bad(lanes) {
         return 7;
     }
-    if length_bad(k * lanes, message.len()) {
+    if buffer_bad(h, k * lanes, message.len()) {
         return 8;
     }
-    if length_bad(n * lanes, size) {
+    if buffer_bad(h, n * lanes, size) {
         return 8;
     }
     if symbols_bad(h, message) {
@@ -54,7 +55,7 @@ pub fn input_fault(
     if lanes_bad(lanes) {
         return 7;
     }
-    if length_bad(n * lanes, shares.len()) {
+    if buffer_bad(h, n * lanes, shares.len()) {
         return 8;
     }
     if number_bad(k, which) {
@@ -88,10 +89,10 @@ pub fn recover_fault(h: Header, lanes: usize, nodes: &[u8], shares: &[u8], size:
         return 8;
     }
     let long = k * lanes;
-    if length_bad(long, shares.len()) {
+    if buffer_bad(h, long, shares.len()) {
         return 8;
     }
-    if length_bad(long, size) {
+    if buffer_bad(h, long, size) {
         return 8;
     }
     list_fault(h, lanes, nodes, shares)
@@ -117,10 +118,10 @@ pub fn rebuild_fault(
     if length_bad(k, nodes.len()) {
         return 8;
     }
-    if length_bad(k * lanes, shares.len()) {
+    if buffer_bad(h, k * lanes, shares.len()) {
         return 8;
     }
-    if length_bad(lanes, size) {
+    if buffer_bad(h, lanes, size) {
         return 8;
     }
     if number_bad(n, target) {
@@ -138,11 +139,30 @@ pub fn belongs_fault(h: Header, lanes: usize, shares: &[u8]) -> u8
     if lanes_bad(lanes) {
         return 7;
     }
-    if length_bad(n * lanes, shares.len()) {
+    if buffer_bad(h, n * lanes, shares.len()) {
         return 8;
     }
     if shares_bad(h, n, lanes, shares) {
         return 11;
+    }
+    0
+}
+
+// to_lanes and to_nodes; `source` is the length of the buffer that is read.
+pub fn rearrange_fault(h: Header, lanes: usize, source: usize, size: usize) -> u8
+    requires { ⌜ usable (h .field) ≡ true ⌝ }
+    ensures { λ r. ⌜ r ≡ rearrangeFault h lanes source size ⌝ }
+{
+    let n = h.n as usize;
+    if lanes_bad(lanes) {
+        return 7;
+    }
+    let long = n * lanes;
+    if buffer_bad(h, long, source) {
+        return 8;
+    }
+    if buffer_bad(h, long, size) {
+        return 8;
     }
     0
 }

@@ -4,9 +4,10 @@ ghost use mathlib.Core.Bool.{true};
 ghost use Prim.Native.Nat.{_*_};
 ghost use lib.ListN.{length};
 ghost use Rattle.field.specs.Kinds.{usable};
+ghost use Rattle.generator.specs.Records.{width};
 ghost use Rattle.refusals.specs.Conditions.{nodesBad, twiceBad};
 ghost use Rattle.refusals.specs.Faults.{listFault};
-use crate::symbols::shares_bad;
+use crate::field_symbols::shares_bad;
 use generator::Header;
 
 // Number 9: a list names a node that there is not.
@@ -39,7 +40,7 @@ pub fn twice_bad(nodes: &[u8]) -> bool
 
 // A list of nodes and their shares: the range is tested before repeats, and the symbols last.
 pub fn list_fault(h: Header, lanes: usize, nodes: &[u8], shares: &[u8]) -> u8
-    requires { ⌜ (usable (h .field) ≡ true) × (length (now shares) ≡ h .k * lanes) ⌝ }
+    requires { ⌜ (usable (h .field) ≡ true) × (length (now shares) ≡ h .k * lanes * width h) ⌝ }
     ensures { λ r. ⌜ r ≡ listFault h (now (nodes .entry)) (now (shares .entry)) ⌝ }
 {
     let k = h.k as usize;

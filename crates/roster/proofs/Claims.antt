@@ -8,7 +8,6 @@ use Rattle.generator.specs.declared.Record.the-variants.{Holds, Meets}
 use Rattle.generator.specs.Records.{headerOf, recordFault, recordOf, Sound}
 use Rattle.generator.proofs.Accepts.{accepted-sound, faultless-sound}
 use Rattle.roster.specs.Claims.{RosterSays, RosterPromised}
-use Rattle.roster.proofs.Sizes.{n-byte}
 use Rattle.roster.proofs.History.{kept}
 use Rattle.roster.proofs.Stepping.{stepping, turned-away}
 use Rattle.roster.proofs.Lowest.{lowest}
@@ -17,7 +16,7 @@ use Rattle.roster.proofs.Turns.{turns}
 
 -- of a sound header
 sound-says : (h : Header) → Sound h → RosterSays h
-sound-says h s = record { kept = kept h (n-byte h s); stepping = stepping h; lowest = lowest h (s .some); jobs = jobs h (s .some); turns = turns h (s .some) }
+sound-says h s = record { kept = kept h (s .byte); stepping = stepping h; lowest = lowest h (s .some); jobs = jobs h (s .some); turns = turns h (s .some) }
 
 -- of an accepted record
 pub roster-says : (rec : List ℕ) → recordFault rec ≡ 0 → RosterSays (headerOf rec)

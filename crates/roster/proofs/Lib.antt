@@ -1,6 +1,5 @@
 -- Laws of rosters, events and jobs, and what holds of every accepted record's rosters.
 pub mod Nodes
-pub mod Sizes
 pub mod Stepping
 pub mod Lowest
 pub mod OneJob

@@ -10,7 +10,7 @@ use Rattle.field.specs.Primes.{dividesSome, isPrime}
 use Rattle.field.specs.Bytes.{timesX, productFrom, product}
 use Rattle.field.specs.Fields.{sizeOf, add, sub, mul, power, orderFrom, orderOf}
 use Rattle.field.specs.Kinds.{modulus}
-use Rattle.generator.specs.Records.{headerOf, distance, lowReads, highReads, kindBad, bodyBad, fieldBad, sizeBad, rootBad, headerFault, recordFault, judged, recordOf}
+use Rattle.generator.specs.Records.{headerOf, distance, lowReads, highReads, kindBad, bodyBad, primeIn, fieldBad, sizeBad, rootBad, headerFault, recordFault, judged, recordOf}
 use Rattle.generator.specs.Shifts.{gcdFrom, gcd, shiftsFrom, evenShifts, negative, period, laidAt, laidShifts, isEven, shiftsOf, firstsOf}
 use Rattle.generator.specs.Generator.{baseFrom, baseAt, entryAt, baseWord}
 use Rattle.plan.specs.Plans.{planFor, entryIn}
@@ -39,5 +39,5 @@ samples =
 
 -- every case of the table holds
 pub samples-hold : All Says samples
-unfolding Says samples ascii decimal field fields line roundings numbersLine headLine rowLine sheetOf entryIn planFor recordOf judged recordFault headerFault kindBad bodyBad fieldBad sizeBad rootBad headerOf distance lowReads highReads firstsOf shiftsOf isEven evenShifts shiftsFrom laidShifts laidAt period negative gcd gcdFrom baseWord entryAt baseAt baseFrom from rowsFrom zeros padded modulus sizeOf add sub mul power orderOf orderFrom product productFrom timesX isPrime dividesSome
+unfolding Says samples ascii decimal field fields line roundings numbersLine headLine rowLine sheetOf entryIn planFor recordOf judged recordFault headerFault kindBad bodyBad fieldBad primeIn sizeBad rootBad headerOf distance lowReads highReads firstsOf shiftsOf isEven evenShifts shiftsFrom laidShifts laidAt period negative gcd gcdFrom baseWord entryAt baseAt baseFrom from rowsFrom zeros padded modulus sizeOf add sub mul power orderOf orderFrom product productFrom timesX isPrime dividesSome
 samples-hold = (refl, (refl, (refl, (refl, (refl, (refl, (refl, (refl, (refl, tt)))))))))

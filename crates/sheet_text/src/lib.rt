@@ -5,13 +5,12 @@ use plan::entry;
 use text::put_byte;
 use text::put_field;
 use text::put_line;
+use text::put_number_field;
 use text::put_word;
 ghost use mathlib.Core.Path.{_≡_};
 ghost use mathlib.Core.List.{_++_};
 ghost use Prim.Native.Nat.{_+_, _≤_, _<_};
 ghost use lib.ListN.{length, take, drop};
-ghost use mathlib.Core.Bool.{true};
-ghost use Rattle.lists.specs.Numbers.{allBelow};
 ghost use Rattle.lists.specs.Rows.{from};
 ghost use Rattle.lists.specs.Padded.{zeros};
 ghost use Rattle.generator.specs.Records.{recordOf};
@@ -51,16 +50,16 @@ fn put_head(out: &mut [u8], at: usize, plan: Plan) -> usize
 
 // The entries of row r, and the line feed.
 fn put_entries(out: &mut [u8], at: usize, plan: Plan, r: u8) -> usize
-    requires { ⌜ (at + 1021 ≤ length (now out)) × (allBelow 256 (plan .base) ≡ true) ⌝ }
+    requires { ⌜ at + 1531 ≤ length (now out) ⌝ }
     ensures { λ x. ⌜ Puts (now (out .entry)) (now (out .exit)) at x (fields (from (entryIn plan r) 0 (plan .n))) ⌝ }
-    ensures { λ x. ⌜ x ≤ at + 1021 ⌝ }
+    ensures { λ x. ⌜ x ≤ at + 1531 ⌝ }
 {
     let n = plan.n;
     let mut place = at;
     let mut j: u8 = 0;
     while j < n {
         let x = entry(plan, r as u32, j as u32);
-        place = put_field(out, place, x as u8);
+        place = put_number_field(out, place, x as u32);
         j += 1;
     }
     put_byte(out, place, b'\n')
@@ -68,9 +67,9 @@ fn put_entries(out: &mut [u8], at: usize, plan: Plan, r: u8) -> usize
 
 // The line of row r.
 fn put_row(out: &mut [u8], at: usize, plan: Plan, r: u8) -> usize
-    requires { ⌜ (r < plan .k) × (at + 1036 ≤ length (now out)) × (allBelow 256 (plan .base) ≡ true) ⌝ }
+    requires { ⌜ (r < plan .k) × (at + 1546 ≤ length (now out)) ⌝ }
     ensures { λ x. ⌜ Puts (now (out .entry)) (now (out .exit)) at x (rowLine plan r) ⌝ }
-    ensures { λ x. ⌜ x ≤ at + 1036 ⌝ }
+    ensures { λ x. ⌜ x ≤ at + 1546 ⌝ }
 {
     let named = put_word(out, at, b"row");
     let numbered = put_field(out, named, r);
@@ -79,9 +78,9 @@ fn put_row(out: &mut [u8], at: usize, plan: Plan, r: u8) -> usize
     put_entries(out, begun, plan, r)
 }
 
-// The sheet of a plan: the first line has at most 25 bytes, and each of at most 255 rows has at most 1,036.
+// The sheet of a plan: the first line has at most 25 bytes, and each of at most 255 rows has at most 1,546.
 fn put_sheet(out: &mut [u8], at: usize, plan: Plan) -> usize
-    requires { ⌜ (at + 264205 ≤ length (now out)) × (allBelow 256 (plan .base) ≡ true) ⌝ }
+    requires { ⌜ at + 394255 ≤ length (now out) ⌝ }
     ensures { λ r. ⌜ Puts (now (out .entry)) (now (out .exit)) at r (sheetOf plan) ⌝ }
 {
     let number = plan.number;
@@ -99,15 +98,15 @@ fn put_sheet(out: &mut [u8], at: usize, plan: Plan) -> usize
 }
 
 // An empty page: zeros, with room for any sheet.
-pub fn page() -> [u8; 264205]
-    ensures { λ r. ⌜ (r ≡ zeros 264205) × (264205 ≡ length r) ⌝ }
+pub fn page() -> [u8; 394255]
+    ensures { λ r. ⌜ (r ≡ zeros 394255) × (394255 ≡ length r) ⌝ }
 {
-    [0; 264205]
+    [0; 394255]
 }
 
 // Puts the sheet of a record at the front of a page, and gives its length. `fits` follows from the other two, and is what a
 // caller needs to lend `&out[..r]`.
-pub fn sheet(rec: &[u8], out: &mut [u8; 264205]) -> usize
+pub fn sheet(rec: &[u8], out: &mut [u8; 394255]) -> usize
     ensures text { λ r. ⌜ now (out .exit) ≡ sheetFor (recordOf (now (rec .entry))) ++ drop r (now (out .entry)) ⌝ }
     ensures size { λ r. ⌜ r ≡ length (sheetFor (recordOf (now (rec .entry)))) ⌝ }
     ensures fits { λ r. ⌜ (r ≤ length (now (out .exit))) × (r ≡ length (take r (now (out .exit)))) ⌝ }

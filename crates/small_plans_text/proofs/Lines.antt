@@ -12,10 +12,11 @@ use Rattle.field.specs.Primes.{isPrime}
 use Rattle.field.specs.Fields.{sizeOf, orderOf}
 use Rattle.field.specs.Kinds.{modulus}
 use Rattle.field.proofs.Meanings.{prime-size}
-use Rattle.generator.specs.Records.{headerOf, kindBad, bodyBad, fieldBad, sizeBad, rootBad, headerFault, recordFault}
+use Rattle.generator.specs.Records.{headerOf, kindBad, bodyBad, primeIn, fieldBad, sizeBad, rootBad, headerFault, recordFault}
 use Rattle.generator.proofs.Accepts.{faultless-sound}
 use Rattle.text.specs.Text.{decimal, line}
 use Rattle.small_plans_text.specs.SmallPlans.{planLine, sizeLines, rootLines, fieldLines, smallPlans}
+use Rattle.small_plans_text.proofs.OrderBound.{order-fits}
 use Rattle.small_plans_text.proofs.Stretch.{rows-none, rows-part}
 
 -- the record 1 p root n k
@@ -39,7 +40,7 @@ pub record Asked (p root n k : ℕ) : Type 0 where
 module _ (p root n k : ℕ) where
   -- number 3
   field-good : recordFault (recordWith p root n k) ≡ 0 → (leb 3 p && (leb p 251 && isPrime p)) ≡ true
-  unfolding recordFault kindBad bodyBad fieldBad
+  unfolding recordFault kindBad bodyBad fieldBad primeIn
   field-good none = by-test (leb 3 p && (leb p 251 && isPrime p)) (λ t. t) (λ t. let three : _≡_ {A = ℕ} 3 0 = rw t at none in absurd (omega arith))
 
   accepted-asked : recordFault (recordWith p root n k) ≡ 0 → Asked p root n k
@@ -60,13 +61,14 @@ module _ (p root n k : ℕ) where
       }
 
   asked-accepted : p ≤ 31 → Asked p root n k → recordFault (recordWith p root n k) ≡ 0
-  unfolding recordFault kindBad bodyBad fieldBad headerFault headerOf sizeBad rootBad modulus
+  unfolding recordFault kindBad bodyBad fieldBad primeIn headerFault headerOf sizeBad rootBad modulus
   asked-accepted small a =
       rw (
         le-leb 3 p (a .least),
         le-leb p 251 (omega arith),
         a .prime,
         le-ltb n 2 (a .two),
+        le-ltb 255 n (omega (arith, a .order, order-fits p root (a .prime) (a .below))),
         ne-eqb k 0 (λ e. omega (arith, a .some)),
         le-ltb n k (a .fits),
         prime-size p (a .prime),

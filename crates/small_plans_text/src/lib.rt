@@ -33,7 +33,14 @@ fn order(p: u8, root: u8) -> u8
     ensures { λ r. ⌜ (r ≡ orderOf p root) × (r ≤ p) ⌝ }
 {
     let f = Field::new(p as u32);
-    f.order(root as u32) as u8
+    let mut n: u8 = p;
+    while 0 < n {
+        if f.has_order(root as u32, n as u32) {
+            return n;
+        }
+        n -= 1;
+    }
+    0
 }
 
 // The lines with one p and root: k from 1 to n.

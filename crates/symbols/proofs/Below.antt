@@ -1,11 +1,13 @@
 -- A test of all values of a function: one at a time.
-use mathlib.Core.Path.{_≡_, refl, ap, _∙_}
-use mathlib.Core.Bool.{true, false}
-use mathlib.Core.List.{List}
+use mathlib.Core.Path.{_≡_, sym}
+use mathlib.Core.Bool.{true, false, _&&_, and-true, and-false, and-assoc}
 use Prim.Native.Nat.{ℕ, _+_, _-_, _≤_, _<_}
-use borrow.Author.Tests.{lt-ltb, le-ltb}
+use native.Mathlib.Omega.{arith}
+use borrow.Author.Tests.{lt-ltb, le-ltb, ltb-true}
+use lib.Dec.{ltb}
 use Rattle.lists.specs.Numbers.{allBelow}
 use Rattle.lists.specs.Rows.{from}
+use Rattle.lists.proofs.Cases.{by-test}
 use Rattle.lists.proofs.Rows.{from-next, from-end}
 
 module _ (m n : ℕ) (f : ℕ → ℕ) (i : ℕ) where
@@ -23,3 +25,19 @@ module _ (m n : ℕ) (f : ℕ → ℕ) (i : ℕ) where
   pub below-none : n ≤ i → allBelow m (from f i (n - i)) ≡ true
   unfolding allBelow
   below-none h = rw (from-end f n i h)
+
+  -- the largest so far and the next one
+  pub below-larger : (a b : ℕ) → i < n → ltb a m ≡ (ltb b m && ltb (f i) m) → (ltb b m && allBelow m (from f i (n - i))) ≡ (ltb a m && allBelow m (from f (i + 1) (n - (i + 1))))
+  unfolding allBelow
+  below-larger a b h e = rw (from-next f n i h, e) (sym (and-assoc (ltb b m) (ltb (f i) m) (allBelow m (from f (i + 1) (n - (i + 1))))))
+
+  pub below-largest : (a : ℕ) → n ≤ i → (ltb a m && allBelow m (from f i (n - i))) ≡ ltb a m
+  unfolding allBelow
+  below-largest a h = rw (from-end f n i h) (and-true (ltb a m))
+
+-- a number is below m where a larger one is
+pub ltb-larger : (a b m : ℕ) → a ≤ b → ltb b m ≡ (ltb a m && ltb b m)
+ltb-larger a b m h =
+    by-test (ltb b m)
+    (λ e. rw (e, lt-ltb a m (omega (arith, ltb-true b m e))))
+    (λ e. rw (e, and-false))

@@ -1,8 +1,7 @@
 -- A symbol written as bytes, by the width.
-use mathlib.Core.Path.{_≡_, refl, sym, ap, _∙_}
+use mathlib.Core.Path.{_≡_, ap}
 use mathlib.Core.List.{List, [], _∷_, _++_}
-use Prim.Native.Nat.{ℕ, _*_, _+_, _/_, _%_, _^_, _<_, _≤_}
-use native.Mathlib.Nat.{mul-comm}
+use Prim.Native.Nat.{ℕ, _+_, _/_, _%_, _^_, _<_, _≤_}
 use native.Mathlib.Omega.{arith}
 use lib.ListN.{length, getD, set, drop, drop-of-length-le}
 use Rattle.lists.proofs.Front.{drop-next}

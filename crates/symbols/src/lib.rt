@@ -1,7 +1,8 @@
 // Lists of symbols in a lent buffer, of one byte or of two bytes each, the high byte first.
 ghost use mathlib.Core.Path.{_≡_};
-ghost use mathlib.Core.Bool.{true};
-ghost use Prim.Native.Nat.{_*_, _/_, _^_, _≤_, _<_};
+ghost use mathlib.Core.Bool.{true, _&&_};
+ghost use Prim.Native.Nat.{ℕ, _*_, _/_, _^_, _≤_, _<_};
+ghost use lib.Dec.{ltb};
 ghost use lib.ListN.{length};
 ghost use Rattle.lists.specs.Numbers.{allBelow};
 ghost use Rattle.lists.specs.Padded.{padded};
@@ -15,7 +16,8 @@ pub fn width_of(h: Header) -> usize
     requires { ⌜ usable (h .field) ≡ true ⌝ }
     ensures { λ r. ⌜ (r ≡ width h) × (1 ≤ r) × (r ≤ 2) ⌝ }
 {
-    1
+    let field = h.field;
+    field.width()
 }
 
 // Symbol i of a buffer.
@@ -44,6 +46,35 @@ pub fn symbols_below(size: u32, w: usize, s: &[u8]) -> bool
         i += 1;
     }
     true
+}
+
+// The larger of two symbols.
+fn larger(a: u16, b: u16) -> u16
+    ensures { λ r. ⌜ ((m : ℕ) → ltb r m ≡ (ltb a m && ltb b m)) ⌝ }
+{
+    if a < b { b } else { a }
+}
+
+// The largest symbol of two bytes: all of them are below m where it is. Without a branch it takes less time than a search.
+fn largest_pair(s: &[u8]) -> u16
+    ensures { λ r. ⌜ ((m : ℕ) → 0 < m → allBelow m (symbolsOf 2 (now (s .entry))) ≡ ltb r m) ⌝ }
+{
+    let count = s.len() / 2;
+    let mut top: u16 = 0;
+    let mut i = 0;
+    while i < count {
+        top = larger(top, symbol_at(2, s, i));
+        i += 1;
+    }
+    top
+}
+
+// Whether all symbols of two bytes are below a field's size.
+pub fn pairs_below(size: u32, s: &[u8]) -> bool
+    requires { ⌜ 0 < size ⌝ }
+    ensures { λ r. ⌜ r ≡ allBelow size (symbolsOf 2 (now (s .entry))) ⌝ }
+{
+    (largest_pair(s) as u32) < size
 }
 
 // The symbols of a buffer that holds at most 255.

@@ -126,32 +126,16 @@ pub fn bytes(line: &[u8], before: Group, word: &[u8]) -> Group
     after(line, before, word, 255, 64)
 }
 
-// A word and one number of at most `most`.
-fn one(line: &[u8], before: Group, word: &[u8], most: u32) -> Group
-    requires { ⌜ before .next ≤ length (now line) ⌝ }
-    ensures { λ r. ⌜ r .next ≤ length (now (line .entry)) ⌝ }
-{
-    let given = after(line, before, word, most, 1);
-    if given.fault == 0 && given.count == 0 {
-        return empty(given.next, crate::MISSING);
-    }
-    given
-}
-
 // A word and one number of 32 binary digits.
 pub fn number(line: &[u8], before: Group, word: &[u8]) -> Group
     requires { ⌜ before .next ≤ length (now line) ⌝ }
     ensures { λ r. ⌜ r .next ≤ length (now (line .entry)) ⌝ }
 {
-    one(line, before, word, 4294967295)
-}
-
-// A word and one byte.
-pub fn byte(line: &[u8], before: Group, word: &[u8]) -> Group
-    requires { ⌜ before .next ≤ length (now line) ⌝ }
-    ensures { λ r. ⌜ r .next ≤ length (now (line .entry)) ⌝ }
-{
-    one(line, before, word, 255)
+    let given = after(line, before, word, 4294967295, 1);
+    if given.fault == 0 && given.count == 0 {
+        return empty(given.next, crate::MISSING);
+    }
+    given
 }
 
 // The length of the buffer that is written, for which there are 64 bytes.

@@ -7,7 +7,6 @@ mod numbers;
 mod words;
 
 pub use groups::Group;
-pub use groups::byte;
 pub use groups::bytes;
 pub use groups::end_fault;
 pub use groups::number;

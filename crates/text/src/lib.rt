@@ -87,6 +87,16 @@ pub fn put_field(out: &mut [u8], at: usize, x: u8) -> usize
     )
 }
 
+// The same of a number below 100,000.
+pub fn put_number_field(out: &mut [u8], at: usize, x: u32) -> usize
+    requires { ⌜ (x < 100000) × (at + 6 ≤ length (now out)) ⌝ }
+    ensures { λ r. ⌜ Puts (now (out .entry)) (now (out .exit)) at r (field x) ⌝ }
+    ensures { λ r. ⌜ r ≤ at + 6 ⌝ }
+{
+    let spaced = put_byte(out, at, b' ');
+    put_number(out, spaced, x)
+}
+
 // The fields of a line, and its line feed.
 pub fn put_fields(out: &mut [u8], at: usize, xs: &[u8]) -> usize
     requires { ⌜ at + 4 * length (now xs) + 1 ≤ length (now out) ⌝ }

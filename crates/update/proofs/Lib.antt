@@ -2,5 +2,6 @@
 pub mod Lane
 pub mod Judging
 pub mod Rewriting
+pub mod LaneBytes
 pub mod Answering
 pub mod EqualSymbols

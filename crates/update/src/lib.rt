@@ -1,11 +1,12 @@
-// Update: one symbol of one lane changes, and with it the lane's byte at the nodes that depend on the symbol.
+// Update: one symbol of one lane changes, and with it the lane's symbol at the nodes that depend on it.
 ghost use mathlib.Core.Path.{_≡_};
 ghost use Prim.Native.Nat.{_<_};
 ghost use Rattle.lists.specs.Counting.{differ};
 ghost use Rattle.layout.specs.Layout.{laneOf, shareLayout};
+ghost use Rattle.layout.specs.Width.{symbolsOf, bytesOf};
 ghost use Rattle.field.specs.Fields.{add, mul};
 ghost use Rattle.field.specs.Tables.{AreTables};
-ghost use Rattle.generator.specs.Records.{modulusOf, size, Sound};
+ghost use Rattle.generator.specs.Records.{modulusOf, size, width, Sound};
 ghost use Rattle.plan.specs.Plans.{planFor};
 ghost use Rattle.refusals.specs.Faults.{staleFault, updateFault};
 ghost use Rattle.refusals.specs.Accepted.{UpdatableLane};
@@ -24,19 +25,20 @@ fn renewed<'a>(
     logarithms: &'a [u8; 255],
     x: u32,
     entry: u16,
-    before: u8,
-) -> u8
+    before: u16,
+) -> u16
     requires { ⌜ Sound h × (x < size h) × (entry < size h) × (before < size h) × AreTables (now powers) (now logarithms) ⌝ }
     ensures { λ r. ⌜ r ≡ add (modulusOf h) before (mul (modulusOf h) x entry) ⌝ }
 {
     let field = h.field;
     let term = field.mul_with(powers, logarithms, x, entry as u32);
-    field.add(before as u32, term) as u8
+    field.add(before as u32, term) as u16
 }
 
-// Adds x times a row of the generator to a lane: rewrites the nodes whose byte becomes another one, and counts them.
+// Adds x times a row of the generator to a lane: rewrites the nodes whose symbol becomes another one, and counts them.
 fn rewrite<'a>(
     h: Header,
+    w: usize,
     powers: &'a [u8; 255],
     logarithms: &'a [u8; 255],
     plan: Plan,
@@ -44,8 +46,8 @@ fn rewrite<'a>(
     x: u32,
     lane: &mut [u8],
 ) -> u32
-    requires { ⌜ UpdatableWord h which (now lane) × (x < size h) × (plan ≡ planFor (Record.Holds h)) × AreTables (now powers) (now logarithms) ⌝ }
-    ensures { λ r. ⌜ (now (lane .exit) ≡ wordAdded h which x (now (lane .entry))) × (r ≡ differ (now (lane .entry)) (now (lane .exit))) ⌝ }
+    requires { ⌜ UpdatableWord h w which (now lane) × (x < size h) × (plan ≡ planFor (Record.Holds h)) × AreTables (now powers) (now logarithms) ⌝ }
+    ensures { λ r. ⌜ (now (lane .exit) ≡ bytesOf w (wordAdded h which x (symbolsOf w (now (lane .entry))))) × (r ≡ differ (symbolsOf w (now (lane .entry))) (wordAdded h which x (symbolsOf w (now (lane .entry))))) ⌝ }
 {
     let n = h.n as usize;
     let shift = plan.shifts[which as usize] as usize;
@@ -53,10 +55,12 @@ fn rewrite<'a>(
     let mut j: usize = 0;
     while j < n {
         let entry = plan::entry_at(n, shift, &plan.base, j);
-        let before = lane[j];
+        let before = symbols::symbol_at(w, lane, j);
         let after = renewed(h, powers, logarithms, x, entry, before);
         if after != before {
-            lane[j] = after;
+            let start = j * w;
+            let end = start + w;
+            symbols::write_symbol(w, after, &mut lane[start..end]);
             count += 1;
         }
         j += 1;
@@ -67,6 +71,7 @@ fn rewrite<'a>(
 // The same for one lane of the shares, which is handed on as the part from its start to the next one's.
 fn rewrite_lane<'a>(
     h: Header,
+    w: usize,
     powers: &'a [u8; 255],
     logarithms: &'a [u8; 255],
     plan: Plan,
@@ -76,14 +81,15 @@ fn rewrite_lane<'a>(
     x: u32,
     shares: &mut [u8],
 ) -> u32
-    requires { ⌜ UpdatableLane h lanes which lane (now shares) × (x < size h) × (plan ≡ planFor (Record.Holds h)) × AreTables (now powers) (now logarithms) ⌝ }
-    ensures { λ r. ⌜ (now (shares .exit) ≡ rowAdded shareLayout h lanes which lane x (now (shares .entry))) × (r ≡ differ (now (shares .entry)) (now (shares .exit))) ⌝ }
+    requires { ⌜ UpdatableLane h lanes which lane (now shares) × (w ≡ width h) × (x < size h) × (plan ≡ planFor (Record.Holds h)) × AreTables (now powers) (now logarithms) ⌝ }
+    ensures { λ r. ⌜ (now (shares .exit) ≡ bytesOf w (rowAdded shareLayout h lanes which lane x (symbolsOf w (now (shares .entry))))) × (r ≡ differ (symbolsOf w (now (shares .entry))) (rowAdded shareLayout h lanes which lane x (symbolsOf w (now (shares .entry))))) ⌝ }
 {
-    let n = h.n as usize;
-    let start = lane * n;
-    let end = start + n;
+    let size = w * h.n as usize;
+    let start = lane * size;
+    let end = start + size;
     rewrite(
         h,
+        w,
         powers,
         logarithms,
         plan,
@@ -94,24 +100,32 @@ fn rewrite_lane<'a>(
 }
 
 // The number that a lane meets: 12 where it is no word of the code, else 13 where its message holds another symbol than `old`, else 0.
-fn judge(h: Header, which: u32, old: u32, lane: &[u8]) -> u8
-    requires { ⌜ UpdatableWord h which (now lane) ⌝ }
-    ensures { λ f. ⌜ f ≡ staleFault h (now (lane .entry)) which old ⌝ }
+fn judge(h: Header, w: usize, which: u32, old: u32, lane: &[u8]) -> u8
+    requires { ⌜ UpdatableWord h w which (now lane) ⌝ }
+    ensures { λ f. ⌜ f ≡ staleFault h (symbolsOf w (now (lane .entry))) which old ⌝ }
 {
     let n = h.n as usize;
-    let symbols = symbols::read_symbols(1, lane);
+    let symbols = symbols::read_symbols(w, lane);
     word_message::stale_fault(h, &symbols[..n], which as usize, old)
 }
 
 // The same for one lane of the shares, which is handed on likewise.
-fn judge_lane(h: Header, lanes: usize, which: u32, lane: usize, old: u32, shares: &[u8]) -> u8
-    requires { ⌜ UpdatableLane h lanes which lane (now shares) ⌝ }
-    ensures { λ f. ⌜ f ≡ staleFault h (laneOf shareLayout (h .n) lanes lane (now (shares .entry))) which old ⌝ }
+fn judge_lane(
+    h: Header,
+    w: usize,
+    lanes: usize,
+    which: u32,
+    lane: usize,
+    old: u32,
+    shares: &[u8],
+) -> u8
+    requires { ⌜ UpdatableLane h lanes which lane (now shares) × (w ≡ width h) ⌝ }
+    ensures { λ f. ⌜ f ≡ staleFault h (laneOf shareLayout (h .n) lanes lane (symbolsOf w (now (shares .entry)))) which old ⌝ }
 {
-    let n = h.n as usize;
-    let start = lane * n;
-    let end = start + n;
-    judge(h, which, old, &shares[start..end])
+    let size = w * h.n as usize;
+    let start = lane * size;
+    let end = start + size;
+    judge(h, w, which, old, &shares[start..end])
 }
 
 // Updates over an accepted record's header.
@@ -120,8 +134,8 @@ fn update_accepted(
     lanes: u32,
     which: u32,
     lane: u32,
-    old: u8,
-    new: u8,
+    old: u32,
+    new: u32,
     shares: &mut [u8],
 ) -> Update
     requires { ⌜ Sound h ⌝ }
@@ -133,22 +147,24 @@ fn update_accepted(
         lanes as usize,
         which as usize,
         lane as usize,
-        old as u32,
-        new as u32,
+        old,
+        new,
         shares,
     );
     if number != 0 {
         return Update::Refused(number);
     }
-    let stale = judge_lane(h, lanes as usize, which, lane as usize, old as u32, shares);
+    let w = symbols::width_of(h);
+    let stale = judge_lane(h, w, lanes as usize, which, lane as usize, old, shares);
     if stale != 0 {
         return Update::Refused(stale);
     }
-    let x = field.sub(new as u32, old as u32);
+    let x = field.sub(new, old);
     let plan = plan::plan_of(h);
     let t = field::constant_tables();
     let count = rewrite_lane(
         h,
+        w,
         &t.powers,
         &t.logarithms,
         plan,
@@ -167,8 +183,8 @@ pub fn update_lane(
     lanes: u32,
     which: u32,
     lane: u32,
-    old: u8,
-    new: u8,
+    old: u32,
+    new: u32,
     shares: &mut [u8],
 ) -> Update
     ensures { λ a. ⌜ UpdateSays (now (rec .entry)) lanes which lane old new (now (shares .entry)) (now (shares .exit)) a ⌝ }

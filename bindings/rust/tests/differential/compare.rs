@@ -4,19 +4,19 @@ use crate::reference::{self, Code};
 use balanced::{sys, Error, Finding, Plan};
 
 /// A buffer that the library writes, inside a larger one: a write beside it is found.
-pub struct Lent {
-    all: Vec<u8>,
+pub struct Lent<T> {
+    all: Vec<T>,
     start: usize,
     len: usize,
 }
 
-impl Lent {
+impl<T: Copy + PartialEq + From<u8>> Lent<T> {
     const GUARD: usize = 32;
     const MARK: u8 = 0xa7;
 
-    pub fn new(before: &[u8]) -> Lent {
-        let start = Lent::GUARD + before.len() % 16;
-        let mut all = vec![Lent::MARK; start + before.len() + Lent::GUARD];
+    pub fn new(before: &[T]) -> Lent<T> {
+        let start = Self::GUARD + before.len() % 16;
+        let mut all = vec![T::from(Self::MARK); start + before.len() + Self::GUARD];
         all[start..start + before.len()].copy_from_slice(before);
         Lent {
             all,
@@ -25,16 +25,16 @@ impl Lent {
         }
     }
 
-    pub fn slice(&mut self) -> &mut [u8] {
+    pub fn slice(&mut self) -> &mut [T] {
         &mut self.all[self.start..self.start + self.len]
     }
 
-    pub fn holds(&self, after: &[u8]) -> bool {
+    pub fn holds(&self, after: &[T]) -> bool {
         let end = self.start + self.len;
         let beside = self.all[..self.start]
             .iter()
             .chain(&self.all[end..])
-            .all(|&x| x == Lent::MARK);
+            .all(|&x| x == T::from(Self::MARK));
         beside && &self.all[self.start..end] == after
     }
 }
@@ -80,27 +80,29 @@ pub fn plan(record: &[u8]) -> u8 {
 
 /// The plan through the C function, in buffers of these lengths.
 pub fn plan_in(record: &[u8], numbers: usize, shifts: usize, firsts: usize, base: usize) -> u8 {
-    let before = [vec![1; numbers], vec![2; shifts], vec![3; firsts], vec![4; base]];
+    let before = [vec![1; numbers], vec![2; shifts], vec![3; firsts]];
+    let base_before = vec![4; base];
     let number = match Code::of(record) {
         Err(number) => number,
         Ok(_) if (numbers, shifts, firsts, base) != (5, 255, 255, 255) => 8,
         Ok(_) => 0,
     };
-    let after = match Code::of(record) {
+    let (after, base_after) = match Code::of(record) {
         Ok(code) if number == 0 => {
             let padded = |list: &[u8]| [list, &vec![0; 255 - list.len()]].concat();
-            [
+            let parts = [
                 [code.n, code.k, code.d, code.low, code.high].map(|x| x as u8).to_vec(),
                 padded(&code.shifts),
                 padded(&code.firsts()),
-                padded(&code.base),
-            ]
+            ];
+            (parts, [&code.base[..], &vec![0; 255 - code.n]].concat())
         }
-        _ => before.clone(),
+        _ => (before.clone(), base_before.clone()),
     };
     let mut lent = before.map(|list| Lent::new(&list));
-    let [a, b, c, d] = &mut lent;
-    let (a, b, c, d) = (a.slice(), b.slice(), c.slice(), d.slice());
+    let mut base_lent = Lent::new(&base_before);
+    let [a, b, c] = &mut lent;
+    let (a, b, c, d) = (a.slice(), b.slice(), c.slice(), base_lent.slice());
     let got = unsafe {
         sys::balanced_plan(
             record.as_ptr(),
@@ -117,7 +119,7 @@ pub fn plan_in(record: &[u8], numbers: usize, shifts: usize, firsts: usize, base
     };
     assert_eq!(got, number, "plan of {record:?} in {numbers}, {shifts}, {firsts}, {base}");
     assert!(
-        lent.iter().zip(&after).all(|(lent, after)| lent.holds(after)),
+        lent.iter().zip(&after).all(|(lent, after)| lent.holds(after)) && base_lent.holds(&base_after),
         "plan of {record:?}"
     );
     number
@@ -133,7 +135,7 @@ pub fn encode(record: &[u8], lanes: u32, message: &[u8], before: &[u8]) -> u8 {
 }
 
 /// The update through the safe interface and through the C function, whose count is lent.
-pub fn update(record: &[u8], lanes: u32, symbol: u32, lane: u32, old: u8, new: u8, before: &[u8]) -> u8 {
+pub fn update(record: &[u8], lanes: u32, symbol: u32, lane: u32, old: u32, new: u32, before: &[u8]) -> u8 {
     const MARK: u32 = 0x5a5a_5a5a;
     let result = reference::update(record, lanes, symbol, lane, old, new, before);
     let (expect, (after, altered)) = expected(result, (before.to_vec(), MARK));
@@ -302,12 +304,12 @@ pub fn find_update(record: &[u8], before: &[u8], after: &[u8]) -> (u8, u32) {
 /// The list through the safe interface and through the C function, whose number is lent. Gives the number and the count.
 pub fn mends(record: &[u8], lane: &[u8], nodes: &[u8], symbols: &[u8]) -> (u8, u32) {
     const MARK: u32 = 0x5a5a_5a5a;
-    let (expect, list) = expected(reference::mends(record, lane, nodes.len(), symbols.len()), Vec::new());
+    let result = reference::mends(record, lane, nodes.len(), symbols.len());
+    let (expect, (list, written)) = expected(result, (Vec::new(), Vec::new()));
     let count = if expect == 0 { list.len() as u32 } else { MARK };
     let (mut nodes_after, mut symbols_after) = (nodes.to_vec(), symbols.to_vec());
-    for (i, &(node, symbol)) in list.iter().enumerate() {
-        (nodes_after[i], symbols_after[i]) = (node, symbol);
-    }
+    nodes_after[..list.len()].copy_from_slice(&list);
+    symbols_after[..written.len()].copy_from_slice(&written);
     let (mut nodes_lent, mut symbols_lent) = (Lent::new(nodes), Lent::new(symbols));
     let (got, listed) = number(balanced::mends(record, lane, nodes_lent.slice(), symbols_lent.slice()));
     assert_eq!(

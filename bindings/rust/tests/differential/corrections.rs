@@ -2,22 +2,24 @@
 //! small codes beside a search through all words, and what turns the call away is in `refusals`.
 use crate::compare;
 use crate::random::{shapes, Random, Shape};
-use crate::reference::Code;
+use crate::reference::{bytes_of, Code};
 
 /// A block of so many lanes as it was encoded.
 fn encoded(random: &mut Random, shape: &Shape, record: &[u8], lanes: usize) -> Vec<u8> {
-    let message = random.symbols(shape.size, shape.k * lanes);
-    let mut shares = vec![0; shape.n * lanes];
+    let message = random.buffer(shape.size, shape.k * lanes);
+    let mut shares = vec![0; shape.bytes(shape.n * lanes)];
     balanced::encode(record, lanes as u32, &message, &mut shares).unwrap();
     shares
 }
 
 /// A lane with so many symbols replaced by others.
 fn spoil(random: &mut Random, code: &Code, lane: &mut [u8], wrong: usize) {
+    let mut symbols = code.symbols(lane);
     for j in random.nodes(code.n, wrong) {
         let x = 1 + random.below(code.field.size() as usize - 1);
-        lane[j as usize] = code.field.add(lane[j as usize], x as u8);
+        symbols[j as usize] = code.field.add(symbols[j as usize], x as u16);
     }
+    lane.copy_from_slice(&code.bytes(&symbols));
 }
 
 #[test]
@@ -31,7 +33,7 @@ fn every_shape() {
     {
         let record = shape.record(&mut random);
         let code = Code::of(&record).unwrap();
-        let (n, most, lanes) = (shape.n, (shape.n - shape.k) / 2, 1 + random.below(3));
+        let (n, most, lanes) = (shape.bytes(shape.n), (shape.n - shape.k) / 2, 1 + random.below(3));
         let shares = encoded(&mut random, shape, &record, lanes);
         for wrong in [0, most.min(1), random.below(most + 1), most] {
             let mut damaged = shares.clone();
@@ -46,7 +48,7 @@ fn every_shape() {
         let at = random.below(lanes) * n;
         spoil(&mut random, &code, &mut damaged[at..at + n], most + 1);
         seen[compare::correct(&record, lanes as u32, &damaged) as usize] += 1;
-        let any = random.symbols(shape.size, n * lanes);
+        let any = random.buffer(shape.size, shape.n * lanes);
         seen[compare::correct(&record, lanes as u32, &any) as usize] += 1;
     }
     println!("corrections of every shape, by their number: {seen:?}");
@@ -70,20 +72,20 @@ fn every_lane() {
     ] {
         let code = Code::of(&record).unwrap();
         let (n, size) = (code.n, code.field.size() as usize);
-        let list = |mut index: usize, long: usize| -> Vec<u8> {
+        let list = |mut index: usize, long: usize| -> Vec<u16> {
             (0..long)
                 .map(|_| {
                     let symbol = index % size;
                     index /= size;
-                    symbol as u8
+                    symbol as u16
                 })
                 .collect()
         };
         let words: Vec<Vec<u8>> = (0..size.pow(code.k as u32))
-            .map(|index| code.encoding(1, &list(index, code.k)))
+            .map(|index| code.bytes(&code.encoding(1, &list(index, code.k))))
             .collect();
         for index in 0..size.pow(n as u32) {
-            let lane = list(index, n);
+            let lane = bytes_of(size as u32, &list(index, n));
             let near: Vec<&Vec<u8>> = words
                 .iter()
                 .filter(|word| word.iter().zip(&lane).filter(|(x, y)| x != y).count() <= (n - code.k) / 2)
@@ -111,6 +113,7 @@ fn long_blocks() {
         (85, 40, 1000),
         (250, 3, 700),
         (30, 20, 4096),
+        (252, 126, 300),
     ] {
         let shape = all.iter().find(|shape| (shape.n, shape.k) == (n, k)).unwrap();
         let record = shape.record(&mut random);
@@ -118,6 +121,7 @@ fn long_blocks() {
         let shares = encoded(&mut random, shape, &record, lanes);
         let mut damaged = shares.clone();
         let most = (n - k) / 2;
+        let n = shape.bytes(n);
         for t in [0, 1, 255, 256, 257, lanes / 2, lanes - 1] {
             spoil(&mut random, &code, &mut damaged[t * n..(t + 1) * n], most);
         }

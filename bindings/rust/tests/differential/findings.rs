@@ -5,16 +5,16 @@ use crate::random::{shapes, Random, Shape};
 use crate::reference::{added, Code};
 
 /// The lane with something added to one symbol of the message.
-fn updated(random: &mut Random, code: &Code, shape: &Shape, lane: &[u8]) -> Vec<u8> {
+fn updated(random: &mut Random, code: &Code, shape: &Shape, lane: &[u16]) -> Vec<u16> {
     let x = 1 + random.below(shape.size as usize - 1);
-    added(code, lane, &code.generator()[random.below(shape.k)], x as u8)
+    added(code, lane, &code.generator()[random.below(shape.k)], x as u16)
 }
 
 /// The lane with one node's symbol replaced by another.
-fn changed(random: &mut Random, code: &Code, shape: &Shape, lane: &[u8]) -> Vec<u8> {
+fn changed(random: &mut Random, code: &Code, shape: &Shape, lane: &[u16]) -> Vec<u16> {
     let mut lane = lane.to_vec();
     let node = random.below(shape.n);
-    lane[node] = code.field.add(lane[node], 1 + random.below(shape.size as usize - 1) as u8);
+    lane[node] = code.field.add(lane[node], 1 + random.below(shape.size as usize - 1) as u16);
     lane
 }
 
@@ -39,7 +39,7 @@ fn every_shape() {
             changed(&mut random, &code, shape, &before),
         ];
         for after in lanes {
-            let (number, answer) = compare::find_update(&record, &before, &after);
+            let (number, answer) = compare::find_update(&record, &code.bytes(&before), &code.bytes(&after));
             assert_eq!(number, 0);
             seen[answer as usize] += 1;
         }
@@ -61,9 +61,9 @@ fn damaged() {
             record[at] = random.byte();
         }
         let mut lane = |long: usize| match random.below(4) {
-            0 => random.bytes(long),
-            1 => random.symbols(shape.size, long + 1),
-            _ => random.symbols(shape.size, long),
+            0 => random.bytes(shape.bytes(long)),
+            1 => random.buffer(shape.size, long + 1),
+            _ => random.buffer(shape.size, long),
         };
         let (before, after) = (lane(shape.n), lane(shape.n));
         seen[compare::find_update(&record, &before, &after).0 as usize] += 1;

@@ -5,10 +5,10 @@ use crate::random::{shapes, Random, Shape};
 use crate::reference::Code;
 
 /// The lane with one node's symbol replaced by another.
-fn changed(random: &mut Random, code: &Code, shape: &Shape, lane: &[u8]) -> Vec<u8> {
+fn changed(random: &mut Random, code: &Code, shape: &Shape, lane: &[u16]) -> Vec<u16> {
     let mut lane = lane.to_vec();
     let node = random.below(shape.n);
-    lane[node] = code.field.add(lane[node], 1 + random.below(shape.size as usize - 1) as u8);
+    lane[node] = code.field.add(lane[node], 1 + random.below(shape.size as usize - 1) as u16);
     lane
 }
 
@@ -32,8 +32,8 @@ fn every_shape() {
             random.symbols(shape.size, shape.n),
         ];
         for lane in lanes {
-            let (nodes, symbols) = (random.bytes(shape.n), random.bytes(shape.n));
-            let (number, count) = compare::mends(&record, &lane, &nodes, &symbols);
+            let (nodes, symbols) = (random.bytes(shape.n), random.bytes(shape.bytes(shape.n)));
+            let (number, count) = compare::mends(&record, &code.bytes(&lane), &nodes, &symbols);
             assert_eq!(number, 0);
             seen[count.min(2) as usize] += 1;
         }
@@ -55,12 +55,12 @@ fn damaged() {
             record[at] = random.byte();
         }
         let lane = match random.below(4) {
-            0 => random.bytes(shape.n),
-            1 => random.symbols(shape.size, shape.n + 1),
-            _ => random.symbols(shape.size, shape.n),
+            0 => random.bytes(shape.bytes(shape.n)),
+            1 => random.buffer(shape.size, shape.n + 1),
+            _ => random.buffer(shape.size, shape.n),
         };
-        let mut long = || shape.n - 1 + *random.pick(&[0, 1, 1, 1, 1, 1, 2]);
-        let (nodes, symbols) = (long(), long());
+        let mut long = |right: usize| right - 1 + *random.pick(&[0, 1, 1, 1, 1, 1, 2]);
+        let (nodes, symbols) = (long(shape.n), long(shape.bytes(shape.n)));
         let (nodes, symbols) = (random.bytes(nodes), random.bytes(symbols));
         seen[compare::mends(&record, &lane, &nodes, &symbols).0 as usize] += 1;
     }

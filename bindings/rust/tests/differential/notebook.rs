@@ -2,7 +2,7 @@
 use balanced::{Error, Plan};
 
 /// The rows of the generator.
-fn rows(record: &[u8]) -> Vec<Vec<u8>> {
+fn rows(record: &[u8]) -> Vec<Vec<u16>> {
     let plan = Plan::new(record).unwrap();
     (0..plan.k())
         .map(|r| (0..plan.n()).map(|j| plan.entry(r, j)).collect())
@@ -59,7 +59,10 @@ fn uneven_plans() {
 fn records_turned_away() {
     let error = |record: &[u8]| Plan::new(record).unwrap_err();
     assert_eq!(error(&[]), Error::Kind);
-    assert_eq!(error(&[3, 7, 3, 6, 3]), Error::Kind);
+    assert_eq!(error(&[4, 7, 3, 6, 3]), Error::Kind);
+    assert_eq!(error(&[3, 7, 3, 6, 3]), Error::Body);
+    assert_eq!(error(&[3, 1, 3, 0, 16, 4, 2]), Error::Field);
+    assert_eq!(error(&[3, 1, 1, 0, 16, 8, 2]), Error::Root);
     assert_eq!(error(&[1, 7, 3, 6, 4, 0]), Error::Body);
     assert_eq!(error(&[2, 2, 255]), Error::Body);
     assert!(Plan::new(&[1, 251, 6, 250, 1]).is_ok());

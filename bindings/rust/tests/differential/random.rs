@@ -1,6 +1,6 @@
 //! A small generator of pseudo-random numbers (splitmix64), and random inputs. Every test starts from a seed of its own, so
 //! that it is the same at each run.
-use crate::reference::{is_prime, Field};
+use crate::reference::{bytes_of, is_prime, width, Field};
 
 pub struct Random(u64);
 
@@ -31,8 +31,13 @@ impl Random {
     }
 
     /// So many symbols of a field.
-    pub fn symbols(&mut self, size: u32, count: usize) -> Vec<u8> {
-        (0..count).map(|_| self.below(size as usize) as u8).collect()
+    pub fn symbols(&mut self, size: u32, count: usize) -> Vec<u16> {
+        (0..count).map(|_| self.below(size as usize) as u16).collect()
+    }
+
+    /// A buffer of so many symbols of a field.
+    pub fn buffer(&mut self, size: u32, count: usize) -> Vec<u8> {
+        bytes_of(size, &self.symbols(size, count))
     }
 
     /// So many bytes.
@@ -61,16 +66,29 @@ pub struct Shape {
     pub size: u32,
     pub n: usize,
     pub k: usize,
-    pub roots: Vec<u8>,
+    pub roots: Vec<u16>,
 }
 
 impl Shape {
     pub fn record(&self, random: &mut Random) -> Vec<u8> {
+        self.record_with(*random.pick(&self.roots))
+    }
+
+    pub fn record_with(&self, root: u16) -> Vec<u8> {
         let mut record = self.kind.clone();
-        record.extend([*random.pick(&self.roots), self.n as u8, self.k as u8]);
+        record.extend(bytes_of(self.size, &[root]));
+        record.extend([self.n as u8, self.k as u8]);
         record
     }
+
+    /// The bytes of so many symbols.
+    pub fn bytes(&self, count: usize) -> usize {
+        count * width(self.size)
+    }
 }
+
+/// Primes above a byte: the least, some of which 255, 252 and many small n are orders, and the largest.
+const LARGE: [u32; 4] = [257, 1021, 8191, 65_521];
 
 /// Every shape with at most `most` nodes.
 pub fn shapes(most: usize) -> Vec<Shape> {
@@ -79,12 +97,12 @@ pub fn shapes(most: usize) -> Vec<Shape> {
         .map(|p| (vec![1, p as u8], Field::Prime(p)))
         .collect();
     fields.push((vec![2], Field::bytes()));
+    fields.extend(LARGE.map(|p| (vec![3, (p / 256) as u8, p as u8], Field::Prime(p))));
     let mut shapes = Vec::new();
     for (kind, field) in fields {
         let size = field.size();
-        let orders: Vec<usize> = (0..size).map(|a| field.order(a as u8)).collect();
         for n in (2..=most).filter(|n| (size as usize - 1) % n == 0) {
-            let roots: Vec<u8> = (0..size).filter(|&a| orders[a as usize] == n).map(|a| a as u8).collect();
+            let roots = roots_of(&field, n);
             for k in 1..=n {
                 shapes.push(Shape {
                     kind: kind.clone(),
@@ -97,4 +115,15 @@ pub fn shapes(most: usize) -> Vec<Shape> {
         }
     }
     shapes
+}
+
+/// Symbols of order n, the powers a^((q − 1)/n) of that order: all of them where the field has at most 1,024 symbols.
+fn roots_of(field: &Field, n: usize) -> Vec<u16> {
+    let mut roots: Vec<u16> = (1..field.size().min(1024))
+        .map(|a| field.power(a as u16, (field.size() as usize - 1) / n))
+        .filter(|&root| field.order(root) == n)
+        .collect();
+    roots.sort();
+    roots.dedup();
+    roots
 }

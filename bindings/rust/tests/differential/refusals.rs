@@ -1,6 +1,7 @@
 //! Damaged input: each number of each call, alone and beside others, and nothing lent is changed.
 use crate::compare;
 use crate::random::{shapes, Random, Shape};
+use crate::reference::{bytes_of, width};
 
 const ROUNDS: usize = 50_000;
 
@@ -10,8 +11,8 @@ struct Input {
     lanes: u32,
     symbol: u32,
     lane: u32,
-    old: u8,
-    new: u8,
+    old: u32,
+    new: u32,
     nodes: Vec<u8>,
     target: u32,
     /// What is read, and what is written.
@@ -28,12 +29,12 @@ impl Input {
             lanes: lanes as u32,
             symbol: random.below(shape.k) as u32,
             lane: random.below(lanes) as u32,
-            old: random.below(shape.size as usize) as u8,
-            new: random.below(shape.size as usize) as u8,
+            old: random.below(shape.size as usize) as u32,
+            new: random.below(shape.size as usize) as u32,
             nodes: random.nodes(shape.n, shape.k),
             target: random.below(shape.n) as u32,
-            read: random.symbols(shape.size, read * lanes),
-            written: random.bytes(written * lanes),
+            read: random.buffer(shape.size, read * lanes),
+            written: random.bytes(shape.bytes(written * lanes)),
         }
     }
 
@@ -41,7 +42,8 @@ impl Input {
     fn encode(&mut self, random: &mut Random, shape: &Shape) {
         let lanes = self.lanes as usize;
         let message = random.symbols(shape.size, shape.k * lanes);
-        self.old = message[self.symbol as usize * lanes + self.lane as usize];
+        self.old = message[self.symbol as usize * lanes + self.lane as usize].into();
+        let message = bytes_of(shape.size, &message);
         balanced::encode(&self.record, self.lanes, &message, &mut self.read).unwrap();
     }
 
@@ -55,7 +57,7 @@ impl Input {
                 }
             }
             1 => {
-                let len = random.below(7);
+                let len = random.below(9);
                 self.record.resize(len, 1);
             }
             2 => {
@@ -102,26 +104,30 @@ impl Input {
                 }
             }
             10 => {
-                let bad = *random.pick(&[(shape.size % 256) as u8, 255]);
+                // also numbers that are symbols if they are cut to one byte or two
+                let bad = *random.pick(&[shape.size, 255, 65_535, self.old.wrapping_add(256), self.new.wrapping_add(65_536), u32::MAX]);
                 match random.below(3) {
                     0 => self.old = bad,
                     1 => self.new = bad,
                     _ => {}
                 }
             }
-            11 => self.old = random.below(shape.size as usize) as u8,
+            11 => self.old = random.below(shape.size as usize) as u32,
             12 => {
                 if let Some(i) = at(random, self.read.len()) {
-                    self.read[i] = random.below(shape.size as usize) as u8;
+                    self.read[i] = random.below(shape.size.min(256) as usize) as u8;
                 }
             }
             _ => {
-                let bad = *random.pick(&[(shape.size % 256) as u8, 255]);
-                if let Some(i) = at(random, self.read.len()) {
-                    self.read[i] = bad;
+                // the least number that is no symbol, where there is one of so many bytes, or the largest byte
+                let w = width(shape.size);
+                let least = bytes_of(shape.size, &[shape.size as u16]);
+                let bad = random.pick(&[least, vec![255; w]]).clone();
+                if let Some(i) = at(random, self.read.len() / w) {
+                    self.read[i * w..(i + 1) * w].copy_from_slice(&bad);
                 }
                 if let Some(i) = at(random, self.written.len()) {
-                    self.written[i] = bad;
+                    self.written[i] = bad[0];
                 }
             }
         }

@@ -2,7 +2,6 @@
 use mathlib.Core.Path.{_≡_, sym, _∙_}
 use lib.ListN.{length}
 use borrow.Author.Needs.{needs}
-use Rattle.plan.proofs.Plans.{base-bytes}
 use Rattle.balanced_c.proofs.Plans.{plan-lengths, plan-refused, plan-given}
 use Rattle.balanced_c.proofs.balanced_plan.Statement.{statement}
 use Rattle.balanced_c.proofs.balanced_plan.Tie as tie
@@ -32,11 +31,11 @@ put-rows-requires c κs = let l = lengths (c .before .before .before .before .be
 array : (c : tie.After-build-plan) → length (c .build-plan .result .base) ≡ 255
 array c = search needs
 
-copy-bytes-requires : tie.Need-copy-bytes-requires
-copy-bytes-requires c κs =
+copy-symbols-requires : tie.Need-copy-symbols-requires
+copy-symbols-requires c κs =
     let none = c .before .before .before .before .before .before .before .before .before .before .before .before .before .before .before in
     let built = none .before .before in
-    (array built ∙ sym (lengths none .3), rw (built .build-plan .ensures .plan) (base-bytes (none .before .before .before .before .before .before .before .before .args .rec .now)))
+    array built ∙ sym (lengths none .3)
 
 same-length : tie.Need-same-length
 same-length c = search needs
@@ -56,8 +55,8 @@ returns-2 c =
     let rows = copied .before .before .before .before .before .before .before .before .before in
     let numbers = rows .before .before .before .before .before in
     let none = numbers .before .before in
-    plan-given _ _ _ _ _ _ _ (none .before .before .build-plan .ensures) (none .before .plan-fault .ensures) _ _ _ _ (none .if1 .left) (numbers .put-numbers .ensures) (rows .put-rows .ensures) (copied .copy-bytes .ensures)
+    plan-given _ _ _ _ _ _ _ (none .before .before .build-plan .ensures) (none .before .plan-fault .ensures) _ _ _ _ (none .if1 .left) (numbers .put-numbers .ensures) (rows .put-rows .ensures) (copied .copy-symbols .ensures)
 
 pub balanced-plan-spec : {M : Type 1} → statement M
 balanced-plan-spec =
-    tie.close (tie.spec build-plan-requires plan-fault-requires returns put-numbers-requires put-rows-requires copy-bytes-requires same-length same-length-2 same-length-3 same-length-4 returns-2)
+    tie.close (tie.spec build-plan-requires plan-fault-requires returns put-numbers-requires put-rows-requires copy-symbols-requires same-length same-length-2 same-length-3 same-length-4 returns-2)

@@ -6,37 +6,39 @@ use native.Mathlib.Omega.{arith}
 use borrow.Author.Needs.{needs}
 use borrow.Author.Tests.{eq-eqb, ne-eqb}
 use Rattle.layout.specs.Layout.{shareLayout}
+use Rattle.layout.specs.Width.{symbolsOf}
 use Rattle.generator.specs.declared.Header.{Header}
+use Rattle.generator.specs.Records.{width}
 use Rattle.refusals.specs.Faults.{belongsFault}
-use Rattle.refusals.specs.Accepted.{SymbolRows}
+use Rattle.refusals.specs.Accepted.{SymbolBuffer}
 use Rattle.refusals.proofs.Accepts.{belongs-accepts}
 use Rattle.blocks.specs.declared.Membership.the-variants.{Yes, No}
 use Rattle.blocks.specs.Blocks.{firstWrong}
+use Rattle.blocks.specs.Bytes.{wrongLane}
 use Rattle.blocks.specs.Answers.{membershipOf}
 use Rattle.blocks.specs.Promises.{BelongsPromise}
-use Rattle.blocks.proofs.Bytes.{wrong-lane}
 use Rattle.blocks.proofs.Words.{wrong-most}
 use Rattle.blocks.proofs.Refused.{belongs-refuses}
 use Rattle.belongs.proofs.test_accepted.Statement.{statement}
 use Rattle.belongs.proofs.test_accepted.Tie as tie
 
-module _ (h : Header) (l : ℕ) (s : List ℕ) (number : ℕ) (none : number ≡ 0) (lane : ℕ) (lane-is : lane ≡ firstWrong shareLayout h l s) where
+module _ (h : Header) (l : ℕ) (s : List ℕ) (number : ℕ) (none : number ≡ 0) (lane : ℕ) (lane-is : lane ≡ firstWrong shareLayout h l (symbolsOf (width h) s)) where
   -- no number is met, and no lane is wrong
   passed : lane ≡ l → BelongsPromise shareLayout l s Yes h number
-  unfolding membershipOf
-  passed end = record { answer = rw (none, wrong-lane h shareLayout l s, ← lane-is, eq-eqb lane l end) }
+  unfolding membershipOf wrongLane
+  passed end = record { answer = rw (none, ← lane-is, eq-eqb lane l end) }
 
   -- none is met, and this lane is the first wrong one
   failed : (lane ≡ l → ⊥) → BelongsPromise shareLayout l s (No lane) h number
-  unfolding membershipOf
-  failed inside = record { answer = rw (none, wrong-lane h shareLayout l s, ← lane-is, ne-eqb lane l inside) }
+  unfolding membershipOf wrongLane
+  failed inside = record { answer = rw (none, ← lane-is, ne-eqb lane l inside) }
 
 -- no number is met
 none-met : (c : tie.Else1) → let a = c .before .before .before .args in belongsFault (a .h) (a .lanes) (a .shares .now) ≡ 0
 none-met c = sym (c .before .belongs-fault .ensures) ∙ c .if1 .left
 
 -- so the shares are a block
-block : (c : tie.Else1) → let a = c .before .before .before .args in SymbolRows (a .h) (a .h .n) (a .lanes) (a .shares .now)
+block : (c : tie.Else1) → let a = c .before .before .before .args in SymbolBuffer (a .h) (a .h .n) (a .lanes) (a .shares .now)
 block c = belongs-accepts _ (c .before .before .before .pre) _ _ (none-met c)
 
 belongs-fault-requires : tie.Need-belongs-fault-requires
@@ -54,7 +56,7 @@ returns-2 c = passed _ _ _ _ (none-met (c .before .before)) _ (c .before .first-
 cast-t7 : tie.Need-cast-t7
 cast-t7 c =
     let a = c .before .before .before .before .before .args in
-    omega (arith, c .before .first-wrong .ensures, wrong-most shareLayout (a .h) (a .lanes) (a .shares .now), block (c .before .before) .few-lanes)
+    omega (arith, c .before .first-wrong .ensures, wrong-most shareLayout (a .h) (a .lanes) (symbolsOf (width (a .h)) (a .shares .now)), block (c .before .before) .symbol-rows .few-lanes)
 
 returns-3 : tie.Need-returns-3
 returns-3 c = failed _ _ _ _ (none-met (c .before .before)) _ (c .before .first-wrong .ensures) (c .if2 .left)

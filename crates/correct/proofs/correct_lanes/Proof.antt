@@ -16,12 +16,12 @@ use Rattle.layout.proofs.Buffers.{length-lane}
 use Rattle.layout.proofs.Places.{share-lawful}
 use Rattle.generator.specs.declared.Header.{Header}
 use Rattle.generator.specs.Records.{width}
+use Rattle.generator.proofs.Widths.{width-some}
 use Rattle.tiles.proofs.Parts.{fills-stretch, fills-whole}
 use Rattle.correct.specs.Blocks.{correctedShares, correctedBytes, correctedCount}
 use Rattle.correct.proofs.Shares.{lane-corrected}
 use Rattle.correct.proofs.Counting.{apartTo, apart-none, apart-lane, apart-all}
 use Rattle.correct.proofs.LaneBytes.{symbols-long, part-inside, part-lane, part-marked, part-corrected, corrected-size}
-use Rattle.correct.proofs.LaneSymbols.{width-some}
 use Rattle.correct.proofs.correct_lanes.Statement.{statement}
 use Rattle.correct.proofs.correct_lanes.Tie as tie
 

@@ -20,14 +20,14 @@ cleared n l few =
     ap (λ (m : ℕ). take m (zeros n)) (sym front) ∙ zeros-part n 0 l (omega arith)
 
 array-borrow-prefix-marks : tie.Need-array-borrow-prefix-marks
-array-borrow-prefix-marks c = omega (arith, c .before .before .pre .few-lanes)
+array-borrow-prefix-marks c = omega (arith, c .before .before .pre .symbol-rows .few-lanes)
 
 slice-aggregate-mark-lanes : tie.Need-slice-aggregate-mark-lanes
-slice-aggregate-mark-lanes c = sym (length-take-le _ _ (omega (arith, c .before .before .before .pre .few-lanes)))
+slice-aggregate-mark-lanes c = sym (length-take-le _ _ (omega (arith, c .before .before .before .pre .symbol-rows .few-lanes)))
 
 mark-lanes-requires : tie.Need-mark-lanes-requires
 unfolding zeros
-mark-lanes-requires c κs = let s = c .before .before .before in (s .pre, cleared 4096 (s .args .lanes) (s .pre .few-lanes))
+mark-lanes-requires c κs = let s = c .before .before .before in (s .pre, cleared 4096 (s .args .lanes) (s .pre .symbol-rows .few-lanes))
 
 array-share-prefix-marks : tie.Need-array-share-prefix-marks
 array-share-prefix-marks c = whole-fits _ _ _ _ (c .before .mark-lanes .ensures) (length-marks shareLayout _ _ _)

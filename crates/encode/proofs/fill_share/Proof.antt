@@ -2,7 +2,7 @@
 use mathlib.Core.Path.{_∙_}
 use native.Mathlib.Omega.{arith}
 use borrow.Author.Needs.{needs}
-use Rattle.encode.proofs.Columns.{share-sums, rows-ready}
+use Rattle.encode.proofs.Columns.{share-tile, rows-ready}
 use Rattle.encode.proofs.fill_share.Statement.{statement}
 use Rattle.encode.proofs.fill_share.Tie as tie
 
@@ -27,7 +27,7 @@ same-length c = search needs
 returns : tie.Need-returns
 returns c =
     let a = c .before .before .before .before .before .before .before .before .before .before .before .args in
-    c .before .before .combine .ensures ∙ rw (c .before .before .before .before .before .column .ensures) (share-sums (a .h) (a .lanes) (a .message .now) (a .node))
+    c .before .before .combine .ensures ∙ rw (c .before .before .before .before .before .column .ensures) (share-tile (a .h) (a .lanes) (a .message .now) (a .node))
 
 pub fill-share-spec : {M : Type 1} → statement M
 fill-share-spec =

@@ -1,7 +1,7 @@
 -- `judge` meets its contract.
 use mathlib.Core.Path.{sym, _∙_}
 use borrow.Author.Needs.{needs}
-use Rattle.generator.proofs.Faults.{meets-four, meets-five, meets-none}
+use Rattle.generator.proofs.Faults.{meets-four, meets-five, meets-none, sizes}
 use Rattle.records.proofs.judge.Statement.{statement}
 use Rattle.records.proofs.judge.Tie as tie
 
@@ -12,7 +12,7 @@ returns : tie.Need-returns
 returns c = meets-four _ (cc)
 
 root-bad-requires : tie.Need-root-bad-requires
-root-bad-requires c κs = search needs
+root-bad-requires c κs = (c .before .before .pre, sizes _ (sym (c .before .size-bad .ensures) ∙ c .if1 .left) .0)
 
 returns-2 : tie.Need-returns-2
 returns-2 c =

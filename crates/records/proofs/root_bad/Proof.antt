@@ -13,8 +13,8 @@ cast-n c = search needs
 size-requires : tie.Need-size-requires
 size-requires c κs = search needs
 
-order-requires : tie.Need-order-requires
-order-requires c κs = search needs
+has-order-requires : tie.Need-has-order-requires
+has-order-requires c κs = search needs
 
 returns : tie.Need-returns
 unfolding rootBad
@@ -28,7 +28,7 @@ unfolding rootBad
 returns-2 c =
     let h = c .before .before .before .before .args .h in
     let low : h .root < size h = omega (arith, c .before .before .size .ensures) in
-    rw (lt-ltb _ _ low, ← c .order .ensures)
+    rw (lt-ltb _ _ low, ← c .has-order .ensures)
 
 pub root-bad-spec : {M : Type 1} → statement M
-root-bad-spec = tie.close (tie.spec cast-n size-requires order-requires returns returns-2)
+root-bad-spec = tie.close (tie.spec cast-n size-requires has-order-requires returns returns-2)

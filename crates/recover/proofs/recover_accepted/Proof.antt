@@ -4,6 +4,8 @@ use Prim.Native.Nat.{_*_}
 use native.Mathlib.Omega.{arith}
 use borrow.Author.Needs.{needs}
 use lib.ListN.{length, take, length-take}
+use Rattle.layout.proofs.LaneParts.{lanes-long}
+use Rattle.generator.specs.Records.{width}
 use Rattle.generator.specs.Shifts.{shifts}
 use Rattle.generator.proofs.Shifts.{shifts-length}
 use Rattle.refusals.specs.Accepted.{ListedShares}
@@ -11,14 +13,14 @@ use Rattle.refusals.proofs.Accepts.{recover-accepts}
 use Rattle.blocks.specs.Answers.{outcomeOf}
 use Rattle.blocks.proofs.Refused.{recover-refuses}
 use Rattle.recover.proofs.Recovering.{shifts-part}
-use Rattle.recover.proofs.Tiles.{recovered-lanes}
+use Rattle.recover.proofs.Tiles.{listed-bytes, recovered-lanes}
 use Rattle.recover.proofs.recover_accepted.Statement.{statement}
 use Rattle.recover.proofs.recover_accepted.Tie as tie
 
 -- what is known where no number was met
 accepted : (c : tie.After-struct-known)
     → let a = c .before .before .before .before .before .before .args in
-    ListedShares (a .h) (a .lanes) (a .nodes .now) (a .shares .now) × (length (a .out .now) ≡ a .h .k * a .lanes)
+    ListedShares (a .h) (a .lanes) (a .nodes .now) (a .shares .now) × (length (a .out .now) ≡ a .h .k * a .lanes * width (a .h))
 accepted c =
     let st = c .before .before .before .before .before .before in
     let a = st .args in
@@ -64,12 +66,18 @@ slice-aggregate-prepare c = sym (part-size (c .before))
 prepare-requires : tie.Need-prepare-requires
 prepare-requires c κs =
     let listed = accepted (c .before .before) .0 in
-    (listed .rows .sound, listed .different, part (c .before))
+    (listed .buffer .symbol-rows .sound, listed .different, part (c .before))
+
+width-of-requires : tie.Need-width-of-requires
+width-of-requires c κs = search needs
 
 recover-lanes-requires : tie.Need-recover-lanes-requires
 recover-lanes-requires c κs =
-    let known = accepted (c .before .before .before .before) in
-    (known .0, c .before .prepare .ensures, known .1)
+    let at = c .before .before .before .before .before in
+    let a = at .before .before .before .before .before .before .args in
+    let (listed, out) = accepted at in
+    let wide = c .before .width-of .ensures .0 in
+    (listed-bytes _ wide listed, listed .different, c .before .before .prepare .ensures, rw wide (out ∙ lanes-long (width (a .h)) (a .h .k) (a .lanes)))
 
 same-length : tie.Need-same-length
 same-length c = search needs
@@ -77,13 +85,14 @@ same-length c = search needs
 returns-2 : tie.Need-returns-2
 unfolding outcomeOf
 returns-2 c =
-    let at = c .before .before .before .before .before .before .before in
+    let at = c .before .before .before .before .before .before .before .before in
+    let wide = c .before .before .before .before .width-of .ensures .0 in
     let none = sym (at .before .before .recover-fault .ensures) ∙ at .before .if1 .left in
     record {
       answer = rw none refl;
-      written = rw none (recovered-lanes (accepted at .0) (c .before .before .recover-lanes .ensures));
+      written = rw none (recovered-lanes (accepted at .0) (rw wide at (c .before .before .recover-lanes .ensures)));
     }
 
 pub recover-accepted-spec : {M : Type 1} → statement M
 recover-accepted-spec =
-    tie.close (tie.spec recover-fault-requires returns cast-k fill-shifts-requires array-share-prefix-shifts slice-aggregate-prepare prepare-requires recover-lanes-requires same-length returns-2)
+    tie.close (tie.spec recover-fault-requires returns cast-k fill-shifts-requires array-share-prefix-shifts slice-aggregate-prepare prepare-requires width-of-requires recover-lanes-requires same-length returns-2)

@@ -6,6 +6,7 @@ use borrow.Author.Needs.{needs}
 use lib.ListN.{getD, take}
 use Rattle.lists.proofs.Numbers.{below-at}
 use Rattle.lists.proofs.Padding.{take-padded}
+use Rattle.field.proofs.KindLaws.{size-fits}
 use Rattle.generator.specs.Records.{modulusOf, size}
 use Rattle.recovery.specs.declared.Setup.{Setup}
 use Rattle.interpolation.specs.Points.{pointsOf}
@@ -69,7 +70,9 @@ array-read-row-weights c = search needs
 cast-row-weights : tie.Need-cast-row-weights
 cast-row-weights c =
     let k = c .before .before .before .before .before .before .before .before in
-    omega (arith, scale k)
+    let h = c .before .before .before .before .before .before .before .before .before .before .args .h in
+    let sound = c .before .before .before .before .before .before .before .before .before .before .pre .0 in
+    omega (arith, scale k, size-fits (h .field) (sound .usable-field))
 
 array-share-prefix-terms : tie.Need-array-share-prefix-terms
 array-share-prefix-terms c = search needs

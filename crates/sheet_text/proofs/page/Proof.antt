@@ -8,7 +8,7 @@ use Rattle.sheet_text.proofs.page.Tie as tie
 
 returns : tie.Need-returns
 unfolding zeros
-returns c = (refl, sym (length-replicate {A = ℕ} 264205 0))
+returns c = (refl, sym (length-replicate {A = ℕ} 394255 0))
 
 pub page-spec : {M : Type 1} → statement M
 page-spec = tie.close (tie.spec returns)

@@ -8,7 +8,6 @@ use Rattle.lists.specs.Rows.{from}
 use Rattle.lists.proofs.Rows.{from-next, from-end}
 use Rattle.lists.proofs.Fill.{Fills}
 use Rattle.plan.specs.Plans.{entryIn}
-use Rattle.plan.proofs.Plans.{entry-byte}
 use Rattle.text.specs.Text.{fields}
 use Rattle.text.proofs.Writing.{puts-start, puts-next, puts-done}
 use Rattle.sheet_text.proofs.put_entries.Statement.{statement}
@@ -17,7 +16,7 @@ use Rattle.sheet_text.proofs.put_entries.Tie as tie
 abbrev Inv-loop : tie.InvT-loop
 Inv-loop out₀ at plan r n place₀ j₀ out place j =
     (j ≤ n)
-    × (place ≤ at + 4 * j)
+    × (place ≤ at + 6 * j)
     × Fills out₀ out place (fields (from (entryIn plan r) j (n - j))) (take at out₀ ++ fields (from (entryIn plan r) 0 n))
 
 abbrev μ-loop : tie.MeasureT-loop
@@ -32,13 +31,11 @@ cast-entry c = omega arith
 entry-requires : tie.Need-entry-requires Inv-loop μ-loop
 entry-requires c κs = tt
 
-cast-put-field : tie.Need-cast-put-field Inv-loop μ-loop
-cast-put-field c =
-    let s = c .before .before .before .before .before in
-    omega (arith, c .before .entry .ensures, entry-byte (s .args .plan) (s .pre .1) (s .args .r) (c .before .before .before .loop .j))
+cast-put-number-field : tie.Need-cast-put-number-field Inv-loop μ-loop
+cast-put-number-field c = omega arith
 
-put-field-requires : tie.Need-put-field-requires Inv-loop μ-loop
-put-field-requires c κs = omega arith
+put-number-field-requires : tie.Need-put-number-field-requires Inv-loop μ-loop
+put-number-field-requires c κs = (omega arith, omega arith)
 
 add-j : tie.Need-add-j Inv-loop μ-loop
 add-j c = omega arith
@@ -54,7 +51,7 @@ loop-again c =
     let a = turn .before .before .before .args in
     let l = turn .before .loop in
     let todo = rw (from-next (entryIn (a .plan) (a .r)) (a .plan .n) (l .j) (turn .loop-test .taken)) at (l .inv .2) in
-    (omega arith, omega arith, puts-next todo (rw (at-entry .entry .ensures) at (c .before .before .put-field .ensures .0)) (omega arith))
+    (omega arith, omega arith, puts-next todo (rw (at-entry .entry .ensures) at (c .before .before .put-number-field .ensures .0)) (omega arith))
 
 put-byte-requires : tie.Need-put-byte-requires Inv-loop μ-loop
 put-byte-requires c κs = omega arith
@@ -72,4 +69,4 @@ returns c =
 
 pub put-entries-spec : {M : Type 1} → statement M
 put-entries-spec =
-    tie.close (tie.spec Inv-loop μ-loop loop-holds cast-entry entry-requires cast-put-field put-field-requires add-j loop-less loop-again put-byte-requires same-length returns)
+    tie.close (tie.spec Inv-loop μ-loop loop-holds cast-entry entry-requires cast-put-number-field put-number-field-requires add-j loop-less loop-again put-byte-requires same-length returns)

@@ -16,7 +16,7 @@ use Rattle.sheet_text.proofs.put_sheet.Tie as tie
 abbrev Inv-loop : tie.InvT-loop
 Inv-loop out₀ at plan number k place₀ r₀ out place r =
     (r ≤ k)
-    × (place ≤ at + 25 + 1036 * r)
+    × (place ≤ at + 25 + 1546 * r)
     × Fills out₀ out place (rowsFrom (rowLine plan) r (k - r)) (take place₀ out₀ ++ rowsFrom (rowLine plan) 0 k)
 
 abbrev μ-loop : tie.MeasureT-loop
@@ -36,7 +36,7 @@ loop-holds : tie.Need-loop-holds Inv-loop μ-loop
 loop-holds c = (omega arith, omega arith, rw sub-zero (puts-start _ _ _ (omega arith)))
 
 put-row-requires : tie.Need-put-row-requires Inv-loop μ-loop
-put-row-requires c κs = (omega arith, omega arith, c .before .before .before .before .before .before .before .before .before .pre .1)
+put-row-requires c κs = (omega arith, omega arith)
 
 add-r : tie.Need-add-r Inv-loop μ-loop
 add-r c = omega arith

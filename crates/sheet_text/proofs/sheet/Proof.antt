@@ -2,7 +2,6 @@
 use mathlib.Core.Path.{_≡_, ap, _∙_}
 use borrow.Author.Needs.{needs}
 use Rattle.generator.specs.Records.{recordOf}
-use Rattle.plan.proofs.Plans.{base-bytes}
 use Rattle.sheet_text.specs.Sheet.{sheetOf, sheetFor}
 use Rattle.text.proofs.Writing.{puts-front}
 use Rattle.sheet_text.proofs.Sheets.{sheet-is}
@@ -13,9 +12,7 @@ build-plan-requires : tie.Need-build-plan-requires
 build-plan-requires c κs = search needs
 
 put-sheet-requires : tie.Need-put-sheet-requires
-put-sheet-requires c κs =
-    let rec = c .before .before .before .args .rec .now in
-    (search needs, rw (c .build-plan .ensures .plan) (base-bytes rec))
+put-sheet-requires c κs = search needs
 
 returns : tie.Need-returns
 returns c =

@@ -1,6 +1,6 @@
 -- `symbols_below` meets its contract. The loop's invariant: all are below the size where those from i on are.
 use mathlib.Core.Path.{_≡_, sym, _∙_}
-use Prim.Native.Nat.{_-_, _/_, _≤_}
+use Prim.Native.Nat.{_-_, _≤_}
 use native.Mathlib.Nat.{sub-zero, div-le-self}
 use native.Mathlib.Omega.{arith}
 use lib.ListN.{length}

@@ -1,7 +1,10 @@
 -- `renewed` meets its contract: sums and products of symbols are symbols.
-use native.Mathlib.Nat.{lt-of-lt-of-le}
+use Prim.Native.Nat.{_<_}
+use native.Mathlib.Omega.{arith}
 use borrow.Author.Needs.{needs}
 use Rattle.field.proofs.Bounds.{add-below, mul-below}
+use Rattle.field.proofs.KindLaws.{size-fits}
+use Rattle.generator.specs.Records.{size}
 use Rattle.update.proofs.renewed.Statement.{statement}
 use Rattle.update.proofs.renewed.Tie as tie
 
@@ -16,7 +19,8 @@ add-requires c κs =
 cast-result : tie.Need-cast-result
 cast-result c =
     let (s, factor, entry, before, tables) = c .before .before .pre in
-    record { fits = lt-of-lt-of-le (rw (c .add .ensures, c .before .mul-with .ensures) (add-below _ (s .field) before (mul-below _ (s .field) factor entry))) (s .one-byte) }
+    let low : c .add .result < size (c .before .before .args .h) = rw (c .add .ensures, c .before .mul-with .ensures) (add-below _ (s .field) before (mul-below _ (s .field) factor entry)) in
+    omega (arith, size-fits _ (s .usable-field))
 
 returns : tie.Need-returns
 returns c = rw (c .add .ensures, c .before .mul-with .ensures)

@@ -1,43 +1,49 @@
--- `rewrite` meets its contract: `Rewriting` is the invariant, and each way through a turn is one of its laws.
-use Prim.Native.Nat.{_+_, _-_, _≤_, _<_}
-use mathlib.Core.Path.{_≡_, sym, ap, _∙_}
+-- `rewrite` meets its contract: `RewritingBytes` is the invariant, and each way through a turn is one of its laws.
+use Prim.Native.Nat.{_+_, _-_, _*_, _≤_, _<_}
+use mathlib.Core.Path.{_≡_, sym, _∙_}
 use mathlib.Core.Logic.{⊎-elim}
+use native.Mathlib.Nat.{mul-comm, lt-of-lt-of-le}
 use native.Mathlib.Omega.{arith}
 use borrow.Author.Needs.{needs}
-use lib.ListN.{length, getD}
-use Rattle.lists.proofs.Numbers.{below-at}
+use lib.ListN.{length}
+use Rattle.lists.proofs.Numbers.{at-below, below-at}
+use Rattle.lists.proofs.Rows.{part-length}
+use Rattle.layout.specs.Width.{symbolAt, symbolsOf}
 use Rattle.generator.specs.Records.{size}
 use Rattle.generator.proofs.Bounds.{entry-below}
+use Rattle.generator.proofs.Widths.{width-range, size-fits-width}
 use Rattle.plan.proofs.Plans.{shift-below, base-room}
-use Rattle.update.proofs.Lane.{entry-read}
-use Rattle.update.proofs.Rewriting.{Rewriting, after, rewriting-start, rewriting-held, rewriting-put, rewriting-skip, rewriting-end}
+use Rattle.update.proofs.Lane.{entry-read, word-long}
+use Rattle.update.proofs.Rewriting.{after}
+use Rattle.update.proofs.LaneBytes.{RewritingBytes, after-below, bytes-start, bytes-long, bytes-few, bytes-end, place-inside, bytes-inside, bytes-held, bytes-put, bytes-skip}
 use Rattle.update.proofs.rewrite.Statement.{statement}
 use Rattle.update.proofs.rewrite.Tie as tie
 
 abbrev Inv-loop : tie.InvT-loop
-Inv-loop h powers logarithms which x lane₀ plan n shift count₀ j₀ lane count j = Rewriting h which x lane₀ lane count j
+Inv-loop h w powers logarithms which x lane₀ plan n shift count₀ j₀ lane count j = RewritingBytes h w which x lane₀ lane count j
 
 abbrev μ-loop : tie.MeasureT-loop
-μ-loop h powers logarithms which x lane₀ plan n shift count₀ j₀ lane count j = n - j
+μ-loop h w powers logarithms which x lane₀ plan n shift count₀ j₀ lane count j = n - j
 
--- node j's byte lies in the lane
-inside : (c : tie.In-loop Inv-loop μ-loop) → c .before .loop .j < length (c .before .loop .lane)
-inside c =
-    let (ready, factor, plan, tables) = c .before .before .before .before .before .pre in
-    omega (arith, c .before .loop .inv .done .long, ready .long, c .loop-test .taken)
+-- node j's bytes lie in the lane
+inside : (c : tie.In-loop Inv-loop μ-loop) → let a = c .before .before .before .before .before .args in c .before .loop .j * a .w + a .w ≤ length (c .before .loop .lane)
+inside c = bytes-inside (c .before .before .before .before .before .pre .0) _ (c .before .loop .inv) (c .loop-test .taken)
 
--- it is a symbol
-held : (c : tie.In-loop Inv-loop μ-loop) → getD (c .before .loop .lane) (c .before .loop .j) 0 < size (c .before .before .before .before .before .args .h)
+few : (c : tie.In-loop Inv-loop μ-loop) → length (c .before .loop .lane) ≤ 510
+few c = bytes-few (c .before .before .before .before .before .pre .0) _ (c .before .loop .inv)
+
+-- its symbol is one of the field
+held : (c : tie.In-loop Inv-loop μ-loop) → let a = c .before .before .before .before .before .args in symbolAt (a .w) (c .before .loop .lane) (c .before .loop .j) < size (a .h)
 held c =
-    let (ready, factor, plan, tables) = c .before .before .before .before .before .pre in
-    rw (rewriting-held _ _ _ _ (ready .long) (c .before .loop .inv) (c .loop-test .taken)) (below-at _ _ (ready .symbols) _ (omega (arith, ready .long, c .loop-test .taken)))
+    let ready = c .before .before .before .before .before .pre .0 in
+    rw (bytes-held ready _ (c .before .loop .inv) (c .loop-test .taken)) (below-at _ _ (ready .symbols) _ (omega (arith, word-long ready, c .loop-test .taken)))
 
 -- and becomes what the update says
-becomes : (c : tie.After-renewed Inv-loop μ-loop) → let a = c .before .before .before .before .before .before .before .before .before .before .before .args in c .renewed .result ≡ after (a .h) (a .which) (a .x) (a .lane .now) (c .before .before .before .before .before .before .before .loop .j)
+becomes : (c : tie.After-renewed Inv-loop μ-loop) → let a = c .before .before .before .before .before .before .before .before .before .before .before .before .args in c .renewed .result ≡ after (a .h) (a .which) (a .x) (symbolsOf (a .w) (a .lane .now)) (c .before .before .before .before .before .before .before .before .loop .j)
 becomes c =
-    let (ready, factor, plan, tables) = c .before .before .before .before .before .before .before .before .before .before .before .pre in
-    let node = c .before .before .before .before .before .before .loop-test .taken in
-    rw (← entry-read _ (ready .sound) _ plan _ _ (ready .row) node, ← c .before .before .entry-at .ensures, ← rewriting-held _ _ _ _ (ready .long) (c .before .before .before .before .before .before .before .loop .inv) node) (c .renewed .ensures)
+    let (ready, factor, plan, tables) = c .before .before .before .before .before .before .before .before .before .before .before .before .pre in
+    let node = c .before .before .before .before .before .before .before .loop-test .taken in
+    rw (← entry-read _ (ready .sound) _ plan _ _ (ready .row) node, ← c .before .before .before .entry-at .ensures, ← bytes-held ready _ (c .before .before .before .before .before .before .before .before .loop .inv) node, ← c .before .symbol-at .ensures) (c .renewed .ensures)
 
 cast-n : tie.Need-cast-n Inv-loop μ-loop
 cast-n c = search needs
@@ -49,31 +55,59 @@ cast-shift : tie.Need-cast-shift Inv-loop μ-loop
 cast-shift c = search needs
 
 loop-holds : tie.Need-loop-holds Inv-loop μ-loop
-loop-holds c = rewriting-start _ _ _ _
+loop-holds c = bytes-start (c .before .before .before .pre .0) _ (at-below 256 _ (λ i h. omega (arith, c .before .before .slice-known .given i)))
 
 entry-at-requires : tie.Need-entry-at-requires Inv-loop μ-loop
 entry-at-requires c κs =
     let (ready, factor, plan, tables) = c .before .before .before .before .before .before .before .before .pre in
     (omega arith, rw plan (shift-below _ (ready .sound) _ (ready .row)), c .before .before .before .loop-test .taken, rw plan (base-room _))
 
-slice-read-before : tie.Need-slice-read-before Inv-loop μ-loop
-slice-read-before c = inside (c .before .before .before .before .before)
+symbol-at-requires : tie.Need-symbol-at-requires Inv-loop μ-loop
+symbol-at-requires c κs =
+    let st = c .before .before .before .before .before .before .before .before .before .before in
+    let ready = st .pre .0 in
+    let range = width-range (st .args .h) in
+    (rw (ready .wide) (range .0), rw (ready .wide) (range .1), place-inside ready _ (c .before .before .before .before .before .before .loop .inv) (c .before .before .before .before .before .loop-test .taken))
 
 renewed-requires : tie.Need-renewed-requires Inv-loop μ-loop
 renewed-requires c κs =
-    let (ready, factor, plan, tables) = c .before .before .before .before .before .before .before .before .before .before .pre in (
+    let (ready, factor, plan, tables) = c .before .before .before .before .before .before .before .before .before .before .before .pre in (
       ready .sound,
       factor,
-      rw (c .before .entry-at .ensures, entry-read _ (ready .sound) _ plan _ _ (ready .row) (c .before .before .before .before .before .loop-test .taken)) (entry-below _ (ready .sound) _ _),
-      held (c .before .before .before .before .before),
+      rw (c .before .before .entry-at .ensures, entry-read _ (ready .sound) _ plan _ _ (ready .row) (c .before .before .before .before .before .before .loop-test .taken)) (entry-below _ (ready .sound) _ _),
+      rw (c .symbol-at .ensures) (held (c .before .before .before .before .before .before)),
       tables,
     )
 
-slice-write-lane : tie.Need-slice-write-lane Inv-loop μ-loop
-slice-write-lane c = inside (c .before .before .before .before .before .before .before)
+mul-start : tie.Need-mul-start Inv-loop μ-loop
+mul-start c = omega (arith, inside (c .before .before .before .before .before .before .before .before), few (c .before .before .before .before .before .before .before .before))
+
+add-end : tie.Need-add-end Inv-loop μ-loop
+add-end c = omega (arith, inside (c .before .before .before .before .before .before .before .before), few (c .before .before .before .before .before .before .before .before))
+
+sub-write-symbol : tie.Need-sub-write-symbol Inv-loop μ-loop
+sub-write-symbol c = omega arith
+
+part-write-symbol-start : tie.Need-part-write-symbol-start Inv-loop μ-loop
+part-write-symbol-start c = omega arith
+
+part-write-symbol-end : tie.Need-part-write-symbol-end Inv-loop μ-loop
+part-write-symbol-end c = omega (arith, inside (c .before .before .before .before .before .before .before .before))
+
+write-symbol-requires : tie.Need-write-symbol-requires Inv-loop μ-loop
+write-symbol-requires c κs =
+    let st = c .before .before .before .before .before .before .before .before .before .before .before .before .before .before in
+    let (ready, factor, plan, tables) = st .pre in
+    let range = width-range (st .args .h) in
+    let j = c .before .before .before .before .before .before .before .before .before .before .loop .j in (
+      rw (ready .wide) (range .0),
+      rw (ready .wide) (range .1),
+      rw (ready .wide, becomes (c .before .before)) (lt-of-lt-of-le (after-below ready (st .args .x) factor j (c .before .before .before .before .before .before .before .before .before .loop-test .taken)) (size-fits-width (st .args .h) (ready .sound))),
+      part-length (j * st .args .w) (st .args .w) _ (inside (c .before .before .before .before .before .before .before .before .before)),
+    )
 
 add-count : tie.Need-add-count Inv-loop μ-loop
-add-count c = omega (arith, c .before .before .before .before .before .before .before .before .loop .inv .few, c .before .before .before .before .before .before .before .loop-test .taken)
+add-count c = omega (arith, c .before .before .before .before .before .before .before .before .before .before .before .before .before .loop .inv .symbols .few, c .before .before .before .before .before .before .before .before .before .before .before .before .loop-test .taken)
 
 add-j : tie.Need-add-j Inv-loop μ-loop
 add-j c = omega arith
@@ -83,20 +117,20 @@ loop-less c = omega arith
 
 loop-again : tie.Need-loop-again Inv-loop μ-loop
 loop-again c =
-    let (ready, factor, plan, tables) = c .before .before .before .before .before .before .before .before .before .before .before .before .pre in
-    let turn = c .before .before .before .before .before .before .before .before .loop .inv in
-    let node = c .before .before .before .before .before .before .before .loop-test .taken in
+    let (ready, factor, plan, tables) = c .before .before .before .before .before .before .before .before .before .before .before .before .before .pre in
+    let turn = c .before .before .before .before .before .before .before .before .before .loop .inv in
+    let node = c .before .before .before .before .before .before .before .before .loop-test .taken in
     ⊎-elim
-    (λ w. rw (w .1, w .2) (rewriting-put _ _ _ _ (ready .long) turn node _ (becomes (c .before)) (w .0 .taken)))
-    (λ w. rw (w .1, w .2) (rewriting-skip _ _ _ _ (ready .long) turn node _ (becomes (c .before)) (w .0 .left)))
+    (λ u. rw (u .5, u .6, u .2 .ensures) (bytes-put ready _ turn node _ (becomes (c .before)) (λ e. u .0 .taken (e ∙ sym (c .before .before .symbol-at .ensures)))))
+    (λ u. rw (u .1, u .2) (bytes-skip ready _ turn node _ (becomes (c .before)) (u .0 .left ∙ c .before .before .symbol-at .ensures)))
     (c .if1 .came)
 
 same-length : tie.Need-same-length Inv-loop μ-loop
-same-length c = c .before .loop .inv .done .long
+same-length c = let ready = c .before .before .before .before .before .pre .0 in bytes-long ready _ (c .before .loop .inv) ∙ sym (ready .bytes ∙ mul-comm _ _)
 
 returns : tie.Need-returns Inv-loop μ-loop
-returns c = rewriting-end _ _ _ _ (c .before .before .before .before .before .pre .0 .long) (c .before .loop .inv) (c .loop-test .left)
+returns c = bytes-end (c .before .before .before .before .before .pre .0) _ (c .before .loop .inv) (c .loop-test .left)
 
 pub rewrite-spec : {M : Type 1} → statement M
 rewrite-spec =
-    tie.close (tie.spec Inv-loop μ-loop cast-n element-copy-out-shift cast-shift loop-holds entry-at-requires slice-read-before renewed-requires slice-write-lane add-count add-j loop-less loop-again same-length returns)
+    tie.close (tie.spec Inv-loop μ-loop cast-n element-copy-out-shift cast-shift loop-holds entry-at-requires symbol-at-requires renewed-requires mul-start add-end sub-write-symbol part-write-symbol-start part-write-symbol-end write-symbol-requires add-count add-j loop-less loop-again same-length returns)

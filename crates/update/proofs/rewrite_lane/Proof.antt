@@ -1,18 +1,29 @@
 -- `rewrite_lane` meets its contract: what the lane becomes by itself, in its place among the shares.
+use mathlib.Core.Path.{_≡_}
+use mathlib.Core.Bool.{true}
 use native.Mathlib.Omega.{arith}
 use borrow.Author.Needs.{needs}
-use Rattle.update.proofs.Lane.{lane-inside, lane-word, lane-rewritten}
+use Rattle.lists.specs.Numbers.{allBelow}
+use Rattle.lists.proofs.Numbers.{at-below}
+use Rattle.update.proofs.Lane.{lane-inside, lane-few, lane-word, lane-rewritten, lane-differs}
 use Rattle.update.proofs.rewrite_lane.Statement.{statement}
 use Rattle.update.proofs.rewrite_lane.Tie as tie
 
-cast-n : tie.Need-cast-n
-cast-n c = search needs
+-- the shares are bytes
+bytes : (c : tie.After-slice-known) → allBelow 256 (c .before .args .shares .now) ≡ true
+bytes c = at-below 256 _ (λ i h. omega (arith, c .slice-known .given i))
+
+cast-size : tie.Need-cast-size
+cast-size c = search needs
+
+mul-size : tie.Need-mul-size
+mul-size c = let (ready, wide, factor, plan, tables) = c .before .before .pre in omega (arith, lane-few ready _ wide)
 
 mul-start : tie.Need-mul-start
-mul-start c = omega (arith, lane-inside (c .before .before .pre .0))
+mul-start c = let (ready, wide, factor, plan, tables) = c .before .before .pre in omega (arith, lane-inside ready _ wide)
 
 add-end : tie.Need-add-end
-add-end c = omega (arith, lane-inside (c .before .before .pre .0))
+add-end c = let (ready, wide, factor, plan, tables) = c .before .before .pre in omega (arith, lane-inside ready _ wide)
 
 sub-rewrite : tie.Need-sub-rewrite
 sub-rewrite c = search needs
@@ -21,19 +32,21 @@ part-rewrite-start : tie.Need-part-rewrite-start
 part-rewrite-start c = search needs
 
 part-rewrite-end : tie.Need-part-rewrite-end
-part-rewrite-end c = omega (arith, lane-inside (c .before .before .pre .0))
+part-rewrite-end c = let (ready, wide, factor, plan, tables) = c .before .before .pre in lane-inside ready _ wide
 
 rewrite-requires : tie.Need-rewrite-requires
-rewrite-requires c κs = let (ready, factor, plan, tables) = c .before .before .before .pre in (lane-word ready, factor, plan, tables)
+rewrite-requires c κs = let (ready, wide, factor, plan, tables) = c .before .before .before .pre in (lane-word ready _ wide, factor, plan, tables)
 
 same-length : tie.Need-same-length
 same-length c = search needs
 
 returns : tie.Need-returns
 returns c =
+    let (ready, wide, factor, plan, tables) = c .before .before .before .before .before .before .pre in
     let (added, counted) = c .before .before .rewrite .ensures in
-    lane-rewritten (c .before .before .before .before .before .before .pre .0) _ _ _ added counted
+    let low = bytes (c .before .before .before .before .before) in
+    (lane-rewritten ready _ wide low _ _ _ added counted, lane-differs ready _ wide low _ _ _ added counted)
 
 pub rewrite-lane-spec : {M : Type 1} → statement M
 rewrite-lane-spec =
-    tie.close (tie.spec cast-n mul-start add-end sub-rewrite part-rewrite-start part-rewrite-end rewrite-requires same-length returns)
+    tie.close (tie.spec cast-size mul-size mul-start add-end sub-rewrite part-rewrite-start part-rewrite-end rewrite-requires same-length returns)

@@ -1,7 +1,6 @@
 -- `update_accepted` meets its contract: what it is given is judged first, then its lane, and then the lane is rewritten.
 use Prim.Native.Nat.{_<_}
 use mathlib.Core.Path.{_≡_, sym, _∙_}
-use native.Mathlib.Omega.{arith}
 use borrow.Author.Needs.{needs}
 use Rattle.field.proofs.Bounds.{sub-below}
 use Rattle.layout.specs.Layout.{shareLayout}
@@ -29,9 +28,9 @@ ready c = input-accepts _ (c .before .before .before .before .pre) _ _ _ _ _ _ (
 
 -- Update's number is the lane's
 judged : (c : tie.After-judge-lane)
-    → let a = c .before .before .before .before .before .before .args in
+    → let a = c .before .before .before .before .before .before .before .args in
     updateFault shareLayout (a .h) (a .lanes) (a .which) (a .lane) (a .old) (a .new) (a .shares .now) ≡ c .judge-lane .result
-judged c = lane-met _ _ _ _ _ _ _ _ (given (c .before .before)) (c .judge-lane .ensures)
+judged c = lane-met _ _ _ _ _ _ _ _ _ (c .before .before .width-of .ensures .0) (given (c .before .before .before)) (c .judge-lane .ensures)
 
 input-fault-requires : tie.Need-input-fault-requires
 input-fault-requires c κs = search needs
@@ -42,8 +41,11 @@ same-length c = search needs
 returns : tie.Need-returns
 returns c = rw (input-met _ _ _ _ _ _ _ _ (c .before .input-fault .ensures) (c .if1 .taken)) (update-refuses _ _ (c .if1 .taken) _ _ _ _ _ _)
 
+width-of-requires : tie.Need-width-of-requires
+width-of-requires c κs = search needs
+
 judge-lane-requires : tie.Need-judge-lane-requires
-judge-lane-requires c κs = ready (c .before) .0
+judge-lane-requires c κs = (ready (c .before .before) .0, c .before .width-of .ensures .0)
 
 same-length-2 : tie.Need-same-length-2
 same-length-2 c = search needs
@@ -53,7 +55,7 @@ returns-2 c = rw (judged (c .before)) (update-refuses _ _ (c .if2 .taken) _ _ _ 
 
 sub-requires : tie.Need-sub-requires
 sub-requires c κs =
-    let (good, old, new) = ready (c .before .before .before) in
+    let (good, old, new) = ready (c .before .before .before .before) in
     (good .sound .usable-field, new, old)
 
 plan-of-requires : tie.Need-plan-of-requires
@@ -64,8 +66,8 @@ constant-tables-requires c κs = search needs
 
 rewrite-lane-requires : tie.Need-rewrite-lane-requires
 rewrite-lane-requires c κs =
-    let (lane, old, new) = ready (c .before .before .before .before .before .before .before .before .before .before) in
-    (lane, rw (c .before .before .before .before .before .before .sub .ensures) (sub-below _ (lane .sound .field) new old), c .before .before .before .before .before .plan-of .ensures, c .before .before .before .before .constant-tables .ensures)
+    let (lane, old, new) = ready (c .before .before .before .before .before .before .before .before .before .before .before) in
+    (lane, c .before .before .before .before .before .before .before .before .before .before .width-of .ensures .0, rw (c .before .before .before .before .before .before .sub .ensures) (sub-below _ (lane .sound .field) new old), c .before .before .before .before .before .plan-of .ensures, c .before .before .before .before .constant-tables .ensures)
 
 same-length-3 : tie.Need-same-length-3
 same-length-3 c = search needs
@@ -75,8 +77,8 @@ unfolding updated
 returns-3 c =
     let (done, counted) = c .before .before .rewrite-lane .ensures in
     let at = c .before .before .before .before .before .before .before .before .before in
-    altered-says _ _ _ _ _ _ _ _ _ _ (judged (at .before .before) ∙ at .before .if2 .left) (rw (← at .sub .ensures) done) counted
+    altered-says _ _ _ _ _ _ _ _ _ _ _ (c .before .before .before .before .before .before .before .before .before .before .before .before .before .width-of .ensures .0) (judged (at .before .before) ∙ at .before .if2 .left) (rw (← at .sub .ensures) done) (rw (← at .sub .ensures) counted)
 
 pub update-accepted-spec : {M : Type 1} → statement M
 update-accepted-spec =
-    tie.close (tie.spec input-fault-requires same-length returns judge-lane-requires same-length-2 returns-2 sub-requires plan-of-requires constant-tables-requires rewrite-lane-requires same-length-3 returns-3)
+    tie.close (tie.spec input-fault-requires same-length returns width-of-requires judge-lane-requires same-length-2 returns-2 sub-requires plan-of-requires constant-tables-requires rewrite-lane-requires same-length-3 returns-3)

@@ -37,19 +37,36 @@ fn laid_shifts(n: usize, k: usize) -> Vec<u8> {
         .collect()
 }
 
+/// The bytes of a symbol of a field with so many.
+pub fn width(size: u32) -> usize {
+    if size <= 256 {
+        1
+    } else {
+        2
+    }
+}
+
+/// The buffer of symbols of such a field, high byte first.
+pub fn bytes_of(size: u32, symbols: &[u16]) -> Vec<u8> {
+    symbols
+        .iter()
+        .flat_map(|x| x.to_be_bytes()[2 - width(size)..].to_vec())
+        .collect()
+}
+
 /// What a record stands for.
 pub struct Code {
     pub field: Field,
-    pub root: u8,
+    pub root: u16,
     pub n: usize,
     pub k: usize,
     pub d: usize,
     pub low: usize,
     pub high: usize,
     pub shifts: Vec<u8>,
-    pub base: Vec<u8>,
+    pub base: Vec<u16>,
     /// Node j's point, root^j.
-    pub points: Vec<u8>,
+    pub points: Vec<u16>,
 }
 
 impl Code {
@@ -66,13 +83,24 @@ impl Code {
                 if !is_prime(p) || !(3..=251).contains(&p) {
                     return Err(3);
                 }
-                (Field::Prime(p), body[1], body[2] as usize, body[3] as usize)
+                (Field::Prime(p), u16::from(body[1]), body[2] as usize, body[3] as usize)
             }
             2 => {
                 if body.len() != 3 {
                     return Err(2);
                 }
-                (Field::bytes(), body[0], body[1] as usize, body[2] as usize)
+                (Field::bytes(), u16::from(body[0]), body[1] as usize, body[2] as usize)
+            }
+            3 => {
+                if body.len() != 6 {
+                    return Err(2);
+                }
+                let pair = |at: usize| u16::from(body[at]) * 256 + u16::from(body[at + 1]);
+                let p = u32::from(pair(0));
+                if !is_prime(p) || !(257..=65_521).contains(&p) {
+                    return Err(3);
+                }
+                (Field::Prime(p), pair(2), body[4] as usize, body[5] as usize)
             }
             _ => return Err(1),
         };
@@ -109,7 +137,7 @@ impl Code {
     }
 
     /// Entry (r, j): the product of (x − root^i) for i from 0 to k−2, at x = root^(j + s_r − d).
-    pub fn entry(&self, r: usize, j: usize) -> u8 {
+    pub fn entry(&self, r: usize, j: usize) -> u16 {
         let x = self.points[(j + self.shifts[r] as usize + self.n - self.d) % self.n];
         let mut product = 1;
         let mut power = 1;
@@ -122,12 +150,12 @@ impl Code {
 
     /// The node at which each row begins: its entry is not zero, and that of the node before it is, unless none is.
     pub fn firsts(&self) -> Vec<u8> {
-        let begins = |row: &Vec<u8>| (0..self.n).find(|&j| row[j] != 0 && row[(j + self.n - 1) % self.n] == 0);
+        let begins = |row: &Vec<u16>| (0..self.n).find(|&j| row[j] != 0 && row[(j + self.n - 1) % self.n] == 0);
         self.generator().iter().map(|row| begins(row).unwrap_or(0) as u8).collect()
     }
 
     /// The generator, row by row.
-    pub fn generator(&self) -> Vec<Vec<u8>> {
+    pub fn generator(&self) -> Vec<Vec<u16>> {
         (0..self.k)
             .map(|r| {
                 (0..self.n)
@@ -145,16 +173,37 @@ impl Code {
         }
     }
 
-    pub fn symbols_fault(&self, bytes: &[u8]) -> Result<(), u8> {
-        if bytes.iter().any(|&x| u32::from(x) >= self.field.size()) {
+    /// The bytes of so many symbols in a buffer.
+    pub fn size(&self, count: usize) -> usize {
+        count * width(self.field.size())
+    }
+
+    /// The symbols of a buffer, high byte first.
+    pub fn symbols(&self, bytes: &[u8]) -> Vec<u16> {
+        let number = |digits: &[u8]| digits.iter().fold(0, |x, &digit| x * 256 + u16::from(digit));
+        bytes.chunks(self.size(1)).map(number).collect()
+    }
+
+    /// The buffer of symbols.
+    pub fn bytes(&self, symbols: &[u16]) -> Vec<u8> {
+        bytes_of(self.field.size(), symbols)
+    }
+
+    pub fn numbers_fault(&self, numbers: &[u32]) -> Result<(), u8> {
+        if numbers.iter().any(|&x| x >= self.field.size()) {
             Err(11)
         } else {
             Ok(())
         }
     }
 
+    pub fn symbols_fault(&self, symbols: &[u16]) -> Result<(), u8> {
+        let numbers: Vec<u32> = symbols.iter().map(|&x| u32::from(x)).collect();
+        self.numbers_fault(&numbers)
+    }
+
     /// The encoding of each lane, lane after lane.
-    pub fn encoding(&self, lanes: usize, message: &[u8]) -> Vec<u8> {
+    pub fn encoding(&self, lanes: usize, message: &[u16]) -> Vec<u16> {
         let rows = self.generator();
         let mut shares = vec![0; self.n * lanes];
         for (r, row) in rows.iter().enumerate() {
@@ -169,31 +218,31 @@ impl Code {
     }
 
     /// Adds to the counts, by their nodes that are not zero, the words that begin with the rows before r as `word` has them.
-    pub fn count_words(&self, r: usize, word: &[u8], counts: &mut [u32]) {
+    pub fn count_words(&self, r: usize, word: &[u16], counts: &mut [u32]) {
         if r == self.k {
             counts[word.iter().filter(|&&x| x != 0).count()] += 1;
             return;
         }
         let row = &self.generator()[r];
         for symbol in 0..self.field.size() {
-            let next: Vec<u8> = word
+            let next: Vec<u16> = word
                 .iter()
                 .zip(row)
-                .map(|(&x, &entry)| self.field.add(x, self.field.mul(symbol as u8, entry)))
+                .map(|(&x, &entry)| self.field.add(x, self.field.mul(symbol as u16, entry)))
                 .collect();
             self.count_words(r + 1, &next, counts);
         }
     }
 
     /// The message whose encoding holds the shares at the nodes: the inverse of the k columns, by elimination.
-    pub fn message(&self, lanes: usize, nodes: &[u8], shares: &[u8]) -> Vec<u8> {
+    pub fn message(&self, lanes: usize, nodes: &[u8], shares: &[u16]) -> Vec<u16> {
         let (f, k) = (&self.field, self.k);
         let rows = self.generator();
         // row i is the equation of node i: the k entries, then the unit matrix
-        let mut m: Vec<Vec<u8>> = (0..k)
+        let mut m: Vec<Vec<u16>> = (0..k)
             .map(|i| {
-                let mut row: Vec<u8> = rows.iter().map(|row| row[nodes[i] as usize]).collect();
-                row.extend((0..k).map(|e| u8::from(e == i)));
+                let mut row: Vec<u16> = rows.iter().map(|row| row[nodes[i] as usize]).collect();
+                row.extend((0..k).map(|e| u16::from(e == i)));
                 row
             })
             .collect();
@@ -225,15 +274,15 @@ impl Code {
     }
 
     /// For each node from k on, what it holds of the polynomial that goes through the first k nodes.
-    pub fn extension(&self) -> Vec<Vec<u8>> {
+    pub fn extension(&self) -> Vec<Vec<u16>> {
         let f = &self.field;
         let points = &self.points;
-        let product = |x: u8, skip: usize| {
+        let product = |x: u16, skip: usize| {
             (0..self.k)
                 .filter(|&e| e != skip)
                 .fold(1, |y, e| f.mul(y, f.sub(x, points[e])))
         };
-        let scales: Vec<u8> = (0..self.k).map(|i| f.inverse(product(points[i], i))).collect();
+        let scales: Vec<u16> = (0..self.k).map(|i| f.inverse(product(points[i], i))).collect();
         (self.k..self.n)
             .map(|j| (0..self.k).map(|i| f.mul(product(points[j], i), scales[i])).collect())
             .collect()

@@ -1,11 +1,11 @@
-//! The two kinds of field.
+//! The two kinds of field, with symbols of up to two bytes.
 
 /// A field, with its symbols as numbers.
 pub enum Field {
     /// Numbers modulo a prime.
     Prime(u32),
     /// The field of 256 elements: the powers of 2, and the logarithm of each nonzero byte.
-    Bytes { powers: Vec<u8>, logs: Vec<usize> },
+    Bytes { powers: Vec<u16>, logs: Vec<usize> },
 }
 
 impl Field {
@@ -14,7 +14,7 @@ impl Field {
         let mut logs = vec![0; 256];
         let mut x: u32 = 1;
         for i in 0..255 {
-            powers.push(x as u8);
+            powers.push(x as u16);
             logs[x as usize] = i;
             x <<= 1;
             if x >= 256 {
@@ -31,23 +31,23 @@ impl Field {
         }
     }
 
-    pub fn add(&self, a: u8, b: u8) -> u8 {
+    pub fn add(&self, a: u16, b: u16) -> u16 {
         match self {
-            Field::Prime(p) => ((u32::from(a) + u32::from(b)) % p) as u8,
+            Field::Prime(p) => ((u32::from(a) + u32::from(b)) % p) as u16,
             Field::Bytes { .. } => a ^ b,
         }
     }
 
-    pub fn sub(&self, a: u8, b: u8) -> u8 {
+    pub fn sub(&self, a: u16, b: u16) -> u16 {
         match self {
-            Field::Prime(p) => ((u32::from(a) + p - u32::from(b)) % p) as u8,
+            Field::Prime(p) => ((u32::from(a) + p - u32::from(b)) % p) as u16,
             Field::Bytes { .. } => a ^ b,
         }
     }
 
-    pub fn mul(&self, a: u8, b: u8) -> u8 {
+    pub fn mul(&self, a: u16, b: u16) -> u16 {
         match self {
-            Field::Prime(p) => (u32::from(a) * u32::from(b) % p) as u8,
+            Field::Prime(p) => (u64::from(a) * u64::from(b) % u64::from(*p)) as u16,
             Field::Bytes { powers, logs } => {
                 if a == 0 || b == 0 {
                     0
@@ -58,17 +58,27 @@ impl Field {
         }
     }
 
-    pub fn power(&self, a: u8, e: usize) -> u8 {
-        (0..e).fold(1, |x, _| self.mul(x, a))
+    /// By squares.
+    pub fn power(&self, a: u16, e: usize) -> u16 {
+        if e == 0 {
+            return 1;
+        }
+        let half = self.power(a, e / 2);
+        let square = self.mul(half, half);
+        if e % 2 == 0 {
+            square
+        } else {
+            self.mul(square, a)
+        }
     }
 
     /// a^(q−2), which is 1/a in a field of q elements.
-    pub fn inverse(&self, a: u8) -> u8 {
+    pub fn inverse(&self, a: u16) -> u16 {
         self.power(a, self.size() as usize - 2)
     }
 
-    /// The smallest number of factors a whose product is 1, or 0 where there is none.
-    pub fn order(&self, a: u8) -> usize {
+    /// The smallest number of factors a, up to 255, whose product is 1, or 0 where there is none.
+    pub fn order(&self, a: u16) -> usize {
         let mut x = a;
         for e in 1..=255 {
             if x == 1 {
@@ -81,5 +91,5 @@ impl Field {
 }
 
 pub fn is_prime(p: u32) -> bool {
-    p >= 2 && (2..p).all(|q| p % q != 0)
+    p >= 2 && (2..p).take_while(|q| q * q <= p).all(|q| p % q != 0)
 }

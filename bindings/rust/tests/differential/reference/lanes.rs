@@ -2,7 +2,7 @@
 use super::Code;
 
 /// x times a row of the generator added to a lane.
-pub fn added(code: &Code, lane: &[u8], row: &[u8], x: u8) -> Vec<u8> {
+pub fn added(code: &Code, lane: &[u16], row: &[u16], x: u16) -> Vec<u16> {
     lane.iter()
         .zip(row)
         .map(|(&symbol, &entry)| code.field.add(symbol, code.field.mul(x, entry)))
@@ -13,11 +13,12 @@ pub fn added(code: &Code, lane: &[u8], row: &[u8], x: u8) -> Vec<u8> {
 /// tried with the one amount that is right at a node where the row is not zero.
 pub fn find_update(record: &[u8], before: &[u8], after: &[u8]) -> Result<(u32, u32, u32), u8> {
     let code = Code::of(record)?;
-    if before.len() != code.n || after.len() != code.n {
+    if before.len() != code.size(code.n) || after.len() != code.size(code.n) {
         return Err(8);
     }
-    code.symbols_fault(before)?;
-    code.symbols_fault(after)?;
+    let (before, after) = (code.symbols(before), code.symbols(after));
+    code.symbols_fault(&before)?;
+    code.symbols_fault(&after)?;
     if before == after {
         return Ok((0, 0, 0));
     }
@@ -26,38 +27,39 @@ pub fn find_update(record: &[u8], before: &[u8], after: &[u8]) -> Result<(u32, u
         let x = code
             .field
             .mul(code.field.sub(after[j], before[j]), code.field.inverse(row[j]));
-        if added(&code, before, row, x) == after {
+        if added(&code, &before, row, x) == after {
             return Ok((1, r as u32, u32::from(x)));
         }
     }
     Ok((2, 0, 0))
 }
 
-/// The nodes and new symbols whose single change makes the lane a word. What each node from k on holds less what the first k
+/// The nodes and the buffer of new symbols whose single change makes the lane a word. What each node from k on holds less what the first k
 /// nodes say that it holds must be made zero: that is tried at each node with the one change that is right at the first.
-pub fn mends(record: &[u8], lane: &[u8], nodes: usize, symbols: usize) -> Result<Vec<(u8, u8)>, u8> {
+pub fn mends(record: &[u8], lane: &[u8], nodes: usize, symbols: usize) -> Result<(Vec<u8>, Vec<u8>), u8> {
     let code = Code::of(record)?;
-    if lane.len() != code.n || nodes != code.n || symbols != code.n {
+    if lane.len() != code.size(code.n) || nodes != code.n || symbols != code.size(code.n) {
         return Err(8);
     }
-    code.symbols_fault(lane)?;
+    let lane = code.symbols(lane);
+    code.symbols_fault(&lane)?;
     let (f, rows) = (&code.field, code.extension());
-    let wrong: Vec<u8> = rows
+    let wrong: Vec<u16> = rows
         .iter()
         .enumerate()
         .map(|(i, row)| {
             row.iter()
-                .zip(lane)
+                .zip(&lane)
                 .fold(lane[code.k + i], |sum, (&c, &x)| f.sub(sum, f.mul(c, x)))
         })
         .collect();
     if wrong.iter().all(|&x| x == 0) {
-        return Ok(Vec::new());
+        return Ok((Vec::new(), Vec::new()));
     }
     // what 1 more at node j adds to each
     let adds = |i: usize, j: usize| match j.checked_sub(code.k) {
         None => f.sub(0, rows[i][j]),
-        Some(own) => u8::from(own == i),
+        Some(own) => u16::from(own == i),
     };
     let mended = (0..code.n).filter_map(|j| {
         let first = (0..rows.len()).find(|&i| adds(i, j) != 0).expect("every node is checked");
@@ -65,5 +67,6 @@ pub fn mends(record: &[u8], lane: &[u8], nodes: usize, symbols: usize) -> Result
         let zero = (0..rows.len()).all(|i| f.add(wrong[i], f.mul(adds(i, j), more)) == 0);
         zero.then(|| (j as u8, f.add(lane[j], more)))
     });
-    Ok(mended.collect())
+    let (nodes, symbols): (Vec<u8>, Vec<u16>) = mended.unzip();
+    Ok((nodes, code.bytes(&symbols)))
 }

@@ -7,7 +7,7 @@ mod lanes;
 mod nearest;
 mod roster;
 
-pub use code::Code;
+pub use code::{bytes_of, width, Code};
 pub use field::{is_prime, Field};
 pub use lanes::{added, find_update, mends};
 pub use roster::{Event, History};
@@ -15,11 +15,12 @@ pub use roster::{Event, History};
 pub fn encode(record: &[u8], lanes: u32, message: &[u8], out: usize) -> Result<Vec<u8>, u8> {
     let code = Code::of(record)?;
     let l = Code::lanes_fault(lanes)?;
-    if message.len() != code.k * l || out != code.n * l {
+    if message.len() != code.size(code.k * l) || out != code.size(code.n * l) {
         return Err(8);
     }
-    code.symbols_fault(message)?;
-    Ok(code.encoding(l, message))
+    let message = code.symbols(message);
+    code.symbols_fault(&message)?;
+    Ok(code.bytes(&code.encoding(l, &message)))
 }
 
 pub fn update(
@@ -27,41 +28,45 @@ pub fn update(
     lanes: u32,
     symbol: u32,
     lane: u32,
-    old: u8,
-    new: u8,
+    old: u32,
+    new: u32,
     shares: &[u8],
 ) -> Result<(Vec<u8>, u32), u8> {
     let code = Code::of(record)?;
     let l = Code::lanes_fault(lanes)?;
-    if shares.len() != code.n * l {
+    if shares.len() != code.size(code.n * l) {
         return Err(8);
     }
     if symbol as usize >= code.k || lane >= lanes {
         return Err(9);
     }
     let at = |j: usize| lane as usize * code.n + j;
-    code.symbols_fault(&[old, new])?;
-    code.symbols_fault(&(0..code.n).map(|j| shares[at(j)]).collect::<Vec<u8>>())?;
-    let word = &shares[at(0)..at(0) + code.n];
-    if belongs(record, 1, word)? != 1 {
+    code.numbers_fault(&[old, new])?;
+    let before = code.symbols(shares);
+    let word = &before[at(0)..at(0) + code.n];
+    code.symbols_fault(word)?;
+    if !is_word(&code, &code.extension(), word) {
         return Err(12);
     }
     let first: Vec<u8> = (0..code.k as u8).collect();
-    if code.message(1, &first, &word[..code.k])[symbol as usize] != old {
+    if u32::from(code.message(1, &first, &word[..code.k])[symbol as usize]) != old {
         return Err(13);
     }
-    let mut after = shares.to_vec();
-    let change = code.field.sub(new, old);
+    let mut after = before.clone();
+    let change = code.field.sub(new as u16, old as u16);
     for j in 0..code.n {
         after[at(j)] = code
             .field
             .add(after[at(j)], code.field.mul(change, code.entry(symbol as usize, j)));
     }
-    let altered = shares.iter().zip(&after).filter(|(x, y)| x != y).count();
-    Ok((after, altered as u32))
+    let altered = before.iter().zip(&after).filter(|(x, y)| x != y).count();
+    // bytes of other lanes stay, whatever they are
+    let mut written = shares.to_vec();
+    written[code.size(at(0))..code.size(at(code.n))].copy_from_slice(&code.bytes(&after[at(0)..at(code.n)]));
+    Ok((written, altered as u32))
 }
 
-fn list_faults(code: &Code, nodes: &[u8], target: u32, shares: &[u8]) -> Result<(), u8> {
+fn list_faults(code: &Code, nodes: &[u8], target: u32, shares: &[u16]) -> Result<(), u8> {
     if target as usize >= code.n || nodes.iter().any(|&j| j as usize >= code.n) {
         return Err(9);
     }
@@ -77,38 +82,42 @@ fn list_faults(code: &Code, nodes: &[u8], target: u32, shares: &[u8]) -> Result<
 pub fn recover(record: &[u8], lanes: u32, nodes: &[u8], shares: &[u8], out: usize) -> Result<Vec<u8>, u8> {
     let code = Code::of(record)?;
     let l = Code::lanes_fault(lanes)?;
-    if nodes.len() != code.k || shares.len() != code.k * l || out != code.k * l {
+    if nodes.len() != code.k || shares.len() != code.size(code.k * l) || out != code.size(code.k * l) {
         return Err(8);
     }
-    list_faults(&code, nodes, 0, shares)?;
-    Ok(code.message(l, nodes, shares))
+    let shares = code.symbols(shares);
+    list_faults(&code, nodes, 0, &shares)?;
+    Ok(code.bytes(&code.message(l, nodes, &shares)))
 }
 
 pub fn rebuild(record: &[u8], lanes: u32, nodes: &[u8], shares: &[u8], target: u32, out: usize) -> Result<Vec<u8>, u8> {
     let code = Code::of(record)?;
     let l = Code::lanes_fault(lanes)?;
-    if nodes.len() != code.k || shares.len() != code.k * l || out != l {
+    if nodes.len() != code.k || shares.len() != code.size(code.k * l) || out != code.size(l) {
         return Err(8);
     }
-    list_faults(&code, nodes, target, shares)?;
-    let all = code.encoding(l, &code.message(l, nodes, shares));
-    Ok((0..l).map(|t| all[t * code.n + target as usize]).collect())
+    let shares = code.symbols(shares);
+    list_faults(&code, nodes, target, &shares)?;
+    let all = code.encoding(l, &code.message(l, nodes, &shares));
+    let share: Vec<u16> = (0..l).map(|t| all[t * code.n + target as usize]).collect();
+    Ok(code.bytes(&share))
 }
 
 /// The smallest lane that is no word, or the number of lanes.
 pub fn belongs(record: &[u8], lanes: u32, shares: &[u8]) -> Result<u32, u8> {
     let code = Code::of(record)?;
     let l = Code::lanes_fault(lanes)?;
-    if shares.len() != code.n * l {
+    if shares.len() != code.size(code.n * l) {
         return Err(8);
     }
-    code.symbols_fault(shares)?;
+    let shares = code.symbols(shares);
+    code.symbols_fault(&shares)?;
     let rows = code.extension();
     let wrong = shares.chunks(code.n).position(|lane| !is_word(&code, &rows, lane));
     Ok(wrong.unwrap_or(l) as u32)
 }
 
-fn is_word(code: &Code, rows: &[Vec<u8>], lane: &[u8]) -> bool {
+fn is_word(code: &Code, rows: &[Vec<u16>], lane: &[u16]) -> bool {
     rows.iter().enumerate().all(|(i, row)| {
         let value = row
             .iter()
@@ -122,38 +131,44 @@ fn is_word(code: &Code, rows: &[Vec<u8>], lane: &[u8]) -> bool {
 pub fn correct(record: &[u8], lanes: u32, shares: &[u8]) -> Result<(Vec<u8>, u32), u8> {
     let code = Code::of(record)?;
     let l = Code::lanes_fault(lanes)?;
-    if shares.len() != code.n * l {
+    if shares.len() != code.size(code.n * l) {
         return Err(8);
     }
-    code.symbols_fault(shares)?;
+    let shares = code.symbols(shares);
+    code.symbols_fault(&shares)?;
     let rows = code.extension();
-    let mut after = shares.to_vec();
+    let mut after = shares.clone();
     for lane in after.chunks_mut(code.n).filter(|lane| !is_word(&code, &rows, lane)) {
         lane.copy_from_slice(&nearest::nearest(&code, lane).ok_or(14)?);
     }
     let altered = shares.iter().zip(&after).filter(|(x, y)| x != y).count();
-    Ok((after, altered as u32))
+    Ok((code.bytes(&after), altered as u32))
 }
 
 /// Shares from node after node to lane after lane.
 pub fn to_lanes(record: &[u8], lanes: u32, by_node: &[u8], out: usize) -> Result<Vec<u8>, u8> {
-    let (n, l) = rearranged_size(record, lanes, by_node, out)?;
-    Ok((0..l).flat_map(|t| (0..n).map(move |j| by_node[j * l + t])).collect())
+    let (w, n, l) = rearranged_size(record, lanes, by_node, out)?;
+    let symbols: Vec<&[u8]> = by_node.chunks(w).collect();
+    let places = (0..l).flat_map(|t| (0..n).map(move |j| j * l + t));
+    Ok(places.flat_map(|at| symbols[at].to_vec()).collect())
 }
 
 /// And back.
 pub fn to_nodes(record: &[u8], lanes: u32, by_lane: &[u8], out: usize) -> Result<Vec<u8>, u8> {
-    let (n, l) = rearranged_size(record, lanes, by_lane, out)?;
-    Ok((0..n).flat_map(|j| (0..l).map(move |t| by_lane[t * n + j])).collect())
+    let (w, n, l) = rearranged_size(record, lanes, by_lane, out)?;
+    let symbols: Vec<&[u8]> = by_lane.chunks(w).collect();
+    let places = (0..n).flat_map(|j| (0..l).map(move |t| t * n + j));
+    Ok(places.flat_map(|at| symbols[at].to_vec()).collect())
 }
 
-fn rearranged_size(record: &[u8], lanes: u32, read: &[u8], out: usize) -> Result<(usize, usize), u8> {
+/// The bytes of a symbol, n and the lanes.
+fn rearranged_size(record: &[u8], lanes: u32, read: &[u8], out: usize) -> Result<(usize, usize, usize), u8> {
     let code = Code::of(record)?;
     let l = Code::lanes_fault(lanes)?;
-    if read.len() != code.n * l || out != code.n * l {
+    if read.len() != code.size(code.n * l) || out != code.size(code.n * l) {
         return Err(8);
     }
-    Ok((code.n, l))
+    Ok((code.size(1), code.n, l))
 }
 
 /// How many messages have an encoding with each number of nodes that are not zero, by going through all messages.

@@ -3,7 +3,7 @@
 use super::{Code, Field};
 
 /// Coefficients, the lowest first, with no zero at the end.
-type Polynomial = Vec<u8>;
+type Polynomial = Vec<u16>;
 
 fn trimmed(mut a: Polynomial) -> Polynomial {
     while a.last() == Some(&0) {
@@ -42,7 +42,7 @@ fn less_product(f: &Field, a: &Polynomial, b: &Polynomial, c: &Polynomial) -> Po
 
 /// The polynomial of degree below n whose values at the nodes' points are the lane: 1/n times the sums of the symbols with the
 /// powers of 1/root.
-fn through(code: &Code, lane: &[u8]) -> Polynomial {
+fn through(code: &Code, lane: &[u16]) -> Polynomial {
     let f = &code.field;
     let scale = f.inverse((0..code.n).fold(0, |sum, _| f.add(sum, 1)));
     let coefficient = |i: usize| {
@@ -53,7 +53,7 @@ fn through(code: &Code, lane: &[u8]) -> Polynomial {
 }
 
 /// The word that differs from the lane at no more than (n − k)/2 nodes, rounded down.
-pub fn nearest(code: &Code, lane: &[u8]) -> Option<Vec<u8>> {
+pub fn nearest(code: &Code, lane: &[u16]) -> Option<Vec<u16>> {
     let (f, n, k) = (&code.field, code.n, code.k);
     let mut whole = vec![0; n + 1];
     whole[0] = f.sub(0, 1);
@@ -70,8 +70,8 @@ pub fn nearest(code: &Code, lane: &[u8]) -> Option<Vec<u8>> {
     if !rest.is_empty() || message.len() > k {
         return None;
     }
-    let value = |&x: &u8| message.iter().rev().fold(0, |y, &c| f.add(f.mul(y, x), c));
-    let word: Vec<u8> = code.points.iter().map(value).collect();
+    let value = |&x: &u16| message.iter().rev().fold(0, |y, &c| f.add(f.mul(y, x), c));
+    let word: Vec<u16> = code.points.iter().map(value).collect();
     let differing = word.iter().zip(lane).filter(|(x, y)| x != y).count();
     (differing <= (n - k) / 2).then_some(word)
 }

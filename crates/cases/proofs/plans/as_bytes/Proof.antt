@@ -5,22 +5,16 @@ use Rattle.cases.proofs.plans.as_bytes.Statement.{statement}
 use Rattle.cases.proofs.plans.as_bytes.Tie as tie
 
 abbrev Inv-loop : tie.InvT-loop
-Inv-loop symbols out₀ i₀ out i = Unit {0}
+Inv-loop w symbols out₀ i₀ out i = Unit {0}
 
 abbrev μ-loop : tie.MeasureT-loop
-μ-loop symbols out₀ i₀ out i = 255 - i
+μ-loop w symbols out₀ i₀ out i = 510 - i
 
 loop-holds : tie.Need-loop-holds Inv-loop μ-loop
 loop-holds c = search needs
 
-mul-as-byte : tie.Need-mul-as-byte Inv-loop μ-loop
-mul-as-byte c = search needs
-
-element-copy-out-as-byte : tie.Need-element-copy-out-as-byte Inv-loop μ-loop
-element-copy-out-as-byte c = search needs
-
-as-byte-requires : tie.Need-as-byte-requires Inv-loop μ-loop
-as-byte-requires c κs = search needs
+byte-at-requires : tie.Need-byte-at-requires Inv-loop μ-loop
+byte-at-requires c κs = search needs
 
 array-write-out : tie.Need-array-write-out Inv-loop μ-loop
 array-write-out c = search needs
@@ -38,5 +32,4 @@ returns : tie.Need-returns Inv-loop μ-loop
 returns c = search needs
 
 pub as-bytes-spec : {M : Type 1} → statement M
-as-bytes-spec =
-    tie.close (tie.spec Inv-loop μ-loop loop-holds mul-as-byte element-copy-out-as-byte as-byte-requires array-write-out add-i loop-less loop-again returns)
+as-bytes-spec = tie.close (tie.spec Inv-loop μ-loop loop-holds byte-at-requires array-write-out add-i loop-less loop-again returns)

@@ -4,19 +4,18 @@ use mathlib.Core.Path.{_≡_, sym, _∙_}
 use native.Mathlib.Nat.{sub-zero}
 use native.Mathlib.Omega.{arith}
 use lib.Dec.{eqb}
-use lib.ListN.{length, getD}
+use lib.ListN.{getD}
 use Rattle.lists.specs.Search.{firstFalse}
 use Rattle.lists.proofs.Search.{search-next, search-found, search-end}
 use Rattle.check_sums.proofs.block.first_nonzero.Statement.{statement}
 use Rattle.check_sums.proofs.block.first_nonzero.Tie as tie
 
 abbrev Inv-loop : tie.InvT-loop
-Inv-loop sums t₀ t =
-    (t ≤ length sums)
-    × (firstFalse (length sums) 0 (λ i. eqb (getD sums i 0) 0) ≡ firstFalse (length sums - t) t (λ i. eqb (getD sums i 0) 0))
+Inv-loop lanes sums t₀ t =
+    (t ≤ lanes) × (firstFalse lanes 0 (λ i. eqb (getD sums i 0) 0) ≡ firstFalse (lanes - t) t (λ i. eqb (getD sums i 0) 0))
 
 abbrev μ-loop : tie.MeasureT-loop
-μ-loop sums t₀ t = length sums - t
+μ-loop lanes sums t₀ t = lanes - t
 
 loop-holds : tie.Need-loop-holds Inv-loop μ-loop
 loop-holds c = (omega arith, rw sub-zero)

@@ -1,31 +1,32 @@
 -- `mark_rows` meets its contract. The loop's invariant: the marks after check sums 1 to e.
 use mathlib.Core.Path.{_≡_, sym, ap, _∙_}
-use Prim.Native.Nat.{_-_, _≤_}
+use Prim.Native.Nat.{_-_, _*_, _≤_}
 use native.Mathlib.Omega.{arith}
 use borrow.Author.Needs.{needs}
 use lib.ListN.{length}
 use Rattle.lists.proofs.Fill.{length-zeros}
 use Rattle.lists.proofs.Rows.{length-from}
 use Rattle.layout.specs.Layout.{byRow}
+use Rattle.layout.specs.Tiles.{tileSymbols}
 use Rattle.kernel.specs.Lanes.{lanewise}
 use Rattle.check_sums.proofs.Marking.{marksTo, marks-none, marks-more, marks-end}
 use Rattle.check_sums.proofs.marks.mark_rows.Statement.{statement}
 use Rattle.check_sums.proofs.marks.mark_rows.Tie as tie
 
 abbrev Inv-loop : tie.InvT-loop
-Inv-loop h powers lanes rows sums₀ marks₀ checks e₀ sums marks e = (e ≤ checks) × (length sums ≡ lanes) × (marks ≡ marksTo byRow h lanes rows e)
+Inv-loop h w powers lanes rows sums₀ marks₀ checks e₀ sums marks e = (e ≤ checks) × (length sums ≡ w * lanes) × (marks ≡ marksTo byRow h lanes (tileSymbols w (h .n) lanes rows) e)
 
 abbrev μ-loop : tie.MeasureT-loop
-μ-loop h powers lanes rows sums₀ marks₀ checks e₀ sums marks e = checks - e
+μ-loop h w powers lanes rows sums₀ marks₀ checks e₀ sums marks e = checks - e
 
 sub-checks : tie.Need-sub-checks Inv-loop μ-loop
-sub-checks c = search needs
+sub-checks c = omega (arith, c .before .before .before .before .before .pre .0 .symbol-rows .sound .fits)
 
 cast-checks : tie.Need-cast-checks Inv-loop μ-loop
 cast-checks c = search needs
 
 loop-holds : tie.Need-loop-holds Inv-loop μ-loop
-loop-holds c = let s = c .before .before .before .before .before in (omega arith, s .pre .2, s .pre .3 ∙ marks-none byRow (s .args .h) (s .args .lanes) (s .args .rows .now))
+loop-holds c = let s = c .before .before .before .before .before in (omega arith, s .pre .2, s .pre .3 ∙ marks-none byRow (s .args .h) (s .args .lanes) (tileSymbols (s .args .w) (s .args .h .n) (s .args .lanes) (s .args .rows .now)))
 
 add-add-sum : tie.Need-add-add-sum Inv-loop μ-loop
 add-add-sum c = omega arith
@@ -46,7 +47,7 @@ loop-again : tie.Need-loop-again Inv-loop μ-loop
 loop-again c =
     let s = c .before .before .before .before .before .before .before .before .before .before .before .before .before .before .args in
     let l = c .before .before .before .before .before .before .before .before .loop in
-    (omega arith, search needs, c .before .before .before .before .add-sum .ensures ∙ ap (lanewise _) (l .inv .2) ∙ marks-more byRow (s .h) (s .lanes) (s .rows .now) (l .e))
+    (omega arith, search needs, c .before .before .before .before .add-sum .ensures ∙ ap (lanewise _) (l .inv .2) ∙ marks-more byRow (s .h) (s .lanes) (tileSymbols (s .w) (s .h .n) (s .lanes) (s .rows .now)) (l .e))
 
 same-length : tie.Need-same-length Inv-loop μ-loop
 same-length c = search needs
@@ -58,8 +59,9 @@ returns : tie.Need-returns Inv-loop μ-loop
 returns c =
     let s = c .before .before .before .before .before .before .before .args in
     let l = c .before .loop in
+    let xs = tileSymbols (s .w) (s .h .n) (s .lanes) (s .rows .now) in
     let end : l .e ≡ s .h .n - s .h .k = omega arith in
-    l .inv .2 ∙ ap (marksTo byRow (s .h) (s .lanes) (s .rows .now)) end ∙ marks-end byRow (s .h) (s .lanes) (s .rows .now)
+    l .inv .2 ∙ ap (marksTo byRow (s .h) (s .lanes) xs) end ∙ marks-end byRow (s .h) (s .lanes) xs
 
 pub mark-rows-spec : {M : Type 1} → statement M
 mark-rows-spec =

@@ -89,9 +89,9 @@ loop-again c = let at = c .before .before .before .before .before .before .befor
     let count = at .lanes-of .result in
     let whole = sharesOf byLane (a .h) (a .lanes) (a .message .now) in (
       next at,
-      omega (arith, l .inv .1),
-      omega (arith, l .inv .2),
-      omega (arith, l .inv .3),
+      omega (arith, l .inv .1, c .before .before .before .before .before .before .before .tile .given),
+      omega (arith, l .inv .2, c .before .before .before .before .before .table .given),
+      omega (arith, l .inv .3, c .before .before .before .words .given),
       rw (add-mul (l .first) count (a .h .n))
           (fills-stretch whole (l .first * a .h .n) _ (count * a .h .n) (l .inv .4) (c .before .before .before .before .before .before .before .before .fill-tile .ensures ∙ tile-part (a .h) (a .lanes) (a .message .now) (l .first) count (next at)) (length-shares (a .h) (a .lanes) (a .message .now) byLane ∙ sym (s .pre .3)) (lanes-in at)),
     )

@@ -50,7 +50,7 @@ prepare-requires c κs = let st = c .before .before .before .before .before .bef
     let sound = st .pre .0 .sound in
     let g = 8 * groupsOf (a .h .k) in
     rw (taken (c .before .before .before), length-column (a .h) (l .node)) (
-      record { usable-field = sound .usable-field; one-byte = sound .one-byte },
+      st .pre .4,
       st .pre .1,
       omega (arith, c .before .before .before .before .before .before .struct-known2 .given, c .before .before .before .before .before .before .before .struct-known .given),
       column-below (a .h) (l .node) sound,

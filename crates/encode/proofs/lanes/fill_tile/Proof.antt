@@ -40,10 +40,9 @@ slice-aggregate-apply c = sym (length-take-le _ _ (omega (arith, c .before .befo
 
 apply-requires : tie.Need-apply-requires
 apply-requires c κs = let st = c .before .before .before .before .before .before .before .before .before .before .before .before .before .before .before .before .before in
-    let sound = st .pre .2 .sound in
     let g = c .before .before .before .before .before .before .before .groups-of .ensures .0 in
     let room = st .pre .1 in (
-      record { usable-field = sound .usable-field; one-byte = sound .one-byte },
+      st .pre .2 .byte-field,
       omega (arith, c .before .before .before .before .before .before .before .before .struct-known2 .given, c .before .before .before .before .before .before .before .before .before .struct-known .given),
       begun-made (omega (arith, c .before .before .before .before .before .before .before .before .struct-known2 .given, c .before .before .before .before .before .before .before .before .before .struct-known .given)) (st .pre .0 .lists-room) (st .pre .0 .counts-room) (st .pre .0 .listed),
       c .before .before .before .before .before .load-rows .ensures .0 ∙ room .rows,

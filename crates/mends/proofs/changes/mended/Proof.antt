@@ -1,5 +1,5 @@
 -- `mended` meets its contract: the power at place (n − j) modulo n is 1 over root^j.
-use mathlib.Core.Path.{_≡_, ap, ap₂, _∙_}
+use mathlib.Core.Path.{_≡_, ap, _∙_}
 use Prim.Native.Nat.{ℕ, _-_, _%_, _<_}
 use native.Mathlib.Nat.{mod-lt}
 use native.Mathlib.Omega.{arith}
@@ -7,7 +7,8 @@ use borrow.Author.Needs.{needs}
 use lib.ListN.{getD}
 use Rattle.lists.proofs.Numbers.{below-at}
 use Rattle.field.specs.Fields.{sub, mul, power}
-use Rattle.field.proofs.Bounds.{mul-below, sub-below, power-below}
+use Rattle.field.proofs.Bounds.{mul-below, power-below}
+use Rattle.field.proofs.KindLaws.{size-fits}
 use Rattle.generator.specs.Records.{modulusOf, size}
 use Rattle.check_sums.proofs.Sums.{power-place, power-at}
 use Rattle.mends.specs.BySums.{mendedAt}
@@ -106,7 +107,7 @@ sub-requires c κs =
 cast-result : tie.Need-cast-result
 cast-result c =
     let (has, table, node) = c .before .before .before .before .before .before .before .before .before .pre in
-    omega (arith, result-is c, mended-below _ _ _ has _ node, has .has .sound .one-byte)
+    omega (arith, result-is c, mended-below _ _ _ has _ node, size-fits _ (has .has .sound .usable-field))
 
 returns : tie.Need-returns
 returns c = result-is c

@@ -17,8 +17,8 @@ slice-aggregate-recover-tile c = sym (length-take-le _ _ (omega arith))
 
 recover-tile-requires : tie.Need-recover-tile-requires
 recover-tile-requires c κs =
-    let (listed, setup, out) = c .before .before .before .before .before .before .before .pre in
-    (listed, setup, length-take-le _ _ (omega arith) ∙ listed .rows .long, out)
+    let (shares, different, setup, out) = c .before .before .before .before .before .before .before .pre in
+    (shares, different, setup, length-take-le _ _ (omega arith) ∙ shares .bytes, out)
 
 same-length : tie.Need-same-length
 same-length c = search needs

@@ -4,7 +4,6 @@ use borrow.Author.Needs.{needs}
 use Prim.Native.Nat.{_≤_}
 use native.Mathlib.Omega.{arith}
 use Rattle.refusals.specs.Faults.{inputFault}
-use Rattle.refusals.proofs.OneByte.{times-width}
 use Rattle.refusals.proofs.NotMet.{buffer-small, length-good, number-good}
 use Rattle.refusals.proofs.faults.input_fault.Statement.{statement}
 use Rattle.refusals.proofs.faults.input_fault.Tie as tie
@@ -20,22 +19,24 @@ lanes-bad-requires c κs = search needs
 
 returns : tie.Need-returns
 unfolding inputFault
-returns c = rw (times-width, sym (c .before .lanes-bad .ensures) ∙ c .if1 .taken)
+returns c = rw (sym (c .before .lanes-bad .ensures) ∙ c .if1 .taken)
 
-mul-length-bad : tie.Need-mul-length-bad
-mul-length-bad c =
+mul-buffer-bad : tie.Need-mul-buffer-bad
+mul-buffer-bad c =
     let few : c .before .before .before .before .before .args .h .n ≤ 255 = omega arith in
     omega (arith, buffer-small _ _ few (sym (c .before .lanes-bad .ensures) ∙ c .if1 .left))
 
-length-bad-requires : tie.Need-length-bad-requires
-length-bad-requires c κs = search needs
+buffer-bad-requires : tie.Need-buffer-bad-requires
+buffer-bad-requires c κs =
+    let st = c .before .before .before .before .before in
+    let few : st .args .h .n ≤ 255 = omega arith in
+    (st .pre, buffer-small _ _ few (sym (c .before .lanes-bad .ensures) ∙ c .if1 .left))
 
 returns-2 : tie.Need-returns-2
 unfolding inputFault
 returns-2 c = rw (
-  times-width,
   sym (c .before .before .before .lanes-bad .ensures) ∙ c .before .before .if1 .left,
-  sym (c .before .length-bad .ensures) ∙ c .if2 .taken,
+  sym (c .before .buffer-bad .ensures) ∙ c .if2 .taken,
 )
 
 number-bad-requires : tie.Need-number-bad-requires
@@ -44,9 +45,8 @@ number-bad-requires c κs = search needs
 returns-3 : tie.Need-returns-3
 unfolding inputFault
 returns-3 c = rw (
-  times-width,
   sym (c .before .before .before .before .before .lanes-bad .ensures) ∙ c .before .before .before .before .if1 .left,
-  sym (c .before .before .before .length-bad .ensures) ∙ c .before .before .if2 .left,
+  sym (c .before .before .before .buffer-bad .ensures) ∙ c .before .before .if2 .left,
   sym (c .before .number-bad .ensures) ∙ c .if3 .taken,
 )
 
@@ -56,9 +56,8 @@ number-bad-requires-2 c κs = search needs
 returns-4 : tie.Need-returns-4
 unfolding inputFault
 returns-4 c = rw (
-  times-width,
   sym (c .before .before .before .before .before .before .before .lanes-bad .ensures) ∙ c .before .before .before .before .before .before .if1 .left,
-  sym (c .before .before .before .before .before .length-bad .ensures) ∙ c .before .before .before .before .if2 .left,
+  sym (c .before .before .before .before .before .buffer-bad .ensures) ∙ c .before .before .before .before .if2 .left,
   sym (c .before .before .before .number-bad .ensures) ∙ c .before .before .if3 .left,
   sym (c .before .number-bad2 .ensures) ∙ c .if4 .taken,
 )
@@ -69,9 +68,8 @@ symbol-bad-requires c κs = search needs
 returns-5 : tie.Need-returns-5
 unfolding inputFault
 returns-5 c = rw (
-  times-width,
   sym (c .before .before .before .before .before .before .before .before .before .lanes-bad .ensures) ∙ c .before .before .before .before .before .before .before .before .if1 .left,
-  sym (c .before .before .before .before .before .before .before .length-bad .ensures) ∙ c .before .before .before .before .before .before .if2 .left,
+  sym (c .before .before .before .before .before .before .before .buffer-bad .ensures) ∙ c .before .before .before .before .before .before .if2 .left,
   sym (c .before .before .before .before .before .number-bad .ensures) ∙ c .before .before .before .before .if3 .left,
   sym (c .before .before .before .number-bad2 .ensures) ∙ c .before .before .if4 .left,
   sym (c .before .symbol-bad .ensures) ∙ c .if5 .taken,
@@ -83,9 +81,8 @@ symbol-bad-requires-2 c κs = search needs
 returns-6 : tie.Need-returns-6
 unfolding inputFault
 returns-6 c = rw (
-  times-width,
   sym (c .before .before .before .before .before .before .before .before .before .before .before .lanes-bad .ensures) ∙ c .before .before .before .before .before .before .before .before .before .before .if1 .left,
-  sym (c .before .before .before .before .before .before .before .before .before .length-bad .ensures) ∙ c .before .before .before .before .before .before .before .before .if2 .left,
+  sym (c .before .before .before .before .before .before .before .before .before .buffer-bad .ensures) ∙ c .before .before .before .before .before .before .before .before .if2 .left,
   sym (c .before .before .before .before .before .before .before .number-bad .ensures) ∙ c .before .before .before .before .before .before .if3 .left,
   sym (c .before .before .before .before .before .number-bad2 .ensures) ∙ c .before .before .before .before .if4 .left,
   sym (c .before .before .before .symbol-bad .ensures) ∙ c .before .before .if5 .left,
@@ -93,14 +90,13 @@ returns-6 c = rw (
 )
 
 lane-bad-requires : tie.Need-lane-bad-requires
-lane-bad-requires c κs = (c .before .before .before .before .before .before .before .before .before .before .before .before .before .before .before .pre, number-good _ _ (sym (c .before .before .before .before .before .number-bad2 .ensures) ∙ c .before .before .before .before .if4 .left), length-good _ _ (sym (c .before .before .before .before .before .before .before .before .before .length-bad .ensures) ∙ c .before .before .before .before .before .before .before .before .if2 .left))
+lane-bad-requires c κs = (c .before .before .before .before .before .before .before .before .before .before .before .before .before .before .before .pre, number-good _ _ (sym (c .before .before .before .before .before .number-bad2 .ensures) ∙ c .before .before .before .before .if4 .left), length-good _ _ (sym (c .before .before .before .before .before .before .before .before .before .buffer-bad .ensures) ∙ c .before .before .before .before .before .before .before .before .if2 .left))
 
 returns-7 : tie.Need-returns-7
 unfolding inputFault
 returns-7 c = rw (
-  times-width,
   sym (c .before .before .before .before .before .before .before .before .before .before .before .before .before .lanes-bad .ensures) ∙ c .before .before .before .before .before .before .before .before .before .before .before .before .if1 .left,
-  sym (c .before .before .before .before .before .before .before .before .before .before .before .length-bad .ensures) ∙ c .before .before .before .before .before .before .before .before .before .before .if2 .left,
+  sym (c .before .before .before .before .before .before .before .before .before .before .before .buffer-bad .ensures) ∙ c .before .before .before .before .before .before .before .before .before .before .if2 .left,
   sym (c .before .before .before .before .before .before .before .before .before .number-bad .ensures) ∙ c .before .before .before .before .before .before .before .before .if3 .left,
   sym (c .before .before .before .before .before .before .before .number-bad2 .ensures) ∙ c .before .before .before .before .before .before .if4 .left,
   sym (c .before .before .before .before .before .symbol-bad .ensures) ∙ c .before .before .before .before .if5 .left,
@@ -111,9 +107,8 @@ returns-7 c = rw (
 returns-8 : tie.Need-returns-8
 unfolding inputFault
 returns-8 c = rw (
-  times-width,
   sym (c .before .before .before .before .before .before .before .before .before .before .before .before .before .lanes-bad .ensures) ∙ c .before .before .before .before .before .before .before .before .before .before .before .before .if1 .left,
-  sym (c .before .before .before .before .before .before .before .before .before .before .before .length-bad .ensures) ∙ c .before .before .before .before .before .before .before .before .before .before .if2 .left,
+  sym (c .before .before .before .before .before .before .before .before .before .before .before .buffer-bad .ensures) ∙ c .before .before .before .before .before .before .before .before .before .before .if2 .left,
   sym (c .before .before .before .before .before .before .before .before .before .number-bad .ensures) ∙ c .before .before .before .before .before .before .before .before .if3 .left,
   sym (c .before .before .before .before .before .before .before .number-bad2 .ensures) ∙ c .before .before .before .before .before .before .if4 .left,
   sym (c .before .before .before .before .before .symbol-bad .ensures) ∙ c .before .before .before .before .if5 .left,
@@ -123,4 +118,4 @@ returns-8 c = rw (
 
 pub input-fault-spec : {M : Type 1} → statement M
 input-fault-spec =
-    tie.close (tie.spec cast-n cast-k lanes-bad-requires returns mul-length-bad length-bad-requires returns-2 number-bad-requires returns-3 number-bad-requires-2 returns-4 symbol-bad-requires returns-5 symbol-bad-requires-2 returns-6 lane-bad-requires returns-7 returns-8)
+    tie.close (tie.spec cast-n cast-k lanes-bad-requires returns mul-buffer-bad buffer-bad-requires returns-2 number-bad-requires returns-3 number-bad-requires-2 returns-4 symbol-bad-requires returns-5 symbol-bad-requires-2 returns-6 lane-bad-requires returns-7 returns-8)

@@ -4,8 +4,7 @@ use borrow.Author.Needs.{needs}
 use Prim.Native.Nat.{_≤_}
 use native.Mathlib.Omega.{arith}
 use Rattle.refusals.specs.Faults.{rebuildFault}
-use Rattle.refusals.proofs.OneByte.{times-width}
-use Rattle.refusals.proofs.NotMet.{buffer-small, length-good}
+use Rattle.refusals.proofs.NotMet.{lanes-good, buffer-small, length-good}
 use Rattle.refusals.proofs.faults.rebuild_fault.Statement.{statement}
 use Rattle.refusals.proofs.faults.rebuild_fault.Tie as tie
 
@@ -20,7 +19,7 @@ lanes-bad-requires c κs = search needs
 
 returns : tie.Need-returns
 unfolding rebuildFault
-returns c = rw (times-width, times-width, sym (c .before .lanes-bad .ensures) ∙ c .if1 .taken)
+returns c = rw (sym (c .before .lanes-bad .ensures) ∙ c .if1 .taken)
 
 length-bad-requires : tie.Need-length-bad-requires
 length-bad-requires c κs = search needs
@@ -28,42 +27,41 @@ length-bad-requires c κs = search needs
 returns-2 : tie.Need-returns-2
 unfolding rebuildFault
 returns-2 c = rw (
-  times-width,
-  times-width,
   sym (c .before .before .before .lanes-bad .ensures) ∙ c .before .before .if1 .left,
   sym (c .before .length-bad .ensures) ∙ c .if2 .taken,
 )
 
-mul-length-bad : tie.Need-mul-length-bad
-mul-length-bad c =
+mul-buffer-bad : tie.Need-mul-buffer-bad
+mul-buffer-bad c =
     let few : c .before .before .before .before .before .before .before .before .args .h .k ≤ 255 = omega arith in
     omega (arith, buffer-small _ _ few (sym (c .before .before .before .lanes-bad .ensures) ∙ c .before .before .if1 .left))
 
-length-bad-requires-2 : tie.Need-length-bad-requires-2
-length-bad-requires-2 c κs = search needs
+buffer-bad-requires : tie.Need-buffer-bad-requires
+buffer-bad-requires c κs =
+    let st = c .before .before .before .before .before .before .before .before in
+    let few : st .args .h .k ≤ 255 = omega arith in
+    (st .pre, buffer-small _ _ few (sym (c .before .before .before .lanes-bad .ensures) ∙ c .before .before .if1 .left))
 
 returns-3 : tie.Need-returns-3
 unfolding rebuildFault
 returns-3 c = rw (
-  times-width,
-  times-width,
   sym (c .before .before .before .before .before .lanes-bad .ensures) ∙ c .before .before .before .before .if1 .left,
   sym (c .before .before .before .length-bad .ensures) ∙ c .before .before .if2 .left,
-  sym (c .before .length-bad2 .ensures) ∙ c .if3 .taken,
+  sym (c .before .buffer-bad .ensures) ∙ c .if3 .taken,
 )
 
-length-bad-requires-3 : tie.Need-length-bad-requires-3
-length-bad-requires-3 c κs = search needs
+buffer-bad-requires-2 : tie.Need-buffer-bad-requires-2
+buffer-bad-requires-2 c κs =
+    let good = lanes-good _ (sym (c .before .before .before .before .before .lanes-bad .ensures) ∙ c .before .before .before .before .if1 .left) in
+    (c .before .before .before .before .before .before .before .before .before .before .pre, omega (arith, good .1))
 
 returns-4 : tie.Need-returns-4
 unfolding rebuildFault
 returns-4 c = rw (
-  times-width,
-  times-width,
   sym (c .before .before .before .before .before .before .before .lanes-bad .ensures) ∙ c .before .before .before .before .before .before .if1 .left,
   sym (c .before .before .before .before .before .length-bad .ensures) ∙ c .before .before .before .before .if2 .left,
-  sym (c .before .before .before .length-bad2 .ensures) ∙ c .before .before .if3 .left,
-  sym (c .before .length-bad3 .ensures) ∙ c .if4 .taken,
+  sym (c .before .before .before .buffer-bad .ensures) ∙ c .before .before .if3 .left,
+  sym (c .before .buffer-bad2 .ensures) ∙ c .if4 .taken,
 )
 
 number-bad-requires : tie.Need-number-bad-requires
@@ -72,31 +70,27 @@ number-bad-requires c κs = search needs
 returns-5 : tie.Need-returns-5
 unfolding rebuildFault
 returns-5 c = rw (
-  times-width,
-  times-width,
   sym (c .before .before .before .before .before .before .before .before .before .lanes-bad .ensures) ∙ c .before .before .before .before .before .before .before .before .if1 .left,
   sym (c .before .before .before .before .before .before .before .length-bad .ensures) ∙ c .before .before .before .before .before .before .if2 .left,
-  sym (c .before .before .before .before .before .length-bad2 .ensures) ∙ c .before .before .before .before .if3 .left,
-  sym (c .before .before .before .length-bad3 .ensures) ∙ c .before .before .if4 .left,
+  sym (c .before .before .before .before .before .buffer-bad .ensures) ∙ c .before .before .before .before .if3 .left,
+  sym (c .before .before .before .buffer-bad2 .ensures) ∙ c .before .before .if4 .left,
   sym (c .before .number-bad .ensures) ∙ c .if5 .taken,
 )
 
 list-fault-requires : tie.Need-list-fault-requires
-list-fault-requires c κs = (c .before .before .before .before .before .before .before .before .before .before .before .before .before .before .pre, length-good _ _ (sym (c .before .before .before .before .before .length-bad2 .ensures) ∙ c .before .before .before .before .if3 .left))
+list-fault-requires c κs = (c .before .before .before .before .before .before .before .before .before .before .before .before .before .before .pre, length-good _ _ (sym (c .before .before .before .before .before .buffer-bad .ensures) ∙ c .before .before .before .before .if3 .left))
 
 returns-6 : tie.Need-returns-6
 unfolding rebuildFault
 returns-6 c = rw (
-  times-width,
-  times-width,
   sym (c .before .before .before .before .before .before .before .before .before .before .lanes-bad .ensures) ∙ c .before .before .before .before .before .before .before .before .before .if1 .left,
   sym (c .before .before .before .before .before .before .before .before .length-bad .ensures) ∙ c .before .before .before .before .before .before .before .if2 .left,
-  sym (c .before .before .before .before .before .before .length-bad2 .ensures) ∙ c .before .before .before .before .before .if3 .left,
-  sym (c .before .before .before .before .length-bad3 .ensures) ∙ c .before .before .before .if4 .left,
+  sym (c .before .before .before .before .before .before .buffer-bad .ensures) ∙ c .before .before .before .before .before .if3 .left,
+  sym (c .before .before .before .before .buffer-bad2 .ensures) ∙ c .before .before .before .if4 .left,
   sym (c .before .before .number-bad .ensures) ∙ c .before .if5 .left,
 )
     (c .list-fault .ensures)
 
 pub rebuild-fault-spec : {M : Type 1} → statement M
 rebuild-fault-spec =
-    tie.close (tie.spec cast-n cast-k lanes-bad-requires returns length-bad-requires returns-2 mul-length-bad length-bad-requires-2 returns-3 length-bad-requires-3 returns-4 number-bad-requires returns-5 list-fault-requires returns-6)
+    tie.close (tie.spec cast-n cast-k lanes-bad-requires returns length-bad-requires returns-2 mul-buffer-bad buffer-bad-requires returns-3 buffer-bad-requires-2 returns-4 number-bad-requires returns-5 list-fault-requires returns-6)

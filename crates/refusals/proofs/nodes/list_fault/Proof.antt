@@ -1,6 +1,7 @@
 -- `list_fault` meets its contract: the range is tested before repeats, and the symbols last.
 use mathlib.Core.Path.{_≡_, sym, _∙_}
 use mathlib.Core.Bool.{false}
+use native.Mathlib.Omega.{arith}
 use borrow.Author.Needs.{needs}
 use Rattle.refusals.specs.Conditions.{nodesBad, twiceBad}
 use Rattle.refusals.specs.Faults.{listFault}
@@ -33,7 +34,7 @@ unfolding listFault
 returns-2 c = rw (in-range (c .before), sym (c .before .before .twice-bad .ensures) ∙ c .if2 .taken)
 
 shares-bad-requires : tie.Need-shares-bad-requires
-shares-bad-requires c κs = search needs
+shares-bad-requires c κs = let st = c .before .before .before .before .before .before .before in (st .pre .0, omega arith, st .pre .1)
 
 returns-3 : tie.Need-returns-3
 unfolding listFault
