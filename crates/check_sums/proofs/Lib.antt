@@ -1,9 +1,8 @@
--- The laws of the check sums, and what the first wrong lane says.
+-- The laws of the check sums, and of marks by them.
 pub mod Sums
 pub mod Zeros
 pub mod Shares
 pub mod Prefix
-pub mod Wrong
 pub mod OneLane
-pub mod Stretches
 pub mod Marking
+pub mod Checks

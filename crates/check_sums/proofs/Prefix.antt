@@ -19,3 +19,6 @@ module _ (l : ℕ) (new old whole : List ℕ) (filled : new ≡ whole) (long : l
 
   pub whole-few : (m : ℕ) → l ≤ m → length (take l (new ++ drop l old)) ≤ m
   whole-few m few = rw length-whole few
+
+  pub whole-reach : l ≤ length (take l (new ++ drop l old))
+  whole-reach = omega (arith, length-whole)

@@ -1,14 +1,17 @@
 -- Shares as bytes, with the bytes of a symbol told.
-use mathlib.Core.Path.{_≡_, refl, _∙_}
+use mathlib.Core.Path.{_≡_, refl, sym, ap, _∙_}
 use mathlib.Core.List.{List}
 use Prim.Native.Nat.{ℕ, _-_, _*_, _≤_}
 use native.Mathlib.Nat.{mul-le-mul}
 use native.Mathlib.Omega.{arith}
+use Rattle.layout.specs.Width.{symbolsOf}
 use Rattle.layout.proofs.LaneParts.{lanes-long}
+use Rattle.layout.proofs.Widths.{symbols-one}
 use Rattle.generator.specs.declared.Header.{Header}
 use Rattle.generator.specs.Records.{width, Sound}
-use Rattle.generator.proofs.Widths.{width-range, width-some}
-use Rattle.refusals.specs.Accepted.{SymbolBuffer, SymbolBytes}
+use Rattle.generator.proofs.Widths.{width-range, width-some, size-fits-width}
+use Rattle.refusals.specs.Accepted.{SymbolRows, SymbolBuffer, SymbolBytes}
+use Rattle.products.specs.Products.{OneByte}
 
 pub buffer-bytes : {h : Header} {rows l : ℕ} {s : List ℕ} (w : ℕ) → w ≡ width h → SymbolBuffer h rows l s → SymbolBytes h w rows l s
 buffer-bytes {h} {rows} {l} w wide is = rw wide record { wide = refl; bytes = is .bytes ∙ lanes-long (width h) rows l; symbol-rows = is .symbol-rows }
@@ -34,3 +37,14 @@ module _ (h : Header) (s : Sound h) (w : ℕ) (wide : w ≡ width h) where
 
   pub rows-small : w * h .n * (h .n - h .k) ≤ 130050
   rows-small = let few : h .n - h .k ≤ 255 = omega (arith, s .byte) in mul-le-mul lane-small few
+
+-- a symbol of one byte is its byte
+module _ {h : Header} {w rows l : ℕ} {s : List ℕ} (one : w ≡ 1) (is : SymbolBytes h w rows l s) where
+  pub byte-symbols : symbolsOf w s ≡ s
+  byte-symbols = ap (λ (x : ℕ). symbolsOf x s) one ∙ symbols-one s
+
+  pub byte-rows : SymbolRows h rows l s
+  byte-rows = rw byte-symbols at (is .symbol-rows)
+
+  pub byte-field : OneByte (h .field)
+  byte-field = record { usable-field = is .symbol-rows .sound .usable-field; one-byte = rw (sym (is .wide) ∙ one) at (size-fits-width h (is .symbol-rows .sound)) }

@@ -1,8 +1,8 @@
 -- Sums with the factors of a check sum are that check sum in every lane; the factors are read from the powers of the root.
-use mathlib.Core.Path.{_≡_, refl, ap, _∙_}
+use mathlib.Core.Path.{_≡_, refl, sym, ap, _∙_}
 use mathlib.Core.List.{List}
-use Prim.Native.Nat.{ℕ, _*_, _%_, _<_}
-use native.Mathlib.Nat.{zero-add}
+use Prim.Native.Nat.{ℕ, _+_, _*_, _%_, _≤_, _<_}
+use native.Mathlib.Nat.{zero-add, add-comm, add-mul, one-mul, mod-add-mod}
 use native.Mathlib.Omega.{arith}
 use lib.ListN.{length, getD}
 use Rattle.lists.specs.Padded.{padded}
@@ -20,6 +20,12 @@ use Rattle.refusals.specs.Accepted.{SymbolTile}
 use Rattle.combine.specs.Combined.{combined, combinedTile, WeightedRows}
 use Rattle.combine.proofs.Columns.{column-ready, combined-column, combined-tile}
 use Rattle.check_sums.specs.Powers.{powersOf, factorsOf}
+
+-- the place of the next node's factor
+pub next-factor : (j e n : ℕ) → (j * e % n + e % n) % n ≡ (j + 1) * e % n
+next-factor j e n =
+    let more : j * e + e ≡ (j + 1) * e = sym (add-mul j 1 e ∙ rw (one-mul e)) in
+    mod-add-mod (j * e) n (e % n) ∙ ap (λ (x : ℕ). x % n) (add-comm (j * e) (e % n)) ∙ mod-add-mod e n (j * e) ∙ ap (λ (x : ℕ). x % n) (add-comm e (j * e) ∙ more)
 
 module _ (h : Header) (i : ℕ) (low : i < h .n) where
   in-powers : i < length (powersOf h)

@@ -3,3 +3,4 @@ pub mod Powers
 pub mod Sums
 pub mod Zeros
 pub mod Marks
+pub mod Checks

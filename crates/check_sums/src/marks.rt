@@ -15,6 +15,7 @@ ghost use Rattle.refusals.specs.Accepted.{SymbolBuffer, SymbolBytes, SymbolTile
 ghost use Rattle.check_sums.specs.Powers.{powersOf};
 ghost use Rattle.check_sums.specs.Marks.{wordMarks};
 use crate::powers;
+use crate::scratch;
 use crate::tile_sums::zero_sums;
 use generator::Header;
 
@@ -25,7 +26,7 @@ fn marked(sum: u8, mark: u8) -> u8
     if sum == 0 { mark } else { 1 }
 }
 
-fn add_marks(sums: &[u8], marks: &mut [u8])
+pub fn add_marks(sums: &[u8], marks: &mut [u8])
     requires { ⌜ length (now marks) ≤ length (now sums) ⌝ }
     ensures { λ r. ⌜ now (marks .exit) ≡ lanewise (λ t y. pick (eqb (getD (now (sums .entry)) t 0) 0) y 1) (now (marks .entry)) ⌝ }
 {
@@ -126,12 +127,11 @@ fn mark_tiles(h: Header, w: usize, lanes: usize, shares: &[u8], tile: &mut [u8],
     }
 }
 
-// Marks all lanes, which have the mark 0 before, in scratch of this call, little where the block is small.
-pub fn mark_lanes(h: Header, lanes: usize, shares: &[u8], marks: &mut [u8])
-    requires { ⌜ SymbolBuffer h (h .n) lanes (now shares) × (now marks ≡ zeros lanes) ⌝ }
-    ensures { λ r. ⌜ now (marks .exit) ≡ wordMarks shareLayout h lanes (symbolsOf (width h) (now (shares .entry))) ⌝ }
+// The same in scratch of this call, little where the block is small.
+fn mark_symbols(h: Header, w: usize, lanes: usize, shares: &[u8], marks: &mut [u8])
+    requires { ⌜ SymbolBytes h w (h .n) lanes (now shares) × (now marks ≡ zeros lanes) ⌝ }
+    ensures { λ r. ⌜ now (marks .exit) ≡ wordMarks byLane h lanes (symbolsOf w (now (shares .entry))) ⌝ }
 {
-    let w = symbols::width_of(h);
     if shares.len() <= 4096 {
         let mut tile = tiles::small_scratch();
         mark_tiles(h, w, lanes, shares, &mut tile, marks);
@@ -139,4 +139,17 @@ pub fn mark_lanes(h: Header, lanes: usize, shares: &[u8], marks: &mut [u8])
     }
     let mut tile = tiles::scratch();
     mark_tiles(h, w, lanes, shares, &mut tile, marks);
+}
+
+// Marks all lanes, which have the mark 0 before: two or more lanes of bytes by products, for one lane would take a whole tile's time.
+pub fn mark_lanes(h: Header, lanes: usize, shares: &[u8], marks: &mut [u8])
+    requires { ⌜ SymbolBuffer h (h .n) lanes (now shares) × (now marks ≡ zeros lanes) ⌝ }
+    ensures { λ r. ⌜ now (marks .exit) ≡ wordMarks shareLayout h lanes (symbolsOf (width h) (now (shares .entry))) ⌝ }
+{
+    let w = symbols::width_of(h);
+    if w == 1 && lanes != 1 {
+        scratch::mark_bytes(h, lanes, shares, marks);
+        return;
+    }
+    mark_symbols(h, w, lanes, shares, marks);
 }

@@ -5,6 +5,7 @@ ghost use Rattle.lists.specs.Padded.{padded};
 ghost use Rattle.field.specs.Tables.{AreTables};
 ghost use Rattle.generator.specs.Records.{Sound};
 ghost use Rattle.check_sums.specs.Powers.{powersOf, factorsOf};
+use crate::lane::stepped;
 use generator::Header;
 
 // The powers of the root below its order, and zeros after them.
@@ -41,11 +42,13 @@ pub fn factors(h: Header, powers: &[u16], e: usize) -> [u16; 255]
     ensures { λ r. ⌜ r ≡ padded 255 (factorsOf h e) ⌝ }
 {
     let n = h.n as usize;
+    let step = e % n;
     let mut out = [0u16; 255];
+    let mut i: usize = 0;
     let mut j: usize = 0;
     while j < n {
-        let i = j * e % n;
         out[j] = powers[i];
+        i = stepped(i, step, n);
         j += 1;
     }
     out

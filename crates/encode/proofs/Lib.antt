@@ -4,3 +4,5 @@ pub mod Columns
 pub mod Shares
 -- The lanes of a tile's words.
 pub mod Words
+pub mod Placed
+pub mod OneLane

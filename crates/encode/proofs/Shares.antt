@@ -56,37 +56,6 @@ symbols-fit h s w count size fits = le-trans (mul-le-mul (mul-le-mul (le-refl w)
 pub word-small : (h : Header) → Sound h → (w : ℕ) → w ≡ width h → w * h .n ≤ 510
 word-small h s w is = let two : w ≤ 2 = rw is (width-range h .1) in mul-le-mul two (s .byte)
 
--- the shares of one lane stand the same in both arrangements
-pub one-word : (h : Header) (l : ℕ) (m : List ℕ) → l ≡ 1 → sharesOf byRow h l m ≡ sharesOf byLane h l m
-unfolding sharesOf
-one-word h l m e =
-    rw e
-    (held-equal by-lane (h .n) 1 _ _ (length-buffer byRow (h .n) 1 _) (length-buffer byLane (h .n) 1 _)
-    (λ i t row lane. at i t row lane))
-  where
-    at : (i t : ℕ) → i < h .n → t < 1 → held byLane (h .n) 1 (buffer byRow (h .n) 1 (shareAt h 1 m)) i t ≡ held byLane (h .n) 1 (buffer byLane (h .n) 1 (shareAt h 1 m)) i t
-    at i zero row lane =
-        sym (one-lane (h .n) (buffer byRow (h .n) 1 (shareAt h 1 m)) i)
-        ∙ held-buffer by-row (h .n) 1 (shareAt h 1 m) i 0 row lane
-        ∙ sym (held-buffer by-lane (h .n) 1 (shareAt h 1 m) i 0 row lane)
-    at i (suc t) row lane = absurd (omega arith)
-
--- one lane is a tile as it stands
-module _ (h : Header) (w l : ℕ) (m : List ℕ) (one : l ≡ 1) (message : MessageBytes h w l m) (some : 0 < w) where
-  symbols-same : tileSymbols w (h .k) l m ≡ symbolsOf w m
-  symbols-same = ap (λ (x : ℕ). tileSymbols w (h .k) x m) one ∙ lane-symbols w (h .k) some m (message .bytes ∙ ap (λ (x : ℕ). w * h .k * x) one)
-
-  pub one-tile : MessageTile h w l m
-  one-tile = record { wide = message .wide; bytes = message .bytes; symbol-rows = rw symbols-same (message .symbol-rows) }
-
-  pub one-lane-encoded : tileBytes w (h .n) l (sharesOf byRow h l (tileSymbols w (h .k) l m)) ≡ bytesOf w (sharesOf byLane h l (symbolsOf w m))
-  one-lane-encoded =
-      let u = symbolsOf w m in
-      ap (λ (x : List ℕ). tileBytes w (h .n) l (sharesOf byRow h l x)) symbols-same
-      ∙ ap (λ (x : ℕ). tileBytes w (h .n) x (sharesOf byRow h l u)) one
-      ∙ lane-bytes w (h .n) some (sharesOf byRow h l u) (length-shares h l u byRow ∙ ap (λ (x : ℕ). h .n * x) one)
-      ∙ ap (bytesOf w) (one-word h l u one)
-
 -- a tile of gathered rows is one of the lanes' symbols
 module _ (h : Header) (w l t c : ℕ) (m : List ℕ) (message : MessageBytes h w l m) (some : 0 < w) (fits : t + c ≤ l) where
   abbrev gathered : List ℕ

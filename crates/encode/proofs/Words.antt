@@ -3,7 +3,6 @@ use mathlib.Core.Path.{_≡_, refl, sym, ap, _∙_}
 use mathlib.Core.Bool.{true}
 use mathlib.Core.List.{List, [], append-nil}
 use Prim.Native.Nat.{ℕ, _+_, _*_, _/_, _≤_, _<_}
-use native.Mathlib.Nat.{mul-le-mul}
 use native.Mathlib.Omega.{arith}
 use lib.ListN.{length, take}
 use Rattle.lists.specs.Rows.{from, rowsFrom}
@@ -28,7 +27,6 @@ use Rattle.blocks.proofs.Tiles.{messageTile}
 use Rattle.combine.proofs.Columns.{dot-column}
 use Rattle.tiles64.proofs.Gathered.{tile-lane}
 use Rattle.tiles64.proofs.Scattered.{rows-ext}
-use Rattle.products.specs.Products.{groupsOf}
 use Rattle.products.specs.Matrices.{OutputsOf}
 use Rattle.encode.specs.Inner.{columnOf}
 
@@ -69,11 +67,3 @@ unfolding columnOf
 column-below h j sound =
     at-below (size h) (columnOf h j)
     (λ r low. rw (getD-from (λ r. entry h r j) 0 (h .k) r 0 (omega (arith, length-column h j))) (entry-below h sound (0 + r) j))
-
--- scratch for so many groups and nodes is long enough
-pub groups-few : (k m : ℕ) → k ≤ 4 * m → groupsOf k ≤ m
-unfolding groupsOf
-groups-few k m few = omega arith
-
-pub lists-fit : (n k m most : ℕ) → n ≤ most → k ≤ 4 * m → n * (8 * groupsOf k) ≤ most * (8 * m)
-lists-fit n k m most few rows = let g : 8 * groupsOf k ≤ 8 * m = omega (arith, groups-few k m rows) in mul-le-mul few g

@@ -16,6 +16,7 @@ use generator::Header;
 use generator::Record;
 
 mod lanes;
+mod one_lane;
 mod rows;
 mod scratch;
 
@@ -87,7 +88,7 @@ fn fill_shares<'a>(
     }
 }
 
-// Fills all lanes: one lane stands as a row stands, more go through tiles, those of bytes faster.
+// Fills all lanes: one lane by itself, more through tiles, those of bytes faster.
 fn encode_lanes<'a>(
     h: Header,
     shifts: &'a [u8],
@@ -101,7 +102,7 @@ fn encode_lanes<'a>(
     ensures { λ r. ⌜ now (out .exit) ≡ bytesOf w (sharesOf byLane h lanes (symbolsOf w (now (message .entry)))) ⌝ }
 {
     if lanes == 1 {
-        fill_shares(h, shifts, base, w, lanes, message, out);
+        one_lane::fill_lane(h, shifts, base, w, message, out);
         return;
     }
     if w == 1 {

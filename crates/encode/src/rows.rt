@@ -117,4 +117,3 @@ pub fn encode_rows<'a>(
         out,
     );
 }
-

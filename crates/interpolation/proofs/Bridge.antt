@@ -73,7 +73,7 @@ module _ (p : ℕ) (v : isField p ≡ true) where
   timesLinear-is a c (q ∷ qs) = ap₂ _∷_ (sym (number-sub p v c (fieldOf p v .mul a q))) (timesLinear-is a q qs)
 
   -- .. the product ..
-  productOf-is : (xs : List (Symbol (sizeOf p))) → productOf p (numbers (sizeOf p) xs) ≡ numbers (sizeOf p) (product (fieldOf p v) xs)
+  pub productOf-is : (xs : List (Symbol (sizeOf p))) → productOf p (numbers (sizeOf p) xs) ≡ numbers (sizeOf p) (product (fieldOf p v) xs)
   unfolding productOf product
   productOf-is [] = refl
   productOf-is (a ∷ xs) = ap (timesLinear p (a .0) 0) (productOf-is xs) ∙ timesLinear-is a (fieldOf p v .0f) (product (fieldOf p v) xs)

@@ -1,22 +1,35 @@
 -- Polynomials by their coefficients: one step of each loop, lengths, and that the coefficients are symbols.
 use mathlib.Core.Path.{_≡_, refl, sym, ap, _∙_}
 use mathlib.Core.Bool.{true}
-use mathlib.Core.List.{List, [], _∷_}
+use mathlib.Core.List.{List, [], _∷_, _++_, append-assoc}
 use Prim.Native.Nat.{ℕ, zero, suc, _+_, _-_, _≤_, _<_}
 use native.Mathlib.Numerals.{add-one}
 use native.Mathlib.Omega.{arith}
-use lib.ListN.{length, getD, drop, set, length-map, drop-of-length-le}
-use lib.Seq.{drop-length}
+use lib.ListN.{length, getD, take, drop, set, length-map, length-append, drop-of-length-le}
+use lib.Seq.{drop-length, take-at, drop-at}
 use Rattle.lists.specs.Numbers.{allBelow}
 use Rattle.lists.specs.Padded.{zeros, padded}
+use Rattle.lists.proofs.Fill.{zeros-next}
 use Rattle.lists.proofs.Front.{drop-next, drop-before}
-use Rattle.lists.proofs.Numbers.{below-cons, cons-below, below-getD, below-drop}
+use Rattle.lists.proofs.Numbers.{below-cons, cons-below, below-append, below-getD, below-drop}
+use Rattle.lists.proofs.Padding.{length-padded}
 use Rattle.field.specs.Fields.{isField, sizeOf, add, sub, mul, power, inverse}
+use Rattle.field.proofs.Arithmetic.{mul-zero}
+use Rattle.field.proofs.BothKinds.{arithmetic}
 use Rattle.field.proofs.Bounds.{one-below, add-below, sub-below, mul-below, power-below}
 use Rattle.field.proofs.FieldOf.{size-pos}
 use Rattle.field.proofs.Inverse.{inverse-below}
 use Rattle.field.specs.Sums.{dot}
-use Rattle.interpolation.specs.Polynomials.{timesLinear, productOf, baseOf, quotientOf, termwise, inversesOf}
+use Rattle.interpolation.specs.Polynomials.{timesLinear, carried, productOf, baseOf, quotientOf, termwise, inversesOf}
+
+-- a list with zeros after it, as far as one place more: the list and a 0; and what is left is zeros
+pub one-more : (n m : ℕ) (cs : List ℕ) → length cs ≡ m → m < n → (take (m + 1) (padded n cs) ≡ cs ++ (0 ∷ [])) × (drop (m + 1) (padded n cs) ≡ zeros (n - (m + 1)))
+unfolding padded
+one-more n m cs e low =
+    let next : zeros (n - m) ≡ 0 ∷ zeros (n - (m + 1)) = zeros-next n m low in
+    let joined : padded n cs ≡ (cs ++ (0 ∷ [])) ++ zeros (n - (m + 1)) = rw (e, next) (sym (append-assoc cs (0 ∷ []) (zeros (n - (m + 1))))) in
+    let long : length (cs ++ (0 ∷ [])) ≡ m + 1 = length-append cs (0 ∷ []) ∙ omega arith in
+    (ap (take (m + 1)) joined ∙ take-at (cs ++ (0 ∷ [])) (zeros (n - (m + 1))) (m + 1) long, ap (drop (m + 1)) joined ∙ drop-at (cs ++ (0 ∷ [])) (zeros (n - (m + 1))) (m + 1) long)
 
 -- the polynomial 1, with zeros after it
 pub one-padded : set (zeros 256) 0 1 ≡ padded 256 (1 ∷ [])
@@ -32,6 +45,24 @@ module _ (p : ℕ) where
   pub timesLinear-end : (a c : ℕ) (qs : List ℕ) (i : ℕ) → length qs ≤ i → timesLinear p a c (drop i qs) ≡ c ∷ []
   unfolding timesLinear
   timesLinear-end a c qs i h = ap (timesLinear p a c) (drop-of-length-le qs h)
+
+  -- the same in place
+  pub carried-next : (a c : ℕ) (qs : List ℕ) (i : ℕ) → i < length qs → carried p a c (drop i qs) ≡ sub p c (mul p a (getD qs i 0)) ∷ carried p a (getD qs i 0) (drop (i + 1) qs)
+  unfolding carried
+  carried-next a c qs i h = ap (carried p a c) (drop-next qs i 0 h)
+
+  pub carried-end : (a c : ℕ) (qs : List ℕ) (i : ℕ) → length qs ≤ i → carried p a c (drop i qs) ≡ []
+  unfolding carried
+  carried-end a c qs i h = ap (carried p a c) (drop-of-length-le qs h)
+
+  nothing-taken : isField p ≡ true → (c : ℕ) → c < sizeOf p → sub p c 0 ≡ c
+  nothing-taken v c lc = sym (arithmetic p v .add-zero (sub p c 0) (arithmetic p v .sub-below c 0 lc (size-pos p v))) ∙ arithmetic p v .sub-add c 0 lc (size-pos p v)
+
+  -- with a 0 for the last coefficient it is (x − a)·q(x)
+  pub carried-zero : isField p ≡ true → (a c : ℕ) (qs : List ℕ) → a < sizeOf p → c < sizeOf p → allBelow (sizeOf p) qs ≡ true → carried p a c (qs ++ (0 ∷ [])) ≡ timesLinear p a c qs
+  unfolding carried timesLinear
+  carried-zero v a c [] la lc b = ap (λ (x : ℕ). x ∷ []) (ap (sub p c) (mul-zero (arithmetic p v) a la) ∙ nothing-taken v c lc)
+  carried-zero v a c (q ∷ qs) la lc b = let (lq, rest) = below-cons (sizeOf p) q qs b in ap (λ (l : List ℕ). sub p c (mul p a q) ∷ l) (carried-zero v a q qs la lq rest)
 
   pub length-timesLinear : (a c : ℕ) (qs : List ℕ) → length (timesLinear p a c qs) ≡ suc (length qs)
   unfolding timesLinear
@@ -63,7 +94,7 @@ module _ (p : ℕ) where
   length-baseOf root (suc m) = length-timesLinear (power p root m) 0 (baseOf p root m) ∙ ap suc (length-baseOf root m)
 
   -- the quotient, from the highest coefficient down
-  quotientOf-next : (a : ℕ) (cs : List ℕ) (i : ℕ) → 0 < i → i ≤ length cs → quotientOf p a (drop (i - 1) cs) ≡ add p (mul p a (getD (quotientOf p a (drop i cs)) 0 0)) (getD cs (i - 1) 0) ∷ quotientOf p a (drop i cs)
+  pub quotientOf-next : (a : ℕ) (cs : List ℕ) (i : ℕ) → 0 < i → i ≤ length cs → quotientOf p a (drop (i - 1) cs) ≡ add p (mul p a (getD (quotientOf p a (drop i cs)) 0 0)) (getD cs (i - 1) 0) ∷ quotientOf p a (drop i cs)
   unfolding quotientOf
   quotientOf-next a cs i pos h = ap (quotientOf p a) (drop-before cs i 0 pos h)
 
@@ -71,7 +102,7 @@ module _ (p : ℕ) where
   quotient-first : (a : ℕ) (cs : List ℕ) (i : ℕ) → 0 < i → i ≤ length cs → getD (quotientOf p a (drop (i - 1) cs)) 0 0 ≡ add p (mul p a (getD (quotientOf p a (drop i cs)) 0 0)) (getD cs (i - 1) 0)
   quotient-first a cs i pos h = ap (λ (l : List ℕ). getD l 0 0) (quotientOf-next a cs i pos h)
 
-  quotientOf-end : (a : ℕ) (cs : List ℕ) → quotientOf p a (drop (length cs) cs) ≡ []
+  pub quotientOf-end : (a : ℕ) (cs : List ℕ) → quotientOf p a (drop (length cs) cs) ≡ []
   unfolding quotientOf
   quotientOf-end a cs = ap (quotientOf p a) (drop-length cs)
 
@@ -181,3 +212,25 @@ module _ (p : ℕ) where
     -- the quotient's coefficients are symbols
     pub dividing-below : {a : ℕ} {cs : List ℕ} {i q : ℕ} → Dividing a cs i q → a < sizeOf p → Below cs → q < sizeOf p
     dividing-below {a} {cs} {i} d la h = rw (d .first) (below-getD (sizeOf p) _ (size-pos p v) (quotientOf-below a (drop i cs) la (below-drop (sizeOf p) i cs h)) 0)
+
+-- a polynomial of m coefficients in an array, and one factor more in place
+pub record Grows (p a m : ℕ) (cs out : List ℕ) : Type 0 where
+  pub room : m + 1 ≤ 256
+  pub long : length out ≡ 256
+  pub part-long : length (take (m + 1) out) ≡ m + 1
+  pub symbols : allBelow (sizeOf p) (take (m + 1) out) ≡ true
+  pub whole : (new : List ℕ) → new ≡ carried p a 0 (take (m + 1) out) → new ++ drop (m + 1) out ≡ padded 256 (timesLinear p a 0 cs)
+
+pub grows : (p : ℕ) (v : isField p ≡ true) (a m : ℕ) (cs out : List ℕ) → out ≡ padded 256 cs → length cs ≡ m → m < 256 → allBelow (sizeOf p) cs ≡ true → a < sizeOf p → Grows p a m cs out
+unfolding padded allBelow
+grows p v a m cs out e size low below la =
+    let (front, rest) = one-more 256 m cs size low in
+    let grown : length (timesLinear p a 0 cs) ≡ m + 1 = omega (arith, length-timesLinear p a 0 cs) in
+    rw e
+    record {
+      room = omega arith;
+      long = length-padded 256 cs (omega arith);
+      part-long = ap length front ∙ length-append cs (0 ∷ []) ∙ omega arith;
+      symbols = rw front (below-append (sizeOf p) cs (0 ∷ []) below (cons-below (sizeOf p) 0 [] (size-pos p v) refl));
+      whole = λ new is. rw (is, front, rest, carried-zero p v a 0 cs la (size-pos p v) below, grown);
+    }

@@ -4,3 +4,4 @@ pub mod Values
 pub mod Coefficients
 -- They are those of the algebra.
 pub mod Bridge
+pub mod PaddedSums

@@ -9,6 +9,11 @@ unfoldable pub timesLinear : ℕ → ℕ → ℕ → List ℕ → List ℕ
 timesLinear p a c [] = c ∷ []
 timesLinear p a c (q ∷ qs) = sub p c (mul p a q) ∷ timesLinear p a q qs
 
+-- the same as far as the list goes: it has a 0 for the last coefficient
+unfoldable pub carried : ℕ → ℕ → ℕ → List ℕ → List ℕ
+carried p a c [] = []
+carried p a c (q ∷ qs) = sub p c (mul p a q) ∷ carried p a q qs
+
 -- the product of (x − a) over the points a
 unfoldable pub productOf : ℕ → List ℕ → List ℕ
 productOf p [] = 1 ∷ []

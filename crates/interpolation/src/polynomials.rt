@@ -3,51 +3,54 @@ ghost use mathlib.Core.Path.{_≡_};
 ghost use mathlib.Core.Bool.{true};
 ghost use Prim.Native.Nat.{_<_, _≤_};
 ghost use lib.ListN.{length};
+ghost use Rattle.lists.specs.Numbers.{allBelow};
 ghost use Rattle.lists.specs.Padded.{padded};
 ghost use Rattle.field.specs.Fields.{sizeOf, add, mul};
 ghost use Rattle.field.specs.Kinds.{modulus, usable};
 ghost use Rattle.field.specs.Sums.{dot};
 ghost use Rattle.field.specs.Tables.{AreTables};
 ghost use Rattle.interpolation.specs.Points.{SymbolList};
-ghost use Rattle.interpolation.specs.Polynomials.{timesLinear, productOf, baseOf, quotientOf, termwise, inversesOf};
+ghost use Rattle.interpolation.specs.Polynomials.{carried, productOf, baseOf, quotientOf, termwise, inversesOf};
 use field::Field;
 
-// (x − a) times the polynomial, and zeros after it.
-fn times_linear(field: Field, a: u32, coefficients: &[u16]) -> [u16; 256]
-    requires { ⌜ SymbolList field (now coefficients) × (a < sizeOf (modulus field)) ⌝ }
-    ensures { λ r. ⌜ r ≡ padded 256 (timesLinear (modulus field) a 0 (now (coefficients .entry))) ⌝ }
-{
-    let t = field::constant_tables();
-    times_linear_with(field, &t.powers, &t.logarithms, a, coefficients)
-}
-
-fn times_linear_with<'a>(
+// (x − a) times the polynomial whose coefficients stand before the last place, which holds 0.
+fn times_linear<'a>(
     field: Field,
     powers: &'a [u8; 255],
     logarithms: &'a [u8; 255],
     a: u32,
-    coefficients: &[u16],
-) -> [u16; 256]
-    requires { ⌜ SymbolList field (now coefficients) × (a < sizeOf (modulus field)) × AreTables (now powers) (now logarithms) ⌝ }
-    ensures { λ r. ⌜ r ≡ padded 256 (timesLinear (modulus field) a 0 (now (coefficients .entry))) ⌝ }
+    coefficients: &mut [u16],
+)
+    requires { ⌜ (usable field ≡ true) × (allBelow (sizeOf (modulus field)) (now coefficients) ≡ true) × (a < sizeOf (modulus field)) × AreTables (now powers) (now logarithms) ⌝ }
+    ensures { λ r. ⌜ now (coefficients .exit) ≡ carried (modulus field) a 0 (now (coefficients .entry)) ⌝ }
 {
-    let mut out = [0u16; 256];
     let mut last = Field::ZERO;
     let mut i = 0;
     while i < coefficients.len() {
         let c = coefficients[i] as u32;
         let term = field.mul_with(powers, logarithms, a, c);
-        out[i] = field.sub(last, term) as u16;
+        coefficients[i] = field.sub(last, term) as u16;
         last = c;
         i += 1;
     }
-    out[i] = last as u16;
-    out
 }
 
 // The product of (x − a) over the points a, and zeros after it.
 pub fn product(field: Field, points: &[u16]) -> [u16; 256]
     requires { ⌜ SymbolList field (now points) ⌝ }
+    ensures { λ r. ⌜ r ≡ padded 256 (productOf (modulus field) (now (points .entry))) ⌝ }
+{
+    let t = field::constant_tables();
+    product_with(field, &t.powers, &t.logarithms, points)
+}
+
+fn product_with<'a>(
+    field: Field,
+    powers: &'a [u8; 255],
+    logarithms: &'a [u8; 255],
+    points: &[u16],
+) -> [u16; 256]
+    requires { ⌜ SymbolList field (now points) × AreTables (now powers) (now logarithms) ⌝ }
     ensures { λ r. ⌜ r ≡ padded 256 (productOf (modulus field) (now (points .entry))) ⌝ }
 {
     let mut out = [0u16; 256];
@@ -56,8 +59,14 @@ pub fn product(field: Field, points: &[u16]) -> [u16; 256]
     let mut i = points.len();
     while i > 0 {
         i -= 1;
-        out = times_linear(field, points[i] as u32, &out[..size]);
         size += 1;
+        times_linear(
+            field,
+            powers,
+            logarithms,
+            points[i] as u32,
+            &mut out[..size],
+        );
     }
     out
 }
@@ -67,14 +76,28 @@ pub fn base(field: Field, root: u32, m: usize) -> [u16; 256]
     requires { ⌜ (usable field ≡ true) × (root < sizeOf (modulus field)) × (m < 255) ⌝ }
     ensures { λ r. ⌜ r ≡ padded 256 (baseOf (modulus field) root m) ⌝ }
 {
+    let t = field::constant_tables();
+    base_with(field, &t.powers, &t.logarithms, root, m)
+}
+
+fn base_with<'a>(
+    field: Field,
+    powers: &'a [u8; 255],
+    logarithms: &'a [u8; 255],
+    root: u32,
+    m: usize,
+) -> [u16; 256]
+    requires { ⌜ (usable field ≡ true) × (root < sizeOf (modulus field)) × (m < 255) × AreTables (now powers) (now logarithms) ⌝ }
+    ensures { λ r. ⌜ r ≡ padded 256 (baseOf (modulus field) root m) ⌝ }
+{
     let mut out = [0u16; 256];
     out[0] = 1;
     let mut y = Field::ONE;
     let mut i: usize = 0;
     while i < m {
-        let size = i + 1;
-        out = times_linear(field, y, &out[..size]);
-        y = field.mul(root, y);
+        let size = i + 2;
+        times_linear(field, powers, logarithms, y, &mut out[..size]);
+        y = field.mul_with(powers, logarithms, root, y);
         i += 1;
     }
     out
@@ -97,7 +120,7 @@ pub fn inverses(field: Field, coefficients: &[u16]) -> [u16; 255]
 }
 
 // a·b + c.
-fn multiply_add<'a>(
+pub fn multiply_add<'a>(
     field: Field,
     powers: &'a [u8; 255],
     logarithms: &'a [u8; 255],
@@ -120,7 +143,7 @@ pub fn quotient_terms(field: Field, a: u32, coefficients: &[u16], factors: &[u16
     quotient_terms_with(field, &t.powers, &t.logarithms, a, coefficients, factors)
 }
 
-fn quotient_terms_with<'a>(
+pub fn quotient_terms_with<'a>(
     field: Field,
     powers: &'a [u8; 255],
     logarithms: &'a [u8; 255],

@@ -4,3 +4,4 @@ pub mod Held
 pub mod Scaling
 pub mod Arms
 pub mod Beginning
+pub mod Fitting

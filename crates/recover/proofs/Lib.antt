@@ -3,3 +3,4 @@ pub mod Rebuilding
 pub mod Recovering
 pub mod Tiles
 pub mod WeightRows
+pub mod Products

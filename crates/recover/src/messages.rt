@@ -168,7 +168,7 @@ fn recover_tiles(
     fill_tiles(h, w, lanes, &weights, shares, &mut tile, out);
 }
 
-// Fills the message of the listed shares.
+// Fills the message of the listed shares: symbols of one byte go by products.
 pub fn recover_lanes(
     h: Header,
     w: usize,
@@ -181,6 +181,10 @@ pub fn recover_lanes(
     requires { ⌜ SymbolBytes h w (h .k) lanes (now shares) × (areNodes h (now nodes) ≡ true) × (setup ≡ setupOf h (now nodes)) × (length (now out) ≡ w * h .k * lanes) ⌝ }
     ensures { λ r. ⌜ MessageWritten byLane h w lanes (now (nodes .entry)) (symbolsOf w (now (shares .entry))) (now (out .exit)) ⌝ }
 {
+    if w == 1 {
+        inverse::fill_message(h, nodes, setup, lanes, shares, out);
+        return;
+    }
     let size = shares.len();
     if size <= 4096 {
         let mut tile = tiles::small_scratch();

@@ -85,7 +85,7 @@ pub fn prepare(h: Header, nodes: &[u8], shifts: &[u8]) -> Setup
 }
 
 // The terms of row r: the coefficients of the product over the points of the other rows, each over that of the base polynomial.
-fn row_terms(h: Header, rows: Basis, base: [u16; 255], r: usize) -> [u16; 255]
+pub fn row_terms(h: Header, rows: Basis, base: [u16; 255], r: usize) -> [u16; 255]
     requires { ⌜ Sound h × (rows ≡ basisOf (modulusOf h) (rowPoints h)) × (base ≡ padded 255 (baseInverses h)) × (r < h .k) ⌝ }
     ensures { λ t. ⌜ t ≡ padded 255 (rowTerms h r) ⌝ }
 {

@@ -14,7 +14,7 @@ pub struct Rows {
 }
 
 // The greatest common divisor, by Euclid's algorithm.
-fn gcd(x: u32, y: u32) -> u32
+pub fn gcd(x: u32, y: u32) -> u32
     ensures { λ r. ⌜ r ≡ gcdOf x y ⌝ }
 {
     let mut a = x;
@@ -36,7 +36,7 @@ fn negative(n: u32, x: u32) -> u32
 }
 
 // Whether n divides k·d.
-fn is_even(n: u32, k: u32) -> bool
+pub fn is_even(n: u32, k: u32) -> bool
     requires { ⌜ (0 < k) × (k ≤ n) × (n ≤ 255) ⌝ }
     ensures { λ r. ⌜ r ≡ isEven n k ⌝ }
 {

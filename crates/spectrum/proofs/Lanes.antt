@@ -17,7 +17,8 @@ use Rattle.field.proofs.Sums.{dot-below}
 use Rattle.generator.specs.declared.Header.{Header}
 use Rattle.generator.specs.Records.{modulusOf, size, Sound}
 use Rattle.generator.specs.Shifts.{negative}
-use Rattle.spectrum.specs.Spectrum.{triangle, chirpAt, unchirpedAt, unchirped, windowSums}
+use Rattle.windows.specs.Windows.{windowSums}
+use Rattle.spectrum.specs.Spectrum.{triangle, chirpAt, unchirpedAt, unchirped}
 use Rattle.spectrum.proofs.Arrays.{value-at}
 
 pub length-unchirped : (h : Header) (ws : List ℕ) → length (unchirped h ws) ≡ length ws

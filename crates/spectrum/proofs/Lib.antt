@@ -2,7 +2,6 @@
 pub mod Inversion
 pub mod Symbols
 pub mod Arrays
-pub mod Windowed
 pub mod Chirped
 pub mod Lanes
 pub mod Spectra

@@ -1,10 +1,9 @@
 -- The spectrum of a lane: its sums with the powers of the root. It is computed by way of powers whose exponents are T(x) = 0 + 1 + .. + (x − 1), since T(j + e) = T(j) + T(e) + j·e (Bluestein).
 use mathlib.Core.List.{List}
 use Prim.Native.Nat.{ℕ, zero, suc, _+_, _*_, _%_}
-use lib.ListN.{length, getD, drop}
+use lib.ListN.{length, getD}
 use Rattle.lists.specs.Rows.{from}
 use Rattle.field.specs.Fields.{mul, power}
-use Rattle.field.specs.Sums.{dot}
 use Rattle.generator.specs.declared.Header.{Header}
 use Rattle.generator.specs.Records.{modulusOf}
 use Rattle.generator.specs.Shifts.{negative}
@@ -29,7 +28,3 @@ unchirpedAt h ws j = mul (modulusOf h) (getD ws j 0) (power (modulusOf h) (h .ro
 
 unfoldable pub unchirped : Header → List ℕ → List ℕ
 unchirped h ws = from (unchirpedAt h ws) 0 (length ws)
-
--- the sums of the weights times the symbols of a row, from each of its first l places on
-unfoldable pub windowSums : ℕ → List ℕ → List ℕ → ℕ → List ℕ
-windowSums p ws row l = from (λ t. dot p ws (drop t row)) 0 l

@@ -3,16 +3,22 @@ ghost use mathlib.Core.Path.{_≡_};
 ghost use mathlib.Core.Bool.{true};
 ghost use lib.ListN.{length};
 ghost use Rattle.lists.specs.Numbers.{allBelow};
-ghost use Rattle.lists.specs.Padded.{padded};
+ghost use Rattle.lists.specs.Padded.{zeros, padded};
 ghost use Rattle.field.specs.Tables.{AreTables};
 ghost use Rattle.generator.specs.Records.{size, Sound};
 ghost use Rattle.check_sums.specs.Powers.{powersOf};
 ghost use Rattle.spectrum.specs.Spectrum.{spectrumOf};
 
 mod chirps;
-mod windows;
 
 use generator::Header;
+
+// Room for the sums.
+fn blank() -> [u16; 255]
+    ensures { λ r. ⌜ r ≡ zeros 255 ⌝ }
+{
+    [0u16; 255]
+}
 
 // The spectrum, and zeros after it, with the powers of the root and the field's tables as they are lent to it.
 pub fn spectrum_with<'a>(
@@ -30,14 +36,7 @@ pub fn spectrum_with<'a>(
     let exponents = chirps::exponents(n);
     let row = chirps::chirps(h, powers, &exponents);
     let weights = chirps::unchirp(h, tables, logarithms, powers, &exponents, lane);
-    let mut sums = windows::blank();
-    windows::window_sums(
-        field,
-        tables,
-        logarithms,
-        &weights[..n],
-        &row,
-        &mut sums[..n],
-    );
+    let mut sums = blank();
+    windows::window_sums(field, &weights[..n], &row, &mut sums[..n]);
     chirps::unchirp(h, tables, logarithms, powers, &exponents, &sums[..n])
 }

@@ -140,7 +140,7 @@ module _ (rows groups : ℕ) (ws buffer : List ℕ) (a : Grouped rows groups ws 
       }
 
   -- a byte of the table
-  table-at : (t : ℕ) → t < 64 → (g v : ℕ) → g < groups → v < 16 → getD (tableOf groups buffer) (g * 1024 + v * 64 + t) 0 ≡ subset (λ i. getD buffer ((4 * g + i) * 64 + t) 0) v
+  pub table-at : (t : ℕ) → t < 64 → (g v : ℕ) → g < groups → v < 16 → getD (tableOf groups buffer) (g * 1024 + v * 64 + t) 0 ≡ subset (λ i. getD buffer ((4 * g + i) * 64 + t) 0) v
   unfolding tableOf tableByte subset
   table-at t lane g v group slice =
       let p : ℕ = g * 1024 + v * 64 + t in
@@ -222,7 +222,7 @@ slices-within (suc f) g n v low h =
     (λ none. rw none rest)
     (λ some. rw some (omega (arith, low g), rest))
 
-subset-low : (ws : List ℕ) (d g : ℕ) → subsetAt ws d g < 16
+pub subset-low : (ws : List ℕ) (d g : ℕ) → subsetAt ws d g < 16
 unfolding subsetAt
 subset-low ws d g = omega arith
 

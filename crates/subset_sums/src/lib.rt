@@ -8,12 +8,13 @@ mod slices;
 mod table;
 
 pub use horner::output;
+pub use horner::turn;
 pub use slices::fill_spread;
 pub use slices::list_output;
 pub use table::fill_table;
 
 // A slice: one byte for each lane.
-fn slice() -> [u8; 64]
+pub fn slice() -> [u8; 64]
     ensures { λ r. ⌜ r ≡ zeros 64 ⌝ }
 {
     [0u8; 64]

@@ -1,4 +1,5 @@
 // Tiles: some lanes of a buffer as rows of their own, so that each row is worked on as a whole.
+mod gathering;
 mod rows;
 mod size;
 mod turning;

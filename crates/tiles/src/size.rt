@@ -20,6 +20,13 @@ pub fn small_scratch() -> [u8; 4096]
     [0u8; 4096]
 }
 
+// Scratch for 64 lanes of 512 rows.
+pub fn block_scratch() -> [u8; 32768]
+    ensures { λ r. ⌜ length r ≡ 32768 ⌝ }
+{
+    [0u8; 32768]
+}
+
 // The smaller of two numbers.
 fn smaller(a: usize, b: usize) -> usize
     requires { ⌜ (0 < a) × (0 < b) ⌝ }

@@ -3,6 +3,11 @@ ghost use mathlib.Core.Path.{_≡_};
 ghost use Prim.Native.Nat.{_+_, _*_, _≤_, _<_};
 ghost use lib.ListN.{length};
 ghost use Rattle.layout.specs.Layout.{byRow, byLane, laneOf, rearranged, someLanes};
+use crate::gathering;
+use crate::size;
+
+// Fewer lanes than these are turned byte by byte: scratch would take longer than the work.
+const FEW: usize = 16;
 
 // Fills one lane: column t of a table whose rows have `width` bytes.
 fn fill_lane(width: usize, t: usize, table: &[u8], lane: &mut [u8])
@@ -30,11 +35,25 @@ fn turn(rows: usize, lanes: usize, table: &[u8], out: &mut [u8])
     }
 }
 
-// The rows of a tile, from lanes that stand side by side: the lanes are the rows of a table whose columns are the tile's rows.
+// The rows of a tile, from lanes that stand side by side: few lanes, or many rows, byte by byte, as the rows of a table whose columns are the tile's rows.
 pub fn gather(rows: usize, lanes: usize, part: &[u8], tile: &mut [u8])
     requires { ⌜ (length (now part) ≡ rows * lanes) × (length (now tile) ≡ rows * lanes) ⌝ }
     ensures { λ r. ⌜ now (tile .exit) ≡ rearranged byLane byRow rows lanes (now (part .entry)) ⌝ }
 {
+    if lanes < FEW {
+        turn(lanes, rows, part, tile);
+        return;
+    }
+    if rows <= 64 {
+        let mut block = size::small_scratch();
+        gathering::gather_blocks(rows, lanes, part, &mut block, tile);
+        return;
+    }
+    if rows <= 512 {
+        let mut block = size::block_scratch();
+        gathering::gather_blocks(rows, lanes, part, &mut block, tile);
+        return;
+    }
     turn(lanes, rows, part, tile);
 }
 

@@ -3,5 +3,9 @@ pub mod Dots
 pub mod Formula
 pub mod SpectrumParts
 pub mod Points
+pub mod BaseSteps
+pub mod BaseInverses
+pub mod Monic
+pub mod RowProduct
 pub mod Reading
 pub mod Numbers

@@ -12,6 +12,7 @@ ghost use Rattle.refusals.specs.Faults.{staleFault};
 ghost use Rattle.check_sums.specs.Powers.{powersOf};
 ghost use Rattle.word_message.specs.Symbols.{coefficientsOf, symbolFrom};
 
+mod rounds;
 mod rows;
 mod sums;
 
@@ -36,7 +37,7 @@ fn symbol_from<'a>(
     let n = h.n as usize;
     let k = h.k as usize;
     let points = rows::row_points(h, powers);
-    let terms = rows::row_terms(h, &points[..k], r);
+    let terms = rows::row_terms(h, tables, logarithms, powers, &points[..k], r);
     let coefficients = sums::coefficients(n, k, spectrum);
     let sum = sums::weighted_sum(field, tables, logarithms, &terms[..k], &coefficients);
     let scale = lagrange::scale_at(field, &points[..k], r);

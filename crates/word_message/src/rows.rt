@@ -2,9 +2,13 @@
 ghost use mathlib.Core.Path.{_≡_};
 ghost use Prim.Native.Nat.{_<_};
 ghost use Rattle.lists.specs.Padded.{padded};
-ghost use Rattle.generator.specs.Records.{Sound};
+ghost use Rattle.field.specs.Tables.{AreTables};
+ghost use Rattle.generator.specs.Records.{modulusOf, size, Sound};
 ghost use Rattle.recovery.specs.Rows.{rowPoints, baseInverses, rowTerms};
 ghost use Rattle.check_sums.specs.Powers.{powersOf};
+ghost use Rattle.word_message.specs.Rows.{ratioOf};
+use crate::rounds;
+use field::Field;
 use generator::Header;
 use interpolation::polynomials;
 
@@ -26,28 +30,74 @@ pub fn row_points(h: Header, powers: &[u16]) -> [u16; 255]
     out
 }
 
-// 1 over the coefficients of the base polynomial, and zeros after them.
-fn base_inverses(h: Header) -> [u16; 255]
-    requires { ⌜ Sound h ⌝ }
+// The step from a coefficient's inverse to that of the one below it: (root^k − y) / (root^(k−1)·(1 − y)), where y is root^c for coefficient c.
+fn step_ratio<'a>(
+    h: Header,
+    tables: &'a [u8; 255],
+    logarithms: &'a [u8; 255],
+    top: u32,
+    scale: u32,
+    y: u32,
+) -> u32
+    requires { ⌜ Sound h × (top < size h) × (scale < size h) × (y < size h) × AreTables (now tables) (now logarithms) ⌝ }
+    ensures { λ r. ⌜ (r ≡ ratioOf (modulusOf h) top scale y) × (r < size h) ⌝ }
+{
+    let field = h.field;
+    let below = field.mul_with(tables, logarithms, scale, field.sub(Field::ONE, y));
+    let over = field.inverse_with(tables, logarithms, below);
+    field.mul_with(tables, logarithms, field.sub(top, y), over)
+}
+
+// 1 over the coefficients of the base polynomial, from the highest down, and zeros after them.
+fn base_inverses<'a>(
+    h: Header,
+    tables: &'a [u8; 255],
+    logarithms: &'a [u8; 255],
+    powers: &[u16],
+) -> [u16; 255]
+    requires { ⌜ Sound h × (now powers ≡ padded 255 (powersOf h)) × AreTables (now tables) (now logarithms) ⌝ }
     ensures { λ r. ⌜ r ≡ padded 255 (baseInverses h) ⌝ }
 {
     let field = h.field;
-    let root = h.root;
-    let k = h.k as usize;
-    let base = polynomials::base(field, root, k - 1);
-    polynomials::inverses(field, &base[..k])
+    let top = powers[h.k as usize % h.n as usize] as u32;
+    let mut out = [0u16; 255];
+    let mut c = h.k as usize - 1;
+    let scale = powers[c] as u32;
+    let mut value = Field::ONE;
+    out[c] = value as u16;
+    while 0 < c {
+        let ratio = step_ratio(h, tables, logarithms, top, scale, powers[c] as u32);
+        value = field.mul_with(tables, logarithms, ratio, value);
+        c -= 1;
+        out[c] = value as u16;
+    }
+    out
 }
 
 // The terms of row r: the coefficients of the product over the points of the other rows, each over that of the base polynomial; and zeros after them.
-pub fn row_terms(h: Header, points: &[u16], r: usize) -> [u16; 255]
-    requires { ⌜ Sound h × (now points ≡ rowPoints h) × (r < h .k) ⌝ }
+pub fn row_terms<'a>(
+    h: Header,
+    tables: &'a [u8; 255],
+    logarithms: &'a [u8; 255],
+    powers: &[u16],
+    points: &[u16],
+    r: usize,
+) -> [u16; 255]
+    requires { ⌜ Sound h × (now powers ≡ padded 255 (powersOf h)) × (now points ≡ rowPoints h) × (r < h .k) × AreTables (now tables) (now logarithms) ⌝ }
     ensures { λ t. ⌜ t ≡ padded 255 (rowTerms h r) ⌝ }
 {
     let field = h.field;
     let k = h.k as usize;
     let first: usize = 1;
     let end = k + 1;
-    let product = polynomials::product(field, points);
-    let base = base_inverses(h);
-    polynomials::quotient_terms(field, points[r] as u32, &product[first..end], &base[..k])
+    let product = rounds::row_product(h, powers, points);
+    let base = base_inverses(h, tables, logarithms, powers);
+    polynomials::quotient_terms_with(
+        field,
+        tables,
+        logarithms,
+        points[r] as u32,
+        &product[first..end],
+        &base[..k],
+    )
 }

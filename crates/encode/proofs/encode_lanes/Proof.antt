@@ -1,24 +1,26 @@
--- `encode_lanes` meets its contract: one lane is a row, others go through tiles.
-use mathlib.Core.Path.{sym, _∙_}
-use Prim.Native.Nat.{_<_}
+-- `encode_lanes` meets its contract: one lane by itself, others through tiles.
+use mathlib.Core.Path.{sym, ap, _∙_}
+use Prim.Native.Nat.{ℕ}
 use native.Mathlib.Nat.{one-mul}
 use borrow.Author.Needs.{needs}
-use Rattle.generator.proofs.Widths.{width-some}
-use Rattle.encode.proofs.Shares.{one-tile, one-lane-encoded, byte-message, byte-shares}
+use Rattle.layout.specs.Layout.{byLane}
+use Rattle.layout.specs.Width.{symbolsOf, bytesOf}
+use Rattle.blocks.specs.Blocks.{sharesOf}
+use Rattle.encode.proofs.Shares.{byte-message, byte-shares}
 use Rattle.encode.proofs.encode_lanes.Statement.{statement}
 use Rattle.encode.proofs.encode_lanes.Tie as tie
 
-some : (st : tie.Start) → 0 < st .args .w
-some st = rw (st .pre .1 .wide) (width-some (st .args .h))
-
-fill-shares-requires : tie.Need-fill-shares-requires
-fill-shares-requires c κs = let st = c .before .before .before .before .before .before in (st .pre .0, one-tile _ _ _ _ (c .before .if1 .taken) (st .pre .1) (some st), st .pre .2)
+fill-lane-requires : tie.Need-fill-lane-requires
+fill-lane-requires c κs =
+    let s = c .before .before .before .before .before .before in
+    let one = c .before .if1 .taken in
+    (s .pre .0, rw one at (s .pre .1), rw one at (s .pre .2))
 
 same-length : tie.Need-same-length
 same-length c = search needs
 
 returns : tie.Need-returns
-returns c = let st = c .before .before .before .before .before .before .before .before .before in c .before .before .fill-shares .ensures ∙ one-lane-encoded _ _ _ _ (c .before .before .before .before .if1 .taken) (st .pre .1) (some st)
+returns c = let a = c .before .before .before .before .before .before .before .before .before .args in c .before .before .fill-lane .ensures ∙ ap (λ (l : ℕ). bytesOf (a .w) (sharesOf byLane (a .h) l (symbolsOf (a .w) (a .message .now)))) (sym (c .before .before .before .before .if1 .taken))
 
 encode-bytes-requires : tie.Need-encode-bytes-requires
 encode-bytes-requires c κs =
@@ -43,4 +45,4 @@ returns-3 c = search needs
 
 pub encode-lanes-spec : {M : Type 1} → statement M
 encode-lanes-spec =
-    tie.close (tie.spec fill-shares-requires same-length returns encode-bytes-requires same-length-2 returns-2 encode-rows-requires same-length-3 returns-3)
+    tie.close (tie.spec fill-lane-requires same-length returns encode-bytes-requires same-length-2 returns-2 encode-rows-requires same-length-3 returns-3)

@@ -13,7 +13,8 @@ use Rattle.lists.proofs.Padding.{take-padded}
 use Rattle.lists.proofs.Rows.{length-from}
 use Rattle.lists.proofs.Fill.{length-zeros}
 use Rattle.generator.specs.Records.{modulusOf}
-use Rattle.spectrum.specs.Spectrum.{chirpAt, unchirped, windowSums}
+use Rattle.windows.specs.Windows.{windowSums}
+use Rattle.spectrum.specs.Spectrum.{chirpAt, unchirped}
 use Rattle.check_sums.proofs.Prefix.{whole-fits, whole-is, length-whole}
 use Rattle.spectrum.proofs.Lanes.{length-unchirped, length-windows, few-zeros, chirps-below, unchirped-below, windows-below}
 use Rattle.spectrum.proofs.Chirped.{spectrum-is}
@@ -80,7 +81,20 @@ window-sums-requires c κs =
     let st = c .before .before .before .before .before .before .before .before .before .before .before .before in
     let weights = c .before .before .before .before in
     let row = c .before .before .before .before .before .before in
-    (st .pre .0 .usable-field, rw (weights-are weights) (unchirped-below _ (st .pre .0) _ (st .pre .3)), rw (row .chirps .ensures) (chirps-below _ (st .pre .0)), rw (weights-size weights, room-size (c .before .before .before), row .chirps .ensures, length-from) (omega (arith, few (c .before .before .before .before .before .before .before .before .before))), rw (c .before .before .before .blank .ensures) (few-zeros (st .args .h .n)), st .pre .4)
+    let few = few (c .before .before .before .before .before .before .before .before .before) in
+    let long = weights-size weights in
+    let room = room-size (c .before .before .before) in
+    let wide = ap length (row .chirps .ensures) ∙ length-from (chirpAt (st .args .h)) 0 510 in (
+      st .pre .0 .usable-field,
+      record {
+        few = omega arith;
+        places = omega arith;
+        room = omega arith;
+        short = omega arith;
+        weights = rw (weights-are weights) (unchirped-below _ (st .pre .0) _ (st .pre .3));
+        symbols = rw (row .chirps .ensures) (chirps-below _ (st .pre .0));
+      },
+    )
 
 array-share-prefix-sums : tie.Need-array-share-prefix-sums
 array-share-prefix-sums c = whole-fits _ _ _ _ (c .before .before .window-sums .ensures ∙ sums-of (c .before .before)) (length-windows _ _ _ _)

@@ -19,7 +19,8 @@ use Rattle.interpolation.proofs.Values.{scaleAt-below}
 use Rattle.recovery.specs.Rows.{rowPoints, rowTerms}
 use Rattle.recovery.proofs.Parts.{Symbols, row-symbols, term-symbols}
 use Rattle.word_message.specs.Symbols.{coefficientsOf, symbolFrom}
-use Rattle.word_message.proofs.Reading.{length-coefficients, coefficients-below, dot-padded}
+use Rattle.interpolation.proofs.PaddedSums.{dot-padded}
+use Rattle.word_message.proofs.Reading.{length-coefficients, coefficients-below}
 use Rattle.word_message.proofs.symbol_from.Statement.{statement}
 use Rattle.word_message.proofs.symbol_from.Tie as tie
 
@@ -92,7 +93,7 @@ slice-aggregate-row-terms c = let q = points (c .before) in rw (q .0) (sym (q .1
 row-terms-requires : tie.Need-row-terms-requires
 row-terms-requires c κs =
     let st = c .before .before .before .before .before .before in
-    (st .pre .0, points (c .before) .0, st .pre .4)
+    (st .pre .0, st .pre .1, points (c .before) .0, st .pre .4, st .pre .5)
 
 coefficients-requires : tie.Need-coefficients-requires
 coefficients-requires c κs = search needs

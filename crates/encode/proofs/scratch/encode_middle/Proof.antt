@@ -1,6 +1,6 @@
 -- `encode_middle` meets its contract: its scratch is long enough.
 use Prim.Native.Nat.{ℕ, _+_, _*_, _/_, _≤_}
-use Rattle.encode.proofs.Words.{groups-few, lists-fit}
+use Rattle.products.proofs.Fitting.{groups-few, lists-fit}
 use native.Mathlib.Omega.{arith}
 use borrow.Author.Needs.{needs}
 use Rattle.encode.proofs.scratch.encode_middle.Statement.{statement}

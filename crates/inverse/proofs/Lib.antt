@@ -1,0 +1,3 @@
+-- The inverse of the encoding at listed nodes.
+pub mod Columns
+pub mod Rows

@@ -1,0 +1,105 @@
+-- `fill_terms` meets its contract. The loop's invariant: the terms of the rows below r are written, and the others are to come.
+use mathlib.Core.Path.{_≡_, refl, sym, ap, _∙_}
+use mathlib.Core.Bool.{true}
+use Prim.Native.Nat.{ℕ, _+_, _-_, _*_, _^_, _≤_, _<_}
+use native.Mathlib.Nat.{sub-zero, zero-mul, mul-one, mul-le-mul, le-refl}
+use native.Mathlib.Omega.{arith}
+use lib.ListN.{length, take}
+use Rattle.lists.specs.Rows.{rowsFrom}
+use Rattle.lists.specs.Numbers.{allBelow}
+use Rattle.lists.proofs.Padding.{take-padded}
+use Rattle.lists.proofs.Rows.{rows-next, rows-end, row-after, row-inside, part-size, part-length}
+use Rattle.lists.proofs.Fill.{Fills, fills-start, fills-part, fills-all}
+use Rattle.layout.proofs.Widths.{bytes-one}
+use Rattle.generator.specs.Records.{size}
+use Rattle.recovery.specs.Rows.{rowTerms}
+use Rattle.recovery.proofs.Parts.{Symbols, term-symbols}
+use Rattle.inverse.proofs.Columns.{below-wider}
+use Rattle.inverse.proofs.fill_terms.Statement.{statement}
+use Rattle.inverse.proofs.fill_terms.Tie as tie
+
+abbrev Inv-loop : tie.InvT-loop
+Inv-loop h rows base out₀ k r₀ out r = (r ≤ h .k) × Fills out₀ out (r * h .k) (rowsFrom (rowTerms h) r (h .k - r)) (rowsFrom (rowTerms h) 0 (h .k))
+
+abbrev μ-loop : tie.MeasureT-loop
+μ-loop h rows base out₀ k r₀ out r = h .k - r
+
+-- a row lies within the buffer
+row-in : (c : tie.In-loop Inv-loop μ-loop) → let a = c .before .before .before .before .args in c .before .loop .r * a .h .k + a .h .k ≤ length (a .out .now)
+row-in c = let s = c .before .before .before .before in omega (arith, s .pre .4, row-inside (s .args .h .k) (c .before .loop .r) (s .args .h .k) (c .loop-test .taken))
+
+-- the row's terms, k symbols
+terms : (c : tie.In-loop Inv-loop μ-loop) → let a = c .before .before .before .before .args in Symbols (a .h .field) (a .h .k) (rowTerms (a .h) (c .before .loop .r))
+terms c = let s = c .before .before .before .before in term-symbols (s .args .h) (s .pre .0) (omega (arith, c .before .before .struct-known .given)) (c .before .loop .r) (c .loop-test .taken)
+
+-- they are what is lent
+taken : (c : tie.After-row-terms Inv-loop μ-loop) → take (c .before .before .before .before .before .args .h .k) (c .row-terms .result) ≡ rowTerms (c .before .before .before .before .before .args .h) (c .before .before .loop .r)
+taken c = rw (c .row-terms .ensures) (take-padded 255 _ _ (terms (c .before) .size))
+
+cast-k : tie.Need-cast-k Inv-loop μ-loop
+cast-k c = omega arith
+
+loop-holds : tie.Need-loop-holds Inv-loop μ-loop
+loop-holds c = (omega arith, rw (sub-zero, zero-mul) (fills-start _ _))
+
+row-terms-requires : tie.Need-row-terms-requires Inv-loop μ-loop
+row-terms-requires c κs = let s = c .before .before .before .before in (s .pre .0, s .pre .2, s .pre .3, c .loop-test .taken)
+
+mul-start : tie.Need-mul-start Inv-loop μ-loop
+mul-start c = omega (arith, row-in (c .before))
+
+add-end : tie.Need-add-end Inv-loop μ-loop
+add-end c = omega (arith, row-in (c .before))
+
+array-share-prefix-row : tie.Need-array-share-prefix-row Inv-loop μ-loop
+array-share-prefix-row c = omega (arith, c .before .before .before .struct-known .given)
+
+slice-aggregate-write-symbols : tie.Need-slice-aggregate-write-symbols Inv-loop μ-loop
+slice-aggregate-write-symbols c = rw (taken (c .before)) (sym (terms (c .before .before) .size))
+
+sub-write-symbols : tie.Need-sub-write-symbols Inv-loop μ-loop
+sub-write-symbols c = omega arith
+
+part-write-symbols-start : tie.Need-part-write-symbols-start Inv-loop μ-loop
+part-write-symbols-start c = omega arith
+
+part-write-symbols-end : tie.Need-part-write-symbols-end Inv-loop μ-loop
+part-write-symbols-end c = omega (arith, row-in (c .before .before), c .before .before .before .loop .inv .1 .long)
+
+write-symbols-requires : tie.Need-write-symbols-requires Inv-loop μ-loop
+write-symbols-requires c κs =
+    let at = c .before .before .before in
+    let s = at .before .before .before .before in
+    let k = s .args .h .k in
+    let l = at .before .loop in
+    rw (taken (c .before .before))
+    (omega arith, omega arith, below-wider (size (s .args .h)) 256 (rowTerms (s .args .h) (l .r)) (s .pre .1 .one-byte) (terms at .are .below), part-length (l .r * k) k (l .out) (omega (arith, l .inv .1 .long, row-in at)) ∙ sym (terms at .size) ∙ sym (mul-one _))
+
+add-r : tie.Need-add-r Inv-loop μ-loop
+add-r c = omega arith
+
+loop-less : tie.Need-loop-less Inv-loop μ-loop
+loop-less c = omega arith
+
+loop-again : tie.Need-loop-again Inv-loop μ-loop
+loop-again c =
+    let at = c .before .before .before .before .before .before in
+    let s = at .before .before .before .before in
+    let h = s .args .h in
+    let l = at .before .loop in (
+      omega arith,
+      rw (row-after, part-size, c .before .before .write-symbols .ensures, taken (c .before .before .before .before .before), bytes-one (rowTerms h (l .r)))
+          (fills-part (rowTerms h (l .r)) (h .k) (rw (rows-next _ _ _ (at .loop-test .taken)) at (l .inv .1)) (terms at .size) (row-in at)),
+    )
+
+same-length : tie.Need-same-length Inv-loop μ-loop
+same-length c = c .before .loop .inv .1 .long
+
+returns : tie.Need-returns Inv-loop μ-loop
+returns c =
+    let s = c .before .before .before .before in
+    fills-all (rw (rows-end _ _ _ (c .loop-test .left)) at (c .before .loop .inv .1)) (rw (s .pre .4) (mul-le-mul (c .loop-test .left) (le-refl _)))
+
+pub fill-terms-spec : {M : Type 1} → statement M
+fill-terms-spec =
+    tie.close (tie.spec Inv-loop μ-loop cast-k loop-holds row-terms-requires mul-start add-end array-share-prefix-row slice-aggregate-write-symbols sub-write-symbols part-write-symbols-start part-write-symbols-end write-symbols-requires add-r loop-less loop-again same-length returns)

@@ -1,0 +1,2 @@
+-- The inverse of the encoding at listed nodes.
+pub mod Inverse

@@ -1,0 +1,2 @@
+-- Products of a matrix and the lanes of a block.
+pub mod Lanes

@@ -1,0 +1,2 @@
+-- Tiles: what is put beside what.
+pub mod Beside

@@ -1,0 +1,24 @@
+-- `place` meets its contract.
+use native.Mathlib.Omega.{arith}
+use borrow.Author.Needs.{needs}
+use mathlib.Core.Path.{refl}
+use Rattle.windows.specs.Tables.{placeOf}
+use Rattle.windows.proofs.bytes.place.Statement.{statement}
+use Rattle.windows.proofs.bytes.place.Tie as tie
+
+mul-result : tie.Need-mul-result
+mul-result c = search needs
+
+mul-result-2 : tie.Need-mul-result-2
+mul-result-2 c = search needs
+
+add-result : tie.Need-add-result
+add-result c = search needs
+
+returns : tie.Need-returns
+unfolding placeOf
+returns c = refl
+
+pub place-spec : {M : Type 1} → statement M
+place-spec =
+    tie.close (tie.spec mul-result mul-result-2 add-result returns)
