@@ -28,7 +28,15 @@ pub fn encode(record: &[u8], lanes: u32, message: &[u8], shares: &mut [u8]) -> R
 /// `shares` has n·lanes symbols. The lane must encode a message, else the update meets [`Error::Word`], and this message must
 /// hold `old` there, else it meets [`Error::Stale`]; afterwards the lane encodes the message with `new` in its place. Bytes of
 /// other lanes neither matter nor change. A number that is no symbol of the field meets [`Error::Symbol`].
-pub fn update(record: &[u8], lanes: u32, symbol: u32, lane: u32, old: u32, new: u32, shares: &mut [u8]) -> Result<u32, Error> {
+pub fn update(
+    record: &[u8],
+    lanes: u32,
+    symbol: u32,
+    lane: u32,
+    old: u32,
+    new: u32,
+    shares: &mut [u8],
+) -> Result<u32, Error> {
     let mut altered = 0;
     let number = unsafe {
         sys::balanced_update(

@@ -1,6 +1,7 @@
 // Reads calls in words, one a line ("encode 1 7 3 6 3 lanes 1 message 1 0 2 room 6"), and writes each line with the call's answer, or with
 // what makes it no call. A list has at most 64 numbers. An empty line or a comment is written as it is.
 use balanced::Roster;
+use lane_cases::rosters;
 use libc::STDIN_FILENO;
 use test_tools::not_read;
 use test_tools::text;
@@ -8,32 +9,18 @@ use test_words::is_call;
 use test_words::is_comment;
 use test_words::line_end;
 
-mod belonging;
-mod correcting;
-mod counting;
-mod encoding;
-mod finding;
-mod mending;
-mod outcome;
-mod plans;
-mod rearranging;
-mod rebuilding;
-mod recovering;
-mod rosters;
-mod updating;
-
 // The call by its name.
 fn call(line: &[u8]) {
     if is_call(line, b"plan") {
-        plans::plan(line);
+        lane_cases::plan(line);
         return;
     }
     if is_call(line, b"encode") {
-        encoding::encode(line);
+        block_cases::encode(line);
         return;
     }
     if is_call(line, b"update") {
-        updating::update(line);
+        block_cases::update(line);
         return;
     }
     call_on_nodes(line);
@@ -42,15 +29,15 @@ fn call(line: &[u8]) {
 // The calls on listed nodes, and Belongs.
 fn call_on_nodes(line: &[u8]) {
     if is_call(line, b"recover") {
-        recovering::recover(line);
+        block_cases::recover(line);
         return;
     }
     if is_call(line, b"rebuild") {
-        rebuilding::rebuild(line);
+        block_cases::rebuild(line);
         return;
     }
     if is_call(line, b"belongs") {
-        belonging::belongs(line);
+        block_cases::belongs(line);
         return;
     }
     call_on_lanes(line);
@@ -59,11 +46,11 @@ fn call_on_nodes(line: &[u8]) {
 // The calls on single lanes.
 fn call_on_lanes(line: &[u8]) {
     if is_call(line, b"find") {
-        finding::find(line);
+        lane_cases::find(line);
         return;
     }
     if is_call(line, b"mends") {
-        mending::mend(line);
+        lane_cases::mend(line);
         return;
     }
     call_on_shares(line);
@@ -72,15 +59,15 @@ fn call_on_lanes(line: &[u8]) {
 // Setting right, and the rearrangements.
 fn call_on_shares(line: &[u8]) {
     if is_call(line, b"correct") {
-        correcting::correct(line);
+        block_cases::correct(line);
         return;
     }
     if is_call(line, b"to_lanes") {
-        rearranging::rearrange(line, true);
+        block_cases::rearrange(line, true);
         return;
     }
     if is_call(line, b"to_nodes") {
-        rearranging::rearrange(line, false);
+        block_cases::rearrange(line, false);
         return;
     }
     call_on_records(line);
@@ -89,7 +76,7 @@ fn call_on_shares(line: &[u8]) {
 // The calls on a record alone.
 fn call_on_records(line: &[u8]) {
     if is_call(line, b"weights") {
-        counting::weights(line);
+        lane_cases::weights(line);
         return;
     }
     not_read(b"call", test_words::CALL);

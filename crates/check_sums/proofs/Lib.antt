@@ -5,4 +5,7 @@ pub mod Shares
 pub mod Prefix
 pub mod OneLane
 pub mod Marking
+pub mod CheckRows
 pub mod Checks
+pub mod FirstNodes
+pub mod Basis

@@ -79,7 +79,7 @@ module _ (l : ℕ) (f : ℕ → ℕ → ℕ) where
   length-zero-marks m = length-from (λ t. mark (allZero m (λ i. f i t))) 0 l
 
 -- equal sums
-all-zero-ext : (m : ℕ) (f g : ℕ → ℕ) → ((i : ℕ) → i < m → f i ≡ g i) → allZero m f ≡ allZero m g
+pub all-zero-ext : (m : ℕ) (f g : ℕ → ℕ) → ((i : ℕ) → i < m → f i ≡ g i) → allZero m f ≡ allZero m g
 unfolding allZero
 all-zero-ext zero f g same = refl
 all-zero-ext (suc m) f g same = ap₂ (λ (x : ℕ) (b : Bool). eqb x 0 && b) (same m (omega arith)) (all-zero-ext m f g (λ i low. same i (omega arith)))
@@ -89,10 +89,10 @@ unfolding zeroMarks
 zero-marks-ext m l f g same = from-ext _ _ 0 l (λ t low high. ap mark (all-zero-ext m (λ i. f i t) (λ i. g i t) (λ i row. same i t row (omega arith))))
 
 -- the check sums from 1 on
-checks-zero : (m : ℕ) (h : Header) (ws : List ℕ) → allZero m (λ i. checkFrom h (i + 1) 0 ws) ≡ checksFrom m h ws
+pub sums-checks : (m : ℕ) (h : Header) (ws : List ℕ) → allZero m (λ i. checkFrom h (i + 1) 0 ws) ≡ checksFrom m h ws
 unfolding allZero checksFrom
-checks-zero zero h ws = refl
-checks-zero (suc m) h ws = rw add-one (ap (λ (b : Bool). eqb (checkFrom h (suc m) 0 ws) 0 && b) (checks-zero m h ws))
+sums-checks zero h ws = refl
+sums-checks (suc m) h ws = rw add-one (ap (λ (b : Bool). eqb (checkFrom h (suc m) 0 ws) 0 && b) (sums-checks m h ws))
 
 module _ (y : Arrangement) (h : Header) (l : ℕ) (s : List ℕ) where
   -- check sum i + 1 of lane t
@@ -102,7 +102,7 @@ module _ (y : Arrangement) (h : Header) (l : ℕ) (s : List ℕ) where
   -- after the last
   pub zero-words : zeroMarks (h .n - h .k) l checkIn ≡ wordMarks y h l s
   unfolding zeroMarks wordMarks isWord
-  zero-words = from-ext _ _ 0 l (λ t low high. ap mark (checks-zero (h .n - h .k) h (laneOf y (h .n) l t s)))
+  zero-words = from-ext _ _ 0 l (λ t low high. ap mark (sums-checks (h .n - h .k) h (laneOf y (h .n) l t s)))
 
   pub length-marks : length (wordMarks y h l s) ≡ l
   unfolding wordMarks

@@ -27,6 +27,10 @@ next-factor j e n =
     let more : j * e + e ≡ (j + 1) * e = sym (add-mul j 1 e ∙ rw (one-mul e)) in
     mod-add-mod (j * e) n (e % n) ∙ ap (λ (x : ℕ). x % n) (add-comm (j * e) (e % n)) ∙ mod-add-mod e n (j * e) ∙ ap (λ (x : ℕ). x % n) (add-comm e (j * e) ∙ more)
 
+pub length-powers : (h : Header) → length (powersOf h) ≡ h .n
+unfolding powersOf
+length-powers h = length-from (power (modulusOf h) (h .root)) 0 (h .n)
+
 module _ (h : Header) (i : ℕ) (low : i < h .n) where
   in-powers : i < length (powersOf h)
   unfolding powersOf

@@ -4,31 +4,13 @@ ghost use Prim.Native.Nat.{_+_, _-_, _*_, _≤_, _<_};
 ghost use lib.ListN.{length};
 ghost use Rattle.lists.specs.Padded.{zeros};
 ghost use Rattle.layout.specs.Layout.{byRow, byLane, held};
-ghost use Rattle.generator.specs.Records.{modulusOf, Sound};
-ghost use Rattle.products.specs.Products.{OneByte, Codes, groupsOf};
+ghost use Rattle.products.specs.Products.{OneByte, groupsOf};
 ghost use Rattle.refusals.specs.Accepted.{SymbolRows};
 ghost use Rattle.check_sums.specs.Marks.{wordMarks, zeroMarks};
 ghost use Rattle.check_sums.specs.Checks.{CheckLists, SumRoom};
+use crate::check_rows::list_checks;
 use crate::marks::add_marks;
-use crate::powers;
 use generator::Header;
-
-// The lists of the weights of all checks.
-fn list_checks(h: Header, codes: &[u64], lists: &mut [u16], counts: &mut [u8])
-    requires { ⌜ Sound h × OneByte (h .field) × Codes (modulusOf h) (now codes) × ((h .n - h .k) * (8 * groupsOf (h .n)) ≤ length (now lists)) × ((h .n - h .k) * 8 ≤ length (now counts)) ⌝ }
-    ensures { λ r. ⌜ CheckLists h (now (lists .exit)) (now (counts .exit)) ⌝ }
-{
-    let field = h.field;
-    let n = h.n as usize;
-    let checks = (h.n - h.k) as usize;
-    let table = powers::powers(h);
-    let mut e: usize = 0;
-    while e < checks {
-        let weights = powers::factors(h, &table, e + 1);
-        products::prepare(field, codes, &weights[..n], e, lists, counts);
-        e += 1;
-    }
-}
 
 // Marks of `count` lanes from the rows of their sums: 1 where one is not 0.
 fn mark_sums(checks: usize, count: usize, sums: &[u8], marks: &mut [u8])
@@ -138,7 +120,7 @@ pub fn mark_with(
 {
     let field = h.field;
     products::fill_codes(field, codes);
-    list_checks(h, codes, lists, counts);
+    list_checks(h, lanes, codes, lists, counts);
     mark_parts(
         h,
         lists,

@@ -2,40 +2,17 @@
 // of high bytes and those of low bytes are summed by themselves, and there is one remainder for each lane.
 ghost use mathlib.Core.Path.{_≡_};
 ghost use mathlib.Core.Bool.{true};
-ghost use Prim.Native.Nat.{_+_, _*_, _≤_, _<_};
-ghost use lib.ListN.{length, getD};
+ghost use Prim.Native.Nat.{_*_, _≤_, _<_};
+ghost use lib.ListN.{length};
 ghost use Rattle.lists.specs.Numbers.{allBelow};
 ghost use Rattle.lists.specs.Padded.{zeros};
-ghost use Rattle.kernel.specs.Lanes.{lanewise};
 ghost use Rattle.layout.specs.Layout.{byRow};
 ghost use Rattle.layout.specs.Tiles.{tileSymbols, tileBytes};
 ghost use Rattle.combine.specs.Combined.{combined};
 ghost use Rattle.combine.specs.ByteSums.{byteSums, joinedSums, WideRows};
 use kernel::wide;
 
-// Two bytes, each times its weight.
-fn pair_product(a: u16, x: u8, b: u16, y: u8) -> u32
-    ensures { λ r. ⌜ (r ≡ x * a + y * b) × (r ≤ 33422850) ⌝ }
-{
-    x as u32 * a as u32 + y as u32 * b as u32
-}
-
-// Adds each byte of two rows times its weight. The two in one pass take less time than one after the other.
-fn add_pair(a: u16, b: u16, first: &[u8], second: &[u8], sums: &mut [u32])
-    requires { ⌜ (length (now first) ≡ length (now sums)) × (length (now second) ≡ length (now sums)) × (allBelow 4261544446 (now sums) ≡ true) ⌝ }
-    ensures { λ r. ⌜ now (sums .exit) ≡ lanewise (λ t y. y + getD (now (second .entry)) t 0 * b) (lanewise (λ t y. y + getD (now (first .entry)) t 0 * a) (now (sums .entry))) ⌝ }
-{
-    if a == 0 && b == 0 {
-        return;
-    }
-    let mut t = 0;
-    while t < sums.len() {
-        sums[t] = sums[t] + pair_product(a, first[t], b, second[t]);
-        t += 1;
-    }
-}
-
-// Adds the rows of bytes `first`, `first` + 2, .. , each times its weight, two at a time.
+// Adds the rows of bytes `first`, `first` + 2, .. , each times its weight.
 fn sum_rows(
     weights: &[u16],
     count: usize,
@@ -51,20 +28,8 @@ fn sum_rows(
     while i < count {
         let start = (i * 2 + first) * lanes;
         let end = start + lanes;
-        if i + 1 == count {
-            wide::add_weighted(weights[i], &rows[start..end], sums);
-            return;
-        }
-        let next = end + lanes;
-        let last = next + lanes;
-        add_pair(
-            weights[i],
-            weights[i + 1],
-            &rows[start..end],
-            &rows[next..last],
-            sums,
-        );
-        i += 2;
+        wide::add_weighted(weights[i], &rows[start..end], sums);
+        i += 1;
     }
 }
 

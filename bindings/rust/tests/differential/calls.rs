@@ -183,7 +183,10 @@ fn every_list_of_nodes() {
             random.shuffle(&mut nodes);
             assert_eq!(compare::recover(&record, 2, &nodes, &shares, &random.bytes(message_len)), 0);
             for target in 0..n as u32 {
-                assert_eq!(compare::rebuild(&record, 2, &nodes, &shares, target, &random.bytes(share_len)), 0);
+                assert_eq!(
+                    compare::rebuild(&record, 2, &nodes, &shares, target, &random.bytes(share_len)),
+                    0
+                );
                 targets += 1;
             }
             lists += 1;

@@ -105,7 +105,14 @@ impl Input {
             }
             10 => {
                 // also numbers that are symbols if they are cut to one byte or two
-                let bad = *random.pick(&[shape.size, 255, 65_535, self.old.wrapping_add(256), self.new.wrapping_add(65_536), u32::MAX]);
+                let bad = *random.pick(&[
+                    shape.size,
+                    255,
+                    65_535,
+                    self.old.wrapping_add(256),
+                    self.new.wrapping_add(65_536),
+                    u32::MAX,
+                ]);
                 match random.below(3) {
                     0 => self.old = bad,
                     1 => self.new = bad,

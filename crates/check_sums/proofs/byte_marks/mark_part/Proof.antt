@@ -9,7 +9,6 @@ use lib.Seq.{length-take-le}
 use Rattle.layout.specs.Layout.{byRow}
 use Rattle.layout.proofs.Buffers.{length-buffer}
 use Rattle.products.proofs.Beginning.{begun-made}
-use Rattle.check_sums.specs.Checks.{checkRow}
 use Rattle.check_sums.proofs.Prefix.{whole-fits, whole-is, length-whole}
 use Rattle.check_sums.proofs.Checks.{sums-words}
 use Rattle.check_sums.proofs.byte_marks.mark_part.Statement.{statement}
@@ -47,13 +46,13 @@ fill-rows-requires c κs =
     (s .pre .0, few s .0, begun-made (few s .1) (lists .lists-room) (lists .counts-room) (lists .begun), s .pre .2 .products, s .pre .4 .long, length-take-le _ _ (sums-in s))
 
 slice-reshare-prefix-mark-sums : tie.Need-slice-reshare-prefix-mark-sums
-slice-reshare-prefix-mark-sums c = let s = c .before .before .before .before .before .before .before .before .before .before .before .before .before .before .before .before .before .before .before .before .before .before .before in whole-fits _ _ _ _ (c .before .before .before .before .before .before .before .before .fill-rows .ensures (checkRow (s .args .h)) (s .pre .1 .begun)) (length-buffer byRow _ _ _)
+slice-reshare-prefix-mark-sums c = let s = c .before .before .before .before .before .before .before .before .before .before .before .before .before .before .before .before .before .before .before .before .before .before .before in whole-fits _ _ _ _ (c .before .before .before .before .before .before .before .before .fill-rows .ensures (s .pre .1 .weights) (s .pre .1 .begun)) (length-buffer byRow _ _ _)
 
 slice-aggregate-mark-sums : tie.Need-slice-aggregate-mark-sums
-slice-aggregate-mark-sums c = let s = c .before .before .before .before .before .before .before .before .before .before .before .before .before .before .before .before .before .before .before .before .before .before .before .before in sym (length-whole _ _ _ _ (c .before .before .before .before .before .before .before .before .before .fill-rows .ensures (checkRow (s .args .h)) (s .pre .1 .begun)) (length-buffer byRow _ _ _))
+slice-aggregate-mark-sums c = let s = c .before .before .before .before .before .before .before .before .before .before .before .before .before .before .before .before .before .before .before .before .before .before .before .before in sym (length-whole _ _ _ _ (c .before .before .before .before .before .before .before .before .before .fill-rows .ensures (s .pre .1 .weights) (s .pre .1 .begun)) (length-buffer byRow _ _ _))
 
 mark-sums-requires : tie.Need-mark-sums-requires
-mark-sums-requires c κs = let s = c .before .before .before .before .before .before .before .before .before .before .before .before .before .before .before .before .before .before .before .before .before .before .before .before .before in (length-whole _ _ _ _ (c .before .before .before .before .before .before .before .before .before .before .fill-rows .ensures (checkRow (s .args .h)) (s .pre .1 .begun)) (length-buffer byRow _ _ _), s .pre .5)
+mark-sums-requires c κs = let s = c .before .before .before .before .before .before .before .before .before .before .before .before .before .before .before .before .before .before .before .before .before .before .before .before .before in (length-whole _ _ _ _ (c .before .before .before .before .before .before .before .before .before .before .fill-rows .ensures (s .pre .1 .weights) (s .pre .1 .begun)) (length-buffer byRow _ _ _), s .pre .5)
 
 same-length : tie.Need-same-length
 same-length c = search needs
@@ -74,7 +73,7 @@ returns : tie.Need-returns
 returns c =
     let s = c .before .before .before .before .before .before .before .before .before .before .before .before .before .before .before .before .before .before .before .before .before .before .before .before .before .before .before .before in
     let a = s .args in
-    c .before .before .mark-sums .ensures ∙ sums-words (a .h) (a .count) (a .part .now) _ (whole-is _ _ _ _ (c .before .before .before .before .before .before .before .before .before .before .before .before .before .fill-rows .ensures (checkRow (s .args .h)) (s .pre .1 .begun)) (length-buffer byRow _ _ _))
+    c .before .before .mark-sums .ensures ∙ sums-words (s .pre .1 .weights) (s .pre .1 .tell) (s .pre .4) _ (whole-is _ _ _ _ (c .before .before .before .before .before .before .before .before .before .before .before .before .before .fill-rows .ensures (s .pre .1 .weights) (s .pre .1 .begun)) (length-buffer byRow _ _ _))
 
 pub mark-part-spec : {M : Type 1} → statement M
 mark-part-spec =

@@ -1,4 +1,4 @@
--- `list_checks` meets its contract. The loop's invariant: the checks below e have their lists.
+-- `list_sums` meets its contract. The loop's invariant: the checks below e have their lists.
 use mathlib.Core.Path.{_≡_, refl, sym, _∙_}
 use Prim.Native.Nat.{_+_, _-_, _*_, _≤_}
 use native.Mathlib.Omega.{arith}
@@ -11,13 +11,12 @@ use Rattle.products.specs.Products.{groupsOf}
 use Rattle.products.specs.Matrices.{Begun}
 use Rattle.products.proofs.Beginning.{begun-none}
 use Rattle.check_sums.specs.Powers.{factorsOf}
-use Rattle.check_sums.specs.Checks.{checkRow}
-use Rattle.check_sums.proofs.Checks.{length-factors, factors-below}
-use Rattle.check_sums.proofs.byte_marks.list_checks.Statement.{statement}
-use Rattle.check_sums.proofs.byte_marks.list_checks.Tie as tie
+use Rattle.check_sums.proofs.Checks.{length-factors, factors-below, factors-word}
+use Rattle.check_sums.proofs.check_rows.list_sums.Statement.{statement}
+use Rattle.check_sums.proofs.check_rows.list_sums.Tie as tie
 
 abbrev Inv-loop : tie.InvT-loop
-Inv-loop h codes lists₀ counts₀ field n checks table e₀ lists counts e = (e ≤ checks) × (length lists ≡ length lists₀) × (length counts ≡ length counts₀) × Begun (modulusOf h) (h .n) (checkRow h) e lists counts
+Inv-loop h codes lists₀ counts₀ field n checks table e₀ lists counts e = (e ≤ checks) × (length lists ≡ length lists₀) × (length counts ≡ length counts₀) × Begun (modulusOf h) (h .n) (λ i. factorsOf h (i + 1)) e lists counts
 
 abbrev μ-loop : tie.MeasureT-loop
 μ-loop h codes lists₀ counts₀ field n checks table e₀ lists counts e = checks - e
@@ -93,7 +92,7 @@ loop-again c =
     let h = at .before .before .before .before .before .before .before .before .args .h in
     let l = at .before .loop in
     let made = rw (taken (c .before .before .before .before .before .before .before .before), length-factors h (l .e + 1)) at (c .before .before .before .before .prepare .ensures) in
-    (omega arith, omega (arith, l .inv .1), omega (arith, l .inv .2), made (checkRow h) refl (l .inv .3))
+    (omega arith, omega (arith, l .inv .1), omega (arith, l .inv .2), made (λ i. factorsOf h (i + 1)) refl (l .inv .3))
 
 same-length : tie.Need-same-length Inv-loop μ-loop
 same-length c = c .before .loop .inv .1
@@ -106,8 +105,8 @@ returns c =
     let s = c .before .before .before .before .before .before .before .before in
     let l = c .before .loop in
     let all : l .e ≡ s .args .h .n - s .args .h .k = omega arith in
-    record { begun = rw all at (l .inv .3); lists-room = omega (arith, l .inv .1, s .pre .3); counts-room = omega (arith, l .inv .2, s .pre .4) }
+    record { weights = λ i. factorsOf (s .args .h) (i + 1); tell = λ ws long below. factors-word (s .args .h) ws long; begun = rw all at (l .inv .3); lists-room = omega (arith, l .inv .1, s .pre .3); counts-room = omega (arith, l .inv .2, s .pre .4) }
 
-pub list-checks-spec : {M : Type 1} → statement M
-list-checks-spec =
+pub list-sums-spec : {M : Type 1} → statement M
+list-sums-spec =
     tie.close (tie.spec Inv-loop μ-loop cast-n sub-checks cast-checks powers-requires loop-holds slice-aggregate-factors add-factors factors-requires array-share-prefix-weights slice-aggregate-prepare prepare-requires add-e loop-less loop-again same-length same-length-2 returns)
