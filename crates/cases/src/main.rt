@@ -1,107 +1,88 @@
 // Reads calls in words, one a line ("encode 1 7 3 6 3 lanes 1 message 1 0 2 room 6"), and writes each line with the call's answer, or with
 // what makes it no call. A list has at most 64 numbers. An empty line or a comment is written as it is.
 use balanced::Roster;
-use lane_cases::rosters;
 use libc::STDIN_FILENO;
 use test_tools::not_read;
+use test_tools::read;
 use test_tools::text;
-use test_words::is_call;
 use test_words::is_comment;
 use test_words::line_end;
 
-// The call by its name.
-fn call(line: &[u8]) {
-    if is_call(line, b"plan") {
-        lane_cases::plan(line);
-        return;
-    }
-    if is_call(line, b"encode") {
-        block_cases::encode(line);
-        return;
-    }
-    if is_call(line, b"update") {
-        block_cases::update(line);
-        return;
-    }
-    call_on_nodes(line);
-}
-
-// The calls on listed nodes, and Belongs.
-fn call_on_nodes(line: &[u8]) {
-    if is_call(line, b"recover") {
-        block_cases::recover(line);
-        return;
-    }
-    if is_call(line, b"rebuild") {
-        block_cases::rebuild(line);
-        return;
-    }
-    if is_call(line, b"belongs") {
-        block_cases::belongs(line);
-        return;
-    }
-    call_on_lanes(line);
-}
-
-// The calls on single lanes.
-fn call_on_lanes(line: &[u8]) {
-    if is_call(line, b"find") {
-        lane_cases::find(line);
-        return;
-    }
-    if is_call(line, b"mends") {
-        lane_cases::mend(line);
-        return;
-    }
-    call_on_shares(line);
-}
-
-// Setting right, and the rearrangements.
-fn call_on_shares(line: &[u8]) {
-    if is_call(line, b"correct") {
-        block_cases::correct(line);
-        return;
-    }
-    if is_call(line, b"to_lanes") {
-        block_cases::rearrange(line, true);
-        return;
-    }
-    if is_call(line, b"to_nodes") {
-        block_cases::rearrange(line, false);
-        return;
-    }
-    call_on_records(line);
-}
-
-// The calls on a record alone.
-fn call_on_records(line: &[u8]) {
-    if is_call(line, b"weights") {
-        lane_cases::weights(line);
-        return;
-    }
-    not_read(b"call", test_words::CALL);
-}
+mod block_calls;
+mod lane_calls;
+mod plan_calls;
+mod roster_calls;
+mod weight_calls;
 
 // The calls of a roster, which give the next one, and the calls that leave it.
-fn call_with(line: &[u8], roster: Roster) -> Roster {
-    if is_call(line, b"roster") {
-        return rosters::start(line, roster);
-    }
-    if is_call(line, b"leave") {
-        return rosters::event(line, roster, false);
-    }
-    if is_call(line, b"rejoin") {
-        return rosters::event(line, roster, true);
-    }
-    if is_call(line, b"lowest") {
-        rosters::lowest(line, roster);
+fn roster_call(line: &[u8], roster: Roster) -> Roster {
+    let w = read(
+        line,
+        b"roster;leave node#;rejoin node#;lowest room~;job room~",
+    );
+    let call = w.call;
+    if call == 0 {
+        block_call(line);
         return roster;
     }
-    if is_call(line, b"job") {
-        return rosters::job(line, roster);
+    if w.fault != 0 {
+        return roster;
     }
-    call(line);
-    roster
+    match call {
+        1 => roster_calls::start(w),
+        2 => roster_calls::event(w, roster, false),
+        3 => roster_calls::event(w, roster, true),
+        4 => roster_calls::lowest(w, roster),
+        _ => roster_calls::job(w, roster),
+    }
+}
+
+// The calls on blocks.
+fn block_call(line: &[u8]) {
+    let w = read(
+        line,
+        b"encode lanes# message* room~;update lanes# symbol# lane# old# new# shares*;recover lanes# nodes* shares* room~;rebuild lanes# nodes* shares* target# room~;belongs lanes# shares*;correct lanes# shares*;to_lanes lanes# shares* room~;to_nodes lanes# shares* room~",
+    );
+    let call = w.call;
+    if call == 0 {
+        other_call(line);
+        return;
+    }
+    if w.fault != 0 {
+        return;
+    }
+    match call {
+        1 => block_calls::encode(w),
+        2 => block_calls::update(w),
+        3 => block_calls::recover(w),
+        4 => block_calls::rebuild(w),
+        5 => block_calls::belongs(w),
+        6 => block_calls::correct(w),
+        7 => block_calls::rearrange(w, true),
+        _ => block_calls::rearrange(w, false),
+    }
+}
+
+// The calls on a record alone and on single lanes.
+fn other_call(line: &[u8]) {
+    let w = read(
+        line,
+        b"plan;weights room~;find before* after*;mends symbols* room~ room~",
+    );
+    let call = w.call;
+    if call == 0 {
+        not_read(b"call", w.fault);
+        return;
+    }
+    if w.fault != 0 {
+        return;
+    }
+    match call {
+        1 => plan_calls::plan(w),
+        2 => weight_calls::weights(w),
+        3 => lane_calls::find(w),
+        _ => lane_calls::mend(w),
+    }
 }
 
 fn answer(line: &[u8], roster: Roster) -> Roster {
@@ -109,7 +90,7 @@ fn answer(line: &[u8], roster: Roster) -> Roster {
     if is_comment(line) {
         return roster;
     }
-    call_with(line, roster)
+    roster_call(line, roster)
 }
 
 // At first there is a roster with no node.

@@ -4,11 +4,9 @@ use libc::STDIN_FILENO;
 use test_tools::not_read;
 use test_tools::part;
 use test_tools::text;
-use test_words::end_fault;
-use test_words::is_call;
 use test_words::is_comment;
 use test_words::line_end;
-use test_words::record;
+use test_words::read_call;
 
 fn print_sheet(rec: &[u8]) {
     let mut page = sheet_text::page();
@@ -22,26 +20,20 @@ fn print_comparison(rec: &[u8]) {
     text(&page[..end]);
 }
 
-// What makes a line no record, or 0.
-fn fault_of(line: &[u8]) -> u8 {
-    if !is_call(line, b"record") {
-        return test_words::CALL;
-    }
-    end_fault(line, record(line))
-}
-
 // The sheet and the comparison of the record of a line.
 fn answer_record(line: &[u8]) {
-    let fault = fault_of(line);
+    let words = read_call(line, b"record");
+    let fault = words.fault;
     if fault != 0 {
         not_read(b"record", fault);
         text(b"\n");
         return;
     }
     text(b"\n");
-    let rec = record(line);
-    print_sheet(part(&rec.bytes, rec.count));
-    print_comparison(part(&rec.bytes, rec.count));
+    let record = words.record;
+    let counts = words.counts;
+    print_sheet(part(&record, counts[0]));
+    print_comparison(part(&record, counts[0]));
 }
 
 fn answer(line: &[u8]) {

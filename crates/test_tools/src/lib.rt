@@ -13,6 +13,7 @@ pub use print::form;
 pub use print::list;
 pub use print::not_read;
 pub use print::number;
+pub use print::read;
 pub use print::refused;
 pub use print::text;
 pub use print::value;

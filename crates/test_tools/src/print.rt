@@ -1,5 +1,6 @@
 // Words and numbers on standard output.
 use libc::STDOUT_FILENO;
+use test_words::Words;
 
 pub fn text(s: &[u8]) {
     io::write_all(STDOUT_FILENO, s);
@@ -94,4 +95,14 @@ pub fn not_read(what: &[u8], fault: u8) {
         test_words::LARGE => text(b", number too large"),
         _ => text(b", too much room"),
     }
+}
+
+// What a line says, if it is one of the calls of a table; what is wrong with such a line is written.
+pub fn read(line: &[u8], calls: &[u8]) -> Words {
+    let words = test_words::read_call(line, calls);
+    let fault = words.fault;
+    if words.call != 0 && fault != 0 {
+        not_read(b"call", fault);
+    }
+    words
 }

@@ -139,11 +139,11 @@ pub fn number(line: &[u8], before: Group, word: &[u8]) -> Group
 }
 
 // The length of the buffer that is written, for which there are 64 bytes.
-pub fn room(line: &[u8], before: Group) -> Group
+pub fn room(line: &[u8], before: Group, word: &[u8]) -> Group
     requires { ⌜ before .next ≤ length (now line) ⌝ }
     ensures { λ r. ⌜ r .next ≤ length (now (line .entry)) ⌝ }
 {
-    let given = number(line, before, b" room");
+    let given = number(line, before, word);
     if given.fault == 0 && 64 < given.value {
         return empty(given.next, crate::ROOM);
     }

@@ -2,17 +2,14 @@
 // Each word and each number but the name stands after one space. Each group, a word and its numbers, is read after the one before it,
 // whose fault it hands on.
 
+mod calls;
+mod forms;
 mod groups;
 mod numbers;
 mod words;
 
-pub use groups::Group;
-pub use groups::bytes;
-pub use groups::end_fault;
-pub use groups::number;
-pub use groups::record;
-pub use groups::room;
-pub use words::is_call;
+pub use calls::read_call;
+pub use forms::Words;
 pub use words::is_comment;
 pub use words::line_end;
 

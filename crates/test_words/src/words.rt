@@ -3,7 +3,7 @@ ghost use Prim.Native.Nat.{_≤_, _<_};
 ghost use lib.ListN.{length};
 
 // The place of the next such byte, or the text's length.
-fn until(text: &[u8], at: usize, mark: u8) -> usize
+pub fn until(text: &[u8], at: usize, mark: u8) -> usize
     requires { ⌜ at ≤ length (now text) ⌝ }
     ensures { λ r. ⌜ (at ≤ r) × (r ≤ length (now (text .entry))) ⌝ }
 {

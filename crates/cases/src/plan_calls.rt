@@ -2,22 +2,16 @@
 use plan::Plan;
 use test_tools::block;
 use test_tools::form;
-use test_tools::not_read;
 use test_tools::part;
 use test_tools::text;
 use test_tools::untouched;
 use test_tools::value;
-use test_words::end_fault;
-use test_words::record;
+use test_words::Words;
 
-pub fn plan(line: &[u8]) {
-    let rec = record(line);
-    let fault = end_fault(line, rec);
-    if fault != 0 {
-        not_read(b"call", fault);
-        return;
-    }
-    planned(part(&rec.bytes, rec.count));
+pub fn plan(w: Words) {
+    let record = w.record;
+    let counts = w.counts;
+    planned(part(&record, counts[0]));
 }
 
 fn planned(rec: &[u8]) {

@@ -1,33 +1,21 @@
 // Messages by the Hamming weight of their word: the counts, or the number. Every place of the list that is written holds 43,690 before the call.
 use blocks::Outcome;
-use test_tools::not_read;
 use test_tools::number;
 use test_tools::part;
 use test_tools::refused;
 use test_tools::text;
-use test_words::Group;
-use test_words::end_fault;
-use test_words::record;
-use test_words::room;
+use test_words::Words;
 
 const MARK: u32 = 43690;
 
-pub fn weights(line: &[u8]) {
-    let rec = record(line);
-    let size = room(line, rec);
-    let fault = end_fault(line, size);
-    if fault != 0 {
-        not_read(b"call", fault);
-        return;
-    }
-    count_groups(rec, size.value);
-}
-
-fn count_groups(rec: Group, size: u32) {
+pub fn weights(w: Words) {
+    let record = w.record;
+    let bytes = w.counts;
+    let numbers = w.numbers;
     let mut counts = [MARK; 64];
     count_to(
-        part(&rec.bytes, rec.count),
-        front(&mut counts, size as usize),
+        part(&record, bytes[0]),
+        front(&mut counts, numbers[0] as usize),
     );
 }
 
