@@ -3,7 +3,6 @@ use mathlib.Core.Path.{_≡_, refl, _∙_}
 use mathlib.Core.List.{List}
 use Prim.Native.Nat.{ℕ, zero, suc}
 use native.Mathlib.Omega.{arith}
-use Rattle.lists.specs.Choice.{firstOf}
 use Rattle.lists.proofs.Cases.{first-zero}
 use Rattle.generator.specs.declared.Header.{Header}
 use Rattle.generator.specs.declared.Record.the-variants.{Holds, Meets}
@@ -11,6 +10,7 @@ use Rattle.generator.specs.Records.{headerOf, recordFault, judged, recordOf, So
 use Rattle.generator.proofs.Accepts.{held-header, faultless-sound}
 use Rattle.refusals.specs.Faults.{faultOf}
 use Rattle.refusals.specs.Promise.{OnRecord}
+use Rattle.refusals.proofs.Order.{first-given}
 
 -- a record that meets a number meets its own, which is not 0
 met-number : (rec : List ℕ) (g : ℕ) → recordOf rec ≡ Meets g → (recordFault rec ≡ g) × (g ≡ 0 → ⊥)
@@ -23,10 +23,6 @@ met-number rec g e = go (recordFault rec) refl
         let w : judged (suc f) (headerOf rec) ≡ Meets g = rw q at e in
         let same : suc f ≡ g = cc in
         (q ∙ same, λ z. omega arith)
-
-first-given : (g a : ℕ) → (g ≡ 0 → ⊥) → firstOf g a ≡ g
-first-given zero a n = absurd (n refl)
-first-given (suc g) a n = refl
 
 -- where neither the record nor the call has a number
 pub none-met : (rec : List ℕ) (call : Header → ℕ) → faultOf rec call ≡ 0 → Sound (headerOf rec) × (call (headerOf rec) ≡ 0)
