@@ -5,4 +5,5 @@ pub mod OneByte
 pub mod NotMet
 pub mod Walks
 pub mod Accepts
+pub mod LaneSymbols
 pub mod OnRecord

@@ -1,13 +1,14 @@
 -- A promise over a record, from the promise over the header that it holds, or from what holds beside a number.
-use mathlib.Core.Path.{_≡_, refl, _∙_}
+use mathlib.Core.Path.{_≡_, refl, sym, _∙_}
 use mathlib.Core.List.{List}
 use Prim.Native.Nat.{ℕ, zero, suc}
 use native.Mathlib.Omega.{arith}
 use Rattle.lists.proofs.Cases.{first-zero}
 use Rattle.generator.specs.declared.Header.{Header}
+use Rattle.generator.specs.declared.Record.{Record}
 use Rattle.generator.specs.declared.Record.the-variants.{Holds, Meets}
 use Rattle.generator.specs.Records.{headerOf, recordFault, judged, recordOf, Sound}
-use Rattle.generator.proofs.Accepts.{held-header, faultless-sound}
+use Rattle.generator.proofs.Accepts.{held-header, faultless-sound, accepted-sound}
 use Rattle.refusals.specs.Faults.{faultOf}
 use Rattle.refusals.specs.Promise.{OnRecord}
 use Rattle.refusals.proofs.Order.{first-given}
@@ -31,6 +32,10 @@ none-met rec call e =
     let (none, after) = first-zero (recordFault rec) (call (headerOf rec)) e in
     (faultless-sound rec none, after)
 
+-- a header that was read is sound
+pub read-sound : (rec : List ℕ) {r : Record} {h : Header} → r ≡ recordOf rec → r ≡ Holds h → Sound h
+read-sound rec {h = h} read held = accepted-sound rec h (sym read ∙ held)
+
 module _ {rec : List ℕ} {call : Header → ℕ} {P : Header → ℕ → Type 0} where
   -- a record that holds a header leaves the number to the call
   pub on-header : (h : Header) → recordOf rec ≡ Holds h → P h (call h) → OnRecord rec call P
@@ -45,3 +50,10 @@ module _ {rec : List ℕ} {call : Header → ℕ} {P : Header → ℕ → Type 0
   on-number g e p =
       let (same, some) = met-number rec g e in
       record { promise = rw (same, first-given g (call (headerOf rec)) some) (p (headerOf rec) some) }
+
+  -- the same from what was read
+  pub on-held : {r : Record} {h : Header} → r ≡ recordOf rec → r ≡ Holds h → P h (call h) → OnRecord rec call P
+  on-held {h = h} read held = on-header h (sym read ∙ held)
+
+  pub on-met : {r : Record} {g : ℕ} → r ≡ recordOf rec → r ≡ Meets g → ((h : Header) → (g ≡ 0 → ⊥) → P h g) → OnRecord rec call P
+  on-met {g = g} read met = on-number g (sym read ∙ met)

@@ -35,6 +35,14 @@ pub fn buffer_bad(h: Header, rows: u8, lanes: usize, length: usize) -> bool
     length / size != lanes || length % size != 0
 }
 
+// Number 8 of one lane.
+pub fn lane_length_bad(h: Header, length: usize) -> bool
+    requires { ⌜ usable (h .field) ≡ true ⌝ }
+    ensures { λ r. ⌜ r ≡ lengthBad (h .n * width h) length ⌝ }
+{
+    buffer_bad(h, h.n, 1, length)
+}
+
 // Number 9: not below the end of its range.
 pub fn number_bad(end: usize, x: usize) -> bool
     ensures { λ r. ⌜ r ≡ numberBad end x ⌝ }

@@ -4,8 +4,8 @@ mod faults;
 mod field_symbols;
 mod nodes;
 
-pub use conditions::buffer_bad;
 pub use conditions::first;
+pub use conditions::lane_length_bad;
 pub use conditions::length_bad;
 pub use faults::belongs_fault;
 pub use faults::encode_fault;
