@@ -18,7 +18,8 @@ use Rattle.refusals.proofs.OnRecord.{none-met}
 use Rattle.blocks.specs.Blocks.{updated}
 use Rattle.find_update.specs.declared.Finding.{Finding}
 use Rattle.find_update.specs.declared.Finding.the-variants.{Added, Refused}
-use Rattle.find_update.specs.Finding.{findingOf, IsLane, Finds}
+use Rattle.refusals.specs.Accepted.{IsLane}
+use Rattle.find_update.specs.Finding.{findingOf, Finds}
 use Rattle.find_update.specs.Promise.{findFault, FindSays}
 use Rattle.find_update.proofs.Accepts.{find-accepts, found-means}
 use Rattle.find_update.proofs.Applied.{update-adds, finds-again}

@@ -10,7 +10,8 @@ use Rattle.generator.specs.Records.{headerOf, recordFault, modulusOf, size}
 use Rattle.blocks.specs.Blocks.{updated}
 use Rattle.find_update.specs.declared.Finding.{Finding}
 use Rattle.find_update.specs.declared.Finding.the-variants.{Added, Refused}
-use Rattle.find_update.specs.Finding.{findingOf, IsLane, Finds}
+use Rattle.refusals.specs.Accepted.{IsLane}
+use Rattle.find_update.specs.Finding.{findingOf, Finds}
 use Rattle.find_update.specs.Promise.{FindSays}
 use Rattle.balanced.specs.Calls.{read}
 

@@ -7,7 +7,8 @@ use Rattle.layout.specs.Width.{bytesOf}
 use Rattle.generator.specs.Records.{headerOf, recordFault, width}
 use Rattle.mends.specs.declared.Mending.{Mending}
 use Rattle.mends.specs.declared.Mending.the-variants.{Listed, Refused}
-use Rattle.mends.specs.Mends.{mendNodes, mendSymbols, IsLane, Mends}
+use Rattle.refusals.specs.Accepted.{IsLane}
+use Rattle.mends.specs.Mends.{mendNodes, mendSymbols, Mends}
 use Rattle.mends.specs.Promise.{inFront, MendsSay}
 use Rattle.balanced.specs.Calls.{read}
 

@@ -49,37 +49,25 @@ fn put_numbers(plan: Plan, numbers: &mut [u8])
     numbers[4] = plan.high;
 }
 
-// Copies a slice to another of the same length.
-fn copy(from: &[u8], to: &mut [u8])
-    requires { ⌜ length (now from) ≡ length (now to) ⌝ }
-    ensures { λ r. ⌜ now (to .exit) ≡ now (from .entry) ⌝ }
-{
-    let mut i = 0;
-    while i < from.len() {
-        to[i] = from[i];
-        i += 1;
-    }
-}
-
-// Copies symbols to a slice of the same length.
-fn copy_symbols(from: &[u16], to: &mut [u16])
-    requires { ⌜ length (now from) ≡ length (now to) ⌝ }
-    ensures { λ r. ⌜ now (to .exit) ≡ now (from .entry) ⌝ }
-{
-    let mut i = 0;
-    while i < from.len() {
-        to[i] = from[i];
-        i += 1;
-    }
-}
-
 // Writes the shifts and the first nodes.
 fn put_rows(plan: Plan, shifts: &mut [u8], firsts: &mut [u8])
     requires { ⌜ (length (now shifts) ≡ 255) × (length (now firsts) ≡ 255) ⌝ }
     ensures { λ r. ⌜ (now (shifts .exit) ≡ plan .shifts) × (now (firsts .exit) ≡ plan .firsts) ⌝ }
 {
-    copy(&plan.shifts, shifts);
-    copy(&plan.firsts, firsts);
+    kernel::copy(&plan.shifts, shifts);
+    kernel::copy(&plan.firsts, firsts);
+}
+
+// Writes the base word.
+fn put_base(plan: Plan, base: &mut [u16])
+    requires { ⌜ length (now base) ≡ 255 ⌝ }
+    ensures { λ r. ⌜ now (base .exit) ≡ plan .base ⌝ }
+{
+    let mut i = 0;
+    while i < 255 {
+        base[i] = plan.base[i];
+        i += 1;
+    }
 }
 
 // The plan of a record: n, k, d, k·d / n rounded down and up; the shifts; the first nodes; the base word.
@@ -106,7 +94,7 @@ pub extern "C" fn balanced_plan(
     }
     put_numbers(plan, numbers);
     put_rows(plan, shifts, firsts);
-    copy_symbols(&plan.base, base);
+    put_base(plan, base);
     0
 }
 

@@ -22,7 +22,7 @@ unfolding outcomeNumber
 done-means f e = sym (outcome-number f) ∙ ap outcomeNumber (sym e)
 
 -- two cases of an enum are never equal
-never : {A : Type 0} → _≡_ {A = ℕ} 0 1 → A
+pub never : {A : Type 0} → _≡_ {A = ℕ} 0 1 → A
 never z = absurd (omega arith)
 
 -- an update that altered nodes met no number; one that was refused met its number

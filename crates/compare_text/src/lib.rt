@@ -13,7 +13,7 @@ ghost use mathlib.Core.List.{_++_};
 ghost use Prim.Native.Nat.{_+_, _*_, _≤_};
 ghost use lib.ListN.{length, take, drop};
 ghost use Rattle.lists.specs.Padded.{zeros};
-ghost use Rattle.generator.specs.Records.{recordOf, Sound};
+ghost use Rattle.generator.specs.Records.{recordOf, distance, Sound};
 ghost use Rattle.generator.specs.Comparison.{plainGreatest, ComparedRecord};
 ghost use Rattle.text.specs.Writing.{Puts};
 ghost use Rattle.compare_text.specs.Comparison.{costLine, plainLine, balancedLine, boundLine, comparisonFor};
@@ -29,14 +29,14 @@ fn plain_greatest(h: Header) -> u8
 
 // Each `put_` function puts its text at a place of a buffer that has room for it, and gives the next place.
 
-// A line of costs: words and the writes, then the reads.
-fn put_cost(out: &mut [u8], at: usize, words: &[u8], writes: u8, reads: &[u8]) -> usize
-    requires { ⌜ at + length (now words) + 4 * length (now reads) + 11 ≤ length (now out) ⌝ }
-    ensures { λ r. ⌜ Puts (now (out .entry)) (now (out .exit)) at r (costLine (now (words .entry)) writes (now (reads .entry))) ⌝ }
+// A line of costs: words and the writes, which are the distance, then the reads.
+fn put_cost(out: &mut [u8], at: usize, words: &[u8], h: Header, reads: &[u8]) -> usize
+    requires { ⌜ Sound h × (at + length (now words) + 4 * length (now reads) + 11 ≤ length (now out)) ⌝ }
+    ensures { λ r. ⌜ Puts (now (out .entry)) (now (out .exit)) at r (costLine (now (words .entry)) (distance h) (now (reads .entry))) ⌝ }
     ensures { λ r. ⌜ r ≤ at + length (now (words .entry)) + 4 * length (now (reads .entry)) + 11 ⌝ }
 {
     let named = put_word(out, at, words);
-    let written = put_field(out, named, writes);
+    let written = put_field(out, named, distance_of(h));
     put_line(out, written, b" reads", reads)
 }
 
@@ -45,9 +45,7 @@ fn put_plain(out: &mut [u8], at: usize, h: Header) -> usize
     ensures { λ r. ⌜ Puts (now (out .entry)) (now (out .exit)) at r (plainLine h) ⌝ }
     ensures { λ r. ⌜ r ≤ at + 31 ⌝ }
 {
-    let d = distance_of(h);
-    let greatest = plain_greatest(h);
-    put_cost(out, at, b"plain writes", d, &[1, greatest])
+    put_cost(out, at, b"plain writes", h, &[1, plain_greatest(h)])
 }
 
 fn put_balanced(out: &mut [u8], at: usize, h: Header) -> usize
@@ -55,10 +53,13 @@ fn put_balanced(out: &mut [u8], at: usize, h: Header) -> usize
     ensures { λ r. ⌜ Puts (now (out .entry)) (now (out .exit)) at r (balancedLine h) ⌝ }
     ensures { λ r. ⌜ r ≤ at + 34 ⌝ }
 {
-    let d = distance_of(h);
-    let low = low_reads(h);
-    let high = high_reads(h);
-    put_cost(out, at, b"balanced writes", d, &[low, high])
+    put_cost(
+        out,
+        at,
+        b"balanced writes",
+        h,
+        &[low_reads(h), high_reads(h)],
+    )
 }
 
 fn put_bound(out: &mut [u8], at: usize, h: Header) -> usize
@@ -66,9 +67,7 @@ fn put_bound(out: &mut [u8], at: usize, h: Header) -> usize
     ensures { λ r. ⌜ Puts (now (out .entry)) (now (out .exit)) at r (boundLine h) ⌝ }
     ensures { λ r. ⌜ r ≤ at + 27 ⌝ }
 {
-    let d = distance_of(h);
-    let high = high_reads(h);
-    put_cost(out, at, b"bound writes", d, &[high])
+    put_cost(out, at, b"bound writes", h, &[high_reads(h)])
 }
 
 // The comparison of what an accepted record holds: its lines have at most 16, 31, 34 and 27 bytes.

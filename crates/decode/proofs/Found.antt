@@ -22,7 +22,7 @@ use Rattle.lists.proofs.Passing.{passing-pass, passing-place}
 use Rattle.lists.proofs.Places.{map-range}
 use Rattle.lists.proofs.Numbers.{StandsIn, below-at, at-below}
 use Rattle.algebra.specs.Field.{Field}
-use Rattle.algebra.specs.Powers.{pow, Order}
+use Rattle.algebra.specs.Powers.{pow}
 use Rattle.algebra.proofs.Poly.{eval}
 use Rattle.algebra.proofs.LagrangeBasis.{others, length-others}
 use Rattle.algebra.proofs.Parity.{check}
@@ -74,9 +74,6 @@ module _ (h : Header) (s : Sound h) where
 
   abbrev a : Symbol (size h)
   a = rootFor h s
-
-  abbrev o : Order F a (h .n)
-  o = root-order h s
 
   abbrev p : ℕ
   p = modulusOf h
@@ -218,7 +215,7 @@ module _ (h : Header) (s : Sound h) where
       abbrev poly : Polynomial h s us
       poly = near-polynomial h s ws long below us near
 
-      abbrev few : length (wrong F a (h .n) o (poly .f) y) ≤ t
+      abbrev few : length (wrong F a (h .n) (root-order h s) (poly .f) y) ≤ t
       few = near-faults h s ws long below us near poly
 
       at-us : (j : ℕ) → j < h .n → getD us j 0 ≡ value F a (poly .f) j .0
@@ -228,7 +225,7 @@ module _ (h : Header) (s : Sound h) where
       at-ws j b = Nat.mod-eq-of-lt (below-at (size h) ws below j (omega arith))
 
       few-points : length js ≤ t
-      few-points = omega (arith, ap length js-roots, few-roots F a (h .n) o (poly .f) y (h .k) t (poly .size-is) (radius-fits h s) few L located)
+      few-points = omega (arith, ap length js-roots, few-roots F a (h .n) (root-order h s) (poly .f) y (h .k) t (poly .size-is) (radius-fits h s) few L located)
 
       -- the error that the program finds at root number i
       module _ (i : ℕ) (low : i < length js) where
@@ -287,7 +284,7 @@ module _ (h : Header) (s : Sound h) where
             let b = below-at (h .n) js (roots-low p (h .root) (h .n) front) i low in
             let z = All-at (λ j. value F a L j ≡ F .0f) 0 js vanishes i low in
             let fit : allBelow (length ws) js ≡ true = rw long (roots-low p (h .root) (h .n) front) in
-            ap (λ (x : Symbol (size h)). x .0) (repaired F a (h .n) o (poly .f) y (h .k) t (poly .size-is) (radius-fits h s) few L located j b z)
+            ap (λ (x : Symbol (size h)). x .0) (repaired F a (h .n) (root-order h s) (poly .f) y (h .k) t (poly .size-is) (radius-fits h s) few L located j b z)
             ∙ ap (λ (l : List ℕ). let M = others F (map (pow F a) l) (pow F a j) in F .add (y j) (F .neg (F .mul (F .mul (discrepancy F M (syndrome F a (h .n) y) 0) (F .inv (value F a M j))) (F .inv (pow F a j)))) .0) (sym js-roots)
             ∙ number-sub p (s .field) (y j) E
             ∙ ap₂ (sub p) (at-ws j b) (sym error-number)
@@ -301,7 +298,7 @@ module _ (h : Header) (s : Sound h) where
           go (no z) =
               sym (removed-other p js es ws j (All-imp (λ i. value F a L i ≡ F .0f) (λ i. i ≡ j → ⊥) (λ i v e. z (ap (value F a L) (sym e) ∙ v)) js vanishes)
               ∙ sym (at-ws j b)
-              ∙ ap (λ (x : Symbol (size h)). x .0) (right F a (h .n) o (poly .f) y (h .k) t (poly .size-is) (radius-fits h s) few L located j b z))
+              ∙ ap (λ (x : Symbol (size h)). x .0) (right F a (h .n) (root-order h s) (poly .f) y (h .k) t (poly .size-is) (radius-fits h s) few L located j b z))
           go (yes z) =
               let (i, low, is) = listed j b z in
               subst (λ (k : ℕ). value F a (poly .f) k .0 ≡ getD (removed p js es ws) k 0) is (at-root i low)

@@ -32,7 +32,7 @@ module _ (F : Field) where
   infixl 70 _⊕_
   infixl 80 _⊗_
   infix 90 ⊖_
-  open Field F using (Carrier, 0f, 1f, add as _⊕_, mul as _⊗_, neg as ⊖_, inv, decide)
+  open Field F using (Carrier, 0f, add as _⊕_, mul as _⊗_, neg as ⊖_, inv, decide)
   open Field F using (one-not-zero)
 
   -- the product over the other points is not zero at its own point, and zero at the others

@@ -1,37 +1,23 @@
 -- What holds where no number is met: each lane has n symbols; and what the call says beside a number.
 use mathlib.Core.Path.{_≡_, refl, sym}
-use mathlib.Core.Bool.{false}
 use mathlib.Core.List.{List}
-use Prim.Native.Nat.{ℕ, zero, suc, _*_, _≤_}
-use native.Mathlib.Nat.{mul-le-mul-right}
+use Prim.Native.Nat.{ℕ, zero, suc, _*_}
 use native.Mathlib.Omega.{arith}
-use borrow.Author.Tests.{not-false}
-use lib.ListN.{length, take}
-use Rattle.lists.specs.Padded.{padded}
+use lib.ListN.{length}
 use Rattle.lists.proofs.Cases.{when-zero}
-use Rattle.lists.proofs.Padding.{take-padded}
 use Rattle.layout.specs.Width.{symbolsOf}
-use Rattle.layout.proofs.Readings.{count-symbols}
 use Rattle.generator.specs.declared.Header.{Header}
 use Rattle.generator.specs.declared.Record.{Record}
 use Rattle.generator.specs.declared.Record.the-variants.{Holds, Meets}
 use Rattle.generator.specs.Records.{recordOf, width}
 use Rattle.generator.proofs.Accepts.{accepted-sound}
-use Rattle.generator.proofs.Widths.{width-some}
 use Rattle.refusals.specs.Conditions.{lengthBad, symbolsBad}
-use Rattle.refusals.proofs.Accepts.{not-met}
-use Rattle.refusals.proofs.NotMet.{length-good}
+use Rattle.refusals.proofs.Accepts.{not-met, lane-accepts}
 use Rattle.find_update.specs.declared.Finding.{Finding}
 use Rattle.find_update.specs.declared.Finding.the-variants.{Refused}
-use Rattle.find_update.specs.Finding.{IsLane}
+use Rattle.refusals.specs.Accepted.{IsLane}
 use Rattle.find_update.specs.Promise.{findFault, answerOf, Found, FindPromise}
 use Rattle.find_update.proofs.Meaning.{finds}
-
--- a lane whose length and symbols pass
-lane-good : (h : Header) (s : List ℕ) → lengthBad (h .n * width h) (length s) ≡ false → symbolsBad h s ≡ false → IsLane h (symbolsOf (width h) s)
-unfolding symbolsBad
-lane-good h s long symbols =
-    record { long = count-symbols (width h) (h .n) s (width-some h) (length-good _ _ long); symbols = not-false _ symbols }
 
 -- both lanes have n symbols, and as many bytes as these take
 pub record Lanes (h : Header) (before after : List ℕ) : Type 0 where
@@ -46,20 +32,9 @@ find-accepts h before after e =
     let (one, a) = not-met (lengthBad (h .n * width h) (length before)) 7 _ e in
     let (two, b) = not-met (lengthBad (h .n * width h) (length after)) 7 _ a in
     let (three, c) = not-met (symbolsBad h before) 10 _ b in
-    record {
-      first = lane-good h before one three;
-      second = lane-good h after two (when-zero (symbolsBad h after) 10 c);
-      first-long = length-good _ _ one;
-      second-long = length-good _ _ two;
-    }
-
--- the lane as it is read, and its part of n symbols
-pub lane-part : (h : Header) (us : List ℕ) → IsLane h us → take (h .n) (padded 255 us) ≡ us
-lane-part h us lane = take-padded 255 (h .n) us (lane .long)
-
--- the bytes of at most 255 symbols
-pub few-bytes : (n w l : ℕ) → n ≤ 255 → l ≡ n * w → l ≤ 255 * w
-few-bytes n w l few e = rw e (mul-le-mul-right w few)
+    let (first-long, first) = lane-accepts h before one three in
+    let (second-long, second) = lane-accepts h after two (when-zero (symbolsBad h after) 10 c) in
+    record { first = first; second = second; first-long = first-long; second-long = second-long }
 
 -- beside a number
 pub answer-refused : (g : ℕ) (found : Finding) → (g ≡ 0 → ⊥) → answerOf g found ≡ Refused g

@@ -18,7 +18,8 @@ use Rattle.generator.specs.Generator.{entry}
 use Rattle.generator.proofs.Bounds.{entry-below}
 use Rattle.blocks.specs.Blocks.{addedAt, rowAdded, updated}
 use Rattle.find_update.specs.declared.Finding.the-variants.{Added}
-use Rattle.find_update.specs.Finding.{added, findingOf, IsLane}
+use Rattle.refusals.specs.Accepted.{IsLane}
+use Rattle.find_update.specs.Finding.{added, findingOf}
 use Rattle.find_update.proofs.Single.{getD-added, length-added, one-addition, nothing-added}
 use Rattle.find_update.proofs.Meaning.{finding-added}
 

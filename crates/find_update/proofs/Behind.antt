@@ -26,7 +26,8 @@ use Rattle.generator.specs.Shifts.{firsts}
 use Rattle.generator.specs.Generator.{entry}
 use Rattle.generator.proofs.Bounds.{entry-below}
 use Rattle.find_update.specs.declared.Finding.the-variants.{Unchanged}
-use Rattle.find_update.specs.Finding.{added, findingOf, IsLane}
+use Rattle.refusals.specs.Accepted.{IsLane}
+use Rattle.find_update.specs.Finding.{added, findingOf}
 use Rattle.find_update.specs.Starts.{differences, rowAt, firstOther, amountIn, updateIn}
 use Rattle.find_update.proofs.Multiples.{Multiple, first-node, first-entry, row-is}
 use Rattle.find_update.proofs.Single.{getD-added, length-added, nothing-added}

@@ -17,7 +17,8 @@ use Rattle.lists.proofs.Search.{search-high, search-fails, search-within}
 use Rattle.generator.specs.declared.Header.{Header}
 use Rattle.generator.specs.Records.{size, Sound}
 use Rattle.find_update.specs.declared.Finding.the-variants.{Unchanged, Added, NoSingleUpdate, Refused}
-use Rattle.find_update.specs.Finding.{added, takenAway, leads, amountAt, symbolOf, findingOf, IsLane, Finds}
+use Rattle.refusals.specs.Accepted.{IsLane}
+use Rattle.find_update.specs.Finding.{added, takenAway, leads, amountAt, symbolOf, findingOf, Finds}
 use Rattle.find_update.proofs.Single.{length-added, one-addition, nothing-added, taken-back}
 
 -- the finding is no refusal

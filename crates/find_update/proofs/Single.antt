@@ -25,7 +25,8 @@ use Rattle.generator.proofs.Changes.{node-change, set-message}
 use Rattle.generator.proofs.Costs.{zero-message}
 use Rattle.generator.proofs.PlainLayout.{first-nodes}
 use Rattle.generator.proofs.Recovery.{one-message}
-use Rattle.find_update.specs.Finding.{added, takenAway, IsLane}
+use Rattle.refusals.specs.Accepted.{IsLane}
+use Rattle.find_update.specs.Finding.{added, takenAway}
 
 module _ (h : Header) (s : Sound h) where
   abbrev p : ℕ

@@ -42,11 +42,6 @@ findingOf h us vs =
     pick (eqb (differ us vs) 0) Unchanged
     (pick (ltb (symbolOf h us vs) (h .k)) (Added (symbolOf h us vs) (amountAt h us vs (symbolOf h us vs))) NoSingleUpdate)
 
--- n symbols
-pub record IsLane (h : Header) (us : List ℕ) : Type 0 where
-  pub long : length us ≡ h .n
-  pub symbols : allBelow (size h) us ≡ true
-
 -- what holds of the answer for two lanes, which need not be words of the code
 pub record Finds (h : Header) (us vs : List ℕ) : Type 0 where
   pub unchanged : (findingOf h us vs ≡ Unchanged) ↔ (us ≡ vs)

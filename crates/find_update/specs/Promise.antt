@@ -13,7 +13,8 @@ use Rattle.refusals.specs.Conditions.{lengthBad, symbolsBad}
 use Rattle.refusals.specs.Promise.{OnRecord}
 use Rattle.find_update.specs.declared.Finding.{Finding}
 use Rattle.find_update.specs.declared.Finding.the-variants.{Refused}
-use Rattle.find_update.specs.Finding.{findingOf, IsLane, Finds}
+use Rattle.refusals.specs.Accepted.{IsLane}
+use Rattle.find_update.specs.Finding.{findingOf, Finds}
 
 -- numbers 8 and 11: each lane has n symbols
 unfoldable pub findFault : Header → List ℕ → List ℕ → ℕ

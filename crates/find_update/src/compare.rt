@@ -9,7 +9,7 @@ ghost use Rattle.field.specs.Fields.{mul};
 ghost use Rattle.field.specs.Tables.{AreTables};
 ghost use Rattle.generator.specs.Records.{modulusOf, size, Sound};
 ghost use Rattle.plan.specs.Plans.{planFor};
-ghost use Rattle.find_update.specs.Finding.{IsLane};
+ghost use Rattle.refusals.specs.Accepted.{IsLane};
 ghost use Rattle.find_update.specs.Starts.{differences, firstOther};
 use generator::Header;
 use generator::Record;

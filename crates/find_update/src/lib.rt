@@ -5,12 +5,16 @@ ghost use Prim.Native.Nat.{_<_};
 ghost use Rattle.field.specs.Kinds.{usable};
 ghost use Rattle.generator.specs.Records.{Sound};
 ghost use Rattle.plan.specs.Plans.{planFor};
-ghost use Rattle.find_update.specs.Finding.{findingOf, IsLane};
+ghost use Rattle.refusals.specs.Accepted.{IsLane};
+ghost use Rattle.find_update.specs.Finding.{findingOf};
 ghost use Rattle.find_update.specs.Starts.{amountIn, updateIn};
 ghost use Rattle.find_update.specs.Promise.{findFault, FindPromise, FindSays};
 use generator::Header;
 use generator::Record;
 use plan::Plan;
+use refusals::first;
+use refusals::lane_length_bad;
+use refusals::symbols_bad;
 
 mod compare;
 mod rows;
@@ -70,22 +74,10 @@ fn find_fault(h: Header, before: &[u8], after: &[u8]) -> u8
     requires { ⌜ usable (h .field) ≡ true ⌝ }
     ensures { λ r. ⌜ r ≡ findFault h (now (before .entry)) (now (after .entry)) ⌝ }
 {
-    let field = h.field;
-    let w = symbols::width_of(h);
-    let long = h.n as usize * w;
-    if before.len() != long {
-        return 8;
-    }
-    if after.len() != long {
-        return 8;
-    }
-    if !symbols::symbols_below(field.size(), w, before) {
-        return 11;
-    }
-    if !symbols::symbols_below(field.size(), w, after) {
-        return 11;
-    }
-    0
+    let number = first(0, lane_length_bad(h, before.len()), 8);
+    let number = first(number, lane_length_bad(h, after.len()), 8);
+    let number = first(number, symbols_bad(h, before), 11);
+    first(number, symbols_bad(h, after), 11)
 }
 
 // Finds over the header of an accepted record.

@@ -1,28 +1,23 @@
 -- What holds where no number is met: a lane of n symbols, and buffers of their lengths; and what the call says beside a number.
 use mathlib.Core.Path.{_≡_, refl}
 use mathlib.Core.List.{List}
-use Prim.Native.Nat.{ℕ, zero, suc, _*_, _≤_}
-use native.Mathlib.Nat.{mul-le-mul-right}
+use Prim.Native.Nat.{ℕ, zero, suc, _*_}
 use native.Mathlib.Omega.{arith}
-use borrow.Author.Tests.{not-false, ne-eqb}
-use lib.ListN.{length, take}
-use Rattle.lists.specs.Padded.{padded}
+use borrow.Author.Tests.{ne-eqb}
+use lib.ListN.{length}
 use Rattle.lists.proofs.Cases.{when-zero}
-use Rattle.lists.proofs.Padding.{take-padded}
 use Rattle.layout.specs.Width.{symbolsOf}
-use Rattle.layout.proofs.Readings.{count-symbols}
 use Rattle.generator.specs.declared.Header.{Header}
 use Rattle.generator.specs.declared.Record.{Record}
 use Rattle.generator.specs.declared.Record.the-variants.{Holds, Meets}
 use Rattle.generator.specs.Records.{recordOf, width}
 use Rattle.generator.proofs.Accepts.{accepted-sound}
-use Rattle.generator.proofs.Widths.{width-some}
 use Rattle.refusals.specs.Conditions.{lengthBad, symbolsBad}
-use Rattle.refusals.proofs.Accepts.{not-met}
+use Rattle.refusals.proofs.Accepts.{not-met, lane-accepts}
 use Rattle.refusals.proofs.NotMet.{length-good}
 use Rattle.mends.specs.declared.Mending.{Mending}
 use Rattle.mends.specs.declared.Mending.the-variants.{Listed, Refused}
-use Rattle.mends.specs.Mends.{IsLane}
+use Rattle.refusals.specs.Accepted.{IsLane}
 use Rattle.mends.specs.Promise.{mendsFault, mendingOf, Mended, MendsPromise}
 use Rattle.mends.proofs.Meaning.{mends}
 
@@ -34,26 +29,13 @@ pub record Given (h : Header) (lane : List ℕ) (nodes symbols : ℕ) : Type 0 w
   pub symbols-long : symbols ≡ h .n * width h
 
 pub mends-accepts : (h : Header) (lane : List ℕ) (nodes symbols : ℕ) → mendsFault h lane nodes symbols ≡ 0 → Given h lane nodes symbols
-unfolding mendsFault symbolsBad
+unfolding mendsFault
 mends-accepts h lane nodes symbols e =
     let (one, a) = not-met (lengthBad (h .n * width h) (length lane)) 7 _ e in
     let (two, b) = not-met (lengthBad (h .n) nodes) 7 _ a in
     let (three, c) = not-met (lengthBad (h .n * width h) symbols) 7 _ b in
-    let long = length-good _ _ one in
-    record {
-      lane-is = record { long = count-symbols (width h) (h .n) lane (width-some h) long; symbols = not-false _ (when-zero (symbolsBad h lane) 10 c) };
-      lane-long = long;
-      nodes-long = length-good _ _ two;
-      symbols-long = length-good _ _ three;
-    }
-
--- the lane as it is read, and its part of n symbols
-pub lane-part : (h : Header) (ws : List ℕ) → IsLane h ws → take (h .n) (padded 255 ws) ≡ ws
-lane-part h ws lane = take-padded 255 (h .n) ws (lane .long)
-
--- the bytes of at most 255 symbols
-pub few-bytes : (n w l : ℕ) → n ≤ 255 → l ≡ n * w → l ≤ 255 * w
-few-bytes n w l few e = rw e (mul-le-mul-right w few)
+    let (long, is) = lane-accepts h lane one (when-zero (symbolsBad h lane) 10 c) in
+    record { lane-is = is; lane-long = long; nodes-long = length-good _ _ two; symbols-long = length-good _ _ three }
 
 -- beside a number
 pub mends-refuses : (h : Header) (g : ℕ) → (g ≡ 0 → ⊥) → (lane nodes symbols : List ℕ) → MendsPromise lane nodes symbols nodes symbols (Refused g) h g

@@ -27,7 +27,8 @@ use Rattle.generator.specs.Records.{modulusOf, size, Sound}
 use Rattle.generator.specs.Codewords.{checkFrom, isWord}
 use Rattle.check_sums.specs.Sums.{checkSums}
 use Rattle.check_sums.proofs.OneLane.{length-sums}
-use Rattle.mends.specs.Mends.{mendAt, canMend, mendNodes, mendSymbols, IsLane}
+use Rattle.refusals.specs.Accepted.{IsLane}
+use Rattle.mends.specs.Mends.{mendAt, canMend, mendNodes, mendSymbols}
 use Rattle.mends.specs.BySums.{firstOff, goesUp, upNodes, mendedAt, HasSums, LaneSums}
 use Rattle.mends.proofs.Powers.{rootPower}
 use Rattle.mends.proofs.Geometric.{sumAt, sum-below, GoesUp, amount, amount-below, up-word, word-up, word-symbol}

@@ -16,7 +16,7 @@ use Rattle.generator.specs.declared.Header.{Header}
 use Rattle.generator.specs.Records.{modulusOf, size, Sound}
 use Rattle.generator.specs.Codewords.{checkFrom, isWord}
 use Rattle.generator.proofs.Words.{checks-zero, zero-checks}
-use Rattle.mends.specs.Mends.{IsLane}
+use Rattle.refusals.specs.Accepted.{IsLane}
 use Rattle.mends.proofs.Sums.{factor, factor-below, check-below, check-change, sub-zero, zero-sub, sub-back}
 use Rattle.mends.proofs.Powers.{rootPower, root-back, factor-one, factor-next}
 

@@ -26,7 +26,8 @@ use Rattle.field.proofs.BothKinds.{arithmetic}
 use Rattle.generator.specs.declared.Header.{Header}
 use Rattle.generator.specs.Records.{modulusOf, size, Sound}
 use Rattle.generator.specs.Codewords.{checksFrom, isWord}
-use Rattle.mends.specs.Mends.{mendAt, canMend, mendNodes, mendSymbols, IsLane, Mends}
+use Rattle.refusals.specs.Accepted.{IsLane}
+use Rattle.mends.specs.Mends.{mendAt, canMend, mendNodes, mendSymbols, Mends}
 use Rattle.mends.proofs.Sums.{sub-unique}
 use Rattle.mends.proofs.Powers.{rootPower, root-injective}
 use Rattle.mends.proofs.Geometric.{sumAt, sum-below, root-below, amount, amount-below, GoesUp, up-word, word-up, word-symbol}

@@ -11,7 +11,7 @@ use Rattle.lists.specs.Search.{firstFalse}
 use Rattle.field.specs.Fields.{sub, mul, power}
 use Rattle.generator.specs.declared.Header.{Header}
 use Rattle.generator.specs.Records.{modulusOf, size, Sound}
-use Rattle.mends.specs.Mends.{IsLane}
+use Rattle.refusals.specs.Accepted.{IsLane}
 
 -- the first place whose next check sum is not c times its own, or the last
 unfoldable pub firstOff : ℕ → ℕ → List ℕ → ℕ

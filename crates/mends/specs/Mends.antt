@@ -31,11 +31,6 @@ mendNodes h ws = pick (isWord h ws) [] (passingFrom (h .n) 0 (canMend h ws))
 unfoldable pub mendSymbols : Header → List ℕ → List ℕ
 mendSymbols h ws = map (mendAt h ws) (mendNodes h ws)
 
--- n symbols
-pub record IsLane (h : Header) (ws : List ℕ) : Type 0 where
-  pub long : length ws ≡ h .n
-  pub symbols : allBelow (size h) ws ≡ true
-
 -- what holds of the list of a lane
 pub record Mends (h : Header) (ws : List ℕ) : Type 0 where
   -- a word has none

@@ -14,7 +14,8 @@ use Rattle.refusals.specs.Conditions.{lengthBad, symbolsBad}
 use Rattle.refusals.specs.Promise.{OnRecord}
 use Rattle.mends.specs.declared.Mending.{Mending}
 use Rattle.mends.specs.declared.Mending.the-variants.{Listed, Refused}
-use Rattle.mends.specs.Mends.{mendNodes, mendSymbols, IsLane, Mends}
+use Rattle.refusals.specs.Accepted.{IsLane}
+use Rattle.mends.specs.Mends.{mendNodes, mendSymbols, Mends}
 
 -- numbers 8 and 11: the lane has n symbols; `nodes` and `symbols` are the lengths of the written buffers, n bytes and n symbols
 unfoldable pub mendsFault : Header → List ℕ → ℕ → ℕ → ℕ

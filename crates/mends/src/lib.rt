@@ -6,10 +6,15 @@ ghost use lib.ListN.{length};
 ghost use Rattle.field.specs.Kinds.{usable};
 ghost use Rattle.generator.specs.Records.{width, Sound};
 ghost use Rattle.layout.specs.Width.{bytesOf};
-ghost use Rattle.mends.specs.Mends.{mendNodes, mendSymbols, IsLane};
+ghost use Rattle.refusals.specs.Accepted.{IsLane};
+ghost use Rattle.mends.specs.Mends.{mendNodes, mendSymbols};
 ghost use Rattle.mends.specs.Promise.{inFront, mendsFault, MendsPromise, MendsSay};
 use generator::Header;
 use generator::Record;
+use refusals::first;
+use refusals::lane_length_bad;
+use refusals::length_bad;
+use refusals::symbols_bad;
 
 mod changes;
 
@@ -37,23 +42,10 @@ fn mends_fault(h: Header, lane: &[u8], nodes: usize, symbols: usize) -> u8
     requires { ⌜ usable (h .field) ≡ true ⌝ }
     ensures { λ r. ⌜ r ≡ mendsFault h (now (lane .entry)) nodes symbols ⌝ }
 {
-    let field = h.field;
-    let w = symbols::width_of(h);
-    let n = h.n as usize;
-    let long = n * w;
-    if lane.len() != long {
-        return 8;
-    }
-    if nodes != n {
-        return 8;
-    }
-    if symbols != long {
-        return 8;
-    }
-    if !symbols::symbols_below(field.size(), w, lane) {
-        return 11;
-    }
-    0
+    let number = first(0, lane_length_bad(h, lane.len()), 8);
+    let number = first(number, length_bad(h.n as usize, nodes), 8);
+    let number = first(number, lane_length_bad(h, symbols), 8);
+    first(number, symbols_bad(h, lane), 11)
 }
 
 // Lists over the header of an accepted record.

@@ -1,6 +1,6 @@
 // The numbers of a plan: d, and k·d / n rounded down and up.
 ghost use mathlib.Core.Path.{_≡_};
-ghost use Prim.Native.Nat.{_*_, _≤_, _<_};
+ghost use Prim.Native.Nat.{_*_, _/_, _≤_, _<_};
 ghost use Rattle.generator.specs.Records.{distance, lowReads, highReads, Sound};
 use generator::Header;
 
@@ -24,13 +24,20 @@ fn entries(h: Header) -> u32
     k * d
 }
 
+// A number over n, rounded down.
+fn over_nodes(h: Header, x: u32) -> u8
+    requires { ⌜ (0 < h .n) × (x < 256 * h .n) ⌝ }
+    ensures { λ r. ⌜ r ≡ x / h .n ⌝ }
+{
+    (x / h.n as u32) as u8
+}
+
 // The least number of symbols that a node depends on.
 pub fn low_reads(h: Header) -> u8
     requires { ⌜ Sound h ⌝ }
     ensures { λ r. ⌜ r ≡ lowReads h ⌝ }
 {
-    let n = h.n as u32;
-    (entries(h) / n) as u8
+    over_nodes(h, entries(h))
 }
 
 // The greatest.
@@ -39,5 +46,5 @@ pub fn high_reads(h: Header) -> u8
     ensures { λ r. ⌜ r ≡ highReads h ⌝ }
 {
     let n = h.n as u32;
-    ((entries(h) + (n - 1)) / n) as u8
+    over_nodes(h, entries(h) + (n - 1))
 }

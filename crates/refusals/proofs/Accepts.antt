@@ -16,7 +16,7 @@ use Rattle.generator.specs.Claims.{areNodes}
 use Rattle.generator.proofs.Widths.{width-some}
 use Rattle.refusals.specs.Conditions.{lanesBad, lengthBad, numberBad, nodesBad, twiceBad, symbolBad, symbolsBad, laneBad, noWord, otherSymbol}
 use Rattle.refusals.specs.Faults.{encodeFault, inputFault, staleFault, updateFault, listFault, recoverFault, rebuildFault, belongsFault, rearrangeFault}
-use Rattle.refusals.specs.Accepted.{SymbolBuffer, ListedShares, UpdatableLane, FreshLane}
+use Rattle.refusals.specs.Accepted.{SymbolBuffer, IsLane, ListedShares, UpdatableLane, FreshLane}
 use Rattle.refusals.proofs.NotMet.{lanes-good, length-good, number-good, nodes-good, twice-good, symbol-good, symbols-good, lane-good, word-good, held-good}
 
 -- a number that is not met, and the numbers after it
@@ -24,6 +24,12 @@ pub not-met : (t : Bool) (n rest : ℕ) → firstOf (when t (suc n)) rest ≡ 0 
 not-met t n rest e =
     let (none, after) = first-zero (when t (suc n)) rest e in
     (when-zero t n none, after)
+
+-- one lane whose length and symbols pass
+pub lane-accepts : (h : Header) (s : List ℕ) → lengthBad (h .n * width h) (length s) ≡ false → symbolsBad h s ≡ false → (length s ≡ h .n * width h) × IsLane h (symbolsOf (width h) s)
+lane-accepts h s eight eleven =
+    let bytes = length-good _ _ eight in
+    (bytes, record { long = count-symbols (width h) (h .n) s (width-some h) bytes; symbols = symbols-good h s eleven })
 
 module _ (h : Header) (sound : Sound h) (l : ℕ) where
   -- rows whose lanes, length and symbols pass

@@ -2,8 +2,7 @@
 use mathlib.Core.Path.{_≡_}
 use mathlib.Core.Bool.{true, false}
 use mathlib.Core.List.{List}
-use Prim.Native.Nat.{ℕ, _*_, _≤_, _<_}
-use native.Mathlib.Nat.{mul-le-mul}
+use Prim.Native.Nat.{ℕ, _≤_, _<_}
 use native.Mathlib.Omega.{arith}
 use borrow.Author.Tests.{eqb-true, eqb-false, ltb-false, leb-false, not-false}
 use lib.Dec.{eqb, ltb}
@@ -24,10 +23,6 @@ unfolding lanesBad
 lanes-good l e =
     let some : l ≡ 0 → ⊥ = eqb-false l 0 (or-left-false (eqb l 0) (ltb 4096 l) e) in
     (omega arith, ltb-false 4096 l (or-right-false (eqb l 0) (ltb 4096 l) e))
-
--- so a buffer has at most 255·4096 bytes
-pub buffer-small : (rows l : ℕ) → rows ≤ 255 → lanesBad l ≡ false → rows * l ≤ 1044480
-buffer-small rows l few good = mul-le-mul few (lanes-good l good .1)
 
 -- number 8
 pub length-good : (stated long : ℕ) → lengthBad stated long ≡ false → long ≡ stated

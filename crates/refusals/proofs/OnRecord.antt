@@ -1,16 +1,17 @@
 -- A promise over a record, from the promise over the header that it holds, or from what holds beside a number.
-use mathlib.Core.Path.{_≡_, refl, _∙_}
+use mathlib.Core.Path.{_≡_, refl, sym, _∙_}
 use mathlib.Core.List.{List}
 use Prim.Native.Nat.{ℕ, zero, suc}
 use native.Mathlib.Omega.{arith}
-use Rattle.lists.specs.Choice.{firstOf}
 use Rattle.lists.proofs.Cases.{first-zero}
 use Rattle.generator.specs.declared.Header.{Header}
+use Rattle.generator.specs.declared.Record.{Record}
 use Rattle.generator.specs.declared.Record.the-variants.{Holds, Meets}
 use Rattle.generator.specs.Records.{headerOf, recordFault, judged, recordOf, Sound}
-use Rattle.generator.proofs.Accepts.{held-header, faultless-sound}
+use Rattle.generator.proofs.Accepts.{held-header, faultless-sound, accepted-sound}
 use Rattle.refusals.specs.Faults.{faultOf}
 use Rattle.refusals.specs.Promise.{OnRecord}
+use Rattle.refusals.proofs.Order.{first-given}
 
 -- a record that meets a number meets its own, which is not 0
 met-number : (rec : List ℕ) (g : ℕ) → recordOf rec ≡ Meets g → (recordFault rec ≡ g) × (g ≡ 0 → ⊥)
@@ -24,16 +25,16 @@ met-number rec g e = go (recordFault rec) refl
         let same : suc f ≡ g = cc in
         (q ∙ same, λ z. omega arith)
 
-first-given : (g a : ℕ) → (g ≡ 0 → ⊥) → firstOf g a ≡ g
-first-given zero a n = absurd (n refl)
-first-given (suc g) a n = refl
-
 -- where neither the record nor the call has a number
 pub none-met : (rec : List ℕ) (call : Header → ℕ) → faultOf rec call ≡ 0 → Sound (headerOf rec) × (call (headerOf rec) ≡ 0)
 unfolding faultOf
 none-met rec call e =
     let (none, after) = first-zero (recordFault rec) (call (headerOf rec)) e in
     (faultless-sound rec none, after)
+
+-- a header that was read is sound
+pub read-sound : (rec : List ℕ) {r : Record} {h : Header} → r ≡ recordOf rec → r ≡ Holds h → Sound h
+read-sound rec {h = h} read held = accepted-sound rec h (sym read ∙ held)
 
 module _ {rec : List ℕ} {call : Header → ℕ} {P : Header → ℕ → Type 0} where
   -- a record that holds a header leaves the number to the call
@@ -49,3 +50,10 @@ module _ {rec : List ℕ} {call : Header → ℕ} {P : Header → ℕ → Type 0
   on-number g e p =
       let (same, some) = met-number rec g e in
       record { promise = rw (same, first-given g (call (headerOf rec)) some) (p (headerOf rec) some) }
+
+  -- the same from what was read
+  pub on-held : {r : Record} {h : Header} → r ≡ recordOf rec → r ≡ Holds h → P h (call h) → OnRecord rec call P
+  on-held {h = h} read held = on-header h (sym read ∙ held)
+
+  pub on-met : {r : Record} {g : ℕ} → r ≡ recordOf rec → r ≡ Meets g → ((h : Header) → (g ≡ 0 → ⊥) → P h g) → OnRecord rec call P
+  on-met {g = g} read met = on-number g (sym read ∙ met)

@@ -38,6 +38,11 @@ pub record SymbolTile (h : Header) (w rows l : ℕ) (s : List ℕ) : Type 0 wher
   pub bytes : length s ≡ w * rows * l
   pub symbol-rows : SymbolRows h rows l (tileSymbols w rows l s)
 
+-- a lane of n symbols
+pub record IsLane (h : Header) (us : List ℕ) : Type 0 where
+  pub long : length us ≡ h .n
+  pub symbols : allBelow (size h) us ≡ true
+
 -- shares of k different nodes
 pub record ListedShares (h : Header) (l : ℕ) (nodes shares : List ℕ) : Type 0 where
   pub buffer : SymbolBuffer h (h .k) l shares

@@ -1,18 +1,19 @@
-// The first of numbers 7 to 11 that a call meets, or 0; `size` is the length of a written buffer.
+// The first of numbers 7 to 11 that a call meets, or 0: each test hands the number met so far on. `size` is the length of a written buffer.
 ghost use mathlib.Core.Path.{_≡_};
 ghost use mathlib.Core.Bool.{true};
 ghost use Rattle.field.specs.Kinds.{usable};
 ghost use Rattle.layout.specs.Layout.{shareLayout};
 ghost use Rattle.refusals.specs.Faults.{encodeFault, inputFault, recoverFault, rebuildFault, belongsFault, rearrangeFault};
 use crate::conditions::buffer_bad;
+use crate::conditions::first;
 use crate::conditions::lanes_bad;
 use crate::conditions::length_bad;
 use crate::conditions::number_bad;
-use crate::field_symbols::lane_bad;
-use crate::field_symbols::shares_bad;
+use crate::field_symbols::first_lane;
+use crate::field_symbols::first_shares;
 use crate::field_symbols::symbol_bad;
 use crate::field_symbols::symbols_bad;
-use crate::nodes::list_fault;
+use crate::nodes::first_list;
 use generator::Header;
 
 // Encode.
@@ -20,21 +21,10 @@ pub fn encode_fault(h: Header, lanes: usize, message: &[u8], size: usize) -> u8
     requires { ⌜ usable (h .field) ≡ true ⌝ }
     ensures { λ r. ⌜ r ≡ encodeFault h lanes size (now (message .entry)) ⌝ }
 {
-    let n = h.n as usize;
-    let k = h.k as usize;
-    if lanes_bad(lanes) {
-        return 7;
-    }
-    if buffer_bad(h, k * lanes, message.len()) {
-        return 8;
-    }
-    if buffer_bad(h, n * lanes, size) {
-        return 8;
-    }
-    if symbols_bad(h, message) {
-        return 11;
-    }
-    0
+    let number = first(0, lanes_bad(lanes), 7);
+    let number = first(number, buffer_bad(h, h.k, lanes, message.len()), 8);
+    let number = first(number, buffer_bad(h, h.n, lanes, size), 8);
+    first(number, symbols_bad(h, message), 11)
 }
 
 // Update: what it is given. Whether its lane is stale is judged afterwards.
@@ -50,30 +40,13 @@ pub fn input_fault(
     requires { ⌜ usable (h .field) ≡ true ⌝ }
     ensures { λ r. ⌜ r ≡ inputFault shareLayout h lanes which lane old new (now (shares .entry)) ⌝ }
 {
-    let n = h.n as usize;
-    let k = h.k as usize;
-    if lanes_bad(lanes) {
-        return 7;
-    }
-    if buffer_bad(h, n * lanes, shares.len()) {
-        return 8;
-    }
-    if number_bad(k, which) {
-        return 9;
-    }
-    if number_bad(lanes, lane) {
-        return 9;
-    }
-    if symbol_bad(h, old) {
-        return 11;
-    }
-    if symbol_bad(h, new) {
-        return 11;
-    }
-    if lane_bad(h, lanes, lane, shares) {
-        return 11;
-    }
-    0
+    let number = first(0, lanes_bad(lanes), 7);
+    let number = first(number, buffer_bad(h, h.n, lanes, shares.len()), 8);
+    let number = first(number, number_bad(h.k as usize, which), 9);
+    let number = first(number, number_bad(lanes, lane), 9);
+    let number = first(number, symbol_bad(h, old), 11);
+    let number = first(number, symbol_bad(h, new), 11);
+    first_lane(number, h, lanes, lane, shares)
 }
 
 // Recover.
@@ -81,21 +54,11 @@ pub fn recover_fault(h: Header, lanes: usize, nodes: &[u8], shares: &[u8], size:
     requires { ⌜ usable (h .field) ≡ true ⌝ }
     ensures { λ r. ⌜ r ≡ recoverFault h lanes (now (nodes .entry)) (now (shares .entry)) size ⌝ }
 {
-    let k = h.k as usize;
-    if lanes_bad(lanes) {
-        return 7;
-    }
-    if length_bad(k, nodes.len()) {
-        return 8;
-    }
-    let long = k * lanes;
-    if buffer_bad(h, long, shares.len()) {
-        return 8;
-    }
-    if buffer_bad(h, long, size) {
-        return 8;
-    }
-    list_fault(h, lanes, nodes, shares)
+    let number = first(0, lanes_bad(lanes), 7);
+    let number = first(number, length_bad(h.k as usize, nodes.len()), 8);
+    let number = first(number, buffer_bad(h, h.k, lanes, shares.len()), 8);
+    let number = first(number, buffer_bad(h, h.k, lanes, size), 8);
+    first_list(number, h, lanes, nodes, shares)
 }
 
 // Rebuild.
@@ -110,24 +73,12 @@ pub fn rebuild_fault(
     requires { ⌜ usable (h .field) ≡ true ⌝ }
     ensures { λ r. ⌜ r ≡ rebuildFault h lanes (now (nodes .entry)) (now (shares .entry)) target size ⌝ }
 {
-    let n = h.n as usize;
-    let k = h.k as usize;
-    if lanes_bad(lanes) {
-        return 7;
-    }
-    if length_bad(k, nodes.len()) {
-        return 8;
-    }
-    if buffer_bad(h, k * lanes, shares.len()) {
-        return 8;
-    }
-    if buffer_bad(h, lanes, size) {
-        return 8;
-    }
-    if number_bad(n, target) {
-        return 9;
-    }
-    list_fault(h, lanes, nodes, shares)
+    let number = first(0, lanes_bad(lanes), 7);
+    let number = first(number, length_bad(h.k as usize, nodes.len()), 8);
+    let number = first(number, buffer_bad(h, h.k, lanes, shares.len()), 8);
+    let number = first(number, buffer_bad(h, 1, lanes, size), 8);
+    let number = first(number, number_bad(h.n as usize, target), 9);
+    first_list(number, h, lanes, nodes, shares)
 }
 
 // Belongs.
@@ -135,17 +86,9 @@ pub fn belongs_fault(h: Header, lanes: usize, shares: &[u8]) -> u8
     requires { ⌜ usable (h .field) ≡ true ⌝ }
     ensures { λ r. ⌜ r ≡ belongsFault h lanes (now (shares .entry)) ⌝ }
 {
-    let n = h.n as usize;
-    if lanes_bad(lanes) {
-        return 7;
-    }
-    if buffer_bad(h, n * lanes, shares.len()) {
-        return 8;
-    }
-    if shares_bad(h, n, lanes, shares) {
-        return 11;
-    }
-    0
+    let number = first(0, lanes_bad(lanes), 7);
+    let number = first(number, buffer_bad(h, h.n, lanes, shares.len()), 8);
+    first_shares(number, h, h.n, lanes, shares)
 }
 
 // to_lanes and to_nodes; `source` is the length of the buffer that is read.
@@ -153,16 +96,7 @@ pub fn rearrange_fault(h: Header, lanes: usize, source: usize, size: usize) -> u
     requires { ⌜ usable (h .field) ≡ true ⌝ }
     ensures { λ r. ⌜ r ≡ rearrangeFault h lanes source size ⌝ }
 {
-    let n = h.n as usize;
-    if lanes_bad(lanes) {
-        return 7;
-    }
-    let long = n * lanes;
-    if buffer_bad(h, long, source) {
-        return 8;
-    }
-    if buffer_bad(h, long, size) {
-        return 8;
-    }
-    0
+    let number = first(0, lanes_bad(lanes), 7);
+    let number = first(number, buffer_bad(h, h.n, lanes, source), 8);
+    first(number, buffer_bad(h, h.n, lanes, size), 8)
 }

@@ -4,9 +4,11 @@ ghost use mathlib.Core.Bool.{true};
 ghost use Prim.Native.Nat.{_*_, _≤_, _<_};
 ghost use lib.ListN.{length};
 ghost use Rattle.field.specs.Kinds.{usable};
+ghost use Rattle.lists.specs.Choice.{firstOf, when};
 ghost use Rattle.layout.specs.Layout.{shareLayout};
 ghost use Rattle.generator.specs.Records.{width};
 ghost use Rattle.refusals.specs.Conditions.{symbolBad, symbolsBad, laneBad};
+use crate::conditions::first;
 use generator::Header;
 
 // A number that is no symbol.
@@ -32,7 +34,7 @@ pub fn symbols_bad(h: Header, s: &[u8]) -> bool
 }
 
 // The same for the shares of some nodes, lane by lane: each lane is handed on as the part from its start to the next one's.
-pub fn shares_bad(h: Header, nodes: usize, lanes: usize, shares: &[u8]) -> bool
+fn shares_bad(h: Header, nodes: usize, lanes: usize, shares: &[u8]) -> bool
     requires { ⌜ (usable (h .field) ≡ true) × (nodes ≤ 255) × (length (now shares) ≡ nodes * lanes * width h) ⌝ }
     ensures { λ r. ⌜ r ≡ symbolsBad h (now (shares .entry)) ⌝ }
 {
@@ -51,7 +53,7 @@ pub fn shares_bad(h: Header, nodes: usize, lanes: usize, shares: &[u8]) -> bool
 }
 
 // A number of one lane that is no symbol: the lane is handed on likewise, and no other byte is read.
-pub fn lane_bad(h: Header, lanes: usize, lane: usize, shares: &[u8]) -> bool
+fn lane_bad(h: Header, lanes: usize, lane: usize, shares: &[u8]) -> bool
     requires { ⌜ (usable (h .field) ≡ true) × (lane < lanes) × (length (now shares) ≡ h .n * lanes * width h) ⌝ }
     ensures { λ r. ⌜ r ≡ laneBad shareLayout h lanes lane (now (shares .entry)) ⌝ }
 {
@@ -60,4 +62,25 @@ pub fn lane_bad(h: Header, lanes: usize, lane: usize, shares: &[u8]) -> bool
     let start = lane * size;
     let end = start + size;
     symbols_bad(h, &shares[start..end])
+}
+
+// The number met so far, else 11 of the shares; and of one lane.
+pub fn first_shares(number: u8, h: Header, nodes: u8, lanes: usize, shares: &[u8]) -> u8
+    requires { ⌜ (usable (h .field) ≡ true) × (number ≡ 0 → length (now shares) ≡ nodes * lanes * width h) ⌝ }
+    ensures { λ r. ⌜ r ≡ firstOf number (when (symbolsBad h (now (shares .entry))) 11) ⌝ }
+{
+    if number != 0 {
+        return number;
+    }
+    first(0, shares_bad(h, nodes as usize, lanes, shares), 11)
+}
+
+pub fn first_lane(number: u8, h: Header, lanes: usize, lane: usize, shares: &[u8]) -> u8
+    requires { ⌜ (usable (h .field) ≡ true) × (number ≡ 0 → (lane < lanes) × (length (now shares) ≡ h .n * lanes * width h)) ⌝ }
+    ensures { λ r. ⌜ r ≡ firstOf number (when (laneBad shareLayout h lanes lane (now (shares .entry))) 11) ⌝ }
+{
+    if number != 0 {
+        return number;
+    }
+    first(0, lane_bad(h, lanes, lane, shares), 11)
 }

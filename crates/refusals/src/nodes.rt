@@ -3,15 +3,17 @@ ghost use mathlib.Core.Path.{_≡_};
 ghost use mathlib.Core.Bool.{true};
 ghost use Prim.Native.Nat.{_*_};
 ghost use lib.ListN.{length};
+ghost use Rattle.lists.specs.Choice.{firstOf};
 ghost use Rattle.field.specs.Kinds.{usable};
 ghost use Rattle.generator.specs.Records.{width};
 ghost use Rattle.refusals.specs.Conditions.{nodesBad, twiceBad};
 ghost use Rattle.refusals.specs.Faults.{listFault};
-use crate::field_symbols::shares_bad;
+use crate::conditions::first;
+use crate::field_symbols::first_shares;
 use generator::Header;
 
 // Number 9: a list names a node that there is not.
-pub fn nodes_bad(h: Header, nodes: &[u8]) -> bool
+fn nodes_bad(h: Header, nodes: &[u8]) -> bool
     ensures { λ r. ⌜ r ≡ nodesBad h (now (nodes .entry)) ⌝ }
 {
     let n = h.n as u32;
@@ -19,7 +21,7 @@ pub fn nodes_bad(h: Header, nodes: &[u8]) -> bool
 }
 
 // Number 10: a node stands twice in a list. Each place is compared with those after it, up to the first repeat.
-pub fn twice_bad(nodes: &[u8]) -> bool
+fn twice_bad(nodes: &[u8]) -> bool
     ensures { λ r. ⌜ r ≡ twiceBad (now (nodes .entry)) ⌝ }
 {
     let mut found = false;
@@ -38,22 +40,14 @@ pub fn twice_bad(nodes: &[u8]) -> bool
     found
 }
 
-// A list of nodes and their shares: the range is tested before repeats, and the symbols last.
-pub fn list_fault(h: Header, lanes: usize, nodes: &[u8], shares: &[u8]) -> u8
-    requires { ⌜ (usable (h .field) ≡ true) × (length (now shares) ≡ h .k * lanes * width h) ⌝ }
-    ensures { λ r. ⌜ r ≡ listFault h (now (nodes .entry)) (now (shares .entry)) ⌝ }
+// A list of nodes and their shares: the number met so far, then the range, repeats, and the symbols last.
+pub fn first_list(number: u8, h: Header, lanes: usize, nodes: &[u8], shares: &[u8]) -> u8
+    requires { ⌜ (usable (h .field) ≡ true) × (number ≡ 0 → length (now shares) ≡ h .k * lanes * width h) ⌝ }
+    ensures { λ r. ⌜ r ≡ firstOf number (listFault h (now (nodes .entry)) (now (shares .entry))) ⌝ }
 {
-    let k = h.k as usize;
     let outside = nodes_bad(h, nodes);
     let twice = twice_bad(nodes);
-    if outside {
-        return 9;
-    }
-    if twice {
-        return 10;
-    }
-    if shares_bad(h, k, lanes, shares) {
-        return 11;
-    }
-    0
+    let number = first(number, outside, 9);
+    let number = first(number, twice, 10);
+    first_shares(number, h, h.k, lanes, shares)
 }

@@ -33,6 +33,10 @@ length-absent n = length-replicate n false
 pub as-read : {A : Type 0} (f : Record → A) {x : A} {read is : Record} (rec : List ℕ) → read ≡ recordOf rec → read ≡ is → x ≡ f is → x ≡ f (recordOf rec)
 as-read f rec e g h = h ∙ ap f (sym g ∙ e)
 
+-- the same of an answer and of a list
+pub both-read : {A B : Type 0} (f : Record → A) (g : Record → B) {x : A} {y : B} {read is : Record} (rec : List ℕ) → read ≡ recordOf rec → read ≡ is → x ≡ f is → y ≡ g is → (x ≡ f (recordOf rec)) × (y ≡ g (recordOf rec))
+both-read f g rec e same answer list = (as-read f rec e same answer, as-read g rec e same list)
+
 abbrev pub made : List ℕ → ℕ → Present
 made nodes count = record { nodes = nodes; count = count }
 

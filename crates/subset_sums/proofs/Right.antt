@@ -212,15 +212,15 @@ module _ (rows groups : ℕ) (ws buffer : List ℕ) (a : Grouped rows groups ws 
     pub output-right : turnsOf 8 groups (tableOf groups buffer) list counts ≡ combined byRow 0 rows 64 ws buffer
     output-right = turns-sums 8 0 refl ∙ sums-end rows 64 ws used weighted ∙ combined-used
 
--- every listed slice lies within the table
-slices-within : (f g n : ℕ) (v : ℕ → ℕ) → ((g : ℕ) → v g < 16) → g + f ≤ n → All (λ o. o + 64 ≤ n * 1024) (slicesFrom f g v)
+-- what holds of every slice of n groups holds of the listed ones
+pub slices-all : (P : ℕ → Type 0) (f g n : ℕ) (v : ℕ → ℕ) → ((i : ℕ) → i < n → P (i * 1024 + v i * 64)) → g + f ≤ n → All P (slicesFrom f g v)
 unfolding slicesFrom
-slices-within zero g n v low h = tt
-slices-within (suc f) g n v low h =
-    let rest = slices-within f (g + 1) n v low (omega arith) in
+slices-all P zero g n v every h = tt
+slices-all P (suc f) g n v every h =
+    let rest = slices-all P f (g + 1) n v every (omega arith) in
     by-test (eqb (v g) 0)
     (λ none. rw none rest)
-    (λ some. rw some (omega (arith, low g), rest))
+    (λ some. rw some (every g (omega arith), rest))
 
 pub subset-low : (ws : List ℕ) (d g : ℕ) → subsetAt ws d g < 16
 unfolding subsetAt
@@ -237,7 +237,7 @@ listing-slices groups ws tab list counts l tab-long =
           let n : ℕ = getD counts b 0 in
           let stretch : List ℕ = take n (drop (b * groups) list) in
           let size : length stretch ≡ n = simp (length-take, length-drop) (omega (arith, l .long, row-inside 8 b groups h, l .few b h)) in
-          let all = All-at (λ o. o + 64 ≤ groups * 1024) 0 (slicesFrom groups 0 (subsetAt ws (7 - b))) (slices-within groups 0 groups (subsetAt ws (7 - b)) (subset-low ws (7 - b)) (omega arith)) i (rw (← l .listed b h) (omega arith)) in
+          let all = All-at (λ o. o + 64 ≤ groups * 1024) 0 (slicesFrom groups 0 (subsetAt ws (7 - b))) (slices-all (λ o. o + 64 ≤ groups * 1024) groups 0 groups (subsetAt ws (7 - b)) (λ i within. omega (arith, subset-low ws (7 - b) i)) (omega arith)) i (rw (← l .listed b h) (omega arith)) in
           rw (tab-long, ← getD-drop (b * groups) list i 0, ← getD-take n (drop (b * groups) list) i 0 below, l .listed b h) all;
     }
 

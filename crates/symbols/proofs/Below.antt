@@ -1,13 +1,11 @@
 -- A test of all values of a function: one at a time.
 use mathlib.Core.Path.{_≡_, sym}
-use mathlib.Core.Bool.{true, false, _&&_, and-true, and-false, and-assoc}
+use mathlib.Core.Bool.{true, false, _&&_, and-true, and-assoc}
 use Prim.Native.Nat.{ℕ, _+_, _-_, _≤_, _<_}
-use native.Mathlib.Omega.{arith}
-use borrow.Author.Tests.{lt-ltb, le-ltb, ltb-true}
+use borrow.Author.Tests.{lt-ltb, le-ltb}
 use lib.Dec.{ltb}
 use Rattle.lists.specs.Numbers.{allBelow}
 use Rattle.lists.specs.Rows.{from}
-use Rattle.lists.proofs.Cases.{by-test}
 use Rattle.lists.proofs.Rows.{from-next, from-end}
 
 module _ (m n : ℕ) (f : ℕ → ℕ) (i : ℕ) where
@@ -34,10 +32,3 @@ module _ (m n : ℕ) (f : ℕ → ℕ) (i : ℕ) where
   pub below-largest : (a : ℕ) → n ≤ i → (ltb a m && allBelow m (from f i (n - i))) ≡ ltb a m
   unfolding allBelow
   below-largest a h = rw (from-end f n i h) (and-true (ltb a m))
-
--- a number is below m where a larger one is
-pub ltb-larger : (a b m : ℕ) → a ≤ b → ltb b m ≡ (ltb a m && ltb b m)
-ltb-larger a b m h =
-    by-test (ltb b m)
-    (λ e. rw (e, lt-ltb a m (omega (arith, ltb-true b m e))))
-    (λ e. rw (e, and-false))

@@ -36,6 +36,10 @@ puts-front {s} {t} {next} {text} p =
     let within : next ≤ length t = rw front (simp length-append (omega arith)) in
     (front, (size, (within, sym (length-take-le next t within))))
 
+-- the same of the text f of a value, given that of an equal value
+pub puts-page : {A : Type 0} {s t : List ℕ} {next : ℕ} (f : A → List ℕ) {x y : A} → x ≡ y → Puts s t 0 next (f x) → (t ≡ f y ++ drop next s) × ((next ≡ length (f y)) × ((next ≤ length t) × (next ≡ length (take next t))))
+puts-page f same p = puts-front (rw (ap f same) at p)
+
 -- a text is to be put at a place
 pub puts-start : (start : List ℕ) (at : ℕ) (text : List ℕ) → at ≤ length start → Fills start start at text (take at start ++ text)
 puts-start start at text h = record { inside = h; long = refl; written = refl; kept = refl }

@@ -7,25 +7,13 @@ ghost use Rattle.layout.specs.Width.{symbolsOf};
 ghost use Rattle.layout.specs.Tiles.{tileBytes};
 use crate::turning::gather;
 
-// Copies a list of bytes.
-fn copy(source: &[u8], out: &mut [u8])
-    requires { ⌜ length (now source) ≡ length (now out) ⌝ }
-    ensures { λ r. ⌜ now (out .exit) ≡ now (source .entry) ⌝ }
-{
-    let mut i = 0;
-    while i < out.len() {
-        out[i] = source[i];
-        i += 1;
-    }
-}
-
 // Gathers a row of symbols of w bytes into w rows of bytes; for one byte it is copied.
 fn gather_row(w: usize, count: usize, source: &[u8], tile: &mut [u8])
     requires { ⌜ (length (now source) ≡ w * count) × (length (now tile) ≡ w * count) ⌝ }
     ensures { λ r. ⌜ now (tile .exit) ≡ rearranged byLane byRow w count (now (source .entry)) ⌝ }
 {
     if w == 1 {
-        copy(source, tile);
+        kernel::copy(source, tile);
         return;
     }
     gather(w, count, source, tile);

@@ -6,14 +6,12 @@ use Prim.Native.Nat.{ℕ, zero, suc, _+_, _-_, _*_, _/_, _%_, _≤_, _<_}
 use native.Mathlib.Nat.{zero-add}
 use native.Mathlib.Omega.{arith}
 use lib.Bits.{bitXor}
-use lib.Dec.{eqb}
 use lib.ListN.{length, getD, take, drop, length-take, length-drop}
 use lib.Seq.{getD-take, getD-drop, drop-append-le, take-at}
 use Rattle.lists.specs.Rows.{from}
 use Rattle.lists.specs.Numbers.{allBelow}
 use Rattle.lists.specs.Padded.{zeros, padded}
 use Rattle.lists.proofs.All.{All, All-at}
-use Rattle.lists.proofs.Cases.{by-test}
 use Rattle.lists.proofs.Numbers.{at-below, below-cons, below-getD, below-drop}
 use Rattle.lists.proofs.Fill.{drop-zeros}
 use Rattle.lists.proofs.Padding.{length-padded, below-padded}
@@ -30,7 +28,7 @@ use Rattle.subset_sums.specs.Subsets.{subset, tableOf as tableOfRows}
 use Rattle.subset_sums.specs.Lists.{subsetAt, slicesFrom, slicesAdded, turnsOf, Slices, Listing, Grouped}
 use Rattle.subset_sums.proofs.Subsets.{subset-ext}
 use Rattle.subset_sums.proofs.Adding.{length-turns}
-use Rattle.subset_sums.proofs.Right.{table-at as rows-at, subset-low, output-right}
+use Rattle.subset_sums.proofs.Right.{table-at as rows-at, subset-low, slices-all, output-right}
 use Rattle.windows.specs.Windows.{windowSums, Windows}
 use Rattle.windows.specs.Tables.{subsetFrom, tableOf, placeOf, Placed, Slicing, sumAt}
 use Rattle.windows.proofs.Tables.{table-at}
@@ -39,14 +37,8 @@ use Rattle.windows.proofs.Tables.{table-at}
 abbrev Slice : ℕ → ℕ → Type 0
 Slice groups o = (o % 64 ≡ 0) × (o < groups * 1024)
 
-slices-are : (f g n : ℕ) (v : ℕ → ℕ) → ((g : ℕ) → v g < 16) → g + f ≤ n → All (Slice n) (slicesFrom f g v)
-unfolding slicesFrom
-slices-are zero g n v low h = tt
-slices-are (suc f) g n v low h =
-    let rest = slices-are f (g + 1) n v low (omega arith) in
-    by-test (eqb (v g) 0)
-    (λ none. rw none rest)
-    (λ some. rw some ((omega arith, omega (arith, low g)), rest))
+slices-are : (groups : ℕ) (v : ℕ → ℕ) → ((g : ℕ) → v g < 16) → All (Slice groups) (slicesFrom groups 0 v)
+slices-are groups v low = slices-all (Slice groups) groups 0 groups v (λ i within. (omega arith, omega (arith, low i))) (omega arith)
 
 -- sums over lists whose values agree
 sums-agree : (f g : ℕ → ℕ) (xs ys : List ℕ) → length xs ≡ length ys → ((i : ℕ) → i < length xs → f (getD xs i 0) ≡ g (getD ys i 0)) → sumOf f xs ≡ sumOf g ys
@@ -143,7 +135,7 @@ module _ (groups at : ℕ) (row : List ℕ) (few : groups ≤ 64) (low : at ≤ 
           (λ i h.
           let short : length (take n (drop (b * groups) (lanewise f rows))) ≡ length (take n (drop (b * groups) rows)) = simp (length-take, length-drop, length-lanewise) refl in
           let inside : i < n = omega arith in
-          let slice : Slice groups (getD (take n (drop (b * groups) rows)) i 0) = All-at (Slice groups) 0 (take n (drop (b * groups) rows)) (rw (l .listed b digit) (slices-are groups 0 groups (subsetAt ws (7 - b)) (subset-low ws (7 - b)) (omega arith))) i (omega arith) in
+          let slice : Slice groups (getD (take n (drop (b * groups) rows)) i 0) = All-at (Slice groups) 0 (take n (drop (b * groups) rows)) (rw (l .listed b digit) (slices-are groups (subsetAt ws (7 - b)) (subset-low ws (7 - b)))) i (omega arith) in
           let here : getD (take n (drop (b * groups) rows)) i 0 ≡ getD rows (b * groups + i) 0 = getD-take n (drop (b * groups) rows) i 0 inside ∙ getD-drop (b * groups) rows i 0 in
           let there : getD (take n (drop (b * groups) (lanewise f rows))) i 0 ≡ placeOf (getD rows (b * groups + i) 0) = getD-take n (drop (b * groups) (lanewise f rows)) i 0 inside ∙ getD-drop (b * groups) (lanewise f rows) i 0 ∙ getD-lanewise f rows (b * groups + i) (omega (arith, l .few b digit)) in
           rw (there, here) (slice-same (getD rows (b * groups + i) 0) t (rw here at slice) lane)))
@@ -188,7 +180,7 @@ slices-inside groups at tab list counts few low long s =
           let n : ℕ = getD counts b 0 in
           let fits : b * groups + groups ≤ length (p .rows) = omega (arith, l .long, row-inside 8 b groups digit) in
           let size : length (take n (drop (b * groups) (p .rows))) ≡ n = simp (length-take, length-drop) (omega (arith, l .few b digit)) in
-          let slice : Slice groups (getD (take n (drop (b * groups) (p .rows))) i 0) = All-at (Slice groups) 0 (take n (drop (b * groups) (p .rows))) (rw (l .listed b digit) (slices-are groups 0 groups (subsetAt (s .weights) (7 - b)) (subset-low (s .weights) (7 - b)) (omega arith))) i (omega arith) in
+          let slice : Slice groups (getD (take n (drop (b * groups) (p .rows))) i 0) = All-at (Slice groups) 0 (take n (drop (b * groups) (p .rows))) (rw (l .listed b digit) (slices-are groups (subsetAt (s .weights) (7 - b)) (subset-low (s .weights) (7 - b)))) i (omega arith) in
           let here : getD (take n (drop (b * groups) (p .rows))) i 0 ≡ getD (p .rows) (b * groups + i) 0 = getD-take n (drop (b * groups) (p .rows)) i 0 below ∙ getD-drop (b * groups) (p .rows) i 0 in
           let there : getD list (b * groups + i) 0 ≡ placeOf (getD (p .rows) (b * groups + i) 0) = ap (λ (os : List ℕ). getD os (b * groups + i) 0) (p .moved) ∙ getD-lanewise f (p .rows) (b * groups + i) (omega (arith, l .few b digit)) in
           let o = rw here at slice in

@@ -16,7 +16,7 @@ module _ (F : Field) where
   infixl 80 _⊗_
   infix 90 ⊖_
   open Field F using (Carrier, 0f, 1f, add as _⊕_, mul as _⊗_, neg as ⊖_, inv)
-  open Field F using (add-comm, add-assoc, add-zero, add-neg, mul-comm, mul-assoc, mul-add, mul-one, mul-inv)
+  open Field F using (add-assoc, add-zero, add-neg, mul-comm, mul-assoc, mul-add, mul-one, mul-inv)
 
   -- differences
   sub-scale : (a x y : Carrier) → a ⊗ (x ⊕ ⊖ y) ≡ a ⊗ x ⊕ ⊖ (a ⊗ y)

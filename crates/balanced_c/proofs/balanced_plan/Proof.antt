@@ -1,5 +1,5 @@
 -- `balanced_plan` meets its contract: the number and nothing written, or every part of the plan.
-use mathlib.Core.Path.{_≡_, sym, _∙_}
+use mathlib.Core.Path.{_≡_}
 use lib.ListN.{length}
 use borrow.Author.Needs.{needs}
 use Rattle.balanced_c.proofs.Plans.{plan-lengths, plan-refused, plan-given}
@@ -27,15 +27,8 @@ put-numbers-requires c κs = lengths (c .before) .0
 put-rows-requires : tie.Need-put-rows-requires
 put-rows-requires c κs = let l = lengths (c .before .before .before .before .before .before) in (l .1, l .2)
 
--- the base word of a plan is an array
-array : (c : tie.After-build-plan) → length (c .build-plan .result .base) ≡ 255
-array c = search needs
-
-copy-symbols-requires : tie.Need-copy-symbols-requires
-copy-symbols-requires c κs =
-    let none = c .before .before .before .before .before .before .before .before .before .before .before .before .before .before .before in
-    let built = none .before .before in
-    array built ∙ sym (lengths none .3)
+put-base-requires : tie.Need-put-base-requires
+put-base-requires c κs = lengths (c .before .before .before .before .before .before .before .before .before .before .before .before) .3
 
 same-length : tie.Need-same-length
 same-length c = search needs
@@ -52,11 +45,11 @@ same-length-4 c = search needs
 returns-2 : tie.Need-returns-2
 returns-2 c =
     let copied = c .before .before in
-    let rows = copied .before .before .before .before .before .before .before .before .before in
+    let rows = copied .before .before .before .before .before .before in
     let numbers = rows .before .before .before .before .before in
     let none = numbers .before .before in
-    plan-given _ _ _ _ _ _ _ (none .before .before .build-plan .ensures) (none .before .plan-fault .ensures) _ _ _ _ (none .if1 .left) (numbers .put-numbers .ensures) (rows .put-rows .ensures) (copied .copy-symbols .ensures)
+    plan-given _ _ _ _ _ _ _ (none .before .before .build-plan .ensures) (none .before .plan-fault .ensures) _ _ _ _ (none .if1 .left) (numbers .put-numbers .ensures) (rows .put-rows .ensures) (copied .put-base .ensures)
 
 pub balanced-plan-spec : {M : Type 1} → statement M
 balanced-plan-spec =
-    tie.close (tie.spec build-plan-requires plan-fault-requires returns put-numbers-requires put-rows-requires copy-symbols-requires same-length same-length-2 same-length-3 same-length-4 returns-2)
+    tie.close (tie.spec build-plan-requires plan-fault-requires returns put-numbers-requires put-rows-requires put-base-requires same-length same-length-2 same-length-3 same-length-4 returns-2)

@@ -1,18 +1,12 @@
 -- `plan_fault` meets its contract.
-use mathlib.Core.Path.{_≡_, refl}
+use mathlib.Core.Path.{_≡_, sym}
 use mathlib.Core.Logic.{⊎-elim}
-use Prim.Native.Nat.{ℕ, zero, suc}
 use lib.Dec.{eqb}
 use borrow.Author.Tests.{eq-eqb, ne-eqb, not-true, not-false}
-use Rattle.lists.specs.Choice.{firstOf}
+use Rattle.refusals.proofs.Order.{first-given}
 use Rattle.balanced_c.specs.Calls.{lengthFault}
 use Rattle.balanced_c.proofs.plan_fault.Statement.{statement}
 use Rattle.balanced_c.proofs.plan_fault.Tie as tie
-
--- a number that is not 0 is the first
-first-given : (a b : ℕ) → (a ≡ 0 → ⊥) → a ≡ firstOf a b
-first-given zero b some = absurd (some refl)
-first-given (suc a) b some = refl
 
 -- number 8 holds where the second test passes
 met : (c : tie.Joined2) → let a = c .before .before .args in 8 ≡ lengthFault (a .numbers) (a .shifts) (a .firsts) (a .base)
@@ -29,7 +23,7 @@ met c =
     (c .if2 .came)
 
 returns : tie.Need-returns
-returns c = first-given _ _ (c .if1 .taken)
+returns c = sym (first-given _ _ (c .if1 .taken))
 
 returns-2 : tie.Need-returns-2
 returns-2 c = rw (c .before .if1 .left) (met c)

@@ -1,22 +1,13 @@
 -- `comparison` meets its contract: the lines of what was read, or the number.
-use mathlib.Core.Path.{_≡_, sym, _∙_}
-use mathlib.Core.List.{List}
-use Prim.Native.Nat.{ℕ}
+use mathlib.Core.Path.{sym, _∙_}
 use borrow.Author.Needs.{needs}
-use Rattle.generator.specs.declared.Record.{Record}
-use Rattle.generator.specs.Records.{recordOf}
 use Rattle.generator.proofs.Accepts.{accepted-sound}
 use Rattle.generator.proofs.Comparison.{compared}
 use Rattle.text.specs.Text.{ascii}
-use Rattle.text.specs.Writing.{Puts}
-use Rattle.text.proofs.Writing.{puts-front}
+use Rattle.text.proofs.Writing.{puts-page}
 use Rattle.compare_text.specs.Comparison.{comparisonFor}
 use Rattle.compare_text.proofs.comparison.Statement.{statement}
 use Rattle.compare_text.proofs.comparison.Tie as tie
-
--- the comparison of what was read is that of the record
-puts-read : {s t : List ℕ} {next : ℕ} (rec : List ℕ) (read : Record) → read ≡ recordOf rec → Puts s t 0 next (comparisonFor read) → Puts s t 0 next (comparisonFor (recordOf rec))
-puts-read rec read e p = rw e at p
 
 read-record-requires : tie.Need-read-record-requires
 read-record-requires c κs = search needs
@@ -25,9 +16,7 @@ enum-known-h : tie.Need-enum-known-h
 enum-known-h c = search needs
 
 put-comparison-requires : tie.Need-put-comparison-requires
-put-comparison-requires c κs =
-    let read = c .before .before .before .before in
-    (accepted-sound (read .before .before .args .rec .now) _ (sym (read .read-record .ensures) ∙ c .before .before .h .given .1), search needs)
+put-comparison-requires c κs = (accepted-sound (c .before .before .before .before .before .before .args .rec .now) _ (sym (c .before .before .before .before .read-record .ensures) ∙ c .before .before .h .given .1), search needs)
 
 enum-known-number : tie.Need-enum-known-number
 enum-known-number c = search needs
@@ -43,20 +32,14 @@ put-line-requires c κs = search needs
 
 returns : tie.Need-returns
 returns c =
-    let bound = c .before .before .before in
-    let read = bound .before .before in
-    let rec = read .before .before .args .rec .now in
-    let (text, (size, fits)) = puts-front (puts-read rec _ (sym (bound .h .given .1) ∙ read .read-record .ensures) (c .put-comparison .ensures)) in
-    (text, (size, (fits, compared rec)))
+    let (text, (size, fits)) = puts-page comparisonFor (sym (c .before .before .before .h .given .1) ∙ c .before .before .before .before .before .read-record .ensures) (c .put-comparison .ensures) in
+    (text, (size, (fits, compared _)))
 
 returns-2 : tie.Need-returns-2
 unfolding comparisonFor ascii
 returns-2 c =
-    let bound = c .before .before .before .before .before in
-    let read = bound .before .before in
-    let rec = read .before .before .args .rec .now in
-    let (text, (size, fits)) = puts-front (puts-read rec _ (sym (bound .number .given .1) ∙ read .read-record .ensures) (c .put-line .ensures .0)) in
-    (text, (size, (fits, compared rec)))
+    let (text, (size, fits)) = puts-page comparisonFor (sym (c .before .before .before .before .before .number .given .1) ∙ c .before .before .before .before .before .before .before .read-record .ensures) (c .put-line .ensures .0) in
+    (text, (size, (fits, compared _)))
 
 pub comparison-spec : {M : Type 1} → statement M
 comparison-spec =

@@ -6,17 +6,14 @@ use Rattle.compare_text.specs.Comparison.{balancedLine}
 use Rattle.compare_text.proofs.put_balanced.Statement.{statement}
 use Rattle.compare_text.proofs.put_balanced.Tie as tie
 
-distance-of-requires : tie.Need-distance-of-requires
-distance-of-requires c κs = search needs
+slice-aggregate-put-cost : tie.Need-slice-aggregate-put-cost
+slice-aggregate-put-cost c = search needs
 
 low-reads-requires : tie.Need-low-reads-requires
 low-reads-requires c κs = search needs
 
 high-reads-requires : tie.Need-high-reads-requires
 high-reads-requires c κs = search needs
-
-slice-aggregate-put-cost : tie.Need-slice-aggregate-put-cost
-slice-aggregate-put-cost c = search needs
 
 slice-aggregate-put-cost-2 : tie.Need-slice-aggregate-put-cost-2
 slice-aggregate-put-cost-2 c = search needs
@@ -29,11 +26,8 @@ same-length c = search needs
 
 returns : tie.Need-returns
 unfolding balancedLine ascii
-returns c =
-    let put = c .before .before in
-    let figure = put .before .before .before .before in
-    (rw (← figure .before .before .distance-of .ensures, ← figure .before .low-reads .ensures, ← figure .high-reads .ensures) (put .put-cost .ensures .0), omega arith)
+returns c = (rw (← c .before .before .before .before .before .low-reads .ensures, ← c .before .before .before .before .high-reads .ensures) (c .before .before .put-cost .ensures .0), omega arith)
 
 pub put-balanced-spec : {M : Type 1} → statement M
 put-balanced-spec =
-    tie.close (tie.spec distance-of-requires low-reads-requires high-reads-requires slice-aggregate-put-cost slice-aggregate-put-cost-2 put-cost-requires same-length returns)
+    tie.close (tie.spec slice-aggregate-put-cost low-reads-requires high-reads-requires slice-aggregate-put-cost-2 put-cost-requires same-length returns)

@@ -6,14 +6,11 @@ use Rattle.compare_text.specs.Comparison.{boundLine}
 use Rattle.compare_text.proofs.put_bound.Statement.{statement}
 use Rattle.compare_text.proofs.put_bound.Tie as tie
 
-distance-of-requires : tie.Need-distance-of-requires
-distance-of-requires c κs = search needs
+slice-aggregate-put-cost : tie.Need-slice-aggregate-put-cost
+slice-aggregate-put-cost c = search needs
 
 high-reads-requires : tie.Need-high-reads-requires
 high-reads-requires c κs = search needs
-
-slice-aggregate-put-cost : tie.Need-slice-aggregate-put-cost
-slice-aggregate-put-cost c = search needs
 
 slice-aggregate-put-cost-2 : tie.Need-slice-aggregate-put-cost-2
 slice-aggregate-put-cost-2 c = search needs
@@ -26,11 +23,8 @@ same-length c = search needs
 
 returns : tie.Need-returns
 unfolding boundLine ascii
-returns c =
-    let put = c .before .before in
-    let figure = put .before .before .before .before in
-    (rw (← figure .before .distance-of .ensures, ← figure .high-reads .ensures) (put .put-cost .ensures .0), omega arith)
+returns c = (rw (← c .before .before .before .before .high-reads .ensures) (c .before .before .put-cost .ensures .0), omega arith)
 
 pub put-bound-spec : {M : Type 1} → statement M
 put-bound-spec =
-    tie.close (tie.spec distance-of-requires high-reads-requires slice-aggregate-put-cost slice-aggregate-put-cost-2 put-cost-requires same-length returns)
+    tie.close (tie.spec slice-aggregate-put-cost high-reads-requires slice-aggregate-put-cost-2 put-cost-requires same-length returns)

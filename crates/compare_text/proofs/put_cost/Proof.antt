@@ -10,6 +10,9 @@ use Rattle.compare_text.proofs.put_cost.Tie as tie
 put-word-requires : tie.Need-put-word-requires
 put-word-requires c κs = search needs
 
+distance-of-requires : tie.Need-distance-of-requires
+distance-of-requires c κs = search needs
+
 put-field-requires : tie.Need-put-field-requires
 put-field-requires c κs = search needs
 
@@ -27,10 +30,9 @@ unfolding costLine ascii
 returns c =
     let ended = c .before .before in
     let written = ended .before .before .before .before .before in
-    let named = written .before .before .before .before in
-    (puts-then (named .put-word .ensures) (puts-then (written .put-field .ensures .0) (ended .put-line .ensures .0) (omega arith)) (omega arith), omega arith)
+    let named = written .before .before .before .before .before in
+    (puts-then (named .put-word .ensures) (puts-then (rw (written .before .distance-of .ensures) at (written .put-field .ensures .0)) (ended .put-line .ensures .0) (omega arith)) (omega arith), omega arith)
 
 pub put-cost-spec : {M : Type 1} → statement M
 put-cost-spec =
-    tie.close
-    (tie.spec put-word-requires put-field-requires slice-aggregate-put-line put-line-requires same-length returns)
+    tie.close (tie.spec put-word-requires distance-of-requires put-field-requires slice-aggregate-put-line put-line-requires same-length returns)

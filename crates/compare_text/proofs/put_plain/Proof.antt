@@ -6,14 +6,11 @@ use Rattle.compare_text.specs.Comparison.{plainLine}
 use Rattle.compare_text.proofs.put_plain.Statement.{statement}
 use Rattle.compare_text.proofs.put_plain.Tie as tie
 
-distance-of-requires : tie.Need-distance-of-requires
-distance-of-requires c κs = search needs
+slice-aggregate-put-cost : tie.Need-slice-aggregate-put-cost
+slice-aggregate-put-cost c = search needs
 
 plain-greatest-requires : tie.Need-plain-greatest-requires
 plain-greatest-requires c κs = search needs
-
-slice-aggregate-put-cost : tie.Need-slice-aggregate-put-cost
-slice-aggregate-put-cost c = search needs
 
 slice-aggregate-put-cost-2 : tie.Need-slice-aggregate-put-cost-2
 slice-aggregate-put-cost-2 c = search needs
@@ -26,11 +23,8 @@ same-length c = search needs
 
 returns : tie.Need-returns
 unfolding plainLine ascii
-returns c =
-    let put = c .before .before in
-    let figure = put .before .before .before .before in
-    (rw (← figure .before .distance-of .ensures, ← figure .plain-greatest .ensures) (put .put-cost .ensures .0), omega arith)
+returns c = (rw (← c .before .before .before .before .plain-greatest .ensures) (c .before .before .put-cost .ensures .0), omega arith)
 
 pub put-plain-spec : {M : Type 1} → statement M
 put-plain-spec =
-    tie.close (tie.spec distance-of-requires plain-greatest-requires slice-aggregate-put-cost slice-aggregate-put-cost-2 put-cost-requires same-length returns)
+    tie.close (tie.spec slice-aggregate-put-cost plain-greatest-requires slice-aggregate-put-cost-2 put-cost-requires same-length returns)

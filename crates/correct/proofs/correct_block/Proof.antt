@@ -1,8 +1,6 @@
 -- `correct_block` meets its contract: the record's number, or what its header gives.
-use mathlib.Core.Path.{sym, _∙_}
 use borrow.Author.Needs.{needs}
-use Rattle.generator.proofs.Accepts.{accepted-sound}
-use Rattle.refusals.proofs.OnRecord.{on-header, on-number}
+use Rattle.refusals.proofs.OnRecord.{read-sound, on-held, on-met}
 use Rattle.layout.specs.Layout.{shareLayout}
 use Rattle.correct.proofs.Answers.{correct-refuses}
 use Rattle.correct.proofs.correct_block.Statement.{statement}
@@ -15,7 +13,7 @@ enum-known-h : tie.Need-enum-known-h
 enum-known-h c = search needs
 
 correct-accepted-requires : tie.Need-correct-accepted-requires
-correct-accepted-requires c κs = accepted-sound (c .before .before .before .before .before .before .before .args .rec .now) _ (sym (c .before .before .before .before .read-record .ensures) ∙ c .before .before .h .given .1)
+correct-accepted-requires c κs = read-sound _ (c .before .before .before .before .read-record .ensures) (c .before .before .h .given .1)
 
 enum-known-number : tie.Need-enum-known-number
 enum-known-number c = search needs
@@ -24,10 +22,10 @@ same-length : tie.Need-same-length
 same-length c = search needs
 
 returns : tie.Need-returns
-returns c = on-header _ (sym (c .before .before .before .before .before .before .before .read-record .ensures) ∙ c .before .before .before .before .before .h .given .1) (c .before .before .correct-accepted .ensures)
+returns c = on-held (c .before .before .before .before .before .before .before .read-record .ensures) (c .before .before .before .before .before .h .given .1) (c .before .before .correct-accepted .ensures)
 
 returns-2 : tie.Need-returns-2
-returns-2 c = on-number _ (sym (c .before .before .before .read-record .ensures) ∙ c .before .number .given .1) (λ h some. correct-refuses shareLayout h _ _ _ some)
+returns-2 c = on-met (c .before .before .before .read-record .ensures) (c .before .number .given .1) (λ h some. correct-refuses shareLayout h _ _ _ some)
 
 pub correct-block-spec : {M : Type 1} → statement M
 correct-block-spec =

@@ -44,5 +44,4 @@ returns-2 : tie.Need-returns-2 Inv-loop μ-loop
 returns-2 c = search needs
 
 pub inverses-spec : {M : Type 1} → statement M
-inverses-spec =
-    tie.close (tie.spec Inv-loop μ-loop slice-aggregate-text text-requires loop-holds inverse-requires cast-number number-requires add-a loop-less loop-again returns returns-2)
+inverses-spec = tie.close (tie.spec Inv-loop μ-loop slice-aggregate-text text-requires loop-holds inverse-requires cast-number number-requires add-a loop-less loop-again returns returns-2)

@@ -44,5 +44,4 @@ returns-2 : tie.Need-returns-2 Inv-loop μ-loop
 returns-2 c = search needs
 
 pub row-spec : {M : Type 1} → statement M
-row-spec =
-    tie.close (tie.spec Inv-loop μ-loop slice-aggregate-value value-requires slice-aggregate-text text-requires loop-holds print-product-requires add-b loop-less loop-again returns returns-2)
+row-spec = tie.close (tie.spec Inv-loop μ-loop slice-aggregate-value value-requires slice-aggregate-text text-requires loop-holds print-product-requires add-b loop-less loop-again returns returns-2)

@@ -32,6 +32,4 @@ returns-2 : tie.Need-returns-2 Inv-loop μ-loop
 returns-2 c = search needs
 
 pub rows-spec : {M : Type 1} → statement M
-rows-spec =
-    tie.close
-    (tie.spec Inv-loop μ-loop loop-holds row-requires add-a loop-less loop-again returns returns-2)
+rows-spec = tie.close (tie.spec Inv-loop μ-loop loop-holds row-requires add-a loop-less loop-again returns returns-2)

@@ -8,7 +8,7 @@ use Rattle.lists.specs.Search.{firstFalse}
 use borrow.Author.Tests.{eq-eqb, ne-eqb}
 use Rattle.find_update.specs.Starts.{differences}
 use Rattle.find_update.proofs.Behind.{differences-lane, finding-is}
-use Rattle.find_update.proofs.Accepts.{lane-part}
+use Rattle.refusals.proofs.LaneSymbols.{lane-part}
 use borrow.Author.Needs.{needs}
 use Rattle.find_update.proofs.find.Statement.{statement}
 use Rattle.find_update.proofs.find.Tie as tie

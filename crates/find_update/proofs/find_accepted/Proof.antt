@@ -1,14 +1,14 @@
 -- `find_accepted` meets its contract: the lanes are compared only where no number is met.
-use mathlib.Core.Path.{_≡_, sym, ap, ap₂, _∙_}
-use Prim.Native.Nat.{ℕ, _≤_}
+use mathlib.Core.Path.{_≡_, sym, ap₂, _∙_}
+use Prim.Native.Nat.{_≤_}
 use native.Mathlib.Omega.{arith}
 use lib.ListN.{take}
 use Rattle.layout.specs.Width.{symbolsOf}
-use Rattle.lists.specs.Padded.{padded}
 use Rattle.generator.specs.Records.{width}
 use Rattle.find_update.specs.Finding.{findingOf}
 use Rattle.find_update.specs.Promise.{answerOf}
-use Rattle.find_update.proofs.Accepts.{Lanes, find-accepts, lane-part, few-bytes, find-refuses}
+use Rattle.refusals.proofs.LaneSymbols.{few-bytes, lane-read}
+use Rattle.find_update.proofs.Accepts.{Lanes, find-accepts, find-refuses}
 use borrow.Author.Needs.{needs}
 use Rattle.find_update.proofs.find_accepted.Statement.{statement}
 use Rattle.find_update.proofs.find_accepted.Tie as tie
@@ -21,18 +21,12 @@ lanes c = find-accepts _ _ _ (sym (c .before .find-fault .ensures) ∙ c .if1 .l
 first : (c : tie.After-read-symbols)
     → let a = c .before .before .before .before .before .before .before .args in
     take (a .h .n) (c .read-symbols .result) ≡ symbolsOf (width (a .h)) (a .before .now)
-first c =
-    let a = c .before .before .before .before .before .before .before .args in
-    ap (take (a .h .n)) (c .read-symbols .ensures ∙ ap (λ (w : ℕ). padded 255 (symbolsOf w (a .before .now))) (c .before .width-of .ensures .0))
-    ∙ lane-part (a .h) _ (lanes (c .before .before .before) .first)
+first c = lane-read _ _ _ _ (lanes (c .before .before .before) .first) (c .before .width-of .ensures .0) (c .read-symbols .ensures)
 
 second : (c : tie.After-read-symbols2)
     → let a = c .before .before .before .before .before .before .before .before .args in
     take (a .h .n) (c .read-symbols2 .result) ≡ symbolsOf (width (a .h)) (a .after .now)
-second c =
-    let a = c .before .before .before .before .before .before .before .before .args in
-    ap (take (a .h .n)) (c .read-symbols2 .ensures ∙ ap (λ (w : ℕ). padded 255 (symbolsOf w (a .after .now))) (c .before .before .width-of .ensures .0))
-    ∙ lane-part (a .h) _ (lanes (c .before .before .before .before) .second)
+second c = lane-read _ _ _ _ (lanes (c .before .before .before .before) .second) (c .before .before .width-of .ensures .0) (c .read-symbols2 .ensures)
 
 find-fault-requires : tie.Need-find-fault-requires
 find-fault-requires c κs = search needs

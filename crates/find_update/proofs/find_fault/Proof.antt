@@ -1,74 +1,42 @@
 -- `find_fault` meets its contract: the tests are those of the definition, in its order.
-use mathlib.Core.Path.{sym, ap, _∙_}
-use mathlib.Core.Bool.{not}
-use Prim.Native.Nat.{ℕ, _≤_}
-use native.Mathlib.Nat.{mul-le-mul}
-use native.Mathlib.Omega.{arith}
-use borrow.Author.Tests.{eq-eqb, ne-eqb}
-use Rattle.lists.specs.Numbers.{allBelow}
-use Rattle.layout.specs.Width.{symbolsOf}
-use Rattle.generator.specs.Records.{size}
-use Rattle.refusals.specs.Conditions.{lengthBad, symbolsBad}
-use Rattle.find_update.specs.Promise.{findFault}
 use borrow.Author.Needs.{needs}
+use Rattle.refusals.proofs.Order.{then, last}
+use Rattle.find_update.specs.Promise.{findFault}
 use Rattle.find_update.proofs.find_fault.Statement.{statement}
 use Rattle.find_update.proofs.find_fault.Tie as tie
 
-width-of-requires : tie.Need-width-of-requires
-width-of-requires c κs = search needs
+lane-length-bad-requires : tie.Need-lane-length-bad-requires
+lane-length-bad-requires c κs = search needs
 
-cast-long : tie.Need-cast-long
-cast-long c = search needs
+first-requires : tie.Need-first-requires
+first-requires c κs = search needs
 
-mul-long : tie.Need-mul-long
-mul-long c =
-    let few : c .before .before .before .before .args .h .n ≤ 255 = omega arith in
-    omega (arith, mul-le-mul few (c .before .width-of .ensures .2))
+lane-length-bad-requires-2 : tie.Need-lane-length-bad-requires-2
+lane-length-bad-requires-2 c κs = search needs
+
+first-requires-2 : tie.Need-first-requires-2
+first-requires-2 c κs = search needs
+
+symbols-bad-requires : tie.Need-symbols-bad-requires
+symbols-bad-requires c κs = search needs
+
+first-requires-3 : tie.Need-first-requires-3
+first-requires-3 c κs = search needs
+
+symbols-bad-requires-2 : tie.Need-symbols-bad-requires-2
+symbols-bad-requires-2 c κs = search needs
+
+first-requires-4 : tie.Need-first-requires-4
+first-requires-4 c κs = search needs
 
 returns : tie.Need-returns
-unfolding findFault lengthBad
-returns c = rw (← c .before .before .width-of .ensures .0, ne-eqb _ _ (c .if1 .taken))
-
-returns-2 : tie.Need-returns-2
-unfolding findFault lengthBad
-returns-2 c = rw (← c .before .before .before .width-of .ensures .0, eq-eqb _ _ (c .before .if1 .left), ne-eqb _ _ (c .if2 .taken))
-
-size-requires : tie.Need-size-requires
-size-requires c κs = search needs
-
-symbols-below-requires : tie.Need-symbols-below-requires
-symbols-below-requires c κs = search needs
-
-returns-3 : tie.Need-returns-3
-unfolding findFault lengthBad symbolsBad
-returns-3 c =
-    let same = c .before .symbols-below .ensures ∙ ap (λ (q : ℕ). allBelow q (symbolsOf (c .before .before .before .before .before .before .width-of .result) (c .before .before .before .before .before .before .before .before .before .args .before .now))) (c .before .before .size .ensures) in
-    rw (← c .before .before .before .before .before .before .width-of .ensures .0, eq-eqb _ _ (c .before .before .before .before .if1 .left), eq-eqb _ _ (c .before .before .before .if2 .left), sym (ap not same) ∙ c .if3 .taken)
-
-size-requires-2 : tie.Need-size-requires-2
-size-requires-2 c κs = search needs
-
-symbols-below-requires-2 : tie.Need-symbols-below-requires-2
-symbols-below-requires-2 c κs = search needs
-
-returns-4 : tie.Need-returns-4
-unfolding findFault lengthBad symbolsBad
-returns-4 c =
-    let w = c .before .before .before .before .before .before .before .before .before .width-of in
-    let start = c .before .before .before .before .before .before .before .before .before .before .before .before in
-    let first = c .before .before .before .before .symbols-below .ensures ∙ ap (λ (q : ℕ). allBelow q (symbolsOf (w .result) (start .args .before .now))) (c .before .before .before .before .before .size .ensures) in
-    let second = c .before .symbols-below2 .ensures ∙ ap (λ (q : ℕ). allBelow q (symbolsOf (w .result) (start .args .after .now))) (c .before .before .size2 .ensures) in
-    rw (← w .ensures .0, eq-eqb _ _ (c .before .before .before .before .before .before .before .if1 .left), eq-eqb _ _ (c .before .before .before .before .before .before .if2 .left), sym (ap not first) ∙ c .before .before .before .if3 .left, sym (ap not second) ∙ c .if4 .taken)
-
-returns-5 : tie.Need-returns-5
-unfolding findFault lengthBad symbolsBad
-returns-5 c =
-    let w = c .before .before .before .before .before .before .before .before .before .width-of in
-    let start = c .before .before .before .before .before .before .before .before .before .before .before .before in
-    let first = c .before .before .before .before .symbols-below .ensures ∙ ap (λ (q : ℕ). allBelow q (symbolsOf (w .result) (start .args .before .now))) (c .before .before .before .before .before .size .ensures) in
-    let second = c .before .symbols-below2 .ensures ∙ ap (λ (q : ℕ). allBelow q (symbolsOf (w .result) (start .args .after .now))) (c .before .before .size2 .ensures) in
-    rw (← w .ensures .0, eq-eqb _ _ (c .before .before .before .before .before .before .before .if1 .left), eq-eqb _ _ (c .before .before .before .before .before .before .if2 .left), sym (ap not first) ∙ c .before .before .before .if3 .left, sym (ap not second) ∙ c .if4 .left)
+unfolding findFault
+returns c =
+    then (c .before .before .before .before .before .before .before .lane-length-bad .ensures) 0 8 _ (c .before .before .before .before .before .before .first .ensures)
+    (then (c .before .before .before .before .before .lane-length-bad2 .ensures) (c .before .before .before .before .before .before .first .result) 8 _ (c .before .before .before .before .first2 .ensures)
+    (then (c .before .before .before .symbols-bad .ensures) (c .before .before .before .before .first2 .result) 11 _ (c .before .before .first3 .ensures)
+    (last (c .before .symbols-bad2 .ensures) (c .before .before .first3 .result) 11 (c .first4 .ensures))))
 
 pub find-fault-spec : {M : Type 1} → statement M
 find-fault-spec =
-    tie.close (tie.spec width-of-requires cast-long mul-long returns returns-2 size-requires symbols-below-requires returns-3 size-requires-2 symbols-below-requires-2 returns-4 returns-5)
+    tie.close (tie.spec lane-length-bad-requires first-requires lane-length-bad-requires-2 first-requires-2 symbols-bad-requires first-requires-3 symbols-bad-requires-2 first-requires-4 returns)

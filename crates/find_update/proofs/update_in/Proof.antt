@@ -1,10 +1,25 @@
 -- `update_in` meets its contract: the tests are those of the definition.
+use mathlib.Core.Path.{_≡_}
 use borrow.Author.Tests.{eq-eqb, ne-eqb, lt-ltb, le-ltb}
+use lib.Dec.{eqb}
+use lib.ListN.{length}
+use Rattle.lists.specs.Choice.{pick}
+use Rattle.find_update.specs.declared.Finding.the-variants.{Added, NoSingleUpdate}
 use Rattle.find_update.specs.Starts.{updateIn}
 use Rattle.find_update.proofs.Behind.{amount-symbol}
 use borrow.Author.Needs.{needs}
 use Rattle.find_update.proofs.update_in.Statement.{statement}
 use Rattle.find_update.proofs.update_in.Tie as tie
+
+-- what comparing the row with the difference says
+compared : (c : tie.After-first-other)
+    → let a = c .before .before .before .before .before .before .args in
+    pick (eqb (c .first-other .result) (length (a .difference .now))) (Added (c .before .before .before .row-at .result) (c .before .amount-in .result)) NoSingleUpdate
+    ≡ updateIn (a .h) (a .difference .now)
+unfolding updateIn
+compared c =
+    let (sound, plan, lane) = c .before .before .before .before .before .before .pre in
+    rw (lane .long, ← c .before .before .before .row-at .ensures, lt-ltb _ _ (c .before .before .if1 .left), ← c .before .amount-in .ensures, ← c .first-other .ensures)
 
 cast-k : tie.Need-cast-k
 cast-k c = search needs
@@ -25,23 +40,13 @@ first-other-requires c κs =
     (sound, plan, c .before .if1 .left, rw (c .amount-in .ensures) (amount-symbol _ sound _ lane _ (c .before .if1 .left)), lane .long)
 
 returns-2 : tie.Need-returns-2
-unfolding updateIn
-returns-2 c =
-    let (sound, plan, lane) = c .before .before .before .before .before .before .before .pre in
-    let row = c .before .before .before .before .row-at .ensures in
-    let amount = c .before .before .amount-in .ensures in
-    rw (← row, lt-ltb _ _ (c .before .before .before .if1 .left), ← amount, ← c .before .first-other .ensures, ne-eqb _ _ (rw (lane .long) at (c .if2 .taken)))
+returns-2 c = rw (ne-eqb _ _ (c .if2 .taken)) at (compared (c .before))
 
 cast-t10 : tie.Need-cast-t10
 cast-t10 c = search needs
 
 returns-3 : tie.Need-returns-3
-unfolding updateIn
-returns-3 c =
-    let (sound, plan, lane) = c .before .before .before .before .before .before .before .pre in
-    let row = c .before .before .before .before .row-at .ensures in
-    let amount = c .before .before .amount-in .ensures in
-    rw (← row, lt-ltb _ _ (c .before .before .before .if1 .left), ← amount, ← c .before .first-other .ensures, eq-eqb _ _ (rw (lane .long) at (c .if2 .left)))
+returns-3 c = rw (eq-eqb _ _ (c .if2 .left)) at (compared (c .before))
 
 pub update-in-spec : {M : Type 1} → statement M
 update-in-spec =

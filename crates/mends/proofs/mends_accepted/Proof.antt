@@ -1,16 +1,16 @@
 -- `mends_accepted` meets its contract: the lane is read and the list made only where no number is met.
 use mathlib.Core.Path.{_≡_, sym, ap, _∙_}
-use Prim.Native.Nat.{ℕ, _≤_}
+use Prim.Native.Nat.{_≤_}
 use native.Mathlib.Omega.{arith}
 use borrow.Author.Needs.{needs}
 use lib.ListN.{length, take}
-use Rattle.lists.specs.Padded.{padded}
 use Rattle.layout.specs.Width.{symbolsOf}
 use Rattle.generator.specs.Records.{width}
+use Rattle.refusals.proofs.LaneSymbols.{few-bytes, lane-read}
 use Rattle.mends.specs.declared.Mending.the-variants.{Listed}
 use Rattle.mends.specs.Promise.{mendingOf}
 use Rattle.mends.proofs.Meaning.{mends-few}
-use Rattle.mends.proofs.Accepts.{Given, mends-accepts, lane-part, few-bytes, mends-refuses}
+use Rattle.mends.proofs.Accepts.{Given, mends-accepts, mends-refuses}
 use Rattle.mends.proofs.mends_accepted.Statement.{statement}
 use Rattle.mends.proofs.mends_accepted.Tie as tie
 
@@ -22,10 +22,7 @@ given c = mends-accepts _ _ _ _ (sym (c .before .mends-fault .ensures) ∙ c .if
 part : (c : tie.After-read-symbols)
     → let a = c .before .before .before .before .before .before .before .before .args in
     take (a .h .n) (c .read-symbols .result) ≡ symbolsOf (width (a .h)) (a .lane .now)
-part c =
-    let a = c .before .before .before .before .before .before .before .before .args in
-    ap (take (a .h .n)) (c .read-symbols .ensures ∙ ap (λ (w : ℕ). padded 255 (symbolsOf w (a .lane .now))) (c .before .width-of .ensures .0))
-    ∙ lane-part (a .h) _ (given (c .before .before .before) .lane-is)
+part c = lane-read _ _ _ _ (given (c .before .before .before) .lane-is) (c .before .width-of .ensures .0) (c .read-symbols .ensures)
 
 mends-fault-requires : tie.Need-mends-fault-requires
 mends-fault-requires c κs = search needs

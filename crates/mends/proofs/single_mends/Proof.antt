@@ -1,8 +1,7 @@
 -- `single_mends` meets its contract: the promise over the header that was read, or the record's number.
-use mathlib.Core.Path.{refl, sym, _∙_}
+use mathlib.Core.Path.{refl}
 use borrow.Author.Needs.{needs}
-use Rattle.generator.proofs.Accepts.{accepted-sound}
-use Rattle.refusals.proofs.OnRecord.{on-header, on-number}
+use Rattle.refusals.proofs.OnRecord.{read-sound, on-held, on-met}
 use Rattle.mends.proofs.Accepts.{mends-refuses, mended-lanes}
 use Rattle.mends.proofs.single_mends.Statement.{statement}
 use Rattle.mends.proofs.single_mends.Tie as tie
@@ -14,8 +13,7 @@ enum-known-h : tie.Need-enum-known-h
 enum-known-h c = search needs
 
 mends-accepted-requires : tie.Need-mends-accepted-requires
-mends-accepted-requires c κs =
-    accepted-sound (c .before .before .before .before .before .before .before .before .before .before .args .rec .now) _ (sym (c .before .before .before .before .before .read-record .ensures) ∙ c .before .before .before .h .given .1)
+mends-accepted-requires c κs = read-sound _ (c .before .before .before .before .before .read-record .ensures) (c .before .before .before .h .given .1)
 
 enum-known-number : tie.Need-enum-known-number
 enum-known-number c = search needs
@@ -28,13 +26,11 @@ same-length-2 c = search needs
 
 returns : tie.Need-returns
 returns c =
-    let read = sym (c .before .before .before .before .before .before .before .before .before .before .read-record .ensures) ∙ c .before .before .before .before .before .before .before .before .h .given .1 in
-    record { listed = on-header _ read (c .before .before .before .before .mends-accepted .ensures); claims = mended-lanes _ _ refl }
+    record { listed = on-held (c .before .before .before .before .before .before .before .before .before .before .read-record .ensures) (c .before .before .before .before .before .before .before .before .h .given .1) (c .before .before .before .before .mends-accepted .ensures); claims = mended-lanes _ _ refl }
 
 returns-2 : tie.Need-returns-2
 returns-2 c =
-    let read = sym (c .before .before .before .read-record .ensures) ∙ c .before .number .given .1 in
-    record { listed = on-number _ read (λ h some. mends-refuses h _ some _ _ _); claims = mended-lanes _ _ refl }
+    record { listed = on-met (c .before .before .before .read-record .ensures) (c .before .number .given .1) (λ h some. mends-refuses h _ some _ _ _); claims = mended-lanes _ _ refl }
 
 pub single-mends-spec : {M : Type 1} → statement M
 single-mends-spec =

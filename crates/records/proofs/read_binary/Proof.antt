@@ -36,13 +36,4 @@ returns-2 c =
 
 pub read-binary-spec : {M : Type 1} → statement M
 read-binary-spec =
-    tie.close
-    (tie.spec
-    returns
-    new-requires
-    shared-slice-read-t7
-    cast-t8
-    shared-slice-read-t10
-    shared-slice-read-t12
-    judge-requires
-    returns-2)
+    tie.close (tie.spec returns new-requires shared-slice-read-t7 cast-t8 shared-slice-read-t10 shared-slice-read-t12 judge-requires returns-2)

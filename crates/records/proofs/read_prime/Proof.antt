@@ -48,17 +48,4 @@ returns-3 c =
 
 pub read-prime-spec : {M : Type 1} → statement M
 read-prime-spec =
-    tie.close
-    (tie.spec
-    returns
-    shared-slice-read-p
-    cast-p
-    prime-in-requires
-    returns-2
-    new-requires
-    shared-slice-read-t7
-    cast-t11
-    shared-slice-read-t13
-    shared-slice-read-t15
-    judge-requires
-    returns-3)
+    tie.close (tie.spec returns shared-slice-read-p cast-p prime-in-requires returns-2 new-requires shared-slice-read-t7 cast-t11 shared-slice-read-t13 shared-slice-read-t15 judge-requires returns-3)

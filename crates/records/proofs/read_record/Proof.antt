@@ -34,14 +34,4 @@ returns-5 c = kind-unread _ (λ e. omega arith) (λ e. omega arith) (λ e. omega
 
 pub read-record-spec : {M : Type 1} → statement M
 read-record-spec =
-    tie.close
-    (tie.spec
-    returns
-    shared-slice-read-kind
-    read-prime-requires
-    read-binary-requires
-    read-wide-requires
-    returns-2
-    returns-3
-    returns-4
-    returns-5)
+    tie.close (tie.spec returns shared-slice-read-kind read-prime-requires read-binary-requires read-wide-requires returns-2 returns-3 returns-4 returns-5)

@@ -56,19 +56,4 @@ returns-3 c =
 
 pub read-wide-spec : {M : Type 1} → statement M
 read-wide-spec =
-    tie.close
-    (tie.spec
-    returns
-    shared-slice-read-pair
-    shared-slice-read-pair-2
-    pair-requires
-    prime-in-requires
-    returns-2
-    shared-slice-read-pair-3
-    shared-slice-read-pair-4
-    pair-requires-2
-    new-requires
-    shared-slice-read-t10
-    shared-slice-read-t8
-    judge-requires
-    returns-3)
+    tie.close (tie.spec returns shared-slice-read-pair shared-slice-read-pair-2 pair-requires prime-in-requires returns-2 shared-slice-read-pair-3 shared-slice-read-pair-4 pair-requires-2 new-requires shared-slice-read-t10 shared-slice-read-t8 judge-requires returns-3)

@@ -46,14 +46,4 @@ returns c = λ m some. c .before .loop .inv .1 m some ∙ below-largest m _ _ (c
 
 pub largest-pair-spec : {M : Type 1} → statement M
 largest-pair-spec =
-    tie.close
-    (tie.spec
-    Inv-loop
-    μ-loop
-    loop-holds
-    symbol-at-requires
-    larger-requires
-    add-i
-    loop-less
-    loop-again
-    returns)
+    tie.close (tie.spec Inv-loop μ-loop loop-holds symbol-at-requires larger-requires add-i loop-less loop-again returns)

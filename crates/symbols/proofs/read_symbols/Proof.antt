@@ -46,16 +46,4 @@ returns c = filled-end (c .before .loop .inv) (c .loop-test .left)
 
 pub read-symbols-spec : {M : Type 1} → statement M
 read-symbols-spec =
-    tie.close
-    (tie.spec
-    Inv-loop
-    μ-loop
-    div-count
-    loop-holds
-    symbol-at-requires
-    mul-symbols
-    array-write-symbols
-    add-i
-    loop-less
-    loop-again
-    returns)
+    tie.close (tie.spec Inv-loop μ-loop div-count loop-holds symbol-at-requires mul-symbols array-write-symbols add-i loop-less loop-again returns)

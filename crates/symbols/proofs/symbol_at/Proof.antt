@@ -56,17 +56,4 @@ returns-2 c = sym (pair-is _ _ _ (c .before .before .before .pre .2) (two (c .be
 
 pub symbol-at-spec : {M : Type 1} → statement M
 symbol-at-spec =
-    tie.close
-    (tie.spec
-    shared-slice-read-result
-    cast-result
-    returns
-    mul-at
-    shared-slice-read-result-2
-    cast-result-2
-    mul-result
-    add-result
-    shared-slice-read-result-3
-    cast-result-3
-    add-result-2
-    returns-2)
+    tie.close (tie.spec shared-slice-read-result cast-result returns mul-at shared-slice-read-result-2 cast-result-2 mul-result add-result shared-slice-read-result-3 cast-result-3 add-result-2 returns-2)

@@ -46,15 +46,4 @@ returns-2 c = two-written _ _ (c .before .args .out .now) (two c) (c .before .pr
 
 pub write-symbol-spec : {M : Type 1} → statement M
 write-symbol-spec =
-    tie.close
-    (tie.spec
-    cast-out
-    slice-write-out
-    same-length
-    returns
-    cast-out-2
-    slice-write-out-2
-    cast-out-3
-    slice-write-out-3
-    same-length-2
-    returns-2)
+    tie.close (tie.spec cast-out slice-write-out same-length returns cast-out-2 slice-write-out-2 cast-out-3 slice-write-out-3 same-length-2 returns-2)

@@ -89,21 +89,4 @@ returns c =
 
 pub write-symbols-spec : {M : Type 1} → statement M
 write-symbols-spec =
-    tie.close
-    (tie.spec
-    Inv-loop
-    μ-loop
-    loop-holds
-    mul-start
-    add-end
-    mul-write-symbol
-    shared-slice-read-write-symbol
-    sub-write-symbol
-    part-write-symbol-start
-    part-write-symbol-end
-    write-symbol-requires
-    add-i
-    loop-less
-    loop-again
-    same-length
-    returns)
+    tie.close (tie.spec Inv-loop μ-loop loop-holds mul-start add-end mul-write-symbol shared-slice-read-write-symbol sub-write-symbol part-write-symbol-start part-write-symbol-end write-symbol-requires add-i loop-less loop-again same-length returns)

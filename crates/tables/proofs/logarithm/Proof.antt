@@ -34,5 +34,4 @@ returns-2 : tie.Need-returns-2 Inv-loop μ-loop
 returns-2 c = search needs
 
 pub logarithm-spec : {M : Type 1} → statement M
-logarithm-spec =
-    tie.close (tie.spec Inv-loop μ-loop loop-holds next-requires add-e loop-less loop-again returns returns-2)
+logarithm-spec = tie.close (tie.spec Inv-loop μ-loop loop-holds next-requires add-e loop-less loop-again returns returns-2)

@@ -32,5 +32,4 @@ returns : tie.Need-returns Inv-loop μ-loop
 returns c = search needs
 
 pub logarithms-spec : {M : Type 1} → statement M
-logarithms-spec =
-    tie.close (tie.spec Inv-loop μ-loop loop-holds logarithm-requires line-requires add-a loop-less loop-again returns)
+logarithms-spec = tie.close (tie.spec Inv-loop μ-loop loop-holds logarithm-requires line-requires add-a loop-less loop-again returns)

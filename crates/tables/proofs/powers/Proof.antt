@@ -34,5 +34,4 @@ returns : tie.Need-returns Inv-loop μ-loop
 returns c = search needs
 
 pub powers-spec : {M : Type 1} → statement M
-powers-spec =
-    tie.close (tie.spec Inv-loop μ-loop loop-holds line-requires next-requires add-e loop-less loop-again returns)
+powers-spec = tie.close (tie.spec Inv-loop μ-loop loop-holds line-requires next-requires add-e loop-less loop-again returns)

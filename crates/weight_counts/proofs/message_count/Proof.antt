@@ -48,5 +48,4 @@ returns-2 c =
 
 pub message-count-spec : {M : Type 1} → statement M
 message-count-spec =
-    tie.close
-    (tie.spec Inv-loop μ-loop loop-holds mul-total returns add-r loop-less loop-again returns-2)
+    tie.close (tie.spec Inv-loop μ-loop loop-holds mul-total returns add-r loop-less loop-again returns-2)

@@ -1,8 +1,7 @@
 -- `weight_counts` meets its contract: the record's number, or what counting over its header gives.
-use mathlib.Core.Path.{refl, sym, _∙_}
+use mathlib.Core.Path.{refl}
 use borrow.Author.Needs.{needs}
-use Rattle.generator.proofs.Accepts.{accepted-sound}
-use Rattle.refusals.proofs.OnRecord.{on-header, on-number}
+use Rattle.refusals.proofs.OnRecord.{read-sound, on-held, on-met}
 use Rattle.weight_counts.proofs.Refused.{weights-refuses}
 use Rattle.weight_counts.proofs.Weights.{distributed}
 use Rattle.weight_counts.proofs.weight_counts.Statement.{statement}
@@ -15,8 +14,7 @@ enum-known-h : tie.Need-enum-known-h
 enum-known-h c = search needs
 
 counts-accepted-requires : tie.Need-counts-accepted-requires
-counts-accepted-requires c κs =
-    accepted-sound (c .before .before .before .before .before .before .before .args .rec .now) _ (sym (c .before .before .before .before .read-record .ensures) ∙ c .before .before .h .given .1)
+counts-accepted-requires c κs = read-sound _ (c .before .before .before .before .read-record .ensures) (c .before .before .h .given .1)
 
 enum-known-number : tie.Need-enum-known-number
 enum-known-number c = search needs
@@ -26,13 +24,11 @@ same-length c = search needs
 
 returns : tie.Need-returns
 returns c =
-    let read = sym (c .before .before .before .before .before .before .before .read-record .ensures) ∙ c .before .before .before .before .before .h .given .1 in
-    record { counted = on-header _ read (c .before .before .counts-accepted .ensures); claims = distributed _ _ refl }
+    record { counted = on-held (c .before .before .before .before .before .before .before .read-record .ensures) (c .before .before .before .before .before .h .given .1) (c .before .before .counts-accepted .ensures); claims = distributed _ _ refl }
 
 returns-2 : tie.Need-returns-2
 returns-2 c =
-    let read = sym (c .before .before .before .read-record .ensures) ∙ c .before .number .given .1 in
-    record { counted = on-number _ read (λ h some. weights-refuses h _ some _); claims = distributed _ _ refl }
+    record { counted = on-met (c .before .before .before .read-record .ensures) (c .before .number .given .1) (λ h some. weights-refuses h _ some _); claims = distributed _ _ refl }
 
 pub weight-counts-spec : {M : Type 1} → statement M
 weight-counts-spec =

@@ -52,5 +52,4 @@ returns-3 c =
 
 pub weights-fault-spec : {M : Type 1} → statement M
 weights-fault-spec =
-    tie.close
-    (tie.spec cast-n add-if1 returns size-requires message-count-requires returns-2 returns-3)
+    tie.close (tie.spec cast-n add-if1 returns size-requires message-count-requires returns-2 returns-3)

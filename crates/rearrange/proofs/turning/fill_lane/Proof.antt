@@ -121,22 +121,4 @@ returns c =
 
 pub fill-lane-spec : {M : Type 1} → statement M
 fill-lane-spec =
-    tie.close
-    (tie.spec
-    Inv-loop
-    μ-loop
-    loop-holds
-    mul-start
-    add-end
-    mul-symbol-at
-    add-symbol-at
-    symbol-at-requires
-    sub-write-symbol
-    part-write-symbol-start
-    part-write-symbol-end
-    write-symbol-requires
-    add-i
-    loop-less
-    loop-again
-    same-length
-    returns)
+    tie.close (tie.spec Inv-loop μ-loop loop-holds mul-start add-end mul-symbol-at add-symbol-at symbol-at-requires sub-write-symbol part-write-symbol-start part-write-symbol-end write-symbol-requires add-i loop-less loop-again same-length returns)

@@ -1,96 +1,61 @@
 -- `rebuild_fault` meets its contract: the tests are those of the definition, in its order.
-use mathlib.Core.Path.{sym, _∙_}
+use native.Mathlib.Nat.{one-mul}
 use borrow.Author.Needs.{needs}
-use Prim.Native.Nat.{_≤_}
-use native.Mathlib.Omega.{arith}
 use Rattle.refusals.specs.Faults.{rebuildFault}
-use Rattle.refusals.proofs.NotMet.{lanes-good, buffer-small, length-good}
+use Rattle.refusals.proofs.NotMet.{length-good}
+use Rattle.refusals.proofs.Order.{then, passed, before}
 use Rattle.refusals.proofs.faults.rebuild_fault.Statement.{statement}
 use Rattle.refusals.proofs.faults.rebuild_fault.Tie as tie
-
-cast-n : tie.Need-cast-n
-cast-n c = search needs
-
-cast-k : tie.Need-cast-k
-cast-k c = search needs
 
 lanes-bad-requires : tie.Need-lanes-bad-requires
 lanes-bad-requires c κs = search needs
 
-returns : tie.Need-returns
-unfolding rebuildFault
-returns c = rw (sym (c .before .lanes-bad .ensures) ∙ c .if1 .taken)
+first-requires : tie.Need-first-requires
+first-requires c κs = search needs
+
+cast-length-bad : tie.Need-cast-length-bad
+cast-length-bad c = search needs
 
 length-bad-requires : tie.Need-length-bad-requires
 length-bad-requires c κs = search needs
 
-returns-2 : tie.Need-returns-2
-unfolding rebuildFault
-returns-2 c = rw (
-  sym (c .before .before .before .lanes-bad .ensures) ∙ c .before .before .if1 .left,
-  sym (c .before .length-bad .ensures) ∙ c .if2 .taken,
-)
-
-mul-buffer-bad : tie.Need-mul-buffer-bad
-mul-buffer-bad c =
-    let few : c .before .before .before .before .before .before .before .before .args .h .k ≤ 255 = omega arith in
-    omega (arith, buffer-small _ _ few (sym (c .before .before .before .lanes-bad .ensures) ∙ c .before .before .if1 .left))
+first-requires-2 : tie.Need-first-requires-2
+first-requires-2 c κs = search needs
 
 buffer-bad-requires : tie.Need-buffer-bad-requires
-buffer-bad-requires c κs =
-    let st = c .before .before .before .before .before .before .before .before in
-    let few : st .args .h .k ≤ 255 = omega arith in
-    (st .pre, buffer-small _ _ few (sym (c .before .before .before .lanes-bad .ensures) ∙ c .before .before .if1 .left))
+buffer-bad-requires c κs = search needs
 
-returns-3 : tie.Need-returns-3
-unfolding rebuildFault
-returns-3 c = rw (
-  sym (c .before .before .before .before .before .lanes-bad .ensures) ∙ c .before .before .before .before .if1 .left,
-  sym (c .before .before .before .length-bad .ensures) ∙ c .before .before .if2 .left,
-  sym (c .before .buffer-bad .ensures) ∙ c .if3 .taken,
-)
+first-requires-3 : tie.Need-first-requires-3
+first-requires-3 c κs = search needs
 
 buffer-bad-requires-2 : tie.Need-buffer-bad-requires-2
-buffer-bad-requires-2 c κs =
-    let good = lanes-good _ (sym (c .before .before .before .before .before .lanes-bad .ensures) ∙ c .before .before .before .before .if1 .left) in
-    (c .before .before .before .before .before .before .before .before .before .before .pre, omega (arith, good .1))
+buffer-bad-requires-2 c κs = search needs
 
-returns-4 : tie.Need-returns-4
-unfolding rebuildFault
-returns-4 c = rw (
-  sym (c .before .before .before .before .before .before .before .lanes-bad .ensures) ∙ c .before .before .before .before .before .before .if1 .left,
-  sym (c .before .before .before .before .before .length-bad .ensures) ∙ c .before .before .before .before .if2 .left,
-  sym (c .before .before .before .buffer-bad .ensures) ∙ c .before .before .if3 .left,
-  sym (c .before .buffer-bad2 .ensures) ∙ c .if4 .taken,
-)
+first-requires-4 : tie.Need-first-requires-4
+first-requires-4 c κs = search needs
+
+cast-number-bad : tie.Need-cast-number-bad
+cast-number-bad c = search needs
 
 number-bad-requires : tie.Need-number-bad-requires
 number-bad-requires c κs = search needs
 
-returns-5 : tie.Need-returns-5
-unfolding rebuildFault
-returns-5 c = rw (
-  sym (c .before .before .before .before .before .before .before .before .before .lanes-bad .ensures) ∙ c .before .before .before .before .before .before .before .before .if1 .left,
-  sym (c .before .before .before .before .before .before .before .length-bad .ensures) ∙ c .before .before .before .before .before .before .if2 .left,
-  sym (c .before .before .before .before .before .buffer-bad .ensures) ∙ c .before .before .before .before .if3 .left,
-  sym (c .before .before .before .buffer-bad2 .ensures) ∙ c .before .before .if4 .left,
-  sym (c .before .number-bad .ensures) ∙ c .if5 .taken,
-)
+first-requires-5 : tie.Need-first-requires-5
+first-requires-5 c κs = search needs
 
-list-fault-requires : tie.Need-list-fault-requires
-list-fault-requires c κs = (c .before .before .before .before .before .before .before .before .before .before .before .before .before .before .pre, length-good _ _ (sym (c .before .before .before .before .before .buffer-bad .ensures) ∙ c .before .before .before .before .if3 .left))
+first-list-requires : tie.Need-first-list-requires
+first-list-requires c κs = (c .before .before .before .before .before .before .before .before .before .before .before .before .before .before .pre, λ e. length-good _ _ (passed (c .before .before .before .before .before .before .buffer-bad .ensures) (c .before .before .before .before .before .before .before .first2 .result) 7 (c .before .before .before .before .before .first3 .ensures) (before (c .before .before .before .before .before .first3 .result) _ (c .before .before .before .first4 .ensures) (before (c .before .before .before .first4 .result) _ (c .first5 .ensures) e))))
 
-returns-6 : tie.Need-returns-6
+returns : tie.Need-returns
 unfolding rebuildFault
-returns-6 c = rw (
-  sym (c .before .before .before .before .before .before .before .before .before .before .lanes-bad .ensures) ∙ c .before .before .before .before .before .before .before .before .before .if1 .left,
-  sym (c .before .before .before .before .before .before .before .before .length-bad .ensures) ∙ c .before .before .before .before .before .before .before .if2 .left,
-  sym (c .before .before .before .before .before .before .buffer-bad .ensures) ∙ c .before .before .before .before .before .if3 .left,
-  sym (c .before .before .before .before .buffer-bad2 .ensures) ∙ c .before .before .before .if4 .left,
-  sym (c .before .before .number-bad .ensures) ∙ c .before .if5 .left,
-)
-    (c .list-fault .ensures)
+returns c =
+    then (c .before .before .before .before .before .before .before .before .before .before .before .before .lanes-bad .ensures) 0 7 _ (c .before .before .before .before .before .before .before .before .before .before .before .first .ensures)
+    (then (c .before .before .before .before .before .before .before .before .before .length-bad .ensures) (c .before .before .before .before .before .before .before .before .before .before .before .first .result) 8 _ (c .before .before .before .before .before .before .before .before .first2 .ensures)
+    (then (c .before .before .before .before .before .before .before .buffer-bad .ensures) (c .before .before .before .before .before .before .before .before .first2 .result) 8 _ (c .before .before .before .before .before .before .first3 .ensures)
+    (then (rw one-mul at (c .before .before .before .before .before .buffer-bad2 .ensures)) (c .before .before .before .before .before .before .first3 .result) 8 _ (c .before .before .before .before .first4 .ensures)
+    (then (c .before .before .number-bad .ensures) (c .before .before .before .before .first4 .result) 9 _ (c .before .first5 .ensures)
+    (c .first-list .ensures)))))
 
 pub rebuild-fault-spec : {M : Type 1} → statement M
 rebuild-fault-spec =
-    tie.close (tie.spec cast-n cast-k lanes-bad-requires returns length-bad-requires returns-2 mul-buffer-bad buffer-bad-requires returns-3 buffer-bad-requires-2 returns-4 number-bad-requires returns-5 list-fault-requires returns-6)
+    tie.close (tie.spec lanes-bad-requires first-requires cast-length-bad length-bad-requires first-requires-2 buffer-bad-requires first-requires-3 buffer-bad-requires-2 first-requires-4 cast-number-bad number-bad-requires first-requires-5 first-list-requires returns)

@@ -3,7 +3,7 @@ use mathlib.Core.Path.{refl, sym, _∙_}
 use borrow.Author.Needs.{needs}
 use Rattle.generator.proofs.Accepts.{accepted-sound}
 use Rattle.roster.specs.Rosters.{jobOf, jobList}
-use Rattle.roster.proofs.Nodes.{as-read}
+use Rattle.roster.proofs.Nodes.{both-read}
 use Rattle.roster.proofs.OneJob.{job-answer, job-lists}
 use Rattle.roster.proofs.Roster.next_job.Statement.{statement}
 use Rattle.roster.proofs.Roster.next_job.Tie as tie
@@ -27,20 +27,12 @@ same-length c = search needs
 returns : tie.Need-returns
 returns c =
     let a = c .before .before .before .before .before .before .before .before .before .before .args in
-    let read = c .before .before .before .before .before .before .before .read-record .ensures in
-    let is = c .before .before .before .before .before .h .given .1 in
-    let done = c .before .before .write-job .ensures in (
-      as-read (λ x. jobOf x (a .self) (a .list .now)) (a .rec .now) read is (job-answer _ _ _ _ _ done),
-      as-read (λ x. jobList x (a .self) (a .list .now)) (a .rec .now) read is (job-lists _ _ _ _ _ done),
-    )
+    let done = c .before .before .write-job .ensures in
+    both-read (λ x. jobOf x (a .self) (a .list .now)) (λ x. jobList x (a .self) (a .list .now)) (a .rec .now) (c .before .before .before .before .before .before .before .read-record .ensures) (c .before .before .before .before .before .h .given .1) (job-answer _ _ _ _ _ done) (job-lists _ _ _ _ _ done)
 
 returns-2 : tie.Need-returns-2
 unfolding jobOf jobList
-returns-2 c =
-    let a = c .before .before .before .before .before .before .args in
-    let read = c .before .before .before .read-record .ensures in
-    let is = c .before .number .given .1 in
-    (as-read (λ x. jobOf x (a .self) (a .list .now)) (a .rec .now) read is refl, as-read (λ x. jobList x (a .self) (a .list .now)) (a .rec .now) read is refl)
+returns-2 c = let a = c .before .before .before .before .before .before .args in both-read (λ x. jobOf x (a .self) (a .list .now)) (λ x. jobList x (a .self) (a .list .now)) (a .rec .now) (c .before .before .before .read-record .ensures) (c .before .number .given .1) refl refl
 
 pub next-job-spec : {M : Type 1} → statement M
 next-job-spec =

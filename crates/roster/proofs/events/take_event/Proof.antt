@@ -32,5 +32,4 @@ returns-2 c =
 
 pub take-event-spec : {M : Type 1} → statement M
 take-event-spec =
-    tie.close
-    (tie.spec read-record-requires enum-known-h mark-requires enum-known-number returns returns-2)
+    tie.close (tie.spec read-record-requires enum-known-h mark-requires enum-known-number returns returns-2)

@@ -52,5 +52,4 @@ returns-3 c =
 
 pub write-lowest-spec : {M : Type 1} → statement M
 write-lowest-spec =
-    tie.close
-    (tie.spec returns list-present-requires returns-2 write-nodes-requires same-length returns-3)
+    tie.close (tie.spec returns list-present-requires returns-2 write-nodes-requires same-length returns-3)

@@ -141,27 +141,4 @@ returns c =
 
 pub gather-rows-spec : {M : Type 1} → statement M
 gather-rows-spec =
-    tie.close
-    (tie.spec
-    Inv-loop
-    μ-loop
-    loop-holds
-    mul-size
-    mul-start
-    add-end
-    mul-from
-    add-from
-    mul-from-2
-    add-to
-    sub-gather-row
-    part-gather-row-start
-    part-gather-row-end
-    sub-gather-row-2
-    part-gather-row-start-2
-    part-gather-row-end-2
-    gather-row-requires
-    add-r
-    loop-less
-    loop-again
-    same-length
-    returns)
+    tie.close (tie.spec Inv-loop μ-loop loop-holds mul-size mul-start add-end mul-from add-from mul-from-2 add-to sub-gather-row part-gather-row-start part-gather-row-end sub-gather-row-2 part-gather-row-start-2 part-gather-row-end-2 gather-row-requires add-r loop-less loop-again same-length returns)

@@ -1,0 +1,34 @@
+-- `first_list` meets its contract: the range is tested before repeats, and the symbols last.
+use borrow.Author.Needs.{needs}
+use Rattle.refusals.specs.Faults.{listFault}
+use Rattle.refusals.proofs.Order.{then, before}
+use Rattle.refusals.proofs.nodes.first_list.Statement.{statement}
+use Rattle.refusals.proofs.nodes.first_list.Tie as tie
+
+nodes-bad-requires : tie.Need-nodes-bad-requires
+nodes-bad-requires c κs = search needs
+
+twice-bad-requires : tie.Need-twice-bad-requires
+twice-bad-requires c κs = search needs
+
+first-requires : tie.Need-first-requires
+first-requires c κs = search needs
+
+first-requires-2 : tie.Need-first-requires-2
+first-requires-2 c κs = search needs
+
+first-shares-requires : tie.Need-first-shares-requires
+first-shares-requires c κs =
+    let start = c .before .before .before .before .before .before in
+    (start .pre .0, λ e. start .pre .1 (before (start .args .number) _ (c .before .first .ensures) (before (c .before .first .result) _ (c .first2 .ensures) e)))
+
+returns : tie.Need-returns
+unfolding listFault
+returns c =
+    then (c .before .before .before .before .nodes-bad .ensures) (c .before .before .before .before .before .before .before .args .number) 9 _ (c .before .before .first .ensures)
+    (then (c .before .before .before .twice-bad .ensures) (c .before .before .first .result) 10 _ (c .before .first2 .ensures)
+    (c .first-shares .ensures))
+
+pub first-list-spec : {M : Type 1} → statement M
+first-list-spec =
+    tie.close (tie.spec nodes-bad-requires twice-bad-requires first-requires first-requires-2 first-shares-requires returns)
