@@ -5,6 +5,8 @@ pub mod Listing
 pub mod Adding
 pub mod OneLane
 pub mod Turns
-pub mod ByteSums
+pub mod Halves
+pub mod Pairs
+pub mod WideSums
 pub mod TileSums
 pub mod Columns

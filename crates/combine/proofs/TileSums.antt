@@ -15,7 +15,7 @@ use Rattle.field.specs.Fields.{sizeOf}
 use Rattle.field.specs.Sums.{dot}
 use Rattle.field.specs.Widths.{bytesFor}
 use Rattle.combine.specs.Combined.{combined, combinedTile, combinedBytes, Weighted, TileRows, WeightedRows}
-use Rattle.combine.specs.ByteSums.{WideRows}
+use Rattle.combine.specs.WideSums.{WideRows}
 use Rattle.combine.proofs.Combined.{other-row}
 
 pub length-combined : (p rows l : ℕ) (ws s : List ℕ) → length (combined byRow p rows l ws s) ≡ l

@@ -1,4 +1,4 @@
 -- Sums of rows times weights, and the rows of a digit.
 pub mod Combined
 pub mod Digits
-pub mod ByteSums
+pub mod WideSums

@@ -1,122 +1,121 @@
-// Sums over a prime field whose symbols are two bytes: a row of high bytes and a row of low bytes for each row of symbols. The rows
-// of high bytes and those of low bytes are summed by themselves, and there is one remainder for each lane.
+// Sums over a prime field whose symbols are two bytes: a row of high bytes and a row of low bytes for each row of symbols. The sums of
+// 16 lanes at a time stay in registers over all rows, and there is one remainder for each lane.
 ghost use mathlib.Core.Path.{_≡_};
-ghost use mathlib.Core.Bool.{true};
-ghost use Prim.Native.Nat.{_*_, _≤_, _<_};
+ghost use Prim.Native.Nat.{_+_, _*_, _≤_, _<_};
 ghost use lib.ListN.{length};
-ghost use Rattle.lists.specs.Numbers.{allBelow};
 ghost use Rattle.lists.specs.Padded.{zeros};
+ghost use Rattle.lists.specs.Rows.{from};
 ghost use Rattle.layout.specs.Layout.{byRow};
 ghost use Rattle.layout.specs.Tiles.{tileSymbols, tileBytes};
 ghost use Rattle.combine.specs.Combined.{combined};
-ghost use Rattle.combine.specs.ByteSums.{byteSums, joinedSums, WideRows};
+ghost use Rattle.combine.specs.WideSums.{WideRows, wideSum, pairsPut};
 use kernel::wide;
 
-// Adds the rows of bytes `first`, `first` + 2, .. , each times its weight.
-fn sum_rows(
-    weights: &[u16],
-    count: usize,
-    first: usize,
-    lanes: usize,
-    rows: &[u8],
-    sums: &mut [u32],
-)
-    requires { ⌜ WideRows count lanes (now weights) (now rows) × (first < 2) × (now sums ≡ zeros lanes) ⌝ }
-    ensures { λ r. ⌜ now (sums .exit) ≡ byteSums first count lanes (now (weights .entry)) (now (rows .entry)) ⌝ }
+fn sums() -> [u16; 16]
+    ensures { λ r. ⌜ r ≡ zeros 16 ⌝ }
 {
-    let mut i: usize = 0;
-    while i < count {
-        let start = (i * 2 + first) * lanes;
-        let end = start + lanes;
-        wide::add_weighted(weights[i], &rows[start..end], sums);
-        i += 1;
-    }
+    [0u16; 16]
 }
 
-// A row of symbols as a row of high bytes and a row of low bytes.
-fn write_bytes(symbols: &[u32], acc: &mut [u8])
-    requires { ⌜ (allBelow 65536 (now symbols) ≡ true) × (length (now acc) ≡ 2 * length (now symbols)) ⌝ }
-    ensures { λ r. ⌜ now (acc .exit) ≡ tileBytes 2 1 (length (now (symbols .entry))) (now (symbols .entry)) ⌝ }
-{
-    let lanes = symbols.len();
-    wide::high_bytes(symbols, &mut acc[..lanes]);
-    wide::low_bytes(symbols, &mut acc[lanes..]);
-}
-
-// The sums of high and of low bytes as one number, and its remainder as two rows of bytes.
-fn write_row(p: u16, low: &[u32], high: &mut [u32], acc: &mut [u8])
-    requires { ⌜ (0 < p) × (length (now low) ≡ length (now high)) × (length (now acc) ≡ 2 * length (now high)) ⌝ }
-    ensures { λ r. ⌜ now (acc .exit) ≡ tileBytes 2 1 (length (now (high .entry))) (joinedSums p (now (high .entry)) (now (low .entry))) ⌝ }
-{
-    wide::remainders(p, low, high);
-    write_bytes(high, acc);
-}
-
-// The sums in lent arrays of zeros.
-fn combine_with<'a>(
+// The sums of 16 lanes, from lane `at` on.
+fn block_sums(
     p: u16,
     weights: &[u16],
     count: usize,
+    lanes: usize,
+    at: usize,
     rows: &[u8],
-    high: &'a mut [u32],
-    low: &'a mut [u32],
-    acc: &mut [u8],
-)
-    requires { ⌜ (0 < p) × WideRows count (length (now high)) (now weights) (now rows) × (now high ≡ zeros (length (now high))) × (now low ≡ zeros (length (now high))) × (length (now acc) ≡ 2 * length (now high)) ⌝ }
-    ensures { λ r. ⌜ now (acc .exit) ≡ tileBytes 2 1 (length (now (high .entry))) (combined byRow p count (length (now (high .entry))) (now (weights .entry)) (tileSymbols 2 count (length (now (high .entry))) (now (rows .entry)))) ⌝ }
+) -> [u16; 16]
+    requires { ⌜ (0 < p) × WideRows count lanes (now weights) (now rows) × (at + 16 ≤ lanes) ⌝ }
+    ensures { λ r. ⌜ r ≡ from (λ t. wideSum p count lanes (now (weights .entry)) (now (rows .entry)) (at + t)) 0 16 ⌝ }
 {
-    let lanes = high.len();
-    sum_rows(weights, count, 0, lanes, rows, high);
-    sum_rows(weights, count, 1, lanes, rows, low);
-    write_row(p, low, high, acc);
+    let mut a = sums();
+    let mut b = sums();
+    let mut c = sums();
+    let mut d = sums();
+    let mut i: usize = 0;
+    while i < count {
+        let high = i * 2 * lanes + at;
+        let low = high + lanes;
+        let high_end = high + 16;
+        let low_end = low + 16;
+        wide::add_products(
+            weights[i],
+            &rows[high..high_end],
+            &rows[low..low_end],
+            &mut a,
+            &mut b,
+            &mut c,
+            &mut d,
+        );
+        i += 1;
+    }
+    wide::remainders(p, &a, &b, &c, &d)
 }
 
-// A sum of 0 for each of a few lanes.
-fn few_sums() -> [u32; 528]
-    ensures { λ r. ⌜ r ≡ zeros 528 ⌝ }
+// The sum of one lane.
+fn lane_sum(p: u16, weights: &[u16], count: usize, lanes: usize, t: usize, rows: &[u8]) -> u16
+    requires { ⌜ (0 < p) × WideRows count lanes (now weights) (now rows) × (t < lanes) ⌝ }
+    ensures { λ r. ⌜ r ≡ wideSum p count lanes (now (weights .entry)) (now (rows .entry)) t ⌝ }
 {
-    [0; 528]
+    let mut sum: u64 = 0;
+    let mut i: usize = 0;
+    while i < count {
+        let high = i * 2 * lanes + t;
+        let low = high + lanes;
+        sum = sum + wide::product(weights[i], rows[high], rows[low]) as u64;
+        i += 1;
+    }
+    (sum % p as u64) as u16
 }
 
-fn combine_few(p: u16, weights: &[u16], count: usize, lanes: usize, rows: &[u8], acc: &mut [u8])
-    requires { ⌜ (0 < p) × (lanes ≤ 528) × WideRows count lanes (now weights) (now rows) × (length (now acc) ≡ 2 * lanes) ⌝ }
+// Writes symbols as high and low bytes, from lane `at` on.
+fn put(lanes: usize, at: usize, symbols: &[u16], acc: &mut [u8])
+    requires { ⌜ (at + length (now symbols) ≤ lanes) × (length (now acc) ≡ 2 * lanes) ⌝ }
+    ensures { λ r. ⌜ now (acc .exit) ≡ pairsPut lanes at (now (symbols .entry)) (now (acc .entry)) ⌝ }
+{
+    let mut t: usize = 0;
+    while t < symbols.len() {
+        let lane = at + t;
+        let x = symbols[t];
+        acc[lane] = (x / 256) as u8;
+        acc[lanes + lane] = (x % 256) as u8;
+        t += 1;
+    }
+}
+
+// Fewer lanes than a block has, one by one.
+fn combine_lanes(p: u16, weights: &[u16], count: usize, lanes: usize, rows: &[u8], acc: &mut [u8])
+    requires { ⌜ (0 < p) × WideRows count lanes (now weights) (now rows) × (length (now acc) ≡ 2 * lanes) ⌝ }
     ensures { λ r. ⌜ now (acc .exit) ≡ tileBytes 2 1 lanes (combined byRow p count lanes (now (weights .entry)) (tileSymbols 2 count lanes (now (rows .entry)))) ⌝ }
 {
-    let mut high = few_sums();
-    let mut low = few_sums();
-    combine_with(
-        p,
-        weights,
-        count,
-        rows,
-        &mut high[..lanes],
-        &mut low[..lanes],
-        acc,
-    );
+    let mut t: usize = 0;
+    while t < lanes {
+        let x = lane_sum(p, weights, count, lanes, t, rows);
+        put(lanes, t, &[x], acc);
+        t += 1;
+    }
 }
 
-// The same for any number of lanes; so many zeros take longer to make.
-fn many_sums() -> [u32; 4096]
-    ensures { λ r. ⌜ r ≡ zeros 4096 ⌝ }
+// Where the next block starts: the last one ends with the last lane, and may take lanes again.
+fn block_start(lanes: usize, done: usize) -> usize
+    requires { ⌜ (done < lanes) × (16 ≤ lanes) ⌝ }
+    ensures { λ r. ⌜ (r ≤ done) × (done < r + 16) × (r + 16 ≤ lanes) ⌝ }
 {
-    [0; 4096]
+    if lanes - done < 16 { lanes - 16 } else { done }
 }
 
-fn combine_many(p: u16, weights: &[u16], count: usize, lanes: usize, rows: &[u8], acc: &mut [u8])
-    requires { ⌜ (0 < p) × (lanes ≤ 4096) × WideRows count lanes (now weights) (now rows) × (length (now acc) ≡ 2 * lanes) ⌝ }
+fn combine_blocks(p: u16, weights: &[u16], count: usize, lanes: usize, rows: &[u8], acc: &mut [u8])
+    requires { ⌜ (0 < p) × (16 ≤ lanes) × WideRows count lanes (now weights) (now rows) × (length (now acc) ≡ 2 * lanes) ⌝ }
     ensures { λ r. ⌜ now (acc .exit) ≡ tileBytes 2 1 lanes (combined byRow p count lanes (now (weights .entry)) (tileSymbols 2 count lanes (now (rows .entry)))) ⌝ }
 {
-    let mut high = many_sums();
-    let mut low = many_sums();
-    combine_with(
-        p,
-        weights,
-        count,
-        rows,
-        &mut high[..lanes],
-        &mut low[..lanes],
-        acc,
-    );
+    let mut done: usize = 0;
+    while done < lanes {
+        let at = block_start(lanes, done);
+        let symbols = block_sums(p, weights, count, lanes, at, rows);
+        put(lanes, at, &symbols, acc);
+        done = at + 16;
+    }
 }
 
 // In each lane the sum of the rows' symbols times the weights.
@@ -124,9 +123,9 @@ pub fn combine(p: u16, weights: &[u16], count: usize, lanes: usize, rows: &[u8],
     requires { ⌜ (0 < p) × (lanes ≤ 4096) × WideRows count lanes (now weights) (now rows) × (length (now acc) ≡ 2 * lanes) ⌝ }
     ensures { λ r. ⌜ now (acc .exit) ≡ tileBytes 2 1 lanes (combined byRow p count lanes (now (weights .entry)) (tileSymbols 2 count lanes (now (rows .entry)))) ⌝ }
 {
-    if lanes <= 528 {
-        combine_few(p, weights, count, lanes, rows, acc);
+    if lanes < 16 {
+        combine_lanes(p, weights, count, lanes, rows, acc);
         return;
     }
-    combine_many(p, weights, count, lanes, rows, acc);
+    combine_blocks(p, weights, count, lanes, rows, acc);
 }

@@ -4,3 +4,4 @@ pub mod Filling
 pub mod Digits
 pub mod Ratio
 pub mod Maximum
+pub mod Halves

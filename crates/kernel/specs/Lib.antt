@@ -1,2 +1,3 @@
 -- What the operations over lanes make of their slices.
 pub mod Lanes
+pub mod Halves

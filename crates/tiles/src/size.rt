@@ -35,11 +35,19 @@ fn smaller(a: usize, b: usize) -> usize
     if a < b { a } else { b }
 }
 
+// Blocks of 16 lanes alone, where there is one.
+fn in_blocks(lanes: usize) -> usize
+    requires { ⌜ 0 < lanes ⌝ }
+    ensures { λ r. ⌜ (0 < r) × (r ≤ lanes) ⌝ }
+{
+    if lanes < 16 { lanes } else { lanes / 16 * 16 }
+}
+
 // How many of the lanes that are left the next tile takes, in scratch of that size.
 pub fn tile_lanes(rows: usize, size: usize, left: usize) -> usize
     requires { ⌜ (0 < rows) × (rows ≤ size) × (0 < left) ⌝ }
     ensures { λ r. ⌜ (0 < r) × (r ≤ left) × (rows * r ≤ size) ⌝ }
 {
     let fitting = smaller(size / rows, MOST);
-    smaller(fitting, left)
+    smaller(in_blocks(fitting), left)
 }

@@ -1,21 +1,26 @@
 -- `wide::product` meets its contract.
-use Prim.Native.Nat.{_*_, _≤_}
-use native.Mathlib.Nat.{mul-le-mul}
+use mathlib.Core.Path.{ap}
+use Prim.Native.Nat.{ℕ, _*_, _≤_}
 use native.Mathlib.Omega.{arith}
+use borrow.Author.Needs.{needs}
+use Rattle.kernel.proofs.Halves.{product16}
 use Rattle.kernel.proofs.wide.product.Statement.{statement}
 use Rattle.kernel.proofs.wide.product.Tie as tie
 
-product-small : (c : tie.Start) → c .args .x * c .args .weight ≤ 255 * 65535
-product-small c =
-    let byte : c .args .x ≤ 255 = omega arith in
-    let two : c .args .weight ≤ 65535 = omega arith in
-    mul-le-mul byte two
+symbol-requires : tie.Need-symbol-requires
+symbol-requires c κs = search needs
+
+cast-result : tie.Need-cast-result
+cast-result c = search needs
+
+fits : (c : tie.After-symbol) → c .symbol .result * c .before .args .weight ≤ 4294836225
+fits c = product16 (c .symbol .result) (c .before .args .weight) (omega arith) (omega arith)
 
 mul-result : tie.Need-mul-result
-mul-result c = omega (arith, product-small c)
+mul-result c = omega (arith, fits c)
 
 returns : tie.Need-returns
-returns c = omega (arith, product-small c)
+returns c = (ap (λ (x : ℕ). x * c .before .args .weight) (c .symbol .ensures), omega (arith, fits c))
 
 pub product-spec : {M : Type 1} → statement M
-product-spec = tie.close (tie.spec mul-result returns)
+product-spec = tie.close (tie.spec symbol-requires cast-result mul-result returns)

@@ -1,40 +1,56 @@
--- `wide::remainders` meets its contract. The loop's invariant: the lanes below t hold the remainders.
-use Prim.Native.Nat.{_+_, _-_, _*_, _%_, _≤_}
+-- `wide::remainders` meets its contract. The loop's invariant: the lanes below t are written.
+use Prim.Native.Nat.{_-_}
 use native.Mathlib.Omega.{arith}
-use lib.ListN.{length, getD}
-use Rattle.kernel.proofs.Filling.{Changed, changed-none, changed-lane, changed-all}
+use lib.ListN.{getD}
+use Rattle.lists.specs.Rows.{from}
+use Rattle.lists.specs.Padded.{zeros, padded}
+use Rattle.lists.proofs.Fill.{Filled, filled-start, filled-put, filled-end}
+use Rattle.kernel.specs.Halves.{restOf}
 use Rattle.kernel.proofs.wide.remainders.Statement.{statement}
 use Rattle.kernel.proofs.wide.remainders.Tie as tie
 
 abbrev Inv-loop : tie.InvT-loop
-Inv-loop p low high₀ t₀ high t = (t ≤ length high₀) × Changed (λ t y. (y * 256 + getD low t 0) % p) high₀ high t
+Inv-loop p a b c d out₀ t₀ out t = Filled 16 16 (λ t. restOf p (getD a t 0) (getD b t 0) (getD c t 0) (getD d t 0)) t out
 
 abbrev μ-loop : tie.MeasureT-loop
-μ-loop p low high₀ t₀ high t = length high₀ - t
+μ-loop p a b c d out₀ t₀ out t = 16 - t
 
 loop-holds : tie.Need-loop-holds Inv-loop μ-loop
-loop-holds c = (omega arith, changed-none _ _)
+unfolding zeros
+loop-holds c = filled-start 16 16 _ (omega arith)
 
 mul-remainder : tie.Need-mul-remainder Inv-loop μ-loop
 mul-remainder c = omega arith
 
-slice-read-remainder : tie.Need-slice-read-remainder Inv-loop μ-loop
-slice-read-remainder c = omega arith
+element-copy-out-remainder : tie.Need-element-copy-out-remainder Inv-loop μ-loop
+element-copy-out-remainder c = omega arith
 
 mul-remainder-2 : tie.Need-mul-remainder-2 Inv-loop μ-loop
 mul-remainder-2 c = omega arith
 
-shared-slice-read-remainder : tie.Need-shared-slice-read-remainder Inv-loop μ-loop
-shared-slice-read-remainder c = omega arith
+element-copy-out-remainder-2 : tie.Need-element-copy-out-remainder-2 Inv-loop μ-loop
+element-copy-out-remainder-2 c = omega arith
+
+mul-remainder-3 : tie.Need-mul-remainder-3 Inv-loop μ-loop
+mul-remainder-3 c = omega arith
+
+element-copy-out-remainder-3 : tie.Need-element-copy-out-remainder-3 Inv-loop μ-loop
+element-copy-out-remainder-3 c = omega arith
+
+mul-remainder-4 : tie.Need-mul-remainder-4 Inv-loop μ-loop
+mul-remainder-4 c = omega arith
+
+element-copy-out-remainder-4 : tie.Need-element-copy-out-remainder-4 Inv-loop μ-loop
+element-copy-out-remainder-4 c = omega arith
 
 remainder-requires : tie.Need-remainder-requires Inv-loop μ-loop
-remainder-requires c κs = omega arith
+remainder-requires c κs = c .before .before .before .before .before .before .pre
 
-mul-high : tie.Need-mul-high Inv-loop μ-loop
-mul-high c = omega arith
+mul-out : tie.Need-mul-out Inv-loop μ-loop
+mul-out c = omega arith
 
-slice-write-high : tie.Need-slice-write-high Inv-loop μ-loop
-slice-write-high c = omega arith
+array-write-out : tie.Need-array-write-out Inv-loop μ-loop
+array-write-out c = omega arith
 
 add-t : tie.Need-add-t Inv-loop μ-loop
 add-t c = omega arith
@@ -43,15 +59,11 @@ loop-less : tie.Need-loop-less Inv-loop μ-loop
 loop-less c = omega arith
 
 loop-again : tie.Need-loop-again Inv-loop μ-loop
-loop-again c =
-    let inv = c .before .before .before .before .loop .inv .1 in
-    (omega arith, rw (c .remainder .ensures) (changed-lane _ _ inv (omega arith)))
-
-same-length : tie.Need-same-length Inv-loop μ-loop
-same-length c = c .before .loop .inv .1 .long
+loop-again c = filled-put (c .before .before .before .before .before .before .loop .inv) (omega arith) (c .remainder .ensures)
 
 returns : tie.Need-returns Inv-loop μ-loop
-returns c = changed-all _ _ (c .before .loop .inv .1) (omega arith)
+unfolding from padded zeros
+returns c = filled-end (c .before .loop .inv) (c .loop-test .left)
 
 pub remainders-spec : {M : Type 1} → statement M
 remainders-spec =
@@ -61,14 +73,17 @@ remainders-spec =
     μ-loop
     loop-holds
     mul-remainder
-    slice-read-remainder
+    element-copy-out-remainder
     mul-remainder-2
-    shared-slice-read-remainder
+    element-copy-out-remainder-2
+    mul-remainder-3
+    element-copy-out-remainder-3
+    mul-remainder-4
+    element-copy-out-remainder-4
     remainder-requires
-    mul-high
-    slice-write-high
+    mul-out
+    array-write-out
     add-t
     loop-less
     loop-again
-    same-length
     returns)
