@@ -38,6 +38,8 @@ for blocks in '5120 bytes in 1 ' '15360 bytes in 3 ' '0 bytes in 0 '; do grep -q
 gcc -std=c99 -O2 "${strict[@]}" -o target/examples/large_cases tests/large_cases.c "$library"
 target/examples/large_cases >target/examples/large_cases.out
 cmp target/examples/large_cases.out tests/reference/large_cases.out
+# the same with three lanes at most, every kind of record among them, for valgrind to see
+if [ ${#checked[@]} -gt 0 ]; then "${checked[@]}" target/examples/large_cases 3 >/dev/null; fi
 
 export BALANCED_LIB_DIR=$PWD/target/staticlib
 cd bindings/rust

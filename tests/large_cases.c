@@ -3,6 +3,7 @@
    tests/reference/large_cases.py prints the same lines by another implementation. */
 #include "balanced.h"
 #include <stdio.h>
+#include <stdlib.h>
 #include <string.h>
 
 enum { MOST = 2 * BALANCED_MAX_NODES * (BALANCED_MAX_LANES + 1) };
@@ -187,7 +188,9 @@ static void block(const struct code *c) {
     correct_lanes(c);
 }
 
-int main(void) {
+/* With an argument: no more lanes than that, as for a slow run under valgrind. */
+int main(int count, char **words) {
+    uint32_t most = count > 1 ? (uint32_t)atoi(words[1]) : BALANCED_MAX_LANES + 1;
     static const struct code codes[] = {
         { { 2, 2, 255, 120 }, 4, 255, 255, 120, 4096 },
         { { 1, 251, 6, 250, 125 }, 5, 250, 250, 125, 4096 },
@@ -200,6 +203,10 @@ int main(void) {
         { { 3, 1, 1, 0, 2, 16, 5 }, 7, 256, 16, 5, 4097 },
     };
     even();
-    for (size_t i = 0; i < sizeof codes / sizeof *codes; i++) block(&codes[i]);
+    for (size_t i = 0; i < sizeof codes / sizeof *codes; i++) {
+        struct code c = codes[i];
+        if (c.lanes > most) c.lanes = most;
+        block(&c);
+    }
     return 0;
 }
