@@ -21,57 +21,35 @@ fn print(answer: Outcome, out: &[u8]) {
     }
 }
 
-pub fn encode(w: Words) {
-    let record = w.record;
-    let message = w.first;
-    let counts = w.counts;
+// The calls that write a buffer.
+fn write_to(w: Words, rec: &[u8], first: &[u8], second: &[u8], out: &mut [u8]) -> Outcome {
     let numbers = w.numbers;
-    let size = numbers[1] as usize;
-    let mut out = [170u8; 64];
-    let answer = balanced::encode_block(
-        part(&record, counts[0]),
-        numbers[0],
-        part(&message, counts[1]),
-        front(&mut out, size),
-    );
-    print(answer, part(&out, size));
+    let lanes = numbers[0];
+    let call = w.call;
+    match call {
+        1 => balanced::encode_block(rec, lanes, first, out),
+        2 => balanced::recover_block(rec, lanes, first, second, out),
+        3 => balanced::rebuild_share(rec, lanes, first, second, numbers[1], out),
+        4 => balanced::to_lanes(rec, lanes, first, out),
+        _ => balanced::to_nodes(rec, lanes, first, out),
+    }
 }
 
-pub fn recover(w: Words) {
+pub fn write(w: Words) {
     let record = w.record;
-    let nodes = w.first;
-    let shares = w.second;
+    let first = w.first;
+    let second = w.second;
     let counts = w.counts;
-    let numbers = w.numbers;
-    let size = numbers[1] as usize;
+    let rooms = w.rooms;
     let mut out = [170u8; 64];
-    let answer = balanced::recover_block(
+    let answer = write_to(
+        w,
         part(&record, counts[0]),
-        numbers[0],
-        part(&nodes, counts[1]),
-        part(&shares, counts[2]),
-        front(&mut out, size),
+        part(&first, counts[1]),
+        part(&second, counts[2]),
+        front(&mut out, rooms[1]),
     );
-    print(answer, part(&out, size));
-}
-
-pub fn rebuild(w: Words) {
-    let record = w.record;
-    let nodes = w.first;
-    let shares = w.second;
-    let counts = w.counts;
-    let numbers = w.numbers;
-    let size = numbers[2] as usize;
-    let mut out = [170u8; 64];
-    let answer = balanced::rebuild_share(
-        part(&record, counts[0]),
-        numbers[0],
-        part(&nodes, counts[1]),
-        part(&shares, counts[2]),
-        numbers[1],
-        front(&mut out, size),
-    );
-    print(answer, part(&out, size));
+    print(answer, part(&out, rooms[1]));
 }
 
 // Yes, the smallest lane that is no word, or the number.
@@ -133,29 +111,4 @@ pub fn correct(w: Words) {
         Correction::Altered(count) => altered(count, part(&after, counts[1])),
         Correction::Refused(number) => refused(number, check::same(&before, &after)),
     }
-}
-
-// Shares node after node put lane after lane where `there` says so, else back.
-fn rearranged(rec: &[u8], lanes: u32, shares: &[u8], out: &mut [u8], there: bool) -> Outcome {
-    if there {
-        return balanced::to_lanes(rec, lanes, shares, out);
-    }
-    balanced::to_nodes(rec, lanes, shares, out)
-}
-
-pub fn rearrange(w: Words, there: bool) {
-    let record = w.record;
-    let shares = w.first;
-    let counts = w.counts;
-    let numbers = w.numbers;
-    let size = numbers[1] as usize;
-    let mut out = [170u8; 64];
-    let answer = rearranged(
-        part(&record, counts[0]),
-        numbers[0],
-        part(&shares, counts[1]),
-        front(&mut out, size),
-        there,
-    );
-    print(answer, part(&out, size));
 }

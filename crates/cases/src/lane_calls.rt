@@ -52,16 +52,14 @@ pub fn mend(w: Words) {
     let record = w.record;
     let lane = w.first;
     let counts = w.counts;
-    let numbers = w.numbers;
-    let places = numbers[0] as usize;
-    let size = numbers[1] as usize;
+    let rooms = w.rooms;
     let mut nodes = [170u8; 64];
     let mut symbols = [170u8; 64];
     let answer = balanced::single_mends(
         part(&record, counts[0]),
         part(&lane, counts[1]),
-        front(&mut nodes, places),
-        front(&mut symbols, size),
+        front(&mut nodes, rooms[0]),
+        front(&mut symbols, rooms[1]),
     );
-    listed(answer, part(&nodes, places), part(&symbols, size));
+    listed(answer, part(&nodes, rooms[0]), part(&symbols, rooms[1]));
 }

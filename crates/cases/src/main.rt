@@ -22,7 +22,7 @@ fn roster_call(line: &[u8], roster: Roster) -> Roster {
     );
     let call = w.call;
     if call == 0 {
-        block_call(line);
+        writing_call(line);
         return roster;
     }
     if w.fault != 0 {
@@ -37,11 +37,26 @@ fn roster_call(line: &[u8], roster: Roster) -> Roster {
     }
 }
 
-// The calls on blocks.
-fn block_call(line: &[u8]) {
+// The calls that write a buffer of bytes.
+fn writing_call(line: &[u8]) {
     let w = read(
         line,
-        b"encode lanes# message* room~;update lanes# symbol# lane# old# new# shares*;recover lanes# nodes* shares* room~;rebuild lanes# nodes* shares* target# room~;belongs lanes# shares*;correct lanes# shares*;to_lanes lanes# shares* room~;to_nodes lanes# shares* room~",
+        b"encode lanes# message* room~;recover lanes# nodes* shares* room~;rebuild lanes# nodes* shares* target# room~;to_lanes lanes# shares* room~;to_nodes lanes# shares* room~",
+    );
+    if w.call == 0 {
+        share_call(line);
+        return;
+    }
+    if w.fault == 0 {
+        block_calls::write(w);
+    }
+}
+
+// The other calls on full shares.
+fn share_call(line: &[u8]) {
+    let w = read(
+        line,
+        b"update lanes# symbol# lane# old# new# shares*;belongs lanes# shares*;correct lanes# shares*",
     );
     let call = w.call;
     if call == 0 {
@@ -52,14 +67,9 @@ fn block_call(line: &[u8]) {
         return;
     }
     match call {
-        1 => block_calls::encode(w),
-        2 => block_calls::update(w),
-        3 => block_calls::recover(w),
-        4 => block_calls::rebuild(w),
-        5 => block_calls::belongs(w),
-        6 => block_calls::correct(w),
-        7 => block_calls::rearrange(w, true),
-        _ => block_calls::rearrange(w, false),
+        1 => block_calls::update(w),
+        2 => block_calls::belongs(w),
+        _ => block_calls::correct(w),
     }
 }
 

@@ -77,8 +77,8 @@ fn too_few(kept: bool) {
 pub fn lowest(w: Words, roster: Roster) -> Roster {
     let record = w.record;
     let counts = w.counts;
-    let numbers = w.numbers;
-    let size = numbers[0] as usize;
+    let rooms = w.rooms;
+    let size = rooms[1];
     let mut out = [170u8; 64];
     let answer = roster.lowest(part(&record, counts[0]), front(&mut out, size));
     print(answer, part(&out, size));
@@ -89,8 +89,8 @@ pub fn lowest(w: Words, roster: Roster) -> Roster {
 pub fn job(w: Words, roster: Roster) -> Roster {
     let record = w.record;
     let counts = w.counts;
-    let numbers = w.numbers;
-    let size = numbers[0] as usize;
+    let rooms = w.rooms;
+    let size = rooms[1];
     let mut out = [170u8; 64];
     let job = roster.next_job(part(&record, counts[0]), front(&mut out, size));
     let next = job.roster;

@@ -11,12 +11,9 @@ const MARK: u32 = 43690;
 pub fn weights(w: Words) {
     let record = w.record;
     let bytes = w.counts;
-    let numbers = w.numbers;
+    let rooms = w.rooms;
     let mut counts = [MARK; 64];
-    count_to(
-        part(&record, bytes[0]),
-        front(&mut counts, numbers[0] as usize),
-    );
+    count_to(part(&record, bytes[0]), front(&mut counts, rooms[1]));
 }
 
 fn count_to(rec: &[u8], counts: &mut [u32]) {

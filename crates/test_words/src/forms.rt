@@ -9,14 +9,16 @@ use crate::groups::number;
 use crate::groups::record;
 use crate::groups::room;
 
-// What a line says: the record's bytes, at most two lists of bytes and six numbers, in the order of the form; how many lists and numbers there are; the
-// call's number, or 0 for a line that is another call's; and what is wrong with the line, or 0.
+// What a line says: the record's bytes, at most two lists of bytes and six numbers, in the order of the form, and the last two lengths of
+// buffers that are written; how many lists and numbers there are; the call's number, or 0 for a line that is another call's; and what is
+// wrong with the line, or 0.
 pub struct Words {
     pub record: [u8; 64],
     pub first: [u8; 64],
     pub second: [u8; 64],
     pub counts: [usize; 3],
     pub numbers: [u32; 6],
+    pub rooms: [usize; 2],
     pub lists: usize,
     pub given: usize,
     pub call: usize,
@@ -61,6 +63,7 @@ pub fn none() -> Words {
         second: [0; 64],
         counts: [0; 3],
         numbers: [0; 6],
+        rooms: [0; 2],
         lists: 0,
         given: 0,
         call: 0,
@@ -106,12 +109,23 @@ fn with_number(words: Words, x: u32) -> Words {
     next
 }
 
+// One length of a buffer more.
+fn with_room(words: Words, size: u32) -> Words {
+    let mut next = words;
+    next.rooms[0] = words.rooms[1];
+    next.rooms[1] = size as usize;
+    next
+}
+
 // One group more, by its sign.
 fn with_group(words: Words, group: Group, sign: u8) -> Words {
     if sign == b'*' {
         return with_list(words, group);
     }
-    with_number(words, group.value)
+    if sign == b'#' {
+        return with_number(words, group.value);
+    }
+    with_room(words, group.value)
 }
 
 // The line of a call, read by the call's form.
