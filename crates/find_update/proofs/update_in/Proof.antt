@@ -16,33 +16,36 @@ returns : tie.Need-returns
 unfolding updateIn
 returns c = rw (le-ltb _ _ (rw (c .before .row-at .ensures) at (c .if1 .taken)))
 
+constant-tables-requires : tie.Need-constant-tables-requires
+constant-tables-requires c κs = _
+
 amount-in-requires : tie.Need-amount-in-requires
 amount-in-requires c κs = search needs
 
 first-other-requires : tie.Need-first-other-requires
 first-other-requires c κs =
-    let (sound, plan, lane) = c .before .before .before .before .before .pre in
-    (sound, plan, c .before .if1 .left, rw (c .amount-in .ensures) (amount-symbol _ sound _ lane _ (c .before .if1 .left)), lane .long)
+    let (sound, plan, lane) = c .before .before .before .before .before .before .before .before .pre in
+    (sound, plan, c .before .before .before .before .if1 .left, rw (c .before .amount-in .ensures) (amount-symbol _ sound _ lane _ (c .before .before .before .before .if1 .left)), lane .long, c .before .before .before .constant-tables .ensures)
 
 returns-2 : tie.Need-returns-2
 unfolding updateIn
 returns-2 c =
-    let (sound, plan, lane) = c .before .before .before .before .before .before .before .pre in
-    let row = c .before .before .before .before .row-at .ensures in
-    let amount = c .before .before .amount-in .ensures in
-    rw (← row, lt-ltb _ _ (c .before .before .before .if1 .left), ← amount, ← c .before .first-other .ensures, ne-eqb _ _ (rw (lane .long) at (c .if2 .taken)))
+    let (sound, plan, lane) = c .before .before .before .before .before .before .before .before .before .before .pre in
+    let row = c .before .before .before .before .before .before .before .row-at .ensures in
+    let amount = c .before .before .before .amount-in .ensures in
+    rw (← row, lt-ltb _ _ (c .before .before .before .before .before .before .if1 .left), ← amount, ← c .before .first-other .ensures, ne-eqb _ _ (rw (lane .long) at (c .if2 .taken)))
 
-cast-t10 : tie.Need-cast-t10
-cast-t10 c = search needs
+cast-which : tie.Need-cast-which
+cast-which c = search needs
 
 returns-3 : tie.Need-returns-3
 unfolding updateIn
 returns-3 c =
-    let (sound, plan, lane) = c .before .before .before .before .before .before .before .pre in
-    let row = c .before .before .before .before .row-at .ensures in
-    let amount = c .before .before .amount-in .ensures in
-    rw (← row, lt-ltb _ _ (c .before .before .before .if1 .left), ← amount, ← c .before .first-other .ensures, eq-eqb _ _ (rw (lane .long) at (c .if2 .left)))
+    let (sound, plan, lane) = c .before .before .before .before .before .before .before .before .before .before .pre in
+    let row = c .before .before .before .before .before .before .before .row-at .ensures in
+    let amount = c .before .before .before .amount-in .ensures in
+    rw (← row, lt-ltb _ _ (c .before .before .before .before .before .before .if1 .left), ← amount, ← c .before .first-other .ensures, eq-eqb _ _ (rw (lane .long) at (c .if2 .left)))
 
 pub update-in-spec : {M : Type 1} → statement M
 update-in-spec =
-    tie.close (tie.spec cast-k row-at-requires returns amount-in-requires first-other-requires returns-2 cast-t10 returns-3)
+    tie.close (tie.spec cast-k row-at-requires returns constant-tables-requires amount-in-requires first-other-requires returns-2 cast-which returns-3)
