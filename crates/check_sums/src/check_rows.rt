@@ -11,20 +11,14 @@ ghost use Rattle.products.specs.Products.{OneByte, Codes, groupsOf};
 ghost use Rattle.check_sums.specs.Powers.{powersOf};
 ghost use Rattle.check_sums.specs.Checks.{firstPoints, firstWeights, CheckLists};
 use crate::powers;
-use crate::values::values_with;
+use crate::values::values;
+use field::Tables;
 use generator::Header;
 use interpolation::lagrange;
 
 // The weights of check e: those by which the first k nodes give node k + e, −1 there, and zeros after them.
-fn check_weights<'a>(
-    h: Header,
-    powers: &'a [u8; 255],
-    logarithms: &'a [u8; 255],
-    roots: &[u16],
-    scales: &[u16],
-    e: usize,
-) -> [u16; 255]
-    requires { ⌜ Sound h × (now roots ≡ padded 255 (powersOf h)) × (now scales ≡ scalesOf (modulusOf h) (firstPoints h)) × (e < h .n - h .k) × AreTables (now powers) (now logarithms) ⌝ }
+fn check_weights(h: Header, tables: &Tables, roots: &[u16], scales: &[u16], e: usize) -> [u16; 255]
+    requires { ⌜ Sound h × (now roots ≡ padded 255 (powersOf h)) × (now scales ≡ scalesOf (modulusOf h) (firstPoints h)) × (e < h .n - h .k) × AreTables (now tables) ⌝ }
     ensures { λ r. ⌜ r ≡ set (padded 255 (firstWeights h e)) (h .k + e) (sub (modulusOf h) 0 1) ⌝ }
 {
     let field = h.field;
@@ -32,7 +26,7 @@ fn check_weights<'a>(
     let at = k + e;
     let z = roots[at] as u32;
     let minus = field.sub(0, 1);
-    let mut weights = values_with(field, powers, logarithms, &roots[..k], scales, z);
+    let mut weights = values(field, tables, &roots[..k], scales, z);
     weights[at] = minus as u16;
     weights
 }
@@ -48,10 +42,10 @@ fn list_nodes(h: Header, codes: &[u64], lists: &mut [u16], counts: &mut [u8])
     let checks = (h.n - h.k) as usize;
     let t = field::constant_tables();
     let roots = powers::powers(h);
-    let scales = lagrange::scales(field, &roots[..k]);
+    let scales = lagrange::scales(field, &t, &roots[..k]);
     let mut e: usize = 0;
     while e < checks {
-        let weights = check_weights(h, &t.powers, &t.logarithms, &roots, &scales[..k], e);
+        let weights = check_weights(h, &t, &roots, &scales[..k], e);
         products::prepare(field, codes, &weights[..n], e, lists, counts);
         e += 1;
     }

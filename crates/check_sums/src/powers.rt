@@ -2,7 +2,6 @@
 ghost use mathlib.Core.Path.{_≡_};
 ghost use Prim.Native.Nat.{_≤_};
 ghost use Rattle.lists.specs.Padded.{padded};
-ghost use Rattle.field.specs.Tables.{AreTables};
 ghost use Rattle.generator.specs.Records.{Sound};
 ghost use Rattle.check_sums.specs.Powers.{powersOf, factorsOf};
 use crate::lane::stepped;
@@ -13,15 +12,7 @@ pub fn powers(h: Header) -> [u16; 255]
     requires { ⌜ Sound h ⌝ }
     ensures { λ r. ⌜ r ≡ padded 255 (powersOf h) ⌝ }
 {
-    let t = field::constant_tables();
-    powers_with(h, &t.powers, &t.logarithms)
-}
-
-// The same with the field's tables as they are lent to it.
-fn powers_with<'a>(h: Header, powers: &'a [u8; 255], logarithms: &'a [u8; 255]) -> [u16; 255]
-    requires { ⌜ Sound h × AreTables (now powers) (now logarithms) ⌝ }
-    ensures { λ r. ⌜ r ≡ padded 255 (powersOf h) ⌝ }
-{
+    let tables = field::constant_tables();
     let field = h.field;
     let root = h.root;
     let n = h.n as usize;
@@ -30,7 +21,7 @@ fn powers_with<'a>(h: Header, powers: &'a [u8; 255], logarithms: &'a [u8; 255]) 
     let mut i: usize = 0;
     while i < n {
         out[i] = x as u16;
-        x = field.mul_with(powers, logarithms, root, x);
+        x = field.mul_with(&tables, root, x);
         i += 1;
     }
     out

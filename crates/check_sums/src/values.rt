@@ -10,16 +10,11 @@ ghost use Rattle.field.specs.Tables.{AreTables};
 ghost use Rattle.interpolation.specs.Points.{SymbolList};
 ghost use Rattle.interpolation.specs.Lagrange.{productAt, basisValues, scalesOf};
 use field::Field;
+use field::Tables;
 
 // The products of (z − x) over the last m points x, for m = 0, 1, .., and zeros after them.
-fn last_products<'a>(
-    field: Field,
-    powers: &'a [u8; 255],
-    logarithms: &'a [u8; 255],
-    points: &[u16],
-    z: u32,
-) -> [u16; 255]
-    requires { ⌜ SymbolList field (now points) × (z < sizeOf (modulus field)) × AreTables (now powers) (now logarithms) ⌝ }
+fn last_products(field: Field, tables: &Tables, points: &[u16], z: u32) -> [u16; 255]
+    requires { ⌜ SymbolList field (now points) × (z < sizeOf (modulus field)) × AreTables (now tables) ⌝ }
     ensures { λ r. ⌜ r ≡ padded 255 (from (λ m. productAt (modulus field) (drop (length (now (points .entry)) - m) (now (points .entry))) z) 0 (length (now (points .entry)))) ⌝ }
 {
     let mut out = [0u16; 255];
@@ -29,34 +24,27 @@ fn last_products<'a>(
         out[m] = product as u16;
         let last = points.len() - m - 1;
         let factor = field.sub(z, points[last] as u32);
-        product = field.mul_with(powers, logarithms, factor, product);
+        product = field.mul_with(tables, factor, product);
         m += 1;
     }
     out
 }
 
 // The values at z of all basis polynomials, and zeros after them.
-pub fn values_with<'a>(
-    field: Field,
-    powers: &'a [u8; 255],
-    logarithms: &'a [u8; 255],
-    points: &[u16],
-    scales: &[u16],
-    z: u32,
-) -> [u16; 255]
-    requires { ⌜ SymbolList field (now points) × (now scales ≡ scalesOf (modulus field) (now points)) × (z < sizeOf (modulus field)) × AreTables (now powers) (now logarithms) ⌝ }
+pub fn values(field: Field, tables: &Tables, points: &[u16], scales: &[u16], z: u32) -> [u16; 255]
+    requires { ⌜ SymbolList field (now points) × (now scales ≡ scalesOf (modulus field) (now points)) × (z < sizeOf (modulus field)) × AreTables (now tables) ⌝ }
     ensures { λ r. ⌜ r ≡ padded 255 (basisValues (modulus field) (now (points .entry)) z) ⌝ }
 {
-    let after = last_products(field, powers, logarithms, points, z);
+    let after = last_products(field, tables, points, z);
     let mut out = [0u16; 255];
     let mut before = Field::ONE;
     let mut i = 0;
     while i < points.len() {
         let rest = points.len() - i - 1;
-        let others = field.mul_with(powers, logarithms, before, after[rest] as u32);
-        out[i] = field.mul_with(powers, logarithms, scales[i] as u32, others) as u16;
+        let others = field.mul_with(tables, before, after[rest] as u32);
+        out[i] = field.mul_with(tables, scales[i] as u32, others) as u16;
         let factor = field.sub(z, points[i] as u32);
-        before = field.mul_with(powers, logarithms, before, factor);
+        before = field.mul_with(tables, before, factor);
         i += 1;
     }
     out

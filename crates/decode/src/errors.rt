@@ -11,38 +11,30 @@ ghost use Rattle.decode.specs.Errors.{errorOf, errorsFrom, errorsOf};
 use crate::field_symbols::narrow;
 use crate::field_symbols::wide;
 use field::Field;
-use interpolation::polynomials;
+use field::Tables;
+use interpolation::division;
 
 // The error at the point x: the sum of the check sums times the coefficients of the product over the other points, times the scale of x, over x.
-fn error_at<'a>(
-    field: Field,
-    powers: &'a [u8; 255],
-    logarithms: &'a [u8; 255],
-    x: u32,
-    scale: u32,
-    product: &[u16],
-    sums: &[u16],
-) -> u32
-    requires { ⌜ SymbolList field (now product) × SymbolList field (now sums) × (length (now sums) ≡ length (now product)) × (x < sizeOf (modulus field)) × (scale < sizeOf (modulus field)) × AreTables (now powers) (now logarithms) ⌝ }
+fn error_at(field: Field, tables: &Tables, x: u32, scale: u32, product: &[u16], sums: &[u16]) -> u32
+    requires { ⌜ SymbolList field (now product) × SymbolList field (now sums) × (length (now sums) ≡ length (now product)) × (x < sizeOf (modulus field)) × (scale < sizeOf (modulus field)) × AreTables (now tables) ⌝ }
     ensures { λ r. ⌜ (r ≡ errorOf (modulus field) (now (product .entry)) (now (sums .entry)) x scale) × (r < sizeOf (modulus field)) ⌝ }
 {
-    let sum = polynomials::quotient_sum_with(field, powers, logarithms, x, product, sums);
-    let scaled = field.mul_with(powers, logarithms, sum, scale);
-    let inverse = field.inverse_with(powers, logarithms, x);
-    field.mul_with(powers, logarithms, scaled, inverse)
+    let sum = division::quotient_sum(field, tables, x, product, sums);
+    let scaled = field.mul_with(tables, sum, scale);
+    let inverse = field.inverse_with(tables, x);
+    field.mul_with(tables, scaled, inverse)
 }
 
 // The errors at all points, and zeros after them.
-fn errors_from<'a>(
+fn errors_from(
     field: Field,
-    powers: &'a [u8; 255],
-    logarithms: &'a [u8; 255],
+    tables: &Tables,
     points: &[u16],
     scales: &[u16],
     product: &[u16],
     sums: &[u16],
 ) -> [u16; 255]
-    requires { ⌜ SymbolList field (now points) × SymbolList field (now scales) × SymbolList field (now product) × SymbolList field (now sums) × (length (now scales) ≡ length (now points)) × (length (now sums) ≡ length (now product)) × AreTables (now powers) (now logarithms) ⌝ }
+    requires { ⌜ SymbolList field (now points) × SymbolList field (now scales) × SymbolList field (now product) × SymbolList field (now sums) × (length (now scales) ≡ length (now points)) × (length (now sums) ≡ length (now product)) × AreTables (now tables) ⌝ }
     ensures { λ r. ⌜ r ≡ padded 255 (errorsFrom (modulus field) (now (product .entry)) (now (sums .entry)) (now (points .entry)) (now (scales .entry))) ⌝ }
 {
     let mut out = [0u16; 255];
@@ -50,7 +42,7 @@ fn errors_from<'a>(
     while i < points.len() {
         let x = wide(points[i]);
         let scale = wide(scales[i]);
-        let e = error_at(field, powers, logarithms, x, scale, product, sums);
+        let e = error_at(field, tables, x, scale, product, sums);
         out[i] = narrow(field, e);
         i += 1;
     }
@@ -58,28 +50,20 @@ fn errors_from<'a>(
 }
 
 // The errors at the listed nodes, and zeros after them; as many check sums are taken as there are nodes.
-pub fn errors<'a>(
-    field: Field,
-    powers: &'a [u8; 255],
-    logarithms: &'a [u8; 255],
-    root: u32,
-    nodes: &[u8],
-    sums: &[u16],
-) -> [u16; 255]
-    requires { ⌜ SymbolList field (now sums) × (length (now sums) ≡ length (now nodes)) × (root < sizeOf (modulus field)) × AreTables (now powers) (now logarithms) ⌝ }
+pub fn errors(field: Field, tables: &Tables, root: u32, nodes: &[u8], sums: &[u16]) -> [u16; 255]
+    requires { ⌜ SymbolList field (now sums) × (length (now sums) ≡ length (now nodes)) × (root < sizeOf (modulus field)) × AreTables (now tables) ⌝ }
     ensures { λ r. ⌜ r ≡ padded 255 (errorsOf (modulus field) (pointsOf (modulus field) root 0 (now (nodes .entry))) (now (sums .entry))) ⌝ }
 {
     let count = nodes.len();
     let first: usize = 1;
     let end = count + 1;
-    let basis = recovery::lagrange_basis(field, root, nodes, 0);
+    let basis = recovery::lagrange_basis(field, tables, root, nodes, 0);
     let points = basis.points;
     let scales = basis.scales;
     let product = basis.product;
     errors_from(
         field,
-        powers,
-        logarithms,
+        tables,
         &points[..count],
         &scales[..count],
         &product[first..end],

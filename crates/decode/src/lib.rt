@@ -1,4 +1,4 @@
-// One lane set right: the word of the code that differs from it at no more than (n - k) / 2 nodes. Powers and logarithms are the field's tables as they are lent.
+// One lane set right: the word of the code that differs from it at no more than (n - k) / 2 nodes.
 ghost use mathlib.Core.Path.{_≡_};
 ghost use mathlib.Core.Bool.{false};
 ghost use Prim.Native.Nat.{_<_, _≤_};
@@ -11,6 +11,7 @@ ghost use Rattle.field.specs.Tables.{AreTables};
 ghost use Rattle.generator.specs.Records.{size, Sound};
 ghost use Rattle.decode.specs.Locating.{Below};
 ghost use Rattle.decode.specs.Candidates.{IsLane, WrongNodes, Candidate};
+use field::Tables;
 use generator::Header;
 
 mod errors;
@@ -35,48 +36,22 @@ pub struct Corrected {
 }
 
 // The only symbols that may be a word near enough, and zeros after them.
-fn candidate(h: Header, lane: &[u16], sums: [u16; 255]) -> [u16; 255]
-    requires { ⌜ IsLane h (now lane) × (sums ≡ padded 255 (checkSums h (now lane))) ⌝ }
-    ensures { λ r. ⌜ Candidate h (now (lane .entry)) r ⌝ }
-{
-    let t = field::constant_tables();
-    candidate_with(h, &t.powers, &t.logarithms, lane, sums)
-}
-
-fn candidate_with<'a>(
-    h: Header,
-    powers: &'a [u8; 255],
-    logarithms: &'a [u8; 255],
-    lane: &[u16],
-    sums: [u16; 255],
-) -> [u16; 255]
-    requires { ⌜ IsLane h (now lane) × (sums ≡ padded 255 (checkSums h (now lane))) × AreTables (now powers) (now logarithms) ⌝ }
+fn candidate(h: Header, tables: &Tables, lane: &[u16], sums: [u16; 255]) -> [u16; 255]
+    requires { ⌜ IsLane h (now lane) × (sums ≡ padded 255 (checkSums h (now lane))) × AreTables (now tables) ⌝ }
     ensures { λ r. ⌜ Candidate h (now (lane .entry)) r ⌝ }
 {
     let field = h.field;
     let root = h.root;
-    let found = wrong_nodes(h, powers, logarithms, &sums);
+    let found = wrong_nodes(h, tables, &sums);
     let nodes = found.nodes;
     let count = found.count;
-    let wrong = errors(
-        field,
-        powers,
-        logarithms,
-        root,
-        &nodes[..count],
-        &sums[..count],
-    );
+    let wrong = errors(field, tables, root, &nodes[..count], &sums[..count]);
     removed(field, lane, &nodes[..count], &wrong[..count])
 }
 
 // The nodes at which the locator of the check sums vanishes: all wrong ones, if a word is near enough.
-fn wrong_nodes<'a>(
-    h: Header,
-    powers: &'a [u8; 255],
-    logarithms: &'a [u8; 255],
-    sums: &[u16; 255],
-) -> Roots
-    requires { ⌜ Sound h × Below (size h) (now sums) × AreTables (now powers) (now logarithms) ⌝ }
+fn wrong_nodes(h: Header, tables: &Tables, sums: &[u16; 255]) -> Roots
+    requires { ⌜ Sound h × Below (size h) (now sums) × AreTables (now tables) ⌝ }
     ensures { λ r. ⌜ WrongNodes h (now (sums .entry)) (r .nodes) (r .count) ⌝ }
 {
     let field = h.field;
@@ -84,8 +59,8 @@ fn wrong_nodes<'a>(
     let n = h.n as usize;
     let t = ((h.n - h.k) / 2) as usize;
     let size = t + 1;
-    let locator = locate(field, powers, logarithms, sums, t);
-    find_roots(field, powers, logarithms, root, &locator[..size], n)
+    let locator = locate(field, tables, sums, t);
+    find_roots(field, tables, root, &locator[..size], n)
 }
 
 // The lane as it was: no word is near enough.
@@ -108,7 +83,8 @@ pub fn correct_lane(h: Header, rows: &[u8], lane: &[u16]) -> Corrected
     let n = h.n as usize;
     let t = ((h.n - h.k) / 2) as usize;
     let sums = check_sums::lane::sums_with(h, rows, lane);
-    let word = candidate(h, lane, sums);
+    let tables = field::constant_tables();
+    let word = candidate(h, &tables, lane, sums);
     let altered = differing(lane, &word[..n]);
     if t < altered {
         return kept(lane);

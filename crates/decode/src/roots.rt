@@ -11,23 +11,18 @@ ghost use Rattle.interpolation.specs.Points.{SymbolList};
 ghost use Rattle.decode.specs.Errors.{rootsOf};
 use crate::field_symbols::wide;
 use field::Field;
+use field::Tables;
 
 // The value at x, by Horner's rule.
-fn value<'a>(
-    field: Field,
-    powers: &'a [u8; 255],
-    logarithms: &'a [u8; 255],
-    coefficients: &[u16],
-    x: u32,
-) -> u32
-    requires { ⌜ SymbolList field (now coefficients) × (x < sizeOf (modulus field)) × AreTables (now powers) (now logarithms) ⌝ }
+fn value(field: Field, tables: &Tables, coefficients: &[u16], x: u32) -> u32
+    requires { ⌜ SymbolList field (now coefficients) × (x < sizeOf (modulus field)) × AreTables (now tables) ⌝ }
     ensures { λ r. ⌜ r ≡ polyAt (modulus field) (now (coefficients .entry)) x ⌝ }
 {
     let mut sum = Field::ZERO;
     let mut i = coefficients.len();
     while i > 0 {
         i -= 1;
-        let product = field.mul_with(powers, logarithms, x, sum);
+        let product = field.mul_with(tables, x, sum);
         sum = field.add(wide(coefficients[i]), product);
     }
     sum
@@ -40,15 +35,8 @@ pub struct Roots {
 }
 
 // The nodes below n at which the value is 0.
-pub fn find_roots<'a>(
-    field: Field,
-    powers: &'a [u8; 255],
-    logarithms: &'a [u8; 255],
-    root: u32,
-    coefficients: &[u16],
-    n: usize,
-) -> Roots
-    requires { ⌜ SymbolList field (now coefficients) × (root < sizeOf (modulus field)) × (n ≤ 255) × AreTables (now powers) (now logarithms) ⌝ }
+pub fn find_roots(field: Field, tables: &Tables, root: u32, coefficients: &[u16], n: usize) -> Roots
+    requires { ⌜ SymbolList field (now coefficients) × (root < sizeOf (modulus field)) × (n ≤ 255) × AreTables (now tables) ⌝ }
     ensures { λ r. ⌜ (r .nodes ≡ padded 255 (rootsOf (modulus field) root n (now (coefficients .entry)))) × (r .count ≡ length (rootsOf (modulus field) root n (now (coefficients .entry)))) ⌝ }
 {
     let mut nodes = [0u8; 255];
@@ -56,8 +44,8 @@ pub fn find_roots<'a>(
     let mut x = Field::ONE;
     let mut j: usize = 0;
     while j < n {
-        let y = value(field, powers, logarithms, coefficients, x);
-        x = field.mul_with(powers, logarithms, root, x);
+        let y = value(field, tables, coefficients, x);
+        x = field.mul_with(tables, root, x);
         if y == Field::ZERO {
             nodes[count] = j as u8;
             count += 1;

@@ -12,7 +12,7 @@ use lib.ListN.{length, getD}
 use Rattle.lists.proofs.Cases.{by-test}
 use Rattle.field.specs.Bytes.{timesX, productFrom, product}
 use Rattle.field.specs.Fields.{sizeOf, mul, power, inverse}
-use Rattle.field.specs.Tables.{AreTables, tableProduct, tableInverse}
+use Rattle.field.specs.Tables.{powersIn, logarithmsIn, AreTables, tableProduct, tableInverse}
 use Rattle.field.proofs.Computed.{both, both-left, both-right, everyEntry, entry-at}
 use Rattle.field.proofs.Product.{timesX-byte, product-one, product-two, product-comm}
 use Rattle.field.proofs.Arithmetic.{zero-mul, mul-zero}
@@ -59,7 +59,7 @@ chain-byte a (x ∷ xs) t ha (suc e) h =
     chain-byte (timesX x) xs (both-right (eqb x a) (chain (timesX x) xs) t) low e (omega arith)
 
 -- lists that pass are tables
-pub are-tables : (ps ls : List ℕ) → T (tablesPass ps ls) → AreTables ps ls
+pub are-tables : (ps ls : List ℕ) → T (tablesPass ps ls) → AreTables (ps ∷ (ls ∷ []))
 are-tables ps ls t =
     let sizes = both-left (both (eqb (length ps) 255) (eqb (length ls) 255)) _ t in
     let lp : length ps ≡ 255 = eqb→eq (length ps) 255 (both-left (eqb (length ps) 255) (eqb (length ls) 255) sizes) in
@@ -112,58 +112,58 @@ pub times-zero : (a : ℕ) {b : ℕ} → a < 256 → b ≡ 0 → 0 ≡ mul 0 a b
 unfolding sizeOf
 times-zero a h e = sym (ap (mul 0 a) e ∙ mul-zero (arithmetic 0 byte-field) a h)
 
-module _ {ps ls : List ℕ} (t : AreTables ps ls) where
+module _ {ts : List (List ℕ)} (t : AreTables ts) where
   -- what stands at e is 2 to the power e
-  pub power-at : (e : ℕ) → e < 255 → getD ps e 0 ≡ power 0 2 e
+  pub power-at : (e : ℕ) → e < 255 → getD (powersIn ts) e 0 ≡ power 0 2 e
   unfolding power mul
   power-at zero h = t .first
   power-at (suc e) h = rw add-one at (t .next e (omega arith)) ∙ ap (product 2) (power-at e (omega arith))
 
   -- the exponent of a, modulo 255 where it is 255 or more
-  pub wrapped-at : (s : ℕ) → 255 ≤ s → s < 510 → getD ps (s - 255) 0 ≡ power 0 2 s
+  pub wrapped-at : (s : ℕ) → 255 ≤ s → s < 510 → getD (powersIn ts) (s - 255) 0 ≡ power 0 2 s
   wrapped-at s low high = power-at (s - 255) (omega arith) ∙ two-wrap s low
 
   -- the exponent reduced modulo 255
-  pub reduced-at : (s : ℕ) → s < 510 → getD ps (s % 255) 0 ≡ power 0 2 s
+  pub reduced-at : (s : ℕ) → s < 510 → getD (powersIn ts) (s % 255) 0 ≡ power 0 2 s
   reduced-at s h =
       by-test (ltb s 255)
       (λ b. let low : s < 255 = ltb-true s 255 b in let e : s % 255 ≡ s = omega arith in rw e (power-at s low))
       (λ b. let low : 255 ≤ s = ltb-false s 255 b in let e : s % 255 ≡ s - 255 = omega arith in rw e (wrapped-at s low h))
 
-  log-power : (a : ℕ) → 0 < a → a < 256 → power 0 2 (getD ls (a - 1) 0) ≡ a
-  log-power a pos h = sym (power-at (getD ls (a - 1) 0) (t .below a pos h)) ∙ t .power a pos h
+  log-power : (a : ℕ) → 0 < a → a < 256 → power 0 2 (getD (logarithmsIn ts) (a - 1) 0) ≡ a
+  log-power a pos h = sym (power-at (getD (logarithmsIn ts) (a - 1) 0) (t .below a pos h)) ∙ t .power a pos h
 
   -- the sum of two exponents
-  pub logs-add : (a b : ℕ) → 0 < a → a < 256 → 0 < b → b < 256 → power 0 2 (getD ls (a - 1) 0 + getD ls (b - 1) 0) ≡ mul 0 a b
+  pub logs-add : (a b : ℕ) → 0 < a → a < 256 → 0 < b → b < 256 → power 0 2 (getD (logarithmsIn ts) (a - 1) 0 + getD (logarithmsIn ts) (b - 1) 0) ≡ mul 0 a b
   logs-add a b pa ha pb hb =
-      sym (power-add 0 byte-field 2 (getD ls (a - 1) 0) (getD ls (b - 1) 0) two) ∙ ap₂ (mul 0) (log-power a pa ha) (log-power b pb hb)
+      sym (power-add 0 byte-field 2 (getD (logarithmsIn ts) (a - 1) 0) (getD (logarithmsIn ts) (b - 1) 0) two) ∙ ap₂ (mul 0) (log-power a pa ha) (log-power b pb hb)
 
   -- the power with the negative of an exponent
-  pub log-inverse : (a : ℕ) → 0 < a → a < 256 → power 0 2 (255 - getD ls (a - 1) 0) ≡ inverse 0 a
+  pub log-inverse : (a : ℕ) → 0 < a → a < 256 → power 0 2 (255 - getD (logarithmsIn ts) (a - 1) 0) ≡ inverse 0 a
   unfolding sizeOf
   log-inverse a pos h =
-      let e = getD ls (a - 1) 0 in
+      let e = getD (logarithmsIn ts) (a - 1) 0 in
       let whole : e + (255 - e) ≡ 255 = omega (arith, t .below a pos h) in
       inverse-unique 0 byte-field a (power 0 2 (255 - e)) h (power-below 0 byte-field (255 - e) two)
       (ap (λ (x : ℕ). mul 0 x (power 0 2 (255 - e))) (sym (log-power a pos h)) ∙ power-add 0 byte-field 2 e (255 - e) two ∙ ap (power 0 2) whole ∙ two-255)
 
   -- the table product of every two bytes is the product of polynomials
-  pub table-product : (a b : ℕ) → a < 256 → b < 256 → tableProduct ps ls a b ≡ product a b
+  pub table-product : (a b : ℕ) → a < 256 → b < 256 → tableProduct ts a b ≡ product a b
   unfolding tableProduct mul
   table-product zero b ha hb = zero-times b hb refl
   table-product (suc a) zero ha hb = times-zero (suc a) ha refl
   table-product (suc a) (suc b) ha hb =
-      let s = getD ls a 0 + getD ls b 0 in
+      let s = getD (logarithmsIn ts) a 0 + getD (logarithmsIn ts) b 0 in
       let at-a : suc a - 1 ≡ a = omega arith in
       let at-b : suc b - 1 ≡ b = omega arith in
-      let i : getD ls a 0 < 255 = rw at-a at (t .below (suc a) (omega arith) ha) in
-      let j : getD ls b 0 < 255 = rw at-b at (t .below (suc b) (omega arith) hb) in
+      let i : getD (logarithmsIn ts) a 0 < 255 = rw at-a at (t .below (suc a) (omega arith) ha) in
+      let j : getD (logarithmsIn ts) b 0 < 255 = rw at-b at (t .below (suc b) (omega arith) hb) in
       let few : s < 510 = omega arith in
       reduced-at s few ∙ rw (at-a, at-b) at (logs-add (suc a) (suc b) (omega arith) ha (omega arith) hb)
 
   -- each byte but 0 times its table inverse is 1
-  pub table-inverse : (a : ℕ) → 0 < a → a < 256 → product a (tableInverse ps ls a) ≡ 1
+  pub table-inverse : (a : ℕ) → 0 < a → a < 256 → product a (tableInverse ts a) ≡ 1
   unfolding tableInverse mul sizeOf
   table-inverse a pos h =
-      let e = getD ls (a - 1) 0 in
+      let e = getD (logarithmsIn ts) (a - 1) 0 in
       ap (product a) (reduced-at (255 - e) (omega arith) ∙ log-inverse a pos h) ∙ mul-inverse 0 byte-field a pos h

@@ -4,7 +4,8 @@ ghost use Prim.Native.Nat.{_-_, _%_, _<_};
 ghost use lib.ListN.{getD};
 ghost use Rattle.field.specs.Fields.{add, sub, mul, inverse};
 ghost use Rattle.field.specs.Kinds.{gf256};
-ghost use Rattle.field.specs.Tables.{AreTables};
+ghost use Rattle.field.specs.Tables.{powersIn, logarithmsIn, AreTables};
+use crate::tables::Tables;
 use crate::tables::constant_tables;
 
 pub struct Gf256 {}
@@ -39,18 +40,12 @@ impl Gf256 {
         ensures { λ r. ⌜ r ≡ mul 0 a b ⌝ }
     {
         let t = constant_tables();
-        self.mul_with(&t.powers, &t.logarithms, a, b)
+        self.mul_with(&t, a, b)
     }
 
     // The exponents add, modulo 255; 0 times a byte is 0.
-    pub fn mul_with<'a>(
-        self,
-        powers: &'a [u8; 255],
-        logarithms: &'a [u8; 255],
-        a: u32,
-        b: u32,
-    ) -> u32
-        requires { ⌜ AreTables (now powers) (now logarithms) × (a < 256) × (b < 256) ⌝ }
+    pub fn mul_with(self, tables: &Tables, a: u32, b: u32) -> u32
+        requires { ⌜ AreTables (now tables) × (a < 256) × (b < 256) ⌝ }
         ensures { λ r. ⌜ r ≡ mul 0 a b ⌝ }
     {
         if a == Self::ZERO {
@@ -59,8 +54,8 @@ impl Gf256 {
         if b == Self::ZERO {
             return Self::ZERO;
         }
-        let e = logarithm(logarithms, a) as u32 + logarithm(logarithms, b) as u32;
-        power(powers, reduced(e)) as u32
+        let e = logarithm(tables, a) as u32 + logarithm(tables, b) as u32;
+        power(tables, reduced(e)) as u32
     }
 
     // 0 for 0.
@@ -69,22 +64,22 @@ impl Gf256 {
         ensures { λ r. ⌜ r ≡ inverse 0 a ⌝ }
     {
         let t = constant_tables();
-        self.inverse_with(&t.powers, &t.logarithms, a)
+        self.inverse_with(&t, a)
     }
 
     // The power whose exponent is the negative of a's, modulo 255.
-    pub fn inverse_with<'a>(self, powers: &'a [u8; 255], logarithms: &'a [u8; 255], a: u32) -> u32
-        requires { ⌜ AreTables (now powers) (now logarithms) × (a < 256) ⌝ }
+    pub fn inverse_with(self, tables: &Tables, a: u32) -> u32
+        requires { ⌜ AreTables (now tables) × (a < 256) ⌝ }
         ensures { λ r. ⌜ r ≡ inverse 0 a ⌝ }
     {
         if a == Self::ZERO {
             return Self::ZERO;
         }
-        let e = logarithm(logarithms, a) as u32;
+        let e = logarithm(tables, a) as u32;
         if e == 0 {
             Self::ONE
         } else {
-            power(powers, 255 - e) as u32
+            power(tables, 255 - e) as u32
         }
     }
 }
@@ -98,16 +93,16 @@ fn reduced(e: u32) -> u32
     (s + s / 256) % 256 - 1
 }
 
-fn power(powers: &[u8; 255], e: u32) -> u8
+fn power(tables: &Tables, e: u32) -> u8
     requires { ⌜ e < 255 ⌝ }
-    ensures { λ r. ⌜ r ≡ getD (now (powers .entry)) e 0 ⌝ }
+    ensures { λ r. ⌜ r ≡ getD (powersIn (now (tables .entry))) e 0 ⌝ }
 {
-    powers[e as usize]
+    tables[0][e as usize]
 }
 
-fn logarithm(logarithms: &[u8; 255], a: u32) -> u8
+fn logarithm(tables: &Tables, a: u32) -> u8
     requires { ⌜ (0 < a) × (a < 256) ⌝ }
-    ensures { λ r. ⌜ r ≡ getD (now (logarithms .entry)) (a - 1) 0 ⌝ }
+    ensures { λ r. ⌜ r ≡ getD (logarithmsIn (now (tables .entry))) (a - 1) 0 ⌝ }
 {
-    logarithms[(a - 1) as usize]
+    tables[1][(a - 1) as usize]
 }

@@ -83,27 +83,27 @@ impl Field {
         requires { ⌜ (usable self ≡ true) × (a < sizeOf (modulus self)) × (b < sizeOf (modulus self)) ⌝ }
         ensures { λ r. ⌜ r ≡ mul (modulus self) a b ⌝ }
     {
-        match self {
-            Field::Prime(f) => f.mul(a, b),
-            Field::Binary(g) => g.mul(a, b),
-        }
+        let tables = constant_tables();
+        self.mul_with(&tables, a, b)
     }
 
     // The same with lent tables, for loops that take many products; a prime field needs none.
-    pub fn mul_with<'a>(
-        self,
-        powers: &'a [u8; 255],
-        logarithms: &'a [u8; 255],
-        a: u32,
-        b: u32,
-    ) -> u32
-        requires { ⌜ (usable self ≡ true) × (a < sizeOf (modulus self)) × (b < sizeOf (modulus self)) × AreTables (now powers) (now logarithms) ⌝ }
+    pub fn mul_with(self, tables: &Tables, a: u32, b: u32) -> u32
+        requires { ⌜ (usable self ≡ true) × (a < sizeOf (modulus self)) × (b < sizeOf (modulus self)) × AreTables (now tables) ⌝ }
         ensures { λ r. ⌜ r ≡ mul (modulus self) a b ⌝ }
     {
         match self {
             Field::Prime(f) => f.mul(a, b),
-            Field::Binary(g) => g.mul_with(powers, logarithms, a, b),
+            Field::Binary(g) => g.mul_with(tables, a, b),
         }
+    }
+
+    // Whether c is the product of a and b.
+    pub fn is_product(self, tables: &Tables, a: u32, b: u16, c: u16) -> bool
+        requires { ⌜ (usable self ≡ true) × (a < sizeOf (modulus self)) × (b < sizeOf (modulus self)) × AreTables (now tables) ⌝ }
+        ensures { λ r. ⌜ r ≡ eqb c (mul (modulus self) a b) ⌝ }
+    {
+        c as u32 == self.mul_with(tables, a, b as u32)
     }
 
     // The symbol whose product with a is 1; 0 for 0.
@@ -111,33 +111,23 @@ impl Field {
         requires { ⌜ (usable self ≡ true) × (a < sizeOf (modulus self)) ⌝ }
         ensures { λ r. ⌜ r ≡ inverse (modulus self) a ⌝ }
     {
-        match self {
-            Field::Prime(f) => f.inverse(a),
-            Field::Binary(g) => g.inverse(a),
-        }
+        let tables = constant_tables();
+        self.inverse_with(&tables, a)
     }
 
-    pub fn inverse_with<'a>(self, powers: &'a [u8; 255], logarithms: &'a [u8; 255], a: u32) -> u32
-        requires { ⌜ (usable self ≡ true) × (a < sizeOf (modulus self)) × AreTables (now powers) (now logarithms) ⌝ }
+    pub fn inverse_with(self, tables: &Tables, a: u32) -> u32
+        requires { ⌜ (usable self ≡ true) × (a < sizeOf (modulus self)) × AreTables (now tables) ⌝ }
         ensures { λ r. ⌜ r ≡ inverse (modulus self) a ⌝ }
     {
         match self {
             Field::Prime(f) => f.inverse(a),
-            Field::Binary(g) => g.inverse_with(powers, logarithms, a),
+            Field::Binary(g) => g.inverse_with(tables, a),
         }
     }
 
-    pub fn power(self, a: u32, e: u32) -> u32
-        requires { ⌜ (usable self ≡ true) × (a < sizeOf (modulus self)) ⌝ }
-        ensures { λ r. ⌜ r ≡ power (modulus self) a e ⌝ }
-    {
-        let t = constant_tables();
-        self.power_with(&t.powers, &t.logarithms, a, e)
-    }
-
-    // By squaring: the result so far times base^k is the power.
-    fn power_with<'a>(self, powers: &'a [u8; 255], logarithms: &'a [u8; 255], a: u32, e: u32) -> u32
-        requires { ⌜ (usable self ≡ true) × (a < sizeOf (modulus self)) × AreTables (now powers) (now logarithms) ⌝ }
+    // By squaring, with lent tables: the result so far times base^k is the power.
+    pub fn power(self, tables: &Tables, a: u32, e: u32) -> u32
+        requires { ⌜ (usable self ≡ true) × (a < sizeOf (modulus self)) × AreTables (now tables) ⌝ }
         ensures { λ r. ⌜ r ≡ power (modulus self) a e ⌝ }
     {
         let mut base = a;
@@ -145,9 +135,9 @@ impl Field {
         let mut r = Self::ONE;
         while k > 0 {
             if k % 2 == 1 {
-                r = self.mul_with(powers, logarithms, r, base);
+                r = self.mul_with(tables, r, base);
             }
-            base = self.mul_with(powers, logarithms, base, base);
+            base = self.mul_with(tables, base, base);
             k = k / 2;
         }
         r
@@ -158,27 +148,14 @@ impl Field {
         requires { ⌜ (usable self ≡ true) × (a < sizeOf (modulus self)) × (1 ≤ n) × (n ≤ 256) ⌝ }
         ensures { λ r. ⌜ r ≡ eqb (orderOf (modulus self) a) n ⌝ }
     {
-        let t = constant_tables();
-        self.has_order_with(&t.powers, &t.logarithms, a, n)
-    }
-
-    fn has_order_with<'a>(
-        self,
-        powers: &'a [u8; 255],
-        logarithms: &'a [u8; 255],
-        a: u32,
-        n: u32,
-    ) -> bool
-        requires { ⌜ (usable self ≡ true) × (a < sizeOf (modulus self)) × (1 ≤ n) × (n ≤ 256) × AreTables (now powers) (now logarithms) ⌝ }
-        ensures { λ r. ⌜ r ≡ eqb (orderOf (modulus self) a) n ⌝ }
-    {
+        let tables = constant_tables();
         let mut e: u32 = 1;
         let mut x = a;
         while e < n {
             if x == Self::ONE {
                 return false;
             }
-            x = self.mul_with(powers, logarithms, a, x);
+            x = self.mul_with(&tables, a, x);
             e += 1;
         }
         x == Self::ONE

@@ -1,20 +1,15 @@
 // The tables of the field of 256 elements: the powers of 2, and the logarithm of each byte but 0.
 ghost use Rattle.field.specs.Tables.{AreTables};
 
-pub struct Tables {
-    pub powers: [u8; 255],
-    pub logarithms: [u8; 255],
-}
+// The powers, then the logarithms.
+pub type Tables = [[u8; 255]; 2];
 
 // Both tables by value. A function that reads a constant array copies it first; one that takes many products asks for the tables
 // once, and lends them to each product.
 pub fn constant_tables() -> Tables
-    ensures { λ r. ⌜ AreTables (r .powers) (r .logarithms) ⌝ }
+    ensures { λ r. ⌜ AreTables r ⌝ }
 {
-    Tables {
-        powers: POWERS,
-        logarithms: LOGARITHMS,
-    }
+    [POWERS, LOGARITHMS]
 }
 
 // 2 to the power e, at e.

@@ -5,12 +5,12 @@ ghost use lib.Dec.{eqb};
 ghost use lib.ListN.{length, getD};
 ghost use Rattle.lists.specs.Padded.{padded};
 ghost use Rattle.lists.specs.Search.{firstFalse};
-ghost use Rattle.field.specs.Fields.{mul};
 ghost use Rattle.field.specs.Tables.{AreTables};
-ghost use Rattle.generator.specs.Records.{modulusOf, size, Sound};
+ghost use Rattle.generator.specs.Records.{size, Sound};
 ghost use Rattle.plan.specs.Plans.{planFor};
 ghost use Rattle.refusals.specs.Accepted.{IsLane};
 ghost use Rattle.find_update.specs.Starts.{differences, firstOther};
+use field::Tables;
 use generator::Header;
 use generator::Record;
 use plan::Plan;
@@ -44,49 +44,25 @@ pub fn first_changed(difference: &[u16]) -> usize
     j
 }
 
-// Whether a node's difference is x times its entry.
-fn is_term<'a>(
-    h: Header,
-    powers: &'a [u8; 255],
-    logarithms: &'a [u8; 255],
-    x: u32,
-    entry: u16,
-    held: u16,
-) -> bool
-    requires { ⌜ Sound h × (x < size h) × (entry < size h) × AreTables (now powers) (now logarithms) ⌝ }
-    ensures { λ r. ⌜ r ≡ eqb held (mul (modulusOf h) x entry) ⌝ }
-{
-    let field = h.field;
-    held as u32 == field.mul_with(powers, logarithms, x, entry as u32)
-}
-
 // The first node at which the difference is not x times the entry of the row, or n.
-pub fn first_other(h: Header, plan: Plan, row: usize, x: u32, difference: &[u16]) -> usize
-    requires { ⌜ Sound h × (plan ≡ planFor (Record.Holds h)) × (row < h .k) × (x < size h) × (length (now difference) ≡ h .n) ⌝ }
-    ensures { λ r. ⌜ r ≡ firstOther h (now (difference .entry)) row x ⌝ }
-{
-    let t = field::constant_tables();
-    first_other_with(h, &t.powers, &t.logarithms, plan, row, x, difference)
-}
-
-fn first_other_with<'a>(
+pub fn first_other(
     h: Header,
-    powers: &'a [u8; 255],
-    logarithms: &'a [u8; 255],
+    tables: &Tables,
     plan: Plan,
     row: usize,
     x: u32,
     difference: &[u16],
 ) -> usize
-    requires { ⌜ Sound h × (plan ≡ planFor (Record.Holds h)) × (row < h .k) × (x < size h) × (length (now difference) ≡ h .n) × AreTables (now powers) (now logarithms) ⌝ }
+    requires { ⌜ Sound h × (plan ≡ planFor (Record.Holds h)) × (row < h .k) × (x < size h) × (length (now difference) ≡ h .n) × AreTables (now tables) ⌝ }
     ensures { λ r. ⌜ r ≡ firstOther h (now (difference .entry)) row x ⌝ }
 {
     let n = h.n as usize;
     let shift = plan.shifts[row] as usize;
     let mut j: usize = 0;
     while j < n {
+        let field = h.field;
         let entry = plan::entry_at(n, shift, &plan.base, j);
-        if !is_term(h, powers, logarithms, x, entry, difference[j]) {
+        if !field.is_product(tables, x, entry, difference[j]) {
             return j;
         }
         j += 1;

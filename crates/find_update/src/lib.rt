@@ -3,12 +3,14 @@ ghost use mathlib.Core.Path.{_≡_};
 ghost use mathlib.Core.Bool.{true};
 ghost use Prim.Native.Nat.{_<_};
 ghost use Rattle.field.specs.Kinds.{usable};
+ghost use Rattle.field.specs.Tables.{AreTables};
 ghost use Rattle.generator.specs.Records.{Sound};
 ghost use Rattle.plan.specs.Plans.{planFor};
 ghost use Rattle.refusals.specs.Accepted.{IsLane};
 ghost use Rattle.find_update.specs.Finding.{findingOf};
 ghost use Rattle.find_update.specs.Starts.{amountIn, updateIn};
 ghost use Rattle.find_update.specs.Promise.{findFault, FindPromise, FindSays};
+use field::Tables;
 use generator::Header;
 use generator::Record;
 use plan::Plan;
@@ -28,14 +30,14 @@ pub enum Finding {
 }
 
 // What was added at the first node of a row, over the row's entry there, which is the first of the base word.
-fn amount_in(h: Header, plan: Plan, row: usize, difference: &[u16]) -> u32
-    requires { ⌜ Sound h × (plan ≡ planFor (Record.Holds h)) × (row < h .k) × IsLane h (now difference) ⌝ }
+fn amount_in(h: Header, tables: &Tables, plan: Plan, row: usize, difference: &[u16]) -> u32
+    requires { ⌜ Sound h × (plan ≡ planFor (Record.Holds h)) × (row < h .k) × IsLane h (now difference) × AreTables (now tables) ⌝ }
     ensures { λ r. ⌜ r ≡ amountIn h (now (difference .entry)) row ⌝ }
 {
     let field = h.field;
     let first = plan.firsts[row] as usize;
-    let over = field.inverse(plan.base[0] as u32);
-    field.mul(difference[first] as u32, over)
+    let over = field.inverse_with(tables, plan.base[0] as u32);
+    field.mul_with(tables, difference[first] as u32, over)
 }
 
 // The update that a difference is of, where it is not zero at some node.
@@ -48,11 +50,13 @@ fn update_in(h: Header, plan: Plan, difference: &[u16]) -> Finding
     if k <= row {
         return Finding::NoSingleUpdate;
     }
-    let amount = amount_in(h, plan, row, difference);
-    if compare::first_other(h, plan, row, amount, difference) != difference.len() {
+    let tables = field::constant_tables();
+    let amount = amount_in(h, &tables, plan, row, difference);
+    if compare::first_other(h, &tables, plan, row, amount, difference) != difference.len() {
         return Finding::NoSingleUpdate;
     }
-    Finding::Added(row as u32, amount)
+    let which = row as u32;
+    Finding::Added(which, amount)
 }
 
 // The update that leads from one lane to another.

@@ -6,20 +6,26 @@ use Prim.Native.Nat.{ℕ, zero, suc, _+_, _-_, _≤_, _<_}
 use native.Mathlib.Numerals.{add-one}
 use native.Mathlib.Omega.{arith}
 use lib.ListN.{length, getD, take, drop, set, length-map, length-append, drop-of-length-le}
-use lib.Seq.{drop-length, take-at, drop-at}
+use lib.Seq.{take-at, drop-at, drop-length}
 use Rattle.lists.specs.Numbers.{allBelow}
 use Rattle.lists.specs.Padded.{zeros, padded}
+use Rattle.lists.specs.Rows.{from}
 use Rattle.lists.proofs.Fill.{zeros-next}
 use Rattle.lists.proofs.Front.{drop-next, drop-before}
 use Rattle.lists.proofs.Numbers.{below-cons, cons-below, below-append, below-getD, below-drop}
+use Rattle.lists.proofs.Images.{from-self}
 use Rattle.lists.proofs.Padding.{length-padded}
+use Rattle.lists.proofs.Rows.{from-ext}
+use Rattle.field.specs.declared.Field.{Field}
+use Rattle.field.specs.Kinds.{modulus}
 use Rattle.field.specs.Fields.{isField, sizeOf, add, sub, mul, power, inverse}
 use Rattle.field.proofs.Arithmetic.{mul-zero}
 use Rattle.field.proofs.BothKinds.{arithmetic}
 use Rattle.field.proofs.Bounds.{one-below, add-below, sub-below, mul-below, power-below}
 use Rattle.field.proofs.FieldOf.{size-pos}
 use Rattle.field.proofs.Inverse.{inverse-below}
-use Rattle.field.specs.Sums.{dot}
+use Rattle.field.proofs.KindLaws.{usable-field}
+use Rattle.interpolation.specs.Points.{SymbolList}
 use Rattle.interpolation.specs.Polynomials.{timesLinear, carried, productOf, baseOf, quotientOf, termwise, inversesOf}
 
 -- a list with zeros after it, as far as one place more: the list and a 0; and what is left is zeros
@@ -122,15 +128,6 @@ module _ (p : ℕ) where
   length-quotientOf a [] = refl
   length-quotientOf a (c ∷ cs) = ap suc (length-quotientOf a cs)
 
-  -- its coefficients times factors
-  pub terms-next : (a : ℕ) (cs ds : List ℕ) (i : ℕ) → 0 < i → i ≤ length cs → i ≤ length ds → termwise p (quotientOf p a (drop (i - 1) cs)) (drop (i - 1) ds) ≡ mul p (getD (quotientOf p a (drop (i - 1) cs)) 0 0) (getD ds (i - 1) 0) ∷ termwise p (quotientOf p a (drop i cs)) (drop i ds)
-  unfolding termwise
-  terms-next a cs ds i pos h k = rw (quotientOf-next a cs i pos h, drop-before ds i 0 pos k)
-
-  pub terms-end : (a : ℕ) (cs ds : List ℕ) → termwise p (quotientOf p a (drop (length cs) cs)) ds ≡ []
-  unfolding termwise
-  terms-end a cs ds = ap (λ (l : List ℕ). termwise p l ds) (quotientOf-end a cs)
-
   pub length-termwise : (cs ds : List ℕ) → length ds ≡ length cs → length (termwise p cs ds) ≡ length cs
   unfolding termwise
   length-termwise [] ds h = refl
@@ -144,14 +141,11 @@ module _ (p : ℕ) where
   getD-termwise (c ∷ cs) (d ∷ ds) zero h k = refl
   getD-termwise (c ∷ cs) (d ∷ ds) (suc i) h k = getD-termwise cs ds i (omega arith) (omega arith)
 
-  -- the sum of its coefficients times terms
-  pub dot-next : (a : ℕ) (cs ys : List ℕ) (i : ℕ) → 0 < i → i ≤ length cs → i ≤ length ys → dot p (drop (i - 1) ys) (quotientOf p a (drop (i - 1) cs)) ≡ add p (mul p (getD ys (i - 1) 0) (getD (quotientOf p a (drop (i - 1) cs)) 0 0)) (dot p (drop i ys) (quotientOf p a (drop i cs)))
-  unfolding dot
-  dot-next a cs ys i pos h k = rw (quotientOf-next a cs i pos h, drop-before ys i 0 pos k)
-
-  pub dot-end : (ys ws : List ℕ) → dot p (drop (length ys) ys) ws ≡ 0
-  unfolding dot
-  dot-end ys ws = ap (λ (l : List ℕ). dot p l ws) (drop-length ys)
+  -- the products by index
+  pub termwise-from : (cs ds : List ℕ) → length ds ≡ length cs → from (λ j. mul p (getD cs j 0) (getD ds j 0)) 0 (length cs) ≡ termwise p cs ds
+  termwise-from cs ds h =
+      from-ext _ (λ j. getD (termwise p cs ds) j 0) 0 (length cs) (λ j low high. sym (getD-termwise cs ds j (omega arith) (omega arith)))
+      ∙ from-self (termwise p cs ds) (length cs) (length-termwise cs ds h)
 
   -- inverses
   pub length-inversesOf : (cs : List ℕ) → length (inversesOf p cs) ≡ length cs
@@ -212,6 +206,14 @@ module _ (p : ℕ) where
     -- the quotient's coefficients are symbols
     pub dividing-below : {a : ℕ} {cs : List ℕ} {i q : ℕ} → Dividing a cs i q → a < sizeOf p → Below cs → q < sizeOf p
     dividing-below {a} {cs} {i} d la h = rw (d .first) (below-getD (sizeOf p) _ (size-pos p v) (quotientOf-below a (drop i cs) la (below-drop (sizeOf p) i cs h)) 0)
+
+pub quotientOf-symbols : {f : Field} (a : ℕ) {cs : List ℕ} → SymbolList f cs → a < sizeOf (modulus f) → SymbolList f (quotientOf (modulus f) a cs)
+quotientOf-symbols {f} a {cs} s low =
+    record {
+      usable-field = s .usable-field;
+      below = quotientOf-below (modulus f) (usable-field f (s .usable-field)) a cs low (s .below);
+      short = omega (arith, length-quotientOf (modulus f) a cs, s .short);
+    }
 
 -- a polynomial of m coefficients in an array, and one factor more in place
 pub record Grows (p a m : ℕ) (cs out : List ℕ) : Type 0 where

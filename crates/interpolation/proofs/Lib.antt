@@ -4,4 +4,6 @@ pub mod Values
 pub mod Coefficients
 -- They are those of the algebra.
 pub mod Bridge
+-- Sums of products.
+pub mod Dots
 pub mod PaddedSums

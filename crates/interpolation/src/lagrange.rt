@@ -1,4 +1,4 @@
-// Lagrange's basis polynomials of listed points, by their values. A function that ends in `_with` takes the field's tables as they are lent to it.
+// Lagrange's basis polynomials of listed points, by their values.
 ghost use mathlib.Core.Path.{_≡_};
 ghost use Prim.Native.Nat.{_<_};
 ghost use lib.ListN.{length};
@@ -9,24 +9,11 @@ ghost use Rattle.field.specs.Tables.{AreTables};
 ghost use Rattle.interpolation.specs.Points.{SymbolList};
 ghost use Rattle.interpolation.specs.Lagrange.{productAt, othersAt, scaleAt, basisAt, basisValues, scalesOf};
 use field::Field;
+use field::Tables;
 
 // The product of (z − x) over the points x.
-fn product_at(field: Field, points: &[u16], z: u32) -> u32
-    requires { ⌜ SymbolList field (now points) × (z < sizeOf (modulus field)) ⌝ }
-    ensures { λ r. ⌜ r ≡ productAt (modulus field) (now (points .entry)) z ⌝ }
-{
-    let t = field::constant_tables();
-    product_with(field, &t.powers, &t.logarithms, points, z)
-}
-
-fn product_with<'a>(
-    field: Field,
-    powers: &'a [u8; 255],
-    logarithms: &'a [u8; 255],
-    points: &[u16],
-    z: u32,
-) -> u32
-    requires { ⌜ SymbolList field (now points) × (z < sizeOf (modulus field)) × AreTables (now powers) (now logarithms) ⌝ }
+fn product_at(field: Field, tables: &Tables, points: &[u16], z: u32) -> u32
+    requires { ⌜ SymbolList field (now points) × (z < sizeOf (modulus field)) × AreTables (now tables) ⌝ }
     ensures { λ r. ⌜ r ≡ productAt (modulus field) (now (points .entry)) z ⌝ }
 {
     let mut product = Field::ONE;
@@ -34,61 +21,64 @@ fn product_with<'a>(
     while i > 0 {
         i -= 1;
         let factor = field.sub(z, points[i] as u32);
-        product = field.mul_with(powers, logarithms, factor, product);
+        product = field.mul_with(tables, factor, product);
     }
     product
 }
 
 // The product over the points but number i: over those before it, and over those after it.
-fn others_at(field: Field, points: &[u16], i: usize, z: u32) -> u32
-    requires { ⌜ SymbolList field (now points) × (i < length (now points)) × (z < sizeOf (modulus field)) ⌝ }
+fn others_at(field: Field, tables: &Tables, points: &[u16], i: usize, z: u32) -> u32
+    requires { ⌜ SymbolList field (now points) × (i < length (now points)) × (z < sizeOf (modulus field)) × AreTables (now tables) ⌝ }
     ensures { λ r. ⌜ r ≡ othersAt (modulus field) (now (points .entry)) i z ⌝ }
 {
     let next = i + 1;
-    let before = product_at(field, &points[..i], z);
-    let after = product_at(field, &points[next..], z);
-    field.mul(before, after)
+    let before = product_at(field, tables, &points[..i], z);
+    let after = product_at(field, tables, &points[next..], z);
+    field.mul_with(tables, before, after)
 }
 
 // 1 over that product at point number i itself.
-pub fn scale_at(field: Field, points: &[u16], i: usize) -> u32
-    requires { ⌜ SymbolList field (now points) × (i < length (now points)) ⌝ }
+pub fn scale_at(field: Field, tables: &Tables, points: &[u16], i: usize) -> u32
+    requires { ⌜ SymbolList field (now points) × (i < length (now points)) × AreTables (now tables) ⌝ }
     ensures { λ r. ⌜ r ≡ scaleAt (modulus field) (now (points .entry)) i ⌝ }
 {
-    field.inverse(others_at(field, points, i, points[i] as u32))
+    let others = others_at(field, tables, points, i, points[i] as u32);
+    field.inverse_with(tables, others)
 }
 
 // The value at z of the basis polynomial of point number i.
-fn basis_at(field: Field, points: &[u16], i: usize, z: u32) -> u32
-    requires { ⌜ SymbolList field (now points) × (i < length (now points)) × (z < sizeOf (modulus field)) ⌝ }
+fn basis_at(field: Field, tables: &Tables, points: &[u16], i: usize, z: u32) -> u32
+    requires { ⌜ SymbolList field (now points) × (i < length (now points)) × (z < sizeOf (modulus field)) × AreTables (now tables) ⌝ }
     ensures { λ r. ⌜ r ≡ basisAt (modulus field) (now (points .entry)) i z ⌝ }
 {
-    field.mul(scale_at(field, points, i), others_at(field, points, i, z))
+    let scale = scale_at(field, tables, points, i);
+    let others = others_at(field, tables, points, i, z);
+    field.mul_with(tables, scale, others)
 }
 
 // The values at z of all basis polynomials, and zeros after them.
-pub fn basis_values(field: Field, points: &[u16], z: u32) -> [u16; 255]
-    requires { ⌜ SymbolList field (now points) × (z < sizeOf (modulus field)) ⌝ }
+pub fn basis_values(field: Field, tables: &Tables, points: &[u16], z: u32) -> [u16; 255]
+    requires { ⌜ SymbolList field (now points) × (z < sizeOf (modulus field)) × AreTables (now tables) ⌝ }
     ensures { λ r. ⌜ r ≡ padded 255 (basisValues (modulus field) (now (points .entry)) z) ⌝ }
 {
     let mut out = [0u16; 255];
     let mut i = 0;
     while i < points.len() {
-        out[i] = basis_at(field, points, i, z) as u16;
+        out[i] = basis_at(field, tables, points, i, z) as u16;
         i += 1;
     }
     out
 }
 
 // The scales of all basis polynomials, and zeros after them.
-pub fn scales(field: Field, points: &[u16]) -> [u16; 255]
-    requires { ⌜ SymbolList field (now points) ⌝ }
+pub fn scales(field: Field, tables: &Tables, points: &[u16]) -> [u16; 255]
+    requires { ⌜ SymbolList field (now points) × AreTables (now tables) ⌝ }
     ensures { λ r. ⌜ r ≡ padded 255 (scalesOf (modulus field) (now (points .entry))) ⌝ }
 {
     let mut out = [0u16; 255];
     let mut i = 0;
     while i < points.len() {
-        out[i] = scale_at(field, points, i) as u16;
+        out[i] = scale_at(field, tables, points, i) as u16;
         i += 1;
     }
     out

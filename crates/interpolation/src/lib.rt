@@ -3,3 +3,4 @@ pub mod division;
 pub mod lagrange;
 pub mod polynomials;
 pub mod powers;
+pub mod sums;

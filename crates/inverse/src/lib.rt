@@ -22,6 +22,7 @@ ghost use Rattle.inverse.specs.Inverse.{inverseRow, scaledColumn, ListRo
 mod message;
 
 use field::Field;
+use field::Tables;
 use generator::Header;
 use interpolation::division;
 pub use message::fill_message;
@@ -34,9 +35,10 @@ fn fill_terms(h: Header, rows: Basis, base: [u16; 255], out: &mut [u8])
     ensures { λ r. ⌜ now (out .exit) ≡ rowsFrom (rowTerms h) 0 (h .k) ⌝ }
 {
     let k = h.k as usize;
+    let t = field::constant_tables();
     let mut r: usize = 0;
     while r < k {
-        let row = recovery::row_terms(h, rows, base, r);
+        let row = recovery::row_terms(h, &t, rows, base, r);
         let start = r * k;
         let end = start + k;
         symbols::write_symbols(1, &row[..k], &mut out[start..end]);
@@ -60,31 +62,30 @@ fn list_quotients(
     let mut i = 0;
     while i < points.len() {
         let size = product.len();
-        let q = division::quotient_with(field, &t.powers, &t.logarithms, points[i] as u32, product);
+        let q = division::quotient(field, &t, points[i] as u32, product);
         products::prepare(field, codes, &q[..size], i, lists, counts);
         i += 1;
     }
 }
 
 // Column r of the sums, each times the scale and its own scale, and zeros after it.
-fn scaled_column<'a>(
+fn scaled_column(
     field: Field,
-    powers: &'a [u8; 255],
-    logarithms: &'a [u8; 255],
+    tables: &Tables,
     scale: u32,
     scales: &[u16],
     r: usize,
     sums: &[u8],
 ) -> [u16; 255]
-    requires { ⌜ SymbolList field (now scales) × (scale < sizeOf (modulus field)) × (r < length (now scales)) × (length (now sums) ≡ length (now scales) * length (now scales)) × (allBelow (sizeOf (modulus field)) (now sums) ≡ true) × AreTables (now powers) (now logarithms) ⌝ }
+    requires { ⌜ SymbolList field (now scales) × (scale < sizeOf (modulus field)) × (r < length (now scales)) × (length (now sums) ≡ length (now scales) * length (now scales)) × (allBelow (sizeOf (modulus field)) (now sums) ≡ true) × AreTables (now tables) ⌝ }
     ensures { λ c. ⌜ c ≡ padded 255 (scaledColumn (modulus field) scale (now (scales .entry)) r (now (sums .entry))) ⌝ }
 {
     let mut out = [0u16; 255];
     let mut i = 0;
     while i < scales.len() {
-        let own = field.mul_with(powers, logarithms, scale, scales[i] as u32);
+        let own = field.mul_with(tables, scale, scales[i] as u32);
         let sum = sums[i * scales.len() + r] as u32;
-        out[i] = field.mul_with(powers, logarithms, own, sum) as u16;
+        out[i] = field.mul_with(tables, own, sum) as u16;
         i += 1;
     }
     out
@@ -107,15 +108,7 @@ fn list_columns(
     let mut r = 0;
     while r < factors.len() {
         let size = scales.len();
-        let column = scaled_column(
-            field,
-            &t.powers,
-            &t.logarithms,
-            factors[r] as u32,
-            scales,
-            r,
-            sums,
-        );
+        let column = scaled_column(field, &t, factors[r] as u32, scales, r, sums);
         products::prepare(field, codes, &column[..size], r, lists, counts);
         r += 1;
     }

@@ -4,50 +4,28 @@ ghost use mathlib.Core.Path.{_≡_};
 ghost use mathlib.Core.Bool.{true};
 ghost use mathlib.Core.List.{map};
 ghost use Prim.Native.Nat.{_*_, _≤_, _<_};
-ghost use lib.Dec.{eqb};
 ghost use lib.ListN.{length};
 ghost use Rattle.lists.specs.Numbers.{allBelow};
 ghost use Rattle.lists.specs.Padded.{padded};
 ghost use Rattle.layout.specs.Width.{bytesOf};
-ghost use Rattle.field.specs.Fields.{mul};
 ghost use Rattle.field.specs.Tables.{AreTables};
-ghost use Rattle.generator.specs.Records.{modulusOf, size, width, Sound};
+ghost use Rattle.generator.specs.Records.{modulusOf, size, width};
 ghost use Rattle.check_sums.specs.Powers.{powersOf};
 ghost use Rattle.mends.specs.BySums.{HasSums, LaneSums, firstOff, upNodes, mendedAt};
 ghost use Rattle.mends.specs.Promise.{inFront};
+use field::Tables;
 use generator::Header;
 
-// Whether a check sum is c times the one before it.
-fn is_step<'a>(
-    h: Header,
-    powers: &'a [u8; 255],
-    logarithms: &'a [u8; 255],
-    c: u32,
-    sum: u16,
-    next: u16,
-) -> bool
-    requires { ⌜ Sound h × (c < size h) × (sum < size h) × AreTables (now powers) (now logarithms) ⌝ }
-    ensures { λ r. ⌜ r ≡ eqb next (mul (modulusOf h) c sum) ⌝ }
-{
-    let field = h.field;
-    next as u32 == field.mul_with(powers, logarithms, c, sum as u32)
-}
-
 // The first place whose next check sum is not c times its own, or the last.
-fn first_off<'a>(
-    h: Header,
-    powers: &'a [u8; 255],
-    logarithms: &'a [u8; 255],
-    c: u32,
-    sums: &[u16],
-) -> usize
-    requires { ⌜ HasSums h (now sums) × (c < size h) × AreTables (now powers) (now logarithms) ⌝ }
+fn first_off(h: Header, tables: &Tables, c: u32, sums: &[u16]) -> usize
+    requires { ⌜ HasSums h (now sums) × (c < size h) × AreTables (now tables) ⌝ }
     ensures { λ r. ⌜ r ≡ firstOff (modulusOf h) c (now (sums .entry)) ⌝ }
 {
+    let field = h.field;
     let last = sums.len() - 1;
     let mut e: usize = 0;
     while e < last {
-        if !is_step(h, powers, logarithms, c, sums[e], sums[e + 1]) {
+        if !field.is_product(tables, c, sums[e], sums[e + 1]) {
             return e;
         }
         e += 1;
@@ -56,15 +34,8 @@ fn first_off<'a>(
 }
 
 // Writes the nodes j for which the check sums go up by root^j, rising; gives how many.
-fn list_nodes_with<'a>(
-    h: Header,
-    powers: &'a [u8; 255],
-    logarithms: &'a [u8; 255],
-    roots: &[u16],
-    sums: &[u16],
-    nodes: &mut [u8],
-) -> usize
-    requires { ⌜ HasSums h (now sums) × (now roots ≡ padded 255 (powersOf h)) × (length (now nodes) ≡ h .n) × AreTables (now powers) (now logarithms) ⌝ }
+fn list_nodes(h: Header, tables: &Tables, roots: &[u16], sums: &[u16], nodes: &mut [u8]) -> usize
+    requires { ⌜ HasSums h (now sums) × (now roots ≡ padded 255 (powersOf h)) × (length (now nodes) ≡ h .n) × AreTables (now tables) ⌝ }
     ensures { λ r. ⌜ (r ≡ length (upNodes h (now (sums .entry)))) × (now (nodes .exit) ≡ inFront (upNodes h (now (sums .entry))) (now (nodes .entry))) ⌝ }
 {
     let n = h.n as usize;
@@ -72,7 +43,7 @@ fn list_nodes_with<'a>(
     let mut count: usize = 0;
     let mut j: usize = 0;
     while j < n {
-        if first_off(h, powers, logarithms, roots[j] as u32, sums) == last {
+        if first_off(h, tables, roots[j] as u32, sums) == last {
             nodes[count] = j as u8;
             count += 1;
         }
@@ -81,35 +52,34 @@ fn list_nodes_with<'a>(
     count
 }
 
-fn list_nodes(h: Header, roots: &[u16], sums: &[u16], nodes: &mut [u8]) -> usize
-    requires { ⌜ HasSums h (now sums) × (now roots ≡ padded 255 (powersOf h)) × (length (now nodes) ≡ h .n) ⌝ }
-    ensures { λ r. ⌜ (r ≡ length (upNodes h (now (sums .entry)))) × (now (nodes .exit) ≡ inFront (upNodes h (now (sums .entry))) (now (nodes .entry))) ⌝ }
-{
-    let t = field::constant_tables();
-    list_nodes_with(h, &t.powers, &t.logarithms, roots, sums, nodes)
-}
-
 // The new symbol of node j: what it holds less the first check sum over root^j.
-fn mended(h: Header, roots: &[u16], lane: &[u16], sums: &[u16], j: usize) -> u16
-    requires { ⌜ LaneSums h (now lane) (now sums) × (now roots ≡ padded 255 (powersOf h)) × (j < h .n) ⌝ }
+fn mended(h: Header, tables: &Tables, roots: &[u16], lane: &[u16], sums: &[u16], j: usize) -> u16
+    requires { ⌜ LaneSums h (now lane) (now sums) × (now roots ≡ padded 255 (powersOf h)) × (j < h .n) × AreTables (now tables) ⌝ }
     ensures { λ r. ⌜ r ≡ mendedAt h (now (lane .entry)) (now (sums .entry)) j ⌝ }
 {
     let field = h.field;
     let n = h.n as usize;
     let back = (n - j) % n;
-    let amount = field.mul(sums[0] as u32, roots[back] as u32);
+    let amount = field.mul_with(tables, sums[0] as u32, roots[back] as u32);
     field.sub(lane[j] as u32, amount) as u16
 }
 
 // The new symbols of the listed nodes, and zeros after them.
-fn new_symbols(h: Header, roots: &[u16], lane: &[u16], sums: &[u16], nodes: &[u8]) -> [u16; 255]
-    requires { ⌜ LaneSums h (now lane) (now sums) × (now roots ≡ padded 255 (powersOf h)) × (allBelow (h .n) (now nodes) ≡ true) × (length (now nodes) ≤ 255) ⌝ }
+fn new_symbols(
+    h: Header,
+    tables: &Tables,
+    roots: &[u16],
+    lane: &[u16],
+    sums: &[u16],
+    nodes: &[u8],
+) -> [u16; 255]
+    requires { ⌜ LaneSums h (now lane) (now sums) × (now roots ≡ padded 255 (powersOf h)) × (allBelow (h .n) (now nodes) ≡ true) × (length (now nodes) ≤ 255) × AreTables (now tables) ⌝ }
     ensures { λ r. ⌜ r ≡ padded 255 (map (mendedAt h (now (lane .entry)) (now (sums .entry))) (now (nodes .entry))) ⌝ }
 {
     let mut out = [0u16; 255];
     let mut i: usize = 0;
     while i < nodes.len() {
-        out[i] = mended(h, roots, lane, sums, nodes[i] as usize);
+        out[i] = mended(h, tables, roots, lane, sums, nodes[i] as usize);
         i += 1;
     }
     out
@@ -118,17 +88,18 @@ fn new_symbols(h: Header, roots: &[u16], lane: &[u16], sums: &[u16], nodes: &[u8
 // Writes the new symbols of the listed nodes.
 fn put_symbols(
     h: Header,
+    tables: &Tables,
     roots: &[u16],
     lane: &[u16],
     sums: &[u16],
     nodes: &[u8],
     symbols: &mut [u8],
 )
-    requires { ⌜ LaneSums h (now lane) (now sums) × (now roots ≡ padded 255 (powersOf h)) × (allBelow (h .n) (now nodes) ≡ true) × (length (now nodes) ≤ h .n) × (h .n ≤ 255) × (length (now symbols) ≡ h .n * width h) ⌝ }
+    requires { ⌜ LaneSums h (now lane) (now sums) × (now roots ≡ padded 255 (powersOf h)) × (allBelow (h .n) (now nodes) ≡ true) × (length (now nodes) ≤ h .n) × (h .n ≤ 255) × (length (now symbols) ≡ h .n * width h) × AreTables (now tables) ⌝ }
     ensures { λ r. ⌜ now (symbols .exit) ≡ inFront (bytesOf (width h) (map (mendedAt h (now (lane .entry)) (now (sums .entry))) (now (nodes .entry)))) (now (symbols .entry)) ⌝ }
 {
     let count = nodes.len();
-    let out = new_symbols(h, roots, lane, sums, nodes);
+    let out = new_symbols(h, tables, roots, lane, sums, nodes);
     let w = symbols::width_of(h);
     let end = count * w;
     symbols::write_symbols(w, &out[..count], &mut symbols[..end]);
@@ -139,8 +110,9 @@ pub fn list(h: Header, lane: &[u16], sums: &[u16], nodes: &mut [u8], symbols: &m
     requires { ⌜ LaneSums h (now lane) (now sums) × (h .n ≤ 255) × (length (now nodes) ≡ h .n) × (length (now symbols) ≡ h .n * width h) ⌝ }
     ensures { λ r. ⌜ (r ≡ length (upNodes h (now (sums .entry)))) × (now (nodes .exit) ≡ inFront (upNodes h (now (sums .entry))) (now (nodes .entry))) × (now (symbols .exit) ≡ inFront (bytesOf (width h) (map (mendedAt h (now (lane .entry)) (now (sums .entry))) (upNodes h (now (sums .entry))))) (now (symbols .entry))) ⌝ }
 {
+    let tables = field::constant_tables();
     let roots = check_sums::powers::powers(h);
-    let count = list_nodes(h, &roots, sums, nodes);
-    put_symbols(h, &roots, lane, sums, &nodes[..count], symbols);
+    let count = list_nodes(h, &tables, &roots, sums, nodes);
+    put_symbols(h, &tables, &roots, lane, sums, &nodes[..count], symbols);
     count
 }

@@ -54,7 +54,8 @@ pub fn plan_of(h: Header) -> Plan
     let rows = shifts::place_rows(n, k);
     let shifts = rows.shifts;
     let firsts = rows.firsts;
-    let base = base::fill_base(h);
+    let tables = field::constant_tables();
+    let base = base::fill_base(h, &tables);
     Plan {
         number: 0,
         n: n,

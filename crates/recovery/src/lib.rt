@@ -5,6 +5,7 @@ ghost use Prim.Native.Nat.{_<_, _≤_};
 ghost use lib.ListN.{length};
 ghost use Rattle.field.specs.Fields.{sizeOf};
 ghost use Rattle.field.specs.Kinds.{modulus, usable};
+ghost use Rattle.field.specs.Tables.{AreTables};
 ghost use Rattle.lists.specs.Padded.{padded};
 ghost use Rattle.generator.specs.Records.{modulusOf, Sound};
 ghost use Rattle.generator.specs.Shifts.{shifts as shiftsFor};
@@ -16,7 +17,9 @@ ghost use Rattle.recovery.specs.Rows.{basisOf, rowPoints, baseInverses, 
 mod rows;
 
 use field::Field;
+use field::Tables;
 use generator::Header;
+use interpolation::division;
 use interpolation::lagrange;
 use interpolation::polynomials;
 use interpolation::powers;
@@ -43,20 +46,21 @@ pub fn rebuild_weights(h: Header, nodes: &[u8], target: u32) -> [u16; 255]
     let field = h.field;
     let root = h.root;
     let k = h.k as usize;
-    let z = field.power(root, target);
-    let points = powers::points(field, root, nodes, 0);
-    lagrange::basis_values(field, &points[..k], z)
+    let tables = field::constant_tables();
+    let z = field.power(&tables, root, target);
+    let points = powers::points(field, &tables, root, nodes, 0);
+    lagrange::basis_values(field, &tables, &points[..k], z)
 }
 
 // The basis of the points root^(j + offset).
-pub fn lagrange_basis(field: Field, root: u32, places: &[u8], offset: u32) -> Basis
-    requires { ⌜ (usable field ≡ true) × (root < sizeOf (modulus field)) × (length (now places) ≤ 255) × (offset < 256) ⌝ }
+pub fn lagrange_basis(field: Field, tables: &Tables, root: u32, places: &[u8], offset: u32) -> Basis
+    requires { ⌜ (usable field ≡ true) × (root < sizeOf (modulus field)) × (length (now places) ≤ 255) × (offset < 256) × AreTables (now tables) ⌝ }
     ensures { λ r. ⌜ r ≡ basisOf (modulus field) (pointsOf (modulus field) root offset (now (places .entry))) ⌝ }
 {
     let count = places.len();
-    let points = powers::points(field, root, places, offset);
-    let scales = lagrange::scales(field, &points[..count]);
-    let product = polynomials::product(field, &points[..count]);
+    let points = powers::points(field, tables, root, places, offset);
+    let scales = lagrange::scales(field, tables, &points[..count]);
+    let product = polynomials::product(field, tables, &points[..count]);
     Basis {
         points: points,
         scales: scales,
@@ -73,10 +77,11 @@ pub fn prepare(h: Header, nodes: &[u8], shifts: &[u8]) -> Setup
     let root = h.root;
     let k = h.k as usize;
     let m = k - 1;
-    let base = polynomials::base(field, root, m);
-    let inverses = polynomials::inverses(field, &base[..k]);
-    let own = lagrange_basis(field, root, nodes, 0);
-    let rows = lagrange_basis(field, root, shifts, m as u32);
+    let tables = field::constant_tables();
+    let base = polynomials::base(field, &tables, root, m);
+    let inverses = polynomials::inverses(field, &tables, &base[..k]);
+    let own = lagrange_basis(field, &tables, root, nodes, 0);
+    let rows = lagrange_basis(field, &tables, root, shifts, m as u32);
     Setup {
         nodes: own,
         shifts: rows,
@@ -85,8 +90,8 @@ pub fn prepare(h: Header, nodes: &[u8], shifts: &[u8]) -> Setup
 }
 
 // The terms of row r: the coefficients of the product over the points of the other rows, each over that of the base polynomial.
-pub fn row_terms(h: Header, rows: Basis, base: [u16; 255], r: usize) -> [u16; 255]
-    requires { ⌜ Sound h × (rows ≡ basisOf (modulusOf h) (rowPoints h)) × (base ≡ padded 255 (baseInverses h)) × (r < h .k) ⌝ }
+pub fn row_terms(h: Header, tables: &Tables, rows: Basis, base: [u16; 255], r: usize) -> [u16; 255]
+    requires { ⌜ Sound h × (rows ≡ basisOf (modulusOf h) (rowPoints h)) × (base ≡ padded 255 (baseInverses h)) × (r < h .k) × AreTables (now tables) ⌝ }
     ensures { λ t. ⌜ t ≡ padded 255 (rowTerms h r) ⌝ }
 {
     let field = h.field;
@@ -95,7 +100,13 @@ pub fn row_terms(h: Header, rows: Basis, base: [u16; 255], r: usize) -> [u16; 25
     let end = k + 1;
     let points = rows.points;
     let product = rows.product;
-    polynomials::quotient_terms(field, points[r] as u32, &product[first..end], &base[..k])
+    division::quotient_terms(
+        field,
+        tables,
+        points[r] as u32,
+        &product[first..end],
+        &base[..k],
+    )
 }
 
 // Weights for symbol r of the message: row r of the inverse of the encoding at the nodes, from what was prepared for them. Places from k on hold 0.
@@ -110,7 +121,8 @@ pub fn recover_weights(h: Header, nodes: &[u8], setup: Setup, r: u32) -> [u16; 2
     let row = r as usize;
     let rows = setup.shifts;
     let base = setup.base;
-    let terms = row_terms(h, rows, base, row);
+    let tables = field::constant_tables();
+    let terms = row_terms(h, &tables, rows, base, row);
     let row_scales = rows.scales;
     let own = setup.nodes;
     let points = own.points;
@@ -118,6 +130,7 @@ pub fn recover_weights(h: Header, nodes: &[u8], setup: Setup, r: u32) -> [u16; 2
     let product = own.product;
     rows::row_weights(
         field,
+        &tables,
         row_scales[row] as u32,
         &terms[..k],
         &product[first..end],

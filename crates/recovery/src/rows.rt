@@ -9,64 +9,38 @@ ghost use Rattle.field.specs.Tables.{AreTables};
 ghost use Rattle.interpolation.specs.Points.{SymbolList};
 ghost use Rattle.recovery.specs.Rows.{weightOf, weightsOf};
 use field::Field;
-use interpolation::polynomials;
+use field::Tables;
+use interpolation::division;
 
 // The weight of a node with the point x and the scale `own`: the scales times the sum of the row's terms times the coefficients of the product over the other nodes' points.
-fn row_weight<'a>(
+fn row_weight(
     field: Field,
-    powers: &'a [u8; 255],
-    logarithms: &'a [u8; 255],
+    tables: &Tables,
     scale: u32,
     terms: &[u16],
     product: &[u16],
     x: u32,
     own: u32,
 ) -> u32
-    requires { ⌜ SymbolList field (now product) × SymbolList field (now terms) × (length (now terms) ≡ length (now product)) × (scale < sizeOf (modulus field)) × (x < sizeOf (modulus field)) × (own < sizeOf (modulus field)) × AreTables (now powers) (now logarithms) ⌝ }
+    requires { ⌜ SymbolList field (now product) × SymbolList field (now terms) × (length (now terms) ≡ length (now product)) × (scale < sizeOf (modulus field)) × (x < sizeOf (modulus field)) × (own < sizeOf (modulus field)) × AreTables (now tables) ⌝ }
     ensures { λ r. ⌜ r ≡ weightOf (modulus field) scale (now (terms .entry)) (now (product .entry)) x own ⌝ }
 {
-    let sum = polynomials::quotient_sum_with(field, powers, logarithms, x, product, terms);
-    let scales = field.mul_with(powers, logarithms, scale, own);
-    field.mul_with(powers, logarithms, scales, sum)
+    let sum = division::quotient_sum(field, tables, x, product, terms);
+    let scales = field.mul_with(tables, scale, own);
+    field.mul_with(tables, scales, sum)
 }
 
 // The weights of all nodes, and zeros after them.
 pub fn row_weights(
     field: Field,
+    tables: &Tables,
     scale: u32,
     terms: &[u16],
     product: &[u16],
     points: &[u16],
     scales: &[u16],
 ) -> [u16; 255]
-    requires { ⌜ SymbolList field (now product) × SymbolList field (now terms) × (length (now terms) ≡ length (now product)) × (scale < sizeOf (modulus field)) × SymbolList field (now points) × SymbolList field (now scales) × (length (now scales) ≡ length (now points)) ⌝ }
-    ensures { λ r. ⌜ r ≡ padded 255 (weightsOf (modulus field) scale (now (terms .entry)) (now (product .entry)) (now (points .entry)) (now (scales .entry))) ⌝ }
-{
-    let t = field::constant_tables();
-    row_weights_with(
-        field,
-        &t.powers,
-        &t.logarithms,
-        scale,
-        terms,
-        product,
-        points,
-        scales,
-    )
-}
-
-// The same with the field's tables as they are lent to it.
-fn row_weights_with<'a>(
-    field: Field,
-    powers: &'a [u8; 255],
-    logarithms: &'a [u8; 255],
-    scale: u32,
-    terms: &[u16],
-    product: &[u16],
-    points: &[u16],
-    scales: &[u16],
-) -> [u16; 255]
-    requires { ⌜ SymbolList field (now product) × SymbolList field (now terms) × (length (now terms) ≡ length (now product)) × (scale < sizeOf (modulus field)) × SymbolList field (now points) × SymbolList field (now scales) × (length (now scales) ≡ length (now points)) × AreTables (now powers) (now logarithms) ⌝ }
+    requires { ⌜ SymbolList field (now product) × SymbolList field (now terms) × (length (now terms) ≡ length (now product)) × (scale < sizeOf (modulus field)) × SymbolList field (now points) × SymbolList field (now scales) × (length (now scales) ≡ length (now points)) × AreTables (now tables) ⌝ }
     ensures { λ r. ⌜ r ≡ padded 255 (weightsOf (modulus field) scale (now (terms .entry)) (now (product .entry)) (now (points .entry)) (now (scales .entry))) ⌝ }
 {
     let mut out = [0u16; 255];
@@ -74,8 +48,7 @@ fn row_weights_with<'a>(
     while i < points.len() {
         out[i] = row_weight(
             field,
-            powers,
-            logarithms,
+            tables,
             scale,
             terms,
             product,

@@ -12,6 +12,7 @@ ghost use Rattle.generator.specs.Shifts.{negative as negativeOf};
 ghost use Rattle.check_sums.specs.Powers.{powersOf};
 ghost use Rattle.spectrum.specs.Spectrum.{triangle, chirpAt, unchirped};
 use check_sums::lane::stepped;
+use field::Tables;
 use generator::Header;
 
 // −i modulo n.
@@ -56,15 +57,14 @@ pub fn chirps(h: Header, powers: &[u16], exponents: &[u8; 510]) -> [u16; 510]
 }
 
 // Each symbol over root^T(j), and zeros after them.
-pub fn unchirp<'a>(
+pub fn unchirp(
     h: Header,
-    tables: &'a [u8; 255],
-    logarithms: &'a [u8; 255],
+    tables: &Tables,
     powers: &[u16],
     exponents: &[u8; 510],
     symbols: &[u16],
 ) -> [u16; 255]
-    requires { ⌜ Sound h × (now powers ≡ padded 255 (powersOf h)) × (now exponents ≡ from (λ x. triangle x % h .n) 0 510) × (length (now symbols) ≤ 255) × (allBelow (size h) (now symbols) ≡ true) × AreTables (now tables) (now logarithms) ⌝ }
+    requires { ⌜ Sound h × (now powers ≡ padded 255 (powersOf h)) × (now exponents ≡ from (λ x. triangle x % h .n) 0 510) × (length (now symbols) ≤ 255) × (allBelow (size h) (now symbols) ≡ true) × AreTables (now tables) ⌝ }
     ensures { λ r. ⌜ r ≡ padded 255 (unchirped h (now (symbols .entry))) ⌝ }
 {
     let field = h.field;
@@ -73,7 +73,7 @@ pub fn unchirp<'a>(
     let mut j: usize = 0;
     while j < symbols.len() {
         let e = negative(n, exponents[j] as usize);
-        out[j] = field.mul_with(tables, logarithms, symbols[j] as u32, powers[e] as u32) as u16;
+        out[j] = field.mul_with(tables, symbols[j] as u32, powers[e] as u32) as u16;
         j += 1;
     }
     out

@@ -11,6 +11,7 @@ ghost use Rattle.spectrum.specs.Spectrum.{spectrumOf};
 
 mod chirps;
 
+use field::Tables;
 use generator::Header;
 
 // Room for the sums.
@@ -20,23 +21,17 @@ fn blank() -> [u16; 255]
     [0u16; 255]
 }
 
-// The spectrum, and zeros after it, with the powers of the root and the field's tables as they are lent to it.
-pub fn spectrum_with<'a>(
-    h: Header,
-    tables: &'a [u8; 255],
-    logarithms: &'a [u8; 255],
-    powers: &[u16],
-    lane: &[u16],
-) -> [u16; 255]
-    requires { ⌜ Sound h × (now powers ≡ padded 255 (powersOf h)) × (length (now lane) ≡ h .n) × (allBelow (size h) (now lane) ≡ true) × AreTables (now tables) (now logarithms) ⌝ }
+// The spectrum, and zeros after it.
+pub fn spectrum_of(h: Header, tables: &Tables, powers: &[u16], lane: &[u16]) -> [u16; 255]
+    requires { ⌜ Sound h × (now powers ≡ padded 255 (powersOf h)) × (length (now lane) ≡ h .n) × (allBelow (size h) (now lane) ≡ true) × AreTables (now tables) ⌝ }
     ensures { λ r. ⌜ r ≡ padded 255 (spectrumOf h (now (lane .entry))) ⌝ }
 {
     let field = h.field;
     let n = h.n as usize;
     let exponents = chirps::exponents(n);
     let row = chirps::chirps(h, powers, &exponents);
-    let weights = chirps::unchirp(h, tables, logarithms, powers, &exponents, lane);
+    let weights = chirps::unchirp(h, tables, powers, &exponents, lane);
     let mut sums = blank();
     windows::window_sums(field, &weights[..n], &row, &mut sums[..n]);
-    chirps::unchirp(h, tables, logarithms, powers, &exponents, &sums[..n])
+    chirps::unchirp(h, tables, powers, &exponents, &sums[..n])
 }

@@ -14,39 +14,32 @@ ghost use Rattle.blocks.specs.Blocks.{rowAdded, wordAdded};
 ghost use Rattle.blocks.specs.Promises.{UpdatePromise, UpdateSays};
 ghost use Rattle.update.specs.Words.{UpdatableWord};
 use blocks::Update;
+use field::Tables;
 use generator::Header;
 use generator::Record;
 use plan::Plan;
 
 // What a node holds after x times its entry is added to what it held.
-fn renewed<'a>(
-    h: Header,
-    powers: &'a [u8; 255],
-    logarithms: &'a [u8; 255],
-    x: u32,
-    entry: u16,
-    before: u16,
-) -> u16
-    requires { ⌜ Sound h × (x < size h) × (entry < size h) × (before < size h) × AreTables (now powers) (now logarithms) ⌝ }
+fn renewed(h: Header, tables: &Tables, x: u32, entry: u16, before: u16) -> u16
+    requires { ⌜ Sound h × (x < size h) × (entry < size h) × (before < size h) × AreTables (now tables) ⌝ }
     ensures { λ r. ⌜ r ≡ add (modulusOf h) before (mul (modulusOf h) x entry) ⌝ }
 {
     let field = h.field;
-    let term = field.mul_with(powers, logarithms, x, entry as u32);
+    let term = field.mul_with(tables, x, entry as u32);
     field.add(before as u32, term) as u16
 }
 
 // Adds x times a row of the generator to a lane: rewrites the nodes whose symbol becomes another one, and counts them.
-fn rewrite<'a>(
+fn rewrite(
     h: Header,
     w: usize,
-    powers: &'a [u8; 255],
-    logarithms: &'a [u8; 255],
+    tables: &Tables,
     plan: Plan,
     which: u32,
     x: u32,
     lane: &mut [u8],
 ) -> u32
-    requires { ⌜ UpdatableWord h w which (now lane) × (x < size h) × (plan ≡ planFor (Record.Holds h)) × AreTables (now powers) (now logarithms) ⌝ }
+    requires { ⌜ UpdatableWord h w which (now lane) × (x < size h) × (plan ≡ planFor (Record.Holds h)) × AreTables (now tables) ⌝ }
     ensures { λ r. ⌜ (now (lane .exit) ≡ bytesOf w (wordAdded h which x (symbolsOf w (now (lane .entry))))) × (r ≡ differ (symbolsOf w (now (lane .entry))) (wordAdded h which x (symbolsOf w (now (lane .entry))))) ⌝ }
 {
     let n = h.n as usize;
@@ -56,7 +49,7 @@ fn rewrite<'a>(
     while j < n {
         let entry = plan::entry_at(n, shift, &plan.base, j);
         let before = symbols::symbol_at(w, lane, j);
-        let after = renewed(h, powers, logarithms, x, entry, before);
+        let after = renewed(h, tables, x, entry, before);
         if after != before {
             let start = j * w;
             let end = start + w;
@@ -69,11 +62,10 @@ fn rewrite<'a>(
 }
 
 // The same for one lane of the shares, which is handed on as the part from its start to the next one's.
-fn rewrite_lane<'a>(
+fn rewrite_lane(
     h: Header,
     w: usize,
-    powers: &'a [u8; 255],
-    logarithms: &'a [u8; 255],
+    tables: &Tables,
     plan: Plan,
     lanes: usize,
     which: u32,
@@ -81,22 +73,13 @@ fn rewrite_lane<'a>(
     x: u32,
     shares: &mut [u8],
 ) -> u32
-    requires { ⌜ UpdatableLane h lanes which lane (now shares) × (w ≡ width h) × (x < size h) × (plan ≡ planFor (Record.Holds h)) × AreTables (now powers) (now logarithms) ⌝ }
+    requires { ⌜ UpdatableLane h lanes which lane (now shares) × (w ≡ width h) × (x < size h) × (plan ≡ planFor (Record.Holds h)) × AreTables (now tables) ⌝ }
     ensures { λ r. ⌜ (now (shares .exit) ≡ bytesOf w (rowAdded shareLayout h lanes which lane x (symbolsOf w (now (shares .entry))))) × (r ≡ differ (symbolsOf w (now (shares .entry))) (rowAdded shareLayout h lanes which lane x (symbolsOf w (now (shares .entry))))) ⌝ }
 {
     let size = w * h.n as usize;
     let start = lane * size;
     let end = start + size;
-    rewrite(
-        h,
-        w,
-        powers,
-        logarithms,
-        plan,
-        which,
-        x,
-        &mut shares[start..end],
-    )
+    rewrite(h, w, tables, plan, which, x, &mut shares[start..end])
 }
 
 // The number that a lane meets: 12 where it is no word of the code, else 13 where its message holds another symbol than `old`, else 0.
@@ -165,8 +148,7 @@ fn update_accepted(
     let count = rewrite_lane(
         h,
         w,
-        &t.powers,
-        &t.logarithms,
+        &t,
         plan,
         lanes as usize,
         which,

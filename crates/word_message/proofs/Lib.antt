@@ -1,5 +1,4 @@
 -- A symbol of a word's message from the word's spectrum.
-pub mod Dots
 pub mod Formula
 pub mod SpectrumParts
 pub mod Points

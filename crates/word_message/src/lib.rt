@@ -18,32 +18,26 @@ mod sums;
 
 use check_sums::lane;
 use check_sums::powers;
+use field::Tables;
 use generator::Header;
 use interpolation::lagrange;
 
 // Symbol r of a word's message: the sum of the coefficients of its polynomial times the row's terms, times the row's scale. The spectrum has n times each coefficient.
-fn symbol_from<'a>(
-    h: Header,
-    tables: &'a [u8; 255],
-    logarithms: &'a [u8; 255],
-    powers: &[u16],
-    spectrum: &[u16],
-    r: usize,
-) -> u32
-    requires { ⌜ Sound h × (now powers ≡ padded 255 (powersOf h)) × (length (now spectrum) ≡ h .n) × (allBelow (size h) (now spectrum) ≡ true) × (r < h .k) × AreTables (now tables) (now logarithms) ⌝ }
+fn symbol_from(h: Header, tables: &Tables, powers: &[u16], spectrum: &[u16], r: usize) -> u32
+    requires { ⌜ Sound h × (now powers ≡ padded 255 (powersOf h)) × (length (now spectrum) ≡ h .n) × (allBelow (size h) (now spectrum) ≡ true) × (r < h .k) × AreTables (now tables) ⌝ }
     ensures { λ x. ⌜ x ≡ symbolFrom h r (coefficientsOf h (now (spectrum .entry))) ⌝ }
 {
     let field = h.field;
     let n = h.n as usize;
     let k = h.k as usize;
     let points = rows::row_points(h, powers);
-    let terms = rows::row_terms(h, tables, logarithms, powers, &points[..k], r);
+    let terms = rows::row_terms(h, tables, powers, &points[..k], r);
     let coefficients = sums::coefficients(n, k, spectrum);
-    let sum = sums::weighted_sum(field, tables, logarithms, &terms[..k], &coefficients);
-    let scale = lagrange::scale_at(field, &points[..k], r);
-    let over = field.inverse_with(tables, logarithms, sums::ones(field, n));
-    let part = field.mul_with(tables, logarithms, over, sum);
-    field.mul_with(tables, logarithms, scale, part)
+    let sum = interpolation::sums::weighted_sum(field, tables, &terms[..k], &coefficients);
+    let scale = lagrange::scale_at(field, tables, &points[..k], r);
+    let over = field.inverse_with(tables, sums::ones(field, n));
+    let part = field.mul_with(tables, over, sum);
+    field.mul_with(tables, scale, part)
 }
 
 // The number of a lane: 12 where it is no word of the code, else 13 where its message does not hold the symbol, else 0.
@@ -60,24 +54,16 @@ fn number_of(word: bool, holds: bool) -> u8
 }
 
 // The number of a lane for an update of symbol r from `old`, with the field's tables and the powers of the root as they are lent to it.
-fn stale_with<'a>(
-    h: Header,
-    tables: &'a [u8; 255],
-    logarithms: &'a [u8; 255],
-    powers: &[u16],
-    lane: &[u16],
-    r: usize,
-    old: u32,
-) -> u8
-    requires { ⌜ Sound h × (now powers ≡ padded 255 (powersOf h)) × (length (now lane) ≡ h .n) × (allBelow (size h) (now lane) ≡ true) × (r < h .k) × AreTables (now tables) (now logarithms) ⌝ }
+fn stale_with(h: Header, tables: &Tables, powers: &[u16], lane: &[u16], r: usize, old: u32) -> u8
+    requires { ⌜ Sound h × (now powers ≡ padded 255 (powersOf h)) × (length (now lane) ≡ h .n) × (allBelow (size h) (now lane) ≡ true) × (r < h .k) × AreTables (now tables) ⌝ }
     ensures { λ f. ⌜ f ≡ staleFault h (now (lane .entry)) r old ⌝ }
 {
     let n = h.n as usize;
     let first: usize = 1;
     let end = (h.n - h.k) as usize + 1;
-    let spectrum = spectrum::spectrum_with(h, tables, logarithms, powers, lane);
+    let spectrum = spectrum::spectrum_of(h, tables, powers, lane);
     let word = lane::all_zero(&spectrum[first..end]);
-    let symbol = symbol_from(h, tables, logarithms, powers, &spectrum[..n], r);
+    let symbol = symbol_from(h, tables, powers, &spectrum[..n], r);
     number_of(word, symbol == old)
 }
 
@@ -86,7 +72,7 @@ pub fn stale_fault(h: Header, lane: &[u16], r: usize, old: u32) -> u8
     requires { ⌜ Sound h × (length (now lane) ≡ h .n) × (allBelow (size h) (now lane) ≡ true) × (r < h .k) ⌝ }
     ensures { λ f. ⌜ f ≡ staleFault h (now (lane .entry)) r old ⌝ }
 {
-    let t = field::constant_tables();
+    let tables = field::constant_tables();
     let powers = powers::powers(h);
-    stale_with(h, &t.powers, &t.logarithms, &powers, lane, r, old)
+    stale_with(h, &tables, &powers, lane, r, old)
 }

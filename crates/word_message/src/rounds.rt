@@ -5,12 +5,14 @@ ghost use lib.Dec.{eqb};
 ghost use lib.ListN.{length, getD};
 ghost use Rattle.lists.specs.Choice.{pick};
 ghost use Rattle.lists.specs.Padded.{padded};
+ghost use Rattle.field.specs.Tables.{AreTables};
 ghost use Rattle.generator.specs.Records.{modulusOf, Sound};
 ghost use Rattle.generator.specs.Shifts.{shifts};
 ghost use Rattle.interpolation.specs.Polynomials.{productOf};
 ghost use Rattle.recovery.specs.Rows.{rowPoints};
 ghost use Rattle.check_sums.specs.Powers.{powersOf};
 ghost use Rattle.word_message.specs.Rows.{InRounds, roundPoints, spreadOf};
+use field::Tables;
 use generator::Header;
 use interpolation::polynomials;
 
@@ -110,21 +112,21 @@ fn spread(g: usize, l: usize, q: &[u16; 256]) -> [u16; 256]
 }
 
 // The product where the shifts come in g rounds.
-fn round_product(h: Header, g: usize, powers: &[u16]) -> [u16; 256]
-    requires { ⌜ Sound h × (0 < g) × (g ≤ 255) × InRounds (h .n) (shifts h) g × (now powers ≡ padded 255 (powersOf h)) ⌝ }
+fn round_product(h: Header, tables: &Tables, g: usize, powers: &[u16]) -> [u16; 256]
+    requires { ⌜ Sound h × (0 < g) × (g ≤ 255) × InRounds (h .n) (shifts h) g × (now powers ≡ padded 255 (powersOf h)) × AreTables (now tables) ⌝ }
     ensures { λ r. ⌜ r ≡ padded 256 (productOf (modulusOf h) (rowPoints h)) ⌝ }
 {
     let field = h.field;
     let k = h.k as usize;
     let count = k / g;
     let points = round_points(h, g, powers);
-    let product = polynomials::product(field, &points[..count]);
+    let product = polynomials::product(field, tables, &points[..count]);
     spread(g, k + 1, &product)
 }
 
 // The product over the points of the rows, and zeros after it.
-pub fn row_product(h: Header, powers: &[u16], points: &[u16]) -> [u16; 256]
-    requires { ⌜ Sound h × (now powers ≡ padded 255 (powersOf h)) × (now points ≡ rowPoints h) ⌝ }
+pub fn row_product(h: Header, tables: &Tables, powers: &[u16], points: &[u16]) -> [u16; 256]
+    requires { ⌜ Sound h × (now powers ≡ padded 255 (powersOf h)) × (now points ≡ rowPoints h) × AreTables (now tables) ⌝ }
     ensures { λ r. ⌜ r ≡ padded 256 (productOf (modulusOf h) (rowPoints h)) ⌝ }
 {
     let field = h.field;
@@ -132,7 +134,7 @@ pub fn row_product(h: Header, powers: &[u16], points: &[u16]) -> [u16; 256]
     let list = shifts::fill_shifts(h.n, h.k);
     let rounds = rounds_of(h.n as usize, &list[..k]);
     if rounds == 0 {
-        return polynomials::product(field, points);
+        return polynomials::product(field, tables, points);
     }
-    round_product(h, rounds, powers)
+    round_product(h, tables, rounds, powers)
 }

@@ -9,8 +9,9 @@ ghost use Rattle.check_sums.specs.Powers.{powersOf};
 ghost use Rattle.word_message.specs.Rows.{ratioOf};
 use crate::rounds;
 use field::Field;
+use field::Tables;
 use generator::Header;
-use interpolation::polynomials;
+use interpolation::division;
 
 // The points root^(shift + k − 1) of the rows, and zeros after them.
 pub fn row_points(h: Header, powers: &[u16]) -> [u16; 255]
@@ -31,31 +32,19 @@ pub fn row_points(h: Header, powers: &[u16]) -> [u16; 255]
 }
 
 // The step from a coefficient's inverse to that of the one below it: (root^k − y) / (root^(k−1)·(1 − y)), where y is root^c for coefficient c.
-fn step_ratio<'a>(
-    h: Header,
-    tables: &'a [u8; 255],
-    logarithms: &'a [u8; 255],
-    top: u32,
-    scale: u32,
-    y: u32,
-) -> u32
-    requires { ⌜ Sound h × (top < size h) × (scale < size h) × (y < size h) × AreTables (now tables) (now logarithms) ⌝ }
+fn step_ratio(h: Header, tables: &Tables, top: u32, scale: u32, y: u32) -> u32
+    requires { ⌜ Sound h × (top < size h) × (scale < size h) × (y < size h) × AreTables (now tables) ⌝ }
     ensures { λ r. ⌜ (r ≡ ratioOf (modulusOf h) top scale y) × (r < size h) ⌝ }
 {
     let field = h.field;
-    let below = field.mul_with(tables, logarithms, scale, field.sub(Field::ONE, y));
-    let over = field.inverse_with(tables, logarithms, below);
-    field.mul_with(tables, logarithms, field.sub(top, y), over)
+    let below = field.mul_with(tables, scale, field.sub(Field::ONE, y));
+    let over = field.inverse_with(tables, below);
+    field.mul_with(tables, field.sub(top, y), over)
 }
 
 // 1 over the coefficients of the base polynomial, from the highest down, and zeros after them.
-fn base_inverses<'a>(
-    h: Header,
-    tables: &'a [u8; 255],
-    logarithms: &'a [u8; 255],
-    powers: &[u16],
-) -> [u16; 255]
-    requires { ⌜ Sound h × (now powers ≡ padded 255 (powersOf h)) × AreTables (now tables) (now logarithms) ⌝ }
+fn base_inverses(h: Header, tables: &Tables, powers: &[u16]) -> [u16; 255]
+    requires { ⌜ Sound h × (now powers ≡ padded 255 (powersOf h)) × AreTables (now tables) ⌝ }
     ensures { λ r. ⌜ r ≡ padded 255 (baseInverses h) ⌝ }
 {
     let field = h.field;
@@ -66,8 +55,8 @@ fn base_inverses<'a>(
     let mut value = Field::ONE;
     out[c] = value as u16;
     while 0 < c {
-        let ratio = step_ratio(h, tables, logarithms, top, scale, powers[c] as u32);
-        value = field.mul_with(tables, logarithms, ratio, value);
+        let ratio = step_ratio(h, tables, top, scale, powers[c] as u32);
+        value = field.mul_with(tables, ratio, value);
         c -= 1;
         out[c] = value as u16;
     }
@@ -75,27 +64,19 @@ fn base_inverses<'a>(
 }
 
 // The terms of row r: the coefficients of the product over the points of the other rows, each over that of the base polynomial; and zeros after them.
-pub fn row_terms<'a>(
-    h: Header,
-    tables: &'a [u8; 255],
-    logarithms: &'a [u8; 255],
-    powers: &[u16],
-    points: &[u16],
-    r: usize,
-) -> [u16; 255]
-    requires { ⌜ Sound h × (now powers ≡ padded 255 (powersOf h)) × (now points ≡ rowPoints h) × (r < h .k) × AreTables (now tables) (now logarithms) ⌝ }
+pub fn row_terms(h: Header, tables: &Tables, powers: &[u16], points: &[u16], r: usize) -> [u16; 255]
+    requires { ⌜ Sound h × (now powers ≡ padded 255 (powersOf h)) × (now points ≡ rowPoints h) × (r < h .k) × AreTables (now tables) ⌝ }
     ensures { λ t. ⌜ t ≡ padded 255 (rowTerms h r) ⌝ }
 {
     let field = h.field;
     let k = h.k as usize;
     let first: usize = 1;
     let end = k + 1;
-    let product = rounds::row_product(h, powers, points);
-    let base = base_inverses(h, tables, logarithms, powers);
-    polynomials::quotient_terms_with(
+    let product = rounds::row_product(h, tables, powers, points);
+    let base = base_inverses(h, tables, powers);
+    division::quotient_terms(
         field,
         tables,
-        logarithms,
         points[r] as u32,
         &product[first..end],
         &base[..k],

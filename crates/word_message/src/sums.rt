@@ -1,15 +1,12 @@
-// Sums of symbols, and the parts of a spectrum.
+// Ones added up, and the parts of a spectrum.
 ghost use mathlib.Core.Path.{_≡_};
 ghost use mathlib.Core.Bool.{true};
 ghost use Prim.Native.Nat.{_≤_, _<_};
 ghost use lib.ListN.{length, getD};
 ghost use Rattle.lists.specs.Rows.{from};
-ghost use Rattle.lists.specs.Numbers.{allBelow};
 ghost use Rattle.lists.specs.Padded.{padded};
 ghost use Rattle.field.specs.Fields.{sizeOf};
 ghost use Rattle.field.specs.Kinds.{modulus, usable};
-ghost use Rattle.field.specs.Sums.{dot};
-ghost use Rattle.field.specs.Tables.{AreTables};
 ghost use Rattle.generator.specs.Shifts.{negative};
 ghost use Rattle.word_message.specs.Symbols.{onesOf};
 use field::Field;
@@ -41,25 +38,4 @@ pub fn coefficients(n: usize, k: usize, spectrum: &[u16]) -> [u16; 255]
         c += 1;
     }
     out
-}
-
-// The sum of the symbols times their weights.
-pub fn weighted_sum<'a>(
-    field: Field,
-    tables: &'a [u8; 255],
-    logarithms: &'a [u8; 255],
-    symbols: &[u16],
-    weights: &[u16],
-) -> u32
-    requires { ⌜ (usable field ≡ true) × (allBelow (sizeOf (modulus field)) (now symbols) ≡ true) × (allBelow (sizeOf (modulus field)) (now weights) ≡ true) × (length (now symbols) ≤ length (now weights)) × AreTables (now tables) (now logarithms) ⌝ }
-    ensures { λ r. ⌜ r ≡ dot (modulus field) (now (symbols .entry)) (now (weights .entry)) ⌝ }
-{
-    let mut sum = Field::ZERO;
-    let mut i = symbols.len();
-    while i > 0 {
-        i -= 1;
-        let term = field.mul_with(tables, logarithms, symbols[i] as u32, weights[i] as u32);
-        sum = field.add(term, sum);
-    }
-    sum
 }

@@ -63,5 +63,4 @@ returns-3 c = failed _ _ _ _ (none-met (c .before .before)) _ (c .before .first-
 
 pub test-accepted-spec : {M : Type 1} → statement M
 test-accepted-spec =
-    tie.close
-    (tie.spec belongs-fault-requires returns first-wrong-requires returns-2 cast-t7 returns-3)
+    tie.close (tie.spec belongs-fault-requires returns first-wrong-requires returns-2 cast-t7 returns-3)

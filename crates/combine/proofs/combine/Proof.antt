@@ -63,13 +63,4 @@ returns-2 c = rw (c .before .before .before .before .enum-told .given .1) (c .be
 
 pub combine-spec : {M : Type 1} → statement M
 combine-spec =
-    tie.close
-    (tie.spec
-    enum-known-field
-    combine-prime-requires
-    enum-told
-    combine-requires
-    same-length
-    returns
-    same-length-2
-    returns-2)
+    tie.close (tie.spec enum-known-field combine-prime-requires enum-told combine-requires same-length returns same-length-2 returns-2)

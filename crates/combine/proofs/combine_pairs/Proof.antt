@@ -36,12 +36,4 @@ returns c = search needs
 
 pub combine-pairs-spec : {M : Type 1} → statement M
 combine-pairs-spec =
-    tie.close
-    (tie.spec
-    pair-scratch-requires
-    mul-size
-    array-borrow-prefix-pair
-    slice-aggregate-combine-turned
-    combine-turned-requires
-    same-length
-    returns)
+    tie.close (tie.spec pair-scratch-requires mul-size array-borrow-prefix-pair slice-aggregate-combine-turned combine-turned-requires same-length returns)

@@ -55,13 +55,4 @@ returns-2 c = c .before .before .combine2 .ensures ∙ wide-sums _ _ _ _ _ _ (c 
 
 pub combine-prime-spec : {M : Type 1} → statement M
 combine-prime-spec =
-    tie.close
-    (tie.spec
-    cast-combine
-    combine-requires
-    same-length
-    returns
-    cast-combine-2
-    combine-requires-2
-    same-length-2
-    returns-2)
+    tie.close (tie.spec cast-combine combine-requires same-length returns cast-combine-2 combine-requires-2 same-length-2 returns-2)

@@ -35,12 +35,4 @@ returns-2 c = search needs
 
 pub combine-symbols-spec : {M : Type 1} → statement M
 combine-symbols-spec =
-    tie.close
-    (tie.spec
-    width-requires
-    combine-requires
-    same-length
-    returns
-    combine-pairs-requires
-    same-length-2
-    returns-2)
+    tie.close (tie.spec width-requires combine-requires same-length returns combine-pairs-requires same-length-2 returns-2)

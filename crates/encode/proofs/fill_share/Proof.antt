@@ -31,5 +31,4 @@ returns c =
 
 pub fill-share-spec : {M : Type 1} → statement M
 fill-share-spec =
-    tie.close
-    (tie.spec cast-k column-requires slice-aggregate-combine combine-requires same-length returns)
+    tie.close (tie.spec cast-k column-requires slice-aggregate-combine combine-requires same-length returns)

@@ -19,43 +19,46 @@ use Rattle.inverse.proofs.fill_terms.Statement.{statement}
 use Rattle.inverse.proofs.fill_terms.Tie as tie
 
 abbrev Inv-loop : tie.InvT-loop
-Inv-loop h rows base out₀ k r₀ out r = (r ≤ h .k) × Fills out₀ out (r * h .k) (rowsFrom (rowTerms h) r (h .k - r)) (rowsFrom (rowTerms h) 0 (h .k))
+Inv-loop h rows base out₀ k t r₀ out r = (r ≤ h .k) × Fills out₀ out (r * h .k) (rowsFrom (rowTerms h) r (h .k - r)) (rowsFrom (rowTerms h) 0 (h .k))
 
 abbrev μ-loop : tie.MeasureT-loop
-μ-loop h rows base out₀ k r₀ out r = h .k - r
+μ-loop h rows base out₀ k t r₀ out r = h .k - r
 
 -- a row lies within the buffer
-row-in : (c : tie.In-loop Inv-loop μ-loop) → let a = c .before .before .before .before .args in c .before .loop .r * a .h .k + a .h .k ≤ length (a .out .now)
-row-in c = let s = c .before .before .before .before in omega (arith, s .pre .4, row-inside (s .args .h .k) (c .before .loop .r) (s .args .h .k) (c .loop-test .taken))
+row-in : (c : tie.In-loop Inv-loop μ-loop) → let a = c .before .before .before .before .before .args in c .before .loop .r * a .h .k + a .h .k ≤ length (a .out .now)
+row-in c = let s = c .before .before .before .before .before in omega (arith, s .pre .4, row-inside (s .args .h .k) (c .before .loop .r) (s .args .h .k) (c .loop-test .taken))
 
 -- the row's terms, k symbols
-terms : (c : tie.In-loop Inv-loop μ-loop) → let a = c .before .before .before .before .args in Symbols (a .h .field) (a .h .k) (rowTerms (a .h) (c .before .loop .r))
-terms c = let s = c .before .before .before .before in term-symbols (s .args .h) (s .pre .0) (omega (arith, c .before .before .struct-known .given)) (c .before .loop .r) (c .loop-test .taken)
+terms : (c : tie.In-loop Inv-loop μ-loop) → let a = c .before .before .before .before .before .args in Symbols (a .h .field) (a .h .k) (rowTerms (a .h) (c .before .loop .r))
+terms c = let s = c .before .before .before .before .before in term-symbols (s .args .h) (s .pre .0) (omega (arith, c .before .before .before .struct-known .given)) (c .before .loop .r) (c .loop-test .taken)
 
 -- they are what is lent
-taken : (c : tie.After-row-terms Inv-loop μ-loop) → take (c .before .before .before .before .before .args .h .k) (c .row-terms .result) ≡ rowTerms (c .before .before .before .before .before .args .h) (c .before .before .loop .r)
-taken c = rw (c .row-terms .ensures) (take-padded 255 _ _ (terms (c .before) .size))
+taken : (c : tie.After-row-terms Inv-loop μ-loop) → take (c .before .before .before .before .before .before .before .args .h .k) (c .row-terms .result) ≡ rowTerms (c .before .before .before .before .before .before .before .args .h) (c .before .before .before .loop .r)
+taken c = rw (c .row-terms .ensures) (take-padded 255 _ _ (terms (c .before .before) .size))
 
 cast-k : tie.Need-cast-k Inv-loop μ-loop
 cast-k c = omega arith
+
+constant-tables-requires : tie.Need-constant-tables-requires Inv-loop μ-loop
+constant-tables-requires c κs = _
 
 loop-holds : tie.Need-loop-holds Inv-loop μ-loop
 loop-holds c = (omega arith, rw (sub-zero, zero-mul) (fills-start _ _))
 
 row-terms-requires : tie.Need-row-terms-requires Inv-loop μ-loop
-row-terms-requires c κs = let s = c .before .before .before .before in (s .pre .0, s .pre .2, s .pre .3, c .loop-test .taken)
+row-terms-requires c κs = let s = c .before .before .before .before .before .before in (s .pre .0, s .pre .2, s .pre .3, c .before .loop-test .taken, c .before .before .before .constant-tables .ensures)
 
 mul-start : tie.Need-mul-start Inv-loop μ-loop
-mul-start c = omega (arith, row-in (c .before))
+mul-start c = omega (arith, row-in (c .before .before))
 
 add-end : tie.Need-add-end Inv-loop μ-loop
-add-end c = omega (arith, row-in (c .before))
+add-end c = omega (arith, row-in (c .before .before))
 
 array-share-prefix-row : tie.Need-array-share-prefix-row Inv-loop μ-loop
-array-share-prefix-row c = omega (arith, c .before .before .before .struct-known .given)
+array-share-prefix-row c = omega (arith, c .before .before .before .before .before .struct-known .given)
 
 slice-aggregate-write-symbols : tie.Need-slice-aggregate-write-symbols Inv-loop μ-loop
-slice-aggregate-write-symbols c = rw (taken (c .before)) (sym (terms (c .before .before) .size))
+slice-aggregate-write-symbols c = rw (taken (c .before)) (sym (terms (c .before .before .before) .size))
 
 sub-write-symbols : tie.Need-sub-write-symbols Inv-loop μ-loop
 sub-write-symbols c = omega arith
@@ -64,12 +67,12 @@ part-write-symbols-start : tie.Need-part-write-symbols-start Inv-loop μ-loop
 part-write-symbols-start c = omega arith
 
 part-write-symbols-end : tie.Need-part-write-symbols-end Inv-loop μ-loop
-part-write-symbols-end c = omega (arith, row-in (c .before .before), c .before .before .before .loop .inv .1 .long)
+part-write-symbols-end c = omega (arith, row-in (c .before .before .before), c .before .before .before .before .loop .inv .1 .long)
 
 write-symbols-requires : tie.Need-write-symbols-requires Inv-loop μ-loop
 write-symbols-requires c κs =
-    let at = c .before .before .before in
-    let s = at .before .before .before .before in
+    let at = c .before .before .before .before in
+    let s = at .before .before .before .before .before in
     let k = s .args .h .k in
     let l = at .before .loop in
     rw (taken (c .before .before))
@@ -83,8 +86,8 @@ loop-less c = omega arith
 
 loop-again : tie.Need-loop-again Inv-loop μ-loop
 loop-again c =
-    let at = c .before .before .before .before .before .before in
-    let s = at .before .before .before .before in
+    let at = c .before .before .before .before .before .before .before in
+    let s = at .before .before .before .before .before in
     let h = s .args .h in
     let l = at .before .loop in (
       omega arith,
@@ -97,9 +100,9 @@ same-length c = c .before .loop .inv .1 .long
 
 returns : tie.Need-returns Inv-loop μ-loop
 returns c =
-    let s = c .before .before .before .before in
+    let s = c .before .before .before .before .before in
     fills-all (rw (rows-end _ _ _ (c .loop-test .left)) at (c .before .loop .inv .1)) (rw (s .pre .4) (mul-le-mul (c .loop-test .left) (le-refl _)))
 
 pub fill-terms-spec : {M : Type 1} → statement M
 fill-terms-spec =
-    tie.close (tie.spec Inv-loop μ-loop cast-k loop-holds row-terms-requires mul-start add-end array-share-prefix-row slice-aggregate-write-symbols sub-write-symbols part-write-symbols-start part-write-symbols-end write-symbols-requires add-r loop-less loop-again same-length returns)
+    tie.close (tie.spec Inv-loop μ-loop cast-k constant-tables-requires loop-holds row-terms-requires mul-start add-end array-share-prefix-row slice-aggregate-write-symbols sub-write-symbols part-write-symbols-start part-write-symbols-end write-symbols-requires add-r loop-less loop-again same-length returns)

@@ -37,23 +37,23 @@ mul-scaled-column : tie.Need-mul-scaled-column Inv-loop μ-loop
 mul-scaled-column c = omega arith
 
 shared-slice-read-scaled-column : tie.Need-shared-slice-read-scaled-column Inv-loop μ-loop
-shared-slice-read-scaled-column c = c .before .before .before .before .loop-test .taken
+shared-slice-read-scaled-column c = c .before .before .loop-test .taken
 
 cast-scaled-column : tie.Need-cast-scaled-column Inv-loop μ-loop
-cast-scaled-column c = omega (arith, c .shared-slice-known5 .given (c .before .before .before .before .before .loop .r))
+cast-scaled-column c = omega (arith, c .shared-slice-known5 .given (c .before .before .before .loop .r))
 
 scaled-column-requires : tie.Need-scaled-column-requires Inv-loop μ-loop
-scaled-column-requires c κs = let s = c .before .before .before .before .before .before .before .before .before .before .before .before .before in (s .pre .2, factor (c .before .before .before .before), omega (arith, s .pre .3, c .before .before .before .before .loop-test .taken), s .pre .4, s .pre .5, c .before .before .before .before .before .before .constant-tables .ensures)
+scaled-column-requires c κs = let s = c .before .before .before .before .before .before .before .before .before .before .before in (s .pre .2, factor (c .before .before), omega (arith, s .pre .3, c .before .before .loop-test .taken), s .pre .4, s .pre .5, c .before .before .before .before .constant-tables .ensures)
 
 -- the column as it is lent
-taken : (c : tie.After-scaled-column Inv-loop μ-loop) → let a = c .before .before .before .before .before .before .before .before .before .before .before .before .before .before .args in take (length (a .scales .now)) (c .scaled-column .result) ≡ scaledColumn (modulus (a .field)) (getD (a .factors .now) (c .before .before .before .before .before .before .loop .r) 0) (a .scales .now) (c .before .before .before .before .before .before .loop .r) (a .sums .now)
+taken : (c : tie.After-scaled-column Inv-loop μ-loop) → let a = c .before .before .before .before .before .before .before .before .before .before .before .before .args in take (length (a .scales .now)) (c .scaled-column .result) ≡ scaledColumn (modulus (a .field)) (getD (a .factors .now) (c .before .before .before .before .loop .r) 0) (a .scales .now) (c .before .before .before .before .loop .r) (a .sums .now)
 taken c = rw (c .scaled-column .ensures) (take-padded 255 _ _ (length-column _ _ _ _ _))
 
 array-share-prefix-column : tie.Need-array-share-prefix-column Inv-loop μ-loop
 array-share-prefix-column c =
-    let a = c .before .before .before .before .before .before .before .before .before .before .before .before .before .before .args in
-    let short = c .before .before .before .before .before .before .before .before .before .before .before .before .before .before .pre .2 .short in
-    let r = c .before .before .before .before .before .before .loop .r in
+    let a = c .before .before .before .before .before .before .before .before .before .before .before .before .args in
+    let short = c .before .before .before .before .before .before .before .before .before .before .before .before .pre .2 .short in
+    let r = c .before .before .before .before .loop .r in
     let x = getD (a .factors .now) r 0 in
     rw (c .scaled-column .ensures) (omega (arith, short, length-padded 255 (scaledColumn (modulus (a .field)) x (a .scales .now) r (a .sums .now)) (omega (arith, short, length-column (modulus (a .field)) x (a .scales .now) r (a .sums .now)))))
 
@@ -62,7 +62,7 @@ slice-aggregate-prepare c = rw (taken (c .before)) (sym (length-column _ _ _ _ _
 
 prepare-requires : tie.Need-prepare-requires Inv-loop μ-loop
 prepare-requires c κs =
-    let at = c .before .before .before .before .before .before .before .before in
+    let at = c .before .before .before .before .before .before in
     let s = at .before .before .before .before .before .before .before .before .before in
     let a = s .args in
     let l = at .before .loop in
@@ -81,14 +81,14 @@ prepare-requires c κs =
     )
 
 add-r : tie.Need-add-r Inv-loop μ-loop
-add-r c = omega (arith, c .before .before .before .before .before .before .before .before .before .before .before .before .before .loop-test .taken)
+add-r c = omega (arith, c .before .before .before .before .before .before .before .before .before .before .before .loop-test .taken)
 
 loop-less : tie.Need-loop-less Inv-loop μ-loop
 loop-less c = omega arith
 
 loop-again : tie.Need-loop-again Inv-loop μ-loop
 loop-again c =
-    let at = c .before .before .before .before .before .before .before .before .before .before .before .before .before in
+    let at = c .before .before .before .before .before .before .before .before .before .before .before in
     let a = at .before .before .before .before .before .before .before .before .before .args in
     let l = at .before .loop in
     let made = rw (taken (c .before .before .before .before .before .before .before .before), length-column (modulus (a .field)) (getD (a .factors .now) (l .r) 0) (a .scales .now) (l .r) (a .sums .now)) at (c .before .before .before .before .prepare .ensures) in

@@ -33,39 +33,39 @@ loop-holds c =
     let s = c .before .before .before .before .before .before in
     (omega arith, refl, refl, begun-none _ _ _ _ _ (λ i. length-quotientOf _ _ (s .args .product .now) ∙ s .pre .3))
 
-mul-quotient-with : tie.Need-mul-quotient-with Inv-loop μ-loop
-mul-quotient-with c = omega arith
+mul-quotient : tie.Need-mul-quotient Inv-loop μ-loop
+mul-quotient c = omega arith
 
-shared-slice-read-quotient-with : tie.Need-shared-slice-read-quotient-with Inv-loop μ-loop
-shared-slice-read-quotient-with c = c .before .before .before .before .loop-test .taken
+shared-slice-read-quotient : tie.Need-shared-slice-read-quotient Inv-loop μ-loop
+shared-slice-read-quotient c = c .before .before .loop-test .taken
 
 -- the point is a symbol
 point : (c : tie.In-loop Inv-loop μ-loop) → let a = c .before .before .before .before .before .before .before .before .args in getD (a .points .now) (c .before .loop .i) 0 < sizeOf (modulus (a .field))
 point c = below-at _ _ (c .before .before .before .before .before .before .before .before .pre .1 .below) _ (c .loop-test .taken)
 
-cast-quotient-with : tie.Need-cast-quotient-with Inv-loop μ-loop
-cast-quotient-with c = omega (arith, c .shared-slice-known4 .given (c .before .before .before .before .before .loop .i))
+cast-quotient : tie.Need-cast-quotient Inv-loop μ-loop
+cast-quotient c = omega (arith, c .shared-slice-known4 .given (c .before .before .before .loop .i))
 
-quotient-with-requires : tie.Need-quotient-with-requires Inv-loop μ-loop
-quotient-with-requires c κs = let s = c .before .before .before .before .before .before .before .before .before .before .before .before in (s .pre .2, point (c .before .before .before .before), c .before .before .before .before .before .before .constant-tables .ensures)
+quotient-requires : tie.Need-quotient-requires Inv-loop μ-loop
+quotient-requires c κs = let s = c .before .before .before .before .before .before .before .before .before .before in (s .pre .2, point (c .before .before), c .before .before .before .before .constant-tables .ensures)
 
 -- the quotient as it is lent
-taken : (c : tie.After-quotient-with Inv-loop μ-loop) → let a = c .before .before .before .before .before .before .before .before .before .before .before .before .before .args in take (length (a .product .now)) (c .quotient-with .result) ≡ quotientOf (modulus (a .field)) (getD (a .points .now) (c .before .before .before .before .before .before .loop .i) 0) (a .product .now)
-taken c = rw (c .quotient-with .ensures) (take-padded 255 _ _ (length-quotientOf _ _ _))
+taken : (c : tie.After-quotient Inv-loop μ-loop) → let a = c .before .before .before .before .before .before .before .before .before .before .before .args in take (length (a .product .now)) (c .quotient .result) ≡ quotientOf (modulus (a .field)) (getD (a .points .now) (c .before .before .before .before .loop .i) 0) (a .product .now)
+taken c = rw (c .quotient .ensures) (take-padded 255 _ _ (length-quotientOf _ _ _))
 
 array-share-prefix-q : tie.Need-array-share-prefix-q Inv-loop μ-loop
 array-share-prefix-q c =
-    let a = c .before .before .before .before .before .before .before .before .before .before .before .before .before .args in
-    let short = c .before .before .before .before .before .before .before .before .before .before .before .before .before .pre .2 .short in
-    let q = quotientOf (modulus (a .field)) (getD (a .points .now) (c .before .before .before .before .before .before .loop .i) 0) (a .product .now) in
-    rw (c .quotient-with .ensures) (omega (arith, short, length-padded 255 q (omega (arith, short, length-quotientOf (modulus (a .field)) (getD (a .points .now) (c .before .before .before .before .before .before .loop .i) 0) (a .product .now)))))
+    let a = c .before .before .before .before .before .before .before .before .before .before .before .args in
+    let short = c .before .before .before .before .before .before .before .before .before .before .before .pre .2 .short in
+    let q = quotientOf (modulus (a .field)) (getD (a .points .now) (c .before .before .before .before .loop .i) 0) (a .product .now) in
+    rw (c .quotient .ensures) (omega (arith, short, length-padded 255 q (omega (arith, short, length-quotientOf (modulus (a .field)) (getD (a .points .now) (c .before .before .before .before .loop .i) 0) (a .product .now)))))
 
 slice-aggregate-prepare : tie.Need-slice-aggregate-prepare Inv-loop μ-loop
 slice-aggregate-prepare c = rw (taken (c .before)) (sym (length-quotientOf _ _ _))
 
 prepare-requires : tie.Need-prepare-requires Inv-loop μ-loop
 prepare-requires c κs =
-    let at = c .before .before .before .before .before .before .before .before in
+    let at = c .before .before .before .before .before .before in
     let s = at .before .before .before .before .before .before .before .before in
     let a = s .args in
     let l = at .before .loop in
@@ -84,14 +84,14 @@ prepare-requires c κs =
     )
 
 add-i : tie.Need-add-i Inv-loop μ-loop
-add-i c = omega (arith, c .before .before .before .before .before .before .before .before .before .before .before .before .before .loop-test .taken)
+add-i c = omega (arith, c .before .before .before .before .before .before .before .before .before .before .before .loop-test .taken)
 
 loop-less : tie.Need-loop-less Inv-loop μ-loop
 loop-less c = omega arith
 
 loop-again : tie.Need-loop-again Inv-loop μ-loop
 loop-again c =
-    let at = c .before .before .before .before .before .before .before .before .before .before .before .before .before in
+    let at = c .before .before .before .before .before .before .before .before .before .before .before in
     let s = at .before .before .before .before .before .before .before .before in
     let a = s .args in
     let l = at .before .loop in
@@ -109,4 +109,4 @@ returns c = let all : c .before .loop .i ≡ length (c .before .before .before .
 
 pub list-quotients-spec : {M : Type 1} → statement M
 list-quotients-spec =
-    tie.close (tie.spec Inv-loop μ-loop constant-tables-requires loop-holds mul-quotient-with shared-slice-read-quotient-with cast-quotient-with quotient-with-requires array-share-prefix-q slice-aggregate-prepare prepare-requires add-i loop-less loop-again same-length same-length-2 returns)
+    tie.close (tie.spec Inv-loop μ-loop constant-tables-requires loop-holds mul-quotient shared-slice-read-quotient cast-quotient quotient-requires array-share-prefix-q slice-aggregate-prepare prepare-requires add-i loop-less loop-again same-length same-length-2 returns)

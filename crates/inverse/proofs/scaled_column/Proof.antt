@@ -18,10 +18,10 @@ use Rattle.inverse.proofs.scaled_column.Statement.{statement}
 use Rattle.inverse.proofs.scaled_column.Tie as tie
 
 abbrev Inv-loop : tie.InvT-loop
-Inv-loop field powers logarithms scale scales r sums out₀ i₀ out i = Filled 255 (length scales) (λ j. mul (modulus field) (mul (modulus field) scale (getD scales j 0)) (getD sums (j * length scales + r) 0)) i out
+Inv-loop field tables scale scales r sums out₀ i₀ out i = Filled 255 (length scales) (λ j. mul (modulus field) (mul (modulus field) scale (getD scales j 0)) (getD sums (j * length scales + r) 0)) i out
 
 abbrev μ-loop : tie.MeasureT-loop
-μ-loop field powers logarithms scale scales r sums out₀ i₀ out i = length scales - i
+μ-loop field tables scale scales r sums out₀ i₀ out i = length scales - i
 
 -- the sum is read within the matrix
 sum-in : (c : tie.In-loop Inv-loop μ-loop) → let a = c .before .before .before .before .args in c .before .loop .i * length (a .scales .now) + a .r < length (a .sums .now)

@@ -32,7 +32,7 @@ slice-aggregate-scales c =
 scales-requires : tie.Need-scales-requires
 scales-requires c κs =
     let s = c .before .before .before .pre in
-    rw (part (c .before)) (points-symbols _ _ _ (s .0) (s .1) (s .2))
+    rw (part (c .before)) (points-symbols _ _ _ (s .0) (s .1) (s .2), s .4)
 
 array-share-prefix-points-2 : tie.Need-array-share-prefix-points-2
 array-share-prefix-points-2 c = search needs
@@ -45,7 +45,7 @@ slice-aggregate-product c =
 product-requires : tie.Need-product-requires
 product-requires c κs =
     let s = c .before .before .before .before .before .pre in
-    rw (part (c .before .before .before)) (points-symbols _ _ _ (s .0) (s .1) (s .2))
+    rw (part (c .before .before .before)) (points-symbols _ _ _ (s .0) (s .1) (s .2), s .4)
 
 returns : tie.Need-returns
 unfolding basisOf

@@ -44,7 +44,7 @@ rows c = let s = c .before in parts _ _ _ _ (row-symbols (s .args .h) (s .pre .0
 
 base : (c : tie.After-struct-known)
     → let h = c .before .args .h in
-    (take (h .k) (c .before .args .t3) ≡ baseInverses h) × Symbols (h .field) (h .k) (baseInverses h)
+    (take (h .k) (c .before .args .t4) ≡ baseInverses h) × Symbols (h .field) (h .k) (baseInverses h)
 base c =
     let s = c .before in
     let b = base-symbols (s .args .h) (s .pre .0) (few c) in
@@ -71,6 +71,7 @@ quotient-terms-requires c κs =
       rw (b .0) (b .1 .are),
       rw (q .product, b .0) (b .1 .size ∙ sym (q .some-product .size)),
       rw (q .point (s .args .r) (s .pre .3)) (below-at _ _ (low .are .below) _ (omega (arith, low .size, s .pre .3))),
+      s .pre .4,
     )
 
 returns : tie.Need-returns

@@ -20,10 +20,10 @@ use Rattle.update.proofs.rewrite.Statement.{statement}
 use Rattle.update.proofs.rewrite.Tie as tie
 
 abbrev Inv-loop : tie.InvT-loop
-Inv-loop h w powers logarithms which x lane₀ plan n shift count₀ j₀ lane count j = RewritingBytes h w which x lane₀ lane count j
+Inv-loop h w tables which x lane₀ plan n shift count₀ j₀ lane count j = RewritingBytes h w which x lane₀ lane count j
 
 abbrev μ-loop : tie.MeasureT-loop
-μ-loop h w powers logarithms which x lane₀ plan n shift count₀ j₀ lane count j = n - j
+μ-loop h w tables which x lane₀ plan n shift count₀ j₀ lane count j = n - j
 
 -- node j's bytes lie in the lane
 inside : (c : tie.In-loop Inv-loop μ-loop) → let a = c .before .before .before .before .before .args in c .before .loop .j * a .w + a .w ≤ length (c .before .loop .lane)

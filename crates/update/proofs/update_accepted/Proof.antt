@@ -66,8 +66,8 @@ constant-tables-requires c κs = search needs
 
 rewrite-lane-requires : tie.Need-rewrite-lane-requires
 rewrite-lane-requires c κs =
-    let (lane, old, new) = ready (c .before .before .before .before .before .before .before .before .before .before .before) in
-    (lane, c .before .before .before .before .before .before .before .before .before .before .width-of .ensures .0, rw (c .before .before .before .before .before .before .sub .ensures) (sub-below _ (lane .sound .field) new old), c .before .before .before .before .before .plan-of .ensures, c .before .before .before .before .constant-tables .ensures)
+    let (lane, old, new) = ready (c .before .before .before .before .before .before .before .before .before) in
+    (lane, c .before .before .before .before .before .before .before .before .width-of .ensures .0, rw (c .before .before .before .before .sub .ensures) (sub-below _ (lane .sound .field) new old), c .before .before .before .plan-of .ensures, c .before .before .constant-tables .ensures)
 
 same-length-3 : tie.Need-same-length-3
 same-length-3 c = search needs
@@ -76,8 +76,8 @@ returns-3 : tie.Need-returns-3
 unfolding updated
 returns-3 c =
     let (done, counted) = c .before .before .rewrite-lane .ensures in
-    let at = c .before .before .before .before .before .before .before .before .before in
-    altered-says _ _ _ _ _ _ _ _ _ _ _ (c .before .before .before .before .before .before .before .before .before .before .before .before .before .width-of .ensures .0) (judged (at .before .before) ∙ at .before .if2 .left) (rw (← at .sub .ensures) done) (rw (← at .sub .ensures) counted)
+    let at = c .before .before .before .before .before .before .before in
+    altered-says _ _ _ _ _ _ _ _ _ _ _ (c .before .before .before .before .before .before .before .before .before .before .before .width-of .ensures .0) (judged (at .before .before) ∙ at .before .if2 .left) (rw (← at .sub .ensures) done) (rw (← at .sub .ensures) counted)
 
 pub update-accepted-spec : {M : Type 1} → statement M
 update-accepted-spec =

@@ -4,7 +4,7 @@ use mathlib.Core.Bool.{true}
 use Prim.Native.Nat.{_≤_}
 use native.Mathlib.Omega.{arith}
 use borrow.Author.Needs.{needs}
-use lib.ListN.{length, getD, take}
+use lib.ListN.{getD, take}
 use Rattle.lists.specs.Numbers.{allBelow}
 use Rattle.lists.proofs.Padding.{take-padded}
 use Rattle.generator.specs.Codewords.{isWord}
@@ -27,14 +27,14 @@ test c =
     let st = c .before .before .before .before .before .before .before .before in
     let h = st .args .h in
     c .all-zero .ensures
-    ∙ ap (allBelow 1) (rw (c .before .before .before .spectrum-with .ensures) (check-part h (st .args .lane .now) (st .pre .0) (few (c .before .before .before .before .before))))
+    ∙ ap (allBelow 1) (rw (c .before .before .before .spectrum-of .ensures) (check-part h (st .args .lane .now) (st .pre .0) (few (c .before .before .before .before .before))))
     ∙ word-sums h (st .args .lane .now)
 
 -- the spectrum, lent as a part
-part : (c : tie.After-spectrum-with) → let a = c .before .before .before .before .before .args in take (a .h .n) (c .spectrum-with .result) ≡ spectrumOf (a .h) (a .lane .now)
+part : (c : tie.After-spectrum-of) → let a = c .before .before .before .before .before .args in take (a .h .n) (c .spectrum-of .result) ≡ spectrumOf (a .h) (a .lane .now)
 part c =
     let a = c .before .before .before .before .before .args in
-    rw (c .spectrum-with .ensures) (take-padded 255 _ _ (length-spectrum (a .h) (a .lane .now)))
+    rw (c .spectrum-of .ensures) (take-padded 255 _ _ (length-spectrum (a .h) (a .lane .now)))
 
 -- the symbol of a word's message
 symbol : (c : tie.After-symbol-from)
@@ -58,8 +58,8 @@ cast-end c = search needs
 add-end : tie.Need-add-end
 add-end c = search needs
 
-spectrum-with-requires : tie.Need-spectrum-with-requires
-spectrum-with-requires c κs = search needs
+spectrum-of-requires : tie.Need-spectrum-of-requires
+spectrum-of-requires c κs = search needs
 
 mul-all-zero : tie.Need-mul-all-zero
 mul-all-zero c = search needs
@@ -98,4 +98,4 @@ returns c =
 
 pub stale-with-spec : {M : Type 1} → statement M
 stale-with-spec =
-    tie.close (tie.spec cast-n sub-end cast-end add-end spectrum-with-requires mul-all-zero sub-all-zero part-all-zero-start part-all-zero-end all-zero-requires array-share-prefix-spectrum slice-aggregate-symbol-from symbol-from-requires number-of-requires returns)
+    tie.close (tie.spec cast-n sub-end cast-end add-end spectrum-of-requires mul-all-zero sub-all-zero part-all-zero-start part-all-zero-end all-zero-requires array-share-prefix-spectrum slice-aggregate-symbol-from symbol-from-requires number-of-requires returns)

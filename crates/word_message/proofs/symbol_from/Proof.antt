@@ -1,5 +1,5 @@
 -- `symbol_from` meets its contract.
-use mathlib.Core.Path.{_≡_, refl, sym, ap, ap₂, _∙_}
+use mathlib.Core.Path.{_≡_, sym, ap, ap₂, _∙_}
 use mathlib.Core.Bool.{true}
 use Prim.Native.Nat.{_≤_, _<_}
 use native.Mathlib.Omega.{arith}
@@ -124,7 +124,7 @@ scale-at-requires : tie.Need-scale-at-requires
 scale-at-requires c κs =
     let st = c .before .before .before .before .before .before .before .before .before .before .before .before in
     let q = points (c .before .before .before .before .before .before .before) in
-    rw (q .0) (q .1 .are, rw (q .1 .size) (st .pre .4))
+    rw (q .0) (q .1 .are, rw (q .1 .size) (st .pre .4), st .pre .5)
 
 ones-requires : tie.Need-ones-requires
 ones-requires c κs = search needs

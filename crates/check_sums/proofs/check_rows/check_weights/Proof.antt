@@ -56,11 +56,11 @@ cast-z c = omega (arith, power-low (c .before .before .before .before), size-fit
 sub-requires : tie.Need-sub-requires
 sub-requires c κs = let s = c .before .before .before .before in (s .pre .0 .usable-field, zero-below (arithmetic (modulusOf (s .args .h)) (s .pre .0 .field)), one-below (modulusOf (s .args .h)) (s .pre .0 .field))
 
-slice-aggregate-values-with : tie.Need-slice-aggregate-values-with
-slice-aggregate-values-with c = rw (points-are (c .before .before .before .before .before .before)) (sym (length-points (modulusOf (c .before .before .before .before .before .before .args .h)) (c .before .before .before .before .before .before .args .h .root) 0 (range 0 (c .before .before .before .before .before .before .args .h .k)) ∙ length-range 0 (c .before .before .before .before .before .before .args .h .k)))
+slice-aggregate-values : tie.Need-slice-aggregate-values
+slice-aggregate-values c = rw (points-are (c .before .before .before .before .before .before)) (sym (length-points (modulusOf (c .before .before .before .before .before .before .args .h)) (c .before .before .before .before .before .before .args .h .root) 0 (range 0 (c .before .before .before .before .before .before .args .h .k)) ∙ length-range 0 (c .before .before .before .before .before .before .args .h .k)))
 
-values-with-requires : tie.Need-values-with-requires
-values-with-requires c κs =
+values-requires : tie.Need-values-requires
+values-requires c κs =
     let s = c .before .before .before .before .before .before in
     let h = s .args .h in
     let short : length (range 0 (h .k)) ≤ 255 = omega (arith, length-range 0 (h .k), few h (s .pre .0) 0) in
@@ -83,8 +83,8 @@ returns : tie.Need-returns
 returns c =
     let s = c .before .before .before .before .before .before .before in
     let at = s .args .h .k + s .args .e in
-    rw (c .before .before .sub .ensures, c .values-with .ensures, points-are s, power-is s)
+    rw (c .before .before .sub .ensures, c .values .ensures, points-are s, power-is s)
 
 pub check-weights-spec : {M : Type 1} → statement M
 check-weights-spec =
-    tie.close (tie.spec cast-k add-at mul-z shared-slice-read-z cast-z sub-requires slice-aggregate-values-with values-with-requires cast-weights mul-weights array-write-weights returns)
+    tie.close (tie.spec cast-k add-at mul-z shared-slice-read-z cast-z sub-requires slice-aggregate-values values-requires cast-weights mul-weights array-write-weights returns)

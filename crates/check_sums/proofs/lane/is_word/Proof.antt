@@ -39,5 +39,4 @@ returns c =
 
 pub is-word-spec : {M : Type 1} → statement M
 is-word-spec =
-    tie.close
-    (tie.spec sub-checks cast-checks sums-requires array-share-prefix-found slice-aggregate-all-zero all-zero-requires returns)
+    tie.close (tie.spec sub-checks cast-checks sums-requires array-share-prefix-found slice-aggregate-all-zero all-zero-requires returns)

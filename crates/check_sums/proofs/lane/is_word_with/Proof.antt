@@ -39,5 +39,4 @@ returns c =
 
 pub is-word-with-spec : {M : Type 1} → statement M
 is-word-with-spec =
-    tie.close
-    (tie.spec sub-checks cast-checks sums-with-requires array-share-prefix-found slice-aggregate-all-zero all-zero-requires returns)
+    tie.close (tie.spec sub-checks cast-checks sums-with-requires array-share-prefix-found slice-aggregate-all-zero all-zero-requires returns)

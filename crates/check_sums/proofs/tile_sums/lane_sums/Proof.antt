@@ -31,5 +31,4 @@ returns c =
 
 pub lane-sums-spec : {M : Type 1} → statement M
 lane-sums-spec =
-    tie.close
-    (tie.spec cast-n factors-requires slice-aggregate-combine combine-requires same-length returns)
+    tie.close (tie.spec cast-n factors-requires slice-aggregate-combine combine-requires same-length returns)

@@ -17,11 +17,11 @@ use Rattle.check_sums.proofs.values.last_products.Statement.{statement}
 use Rattle.check_sums.proofs.values.last_products.Tie as tie
 
 abbrev Inv-loop : tie.InvT-loop
-Inv-loop field powers logarithms points z out₀ product₀ m₀ out product m =
+Inv-loop field tables points z out₀ product₀ m₀ out product m =
     (product ≡ productAt (modulus field) (drop (length points - m) points) z) × Filled 255 (length points) (λ j. productAt (modulus field) (drop (length points - j) points) z) m out
 
 abbrev μ-loop : tie.MeasureT-loop
-μ-loop field powers logarithms points z out₀ product₀ m₀ out product m = length points - m
+μ-loop field tables points z out₀ product₀ m₀ out product m = length points - m
 
 -- the product and the next point are symbols
 product-low : (c : tie.In-loop Inv-loop μ-loop) → c .before .loop .product < sizeOf (modulus (c .before .before .before .args .field))

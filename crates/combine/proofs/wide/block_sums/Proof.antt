@@ -120,32 +120,4 @@ returns c =
 
 pub block-sums-spec : {M : Type 1} → statement M
 block-sums-spec =
-    tie.close
-    (tie.spec
-    Inv-loop
-    μ-loop
-    sums-requires
-    sums-requires-2
-    sums-requires-3
-    sums-requires-4
-    loop-holds
-    mul-high
-    mul-high-2
-    add-high
-    add-low
-    add-high-end
-    add-low-end
-    mul-add-products
-    shared-slice-read-add-products
-    sub-add-products
-    part-add-products-start
-    part-add-products-end
-    sub-add-products-2
-    part-add-products-start-2
-    part-add-products-end-2
-    add-products-requires
-    add-i
-    loop-less
-    loop-again
-    remainders-requires
-    returns)
+    tie.close (tie.spec Inv-loop μ-loop sums-requires sums-requires-2 sums-requires-3 sums-requires-4 loop-holds mul-high mul-high-2 add-high add-low add-high-end add-low-end mul-add-products shared-slice-read-add-products sub-add-products part-add-products-start part-add-products-end sub-add-products-2 part-add-products-start-2 part-add-products-end-2 add-products-requires add-i loop-less loop-again remainders-requires returns)

@@ -61,17 +61,4 @@ returns c = written-all _ _ (c .before .loop .done) (c .before .loop .acc) (c .l
 
 pub combine-blocks-spec : {M : Type 1} → statement M
 combine-blocks-spec =
-    tie.close
-    (tie.spec
-    Inv-loop
-    μ-loop
-    loop-holds
-    block-start-requires
-    block-sums-requires
-    slice-aggregate-put
-    put-requires
-    add-done
-    loop-less
-    loop-again
-    same-length
-    returns)
+    tie.close (tie.spec Inv-loop μ-loop loop-holds block-start-requires block-sums-requires slice-aggregate-put put-requires add-done loop-less loop-again same-length returns)

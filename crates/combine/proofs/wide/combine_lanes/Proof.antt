@@ -48,16 +48,4 @@ returns c = written-all _ _ (c .before .loop .t) (c .before .loop .acc) (c .loop
 
 pub combine-lanes-spec : {M : Type 1} → statement M
 combine-lanes-spec =
-    tie.close
-    (tie.spec
-    Inv-loop
-    μ-loop
-    loop-holds
-    lane-sum-requires
-    slice-aggregate-put
-    put-requires
-    add-t
-    loop-less
-    loop-again
-    same-length
-    returns)
+    tie.close (tie.spec Inv-loop μ-loop loop-holds lane-sum-requires slice-aggregate-put put-requires add-t loop-less loop-again same-length returns)

@@ -89,25 +89,4 @@ returns c =
 
 pub lane-sum-spec : {M : Type 1} → statement M
 lane-sum-spec =
-    tie.close
-    (tie.spec
-    Inv-loop
-    μ-loop
-    loop-holds
-    mul-high
-    mul-high-2
-    add-high
-    add-low
-    mul-product
-    shared-slice-read-product
-    shared-slice-read-product-2
-    shared-slice-read-product-3
-    product-requires
-    cast-sum
-    add-sum
-    add-i
-    loop-less
-    loop-again
-    rem-result
-    cast-result
-    returns)
+    tie.close (tie.spec Inv-loop μ-loop loop-holds mul-high mul-high-2 add-high add-low mul-product shared-slice-read-product shared-slice-read-product-2 shared-slice-read-product-3 product-requires cast-sum add-sum add-i loop-less loop-again rem-result cast-result returns)

@@ -65,21 +65,4 @@ returns c = rw (drop-of-length-le (c .before .before .args .symbols .now) {i = c
 
 pub put-spec : {M : Type 1} → statement M
 put-spec =
-    tie.close
-    (tie.spec
-    Inv-loop
-    μ-loop
-    loop-holds
-    add-lane
-    mul-x
-    shared-slice-read-x
-    cast-acc
-    slice-write-acc
-    cast-acc-2
-    add-acc
-    slice-write-acc-2
-    add-t
-    loop-less
-    loop-again
-    same-length
-    returns)
+    tie.close (tie.spec Inv-loop μ-loop loop-holds add-lane mul-x shared-slice-read-x cast-acc slice-write-acc cast-acc-2 add-acc slice-write-acc-2 add-t loop-less loop-again same-length returns)

@@ -26,7 +26,7 @@ add-end : tie.Need-add-end
 add-end c = search needs
 
 lagrange-basis-requires : tie.Need-lagrange-basis-requires
-lagrange-basis-requires c κs = let s = c .before .before .pre in (s .0 .usable-field, s .2, omega (arith, s .0 .short, s .1), omega arith)
+lagrange-basis-requires c κs = let s = c .before .before .pre in (s .0 .usable-field, s .2, omega (arith, s .0 .short, s .1), omega arith, s .3)
 
 array-share-prefix-points : tie.Need-array-share-prefix-points
 array-share-prefix-points c = omega (arith, basis (c .before .before .before) .long-points, c .before .before .before .before .before .before .pre .0 .short, c .before .before .before .before .before .before .pre .1)

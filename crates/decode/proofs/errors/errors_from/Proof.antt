@@ -13,11 +13,11 @@ use Rattle.decode.proofs.errors.errors_from.Statement.{statement}
 use Rattle.decode.proofs.errors.errors_from.Tie as tie
 
 abbrev Inv-loop : tie.InvT-loop
-Inv-loop field powers logarithms points scales product sums out₀ i₀ out i =
+Inv-loop field tables points scales product sums out₀ i₀ out i =
     Filled 255 (length points) (λ j. errorOf (modulus field) product sums (getD points j 0) (getD scales j 0)) i out
 
 abbrev μ-loop : tie.MeasureT-loop
-μ-loop field powers logarithms points scales product sums out₀ i₀ out i = length points - i
+μ-loop field tables points scales product sums out₀ i₀ out i = length points - i
 
 loop-holds : tie.Need-loop-holds Inv-loop μ-loop
 unfolding zeros

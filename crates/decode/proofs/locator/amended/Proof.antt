@@ -9,10 +9,10 @@ use Rattle.decode.proofs.locator.amended.Statement.{statement}
 use Rattle.decode.proofs.locator.amended.Tie as tie
 
 abbrev Inv-loop : tie.InvT-loop
-Inv-loop field powers logarithms d w i v j size out₀ x₀ out x = Filled 255 size (amendedAt (modulus field) d w i v j) x out
+Inv-loop field tables d w i v j size out₀ x₀ out x = Filled 255 size (amendedAt (modulus field) d w i v j) x out
 
 abbrev μ-loop : tie.MeasureT-loop
-μ-loop field powers logarithms d w i v j size out₀ x₀ out x = size - x
+μ-loop field tables d w i v j size out₀ x₀ out x = size - x
 
 loop-holds : tie.Need-loop-holds Inv-loop μ-loop
 unfolding zeros

@@ -13,10 +13,10 @@ use Rattle.field.proofs.KindLaws.{usable-field}
 use Rattle.decode.specs.Locating.{partial}
 
 abbrev Inv-loop : tie.InvT-loop
-Inv-loop field powers logarithms v s e m sum₀ i₀ sum i = (i ≤ m) × (sum < sizeOf (modulus field)) × (sum ≡ partial (modulus field) v s e i)
+Inv-loop field tables v s e m sum₀ i₀ sum i = (i ≤ m) × (sum < sizeOf (modulus field)) × (sum ≡ partial (modulus field) v s e i)
 
 abbrev μ-loop : tie.MeasureT-loop
-μ-loop field powers logarithms v s e m sum₀ i₀ sum i = m - i
+μ-loop field tables v s e m sum₀ i₀ sum i = m - i
 
 loop-holds : tie.Need-loop-holds Inv-loop μ-loop
 unfolding partial

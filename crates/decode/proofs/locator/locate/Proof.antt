@@ -19,10 +19,10 @@ use Rattle.decode.proofs.locator.locate.Statement.{statement}
 use Rattle.decode.proofs.locator.locate.Tie as tie
 
 abbrev Inv-loop : tie.InvT-loop
-Inv-loop field powers logarithms s t w₀ v₀ l₀ q₀ w v l q = (l + q ≤ t + t) × (length w ≡ 255) × (length v ≡ 255) × ((f : isField (modulus field) ≡ true) → Held (modulus field) f s w v l q)
+Inv-loop field tables s t w₀ v₀ l₀ q₀ w v l q = (l + q ≤ t + t) × (length w ≡ 255) × (length v ≡ 255) × ((f : isField (modulus field) ≡ true) → Held (modulus field) f s w v l q)
 
 abbrev μ-loop : tie.MeasureT-loop
-μ-loop field powers logarithms s t w₀ v₀ l₀ q₀ w v l q = t + t - (l + q)
+μ-loop field tables s t w₀ v₀ l₀ q₀ w v l q = t + t - (l + q)
 
 -- p names a field; what the arrays hold are symbols
 named : (c : tie.At-loop Inv-loop μ-loop) → isField (modulus (c .before .args .field)) ≡ true

@@ -13,10 +13,10 @@ use Rattle.decode.proofs.locator.scaled.Statement.{statement}
 use Rattle.decode.proofs.locator.scaled.Tie as tie
 
 abbrev Inv-loop : tie.InvT-loop
-Inv-loop field powers logarithms d w size out₀ x₀ out x = Filled 255 size (λ y. mul (modulus field) d (getD w y 0)) x out
+Inv-loop field tables d w size out₀ x₀ out x = Filled 255 size (λ y. mul (modulus field) d (getD w y 0)) x out
 
 abbrev μ-loop : tie.MeasureT-loop
-μ-loop field powers logarithms d w size out₀ x₀ out x = size - x
+μ-loop field tables d w size out₀ x₀ out x = size - x
 
 loop-holds : tie.Need-loop-holds Inv-loop μ-loop
 unfolding zeros

@@ -27,12 +27,12 @@ abbrev vanishes : ℕ → ℕ → List ℕ → ℕ → Bool
 vanishes p root cs j = eqb (polyAt p cs (power p root j)) 0
 
 abbrev Inv-loop : tie.InvT-loop
-Inv-loop field powers logarithms root coefficients n nodes₀ count₀ x₀ j₀ nodes count x j =
+Inv-loop field tables root coefficients n nodes₀ count₀ x₀ j₀ nodes count x j =
     let is = vanishes (modulus field) root coefficients in
     (count ≤ j) × (j ≤ n) × (x ≡ power (modulus field) root j) × Fills (zeros 255) nodes count (passingFrom (n - j) j is) (passingFrom n 0 is)
 
 abbrev μ-loop : tie.MeasureT-loop
-μ-loop field powers logarithms root coefficients n nodes₀ count₀ x₀ j₀ nodes count x j = n - j
+μ-loop field tables root coefficients n nodes₀ count₀ x₀ j₀ nodes count x j = n - j
 
 -- x is a symbol
 symbol : (c : tie.At-loop Inv-loop μ-loop) → c .loop .x < sizeOf (modulus (c .before .before .args .field))

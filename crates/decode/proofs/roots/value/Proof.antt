@@ -16,10 +16,10 @@ use Rattle.decode.proofs.roots.value.Statement.{statement}
 use Rattle.decode.proofs.roots.value.Tie as tie
 
 abbrev Inv-loop : tie.InvT-loop
-Inv-loop field powers logarithms coefficients x sum₀ i₀ sum i = (i ≤ length coefficients) × (sum ≡ polyAt (modulus field) (drop i coefficients) x)
+Inv-loop field tables coefficients x sum₀ i₀ sum i = (i ≤ length coefficients) × (sum ≡ polyAt (modulus field) (drop i coefficients) x)
 
 abbrev μ-loop : tie.MeasureT-loop
-μ-loop field powers logarithms coefficients x sum₀ i₀ sum i = i
+μ-loop field tables coefficients x sum₀ i₀ sum i = i
 
 -- the sum is a symbol
 symbol : (c : tie.At-loop Inv-loop μ-loop) → c .loop .sum < sizeOf (modulus (c .before .before .args .field))

@@ -31,5 +31,4 @@ returns-2 c = rw (c .before .before .self2 .given .1) (c .add2 .ensures)
 
 pub add-spec : {M : Type 1} → statement M
 add-spec =
-    tie.close
-    (tie.spec enum-known-self add-requires enum-known-self-2 add-requires-2 returns returns-2)
+    tie.close (tie.spec enum-known-self add-requires enum-known-self-2 add-requires-2 returns returns-2)

@@ -34,5 +34,4 @@ returns-2 c = rw (c .before .before .self2 .given .1) (c .mul-with .ensures)
 
 pub mul-with-spec : {M : Type 1} → statement M
 mul-with-spec =
-    tie.close
-    (tie.spec enum-known-self mul-requires enum-known-self-2 mul-with-requires returns returns-2)
+    tie.close (tie.spec enum-known-self mul-requires enum-known-self-2 mul-with-requires returns returns-2)

@@ -31,5 +31,4 @@ returns-2 c = rw (c .before .before .self2 .given .1) (c .sub2 .ensures)
 
 pub sub-spec : {M : Type 1} → statement M
 sub-spec =
-    tie.close
-    (tie.spec enum-known-self sub-requires enum-known-self-2 sub-requires-2 returns returns-2)
+    tie.close (tie.spec enum-known-self sub-requires enum-known-self-2 sub-requires-2 returns returns-2)

@@ -12,17 +12,17 @@ use Rattle.interpolation.proofs.lagrange.basis_values.Statement.{statem
 use Rattle.interpolation.proofs.lagrange.basis_values.Tie as tie
 
 abbrev Inv-loop : tie.InvT-loop
-Inv-loop field points z out₀ i₀ out i = Filled 255 (length points) (λ j. basisAt (modulus field) points j z) i out
+Inv-loop field tables points z out₀ i₀ out i = Filled 255 (length points) (λ j. basisAt (modulus field) points j z) i out
 
 abbrev μ-loop : tie.MeasureT-loop
-μ-loop field points z out₀ i₀ out i = length points - i
+μ-loop field tables points z out₀ i₀ out i = length points - i
 
 loop-holds : tie.Need-loop-holds Inv-loop μ-loop
 unfolding zeros
 loop-holds c = filled-start 255 _ _ (c .before .pre .0 .short)
 
 basis-at-requires : tie.Need-basis-at-requires Inv-loop μ-loop
-basis-at-requires c κs = let s = c .before .before .before .pre in (s .0, c .loop-test .taken, s .1)
+basis-at-requires c κs = let s = c .before .before .before .pre in (s .0, c .loop-test .taken, s .1, s .2)
 
 cast-out : tie.Need-cast-out Inv-loop μ-loop
 cast-out c =

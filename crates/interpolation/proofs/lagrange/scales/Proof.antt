@@ -12,23 +12,23 @@ use Rattle.interpolation.proofs.lagrange.scales.Statement.{statement}
 use Rattle.interpolation.proofs.lagrange.scales.Tie as tie
 
 abbrev Inv-loop : tie.InvT-loop
-Inv-loop field points out₀ i₀ out i = Filled 255 (length points) (scaleAt (modulus field) points) i out
+Inv-loop field tables points out₀ i₀ out i = Filled 255 (length points) (scaleAt (modulus field) points) i out
 
 abbrev μ-loop : tie.MeasureT-loop
-μ-loop field points out₀ i₀ out i = length points - i
+μ-loop field tables points out₀ i₀ out i = length points - i
 
 loop-holds : tie.Need-loop-holds Inv-loop μ-loop
 unfolding zeros
-loop-holds c = filled-start 255 _ _ (c .before .pre .short)
+loop-holds c = filled-start 255 _ _ (c .before .pre .0 .short)
 
 scale-at-requires : tie.Need-scale-at-requires Inv-loop μ-loop
-scale-at-requires c κs = (c .before .before .before .pre, c .loop-test .taken)
+scale-at-requires c κs = let s = c .before .before .before .pre in (s .0, c .loop-test .taken, s .1)
 
 cast-out : tie.Need-cast-out Inv-loop μ-loop
 cast-out c =
     let s = c .before .before .before .before .pre in
-    let low = scaleAt-below _ (usable-field _ (s .usable-field)) _ _ (s .below) (c .before .loop-test .taken) in
-    omega (arith, c .scale-at .ensures, size-fits _ (s .usable-field))
+    let low = scaleAt-below _ (usable-field _ (s .0 .usable-field)) _ _ (s .0 .below) (c .before .loop-test .taken) in
+    omega (arith, c .scale-at .ensures, size-fits _ (s .0 .usable-field))
 
 mul-out : tie.Need-mul-out Inv-loop μ-loop
 mul-out c = omega arith

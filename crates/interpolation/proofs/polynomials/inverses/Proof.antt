@@ -16,14 +16,14 @@ use Rattle.interpolation.proofs.polynomials.inverses.Statement.{stateme
 use Rattle.interpolation.proofs.polynomials.inverses.Tie as tie
 
 abbrev Inv-loop : tie.InvT-loop
-Inv-loop field coefficients out₀ i₀ out i = Filled 255 (length coefficients) (λ j. inverse (modulus field) (getD coefficients j 0)) i out
+Inv-loop field tables coefficients out₀ i₀ out i = Filled 255 (length coefficients) (λ j. inverse (modulus field) (getD coefficients j 0)) i out
 
 abbrev μ-loop : tie.MeasureT-loop
-μ-loop field coefficients out₀ i₀ out i = length coefficients - i
+μ-loop field tables coefficients out₀ i₀ out i = length coefficients - i
 
 loop-holds : tie.Need-loop-holds Inv-loop μ-loop
 unfolding zeros
-loop-holds c = filled-start 255 _ _ (c .before .pre .short)
+loop-holds c = filled-start 255 _ _ (c .before .pre .0 .short)
 
 mul-c : tie.Need-mul-c Inv-loop μ-loop
 mul-c c = omega arith
@@ -38,17 +38,17 @@ cast-c c = omega (arith, c .shared-slice-known2 .given (c .before .before .loop 
 turn : (c : tie.In-loop Inv-loop μ-loop)
     → let a = c .before .before .before .args in
     getD (a .coefficients .now) (c .before .loop .i) 0 < sizeOf (modulus (a .field))
-turn c = below-at _ _ (c .before .before .before .pre .below) _ (c .loop-test .taken)
+turn c = below-at _ _ (c .before .before .before .pre .0 .below) _ (c .loop-test .taken)
 
-inverse-requires : tie.Need-inverse-requires Inv-loop μ-loop
-inverse-requires c κs = (c .before .before .before .before .pre .usable-field, turn (c .before))
+inverse-with-requires : tie.Need-inverse-with-requires Inv-loop μ-loop
+inverse-with-requires c κs = let s = c .before .before .before .before .pre in (s .0 .usable-field, turn (c .before), s .1)
 
 cast-out : tie.Need-cast-out Inv-loop μ-loop
 cast-out c =
     let s = c .before .before .before .before .before .pre in
     let t = turn (c .before .before) in
-    let low = inverse-below _ (usable-field _ (s .usable-field)) t in
-    omega (arith, c .inverse .ensures, size-fits _ (s .usable-field))
+    let low = inverse-below _ (usable-field _ (s .0 .usable-field)) t in
+    omega (arith, c .inverse-with .ensures, size-fits _ (s .0 .usable-field))
 
 mul-out : tie.Need-mul-out Inv-loop μ-loop
 mul-out c = omega arith
@@ -63,7 +63,7 @@ loop-less : tie.Need-loop-less Inv-loop μ-loop
 loop-less c = omega arith
 
 loop-again : tie.Need-loop-again Inv-loop μ-loop
-loop-again c = filled-put (c .before .before .before .loop .inv) (c .before .before .loop-test .taken) (c .inverse .ensures)
+loop-again c = filled-put (c .before .before .before .loop .inv) (c .before .before .loop-test .taken) (c .inverse-with .ensures)
 
 returns : tie.Need-returns Inv-loop μ-loop
 unfolding inversesOf
@@ -73,4 +73,4 @@ returns c =
 
 pub inverses-spec : {M : Type 1} → statement M
 inverses-spec =
-    tie.close (tie.spec Inv-loop μ-loop loop-holds mul-c shared-slice-read-c cast-c inverse-requires cast-out mul-out array-write-out add-i loop-less loop-again returns)
+    tie.close (tie.spec Inv-loop μ-loop loop-holds mul-c shared-slice-read-c cast-c inverse-with-requires cast-out mul-out array-write-out add-i loop-less loop-again returns)

@@ -1,5 +1,5 @@
 -- `times_linear` meets its contract. Invariant: the first i coefficients are written, and `last` is carried over to the next.
-use mathlib.Core.Path.{_≡_, refl, _∙_}
+use mathlib.Core.Path.{_≡_}
 use Prim.Native.Nat.{_-_, _≤_, _<_}
 use native.Mathlib.Omega.{arith}
 use lib.ListN.{length, getD, drop}
@@ -16,13 +16,13 @@ use Rattle.interpolation.proofs.polynomials.times_linear.Statement.{sta
 use Rattle.interpolation.proofs.polynomials.times_linear.Tie as tie
 
 abbrev Inv-loop : tie.InvT-loop
-Inv-loop field powers logarithms a coefficients₀ last₀ i₀ coefficients last i =
+Inv-loop field tables a coefficients₀ last₀ i₀ coefficients last i =
     (i ≤ length coefficients₀)
     × (last < sizeOf (modulus field))
     × Fills coefficients₀ coefficients i (carried (modulus field) a last (drop i coefficients₀)) (carried (modulus field) a 0 coefficients₀)
 
 abbrev μ-loop : tie.MeasureT-loop
-μ-loop field powers logarithms a coefficients₀ last₀ i₀ coefficients last i = length coefficients₀ - i
+μ-loop field tables a coefficients₀ last₀ i₀ coefficients last i = length coefficients₀ - i
 
 -- there is a place i, and it holds what it held, a symbol
 turn : (c : tie.In-loop Inv-loop μ-loop)

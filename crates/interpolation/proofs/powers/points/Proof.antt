@@ -15,10 +15,10 @@ use Rattle.interpolation.proofs.powers.points.Statement.{statement}
 use Rattle.interpolation.proofs.powers.points.Tie as tie
 
 abbrev Inv-loop : tie.InvT-loop
-Inv-loop field root places offset out₀ i₀ out i = Filled 255 (length places) (λ j. power (modulus field) root (getD places j 0 + offset)) i out
+Inv-loop field tables root places offset out₀ i₀ out i = Filled 255 (length places) (λ j. power (modulus field) root (getD places j 0 + offset)) i out
 
 abbrev μ-loop : tie.MeasureT-loop
-μ-loop field root places offset out₀ i₀ out i = length places - i
+μ-loop field tables root places offset out₀ i₀ out i = length places - i
 
 loop-holds : tie.Need-loop-holds Inv-loop μ-loop
 unfolding zeros
@@ -34,7 +34,7 @@ add-power : tie.Need-add-power Inv-loop μ-loop
 add-power c = omega (arith, c .shared-slice-known2 .given (c .before .before .loop .i))
 
 power-requires : tie.Need-power-requires Inv-loop μ-loop
-power-requires c κs = let s = c .before .before .before .before .pre in (s .0, s .1)
+power-requires c κs = let s = c .before .before .before .before .pre in (s .0, s .1, s .4)
 
 cast-out : tie.Need-cast-out Inv-loop μ-loop
 cast-out c =

@@ -33,5 +33,4 @@ returns c =
 
 pub lane-spec : {M : Type 1} → statement M
 lane-spec =
-    tie.close
-    (tie.spec times-requires add-reduced reduced-requires cast-result returns)
+    tie.close (tie.spec times-requires add-reduced reduced-requires cast-result returns)

@@ -29,5 +29,4 @@ returns c = c .reduced .ensures ∙ known (c .before) .same
 
 pub times-spec : {M : Type 1} → statement M
 times-spec =
-    tie.close
-    (tie.spec mul-reduced mul-reduced-2 mul-reduced-3 sub-reduced reduced-requires returns)
+    tie.close (tie.spec mul-reduced mul-reduced-2 mul-reduced-3 sub-reduced reduced-requires returns)

@@ -147,38 +147,4 @@ returns-2 c =
 
 pub add-products-spec : {M : Type 1} → statement M
 add-products-spec =
-    tie.close
-    (tie.spec
-    Inv-loop
-    μ-loop
-    returns
-    loop-holds
-    shared-slice-read-symbol
-    shared-slice-read-symbol-2
-    symbol-requires
-    lower-requires
-    upper-requires
-    mul-wrapping-add-u16
-    element-copy-out-wrapping-add-u16
-    wrapping-add-u16-requires
-    mul-a
-    element-write-a
-    mul-wrapping-add-u16-2
-    element-copy-out-wrapping-add-u16-2
-    wrapping-add-u16-requires-2
-    mul-b
-    element-write-b
-    mul-wrapping-add-u16-3
-    element-copy-out-wrapping-add-u16-3
-    wrapping-add-u16-requires-3
-    mul-c
-    element-write-c
-    mul-wrapping-add-u16-4
-    element-copy-out-wrapping-add-u16-4
-    wrapping-add-u16-requires-4
-    mul-d
-    element-write-d
-    add-t
-    loop-less
-    loop-again
-    returns-2)
+    tie.close (tie.spec Inv-loop μ-loop returns loop-holds shared-slice-read-symbol shared-slice-read-symbol-2 symbol-requires lower-requires upper-requires mul-wrapping-add-u16 element-copy-out-wrapping-add-u16 wrapping-add-u16-requires mul-a element-write-a mul-wrapping-add-u16-2 element-copy-out-wrapping-add-u16-2 wrapping-add-u16-requires-2 mul-b element-write-b mul-wrapping-add-u16-3 element-copy-out-wrapping-add-u16-3 wrapping-add-u16-requires-3 mul-c element-write-c mul-wrapping-add-u16-4 element-copy-out-wrapping-add-u16-4 wrapping-add-u16-requires-4 mul-d element-write-d add-t loop-less loop-again returns-2)

@@ -32,5 +32,4 @@ returns c = ap₂ (λ (x y : ℕ). (x * 65536 + y) % c .before .before .args .p)
 
 pub remainder-spec : {M : Type 1} → statement M
 remainder-spec =
-    tie.close
-    (tie.spec total-requires mul-result total-requires-2 add-result rem-result cast-result returns)
+    tie.close (tie.spec total-requires mul-result total-requires-2 add-result rem-result cast-result returns)

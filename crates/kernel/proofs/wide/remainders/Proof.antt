@@ -67,23 +67,4 @@ returns c = filled-end (c .before .loop .inv) (c .loop-test .left)
 
 pub remainders-spec : {M : Type 1} → statement M
 remainders-spec =
-    tie.close
-    (tie.spec
-    Inv-loop
-    μ-loop
-    loop-holds
-    mul-remainder
-    element-copy-out-remainder
-    mul-remainder-2
-    element-copy-out-remainder-2
-    mul-remainder-3
-    element-copy-out-remainder-3
-    mul-remainder-4
-    element-copy-out-remainder-4
-    remainder-requires
-    mul-out
-    array-write-out
-    add-t
-    loop-less
-    loop-again
-    returns)
+    tie.close (tie.spec Inv-loop μ-loop loop-holds mul-remainder element-copy-out-remainder mul-remainder-2 element-copy-out-remainder-2 mul-remainder-3 element-copy-out-remainder-3 mul-remainder-4 element-copy-out-remainder-4 remainder-requires mul-out array-write-out add-t loop-less loop-again returns)

@@ -26,11 +26,4 @@ returns c = (omega (arith, c .wrapping-sub-u16 .ensures), omega arith)
 
 pub total-spec : {M : Type 1} → statement M
 total-spec =
-    tie.close
-    (tie.spec
-    mul-result
-    mul-wrapping-sub-u16
-    wrapping-sub-u16-requires
-    cast-result
-    add-result
-    returns)
+    tie.close (tie.spec mul-result mul-wrapping-sub-u16 wrapping-sub-u16-requires cast-result add-result returns)

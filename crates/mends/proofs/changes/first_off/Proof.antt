@@ -11,22 +11,22 @@ use lib.ListN.{length, getD}
 use Rattle.lists.specs.Search.{firstFalse}
 use Rattle.lists.proofs.Numbers.{below-at}
 use Rattle.lists.proofs.Search.{search-next, search-found, search-end}
+use Rattle.field.specs.declared.Field.{Field}
 use Rattle.field.specs.Fields.{mul}
-use Rattle.generator.specs.declared.Header.{Header}
-use Rattle.generator.specs.Records.{modulusOf}
+use Rattle.field.specs.Kinds.{modulus}
 use Rattle.mends.specs.BySums.{firstOff}
 use Rattle.mends.proofs.changes.first_off.Statement.{statement}
 use Rattle.mends.proofs.changes.first_off.Tie as tie
 
 -- the test at place e
-abbrev step : Header → ℕ → List ℕ → ℕ → Bool
-step h c sums e = eqb (getD sums (e + 1) 0) (mul (modulusOf h) c (getD sums e 0))
+abbrev step : Field → ℕ → List ℕ → ℕ → Bool
+step field c sums e = eqb (getD sums (e + 1) 0) (mul (modulus field) c (getD sums e 0))
 
 abbrev Inv-loop : tie.InvT-loop
-Inv-loop h powers logarithms c sums last e₀ e = (e ≤ length sums - 1) × (firstFalse (length sums - 1 - e) e (step h c sums) ≡ firstOff (modulusOf h) c sums)
+Inv-loop tables c sums field last e₀ e = (e ≤ length sums - 1) × (firstFalse (length sums - 1 - e) e (step field c sums) ≡ firstOff (modulus field) c sums)
 
 abbrev μ-loop : tie.MeasureT-loop
-μ-loop h powers logarithms c sums last e₀ e = length sums - 1 - e
+μ-loop tables c sums field last e₀ e = length sums - 1 - e
 
 sub-last : tie.Need-sub-last Inv-loop μ-loop
 sub-last c = let (has, low, tables) = c .before .pre in omega (arith, has .some)
@@ -35,28 +35,28 @@ loop-holds : tie.Need-loop-holds Inv-loop μ-loop
 unfolding firstOff
 loop-holds c = (omega arith, rw sub-zero)
 
-mul-is-step : tie.Need-mul-is-step Inv-loop μ-loop
-mul-is-step c = omega arith
+mul-is-product : tie.Need-mul-is-product Inv-loop μ-loop
+mul-is-product c = omega arith
 
-shared-slice-read-is-step : tie.Need-shared-slice-read-is-step Inv-loop μ-loop
-shared-slice-read-is-step c = omega arith
+shared-slice-read-is-product : tie.Need-shared-slice-read-is-product Inv-loop μ-loop
+shared-slice-read-is-product c = omega arith
 
-add-is-step : tie.Need-add-is-step Inv-loop μ-loop
-add-is-step c = omega arith
+add-is-product : tie.Need-add-is-product Inv-loop μ-loop
+add-is-product c = omega arith
 
-mul-is-step-2 : tie.Need-mul-is-step-2 Inv-loop μ-loop
-mul-is-step-2 c = omega arith
+mul-is-product-2 : tie.Need-mul-is-product-2 Inv-loop μ-loop
+mul-is-product-2 c = omega arith
 
-shared-slice-read-is-step-2 : tie.Need-shared-slice-read-is-step-2 Inv-loop μ-loop
-shared-slice-read-is-step-2 c = omega arith
+shared-slice-read-is-product-2 : tie.Need-shared-slice-read-is-product-2 Inv-loop μ-loop
+shared-slice-read-is-product-2 c = omega arith
 
-is-step-requires : tie.Need-is-step-requires Inv-loop μ-loop
-is-step-requires c κs =
+is-product-requires : tie.Need-is-product-requires Inv-loop μ-loop
+is-product-requires c κs =
     let (has, low, tables) = c .before .before .before .before .before .pre in
-    (has .sound, low, below-at _ _ (has .symbols) (c .before .before .before .loop .e) (omega arith), tables)
+    (has .sound .usable-field, low, below-at _ _ (has .symbols) (c .before .before .before .loop .e) (omega arith), tables)
 
 returns : tie.Need-returns Inv-loop μ-loop
-returns c = sym (search-found _ _ _ (c .before .before .before .before .loop-test .taken) (sym (c .before .is-step .ensures) ∙ not-true _ (c .if1 .taken))) ∙ c .before .before .before .before .before .loop .inv .1
+returns c = sym (search-found _ _ _ (c .before .before .before .before .loop-test .taken) (sym (c .before .is-product .ensures) ∙ not-true _ (c .if1 .taken))) ∙ c .before .before .before .before .before .loop .inv .1
 
 add-e : tie.Need-add-e Inv-loop μ-loop
 add-e c = omega arith
@@ -65,11 +65,11 @@ loop-less : tie.Need-loop-less Inv-loop μ-loop
 loop-less c = omega arith
 
 loop-again : tie.Need-loop-again Inv-loop μ-loop
-loop-again c = (omega arith, sym (search-next _ _ _ (c .before .before .before .before .loop-test .taken) (sym (c .before .is-step .ensures) ∙ not-false _ (c .if1 .left))) ∙ c .before .before .before .before .before .loop .inv .1)
+loop-again c = (omega arith, sym (search-next _ _ _ (c .before .before .before .before .loop-test .taken) (sym (c .before .is-product .ensures) ∙ not-false _ (c .if1 .left))) ∙ c .before .before .before .before .before .loop .inv .1)
 
 returns-2 : tie.Need-returns-2 Inv-loop μ-loop
 returns-2 c = sym (search-end _ _ _ (c .loop-test .left)) ∙ c .before .loop .inv .1
 
 pub first-off-spec : {M : Type 1} → statement M
 first-off-spec =
-    tie.close (tie.spec Inv-loop μ-loop sub-last loop-holds mul-is-step shared-slice-read-is-step add-is-step mul-is-step-2 shared-slice-read-is-step-2 is-step-requires returns add-e loop-less loop-again returns-2)
+    tie.close (tie.spec Inv-loop μ-loop sub-last loop-holds mul-is-product shared-slice-read-is-product add-is-product mul-is-product-2 shared-slice-read-is-product-2 is-product-requires returns add-e loop-less loop-again returns-2)

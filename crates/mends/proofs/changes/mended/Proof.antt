@@ -25,7 +25,7 @@ read : (c : tie.After-shared-slice-known5)
     → let a = c .before .before .before .before .before .before .args in
     getD (a .roots .now) ((a .h .n - a .j) % a .h .n) 0 ≡ power (modulusOf (a .h)) (a .h .root) ((a .h .n - a .j) % a .h .n)
 read c =
-    let (has, table, node) = c .before .before .before .before .before .before .pre in
+    let (has, table, node, tables) = c .before .before .before .before .before .before .pre in
     rw table (power-at _ _ (inside _ _ node))
 
 -- and the first check sum are symbols
@@ -33,23 +33,23 @@ read-below : (c : tie.After-shared-slice-known5)
     → let a = c .before .before .before .before .before .before .args in
     getD (a .roots .now) ((a .h .n - a .j) % a .h .n) 0 < size (a .h)
 read-below c =
-    let (has, table, node) = c .before .before .before .before .before .before .pre in
+    let (has, table, node, tables) = c .before .before .before .before .before .before .pre in
     let s = has .has .sound in
     rw (read c) (power-below _ (s .field) _ (s .root-below))
 
 sum-below : (c : tie.After-shared-slice-known5) → let a = c .before .before .before .before .before .before .args in getD (a .sums .now) 0 0 < size (a .h)
 sum-below c =
-    let (has, table, node) = c .before .before .before .before .before .before .pre in
+    let (has, table, node, tables) = c .before .before .before .before .before .before .pre in
     below-at _ _ (has .has .symbols) 0 (has .has .some)
 
-amount-below : (c : tie.After-mul) → c .mul .result < size (c .before .before .before .before .before .before .before .args .h)
+amount-below : (c : tie.After-mul-with) → c .mul-with .result < size (c .before .before .before .before .before .before .before .args .h)
 amount-below c =
-    let (has, table, node) = c .before .before .before .before .before .before .before .pre in
-    rw (c .mul .ensures) (mul-below _ (has .has .sound .field) (sum-below (c .before)) (read-below (c .before)))
+    let (has, table, node, tables) = c .before .before .before .before .before .before .before .pre in
+    rw (c .mul-with .ensures) (mul-below _ (has .has .sound .field) (sum-below (c .before)) (read-below (c .before)))
 
 held-below : (c : tie.After-shared-slice-known6) → let a = c .before .before .before .before .before .before .before .before .args in getD (a .lane .now) (a .j) 0 < size (a .h)
 held-below c =
-    let (has, table, node) = c .before .before .before .before .before .before .before .before .pre in
+    let (has, table, node, tables) = c .before .before .before .before .before .before .before .before .pre in
     below-at _ _ (has .lane .symbols) _ (omega (arith, has .lane .long))
 
 result-is : (c : tie.After-sub) → let a = c .before .before .before .before .before .before .before .before .before .args in c .sub .result ≡ mendedAt (a .h) (a .lane .now) (a .sums .now) (a .j)
@@ -57,7 +57,7 @@ unfolding mendedAt
 result-is c =
     let a = c .before .before .before .before .before .before .before .before .before .args in
     c .sub .ensures
-    ∙ ap (sub (modulusOf (a .h)) (getD (a .lane .now) (a .j) 0)) (c .before .before .mul .ensures ∙ ap (mul (modulusOf (a .h)) (getD (a .sums .now) 0 0)) (read (c .before .before .before)))
+    ∙ ap (sub (modulusOf (a .h)) (getD (a .lane .now) (a .j) 0)) (c .before .before .mul-with .ensures ∙ ap (mul (modulusOf (a .h)) (getD (a .sums .now) 0 0)) (read (c .before .before .before)))
 
 cast-n : tie.Need-cast-n
 cast-n c = search needs
@@ -68,45 +68,45 @@ sub-back c = search needs
 rem-back : tie.Need-rem-back
 rem-back c = search needs
 
-shared-slice-read-mul : tie.Need-shared-slice-read-mul
-shared-slice-read-mul c = let (has, table, node) = c .before .before .before .before .before .pre in has .has .some
+shared-slice-read-mul-with : tie.Need-shared-slice-read-mul-with
+shared-slice-read-mul-with c = let (has, table, node, tables) = c .before .before .before .before .before .pre in has .has .some
 
-cast-mul : tie.Need-cast-mul
-cast-mul c = omega (arith, c .shared-slice-known4 .given 0)
+cast-mul-with : tie.Need-cast-mul-with
+cast-mul-with c = omega (arith, c .shared-slice-known4 .given 0)
 
-mul-mul : tie.Need-mul-mul
-mul-mul c = let (has, table, node) = c .before .before .before .before .before .pre in omega (arith, inside _ _ node)
+mul-mul-with : tie.Need-mul-mul-with
+mul-mul-with c = let (has, table, node, tables) = c .before .before .before .before .before .pre in omega (arith, inside _ _ node)
 
-shared-slice-read-mul-2 : tie.Need-shared-slice-read-mul-2
-shared-slice-read-mul-2 c =
-    let (has, table, node) = c .before .before .before .before .before .before .pre in
+shared-slice-read-mul-with-2 : tie.Need-shared-slice-read-mul-with-2
+shared-slice-read-mul-with-2 c =
+    let (has, table, node, tables) = c .before .before .before .before .before .before .pre in
     rw table (power-place _ _ (inside _ _ node))
 
-cast-mul-2 : tie.Need-cast-mul-2
-cast-mul-2 c = let a = c .before .before .before .before .before .before .args in omega (arith, c .shared-slice-known5 .given ((a .h .n - a .j) % a .h .n))
+cast-mul-with-2 : tie.Need-cast-mul-with-2
+cast-mul-with-2 c = let a = c .before .before .before .before .before .before .args in omega (arith, c .shared-slice-known5 .given ((a .h .n - a .j) % a .h .n))
 
-mul-requires : tie.Need-mul-requires
-mul-requires c κs =
-    let (has, table, node) = c .before .before .before .before .before .before .pre in
-    (has .has .sound .usable-field, sum-below c, read-below c)
+mul-with-requires : tie.Need-mul-with-requires
+mul-with-requires c κs =
+    let (has, table, node, tables) = c .before .before .before .before .before .before .pre in
+    (has .has .sound .usable-field, sum-below c, read-below c, tables)
 
 mul-sub : tie.Need-mul-sub
 mul-sub c = search needs
 
 shared-slice-read-sub : tie.Need-shared-slice-read-sub
-shared-slice-read-sub c = let (has, table, node) = c .before .before .before .before .before .before .before .before .pre in omega (arith, has .lane .long)
+shared-slice-read-sub c = let (has, table, node, tables) = c .before .before .before .before .before .before .before .before .pre in omega (arith, has .lane .long)
 
 cast-sub : tie.Need-cast-sub
 cast-sub c = omega (arith, c .shared-slice-known6 .given (c .before .before .before .before .before .before .before .before .args .j))
 
 sub-requires : tie.Need-sub-requires
 sub-requires c κs =
-    let (has, table, node) = c .before .before .before .before .before .before .before .before .pre in
+    let (has, table, node, tables) = c .before .before .before .before .before .before .before .before .pre in
     (has .has .sound .usable-field, held-below c, amount-below (c .before))
 
 cast-result : tie.Need-cast-result
 cast-result c =
-    let (has, table, node) = c .before .before .before .before .before .before .before .before .before .pre in
+    let (has, table, node, tables) = c .before .before .before .before .before .before .before .before .before .pre in
     omega (arith, result-is c, mended-below _ _ _ has _ node, size-fits _ (has .has .sound .usable-field))
 
 returns : tie.Need-returns
@@ -114,4 +114,4 @@ returns c = result-is c
 
 pub mended-spec : {M : Type 1} → statement M
 mended-spec =
-    tie.close (tie.spec cast-n sub-back rem-back shared-slice-read-mul cast-mul mul-mul shared-slice-read-mul-2 cast-mul-2 mul-requires mul-sub shared-slice-read-sub cast-sub sub-requires cast-result returns)
+    tie.close (tie.spec cast-n sub-back rem-back shared-slice-read-mul-with cast-mul-with mul-mul-with shared-slice-read-mul-with-2 cast-mul-with-2 mul-with-requires mul-sub shared-slice-read-sub cast-sub sub-requires cast-result returns)

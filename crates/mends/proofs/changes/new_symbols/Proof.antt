@@ -1,6 +1,6 @@
 -- `new_symbols` meets its contract. Invariant: the symbols of the nodes below place i are written.
 use mathlib.Core.Path.{ap, _∙_, sym}
-use Prim.Native.Nat.{ℕ, _-_, _≤_}
+use Prim.Native.Nat.{_-_}
 use native.Mathlib.Omega.{arith}
 use lib.ListN.{length, getD}
 use Rattle.lists.specs.Padded.{zeros, padded}
@@ -12,14 +12,14 @@ use Rattle.mends.proofs.changes.new_symbols.Statement.{statement}
 use Rattle.mends.proofs.changes.new_symbols.Tie as tie
 
 abbrev Inv-loop : tie.InvT-loop
-Inv-loop h roots lane sums nodes out₀ i₀ out i = Filled 255 (length nodes) (λ t. mendedAt h lane sums (getD nodes t 0)) i out
+Inv-loop h tables roots lane sums nodes out₀ i₀ out i = Filled 255 (length nodes) (λ t. mendedAt h lane sums (getD nodes t 0)) i out
 
 abbrev μ-loop : tie.MeasureT-loop
-μ-loop h roots lane sums nodes out₀ i₀ out i = length nodes - i
+μ-loop h tables roots lane sums nodes out₀ i₀ out i = length nodes - i
 
 loop-holds : tie.Need-loop-holds Inv-loop μ-loop
 unfolding zeros
-loop-holds c = let (has, table, nodes, few) = c .before .before .before .before .pre in filled-start 255 _ _ few
+loop-holds c = let (has, table, nodes, few, tables) = c .before .before .before .before .pre in filled-start 255 _ _ few
 
 shared-slice-read-mended : tie.Need-shared-slice-read-mended Inv-loop μ-loop
 shared-slice-read-mended c = omega arith
@@ -29,14 +29,14 @@ cast-mended c = omega (arith, c .shared-slice-known5 .given (c .before .before .
 
 mended-requires : tie.Need-mended-requires Inv-loop μ-loop
 mended-requires c κs =
-    let (has, table, nodes, few) = c .before .before .before .before .before .before .before .pre in
-    (has, table, below-at _ _ nodes _ (c .before .loop-test .taken))
+    let (has, table, nodes, few, tables) = c .before .before .before .before .before .before .before .pre in
+    (has, table, below-at _ _ nodes _ (c .before .loop-test .taken), tables)
 
 mul-out : tie.Need-mul-out Inv-loop μ-loop
-mul-out c = let (has, table, nodes, few) = c .before .before .before .before .before .before .before .before .pre in omega arith
+mul-out c = let (has, table, nodes, few, tables) = c .before .before .before .before .before .before .before .before .pre in omega arith
 
 array-write-out : tie.Need-array-write-out Inv-loop μ-loop
-array-write-out c = let (has, table, nodes, few) = c .before .before .before .before .before .before .before .before .pre in omega arith
+array-write-out c = let (has, table, nodes, few, tables) = c .before .before .before .before .before .before .before .before .pre in omega arith
 
 add-i : tie.Need-add-i Inv-loop μ-loop
 add-i c = omega arith

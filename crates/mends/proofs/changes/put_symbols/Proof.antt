@@ -1,13 +1,12 @@
 -- `put_symbols` meets its contract: the new symbols as bytes, at the front of the buffer.
 use mathlib.Core.Path.{_≡_, sym, ap, _∙_}
 use mathlib.Core.List.{map}
-use Prim.Native.Nat.{ℕ, _*_, _^_, _≤_}
+use Prim.Native.Nat.{ℕ, _*_, _≤_}
 use native.Mathlib.Nat.{mul-le-mul, mul-le-mul-right}
 use native.Mathlib.Omega.{arith}
 use borrow.Author.Needs.{needs}
 use lib.ListN.{length, take, length-map}
 use lib.Seq.{length-take-le}
-use Rattle.lists.specs.Numbers.{allBelow}
 use Rattle.lists.proofs.Padding.{take-padded}
 use Rattle.layout.specs.Width.{bytesOf}
 use Rattle.generator.specs.Records.{width}
@@ -34,28 +33,28 @@ length-part c =
 -- its bytes fit the buffer
 room : (c : tie.After-width-of) → let a = c .before .before .before .before .before .before .before .args in length (a .nodes .now) * c .width-of .result ≤ length (a .symbols .now)
 room c =
-    let (has, table, nodes, few, small, long) = c .before .before .before .before .before .before .before .pre in
+    let (has, table, nodes, few, small, long, tables) = c .before .before .before .before .before .before .before .pre in
     rw (c .width-of .ensures .0, long) (mul-le-mul-right _ few)
 
 new-symbols-requires : tie.Need-new-symbols-requires
 new-symbols-requires c κs =
-    let (has, table, nodes, few, small, long) = c .before .before .before .before .before .pre in
-    (has, table, nodes, omega arith)
+    let (has, table, nodes, few, small, long, tables) = c .before .before .before .before .before .pre in
+    (has, table, nodes, omega arith, tables)
 
 width-of-requires : tie.Need-width-of-requires
 width-of-requires c κs =
-    let (has, table, nodes, few, small, long) = c .before .before .before .before .before .before .pre in
+    let (has, table, nodes, few, small, long, tables) = c .before .before .before .before .before .before .pre in
     has .has .sound .usable-field
 
 mul-end : tie.Need-mul-end
 mul-end c =
-    let (has, table, nodes, few, small, long) = c .before .before .before .before .before .before .before .pre in
+    let (has, table, nodes, few, small, long, tables) = c .before .before .before .before .before .before .before .pre in
     let most : length (c .before .before .before .before .before .before .before .args .nodes .now) ≤ 255 = omega arith in
     omega (arith, mul-le-mul most (c .width-of .ensures .2))
 
 array-share-prefix-out : tie.Need-array-share-prefix-out
 array-share-prefix-out c =
-    let (has, table, nodes, few, small, long) = c .before .before .before .before .before .before .before .pre in
+    let (has, table, nodes, few, small, long, tables) = c .before .before .before .before .before .before .before .pre in
     omega arith
 
 slice-aggregate-write-symbols : tie.Need-slice-aggregate-write-symbols
@@ -69,7 +68,7 @@ slice-aggregate-write-symbols-2 c = sym (length-take-le _ _ (room (c .before .be
 
 write-symbols-requires : tie.Need-write-symbols-requires
 write-symbols-requires c κs =
-    let (has, table, nodes, few, small, long) = c .before .before .before .before .before .before .before .before .before .pre in
+    let (has, table, nodes, few, small, long, tables) = c .before .before .before .before .before .before .before .before .before .pre in
     let (is, some, two) = c .before .before .width-of .ensures in (
       some,
       two,

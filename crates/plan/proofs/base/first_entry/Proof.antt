@@ -15,14 +15,14 @@ use Rattle.plan.proofs.base.first_entry.Statement.{statement}
 use Rattle.plan.proofs.base.first_entry.Tie as tie
 
 abbrev Inv-loop : tie.InvT-loop
-Inv-loop powers logarithms field root count x product₀ y₀ i₀ product y i =
+Inv-loop tables field root count x product₀ y₀ i₀ product y i =
     (i ≤ count)
     × (product < sizeOf (modulus field))
     × (y ≡ power (modulus field) root i)
     × ((h : Header) → h .field ≡ field → h .root ≡ root → product ≡ baseFrom i h x)
 
 abbrev μ-loop : tie.MeasureT-loop
-μ-loop powers logarithms field root count x product₀ y₀ i₀ product y i = count - i
+μ-loop tables field root count x product₀ y₀ i₀ product y i = count - i
 
 sub-count : tie.Need-sub-count Inv-loop μ-loop
 sub-count c = omega (arith, c .before .pre .0 .some)
@@ -31,7 +31,7 @@ cast-power : tie.Need-cast-power Inv-loop μ-loop
 cast-power c = omega arith
 
 power-requires : tie.Need-power-requires Inv-loop μ-loop
-power-requires c κs = let s = c .before .pre .0 in (s .usable-field, s .root-below)
+power-requires c κs = let s = c .before .pre in (s .0 .usable-field, s .0 .root-below, s .1)
 
 loop-holds : tie.Need-loop-holds Inv-loop μ-loop
 unfolding power baseFrom

@@ -23,5 +23,4 @@ returns c = search needs
 
 pub apply-spec : {M : Type 1} → statement M
 apply-spec =
-    tie.close
-    (tie.spec groups-of-requires load-requires outputs-requires same-length same-length-2 returns)
+    tie.close (tie.spec groups-of-requires load-requires outputs-requires same-length same-length-2 returns)

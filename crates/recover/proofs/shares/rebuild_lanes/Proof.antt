@@ -43,15 +43,4 @@ returns-2 c = search needs
 
 pub rebuild-lanes-spec : {M : Type 1} → statement M
 rebuild-lanes-spec =
-    tie.close
-    (tie.spec
-    small-scratch-requires
-    slice-aggregate-fill-share
-    fill-share-requires
-    same-length
-    returns
-    scratch-requires
-    slice-aggregate-fill-share-2
-    fill-share-requires-2
-    same-length-2
-    returns-2)
+    tie.close (tie.spec small-scratch-requires slice-aggregate-fill-share fill-share-requires same-length returns scratch-requires slice-aggregate-fill-share-2 fill-share-requires-2 same-length-2 returns-2)

@@ -9,8 +9,8 @@ use Rattle.interpolation.proofs.Coefficients.{quotientOf-below}
 use Rattle.recovery.proofs.rows.row_weight.Statement.{statement}
 use Rattle.recovery.proofs.rows.row_weight.Tie as tie
 
-quotient-sum-with-requires : tie.Need-quotient-sum-with-requires
-quotient-sum-with-requires c κs = search needs
+quotient-sum-requires : tie.Need-quotient-sum-requires
+quotient-sum-requires c κs = search needs
 
 mul-with-requires : tie.Need-mul-with-requires
 mul-with-requires c κs = search needs
@@ -21,13 +21,13 @@ mul-with-requires-2 c κs =
     let v = usable-field _ (s .0 .usable-field) in (
       s .0 .usable-field,
       rw (c .mul-with .ensures) (mul-below _ v (s .3) (s .5)),
-      rw (c .before .quotient-sum-with .ensures) (dot-below _ v _ _ (s .1 .below) (quotientOf-below _ v _ _ (s .4) (s .0 .below))),
+      rw (c .before .quotient-sum .ensures) (dot-below _ v _ _ (s .1 .below) (quotientOf-below _ v _ _ (s .4) (s .0 .below))),
       s .6,
     )
 
 returns : tie.Need-returns
 unfolding weightOf
-returns c = c .mul-with2 .ensures ∙ rw (c .before .mul-with .ensures, c .before .before .quotient-sum-with .ensures)
+returns c = c .mul-with2 .ensures ∙ rw (c .before .mul-with .ensures, c .before .before .quotient-sum .ensures)
 
 pub row-weight-spec : {M : Type 1} → statement M
-row-weight-spec = tie.close (tie.spec quotient-sum-with-requires mul-with-requires mul-with-requires-2 returns)
+row-weight-spec = tie.close (tie.spec quotient-sum-requires mul-with-requires mul-with-requires-2 returns)

@@ -1,7 +1,7 @@
 -- `unchirp` meets its contract: each exponent is below n, and the power of its negative is read from the table.
-use mathlib.Core.Path.{_≡_, refl, ap, _∙_}
+use mathlib.Core.Path.{ap, _∙_}
 use mathlib.Core.List.{List}
-use Prim.Native.Nat.{ℕ, _-_, _%_, _≤_, _<_}
+use Prim.Native.Nat.{ℕ, _-_, _%_, _<_}
 use native.Mathlib.Nat.{mod-lt}
 use native.Mathlib.Omega.{arith}
 use borrow.Author.Needs.{needs}
@@ -28,10 +28,10 @@ abbrev read : ℕ → ℕ → List ℕ → List ℕ → List ℕ → ℕ → ℕ
 read p n powers exponents symbols j = mul p (getD symbols j 0) (getD powers (negative n (getD exponents j 0)) 0)
 
 abbrev Inv-loop : tie.InvT-loop
-Inv-loop tables logarithms powers exponents symbols field n out₀ j₀ out j = Filled 255 (length symbols) (read (modulus field) n powers exponents symbols) j out
+Inv-loop tables powers exponents symbols field n out₀ j₀ out j = Filled 255 (length symbols) (read (modulus field) n powers exponents symbols) j out
 
 abbrev μ-loop : tie.MeasureT-loop
-μ-loop tables logarithms powers exponents symbols field n out₀ j₀ out j = length symbols - j
+μ-loop tables powers exponents symbols field n out₀ j₀ out j = length symbols - j
 
 -- the exponent
 exponent : (c : tie.In-loop Inv-loop μ-loop)

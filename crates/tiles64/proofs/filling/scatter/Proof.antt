@@ -26,5 +26,4 @@ returns c = let st = c .before .before .before .before .before .before .before .
 
 pub scatter-spec : {M : Type 1} → statement M
 scatter-spec =
-    tie.close
-    (tie.spec add-rows fill-blocks-requires fill-lanes-requires same-length same-length-2 returns)
+    tie.close (tie.spec add-rows fill-blocks-requires fill-lanes-requires same-length same-length-2 returns)

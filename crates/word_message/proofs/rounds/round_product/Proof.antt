@@ -7,7 +7,7 @@ use borrow.Author.Needs.{needs}
 use lib.ListN.{length, take}
 use Rattle.lists.specs.Padded.{padded}
 use Rattle.lists.proofs.Padding.{take-padded, length-padded}
-use Rattle.word_message.specs.Rows.{roundPoints, spreadOf}
+use Rattle.word_message.specs.Rows.{roundPoints}
 use Rattle.word_message.proofs.RowProduct.{length-round, round-symbols, round-product}
 use Rattle.word_message.proofs.rounds.round_product.Statement.{statement}
 use Rattle.word_message.proofs.rounds.round_product.Tie as tie
@@ -38,7 +38,7 @@ slice-aggregate-product : tie.Need-slice-aggregate-product
 slice-aggregate-product c = sym (ap length (part (c .before)) ∙ long (c .before))
 
 product-requires : tie.Need-product-requires
-product-requires c κs = let st = c .before .before .before .before in rw (part (c .before)) (round-symbols (st .args .h) (st .pre .0) (st .args .g) (st .pre .1) (few (c .before .before)))
+product-requires c κs = let st = c .before .before .before .before in (rw (part (c .before)) (round-symbols (st .args .h) (st .pre .0) (st .args .g) (st .pre .1) (few (c .before .before))), st .pre .5)
 
 add-spread : tie.Need-add-spread
 add-spread c = search needs

@@ -1,31 +1,27 @@
 -- `base_inverses` meets its contract. The loop's invariant: the inverses from c on are written.
-use mathlib.Core.Path.{_≡_, refl, sym, ap, ap₂, _∙_}
+use mathlib.Core.Path.{refl, ap, _∙_}
 use Prim.Native.Nat.{ℕ, _-_, _%_, _≤_, _<_}
 use native.Mathlib.Nat.{mod-lt}
 use native.Mathlib.Omega.{arith}
 use borrow.Author.Needs.{needs}
-use lib.ListN.{length, getD, set}
-use Rattle.lists.specs.Padded.{zeros, padded}
+use lib.ListN.{getD, set}
+use Rattle.lists.specs.Padded.{zeros}
 use Rattle.field.specs.Fields.{mul, power}
-use Rattle.field.proofs.Bounds.{power-below, one-below}
+use Rattle.field.proofs.Bounds.{power-below}
 use Rattle.field.proofs.KindLaws.{size-fits}
-use Rattle.generator.specs.declared.Header.{Header}
-use Rattle.generator.specs.Records.{modulusOf, size, Sound}
-use Rattle.check_sums.specs.Powers.{powersOf}
+use Rattle.generator.specs.Records.{modulusOf, size}
 use Rattle.check_sums.proofs.Sums.{power-place, power-at}
-use Rattle.recovery.specs.Rows.{baseInverses}
-use Rattle.word_message.specs.Rows.{ratioOf}
 use Rattle.word_message.proofs.Points.{power-modulo}
-use Rattle.word_message.proofs.BaseInverses.{Written, length-inverses, inverses-below, written-first, written-next, written-all}
+use Rattle.word_message.proofs.BaseInverses.{Written, inverses-below, written-first, written-next, written-all}
 use Rattle.word_message.proofs.rows.base_inverses.Statement.{statement}
 use Rattle.word_message.proofs.rows.base_inverses.Tie as tie
 
 abbrev Inv-loop : tie.InvT-loop
-Inv-loop h tables logarithms powers field top out₀ c₀ scale value₀ out c value =
+Inv-loop h tables powers field top out₀ c₀ scale value₀ out c value =
     Written h c value out
 
 abbrev μ-loop : tie.MeasureT-loop
-μ-loop h tables logarithms powers field top out₀ c₀ scale value₀ out c value = c
+μ-loop h tables powers field top out₀ c₀ scale value₀ out c value = c
 
 few : (c : tie.After-struct-known2 Inv-loop μ-loop) → (c .before .before .before .args .h .k ≤ 255) × (c .before .before .before .args .h .n ≤ 255)
 few c = (omega (arith, c .before .struct-known .given), omega (arith, c .struct-known2 .given))

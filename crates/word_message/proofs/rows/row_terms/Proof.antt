@@ -3,7 +3,7 @@ use mathlib.Core.Path.{_≡_, refl, sym, ap, _∙_}
 use Prim.Native.Nat.{_+_, _-_, _≤_, _<_}
 use native.Mathlib.Omega.{arith}
 use borrow.Author.Needs.{needs}
-use lib.ListN.{length, getD, take, drop, length-drop}
+use lib.ListN.{length, getD, take, drop}
 use Rattle.lists.proofs.Numbers.{below-at}
 use Rattle.lists.proofs.Padding.{take-padded, part-padded}
 use Rattle.generator.specs.Records.{modulusOf, size}
@@ -62,35 +62,35 @@ row-product-requires c κs = search needs
 base-inverses-requires : tie.Need-base-inverses-requires
 base-inverses-requires c κs = search needs
 
-mul-quotient-terms-with : tie.Need-mul-quotient-terms-with
-mul-quotient-terms-with c = omega (arith, many (c .before .before), few (c .before .before))
+mul-quotient-terms : tie.Need-mul-quotient-terms
+mul-quotient-terms c = omega (arith, many (c .before .before), few (c .before .before))
 
-shared-slice-read-quotient-terms-with : tie.Need-shared-slice-read-quotient-terms-with
-shared-slice-read-quotient-terms-with c = omega (arith, many (c .before .before .before), c .before .before .before .before .before .before .pre .3)
+shared-slice-read-quotient-terms : tie.Need-shared-slice-read-quotient-terms
+shared-slice-read-quotient-terms c = omega (arith, many (c .before .before .before), c .before .before .before .before .before .before .pre .3)
 
-cast-quotient-terms-with : tie.Need-cast-quotient-terms-with
-cast-quotient-terms-with c = omega (arith, c .shared-slice-known3 .given (c .before .before .before .before .before .before .args .r))
+cast-quotient-terms : tie.Need-cast-quotient-terms
+cast-quotient-terms c = omega (arith, c .shared-slice-known3 .given (c .before .before .before .before .before .before .args .r))
 
-mul-quotient-terms-with-2 : tie.Need-mul-quotient-terms-with-2
-mul-quotient-terms-with-2 c = omega arith
+mul-quotient-terms-2 : tie.Need-mul-quotient-terms-2
+mul-quotient-terms-2 c = omega arith
 
-sub-quotient-terms-with : tie.Need-sub-quotient-terms-with
-sub-quotient-terms-with c = search needs
+sub-quotient-terms : tie.Need-sub-quotient-terms
+sub-quotient-terms c = search needs
 
-part-quotient-terms-with-start : tie.Need-part-quotient-terms-with-start
-part-quotient-terms-with-start c = search needs
+part-quotient-terms-start : tie.Need-part-quotient-terms-start
+part-quotient-terms-start c = search needs
 
-part-quotient-terms-with-end : tie.Need-part-quotient-terms-with-end
-part-quotient-terms-with-end c = search needs
+part-quotient-terms-end : tie.Need-part-quotient-terms-end
+part-quotient-terms-end c = search needs
 
 array-share-prefix-base : tie.Need-array-share-prefix-base
 array-share-prefix-base c = search needs
 
-slice-aggregate-quotient-terms-with : tie.Need-slice-aggregate-quotient-terms-with
-slice-aggregate-quotient-terms-with c = let b = inverses-are (c .before .before .before .before) in rw (b .0) (sym (b .1 .size))
+slice-aggregate-quotient-terms : tie.Need-slice-aggregate-quotient-terms
+slice-aggregate-quotient-terms c = let b = inverses-are (c .before .before .before .before) in rw (b .0) (sym (b .1 .size))
 
-quotient-terms-with-requires : tie.Need-quotient-terms-with-requires
-quotient-terms-with-requires c κs =
+quotient-terms-requires : tie.Need-quotient-terms-requires
+quotient-terms-requires c κs =
     let q = product-is (c .before .before .before .before .before) in
     let b = inverses-are (c .before .before .before .before) in
     (rw (q .0) (q .1 .are), rw (b .0) (b .1 .are), rw (q .0, b .0) (b .1 .size ∙ sym (q .1 .size)), point (c .before .before .before .before .before .before), c .before .before .before .before .before .before .before .before .before .pre .4)
@@ -100,8 +100,8 @@ unfolding rowTerms
 returns c =
     let q = product-is (c .before .before .before .before .before .before) in
     let b = inverses-are (c .before .before .before .before .before) in
-    c .quotient-terms-with .ensures ∙ rw (q .0, b .0, c .before .before .before .before .before .before .before .before .before .before .pre .2)
+    c .quotient-terms .ensures ∙ rw (q .0, b .0, c .before .before .before .before .before .before .before .before .before .before .pre .2)
 
 pub row-terms-spec : {M : Type 1} → statement M
 row-terms-spec =
-    tie.close (tie.spec cast-k add-end row-product-requires base-inverses-requires mul-quotient-terms-with shared-slice-read-quotient-terms-with cast-quotient-terms-with mul-quotient-terms-with-2 sub-quotient-terms-with part-quotient-terms-with-start part-quotient-terms-with-end array-share-prefix-base slice-aggregate-quotient-terms-with quotient-terms-with-requires returns)
+    tie.close (tie.spec cast-k add-end row-product-requires base-inverses-requires mul-quotient-terms shared-slice-read-quotient-terms cast-quotient-terms mul-quotient-terms-2 sub-quotient-terms part-quotient-terms-start part-quotient-terms-end array-share-prefix-base slice-aggregate-quotient-terms quotient-terms-requires returns)
