@@ -53,7 +53,7 @@ fn block_sums(
     wide::remainders(p, &a, &b, &c, &d)
 }
 
-// The sum of one lane.
+// The sum of one lane. Rows of weight 0 are passed over.
 fn lane_sum(p: u16, weights: &[u16], count: usize, lanes: usize, t: usize, rows: &[u8]) -> u16
     requires { ⌜ (0 < p) × WideRows count lanes (now weights) (now rows) × (t < lanes) ⌝ }
     ensures { λ r. ⌜ r ≡ wideSum p count lanes (now (weights .entry)) (now (rows .entry)) t ⌝ }
@@ -61,9 +61,12 @@ fn lane_sum(p: u16, weights: &[u16], count: usize, lanes: usize, t: usize, rows:
     let mut sum: u64 = 0;
     let mut i: usize = 0;
     while i < count {
-        let high = i * 2 * lanes + t;
-        let low = high + lanes;
-        sum = sum + wide::product(weights[i], rows[high], rows[low]) as u64;
+        let weight = weights[i];
+        if weight != 0 {
+            let high = i * 2 * lanes + t;
+            let low = high + lanes;
+            sum = sum + wide::product(weight, rows[high], rows[low]) as u64;
+        }
         i += 1;
     }
     (sum % p as u64) as u16

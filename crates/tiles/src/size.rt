@@ -43,11 +43,14 @@ fn in_blocks(lanes: usize) -> usize
     if lanes < 16 { lanes } else { lanes / 16 * 16 }
 }
 
-// How many of the lanes that are left the next tile takes, in scratch of that size.
+// How many of the lanes that are left the next tile takes, in scratch of that size: all, or whole blocks.
 pub fn tile_lanes(rows: usize, size: usize, left: usize) -> usize
     requires { ⌜ (0 < rows) × (rows ≤ size) × (0 < left) ⌝ }
     ensures { λ r. ⌜ (0 < r) × (r ≤ left) × (rows * r ≤ size) ⌝ }
 {
     let fitting = smaller(size / rows, MOST);
-    smaller(in_blocks(fitting), left)
+    if left <= fitting {
+        return left;
+    }
+    in_blocks(fitting)
 }

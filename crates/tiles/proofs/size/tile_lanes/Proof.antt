@@ -1,5 +1,5 @@
 -- `tile_lanes` meets its contract: the lanes that fit the scratch.
-use Prim.Native.Nat.{_*_, _/_, _≤_, _<_}
+use Prim.Native.Nat.{ℕ, _*_, _/_, _≤_, _<_}
 use native.Mathlib.Nat.{le-div-iff-mul-le, mul-div-le, mul-le-mul, le-refl, le-trans, one-mul}
 use native.Mathlib.Omega.{arith}
 use borrow.Author.Needs.{needs}
@@ -15,17 +15,21 @@ smaller-requires c κs =
     let one : 1 ≤ c .args .size / c .args .rows = le-div-iff-mul-le some .1 (rw one-mul fits) in
     (omega arith, omega arith)
 
+-- as many lanes as the scratch has room for
+fits : (c : tie.After-smaller) (r : ℕ) → r ≤ c .smaller .result → c .before .args .rows * r ≤ c .before .args .size
+fits c r low =
+    let a = c .before .args in
+    let few : r ≤ a .size / a .rows = omega (arith, c .smaller .ensures .1) in
+    le-trans (mul-le-mul (le-refl (a .rows)) few) (mul-div-le (a .size) (a .rows))
+
+returns : tie.Need-returns
+returns c = (c .before .before .pre .2, omega arith, fits (c .before) _ (c .if1 .taken))
+
 in-blocks-requires : tie.Need-in-blocks-requires
 in-blocks-requires c κs = search needs
 
-smaller-requires-2 : tie.Need-smaller-requires-2
-smaller-requires-2 c κs = search needs
-
-returns : tie.Need-returns
-returns c =
-    let s = c .before .before .before in
-    let few : c .smaller2 .result ≤ s .args .size / s .args .rows = omega arith in
-    (omega arith, omega arith, le-trans (mul-le-mul (le-refl (s .args .rows)) few) (mul-div-le (s .args .size) (s .args .rows)))
+returns-2 : tie.Need-returns-2
+returns-2 c = (omega arith, omega arith, fits (c .before .before) _ (c .in-blocks .ensures .1))
 
 pub tile-lanes-spec : {M : Type 1} → statement M
-tile-lanes-spec = tie.close (tie.spec div-smaller smaller-requires in-blocks-requires smaller-requires-2 returns)
+tile-lanes-spec = tie.close (tie.spec div-smaller smaller-requires returns in-blocks-requires returns-2)
