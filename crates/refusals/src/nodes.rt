@@ -45,6 +45,9 @@ pub fn first_list(number: u8, h: Header, lanes: usize, nodes: &[u8], shares: &[u
     requires { ⌜ (usable (h .field) ≡ true) × (number ≡ 0 → length (now shares) ≡ h .k * lanes * width h) ⌝ }
     ensures { λ r. ⌜ r ≡ firstOf number (listFault h (now (nodes .entry)) (now (shares .entry))) ⌝ }
 {
+    if number != 0 {
+        return number;
+    }
     let outside = nodes_bad(h, nodes);
     let twice = twice_bad(nodes);
     let number = first(number, outside, 9);
