@@ -99,25 +99,4 @@ returns c =
 
 pub lane-sum-spec : {M : Type 1} → statement M
 lane-sum-spec =
-    tie.close
-    (tie.spec
-    Inv-loop
-    μ-loop
-    loop-holds
-    mul-weight
-    shared-slice-read-weight
-    mul-high
-    mul-high-2
-    add-high
-    add-low
-    shared-slice-read-product
-    shared-slice-read-product-2
-    product-requires
-    cast-sum
-    add-sum
-    add-i
-    loop-less
-    loop-again
-    rem-result
-    cast-result
-    returns)
+    tie.close (tie.spec Inv-loop μ-loop loop-holds mul-weight shared-slice-read-weight mul-high mul-high-2 add-high add-low shared-slice-read-product shared-slice-read-product-2 product-requires cast-sum add-sum add-i loop-less loop-again rem-result cast-result returns)
