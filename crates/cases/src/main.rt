@@ -2,9 +2,9 @@
 // what makes it no call. A list has at most 64 numbers. An empty line or a comment is written as it is.
 use balanced::Roster;
 use libc::STDIN_FILENO;
-use test_tools::not_read;
 use test_tools::read;
 use test_tools::text;
+use test_words::Words;
 use test_words::is_comment;
 use test_words::line_end;
 
@@ -14,84 +14,29 @@ mod plan_calls;
 mod roster_calls;
 mod weight_calls;
 
-// The calls of a roster, which give the next one, and the calls that leave it.
-fn roster_call(line: &[u8], roster: Roster) -> Roster {
-    let w = read(
-        line,
-        b"roster;leave node#;rejoin node#;lowest room~;job room~",
-    );
-    let call = w.call;
-    if call == 0 {
-        writing_call(line);
-        return roster;
-    }
-    if w.fault != 0 {
-        return roster;
-    }
+// The calls that leave the roster, by their numbers in the table below.
+fn make(call: usize, w: Words) {
     match call {
-        1 => roster_calls::start(w),
-        2 => roster_calls::event(w, roster, false),
-        3 => roster_calls::event(w, roster, true),
-        4 => roster_calls::lowest(w, roster),
-        _ => roster_calls::job(w, roster),
-    }
-}
-
-// The calls that write a buffer of bytes.
-fn writing_call(line: &[u8]) {
-    let w = read(
-        line,
-        b"encode lanes# message* room~;recover lanes# nodes* shares* room~;rebuild lanes# nodes* shares* target# room~;to_lanes lanes# shares* room~;to_nodes lanes# shares* room~",
-    );
-    if w.call == 0 {
-        share_call(line);
-        return;
-    }
-    if w.fault == 0 {
-        block_calls::write(w);
-    }
-}
-
-// The other calls on full shares.
-fn share_call(line: &[u8]) {
-    let w = read(
-        line,
-        b"update lanes# symbol# lane# old# new# shares*;belongs lanes# shares*;correct lanes# shares*",
-    );
-    let call = w.call;
-    if call == 0 {
-        other_call(line);
-        return;
-    }
-    if w.fault != 0 {
-        return;
-    }
-    match call {
-        1 => block_calls::update(w),
-        2 => block_calls::belongs(w),
-        _ => block_calls::correct(w),
-    }
-}
-
-// The calls on a record alone and on single lanes.
-fn other_call(line: &[u8]) {
-    let w = read(
-        line,
-        b"plan;weights room~;find before* after*;mends symbols* room~ room~",
-    );
-    let call = w.call;
-    if call == 0 {
-        not_read(b"call", w.fault);
-        return;
-    }
-    if w.fault != 0 {
-        return;
-    }
-    match call {
-        1 => plan_calls::plan(w),
-        2 => weight_calls::weights(w),
-        3 => lane_calls::find(w),
+        0 => {}
+        1..=5 => block_calls::write(w),
+        6 => block_calls::update(w),
+        7 => block_calls::belongs(w),
+        8 => block_calls::correct(w),
+        9 => plan_calls::plan(w),
+        10 => weight_calls::weights(w),
+        11 => lane_calls::find(w),
         _ => lane_calls::mend(w),
+    }
+}
+
+// The calls that give the next roster.
+fn next_roster(call: usize, w: Words, roster: Roster) -> Roster {
+    match call {
+        13 => roster_calls::start(w),
+        14 => roster_calls::event(w, roster, false),
+        15 => roster_calls::event(w, roster, true),
+        16 => roster_calls::lowest(w, roster),
+        _ => roster_calls::job(w, roster),
     }
 }
 
@@ -100,7 +45,16 @@ fn answer(line: &[u8], roster: Roster) -> Roster {
     if is_comment(line) {
         return roster;
     }
-    roster_call(line, roster)
+    let w = read(
+        line,
+        b"encode lanes# message* room~;recover lanes# nodes* shares* room~;rebuild lanes# nodes* shares* target# room~;to_lanes lanes# shares* room~;to_nodes lanes# shares* room~;update lanes# symbol# lane# old# new# shares*;belongs lanes# shares*;correct lanes# shares*;plan;weights room~;find before* after*;mends symbols* room~ room~;roster;leave node#;rejoin node#;lowest room~;job room~",
+    );
+    let call = w.call;
+    if call <= 12 {
+        make(call, w);
+        return roster;
+    }
+    next_roster(call, w, roster)
 }
 
 // At first there is a roster with no node.

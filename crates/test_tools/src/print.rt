@@ -97,12 +97,13 @@ pub fn not_read(what: &[u8], fault: u8) {
     }
 }
 
-// What a line says, if it is one of the calls of a table; what is wrong with such a line is written.
+// What a line says, if it is one of the calls of a table; else what is wrong with it is written, and its call is 0.
 pub fn read(line: &[u8], calls: &[u8]) -> Words {
-    let words = test_words::read_call(line, calls);
+    let mut words = test_words::read_call(line, calls);
     let fault = words.fault;
-    if words.call != 0 && fault != 0 {
+    if fault != 0 {
         not_read(b"call", fault);
+        words.call = 0;
     }
     words
 }
