@@ -11,7 +11,7 @@ use field::Field;
 
 mod gf256;
 mod prime;
-mod wide;
+pub mod wide;
 
 // Over a prime field, by the width of its symbols.
 fn combine_prime(p: u32, weights: &[u16], count: usize, lanes: usize, rows: &[u8], acc: &mut [u8])
