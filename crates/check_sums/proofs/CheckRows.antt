@@ -1,14 +1,14 @@
 -- Sums with the weights of the checks: all are 0 where the other nodes hold what the first k give, and there the lane is a word.
 use mathlib.Core.Path.{_≡_, refl, sym, ap, ap₂, _∙_}
 use mathlib.Core.Logic.{_↔_, by-cases}
-use mathlib.Core.Bool.{Bool, true, false, _&&_}
+use mathlib.Core.Bool.{Bool, true, false}
 use mathlib.Core.List.{List, [], _∷_, _++_}
 use Prim.Native.Nat.{ℕ, zero, suc, _+_, _-_, _≤_, _<_}
 use native.Mathlib.Decide.{ℕ-discrete}
 use native.Mathlib.Omega.{arith}
 use borrow.Author.Tests.{eqb-true, eq-eqb}
 use lib.Dec.{eqb}
-use lib.ListN.{length, getD, take, drop, set, length-set}
+use lib.ListN.{length, getD, take, set, length-set}
 use lib.Seq.{ext-getD, getD-drop, getD-take, length-take-le}
 use Rattle.lists.specs.Numbers.{allBelow}
 use Rattle.lists.specs.Padded.{zeros, padded}
@@ -35,10 +35,10 @@ use Rattle.recovery.specs.Weights.{Rebuilds}
 use Rattle.recovery.proofs.Rebuilding.{rebuilds}
 use Rattle.combine.proofs.Combined.{getD-zeros}
 use Rattle.check_sums.specs.Powers.{powersOf}
-use Rattle.check_sums.specs.Marks.{allZero}
+use Rattle.lane_products.specs.Marks.{allZero}
 use Rattle.check_sums.specs.Checks.{firstPoints, firstWeights, checkRow}
 use Rattle.check_sums.proofs.Sums.{length-powers, power-at}
-use Rattle.check_sums.proofs.FirstNodes.{Rebuilt, words-rebuilt}
+use Rattle.check_sums.proofs.FirstNodes.{words-rebuilt}
 
 -- what comes after the shorter list plays no part
 dot-take : (p n : ℕ) (xs ws : List ℕ) → length xs ≤ n → dot p xs (take n ws) ≡ dot p xs ws

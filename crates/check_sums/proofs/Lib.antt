@@ -1,6 +1,5 @@
 -- The laws of the check sums, and of marks by them.
 pub mod Sums
-pub mod Zeros
 pub mod Shares
 pub mod Prefix
 pub mod OneLane

@@ -16,8 +16,9 @@ use Rattle.interpolation.specs.Points.{pointsOf}
 use Rattle.interpolation.specs.Lagrange.{basisValues}
 use Rattle.products.specs.Products.{groupsOf}
 use Rattle.products.specs.Matrices.{Begun}
-use Rattle.lane_products.specs.Room.{Room}
-use Rattle.check_sums.specs.Marks.{allZero}
+use Rattle.lane_products.specs.declared.Product.{Product}
+use Rattle.lane_products.specs.declared.Way.the-variants.{LanesToMarks}
+use Rattle.lane_products.specs.Marks.{allZero}
 
 -- the points of the first k nodes
 abbrev pub firstPoints : Header → List ℕ
@@ -39,7 +40,6 @@ pub record CheckLists (h : Header) (lists counts : List ℕ) : Type 0 where
   pub lists-room : (h .n - h .k) * (8 * groupsOf (h .n)) ≤ length lists
   pub counts-room : (h .n - h .k) * 8 ≤ length counts
 
--- scratch for the sums of 64 lanes
-pub record SumRoom (h : Header) (tile table words sums : ℕ) : Type 0 where
-  pub products : Room (h .n - h .k) (h .n) tile table words
-  pub rows : (h .n - h .k) * 64 ≤ sums
+-- the checks of so many lanes, as marks
+abbrev pub checkProduct : Header → ℕ → Product
+checkProduct h l = record { way = LanesToMarks; field = h .field; outputs = h .n - h .k; rows = h .n; lanes = l }

@@ -1,6 +1,5 @@
 -- Powers of the root, and the check sums of one lane.
 pub mod Powers
 pub mod Sums
-pub mod Zeros
 pub mod Marks
 pub mod Checks

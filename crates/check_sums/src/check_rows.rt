@@ -7,7 +7,7 @@ ghost use Rattle.field.specs.Fields.{sub};
 ghost use Rattle.field.specs.Tables.{AreTables};
 ghost use Rattle.generator.specs.Records.{modulusOf, Sound};
 ghost use Rattle.interpolation.specs.Lagrange.{scalesOf};
-ghost use Rattle.products.specs.Products.{OneByte, Codes, groupsOf};
+ghost use Rattle.products.specs.Products.{Codes, groupsOf};
 ghost use Rattle.check_sums.specs.Powers.{powersOf};
 ghost use Rattle.check_sums.specs.Checks.{firstPoints, firstWeights, CheckLists};
 use crate::powers;
@@ -33,7 +33,7 @@ fn check_weights(h: Header, tables: &Tables, roots: &[u16], scales: &[u16], e: u
 
 // The lists of the checks of the other nodes: k weights each, which take k products each to make.
 fn list_nodes(h: Header, codes: &[u64], lists: &mut [u16], counts: &mut [u8])
-    requires { ⌜ Sound h × OneByte (h .field) × Codes (modulusOf h) (now codes) × ((h .n - h .k) * (8 * groupsOf (h .n)) ≤ length (now lists)) × ((h .n - h .k) * 8 ≤ length (now counts)) ⌝ }
+    requires { ⌜ Sound h × Codes (modulusOf h) (now codes) × ((h .n - h .k) * (8 * groupsOf (h .n)) ≤ length (now lists)) × ((h .n - h .k) * 8 ≤ length (now counts)) ⌝ }
     ensures { λ r. ⌜ CheckLists h (now (lists .exit)) (now (counts .exit)) ⌝ }
 {
     let field = h.field;
@@ -53,7 +53,7 @@ fn list_nodes(h: Header, codes: &[u64], lists: &mut [u16], counts: &mut [u8])
 
 // The lists of the check sums: n weights each, which are read from the powers of the root.
 fn list_sums(h: Header, codes: &[u64], lists: &mut [u16], counts: &mut [u8])
-    requires { ⌜ Sound h × OneByte (h .field) × Codes (modulusOf h) (now codes) × ((h .n - h .k) * (8 * groupsOf (h .n)) ≤ length (now lists)) × ((h .n - h .k) * 8 ≤ length (now counts)) ⌝ }
+    requires { ⌜ Sound h × Codes (modulusOf h) (now codes) × ((h .n - h .k) * (8 * groupsOf (h .n)) ≤ length (now lists)) × ((h .n - h .k) * 8 ≤ length (now counts)) ⌝ }
     ensures { λ r. ⌜ CheckLists h (now (lists .exit)) (now (counts .exit)) ⌝ }
 {
     let field = h.field;
@@ -70,7 +70,7 @@ fn list_sums(h: Header, codes: &[u64], lists: &mut [u16], counts: &mut [u8])
 
 // The lists of checks for so many lanes: on few lanes making the weights takes longer than the lanes.
 pub fn list_checks(h: Header, lanes: usize, codes: &[u64], lists: &mut [u16], counts: &mut [u8])
-    requires { ⌜ Sound h × OneByte (h .field) × Codes (modulusOf h) (now codes) × ((h .n - h .k) * (8 * groupsOf (h .n)) ≤ length (now lists)) × ((h .n - h .k) * 8 ≤ length (now counts)) ⌝ }
+    requires { ⌜ Sound h × Codes (modulusOf h) (now codes) × ((h .n - h .k) * (8 * groupsOf (h .n)) ≤ length (now lists)) × ((h .n - h .k) * 8 ≤ length (now counts)) ⌝ }
     ensures { λ r. ⌜ CheckLists h (now (lists .exit)) (now (counts .exit)) ⌝ }
 {
     if lanes <= 256 {

@@ -1,10 +1,7 @@
 // Check sums, by which words of the code are told: of every lane of a block, and of one lane.
 pub mod block;
-mod byte_marks;
 mod check_rows;
 pub mod lane;
 pub mod marks;
 pub mod powers;
-mod scratch;
-mod tile_sums;
 mod values;

@@ -1,5 +1,4 @@
 -- A node's column of the generator.
-pub mod Columns
 -- The lanes of a tile among the shares.
 pub mod Shares
 -- The lanes of a tile's words.

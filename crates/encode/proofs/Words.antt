@@ -1,21 +1,20 @@
--- The lanes of a tile's words are the shares of those lanes.
+-- The products of the nodes' columns and the lanes are the shares.
 use mathlib.Core.Path.{_≡_, refl, sym, ap, _∙_}
 use mathlib.Core.Bool.{true}
 use mathlib.Core.List.{List, [], append-nil}
-use Prim.Native.Nat.{ℕ, _+_, _*_, _/_, _≤_, _<_}
+use Prim.Native.Nat.{ℕ, _+_, _≤_}
 use native.Mathlib.Omega.{arith}
 use lib.ListN.{length, take}
-use Rattle.lists.specs.Rows.{from, rowsFrom}
+use Rattle.lists.specs.Rows.{from}
 use Rattle.lists.specs.Numbers.{allBelow}
 use Rattle.lists.specs.Padded.{padded}
 use Rattle.lists.proofs.Numbers.{at-below}
 use Rattle.lists.proofs.Padding.{take-padded}
-use Rattle.lists.proofs.Rows.{from-ext, length-from, getD-from}
+use Rattle.lists.proofs.Rows.{length-from, getD-from}
 use Rattle.layout.specs.Layout.{byRow, byLane, laneOf}
-use Rattle.layout.proofs.Buffers.{length-lane}
-use Rattle.layout.proofs.Lawful.{by-row}
-use Rattle.layout.proofs.Places.{buffer-by-lane}
-use Rattle.layout.proofs.Runs.{lane-some}
+use Rattle.layout.specs.Width.{symbolsOf, bytesOf}
+use Rattle.layout.proofs.Buffers.{length-lane, buffer-ext}
+use Rattle.layout.proofs.Lawful.{by-lane}
 use Rattle.field.specs.Sums.{dot}
 use Rattle.generator.specs.declared.Header.{Header}
 use Rattle.generator.specs.Records.{modulusOf, size, Sound}
@@ -23,11 +22,10 @@ use Rattle.generator.specs.Generator.{entry}
 use Rattle.generator.specs.Codewords.{nodeFrom, nodeOf}
 use Rattle.generator.proofs.Bounds.{entry-below}
 use Rattle.blocks.specs.Blocks.{shareAt, sharesOf}
-use Rattle.blocks.proofs.Tiles.{messageTile}
 use Rattle.combine.proofs.Columns.{dot-column}
-use Rattle.tiles64.proofs.Gathered.{tile-lane}
-use Rattle.tiles64.proofs.Scattered.{rows-ext}
-use Rattle.products.specs.Matrices.{OutputsOf}
+use Rattle.lane_products.specs.declared.Product.{Product}
+use Rattle.lane_products.specs.declared.Way.the-variants.{RowsToLanes}
+use Rattle.lane_products.specs.Ways.{sideOf, written, sumOf}
 use Rattle.encode.specs.Inner.{columnOf}
 
 pub length-column : (h : Header) (j : ℕ) → length (columnOf h j) ≡ h .k
@@ -41,22 +39,18 @@ column-sum h j ms few =
     ap (dot (modulusOf h) ms) (sym (append-nil (from (λ r. entry h r j) 0 (h .k))))
     ∙ dot-column (modulusOf h) (λ r. entry h r j) (λ r ms. nodeFrom r h ms j) (λ r. refl) (λ r m ms. refl) 0 (h .k) ms [] few
 
-module _ (h : Header) (l first count : ℕ) (m tile words : List ℕ) (few : count ≤ 64) (loaded : (t : ℕ) → t < count → laneOf byRow (h .k) 64 t tile ≡ laneOf byRow (h .k) l (first + t) m) (made : OutputsOf (modulusOf h) (h .k) (h .n) (columnOf h) tile (h .n) words) where
-  -- one lane
-  word-lane : (t : ℕ) → t < count → laneOf byRow (h .n) 64 t words ≡ from (λ j. shareAt h count (messageTile h l first count m) j t) 0 (h .n)
-  unfolding shareAt
-  word-lane t lane =
-      tile-lane (h .n) (h .n) 64 _ words made (omega arith) t (omega arith)
-      ∙ from-ext _ _ 0 (h .n)
-      (λ j low high.
-      ap (λ (w : List ℕ). dot (modulusOf h) w (columnOf h j)) (loaded t lane ∙ sym (lane-some by-row by-row (h .k) l first count m t lane))
-      ∙ column-sum h j (laneOf byRow (h .k) count t (messageTile h l first count m)) (omega (arith, length-lane byRow (h .k) count t (messageTile h l first count m))))
+-- the product of the columns and l lanes
+abbrev pub productOf : Header → ℕ → Product
+productOf h l = record { way = RowsToLanes; field = h .field; outputs = h .n; rows = h .k; lanes = l }
 
-  pub words-shares : rowsFrom (λ t. laneOf byRow (h .n) 64 t words) 0 count ≡ sharesOf byLane h count (messageTile h l first count m)
-  unfolding sharesOf
-  words-shares =
-      rows-ext _ _ 0 count (λ t low high. word-lane t (omega arith))
-      ∙ sym (buffer-by-lane (h .n) count (shareAt h count (messageTile h l first count m)))
+-- so the products of the columns and the lanes are the shares
+pub product-shares : (h : Header) (w l : ℕ) (m : List ℕ) (p : Product) → p ≡ productOf h l → written RowsToLanes w (h .n) l (sumOf p w (columnOf h) m) ≡ bytesOf w (sharesOf byLane h l (symbolsOf w m))
+unfolding written sharesOf shareAt sideOf
+product-shares h w l m p e =
+    rw e
+    (ap (bytesOf w)
+    (buffer-ext by-lane (h .n) l _ _
+    (λ j t row lane. column-sum h j (laneOf byRow (h .k) l t (symbolsOf w m)) (omega (arith, length-lane byRow (h .k) l t (symbolsOf w m))))))
 
 -- the column as code holds it: padded, of which k places are lent
 pub column-taken : (h : Header) (j : ℕ) (entries : List ℕ) → entries ≡ padded 255 (columnOf h j) → take (h .k) entries ≡ columnOf h j

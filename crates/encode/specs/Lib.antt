@@ -1,4 +1,3 @@
 -- What the functions behind the call rely on and give.
 pub mod Inner
 pub mod OneLane
-pub mod Tiles

@@ -1,16 +1,19 @@
-// The shares of a block, 64 lanes at a time: the nodes' columns as lists, made once, and then tile after tile.
+// The shares of a block of several lanes: the nodes' columns as lists, and their products with the lanes.
 ghost use mathlib.Core.Path.{_≡_};
-ghost use Prim.Native.Nat.{_+_, _*_, _/_, _≤_, _<_};
+ghost use Prim.Native.Nat.{_*_, _≤_};
 ghost use lib.ListN.{length};
-ghost use Rattle.layout.specs.Layout.{byRow, byLane, someLanes};
+ghost use Rattle.layout.specs.Layout.{byLane};
+ghost use Rattle.layout.specs.Width.{symbolsOf, bytesOf};
 ghost use Rattle.generator.specs.Records.{modulusOf};
 ghost use Rattle.blocks.specs.Blocks.{sharesOf};
-ghost use Rattle.products.specs.Products.{OneByte, groupsOf, Codes};
+ghost use Rattle.products.specs.Products.{Codes};
 ghost use Rattle.products.specs.Matrices.{Begun};
-ghost use Rattle.encode.specs.Inner.{Planned, ByteMessage, columnOf};
-ghost use Rattle.encode.specs.Tiles.{Room, Columns};
+ghost use Rattle.encode.specs.Inner.{Planned, MessageBytes, ListRoom, columnOf};
 use crate::column;
 use generator::Header;
+use lane_products::Product;
+use lane_products::Way;
+use products::scratch;
 
 // The lists of every node's column.
 fn fill_lists(
@@ -21,7 +24,7 @@ fn fill_lists(
     lists: &mut [u16],
     counts: &mut [u8],
 )
-    requires { ⌜ Planned h (now shifts) (now base) × Codes (modulusOf h) (now codes) × (h .n * (8 * groupsOf (h .k)) ≤ length (now lists)) × (h .n * 8 ≤ length (now counts)) × OneByte (h .field) ⌝ }
+    requires { ⌜ Planned h (now shifts) (now base) × Codes (modulusOf h) (now codes) × ListRoom h (length (now lists)) (length (now counts)) ⌝ }
     ensures { λ r. ⌜ Begun (modulusOf h) (h .k) (columnOf h) (h .n) (now (lists .exit)) (now (counts .exit)) ⌝ }
 {
     let field = h.field;
@@ -35,105 +38,141 @@ fn fill_lists(
     }
 }
 
-// Fills `count` lanes, from lane `first` on: their symbols become the rows of a tile, and the nodes' rows of the product its lanes.
-fn fill_tile(
-    h: Header,
-    lists: &[u16],
-    counts: &[u8],
-    lanes: usize,
-    first: usize,
-    count: usize,
-    message: &[u8],
-    tile: &mut [u8],
-    table: &mut [u8],
-    words: &mut [u8],
-    out: &mut [u8],
-)
-    requires { ⌜ Columns h (now lists) (now counts) × Room h (length (now tile)) (length (now table)) (length (now words)) × ByteMessage h lanes (now message) × (count ≤ 64) × (first + count ≤ lanes) × (length (now out) ≡ count * h .n) ⌝ }
-    ensures { λ r. ⌜ now (out .exit) ≡ sharesOf byLane h count (someLanes byRow byRow (h .k) lanes first count (now (message .entry))) ⌝ }
-{
-    let field = h.field;
-    let n = h.n as usize;
-    let k = h.k as usize;
-    let sums = products::groups_of(k) * 1024;
-    let blocks = (n + 15) / 16 * 1024;
-    tiles64::load_rows(k, lanes, first, count, message, tile);
-    products::apply(field, n, k, lists, counts, tile, &mut table[..sums], words);
-    tiles64::scatter(n, count, words, &mut table[..blocks], out);
-}
-
-// Fills all lanes, tile by tile.
-fn fill_lanes(
-    h: Header,
-    lists: &[u16],
-    counts: &[u8],
-    lanes: usize,
-    message: &[u8],
-    tile: &mut [u8],
-    table: &mut [u8],
-    words: &mut [u8],
-    out: &mut [u8],
-)
-    requires { ⌜ Columns h (now lists) (now counts) × Room h (length (now tile)) (length (now table)) (length (now words)) × ByteMessage h lanes (now message) × (length (now out) ≡ h .n * lanes) ⌝ }
-    ensures { λ r. ⌜ now (out .exit) ≡ sharesOf byLane h lanes (now (message .entry)) ⌝ }
-{
-    let n = h.n as usize;
-    let mut first: usize = 0;
-    while first < lanes {
-        let count = tiles64::lanes_of(lanes - first);
-        let start = first * n;
-        let end = start + count * n;
-        fill_tile(
-            h,
-            lists,
-            counts,
-            lanes,
-            first,
-            count,
-            message,
-            tile,
-            table,
-            words,
-            &mut out[start..end],
-        );
-        first += count;
-    }
-}
-
 // The lists, and then the lanes, in scratch that is long enough.
-pub fn encode_with<'a>(
+fn encode_with<'a>(
     h: Header,
     shifts: &'a [u8],
     base: &'a [u16],
+    w: usize,
     lanes: usize,
     message: &[u8],
-    codes: &mut [u64],
     lists: &mut [u16],
     counts: &mut [u8],
-    tile: &mut [u8],
-    table: &mut [u8],
-    words: &mut [u8],
     out: &mut [u8],
 )
-    requires { ⌜ Planned h (now shifts) (now base) × (length (now codes) ≡ 256) × (h .n * (8 * groupsOf (h .k)) ≤ length (now lists)) × (h .n * 8 ≤ length (now counts)) × (groupsOf (h .k) * 256 ≤ length (now tile)) × (groupsOf (h .k) * 1024 ≤ length (now table)) × ((h .n + 15) / 16 * 1024 ≤ length (now table)) × ((h .n + 15) / 16 * 1024 ≤ length (now words)) × ByteMessage h lanes (now message) × (length (now out) ≡ h .n * lanes) ⌝ }
-    ensures { λ r. ⌜ now (out .exit) ≡ sharesOf byLane h lanes (now (message .entry)) ⌝ }
+    requires { ⌜ Planned h (now shifts) (now base) × MessageBytes h w lanes (now message) × ListRoom h (length (now lists)) (length (now counts)) × (length (now out) ≡ w * h .n * lanes) ⌝ }
+    ensures { λ r. ⌜ now (out .exit) ≡ bytesOf w (sharesOf byLane h lanes (symbolsOf w (now (message .entry)))) ⌝ }
 {
     let field = h.field;
-    let n = h.n as usize;
-    let k = h.k as usize;
-    let rows = products::groups_of(k) * 256;
-    let size = (n + 15) / 16 * 1024;
-    products::fill_codes(field, codes);
-    fill_lists(h, shifts, base, codes, lists, counts);
-    fill_lanes(
+    let outputs = h.n as usize;
+    let rows = h.k as usize;
+    let way = Way::RowsToLanes;
+    let codes = products::codes_of(field);
+    fill_lists(h, shifts, base, &codes, lists, counts);
+    let m = Product {
+        way: way,
+        field: field,
+        outputs: outputs,
+        rows: rows,
+        lanes: lanes,
+    };
+    lane_products::fill(m, w, lists, counts, message, out);
+}
+
+// In scratch for at most 16 nodes: clearing the largest takes longer than the work of a small record.
+fn encode_small<'a>(
+    h: Header,
+    shifts: &'a [u8],
+    base: &'a [u16],
+    w: usize,
+    lanes: usize,
+    message: &[u8],
+    out: &mut [u8],
+)
+    requires { ⌜ Planned h (now shifts) (now base) × (h .n ≤ 16) × MessageBytes h w lanes (now message) × (length (now out) ≡ w * h .n * lanes) ⌝ }
+    ensures { λ r. ⌜ now (out .exit) ≡ bytesOf w (sharesOf byLane h lanes (symbolsOf w (now (message .entry)))) ⌝ }
+{
+    let mut lists = scratch::small_lists();
+    let mut counts = scratch::small_counts();
+    encode_with(
         h,
-        lists,
-        counts,
+        shifts,
+        base,
+        w,
         lanes,
         message,
-        &mut tile[..rows],
-        table,
-        &mut words[..size],
+        &mut lists,
+        &mut counts,
         out,
     );
+}
+
+// For at most 64.
+fn encode_middle<'a>(
+    h: Header,
+    shifts: &'a [u8],
+    base: &'a [u16],
+    w: usize,
+    lanes: usize,
+    message: &[u8],
+    out: &mut [u8],
+)
+    requires { ⌜ Planned h (now shifts) (now base) × (h .n ≤ 64) × MessageBytes h w lanes (now message) × (length (now out) ≡ w * h .n * lanes) ⌝ }
+    ensures { λ r. ⌜ now (out .exit) ≡ bytesOf w (sharesOf byLane h lanes (symbolsOf w (now (message .entry)))) ⌝ }
+{
+    let mut lists = scratch::middle_lists();
+    let mut counts = scratch::middle_counts();
+    encode_with(
+        h,
+        shifts,
+        base,
+        w,
+        lanes,
+        message,
+        &mut lists,
+        &mut counts,
+        out,
+    );
+}
+
+// For any record.
+fn encode_large<'a>(
+    h: Header,
+    shifts: &'a [u8],
+    base: &'a [u16],
+    w: usize,
+    lanes: usize,
+    message: &[u8],
+    out: &mut [u8],
+)
+    requires { ⌜ Planned h (now shifts) (now base) × (h .n ≤ 255) × MessageBytes h w lanes (now message) × (length (now out) ≡ w * h .n * lanes) ⌝ }
+    ensures { λ r. ⌜ now (out .exit) ≡ bytesOf w (sharesOf byLane h lanes (symbolsOf w (now (message .entry)))) ⌝ }
+{
+    let mut lists = scratch::large_lists();
+    let mut counts = scratch::large_counts();
+    encode_with(
+        h,
+        shifts,
+        base,
+        w,
+        lanes,
+        message,
+        &mut lists,
+        &mut counts,
+        out,
+    );
+}
+
+// Fills all lanes, in the smallest scratch that the record's nodes fit.
+pub fn fill_lanes<'a>(
+    h: Header,
+    shifts: &'a [u8],
+    base: &'a [u16],
+    w: usize,
+    lanes: usize,
+    message: &[u8],
+    out: &mut [u8],
+)
+    requires { ⌜ Planned h (now shifts) (now base) × MessageBytes h w lanes (now message) × (length (now out) ≡ w * h .n * lanes) ⌝ }
+    ensures { λ r. ⌜ now (out .exit) ≡ bytesOf w (sharesOf byLane h lanes (symbolsOf w (now (message .entry)))) ⌝ }
+{
+    if h.n <= 16 {
+        encode_small(h, shifts, base, w, lanes, message, out);
+        return;
+    }
+    if h.n <= 64 {
+        encode_middle(h, shifts, base, w, lanes, message, out);
+        return;
+    }
+    encode_large(h, shifts, base, w, lanes, message, out);
 }

@@ -3,22 +3,19 @@ ghost use mathlib.Core.Path.{_≡_};
 ghost use Prim.Native.Nat.{_+_, _*_, _%_, _≤_, _<_};
 ghost use lib.ListN.{length, getD};
 ghost use Rattle.lists.specs.Padded.{padded};
-ghost use Rattle.layout.specs.Layout.{byRow, byLane, someLanes, shareLayout};
+ghost use Rattle.layout.specs.Layout.{byLane, shareLayout};
 ghost use Rattle.layout.specs.Width.{symbolsOf, bytesOf};
-ghost use Rattle.layout.specs.Tiles.{tileSymbols, tileBytes};
-ghost use Rattle.generator.specs.Records.{width, Sound};
-ghost use Rattle.blocks.specs.Blocks.{shareOf, sharesOf};
+ghost use Rattle.generator.specs.Records.{Sound};
+ghost use Rattle.blocks.specs.Blocks.{sharesOf};
 ghost use Rattle.refusals.specs.Faults.{encodeFault};
 ghost use Rattle.blocks.specs.Promises.{EncodePromise, EncodeSays};
-ghost use Rattle.encode.specs.Inner.{Planned, MessageBytes, MessageTile, columnOf};
+ghost use Rattle.encode.specs.Inner.{Planned, MessageBytes, columnOf};
 use blocks::Outcome;
 use generator::Header;
 use generator::Record;
 
 mod lanes;
 mod one_lane;
-mod rows;
-mod scratch;
 
 // Entry (r, node) of the generator: the base word at (node + shift of row r) modulo n. No row is copied.
 fn coefficient(h: Header, shifts: &[u8], base: &[u16], r: usize, node: usize) -> u16
@@ -45,50 +42,7 @@ fn column(h: Header, shifts: &[u8], base: &[u16], node: usize) -> [u16; 255]
     out
 }
 
-// Fills one node's lanes, from and into rows of a tile: the sum of the message's rows, each times the node's entry of that row.
-fn fill_share(
-    h: Header,
-    shifts: &[u8],
-    base: &[u16],
-    node: usize,
-    lanes: usize,
-    message: &[u8],
-    share: &mut [u8],
-)
-    requires { ⌜ Planned h (now shifts) (now base) × MessageTile h (width h) lanes (now message) × (node < h .n) × (length (now share) ≡ width h * lanes) ⌝ }
-    ensures { λ r. ⌜ now (share .exit) ≡ tileBytes (width h) 1 lanes (shareOf h lanes (tileSymbols (width h) (h .k) lanes (now (message .entry))) node) ⌝ }
-{
-    let field = h.field;
-    let k = h.k as usize;
-    let entries = column(h, shifts, base, node);
-    combine::combine(field, &entries, k, lanes, message, share);
-}
-
-// Fills every node's share through its own part: the words of some lanes, as rows of a tile.
-fn fill_shares<'a>(
-    h: Header,
-    shifts: &'a [u8],
-    base: &'a [u16],
-    w: usize,
-    lanes: usize,
-    message: &[u8],
-    out: &mut [u8],
-)
-    requires { ⌜ Planned h (now shifts) (now base) × MessageTile h w lanes (now message) × (length (now out) ≡ w * h .n * lanes) ⌝ }
-    ensures { λ r. ⌜ now (out .exit) ≡ tileBytes w (h .n) lanes (sharesOf byRow h lanes (tileSymbols w (h .k) lanes (now (message .entry)))) ⌝ }
-{
-    let n = h.n as usize;
-    let mut node: usize = 0;
-    while node < n {
-        let size = w * lanes;
-        let start = node * size;
-        let end = start + size;
-        fill_share(h, shifts, base, node, lanes, message, &mut out[start..end]);
-        node += 1;
-    }
-}
-
-// Fills all lanes: one lane by itself, more through tiles, those of bytes faster.
+// Fills all lanes: one lane by itself, more as a product of matrices.
 fn encode_lanes<'a>(
     h: Header,
     shifts: &'a [u8],
@@ -105,11 +59,7 @@ fn encode_lanes<'a>(
         one_lane::fill_lane(h, shifts, base, w, message, out);
         return;
     }
-    if w == 1 {
-        scratch::encode_bytes(h, shifts, base, lanes, message, out);
-        return;
-    }
-    rows::encode_rows(h, shifts, base, w, lanes, message, out);
+    lanes::fill_lanes(h, shifts, base, w, lanes, message, out);
 }
 
 // Encodes over the header of an accepted record. Everything is judged before the first byte is written.

@@ -2,20 +2,16 @@
 use mathlib.Core.Path.{_≡_}
 use mathlib.Core.Bool.{true}
 use mathlib.Core.List.{List}
-use Prim.Native.Nat.{ℕ, _+_, _*_, _≤_, _<_}
+use Prim.Native.Nat.{ℕ, _+_, _*_, _<_}
 use native.Mathlib.Omega.{arith}
 use lib.ListN.{length, getD}
 use Rattle.lists.specs.Numbers.{allBelow}
-use Rattle.lists.proofs.Numbers.{at-below, below-at, below-getD}
+use Rattle.lists.proofs.Numbers.{at-below, below-getD}
 use Rattle.lists.proofs.Rows.{length-from, getD-from}
 use Rattle.field.specs.Fields.{isField, sizeOf, mul}
 use Rattle.field.proofs.Bounds.{mul-below}
 use Rattle.field.proofs.FieldOf.{size-pos}
 use Rattle.inverse.specs.Inverse.{scaledColumn}
-
--- symbols below a bound are below every greater one
-pub below-wider : (m n : ℕ) (xs : List ℕ) → m ≤ n → allBelow m xs ≡ true → allBelow n xs ≡ true
-below-wider m n xs le low = at-below n xs (λ i inside. omega (arith, below-at m xs low i inside))
 
 pub length-column : (p scale : ℕ) (ds : List ℕ) (r : ℕ) (sums : List ℕ) → length (scaledColumn p scale ds r sums) ≡ length ds
 unfolding scaledColumn

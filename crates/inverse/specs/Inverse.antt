@@ -1,16 +1,23 @@
 -- The rows of the inverse of the encoding at listed nodes, and how they come from sums of two matrices.
 use mathlib.Core.Path.{_≡_}
+use mathlib.Core.Bool.{true}
 use mathlib.Core.List.{List}
-use Prim.Native.Nat.{ℕ, _+_, _*_, _/_, _≤_}
+use Prim.Native.Nat.{ℕ, _+_, _*_, _≤_}
 use lib.ListN.{length, getD, drop}
+use Rattle.lists.specs.Numbers.{allBelow}
 use Rattle.lists.specs.Rows.{from}
-use Rattle.field.specs.Fields.{mul}
+use Rattle.layout.specs.Width.{symbolsOf}
+use Rattle.field.specs.declared.Field.{Field}
+use Rattle.field.specs.Fields.{sizeOf, mul}
+use Rattle.field.specs.Kinds.{modulus}
 use Rattle.generator.specs.declared.Header.{Header}
 use Rattle.generator.specs.Records.{modulusOf}
 use Rattle.interpolation.specs.Points.{pointsOf}
 use Rattle.interpolation.specs.Lagrange.{scalesOf}
 use Rattle.interpolation.specs.Polynomials.{productOf}
 use Rattle.products.specs.Products.{groupsOf}
+use Rattle.lane_products.specs.declared.Product.{Product}
+use Rattle.lane_products.specs.declared.Way.the-variants.{LanesToRows}
 use Rattle.recovery.specs.Rows.{rowPoints, rowTerms, weightsOf}
 
 -- the nodes' points
@@ -30,9 +37,13 @@ pub record ListRoom (rows lists counts : ℕ) : Type 0 where
   pub entries : rows * (8 * groupsOf rows) ≤ lists
   pub sizes : rows * 8 ≤ counts
 
--- room for two such matrices, for a tile and its table, and for the rows of a product
-pub record Scratch (rows terms tile table words sums : ℕ) : Type 0 where
-  pub two : (rows * rows ≤ terms) × (rows * rows ≤ sums)
-  pub lanes : (rows + 15) / 16 * 1024 ≤ tile
-  pub groups : groupsOf rows * 1024 ≤ table
-  pub products : rows * 64 ≤ words
+-- a square matrix of that many rows of symbols of w bytes
+pub record SumBytes (field : Field) (w rows : ℕ) (sums : List ℕ) : Type 0 where
+  pub some : 1 ≤ w
+  pub two : w ≤ 2
+  pub long : length sums ≡ w * rows * rows
+  pub below : allBelow (sizeOf (modulus field)) (symbolsOf w sums) ≡ true
+
+-- k sums of the k symbols of each lane, row after row
+abbrev pub rowProduct : Header → ℕ → Product
+rowProduct h l = record { way = LanesToRows; field = h .field; outputs = h .k; rows = h .k; lanes = l }

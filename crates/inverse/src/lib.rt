@@ -1,23 +1,22 @@
 // The inverse of the encoding at listed nodes, as lists of weights, and the message by it. Each entry is a sum over the terms of a row and the quotient of the nodes' product polynomial by a linear factor: all sums together are the product of two matrices.
 ghost use mathlib.Core.Path.{_≡_};
 ghost use mathlib.Core.Bool.{true};
-ghost use Prim.Native.Nat.{_*_, _<_, _≤_};
-ghost use lib.ListN.{length, getD, drop};
+ghost use Prim.Native.Nat.{_*_, _<_};
+ghost use lib.ListN.{length, getD};
 ghost use Rattle.lists.specs.Rows.{rowsFrom};
 ghost use Rattle.lists.specs.Padded.{padded};
-ghost use Rattle.lists.specs.Numbers.{allBelow};
+ghost use Rattle.layout.specs.Width.{symbolsOf, bytesOf};
 ghost use Rattle.field.specs.Fields.{sizeOf};
 ghost use Rattle.field.specs.Kinds.{modulus};
 ghost use Rattle.field.specs.Tables.{AreTables};
-ghost use Rattle.generator.specs.Records.{modulusOf, size, Sound};
+ghost use Rattle.generator.specs.Records.{modulusOf, width, Sound};
 ghost use Rattle.generator.specs.Claims.{areNodes};
 ghost use Rattle.interpolation.specs.Points.{SymbolList};
 ghost use Rattle.interpolation.specs.Polynomials.{quotientOf};
 ghost use Rattle.recovery.specs.Rows.{basisOf, rowPoints, baseInverses, setupOf, rowTerms};
-ghost use Rattle.products.specs.Products.{OneByte, Codes};
+ghost use Rattle.products.specs.Products.{Codes};
 ghost use Rattle.products.specs.Matrices.{Begun};
-ghost use Rattle.lane_products.specs.Room.{Room};
-ghost use Rattle.inverse.specs.Inverse.{inverseRow, scaledColumn, ListRoom};
+ghost use Rattle.inverse.specs.Inverse.{inverseRow, scaledColumn, rowProduct, ListRoom, SumBytes};
 
 mod message;
 
@@ -25,23 +24,26 @@ use field::Field;
 use field::Tables;
 use generator::Header;
 use interpolation::division;
+use lane_products::Product;
+use lane_products::Way;
 pub use message::fill_message;
 use recovery::Basis;
 use recovery::Setup;
 
 // The terms of every row, one row's after the other.
-fn fill_terms(h: Header, rows: Basis, base: [u16; 255], out: &mut [u8])
-    requires { ⌜ Sound h × OneByte (h .field) × (rows ≡ basisOf (modulusOf h) (rowPoints h)) × (base ≡ padded 255 (baseInverses h)) × (length (now out) ≡ h .k * h .k) ⌝ }
-    ensures { λ r. ⌜ now (out .exit) ≡ rowsFrom (rowTerms h) 0 (h .k) ⌝ }
+fn fill_terms(h: Header, w: usize, rows: Basis, base: [u16; 255], out: &mut [u8])
+    requires { ⌜ Sound h × (w ≡ width h) × (rows ≡ basisOf (modulusOf h) (rowPoints h)) × (base ≡ padded 255 (baseInverses h)) × (length (now out) ≡ w * h .k * h .k) ⌝ }
+    ensures { λ r. ⌜ now (out .exit) ≡ bytesOf w (rowsFrom (rowTerms h) 0 (h .k)) ⌝ }
 {
     let k = h.k as usize;
+    let size = w * k;
     let t = field::constant_tables();
     let mut r: usize = 0;
     while r < k {
         let row = recovery::row_terms(h, &t, rows, base, r);
-        let start = r * k;
-        let end = start + k;
-        symbols::write_symbols(1, &row[..k], &mut out[start..end]);
+        let start = r * size;
+        let end = start + size;
+        symbols::write_symbols(w, &row[..k], &mut out[start..end]);
         r += 1;
     }
 }
@@ -55,7 +57,7 @@ fn list_quotients(
     lists: &mut [u16],
     counts: &mut [u8],
 )
-    requires { ⌜ OneByte field × SymbolList field (now points) × SymbolList field (now product) × (length (now product) ≡ length (now points)) × Codes (modulus field) (now codes) × ListRoom (length (now points)) (length (now lists)) (length (now counts)) ⌝ }
+    requires { ⌜ SymbolList field (now points) × SymbolList field (now product) × (length (now product) ≡ length (now points)) × Codes (modulus field) (now codes) × ListRoom (length (now points)) (length (now lists)) (length (now counts)) ⌝ }
     ensures { λ r. ⌜ Begun (modulus field) (length (now (points .entry))) (λ i. quotientOf (modulus field) (getD (now (points .entry)) i 0) (now (product .entry))) (length (now (points .entry))) (now (lists .exit)) (now (counts .exit)) ⌝ }
 {
     let t = field::constant_tables();
@@ -75,16 +77,17 @@ fn scaled_column(
     scale: u32,
     scales: &[u16],
     r: usize,
+    w: usize,
     sums: &[u8],
 ) -> [u16; 255]
-    requires { ⌜ SymbolList field (now scales) × (scale < sizeOf (modulus field)) × (r < length (now scales)) × (length (now sums) ≡ length (now scales) * length (now scales)) × (allBelow (sizeOf (modulus field)) (now sums) ≡ true) × AreTables (now tables) ⌝ }
-    ensures { λ c. ⌜ c ≡ padded 255 (scaledColumn (modulus field) scale (now (scales .entry)) r (now (sums .entry))) ⌝ }
+    requires { ⌜ SymbolList field (now scales) × (scale < sizeOf (modulus field)) × (r < length (now scales)) × SumBytes field w (length (now scales)) (now sums) × AreTables (now tables) ⌝ }
+    ensures { λ c. ⌜ c ≡ padded 255 (scaledColumn (modulus field) scale (now (scales .entry)) r (symbolsOf w (now (sums .entry)))) ⌝ }
 {
     let mut out = [0u16; 255];
     let mut i = 0;
     while i < scales.len() {
         let own = field.mul_with(tables, scale, scales[i] as u32);
-        let sum = sums[i * scales.len() + r] as u32;
+        let sum = symbols::symbol_at(w, sums, i * scales.len() + r) as u32;
         out[i] = field.mul_with(tables, own, sum) as u16;
         i += 1;
     }
@@ -96,39 +99,53 @@ fn list_columns(
     field: Field,
     factors: &[u16],
     scales: &[u16],
+    w: usize,
     sums: &[u8],
     codes: &[u64],
     lists: &mut [u16],
     counts: &mut [u8],
 )
-    requires { ⌜ OneByte field × SymbolList field (now factors) × SymbolList field (now scales) × (length (now factors) ≡ length (now scales)) × (length (now sums) ≡ length (now scales) * length (now scales)) × (allBelow (sizeOf (modulus field)) (now sums) ≡ true) × Codes (modulus field) (now codes) × ListRoom (length (now scales)) (length (now lists)) (length (now counts)) ⌝ }
-    ensures { λ r. ⌜ Begun (modulus field) (length (now (scales .entry))) (λ r. scaledColumn (modulus field) (getD (now (factors .entry)) r 0) (now (scales .entry)) r (now (sums .entry))) (length (now (scales .entry))) (now (lists .exit)) (now (counts .exit)) ⌝ }
+    requires { ⌜ SymbolList field (now factors) × SymbolList field (now scales) × (length (now factors) ≡ length (now scales)) × SumBytes field w (length (now scales)) (now sums) × Codes (modulus field) (now codes) × ListRoom (length (now scales)) (length (now lists)) (length (now counts)) ⌝ }
+    ensures { λ r. ⌜ Begun (modulus field) (length (now (scales .entry))) (λ r. scaledColumn (modulus field) (getD (now (factors .entry)) r 0) (now (scales .entry)) r (symbolsOf w (now (sums .entry)))) (length (now (scales .entry))) (now (lists .exit)) (now (counts .exit)) ⌝ }
 {
     let t = field::constant_tables();
     let mut r = 0;
     while r < factors.len() {
         let size = scales.len();
-        let column = scaled_column(field, &t, factors[r] as u32, scales, r, sums);
+        let column = scaled_column(field, &t, factors[r] as u32, scales, r, w, sums);
         products::prepare(field, codes, &column[..size], r, lists, counts);
         r += 1;
     }
 }
 
-// The lists of all rows of the inverse, from what was prepared for the listed nodes; the rest is scratch.
-pub fn list_rows(
+// The product of k sums of k symbols and so many lanes, row after row.
+fn product_of(h: Header, lanes: usize) -> Product
+    ensures { λ r. ⌜ r ≡ rowProduct h lanes ⌝ }
+{
+    let way = Way::LanesToRows;
+    let field = h.field;
+    let k = h.k as usize;
+    Product {
+        way: way,
+        field: field,
+        outputs: k,
+        rows: k,
+        lanes: lanes,
+    }
+}
+
+// The lists of all rows of the inverse, from what was prepared for the listed nodes; `terms` and `sums` are scratch.
+fn list_rows(
     h: Header,
     nodes: &[u8],
     setup: Setup,
-    codes: &[u64],
+    w: usize,
     lists: &mut [u16],
     counts: &mut [u8],
     terms: &mut [u8],
-    tile: &mut [u8],
-    table: &mut [u8],
-    words: &mut [u8],
     sums: &mut [u8],
 )
-    requires { ⌜ Sound h × OneByte (h .field) × (areNodes h (now nodes) ≡ true) × (setup ≡ setupOf h (now nodes)) × Codes (modulusOf h) (now codes) × ListRoom (h .k) (length (now lists)) (length (now counts)) × Room (h .k) (h .k) (length (now tile)) (length (now table)) (length (now words)) × (length (now terms) ≡ h .k * h .k) × (length (now sums) ≡ h .k * h .k) ⌝ }
+    requires { ⌜ Sound h × (w ≡ width h) × (areNodes h (now nodes) ≡ true) × (setup ≡ setupOf h (now nodes)) × ListRoom (h .k) (length (now lists)) (length (now counts)) × (length (now terms) ≡ w * h .k * h .k) × (length (now sums) ≡ w * h .k * h .k) ⌝ }
     ensures { λ r. ⌜ Begun (modulusOf h) (h .k) (inverseRow h (now (nodes .entry))) (h .k) (now (lists .exit)) (now (counts .exit)) ⌝ }
 {
     let field = h.field;
@@ -142,34 +159,24 @@ pub fn list_rows(
     let scales = own.scales;
     let factors = rows.scales;
     let base = setup.base;
-    fill_terms(h, rows, base, terms);
+    let codes = products::codes_of(field);
+    fill_terms(h, w, rows, base, terms);
     list_quotients(
         field,
         &points[..k],
         &product[first..end],
-        codes,
+        &codes,
         lists,
         counts,
     );
-    lane_products::fill_rows(
-        field,
-        k,
-        k,
-        lists,
-        counts,
-        k,
-        terms,
-        tile,
-        table,
-        words,
-        sums,
-    );
+    lane_products::fill(product_of(h, k), w, lists, counts, terms, sums);
     list_columns(
         field,
         &factors[..k],
         &scales[..k],
+        w,
         sums,
-        codes,
+        &codes,
         lists,
         counts,
     );

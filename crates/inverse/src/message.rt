@@ -1,16 +1,17 @@
-// The message of listed shares whose symbols are bytes: the product of the inverse and the lanes.
+// The message of listed shares: the product of the inverse and the lanes.
 ghost use mathlib.Core.Path.{_≡_};
 ghost use mathlib.Core.Bool.{true};
-ghost use Prim.Native.Nat.{_+_, _*_, _/_, _≤_};
+ghost use Prim.Native.Nat.{_*_, _≤_};
 ghost use lib.ListN.{length};
 ghost use Rattle.layout.specs.Layout.{byRow, byLane, laneOf, buffer};
+ghost use Rattle.layout.specs.Width.{symbolsOf, bytesOf};
 ghost use Rattle.field.specs.Sums.{dot};
-ghost use Rattle.generator.specs.Records.{modulusOf, Sound};
+ghost use Rattle.generator.specs.Records.{modulusOf, width, Sound};
 ghost use Rattle.generator.specs.Claims.{areNodes};
 ghost use Rattle.recovery.specs.Rows.{setupOf};
-ghost use Rattle.products.specs.Products.{OneByte, groupsOf};
-ghost use Rattle.inverse.specs.Inverse.{inverseRow, ListRoom, Scratch};
+ghost use Rattle.inverse.specs.Inverse.{inverseRow, ListRoom};
 use crate::list_rows;
+use crate::product_of;
 use generator::Header;
 use products::scratch;
 use recovery::Setup;
@@ -20,110 +21,105 @@ fn fill_with(
     h: Header,
     nodes: &[u8],
     setup: Setup,
+    w: usize,
     lanes: usize,
     shares: &[u8],
-    codes: &mut [u64],
     lists: &mut [u16],
     counts: &mut [u8],
     terms: &mut [u8],
-    tile: &mut [u8],
-    table: &mut [u8],
-    words: &mut [u8],
     sums: &mut [u8],
     out: &mut [u8],
 )
-    requires { ⌜ Sound h × OneByte (h .field) × (areNodes h (now nodes) ≡ true) × (setup ≡ setupOf h (now nodes)) × (length (now shares) ≡ h .k * lanes) × (length (now codes) ≡ 256) × ListRoom (h .k) (length (now lists)) (length (now counts)) × Scratch (h .k) (length (now terms)) (length (now tile)) (length (now table)) (length (now words)) (length (now sums)) × (length (now out) ≡ h .k * lanes) ⌝ }
-    ensures { λ r. ⌜ now (out .exit) ≡ buffer byRow (h .k) lanes (λ r t. dot (modulusOf h) (laneOf byLane (h .k) lanes t (now (shares .entry))) (inverseRow h (now (nodes .entry)) r)) ⌝ }
+    requires { ⌜ Sound h × (w ≡ width h) × (areNodes h (now nodes) ≡ true) × (setup ≡ setupOf h (now nodes)) × (lanes ≤ 4096) × (length (now shares) ≡ w * h .k * lanes) × (length (now out) ≡ w * h .k * lanes) × ListRoom (h .k) (length (now lists)) (length (now counts)) × (w * h .k * h .k ≤ length (now terms)) × (w * h .k * h .k ≤ length (now sums)) ⌝ }
+    ensures { λ r. ⌜ now (out .exit) ≡ bytesOf w (buffer byRow (h .k) lanes (λ r t. dot (modulusOf h) (laneOf byLane (h .k) lanes t (symbolsOf w (now (shares .entry)))) (inverseRow h (now (nodes .entry)) r))) ⌝ }
 {
-    let field = h.field;
     let k = h.k as usize;
-    let square = k * k;
-    products::fill_codes(field, codes);
+    let square = w * k * k;
     list_rows(
         h,
         nodes,
         setup,
-        codes,
+        w,
         lists,
         counts,
         &mut terms[..square],
-        tile,
-        table,
-        words,
         &mut sums[..square],
     );
-    lane_products::fill_rows(
-        field,
-        k,
-        k,
-        lists,
-        counts,
-        lanes,
-        shares,
-        tile,
-        table,
-        words,
-        out,
-    );
+    lane_products::fill(product_of(h, lanes), w, lists, counts, shares, out);
+}
+
+// Room for a square matrix of 64 rows of symbols, and of 255.
+fn middle_square() -> [u8; 8192]
+    ensures { λ r. ⌜ length r ≡ 8192 ⌝ }
+{
+    [0u8; 8192]
+}
+
+fn large_square() -> [u8; 130050]
+    ensures { λ r. ⌜ length r ≡ 130050 ⌝ }
+{
+    [0u8; 130050]
 }
 
 // At most 64 nodes listed.
-fn fill_middle(h: Header, nodes: &[u8], setup: Setup, lanes: usize, shares: &[u8], out: &mut [u8])
-    requires { ⌜ Sound h × OneByte (h .field) × (areNodes h (now nodes) ≡ true) × (setup ≡ setupOf h (now nodes)) × (h .k ≤ 64) × (length (now shares) ≡ h .k * lanes) × (length (now out) ≡ h .k * lanes) ⌝ }
-    ensures { λ r. ⌜ now (out .exit) ≡ buffer byRow (h .k) lanes (λ r t. dot (modulusOf h) (laneOf byLane (h .k) lanes t (now (shares .entry))) (inverseRow h (now (nodes .entry)) r)) ⌝ }
+fn fill_middle(
+    h: Header,
+    nodes: &[u8],
+    setup: Setup,
+    w: usize,
+    lanes: usize,
+    shares: &[u8],
+    out: &mut [u8],
+)
+    requires { ⌜ Sound h × (w ≡ width h) × (areNodes h (now nodes) ≡ true) × (setup ≡ setupOf h (now nodes)) × (lanes ≤ 4096) × (length (now shares) ≡ w * h .k * lanes) × (length (now out) ≡ w * h .k * lanes) × (h .k ≤ 64) ⌝ }
+    ensures { λ r. ⌜ now (out .exit) ≡ bytesOf w (buffer byRow (h .k) lanes (λ r t. dot (modulusOf h) (laneOf byLane (h .k) lanes t (symbolsOf w (now (shares .entry)))) (inverseRow h (now (nodes .entry)) r))) ⌝ }
 {
-    let mut codes = scratch::codes();
     let mut lists = scratch::middle_lists();
     let mut counts = scratch::middle_counts();
-    let mut terms = scratch::middle_rows();
-    let mut tile = scratch::middle_rows();
-    let mut table = scratch::middle_table();
-    let mut words = scratch::middle_rows();
-    let mut sums = scratch::middle_rows();
+    let mut terms = middle_square();
+    let mut sums = middle_square();
     fill_with(
         h,
         nodes,
         setup,
+        w,
         lanes,
         shares,
-        &mut codes,
         &mut lists,
         &mut counts,
         &mut terms,
-        &mut tile,
-        &mut table,
-        &mut words,
         &mut sums,
         out,
     );
 }
 
 // Any number of nodes listed.
-fn fill_large(h: Header, nodes: &[u8], setup: Setup, lanes: usize, shares: &[u8], out: &mut [u8])
-    requires { ⌜ Sound h × OneByte (h .field) × (areNodes h (now nodes) ≡ true) × (setup ≡ setupOf h (now nodes)) × (h .k ≤ 255) × (length (now shares) ≡ h .k * lanes) × (length (now out) ≡ h .k * lanes) ⌝ }
-    ensures { λ r. ⌜ now (out .exit) ≡ buffer byRow (h .k) lanes (λ r t. dot (modulusOf h) (laneOf byLane (h .k) lanes t (now (shares .entry))) (inverseRow h (now (nodes .entry)) r)) ⌝ }
+fn fill_large(
+    h: Header,
+    nodes: &[u8],
+    setup: Setup,
+    w: usize,
+    lanes: usize,
+    shares: &[u8],
+    out: &mut [u8],
+)
+    requires { ⌜ Sound h × (w ≡ width h) × (areNodes h (now nodes) ≡ true) × (setup ≡ setupOf h (now nodes)) × (lanes ≤ 4096) × (length (now shares) ≡ w * h .k * lanes) × (length (now out) ≡ w * h .k * lanes) × (h .k ≤ 255) ⌝ }
+    ensures { λ r. ⌜ now (out .exit) ≡ bytesOf w (buffer byRow (h .k) lanes (λ r t. dot (modulusOf h) (laneOf byLane (h .k) lanes t (symbolsOf w (now (shares .entry)))) (inverseRow h (now (nodes .entry)) r))) ⌝ }
 {
-    let mut codes = scratch::codes();
     let mut lists = scratch::large_lists();
     let mut counts = scratch::large_counts();
-    let mut terms = scratch::large_table();
-    let mut tile = scratch::large_rows();
-    let mut table = scratch::large_table();
-    let mut words = scratch::large_rows();
-    let mut sums = scratch::large_table();
+    let mut terms = large_square();
+    let mut sums = large_square();
     fill_with(
         h,
         nodes,
         setup,
+        w,
         lanes,
         shares,
-        &mut codes,
         &mut lists,
         &mut counts,
         &mut terms,
-        &mut tile,
-        &mut table,
-        &mut words,
         &mut sums,
         out,
     );
@@ -134,16 +130,17 @@ pub fn fill_message(
     h: Header,
     nodes: &[u8],
     setup: Setup,
+    w: usize,
     lanes: usize,
     shares: &[u8],
     out: &mut [u8],
 )
-    requires { ⌜ Sound h × OneByte (h .field) × (areNodes h (now nodes) ≡ true) × (setup ≡ setupOf h (now nodes)) × (length (now shares) ≡ h .k * lanes) × (length (now out) ≡ h .k * lanes) ⌝ }
-    ensures { λ r. ⌜ now (out .exit) ≡ buffer byRow (h .k) lanes (λ r t. dot (modulusOf h) (laneOf byLane (h .k) lanes t (now (shares .entry))) (inverseRow h (now (nodes .entry)) r)) ⌝ }
+    requires { ⌜ Sound h × (w ≡ width h) × (areNodes h (now nodes) ≡ true) × (setup ≡ setupOf h (now nodes)) × (lanes ≤ 4096) × (length (now shares) ≡ w * h .k * lanes) × (length (now out) ≡ w * h .k * lanes) ⌝ }
+    ensures { λ r. ⌜ now (out .exit) ≡ bytesOf w (buffer byRow (h .k) lanes (λ r t. dot (modulusOf h) (laneOf byLane (h .k) lanes t (symbolsOf w (now (shares .entry)))) (inverseRow h (now (nodes .entry)) r))) ⌝ }
 {
     if h.k <= 64 {
-        fill_middle(h, nodes, setup, lanes, shares, out);
+        fill_middle(h, nodes, setup, w, lanes, shares, out);
         return;
     }
-    fill_large(h, nodes, setup, lanes, shares, out);
+    fill_large(h, nodes, setup, w, lanes, shares, out);
 }

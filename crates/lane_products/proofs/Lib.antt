@@ -1,2 +1,4 @@
--- Products of a matrix and the lanes of a block.
+-- Laws of lanes and their sums.
+pub mod Marks
 pub mod Lanes
+pub mod Writing

@@ -1,2 +1,3 @@
--- Products of a matrix and the lanes of a block.
-pub mod Room
+-- Products of a matrix and the lanes of a block: how the lanes stand, and what is written.
+pub mod Marks
+pub mod Ways

@@ -1,41 +1,41 @@
-// Products of a matrix of weights and the lanes of a block, 64 lanes at a time: the lanes stand one after the other, the products row after row.
+// Products of a matrix of weights and the lanes of a block, 64 lanes at a time, over every kind of field: the lanes stand row after row or
+// lane after lane, and the sums are written so, or told by marks.
 ghost use mathlib.Core.Path.{_≡_};
 ghost use mathlib.Core.List.{List};
 ghost use Prim.Native.Nat.{ℕ, _+_, _*_, _≤_, _<_};
-ghost use lib.ListN.{length, getD};
-ghost use Rattle.layout.specs.Layout.{byRow, byLane, laneOf, buffer};
-ghost use Rattle.layout.specs.Filling.{RowsFilled};
+ghost use lib.ListN.{length};
 ghost use Rattle.field.specs.Kinds.{modulus};
-ghost use Rattle.field.specs.Sums.{dot};
-ghost use Rattle.products.specs.Products.{OneByte};
-ghost use Rattle.products.specs.Matrices.{Begun, Made};
-ghost use Rattle.lane_products.specs.Room.{Room};
+ghost use Rattle.products.specs.Matrices.{Begun};
+ghost use Rattle.lane_products.specs.Ways.{written, sumOf, Done, Ready, Room};
 use field::Field;
+use products::scratch;
 
-// Copies the first lanes of a tile's rows to lanes `first` and on of the rows of a buffer.
-fn store_rows(rows: usize, lanes: usize, first: usize, count: usize, tile: &[u8], out: &mut [u8])
-    requires { ⌜ (count ≤ 64) × (first + count ≤ lanes) × (rows * 64 ≤ length (now tile)) × (length (now out) ≡ rows * lanes) ⌝ }
-    ensures { λ r. ⌜ ((f : ℕ → ℕ → ℕ) → ((i q : ℕ) → i < rows → q < count → f i (first + q) ≡ getD (now (tile .entry)) (i * 64 + q) 0) → RowsFilled rows lanes f (λ i. first) (now (out .entry)) → RowsFilled rows lanes f (λ i. first + count) (now (out .exit))) ⌝ }
-{
-    let mut i: usize = 0;
-    while i < rows {
-        let from = i * 64;
-        let to = from + count;
-        let start = i * lanes + first;
-        let end = start + count;
-        kernel::copy(&tile[from..to], &mut out[start..end]);
-        i += 1;
-    }
+mod loading;
+mod marking;
+mod storing;
+
+// From rows of symbols to lanes of sums, from lanes to rows, or from lanes to a mark for each lane with a sum that is not 0.
+pub enum Way {
+    RowsToLanes,
+    LanesToRows,
+    LanesToMarks,
 }
 
-// The products of `count` lanes, from lane `first` on.
+// So many sums of the symbols in so many rows of each lane.
+pub struct Product {
+    pub way: Way,
+    pub field: Field,
+    pub outputs: usize,
+    pub rows: usize,
+    pub lanes: usize,
+}
+
+// The sums of `count` lanes, from lane `first` on.
 fn fill_tile(
-    field: Field,
-    outputs: usize,
-    rows: usize,
+    m: Product,
+    w: usize,
     lists: &[u16],
     counts: &[u8],
-    lanes: usize,
     first: usize,
     count: usize,
     source: &[u8],
@@ -44,15 +44,16 @@ fn fill_tile(
     words: &mut [u8],
     out: &mut [u8],
 )
-    requires { ⌜ OneByte field × (rows ≤ 255) × Made (modulus field) rows outputs (now lists) (now counts) × Room outputs rows (length (now tile)) (length (now table)) (length (now words)) × (count ≤ 64) × (first + count ≤ lanes) × (length (now source) ≡ rows * lanes) × (length (now out) ≡ outputs * lanes) ⌝ }
-    ensures { λ r. ⌜ ((w : ℕ → List ℕ) → Begun (modulus field) rows w outputs (now (lists .entry)) (now (counts .entry)) → RowsFilled outputs lanes (λ i t. dot (modulus field) (laneOf byLane rows lanes t (now (source .entry))) (w i)) (λ i. first) (now (out .entry)) → RowsFilled outputs lanes (λ i t. dot (modulus field) (laneOf byLane rows lanes t (now (source .entry))) (w i)) (λ i. first + count) (now (out .exit))) ⌝ }
+    requires { ⌜ Ready m w (now lists) (now counts) (now source) (length (now out)) × Room w (m .outputs) (m .rows) (length (now tile)) (length (now table)) (length (now words)) × (count ≤ 64) × (first + count ≤ m .lanes) ⌝ }
+    ensures { λ r. ⌜ ((ws : ℕ → List ℕ) → Begun (modulus (m .field)) (m .rows) ws (m .outputs) (now (lists .entry)) (now (counts .entry)) → Done (m .way) w (m .outputs) (m .lanes) (sumOf m w ws (now (source .entry))) first (now (out .entry)) → Done (m .way) w (m .outputs) (m .lanes) (sumOf m w ws (now (source .entry))) (first + count) (now (out .exit))) ⌝ }
 {
+    let field = m.field;
+    let outputs = m.outputs;
+    let rows = m.rows;
     let groups = products::groups_of(rows);
-    let size = groups * 256;
+    let size = groups * (w * 256);
     let sums = groups * 1024;
-    let start = first * rows;
-    let end = start + count * rows;
-    tiles64::gather(rows, count, &source[start..end], tile);
+    loading::load(m, w, first, count, source, tile);
     products::apply(
         field,
         outputs,
@@ -63,36 +64,33 @@ fn fill_tile(
         &mut table[..sums],
         words,
     );
-    store_rows(outputs, lanes, first, count, words, out);
+    storing::store(m, w, first, count, words, table, out);
 }
 
-// The products of all lanes: row i of the buffer has each lane's sum with the weights that list i was made for.
-pub fn fill_rows(
-    field: Field,
-    outputs: usize,
-    rows: usize,
+// The sums of all lanes.
+fn fill_lanes(
+    m: Product,
+    w: usize,
     lists: &[u16],
     counts: &[u8],
-    lanes: usize,
     source: &[u8],
     tile: &mut [u8],
     table: &mut [u8],
     words: &mut [u8],
     out: &mut [u8],
 )
-    requires { ⌜ OneByte field × (rows ≤ 255) × Made (modulus field) rows outputs (now lists) (now counts) × Room outputs rows (length (now tile)) (length (now table)) (length (now words)) × (length (now source) ≡ rows * lanes) × (length (now out) ≡ outputs * lanes) ⌝ }
-    ensures { λ r. ⌜ ((w : ℕ → List ℕ) → Begun (modulus field) rows w outputs (now (lists .entry)) (now (counts .entry)) → now (out .exit) ≡ buffer byRow outputs lanes (λ i t. dot (modulus field) (laneOf byLane rows lanes t (now (source .entry))) (w i))) ⌝ }
+    requires { ⌜ Ready m w (now lists) (now counts) (now source) (length (now out)) × Room w (m .outputs) (m .rows) (length (now tile)) (length (now table)) (length (now words)) ⌝ }
+    ensures { λ r. ⌜ ((ws : ℕ → List ℕ) → Begun (modulus (m .field)) (m .rows) ws (m .outputs) (now (lists .entry)) (now (counts .entry)) → now (out .exit) ≡ written (m .way) w (m .outputs) (m .lanes) (sumOf m w ws (now (source .entry)))) ⌝ }
 {
+    let lanes = m.lanes;
     let mut first: usize = 0;
     while first < lanes {
         let count = tiles64::lanes_of(lanes - first);
         fill_tile(
-            field,
-            outputs,
-            rows,
+            m,
+            w,
             lists,
             counts,
-            lanes,
             first,
             count,
             source,
@@ -103,4 +101,91 @@ pub fn fill_rows(
         );
         first += count;
     }
+}
+
+// In scratch for at most 16 rows of bytes.
+fn fill_small(m: Product, w: usize, lists: &[u16], counts: &[u8], source: &[u8], out: &mut [u8])
+    requires { ⌜ Ready m w (now lists) (now counts) (now source) (length (now out)) × (w * m .outputs ≤ 16) × (w * m .rows ≤ 16) ⌝ }
+    ensures { λ r. ⌜ ((ws : ℕ → List ℕ) → Begun (modulus (m .field)) (m .rows) ws (m .outputs) (now (lists .entry)) (now (counts .entry)) → now (out .exit) ≡ written (m .way) w (m .outputs) (m .lanes) (sumOf m w ws (now (source .entry)))) ⌝ }
+{
+    let mut tile = scratch::small_rows();
+    let mut table = scratch::small_table();
+    let mut words = scratch::small_rows();
+    fill_lanes(
+        m,
+        w,
+        lists,
+        counts,
+        source,
+        &mut tile,
+        &mut table,
+        &mut words,
+        out,
+    );
+}
+
+// For at most 64.
+fn fill_middle(m: Product, w: usize, lists: &[u16], counts: &[u8], source: &[u8], out: &mut [u8])
+    requires { ⌜ Ready m w (now lists) (now counts) (now source) (length (now out)) × (w * m .outputs ≤ 64) × (w * m .rows ≤ 64) ⌝ }
+    ensures { λ r. ⌜ ((ws : ℕ → List ℕ) → Begun (modulus (m .field)) (m .rows) ws (m .outputs) (now (lists .entry)) (now (counts .entry)) → now (out .exit) ≡ written (m .way) w (m .outputs) (m .lanes) (sumOf m w ws (now (source .entry)))) ⌝ }
+{
+    let mut tile = scratch::middle_rows();
+    let mut table = scratch::middle_table();
+    let mut words = scratch::middle_rows();
+    fill_lanes(
+        m,
+        w,
+        lists,
+        counts,
+        source,
+        &mut tile,
+        &mut table,
+        &mut words,
+        out,
+    );
+}
+
+// For any.
+fn fill_large(m: Product, w: usize, lists: &[u16], counts: &[u8], source: &[u8], out: &mut [u8])
+    requires { ⌜ Ready m w (now lists) (now counts) (now source) (length (now out)) ⌝ }
+    ensures { λ r. ⌜ ((ws : ℕ → List ℕ) → Begun (modulus (m .field)) (m .rows) ws (m .outputs) (now (lists .entry)) (now (counts .entry)) → now (out .exit) ≡ written (m .way) w (m .outputs) (m .lanes) (sumOf m w ws (now (source .entry)))) ⌝ }
+{
+    let mut tile = scratch::large_rows();
+    let mut table = scratch::large_table();
+    let mut words = scratch::large_rows();
+    fill_lanes(
+        m,
+        w,
+        lists,
+        counts,
+        source,
+        &mut tile,
+        &mut table,
+        &mut words,
+        out,
+    );
+}
+
+fn larger(a: usize, b: usize) -> usize
+    requires { ⌜ (a ≤ 255) × (b ≤ 255) ⌝ }
+    ensures { λ r. ⌜ (a ≤ r) × (b ≤ r) × (r ≤ 255) ⌝ }
+{
+    if a < b { b } else { a }
+}
+
+// The sums of all lanes with the weights that the lists were made for; a symbol has w bytes.
+pub fn fill(m: Product, w: usize, lists: &[u16], counts: &[u8], source: &[u8], out: &mut [u8])
+    requires { ⌜ Ready m w (now lists) (now counts) (now source) (length (now out)) ⌝ }
+    ensures { λ r. ⌜ ((ws : ℕ → List ℕ) → Begun (modulus (m .field)) (m .rows) ws (m .outputs) (now (lists .entry)) (now (counts .entry)) → now (out .exit) ≡ written (m .way) w (m .outputs) (m .lanes) (sumOf m w ws (now (source .entry)))) ⌝ }
+{
+    let most = w * larger(m.outputs, m.rows);
+    if most <= 16 {
+        fill_small(m, w, lists, counts, source, out);
+        return;
+    }
+    if most <= 64 {
+        fill_middle(m, w, lists, counts, source, out);
+        return;
+    }
+    fill_large(m, w, lists, counts, source, out);
 }

@@ -4,16 +4,12 @@ use mathlib.Core.List.{List, _++_}
 use mathlib.Core.Logic.{by-cases}
 use Prim.Native.Nat.{ℕ, _+_, _-_, _*_, _≤_, _<_}
 use native.Mathlib.Decide.{ℕ-discrete}
-use native.Mathlib.Nat.{zero-add, add-zero}
 use native.Mathlib.Omega.{arith}
-use lib.ListN.{length, getD, take, drop}
+use lib.ListN.{length, take, drop}
 use lib.Seq.{ext-getD}
-use Rattle.lists.proofs.Rows.{part-length, part-size, getD-part, getD-from, length-from, row-inside}
-use Rattle.layout.specs.Layout.{byRow, laneOf}
+use Rattle.lists.proofs.Rows.{part-length, getD-part, row-inside}
 use Rattle.layout.proofs.Runs.{replaced, length-replaced, replaced-before, replaced-inside}
-use Rattle.field.specs.Sums.{dot}
-use Rattle.combine.specs.Combined.{combined}
-use Rattle.products.specs.Products.{groupsOf, Prepared, Lists}
+use Rattle.products.specs.Products.{groupsOf, Prepared}
 use Rattle.products.specs.Matrices.{partOf, Begun, Made}
 
 -- parts of a list of which part j was replaced
@@ -62,15 +58,3 @@ begun-none p rows w lists counts size = record { size = size; each = λ i none. 
 pub begun-made : {p rows : ℕ} {w : ℕ → List ℕ} {outputs : ℕ} {lists counts : List ℕ} → outputs ≤ 255 → outputs * (8 * groupsOf rows) ≤ length lists → outputs * 8 ≤ length counts → Begun p rows w outputs lists counts → Made p rows outputs lists counts
 begun-made {p} {rows} {w} few lists-room counts-room b =
     record { few = few; lists-room = lists-room; counts-room = counts-room; each = λ i low. record { weights = w i; size = b .size i; prepared = b .each i low } }
-
--- the lanes of output j
-pub output-row : (p rows j outputs : ℕ) (w : ℕ → List ℕ) (tile : List ℕ) (i t : ℕ) → i < 1 → j + i < outputs → t < 64 → (i * 64 + t < 64) × (getD (combined byRow p rows 64 (w j) tile) (i * 64 + t) 0 ≡ dot p (laneOf byRow rows 64 t tile) (w (j + i)))
-unfolding combined
-output-row p rows j outputs w tile i t one row lane =
-    let none : i ≡ 0 = omega arith in
-    let start : 0 * 64 + t ≡ t = omega arith in
-    rw (none, start, add-zero j) (lane, rw zero-add at (getD-from (λ t. dot p (laneOf byRow rows 64 t tile) (w j)) 0 64 t 0 lane))
-
-pub length-combined : (p rows : ℕ) (ws tile : List ℕ) → length (combined byRow p rows 64 ws tile) ≡ 64
-unfolding combined
-length-combined p rows ws tile = length-from _ 0 64

@@ -2,6 +2,7 @@
 pub mod Reduction
 pub mod Held
 pub mod Scaling
+pub mod Lanes
 pub mod Arms
 pub mod Beginning
 pub mod Fitting

@@ -1,20 +1,20 @@
-// Products of a matrix of weights and a tile of rows of 64 lanes, over the fields whose symbols are bytes. Each output's weights are
-// turned into a list once, and the lists are used for tile after tile.
+// Products of a matrix of weights and a tile of rows of 64 lanes, over every kind of field. Each output's weights are turned into a list
+// once, and the lists are used for tile after tile.
 ghost use mathlib.Core.Path.{_≡_};
 ghost use mathlib.Core.Bool.{true};
 ghost use mathlib.Core.List.{List};
-ghost use Prim.Native.Nat.{ℕ, _*_, _≤_, _<_};
+ghost use Prim.Native.Nat.{ℕ, _*_, _≤_};
 ghost use lib.ListN.{length};
 ghost use Rattle.lists.specs.Numbers.{allBelow};
-ghost use Rattle.layout.specs.Layout.{byRow};
 ghost use Rattle.field.specs.Fields.{sizeOf};
-ghost use Rattle.field.specs.Kinds.{modulus};
-ghost use Rattle.combine.specs.Combined.{combined};
-ghost use Rattle.products.specs.Products.{OneByte, groupsOf, Codes, Prepared, Lists, Loaded};
+ghost use Rattle.field.specs.Kinds.{modulus, usable};
+ghost use Rattle.field.specs.Widths.{bytesFor};
+ghost use Rattle.products.specs.Products.{groupsOf, Codes, Prepared, Lists, Loaded, OutputRows};
 use field::Field;
 
 mod matrix;
 mod prime;
+mod primes;
 pub mod scratch;
 
 pub use matrix::apply;
@@ -29,23 +29,33 @@ pub fn groups_of(rows: usize) -> usize
 }
 
 // What stands for each weight: made once for a call.
-pub fn fill_codes(field: Field, codes: &mut [u64])
-    requires { ⌜ OneByte field × (length (now codes) ≡ 256) ⌝ }
+fn fill_codes(field: Field, codes: &mut [u64])
+    requires { ⌜ (usable field ≡ true) × (length (now codes) ≡ 256) ⌝ }
     ensures { λ r. ⌜ Codes (modulus field) (now (codes .exit)) ⌝ }
 {
     match field {
-        Field::Prime(f) => prime::fill_ratios(f.p as u16, codes),
+        Field::Prime(f) => primes::fill_codes(f.p, codes),
         Field::Binary(_) => subset_sums::fill_spread(codes),
     }
 }
 
+// The same as an array.
+pub fn codes_of(field: Field) -> [u64; 256]
+    requires { ⌜ usable field ≡ true ⌝ }
+    ensures { λ r. ⌜ Codes (modulus field) r ⌝ }
+{
+    let mut codes = scratch::codes();
+    fill_codes(field, &mut codes);
+    codes
+}
+
 // The lists for the weights of an output.
 fn list_weights(field: Field, codes: &[u64], weights: &[u16], list: &mut [u16], counts: &mut [u8])
-    requires { ⌜ OneByte field × Codes (modulus field) (now codes) × (length (now weights) ≤ 255) × (allBelow (sizeOf (modulus field)) (now weights) ≡ true) × (length (now list) ≡ 8 * groupsOf (length (now weights))) × (length (now counts) ≡ 8) ⌝ }
+    requires { ⌜ (usable field ≡ true) × Codes (modulus field) (now codes) × (length (now weights) ≤ 255) × (allBelow (sizeOf (modulus field)) (now weights) ≡ true) × (length (now list) ≡ 8 * groupsOf (length (now weights))) × (length (now counts) ≡ 8) ⌝ }
     ensures { λ r. ⌜ Prepared (modulus field) (now (weights .entry)) (now (list .exit)) (now (counts .exit)) ⌝ }
 {
     match field {
-        Field::Prime(f) => prime::scale(f.p as u16, codes, weights, list),
+        Field::Prime(f) => primes::list_weights(f.p, codes, weights, list),
         Field::Binary(_) => {
             let groups = groups_of(weights.len());
             subset_sums::list_output(codes, weights, groups, list, counts)
@@ -55,7 +65,7 @@ fn list_weights(field: Field, codes: &[u64], weights: &[u16], list: &mut [u16], 
 
 // What a tile's outputs share: over 256 elements the table of its sums of subsets, over a prime field nothing.
 fn load(field: Field, groups: usize, tile: &[u8], table: &mut [u8])
-    requires { ⌜ (groups ≤ 64) × (length (now tile) ≡ groups * 256) × (length (now table) ≡ groups * 1024) × OneByte field ⌝ }
+    requires { ⌜ (groups ≤ 64) × (length (now tile) ≡ groups * (bytesFor (modulus field) * 256)) × (length (now table) ≡ groups * 1024) × (usable field ≡ true) ⌝ }
     ensures { λ r. ⌜ Loaded (modulus field) groups (now (tile .entry)) (now (table .exit)) ⌝ }
 {
     match field {
@@ -74,11 +84,11 @@ fn output(
     table: &[u8],
     out: &mut [u8],
 )
-    requires { ⌜ OneByte field × (rows ≤ 255) × Lists (modulus field) rows (now list) (now counts) × Loaded (modulus field) (groupsOf rows) (now tile) (now table) × (length (now out) ≡ 64) ⌝ }
-    ensures { λ r. ⌜ ((ws : List ℕ) → length ws ≡ rows → Prepared (modulus field) ws (now (list .entry)) (now (counts .entry)) → now (out .exit) ≡ combined byRow (modulus field) rows 64 ws (now (tile .entry))) ⌝ }
+    requires { ⌜ (usable field ≡ true) × (rows ≤ 255) × Lists (modulus field) rows (now list) (now counts) × Loaded (modulus field) (groupsOf rows) (now tile) (now table) × (length (now out) ≡ bytesFor (modulus field) * 64) ⌝ }
+    ensures { λ r. ⌜ ((ws : List ℕ) → length ws ≡ rows → Prepared (modulus field) ws (now (list .entry)) (now (counts .entry)) → OutputRows (modulus field) rows ws (now (tile .entry)) (now (out .exit))) ⌝ }
 {
     match field {
-        Field::Prime(f) => prime::output(f.p as u16, rows, list, tile, out),
+        Field::Prime(f) => primes::output(f.p, rows, list, tile, out),
         Field::Binary(_) => {
             let groups = groups_of(rows);
             subset_sums::output(groups, table, list, counts, out)

@@ -6,9 +6,10 @@ ghost use Prim.Native.Nat.{ℕ, _+_, _*_, _≤_};
 ghost use lib.ListN.{length};
 ghost use Rattle.lists.specs.Numbers.{allBelow};
 ghost use Rattle.field.specs.Fields.{sizeOf};
-ghost use Rattle.field.specs.Kinds.{modulus};
-ghost use Rattle.products.specs.Products.{OneByte, groupsOf, Codes, Loaded};
-ghost use Rattle.products.specs.Matrices.{Begun, Made, OutputsOf};
+ghost use Rattle.field.specs.Kinds.{modulus, usable};
+ghost use Rattle.field.specs.Widths.{bytesFor};
+ghost use Rattle.products.specs.Products.{groupsOf, Codes, Loaded};
+ghost use Rattle.products.specs.Matrices.{Begun, Made, OutputsOf, Multiplied};
 use crate::groups_of;
 use field::Field;
 
@@ -21,7 +22,7 @@ pub fn prepare(
     lists: &mut [u16],
     counts: &mut [u8],
 )
-    requires { ⌜ OneByte field × Codes (modulus field) (now codes) × (length (now weights) ≤ 255) × (allBelow (sizeOf (modulus field)) (now weights) ≡ true) × (j ≤ 255) × (j * (8 * groupsOf (length (now weights))) + 8 * groupsOf (length (now weights)) ≤ length (now lists)) × (j * 8 + 8 ≤ length (now counts)) ⌝ }
+    requires { ⌜ (usable field ≡ true) × Codes (modulus field) (now codes) × (length (now weights) ≤ 255) × (allBelow (sizeOf (modulus field)) (now weights) ≡ true) × (j ≤ 255) × (j * (8 * groupsOf (length (now weights))) + 8 * groupsOf (length (now weights)) ≤ length (now lists)) × (j * 8 + 8 ≤ length (now counts)) ⌝ }
     ensures { λ r. ⌜ ((w : ℕ → List ℕ) → w j ≡ now (weights .entry) → Begun (modulus field) (length (now (weights .entry))) w j (now (lists .entry)) (now (counts .entry)) → Begun (modulus field) (length (now (weights .entry))) w (j + 1) (now (lists .exit)) (now (counts .exit))) ⌝ }
 {
     let size = 8 * groups_of(weights.len());
@@ -49,9 +50,10 @@ fn outputs(
     table: &[u8],
     out: &mut [u8],
 )
-    requires { ⌜ OneByte field × (rows ≤ 255) × Made (modulus field) rows count (now lists) (now counts) × Loaded (modulus field) (groupsOf rows) (now tile) (now table) × (count * 64 ≤ length (now out)) ⌝ }
+    requires { ⌜ (usable field ≡ true) × (rows ≤ 255) × Made (modulus field) rows count (now lists) (now counts) × Loaded (modulus field) (groupsOf rows) (now tile) (now table) × (count * (bytesFor (modulus field) * 64) ≤ length (now out)) ⌝ }
     ensures { λ r. ⌜ ((w : ℕ → List ℕ) → Begun (modulus field) rows w count (now (lists .entry)) (now (counts .entry)) → OutputsOf (modulus field) rows count w (now (tile .entry)) count (now (out .exit))) ⌝ }
 {
+    let row = field.width() * 64;
     let size = 8 * groups_of(rows);
     let mut j = 0;
     while j < count {
@@ -59,8 +61,8 @@ fn outputs(
         let end = start + size;
         let at = j * 8;
         let at_end = at + 8;
-        let to = j * 64;
-        let to_end = to + 64;
+        let to = j * row;
+        let to_end = to + row;
         crate::output(
             field,
             rows,
@@ -85,8 +87,8 @@ pub fn apply(
     table: &mut [u8],
     out: &mut [u8],
 )
-    requires { ⌜ OneByte field × (rows ≤ 255) × Made (modulus field) rows count (now lists) (now counts) × (length (now tile) ≡ groupsOf rows * 256) × (length (now table) ≡ groupsOf rows * 1024) × (count * 64 ≤ length (now out)) ⌝ }
-    ensures { λ r. ⌜ ((w : ℕ → List ℕ) → Begun (modulus field) rows w count (now (lists .entry)) (now (counts .entry)) → OutputsOf (modulus field) rows count w (now (tile .entry)) count (now (out .exit))) ⌝ }
+    requires { ⌜ (usable field ≡ true) × (rows ≤ 255) × Made (modulus field) rows count (now lists) (now counts) × (length (now tile) ≡ groupsOf rows * (bytesFor (modulus field) * 256)) × (length (now table) ≡ groupsOf rows * 1024) × (count * (bytesFor (modulus field) * 64) ≤ length (now out)) ⌝ }
+    ensures { λ r. ⌜ ((w : ℕ → List ℕ) → Begun (modulus field) rows w count (now (lists .entry)) (now (counts .entry)) → Multiplied (modulus field) rows count w (now (tile .entry)) (now (out .exit))) ⌝ }
 {
     let groups = groups_of(rows);
     crate::load(field, groups, tile, table);

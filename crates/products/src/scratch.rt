@@ -1,4 +1,4 @@
-// Scratch in three sizes: for at most 16 outputs and rows, for at most 64, and for any.
+// Scratch in three sizes: for at most 16 outputs and rows of bytes, for at most 64, and for any.
 ghost use mathlib.Core.Path.{_≡_};
 ghost use lib.ListN.{length};
 
@@ -80,10 +80,10 @@ pub fn large_counts() -> [u8; 2040]
 }
 
 // The rows of a tile.
-pub fn large_rows() -> [u8; 16384]
-    ensures { λ r. ⌜ length r ≡ 16384 ⌝ }
+pub fn large_rows() -> [u8; 32768]
+    ensures { λ r. ⌜ length r ≡ 32768 ⌝ }
 {
-    [0u8; 16384]
+    [0u8; 32768]
 }
 
 // Its table.

@@ -2,5 +2,4 @@
 pub mod Rebuilding
 pub mod Recovering
 pub mod Tiles
-pub mod WeightRows
 pub mod Products

@@ -1,36 +1,29 @@
--- Sums over the rows of a tile are those of the lanes that it was gathered from, and the message by them.
+-- Sums over the rows of a tile are those of the lanes that it was gathered from.
 use mathlib.Core.Path.{_≡_, refl, sym, ap, _∙_}
-use mathlib.Core.Bool.{true}
 use mathlib.Core.List.{List}
 use Prim.Native.Nat.{ℕ, _+_, _-_, _*_, _≤_, _<_}
-use native.Mathlib.Nat.{add-zero, zero-add, mul-comm, mul-le-mul, le-trans}
+use native.Mathlib.Nat.{add-zero, mul-comm, mul-le-mul, le-trans}
 use native.Mathlib.Omega.{arith}
-use lib.ListN.{length, getD, take, drop}
+use lib.ListN.{length, take, drop}
 use Rattle.lists.specs.Rows.{from}
-use Rattle.lists.proofs.Rows.{from-ext, from-move, length-from, getD-from, part-size}
-use Rattle.layout.specs.Layout.{Arrangement, byRow, byLane, held, laneOf, buffer, rearranged, someLanes, shareLayout}
+use Rattle.lists.proofs.Rows.{from-ext, from-move, length-from, part-size}
+use Rattle.layout.specs.Layout.{Arrangement, byRow, byLane, laneOf, buffer, someLanes, shareLayout}
 use Rattle.layout.specs.Width.{symbolsOf, bytesOf}
-use Rattle.layout.specs.Tiles.{tileSymbols}
-use Rattle.layout.proofs.Tiles.{length-rearranged-rows, tile-gathered}
 use Rattle.layout.proofs.Widths.{length-bytes}
 use Rattle.layout.proofs.LaneParts.{lanes-long, bytes-part}
 use Rattle.layout.proofs.Lawful.{by-row, by-lane}
-use Rattle.layout.proofs.Buffers.{getD-lane, length-buffer, held-below, buffer-below, buffer-ext, buffer-held, rearranged-lane}
 use Rattle.layout.proofs.Places.{share-by-lane}
 use Rattle.layout.proofs.Runs.{lane-some}
 use Rattle.tiles.proofs.Parts.{from-part}
 use Rattle.field.specs.Sums.{dot}
 use Rattle.generator.specs.declared.Header.{Header}
-use Rattle.generator.specs.Records.{modulusOf, size, width, Sound}
-use Rattle.generator.specs.Claims.{areNodes}
+use Rattle.generator.specs.Records.{modulusOf, width, Sound}
 use Rattle.generator.proofs.Widths.{width-range}
-use Rattle.refusals.specs.Accepted.{SymbolRows, SymbolBytes, SymbolTile, ListedShares}
-use Rattle.blocks.specs.Blocks.{MessageFor}
-use Rattle.blocks.specs.Bytes.{RecoveredBytes, RebuiltBytes}
-use Rattle.blocks.proofs.Messages.{lane-message, some-buffer}
+use Rattle.refusals.specs.Accepted.{SymbolRows, SymbolBytes, ListedShares}
+use Rattle.blocks.specs.Bytes.{RebuiltBytes}
+use Rattle.blocks.proofs.Messages.{some-buffer}
 use Rattle.combine.specs.Combined.{combined}
 use Rattle.recovery.specs.Weights.{Rebuilds}
-use Rattle.recover.specs.Sums.{weightRow, WeightRows, sumAt, MessageWritten}
 use Rattle.recover.proofs.Rebuilding.{rebuilt}
 
 module _ (p rows l : ℕ) (s : List ℕ) (t c : ℕ) where
@@ -61,11 +54,6 @@ length-combined y p rows c ws s = length-from (λ t. dot p (laneOf y rows c t s)
 pub length-sums : (h : Header) (w l : ℕ) (ws s : List ℕ) → length (bytesOf w (combined byLane (modulusOf h) (h .k) l ws s)) ≡ w * l
 length-sums h w l ws s = length-bytes w _ ∙ ap (λ (x : ℕ). x * w) (length-combined byLane (modulusOf h) (h .k) l ws s) ∙ mul-comm l w
 
--- place q of it
-pub combined-at : (p rows c : ℕ) (ws s : List ℕ) (q : ℕ) → q < c → getD (combined byRow p rows c ws s) q 0 ≡ dot p (laneOf byRow rows c q s) ws
-unfolding combined
-combined-at p rows c ws s q inside = rw zero-add at (getD-from (λ t. dot p (laneOf byRow rows c t s) ws) 0 c q 0 inside)
-
 -- listed shares, with the bytes of a symbol told
 pub listed-bytes : {h : Header} {l : ℕ} {nodes shares : List ℕ} (w : ℕ) → w ≡ width h → ListedShares h l nodes shares → SymbolBytes h w (h .k) l shares
 listed-bytes {h} {l} w wide listed =
@@ -85,56 +73,3 @@ module _ {h : Header} {l : ℕ} {nodes shares : List ℕ} (listed : ListedShares
   rebuilt-lanes {out} target ws w e =
       let (m, is) = some-buffer by-lane h (all-rows .sound) l nodes (listed .different) (symbolsOf (width h) shares) (all-rows .long) (all-rows .symbols) in
       rw share-by-lane (m, is, e ∙ ap (bytesOf (width h)) (rebuilt is target ws w))
-
-  -- the message as bytes
-  pub recovered-lanes : {out : List ℕ} → MessageWritten byLane h (width h) l nodes (symbolsOf (width h) shares) out → RecoveredBytes shareLayout h l nodes shares out
-  unfolding RecoveredBytes
-  recovered-lanes a = rw share-by-lane (a .message, a .is, a .written)
-
--- the sums with all rows of weights are the message
-pub sums-message : {h : Header} {l : ℕ} {nodes xs ws : List ℕ} → SymbolRows h (h .k) l xs → areNodes h nodes ≡ true → WeightRows h nodes ws → MessageFor byLane h l nodes xs (buffer byRow (h .k) l (sumAt h l ws xs))
-unfolding sumAt
-sums-message {h} {l} {nodes} {xs} {ws} rows different all =
-    let (m, is) = some-buffer by-lane h (rows .sound) l nodes different xs (rows .long) (rows .symbols) in
-    let same : buffer byRow (h .k) l (sumAt h l ws xs) ≡ m =
-    buffer-ext by-row (h .k) l (sumAt h l ws xs) (held byRow (h .k) l m)
-    (λ r t row inside.
-    ap (λ (w : List ℕ). dot (modulusOf h) w (weightRow ws r)) (sym (is .lanes t inside))
-    ∙ sym (all .rows r row .gives (laneOf byRow (h .k) l t m) (lane-message h l m t inside (is .size-is) (is .symbols)))
-    ∙ getD-lane byRow (h .k) l t m r row)
-    ∙ buffer-held by-row (h .k) l m (is .size-is) in
-    rw same is
-
--- a block that is one tile: its rows, and the message by them
-module _ (h : Header) (w l : ℕ) (nodes s : List ℕ) (is : SymbolBytes h w (h .k) l s) where
-  abbrev tile : List ℕ
-  tile = rearranged byLane byRow (w * h .k) l s
-
-  tile-symbols : tileSymbols w (h .k) l (rearranged byLane byRow (w * h .k) l s) ≡ rearranged byLane byRow (h .k) l (symbolsOf w s)
-  tile-symbols = tile-gathered w (h .k) l s (is .bytes)
-
-  pub block-tile : SymbolTile h w (h .k) l (rearranged byLane byRow (w * h .k) l s)
-  unfolding rearranged
-  block-tile =
-      let rows = is .symbol-rows in
-      record {
-        wide = is .wide;
-        bytes = length-rearranged-rows (w * h .k) l s;
-        symbol-rows = rw tile-symbols
-            record {
-              sound = rows .sound;
-              some-lane = rows .some-lane;
-              few-lanes = rows .few-lanes;
-              long = length-rearranged-rows (h .k) l (symbolsOf w s);
-              symbols = buffer-below by-row (h .k) l (size h) _ (held-below by-lane (h .k) l (size h) (symbolsOf w s) (rows .long) (rows .symbols));
-            };
-      }
-
-  pub block-message : {out : List ℕ} → MessageWritten byRow h w l nodes (tileSymbols w (h .k) l (rearranged byLane byRow (w * h .k) l s)) out → MessageWritten byLane h w l nodes (symbolsOf w s) out
-  block-message a =
-      let m = a .is in
-      record {
-        message = a .message;
-        is = record { size-is = m .size-is; symbols = m .symbols; lanes = λ t inside. m .lanes t inside ∙ ap (laneOf byRow (h .k) l t) tile-symbols ∙ rearranged-lane by-lane by-row (h .k) l (symbolsOf w s) t inside };
-        written = a .written;
-      }

@@ -1,5 +1,4 @@
 // Recover and Rebuild: the message, or what one node holds, from the shares of any k nodes.
-ghost use mathlib.Core.Path.{_≡_};
 ghost use lib.ListN.{length};
 ghost use Rattle.layout.specs.Layout.{shareLayout};
 ghost use Rattle.generator.specs.Records.{Sound};
@@ -9,9 +8,7 @@ use blocks::Outcome;
 use generator::Header;
 use generator::Record;
 
-mod messages;
 mod shares;
-mod weights;
 
 // Recovers over an accepted record's header.
 fn recover_accepted(h: Header, lanes: usize, nodes: &[u8], shares: &[u8], out: &mut [u8]) -> Outcome
@@ -26,7 +23,7 @@ fn recover_accepted(h: Header, lanes: usize, nodes: &[u8], shares: &[u8], out: &
     let shifts = shifts::fill_shifts(h.n, h.k);
     let setup = recovery::prepare(h, nodes, &shifts[..k]);
     let w = symbols::width_of(h);
-    messages::recover_lanes(h, w, lanes, nodes, shares, setup, out);
+    inverse::fill_message(h, nodes, setup, w, lanes, shares, out);
     Outcome::Done
 }
 

@@ -1,32 +1,35 @@
 -- `fill_terms` meets its contract. The loop's invariant: the terms of the rows below r are written, and the others are to come.
-use mathlib.Core.Path.{_≡_, refl, sym, ap, _∙_}
-use mathlib.Core.Bool.{true}
-use Prim.Native.Nat.{ℕ, _+_, _-_, _*_, _^_, _≤_, _<_}
-use native.Mathlib.Nat.{sub-zero, zero-mul, mul-one, mul-le-mul, le-refl}
+use mathlib.Core.Path.{_≡_, sym, ap, _∙_}
+use Prim.Native.Nat.{ℕ, _+_, _-_, _*_, _≤_}
+use native.Mathlib.Nat.{sub-zero, zero-mul, mul-comm, mul-le-mul, le-refl}
 use native.Mathlib.Omega.{arith}
 use lib.ListN.{length, take}
 use Rattle.lists.specs.Rows.{rowsFrom}
-use Rattle.lists.specs.Numbers.{allBelow}
 use Rattle.lists.proofs.Padding.{take-padded}
 use Rattle.lists.proofs.Rows.{rows-next, rows-end, row-after, row-inside, part-size, part-length}
 use Rattle.lists.proofs.Fill.{Fills, fills-start, fills-part, fills-all}
-use Rattle.layout.proofs.Widths.{bytes-one}
-use Rattle.generator.specs.Records.{size}
+use Rattle.layout.specs.Width.{bytesOf}
+use Rattle.layout.proofs.LaneParts.{bytes-rows}
+use Rattle.layout.proofs.Widths.{length-bytes}
+use Rattle.generator.proofs.Widths.{width-range, symbols-fit}
 use Rattle.recovery.specs.Rows.{rowTerms}
 use Rattle.recovery.proofs.Parts.{Symbols, term-symbols}
-use Rattle.inverse.proofs.Columns.{below-wider}
 use Rattle.inverse.proofs.fill_terms.Statement.{statement}
 use Rattle.inverse.proofs.fill_terms.Tie as tie
 
 abbrev Inv-loop : tie.InvT-loop
-Inv-loop h rows base out₀ k t r₀ out r = (r ≤ h .k) × Fills out₀ out (r * h .k) (rowsFrom (rowTerms h) r (h .k - r)) (rowsFrom (rowTerms h) 0 (h .k))
+Inv-loop h w rows base out₀ k size t r₀ out r = (r ≤ h .k) × Fills out₀ out (r * (w * h .k)) (rowsFrom (λ r. bytesOf w (rowTerms h r)) r (h .k - r)) (rowsFrom (λ r. bytesOf w (rowTerms h r)) 0 (h .k))
 
 abbrev μ-loop : tie.MeasureT-loop
-μ-loop h rows base out₀ k t r₀ out r = h .k - r
+μ-loop h w rows base out₀ k size t r₀ out r = h .k - r
 
 -- a row lies within the buffer
-row-in : (c : tie.In-loop Inv-loop μ-loop) → let a = c .before .before .before .before .before .args in c .before .loop .r * a .h .k + a .h .k ≤ length (a .out .now)
-row-in c = let s = c .before .before .before .before .before in omega (arith, s .pre .4, row-inside (s .args .h .k) (c .before .loop .r) (s .args .h .k) (c .loop-test .taken))
+row-in : (c : tie.In-loop Inv-loop μ-loop) → let a = c .before .before .before .before .before .args in c .before .loop .r * (a .w * a .h .k) + a .w * a .h .k ≤ length (a .out .now)
+row-in c = let s = c .before .before .before .before .before in let a = s .args in omega (arith, s .pre .4, mul-comm (a .w * a .h .k) (a .h .k), row-inside (a .h .k) (c .before .loop .r) (a .w * a .h .k) (c .loop-test .taken))
+
+-- a symbol has one byte or two
+width-of : (c : tie.Start Inv-loop μ-loop) → (1 ≤ c .args .w) × (c .args .w ≤ 2)
+width-of c = rw (c .pre .1) (width-range (c .args .h))
 
 -- the row's terms, k symbols
 terms : (c : tie.In-loop Inv-loop μ-loop) → let a = c .before .before .before .before .before .args in Symbols (a .h .field) (a .h .k) (rowTerms (a .h) (c .before .loop .r))
@@ -38,6 +41,12 @@ taken c = rw (c .row-terms .ensures) (take-padded 255 _ _ (terms (c .before .bef
 
 cast-k : tie.Need-cast-k Inv-loop μ-loop
 cast-k c = omega arith
+
+mul-size : tie.Need-mul-size Inv-loop μ-loop
+mul-size c = let s = c .before .before in let e = mul-le-mul (width-of s .1) (few s) in omega (arith, e)
+  where
+    few : (s : tie.Start Inv-loop μ-loop) → s .args .h .k ≤ 255
+    few s = let sound = s .pre .0 in omega (arith, sound .fits, sound .byte)
 
 constant-tables-requires : tie.Need-constant-tables-requires Inv-loop μ-loop
 constant-tables-requires c κs = _
@@ -74,9 +83,10 @@ write-symbols-requires c κs =
     let at = c .before .before .before .before in
     let s = at .before .before .before .before .before in
     let k = s .args .h .k in
+    let w = s .args .w in
     let l = at .before .loop in
     rw (taken (c .before .before))
-    (omega arith, omega arith, below-wider (size (s .args .h)) 256 (rowTerms (s .args .h) (l .r)) (s .pre .1 .one-byte) (terms at .are .below), part-length (l .r * k) k (l .out) (omega (arith, l .inv .1 .long, row-in at)) ∙ sym (terms at .size) ∙ sym (mul-one _))
+    (width-of s .0, width-of s .1, rw (s .pre .1) (symbols-fit (s .args .h) (s .pre .0) (rowTerms (s .args .h) (l .r)) (terms at .are .below)), part-length (l .r * (w * k)) (w * k) (l .out) (omega (arith, l .inv .1 .long, row-in at)) ∙ mul-comm w k ∙ ap (λ (x : ℕ). x * w) (sym (terms at .size)))
 
 add-r : tie.Need-add-r Inv-loop μ-loop
 add-r c = omega arith
@@ -89,10 +99,11 @@ loop-again c =
     let at = c .before .before .before .before .before .before .before in
     let s = at .before .before .before .before .before in
     let h = s .args .h in
+    let w = s .args .w in
     let l = at .before .loop in (
       omega arith,
-      rw (row-after, part-size, c .before .before .write-symbols .ensures, taken (c .before .before .before .before .before), bytes-one (rowTerms h (l .r)))
-          (fills-part (rowTerms h (l .r)) (h .k) (rw (rows-next _ _ _ (at .loop-test .taken)) at (l .inv .1)) (terms at .size) (row-in at)),
+      rw (row-after, part-size, c .before .before .write-symbols .ensures, taken (c .before .before .before .before .before))
+          (fills-part (bytesOf w (rowTerms h (l .r))) (w * h .k) (rw (rows-next _ _ _ (at .loop-test .taken)) at (l .inv .1)) (length-bytes w (rowTerms h (l .r)) ∙ ap (λ (x : ℕ). x * w) (terms at .size) ∙ mul-comm (h .k) w) (row-in at)),
     )
 
 same-length : tie.Need-same-length Inv-loop μ-loop
@@ -101,8 +112,10 @@ same-length c = c .before .loop .inv .1 .long
 returns : tie.Need-returns Inv-loop μ-loop
 returns c =
     let s = c .before .before .before .before .before in
-    fills-all (rw (rows-end _ _ _ (c .loop-test .left)) at (c .before .loop .inv .1)) (rw (s .pre .4) (mul-le-mul (c .loop-test .left) (le-refl _)))
+    let a = s .args in
+    fills-all (rw (rows-end _ _ _ (c .loop-test .left)) at (c .before .loop .inv .1)) (rw (s .pre .4, mul-comm (a .w * a .h .k) (a .h .k)) (mul-le-mul (c .loop-test .left) (le-refl _)))
+    ∙ bytes-rows (a .w) (rowTerms (a .h)) 0 (a .h .k)
 
 pub fill-terms-spec : {M : Type 1} → statement M
 fill-terms-spec =
-    tie.close (tie.spec Inv-loop μ-loop cast-k constant-tables-requires loop-holds row-terms-requires mul-start add-end array-share-prefix-row slice-aggregate-write-symbols sub-write-symbols part-write-symbols-start part-write-symbols-end write-symbols-requires add-r loop-less loop-again same-length returns)
+    tie.close (tie.spec Inv-loop μ-loop cast-k mul-size constant-tables-requires loop-holds row-terms-requires mul-start add-end array-share-prefix-row slice-aggregate-write-symbols sub-write-symbols part-write-symbols-start part-write-symbols-end write-symbols-requires add-r loop-less loop-again same-length returns)

@@ -1,6 +1,6 @@
 -- `list_columns` meets its contract. The loop's invariant: the columns below r have their lists.
-use mathlib.Core.Path.{_≡_, refl, sym, _∙_}
-use Prim.Native.Nat.{ℕ, _+_, _-_, _*_, _≤_, _<_}
+use mathlib.Core.Path.{_≡_, refl, sym}
+use Prim.Native.Nat.{_-_, _*_, _≤_, _<_}
 use native.Mathlib.Omega.{arith}
 use lib.ListN.{length, getD, take}
 use Rattle.lists.proofs.Numbers.{below-at}
@@ -13,15 +13,16 @@ use Rattle.products.specs.Products.{groupsOf}
 use Rattle.products.specs.Matrices.{Begun}
 use Rattle.products.proofs.Beginning.{begun-none}
 use Rattle.inverse.specs.Inverse.{scaledColumn}
+use Rattle.layout.specs.Width.{symbolsOf}
 use Rattle.inverse.proofs.Columns.{length-column, column-below}
 use Rattle.inverse.proofs.list_columns.Statement.{statement}
 use Rattle.inverse.proofs.list_columns.Tie as tie
 
 abbrev Inv-loop : tie.InvT-loop
-Inv-loop field factors scales sums codes lists₀ counts₀ t r₀ lists counts r = (r ≤ length factors) × (length lists ≡ length lists₀) × (length counts ≡ length counts₀) × Begun (modulus field) (length scales) (λ j. scaledColumn (modulus field) (getD factors j 0) scales j sums) r lists counts
+Inv-loop field factors scales w sums codes lists₀ counts₀ t r₀ lists counts r = (r ≤ length factors) × (length lists ≡ length lists₀) × (length counts ≡ length counts₀) × Begun (modulus field) (length scales) (λ j. scaledColumn (modulus field) (getD factors j 0) scales j (symbolsOf w sums)) r lists counts
 
 abbrev μ-loop : tie.MeasureT-loop
-μ-loop field factors scales sums codes lists₀ counts₀ t r₀ lists counts r = length factors - r
+μ-loop field factors scales w sums codes lists₀ counts₀ t r₀ lists counts r = length factors - r
 
 constant-tables-requires : tie.Need-constant-tables-requires Inv-loop μ-loop
 constant-tables-requires c κs = _
@@ -31,7 +32,7 @@ loop-holds c = (omega arith, refl, refl, begun-none _ _ _ _ _ (λ r. length-colu
 
 -- the factor is a symbol
 factor : (c : tie.In-loop Inv-loop μ-loop) → let a = c .before .before .before .before .before .before .before .before .before .args in getD (a .factors .now) (c .before .loop .r) 0 < sizeOf (modulus (a .field))
-factor c = below-at _ _ (c .before .before .before .before .before .before .before .before .before .pre .1 .below) _ (c .loop-test .taken)
+factor c = below-at _ _ (c .before .before .before .before .before .before .before .before .before .pre .0 .below) _ (c .loop-test .taken)
 
 mul-scaled-column : tie.Need-mul-scaled-column Inv-loop μ-loop
 mul-scaled-column c = omega arith
@@ -43,19 +44,19 @@ cast-scaled-column : tie.Need-cast-scaled-column Inv-loop μ-loop
 cast-scaled-column c = omega (arith, c .shared-slice-known5 .given (c .before .before .before .loop .r))
 
 scaled-column-requires : tie.Need-scaled-column-requires Inv-loop μ-loop
-scaled-column-requires c κs = let s = c .before .before .before .before .before .before .before .before .before .before .before in (s .pre .2, factor (c .before .before), omega (arith, s .pre .3, c .before .before .loop-test .taken), s .pre .4, s .pre .5, c .before .before .before .before .constant-tables .ensures)
+scaled-column-requires c κs = let s = c .before .before .before .before .before .before .before .before .before .before .before in (s .pre .1, factor (c .before .before), omega (arith, s .pre .2, c .before .before .loop-test .taken), s .pre .3, c .before .before .before .before .constant-tables .ensures)
 
 -- the column as it is lent
-taken : (c : tie.After-scaled-column Inv-loop μ-loop) → let a = c .before .before .before .before .before .before .before .before .before .before .before .before .args in take (length (a .scales .now)) (c .scaled-column .result) ≡ scaledColumn (modulus (a .field)) (getD (a .factors .now) (c .before .before .before .before .loop .r) 0) (a .scales .now) (c .before .before .before .before .loop .r) (a .sums .now)
+taken : (c : tie.After-scaled-column Inv-loop μ-loop) → let a = c .before .before .before .before .before .before .before .before .before .before .before .before .args in take (length (a .scales .now)) (c .scaled-column .result) ≡ scaledColumn (modulus (a .field)) (getD (a .factors .now) (c .before .before .before .before .loop .r) 0) (a .scales .now) (c .before .before .before .before .loop .r) (symbolsOf (a .w) (a .sums .now))
 taken c = rw (c .scaled-column .ensures) (take-padded 255 _ _ (length-column _ _ _ _ _))
 
 array-share-prefix-column : tie.Need-array-share-prefix-column Inv-loop μ-loop
 array-share-prefix-column c =
     let a = c .before .before .before .before .before .before .before .before .before .before .before .before .args in
-    let short = c .before .before .before .before .before .before .before .before .before .before .before .before .pre .2 .short in
+    let short = c .before .before .before .before .before .before .before .before .before .before .before .before .pre .1 .short in
     let r = c .before .before .before .before .loop .r in
     let x = getD (a .factors .now) r 0 in
-    rw (c .scaled-column .ensures) (omega (arith, short, length-padded 255 (scaledColumn (modulus (a .field)) x (a .scales .now) r (a .sums .now)) (omega (arith, short, length-column (modulus (a .field)) x (a .scales .now) r (a .sums .now)))))
+    rw (c .scaled-column .ensures) (omega (arith, short, length-padded 255 (scaledColumn (modulus (a .field)) x (a .scales .now) r (symbolsOf (a .w) (a .sums .now))) (omega (arith, short, length-column (modulus (a .field)) x (a .scales .now) r (symbolsOf (a .w) (a .sums .now))))))
 
 slice-aggregate-prepare : tie.Need-slice-aggregate-prepare Inv-loop μ-loop
 slice-aggregate-prepare c = rw (taken (c .before)) (sym (length-column _ _ _ _ _))
@@ -68,14 +69,14 @@ prepare-requires c κs =
     let l = at .before .loop in
     let n = length (a .scales .now) in
     let x = getD (a .factors .now) (l .r) 0 in
-    let low : l .r < n = omega (arith, at .loop-test .taken, s .pre .3) in
-    let room = s .pre .7 in
-    rw (taken (c .before .before .before), length-column (modulus (a .field)) x (a .scales .now) (l .r) (a .sums .now)) (
-      s .pre .0,
-      s .pre .6,
-      s .pre .2 .short,
-      column-below _ x (a .scales .now) (l .r) (a .sums .now) (usable-field _ (s .pre .0 .usable-field)) (factor at) (s .pre .2 .below) (s .pre .5),
-      omega (arith, low, s .pre .2 .short),
+    let low : l .r < n = omega (arith, at .loop-test .taken, s .pre .2) in
+    let room = s .pre .5 in
+    rw (taken (c .before .before .before), length-column (modulus (a .field)) x (a .scales .now) (l .r) (symbolsOf (a .w) (a .sums .now))) (
+      s .pre .1 .usable-field,
+      s .pre .4,
+      s .pre .1 .short,
+      column-below _ x (a .scales .now) (l .r) (symbolsOf (a .w) (a .sums .now)) (usable-field _ (s .pre .1 .usable-field)) (factor at) (s .pre .1 .below) (s .pre .3 .below),
+      omega (arith, low, s .pre .1 .short),
       omega (arith, row-inside n (l .r) (8 * groupsOf n) low, room .entries, l .inv .1),
       omega (arith, row-inside n (l .r) 8 low, room .sizes, l .inv .2),
     )
@@ -91,8 +92,8 @@ loop-again c =
     let at = c .before .before .before .before .before .before .before .before .before .before .before in
     let a = at .before .before .before .before .before .before .before .before .before .args in
     let l = at .before .loop in
-    let made = rw (taken (c .before .before .before .before .before .before .before .before), length-column (modulus (a .field)) (getD (a .factors .now) (l .r) 0) (a .scales .now) (l .r) (a .sums .now)) at (c .before .before .before .before .prepare .ensures) in
-    (omega arith, omega (arith, l .inv .1), omega (arith, l .inv .2), made (λ j. scaledColumn (modulus (a .field)) (getD (a .factors .now) j 0) (a .scales .now) j (a .sums .now)) refl (l .inv .3))
+    let made = rw (taken (c .before .before .before .before .before .before .before .before), length-column (modulus (a .field)) (getD (a .factors .now) (l .r) 0) (a .scales .now) (l .r) (symbolsOf (a .w) (a .sums .now))) at (c .before .before .before .before .prepare .ensures) in
+    (omega arith, omega (arith, l .inv .1), omega (arith, l .inv .2), made (λ j. scaledColumn (modulus (a .field)) (getD (a .factors .now) j 0) (a .scales .now) j (symbolsOf (a .w) (a .sums .now))) refl (l .inv .3))
 
 same-length : tie.Need-same-length Inv-loop μ-loop
 same-length c = c .before .loop .inv .1
@@ -103,7 +104,7 @@ same-length-2 c = c .before .loop .inv .2
 returns : tie.Need-returns Inv-loop μ-loop
 returns c =
     let s = c .before .before .before .before .before .before .before .before .before in
-    let all : c .before .loop .r ≡ length (s .args .scales .now) = omega (arith, s .pre .3) in
+    let all : c .before .loop .r ≡ length (s .args .scales .now) = omega (arith, s .pre .2) in
     rw all at (c .before .loop .inv .3)
 
 pub list-columns-spec : {M : Type 1} → statement M

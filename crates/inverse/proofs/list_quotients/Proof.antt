@@ -1,10 +1,8 @@
 -- `list_quotients` meets its contract. The loop's invariant: the points below i have the lists of their quotients.
 use mathlib.Core.Path.{_≡_, refl, sym, _∙_}
-use mathlib.Core.Bool.{true}
-use Prim.Native.Nat.{ℕ, _+_, _-_, _*_, _≤_, _<_}
+use Prim.Native.Nat.{_-_, _*_, _≤_, _<_}
 use native.Mathlib.Omega.{arith}
 use lib.ListN.{length, getD, take}
-use Rattle.lists.specs.Numbers.{allBelow}
 use Rattle.lists.proofs.Numbers.{below-at}
 use Rattle.lists.proofs.Padding.{length-padded, take-padded}
 use Rattle.lists.proofs.Rows.{row-inside}
@@ -31,7 +29,7 @@ constant-tables-requires c κs = _
 loop-holds : tie.Need-loop-holds Inv-loop μ-loop
 loop-holds c =
     let s = c .before .before .before .before .before .before in
-    (omega arith, refl, refl, begun-none _ _ _ _ _ (λ i. length-quotientOf _ _ (s .args .product .now) ∙ s .pre .3))
+    (omega arith, refl, refl, begun-none _ _ _ _ _ (λ i. length-quotientOf _ _ (s .args .product .now) ∙ s .pre .2))
 
 mul-quotient : tie.Need-mul-quotient Inv-loop μ-loop
 mul-quotient c = omega arith
@@ -41,13 +39,13 @@ shared-slice-read-quotient c = c .before .before .loop-test .taken
 
 -- the point is a symbol
 point : (c : tie.In-loop Inv-loop μ-loop) → let a = c .before .before .before .before .before .before .before .before .args in getD (a .points .now) (c .before .loop .i) 0 < sizeOf (modulus (a .field))
-point c = below-at _ _ (c .before .before .before .before .before .before .before .before .pre .1 .below) _ (c .loop-test .taken)
+point c = below-at _ _ (c .before .before .before .before .before .before .before .before .pre .0 .below) _ (c .loop-test .taken)
 
 cast-quotient : tie.Need-cast-quotient Inv-loop μ-loop
 cast-quotient c = omega (arith, c .shared-slice-known4 .given (c .before .before .before .loop .i))
 
 quotient-requires : tie.Need-quotient-requires Inv-loop μ-loop
-quotient-requires c κs = let s = c .before .before .before .before .before .before .before .before .before .before in (s .pre .2, point (c .before .before), c .before .before .before .before .constant-tables .ensures)
+quotient-requires c κs = let s = c .before .before .before .before .before .before .before .before .before .before in (s .pre .1, point (c .before .before), c .before .before .before .before .constant-tables .ensures)
 
 -- the quotient as it is lent
 taken : (c : tie.After-quotient Inv-loop μ-loop) → let a = c .before .before .before .before .before .before .before .before .before .before .before .args in take (length (a .product .now)) (c .quotient .result) ≡ quotientOf (modulus (a .field)) (getD (a .points .now) (c .before .before .before .before .loop .i) 0) (a .product .now)
@@ -56,7 +54,7 @@ taken c = rw (c .quotient .ensures) (take-padded 255 _ _ (length-quotientOf _ _ 
 array-share-prefix-q : tie.Need-array-share-prefix-q Inv-loop μ-loop
 array-share-prefix-q c =
     let a = c .before .before .before .before .before .before .before .before .before .before .before .args in
-    let short = c .before .before .before .before .before .before .before .before .before .before .before .pre .2 .short in
+    let short = c .before .before .before .before .before .before .before .before .before .before .before .pre .1 .short in
     let q = quotientOf (modulus (a .field)) (getD (a .points .now) (c .before .before .before .before .loop .i) 0) (a .product .now) in
     rw (c .quotient .ensures) (omega (arith, short, length-padded 255 q (omega (arith, short, length-quotientOf (modulus (a .field)) (getD (a .points .now) (c .before .before .before .before .loop .i) 0) (a .product .now)))))
 
@@ -72,13 +70,13 @@ prepare-requires c κs =
     let low = at .loop-test .taken in
     let x = getD (a .points .now) (l .i) 0 in
     let n = length (a .points .now) in
-    let room = s .pre .5 in
-    rw (taken (c .before .before .before), length-quotientOf (modulus (a .field)) x (a .product .now), s .pre .3) (
-      s .pre .0,
-      s .pre .4,
-      s .pre .1 .short,
-      quotientOf-below _ (usable-field _ (s .pre .0 .usable-field)) x (a .product .now) (point at) (s .pre .2 .below),
-      omega (arith, low, s .pre .1 .short),
+    let room = s .pre .4 in
+    rw (taken (c .before .before .before), length-quotientOf (modulus (a .field)) x (a .product .now), s .pre .2) (
+      s .pre .0 .usable-field,
+      s .pre .3,
+      s .pre .0 .short,
+      quotientOf-below _ (usable-field _ (s .pre .0 .usable-field)) x (a .product .now) (point at) (s .pre .1 .below),
+      omega (arith, low, s .pre .0 .short),
       omega (arith, row-inside n (l .i) (8 * groupsOf n) low, room .entries, l .inv .1),
       omega (arith, row-inside n (l .i) 8 low, room .sizes, l .inv .2),
     )
@@ -95,7 +93,7 @@ loop-again c =
     let s = at .before .before .before .before .before .before .before .before in
     let a = s .args in
     let l = at .before .loop in
-    let made = rw (taken (c .before .before .before .before .before .before .before .before), length-quotientOf (modulus (a .field)) (getD (a .points .now) (l .i) 0) (a .product .now), s .pre .3) at (c .before .before .before .before .prepare .ensures) in
+    let made = rw (taken (c .before .before .before .before .before .before .before .before), length-quotientOf (modulus (a .field)) (getD (a .points .now) (l .i) 0) (a .product .now), s .pre .2) at (c .before .before .before .before .prepare .ensures) in
     (omega arith, omega (arith, l .inv .1), omega (arith, l .inv .2), made (λ j. quotientOf (modulus (a .field)) (getD (a .points .now) j 0) (a .product .now)) refl (l .inv .3))
 
 same-length : tie.Need-same-length Inv-loop μ-loop

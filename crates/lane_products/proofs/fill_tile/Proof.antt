@@ -1,60 +1,47 @@
--- `fill_tile` meets its contract: the rows of the product are stored where the lanes stand.
+-- `fill_tile` meets its contract: the lanes are loaded, and the rows of the product stored.
 use mathlib.Core.Path.{_≡_, sym, ap, _∙_}
-use Prim.Native.Nat.{ℕ, _+_, _-_, _*_, _≤_}
-use native.Mathlib.Nat.{mul-comm}
+use Prim.Native.Nat.{ℕ, _-_, _*_, _≤_}
+use native.Mathlib.Nat.{mul-le-mul, mul-comm, mul-assoc}
 use native.Mathlib.Omega.{arith}
 use borrow.Author.Needs.{needs}
-use lib.ListN.{length}
+use lib.ListN.{length, length-append, length-drop}
 use lib.Seq.{length-take-le}
-use Rattle.lists.proofs.Rows.{part-length}
-use Rattle.layout.proofs.Runs.{lanes-inside}
 use Rattle.field.specs.Kinds.{modulus}
-use Rattle.lane_products.proofs.Lanes.{groups-inside, rows-inside, product-at}
+use Rattle.field.specs.Widths.{bytesFor}
+use Rattle.field.proofs.Widths.{bytes-range}
+use Rattle.lane_products.proofs.Lanes.{product-lane, groups-inside, rows-inside, rows-grouped}
 use Rattle.lane_products.proofs.fill_tile.Statement.{statement}
 use Rattle.lane_products.proofs.fill_tile.Tie as tie
 
--- the lanes lie within the source
-source-in : (c : tie.Start) → let a = c .args in a .first * a .rows + a .count * a .rows ≤ length (a .source .now)
-source-in c = let a = c .args in lanes-inside (a .rows) (a .lanes) (a .source .now) (c .pre .6) (a .first) (a .count) (c .pre .5)
+-- a symbol has one byte or two
+width : (c : tie.Start) → (1 ≤ c .args .w) × (c .args .w ≤ 2)
+width c = rw (c .pre .0 .wide) (bytes-range (modulus (c .args .m .field)))
 
 groups-of-requires : tie.Need-groups-of-requires
-groups-of-requires c κs = search needs
+groups-of-requires c κs = c .before .before .before .before .before .before .before .pre .0 .few
 
 mul-size : tie.Need-mul-size
-mul-size c = search needs
+mul-size c = omega (arith, width (c .before .before .before .before .before .before .before .before))
+
+mul-size-2 : tie.Need-mul-size-2
+mul-size-2 c =
+    let low : c .before .before .before .before .before .before .before .before .args .w * 256 ≤ 512 = omega (arith, width (c .before .before .before .before .before .before .before .before)) in
+    let e = mul-le-mul (c .groups-of .ensures .1) low in
+    omega (arith, e)
 
 mul-sums : tie.Need-mul-sums
-mul-sums c = search needs
+mul-sums c = omega (arith, c .groups-of .ensures .1)
 
-mul-start : tie.Need-mul-start
-mul-start c = omega (arith, source-in (c .before .before .before .before .before .before .before .before))
-
-mul-end : tie.Need-mul-end
-mul-end c = omega (arith, source-in (c .before .before .before .before .before .before .before .before))
-
-add-end : tie.Need-add-end
-add-end c = omega (arith, source-in (c .before .before .before .before .before .before .before .before))
-
-sub-gather : tie.Need-sub-gather
-sub-gather c = search needs
-
-part-gather-start : tie.Need-part-gather-start
-part-gather-start c = search needs
-
-part-gather-end : tie.Need-part-gather-end
-part-gather-end c = omega (arith, source-in (c .before .before .before .before .before .before .before .before))
-
-gather-requires : tie.Need-gather-requires
-gather-requires c κs =
-    let s = c .before .before .before .before .before .before .before .before .before .before in
-    let a = s .args in
-    (omega (arith, s .pre .1), s .pre .4, part-length (a .first * a .rows) (a .count * a .rows) (a .source .now) (source-in s), s .pre .3 .lanes)
+load-requires : tie.Need-load-requires
+load-requires c κs = let st = c .before .before .before .before .before .before .before .before .before in let r = st .pre .0 in (width st .0, width st .1, r .few, r .source-long, st .pre .3, st .pre .2, st .pre .1 .lanes)
 
 -- the groups' rows lie in the tile
-tile-in : (c : tie.After-slice-known5) → c .before .before .before .before .before .groups-of .result * 256 ≤ length (c .before .before .gather .last .1 .1 .1 .0)
+tile-in : (c : tie.After-slice-known5) → c .before .before .before .before .groups-of .result * (c .before .before .before .before .before .before .before .before .before .before .before .before .args .w * 256) ≤ length (c .before .before .load .last .1 .1 .1 .1 .1 .0)
 tile-in c =
-    let s = c .before .before .before .before .before .before .before .before .before .before .before .before .before in
-    omega (arith, groups-inside (s .args .rows), c .before .before .before .before .before .groups-of .ensures .0, c .before .before .gather .ensures .0, s .pre .3 .lanes)
+    let st = c .before .before .before .before .before .before .before .before .before .before .before .before in
+    let a = st .args in
+    let inside = groups-inside (a .w) (a .m .rows) (width st .0) (width st .1) in
+    rw (c .before .before .before .before .groups-of .ensures .0) (omega (arith, inside, c .before .before .load .ensures .0, st .pre .1 .lanes))
 
 slice-reshare-prefix-apply : tie.Need-slice-reshare-prefix-apply
 slice-reshare-prefix-apply c = tile-in c
@@ -62,12 +49,12 @@ slice-reshare-prefix-apply c = tile-in c
 slice-aggregate-apply : tie.Need-slice-aggregate-apply
 slice-aggregate-apply c = sym (length-take-le _ _ (tile-in (c .before)))
 
-slice-relend-prefix-apply : tie.Need-slice-relend-prefix-apply
-slice-relend-prefix-apply c = search needs
-
 -- the groups' sums lie in the table
-table-in : (c : tie.After-slice-known5) → c .before .before .before .before .before .groups-of .result * 1024 ≤ length (c .before .before .before .before .before .before .before .before .before .before .before .before .before .args .table .now)
-table-in c = omega (arith, c .before .before .before .before .before .groups-of .ensures .0, c .before .before .before .before .before .before .before .before .before .before .before .before .before .pre .3 .sums)
+table-in : (c : tie.After-slice-known5) → c .before .before .before .before .groups-of .result * 1024 ≤ length (c .before .before .before .before .before .before .before .before .before .before .before .before .args .table .now)
+table-in c = omega (arith, c .before .before .before .before .groups-of .ensures .0, c .before .before .before .before .before .before .before .before .before .before .before .before .pre .1 .sums)
+
+slice-relend-prefix-apply : tie.Need-slice-relend-prefix-apply
+slice-relend-prefix-apply c = table-in (c .before)
 
 slice-aggregate-apply-2 : tie.Need-slice-aggregate-apply-2
 slice-aggregate-apply-2 c = sym (length-take-le _ _ (table-in (c .before .before)))
@@ -75,18 +62,34 @@ slice-aggregate-apply-2 c = sym (length-take-le _ _ (table-in (c .before .before
 apply-requires : tie.Need-apply-requires
 apply-requires c κs =
     let at = c .before .before .before in
-    let s = at .before .before .before .before .before .before .before .before .before .before .before .before .before in
-    let room = s .pre .3 in (
-      s .pre .0,
-      s .pre .1,
-      s .pre .2,
-      length-take-le _ _ (tile-in at) ∙ ap (λ (x : ℕ). x * 256) (at .before .before .before .before .before .groups-of .ensures .0),
-      length-take-le _ _ (table-in at) ∙ ap (λ (x : ℕ). x * 1024) (at .before .before .before .before .before .groups-of .ensures .0),
-      room .products,
+    let st = at .before .before .before .before .before .before .before .before .before .before .before .before in
+    let a = st .args in
+    let r = st .pre .0 in
+    let g = at .before .before .before .before .groups-of .ensures .0 in
+    let b = bytesFor (modulus (a .m .field)) in
+    let rows : a .m .outputs * (b * 64) ≤ length (a .words .now) = rw (← r .wide) (outputs-in st) in (
+      r .usable-field,
+      r .few,
+      r .made,
+      length-take-le _ _ (tile-in at) ∙ rw (g, r .wide),
+      length-take-le _ _ (table-in at) ∙ ap (λ (x : ℕ). x * 1024) g,
+      rows,
     )
+  where
+    outputs-in : (st : tie.Start) → let a = st .args in a .m .outputs * (a .w * 64) ≤ length (a .words .now)
+    outputs-in st =
+        let a = st .args in
+        let e : a .m .outputs * (a .w * 64) ≡ a .w * a .m .outputs * 64 = sym (mul-assoc (a .m .outputs) (a .w) 64) ∙ ap (λ (x : ℕ). x * 64) (mul-comm (a .m .outputs) (a .w)) in
+        omega (arith, e, rows-inside (a .w) (a .m .outputs), st .pre .1 .products)
 
-store-rows-requires : tie.Need-store-rows-requires
-store-rows-requires c κs = search needs
+store-requires : tie.Need-store-requires
+store-requires c κs =
+    let st = c .before .before .before .before .before .before .before .before .before .before .before .before .before .before .before .before .before .before .before .before .before .before .before in
+    let a = st .args in
+    let r = st .pre .0 in
+    let g = c .before .before .before .before .before .before .before .before .before .before .before .before .before .before .before .groups-of in
+    let table = length-take-le (g .result * 1024) (a .table .now) (omega (arith, g .ensures .0, st .pre .1 .sums)) in
+    (width st .0, width st .1, r .made .few, st .pre .2, st .pre .3, r .few-lanes, omega (arith, st .pre .1 .products), simp (length-append, length-drop) (omega (arith, table, st .pre .1 .blocks, st .pre .1 .sums, g .ensures .0)), r .out-long)
 
 same-length : tie.Need-same-length
 same-length c = search needs
@@ -101,14 +104,16 @@ same-length-4 : tie.Need-same-length-4
 same-length-4 c = search needs
 
 returns : tie.Need-returns
-returns c = λ w begun.
-    let at = c .before .before .before .before .before .before .before .before .before .before .before .before .before in
-    let s = at .before .before .before .before .before .before .before .before .before .before .before .before .before in
-    let a = s .args in
-    let g = at .before .before .before .before .before .groups-of in
-    c .before .before .store-rows .ensures _
-    (product-at (modulus (a .field)) (a .outputs) (a .rows) (a .lanes) (a .first) (a .count) (g .result * 256) w (a .source .now) (at .before .before .gather .last .1 .1 .1 .0) _ (s .pre .6) (s .pre .4) (omega (arith, rows-inside (a .rows), g .ensures .0)) (at .before .before .gather .ensures .1) (c .before .before .before .before .before .before .before .before .before .apply .ensures w begun))
+returns c = λ ws begun base.
+    let st = c .before .before .before .before .before .before .before .before .before .before .before .before .before .before .before .before .before .before .before .before .before .before .before .before .before .before .before .before in
+    let a = st .args in
+    let r = st .pre .0 in
+    let g = c .before .before .before .before .before .before .before .before .before .before .before .before .before .before .before .before .before .before .before .before .groups-of in
+    let size = g .result * (a .w * 256) in
+    let inside : a .w * a .m .rows * 64 ≤ size = rw (g .ensures .0) (rows-grouped (a .w) (a .m .rows)) in
+    c .before .before .before .before .store .ensures _
+    (λ q lane. product-lane (modulus (a .m .field)) (a .w) (a .m .outputs) (a .m .rows) size q ws _ _ _ (r .wide) inside (omega (arith, st .pre .2)) (c .before .before .before .before .before .before .before .before .before .before .before .before .before .before .before .before .before .before .load .ensures .1 q lane) (c .before .before .before .before .before .before .before .before .before .before .before .before .apply .ensures ws begun q (omega (arith, st .pre .2))))
+    base
 
 pub fill-tile-spec : {M : Type 1} → statement M
-fill-tile-spec =
-    tie.close (tie.spec groups-of-requires mul-size mul-sums mul-start mul-end add-end sub-gather part-gather-start part-gather-end gather-requires slice-reshare-prefix-apply slice-aggregate-apply slice-relend-prefix-apply slice-aggregate-apply-2 apply-requires store-rows-requires same-length same-length-2 same-length-3 same-length-4 returns)
+fill-tile-spec = tie.close (tie.spec groups-of-requires mul-size mul-size-2 mul-sums load-requires slice-reshare-prefix-apply slice-aggregate-apply slice-relend-prefix-apply slice-aggregate-apply-2 apply-requires store-requires same-length same-length-2 same-length-3 same-length-4 returns)

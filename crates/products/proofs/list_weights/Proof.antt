@@ -1,23 +1,22 @@
 -- `list_weights` meets its contract: each arm makes the lists of its kind.
-use mathlib.Core.Path.{_∙_}
 use native.Mathlib.Omega.{arith}
 use borrow.Author.Needs.{needs}
-use Rattle.products.proofs.Arms.{prime-kind, scale-ready, prime-lists, list-ready, byte-lists}
+use Rattle.field.specs.Kinds.{modulus}
+use Rattle.field.proofs.KindLaws.{usable-prime}
+use Rattle.products.proofs.Arms.{list-ready, byte-lists}
 use Rattle.products.proofs.list_weights.Statement.{statement}
 use Rattle.products.proofs.list_weights.Tie as tie
 
 enum-known-field : tie.Need-enum-known-field
 enum-known-field c = search needs
 
-cast-scale : tie.Need-cast-scale
-cast-scale c = omega (arith, prime-kind _ (rw (c .before .before .field .given .1) at (c .before .before .before .before .before .before .before .before .pre .0)))
-
-scale-requires : tie.Need-scale-requires
-scale-requires c κs =
-    let e = c .before .before .before .field .given .1 in
-    let st = c .before .before .before .before .before .before .before .before .before in
-    let pre = st .pre in
-    scale-ready _ (rw e at (pre .0)) (st .args .weights .now) (st .args .list .now) (rw e at (pre .1)) (pre .2) (rw e at (pre .3)) (pre .4)
+list-weights-requires : tie.Need-list-weights-requires
+unfolding modulus
+list-weights-requires c κs =
+    let e = c .before .before .field .given .1 in
+    let pre = c .before .before .before .before .before .before .before .before .pre in
+    let k = usable-prime _ (rw e at (pre .0)) in
+    (k .1, rw e at (pre .1), pre .2, rw (k .2) at (rw e at (pre .3)), pre .4)
 
 enum-told : tie.Need-enum-told
 enum-told c = search needs
@@ -38,10 +37,8 @@ same-length : tie.Need-same-length
 same-length c = search needs
 
 returns : tie.Need-returns
-returns c =
-    let e = c .before .before .before .before .before .before .field .given .1 in
-    let pre = c .before .before .before .before .before .before .before .before .before .before .before .before .pre in
-    rw e (prime-lists _ (rw e at (pre .0)) (pre .2) (rw e at (pre .3)) (c .before .before .scale .ensures .0 ∙ pre .4) (pre .5) (c .before .before .scale .ensures .1))
+unfolding modulus
+returns c = rw (c .before .before .before .before .before .field .given .1) (c .before .before .list-weights .ensures _ (c .before .before .before .before .before .before .before .before .before .before .before .pre .5))
 
 same-length-2 : tie.Need-same-length-2
 same-length-2 c = search needs
@@ -53,9 +50,8 @@ returns-2 : tie.Need-returns-2
 returns-2 c =
     let e = c .before .before .before .before .before .before .before .before .enum-told .given .1 in
     let pre = c .before .before .before .before .before .before .before .before .before .before .before .before .before .before .pre in
-    let g = c .before .before .before .before .before .before .before .groups-of .ensures in
-    rw e (byte-lists _ _ (g .0) (pre .2) (rw e at (pre .3)) (c .before .before .before .before .list-output .ensures))
+    rw e (byte-lists _ _ (c .before .before .before .before .before .before .before .groups-of .ensures .0) (pre .2) (rw e at (pre .3)) (c .before .before .before .before .list-output .ensures))
 
 pub list-weights-spec : {M : Type 1} → statement M
 list-weights-spec =
-    tie.close (tie.spec enum-known-field cast-scale scale-requires enum-told groups-of-requires list-output-requires same-length returns same-length-2 same-length-3 returns-2)
+    tie.close (tie.spec enum-known-field list-weights-requires enum-told groups-of-requires list-output-requires same-length returns same-length-2 same-length-3 returns-2)

@@ -13,7 +13,7 @@ use Rattle.refusals.proofs.Accepts.{recover-accepts}
 use Rattle.blocks.specs.Answers.{outcomeOf}
 use Rattle.blocks.proofs.Refused.{recover-refuses}
 use Rattle.recover.proofs.Recovering.{shifts-part}
-use Rattle.recover.proofs.Tiles.{listed-bytes, recovered-lanes}
+use Rattle.recover.proofs.Products.{recovered-lanes}
 use Rattle.recover.proofs.recover_accepted.Statement.{statement}
 use Rattle.recover.proofs.recover_accepted.Tie as tie
 
@@ -71,13 +71,20 @@ prepare-requires c κs =
 width-of-requires : tie.Need-width-of-requires
 width-of-requires c κs = search needs
 
-recover-lanes-requires : tie.Need-recover-lanes-requires
-recover-lanes-requires c κs =
+fill-message-requires : tie.Need-fill-message-requires
+fill-message-requires c κs =
     let at = c .before .before .before .before .before in
     let a = at .before .before .before .before .before .before .args in
     let (listed, out) = accepted at in
-    let wide = c .before .width-of .ensures .0 in
-    (listed-bytes _ wide listed, listed .different, c .before .before .prepare .ensures, rw wide (out ∙ lanes-long (width (a .h)) (a .h .k) (a .lanes)))
+    let wide = c .before .width-of .ensures .0 in (
+      listed .buffer .symbol-rows .sound,
+      wide,
+      listed .different,
+      c .before .before .prepare .ensures,
+      listed .buffer .symbol-rows .few-lanes,
+      rw wide (listed .buffer .bytes ∙ lanes-long (width (a .h)) (a .h .k) (a .lanes)),
+      rw wide (out ∙ lanes-long (width (a .h)) (a .h .k) (a .lanes)),
+    )
 
 same-length : tie.Need-same-length
 same-length c = search needs
@@ -90,9 +97,9 @@ returns-2 c =
     let none = sym (at .before .before .recover-fault .ensures) ∙ at .before .if1 .left in
     record {
       answer = rw none refl;
-      written = rw none (recovered-lanes (accepted at .0) (rw wide at (c .before .before .recover-lanes .ensures)));
+      written = rw none (recovered-lanes (accepted at .0) (rw wide at (c .before .before .fill-message .ensures)));
     }
 
 pub recover-accepted-spec : {M : Type 1} → statement M
 recover-accepted-spec =
-    tie.close (tie.spec recover-fault-requires returns cast-k fill-shifts-requires array-share-prefix-shifts slice-aggregate-prepare prepare-requires width-of-requires recover-lanes-requires same-length returns-2)
+    tie.close (tie.spec recover-fault-requires returns cast-k fill-shifts-requires array-share-prefix-shifts slice-aggregate-prepare prepare-requires width-of-requires fill-message-requires same-length returns-2)

@@ -1,15 +1,15 @@
 -- `list_nodes` meets its contract. The loop's invariant: the checks below e have their lists.
-use mathlib.Core.Path.{_≡_, refl, sym, ap, _∙_}
-use Prim.Native.Nat.{_+_, _-_, _*_, _≤_, _<_}
+use mathlib.Core.Path.{_≡_, refl, sym, _∙_}
+use Prim.Native.Nat.{_-_, _*_, _≤_}
 use native.Mathlib.Omega.{arith}
 use borrow.Author.Needs.{needs}
 use lib.ListN.{length, take}
 use Rattle.lists.specs.Rows.{range}
 use Rattle.lists.proofs.Padding.{length-padded, take-padded}
 use Rattle.lists.proofs.Places.{length-range}
-use Rattle.lists.proofs.Rows.{row-inside, length-from}
+use Rattle.lists.proofs.Rows.{row-inside}
 use Rattle.generator.specs.Records.{modulusOf}
-use Rattle.interpolation.specs.Lagrange.{scaleAt, scalesOf}
+use Rattle.interpolation.specs.Lagrange.{scalesOf}
 use Rattle.interpolation.proofs.Points.{length-points, points-symbols}
 use Rattle.products.specs.Products.{groupsOf}
 use Rattle.products.specs.Matrices.{Begun}
@@ -98,13 +98,13 @@ prepare-requires c κs =
     let l = c .before .before .before .before .before .before .before .before .loop in
     let low = c .before .before .before .before .before .before .before .loop-test .taken in
     rw (taken (c .before .before .before), length-check-row h (s .pre .0) (l .e)) (
+      s .pre .0 .usable-field,
       s .pre .1,
-      s .pre .2,
       s .pre .0 .byte,
       check-row-below h (s .pre .0) (l .e),
       omega (arith, s .pre .0 .byte, low),
-      omega (arith, row-inside (h .n - h .k) (l .e) (8 * groupsOf (h .n)) low, s .pre .3, l .inv .1),
-      omega (arith, row-inside (h .n - h .k) (l .e) 8 low, s .pre .4, l .inv .2),
+      omega (arith, row-inside (h .n - h .k) (l .e) (8 * groupsOf (h .n)) low, s .pre .2, l .inv .1),
+      omega (arith, row-inside (h .n - h .k) (l .e) 8 low, s .pre .3, l .inv .2),
     )
 
 add-e : tie.Need-add-e Inv-loop μ-loop
@@ -132,7 +132,7 @@ returns c =
     let s = c .before .before .before .before .before .before .before .before .before .before .before .before .before in
     let l = c .before .loop in
     let all : l .e ≡ s .args .h .n - s .args .h .k = omega arith in
-    record { weights = checkRow (s .args .h); tell = rows-word (s .args .h) (s .pre .0); begun = rw all at (l .inv .3); lists-room = omega (arith, l .inv .1, s .pre .3); counts-room = omega (arith, l .inv .2, s .pre .4) }
+    record { weights = checkRow (s .args .h); tell = rows-word (s .args .h) (s .pre .0); begun = rw all at (l .inv .3); lists-room = omega (arith, l .inv .1, s .pre .2); counts-room = omega (arith, l .inv .2, s .pre .3) }
 
 pub list-nodes-spec : {M : Type 1} → statement M
 list-nodes-spec =

@@ -1,5 +1,5 @@
 -- `list_sums` meets its contract. The loop's invariant: the checks below e have their lists.
-use mathlib.Core.Path.{_≡_, refl, sym, _∙_}
+use mathlib.Core.Path.{_≡_, refl, sym}
 use Prim.Native.Nat.{_+_, _-_, _*_, _≤_}
 use native.Mathlib.Omega.{arith}
 use borrow.Author.Needs.{needs}
@@ -71,13 +71,13 @@ prepare-requires c κs =
     let l = at .before .loop in
     let low = at .loop-test .taken in
     rw (taken (c .before .before .before), length-factors h (l .e + 1)) (
+      s .pre .0 .usable-field,
       s .pre .1,
-      s .pre .2,
       s .pre .0 .byte,
       factors-below h (l .e + 1) (s .pre .0),
       omega (arith, few at),
-      omega (arith, row-inside (h .n - h .k) (l .e) (8 * groupsOf (h .n)) low, s .pre .3, l .inv .1),
-      omega (arith, row-inside (h .n - h .k) (l .e) 8 low, s .pre .4, l .inv .2),
+      omega (arith, row-inside (h .n - h .k) (l .e) (8 * groupsOf (h .n)) low, s .pre .2, l .inv .1),
+      omega (arith, row-inside (h .n - h .k) (l .e) 8 low, s .pre .3, l .inv .2),
     )
 
 add-e : tie.Need-add-e Inv-loop μ-loop
@@ -105,7 +105,7 @@ returns c =
     let s = c .before .before .before .before .before .before .before .before in
     let l = c .before .loop in
     let all : l .e ≡ s .args .h .n - s .args .h .k = omega arith in
-    record { weights = λ i. factorsOf (s .args .h) (i + 1); tell = λ ws long below. factors-word (s .args .h) ws long; begun = rw all at (l .inv .3); lists-room = omega (arith, l .inv .1, s .pre .3); counts-room = omega (arith, l .inv .2, s .pre .4) }
+    record { weights = λ i. factorsOf (s .args .h) (i + 1); tell = λ ws long below. factors-word (s .args .h) ws long; begun = rw all at (l .inv .3); lists-room = omega (arith, l .inv .1, s .pre .2); counts-room = omega (arith, l .inv .2, s .pre .3) }
 
 pub list-sums-spec : {M : Type 1} → statement M
 list-sums-spec =

@@ -1,6 +1,6 @@
 -- `fill_lists` meets its contract. The loop's invariant: the nodes below `node` have their lists.
-use mathlib.Core.Path.{_≡_, refl, sym, ap, _∙_}
-use Prim.Native.Nat.{ℕ, _+_, _-_, _*_, _≤_, _<_}
+use mathlib.Core.Path.{_≡_, refl, sym}
+use Prim.Native.Nat.{_-_, _*_, _≤_}
 use lib.ListN.{length, take}
 use Rattle.lists.proofs.Rows.{row-inside}
 use Rattle.generator.specs.Records.{modulusOf}
@@ -50,13 +50,13 @@ prepare-requires c κs = let st = c .before .before .before .before .before .bef
     let sound = st .pre .0 .sound in
     let g = 8 * groupsOf (a .h .k) in
     rw (taken (c .before .before .before), length-column (a .h) (l .node)) (
-      st .pre .4,
+      sound .usable-field,
       st .pre .1,
       omega (arith, c .before .before .before .before .before .before .struct-known2 .given, c .before .before .before .before .before .before .before .struct-known .given),
       column-below (a .h) (l .node) sound,
       omega (arith, low, c .before .before .before .before .before .before .struct-known2 .given, c .before .before .before .before .before .before .before .struct-known .given),
-      omega (arith, row-inside (a .h .n) (l .node) g low, st .pre .2, l .inv .1),
-      omega (arith, row-inside (a .h .n) (l .node) 8 low, st .pre .3, l .inv .2),
+      omega (arith, row-inside (a .h .n) (l .node) g low, st .pre .2 .entries, l .inv .1),
+      omega (arith, row-inside (a .h .n) (l .node) 8 low, st .pre .2 .sizes, l .inv .2),
     )
 
 add-node : tie.Need-add-node Inv-loop μ-loop

@@ -1,42 +1,55 @@
 -- `outputs` meets its contract. The loop's invariant: the outputs below j are in their rows.
-use Prim.Native.Nat.{ℕ, _+_, _*_, _-_, _≤_, _<_}
+use Prim.Native.Nat.{ℕ, _+_, _*_, _-_, _≤_}
+use native.Mathlib.Nat.{zero-mul, mul-assoc}
 use mathlib.Core.Path.{_≡_, refl, ap, sym, _∙_}
 use mathlib.Core.List.{List}
 use lib.ListN.{length}
-use Rattle.lists.proofs.Rows.{part-length, part-size, row-inside}
-use Rattle.layout.specs.Layout.{byRow}
-use Rattle.layout.proofs.Runs.{length-replaced}
+use Rattle.lists.proofs.Rows.{part-length, part-size, row-inside, row-after}
 use Rattle.field.specs.Kinds.{modulus}
-use Rattle.combine.specs.Combined.{combined}
+use Rattle.field.specs.Widths.{bytesFor}
+use Rattle.field.proofs.Widths.{bytes-range}
 use Rattle.tiles64.proofs.Gathered.{tile-none, tile-more}
 use Rattle.products.specs.Products.{groupsOf}
 use Rattle.products.specs.Matrices.{Begun, OutputsOf}
-use Rattle.products.proofs.Beginning.{output-row, length-combined}
+use Rattle.products.proofs.Lanes.{output-row}
 use native.Mathlib.Omega.{arith}
 use Rattle.products.proofs.matrix.outputs.Statement.{statement}
 use Rattle.products.proofs.matrix.outputs.Tie as tie
 
 abbrev Inv-loop : tie.InvT-loop
-Inv-loop field count rows lists counts tile table out₀ size j₀ out j = (j ≤ count) × (length out ≡ length out₀) × ((w : ℕ → List ℕ) → Begun (modulus field) rows w count lists counts → OutputsOf (modulus field) rows count w tile j out)
+Inv-loop field count rows lists counts tile table out₀ row size j₀ out j = (j ≤ count) × (length out ≡ length out₀) × ((w : ℕ → List ℕ) → Begun (modulus field) rows w count lists counts → OutputsOf (modulus field) rows count w tile j out)
 
 abbrev μ-loop : tie.MeasureT-loop
-μ-loop field count rows lists counts tile table out₀ size j₀ out j = count - j
+μ-loop field count rows lists counts tile table out₀ row size j₀ out j = count - j
 
 -- part j lies in the lists
-fits : (c : tie.In-loop Inv-loop μ-loop) → c .before .loop .j * (8 * groupsOf (c .before .before .before .before .before .before .before .before .args .rows)) + 8 * groupsOf (c .before .before .before .before .before .before .before .before .args .rows) ≤ length (c .before .before .before .before .before .before .before .before .args .lists .now)
-fits c = let st = c .before .before .before .before .before .before .before .before in omega (arith, st .pre .2 .lists-room, row-inside (st .args .count) (c .before .loop .j) (8 * groupsOf (st .args .rows)) (c .loop-test .taken))
+fits : (c : tie.In-loop Inv-loop μ-loop) → c .before .loop .j * (8 * groupsOf (c .before .before .before .before .before .before .before .before .before .args .rows)) + 8 * groupsOf (c .before .before .before .before .before .before .before .before .before .args .rows) ≤ length (c .before .before .before .before .before .before .before .before .before .args .lists .now)
+fits c = let st = c .before .before .before .before .before .before .before .before .before in omega (arith, st .pre .2 .lists-room, row-inside (st .args .count) (c .before .loop .j) (8 * groupsOf (st .args .rows)) (c .loop-test .taken))
 
-counts-fit : (c : tie.In-loop Inv-loop μ-loop) → c .before .loop .j * 8 + 8 ≤ length (c .before .before .before .before .before .before .before .before .args .counts .now)
-counts-fit c = let st = c .before .before .before .before .before .before .before .before in omega (arith, st .pre .2 .counts-room, row-inside (st .args .count) (c .before .loop .j) 8 (c .loop-test .taken))
+counts-fit : (c : tie.In-loop Inv-loop μ-loop) → c .before .loop .j * 8 + 8 ≤ length (c .before .before .before .before .before .before .before .before .before .args .counts .now)
+counts-fit c = let st = c .before .before .before .before .before .before .before .before .before in omega (arith, st .pre .2 .counts-room, row-inside (st .args .count) (c .before .loop .j) 8 (c .loop-test .taken))
+
+-- and among the rows
+rows-fit : (c : tie.In-loop Inv-loop μ-loop) → c .before .loop .j * (c .before .before .before .width .result * 64) + c .before .before .before .width .result * 64 ≤ length (c .before .loop .out)
+rows-fit c =
+    let st = c .before .before .before .before .before .before .before .before .before in
+    rw (c .before .before .before .width .ensures)
+    (omega (arith, c .before .loop .inv .1, st .pre .4, row-inside (st .args .count) (c .before .loop .j) (bytesFor (modulus (st .args .field)) * 64) (c .loop-test .taken)))
+
+width-requires : tie.Need-width-requires Inv-loop μ-loop
+width-requires c κs = c .before .before .before .before .before .pre .0
+
+mul-row : tie.Need-mul-row Inv-loop μ-loop
+mul-row c = omega (arith, c .width .ensures, bytes-range (modulus (c .before .before .before .before .before .before .args .field)) .1)
 
 groups-of-requires : tie.Need-groups-of-requires Inv-loop μ-loop
-groups-of-requires c κs = c .before .before .before .before .before .pre .1
+groups-of-requires c κs = c .before .before .before .before .before .before .pre .1
 
 mul-size : tie.Need-mul-size Inv-loop μ-loop
 mul-size c = omega arith
 
 loop-holds : tie.Need-loop-holds Inv-loop μ-loop
-loop-holds c = (omega arith, refl, λ w b. tile-none _ _ _ _)
+loop-holds c = (omega arith, refl, λ w b. rw (zero-mul (bytesFor (modulus (c .before .before .before .before .before .before .before .args .field)))) (tile-none _ _ _ _))
 
 mul-start : tie.Need-mul-start Inv-loop μ-loop
 mul-start c = rw (c .before .before .groups-of .ensures .0) (omega (arith, fits c))
@@ -51,10 +64,10 @@ add-at-end : tie.Need-add-at-end Inv-loop μ-loop
 add-at-end c = omega (arith, counts-fit c)
 
 mul-to : tie.Need-mul-to Inv-loop μ-loop
-mul-to c = omega arith
+mul-to c = omega (arith, rows-fit c)
 
 add-to-end : tie.Need-add-to-end Inv-loop μ-loop
-add-to-end c = omega arith
+add-to-end c = omega (arith, rows-fit c)
 
 mul-output : tie.Need-mul-output Inv-loop μ-loop
 mul-output c = rw (c .before .before .groups-of .ensures .0) (omega (arith, fits c))
@@ -84,14 +97,13 @@ part-output-start-3 : tie.Need-part-output-start-3 Inv-loop μ-loop
 part-output-start-3 c = omega arith
 
 part-output-end-3 : tie.Need-part-output-end-3 Inv-loop μ-loop
-part-output-end-3 c = omega arith
+part-output-end-3 c = rows-fit (c .before .before)
 
 output-requires : tie.Need-output-requires Inv-loop μ-loop
-output-requires c κs = let st = c .before .before .before .before .before .before .before .before .before .before .before in
-    let a = st .args in
+output-requires c κs =
+    let st = c .before .before .before .before .before .before .before .before .before .before .before .before in
     let l = c .before .before .before .before .loop in
-    let low = c .before .before .before .loop-test .taken in
-    (st .pre .0, st .pre .1, rw (c .before .before .before .before .before .groups-of .ensures .0) (st .pre .2 .each (l .j) low), st .pre .3, part-length (l .j * 64) 64 (l .out) (omega arith))
+    (st .pre .0, st .pre .1, rw (c .before .before .before .before .before .groups-of .ensures .0) (st .pre .2 .each (l .j) (c .before .before .before .loop-test .taken)), st .pre .3, part-length (l .j * (c .before .before .before .before .before .before .width .result * 64)) (c .before .before .before .before .before .before .width .result * 64) (l .out) (rows-fit (c .before .before .before)) ∙ ap (λ (x : ℕ). x * 64) (c .before .before .before .before .before .before .width .ensures))
 
 add-j : tie.Need-add-j Inv-loop μ-loop
 add-j c = omega arith
@@ -100,18 +112,23 @@ loop-less : tie.Need-loop-less Inv-loop μ-loop
 loop-less c = omega arith
 
 loop-again : tie.Need-loop-again Inv-loop μ-loop
-loop-again c = let st = c .before .before .before .before .before .before .before .before .before .before .before .before .before .before in
-    let a = st .args in
+loop-again c =
+    let a = c .before .before .before .before .before .before .before .before .before .before .before .before .before .before .before .args in
     let l = c .before .before .before .before .before .before .before .loop in
     let low = c .before .before .before .before .before .before .loop-test .taken in
-    let g = c .before .before .before .before .before .before .before .before .groups-of .ensures .0 in
-    let room : l .j * 64 + 64 ≤ length (l .out) = omega arith in
+    let b = bytesFor (modulus (a .field)) in
+    let wide = c .before .before .before .before .before .before .before .before .before .width .ensures in
+    let at : l .j * (b * 64) ≡ l .j * b * 64 = sym (mul-assoc (l .j) b 64) in
+    let room : l .j * b * 64 + b * 64 ≤ length (l .out) = rw (← at) (rw wide at (rows-fit (c .before .before .before .before .before .before))) in
+    let after = c .before .before .output .last .1 .1 .1 .1 .1 .1 .0 in
+    let from = l .j * (c .before .before .before .before .before .before .before .before .before .width .result * 64) in
+    let size : length after ≡ b * 64 = omega (arith, wide, part-length from (c .before .before .before .before .before .before .before .before .before .width .result * 64) (l .out) (rows-fit (c .before .before .before .before .before .before))) in
     let row = c .before .before .output .ensures in (
       omega arith,
       omega arith,
-      λ w b.
-          let made = row (w (l .j)) (b .size (l .j)) (rw g (b .each (l .j) low)) in
-          rw (made, part-size (l .j * 64) 64) (tile-more (a .count) (l .j) 1 64 _ (l .out) (combined byRow (modulus (a .field)) (a .rows) 64 (w (l .j)) (a .tile .now)) 64 (length-combined _ _ (w (l .j)) (a .tile .now)) room (omega arith) (l .inv .2 w b) (output-row (modulus (a .field)) (a .rows) (l .j) (a .count) w (a .tile .now))),
+      λ w begun.
+          let made = row (w (l .j)) (begun .size (l .j)) (rw (c .before .before .before .before .before .before .before .before .groups-of .ensures .0) (begun .each (l .j) low)) in
+          rw (wide, at, part-size (l .j * b * 64) (b * 64), row-after (l .j) b) (tile-more (b * a .count) (l .j * b) b 64 _ (l .out) after (b * 64) size room (omega arith) (l .inv .2 w begun) (output-row (modulus (a .field)) (a .rows) (a .count) w (a .tile .now) (l .j) low made)),
     )
 
 same-length : tie.Need-same-length Inv-loop μ-loop
@@ -120,9 +137,9 @@ same-length c = c .before .loop .inv .1
 returns : tie.Need-returns Inv-loop μ-loop
 returns c = λ w b.
     let l = c .before .loop in
-    let all : l .j ≡ c .before .before .before .before .before .before .before .before .args .count = omega arith in
+    let all : l .j ≡ c .before .before .before .before .before .before .before .before .before .args .count = omega arith in
     rw all at (l .inv .2 w b)
 
 pub outputs-spec : {M : Type 1} → statement M
 outputs-spec =
-    tie.close (tie.spec Inv-loop μ-loop groups-of-requires mul-size loop-holds mul-start add-end mul-at add-at-end mul-to add-to-end mul-output sub-output part-output-start part-output-end sub-output-2 part-output-start-2 part-output-end-2 sub-output-3 part-output-start-3 part-output-end-3 output-requires add-j loop-less loop-again same-length returns)
+    tie.close (tie.spec Inv-loop μ-loop width-requires mul-row groups-of-requires mul-size loop-holds mul-start add-end mul-at add-at-end mul-to add-to-end mul-output sub-output part-output-start part-output-end sub-output-2 part-output-start-2 part-output-end-2 sub-output-3 part-output-start-3 part-output-end-3 output-requires add-j loop-less loop-again same-length returns)

@@ -1,2 +1,0 @@
--- What the functions behind the calls rely on and give.
-pub mod Sums
