@@ -4,12 +4,10 @@ use mathlib.Core.Bool.{true}
 use mathlib.Core.List.{List, [], append-nil}
 use Prim.Native.Nat.{ℕ, _+_, _≤_}
 use native.Mathlib.Omega.{arith}
-use lib.ListN.{length, take}
+use lib.ListN.{length}
 use Rattle.lists.specs.Rows.{from}
 use Rattle.lists.specs.Numbers.{allBelow}
-use Rattle.lists.specs.Padded.{padded}
 use Rattle.lists.proofs.Numbers.{at-below}
-use Rattle.lists.proofs.Padding.{take-padded}
 use Rattle.lists.proofs.Rows.{length-from, getD-from}
 use Rattle.layout.specs.Layout.{byRow, byLane, laneOf}
 use Rattle.layout.specs.Width.{symbolsOf, bytesOf}
@@ -51,10 +49,6 @@ product-shares h w l m p e =
     (ap (bytesOf w)
     (buffer-ext by-lane (h .n) l _ _
     (λ j t row lane. column-sum h j (laneOf byRow (h .k) l t (symbolsOf w m)) (omega (arith, length-lane byRow (h .k) l t (symbolsOf w m))))))
-
--- the column as code holds it: padded, of which k places are lent
-pub column-taken : (h : Header) (j : ℕ) (entries : List ℕ) → entries ≡ padded 255 (columnOf h j) → take (h .k) entries ≡ columnOf h j
-column-taken h j entries e = rw e (take-padded 255 (h .k) (columnOf h j) (length-column h j))
 
 pub column-below : (h : Header) (j : ℕ) → Sound h → allBelow (size h) (columnOf h j) ≡ true
 unfolding columnOf

@@ -9,31 +9,31 @@ ghost use Rattle.blocks.specs.Blocks.{sharesOf};
 ghost use Rattle.products.specs.Products.{Codes};
 ghost use Rattle.products.specs.Matrices.{Begun};
 ghost use Rattle.encode.specs.Inner.{Planned, MessageBytes, ListRoom, columnOf};
-use crate::column;
+use crate::fill_column;
 use generator::Header;
 use lane_products::Product;
 use lane_products::Way;
 use products::scratch;
 
-// The lists of every node's column.
+// The lists of every node's column; `column` is scratch.
 fn fill_lists(
     h: Header,
     shifts: &[u8],
     base: &[u16],
     codes: &[u64],
+    column: &mut [u16],
     lists: &mut [u16],
     counts: &mut [u8],
 )
-    requires { ⌜ Planned h (now shifts) (now base) × Codes (modulusOf h) (now codes) × ListRoom h (length (now lists)) (length (now counts)) ⌝ }
+    requires { ⌜ Planned h (now shifts) (now base) × Codes (modulusOf h) (now codes) × (length (now column) ≡ h .k) × ListRoom h (length (now lists)) (length (now counts)) ⌝ }
     ensures { λ r. ⌜ Begun (modulusOf h) (h .k) (columnOf h) (h .n) (now (lists .exit)) (now (counts .exit)) ⌝ }
 {
     let field = h.field;
     let n = h.n as usize;
-    let k = h.k as usize;
     let mut node: usize = 0;
     while node < n {
-        let entries = column(h, shifts, base, node);
-        products::prepare(field, codes, &entries[..k], node, lists, counts);
+        fill_column(h, shifts, base, node, column);
+        products::prepare(field, codes, column, node, lists, counts);
         node += 1;
     }
 }
@@ -58,7 +58,8 @@ fn encode_with<'a>(
     let rows = h.k as usize;
     let way = Way::RowsToLanes;
     let codes = products::codes_of(field);
-    fill_lists(h, shifts, base, &codes, lists, counts);
+    let mut column = [0u16; 255];
+    fill_lists(h, shifts, base, &codes, &mut column[..rows], lists, counts);
     let m = Product {
         way: way,
         field: field,

@@ -2,7 +2,6 @@
 ghost use mathlib.Core.Path.{_≡_};
 ghost use Prim.Native.Nat.{_+_, _*_, _%_, _≤_, _<_};
 ghost use lib.ListN.{length, getD};
-ghost use Rattle.lists.specs.Padded.{padded};
 ghost use Rattle.layout.specs.Layout.{byLane, shareLayout};
 ghost use Rattle.layout.specs.Width.{symbolsOf, bytesOf};
 ghost use Rattle.generator.specs.Records.{Sound};
@@ -27,19 +26,16 @@ fn coefficient(h: Header, shifts: &[u8], base: &[u16], r: usize, node: usize) ->
     plan::entry_at(n, shift, base, node)
 }
 
-// The node's column of the generator, and zeros after it.
-fn column(h: Header, shifts: &[u8], base: &[u16], node: usize) -> [u16; 255]
-    requires { ⌜ Planned h (now shifts) (now base) × (node < h .n) ⌝ }
-    ensures { λ c. ⌜ c ≡ padded 255 (columnOf h node) ⌝ }
+// Fills the node's column of the generator.
+fn fill_column(h: Header, shifts: &[u8], base: &[u16], node: usize, column: &mut [u16])
+    requires { ⌜ Planned h (now shifts) (now base) × (node < h .n) × (length (now column) ≡ h .k) ⌝ }
+    ensures { λ c. ⌜ now (column .exit) ≡ columnOf h node ⌝ }
 {
-    let k = h.k as usize;
-    let mut out = [0u16; 255];
-    let mut r: usize = 0;
-    while r < k {
-        out[r] = coefficient(h, shifts, base, r, node);
+    let mut r = 0;
+    while r < column.len() {
+        column[r] = coefficient(h, shifts, base, r, node);
         r += 1;
     }
-    out
 }
 
 // Fills all lanes: one lane by itself, more as a product of matrices.
