@@ -1,24 +1,20 @@
--- The sums of a lane's placed symbols with the base word two times are its encoding, and one lane's shares.
+-- The sums of a lane's placed symbols with the base word two times are its encoding.
 use mathlib.Core.Path.{_≡_, refl, sym, ap, _∙_}
 use mathlib.Core.Bool.{true}
-use mathlib.Core.List.{List, [], _∷_, _++_, append-nil}
-use Prim.Native.Nat.{ℕ, zero, suc, _+_, _-_, _*_, _%_, _≤_, _<_}
-use native.Mathlib.Nat.{mod-lt, zero-add, mul-one}
+use mathlib.Core.List.{List, [], _∷_}
+use Prim.Native.Nat.{ℕ, zero, suc, _+_, _%_, _<_}
+use native.Mathlib.Nat.{mod-lt, zero-add}
 use native.Mathlib.Omega.{arith}
 use lib.ListN.{length, getD, take, drop, set, length-drop}
-use lib.Seq.{ext-getD, getD-drop}
+use lib.Seq.{getD-drop}
 use Rattle.lists.specs.Numbers.{allBelow}
 use Rattle.lists.specs.Padded.{zeros}
-use Rattle.lists.specs.Rows.{from, rowsFrom}
+use Rattle.lists.specs.Rows.{from}
 use Rattle.lists.proofs.All.{Distinct-at}
 use Rattle.lists.proofs.Fill.{length-zeros}
 use Rattle.lists.proofs.Numbers.{at-below, below-cons, below-drop, below-set}
 use Rattle.lists.proofs.Rows.{from-ext, length-from, getD-from}
-use Rattle.layout.specs.Layout.{byRow, byLane, laneOf}
-use Rattle.layout.proofs.Lawful.{by-lane}
-use Rattle.layout.proofs.Buffers.{length-lane, getD-lane}
-use Rattle.layout.proofs.Places.{held-by-row, lanes-whole}
-use Rattle.field.specs.Fields.{isField, sizeOf, add, mul}
+use Rattle.field.specs.Fields.{isField, sizeOf, add}
 use Rattle.field.specs.Sums.{dot}
 use Rattle.field.proofs.Arithmetic.{zero-mul}
 use Rattle.field.proofs.BothKinds.{arithmetic}
@@ -32,8 +28,6 @@ use Rattle.generator.specs.Codewords.{nodeOf, nodeFrom, encoding}
 use Rattle.generator.specs.Shifts.{shifts}
 use Rattle.generator.proofs.Bounds.{entryAt-below, nodeFrom-below}
 use Rattle.generator.proofs.Recovery.{shifts-are-places}
-use Rattle.blocks.specs.Blocks.{sharesOf}
-use Rattle.blocks.proofs.Shares.{length-shares, lane-encodes}
 use Rattle.plan.specs.Plans.{planFor}
 use Rattle.plan.proofs.Plans.{shift-in, shift-below, base-in, entry-read}
 use Rattle.windows.specs.Windows.{windowSums}
@@ -113,21 +107,6 @@ module _ (h : Header) (s : Sound h) where
       ∙ ap (λ (x : ℕ). add p x (nodeFrom 0 h ms j)) (zeros-sum p (s .field) (h .n) 255 gs (l .symbols))
       ∙ arithmetic p (s .field) .add-comm 0 _ (size-pos p (s .field)) (nodeFrom-below h s 0 ms j symbols)
       ∙ arithmetic p (s .field) .add-zero _ (nodeFrom-below h s 0 ms j symbols))
-
--- one lane's shares are its encoding
-pub one-share : (h : Header) (m : List ℕ) → length m ≡ h .k → encoding h m ≡ sharesOf byLane h 1 m
-unfolding rowsFrom
-one-share h m long =
-    let lane : laneOf byRow (h .k) 1 0 m ≡ m =
-    ext-getD 0 _ m (length-lane byRow (h .k) 1 0 m ∙ sym long)
-    (λ i inside. getD-lane byRow (h .k) 1 0 m i (omega (arith, length-lane byRow (h .k) 1 0 m)) ∙ held-by-row (h .k) 1 m i 0 ∙ ap (λ (x : ℕ). getD m x 0) (omega arith)) in
-    ap (encoding h) (sym lane)
-    ∙ sym (lane-encodes h 1 m by-lane 0 (omega arith))
-    ∙ sym (append-nil _)
-    ∙ rows-one
-  where
-    rows-one : laneOf byLane (h .n) 1 0 (sharesOf byLane h 1 m) ++ [] ≡ sharesOf byLane h 1 m
-    rows-one = lanes-whole (h .n) 1 (sharesOf byLane h 1 m) (length-shares h 1 m byLane)
 
 -- what is placed is symbols
 pub placed-below : (q r : ℕ) (ss ms xs : List ℕ) → allBelow q ms ≡ true → allBelow q xs ≡ true → allBelow q (placedFrom r ss ms xs) ≡ true

@@ -38,7 +38,12 @@ fn fill_column(h: Header, shifts: &[u8], base: &[u16], node: usize, column: &mut
     }
 }
 
-// Fills all lanes: one lane by itself, more as a product of matrices.
+// Whether so few lanes take less time one by one than as a tile: a lane by itself takes longer for each node.
+fn are_few(lanes: usize, n: usize) -> bool {
+    lanes == 1 || (lanes <= 6 && lanes <= n / 8)
+}
+
+// Fills all lanes: few lanes one by one, more as a product of matrices.
 fn encode_lanes<'a>(
     h: Header,
     shifts: &'a [u8],
@@ -51,8 +56,8 @@ fn encode_lanes<'a>(
     requires { ⌜ Planned h (now shifts) (now base) × MessageBytes h w lanes (now message) × (length (now out) ≡ w * h .n * lanes) ⌝ }
     ensures { λ r. ⌜ now (out .exit) ≡ bytesOf w (sharesOf byLane h lanes (symbolsOf w (now (message .entry)))) ⌝ }
 {
-    if lanes == 1 {
-        one_lane::fill_lane(h, shifts, base, w, message, out);
+    if are_few(lanes, h.n as usize) {
+        one_lane::fill_each(h, shifts, base, w, lanes, message, out);
         return;
     }
     lanes::fill_lanes(h, shifts, base, w, lanes, message, out);

@@ -1,14 +1,17 @@
-// One lane: its symbols are placed at their rows' shifts, and what node j holds is the sum of them times the base word from place j on.
+// Lane by lane: a lane's symbols are placed at their rows' shifts, and what node j holds is the sum of them times the base word from
+// place j on.
 ghost use mathlib.Core.Path.{_≡_};
 ghost use mathlib.Core.Bool.{true};
 ghost use Prim.Native.Nat.{_+_, _*_, _%_, _^_, _≤_, _<_};
 ghost use lib.ListN.{length};
+ghost use Rattle.lists.specs.Numbers.{allBelow};
 ghost use Rattle.lists.specs.Padded.{zeros, padded};
-ghost use Rattle.layout.specs.Layout.{byLane};
+ghost use Rattle.layout.specs.Layout.{byRow, byLane, laneOf};
 ghost use Rattle.layout.specs.Width.{symbolsOf, bytesOf};
 ghost use Rattle.field.specs.Fields.{sizeOf};
 ghost use Rattle.field.specs.Kinds.{modulus, usable};
-ghost use Rattle.generator.specs.Records.{Sound};
+ghost use Rattle.generator.specs.Records.{size, width, Sound};
+ghost use Rattle.generator.specs.Codewords.{encoding};
 ghost use Rattle.generator.specs.declared.Record.the-variants.{Holds};
 ghost use Rattle.plan.specs.Plans.{planFor};
 ghost use Rattle.blocks.specs.Blocks.{sharesOf};
@@ -79,25 +82,63 @@ fn write_sums(
     symbols::write_symbols(w, sums, out);
 }
 
-// Fills a block of one lane.
-pub fn fill_lane<'a>(
+// Fills a lane with the encoding of its k symbols.
+fn fill_lane<'a>(
     h: Header,
     shifts: &'a [u8],
     base: &'a [u16],
     w: usize,
-    message: &[u8],
+    symbols: &[u16],
     out: &mut [u8],
 )
-    requires { ⌜ Planned h (now shifts) (now base) × MessageBytes h w 1 (now message) × (length (now out) ≡ w * h .n * 1) ⌝ }
-    ensures { λ r. ⌜ now (out .exit) ≡ bytesOf w (sharesOf byLane h 1 (symbolsOf w (now (message .entry)))) ⌝ }
+    requires { ⌜ Planned h (now shifts) (now base) × (w ≡ width h) × (length (now symbols) ≡ h .k) × (allBelow (size h) (now symbols) ≡ true) × (length (now out) ≡ w * h .n) ⌝ }
+    ensures { λ r. ⌜ now (out .exit) ≡ bytesOf w (encoding h (now (symbols .entry))) ⌝ }
 {
     let field = h.field;
     let n = h.n as usize;
-    let k = h.k as usize;
     let size = n + n;
-    let values = symbols::read_symbols(w, message);
-    let weights = placed(h, shifts, &values[..k]);
+    let weights = placed(h, shifts, symbols);
     let row = twice_base(h, base);
     let mut sums = room();
     write_sums(field, w, &weights[..n], &row[..size], &mut sums[..n], out);
+}
+
+// The symbols of lane t of a message, and zeros after them.
+fn lane_symbols(h: Header, w: usize, lanes: usize, t: usize, message: &[u8]) -> [u16; 255]
+    requires { ⌜ Sound h × MessageBytes h w lanes (now message) × (t < lanes) ⌝ }
+    ensures { λ r. ⌜ r ≡ padded 255 (laneOf byRow (h .k) lanes t (symbolsOf w (now (message .entry)))) ⌝ }
+{
+    let k = h.k as usize;
+    let mut out = [0u16; 255];
+    let mut r: usize = 0;
+    while r < k {
+        out[r] = symbols::symbol_at(w, message, r * lanes + t);
+        r += 1;
+    }
+    out
+}
+
+// Fills all lanes, each through its own part.
+pub fn fill_each<'a>(
+    h: Header,
+    shifts: &'a [u8],
+    base: &'a [u16],
+    w: usize,
+    lanes: usize,
+    message: &[u8],
+    out: &mut [u8],
+)
+    requires { ⌜ Planned h (now shifts) (now base) × MessageBytes h w lanes (now message) × (length (now out) ≡ w * h .n * lanes) ⌝ }
+    ensures { λ r. ⌜ now (out .exit) ≡ bytesOf w (sharesOf byLane h lanes (symbolsOf w (now (message .entry)))) ⌝ }
+{
+    let k = h.k as usize;
+    let size = w * h.n as usize;
+    let mut t: usize = 0;
+    while t < lanes {
+        let symbols = lane_symbols(h, w, lanes, t, message);
+        let start = t * size;
+        let end = start + size;
+        fill_lane(h, shifts, base, w, &symbols[..k], &mut out[start..end]);
+        t += 1;
+    }
 }

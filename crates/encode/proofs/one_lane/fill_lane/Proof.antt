@@ -1,7 +1,7 @@
 -- `fill_lane` meets its contract: the sums of the placed symbols with the base word are the lane's encoding.
 use mathlib.Core.Path.{_≡_, sym, ap, _∙_}
-use Prim.Native.Nat.{ℕ, _+_, _*_, _^_, _≤_, _<_}
-use native.Mathlib.Nat.{mul-one, mul-comm, mul-le-mul, le-refl}
+use Prim.Native.Nat.{ℕ, _+_, _*_, _≤_}
+use native.Mathlib.Nat.{mul-comm}
 use native.Mathlib.Omega.{arith}
 use borrow.Author.Needs.{needs}
 use lib.ListN.{length, take}
@@ -9,61 +9,31 @@ use lib.Seq.{length-take-le}
 use Rattle.lists.specs.Padded.{zeros}
 use Rattle.lists.proofs.Numbers.{below-take}
 use Rattle.lists.proofs.Padding.{take-padded}
-use Rattle.layout.specs.Width.{symbolsOf, bytesOf}
+use Rattle.layout.specs.Width.{bytesOf}
 use Rattle.field.proofs.FieldOf.{size-pos}
 use Rattle.generator.specs.Records.{modulusOf, size}
 use Rattle.generator.proofs.Widths.{width-range, size-fits-width}
 use Rattle.plan.proofs.Plans.{base-room}
-use Rattle.encode.specs.OneLane.{placedFrom, twice}
-use Rattle.encode.proofs.OneLane.{length-twice, twice-below, placed-below, zeros-below, lane-sums, one-share}
+use Rattle.encode.specs.OneLane.{twice}
+use Rattle.encode.proofs.OneLane.{length-twice, twice-below, placed-below, zeros-below, lane-sums}
 use Rattle.encode.proofs.one_lane.fill_lane.Statement.{statement}
 use Rattle.encode.proofs.one_lane.fill_lane.Tie as tie
 
-few : (s : tie.Start) → (s .args .h .k ≤ 255) × (s .args .h .n ≤ 255)
-few s = let sound = s .pre .0 .sound in (omega (arith, sound .fits, sound .byte), sound .byte)
-
--- the lane's symbols, k of them
-count : (s : tie.Start) → let a = s .args in length (symbolsOf (a .w) (a .message .now)) ≡ a .h .k
-count s = s .pre .1 .symbol-rows .long ∙ mul-one _
-
-values-are : (c : tie.After-read-symbols) → let a = c .before .before .before .before .before .before .before .args in take (a .h .k) (c .read-symbols .result) ≡ symbolsOf (a .w) (a .message .now)
-values-are c = rw (c .read-symbols .ensures) (take-padded 255 _ _ (count (c .before .before .before .before .before .before .before)))
-
--- the weights, and the base word two times
-weights-are : (c : tie.After-placed) → let a = c .before .before .before .before .before .before .before .before .before .args in c .placed .result ≡ placedFrom 0 (a .shifts .now) (symbolsOf (a .w) (a .message .now)) (zeros 255)
-weights-are c = let a = c .before .before .before .before .before .before .before .before .before .args in c .placed .ensures ∙ ap (λ (x : _). placedFrom 0 (a .shifts .now) x (zeros 255)) (values-are (c .before .before))
-
-row-is : (c : tie.After-twice-base) → let a = c .before .before .before .before .before .before .before .before .before .before .args in take (a .h .n + a .h .n) (c .twice-base .result) ≡ twice (a .h .n) (a .base .now)
+-- the base word two times
+row-is : (c : tie.After-twice-base) → let a = c .before .before .before .before .before .before .before .args in take (a .h .n + a .h .n) (c .twice-base .result) ≡ twice (a .h .n) (a .base .now)
 row-is c = rw (c .twice-base .ensures) (take-padded 510 _ _ (length-twice _ _))
 
 cast-n : tie.Need-cast-n
 cast-n c = search needs
 
-cast-k : tie.Need-cast-k
-cast-k c = search needs
-
 add-size : tie.Need-add-size
 add-size c = search needs
 
-read-symbols-requires : tie.Need-read-symbols-requires
-read-symbols-requires c κs =
-    let s = c .before .before .before .before .before .before in
-    let a = s .args in
-    let range = width-range (a .h) in
-    let most : a .w * a .h .k ≤ a .w * 255 = mul-le-mul (le-refl (a .w)) (few s .0) in
-    (rw (s .pre .1 .wide) (range .0), rw (s .pre .1 .wide) (range .1), omega (arith, s .pre .1 .bytes, most))
-
-array-share-prefix-values : tie.Need-array-share-prefix-values
-array-share-prefix-values c = search needs
-
-slice-aggregate-placed : tie.Need-slice-aggregate-placed
-slice-aggregate-placed c = rw (values-are (c .before)) (sym (count (c .before .before .before .before .before .before .before .before)))
-
 placed-requires : tie.Need-placed-requires
-placed-requires c κs = let s = c .before .before .before .before .before .before .before .before in rw (values-are (c .before)) (s .pre .0 .sound, s .pre .0 .shifts-are, count s)
+placed-requires c κs = let s = c .before .before .before .before .before in (s .pre .0 .sound, s .pre .0 .shifts-are, s .pre .2)
 
 twice-base-requires : tie.Need-twice-base-requires
-twice-base-requires c κs = let s = c .before .before .before .before .before .before .before .before .before in rw (s .pre .0 .base-is) (base-room (s .args .h))
+twice-base-requires c κs = let s = c .before .before .before .before .before .before in rw (s .pre .0 .base-is) (base-room (s .args .h))
 
 room-requires : tie.Need-room-requires
 room-requires c κs = search needs
@@ -88,27 +58,26 @@ slice-aggregate-write-sums-3 c = sym (length-take-le _ _ (array-borrow-prefix-su
 
 write-sums-requires : tie.Need-write-sums-requires
 write-sums-requires c κs =
-    let s = c .before .before .before .before .before .before .before .before .before .before .before .before .before .before .before in
+    let s = c .before .before .before .before .before .before .before .before .before .before .before .before in
     let a = s .args in
     let sound = s .pre .0 .sound in
     let weights = sym (slice-aggregate-write-sums (c .before .before .before)) in
     let row = sym (slice-aggregate-write-sums-2 (c .before .before)) in
     let sums = sym (slice-aggregate-write-sums-3 (c .before)) in
-    let range = width-range (a .h) in
-    let symbols = s .pre .1 .symbol-rows .symbols in (
+    let range = width-range (a .h) in (
       sound .usable-field,
       record {
-        few = omega (arith, weights, few s .1);
-        places = omega (arith, sums, few s .1);
+        few = omega (arith, weights, sound .byte);
+        places = omega (arith, sums, sound .byte);
         room = omega (arith, weights, row, sums);
-        short = omega (arith, row, few s .1);
-        weights = rw (weights-are (c .before .before .before .before .before .before)) (below-take (size (a .h)) (a .h .n) _ (placed-below (size (a .h)) 0 _ _ _ symbols (zeros-below (size (a .h)) 255 (size-pos (modulusOf (a .h)) (sound .field)))));
+        short = omega (arith, row, sound .byte);
+        weights = rw (c .before .before .before .before .before .before .placed .ensures) (below-take (size (a .h)) (a .h .n) _ (placed-below (size (a .h)) 0 _ _ _ (s .pre .3) (zeros-below (size (a .h)) 255 (size-pos (modulusOf (a .h)) (sound .field)))));
         symbols = rw (row-is (c .before .before .before .before .before), s .pre .0 .base-is) (twice-below (a .h) sound);
       },
-      rw (s .pre .1 .wide) (range .0),
-      rw (s .pre .1 .wide) (range .1),
-      rw (s .pre .1 .wide) (size-fits-width (a .h) sound),
-      s .pre .2 ∙ mul-one _ ∙ mul-comm (a .w) (a .h .n) ∙ ap (λ (x : ℕ). x * a .w) (sym sums),
+      rw (s .pre .1) (range .0),
+      rw (s .pre .1) (range .1),
+      rw (s .pre .1) (size-fits-width (a .h) sound),
+      s .pre .4 ∙ mul-comm (a .w) (a .h .n) ∙ ap (λ (x : ℕ). x * a .w) (sym sums),
     )
 
 same-length : tie.Need-same-length
@@ -116,14 +85,12 @@ same-length c = search needs
 
 returns : tie.Need-returns
 returns c =
-    let s = c .before .before .before .before .before .before .before .before .before .before .before .before .before .before .before .before .before .before .before in
+    let s = c .before .before .before .before .before .before .before .before .before .before .before .before .before .before .before .before in
     let a = s .args in
-    let sound = s .pre .0 .sound in
-    let ms = symbolsOf (a .w) (a .message .now) in
     let sums = sym (slice-aggregate-write-sums-3 (c .before .before .before .before .before)) in
     c .before .before .before .write-sums .ensures
-    ∙ ap (bytesOf (a .w)) (rw (weights-are (c .before .before .before .before .before .before .before .before .before .before), row-is (c .before .before .before .before .before .before .before .before .before), sums, s .pre .0 .shifts-are, s .pre .0 .base-is) (lane-sums (a .h) sound ms (count s) (s .pre .1 .symbol-rows .symbols) ∙ one-share (a .h) ms (count s)))
+    ∙ ap (bytesOf (a .w)) (rw (c .before .before .before .before .before .before .before .before .before .before .placed .ensures, row-is (c .before .before .before .before .before .before .before .before .before), sums, s .pre .0 .shifts-are, s .pre .0 .base-is) (lane-sums (a .h) (s .pre .0 .sound) (a .symbols .now) (s .pre .2) (s .pre .3)))
 
 pub fill-lane-spec : {M : Type 1} → statement M
 fill-lane-spec =
-    tie.close (tie.spec cast-n cast-k add-size read-symbols-requires array-share-prefix-values slice-aggregate-placed placed-requires twice-base-requires room-requires array-share-prefix-weights slice-aggregate-write-sums array-share-prefix-row slice-aggregate-write-sums-2 array-borrow-prefix-sums slice-aggregate-write-sums-3 write-sums-requires same-length returns)
+    tie.close (tie.spec cast-n add-size placed-requires twice-base-requires room-requires array-share-prefix-weights slice-aggregate-write-sums array-share-prefix-row slice-aggregate-write-sums-2 array-borrow-prefix-sums slice-aggregate-write-sums-3 write-sums-requires same-length returns)
