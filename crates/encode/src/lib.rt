@@ -40,7 +40,7 @@ fn fill_column(h: Header, shifts: &[u8], base: &[u16], node: usize, column: &mut
 
 // Whether so few lanes take less time one by one than as a tile: a lane by itself takes longer for each node.
 fn are_few(lanes: usize, n: usize) -> bool {
-    lanes == 1 || (lanes <= 6 && lanes <= n / 8)
+    lanes == 1 || (lanes <= 6 && lanes <= n / 10)
 }
 
 // Fills all lanes: few lanes one by one, more as a product of matrices.
