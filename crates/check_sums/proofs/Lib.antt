@@ -8,4 +8,3 @@ pub mod Marking
 pub mod CheckRows
 pub mod Checks
 pub mod FirstNodes
-pub mod Basis

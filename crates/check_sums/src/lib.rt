@@ -7,4 +7,3 @@ pub mod marks;
 pub mod powers;
 mod scratch;
 mod tile_sums;
-mod values;

@@ -3,11 +3,10 @@ use mathlib.Core.Path.{_≡_, refl, sym, ap, fun-ext, _∙_}
 use mathlib.Core.Bool.{true}
 use mathlib.Core.List.{List, map}
 use Prim.Native.Nat.{ℕ, _-_, _≤_, _<_}
-use native.Mathlib.Nat.{add-zero, zero-add, le-of-eq}
+use native.Mathlib.Nat.{add-zero, le-of-eq}
 use native.Mathlib.Omega.{arith}
 use lib.ListN.{length, getD, length-map}
 use Rattle.lists.specs.Padded.{padded}
-use Rattle.lists.proofs.Rows.{length-from, getD-from}
 use Rattle.lists.proofs.All.{getD-map}
 use Rattle.lists.proofs.Padding.{drop-padded}
 use Rattle.algebra.specs.Powers.{pow}
@@ -29,18 +28,9 @@ use Rattle.recovery.specs.Weights.{Rebuilds}
 use Rattle.interpolation.specs.Points.{pointsOf}
 use Rattle.interpolation.specs.Lagrange.{basisAt, basisValues}
 use Rattle.interpolation.proofs.Points.{length-points}
+use Rattle.interpolation.proofs.Values.{length-values, getD-values}
 use Rattle.interpolation.proofs.Bridge.{pointsOf-is, basisAt-is}
 use Rattle.recovery.proofs.Weights.{heldBy, weights-below, weighted}
-
--- as many values as points
-length-values : (p : ℕ) (xs : List ℕ) (z : ℕ) → length (basisValues p xs z) ≡ length xs
-unfolding basisValues
-length-values p xs z = length-from (λ i. basisAt p xs i z) 0 (length xs)
-
--- value i
-getD-values : (p : ℕ) (xs : List ℕ) (z i : ℕ) → i < length xs → getD (basisValues p xs z) i 0 ≡ basisAt p xs i z
-unfolding basisValues
-getD-values p xs z i l = getD-from (λ i. basisAt p xs i z) 0 (length xs) i 0 l ∙ ap (λ (j : ℕ). basisAt p xs j z) (zero-add i)
 
 module _ (h : Header) (s : Sound h) (js : List ℕ) (nodes : areNodes h js ≡ true) where
   -- the nodes' points, as symbols

@@ -49,7 +49,8 @@ pub fn rebuild_weights(h: Header, nodes: &[u8], target: u32) -> [u16; 255]
     let tables = field::constant_tables();
     let z = field.power(&tables, root, target);
     let points = powers::points(field, &tables, root, nodes, 0);
-    lagrange::basis_values(field, &tables, &points[..k], z)
+    let scales = lagrange::scales(field, &tables, &points[..k]);
+    lagrange::values(field, &tables, &points[..k], &scales[..k], z)
 }
 
 // The basis of the points root^(j + offset).
