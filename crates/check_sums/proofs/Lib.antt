@@ -7,4 +7,3 @@ pub mod Marking
 pub mod CheckRows
 pub mod Checks
 pub mod FirstNodes
-pub mod Basis

@@ -11,7 +11,6 @@ ghost use Rattle.products.specs.Products.{Codes, groupsOf};
 ghost use Rattle.check_sums.specs.Powers.{powersOf};
 ghost use Rattle.check_sums.specs.Checks.{firstPoints, firstWeights, CheckLists};
 use crate::powers;
-use crate::values::values;
 use field::Tables;
 use generator::Header;
 use interpolation::lagrange;
@@ -26,7 +25,7 @@ fn check_weights(h: Header, tables: &Tables, roots: &[u16], scales: &[u16], e: u
     let at = k + e;
     let z = roots[at] as u32;
     let minus = field.sub(0, 1);
-    let mut weights = values(field, tables, &roots[..k], scales, z);
+    let mut weights = lagrange::values(field, tables, &roots[..k], scales, z);
     weights[at] = minus as u16;
     weights
 }

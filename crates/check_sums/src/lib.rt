@@ -4,4 +4,3 @@ mod check_rows;
 pub mod lane;
 pub mod marks;
 pub mod powers;
-mod values;

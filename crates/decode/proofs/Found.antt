@@ -42,7 +42,7 @@ use Rattle.interpolation.specs.Lagrange.{scaleAt, scalesOf}
 use Rattle.interpolation.specs.Polynomials.{productOf, quotientOf}
 use Rattle.interpolation.proofs.Bridge.{pointsOf-is, others-is, scaleAt-is}
 use Rattle.interpolation.proofs.Points.{length-points}
-use Rattle.recovery.proofs.InverseRows.{getD-scales}
+use Rattle.interpolation.proofs.Values.{getD-scales}
 use Rattle.check_sums.specs.Sums.{checkSums}
 use Rattle.check_sums.proofs.OneLane.{length-sums}
 use Rattle.decoding.specs.Nearest.{radius}

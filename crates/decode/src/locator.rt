@@ -52,24 +52,6 @@ fn at(w: &[u16; 255], i: usize, x: usize) -> u32
     if x < i { 0 } else { entry(w, x - i) }
 }
 
-// Coefficient x of x^i·w − d·x^j·v.
-fn amended_at(
-    field: Field,
-    tables: &Tables,
-    d: u32,
-    w: &[u16; 255],
-    i: usize,
-    v: &[u16; 255],
-    j: usize,
-    x: usize,
-) -> u16
-    requires { ⌜ (usable field ≡ true) × (d < sizeOf (modulus field)) × Below (sizeOf (modulus field)) (now w) × Below (sizeOf (modulus field)) (now v) × (x < 255) × AreTables (now tables) ⌝ }
-    ensures { λ r. ⌜ r ≡ amendedAt (modulus field) d (now (w .entry)) i (now (v .entry)) j x ⌝ }
-{
-    let product = field.mul_with(tables, d, at(v, j, x));
-    narrow(field, field.sub(at(w, i, x), product))
-}
-
 // The first coefficients of x^i·w − d·x^j·v, and zeros after them.
 fn amended(
     field: Field,
@@ -87,7 +69,8 @@ fn amended(
     let mut out = [0u16; 255];
     let mut x: usize = 0;
     while x < size {
-        out[x] = amended_at(field, tables, d, w, i, v, j, x);
+        let product = field.mul_with(tables, d, at(v, j, x));
+        out[x] = narrow(field, field.sub(at(w, i, x), product));
         x += 1;
     }
     out

@@ -1,17 +1,37 @@
 -- Values of products and of Lagrange's basis polynomials: one factor more, and that they are symbols.
-use mathlib.Core.Path.{_≡_, ap}
+use mathlib.Core.Path.{_≡_, ap, _∙_}
 use mathlib.Core.Bool.{true}
 use mathlib.Core.List.{List, [], _∷_}
 use Prim.Native.Nat.{ℕ, _+_, _-_, _≤_, _<_}
+use native.Mathlib.Nat.{zero-add}
 use lib.ListN.{length, getD, take, drop}
 use lib.Seq.{drop-length}
 use Rattle.lists.specs.Numbers.{allBelow}
 use Rattle.lists.proofs.Front.{drop-before}
 use Rattle.lists.proofs.Numbers.{below-cons, below-take, below-drop, below-at}
+use Rattle.lists.proofs.Rows.{length-from, getD-from}
 use Rattle.field.specs.Fields.{isField, sizeOf, sub, mul}
 use Rattle.field.proofs.Bounds.{one-below, sub-below, mul-below}
 use Rattle.field.proofs.Inverse.{inverse-below}
-use Rattle.interpolation.specs.Lagrange.{productAt, othersAt, scaleAt, basisAt}
+use Rattle.interpolation.specs.Lagrange.{productAt, othersAt, scaleAt, basisAt, basisValues, scalesOf}
+
+-- as many scales as points, and scale i
+pub length-scales : (p : ℕ) (xs : List ℕ) → length (scalesOf p xs) ≡ length xs
+unfolding scalesOf
+length-scales p xs = length-from (scaleAt p xs) 0 (length xs)
+
+pub getD-scales : (p : ℕ) (xs : List ℕ) (i : ℕ) → i < length xs → getD (scalesOf p xs) i 0 ≡ scaleAt p xs i
+unfolding scalesOf
+getD-scales p xs i l = getD-from (scaleAt p xs) 0 (length xs) i 0 l ∙ ap (scaleAt p xs) (zero-add i)
+
+-- as many values as points, and value i
+pub length-values : (p : ℕ) (xs : List ℕ) (z : ℕ) → length (basisValues p xs z) ≡ length xs
+unfolding basisValues
+length-values p xs z = length-from (λ i. basisAt p xs i z) 0 (length xs)
+
+pub getD-values : (p : ℕ) (xs : List ℕ) (z i : ℕ) → i < length xs → getD (basisValues p xs z) i 0 ≡ basisAt p xs i z
+unfolding basisValues
+getD-values p xs z i l = getD-from (λ i. basisAt p xs i z) 0 (length xs) i 0 l ∙ ap (λ (j : ℕ). basisAt p xs j z) (zero-add i)
 
 -- the product over what is left at the end
 pub productAt-end : (p : ℕ) (xs : List ℕ) (z : ℕ) → productAt p (drop (length xs) xs) z ≡ 1

@@ -9,7 +9,7 @@ ghost use Rattle.lists.specs.Numbers.{allBelow};
 ghost use Rattle.lists.specs.Padded.{padded};
 ghost use Rattle.layout.specs.Width.{bytesOf};
 ghost use Rattle.field.specs.Tables.{AreTables};
-ghost use Rattle.generator.specs.Records.{modulusOf, size, width};
+ghost use Rattle.generator.specs.Records.{modulusOf, size, width, Sound};
 ghost use Rattle.check_sums.specs.Powers.{powersOf};
 ghost use Rattle.mends.specs.BySums.{HasSums, LaneSums, firstOff, upNodes, mendedAt};
 ghost use Rattle.mends.specs.Promise.{inFront};
@@ -85,24 +85,15 @@ fn new_symbols(
     out
 }
 
-// Writes the new symbols of the listed nodes.
-fn put_symbols(
-    h: Header,
-    tables: &Tables,
-    roots: &[u16],
-    lane: &[u16],
-    sums: &[u16],
-    nodes: &[u8],
-    symbols: &mut [u8],
-)
-    requires { ⌜ LaneSums h (now lane) (now sums) × (now roots ≡ padded 255 (powersOf h)) × (allBelow (h .n) (now nodes) ≡ true) × (length (now nodes) ≤ h .n) × (h .n ≤ 255) × (length (now symbols) ≡ h .n * width h) × AreTables (now tables) ⌝ }
-    ensures { λ r. ⌜ now (symbols .exit) ≡ inFront (bytesOf (width h) (map (mendedAt h (now (lane .entry)) (now (sums .entry))) (now (nodes .entry)))) (now (symbols .entry)) ⌝ }
+// Writes new symbols at the front.
+fn put_symbols(h: Header, new: &[u16], symbols: &mut [u8])
+    requires { ⌜ Sound h × (allBelow (size h) (now new) ≡ true) × (length (now new) ≤ h .n) × (h .n ≤ 255) × (length (now symbols) ≡ h .n * width h) ⌝ }
+    ensures { λ r. ⌜ now (symbols .exit) ≡ inFront (bytesOf (width h) (now (new .entry))) (now (symbols .entry)) ⌝ }
 {
-    let count = nodes.len();
-    let out = new_symbols(h, tables, roots, lane, sums, nodes);
+    let count = new.len();
     let w = symbols::width_of(h);
     let end = count * w;
-    symbols::write_symbols(w, &out[..count], &mut symbols[..end]);
+    symbols::write_symbols(w, new, &mut symbols[..end]);
 }
 
 // Lists the nodes and their new symbols; gives how many.
@@ -113,6 +104,7 @@ pub fn list(h: Header, lane: &[u16], sums: &[u16], nodes: &mut [u8], symbols: &m
     let tables = field::constant_tables();
     let roots = check_sums::powers::powers(h);
     let count = list_nodes(h, &tables, &roots, sums, nodes);
-    put_symbols(h, &tables, &roots, lane, sums, &nodes[..count], symbols);
+    let new = new_symbols(h, &tables, &roots, lane, sums, &nodes[..count]);
+    put_symbols(h, &new[..count], symbols);
     count
 }

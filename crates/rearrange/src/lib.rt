@@ -1,6 +1,7 @@
 // Shares that stand node after node, put lane after lane, and back. Symbols are moved, not judged.
 ghost use mathlib.Core.Path.{_≡_};
 ghost use lib.ListN.{length};
+ghost use Rattle.lists.specs.Choice.{pick};
 ghost use Rattle.layout.specs.Layout.{byRow, byLane};
 ghost use Rattle.generator.specs.Records.{Sound};
 ghost use Rattle.refusals.specs.Faults.{rearrangeFault};
@@ -11,33 +12,28 @@ use generator::Record;
 
 mod turning;
 
-// Over the header of an accepted record: node j's symbol of lane t goes from j·lanes + t to t·n + j.
-fn lanes_accepted(h: Header, lanes: usize, by_node: &[u8], by_lane: &mut [u8]) -> Outcome
+// Over the header of an accepted record: node j's symbol of lane t goes from j·lanes + t to t·n + j, or back.
+fn move_accepted(
+    h: Header,
+    lanes: usize,
+    from_nodes: bool,
+    source: &[u8],
+    out: &mut [u8],
+) -> Outcome
     requires { ⌜ Sound h ⌝ }
-    ensures { λ r. ⌜ RearrangePromise byRow byLane lanes (now («by_node» .entry)) (now («by_lane» .entry)) (now («by_lane» .exit)) r h (rearrangeFault h lanes (length (now («by_node» .entry))) (length (now («by_lane» .entry)))) ⌝ }
+    ensures { λ r. ⌜ RearrangePromise (pick «from_nodes» byRow byLane) (pick «from_nodes» byLane byRow) lanes (now (source .entry)) (now (out .entry)) (now (out .exit)) r h (rearrangeFault h lanes (length (now (source .entry))) (length (now (out .entry)))) ⌝ }
 {
-    let number = refusals::rearrange_fault(h, lanes, by_node.len(), by_lane.len());
+    let number = refusals::rearrange_fault(h, lanes, source.len(), out.len());
     if number != 0 {
         return Outcome::Refused(number);
     }
     let n = h.n as usize;
     let w = symbols::width_of(h);
-    turning::turn(w, n, lanes, by_node, by_lane);
-    Outcome::Done
-}
-
-// The other way.
-fn nodes_accepted(h: Header, lanes: usize, by_lane: &[u8], by_node: &mut [u8]) -> Outcome
-    requires { ⌜ Sound h ⌝ }
-    ensures { λ r. ⌜ RearrangePromise byLane byRow lanes (now («by_lane» .entry)) (now («by_node» .entry)) (now («by_node» .exit)) r h (rearrangeFault h lanes (length (now («by_lane» .entry))) (length (now («by_node» .entry)))) ⌝ }
-{
-    let number = refusals::rearrange_fault(h, lanes, by_lane.len(), by_node.len());
-    if number != 0 {
-        return Outcome::Refused(number);
+    if from_nodes {
+        turning::turn(w, n, lanes, source, out);
+        return Outcome::Done;
     }
-    let n = h.n as usize;
-    let w = symbols::width_of(h);
-    turning::turn(w, lanes, n, by_lane, by_node);
+    turning::turn(w, lanes, n, source, out);
     Outcome::Done
 }
 
@@ -46,7 +42,7 @@ pub fn to_lanes(rec: &[u8], lanes: u32, by_node: &[u8], by_lane: &mut [u8]) -> O
     ensures { λ r. ⌜ ToLanesSays (now (rec .entry)) lanes (now («by_node» .entry)) (now («by_lane» .entry)) (now («by_lane» .exit)) r ⌝ }
 {
     match records::read_record(rec) {
-        Record::Holds(h) => lanes_accepted(h, lanes as usize, by_node, by_lane),
+        Record::Holds(h) => move_accepted(h, lanes as usize, true, by_node, by_lane),
         Record::Meets(number) => Outcome::Refused(number),
     }
 }
@@ -56,7 +52,7 @@ pub fn to_nodes(rec: &[u8], lanes: u32, by_lane: &[u8], by_node: &mut [u8]) -> O
     ensures { λ r. ⌜ ToNodesSays (now (rec .entry)) lanes (now («by_lane» .entry)) (now («by_node» .entry)) (now («by_node» .exit)) r ⌝ }
 {
     match records::read_record(rec) {
-        Record::Holds(h) => nodes_accepted(h, lanes as usize, by_lane, by_node),
+        Record::Holds(h) => move_accepted(h, lanes as usize, false, by_lane, by_node),
         Record::Meets(number) => Outcome::Refused(number),
     }
 }

@@ -17,21 +17,12 @@ use Rattle.field.specs.Symbols.{Symbol, numbers}
 use Rattle.field.proofs.Symbols.{length-numbers, getD-numbers}
 use Rattle.field.proofs.FieldOf.{fieldOf, size-pos}
 use Rattle.field.specs.Sums.{dot}
-use Rattle.interpolation.specs.Lagrange.{scaleAt, scalesOf}
+use Rattle.interpolation.specs.Lagrange.{scalesOf}
 use Rattle.interpolation.specs.Polynomials.{productOf, quotientOf, termwise, inversesOf}
 use Rattle.recovery.specs.Rows.{weightOf, weightsOf}
+use Rattle.interpolation.proofs.Values.{getD-scales}
 use Rattle.interpolation.proofs.Coefficients.{length-termwise, getD-termwise, length-inversesOf}
 use Rattle.interpolation.proofs.Bridge.{scaleAt-is, others-is, dot-is}
-
--- as many scales as points
-pub length-scales : (p : ℕ) (xs : List ℕ) → length (scalesOf p xs) ≡ length xs
-unfolding scalesOf
-length-scales p xs = length-from (scaleAt p xs) 0 (length xs)
-
--- scale i
-pub getD-scales : (p : ℕ) (xs : List ℕ) (i : ℕ) → i < length xs → getD (scalesOf p xs) i 0 ≡ scaleAt p xs i
-unfolding scalesOf
-getD-scales p xs i l = getD-from (scaleAt p xs) 0 (length xs) i 0 l ∙ ap (scaleAt p xs) (zero-add i)
 
 -- as many weights as points
 pub length-weightsOf : (p e : ℕ) (gs cs xs ds : List ℕ) → length (weightsOf p e gs cs xs ds) ≡ length xs

@@ -24,9 +24,8 @@ use Rattle.interpolation.specs.Lagrange.{scalesOf}
 use Rattle.interpolation.specs.Polynomials.{productOf, baseOf, quotientOf, termwise, inversesOf}
 use Rattle.recovery.specs.Rows.{basisOf, rowPoints, baseInverses, rowTerms}
 use Rattle.interpolation.proofs.Points.{length-points, points-symbols}
-use Rattle.interpolation.proofs.Values.{scaleAt-below}
+use Rattle.interpolation.proofs.Values.{length-scales, getD-scales, scaleAt-below}
 use Rattle.interpolation.proofs.Coefficients.{length-productOf, productOf-below, length-baseOf, baseOf-below, length-quotientOf, quotientOf-below, length-termwise, termwise-below, length-inversesOf, inversesOf-below}
-use Rattle.recovery.proofs.InverseRows.{length-scales, getD-scales}
 
 -- k symbols
 pub record Symbols (f : Field) (k : ℕ) (xs : List ℕ) : Type 0 where

@@ -3,13 +3,11 @@ use mathlib.Core.Path.{_≡_, refl, sym, ap, fun-ext, _∙_}
 use mathlib.Core.Bool.{true}
 use mathlib.Core.List.{List, map}
 use Prim.Native.Nat.{ℕ, _-_, _≤_, _<_}
-use native.Mathlib.Nat.{add-zero, zero-add, le-of-eq}
+use native.Mathlib.Nat.{add-zero, le-of-eq}
 use native.Mathlib.Omega.{arith}
 use lib.ListN.{length, getD, length-map}
 use Rattle.lists.specs.Padded.{padded}
-use Rattle.lists.proofs.Rows.{length-from, getD-from}
 use Rattle.lists.proofs.All.{getD-map}
-use Rattle.lists.proofs.Padding.{drop-padded}
 use Rattle.algebra.specs.Powers.{pow}
 use Rattle.algebra.proofs.Poly.{eval}
 use Rattle.algebra.proofs.LagrangeBasis.{basis}
@@ -24,23 +22,13 @@ use Rattle.generator.specs.Claims.{areNodes}
 use Rattle.generator.proofs.Sound.{fieldFor, rootFor}
 use Rattle.generator.proofs.Shifts.{shifts-length}
 use Rattle.generator.proofs.Bridge.{nodeOf-is}
-use Rattle.generator.proofs.Recovery.{the-code, nodes-places, lifted, lifted-numbers, length-lifted, message-size, message-below}
+use Rattle.generator.proofs.Recovery.{the-code, nodes-places, lifted, length-lifted, message-size}
 use Rattle.recovery.specs.Weights.{Rebuilds}
 use Rattle.interpolation.specs.Points.{pointsOf}
 use Rattle.interpolation.specs.Lagrange.{basisAt, basisValues}
-use Rattle.interpolation.proofs.Points.{length-points}
+use Rattle.interpolation.proofs.Values.{length-values, getD-values}
 use Rattle.interpolation.proofs.Bridge.{pointsOf-is, basisAt-is}
-use Rattle.recovery.proofs.Weights.{heldBy, weights-below, weighted}
-
--- as many values as points
-length-values : (p : ℕ) (xs : List ℕ) (z : ℕ) → length (basisValues p xs z) ≡ length xs
-unfolding basisValues
-length-values p xs z = length-from (λ i. basisAt p xs i z) 0 (length xs)
-
--- value i
-getD-values : (p : ℕ) (xs : List ℕ) (z i : ℕ) → i < length xs → getD (basisValues p xs z) i 0 ≡ basisAt p xs i z
-unfolding basisValues
-getD-values p xs z i l = getD-from (λ i. basisAt p xs i z) 0 (length xs) i 0 l ∙ ap (λ (j : ℕ). basisAt p xs j z) (zero-add i)
+use Rattle.recovery.proofs.Weights.{size-points, heldBy, weights-for}
 
 module _ (h : Header) (s : Sound h) (js : List ℕ) (nodes : areNodes h js ≡ true) where
   -- the nodes' points, as symbols
@@ -56,11 +44,8 @@ module _ (h : Header) (s : Sound h) (js : List ℕ) (nodes : areNodes h js ≡ t
     abbrev values : List ℕ
     values = basisValues (modulusOf h) points (power (modulusOf h) (h .root) t)
 
-    size-points : length points ≡ h .k
-    size-points = length-points (modulusOf h) (h .root) 0 js ∙ nodes-places h js nodes .size
-
     size-values : length values ≡ h .k
-    size-values = length-values (modulusOf h) points (power (modulusOf h) (h .root) t) ∙ size-points
+    size-values = length-values (modulusOf h) points (power (modulusOf h) (h .root) t) ∙ size-points h s js nodes
 
     -- weight i, as a symbol
     abbrev weight : ℕ → Symbol (size h)
@@ -72,7 +57,7 @@ module _ (h : Header) (s : Sound h) (js : List ℕ) (nodes : areNodes h js ≡ t
         let a = rootFor h s in
         let xs = map (pow F a) js in
         let lj = nodes-places h js nodes .size in
-        getD-values (modulusOf h) points (power (modulusOf h) (h .root) t) i (omega (arith, size-points))
+        getD-values (modulusOf h) points (power (modulusOf h) (h .root) t) i (omega (arith, size-points h s js nodes))
         ∙ ap (λ (z : ℕ). basisAt (modulusOf h) points i z) (sym (number-pow (modulusOf h) (s .field) a t))
         ∙ ap (λ (l : List ℕ). basisAt (modulusOf h) l i (pow F a t .0)) node-points
         ∙ basisAt-is (modulusOf h) (s .field) xs i (pow F a t) (omega (arith, length-map js (pow F a)))
@@ -81,15 +66,9 @@ module _ (h : Header) (s : Sound h) (js : List ℕ) (nodes : areNodes h js ≡ t
     -- the weights
     pub rebuilds : h .k ≤ 255 → Rebuilds h js t (padded 255 values)
     rebuilds fits =
-        record {
-          symbols = weights-below h s js nodes values weight size-values value-is;
-          rest = drop-padded 255 (h .k) values size-values;
-          gives =
-              λ ms m.
-              let M = lifted h s ms in
-              let lm = length-lifted h s ms ∙ message-size h ms m in
-              ap (λ (l : List ℕ). nodeOf h l t) (sym (lifted-numbers h s ms (message-below h ms m)))
-              ∙ nodeOf-is h s M t (le-of-eq (lm ∙ sym (shifts-length (h .n) (h .k) (s .some) (s .fits))))
-              ∙ ap (λ (x : Symbol (size h)). x .0) (rebuild-node (fieldFor h s) (the-code h s) (h .k - 1) js (nodes-places h js nodes) M (heldBy h s js nodes ms) lm refl t)
-              ∙ sym (weighted h s js nodes values weight size-values value-is fits ms m);
-        }
+        weights-for h s js nodes values weight size-values value-is fits (λ ms. nodeOf h ms t)
+        (λ ms m.
+        let M = lifted h s ms in
+        let lm = length-lifted h s ms ∙ message-size h ms m in
+        nodeOf-is h s M t (le-of-eq (lm ∙ sym (shifts-length (h .n) (h .k) (s .some) (s .fits))))
+        ∙ ap (λ (x : Symbol (size h)). x .0) (rebuild-node (fieldFor h s) (the-code h s) (h .k - 1) js (nodes-places h js nodes) M (heldBy h s js nodes ms) lm refl t))

@@ -7,7 +7,6 @@ use native.Mathlib.Omega.{arith}
 use lib.ListN.{length, getD, drop, length-map}
 use Rattle.lists.specs.Padded.{padded}
 use Rattle.lists.proofs.All.{getD-map}
-use Rattle.lists.proofs.Padding.{drop-padded}
 use Rattle.algebra.specs.Powers.{pow}
 use Rattle.algebra.proofs.Sums.{sum}
 use Rattle.algebra.proofs.Powers.{pow-add}
@@ -23,15 +22,14 @@ use Rattle.generator.specs.Records.{modulusOf, size, Sound}
 use Rattle.generator.specs.Shifts.{shifts}
 use Rattle.generator.specs.Claims.{areNodes}
 use Rattle.generator.proofs.Sound.{fieldFor, rootFor}
-use Rattle.generator.proofs.Recovery.{the-code, shifts-are-places, nodes-places, lifted, lifted-numbers, length-lifted, message-size, message-below}
+use Rattle.generator.proofs.Recovery.{the-code, shifts-are-places, nodes-places, lifted, length-lifted, message-size}
 use Rattle.recovery.specs.Weights.{Recovers}
 use Rattle.interpolation.specs.Points.{pointsOf}
 use Rattle.interpolation.specs.Lagrange.{scalesOf}
 use Rattle.interpolation.specs.Polynomials.{productOf, baseOf}
 use Rattle.recovery.specs.Rows.{rowPoints, baseInverses, rowTerms, weightOf, weightsOf}
-use Rattle.interpolation.proofs.Points.{length-points}
 use Rattle.interpolation.proofs.Bridge.{pointsOf-is, baseOf-is}
-use Rattle.recovery.proofs.Weights.{heldBy, weights-below, weighted}
+use Rattle.recovery.proofs.Weights.{size-points, heldBy, weights-for}
 use Rattle.recovery.proofs.Rebuilding.{node-points}
 use Rattle.recovery.proofs.InverseRows.{termsOf, length-weightsOf, getD-weightsOf, weight-is}
 
@@ -54,11 +52,8 @@ module _ (h : Header) (s : Sound h) where
     abbrev weights : List ℕ
     weights = rowOf h points r
 
-    size-points : length points ≡ h .k
-    size-points = length-points (modulusOf h) (h .root) 0 js ∙ nodes-places h js nodes .size
-
     size-weights : length weights ≡ h .k
-    size-weights = length-weightsOf (modulusOf h) _ _ _ points _ ∙ size-points
+    size-weights = length-weightsOf (modulusOf h) _ _ _ points _ ∙ size-points h s js nodes
 
     -- weight i, as a symbol: entry (r, i) of the inverse
     abbrev weight : ℕ → Symbol (size h)
@@ -75,7 +70,7 @@ module _ (h : Header) (s : Sound h) where
         let xs = map (pow F a) js in
         let p = modulusOf h in
         let nums = numbers (size h) in
-        getD-weightsOf p _ _ _ points _ i (omega (arith, size-points))
+        getD-weightsOf p _ _ _ points _ i (omega (arith, size-points h s js nodes))
         ∙ ap (λ (l : List ℕ). weightOf p (getD (scalesOf p l) r 0) (termsOf p l (baseOf p (h .root) e) r) (drop 1 (productOf p points)) (getD points i 0) (getD (scalesOf p points) i 0)) row-points
         ∙ ap (λ (l : List ℕ). weightOf p (getD (scalesOf p (nums bs)) r 0) (termsOf p (nums bs) l r) (drop 1 (productOf p points)) (getD points i 0) (getD (scalesOf p points) i 0)) (baseOf-is p (s .field) a e)
         ∙ ap (λ (l : List ℕ). weightOf p (getD (scalesOf p (nums bs)) r 0) (termsOf p (nums bs) (nums cs) r) (drop 1 (productOf p l)) (getD l i 0) (getD (scalesOf p l) i 0)) (node-points h s js nodes)
@@ -87,15 +82,9 @@ module _ (h : Header) (s : Sound h) where
     -- the weights
     pub recovers : h .k ≤ 255 → Recovers h js r (padded 255 weights)
     recovers fits =
-        record {
-          symbols = weights-below h s js nodes weights weight size-weights entry-is;
-          rest = drop-padded 255 (h .k) weights size-weights;
-          gives =
-              λ ms m.
-              let M = lifted h s ms in
-              let lm = length-lifted h s ms ∙ message-size h ms m in
-              ap (λ (l : List ℕ). getD l r 0) (sym (lifted-numbers h s ms (message-below h ms m)))
-              ∙ getD-numbers (size h) (size-pos (modulusOf h) (s .field)) M r
-              ∙ ap (λ (x : Symbol (size h)). x .0) (recover-row (fieldFor h s) (the-code h s) (h .k - 1) js (nodes-places h js nodes) M (heldBy h s js nodes ms) lm refl r row)
-              ∙ sym (weighted h s js nodes weights weight size-weights entry-is fits ms m);
-        }
+        weights-for h s js nodes weights weight size-weights entry-is fits (λ ms. getD ms r 0)
+        (λ ms m.
+        let M = lifted h s ms in
+        let lm = length-lifted h s ms ∙ message-size h ms m in
+        getD-numbers (size h) (size-pos (modulusOf h) (s .field)) M r
+        ∙ ap (λ (x : Symbol (size h)). x .0) (recover-row (fieldFor h s) (the-code h s) (h .k - 1) js (nodes-places h js nodes) M (heldBy h s js nodes ms) lm refl r row))

@@ -36,9 +36,13 @@ setupOf h js =
       base = padded 255 (baseInverses h);
     }
 
--- the terms of row r: the coefficients of the product over the points of the other rows, each over that of the base polynomial
+-- the terms of the row with the point x: the coefficients of the product over the points of the other rows, each over that of the base polynomial
+abbrev pub termsAt : Header → ℕ → List ℕ
+termsAt h x = termwise (modulusOf h) (quotientOf (modulusOf h) x (drop 1 (productOf (modulusOf h) (rowPoints h)))) (baseInverses h)
+
+-- those of row r
 unfoldable pub rowTerms : Header → ℕ → List ℕ
-rowTerms h r = termwise (modulusOf h) (quotientOf (modulusOf h) (getD (rowPoints h) r 0) (drop 1 (productOf (modulusOf h) (rowPoints h)))) (baseInverses h)
+rowTerms h r = termsAt h (getD (rowPoints h) r 0)
 
 -- the weight of a node in a row: the scales of the row and of the node times the sum of the row's terms times the coefficients of the product over the other nodes' points
 unfoldable pub weightOf : ℕ → ℕ → List ℕ → List ℕ → ℕ → ℕ → ℕ

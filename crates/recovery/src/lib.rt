@@ -7,12 +7,13 @@ ghost use Rattle.field.specs.Fields.{sizeOf};
 ghost use Rattle.field.specs.Kinds.{modulus, usable};
 ghost use Rattle.field.specs.Tables.{AreTables};
 ghost use Rattle.lists.specs.Padded.{padded};
-ghost use Rattle.generator.specs.Records.{modulusOf, Sound};
+ghost use Rattle.generator.specs.Records.{modulusOf, size, Sound};
 ghost use Rattle.generator.specs.Shifts.{shifts as shiftsFor};
 ghost use Rattle.generator.specs.Claims.{areNodes};
 ghost use Rattle.recovery.specs.Weights.{Rebuilds, Recovers};
 ghost use Rattle.interpolation.specs.Points.{pointsOf};
-ghost use Rattle.recovery.specs.Rows.{basisOf, rowPoints, baseInverses, setupOf, rowTerms};
+ghost use Rattle.interpolation.specs.Polynomials.{productOf};
+ghost use Rattle.recovery.specs.Rows.{basisOf, rowPoints, baseInverses, setupOf, termsAt, rowTerms};
 
 mod rows;
 
@@ -49,7 +50,8 @@ pub fn rebuild_weights(h: Header, nodes: &[u8], target: u32) -> [u16; 255]
     let tables = field::constant_tables();
     let z = field.power(&tables, root, target);
     let points = powers::points(field, &tables, root, nodes, 0);
-    lagrange::basis_values(field, &tables, &points[..k], z)
+    let scales = lagrange::scales(field, &tables, &points[..k]);
+    lagrange::values(field, &tables, &points[..k], &scales[..k], z)
 }
 
 // The basis of the points root^(j + offset).
@@ -89,24 +91,26 @@ pub fn prepare(h: Header, nodes: &[u8], shifts: &[u8]) -> Setup
     }
 }
 
-// The terms of row r: the coefficients of the product over the points of the other rows, each over that of the base polynomial.
-pub fn row_terms(h: Header, tables: &Tables, rows: Basis, base: [u16; 255], r: usize) -> [u16; 255]
-    requires { ⌜ Sound h × (rows ≡ basisOf (modulusOf h) (rowPoints h)) × (base ≡ padded 255 (baseInverses h)) × (r < h .k) × AreTables (now tables) ⌝ }
-    ensures { λ t. ⌜ t ≡ padded 255 (rowTerms h r) ⌝ }
+// The terms of the row with the point x: the coefficients of the product over the points of the other rows, each over that of the base polynomial; and zeros after them.
+pub fn terms_at(h: Header, tables: &Tables, product: &[u16], base: &[u16], x: u32) -> [u16; 255]
+    requires { ⌜ Sound h × (now product ≡ padded 256 (productOf (modulusOf h) (rowPoints h))) × (now base ≡ padded 255 (baseInverses h)) × (x < size h) × AreTables (now tables) ⌝ }
+    ensures { λ t. ⌜ t ≡ padded 255 (termsAt h x) ⌝ }
 {
     let field = h.field;
     let k = h.k as usize;
     let first: usize = 1;
     let end = k + 1;
+    division::quotient_terms(field, tables, x, &product[first..end], &base[..k])
+}
+
+// The terms of row r.
+pub fn row_terms(h: Header, tables: &Tables, rows: Basis, base: [u16; 255], r: usize) -> [u16; 255]
+    requires { ⌜ Sound h × (rows ≡ basisOf (modulusOf h) (rowPoints h)) × (base ≡ padded 255 (baseInverses h)) × (r < h .k) × AreTables (now tables) ⌝ }
+    ensures { λ t. ⌜ t ≡ padded 255 (rowTerms h r) ⌝ }
+{
     let points = rows.points;
     let product = rows.product;
-    division::quotient_terms(
-        field,
-        tables,
-        points[r] as u32,
-        &product[first..end],
-        &base[..k],
-    )
+    terms_at(h, tables, &product, &base, points[r] as u32)
 }
 
 // Weights for symbol r of the message: row r of the inverse of the encoding at the nodes, from what was prepared for them. Places from k on hold 0.

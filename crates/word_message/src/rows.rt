@@ -11,7 +11,6 @@ use crate::rounds;
 use field::Field;
 use field::Tables;
 use generator::Header;
-use interpolation::division;
 
 // The points root^(shift + k − 1) of the rows, and zeros after them.
 pub fn row_points(h: Header, powers: &[u16]) -> [u16; 255]
@@ -68,17 +67,7 @@ pub fn row_terms(h: Header, tables: &Tables, powers: &[u16], points: &[u16], r: 
     requires { ⌜ Sound h × (now powers ≡ padded 255 (powersOf h)) × (now points ≡ rowPoints h) × (r < h .k) × AreTables (now tables) ⌝ }
     ensures { λ t. ⌜ t ≡ padded 255 (rowTerms h r) ⌝ }
 {
-    let field = h.field;
-    let k = h.k as usize;
-    let first: usize = 1;
-    let end = k + 1;
     let product = rounds::row_product(h, tables, powers, points);
     let base = base_inverses(h, tables, powers);
-    division::quotient_terms(
-        field,
-        tables,
-        points[r] as u32,
-        &product[first..end],
-        &base[..k],
-    )
+    recovery::terms_at(h, tables, &product, &base, points[r] as u32)
 }

@@ -11,8 +11,8 @@ read-record-requires c κs = search needs
 enum-known-h : tie.Need-enum-known-h
 enum-known-h c = search needs
 
-nodes-accepted-requires : tie.Need-nodes-accepted-requires
-nodes-accepted-requires c κs = read-sound _ (c .before .before .before .before .read-record .ensures) (c .before .before .h .given .1)
+move-accepted-requires : tie.Need-move-accepted-requires
+move-accepted-requires c κs = read-sound _ (c .before .before .before .before .read-record .ensures) (c .before .before .h .given .1)
 
 enum-known-number : tie.Need-enum-known-number
 enum-known-number c = search needs
@@ -21,10 +21,10 @@ same-length : tie.Need-same-length
 same-length c = search needs
 
 returns : tie.Need-returns
-returns c = on-held (c .before .before .before .before .before .before .before .read-record .ensures) (c .before .before .before .before .before .h .given .1) (c .before .before .nodes-accepted .ensures)
+returns c = on-held (c .before .before .before .before .before .before .before .read-record .ensures) (c .before .before .before .before .before .h .given .1) (c .before .before .move-accepted .ensures)
 
 returns-2 : tie.Need-returns-2
 returns-2 c = on-met (c .before .before .before .read-record .ensures) (c .before .number .given .1) (λ h some. rearrange-refuses h _ some _ _ _)
 
 pub to-nodes-spec : {M : Type 1} → statement M
-to-nodes-spec = tie.close (tie.spec read-record-requires enum-known-h nodes-accepted-requires enum-known-number same-length returns returns-2)
+to-nodes-spec = tie.close (tie.spec read-record-requires enum-known-h move-accepted-requires enum-known-number same-length returns returns-2)

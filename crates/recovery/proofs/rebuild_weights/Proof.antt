@@ -8,7 +8,9 @@ use Rattle.lists.proofs.Padding.{take-padded}
 use Rattle.field.proofs.Bounds.{power-below}
 use Rattle.generator.specs.Records.{modulusOf, size}
 use Rattle.generator.proofs.Recovery.{nodes-places}
-use Rattle.interpolation.specs.Points.{pointsOf}
+use Rattle.interpolation.specs.Points.{SymbolList, pointsOf}
+use Rattle.interpolation.specs.Lagrange.{scalesOf}
+use Rattle.interpolation.proofs.Values.{length-scales}
 use Rattle.interpolation.proofs.Points.{length-points, points-symbols}
 use Rattle.recovery.proofs.Rebuilding.{rebuilds}
 use Rattle.recovery.proofs.rebuild_weights.Statement.{statement}
@@ -44,27 +46,62 @@ part c =
     let a = c .before .before .before .before .before .before .before .args in
     rw (c .points .ensures) (take-padded 255 (a .h .k) _ (length-points (modulusOf (a .h)) (a .h .root) 0 (a .nodes .now) ∙ few (c .before .before) .0))
 
-slice-aggregate-basis-values : tie.Need-slice-aggregate-basis-values
-slice-aggregate-basis-values c =
-    let a = c .before .before .before .before .before .before .before .before .before .args in
-    rw (part (c .before .before)) (sym (length-points (modulusOf (a .h)) (a .h .root) 0 (a .nodes .now) ∙ few (c .before .before .before .before) .0))
+-- there are k points
+many : (c : tie.After-points) → let a = c .before .before .before .before .before .before .before .args in a .h .k ≡ length (take (a .h .k) (c .points .result))
+many c =
+    let a = c .before .before .before .before .before .before .before .args in
+    rw (part c) (sym (length-points (modulusOf (a .h)) (a .h .root) 0 (a .nodes .now) ∙ few (c .before .before) .0))
 
-basis-values-requires : tie.Need-basis-values-requires
-basis-values-requires c κs =
-    let a = c .before .before .before .before .before .before .before .before .before .args in
-    let s = c .before .before .before .before .before .before .before .before .before .pre .0 in
-    let n = few (c .before .before .before .before) in (
-      rw (part (c .before .before)) (points-symbols (a .h .root) 0 (a .nodes .now) (s .usable-field) (s .root-below) (omega arith)),
-      rw (c .before .before .before .before .power .ensures) (power-below _ (s .field) _ (s .root-below)),
-      c .before .before .before .before .before .before .constant-tables .ensures,
+-- they are symbols
+symbols : (c : tie.After-points) → let a = c .before .before .before .before .before .before .before .args in SymbolList (a .h .field) (take (a .h .k) (c .points .result))
+symbols c =
+    let a = c .before .before .before .before .before .before .before .args in
+    let s = c .before .before .before .before .before .before .before .pre .0 in
+    let n = few (c .before .before) in
+    rw (part c) (points-symbols (a .h .root) 0 (a .nodes .now) (s .usable-field) (s .root-below) (omega arith))
+
+slice-aggregate-scales : tie.Need-slice-aggregate-scales
+slice-aggregate-scales c = many (c .before .before)
+
+scales-requires : tie.Need-scales-requires
+scales-requires c κs = (symbols (c .before .before), c .before .before .before .before .before .before .constant-tables .ensures)
+
+-- their scales as they are lent
+scales-are : (c : tie.After-scales) → let a = c .before .before .before .before .before .before .before .before .before .before .args in let xs = take (a .h .k) (c .before .before .before .points .result) in take (a .h .k) (c .scales .result) ≡ scalesOf (modulusOf (a .h)) xs
+scales-are c =
+    let a = c .before .before .before .before .before .before .before .before .before .before .args in
+    let xs = take (a .h .k) (c .before .before .before .points .result) in
+    rw (c .scales .ensures) (take-padded 255 (a .h .k) _ (length-scales (modulusOf (a .h)) xs ∙ sym (many (c .before .before .before))))
+
+array-share-prefix-points-2 : tie.Need-array-share-prefix-points-2
+array-share-prefix-points-2 c = search needs
+
+slice-aggregate-values : tie.Need-slice-aggregate-values
+slice-aggregate-values c = many (c .before .before .before .before .before)
+
+array-share-prefix-scales : tie.Need-array-share-prefix-scales
+array-share-prefix-scales c = search needs
+
+slice-aggregate-values-2 : tie.Need-slice-aggregate-values-2
+slice-aggregate-values-2 c =
+    let at = c .before .before .before in
+    rw (scales-are at) (many (at .before .before .before) ∙ sym (length-scales _ (take (at .before .before .before .before .before .before .before .before .before .before .args .h .k) (at .before .before .before .points .result))))
+
+values-requires : tie.Need-values-requires
+values-requires c κs =
+    let s = c .before .before .before .before .before .before .before .before .before .before .before .before .before .pre .0 in (
+      symbols (c .before .before .before .before .before .before),
+      scales-are (c .before .before .before),
+      rw (c .before .before .before .before .before .before .before .before .power .ensures) (power-below _ (s .field) _ (s .root-below)),
+      c .before .before .before .before .before .before .before .before .before .before .constant-tables .ensures,
     )
 
 returns : tie.Need-returns
 returns c =
-    let a = c .before .before .before .before .before .before .before .before .before .before .args in
-    let s = c .before .before .before .before .before .before .before .before .before .before .pre in
-    rw (c .basis-values .ensures, part (c .before .before .before), c .before .before .before .before .before .power .ensures) (rebuilds (a .h) (s .0) (a .nodes .now) (s .1) (a .target) (few (c .before .before .before .before .before) .1))
+    let a = c .before .before .before .before .before .before .before .before .before .before .before .before .before .before .args in
+    let s = c .before .before .before .before .before .before .before .before .before .before .before .before .before .before .pre in
+    rw (c .values .ensures, part (c .before .before .before .before .before .before .before), c .before .before .before .before .before .before .before .before .before .power .ensures) (rebuilds (a .h) (s .0) (a .nodes .now) (s .1) (a .target) (few (c .before .before .before .before .before .before .before .before .before) .1))
 
 pub rebuild-weights-spec : {M : Type 1} → statement M
 rebuild-weights-spec =
-    tie.close (tie.spec cast-k constant-tables-requires power-requires points-requires array-share-prefix-points slice-aggregate-basis-values basis-values-requires returns)
+    tie.close (tie.spec cast-k constant-tables-requires power-requires points-requires array-share-prefix-points slice-aggregate-scales scales-requires array-share-prefix-points-2 slice-aggregate-values array-share-prefix-scales slice-aggregate-values-2 values-requires returns)

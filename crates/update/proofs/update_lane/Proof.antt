@@ -1,8 +1,6 @@
 -- `update_lane` meets its contract: the promise over the header that was read, or the record's number.
-use mathlib.Core.Path.{sym, _∙_}
 use borrow.Author.Needs.{needs}
-use Rattle.generator.proofs.Accepts.{accepted-sound}
-use Rattle.refusals.proofs.OnRecord.{on-header, on-number}
+use Rattle.refusals.proofs.OnRecord.{read-sound, on-held, on-met}
 use Rattle.blocks.proofs.Refused.{update-refuses}
 use Rattle.update.proofs.update_lane.Statement.{statement}
 use Rattle.update.proofs.update_lane.Tie as tie
@@ -14,8 +12,7 @@ enum-known-h : tie.Need-enum-known-h
 enum-known-h c = search needs
 
 update-accepted-requires : tie.Need-update-accepted-requires
-update-accepted-requires c κs =
-    accepted-sound (c .before .before .before .before .before .before .before .args .rec .now) _ (sym (c .before .before .before .before .read-record .ensures) ∙ c .before .before .h .given .1)
+update-accepted-requires c κs = read-sound _ (c .before .before .before .before .read-record .ensures) (c .before .before .h .given .1)
 
 enum-known-number : tie.Need-enum-known-number
 enum-known-number c = search needs
@@ -24,12 +21,10 @@ same-length : tie.Need-same-length
 same-length c = search needs
 
 returns : tie.Need-returns
-returns c =
-    on-header _ (sym (c .before .before .before .before .before .before .before .read-record .ensures) ∙ c .before .before .before .before .before .h .given .1) (c .before .before .update-accepted .ensures)
+returns c = on-held (c .before .before .before .before .before .before .before .read-record .ensures) (c .before .before .before .before .before .h .given .1) (c .before .before .update-accepted .ensures)
 
 returns-2 : tie.Need-returns-2
-returns-2 c =
-    on-number _ (sym (c .before .before .before .read-record .ensures) ∙ c .before .number .given .1) (λ h some. update-refuses h _ some _ _ _ _ _ _)
+returns-2 c = on-met (c .before .before .before .read-record .ensures) (c .before .number .given .1) (λ h some. update-refuses h _ some _ _ _ _ _ _)
 
 pub update-lane-spec : {M : Type 1} → statement M
 update-lane-spec =

@@ -60,11 +60,7 @@ loop-again c =
     (omega arith, c .add .ensures ∙ rw (c .before .wide .ensures, c .before .before .before .mul-with .ensures, l .inv .1) (sym (polyAt-next _ (a .coefficients .now) (a .x) (l .i) (omega arith) (omega arith))))
 
 returns : tie.Need-returns Inv-loop μ-loop
-returns c =
-    let l = c .before .loop in
-    let end : l .i ≡ 0 = omega arith in
-    rw end at (l .inv .1)
+returns c = let end : c .before .loop .i ≡ 0 = omega arith in rw end at (c .before .loop .inv .1)
 
 pub value-spec : {M : Type 1} → statement M
-value-spec =
-    tie.close (tie.spec Inv-loop μ-loop loop-holds sub-i mul-with-requires mul-wide shared-slice-read-wide wide-requires add-requires loop-less loop-again returns)
+value-spec = tie.close (tie.spec Inv-loop μ-loop loop-holds sub-i mul-with-requires mul-wide shared-slice-read-wide wide-requires add-requires loop-less loop-again returns)

@@ -68,11 +68,7 @@ loop-again c =
     (omega arith, c .mul-with .ensures ∙ rw (c .before .sub .ensures, l .inv .1) (sym (productAt-next _ (a .points .now) (a .z) (l .i) (omega arith) (omega arith))))
 
 returns : tie.Need-returns Inv-loop μ-loop
-returns c =
-    let l = c .before .loop in
-    let end : l .i ≡ 0 = omega arith in
-    rw end at (l .inv .1)
+returns c = let end : c .before .loop .i ≡ 0 = omega arith in rw end at (c .before .loop .inv .1)
 
 pub product-at-spec : {M : Type 1} → statement M
-product-at-spec =
-    tie.close (tie.spec Inv-loop μ-loop loop-holds sub-i mul-sub shared-slice-read-sub cast-sub sub-requires mul-with-requires loop-less loop-again returns)
+product-at-spec = tie.close (tie.spec Inv-loop μ-loop loop-holds sub-i mul-sub shared-slice-read-sub cast-sub sub-requires mul-with-requires loop-less loop-again returns)

@@ -78,11 +78,7 @@ loop-again c =
     (omega arith, omega arith, more (c .before .before .before .before) .whole _ (c .before .times-linear .ensures) ∙ ap (padded 256) (sym (productOf-next _ (a .points .now) (l .i) (omega arith) (omega arith))))
 
 returns : tie.Need-returns Inv-loop μ-loop
-returns c =
-    let l = c .before .loop in
-    let end : l .i ≡ 0 = omega arith in
-    rw end at (l .inv .2)
+returns c = let end : c .before .loop .i ≡ 0 = omega arith in rw end at (c .before .loop .inv .2)
 
 pub product-spec : {M : Type 1} → statement M
-product-spec =
-    tie.close (tie.spec Inv-loop μ-loop array-write-out loop-holds sub-i add-size mul-times-linear shared-slice-read-times-linear cast-times-linear array-borrow-prefix-out slice-aggregate-times-linear times-linear-requires loop-less loop-again returns)
+product-spec = tie.close (tie.spec Inv-loop μ-loop array-write-out loop-holds sub-i add-size mul-times-linear shared-slice-read-times-linear cast-times-linear array-borrow-prefix-out slice-aggregate-times-linear times-linear-requires loop-less loop-again returns)

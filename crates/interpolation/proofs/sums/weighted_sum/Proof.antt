@@ -80,11 +80,7 @@ loop-again c =
     (omega arith, rw (c .add .ensures, c .before .mul-with .ensures, l .inv .1) (sym (dot-before _ (s .args .symbols .now) (s .args .weights .now) (l .i) (omega arith) inside (omega arith))))
 
 returns : tie.Need-returns Inv-loop μ-loop
-returns c =
-    let l = c .before .loop in
-    let end : l .i ≡ 0 = omega arith in
-    rw end at (l .inv .1)
+returns c = let end : c .before .loop .i ≡ 0 = omega arith in rw end at (c .before .loop .inv .1)
 
 pub weighted-sum-spec : {M : Type 1} → statement M
-weighted-sum-spec =
-    tie.close (tie.spec Inv-loop μ-loop loop-holds sub-i mul-mul-with shared-slice-read-mul-with cast-mul-with mul-mul-with-2 shared-slice-read-mul-with-2 cast-mul-with-2 mul-with-requires add-requires loop-less loop-again returns)
+weighted-sum-spec = tie.close (tie.spec Inv-loop μ-loop loop-holds sub-i mul-mul-with shared-slice-read-mul-with cast-mul-with mul-mul-with-2 shared-slice-read-mul-with-2 cast-mul-with-2 mul-with-requires add-requires loop-less loop-again returns)

@@ -11,10 +11,10 @@ use Rattle.field.specs.Fields.{sizeOf}
 use Rattle.field.specs.Kinds.{modulus}
 use Rattle.field.proofs.Bounds.{sub-below}
 use Rattle.field.proofs.KindLaws.{usable-field, size-fits}
 use Rattle.interpolation.specs.Lagrange.{productAt}
 use Rattle.interpolation.proofs.Values.{productAt-end, productAt-next, productAt-below}
-use Rattle.check_sums.proofs.values.last_products.Statement.{statement}
-use Rattle.check_sums.proofs.values.last_products.Tie as tie
+use Rattle.interpolation.proofs.lagrange.last_products.Statement.{statement}
+use Rattle.interpolation.proofs.lagrange.last_products.Tie as tie
 
 abbrev Inv-loop : tie.InvT-loop
 Inv-loop field tables points z out₀ product₀ m₀ out product m =

@@ -11,11 +11,11 @@ use Rattle.field.specs.Fields.{sizeOf, mul}
 use Rattle.field.specs.Kinds.{modulus}
 use Rattle.field.proofs.Bounds.{sub-below, mul-below}
 use Rattle.field.proofs.KindLaws.{usable-field, size-fits}
 use Rattle.interpolation.specs.Lagrange.{productAt, scaleAt, basisAt, basisValues}
-use Rattle.interpolation.proofs.Values.{productAt-below, scaleAt-below, basisAt-below}
-use Rattle.check_sums.proofs.Basis.{product-last, product-none, after-at, scale-is, scale-place, basis-is}
-use Rattle.check_sums.proofs.values.values.Statement.{statement}
-use Rattle.check_sums.proofs.values.values.Tie as tie
+use Rattle.interpolation.proofs.Values.{length-scales, getD-scales, productAt-below, scaleAt-below, basisAt-below}
+use Rattle.interpolation.proofs.Basis.{product-last, product-none, after-at, basis-is}
+use Rattle.interpolation.proofs.lagrange.values.Statement.{statement}
+use Rattle.interpolation.proofs.lagrange.values.Tie as tie
 
 abbrev Inv-loop : tie.InvT-loop
 Inv-loop field tables points scales z after out₀ before₀ i₀ out before i =
@@ -39,7 +39,7 @@ point-low c = below-at _ _ (c .before .before .before .before .before .pre .0 .b
 
 -- the scale
 scale-here : (c : tie.In-loop Inv-loop μ-loop) → let a = c .before .before .before .before .before .args in getD (a .scales .now) (c .before .loop .i) 0 ≡ scaleAt (modulus (a .field)) (a .points .now) (c .before .loop .i)
-scale-here c = let s = c .before .before .before .before .before in rw (s .pre .1) (scale-is (modulus (s .args .field)) (s .args .points .now) (s .args .z) (c .before .loop .i) (c .loop-test .taken))
+scale-here c = let s = c .before .before .before .before .before in rw (s .pre .1) (getD-scales (modulus (s .args .field)) (s .args .points .now) (c .before .loop .i) (c .loop-test .taken))
 
 scale-low : (c : tie.In-loop Inv-loop μ-loop) → let a = c .before .before .before .before .before .args in getD (a .scales .now) (c .before .loop .i) 0 < sizeOf (modulus (a .field))
 scale-low c = let s = c .before .before .before .before .before .pre in rw (scale-here c) (scaleAt-below _ (usable-field _ (s .0 .usable-field)) _ _ (s .0 .below) (c .loop-test .taken))
@@ -80,7 +80,7 @@ mul-mul-with-2 : tie.Need-mul-mul-with-2 Inv-loop μ-loop
 mul-mul-with-2 c = omega (arith, c .before .before .before .before .before .before .pre .0 .short, c .before .loop-test .taken)
 
 shared-slice-read-mul-with : tie.Need-shared-slice-read-mul-with Inv-loop μ-loop
-shared-slice-read-mul-with c = let s = c .before .before .before .before .before .before .before in rw (s .pre .1) (scale-place (modulus (s .args .field)) (s .args .points .now) (s .args .z) (c .before .before .before .loop .i) (c .before .before .loop-test .taken))
+shared-slice-read-mul-with c = let s = c .before .before .before .before .before .before .before in rw (s .pre .1) (omega (arith, length-scales (modulus (s .args .field)) (s .args .points .now), c .before .before .loop-test .taken))
 
 cast-mul-with-2 : tie.Need-cast-mul-with-2 Inv-loop μ-loop
 cast-mul-with-2 c = omega (arith, scale-low (c .before .before), size-fits _ (c .before .before .before .before .before .before .before .pre .0 .usable-field))

@@ -3,7 +3,6 @@ use mathlib.Core.Path.{_≡_, refl, sym, ap, _∙_}
 use mathlib.Core.Bool.{true}
 use mathlib.Core.List.{List, [], _∷_}
 use Prim.Native.Nat.{ℕ, zero, suc, _+_, _-_, _≤_, _<_}
-use native.Mathlib.Nat.{zero-add}
 use native.Mathlib.Numerals.{add-one}
 use native.Mathlib.Omega.{arith}
 use lib.ListN.{length, getD, take, drop}
@@ -16,8 +15,8 @@ use Rattle.lists.proofs.Rows.{length-from, getD-from}
 use Rattle.field.specs.Fields.{isField, sizeOf, sub, mul}
 use Rattle.field.proofs.BothKinds.{arithmetic}
 use Rattle.field.proofs.Bounds.{one-below, sub-below}
-use Rattle.interpolation.specs.Lagrange.{productAt, othersAt, scaleAt, basisAt, scalesOf}
+use Rattle.interpolation.specs.Lagrange.{productAt, othersAt, scaleAt, basisAt}
 use Rattle.interpolation.proofs.Values.{productAt-below}
 
 module _ (p : ℕ) (v : isField p ≡ true) (z : ℕ) (low : z < sizeOf p) where
   pub product-last : (xs : List ℕ) (i : ℕ) → allBelow (sizeOf p) xs ≡ true → i < length xs → productAt p (take (i + 1) xs) z ≡ mul p (productAt p (take i xs) z) (sub p z (getD xs i 0))
@@ -42,14 +41,6 @@ module _ (p : ℕ) (xs : List ℕ) (z i : ℕ) (inside : i < length xs) where
       getD-padded 255 (from f 0 (length xs)) (length xs - i - 1) (omega (arith, length-from f 0 (length xs)))
       ∙ getD-from f 0 (length xs) (length xs - i - 1) 0 (omega arith)
       ∙ ap (λ (x : ℕ). productAt p (drop x xs) z) place
-
-  pub scale-is : getD (scalesOf p xs) i 0 ≡ scaleAt p xs i
-  unfolding scalesOf
-  scale-is = rw zero-add at (getD-from (scaleAt p xs) 0 (length xs) i 0 inside)
-
-  pub scale-place : i < length (scalesOf p xs)
-  unfolding scalesOf
-  scale-place = omega (arith, length-from (scaleAt p xs) 0 (length xs))
 
   pub basis-is : mul p (scaleAt p xs i) (mul p (productAt p (take i xs) z) (productAt p (drop (i + 1) xs) z)) ≡ basisAt p xs i z
   unfolding basisAt othersAt
