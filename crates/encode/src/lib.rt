@@ -1,15 +1,13 @@
 // Encode: the shares of all nodes, each lane encoded by itself. Lanes are encoded 64 at a time, as rows of a tile.
 ghost use mathlib.Core.Path.{_≡_};
-ghost use Prim.Native.Nat.{_+_, _*_, _%_, _≤_, _<_};
+ghost use Prim.Native.Nat.{_+_, _%_, _≤_, _<_};
 ghost use lib.ListN.{length, getD};
 ghost use Rattle.lists.specs.Padded.{padded};
-ghost use Rattle.layout.specs.Layout.{byLane, shareLayout};
-ghost use Rattle.layout.specs.Width.{symbolsOf, bytesOf};
+ghost use Rattle.layout.specs.Layout.{shareLayout};
 ghost use Rattle.generator.specs.Records.{Sound};
-ghost use Rattle.blocks.specs.Blocks.{sharesOf};
 ghost use Rattle.refusals.specs.Faults.{encodeFault};
 ghost use Rattle.blocks.specs.Promises.{EncodePromise, EncodeSays};
-ghost use Rattle.encode.specs.Inner.{Planned, MessageBytes, columnOf};
+ghost use Rattle.encode.specs.Inner.{Planned, columnOf};
 use blocks::Outcome;
 use generator::Header;
 use generator::Record;
@@ -42,26 +40,6 @@ fn column(h: Header, shifts: &[u8], base: &[u16], node: usize) -> [u16; 255]
     out
 }
 
-// Fills all lanes: one lane by itself, more as a product of matrices.
-fn encode_lanes<'a>(
-    h: Header,
-    shifts: &'a [u8],
-    base: &'a [u16],
-    w: usize,
-    lanes: usize,
-    message: &[u8],
-    out: &mut [u8],
-)
-    requires { ⌜ Planned h (now shifts) (now base) × MessageBytes h w lanes (now message) × (length (now out) ≡ w * h .n * lanes) ⌝ }
-    ensures { λ r. ⌜ now (out .exit) ≡ bytesOf w (sharesOf byLane h lanes (symbolsOf w (now (message .entry)))) ⌝ }
-{
-    if lanes == 1 {
-        one_lane::fill_lane(h, shifts, base, w, message, out);
-        return;
-    }
-    lanes::fill_lanes(h, shifts, base, w, lanes, message, out);
-}
-
 // Encodes over the header of an accepted record. Everything is judged before the first byte is written.
 fn encode_accepted(h: Header, lanes: usize, message: &[u8], out: &mut [u8]) -> Outcome
     requires { ⌜ Sound h ⌝ }
@@ -73,7 +51,7 @@ fn encode_accepted(h: Header, lanes: usize, message: &[u8], out: &mut [u8]) -> O
     }
     let w = symbols::width_of(h);
     let plan = plan::plan_of(h);
-    encode_lanes(h, &plan.shifts, &plan.base, w, lanes, message, out);
+    lanes::fill_lanes(h, &plan.shifts, &plan.base, w, lanes, message, out);
     Outcome::Done
 }
 

@@ -23,8 +23,8 @@ width-of-requires c κs = search needs
 plan-of-requires : tie.Need-plan-of-requires
 plan-of-requires c κs = search needs
 
-encode-lanes-requires : tie.Need-encode-lanes-requires
-encode-lanes-requires c κs =
+fill-lanes-requires : tie.Need-fill-lanes-requires
+fill-lanes-requires c κs =
     let s = c .before .before .before .before .before .before .before .before .before .before .before .before in
     let none = sym (c .before .before .before .before .before .before .before .before .before .encode-fault .ensures) ∙ c .before .before .before .before .before .before .before .before .if1 .left in
     let h = s .args .h in
@@ -44,8 +44,8 @@ unfolding outcomeOf
 returns-2 c =
     let none = sym (c .before .before .before .before .before .before .before .before .before .before .before .before .encode-fault .ensures) ∙ c .before .before .before .before .before .before .before .before .before .before .before .if1 .left in
     let wide = c .before .before .before .before .before .before .before .before .before .before .width-of .ensures .0 in
-    record { answer = rw none; written = rw none (rw wide at (c .before .before .encode-lanes .ensures) ∙ sym (encoded-lanes _ _ _ _ refl)) }
+    record { answer = rw none; written = rw none (rw wide at (c .before .before .fill-lanes .ensures) ∙ sym (encoded-lanes _ _ _ _ refl)) }
 
 pub encode-accepted-spec : {M : Type 1} → statement M
 encode-accepted-spec =
-    tie.close (tie.spec encode-fault-requires returns width-of-requires plan-of-requires encode-lanes-requires same-length returns-2)
+    tie.close (tie.spec encode-fault-requires returns width-of-requires plan-of-requires fill-lanes-requires same-length returns-2)
