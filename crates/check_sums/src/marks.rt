@@ -64,50 +64,24 @@ fn mark_with(
     lane_products::fill(m, w, lists, counts, shares, marks);
 }
 
-// In scratch for at most 16 nodes.
-fn mark_small(h: Header, w: usize, lanes: usize, shares: &[u8], marks: &mut [u8])
-    requires { ⌜ SymbolBytes h w (h .n) lanes (now shares) × (length (now marks) ≡ lanes) × (h .n ≤ 16) ⌝ }
-    ensures { λ r. ⌜ now (marks .exit) ≡ wordMarks byLane h lanes (symbolsOf w (now (shares .entry))) ⌝ }
-{
-    let mut lists = scratch::small_lists();
-    let mut counts = scratch::small_counts();
-    mark_with(h, w, lanes, shares, &mut lists, &mut counts, marks);
-}
-
-// For at most 64.
-fn mark_middle(h: Header, w: usize, lanes: usize, shares: &[u8], marks: &mut [u8])
-    requires { ⌜ SymbolBytes h w (h .n) lanes (now shares) × (length (now marks) ≡ lanes) × (h .n ≤ 64) ⌝ }
-    ensures { λ r. ⌜ now (marks .exit) ≡ wordMarks byLane h lanes (symbolsOf w (now (shares .entry))) ⌝ }
-{
-    let mut lists = scratch::middle_lists();
-    let mut counts = scratch::middle_counts();
-    mark_with(h, w, lanes, shares, &mut lists, &mut counts, marks);
-}
-
-// For any record.
-fn mark_large(h: Header, w: usize, lanes: usize, shares: &[u8], marks: &mut [u8])
-    requires { ⌜ SymbolBytes h w (h .n) lanes (now shares) × (length (now marks) ≡ lanes) × (h .n ≤ 255) ⌝ }
-    ensures { λ r. ⌜ now (marks .exit) ≡ wordMarks byLane h lanes (symbolsOf w (now (shares .entry))) ⌝ }
-{
-    let mut lists = scratch::large_lists();
-    let mut counts = scratch::large_counts();
-    mark_with(h, w, lanes, shares, &mut lists, &mut counts, marks);
-}
-
-// Marks of several lanes, in the smallest scratch that the record's nodes fit.
+// Marks of several lanes, in the smallest scratch that the record's nodes fit: clearing the largest takes longer than the work of a small record.
 fn mark_several(h: Header, w: usize, lanes: usize, shares: &[u8], marks: &mut [u8])
     requires { ⌜ SymbolBytes h w (h .n) lanes (now shares) × (length (now marks) ≡ lanes) ⌝ }
     ensures { λ r. ⌜ now (marks .exit) ≡ wordMarks byLane h lanes (symbolsOf w (now (shares .entry))) ⌝ }
 {
     if h.n <= 16 {
-        mark_small(h, w, lanes, shares, marks);
-        return;
+        let mut lists = scratch::small_lists();
+        let mut counts = scratch::small_counts();
+        return mark_with(h, w, lanes, shares, &mut lists, &mut counts, marks);
     }
     if h.n <= 64 {
-        mark_middle(h, w, lanes, shares, marks);
-        return;
+        let mut lists = scratch::middle_lists();
+        let mut counts = scratch::middle_counts();
+        return mark_with(h, w, lanes, shares, &mut lists, &mut counts, marks);
     }
-    mark_large(h, w, lanes, shares, marks);
+    let mut lists = scratch::large_lists();
+    let mut counts = scratch::large_counts();
+    mark_with(h, w, lanes, shares, &mut lists, &mut counts, marks);
 }
 
 // Marks all lanes, which have the mark 0 before.

@@ -2,7 +2,7 @@
 use mathlib.Core.Path.{_≡_, refl, sym, ap, _∙_}
 use mathlib.Core.Bool.{true}
 use mathlib.Core.List.{List, [], append-nil}
-use Prim.Native.Nat.{ℕ, _+_, _≤_}
+use Prim.Native.Nat.{ℕ, _+_, _*_, _≤_}
 use native.Mathlib.Omega.{arith}
 use lib.ListN.{length}
 use Rattle.lists.specs.Rows.{from}
@@ -15,16 +15,20 @@ use Rattle.layout.proofs.Buffers.{length-lane, buffer-ext}
 use Rattle.layout.proofs.Lawful.{by-lane}
 use Rattle.field.specs.Sums.{dot}
 use Rattle.generator.specs.declared.Header.{Header}
-use Rattle.generator.specs.Records.{modulusOf, size, Sound}
+use Rattle.generator.specs.Records.{modulusOf, size, width, Sound}
 use Rattle.generator.specs.Generator.{entry}
 use Rattle.generator.specs.Codewords.{nodeFrom, nodeOf}
 use Rattle.generator.proofs.Bounds.{entry-below}
 use Rattle.blocks.specs.Blocks.{shareAt, sharesOf}
 use Rattle.combine.proofs.Columns.{dot-column}
+use Rattle.products.specs.Products.{groupsOf}
+use Rattle.products.specs.Matrices.{Begun}
+use Rattle.products.proofs.Beginning.{begun-made}
+use Rattle.products.proofs.Fitting.{lists-fit}
 use Rattle.lane_products.specs.declared.Product.{Product}
 use Rattle.lane_products.specs.declared.Way.the-variants.{RowsToLanes}
-use Rattle.lane_products.specs.Ways.{sideOf, written, sumOf}
-use Rattle.encode.specs.Inner.{columnOf}
+use Rattle.lane_products.specs.Ways.{sideOf, outBytes, written, sumOf, Ready}
+use Rattle.encode.specs.Inner.{MessageBytes, ListRoom, columnOf, columnProduct}
 
 pub length-column : (h : Header) (j : ℕ) → length (columnOf h j) ≡ h .k
 unfolding columnOf
@@ -37,12 +41,8 @@ column-sum h j ms few =
     ap (dot (modulusOf h) ms) (sym (append-nil (from (λ r. entry h r j) 0 (h .k))))
     ∙ dot-column (modulusOf h) (λ r. entry h r j) (λ r ms. nodeFrom r h ms j) (λ r. refl) (λ r m ms. refl) 0 (h .k) ms [] few
 
--- the product of the columns and l lanes
-abbrev pub productOf : Header → ℕ → Product
-productOf h l = record { way = RowsToLanes; field = h .field; outputs = h .n; rows = h .k; lanes = l }
-
 -- so the products of the columns and the lanes are the shares
-pub product-shares : (h : Header) (w l : ℕ) (m : List ℕ) (p : Product) → p ≡ productOf h l → written RowsToLanes w (h .n) l (sumOf p w (columnOf h) m) ≡ bytesOf w (sharesOf byLane h l (symbolsOf w m))
+pub product-shares : (h : Header) (w l : ℕ) (m : List ℕ) (p : Product) → p ≡ columnProduct h l → written RowsToLanes w (h .n) l (sumOf p w (columnOf h) m) ≡ bytesOf w (sharesOf byLane h l (symbolsOf w m))
 unfolding written sharesOf shareAt sideOf
 product-shares h w l m p e =
     rw e
@@ -55,3 +55,21 @@ unfolding columnOf
 column-below h j sound =
     at-below (size h) (columnOf h j)
     (λ r low. rw (getD-from (λ r. entry h r j) 0 (h .k) r 0 (omega (arith, length-column h j))) (entry-below h sound (0 + r) j))
+
+-- the lists of all columns fit scratch for so many nodes, and groups of four for as many rows
+pub list-room : (h : Header) (groups most : ℕ) → Sound h → h .n ≤ most → most ≤ 4 * groups → ListRoom h (most * (8 * groups)) (most * 8)
+list-room h groups most sound few all = record { entries = lists-fit (h .n) (h .k) groups most few (omega (arith, sound .fits)); sizes = omega arith }
+
+-- with their lists made, the product is ready
+pub columns-ready : {h : Header} {w l out : ℕ} {message lists counts : List ℕ} → Sound h → MessageBytes h w l message → out ≡ w * h .n * l → h .n * (8 * groupsOf (h .k)) ≤ length lists → h .n * 8 ≤ length counts → Begun (modulusOf h) (h .k) (columnOf h) (h .n) lists counts → Ready (columnProduct h l) w lists counts message out
+unfolding width outBytes
+columns-ready sound message long entries sizes begun =
+    record {
+      usable-field = sound .usable-field;
+      wide = message .wide;
+      few = omega (arith, sound .fits, sound .byte);
+      few-lanes = message .symbol-rows .few-lanes;
+      made = begun-made (sound .byte) entries sizes begun;
+      source-long = message .bytes;
+      out-long = long;
+    }

@@ -9,6 +9,8 @@ use Rattle.generator.specs.Records.{Sound}
 use Rattle.generator.specs.Generator.{entry}
 use Rattle.plan.specs.Plans.{planFor}
 use Rattle.products.specs.Products.{groupsOf}
+use Rattle.lane_products.specs.declared.Product.{Product}
+use Rattle.lane_products.specs.declared.Way.the-variants.{RowsToLanes}
 use Rattle.refusals.specs.Accepted.{SymbolBytes}
 
 -- the shifts and the base word of an accepted record's plan
@@ -29,3 +31,7 @@ MessageBytes h w l m = SymbolBytes h w (h .k) l m
 pub record ListRoom (h : Header) (lists counts : ℕ) : Type 0 where
   pub entries : h .n * (8 * groupsOf (h .k)) ≤ lists
   pub sizes : h .n * 8 ≤ counts
+
+-- the product of all nodes' columns and l lanes, lane after lane
+abbrev pub columnProduct : Header → ℕ → Product
+columnProduct h l = record { way = RowsToLanes; field = h .field; outputs = h .n; rows = h .k; lanes = l }

@@ -1,6 +1,6 @@
-// The shares of a block of several lanes: the nodes' columns as lists, and their products with the lanes.
+// The shares of all lanes: the nodes' columns as lists, and their products with the lanes.
 ghost use mathlib.Core.Path.{_≡_};
-ghost use Prim.Native.Nat.{_*_, _≤_};
+ghost use Prim.Native.Nat.{_*_};
 ghost use lib.ListN.{length};
 ghost use Rattle.layout.specs.Layout.{byLane};
 ghost use Rattle.layout.specs.Width.{symbolsOf, bytesOf};
@@ -8,7 +8,7 @@ ghost use Rattle.generator.specs.Records.{modulusOf};
 ghost use Rattle.blocks.specs.Blocks.{sharesOf};
 ghost use Rattle.products.specs.Products.{Codes};
 ghost use Rattle.products.specs.Matrices.{Begun};
-ghost use Rattle.encode.specs.Inner.{Planned, MessageBytes, ListRoom, columnOf};
+ghost use Rattle.encode.specs.Inner.{Planned, MessageBytes, ListRoom, columnOf, columnProduct};
 use crate::fill_column;
 use generator::Header;
 use lane_products::Product;
@@ -16,7 +16,7 @@ use lane_products::Way;
 use products::scratch;
 
 // The lists of every node's column; `column` is scratch.
-fn fill_lists(
+fn list_columns(
     h: Header,
     shifts: &[u8],
     base: &[u16],
@@ -38,123 +38,35 @@ fn fill_lists(
     }
 }
 
-// The lists, and then the lanes, in scratch that is long enough.
-fn encode_with<'a>(
-    h: Header,
-    shifts: &'a [u8],
-    base: &'a [u16],
-    w: usize,
-    lanes: usize,
-    message: &[u8],
-    lists: &mut [u16],
-    counts: &mut [u8],
-    out: &mut [u8],
-)
-    requires { ⌜ Planned h (now shifts) (now base) × MessageBytes h w lanes (now message) × ListRoom h (length (now lists)) (length (now counts)) × (length (now out) ≡ w * h .n * lanes) ⌝ }
-    ensures { λ r. ⌜ now (out .exit) ≡ bytesOf w (sharesOf byLane h lanes (symbolsOf w (now (message .entry)))) ⌝ }
+fn fill_lists(h: Header, shifts: &[u8], base: &[u16], lists: &mut [u16], counts: &mut [u8])
+    requires { ⌜ Planned h (now shifts) (now base) × ListRoom h (length (now lists)) (length (now counts)) ⌝ }
+    ensures { λ r. ⌜ Begun (modulusOf h) (h .k) (columnOf h) (h .n) (now (lists .exit)) (now (counts .exit)) ⌝ }
 {
+    let k = h.k as usize;
+    let codes = products::codes_of(h.field);
+    let mut column = [0u16; 255];
+    list_columns(h, shifts, base, &codes, &mut column[..k], lists, counts);
+}
+
+// The product of the generator's columns and so many lanes.
+fn product_of(h: Header, lanes: usize) -> Product
+    ensures { λ r. ⌜ r ≡ columnProduct h lanes ⌝ }
+{
+    let way = Way::RowsToLanes;
     let field = h.field;
     let outputs = h.n as usize;
     let rows = h.k as usize;
-    let way = Way::RowsToLanes;
-    let codes = products::codes_of(field);
-    let mut column = [0u16; 255];
-    fill_lists(h, shifts, base, &codes, &mut column[..rows], lists, counts);
-    let m = Product {
+    Product {
         way: way,
         field: field,
         outputs: outputs,
         rows: rows,
         lanes: lanes,
-    };
-    lane_products::fill(m, w, lists, counts, message, out);
+    }
 }
 
-// In scratch for at most 16 nodes: clearing the largest takes longer than the work of a small record.
-fn encode_small<'a>(
-    h: Header,
-    shifts: &'a [u8],
-    base: &'a [u16],
-    w: usize,
-    lanes: usize,
-    message: &[u8],
-    out: &mut [u8],
-)
-    requires { ⌜ Planned h (now shifts) (now base) × (h .n ≤ 16) × MessageBytes h w lanes (now message) × (length (now out) ≡ w * h .n * lanes) ⌝ }
-    ensures { λ r. ⌜ now (out .exit) ≡ bytesOf w (sharesOf byLane h lanes (symbolsOf w (now (message .entry)))) ⌝ }
-{
-    let mut lists = scratch::small_lists();
-    let mut counts = scratch::small_counts();
-    encode_with(
-        h,
-        shifts,
-        base,
-        w,
-        lanes,
-        message,
-        &mut lists,
-        &mut counts,
-        out,
-    );
-}
-
-// For at most 64.
-fn encode_middle<'a>(
-    h: Header,
-    shifts: &'a [u8],
-    base: &'a [u16],
-    w: usize,
-    lanes: usize,
-    message: &[u8],
-    out: &mut [u8],
-)
-    requires { ⌜ Planned h (now shifts) (now base) × (h .n ≤ 64) × MessageBytes h w lanes (now message) × (length (now out) ≡ w * h .n * lanes) ⌝ }
-    ensures { λ r. ⌜ now (out .exit) ≡ bytesOf w (sharesOf byLane h lanes (symbolsOf w (now (message .entry)))) ⌝ }
-{
-    let mut lists = scratch::middle_lists();
-    let mut counts = scratch::middle_counts();
-    encode_with(
-        h,
-        shifts,
-        base,
-        w,
-        lanes,
-        message,
-        &mut lists,
-        &mut counts,
-        out,
-    );
-}
-
-// For any record.
-fn encode_large<'a>(
-    h: Header,
-    shifts: &'a [u8],
-    base: &'a [u16],
-    w: usize,
-    lanes: usize,
-    message: &[u8],
-    out: &mut [u8],
-)
-    requires { ⌜ Planned h (now shifts) (now base) × (h .n ≤ 255) × MessageBytes h w lanes (now message) × (length (now out) ≡ w * h .n * lanes) ⌝ }
-    ensures { λ r. ⌜ now (out .exit) ≡ bytesOf w (sharesOf byLane h lanes (symbolsOf w (now (message .entry)))) ⌝ }
-{
-    let mut lists = scratch::large_lists();
-    let mut counts = scratch::large_counts();
-    encode_with(
-        h,
-        shifts,
-        base,
-        w,
-        lanes,
-        message,
-        &mut lists,
-        &mut counts,
-        out,
-    );
-}
-
-// Fills all lanes, in the smallest scratch that the record's nodes fit.
+// Fills all lanes, as a product of matrices, in the smallest scratch that the record's nodes fit. Clearing the largest takes longer than the
+// work of a small record.
 pub fn fill_lanes<'a>(
     h: Header,
     shifts: &'a [u8],
@@ -167,13 +79,21 @@ pub fn fill_lanes<'a>(
     requires { ⌜ Planned h (now shifts) (now base) × MessageBytes h w lanes (now message) × (length (now out) ≡ w * h .n * lanes) ⌝ }
     ensures { λ r. ⌜ now (out .exit) ≡ bytesOf w (sharesOf byLane h lanes (symbolsOf w (now (message .entry)))) ⌝ }
 {
+    let m = product_of(h, lanes);
     if h.n <= 16 {
-        encode_small(h, shifts, base, w, lanes, message, out);
-        return;
+        let mut lists = scratch::small_lists();
+        let mut counts = scratch::small_counts();
+        fill_lists(h, shifts, base, &mut lists, &mut counts);
+        return lane_products::fill(m, w, &lists, &counts, message, out);
     }
     if h.n <= 64 {
-        encode_middle(h, shifts, base, w, lanes, message, out);
-        return;
+        let mut lists = scratch::middle_lists();
+        let mut counts = scratch::middle_counts();
+        fill_lists(h, shifts, base, &mut lists, &mut counts);
+        return lane_products::fill(m, w, &lists, &counts, message, out);
     }
-    encode_large(h, shifts, base, w, lanes, message, out);
+    let mut lists = scratch::large_lists();
+    let mut counts = scratch::large_counts();
+    fill_lists(h, shifts, base, &mut lists, &mut counts);
+    lane_products::fill(m, w, &lists, &counts, message, out);
 }

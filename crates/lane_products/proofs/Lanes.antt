@@ -22,13 +22,16 @@ use Rattle.layout.proofs.Runs as runs
 use Rattle.layout.proofs.Tiles.{many-symbols}
 use Rattle.layout.proofs.Widths.{length-symbols}
 use Rattle.tiles64.specs.Tiles.{TileOf}
+use Rattle.field.specs.Kinds.{modulus}
 use Rattle.field.specs.Sums.{dot}
 use Rattle.field.specs.Widths.{bytesFor}
+use Rattle.field.proofs.Widths.{bytes-range}
 use Rattle.products.specs.Products.{groupsOf}
 use Rattle.products.specs.Matrices.{laneProduct}
 use Rattle.products.proofs.Fitting.{groups-few}
 use Rattle.products.proofs.Lanes.{lane-prefix}
-use Rattle.lane_products.specs.Ways.{Room}
+use Rattle.lane_products.specs.declared.Product.{Product}
+use Rattle.lane_products.specs.Ways.{Ready, Room}
 
 -- lane t from what its places hold
 pub lane-is : (n l t : ℕ) (s xs : List ℕ) → length xs ≡ n → ((r : ℕ) → r < n → getD s (t * n + r) 0 ≡ getD xs r 0) → laneOf byLane n l t s ≡ xs
@@ -93,9 +96,12 @@ pub room-for : (w outputs rows groups blocks : ℕ) → 1 ≤ w → rows ≤ 4 *
 room-for w outputs rows groups blocks some grouped a b less =
     record { lanes = omega arith; sums = omega (arith, groups-few rows groups grouped); blocks = omega arith; products = omega arith }
 
--- where the rows of bytes are few, the rows are
-pub fewer : (w rows most : ℕ) → 1 ≤ w → w * rows ≤ most → rows ≤ most
-fewer w rows most some few = omega (arith, mul-le-mul some (le-refl rows))
+-- and that of a product whose rows of bytes fill so many blocks of 16
+pub few-room : {m : Product} {w out : ℕ} {lists counts source : List ℕ} → Ready m w lists counts source out → (blocks : ℕ) → w * m .outputs ≤ 16 * blocks → w * m .rows ≤ 16 * blocks → Room w (m .outputs) (m .rows) (blocks * 1024) (4 * blocks * 1024) (blocks * 1024)
+few-room {m = m} {w = w} r blocks outputs rows =
+    let some : 1 ≤ w = rw (r .wide) (bytes-range (modulus (m .field)) .0) in
+    let fewer : m .rows ≤ 4 * (4 * blocks) = omega (arith, mul-le-mul some (le-refl (m .rows))) in
+    room-for w (m .outputs) (m .rows) (4 * blocks) blocks some fewer outputs rows (omega arith)
 
 -- the groups of four rows lie in a tile that is filled 16 rows of bytes at a time
 pub groups-inside : (w rows : ℕ) → 1 ≤ w → w ≤ 2 → groupsOf rows * (w * 256) ≤ (w * rows + 15) / 16 * 1024

@@ -8,6 +8,7 @@ ghost use Rattle.field.specs.Kinds.{modulus};
 ghost use Rattle.products.specs.Matrices.{Begun};
 ghost use Rattle.lane_products.specs.Ways.{written, sumOf, Done, Ready, Room};
 use field::Field;
+use products::Shape;
 use products::scratch;
 
 mod loading;
@@ -50,14 +51,17 @@ fn fill_tile(
     let field = m.field;
     let outputs = m.outputs;
     let rows = m.rows;
+    let shape = Shape {
+        field: field,
+        outputs: outputs,
+        rows: rows,
+    };
     let groups = products::groups_of(rows);
     let size = groups * (w * 256);
     let sums = groups * 1024;
     loading::load(m, w, first, count, source, tile);
     products::apply(
-        field,
-        outputs,
-        rows,
+        shape,
         lists,
         counts,
         &tile[..size],

@@ -49,18 +49,12 @@ fn load_row(w: usize, count: usize, part: &[u8], rows: &mut [u8])
 }
 
 // `count` lanes of rows of symbols that stand one after the other, from lane `first` on.
-fn load_rows(
-    w: usize,
-    rows: usize,
-    lanes: usize,
-    first: usize,
-    count: usize,
-    source: &[u8],
-    tile: &mut [u8],
-)
-    requires { ⌜ (1 ≤ w) × (w ≤ 2) × (length (now source) ≡ w * rows * lanes) × (first + count ≤ lanes) × (count ≤ 64) × (w * rows * 64 ≤ length (now tile)) ⌝ }
-    ensures { λ r. ⌜ (length (now (tile .exit)) ≡ length (now (tile .entry))) × ((t : ℕ) → t < count → laneOf byRow (w * rows) 64 t (now (tile .exit)) ≡ bytesOf w (laneOf byRow rows lanes (first + t) (symbolsOf w (now (source .entry))))) ⌝ }
+fn load_rows(m: Product, w: usize, first: usize, count: usize, source: &[u8], tile: &mut [u8])
+    requires { ⌜ (1 ≤ w) × (w ≤ 2) × (length (now source) ≡ w * m .rows * m .lanes) × (first + count ≤ m .lanes) × (count ≤ 64) × (w * m .rows * 64 ≤ length (now tile)) ⌝ }
+    ensures { λ r. ⌜ (length (now (tile .exit)) ≡ length (now (tile .entry))) × ((t : ℕ) → t < count → laneOf byRow (w * m .rows) 64 t (now (tile .exit)) ≡ bytesOf w (laneOf byRow (m .rows) (m .lanes) (first + t) (symbolsOf w (now (source .entry))))) ⌝ }
 {
+    let rows = m.rows;
+    let lanes = m.lanes;
     let size = w * 64;
     let mut r: usize = 0;
     while r < rows {
@@ -74,18 +68,11 @@ fn load_rows(
 }
 
 // The same of lanes that stand one after the other.
-fn load_lanes(
-    w: usize,
-    rows: usize,
-    lanes: usize,
-    first: usize,
-    count: usize,
-    source: &[u8],
-    tile: &mut [u8],
-)
-    requires { ⌜ (1 ≤ w) × (w * rows ≤ 510) × (length (now source) ≡ w * rows * lanes) × (first + count ≤ lanes) × (count ≤ 64) × ((w * rows + 15) / 16 * 1024 ≤ length (now tile)) ⌝ }
-    ensures { λ r. ⌜ (length (now (tile .exit)) ≡ length (now (tile .entry))) × ((t : ℕ) → t < count → symbolsOf w (laneOf byRow (w * rows) 64 t (now (tile .exit))) ≡ laneOf byLane rows lanes (first + t) (symbolsOf w (now (source .entry)))) ⌝ }
+fn load_lanes(m: Product, w: usize, first: usize, count: usize, source: &[u8], tile: &mut [u8])
+    requires { ⌜ (1 ≤ w) × (w * m .rows ≤ 510) × (length (now source) ≡ w * m .rows * m .lanes) × (first + count ≤ m .lanes) × (count ≤ 64) × ((w * m .rows + 15) / 16 * 1024 ≤ length (now tile)) ⌝ }
+    ensures { λ r. ⌜ (length (now (tile .exit)) ≡ length (now (tile .entry))) × ((t : ℕ) → t < count → symbolsOf w (laneOf byRow (w * m .rows) 64 t (now (tile .exit))) ≡ laneOf byLane (m .rows) (m .lanes) (first + t) (symbolsOf w (now (source .entry)))) ⌝ }
 {
+    let rows = m.rows;
     let lane = w * rows;
     let start = first * lane;
     let end = start + count * lane;
@@ -98,11 +85,9 @@ pub fn load(m: Product, w: usize, first: usize, count: usize, source: &[u8], til
     ensures { λ r. ⌜ (length (now (tile .exit)) ≡ length (now (tile .entry))) × ((t : ℕ) → t < count → symbolsOf w (laneOf byRow (w * m .rows) 64 t (now (tile .exit))) ≡ laneOf (sideOf (m .way)) (m .rows) (m .lanes) (first + t) (symbolsOf w (now (source .entry)))) ⌝ }
 {
     let way = m.way;
-    let rows = m.rows;
-    let lanes = m.lanes;
     match way {
-        Way::RowsToLanes => load_rows(w, rows, lanes, first, count, source, tile),
-        Way::LanesToRows => load_lanes(w, rows, lanes, first, count, source, tile),
-        Way::LanesToMarks => load_lanes(w, rows, lanes, first, count, source, tile),
+        Way::RowsToLanes => load_rows(m, w, first, count, source, tile),
+        Way::LanesToRows => load_lanes(m, w, first, count, source, tile),
+        Way::LanesToMarks => load_lanes(m, w, first, count, source, tile),
     }
 }

@@ -33,18 +33,12 @@ fn store_row(w: usize, count: usize, part: &[u8], out: &mut [u8])
 }
 
 // Lanes `first` and on of the rows of a buffer.
-fn store_rows(
-    w: usize,
-    outputs: usize,
-    lanes: usize,
-    first: usize,
-    count: usize,
-    words: &[u8],
-    out: &mut [u8],
-)
-    requires { ⌜ (1 ≤ w) × (w ≤ 2) × (count ≤ 64) × (first + count ≤ lanes) × (lanes ≤ 4096) × (w * outputs * 64 ≤ length (now words)) × (length (now out) ≡ w * outputs * lanes) ⌝ }
-    ensures { λ r. ⌜ ((f : ℕ → ℕ → ℕ) → Sums w outputs first count f (now (words .entry)) → RowsDone w outputs lanes f first (now (out .entry)) → RowsDone w outputs lanes f (first + count) (now (out .exit))) ⌝ }
+fn store_rows(m: Product, w: usize, first: usize, count: usize, words: &[u8], out: &mut [u8])
+    requires { ⌜ (1 ≤ w) × (w ≤ 2) × (count ≤ 64) × (first + count ≤ m .lanes) × (m .lanes ≤ 4096) × (w * m .outputs * 64 ≤ length (now words)) × (length (now out) ≡ w * m .outputs * m .lanes) ⌝ }
+    ensures { λ r. ⌜ ((f : ℕ → ℕ → ℕ) → Sums w (m .outputs) first count f (now (words .entry)) → RowsDone w (m .outputs) (m .lanes) f first (now (out .entry)) → RowsDone w (m .outputs) (m .lanes) f (first + count) (now (out .exit))) ⌝ }
 {
+    let outputs = m.outputs;
+    let lanes = m.lanes;
     let size = w * 64;
     let row = lanes * w;
     let at = first * w;
@@ -62,18 +56,18 @@ fn store_rows(
 
 // The same of lanes that stand one after the other.
 fn store_lanes(
+    m: Product,
     w: usize,
-    outputs: usize,
-    lanes: usize,
     first: usize,
     count: usize,
     words: &[u8],
     blocks: &mut [u8],
     out: &mut [u8],
 )
-    requires { ⌜ (w * outputs ≤ 512) × (count ≤ 64) × (first + count ≤ lanes) × ((w * outputs + 15) / 16 * 1024 ≤ length (now words)) × ((w * outputs + 15) / 16 * 1024 ≤ length (now blocks)) × (length (now out) ≡ w * outputs * lanes) ⌝ }
-    ensures { λ r. ⌜ ((f : ℕ → ℕ → ℕ) → Sums w outputs first count f (now (words .entry)) → LanesDone w outputs lanes f first (now (out .entry)) → LanesDone w outputs lanes f (first + count) (now (out .exit))) ⌝ }
+    requires { ⌜ (w * m .outputs ≤ 512) × (count ≤ 64) × (first + count ≤ m .lanes) × ((w * m .outputs + 15) / 16 * 1024 ≤ length (now words)) × ((w * m .outputs + 15) / 16 * 1024 ≤ length (now blocks)) × (length (now out) ≡ w * m .outputs * m .lanes) ⌝ }
+    ensures { λ r. ⌜ ((f : ℕ → ℕ → ℕ) → Sums w (m .outputs) first count f (now (words .entry)) → LanesDone w (m .outputs) (m .lanes) f first (now (out .entry)) → LanesDone w (m .outputs) (m .lanes) f (first + count) (now (out .exit))) ⌝ }
 {
+    let outputs = m.outputs;
     let n = w * outputs;
     let size = (n + 15) / 16 * 1024;
     let start = first * n;
@@ -88,18 +82,11 @@ fn store_lanes(
 }
 
 // The marks of these lanes.
-fn store_marks(
-    w: usize,
-    outputs: usize,
-    lanes: usize,
-    first: usize,
-    count: usize,
-    words: &[u8],
-    out: &mut [u8],
-)
-    requires { ⌜ (1 ≤ w) × (w ≤ 2) × (w * outputs ≤ 512) × (count ≤ 64) × (first + count ≤ lanes) × (w * outputs * 64 ≤ length (now words)) × (length (now out) ≡ lanes) ⌝ }
-    ensures { λ r. ⌜ ((f : ℕ → ℕ → ℕ) → Sums w outputs first count f (now (words .entry)) → MarksDone outputs lanes f first (now (out .entry)) → MarksDone outputs lanes f (first + count) (now (out .exit))) ⌝ }
+fn store_marks(m: Product, w: usize, first: usize, count: usize, words: &[u8], out: &mut [u8])
+    requires { ⌜ (1 ≤ w) × (w ≤ 2) × (w * m .outputs ≤ 512) × (count ≤ 64) × (first + count ≤ m .lanes) × (w * m .outputs * 64 ≤ length (now words)) × (length (now out) ≡ m .lanes) ⌝ }
+    ensures { λ r. ⌜ ((f : ℕ → ℕ → ℕ) → Sums w (m .outputs) first count f (now (words .entry)) → MarksDone (m .outputs) (m .lanes) f first (now (out .entry)) → MarksDone (m .outputs) (m .lanes) f (first + count) (now (out .exit))) ⌝ }
 {
+    let outputs = m.outputs;
     let last = first + count;
     marking::mark_rows(w * outputs, words, &mut out[first..last]);
 }
@@ -118,11 +105,9 @@ pub fn store(
     ensures { λ r. ⌜ ((f : ℕ → ℕ → ℕ) → Sums w (m .outputs) first count f (now (words .entry)) → Done (m .way) w (m .outputs) (m .lanes) f first (now (out .entry)) → Done (m .way) w (m .outputs) (m .lanes) f (first + count) (now (out .exit))) ⌝ }
 {
     let way = m.way;
-    let outputs = m.outputs;
-    let lanes = m.lanes;
     match way {
-        Way::RowsToLanes => store_lanes(w, outputs, lanes, first, count, words, blocks, out),
-        Way::LanesToRows => store_rows(w, outputs, lanes, first, count, words, out),
-        Way::LanesToMarks => store_marks(w, outputs, lanes, first, count, words, out),
+        Way::RowsToLanes => store_lanes(m, w, first, count, words, blocks, out),
+        Way::LanesToRows => store_rows(m, w, first, count, words, out),
+        Way::LanesToMarks => store_marks(m, w, first, count, words, out),
     }
 }

@@ -78,11 +78,5 @@ module _ (p x : ℕ) (hp : 2 ≤ p) (hx : x < 65536) where
       let all : x - q * p + q * p ≡ x = omega (arith, rest-low) in
       sym (add-mul-mod-self-right (x - q * p) q p) ∙ ap (λ (n : ℕ). n % p) all
 
-pub product16 : (a b : ℕ) → a < 65536 → b < 65536 → a * b ≤ 4294836225
-product16 a b ha hb =
-    let la : a ≤ 65535 = omega arith in
-    let lb : b ≤ 65535 = omega arith in
-    omega (arith, mul-le-mul la lb)
-
 pub inverse-fits : (p : ℕ) → 2 ≤ p → 65536 / p < 65536
 inverse-fits p h = div-lt-iff-lt-mul {k = p} (omega arith) .1 (omega arith)

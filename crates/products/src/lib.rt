@@ -20,6 +20,13 @@ pub mod scratch;
 pub use matrix::apply;
 pub use matrix::prepare;
 
+// The shape of a matrix: so many sums of the symbols in so many rows.
+pub struct Shape {
+    pub field: Field,
+    pub outputs: usize,
+    pub rows: usize,
+}
+
 // How many groups of four rows there are, the last one filled up.
 pub fn groups_of(rows: usize) -> usize
     requires { ⌜ rows ≤ 255 ⌝ }

@@ -10,6 +10,7 @@ ghost use Rattle.field.specs.Kinds.{modulus, usable};
 ghost use Rattle.field.specs.Widths.{bytesFor};
 ghost use Rattle.products.specs.Products.{groupsOf, Codes, Loaded};
 ghost use Rattle.products.specs.Matrices.{Begun, Made, OutputsOf, Multiplied};
+use crate::Shape;
 use crate::groups_of;
 use field::Field;
 
@@ -40,19 +41,13 @@ pub fn prepare(
 }
 
 // Every output, each through its own part.
-fn outputs(
-    field: Field,
-    count: usize,
-    rows: usize,
-    lists: &[u16],
-    counts: &[u8],
-    tile: &[u8],
-    table: &[u8],
-    out: &mut [u8],
-)
-    requires { ⌜ (usable field ≡ true) × (rows ≤ 255) × Made (modulus field) rows count (now lists) (now counts) × Loaded (modulus field) (groupsOf rows) (now tile) (now table) × (count * (bytesFor (modulus field) * 64) ≤ length (now out)) ⌝ }
-    ensures { λ r. ⌜ ((w : ℕ → List ℕ) → Begun (modulus field) rows w count (now (lists .entry)) (now (counts .entry)) → OutputsOf (modulus field) rows count w (now (tile .entry)) count (now (out .exit))) ⌝ }
+fn outputs(m: Shape, lists: &[u16], counts: &[u8], tile: &[u8], table: &[u8], out: &mut [u8])
+    requires { ⌜ (usable (m .field) ≡ true) × (m .rows ≤ 255) × Made (modulus (m .field)) (m .rows) (m .outputs) (now lists) (now counts) × Loaded (modulus (m .field)) (groupsOf (m .rows)) (now tile) (now table) × (m .outputs * (bytesFor (modulus (m .field)) * 64) ≤ length (now out)) ⌝ }
+    ensures { λ r. ⌜ ((w : ℕ → List ℕ) → Begun (modulus (m .field)) (m .rows) w (m .outputs) (now (lists .entry)) (now (counts .entry)) → OutputsOf (modulus (m .field)) (m .rows) (m .outputs) w (now (tile .entry)) (m .outputs) (now (out .exit))) ⌝ }
 {
+    let field = m.field;
+    let count = m.outputs;
+    let rows = m.rows;
     let row = field.width() * 64;
     let size = 8 * groups_of(rows);
     let mut j = 0;
@@ -77,20 +72,12 @@ fn outputs(
 }
 
 // The product of a matrix and a tile; `table` is scratch.
-pub fn apply(
-    field: Field,
-    count: usize,
-    rows: usize,
-    lists: &[u16],
-    counts: &[u8],
-    tile: &[u8],
-    table: &mut [u8],
-    out: &mut [u8],
-)
-    requires { ⌜ (usable field ≡ true) × (rows ≤ 255) × Made (modulus field) rows count (now lists) (now counts) × (length (now tile) ≡ groupsOf rows * (bytesFor (modulus field) * 256)) × (length (now table) ≡ groupsOf rows * 1024) × (count * (bytesFor (modulus field) * 64) ≤ length (now out)) ⌝ }
-    ensures { λ r. ⌜ ((w : ℕ → List ℕ) → Begun (modulus field) rows w count (now (lists .entry)) (now (counts .entry)) → Multiplied (modulus field) rows count w (now (tile .entry)) (now (out .exit))) ⌝ }
+pub fn apply(m: Shape, lists: &[u16], counts: &[u8], tile: &[u8], table: &mut [u8], out: &mut [u8])
+    requires { ⌜ (usable (m .field) ≡ true) × (m .rows ≤ 255) × Made (modulus (m .field)) (m .rows) (m .outputs) (now lists) (now counts) × (length (now tile) ≡ groupsOf (m .rows) * (bytesFor (modulus (m .field)) * 256)) × (length (now table) ≡ groupsOf (m .rows) * 1024) × (m .outputs * (bytesFor (modulus (m .field)) * 64) ≤ length (now out)) ⌝ }
+    ensures { λ r. ⌜ ((w : ℕ → List ℕ) → Begun (modulus (m .field)) (m .rows) w (m .outputs) (now (lists .entry)) (now (counts .entry)) → Multiplied (modulus (m .field)) (m .rows) (m .outputs) w (now (tile .entry)) (now (out .exit))) ⌝ }
 {
-    let groups = groups_of(rows);
+    let field = m.field;
+    let groups = groups_of(m.rows);
     crate::load(field, groups, tile, table);
-    outputs(field, count, rows, lists, counts, tile, table, out);
+    outputs(m, lists, counts, tile, table, out);
 }

@@ -56,26 +56,3 @@ pub fn gather(rows: usize, count: usize, part: &[u8], tile: &mut [u8])
         j += 16;
     }
 }
-
-// `count` lanes of rows that stand one after the other, from lane `first` on.
-pub fn load_rows(
-    rows: usize,
-    lanes: usize,
-    first: usize,
-    count: usize,
-    source: &[u8],
-    tile: &mut [u8],
-)
-    requires { ⌜ (length (now source) ≡ rows * lanes) × (first + count ≤ lanes) × (count ≤ 64) × (rows * 64 ≤ length (now tile)) ⌝ }
-    ensures { λ r. ⌜ (length (now (tile .exit)) ≡ length (now (tile .entry))) × ((t : ℕ) → t < count → laneOf byRow rows 64 t (now (tile .exit)) ≡ laneOf byRow rows lanes (first + t) (now (source .entry))) ⌝ }
-{
-    let mut r: usize = 0;
-    while r < rows {
-        let from = r * lanes + first;
-        let to = from + count;
-        let start = r * 64;
-        let end = start + count;
-        kernel::copy(&source[from..to], &mut tile[start..end]);
-        r += 1;
-    }
-}

@@ -1,4 +1,4 @@
-// Tiles of 64 lanes as rows: filled from rows or lanes of a buffer, and turned into lanes.
+// Tiles of 64 lanes as rows: filled from lanes of a buffer, and turned into lanes.
 ghost use Prim.Native.Nat.{_≤_, _<_};
 
 mod filling;
@@ -8,7 +8,6 @@ mod turning;
 
 pub use filling::scatter;
 pub use gathering::gather;
-pub use gathering::load_rows;
 
 // How many of the lanes that are left the next tile takes.
 pub fn lanes_of(left: usize) -> usize

@@ -1,8 +1,6 @@
 -- `rebuild_share` meets its contract: the record's number, or what Rebuild over its header gives.
-use mathlib.Core.Path.{sym, _∙_}
 use borrow.Author.Needs.{needs}
-use Rattle.generator.proofs.Accepts.{accepted-sound}
-use Rattle.refusals.proofs.OnRecord.{on-header, on-number}
+use Rattle.refusals.proofs.OnRecord.{read-sound, on-held, on-met}
 use Rattle.blocks.proofs.Refused.{rebuild-refuses}
 use Rattle.recover.proofs.rebuild_share.Statement.{statement}
 use Rattle.recover.proofs.rebuild_share.Tie as tie
@@ -14,8 +12,7 @@ enum-known-h : tie.Need-enum-known-h
 enum-known-h c = search needs
 
 rebuild-accepted-requires : tie.Need-rebuild-accepted-requires
-rebuild-accepted-requires c κs =
-    accepted-sound (c .before .before .before .before .before .before .before .before .before .args .rec .now) _ (sym (c .before .before .before .before .read-record .ensures) ∙ c .before .before .h .given .1)
+rebuild-accepted-requires c κs = read-sound _ (c .before .before .before .before .read-record .ensures) (c .before .before .h .given .1)
 
 enum-known-number : tie.Need-enum-known-number
 enum-known-number c = search needs
@@ -24,14 +21,10 @@ same-length : tie.Need-same-length
 same-length c = search needs
 
 returns : tie.Need-returns
-returns c =
-    let read = sym (c .before .before .before .before .before .before .before .read-record .ensures) ∙ c .before .before .before .before .before .h .given .1 in
-    on-header _ read (c .before .before .rebuild-accepted .ensures)
+returns c = on-held (c .before .before .before .before .before .before .before .read-record .ensures) (c .before .before .before .before .before .h .given .1) (c .before .before .rebuild-accepted .ensures)
 
 returns-2 : tie.Need-returns-2
-returns-2 c =
-    on-number _ (sym (c .before .before .before .read-record .ensures) ∙ c .before .number .given .1) (λ h some. rebuild-refuses h _ some _ _ _ _ _)
+returns-2 c = on-met (c .before .before .before .read-record .ensures) (c .before .number .given .1) (λ h some. rebuild-refuses h _ some _ _ _ _ _)
 
 pub rebuild-share-spec : {M : Type 1} → statement M
-rebuild-share-spec =
-    tie.close (tie.spec read-record-requires enum-known-h rebuild-accepted-requires enum-known-number same-length returns returns-2)
+rebuild-share-spec = tie.close (tie.spec read-record-requires enum-known-h rebuild-accepted-requires enum-known-number same-length returns returns-2)

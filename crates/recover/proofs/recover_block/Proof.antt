@@ -1,8 +1,6 @@
 -- `recover_block` meets its contract: the record's number, or what Recover over its header gives.
-use mathlib.Core.Path.{sym, _∙_}
 use borrow.Author.Needs.{needs}
-use Rattle.generator.proofs.Accepts.{accepted-sound}
-use Rattle.refusals.proofs.OnRecord.{on-header, on-number}
+use Rattle.refusals.proofs.OnRecord.{read-sound, on-held, on-met}
 use Rattle.blocks.proofs.Refused.{recover-refuses}
 use Rattle.recover.proofs.recover_block.Statement.{statement}
 use Rattle.recover.proofs.recover_block.Tie as tie
@@ -14,8 +12,7 @@ enum-known-h : tie.Need-enum-known-h
 enum-known-h c = search needs
 
 recover-accepted-requires : tie.Need-recover-accepted-requires
-recover-accepted-requires c κs =
-    accepted-sound (c .before .before .before .before .before .before .before .before .before .args .rec .now) _ (sym (c .before .before .before .before .read-record .ensures) ∙ c .before .before .h .given .1)
+recover-accepted-requires c κs = read-sound _ (c .before .before .before .before .read-record .ensures) (c .before .before .h .given .1)
 
 enum-known-number : tie.Need-enum-known-number
 enum-known-number c = search needs
@@ -24,14 +21,10 @@ same-length : tie.Need-same-length
 same-length c = search needs
 
 returns : tie.Need-returns
-returns c =
-    let read = sym (c .before .before .before .before .before .before .before .read-record .ensures) ∙ c .before .before .before .before .before .h .given .1 in
-    on-header _ read (c .before .before .recover-accepted .ensures)
+returns c = on-held (c .before .before .before .before .before .before .before .read-record .ensures) (c .before .before .before .before .before .h .given .1) (c .before .before .recover-accepted .ensures)
 
 returns-2 : tie.Need-returns-2
-returns-2 c =
-    on-number _ (sym (c .before .before .before .read-record .ensures) ∙ c .before .number .given .1) (λ h some. recover-refuses h _ some _ _ _ _)
+returns-2 c = on-met (c .before .before .before .read-record .ensures) (c .before .number .given .1) (λ h some. recover-refuses h _ some _ _ _ _)
 
 pub recover-block-spec : {M : Type 1} → statement M
-recover-block-spec =
-    tie.close (tie.spec read-record-requires enum-known-h recover-accepted-requires enum-known-number same-length returns returns-2)
+recover-block-spec = tie.close (tie.spec read-record-requires enum-known-h recover-accepted-requires enum-known-number same-length returns returns-2)

@@ -1,10 +1,7 @@
 -- `fill_large` meets its contract: its scratch is long enough.
-use Prim.Native.Nat.{_≤_}
-use native.Mathlib.Nat.{mul-le-mul}
 use native.Mathlib.Omega.{arith}
 use borrow.Author.Needs.{needs}
-use Rattle.generator.proofs.Widths.{width-range}
-use Rattle.products.proofs.Fitting.{lists-fit}
+use Rattle.inverse.proofs.Room.{square-room}
 use Rattle.inverse.proofs.message.fill_large.Statement.{statement}
 use Rattle.inverse.proofs.message.fill_large.Tie as tie
 
@@ -35,22 +32,8 @@ slice-aggregate-fill-with-4 c = search needs
 fill-with-requires : tie.Need-fill-with-requires
 fill-with-requires c κs =
     let p = c .before .before .before .before .before .before .before .before .before .before .before .before .pre in
-    let a = c .before .before .before .before .before .before .before .before .before .before .before .before .args in
-    let k = a .h .k in
-    let few = p .7 in
-    let two : a .w ≤ 2 = rw (p .1) (width-range (a .h) .1) in
-    let square = mul-le-mul (mul-le-mul two few) few in (
-      p .0,
-      p .1,
-      p .2,
-      p .3,
-      p .4,
-      p .5,
-      p .6,
-      record { entries = omega (arith, c .before .before .before .before .before .before .before .before .large-lists .ensures, lists-fit k k 64 255 few (omega arith)); sizes = omega (arith, c .before .before .before .before .before .before .before .large-counts .ensures) },
-      omega (arith, c .before .before .before .before .before .before .large-square .ensures, square),
-      omega (arith, c .before .before .before .before .before .large-square2 .ensures, square),
-    )
+    let r = square-room _ 64 255 (p .1) (p .7) (omega arith) (c .before .before .before .before .before .before .before .before .large-lists .ensures) (c .before .before .before .before .before .before .before .large-counts .ensures) (c .before .before .before .before .before .before .large-square .ensures) (c .before .before .before .before .before .large-square2 .ensures) in
+    (p .0, p .1, p .2, p .3, p .4, p .5, p .6, r .0, r .1, r .2)
 
 same-length : tie.Need-same-length
 same-length c = search needs

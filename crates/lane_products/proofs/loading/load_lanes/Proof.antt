@@ -12,8 +12,8 @@ use Rattle.lane_products.proofs.loading.load_lanes.Statement.{statement
 use Rattle.lane_products.proofs.loading.load_lanes.Tie as tie
 
 -- the lanes lie within the source
-source-in : (c : tie.Start) → let a = c .args in a .first * (a .w * a .rows) + a .count * (a .w * a .rows) ≤ length (a .source .now)
-source-in c = let a = c .args in lanes-inside (a .w * a .rows) (a .lanes) (a .source .now) (c .pre .2) (a .first) (a .count) (c .pre .3)
+source-in : (c : tie.Start) → let a = c .args in a .first * (a .w * a .m .rows) + a .count * (a .w * a .m .rows) ≤ length (a .source .now)
+source-in c = let a = c .args in lanes-inside (a .w * a .m .rows) (a .m .lanes) (a .source .now) (c .pre .2) (a .first) (a .count) (c .pre .3)
 
 mul-lane : tie.Need-mul-lane
 mul-lane c = omega (arith, c .before .before .pre .1)
@@ -40,7 +40,7 @@ gather-requires : tie.Need-gather-requires
 gather-requires c κs =
     let s = c .before .before .before .before in
     let a = s .args in
-    (omega (arith, s .pre .1), s .pre .4, part-length (a .first * (a .w * a .rows)) (a .count * (a .w * a .rows)) (a .source .now) (source-in s), s .pre .5)
+    (omega (arith, s .pre .1), s .pre .4, part-length (a .first * (a .w * a .m .rows)) (a .count * (a .w * a .m .rows)) (a .source .now) (source-in s), s .pre .5)
 
 same-length : tie.Need-same-length
 same-length c = search needs
@@ -50,7 +50,7 @@ returns c =
     let s = c .before .before .before .before .before .before .before in
     let a = s .args in
     let g = c .before .before .gather .ensures in
-    (g .0, λ t lane. ap (symbolsOf (a .w)) (g .1 t lane ∙ lane-of-part (a .w * a .rows) (a .lanes) (a .source .now) (s .pre .2) (a .first) (a .count) t lane) ∙ lane-read (a .w) (a .rows) (a .lanes) (a .source .now) (s .pre .0) (s .pre .2) (a .first + t) (omega arith))
+    (g .0, λ t lane. ap (symbolsOf (a .w)) (g .1 t lane ∙ lane-of-part (a .w * a .m .rows) (a .m .lanes) (a .source .now) (s .pre .2) (a .first) (a .count) t lane) ∙ lane-read (a .w) (a .m .rows) (a .m .lanes) (a .source .now) (s .pre .0) (s .pre .2) (a .first + t) (omega arith))
 
 pub load-lanes-spec : {M : Type 1} → statement M
 load-lanes-spec = tie.close (tie.spec mul-lane mul-start mul-end add-end sub-gather part-gather-start part-gather-end gather-requires same-length returns)

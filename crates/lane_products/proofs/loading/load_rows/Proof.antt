@@ -24,22 +24,22 @@ abbrev laneBytes : ℕ → ℕ → ℕ → ℕ → List ℕ → ℕ → List ℕ
 laneBytes w rows lanes first source t = bytesOf w (laneOf byRow rows lanes (first + t) (symbolsOf w source))
 
 abbrev Inv-loop : tie.InvT-loop
-Inv-loop w rows lanes first count source tile₀ size r₀ tile r = (r ≤ rows) × (length tile ≡ length tile₀) × TileOf (w * rows) (r * w) count (λ x t. getD (laneBytes w rows lanes first source t) x 0) tile
+Inv-loop w first count source tile₀ rows lanes size r₀ tile r = (r ≤ rows) × (length tile ≡ length tile₀) × TileOf (w * rows) (r * w) count (λ x t. getD (laneBytes w rows lanes first source t) x 0) tile
 
 abbrev μ-loop : tie.MeasureT-loop
-μ-loop w rows lanes first count source tile₀ size r₀ tile r = rows - r
+μ-loop w first count source tile₀ rows lanes size r₀ tile r = rows - r
 
 -- the row's symbols lie in the source
-source-in : (c : tie.In-loop Inv-loop μ-loop) → (c .before .loop .r * c .before .before .before .before .args .lanes + c .before .before .before .before .args .first) * c .before .before .before .before .args .w + c .before .before .before .before .args .count * c .before .before .before .before .args .w ≤ length (c .before .before .before .before .args .source .now)
-source-in c = let st = c .before .before .before .before in let a = st .args in row-part (a .w) (a .rows) (a .lanes) (a .source .now) (st .pre .0) (st .pre .2) (c .before .loop .r) (a .first) (a .count) (c .loop-test .taken) (st .pre .3)
+source-in : (c : tie.In-loop Inv-loop μ-loop) → (c .before .loop .r * c .before .before .before .before .args .m .lanes + c .before .before .before .before .args .first) * c .before .before .before .before .args .w + c .before .before .before .before .args .count * c .before .before .before .before .args .w ≤ length (c .before .before .before .before .args .source .now)
+source-in c = let st = c .before .before .before .before in let a = st .args in row-part (a .w) (a .m .rows) (a .m .lanes) (a .source .now) (st .pre .0) (st .pre .2) (c .before .loop .r) (a .first) (a .count) (c .loop-test .taken) (st .pre .3)
 
 -- its rows of bytes in the tile
 tile-in : (c : tie.In-loop Inv-loop μ-loop) → c .before .loop .r * (c .before .before .before .before .args .w * 64) + c .before .before .before .before .args .w * 64 ≤ length (c .before .loop .tile)
 tile-in c =
     let st = c .before .before .before .before in
     let a = st .args in
-    let e : a .w * a .rows * 64 ≡ a .rows * (a .w * 64) = ap (λ (x : ℕ). x * 64) (mul-comm (a .w) (a .rows)) ∙ mul-assoc (a .rows) (a .w) 64 in
-    omega (arith, c .before .loop .inv .1, st .pre .5, row-inside (a .rows) (c .before .loop .r) (a .w * 64) (c .loop-test .taken))
+    let e : a .w * a .m .rows * 64 ≡ a .m .rows * (a .w * 64) = ap (λ (x : ℕ). x * 64) (mul-comm (a .w) (a .m .rows)) ∙ mul-assoc (a .m .rows) (a .w) 64 in
+    omega (arith, c .before .loop .inv .1, st .pre .5, row-inside (a .m .rows) (c .before .loop .r) (a .w * 64) (c .loop-test .taken))
 
 mul-size : tie.Need-mul-size Inv-loop μ-loop
 mul-size c = omega (arith, c .before .before .pre .1)
@@ -48,10 +48,10 @@ loop-holds : tie.Need-loop-holds Inv-loop μ-loop
 loop-holds c = (omega arith, refl, rw (zero-mul (c .before .before .args .w)) (tile-none _ _ _ _))
 
 -- so does its first symbol
-low-part : (c : tie.In-loop Inv-loop μ-loop) → c .before .loop .r * c .before .before .before .before .args .lanes + c .before .before .before .before .args .first ≤ length (c .before .before .before .before .args .source .now)
+low-part : (c : tie.In-loop Inv-loop μ-loop) → c .before .loop .r * c .before .before .before .before .args .m .lanes + c .before .before .before .before .args .first ≤ length (c .before .before .before .before .args .source .now)
 low-part c =
     let w = c .before .before .before .before .args .w in
-    let x : ℕ = c .before .loop .r * c .before .before .before .before .args .lanes + c .before .before .before .before .args .first in
+    let x : ℕ = c .before .loop .r * c .before .before .before .before .args .m .lanes + c .before .before .before .before .args .first in
     let m : x * 1 ≤ x * w = mul-le-mul (le-refl x) (c .before .before .before .before .pre .0) in
     omega (arith, source-in c, m)
 
@@ -99,7 +99,7 @@ load-row-requires c κs =
     let st = c .before .before .before .before .before .before in
     let a = st .args in
     let l = c .before .before .before .loop in
-    (st .pre .1, st .pre .4, part-length ((l .r * a .lanes + a .first) * a .w) (a .count * a .w) (a .source .now) (source-in (c .before .before)), part-length (l .r * (a .w * 64)) (a .w * 64) (l .tile) (tile-in (c .before .before)))
+    (st .pre .1, st .pre .4, part-length ((l .r * a .m .lanes + a .first) * a .w) (a .count * a .w) (a .source .now) (source-in (c .before .before)), part-length (l .r * (a .w * 64)) (a .w * 64) (l .tile) (tile-in (c .before .before)))
 
 add-r : tie.Need-add-r Inv-loop μ-loop
 add-r c = omega arith
@@ -118,7 +118,7 @@ loop-again c =
     let fits : l .r * a .w * 64 + a .w * 64 ≤ length (l .tile) = rw (← at) (tile-in (c .before .before .before .before .before)) in
     let size : length after ≡ a .w * 64 = omega (arith, part-length (l .r * (a .w * 64)) (a .w * 64) (l .tile) (tile-in (c .before .before .before .before .before))) in
     let low : allBelow 256 (a .source .now) ≡ true = at-below 256 (a .source .now) (λ i h. omega (arith, c .before .before .before .before .before .before .before .before .shared-slice-known .given i)) in
-    (omega arith, omega (arith, l .inv .1), rw (at, part-size (l .r * a .w * 64) (a .w * 64), row-after (l .r) (a .w)) (tile-more (a .w * a .rows) (l .r * a .w) (a .w) (a .count) _ (l .tile) after (a .w * 64) size fits (st .pre .4) (l .inv .2) (row-loaded (a .w) (a .rows) (a .lanes) (a .source .now) (st .pre .0) (st .pre .2) low (l .r) (a .first) (a .count) row (st .pre .3) (st .pre .4) after (c .before .before .load-row .ensures))))
+    (omega arith, omega (arith, l .inv .1), rw (at, part-size (l .r * a .w * 64) (a .w * 64), row-after (l .r) (a .w)) (tile-more (a .w * a .m .rows) (l .r * a .w) (a .w) (a .count) _ (l .tile) after (a .w * 64) size fits (st .pre .4) (l .inv .2) (row-loaded (a .w) (a .m .rows) (a .m .lanes) (a .source .now) (st .pre .0) (st .pre .2) low (l .r) (a .first) (a .count) row (st .pre .3) (st .pre .4) after (c .before .before .load-row .ensures))))
 
 same-length : tie.Need-same-length Inv-loop μ-loop
 same-length c = c .before .loop .inv .1
@@ -127,12 +127,12 @@ returns : tie.Need-returns Inv-loop μ-loop
 returns c =
     let l = c .before .loop in
     let a = c .before .before .before .before .args in
-    let all : l .r ≡ a .rows = omega arith in (
+    let all : l .r ≡ a .m .rows = omega arith in (
       l .inv .1,
       λ t lane.
-          let bytes = laneBytes (a .w) (a .rows) (a .lanes) (a .first) (a .source .now) t in
-          let long : length bytes ≡ a .w * a .rows = length-bytes (a .w) _ ∙ ap (λ (x : ℕ). x * a .w) (length-lane byRow (a .rows) (a .lanes) (a .first + t) _) ∙ mul-comm (a .rows) (a .w) in
-          tile-lane (a .w * a .rows) (l .r * a .w) (a .count) _ (l .tile) (l .inv .2) (rw all (omega (arith, mul-comm (a .w) (a .rows)))) t lane ∙ from-self bytes (a .w * a .rows) long,
+          let bytes = laneBytes (a .w) (a .m .rows) (a .m .lanes) (a .first) (a .source .now) t in
+          let long : length bytes ≡ a .w * a .m .rows = length-bytes (a .w) _ ∙ ap (λ (x : ℕ). x * a .w) (length-lane byRow (a .m .rows) (a .m .lanes) (a .first + t) _) ∙ mul-comm (a .m .rows) (a .w) in
+          tile-lane (a .w * a .m .rows) (l .r * a .w) (a .count) _ (l .tile) (l .inv .2) (rw all (omega (arith, mul-comm (a .w) (a .m .rows)))) t lane ∙ from-self bytes (a .w * a .m .rows) long,
     )
 
 pub load-rows-spec : {M : Type 1} → statement M

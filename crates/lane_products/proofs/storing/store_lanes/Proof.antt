@@ -15,8 +15,8 @@ use Rattle.lane_products.proofs.storing.store_lanes.Statement.{statemen
 use Rattle.lane_products.proofs.storing.store_lanes.Tie as tie
 
 -- the lanes lie in the buffer
-out-in : (c : tie.Start) → let a = c .args in a .first * (a .w * a .outputs) + a .count * (a .w * a .outputs) ≤ length (a .out .now)
-out-in c = let a = c .args in lanes-inside (a .w * a .outputs) (a .lanes) (a .out .now) (c .pre .5) (a .first) (a .count) (c .pre .2)
+out-in : (c : tie.Start) → let a = c .args in a .first * (a .w * a .m .outputs) + a .count * (a .w * a .m .outputs) ≤ length (a .out .now)
+out-in c = let a = c .args in lanes-inside (a .w * a .m .outputs) (a .m .lanes) (a .out .now) (c .pre .5) (a .first) (a .count) (c .pre .2)
 
 mul-n : tie.Need-mul-n
 mul-n c = omega (arith, c .before .before .before .pre .0)
@@ -58,7 +58,7 @@ scatter-requires : tie.Need-scatter-requires
 scatter-requires c κs =
     let st = c .before .before .before .before .before .before in
     let a = st .args in
-    (st .pre .0, st .pre .1, length-take-le _ _ (st .pre .3), length-take-le _ _ (st .pre .4) ∙ sym (length-take-le _ _ (st .pre .3)), part-length (a .first * (a .w * a .outputs)) (a .count * (a .w * a .outputs)) (a .out .now) (out-in st))
+    (st .pre .0, st .pre .1, length-take-le _ _ (st .pre .3), length-take-le _ _ (st .pre .4) ∙ sym (length-take-le _ _ (st .pre .3)), part-length (a .first * (a .w * a .m .outputs)) (a .count * (a .w * a .m .outputs)) (a .out .now) (out-in st))
 
 same-length : tie.Need-same-length
 same-length c = search needs
@@ -70,11 +70,11 @@ returns : tie.Need-returns
 returns c = λ f sums base.
     let st = c .before .before .before .before .before .before .before .before .before .before .before in
     let a = st .args in
-    let n = a .w * a .outputs in
+    let n = a .w * a .m .outputs in
     let size = (n + 15) / 16 * 1024 in
-    let inside : n * 64 ≤ size = rows-inside (a .w) (a .outputs) in
-    let prefix : Sums (a .w) (a .outputs) (a .first) (a .count) f (take size (a .words .now)) = λ q lane. lane-prefix n size q (a .words .now) inside (omega (arith, st .pre .1)) ∙ sums q lane in
-    rw (c .before .before .before .before .scatter .ensures, part-size (a .first * n) (a .count * n)) (lanes-step (a .w) (a .outputs) (a .lanes) (a .first) (a .count) f (take size (a .words .now)) prefix (st .pre .2) base)
+    let inside : n * 64 ≤ size = rows-inside (a .w) (a .m .outputs) in
+    let prefix : Sums (a .w) (a .m .outputs) (a .first) (a .count) f (take size (a .words .now)) = λ q lane. lane-prefix n size q (a .words .now) inside (omega (arith, st .pre .1)) ∙ sums q lane in
+    rw (c .before .before .before .before .scatter .ensures, part-size (a .first * n) (a .count * n)) (lanes-step (a .w) (a .m .outputs) (a .m .lanes) (a .first) (a .count) f (take size (a .words .now)) prefix (st .pre .2) base)
 
 pub store-lanes-spec : {M : Type 1} → statement M
 store-lanes-spec = tie.close (tie.spec mul-n add-size mul-size mul-start mul-end add-end slice-aggregate-scatter slice-relend-prefix-scatter slice-aggregate-scatter-2 sub-scatter part-scatter-start part-scatter-end scatter-requires same-length same-length-2 returns)

@@ -39,8 +39,8 @@ returns c = λ f sums base.
     let st = c .before .before .before .before .before .before in
     let a = st .args in
     let count = part-length (a .first) (a .count) (a .out .now) (marks-in st) in
-    let made = c .before .before .mark-rows .ensures ∙ ap (λ (x : ℕ). zeroMarks (a .w * a .outputs) x (λ i t. getD (a .words .now) (i * 64 + t) 0)) count in
-    rw (made, part-size (a .first) (a .count)) (marks-step (a .w) (a .outputs) (a .lanes) (a .first) (a .count) f (a .words .now) sums (st .pre .4) (st .pre .0) (st .pre .1) base)
+    let made = c .before .before .mark-rows .ensures ∙ ap (λ (x : ℕ). zeroMarks (a .w * a .m .outputs) x (λ i t. getD (a .words .now) (i * 64 + t) 0)) count in
+    rw (made, part-size (a .first) (a .count)) (marks-step (a .w) (a .m .outputs) (a .m .lanes) (a .first) (a .count) f (a .words .now) sums (st .pre .4) (st .pre .0) (st .pre .1) base)
 
 pub store-marks-spec : {M : Type 1} → statement M
 store-marks-spec = tie.close (tie.spec add-last mul-mark-rows sub-mark-rows part-mark-rows-start part-mark-rows-end mark-rows-requires same-length returns)

@@ -17,35 +17,35 @@ use Rattle.lane_products.proofs.storing.store_rows.Statement.{statement
 use Rattle.lane_products.proofs.storing.store_rows.Tie as tie
 
 abbrev Inv-loop : tie.InvT-loop
-Inv-loop w outputs lanes first count words out₀ size row at part i₀ out i =
+Inv-loop w first count words out₀ outputs lanes size row at part i₀ out i =
     (i ≤ outputs)
     × (length out ≡ outputs * (lanes * w))
     × ((f : ℕ → ℕ → ℕ) → Sums w outputs first count f words → RowsDone w outputs lanes f first out₀ → RowsFilled outputs (lanes * w) (λ i x. getD (bytesOf w (from (f i) 0 lanes)) x 0) (stretch (first * w) (count * w) i) out)
 
 abbrev μ-loop : tie.MeasureT-loop
-μ-loop w outputs lanes first count words out₀ size row at part i₀ out i = outputs - i
+μ-loop w first count words out₀ outputs lanes size row at part i₀ out i = outputs - i
 
 -- the lanes of a row
-row-fits : (c : tie.Start Inv-loop μ-loop) → c .args .first * c .args .w + c .args .count * c .args .w ≤ c .args .lanes * c .args .w
+row-fits : (c : tie.Start Inv-loop μ-loop) → c .args .first * c .args .w + c .args .count * c .args .w ≤ c .args .m .lanes * c .args .w
 row-fits c = let a = c .args in let e = mul-le-mul (c .pre .3) (le-refl (a .w)) in omega (arith, e, add-mul (a .first) (a .count) (a .w))
 
-out-long : (c : tie.Start Inv-loop μ-loop) → length (c .args .out .now) ≡ c .args .outputs * (c .args .lanes * c .args .w)
-out-long c = let a = c .args in c .pre .6 ∙ sym (lanes-long (a .w) (a .outputs) (a .lanes)) ∙ mul-assoc (a .outputs) (a .lanes) (a .w)
+out-long : (c : tie.Start Inv-loop μ-loop) → length (c .args .out .now) ≡ c .args .m .outputs * (c .args .m .lanes * c .args .w)
+out-long c = let a = c .args in c .pre .6 ∙ sym (lanes-long (a .w) (a .m .outputs) (a .m .lanes)) ∙ mul-assoc (a .m .outputs) (a .m .lanes) (a .w)
 
 -- the row's bytes lie in the tile
 words-in : (c : tie.In-loop Inv-loop μ-loop) → c .before .loop .i * (c .before .before .before .before .args .w * 64) + c .before .before .before .before .args .w * 64 ≤ length (c .before .before .before .before .args .words .now)
 words-in c =
     let st = c .before .before .before .before in
     let a = st .args in
-    let e : a .w * a .outputs * 64 ≡ a .outputs * (a .w * 64) = ap (λ (x : ℕ). x * 64) (mul-comm (a .w) (a .outputs)) ∙ mul-assoc (a .outputs) (a .w) 64 in
-    omega (arith, st .pre .5, row-inside (a .outputs) (c .before .loop .i) (a .w * 64) (c .loop-test .taken))
+    let e : a .w * a .m .outputs * 64 ≡ a .m .outputs * (a .w * 64) = ap (λ (x : ℕ). x * 64) (mul-comm (a .w) (a .m .outputs)) ∙ mul-assoc (a .m .outputs) (a .w) 64 in
+    omega (arith, st .pre .5, row-inside (a .m .outputs) (c .before .loop .i) (a .w * 64) (c .loop-test .taken))
 
 -- and its lanes in the buffer
-out-in : (c : tie.In-loop Inv-loop μ-loop) → c .before .loop .i * (c .before .before .before .before .args .lanes * c .before .before .before .before .args .w) + c .before .before .before .before .args .first * c .before .before .before .before .args .w + c .before .before .before .before .args .count * c .before .before .before .before .args .w ≤ length (c .before .loop .out)
+out-in : (c : tie.In-loop Inv-loop μ-loop) → c .before .loop .i * (c .before .before .before .before .args .m .lanes * c .before .before .before .before .args .w) + c .before .before .before .before .args .first * c .before .before .before .before .args .w + c .before .before .before .before .args .count * c .before .before .before .before .args .w ≤ length (c .before .loop .out)
 out-in c =
     let st = c .before .before .before .before in
     let a = st .args in
-    omega (arith, c .before .loop .inv .1, row-fits st, row-inside (a .outputs) (c .before .loop .i) (a .lanes * a .w) (c .loop-test .taken))
+    omega (arith, c .before .loop .inv .1, row-fits st, row-inside (a .m .outputs) (c .before .loop .i) (a .m .lanes * a .w) (c .loop-test .taken))
 
 mul-size : tie.Need-mul-size Inv-loop μ-loop
 mul-size c = omega (arith, c .before .before .pre .1)
@@ -100,7 +100,7 @@ store-row-requires c κs =
     let st = c .before .before .before .before .before .before in
     let a = st .args in
     let l = c .before .before .before .loop in
-    (st .pre .0, st .pre .1, st .pre .2, part-length (l .i * (a .w * 64)) (a .w * 64) (a .words .now) (words-in (c .before .before)), part-length (l .i * (a .lanes * a .w) + a .first * a .w) (a .count * a .w) (l .out) (out-in (c .before .before)))
+    (st .pre .0, st .pre .1, st .pre .2, part-length (l .i * (a .w * 64)) (a .w * 64) (a .words .now) (words-in (c .before .before)), part-length (l .i * (a .m .lanes * a .w) + a .first * a .w) (a .count * a .w) (l .out) (out-in (c .before .before)))
 
 add-i : tie.Need-add-i Inv-loop μ-loop
 add-i c = omega arith
@@ -114,7 +114,7 @@ loop-again c =
     let a = st .args in
     let l = c .before .before .before .before .before .before .loop in
     let in-loop = c .before .before .before .before .before in
-    let start = l .i * (a .lanes * a .w) + a .first * a .w in
+    let start = l .i * (a .m .lanes * a .w) + a .first * a .w in
     let row = take (l .i * (a .w * 64) + a .w * 64 - l .i * (a .w * 64)) (drop (l .i * (a .w * 64)) (a .words .now)) in
     let after = c .before .before .store-row .last .1 .1 .1 .0 in
     let size : length after ≡ a .count * a .w = omega (arith, part-length start (a .count * a .w) (l .out) (out-in in-loop)) in (
@@ -123,7 +123,7 @@ loop-again c =
       λ f sums base.
           rw (part-size start (a .count * a .w))
           (stretch-row (a .first * a .w) (a .count * a .w) (l .i) (in-loop .loop-test .taken) (row-fits st) (l .inv .2 f sums base) after size
-          (row-sums (a .w) (a .outputs) (a .lanes) (a .first) (a .count) f (a .words .now) sums (st .pre .3) (st .pre .0) (l .i) (in-loop .loop-test .taken) row after (λ y inside. getD-part (l .i * (a .w * 64)) (a .w * 64) (a .words .now) y inside) (st .pre .2) (c .before .before .store-row .ensures))),
+          (row-sums (a .w) (a .m .outputs) (a .m .lanes) (a .first) (a .count) f (a .words .now) sums (st .pre .3) (st .pre .0) (l .i) (in-loop .loop-test .taken) row after (λ y inside. getD-part (l .i * (a .w * 64)) (a .w * 64) (a .words .now) y inside) (st .pre .2) (c .before .before .store-row .ensures))),
     )
 
 same-length : tie.Need-same-length Inv-loop μ-loop

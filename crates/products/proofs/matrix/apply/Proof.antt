@@ -15,7 +15,7 @@ load-requires : tie.Need-load-requires
 load-requires c κs =
     let st = c .before .before .before .before .before .before .before in
     let g = c .before .groups-of .ensures in
-    let b = bytesFor (modulus (st .args .field)) in
+    let b = bytesFor (modulus (st .args .m .field)) in
     (g .1, st .pre .3 ∙ ap (λ (x : ℕ). x * (b * 256)) (sym (g .0)), st .pre .4 ∙ ap (λ (x : ℕ). x * 1024) (sym (g .0)), st .pre .0)
 
 outputs-requires : tie.Need-outputs-requires
@@ -28,7 +28,7 @@ same-length-2 : tie.Need-same-length-2
 same-length-2 c = search needs
 
 returns : tie.Need-returns
-returns c = λ w begun. let a = c .before .before .before .before .before .before .before .before .before .before .before .before .before .before .before .args in outputs-lanes (modulus (a .field)) (a .rows) (a .count) w (a .tile .now) (c .before .before .outputs .ensures w begun)
+returns c = λ w begun. let a = c .before .before .before .before .before .before .before .before .before .before .before .before .before .before .before .args in outputs-lanes (modulus (a .m .field)) (a .m .rows) (a .m .outputs) w (a .tile .now) (c .before .before .outputs .ensures w begun)
 
 pub apply-spec : {M : Type 1} → statement M
 apply-spec =

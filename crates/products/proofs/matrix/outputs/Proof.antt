@@ -17,30 +17,30 @@ use Rattle.products.proofs.matrix.outputs.Statement.{statement}
 use Rattle.products.proofs.matrix.outputs.Tie as tie
 
 abbrev Inv-loop : tie.InvT-loop
-Inv-loop field count rows lists counts tile table out₀ row size j₀ out j = (j ≤ count) × (length out ≡ length out₀) × ((w : ℕ → List ℕ) → Begun (modulus field) rows w count lists counts → OutputsOf (modulus field) rows count w tile j out)
+Inv-loop lists counts tile table out₀ field count rows row size j₀ out j = (j ≤ count) × (length out ≡ length out₀) × ((w : ℕ → List ℕ) → Begun (modulus field) rows w count lists counts → OutputsOf (modulus field) rows count w tile j out)
 
 abbrev μ-loop : tie.MeasureT-loop
-μ-loop field count rows lists counts tile table out₀ row size j₀ out j = count - j
+μ-loop lists counts tile table out₀ field count rows row size j₀ out j = count - j
 
 -- part j lies in the lists
-fits : (c : tie.In-loop Inv-loop μ-loop) → c .before .loop .j * (8 * groupsOf (c .before .before .before .before .before .before .before .before .before .args .rows)) + 8 * groupsOf (c .before .before .before .before .before .before .before .before .before .args .rows) ≤ length (c .before .before .before .before .before .before .before .before .before .args .lists .now)
-fits c = let st = c .before .before .before .before .before .before .before .before .before in omega (arith, st .pre .2 .lists-room, row-inside (st .args .count) (c .before .loop .j) (8 * groupsOf (st .args .rows)) (c .loop-test .taken))
+fits : (c : tie.In-loop Inv-loop μ-loop) → c .before .loop .j * (8 * groupsOf (c .before .before .before .before .before .before .before .before .before .args .m .rows)) + 8 * groupsOf (c .before .before .before .before .before .before .before .before .before .args .m .rows) ≤ length (c .before .before .before .before .before .before .before .before .before .args .lists .now)
+fits c = let st = c .before .before .before .before .before .before .before .before .before in omega (arith, st .pre .2 .lists-room, row-inside (st .args .m .outputs) (c .before .loop .j) (8 * groupsOf (st .args .m .rows)) (c .loop-test .taken))
 
 counts-fit : (c : tie.In-loop Inv-loop μ-loop) → c .before .loop .j * 8 + 8 ≤ length (c .before .before .before .before .before .before .before .before .before .args .counts .now)
-counts-fit c = let st = c .before .before .before .before .before .before .before .before .before in omega (arith, st .pre .2 .counts-room, row-inside (st .args .count) (c .before .loop .j) 8 (c .loop-test .taken))
+counts-fit c = let st = c .before .before .before .before .before .before .before .before .before in omega (arith, st .pre .2 .counts-room, row-inside (st .args .m .outputs) (c .before .loop .j) 8 (c .loop-test .taken))
 
 -- and among the rows
 rows-fit : (c : tie.In-loop Inv-loop μ-loop) → c .before .loop .j * (c .before .before .before .width .result * 64) + c .before .before .before .width .result * 64 ≤ length (c .before .loop .out)
 rows-fit c =
     let st = c .before .before .before .before .before .before .before .before .before in
     rw (c .before .before .before .width .ensures)
-    (omega (arith, c .before .loop .inv .1, st .pre .4, row-inside (st .args .count) (c .before .loop .j) (bytesFor (modulus (st .args .field)) * 64) (c .loop-test .taken)))
+    (omega (arith, c .before .loop .inv .1, st .pre .4, row-inside (st .args .m .outputs) (c .before .loop .j) (bytesFor (modulus (st .args .m .field)) * 64) (c .loop-test .taken)))
 
 width-requires : tie.Need-width-requires Inv-loop μ-loop
 width-requires c κs = c .before .before .before .before .before .pre .0
 
 mul-row : tie.Need-mul-row Inv-loop μ-loop
-mul-row c = omega (arith, c .width .ensures, bytes-range (modulus (c .before .before .before .before .before .before .args .field)) .1)
+mul-row c = omega (arith, c .width .ensures, bytes-range (modulus (c .before .before .before .before .before .before .args .m .field)) .1)
 
 groups-of-requires : tie.Need-groups-of-requires Inv-loop μ-loop
 groups-of-requires c κs = c .before .before .before .before .before .before .pre .1
@@ -49,7 +49,7 @@ mul-size : tie.Need-mul-size Inv-loop μ-loop
 mul-size c = omega arith
 
 loop-holds : tie.Need-loop-holds Inv-loop μ-loop
-loop-holds c = (omega arith, refl, λ w b. rw (zero-mul (bytesFor (modulus (c .before .before .before .before .before .before .before .args .field)))) (tile-none _ _ _ _))
+loop-holds c = (omega arith, refl, λ w b. rw (zero-mul (bytesFor (modulus (c .before .before .before .before .before .before .before .args .m .field)))) (tile-none _ _ _ _))
 
 mul-start : tie.Need-mul-start Inv-loop μ-loop
 mul-start c = rw (c .before .before .groups-of .ensures .0) (omega (arith, fits c))
@@ -116,7 +116,7 @@ loop-again c =
     let a = c .before .before .before .before .before .before .before .before .before .before .before .before .before .before .before .args in
     let l = c .before .before .before .before .before .before .before .loop in
     let low = c .before .before .before .before .before .before .loop-test .taken in
-    let b = bytesFor (modulus (a .field)) in
+    let b = bytesFor (modulus (a .m .field)) in
     let wide = c .before .before .before .before .before .before .before .before .before .width .ensures in
     let at : l .j * (b * 64) ≡ l .j * b * 64 = sym (mul-assoc (l .j) b 64) in
     let room : l .j * b * 64 + b * 64 ≤ length (l .out) = rw (← at) (rw wide at (rows-fit (c .before .before .before .before .before .before))) in
@@ -128,7 +128,7 @@ loop-again c =
       omega arith,
       λ w begun.
           let made = row (w (l .j)) (begun .size (l .j)) (rw (c .before .before .before .before .before .before .before .before .groups-of .ensures .0) (begun .each (l .j) low)) in
-          rw (wide, at, part-size (l .j * b * 64) (b * 64), row-after (l .j) b) (tile-more (b * a .count) (l .j * b) b 64 _ (l .out) after (b * 64) size room (omega arith) (l .inv .2 w begun) (output-row (modulus (a .field)) (a .rows) (a .count) w (a .tile .now) (l .j) low made)),
+          rw (wide, at, part-size (l .j * b * 64) (b * 64), row-after (l .j) b) (tile-more (b * a .m .outputs) (l .j * b) b 64 _ (l .out) after (b * 64) size room (omega arith) (l .inv .2 w begun) (output-row (modulus (a .m .field)) (a .m .rows) (a .m .outputs) w (a .tile .now) (l .j) low made)),
     )
 
 same-length : tie.Need-same-length Inv-loop μ-loop
@@ -137,7 +137,7 @@ same-length c = c .before .loop .inv .1
 returns : tie.Need-returns Inv-loop μ-loop
 returns c = λ w b.
     let l = c .before .loop in
-    let all : l .j ≡ c .before .before .before .before .before .before .before .before .before .args .count = omega arith in
+    let all : l .j ≡ c .before .before .before .before .before .before .before .before .before .args .m .outputs = omega arith in
     rw all at (l .inv .2 w b)
 
 pub outputs-spec : {M : Type 1} → statement M

@@ -1,6 +1,6 @@
-use Rattle.products.proofs.Reduction.{product16}
-use borrow.Author.Needs.{needs}
 use native.Mathlib.Omega.{arith}
+use borrow.Author.Needs.{needs}
+use Rattle.kernel.proofs.Halves.{product16}
 use Rattle.products.proofs.prime.high.Statement.{statement}
 use Rattle.products.proofs.prime.high.Tie as tie
 

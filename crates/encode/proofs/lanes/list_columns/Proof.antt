@@ -1,4 +1,4 @@
--- `fill_lists` meets its contract. The loop's invariant: the nodes below `node` have their lists.
+-- `list_columns` meets its contract. The loop's invariant: the nodes below `node` have their lists.
 use mathlib.Core.Path.{_≡_, refl}
 use Prim.Native.Nat.{_-_, _*_, _≤_}
 use lib.ListN.{length}
@@ -11,8 +11,8 @@ use Rattle.products.specs.Matrices.{Begun}
 use Rattle.products.proofs.Beginning.{begun-none}
 use Rattle.encode.specs.Inner.{columnOf}
 use Rattle.encode.proofs.Words.{length-column, column-below}
-use Rattle.encode.proofs.lanes.fill_lists.Statement.{statement}
-use Rattle.encode.proofs.lanes.fill_lists.Tie as tie
+use Rattle.encode.proofs.lanes.list_columns.Statement.{statement}
+use Rattle.encode.proofs.lanes.list_columns.Tie as tie
 
 abbrev Inv-loop : tie.InvT-loop
 Inv-loop h shifts base codes column₀ lists₀ counts₀ field n node₀ column lists counts node = (node ≤ h .n) × (length column ≡ h .k) × (length lists ≡ length lists₀) × (length counts ≡ length counts₀) × Begun (modulusOf h) (h .k) (columnOf h) node lists counts
@@ -73,6 +73,6 @@ same-length-3 c = search needs
 returns : tie.Need-returns Inv-loop μ-loop
 returns c = let all : c .before .loop .node ≡ c .before .before .before .before .before .before .before .before .before .args .h .n = omega arith in rw all at (c .before .loop .inv .4)
 
-pub fill-lists-spec : {M : Type 1} → statement M
-fill-lists-spec =
+pub list-columns-spec : {M : Type 1} → statement M
+list-columns-spec =
     tie.close (tie.spec Inv-loop μ-loop cast-n loop-holds fill-column-requires prepare-requires add-node loop-less loop-again same-length same-length-2 same-length-3 returns)
