@@ -9,13 +9,12 @@ use text::put_field;
 use text::put_line;
 use text::put_word;
 ghost use mathlib.Core.Path.{_≡_};
-ghost use mathlib.Core.List.{_++_};
 ghost use Prim.Native.Nat.{_+_, _*_, _≤_};
-ghost use lib.ListN.{length, take, drop};
+ghost use lib.ListN.{length};
 ghost use Rattle.lists.specs.Padded.{zeros};
 ghost use Rattle.generator.specs.Records.{recordOf, distance, Sound};
 ghost use Rattle.generator.specs.Comparison.{plainGreatest, ComparedRecord};
-ghost use Rattle.text.specs.Writing.{Puts};
+ghost use Rattle.text.specs.Writing.{Puts, OnPage};
 ghost use Rattle.compare_text.specs.Comparison.{costLine, plainLine, balancedLine, boundLine, comparisonFor};
 
 // The greatest reads of a node of the plain layout.
@@ -88,12 +87,9 @@ pub fn page() -> [u8; 108]
     [0; 108]
 }
 
-// Puts the comparison of a record at the front of a page, and gives its length. The figures are those of the layouts. `fits`
-// follows from `text` and `size`, and is what a caller needs to lend `&out[..r]`.
+// Puts the comparison of a record at the front of a page, and gives its length. The figures are those of the layouts.
 pub fn comparison(rec: &[u8], out: &mut [u8; 108]) -> usize
-    ensures text { λ r. ⌜ now (out .exit) ≡ comparisonFor (recordOf (now (rec .entry))) ++ drop r (now (out .entry)) ⌝ }
-    ensures size { λ r. ⌜ r ≡ length (comparisonFor (recordOf (now (rec .entry)))) ⌝ }
-    ensures fits { λ r. ⌜ (r ≤ length (now (out .exit))) × (r ≡ length (take r (now (out .exit)))) ⌝ }
+    ensures text { λ r. ⌜ OnPage (now (out .entry)) (now (out .exit)) r (comparisonFor (recordOf (now (rec .entry)))) ⌝ }
     ensures figures { λ r. ⌜ ComparedRecord (recordOf (now (rec .entry))) ⌝ }
 {
     match read_record(rec) {

@@ -66,50 +66,43 @@ module _ (h : Header) (s : Sound h) where
       sum : (e : ℕ) → checkFrom h e 0 (numbers (size h) ws) ≡ check (fieldFor h s) (rootFor h s) e ws (range 0 (h .n)) .0
       sum e = checkFrom-is h s e 0 ws ∙ ap (λ (x : ℕ). check (fieldFor h s) (rootFor h s) e ws (range 0 x) .0) l
 
+  -- the same of a lane of numbers
+  lane-polynomial : (ws : List ℕ) → length ws ≡ h .n → allBelow (size h) ws ≡ true → (isWord h ws ≡ true) ↔ Polynomial (lifted h s ws)
+  lane-polynomial ws l b =
+      let is = lifted-numbers h s ws b in
+      let test = word-polynomial (lifted h s ws) (length-lifted h s ws ∙ l) in
+      (λ t. test .0 (ap (isWord h) is ∙ t), λ f. ap (isWord h) (sym is) ∙ test .1 f)
+
   -- words are the values of polynomials of degree below k
   pub words-poly : (ws : List ℕ) → length ws ≡ h .n → allBelow (size h) ws ≡ true → (isWord h ws ≡ true) ↔ Codeword h ws
   words-poly ws l b = (to, back)
     where
-      is : numbers (size h) (lifted h s ws) ≡ ws
-      is = lifted-numbers h s ws b
-
-      test : (isWord h (numbers (size h) (lifted h s ws)) ≡ true) ↔ Polynomial (lifted h s ws)
-      test = word-polynomial (lifted h s ws) (length-lifted h s ws ∙ l)
-
       to : isWord h ws ≡ true → Codeword h ws
       to t =
-          let (f, size-is, at) = test .0 (ap (isWord h) is ∙ t) in
-          (numbers (size h) f, length-numbers (size h) f ∙ size-is, numbers-below (size h) f, valuesOf-is h s f ∙ ap (numbers (size h)) at ∙ is)
+          let (f, size-is, at) = lane-polynomial ws l b .0 t in
+          (numbers (size h) f, length-numbers (size h) f ∙ size-is, numbers-below (size h) f, valuesOf-is h s f ∙ ap (numbers (size h)) at ∙ lifted-numbers h s ws b)
 
       back : Codeword h ws → isWord h ws ≡ true
       back (cs, size-is, low, at) =
-          ap (isWord h) (sym is)
-          ∙ test .1 (lifted h s cs, length-lifted h s cs ∙ size-is, numbers-path (size h) (size-pos (modulusOf h) (s .field)) _ (lifted h s ws) (sym (valuesOf-is h s (lifted h s cs)) ∙ ap (valuesOf h) (lifted-numbers h s cs low) ∙ at ∙ sym is))
+          lane-polynomial ws l b .1 (lifted h s cs, length-lifted h s cs ∙ size-is, numbers-path (size h) (size-pos (modulusOf h) (s .field)) _ (lifted h s ws) (sym (valuesOf-is h s (lifted h s cs)) ∙ ap (valuesOf h) (lifted-numbers h s cs low) ∙ at ∙ sym (lifted-numbers h s ws b)))
 
   -- words are the encodings of messages
   pub words-encode : (ws : List ℕ) → length ws ≡ h .n → allBelow (size h) ws ≡ true → (isWord h ws ≡ true) ↔ ((ms : List ℕ) × (isMessage h ms ≡ true) × (encoding h ms ≡ ws))
   words-encode ws l b = (to, back)
     where
-      is : numbers (size h) (lifted h s ws) ≡ ws
-      is = lifted-numbers h s ws b
-
-      test : (isWord h (numbers (size h) (lifted h s ws)) ≡ true) ↔ Polynomial (lifted h s ws)
-      test = word-polynomial (lifted h s ws) (length-lifted h s ws ∙ l)
-
       both : ((ms : List (Symbol (size h))) × (length ms ≡ h .k) × (map (node (fieldFor h s) (rootFor h s) (h .k - 1) (h .k - 1) (shifts h) ms) (range 0 (h .n)) ≡ lifted h s ws)) ↔ Polynomial (lifted h s ws)
       both = words (fieldFor h s) (the-code h s) (h .k - 1) (range 0 (h .n)) (lifted h s ws)
 
       to : isWord h ws ≡ true → (ms : List ℕ) × (isMessage h ms ≡ true) × (encoding h ms ≡ ws)
       to t =
-          let (ms, size-is, at) = both .1 (test .0 (ap (isWord h) is ∙ t)) in
-          (numbers (size h) ms, numbers-message h s ms size-is, encoding-map h s (numbers (size h) ms) ∙ held h s ms (range 0 (h .n)) size-is ∙ ap (numbers (size h)) at ∙ is)
+          let (ms, size-is, at) = both .1 (lane-polynomial ws l b .0 t) in
+          (numbers (size h) ms, numbers-message h s ms size-is, encoding-map h s (numbers (size h) ms) ∙ held h s ms (range 0 (h .n)) size-is ∙ ap (numbers (size h)) at ∙ lifted-numbers h s ws b)
 
       back : (ms : List ℕ) × (isMessage h ms ≡ true) × (encoding h ms ≡ ws) → isWord h ws ≡ true
       back (ms, m, at) =
           let M = lifted h s ms in
           let lm : length M ≡ h .k = length-lifted h s ms ∙ message-size h ms m in
-          ap (isWord h) (sym is)
-          ∙ test .1 (both .0 (M, lm, numbers-path (size h) (size-pos (modulusOf h) (s .field)) _ (lifted h s ws) (sym (held h s M (range 0 (h .n)) lm) ∙ sym (encoding-map h s (numbers (size h) M)) ∙ ap (encoding h) (lifted-numbers h s ms (message-below h ms m)) ∙ at ∙ sym is)))
+          lane-polynomial ws l b .1 (both .0 (M, lm, numbers-path (size h) (size-pos (modulusOf h) (s .field)) _ (lifted h s ws) (sym (held h s M (range 0 (h .n)) lm) ∙ sym (encoding-map h s (numbers (size h) M)) ∙ ap (encoding h) (lifted-numbers h s ms (message-below h ms m)) ∙ at ∙ sym (lifted-numbers h s ws b))))
 
   -- the encoding of a message has a symbol for each node
   pub encoding-size : (ms : List ℕ) → length (encoding h ms) ≡ h .n

@@ -79,7 +79,7 @@ fn last_products(field: Field, tables: &Tables, points: &[u16], z: u32) -> [u16;
     out
 }
 
-// The values at z of all basis polynomials from their scales, and zeros after them: three products for each point.
+// The values at z of all basis polynomials from their scales, and zeros after them: four products for each point.
 pub fn values(field: Field, tables: &Tables, points: &[u16], scales: &[u16], z: u32) -> [u16; 255]
     requires { ⌜ SymbolList field (now points) × (now scales ≡ scalesOf (modulus field) (now points)) × (z < sizeOf (modulus field)) × AreTables (now tables) ⌝ }
     ensures { λ r. ⌜ r ≡ padded 255 (basisValues (modulus field) (now (points .entry)) z) ⌝ }

@@ -8,15 +8,14 @@ use text::put_line;
 use text::put_number_field;
 use text::put_word;
 ghost use mathlib.Core.Path.{_≡_};
-ghost use mathlib.Core.List.{_++_};
 ghost use Prim.Native.Nat.{_+_, _≤_, _<_};
-ghost use lib.ListN.{length, take, drop};
+ghost use lib.ListN.{length};
 ghost use Rattle.lists.specs.Rows.{from};
 ghost use Rattle.lists.specs.Padded.{zeros};
 ghost use Rattle.generator.specs.Records.{recordOf};
 ghost use Rattle.plan.specs.Plans.{entryIn};
 ghost use Rattle.text.specs.Text.{fields};
-ghost use Rattle.text.specs.Writing.{Puts};
+ghost use Rattle.text.specs.Writing.{Puts, OnPage};
 ghost use Rattle.sheet_text.specs.Sheet.{numbersLine, headLine, rowLine, sheetOf, sheetFor};
 
 // Each `put_` function puts its text at a place of a buffer that has room for it, and gives the next place.
@@ -104,12 +103,9 @@ pub fn page() -> [u8; 394255]
     [0; 394255]
 }
 
-// Puts the sheet of a record at the front of a page, and gives its length. `fits` follows from the other two, and is what a
-// caller needs to lend `&out[..r]`.
+// Puts the sheet of a record at the front of a page, and gives its length.
 pub fn sheet(rec: &[u8], out: &mut [u8; 394255]) -> usize
-    ensures text { λ r. ⌜ now (out .exit) ≡ sheetFor (recordOf (now (rec .entry))) ++ drop r (now (out .entry)) ⌝ }
-    ensures size { λ r. ⌜ r ≡ length (sheetFor (recordOf (now (rec .entry)))) ⌝ }
-    ensures fits { λ r. ⌜ (r ≤ length (now (out .exit))) × (r ≡ length (take r (now (out .exit)))) ⌝ }
+    ensures { λ r. ⌜ OnPage (now (out .entry)) (now (out .exit)) r (sheetFor (recordOf (now (rec .entry)))) ⌝ }
 {
     put_sheet(out, 0, build_plan(rec))
 }

@@ -5,14 +5,14 @@ use text::put_fields;
 use text::put_number;
 ghost use mathlib.Core.Path.{_≡_};
 ghost use mathlib.Core.Bool.{true};
-ghost use mathlib.Core.List.{[], _∷_, _++_};
+ghost use mathlib.Core.List.{[], _∷_};
 ghost use Prim.Native.Nat.{_+_, _≤_, _<_};
-ghost use lib.ListN.{length, take, drop};
+ghost use lib.ListN.{length};
 ghost use Rattle.lists.specs.Padded.{zeros};
 ghost use Rattle.field.specs.Primes.{isPrime};
 ghost use Rattle.field.specs.Fields.{orderOf};
 ghost use Rattle.text.specs.Text.{decimal, line};
-ghost use Rattle.text.specs.Writing.{Puts};
+ghost use Rattle.text.specs.Writing.{Puts, OnPage};
 ghost use Rattle.small_plans_text.specs.SmallPlans.{rootLines, fieldLines, smallPlans};
 
 // Each `put_` function puts its text at a place of a buffer that has room for it, and gives the next place.
@@ -110,12 +110,9 @@ pub fn page() -> [u8; 501642]
     [0; 501642]
 }
 
-// Puts the lines at the front of a page, and gives their length. `fits` follows from the other two, and is what a caller needs
-// to lend `&out[..r]`.
+// Puts the lines at the front of a page, and gives their length.
 pub fn small_plans(out: &mut [u8; 501642]) -> usize
-    ensures text { λ r. ⌜ now (out .exit) ≡ smallPlans ++ drop r (now (out .entry)) ⌝ }
-    ensures size { λ r. ⌜ r ≡ length smallPlans ⌝ }
-    ensures fits { λ r. ⌜ (r ≤ length (now (out .exit))) × (r ≡ length (take r (now (out .exit)))) ⌝ }
+    ensures { λ r. ⌜ OnPage (now (out .entry)) (now (out .exit)) r smallPlans ⌝ }
 {
     put_plans(out)
 }

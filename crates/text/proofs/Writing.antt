@@ -6,7 +6,7 @@ use native.Mathlib.Omega.{arith}
 use lib.ListN.{length, take, drop, length-append, take-append-drop}
 use lib.Seq.{length-take-le, take-at, drop-at, drop-drop}
 use Rattle.lists.proofs.Fill.{Fills, fills-part, fills-done}
-use Rattle.text.specs.Writing.{written, Puts}
+use Rattle.text.specs.Writing.{written, Puts, OnPage}
 
 -- two texts one after the other
 pub puts-then : {s t u : List ℕ} {at next last : ℕ} {xs ys : List ℕ} → Puts s t at next xs → Puts t u next last ys → at ≤ length s → Puts s u at last (xs ++ ys)
@@ -28,16 +28,16 @@ unfolding written
 puts-none s at = record { place = omega arith; bytes = sym (take-append-drop at s) }
 
 -- a text at the front: the buffer afterwards, the length, and that it lies within the buffer
-pub puts-front : {s t : List ℕ} {next : ℕ} {text : List ℕ} → Puts s t 0 next text → (t ≡ text ++ drop next s) × ((next ≡ length text) × ((next ≤ length t) × (next ≡ length (take next t))))
+pub puts-front : {s t : List ℕ} {next : ℕ} {text : List ℕ} → Puts s t 0 next text → OnPage s t next text
 unfolding written
 puts-front {s} {t} {next} {text} p =
     let size : next ≡ length text = omega (arith, p .place) in
     let front : t ≡ text ++ drop next s = rw size (p .bytes) in
     let within : next ≤ length t = rw front (simp length-append (omega arith)) in
-    (front, (size, (within, sym (length-take-le next t within))))
+    (front, size, within, sym (length-take-le next t within))
 
 -- the same of the text f of a value, given that of an equal value
-pub puts-page : {A : Type 0} {s t : List ℕ} {next : ℕ} (f : A → List ℕ) {x y : A} → x ≡ y → Puts s t 0 next (f x) → (t ≡ f y ++ drop next s) × ((next ≡ length (f y)) × ((next ≤ length t) × (next ≡ length (take next t))))
+pub puts-page : {A : Type 0} {s t : List ℕ} {next : ℕ} (f : A → List ℕ) {x y : A} → x ≡ y → Puts s t 0 next (f x) → OnPage s t next (f y)
 puts-page f same p = puts-front (rw (ap f same) at p)
 
 -- a text is to be put at a place

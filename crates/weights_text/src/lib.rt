@@ -9,13 +9,12 @@ use text::put_number;
 use weight_counts::counts_accepted;
 ghost use mathlib.Core.Path.{_≡_};
 ghost use mathlib.Core.Bool.{true};
-ghost use mathlib.Core.List.{_++_};
 ghost use Prim.Native.Nat.{_+_, _*_, _≤_, _<_};
-ghost use lib.ListN.{length, take, drop};
+ghost use lib.ListN.{length};
 ghost use Rattle.lists.specs.Numbers.{allBelow};
 ghost use Rattle.lists.specs.Padded.{zeros};
 ghost use Rattle.generator.specs.Records.{recordOf, Sound};
-ghost use Rattle.text.specs.Writing.{Puts};
+ghost use Rattle.text.specs.Writing.{Puts, OnPage};
 ghost use Rattle.weights_text.specs.Weights.{countLine, countLines, weightsFor};
 
 // The line of one weight: two numbers of at most five digits, a space and a line feed.
@@ -78,12 +77,9 @@ pub fn page() -> [u8; 3072]
     [0; 3072]
 }
 
-// Puts the lines of a record at the front of a page, and gives their length. `fits` follows from the other two, and is what a
-// caller needs to lend `&out[..r]`.
+// Puts the lines of a record at the front of a page, and gives their length.
 pub fn weights(rec: &[u8], out: &mut [u8; 3072]) -> usize
-    ensures text { λ r. ⌜ now (out .exit) ≡ weightsFor (recordOf (now (rec .entry))) ++ drop r (now (out .entry)) ⌝ }
-    ensures size { λ r. ⌜ r ≡ length (weightsFor (recordOf (now (rec .entry)))) ⌝ }
-    ensures fits { λ r. ⌜ (r ≤ length (now (out .exit))) × (r ≡ length (take r (now (out .exit)))) ⌝ }
+    ensures { λ r. ⌜ OnPage (now (out .entry)) (now (out .exit)) r (weightsFor (recordOf (now (rec .entry)))) ⌝ }
 {
     match read_record(rec) {
         Record::Holds(h) => put_weights(out, h),

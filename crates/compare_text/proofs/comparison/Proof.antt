@@ -31,15 +31,11 @@ put-line-requires : tie.Need-put-line-requires
 put-line-requires c κs = search needs
 
 returns : tie.Need-returns
-returns c =
-    let (text, (size, fits)) = puts-page comparisonFor (sym (c .before .before .before .h .given .1) ∙ c .before .before .before .before .before .read-record .ensures) (c .put-comparison .ensures) in
-    (text, (size, (fits, compared _)))
+returns c = (puts-page comparisonFor (sym (c .before .before .before .h .given .1) ∙ c .before .before .before .before .before .read-record .ensures) (c .put-comparison .ensures), compared _)
 
 returns-2 : tie.Need-returns-2
 unfolding comparisonFor ascii
-returns-2 c =
-    let (text, (size, fits)) = puts-page comparisonFor (sym (c .before .before .before .before .before .number .given .1) ∙ c .before .before .before .before .before .before .before .read-record .ensures) (c .put-line .ensures .0) in
-    (text, (size, (fits, compared _)))
+returns-2 c = (puts-page comparisonFor (sym (c .before .before .before .before .before .number .given .1) ∙ c .before .before .before .before .before .before .before .read-record .ensures) (c .put-line .ensures .0), compared _)
 
 pub comparison-spec : {M : Type 1} → statement M
 comparison-spec =
