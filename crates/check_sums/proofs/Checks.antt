@@ -2,7 +2,7 @@
 use mathlib.Core.Path.{_≡_, refl, sym, ap, _∙_}
 use mathlib.Core.Bool.{Bool, true}
 use mathlib.Core.List.{List, [], append-nil}
-use Prim.Native.Nat.{ℕ, _+_, _-_, _*_, _%_}
+use Prim.Native.Nat.{ℕ, _+_, _-_, _*_, _%_, _≤_}
 use native.Mathlib.Omega.{arith}
 use lib.ListN.{length}
 use Rattle.lists.specs.Choice.{pick}
@@ -17,17 +17,20 @@ use Rattle.field.specs.Fields.{power}
 use Rattle.field.specs.Sums.{dot}
 use Rattle.field.proofs.Bounds.{power-below}
 use Rattle.generator.specs.declared.Header.{Header}
-use Rattle.generator.specs.Records.{modulusOf, size, Sound}
+use Rattle.generator.specs.Records.{modulusOf, size, width, Sound}
 use Rattle.generator.specs.Codewords.{checkFrom, isWord}
-use Rattle.refusals.specs.Accepted.{SymbolRows}
+use Rattle.refusals.specs.Accepted.{SymbolRows, SymbolBytes}
 use Rattle.check_sums.specs.Marks.{wordMarks}
 use Rattle.check_sums.specs.Powers.{factorsOf}
 use Rattle.layout.specs.Width.{symbolsOf}
+use Rattle.products.specs.Products.{groupsOf}
+use Rattle.products.proofs.Beginning.{begun-made}
+use Rattle.products.proofs.Fitting.{lists-fit}
 use Rattle.lane_products.specs.declared.Product.{Product}
 use Rattle.lane_products.specs.Marks.{allZero, zeroMarks}
-use Rattle.lane_products.specs.Ways.{sideOf, written, sumOf}
+use Rattle.lane_products.specs.Ways.{sideOf, outBytes, written, sumOf, Ready}
 use Rattle.lane_products.proofs.Marks.{all-zero-ext}
-use Rattle.check_sums.specs.Checks.{checkProduct}
+use Rattle.check_sums.specs.Checks.{CheckLists, checkProduct}
 use Rattle.check_sums.proofs.Marking.{sums-checks}
 use Rattle.combine.proofs.Columns.{dot-column}
 
@@ -63,3 +66,22 @@ sums-words {h} {l} s w m ws is tell rows =
     (from-ext _ _ 0 l
     (λ t low high.
     ap (λ (b : Bool). pick b 0 1) (tell (laneOf byLane (h .n) l t (symbolsOf w s)) (length-lane byLane (h .n) l t (symbolsOf w s)) (lane-symbols by-lane (h .n) l (size h) t (symbolsOf w s) (omega arith) (rows .long) (rows .symbols)))))
+
+-- the lists of the checks fit scratch for so many nodes, in groups of four
+pub check-room : (h : Header) (groups most : ℕ) → h .n ≤ most → most ≤ 4 * groups → ((h .n - h .k) * (8 * groupsOf (h .n)) ≤ most * (8 * groups)) × ((h .n - h .k) * 8 ≤ most * 8)
+check-room h groups most few all = (lists-fit (h .n - h .k) (h .n) groups most (omega arith) (omega arith), omega arith)
+
+-- with them made, the product is ready
+pub checks-ready : {h : Header} {w l out : ℕ} {shares lists counts : List ℕ} → SymbolBytes h w (h .n) l shares → out ≡ l → CheckLists h lists counts → Ready (checkProduct h l) w lists counts shares out
+unfolding width outBytes
+checks-ready shares long checks =
+    let sound = shares .symbol-rows .sound in
+    record {
+      usable-field = sound .usable-field;
+      wide = shares .wide;
+      few = sound .byte;
+      few-lanes = shares .symbol-rows .few-lanes;
+      made = begun-made (omega (arith, sound .byte)) (checks .lists-room) (checks .counts-room) (checks .begun);
+      source-long = shares .bytes;
+      out-long = long;
+    }

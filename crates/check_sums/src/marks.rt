@@ -1,6 +1,5 @@
 // Marks of the lanes that are no word of the code: one lane by its check sums, more as a product of matrices.
 ghost use mathlib.Core.Path.{_≡_};
-ghost use Prim.Native.Nat.{_-_, _*_, _≤_};
 ghost use lib.ListN.{length};
 ghost use Rattle.lists.specs.Choice.{pick};
 ghost use Rattle.lists.specs.Padded.{zeros};
@@ -8,7 +7,6 @@ ghost use Rattle.layout.specs.Layout.{byLane, shareLayout};
 ghost use Rattle.layout.specs.Width.{symbolsOf};
 ghost use Rattle.generator.specs.Records.{width};
 ghost use Rattle.refusals.specs.Accepted.{SymbolBuffer, SymbolBytes};
-ghost use Rattle.products.specs.Products.{groupsOf};
 ghost use Rattle.check_sums.specs.Marks.{wordMarks};
 use crate::check_rows::list_checks;
 use crate::lane;
@@ -35,25 +33,15 @@ fn mark_lane(h: Header, w: usize, shares: &[u8], marks: &mut [u8])
     marks[0] = mark_of(word);
 }
 
-// The lists of checks, and then the lanes, in scratch that is long enough.
-fn mark_with(
-    h: Header,
-    w: usize,
-    lanes: usize,
-    shares: &[u8],
-    lists: &mut [u16],
-    counts: &mut [u8],
-    marks: &mut [u8],
-)
-    requires { ⌜ SymbolBytes h w (h .n) lanes (now shares) × (length (now marks) ≡ lanes) × ((h .n - h .k) * (8 * groupsOf (h .n)) ≤ length (now lists)) × ((h .n - h .k) * 8 ≤ length (now counts)) ⌝ }
+// Marks of several lanes as a product of matrices, in the smallest scratch that the record's nodes fit: clearing the largest takes longer than the work of a small record.
+fn mark_several(h: Header, w: usize, lanes: usize, shares: &[u8], marks: &mut [u8])
+    requires { ⌜ SymbolBytes h w (h .n) lanes (now shares) × (length (now marks) ≡ lanes) ⌝ }
     ensures { λ r. ⌜ now (marks .exit) ≡ wordMarks byLane h lanes (symbolsOf w (now (shares .entry))) ⌝ }
 {
     let way = Way::LanesToMarks;
     let field = h.field;
     let outputs = (h.n - h.k) as usize;
     let rows = h.n as usize;
-    let codes = products::codes_of(field);
-    list_checks(h, lanes, &codes, lists, counts);
     let m = Product {
         way: way,
         field: field,
@@ -61,27 +49,23 @@ fn mark_with(
         rows: rows,
         lanes: lanes,
     };
-    lane_products::fill(m, w, lists, counts, shares, marks);
-}
-
-// Marks of several lanes, in the smallest scratch that the record's nodes fit: clearing the largest takes longer than the work of a small record.
-fn mark_several(h: Header, w: usize, lanes: usize, shares: &[u8], marks: &mut [u8])
-    requires { ⌜ SymbolBytes h w (h .n) lanes (now shares) × (length (now marks) ≡ lanes) ⌝ }
-    ensures { λ r. ⌜ now (marks .exit) ≡ wordMarks byLane h lanes (symbolsOf w (now (shares .entry))) ⌝ }
-{
+    let codes = products::codes_of(field);
     if h.n <= 16 {
         let mut lists = scratch::small_lists();
         let mut counts = scratch::small_counts();
-        return mark_with(h, w, lanes, shares, &mut lists, &mut counts, marks);
+        list_checks(h, lanes, &codes, &mut lists, &mut counts);
+        return lane_products::fill(m, w, &lists, &counts, shares, marks);
     }
     if h.n <= 64 {
         let mut lists = scratch::middle_lists();
         let mut counts = scratch::middle_counts();
-        return mark_with(h, w, lanes, shares, &mut lists, &mut counts, marks);
+        list_checks(h, lanes, &codes, &mut lists, &mut counts);
+        return lane_products::fill(m, w, &lists, &counts, shares, marks);
     }
     let mut lists = scratch::large_lists();
     let mut counts = scratch::large_counts();
-    mark_with(h, w, lanes, shares, &mut lists, &mut counts, marks);
+    list_checks(h, lanes, &codes, &mut lists, &mut counts);
+    lane_products::fill(m, w, &lists, &counts, shares, marks);
 }
 
 // Marks all lanes, which have the mark 0 before.

@@ -30,10 +30,7 @@ slice-aggregate-fill-with-4 : tie.Need-slice-aggregate-fill-with-4
 slice-aggregate-fill-with-4 c = search needs
 
 fill-with-requires : tie.Need-fill-with-requires
-fill-with-requires c κs =
-    let p = c .before .before .before .before .before .before .before .before .before .before .before .before .pre in
-    let r = square-room _ 64 255 (p .1) (p .7) (omega arith) (c .before .before .before .before .before .before .before .before .large-lists .ensures) (c .before .before .before .before .before .before .before .large-counts .ensures) (c .before .before .before .before .before .before .large-square .ensures) (c .before .before .before .before .before .large-square2 .ensures) in
-    (p .0, p .1, p .2, p .3, p .4, p .5, p .6, r .0, r .1, r .2)
+fill-with-requires c κs = let p = c .before .before .before .before .before .before .before .before .before .before .before .before .pre in let r = square-room _ 64 255 (p .1) (p .7) (omega arith) (c .before .before .before .before .before .before .before .before .large-lists .ensures) (c .before .before .before .before .before .before .before .large-counts .ensures) (c .before .before .before .before .before .before .large-square .ensures) (c .before .before .before .before .before .large-square2 .ensures) in (p .0, p .1, p .2, p .3, p .4, p .5, p .6, r .0, r .1, r .2)
 
 same-length : tie.Need-same-length
 same-length c = search needs
