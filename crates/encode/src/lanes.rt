@@ -38,6 +38,7 @@ fn list_columns(
     }
 }
 
+// The same in scratch of its own.
 fn fill_lists(h: Header, shifts: &[u8], base: &[u16], lists: &mut [u16], counts: &mut [u8])
     requires { ⌜ Planned h (now shifts) (now base) × ListRoom h (length (now lists)) (length (now counts)) ⌝ }
     ensures { λ r. ⌜ Begun (modulusOf h) (h .k) (columnOf h) (h .n) (now (lists .exit)) (now (counts .exit)) ⌝ }
