@@ -1,4 +1,5 @@
-// A prime field by the width of its symbols: lists and sums of bytes, or of symbols of two bytes, which `combine` sums.
+// A prime field by the width of its symbols: lists and sums of bytes, or of symbols of two bytes, which `combine` sums. Where a
+// field is taken apart, a prime is told by the digits of p − 1: the compiler would compare it with 256 together with unused bytes before it.
 ghost use mathlib.Core.Path.{_≡_};
 ghost use mathlib.Core.Bool.{true};
 ghost use mathlib.Core.List.{List};
@@ -13,10 +14,11 @@ use crate::prime;
 use combine::wide;
 
 pub fn fill_codes(p: u32, codes: &mut [u64])
-    requires { ⌜ (isPrime p ≡ true) × (length (now codes) ≡ 256) ⌝ }
+    requires { ⌜ (isPrime p ≡ true) × (length (now codes) ≡ 256) × (p ≤ 65521) ⌝ }
     ensures { λ r. ⌜ Codes p (now (codes .exit)) ⌝ }
 {
-    if p <= 256 {
+    let top = p - 1;
+    if top / 256 % 256 == 0 {
         prime::fill_ratios(p as u16, codes);
     }
 }
@@ -34,10 +36,11 @@ fn copy(source: &[u16], out: &mut [u16])
 }
 
 pub fn list_weights(p: u32, codes: &[u64], weights: &[u16], list: &mut [u16])
-    requires { ⌜ (isPrime p ≡ true) × Codes p (now codes) × (length (now weights) ≤ 255) × (allBelow p (now weights) ≡ true) × (length (now list) ≡ 8 * groupsOf (length (now weights))) ⌝ }
+    requires { ⌜ (isPrime p ≡ true) × Codes p (now codes) × (length (now weights) ≤ 255) × (allBelow p (now weights) ≡ true) × (length (now list) ≡ 8 * groupsOf (length (now weights))) × (p ≤ 65521) ⌝ }
     ensures { λ r. ⌜ ((counts : List ℕ) → length counts ≡ 8 → Prepared p (now (weights .entry)) (now (list .exit)) counts) ⌝ }
 {
-    if p <= 256 {
+    let top = p - 1;
+    if top / 256 % 256 == 0 {
         prime::scale(p as u16, codes, weights, list);
         return;
     }

@@ -10,7 +10,7 @@ enum-known-field : tie.Need-enum-known-field
 enum-known-field c = search needs
 
 fill-codes-requires : tie.Need-fill-codes-requires
-fill-codes-requires c κs = let st = c .before .before .before .before .before in (usable-prime _ (rw (c .before .before .field .given .1) at (st .pre .0)) .1, st .pre .1)
+fill-codes-requires c κs = let st = c .before .before .before .before .before in let k = usable-prime _ (rw (c .before .before .field .given .1) at (st .pre .0)) in (k .1, st .pre .1, k .0)
 
 enum-told : tie.Need-enum-told
 enum-told c = search needs

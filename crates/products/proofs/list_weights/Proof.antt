@@ -16,7 +16,7 @@ list-weights-requires c κs =
     let e = c .before .before .field .given .1 in
     let pre = c .before .before .before .before .before .before .before .before .pre in
     let k = usable-prime _ (rw e at (pre .0)) in
-    (k .1, rw e at (pre .1), pre .2, rw (k .2) at (rw e at (pre .3)), pre .4)
+    (k .1, rw e at (pre .1), pre .2, rw (k .2) at (rw e at (pre .3)), pre .4, k .0)
 
 enum-told : tie.Need-enum-told
 enum-told c = search needs

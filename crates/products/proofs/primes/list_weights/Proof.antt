@@ -11,13 +11,17 @@ use Rattle.products.proofs.Arms.{groups-room, lists-one, lists-two, pla
 use Rattle.products.proofs.primes.list_weights.Statement.{statement}
 use Rattle.products.proofs.primes.list_weights.Tie as tie
 
+sub-top : tie.Need-sub-top
+sub-top c = let st = c .before .before .before in omega (arith, two≤prime (st .args .p) (st .pre .0))
+
 cast-scale : tie.Need-cast-scale
-cast-scale c = search needs
+cast-scale c = omega (arith, c .before .before .before .before .pre .5)
 
 scale-requires : tie.Need-scale-requires
 scale-requires c κs =
     let st = c .before .before .before .before .before in
-    let few = c .before .if1 .taken in
+    let some = two≤prime (st .args .p) (st .pre .0) in
+    let few : st .args .p ≤ 256 = omega (arith, some, c .before .if1 .taken, st .pre .5) in
     (few, st .pre .1 .ratios (omega (arith, two≤prime (st .args .p) (st .pre .0))) few, st .pre .3, st .pre .2, omega (arith, st .pre .4, groups-room (length (st .args .weights .now))))
 
 same-length : tie.Need-same-length
@@ -27,7 +31,7 @@ returns : tie.Need-returns
 returns c = λ counts counted.
     let st = c .before .before .before .before .before .before .before .before in
     let made = c .before .before .scale .ensures in
-    lists-one _ (st .pre .0) (st .pre .2) (st .pre .3) (made .0 ∙ st .pre .4) counted (c .before .before .before .before .if1 .taken) (made .1)
+    lists-one _ (st .pre .0) (st .pre .2) (st .pre .3) (made .0 ∙ st .pre .4) counted (omega (arith, two≤prime (st .args .p) (st .pre .0), c .before .before .before .before .if1 .taken, st .pre .5)) (made .1)
 
 -- the weights lie in the list
 room : (c : tie.Else1) → length (c .before .before .before .before .args .weights .now) ≤ length (c .before .before .before .before .args .list .now)
@@ -53,4 +57,4 @@ returns-2 c = λ counts counted.
     lists-two _ (st .pre .0) (st .pre .2) (st .pre .3) (same-length-2 c ∙ st .pre .4) counted (omega arith) (plain-list rest (ap (λ (x : List ℕ). x ++ rest) (c .before .before .copy .ensures)))
 
 pub list-weights-spec : {M : Type 1} → statement M
-list-weights-spec = tie.close (tie.spec cast-scale scale-requires same-length returns slice-relend-prefix-copy slice-aggregate-copy copy-requires same-length-2 returns-2)
+list-weights-spec = tie.close (tie.spec sub-top cast-scale scale-requires same-length returns slice-relend-prefix-copy slice-aggregate-copy copy-requires same-length-2 returns-2)
