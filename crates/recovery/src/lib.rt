@@ -10,13 +10,10 @@ ghost use Rattle.lists.specs.Padded.{padded};
 ghost use Rattle.generator.specs.Records.{modulusOf, size, Sound};
 ghost use Rattle.generator.specs.Shifts.{shifts as shiftsFor};
 ghost use Rattle.generator.specs.Claims.{areNodes};
-ghost use Rattle.recovery.specs.Weights.{Rebuilds, Recovers};
+ghost use Rattle.recovery.specs.Weights.{Rebuilds};
 ghost use Rattle.interpolation.specs.Points.{pointsOf};
 ghost use Rattle.interpolation.specs.Polynomials.{productOf};
 ghost use Rattle.recovery.specs.Rows.{basisOf, rowPoints, baseInverses, setupOf, termsAt, rowTerms};
-
-mod rows;
-
 use field::Field;
 use field::Tables;
 use generator::Header;
@@ -70,7 +67,7 @@ pub fn lagrange_basis(field: Field, tables: &Tables, root: u32, places: &[u8], o
     }
 }
 
-// What recover_weights takes for every row; the shifts are those of the generator's k rows.
+// What the inverse of the encoding at the nodes is made from; the shifts are those of the generator's k rows.
 pub fn prepare(h: Header, nodes: &[u8], shifts: &[u8]) -> Setup
     requires { ⌜ Sound h × (areNodes h (now nodes) ≡ true) × (now shifts ≡ shiftsFor h) ⌝ }
     ensures { λ r. ⌜ r ≡ setupOf h (now (nodes .entry)) ⌝ }
@@ -111,34 +108,4 @@ pub fn row_terms(h: Header, tables: &Tables, rows: Basis, base: [u16; 255], r: u
     let points = rows.points;
     let product = rows.product;
     terms_at(h, tables, &product, &base, points[r] as u32)
-}
-
-// Weights for symbol r of the message: row r of the inverse of the encoding at the nodes, from what was prepared for them. Places from k on hold 0.
-pub fn recover_weights(h: Header, nodes: &[u8], setup: Setup, r: u32) -> [u16; 255]
-    requires { ⌜ Sound h × (areNodes h (now nodes) ≡ true) × (setup ≡ setupOf h (now nodes)) × (r < h .k) ⌝ }
-    ensures { λ w. ⌜ Recovers h (now (nodes .entry)) r w ⌝ }
-{
-    let field = h.field;
-    let k = h.k as usize;
-    let first: usize = 1;
-    let end = k + 1;
-    let row = r as usize;
-    let rows = setup.shifts;
-    let base = setup.base;
-    let tables = field::constant_tables();
-    let terms = row_terms(h, &tables, rows, base, row);
-    let row_scales = rows.scales;
-    let own = setup.nodes;
-    let points = own.points;
-    let scales = own.scales;
-    let product = own.product;
-    rows::row_weights(
-        field,
-        &tables,
-        row_scales[row] as u32,
-        &terms[..k],
-        &product[first..end],
-        &points[..k],
-        &scales[..k],
-    )
 }
