@@ -16,7 +16,7 @@ fn test_accepted(h: Header, lanes: usize, shares: &[u8]) -> Membership
     if number != 0 {
         return Membership::Refused(number);
     }
-    let wrong = check_sums::block::first_wrong(h, lanes, shares);
+    let wrong = wrong_lanes::first_wrong(h, lanes, shares);
     if wrong == lanes {
         return Membership::Yes;
     }

@@ -1,9 +1,5 @@
--- The laws of the check sums, and of marks by them.
+-- The laws of the check sums, and of the powers of the root.
 pub mod Sums
-pub mod Shares
+pub mod Sizes
 pub mod Prefix
 pub mod OneLane
-pub mod Marking
-pub mod CheckRows
-pub mod Checks
-pub mod FirstNodes

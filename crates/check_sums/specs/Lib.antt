@@ -1,5 +1,3 @@
 -- Powers of the root, and the check sums of one lane.
 pub mod Powers
 pub mod Sums
-pub mod Marks
-pub mod Checks

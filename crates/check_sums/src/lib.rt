@@ -1,6 +1,3 @@
-// Check sums, by which words of the code are told: of every lane of a block, and of one lane.
-pub mod block;
-mod check_rows;
+// Check sums of one lane, by which words of the code are told.
 pub mod lane;
-pub mod marks;
 pub mod powers;

@@ -97,7 +97,7 @@ fn correct_symbols(h: Header, lanes: usize, shares: &mut [u8]) -> Correction
     ensures { λ r. ⌜ CorrectPromise shareLayout lanes (now (shares .entry)) (now (shares .exit)) r h (when (farBad shareLayout h lanes (now (shares .entry))) 14) ⌝ }
 {
     let mut marks = [0u8; 4096];
-    check_sums::marks::mark_lanes(h, lanes, shares, &mut marks[..lanes]);
+    wrong_lanes::marks::mark_lanes(h, lanes, shares, &mut marks[..lanes]);
     correct_wrong(h, lanes, &marks[..lanes], shares)
 }
 

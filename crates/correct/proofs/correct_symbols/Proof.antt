@@ -1,23 +1,15 @@
 -- `correct_symbols` meets its contract: the marks of all lanes, then the lanes are set right.
-use mathlib.Core.Path.{_≡_, sym, ap, _∙_}
-use Prim.Native.Nat.{ℕ, _+_, _-_, _≤_}
+use mathlib.Core.Path.{sym}
 use native.Mathlib.Omega.{arith}
 use borrow.Author.Needs.{needs}
-use lib.ListN.{take}
 use lib.Seq.{length-take-le}
 use Rattle.lists.specs.Padded.{zeros}
 use Rattle.layout.specs.Layout.{shareLayout}
 use Rattle.check_sums.proofs.Prefix.{whole-fits, whole-is, length-whole}
-use Rattle.check_sums.proofs.Marking.{zeros-part, length-marks}
+use Rattle.wrong_lanes.proofs.Marking.{zeros-prefix, length-marks}
 use Rattle.correct.proofs.MarkedBytes.{marked-shares}
 use Rattle.correct.proofs.correct_symbols.Statement.{statement}
 use Rattle.correct.proofs.correct_symbols.Tie as tie
-
--- the marks are 0 before
-cleared : (n l : ℕ) → l ≤ n → take l (zeros n) ≡ zeros l
-cleared n l few =
-    let front : 0 + l - 0 ≡ l = omega arith in
-    ap (λ (m : ℕ). take m (zeros n)) (sym front) ∙ zeros-part n 0 l (omega arith)
 
 array-borrow-prefix-marks : tie.Need-array-borrow-prefix-marks
 array-borrow-prefix-marks c = omega (arith, c .before .before .pre .symbol-rows .few-lanes)
@@ -25,9 +17,10 @@ array-borrow-prefix-marks c = omega (arith, c .before .before .pre .symbol-rows 
 slice-aggregate-mark-lanes : tie.Need-slice-aggregate-mark-lanes
 slice-aggregate-mark-lanes c = sym (length-take-le _ _ (omega (arith, c .before .before .before .pre .symbol-rows .few-lanes)))
 
+-- the marks are 0 before
 mark-lanes-requires : tie.Need-mark-lanes-requires
 unfolding zeros
-mark-lanes-requires c κs = let s = c .before .before .before in (s .pre, cleared 4096 (s .args .lanes) (s .pre .symbol-rows .few-lanes))
+mark-lanes-requires c κs = let s = c .before .before .before in (s .pre, zeros-prefix 4096 (s .args .lanes) (s .pre .symbol-rows .few-lanes))
 
 array-share-prefix-marks : tie.Need-array-share-prefix-marks
 array-share-prefix-marks c = whole-fits _ _ _ _ (c .before .mark-lanes .ensures) (length-marks shareLayout _ _ _)

@@ -8,7 +8,7 @@ use borrow.Author.Needs.{needs}
 use lib.Seq.{length-take-le}
 use Rattle.lists.specs.Padded.{padded}
 use Rattle.layout.specs.Width.{symbolsOf}
-use Rattle.check_sums.proofs.Shares.{sums-small}
+use Rattle.check_sums.proofs.Sizes.{sums-small}
 use Rattle.check_sums.proofs.Prefix.{whole-fits, whole-is, length-whole, whole-few}
 use Rattle.check_sums.proofs.OneLane.{length-sum-bytes, sums-read}
 use Rattle.check_sums.proofs.lane.sums_with.Statement.{statement}

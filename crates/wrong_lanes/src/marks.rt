@@ -1,0 +1,82 @@
+// Marks of the lanes that are no word of the code: one lane by its check sums, more as a product of matrices.
+ghost use mathlib.Core.Path.{_≡_};
+ghost use lib.ListN.{length};
+ghost use Rattle.lists.specs.Choice.{pick};
+ghost use Rattle.lists.specs.Padded.{zeros};
+ghost use Rattle.layout.specs.Layout.{byLane, shareLayout};
+ghost use Rattle.layout.specs.Width.{symbolsOf};
+ghost use Rattle.generator.specs.Records.{width};
+ghost use Rattle.refusals.specs.Accepted.{SymbolBuffer, SymbolBytes};
+ghost use Rattle.wrong_lanes.specs.Marks.{wordMarks};
+use crate::check_rows::list_checks;
+use check_sums::lane;
+use generator::Header;
+use lane_products::Product;
+use lane_products::Way;
+use products::scratch;
+
+// The mark of a lane.
+fn mark_of(word: bool) -> u8
+    ensures { λ r. ⌜ r ≡ pick word 0 1 ⌝ }
+{
+    if word { 0 } else { 1 }
+}
+
+// One lane alone, for which a product would take a whole tile's time.
+fn mark_lane(h: Header, w: usize, shares: &[u8], marks: &mut [u8])
+    requires { ⌜ SymbolBytes h w (h .n) 1 (now shares) × (length (now marks) ≡ 1) ⌝ }
+    ensures { λ r. ⌜ now (marks .exit) ≡ wordMarks byLane h 1 (symbolsOf w (now (shares .entry))) ⌝ }
+{
+    let n = h.n as usize;
+    let values = symbols::read_symbols(w, shares);
+    let word = lane::is_word(h, &values[..n]);
+    marks[0] = mark_of(word);
+}
+
+// Marks of several lanes as a product of matrices, in the smallest scratch that the record's nodes fit: clearing the largest takes longer than the work of a small record.
+fn mark_several(h: Header, w: usize, lanes: usize, shares: &[u8], marks: &mut [u8])
+    requires { ⌜ SymbolBytes h w (h .n) lanes (now shares) × (length (now marks) ≡ lanes) ⌝ }
+    ensures { λ r. ⌜ now (marks .exit) ≡ wordMarks byLane h lanes (symbolsOf w (now (shares .entry))) ⌝ }
+{
+    let way = Way::LanesToMarks;
+    let field = h.field;
+    let outputs = (h.n - h.k) as usize;
+    let rows = h.n as usize;
+    let m = Product {
+        way: way,
+        field: field,
+        outputs: outputs,
+        rows: rows,
+        lanes: lanes,
+    };
+    let codes = products::codes_of(field);
+    if h.n <= 16 {
+        let mut lists = scratch::small_lists();
+        let mut counts = scratch::small_counts();
+        list_checks(h, lanes, &codes, &mut lists, &mut counts);
+        return lane_products::fill(m, w, &lists, &counts, shares, marks);
+    }
+    if h.n <= 64 {
+        let mut lists = scratch::middle_lists();
+        let mut counts = scratch::middle_counts();
+        list_checks(h, lanes, &codes, &mut lists, &mut counts);
+        return lane_products::fill(m, w, &lists, &counts, shares, marks);
+    }
+    let mut lists = scratch::large_lists();
+    let mut counts = scratch::large_counts();
+    list_checks(h, lanes, &codes, &mut lists, &mut counts);
+    lane_products::fill(m, w, &lists, &counts, shares, marks);
+}
+
+// Marks all lanes, which have the mark 0 before.
+pub fn mark_lanes(h: Header, lanes: usize, shares: &[u8], marks: &mut [u8])
+    requires { ⌜ SymbolBuffer h (h .n) lanes (now shares) × (now marks ≡ zeros lanes) ⌝ }
+    ensures { λ r. ⌜ now (marks .exit) ≡ wordMarks shareLayout h lanes (symbolsOf (width h) (now (shares .entry))) ⌝ }
+{
+    let w = symbols::width_of(h);
+    if lanes == 1 {
+        mark_lane(h, w, shares, marks);
+        return;
+    }
+    mark_several(h, w, lanes, shares, marks);
+}
