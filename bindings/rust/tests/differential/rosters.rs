@@ -105,11 +105,7 @@ fn histories() {
     for shape in shapes(16).iter().chain(&shapes(255)[..]).step_by(3) {
         let record = shape.record(&mut random);
         let mut roster = Roster::start(&record).unwrap();
-        let mut history = History {
-            record: record.clone(),
-            events: Vec::new(),
-            jobs: 0,
-        };
+        let mut history = History::new(&record).unwrap();
         let count = if shape.n > 16 { 40 } else { 24 };
         for _ in 0..count {
             query(&roster, &history, shape.k);

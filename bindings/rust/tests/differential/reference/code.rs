@@ -57,7 +57,6 @@ pub fn bytes_of(size: u32, symbols: &[u16]) -> Vec<u8> {
 /// What a record stands for.
 pub struct Code {
     pub field: Field,
-    pub root: u16,
     pub n: usize,
     pub k: usize,
     pub d: usize,
@@ -122,7 +121,6 @@ impl Code {
         }
         let mut code = Code {
             field,
-            root,
             n,
             k,
             d,
@@ -139,13 +137,8 @@ impl Code {
     /// Entry (r, j): the product of (x − root^i) for i from 0 to k−2, at x = root^(j + s_r − d).
     pub fn entry(&self, r: usize, j: usize) -> u16 {
         let x = self.points[(j + self.shifts[r] as usize + self.n - self.d) % self.n];
-        let mut product = 1;
-        let mut power = 1;
-        for _ in 0..self.k - 1 {
-            product = self.field.mul(product, self.field.sub(x, power));
-            power = self.field.mul(power, self.root);
-        }
-        product
+        let factors = self.points[..self.k - 1].iter().map(|&point| self.field.sub(x, point));
+        factors.fold(1, |product, factor| self.field.mul(product, factor))
     }
 
     /// The node at which each row begins: its entry is not zero, and that of the node before it is, unless none is.
@@ -276,15 +269,18 @@ impl Code {
     /// For each node from k on, what it holds of the polynomial that goes through the first k nodes.
     pub fn extension(&self) -> Vec<Vec<u16>> {
         let f = &self.field;
-        let points = &self.points;
-        let product = |x: u16, skip: usize| {
-            (0..self.k)
-                .filter(|&e| e != skip)
-                .fold(1, |y, e| f.mul(y, f.sub(x, points[e])))
+        let (first, others) = self.points.split_at(self.k);
+        // the product of x − y over the first k points y but x itself
+        let product = |x: u16| {
+            let factors = first.iter().filter(|&&y| y != x).map(|&y| f.sub(x, y));
+            factors.fold(1, |a, b| f.mul(a, b))
         };
-        let scales: Vec<u16> = (0..self.k).map(|i| f.inverse(product(points[i], i))).collect();
-        (self.k..self.n)
-            .map(|j| (0..self.k).map(|i| f.mul(product(points[j], i), scales[i])).collect())
-            .collect()
+        let scales: Vec<u16> = first.iter().map(|&y| product(y)).collect();
+        let row = |&x: &u16| {
+            let whole = product(x);
+            let weight = |(&y, &scale): (&u16, &u16)| f.mul(whole, f.inverse(f.mul(f.sub(x, y), scale)));
+            first.iter().zip(&scales).map(weight).collect()
+        };
+        others.iter().map(row).collect()
     }
 }

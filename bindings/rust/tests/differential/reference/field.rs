@@ -4,7 +4,7 @@
 pub enum Field {
     /// Numbers modulo a prime.
     Prime(u32),
-    /// The field of 256 elements: the powers of 2, and the logarithm of each nonzero byte.
+    /// The field of 256 elements: the powers of 2 up to any sum of two logarithms, and the logarithm of each nonzero byte.
     Bytes { powers: Vec<u16>, logs: Vec<usize> },
 }
 
@@ -13,9 +13,9 @@ impl Field {
         let mut powers = Vec::new();
         let mut logs = vec![0; 256];
         let mut x: u32 = 1;
-        for i in 0..255 {
+        for i in 0..510 {
             powers.push(x as u16);
-            logs[x as usize] = i;
+            logs[x as usize] = i % 255;
             x <<= 1;
             if x >= 256 {
                 x ^= 0x11d;
@@ -47,12 +47,12 @@ impl Field {
 
     pub fn mul(&self, a: u16, b: u16) -> u16 {
         match self {
-            Field::Prime(p) => (u64::from(a) * u64::from(b) % u64::from(*p)) as u16,
+            Field::Prime(p) => (u32::from(a) * u32::from(b) % p) as u16,
             Field::Bytes { powers, logs } => {
                 if a == 0 || b == 0 {
                     0
                 } else {
-                    powers[(logs[a as usize] + logs[b as usize]) % 255]
+                    powers[logs[a as usize] + logs[b as usize]]
                 }
             }
         }
