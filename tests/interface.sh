@@ -5,42 +5,67 @@
 set -euo pipefail
 cd "$(dirname "$0")/.."
 
-# the crates below are proved side by side; `rt staticlib` then proves and compiles the interface
-log=$(mktemp)
-trap 'rm -f "$log"' EXIT
-{ rt check balanced && rt staticlib balanced_c; } >"$log" 2>&1 || { cat "$log"; exit 1; }
-tail -n 1 "$log"
-
 library=target/staticlib/libbalanced_c.a
-mkdir -p target/examples
 strict=(-pedantic -Wall -Wextra -Werror -Iinclude)
-printf '#include "balanced.h"\nint main(void) { unsigned char b[1] = { 0 }; uint16_t s[1]; return balanced_plan(b, 0, b, 0, b, 0, b, 0, s, 0) != BALANCED_KIND; }\n' >target/examples/plain.c
-gcc -std=c99 "${strict[@]}" -o target/examples/plain target/examples/plain.c "$library"
-target/examples/plain
-if command -v g++ >/dev/null; then
-    g++ -std=c++98 "${strict[@]}" -o target/examples/plain -x c++ target/examples/plain.c -x none "$library"
-    target/examples/plain
-fi
-
-# a part of a block, several blocks, whole blocks (5,120 bytes each) and no byte at all
-make -s -C examples/c
-head -c 5120 "$library" >target/examples/one_block
-head -c 15360 "$library" >target/examples/three_blocks
-: >target/examples/no_byte
 checked=()
 if command -v valgrind >/dev/null; then checked=(valgrind --quiet --leak-check=full --errors-for-leak-kinds=all --error-exitcode=1); fi
-for file in examples/c/Makefile include/balanced.h target/examples/{one_block,three_blocks,no_byte}; do
-    "${checked[@]}" target/examples/store "$file"
-done | tee target/examples/store.out
-for blocks in '5120 bytes in 1 ' '15360 bytes in 3 ' '0 bytes in 0 '; do grep -q "^$blocks" target/examples/store.out; done
 
-# blocks of 4,096 lanes on up to 255 nodes, held to another implementation's checksums
-gcc -std=c99 -O2 "${strict[@]}" -o target/examples/large_cases tests/large_cases.c "$library"
-target/examples/large_cases >target/examples/large_cases.out
-cmp target/examples/large_cases.out tests/reference/large_cases.out
+# the crates below are proved side by side; `rt staticlib` then proves and compiles the interface
+build() {
+    rt check balanced && rt staticlib balanced_c
+}
+
+# the header alone, as C and as C++
+plain() {
+    printf '#include "balanced.h"\nint main(void) { unsigned char b[1] = { 0 }; uint16_t s[1]; return balanced_plan(b, 0, b, 0, b, 0, b, 0, s, 0) != BALANCED_KIND; }\n' >target/examples/plain.c
+    gcc -std=c99 "${strict[@]}" -o target/examples/plain target/examples/plain.c "$library"
+    target/examples/plain
+    if command -v g++ >/dev/null; then
+        g++ -std=c++98 "${strict[@]}" -o target/examples/plain -x c++ target/examples/plain.c -x none "$library"
+        target/examples/plain
+    fi
+}
+
+# a part of a block, several blocks, whole blocks (5,120 bytes each) and no byte at all
+example() {
+    make -s -C examples/c
+    head -c 5120 "$library" >target/examples/one_block
+    head -c 15360 "$library" >target/examples/three_blocks
+    : >target/examples/no_byte
+    for file in examples/c/Makefile include/balanced.h target/examples/{one_block,three_blocks,no_byte}; do
+        "${checked[@]}" target/examples/store "$file"
+    done | tee target/examples/store.out
+    for blocks in '5120 bytes in 1 ' '15360 bytes in 3 ' '0 bytes in 0 '; do grep -q "^$blocks" target/examples/store.out; done
+}
+
+# blocks of 4,096 lanes on up to 255 nodes, held to another implementation's checksums;
 # the same with three lanes at most, every kind of record among them, for valgrind to see
-if [ ${#checked[@]} -gt 0 ]; then "${checked[@]}" target/examples/large_cases 3 >/dev/null; fi
+large_cases() {
+    gcc -std=c99 -O2 "${strict[@]}" -o target/examples/large_cases tests/large_cases.c "$library"
+    target/examples/large_cases >target/examples/large_cases.out
+    cmp target/examples/large_cases.out tests/reference/large_cases.out
+    if [ ${#checked[@]} -gt 0 ]; then "${checked[@]}" target/examples/large_cases 3 >/dev/null; fi
+}
 
-export BALANCED_LIB_DIR=$PWD/target/staticlib
-cd bindings/rust
-cargo test --quiet --offline --locked -- --show-output
+in_c() {
+    plain
+    example
+    large_cases
+}
+
+in_rust() {
+    export BALANCED_LIB_DIR=$PWD/target/staticlib
+    cd bindings/rust
+    cargo test --quiet --offline --locked -- --show-output
+}
+
+mkdir -p target/examples
+log=$(mktemp)
+trap 'rm -f "$log"' EXIT
+build >"$log" 2>&1 || { cat "$log"; exit 1; }
+tail -n 1 "$log"
+# side by side
+(in_c) >"$log" 2>&1 &
+(in_rust)
+wait $! || { cat "$log"; exit 1; }
+cat "$log"
