@@ -13,7 +13,7 @@ use Rattle.find_update.specs.declared.Finding.the-variants.{Added, Refused}
 use Rattle.refusals.specs.Accepted.{IsLane}
 use Rattle.find_update.specs.Finding.{findingOf, Finds}
 use Rattle.find_update.specs.Promise.{FindSays}
-use Rattle.balanced.specs.Calls.{read}
+use Rattle.demands.specs.Calls.{read}
 
 pub record Findings : Type 0 where
   -- of every two lanes of an accepted record

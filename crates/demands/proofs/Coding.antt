@@ -16,7 +16,7 @@ use Rattle.blocks.proofs.Shares.{lane-encodes}
 use Rattle.blocks.proofs.Messages.{lane-message, some-buffer, one-buffer, gathered-message}
 use Rattle.generator.proofs.Messages.{node-at}
 use Rattle.blocks.proofs.Words.{passes-code, names-code}
-use Rattle.balanced.specs.Coding.{CodeDemands}
+use Rattle.demands.specs.Coding.{CodeDemands}
 
 -- a share holds, in each lane, the node's symbol of the encoding
 share-symbol : (h : Header) (l : ℕ) (m : List ℕ) (target t : ℕ) → target < h .n → t < l → getD (shareOf h l m target) t 0 ≡ getD (encoding h (laneOf byRow (h .k) l t m)) target 0

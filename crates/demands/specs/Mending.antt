@@ -10,7 +10,7 @@ use Rattle.mends.specs.declared.Mending.the-variants.{Listed, Refused}
 use Rattle.refusals.specs.Accepted.{IsLane}
 use Rattle.mends.specs.Mends.{mendNodes, mendSymbols, Mends}
 use Rattle.mends.specs.Promise.{inFront, MendsSay}
-use Rattle.balanced.specs.Calls.{read}
+use Rattle.demands.specs.Calls.{read}
 
 pub record SingleMends : Type 0 where
   -- of every lane of an accepted record

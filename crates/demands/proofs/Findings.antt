@@ -24,8 +24,8 @@ use Rattle.find_update.specs.Promise.{findFault, FindSays}
 use Rattle.find_update.proofs.Accepts.{find-accepts, found-means}
 use Rattle.find_update.proofs.Applied.{update-adds, finds-again}
 use Rattle.find_update.proofs.Meaning.{finds}
-use Rattle.balanced.specs.Calls.{read}
-use Rattle.balanced.specs.Findings.{Findings}
+use Rattle.demands.specs.Calls.{read}
+use Rattle.demands.specs.Findings.{Findings}
 
 call : (rec before after : List ℕ) (r : Finding) → FindSays rec before after r → ((g : ℕ) → r ≡ Refused g → ⊥) → (r ≡ findingOf (headerOf rec) (read (headerOf rec) before) (read (headerOf rec) after)) × Finds (headerOf rec) (read (headerOf rec) before) (read (headerOf rec) after)
 call rec before after r says other =

@@ -7,10 +7,10 @@ use Rattle.generator.proofs.SchemeOf.{our-scheme, scheme-least}
 use Rattle.rearrange.proofs.Lanes.{lane-after-lane}
 use Rattle.correct.proofs.Corrections.{corrections}
 use Rattle.weight_counts.proofs.Weights.{distribution}
-use Rattle.balanced.specs.Demands.{Demands}
-use Rattle.balanced.proofs.Coding.{code-demands}
-use Rattle.balanced.proofs.Updates.{update-demands}
-use Rattle.balanced.proofs.Calls.{call-demands}
+use Rattle.demands.specs.Demands.{Demands}
+use Rattle.demands.proofs.Coding.{code-demands}
+use Rattle.demands.proofs.Updates.{update-demands}
+use Rattle.demands.proofs.Calls.{call-demands}
 
 pub demands : Demands
 unfolding our-scheme

@@ -10,9 +10,9 @@ use Rattle.generator.specs.Claims.{Accepted}
 use Rattle.rearrange.specs.Lanes.{LaneAfterLane}
 use Rattle.correct.specs.Corrections.{Corrections}
 use Rattle.weight_counts.specs.Weights.{Distribution}
-use Rattle.balanced.specs.Coding.{CodeDemands}
-use Rattle.balanced.specs.Updates.{UpdateDemands}
-use Rattle.balanced.specs.Calls.{CallDemands}
+use Rattle.demands.specs.Coding.{CodeDemands}
+use Rattle.demands.specs.Updates.{UpdateDemands}
+use Rattle.demands.specs.Calls.{CallDemands}
 
 pub record Demands : Type 1 where
   -- demand 2

@@ -33,7 +33,7 @@ use Rattle.refusals.specs.Faults.{inputFault, staleFault, updateFault}
 use Rattle.refusals.proofs.Accepts.{input-accepts, update-accepts}
 use Rattle.blocks.specs.Blocks.{updated}
 use Rattle.blocks.proofs.Updates.{updated-encodes, updated-others, updated-count}
-use Rattle.balanced.specs.Updates.{Afterwards, Updated, laneFor, UpdateDemands}
+use Rattle.demands.specs.Updates.{Afterwards, Updated, laneFor, UpdateDemands}
 
 -- how many nodes a change alters
 count : (h : Header) → Sound h → (ms : List ℕ) (r new : ℕ) → isMessage h ms ≡ true → r < h .k → new < size h → differ (encoding h ms) (encoding h (set ms r new)) ≡ pick (eqb new (getD ms r 0)) 0 (distance h)

@@ -14,8 +14,8 @@ use Rattle.mends.specs.Mends.{mendNodes, mendSymbols, Mends}
 use Rattle.mends.specs.Promise.{mendsFault, mendingOf, inFront, MendsSay}
 use Rattle.mends.proofs.Accepts.{mends-accepts, listed-means}
 use Rattle.mends.proofs.Meaning.{mends}
-use Rattle.balanced.specs.Calls.{read}
-use Rattle.balanced.specs.Mending.{SingleMends}
+use Rattle.demands.specs.Calls.{read}
+use Rattle.demands.specs.Mending.{SingleMends}
 
 call : (rec lane nodes symbols nodes′ symbols′ : List ℕ) (r : Mending) → MendsSay rec lane nodes symbols nodes′ symbols′ r → ((g : ℕ) → r ≡ Refused g → ⊥) → (r ≡ Listed (length (mendNodes (headerOf rec) (read (headerOf rec) lane)))) × (nodes′ ≡ inFront (mendNodes (headerOf rec) (read (headerOf rec) lane)) nodes) × (symbols′ ≡ inFront (bytesOf (width (headerOf rec)) (mendSymbols (headerOf rec) (read (headerOf rec) lane))) symbols) × Mends (headerOf rec) (read (headerOf rec) lane)
 unfolding mendingOf

@@ -27,10 +27,10 @@ use Rattle.blocks.proofs.Answered.{done-means, altered-means, yes-means, no-mea
 use Rattle.blocks.proofs.Bytes.{altered-symbols}
 use Rattle.blocks.proofs.Shares.{length-share}
 use Rattle.blocks.proofs.Words.{wrong-most}
-use Rattle.balanced.specs.Coding.{Symbols}
-use Rattle.balanced.specs.Calls.{read, EncodeDone, RecoverDone, RebuildDone, AllWords, SmallestWrong, UpdateDone, CallDemands}
-use Rattle.balanced.proofs.Coding.{code-demands}
-use Rattle.balanced.proofs.Updates.{update-demands}
+use Rattle.demands.specs.Coding.{Symbols}
+use Rattle.demands.specs.Calls.{read, EncodeDone, RecoverDone, RebuildDone, AllWords, SmallestWrong, UpdateDone, CallDemands}
+use Rattle.demands.proofs.Coding.{code-demands}
+use Rattle.demands.proofs.Updates.{update-demands}
 
 -- rows of symbols that no number turned away
 rows-are : (h : Header) (rows l : ℕ) (s : List ℕ) → SymbolRows h rows l s → Symbols h rows l s

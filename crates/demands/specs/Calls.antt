@@ -15,8 +15,8 @@ use Rattle.blocks.specs.declared.Update.the-variants as U
 use Rattle.blocks.specs.declared.Membership.the-variants as M
 use Rattle.blocks.specs.Blocks.{gathered, MessageFor}
 use Rattle.blocks.specs.Promises.{EncodeSays, UpdateSays, RecoverSays, RebuildSays, BelongsSays}
-use Rattle.balanced.specs.Coding.{Symbols}
-use Rattle.balanced.specs.Updates.{Updated}
+use Rattle.demands.specs.Coding.{Symbols}
+use Rattle.demands.specs.Updates.{Updated}
 
 -- the symbols of a lent buffer
 abbrev pub read : Header → List ℕ → List ℕ
