@@ -2,6 +2,10 @@
 // what makes it no call. A list has at most 64 numbers. An empty line or a comment is written as it is.
 use balanced::Roster;
 use libc::STDIN_FILENO;
+use test_calls::lanes;
+use test_calls::plans;
+use test_calls::rosters;
+use test_calls::weights;
 use test_tools::read;
 use test_tools::text;
 use test_words::Words;
@@ -9,10 +13,6 @@ use test_words::is_comment;
 use test_words::line_end;
 
 mod block_calls;
-mod lane_calls;
-mod plan_calls;
-mod roster_calls;
-mod weight_calls;
 
 // The calls that leave the roster, by their numbers in the table below.
 fn make(call: usize, w: Words) {
@@ -22,21 +22,21 @@ fn make(call: usize, w: Words) {
         6 => block_calls::update(w),
         7 => block_calls::belongs(w),
         8 => block_calls::correct(w),
-        9 => plan_calls::plan(w),
-        10 => weight_calls::weights(w),
-        11 => lane_calls::find(w),
-        _ => lane_calls::mend(w),
+        9 => plans::plan(w),
+        10 => weights::weights(w),
+        11 => lanes::find(w),
+        _ => lanes::mend(w),
     }
 }
 
 // The calls that give the next roster.
 fn next_roster(call: usize, w: Words, roster: Roster) -> Roster {
     match call {
-        13 => roster_calls::start(w),
-        14 => roster_calls::event(w, roster, false),
-        15 => roster_calls::event(w, roster, true),
-        16 => roster_calls::lowest(w, roster),
-        _ => roster_calls::job(w, roster),
+        13 => rosters::start(w),
+        14 => rosters::event(w, roster, false),
+        15 => rosters::event(w, roster, true),
+        16 => rosters::lowest(w, roster),
+        _ => rosters::job(w, roster),
     }
 }
 

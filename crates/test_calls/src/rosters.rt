@@ -1,7 +1,7 @@
 // The calls of a roster. The program keeps the roster from line to line; after a start or an event it writes which nodes are present.
-use balanced::Listing;
-use balanced::Roster;
-use balanced::Step;
+use roster::Listing;
+use roster::Roster;
+use roster::Step;
 use test_tools::front;
 use test_tools::list;
 use test_tools::number;

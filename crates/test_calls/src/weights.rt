@@ -17,7 +17,7 @@ pub fn weights(w: Words) {
 }
 
 fn count_to(rec: &[u8], counts: &mut [u32]) {
-    match balanced::weight_counts(rec, counts) {
+    match weight_counts::weight_counts(rec, counts) {
         Outcome::Done => done(counts),
         Outcome::Refused(number) => refused(number, untouched(counts)),
     }

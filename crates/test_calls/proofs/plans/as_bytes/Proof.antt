@@ -1,8 +1,8 @@
 -- `as_bytes` is safe and ends.
 use borrow.Author.Needs.{needs}
 use Prim.Native.Nat.{_-_}
-use Rattle.cases.proofs.plan_calls.as_bytes.Statement.{statement}
-use Rattle.cases.proofs.plan_calls.as_bytes.Tie as tie
+use Rattle.test_calls.proofs.plans.as_bytes.Statement.{statement}
+use Rattle.test_calls.proofs.plans.as_bytes.Tie as tie
 
 abbrev Inv-loop : tie.InvT-loop
 Inv-loop w symbols out₀ i₀ out i = Unit {0}

@@ -1,8 +1,8 @@
 -- `print_present` is safe and ends.
 use borrow.Author.Needs.{needs}
 use Prim.Native.Nat.{_-_}
-use Rattle.cases.proofs.roster_calls.print_present.Statement.{statement}
-use Rattle.cases.proofs.roster_calls.print_present.Tie as tie
+use Rattle.test_calls.proofs.rosters.print_present.Statement.{statement}
+use Rattle.test_calls.proofs.rosters.print_present.Tie as tie
 
 abbrev Inv-loop : tie.InvT-loop
 Inv-loop marks j₀ j = Unit {0}

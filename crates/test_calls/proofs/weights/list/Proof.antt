@@ -2,8 +2,8 @@
 use borrow.Author.Needs.{needs}
 use Prim.Native.Nat.{_-_}
 use lib.ListN.{length}
-use Rattle.cases.proofs.weight_calls.list.Statement.{statement}
-use Rattle.cases.proofs.weight_calls.list.Tie as tie
+use Rattle.test_calls.proofs.weights.list.Statement.{statement}
+use Rattle.test_calls.proofs.weights.list.Tie as tie
 
 abbrev Inv-loop : tie.InvT-loop
 Inv-loop counts i₀ i = Unit {0}

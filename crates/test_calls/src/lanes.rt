@@ -21,7 +21,7 @@ pub fn find(w: Words) {
     let before = w.first;
     let after = w.second;
     let counts = w.counts;
-    match balanced::find_update(
+    match find_update::find_update(
         part(&record, counts[0]),
         part(&before, counts[1]),
         part(&after, counts[2]),
@@ -55,7 +55,7 @@ pub fn mend(w: Words) {
     let rooms = w.rooms;
     let mut nodes = [170u8; 64];
     let mut symbols = [170u8; 64];
-    let answer = balanced::single_mends(
+    let answer = mends::single_mends(
         part(&record, counts[0]),
         part(&lane, counts[1]),
         front(&mut nodes, rooms[0]),
