@@ -227,43 +227,30 @@ impl Code {
         }
     }
 
-    /// The message whose encoding holds the shares at the nodes: the inverse of the k columns, by elimination.
+    /// The message whose encoding holds the shares at the nodes: the k equations solved by elimination, for all lanes at once.
     pub fn message(&self, lanes: usize, nodes: &[u8], shares: &[u16]) -> Vec<u16> {
         let (f, k) = (&self.field, self.k);
         let rows = self.generator();
-        // row i is the equation of node i: the k entries, then the unit matrix
-        let mut m: Vec<Vec<u16>> = (0..k)
-            .map(|i| {
-                let mut row: Vec<u16> = rows.iter().map(|row| row[nodes[i] as usize]).collect();
-                row.extend((0..k).map(|e| u16::from(e == i)));
-                row
-            })
-            .collect();
+        // row i is the equation of node i: the k entries, then the node's symbols
+        let equation = |i: usize| {
+            let entries = rows.iter().map(|row| row[nodes[i] as usize]);
+            entries.chain((0..lanes).map(|t| shares[t * k + i])).collect()
+        };
+        let mut m: Vec<Vec<u16>> = (0..k).map(equation).collect();
         for c in 0..k {
             let found = (c..k).find(|&i| m[i][c] != 0).expect("any k nodes fix the message");
             m.swap(c, found);
             let scale = f.inverse(m[c][c]);
-            m[c].iter_mut().for_each(|x| *x = f.mul(*x, scale));
-            let pivot = m[c].clone();
-            for (i, row) in m.iter_mut().enumerate() {
+            let pivot: Vec<u16> = m[c][c..].iter().map(|&x| f.mul(x, scale)).collect();
+            for row in &mut m {
                 let factor = row[c];
-                if i != c && factor != 0 {
-                    for (x, &y) in row.iter_mut().zip(&pivot) {
-                        *x = f.sub(*x, f.mul(factor, y));
-                    }
+                for (x, &y) in row[c..].iter_mut().zip(&pivot) {
+                    *x = f.sub(*x, f.mul(factor, y));
                 }
             }
+            m[c][c..].copy_from_slice(&pivot);
         }
-        let mut message = vec![0; k * lanes];
-        for r in 0..k {
-            for i in 0..k {
-                for t in 0..lanes {
-                    let at = r * lanes + t;
-                    message[at] = f.add(message[at], f.mul(m[r][k + i], shares[t * k + i]));
-                }
-            }
-        }
-        message
+        m.iter().flat_map(|row| row[k..].to_vec()).collect()
     }
 
     /// For each node from k on, what it holds of the polynomial that goes through the first k nodes.
