@@ -5,7 +5,7 @@ use Prim.Native.Nat.{ℕ, zero, suc, _<_}
 use native.Mathlib.Omega.{arith}
 use lib.ListN.{length, getD, set}
 use Rattle.algebra.specs.Field.{Field}
-use Rattle.algebra.proofs.Ring.{add-mul, sub-cancel, add-cancel, no-divisors, sub-zero, zero-mul}
+use Rattle.algebra.proofs.Ring.{add-mul, sub-cancel, add-cancel, no-divisors, sub-zero}
 use Rattle.algebra.proofs.Combinations.{comb}
 
 module _ (F : Field) where

@@ -24,7 +24,7 @@ use Rattle.lists.proofs.Numbers.{below-at}
 use Rattle.lists.proofs.Places.{below, All-below-of, All-below}
 use Rattle.lists.proofs.Rows.{row-after}
 use Rattle.layout.specs.Layout as Layout
-use Rattle.layout.specs.Layout.{byRow, held, buffer}
+use Rattle.layout.specs.Layout.{byRow, held}
 use Rattle.layout.proofs.Lawful.{by-row}
 use Rattle.layout.proofs.Buffers.{length-lane, getD-lane, lane-symbols}
 use Rattle.layout.proofs.Places.{place-by-row, held-by-row, buffer-by-row}

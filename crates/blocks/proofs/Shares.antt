@@ -1,10 +1,8 @@
 -- The shares of a block hold, in each lane, the encoding of that lane's message.
-use mathlib.Core.Path.{_≡_, ap, _∙_}
-use mathlib.Core.Bool.{true}
+use mathlib.Core.Path.{_≡_}
 use mathlib.Core.List.{List}
 use Prim.Native.Nat.{ℕ, _*_, _<_}
 use lib.ListN.{length}
-use Rattle.lists.specs.Numbers.{allBelow}
 use Rattle.lists.specs.Rows.{rowsFrom}
 use Rattle.lists.proofs.Rows.{length-from}
 use Rattle.layout.specs.Layout.{Arrangement, byRow, laneOf}

@@ -5,18 +5,17 @@ use mathlib.Core.List.{List}
 use Prim.Native.Nat.{ℕ, _+_, _*_, _≤_, _<_}
 use native.Mathlib.Nat.{add-zero}
 use native.Mathlib.Omega.{arith}
-use lib.ListN.{length, getD}
 use Rattle.lists.specs.Numbers.{allBelow}
 use Rattle.lists.specs.Rows.{from}
 use Rattle.lists.specs.Search.{firstFalse}
 use Rattle.lists.proofs.Rows.{from-ext, from-move}
 use Rattle.lists.proofs.Search.{search-ext}
-use Rattle.layout.specs.Layout.{Arrangement, byRow, byLane, held, laneOf, buffer, rearranged, someLanes}
+use Rattle.layout.specs.Layout.{Arrangement, byRow, byLane, laneOf, rearranged, someLanes}
 use Rattle.layout.specs.Width.{symbolsOf}
 use Rattle.layout.specs.Tiles.{tileSymbols}
 use Rattle.layout.proofs.TileLanes.{tile-read, tile-lanes}
 use Rattle.layout.proofs.Lawful.{Lawful, by-row, by-lane}
-use Rattle.layout.proofs.Buffers.{length-buffer, held-buffer, buffer-ext}
+use Rattle.layout.proofs.Buffers.{held-buffer, buffer-ext}
 use Rattle.layout.proofs.Runs.{lane-some, length-some, some-below}
 use Rattle.generator.specs.declared.Header.{Header}
 use Rattle.generator.specs.Records.{size}

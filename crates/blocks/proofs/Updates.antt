@@ -1,5 +1,5 @@
 -- An update of a lane that encodes a message: the lane, the other lanes, and how many symbols differ.
-use mathlib.Core.Path.{_≡_, refl, sym, ap, ap₂, _∙_}
+use mathlib.Core.Path.{_≡_, sym, ap, ap₂, _∙_}
 use mathlib.Core.Bool.{true, not}
 use mathlib.Core.List.{List, _++_}
 use Prim.Native.Nat.{ℕ, _+_, _-_, _*_, _≤_, _<_}

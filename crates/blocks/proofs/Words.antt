@@ -8,7 +8,6 @@ use native.Mathlib.Nat.{zero-add}
 use native.Mathlib.Omega.{arith}
 use lib.ListN.{length}
 use Rattle.lists.specs.Numbers.{allBelow}
-use Rattle.lists.specs.Search.{firstFalse}
 use Rattle.lists.proofs.Search.{search-high, search-none, search-passes, search-fails}
 use Rattle.layout.specs.Layout.{Arrangement, laneOf}
 use Rattle.layout.proofs.Lawful.{Lawful}

@@ -1,21 +1,18 @@
 -- The demands of the calls themselves, from what each call promises.
 use mathlib.Core.Path.{_≡_, sym, ap, subst, _∙_}
-use mathlib.Core.Bool.{true}
 use mathlib.Core.List.{List}
 use Prim.Native.Nat.{ℕ, _<_}
 use native.Mathlib.Omega.{arith}
-use lib.ListN.{length, getD}
-use Rattle.layout.specs.Layout.{laneOf, shareLayout}
+use lib.ListN.{length}
+use Rattle.layout.specs.Layout.{shareLayout}
 use Rattle.layout.specs.Width.{bytesOf}
 use Rattle.layout.proofs.Widths.{symbols-bytes}
 use Rattle.generator.specs.declared.Header.{Header}
 use Rattle.generator.specs.Records.{headerOf, width}
-use Rattle.generator.specs.Codewords.{encoding}
-use Rattle.generator.specs.Claims.{isMessage}
 use Rattle.generator.proofs.Widths.{width-some}
 use Rattle.refusals.specs.Faults.{encodeFault, updateFault, recoverFault, rebuildFault, belongsFault, faultOf}
 use Rattle.refusals.specs.Accepted.{SymbolRows}
-use Rattle.refusals.proofs.Accepts.{encode-accepts, update-accepts, recover-accepts, rebuild-accepts, belongs-accepts}
+use Rattle.refusals.proofs.Accepts.{encode-accepts, recover-accepts, rebuild-accepts, belongs-accepts}
 use Rattle.refusals.proofs.OnRecord.{none-met}
 use Rattle.blocks.specs.declared.Outcome.the-variants as O
 use Rattle.blocks.specs.declared.Update.the-variants as U

@@ -1,14 +1,13 @@
 -- The single update that leads from one lane to another, by definition.
 use mathlib.Core.Path.{_≡_}
 use mathlib.Core.Logic.{_↔_}
-use mathlib.Core.Bool.{Bool, true, not}
+use mathlib.Core.Bool.{Bool, not}
 use mathlib.Core.List.{List}
 use Prim.Native.Nat.{ℕ, _<_}
 use lib.Dec.{eqb, ltb}
-use lib.ListN.{length, getD}
+use lib.ListN.{getD}
 use Rattle.lists.specs.Choice.{pick}
 use Rattle.lists.specs.Counting.{differ}
-use Rattle.lists.specs.Numbers.{allBelow}
 use Rattle.lists.specs.Rows.{from}
 use Rattle.lists.specs.Search.{firstFalse}
 use Rattle.field.specs.Fields.{add, sub, mul}

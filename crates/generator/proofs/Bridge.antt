@@ -1,7 +1,7 @@
 -- The definitions on numbers are those of the algebra over the record's field.
 use mathlib.Core.Path.{_≡_, refl, sym, ap, ap₂, _∙_}
-use mathlib.Core.List.{List, [], _∷_, map, map-map}
-use Prim.Native.Nat.{ℕ, zero, suc, _+_, _-_, _*_, _%_, _≤_, _<_}
+use mathlib.Core.List.{List, [], _∷_, map}
+use Prim.Native.Nat.{ℕ, zero, suc, _+_, _-_, _*_, _%_, _≤_}
 use native.Mathlib.Omega.{arith}
 use lib.ListN.{length, getD, drop}
 use Rattle.lists.specs.Rows.{from, range}
@@ -10,7 +10,7 @@ use Rattle.lists.proofs.Places.{map-range}
 use Rattle.algebra.specs.Powers.{pow}
 use Rattle.algebra.proofs.Combinations.{comb}
 use Rattle.algebra.proofs.Poly.{eval, values}
-use Rattle.algebra.proofs.Product.{product, eval-product, eval-product-nil}
+use Rattle.algebra.proofs.Product.{eval-product, eval-product-nil}
 use Rattle.algebra.proofs.Powers.{pow-mod}
 use Rattle.algebra.proofs.BasePolynomial.{base}
 use Rattle.algebra.proofs.Nodes.{node}
@@ -18,7 +18,6 @@ use Rattle.algebra.proofs.Parity.{check}
 use Rattle.lists.proofs.Places.{below}
 use Rattle.field.specs.Fields.{add, sub, mul, power}
 use Rattle.field.specs.Symbols.{Symbol, numbers}
-use Rattle.field.proofs.Symbols.{symbol-path}
 use Rattle.field.proofs.FieldOf.{number-sub, number-pow}
 use Rattle.generator.specs.declared.Header.{Header}
 use Rattle.generator.specs.Records.{modulusOf, size, distance, Sound}

@@ -8,7 +8,7 @@ use Rattle.generator.specs.declared.Record.{Record}
 use Rattle.generator.specs.declared.Record.the-variants.{Holds, Meets}
 use Rattle.generator.specs.Records.{recordOf, Sound}
 use Rattle.generator.specs.Shifts.{shifts}
-use Rattle.generator.specs.Claims.{Ours, Accepted, Promised}
+use Rattle.generator.specs.Claims.{Ours, Promised}
 use Rattle.generator.proofs.Accepts.{accepted-sound}
 use Rattle.generator.proofs.Shifts.{shifts-places, shifts-length, shifts-first, firsts-at}
 use Rattle.generator.proofs.Entries.{row-weight, rows-base}

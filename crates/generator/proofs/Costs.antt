@@ -1,17 +1,16 @@
 -- How many symbols a node depends on, and what that means.
-use mathlib.Core.Path.{_≡_, refl, sym, ap, ap₂, _∙_}
+use mathlib.Core.Path.{_≡_, sym, ap, _∙_}
 use mathlib.Core.Logic.{_↔_, _⊎_}
-use mathlib.Core.Bool.{Bool, true, false, not, true≢false}
+use mathlib.Core.Bool.{true, false, not, true≢false}
 use mathlib.Core.List.{List}
-use Prim.Native.Nat.{ℕ, _+_, _-_, _*_, _%_, _<_}
+use Prim.Native.Nat.{ℕ, _+_, _*_, _%_, _<_}
 use native.Mathlib.Omega.{arith}
 use native.Mathlib.Nat.{le-of-eq, suc-ne-zero}
 use borrow.Author.Tests.{eq-eqb, eqb-true, eqb-false, not-true}
 use lib.Dec.{eqb, ltb}
-use lib.ListN.{length, getD, set, replicate, length-replicate, getD-replicate}
+use lib.ListN.{getD, set, replicate, length-replicate, getD-replicate}
 use lib.Seq.{set-getD}
 use Rattle.lists.specs.Counting.{countFrom}
-use Rattle.lists.specs.Numbers.{allBelow}
 use Rattle.lists.proofs.All.{All-replicate}
 use Rattle.lists.proofs.Cases.{by-test, not-not}
 use Rattle.lists.proofs.Count.{count-ext}

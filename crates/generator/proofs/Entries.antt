@@ -1,16 +1,14 @@
 -- Where the entries of the generator are zero, and that each is read from the base word by its row's shift.
-use mathlib.Core.Path.{_≡_, refl, sym, ap, _∙_}
-use mathlib.Core.Bool.{Bool, true, false, not}
+use mathlib.Core.Path.{_≡_, sym, ap, _∙_}
+use mathlib.Core.Bool.{not}
 use Prim.Native.Nat.{ℕ, _+_, _-_, _%_, _≤_, _<_}
 use native.Mathlib.Omega.{arith}
 use native.Mathlib.Nat.{mod-lt, mod-add-mod, mod-eq-of-lt, add-mod-left, zero-add, add-zero}
 use borrow.Author.Tests.{ltb-true, ltb-false, eq-eqb, ne-eqb}
 use lib.Dec.{eqb, ltb}
 use lib.ListN.{getD}
-use Rattle.lists.specs.Rows.{from}
 use Rattle.lists.proofs.Cases.{by-test}
 use Rattle.lists.proofs.Rows.{getD-from}
-use Rattle.algebra.specs.Field.{Field}
 use Rattle.algebra.specs.Powers.{pow}
 use Rattle.algebra.proofs.Poly.{eval}
 use Rattle.algebra.proofs.BasePolynomial.{base, base-root}

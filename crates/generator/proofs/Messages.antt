@@ -19,7 +19,7 @@ use Rattle.generator.specs.declared.Header.{Header}
 use Rattle.generator.specs.Records.{size, Sound}
 use Rattle.generator.specs.Codewords.{nodeOf, encoding, isWord}
 use Rattle.generator.specs.Messages.{messageOf}
-use Rattle.generator.specs.Claims.{isMessage, atNodes}
+use Rattle.generator.specs.Claims.{isMessage}
 use Rattle.generator.proofs.Recovery.{message-size, message-below, message-is, one-message}
 use Rattle.generator.proofs.Words.{words-encode, encoding-size}
 use Rattle.generator.proofs.PlainLayout.{first-nodes}

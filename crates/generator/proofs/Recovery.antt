@@ -2,8 +2,7 @@
 use mathlib.Core.Path.{_≡_, refl, sym, ap, _∙_}
 use mathlib.Core.Bool.{true, _&&_}
 use mathlib.Core.List.{List, map}
-use Prim.Native.Nat.{ℕ, _-_, _≤_, _<_}
-use native.Mathlib.Omega.{arith}
+use Prim.Native.Nat.{ℕ, _-_}
 use native.Mathlib.Nat.{le-of-eq}
 use borrow.Author.Tests.{eqb-true, eq-eqb}
 use lib.Dec.{eqb}
@@ -21,7 +20,6 @@ use Rattle.field.proofs.FieldOf.{size-pos}
 use Rattle.generator.specs.declared.Header.{Header}
 use Rattle.generator.specs.Records.{modulusOf, size, Sound}
 use Rattle.generator.specs.Shifts.{shifts}
-use Rattle.generator.specs.Codewords.{nodeOf}
 use Rattle.generator.specs.Claims.{isMessage, areNodes, atNodes}
 use Rattle.generator.proofs.Sound.{fieldFor, rootFor, root-order, last-row}
 use Rattle.generator.proofs.Shifts.{shifts-length, shifts-places}

@@ -1,15 +1,14 @@
 -- The scheme of an accepted plan: it is one, it is tight, and no scheme costs less.
 use mathlib.Core.Path.{_≡_, refl, sym, ap, ap₂, _∙_}
 use mathlib.Core.Logic.{_≢_, _↔_}
-use mathlib.Core.Bool.{Bool, true, false, not, or-true}
+use mathlib.Core.Bool.{true, not, or-true}
 use mathlib.Core.List.{List, [], _∷_, map}
-use Prim.Native.Nat.{ℕ, _<_, Fin}
+use Prim.Native.Nat.{ℕ, Fin}
 use native.Mathlib.Omega.{arith}
 use native.Mathlib.Decide.{ℕ-discrete}
 use borrow.Author.Tests.{eq-eqb, ne-eqb, eqb-false, not-true}
 use lib.Dec.{eqb}
 use lib.ListN.{length, getD, set}
-use Rattle.lists.specs.Counting.{countFrom}
 use Rattle.lists.specs.Numbers.{allBelow, isIn, distinct}
 use Rattle.lists.proofs.Cases.{both-true}
 use Rattle.lists.proofs.Numbers.{isIn-below}
@@ -26,7 +25,7 @@ use Rattle.generator.specs.declared.Header.{Header}
 use Rattle.generator.specs.Records.{modulusOf, size, distance, lowReads, highReads, Sound}
 use Rattle.generator.specs.Generator.{entry}
 use Rattle.generator.specs.Codewords.{nodeOf}
-use Rattle.generator.specs.Claims.{isMessage, areNodes, atNodes, reads, OurScheme}
+use Rattle.generator.specs.Claims.{isMessage, areNodes, reads, OurScheme}
 use Rattle.generator.proofs.Recovery.{numbers-message, one-message}
 use Rattle.generator.proofs.Changes.{map-set, altered-entry}
 use Rattle.generator.proofs.Costs.{row-count, depends}

@@ -1,7 +1,7 @@
 -- The words of the code: zero check sums, values of polynomials of degree below k, encodings of messages.
 use mathlib.Core.Path.{_≡_, refl, sym, ap, _∙_}
 use mathlib.Core.Logic.{_↔_}
-use mathlib.Core.Bool.{true, _&&_}
+use mathlib.Core.Bool.{true}
 use mathlib.Core.List.{List, map}
 use Prim.Native.Nat.{ℕ, zero, suc, _+_, _-_, _≤_, _<_}
 use native.Mathlib.Omega.{arith}
@@ -15,7 +15,6 @@ use Rattle.lists.specs.Numbers.{allBelow}
 use Rattle.lists.proofs.Cases.{and-left, and-right, both-true}
 use Rattle.lists.proofs.Numbers.{at-below}
 use Rattle.lists.proofs.Rows.{length-from, getD-from}
-use Rattle.algebra.specs.Field.{Field}
 use Rattle.algebra.proofs.Poly.{values}
 use Rattle.algebra.proofs.Nodes.{node, words}
 use Rattle.algebra.proofs.Parity.{check, parity}

@@ -4,7 +4,7 @@ use Prim.Native.Nat.{ℕ, zero, suc, _*_, _<_}
 use native.Mathlib.Nat.{mod-lt, div-add-mod', div-lt-iff-lt-mul, mul-comm, mul-zero}
 use native.Mathlib.Omega.{arith}
 use lib.Arith.{digits-div, digits-mod, digits-lt}
-use Rattle.layout.specs.Layout.{Layout, Arrangement, byRow, byLane}
+use Rattle.layout.specs.Layout.{Arrangement, byRow, byLane}
 
 -- rows and lanes have places of their own, and every place is of a row and a lane
 pub record Lawful (y : Arrangement) : Type 0 where

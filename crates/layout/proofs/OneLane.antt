@@ -1,9 +1,9 @@
 -- A buffer with one lane changed: that lane, the others, and how many symbols differ.
-use mathlib.Core.Path.{_≡_, refl, sym, ap, ap₂, _∙_}
-use mathlib.Core.Bool.{Bool, true, false, not, true≢false}
+use mathlib.Core.Path.{_≡_, refl, sym, ap, _∙_}
+use mathlib.Core.Bool.{Bool, false, not, true≢false}
 use mathlib.Core.List.{List}
 use mathlib.Core.Logic.{by-cases}
-use Prim.Native.Nat.{ℕ, _+_, _*_, _<_}
+use Prim.Native.Nat.{ℕ, _*_, _<_}
 use native.Mathlib.Decide.{ℕ-discrete}
 use native.Mathlib.Omega.{arith}
 use borrow.Author.Tests.{eq-eqb, ne-eqb}
@@ -12,10 +12,10 @@ use lib.ListN.{length, getD}
 use Rattle.lists.specs.Choice.{pick}
 use Rattle.lists.specs.Counting.{countFrom, differ}
 use Rattle.lists.specs.Rows.{from}
-use Rattle.lists.proofs.Along.{Apart, count-along}
+use Rattle.lists.proofs.Along.{count-along}
 use Rattle.lists.proofs.Count.{count-ext}
 use Rattle.lists.proofs.Rows.{from-ext}
-use Rattle.layout.specs.Layout.{Arrangement, held, laneOf, buffer, withLane}
+use Rattle.layout.specs.Layout.{Arrangement, held, laneOf, withLane}
 use Rattle.layout.proofs.Lawful.{Lawful}
 use Rattle.layout.proofs.Buffers.{length-buffer, held-buffer, buffer-ext, buffer-held}
 

@@ -1,14 +1,13 @@
 -- The two layouts for code that counts places: where a row and a lane stand, and a buffer as its parts one after the other.
-use mathlib.Core.Path.{_≡_, refl, sym, ap, ap₂, _∙_}
+use mathlib.Core.Path.{_≡_, refl, sym, _∙_}
 use mathlib.Core.List.{List}
 use Prim.Native.Nat.{ℕ, _+_, _*_, _<_}
 use native.Mathlib.Nat.{zero-add, mul-comm}
-use native.Mathlib.Omega.{arith}
 use lib.ListN.{length, getD}
 use Rattle.lists.specs.Rows.{from, rowsFrom}
 use Rattle.lists.proofs.Rows.{length-from, getD-from}
 use Rattle.lists.proofs.Lanes.{length-rows, getD-rows}
-use Rattle.layout.specs.Layout.{byRow, byLane, held, laneOf, rowOf, buffer, shareLayout}
+use Rattle.layout.specs.Layout.{byRow, byLane, held, laneOf, buffer, shareLayout}
 use Rattle.layout.proofs.Lawful.{Lawful, by-row, by-lane}
 use Rattle.layout.proofs.Buffers.{length-buffer, held-buffer, held-equal, buffer-held}
 
@@ -39,10 +38,6 @@ pub buffer-by-row : (rows l : ℕ) (f : ℕ → ℕ → ℕ) → buffer byRow ro
 buffer-by-row rows l f =
     held-equal by-row rows l _ _ (length-buffer byRow rows l f) (length-rows (λ i. from (f i) 0 l) l (λ i. length-from (f i) 0 l) 0 rows)
     (λ i t hi ht. held-buffer by-row rows l f i t hi ht ∙ sym (held-by-row rows l _ i t ∙ parts-at f rows l i t hi ht))
-
-pub rows-whole : (rows l : ℕ) (s : List ℕ) → length s ≡ rows * l → rowsFrom (λ i. rowOf byRow rows l i s) 0 rows ≡ s
-unfolding rowOf
-rows-whole rows l s long = sym (buffer-by-row rows l (held byRow rows l s)) ∙ buffer-held by-row rows l s long
 
 -- or its lanes
 pub buffer-by-lane : (rows l : ℕ) (f : ℕ → ℕ → ℕ) → buffer byLane rows l f ≡ rowsFrom (λ t. from (λ i. f i t) 0 rows) 0 l

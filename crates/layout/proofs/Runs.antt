@@ -1,5 +1,5 @@
 -- Lanes that stand side by side: one lane, or several, as a part of a buffer that stands lane after lane; and some lanes of a buffer as a buffer of their own.
-use mathlib.Core.Path.{_≡_, refl, sym, ap, ap₂, _∙_}
+use mathlib.Core.Path.{_≡_, sym, ap, _∙_}
 use mathlib.Core.Bool.{true}
 use mathlib.Core.List.{List, _++_}
 use mathlib.Core.Logic.{by-cases}
@@ -9,11 +9,11 @@ use native.Mathlib.Nat.{zero-add, zero-mul, add-mul, mul-comm, mul-le-mul, le-re
 use native.Mathlib.Omega.{arith}
 use lib.ListN.{length, getD, take, drop, length-append, length-drop, List·getD-append}
 use lib.Seq.{ext-getD, length-take-le, getD-take, getD-drop, getD-append-add}
-use Rattle.lists.specs.Rows.{from, rowsFrom}
+use Rattle.lists.specs.Rows.{from}
 use Rattle.lists.specs.Numbers.{allBelow}
-use Rattle.lists.proofs.Rows.{length-from, getD-from, from-ext, row-inside, part-length, getD-part}
+use Rattle.lists.proofs.Rows.{length-from, getD-from, row-inside, part-length, getD-part}
 use Rattle.layout.specs.Layout.{Arrangement, byRow, byLane, held, laneOf, buffer, rearranged, someLanes, withLane}
-use Rattle.layout.proofs.Lawful.{Lawful, by-row, by-lane}
+use Rattle.layout.proofs.Lawful.{Lawful, by-lane}
 use Rattle.layout.proofs.Buffers.{length-lane, getD-lane, length-buffer, held-buffer, lane-buffer, buffer-ext, held-equal, held-below, buffer-below}
 use Rattle.layout.proofs.OneLane.{length-with-lane, held-changed, held-kept}
 use Rattle.layout.proofs.Places.{held-by-row, held-by-lane}

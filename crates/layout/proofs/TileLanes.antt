@@ -3,23 +3,22 @@ use mathlib.Core.Path.{_≡_, sym, ap, ap₂, _∙_}
 use mathlib.Core.Bool.{true}
 use mathlib.Core.List.{List}
 use Prim.Native.Nat.{ℕ, _+_, _-_, _*_, _≤_, _<_}
-use native.Mathlib.Nat.{mul-one, mul-assoc, mul-comm}
+use native.Mathlib.Nat.{mul-assoc, mul-comm}
 use native.Mathlib.Omega.{arith}
 use lib.ListN.{length, take, drop}
 use Rattle.lists.specs.Numbers.{allBelow}
-use Rattle.lists.specs.Rows.{from, rowsFrom}
 use Rattle.lists.proofs.Numbers.{below-take, below-drop}
-use Rattle.lists.proofs.Rows.{length-from, part-size, part-length}
+use Rattle.lists.proofs.Rows.{part-size, part-length}
 use Rattle.layout.specs.Layout.{byRow, byLane, held, rearranged, someLanes}
 use Rattle.layout.specs.Width.{symbolsOf, bytesOf}
 use Rattle.layout.specs.Tiles.{tileSymbols, tileBytes}
 use Rattle.layout.proofs.Lawful.{by-row, by-lane}
 use Rattle.layout.proofs.Buffers.{held-equal, rearranged-back, held-below, buffer-below}
-use Rattle.layout.proofs.Places.{held-by-lane, buffer-by-row}
+use Rattle.layout.proofs.Places.{held-by-lane}
 use Rattle.layout.proofs.Runs.{lanes-inside, rearranged-part, one-lane}
 use Rattle.layout.proofs.Widths.{length-symbols, length-bytes, symbols-bytes}
 use Rattle.layout.proofs.Readings.{count-symbols, bytes-symbols}
-use Rattle.layout.proofs.Tiles.{held-to-rows, many-symbols, length-rearranged-lanes, length-rearranged-rows, one-row-back, tile-gathered, tile-scattered, tile-rows}
+use Rattle.layout.proofs.Tiles.{held-to-rows, many-symbols, length-rearranged-lanes, length-rearranged-rows, tile-gathered, tile-scattered}
 use Rattle.layout.proofs.LaneParts.{lanes-long, symbols-part}
 
 module _ (w rows l : ℕ) (some : 0 < w) where
@@ -42,10 +41,6 @@ module _ (w rows l : ℕ) (some : 0 < w) where
       ap (λ (u : List ℕ). rearranged byLane byRow (w * rows) l (bytesOf w u)) (rearranged-back by-lane by-row rows l (symbolsOf w P) count)
       ∙ ap (rearranged byLane byRow (w * rows) l) (bytes-symbols w (rows * l) P some (size ∙ sym (lanes-long w rows l)) bytes)
       ∙ rearranged-back by-row by-lane (w * rows) l s long
-
--- the symbols of some lanes of a row, of w bytes each
-abbrev pub rowSymbols : ℕ → ℕ → ℕ → List ℕ → ℕ → ℕ → ℕ → List ℕ
-rowSymbols w rows l s t c r = from (λ q. held byRow rows l (symbolsOf w s) r (t + q)) 0 c
 
 -- bytes stay bytes
 bytes-rearranged : (n m : ℕ) (u : List ℕ) → length u ≡ n * m → allBelow 256 u ≡ true → allBelow 256 (rearranged byLane byRow n m u) ≡ true
@@ -77,22 +72,6 @@ module _ (w rows l : ℕ) (s : List ℕ) (some : 0 < w) (long : length s ≡ w *
       (tile-gathered w rows c part size
       ∙ ap (rearranged byLane byRow rows c) symbols
       ∙ rearranged-part rows l (symbolsOf w s) (count-symbols w (rows * l) s some total) by-row t c)
-
-  -- rows, each as a tile, are a tile of the lanes
-  pub tile-of-rows : (t c : ℕ) → rowsFrom (λ r. tileBytes w 1 c (rowSymbols w rows l s t c r)) 0 rows ≡ tileBytes w rows c (someLanes byRow byRow rows l t c (symbolsOf w s))
-  unfolding someLanes
-  tile-of-rows t c =
-      tile-rows w rows c some (rowSymbols w rows l s t c) (λ r. length-from (λ q. held byRow rows l (symbolsOf w s) r (t + q)) 0 c)
-      ∙ ap (tileBytes w rows c) (sym (buffer-by-row rows c (λ r q. held byRow rows l (symbolsOf w s) r (t + q))))
-
--- the bytes of a row of symbols as a tile
-pub row-gathered : (w c : ℕ) (p : List ℕ) → 0 < w → length p ≡ w * c → allBelow 256 p ≡ true → rearranged byLane byRow w c p ≡ tileBytes w 1 c (symbolsOf w p)
-unfolding tileBytes
-row-gathered w c p some long low =
-    let total : length p ≡ c * w = long ∙ mul-comm w c in
-    sym
-    (ap₂ (λ (x : ℕ) (u : List ℕ). rearranged byLane byRow x c (bytesOf w u)) (mul-one w) (one-row-back c (symbolsOf w p) (count-symbols w c p some total))
-    ∙ ap (rearranged byLane byRow w c) (bytes-symbols w c p some total low))
 
 -- one lane stands the same as rows
 module _ (rows : ℕ) (s : List ℕ) (long : length s ≡ rows * 1) where

@@ -6,7 +6,6 @@ use native.Mathlib.Nat.{mul-one, zero-mul, suc-mul, zero-add, div-one, div-add-m
 use native.Mathlib.Omega.{arith}
 use lib.ListN.{length, getD, take, drop, length-append, drop-of-length-le}
 use lib.Seq.{ext-getD, take-at, drop-append-add}
-use Rattle.lists.specs.Rows.{from}
 use Rattle.lists.proofs.Front.{drop-next}
 use Rattle.lists.proofs.Rows.{length-from, getD-from}
 use Rattle.layout.specs.Width.{valueFrom, symbolAt, symbolsOf, symbolBytes, bytesOf}

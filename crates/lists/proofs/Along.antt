@@ -1,14 +1,13 @@
 -- Counting along different places: where a test passes at places of a list of them alone, it is counted along the list.
-use mathlib.Core.Path.{_≡_, refl, sym, ap, ap₂, _∙_}
+use mathlib.Core.Path.{_≡_, refl, sym, ap, _∙_}
 use mathlib.Core.Bool.{Bool, true, false, not, true≢false, and-false}
 use mathlib.Core.Logic.{by-cases}
-use Prim.Native.Nat.{ℕ, zero, suc, _+_, _<_}
+use Prim.Native.Nat.{ℕ, zero, suc, _<_}
 use native.Mathlib.Nat.{not-suc-le-zero}
 use native.Mathlib.Decide.{ℕ-discrete}
 use native.Mathlib.Omega.{arith}
 use borrow.Author.Tests.{eq-eqb}
 use lib.Dec.{eqb}
-use Rattle.lists.specs.Choice.{when}
 use Rattle.lists.specs.Counting.{countFrom}
 use Rattle.lists.proofs.Cases.{by-test, and-left}
 use Rattle.lists.proofs.Count.{count-ext, count-none, count-below}

@@ -2,7 +2,7 @@
 use mathlib.Core.Path.{_≡_, refl, sym, ap, ap₂, _∙_}
 use mathlib.Core.Bool.{Bool, true, false, _&&_, not, true≢false}
 use mathlib.Core.Logic.{⊎-elim}
-use Prim.Native.Nat.{ℕ, zero, suc, _+_, _-_, _*_, _≤_, _<_, zero-le}
+use Prim.Native.Nat.{ℕ, zero, suc, _+_, _*_, _≤_, _<_, zero-le}
 use native.Mathlib.Nat.{zero-add, add-zero, suc-add, zero-mul, suc-mul, eq-or-lt-of-le}
 use native.Mathlib.Omega.{arith}
 use lib.Dec.{eqb}
@@ -10,16 +10,6 @@ use borrow.Author.Tests.{eq-eqb, ne-eqb}
 use Rattle.lists.specs.Choice.{when}
 use Rattle.lists.specs.Counting.{countFrom}
 use Rattle.lists.proofs.Cases.{by-test}
-use Rattle.lists.proofs.Rows.{sub-next, sub-end}
-
--- one step of a loop that counts, with what is left of n at i
-pub count-next : (n i : ℕ) (p : ℕ → Bool) → i < n → countFrom (n - i) i p ≡ when (p i) 1 + countFrom (n - (i + 1)) (i + 1) p
-unfolding countFrom
-count-next n i p h = ap (λ (f : ℕ). countFrom f i p) (sub-next n i h)
-
-pub count-end : (n i : ℕ) (p : ℕ → Bool) → n ≤ i → countFrom (n - i) i p ≡ 0
-unfolding countFrom
-count-end n i p h = ap (λ (f : ℕ). countFrom f i p) (sub-end n i h)
 
 -- tests that agree on the stretch
 pub count-ext : (f i : ℕ) (p q : ℕ → Bool) → ((j : ℕ) → i ≤ j → j < i + f → p j ≡ q j) → countFrom f i p ≡ countFrom f i q

@@ -1,7 +1,7 @@
 -- Lists of numbers: below a bound, membership, distinctness.
 use mathlib.Core.Path.{_≡_, refl, sym, _∙_}
 use mathlib.Core.Logic.{_⊎_, inl, inr, ⊎-elim}
-use mathlib.Core.Bool.{Bool, true, false, _&&_, _||_, not, false≢true, true≢false, and-eq-true-iff, or-true}
+use mathlib.Core.Bool.{Bool, true, false, _||_, not, false≢true, true≢false, and-eq-true-iff}
 use mathlib.Core.List.{List, [], _∷_, _++_}
 use Prim.Native.Nat.{ℕ, zero, suc, _<_}
 use native.Mathlib.Omega.{arith}
@@ -9,7 +9,7 @@ use lib.Dec.{eqb, ltb}
 use lib.ListN.{length, getD, set, take, drop}
 use borrow.Author.Tests.{lt-ltb, ne-eqb, eq-eqb, ltb-true, eqb-true, not-true}
 use Rattle.lists.specs.Numbers.{allBelow, isIn, distinct}
-use Rattle.lists.proofs.All.{All, All-imp, All-at, All-of, Distinct}
+use Rattle.lists.proofs.All.{All, All-at, All-of, Distinct}
 use Rattle.lists.proofs.Places.{Places}
 use Rattle.lists.proofs.Cases.{by-test, or-right-false}
 

@@ -7,7 +7,7 @@ use native.Mathlib.Omega.{arith}
 use lib.ListN.{length, getD, take, drop, List·getD-append}
 use lib.Seq.{getD-take, length-take-le, ext-getD}
 use Rattle.lists.specs.Rows.{from}
-use Rattle.lists.proofs.Rows.{length-from, getD-from, from-append, from-move, from-ext, from-end}
+use Rattle.lists.proofs.Rows.{length-from, getD-from, from-append, from-move, from-end}
 use Rattle.lists.proofs.Fill.{Fills, fills-start, fills-part, fills-all}
 
 -- k values more

@@ -1,19 +1,17 @@
 -- The list from the check sums is the list by definition.
 use mathlib.Core.Path.{_≡_, refl, sym, ap, _∙_}
-use mathlib.Core.Bool.{Bool, true, false, true≢false}
+use mathlib.Core.Bool.{Bool, true, false}
 use mathlib.Core.List.{List, map}
 use Prim.Native.Nat.{ℕ, zero, suc, _+_, _-_, _%_, _≤_, _<_}
 use native.Mathlib.Nat.{zero-add}
 use native.Mathlib.Omega.{arith}
 use borrow.Author.Tests.{eq-eqb, eqb-true}
 use lib.Dec.{eqb}
-use lib.ListN.{length, getD, set}
+use lib.ListN.{length, getD}
 use Rattle.lists.specs.Counting.{passingFrom}
 use Rattle.lists.specs.Numbers.{allBelow}
 use Rattle.lists.specs.Search.{firstFalse}
-use Rattle.lists.specs.Rows.{from}
-use Rattle.lists.proofs.All.{All, All-imp, All-both, map-agree}
-use Rattle.lists.proofs.Cases.{by-test}
+use Rattle.lists.proofs.All.{All-imp, All-both, map-agree}
 use Rattle.lists.proofs.Numbers.{below-at, at-below, all-below}
 use Rattle.lists.proofs.Passing.{passing-within, passing-pass, passing-ext, passing-most}
 use Rattle.lists.proofs.Rows.{getD-from}
@@ -29,9 +27,9 @@ use Rattle.check_sums.specs.Sums.{checkSums}
 use Rattle.check_sums.proofs.OneLane.{length-sums}
 use Rattle.refusals.specs.Accepted.{IsLane}
 use Rattle.mends.specs.Mends.{mendAt, canMend, mendNodes, mendSymbols}
-use Rattle.mends.specs.BySums.{firstOff, goesUp, upNodes, mendedAt, HasSums, LaneSums}
+use Rattle.mends.specs.BySums.{firstOff, goesUp, upNodes, mendedAt, LaneSums}
 use Rattle.mends.proofs.Powers.{rootPower}
-use Rattle.mends.proofs.Geometric.{sumAt, sum-below, GoesUp, amount, amount-below, up-word, word-up, word-symbol}
+use Rattle.mends.proofs.Geometric.{sum-below, GoesUp, amount-below, up-word, word-up, word-symbol}
 use Rattle.mends.proofs.Meaning.{some-sums, found-word, word-found, nodes-of}
 
 -- tests that pass together are equal

@@ -1,12 +1,11 @@
 -- A single change at node j makes a lane a word exactly if the check sums go up by root^j: then the change is the first of them over root^j.
-use mathlib.Core.Path.{_≡_, refl, sym, ap, ap₂, _∙_}
+use mathlib.Core.Path.{_≡_, refl, sym, ap, _∙_}
 use mathlib.Core.Bool.{true}
 use mathlib.Core.List.{List}
 use Prim.Native.Nat.{ℕ, zero, suc, _+_, _-_, _%_, _≤_, _<_}
 use native.Mathlib.Nat.{zero-add}
-use native.Mathlib.Numerals.{add-one}
 use native.Mathlib.Omega.{arith}
-use lib.ListN.{length, getD, set}
+use lib.ListN.{getD, set}
 use Rattle.lists.proofs.Numbers.{below-at}
 use Rattle.field.specs.Fields.{add, sub, mul}
 use Rattle.field.proofs.Arithmetic.{Arithmetic}

@@ -2,15 +2,13 @@
 use mathlib.Core.Path.{_≡_, refl, sym, ap, _∙_}
 use mathlib.Core.Logic.{_↔_}
 use mathlib.Core.Bool.{Bool, true, false, not, true≢false}
-use mathlib.Core.List.{List, [], _∷_, _++_}
+use mathlib.Core.List.{List, [], _∷_}
 use Prim.Native.Nat.{ℕ, zero, suc, _+_, _-_, _%_, _≤_, _<_}
-use native.Mathlib.Nat.{zero-add, sub-self}
 use native.Mathlib.Omega.{arith}
-use borrow.Author.Tests.{not-true, not-false, ltb-true, ltb-false, lt-ltb}
+use borrow.Author.Tests.{not-false, ltb-true, ltb-false, lt-ltb}
 use lib.Dec.{ltb}
 use lib.ListN.{length, getD, set}
 use lib.Seq.{set-getD}
-use Rattle.lists.specs.Choice.{pick}
 use Rattle.lists.specs.Counting.{passingFrom}
 use Rattle.lists.specs.Numbers.{isIn}
 use Rattle.lists.specs.Rows.{from, range}
@@ -21,13 +19,13 @@ use Rattle.lists.proofs.Numbers.{below-at, isIn-place, place-isIn}
 use Rattle.lists.proofs.Passing.{Rises, passing-within, passing-pass, passing-place, passing-rises, passing-most}
 use Rattle.lists.proofs.Search.{search-fails, search-within}
 use Rattle.field.specs.Fields.{add, sub, mul}
-use Rattle.field.proofs.Arithmetic.{Arithmetic, zero-below, mul-zero, zero-mul}
+use Rattle.field.proofs.Arithmetic.{Arithmetic, zero-below, zero-mul}
 use Rattle.field.proofs.BothKinds.{arithmetic}
 use Rattle.generator.specs.declared.Header.{Header}
 use Rattle.generator.specs.Records.{modulusOf, size, Sound}
 use Rattle.generator.specs.Codewords.{checksFrom, isWord}
 use Rattle.refusals.specs.Accepted.{IsLane}
-use Rattle.mends.specs.Mends.{mendAt, canMend, mendNodes, mendSymbols, Mends}
+use Rattle.mends.specs.Mends.{mendAt, canMend, mendNodes, Mends}
 use Rattle.mends.proofs.Sums.{sub-unique}
 use Rattle.mends.proofs.Powers.{rootPower, root-injective}
 use Rattle.mends.proofs.Geometric.{sumAt, sum-below, root-below, amount, amount-below, GoesUp, up-word, word-up, word-symbol}

@@ -1,9 +1,9 @@
 -- Powers of the root on numbers, and the factors of a node in the check sums.
-use mathlib.Core.Path.{_≡_, refl, sym, ap, ap₂, _∙_}
-use Prim.Native.Nat.{ℕ, _+_, _-_, _*_, _%_, _≤_, _<_}
+use mathlib.Core.Path.{_≡_, sym, ap, _∙_}
+use Prim.Native.Nat.{ℕ, _+_, _-_, _*_, _%_, _<_}
 use native.Mathlib.Nat.{mul-one, mul-add, mod-self, mod-eq-of-lt, add-comm}
 use native.Mathlib.Omega.{arith}
-use Rattle.algebra.proofs.Powers.{pow-mod, pow-injective, pow-nonzero, order-nonzero}
+use Rattle.algebra.proofs.Powers.{pow-mod, pow-injective}
 use Rattle.field.specs.Symbols.{Symbol}
 use Rattle.field.specs.Fields.{mul, power}
 use Rattle.field.proofs.FieldOf.{number-pow}

@@ -1,16 +1,15 @@
 -- The check sums of a lane whose symbol at one node is changed.
-use mathlib.Core.Path.{_≡_, refl, sym, ap, ap₂, _∙_}
+use mathlib.Core.Path.{_≡_, sym, ap, ap₂, _∙_}
 use mathlib.Core.Bool.{true}
 use mathlib.Core.List.{List, [], _∷_}
 use Prim.Native.Nat.{ℕ, zero, suc, _+_, _*_, _%_, _<_}
 use native.Mathlib.Nat.{add-zero}
-use native.Mathlib.Numerals.{add-one}
 use native.Mathlib.Omega.{arith}
 use lib.ListN.{length, getD, set}
 use Rattle.lists.specs.Numbers.{allBelow}
 use Rattle.lists.proofs.Numbers.{below-cons}
 use Rattle.field.specs.Fields.{add, sub, mul, power}
-use Rattle.field.proofs.Arithmetic.{Arithmetic, zero-below, add-neg, add-back, sub-is, mul-zero}
+use Rattle.field.proofs.Arithmetic.{Arithmetic, zero-below, add-back, sub-is}
 use Rattle.field.proofs.BothKinds.{arithmetic}
 use Rattle.field.proofs.Bounds.{power-below}
 use Rattle.generator.specs.declared.Header.{Header}

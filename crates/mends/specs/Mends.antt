@@ -8,7 +8,7 @@ use lib.Dec.{ltb}
 use lib.ListN.{length, getD, set}
 use Rattle.lists.specs.Choice.{pick}
 use Rattle.lists.specs.Counting.{passingFrom}
-use Rattle.lists.specs.Numbers.{allBelow, isIn}
+use Rattle.lists.specs.Numbers.{isIn}
 use Rattle.lists.specs.Rows.{range}
 use Rattle.lists.specs.Search.{firstFalse}
 use Rattle.generator.specs.declared.Header.{Header}

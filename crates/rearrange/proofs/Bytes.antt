@@ -1,10 +1,9 @@
 -- The same as bytes, and the same numbers that turn calls away.
-use mathlib.Core.Path.{_≡_, refl, sym, ap, ap₂, _∙_}
-use mathlib.Core.Bool.{Bool, true, false, not}
+use mathlib.Core.Path.{_≡_, refl, sym, ap, _∙_}
+use mathlib.Core.Bool.{Bool, true, not}
 use mathlib.Core.List.{List}
 use Prim.Native.Nat.{ℕ, zero, suc, _*_, _/_, _<_}
 use native.Mathlib.Nat.{mul-div-cancel}
-use native.Mathlib.Omega.{arith}
 use lib.ListN.{length}
 use Rattle.lists.specs.Choice.{firstOf, when}
 use Rattle.lists.specs.Numbers.{allBelow}
@@ -18,7 +17,7 @@ use Rattle.layout.proofs.Widths.{length-symbols, length-bytes, symbols-bytes}
 use Rattle.generator.specs.declared.Header.{Header}
 use Rattle.generator.specs.Records.{size, width}
 use Rattle.generator.proofs.Widths.{width-some}
-use Rattle.refusals.specs.Conditions.{lanesBad, lengthBad, numberBad, nodesBad, twiceBad, symbolBad, symbolsBad, laneBad}
+use Rattle.refusals.specs.Conditions.{lanesBad, lengthBad, numberBad, symbolBad, symbolsBad, laneBad}
 use Rattle.refusals.specs.Faults.{inputFault, staleFault, updateFault, listFault, recoverFault, rebuildFault, belongsFault}
 use Rattle.refusals.proofs.Accepts.{not-met}
 use Rattle.refusals.proofs.NotMet.{number-good}

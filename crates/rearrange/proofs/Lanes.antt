@@ -1,21 +1,20 @@
 -- With shares rearranged, each call gives the old results, and share buffers are the old ones rearranged.
-use mathlib.Core.Path.{_≡_, refl, sym, ap, ap₂, _∙_}
+use mathlib.Core.Path.{_≡_, sym, ap, ap₂, _∙_}
 use mathlib.Core.Bool.{true}
 use mathlib.Core.List.{List}
 use mathlib.Core.Logic.{by-cases}
-use Prim.Native.Nat.{ℕ, zero, suc, _*_, _<_}
+use Prim.Native.Nat.{ℕ, _<_}
 use native.Mathlib.Decide.{ℕ-discrete}
 use borrow.Author.Tests.{ne-eqb}
-use lib.Dec.{eqb}
 use lib.ListN.{length}
-use Rattle.lists.specs.Choice.{firstOf, pickT}
+use Rattle.lists.specs.Choice.{firstOf}
 use Rattle.lists.specs.Numbers.{allBelow}
 use Rattle.lists.proofs.Cases.{first-zero}
-use Rattle.layout.specs.Layout.{Arrangement, byRow, byLane, shareLayout}
+use Rattle.layout.specs.Layout.{Arrangement, shareLayout}
 use Rattle.layout.specs.Width.{symbolsOf, bytesOf}
 use Rattle.layout.proofs.Lawful.{Lawful, by-row, by-lane}
 use Rattle.generator.specs.declared.Header.{Header}
-use Rattle.generator.specs.Records.{headerOf, recordFault, width, Sound}
+use Rattle.generator.specs.Records.{headerOf, recordFault, width}
 use Rattle.refusals.specs.Faults.{encodeFault, inputFault, updateFault, recoverFault, rebuildFault, belongsFault, rearrangeFault, faultOf}
 use Rattle.refusals.proofs.Accepts.{recover-accepts, rebuild-accepts, rearrange-accepts}
 use Rattle.refusals.proofs.OnRecord.{none-met}
@@ -25,7 +24,7 @@ use Rattle.blocks.specs.declared.Update.{Update}
 use Rattle.blocks.specs.declared.Membership.{Membership}
 use Rattle.blocks.specs.Answers.{outcomeOf, updateOf, membershipOf}
 use Rattle.blocks.specs.Blocks.{shareOf}
-use Rattle.blocks.specs.Bytes.{encodedBytes, updatedBytes, alteredCount, RecoveredBytes, RebuiltBytes, wrongLane, rearrangedBytes}
+use Rattle.blocks.specs.Bytes.{alteredCount, RecoveredBytes, RebuiltBytes, rearrangedBytes}
 use Rattle.blocks.specs.Promises.{EncodeSaysIn, UpdateSaysIn, RecoverSaysIn, RebuildSaysIn, BelongsSaysIn}
 use Rattle.blocks.proofs.Answered.{done-means}
 use Rattle.blocks.proofs.Messages.{one-buffer}

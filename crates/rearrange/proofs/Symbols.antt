@@ -12,7 +12,7 @@ use Rattle.lists.specs.Numbers.{allBelow}
 use Rattle.lists.proofs.Cases.{by-test}
 use Rattle.lists.proofs.Count.{count-ext}
 use Rattle.lists.proofs.Search.{search-ext}
-use Rattle.layout.specs.Layout.{Arrangement, held, laneOf, rearranged, withLane}
+use Rattle.layout.specs.Layout.{Arrangement, held, rearranged, withLane}
 use Rattle.layout.proofs.Lawful.{Lawful}
 use Rattle.layout.proofs.Buffers.{length-buffer, held-buffer, buffer-ext, held-below, buffer-below, rearranged-lane, rearranged-back}
 use Rattle.field.specs.Fields.{add, sub, mul}

@@ -5,7 +5,6 @@ use Prim.Native.Nat.{ℕ, _+_, _-_, _*_, _≤_, _<_}
 use native.Mathlib.Nat.{add-zero, mul-comm, mul-le-mul, le-trans}
 use native.Mathlib.Omega.{arith}
 use lib.ListN.{length, take, drop}
-use Rattle.lists.specs.Rows.{from}
 use Rattle.lists.proofs.Rows.{from-ext, from-move, length-from, part-size}
 use Rattle.layout.specs.Layout.{Arrangement, byRow, byLane, laneOf, buffer, someLanes, shareLayout}
 use Rattle.layout.specs.Width.{symbolsOf, bytesOf}

@@ -1,5 +1,4 @@
 -- A weight in a row is a symbol, and an entry of the inverse of the encoding.
-pub mod RowWeights
 pub mod InverseRows
 -- The parts of a basis that code lends.
 pub mod Parts

@@ -1,5 +1,5 @@
 -- The rows of the inverse of the encoding at the nodes are weights for the symbols of the message.
-use mathlib.Core.Path.{_≡_, refl, sym, ap, ap₂, fun-ext, _∙_}
+use mathlib.Core.Path.{_≡_, refl, ap, ap₂, fun-ext, _∙_}
 use mathlib.Core.Bool.{true}
 use mathlib.Core.List.{List, map}
 use Prim.Native.Nat.{ℕ, _-_, _≤_, _<_}

@@ -3,7 +3,7 @@ use mathlib.Core.Path.{_≡_, ap, _∙_}
 use mathlib.Core.List.{List}
 use Prim.Native.Nat.{ℕ, _*_, _≤_}
 use native.Mathlib.Nat.{mul-le-mul-right}
-use lib.ListN.{length, take}
+use lib.ListN.{take}
 use Rattle.lists.specs.Padded.{padded}
 use Rattle.lists.proofs.Padding.{take-padded}
 use Rattle.layout.specs.Width.{symbolsOf}

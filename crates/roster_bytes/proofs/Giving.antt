@@ -1,6 +1,6 @@
 -- From the answers of a roster's calls to what the calls on lent bytes promise.
 use mathlib.Core.Path.{_≡_, refl, sym, ap, _∙_}
-use mathlib.Core.Bool.{false, not, _&&_}
+use mathlib.Core.Bool.{false, _&&_}
 use mathlib.Core.List.{List}
 use Prim.Native.Nat.{ℕ, zero, suc}
 use native.Mathlib.Omega.{arith}

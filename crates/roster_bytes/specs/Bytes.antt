@@ -4,7 +4,7 @@ use mathlib.Core.List.{List, [], _∷_, _++_}
 use Prim.Native.Nat.{ℕ}
 use lib.Dec.{eqb}
 use lib.ListN.{getD, drop}
-use Rattle.lists.specs.Choice.{pick, firstOf, when}
+use Rattle.lists.specs.Choice.{pick, firstOf}
 use Rattle.lists.specs.Rows.{from}
 use Rattle.generator.specs.Records.{headerOf, recordFault, recordOf}
 use Rattle.roster.specs.declared.Roster.{Roster}

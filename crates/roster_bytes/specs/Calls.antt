@@ -10,7 +10,7 @@ use Rattle.generator.specs.Records.{headerOf, recordFault, recordOf}
 use Rattle.roster.specs.declared.Listing.{Listing}
 use Rattle.roster.specs.declared.Listing.the-variants.{Written, TooFew, Refused}
 use Rattle.roster.specs.Events.{Event, named, says}
-use Rattle.roster.specs.Rosters.{presentOf, startOf, eventFault, stepOf, lowestList, jobOf, jobList}
+use Rattle.roster.specs.Rosters.{presentOf, startOf, eventFault, lowestList, jobOf, jobList}
 use Rattle.roster_bytes.specs.Bytes.{rosterOf, bytesOf, eventBytes}
 
 -- number 8: the roster has another length than 256

@@ -1,5 +1,5 @@
 -- The sheet of the plan of a record says what the definitions of the generator say.
-use mathlib.Core.Path.{_≡_, refl, ap, ap₂, _∙_}
+use mathlib.Core.Path.{_≡_, refl, ap, ap₂}
 use mathlib.Core.List.{List, [], _∷_, _++_, append-nil}
 use Prim.Native.Nat.{ℕ, zero, suc, _+_, _≤_, _<_}
 use native.Mathlib.Omega.{arith}
@@ -8,7 +8,6 @@ use lib.ListN.{getD}
 use Rattle.lists.specs.Rows.{from, rowsFrom}
 use Rattle.lists.proofs.Rows.{from-ext}
 use Rattle.generator.specs.declared.Header.{Header}
-use Rattle.generator.specs.declared.Record.{Record}
 use Rattle.generator.specs.declared.Record.the-variants.{Holds, Meets}
 use Rattle.generator.specs.Records.{distance, lowReads, highReads, recordFault, headerOf, judged, recordOf, Sound}
 use Rattle.generator.specs.Shifts.{shifts, firsts}

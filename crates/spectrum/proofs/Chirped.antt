@@ -1,5 +1,5 @@
 -- The sums from each place of the powers root^T(x) are the spectrum, but for powers that are taken out before and after.
-use mathlib.Core.Path.{_≡_, refl, sym, ap, ap₂, fun-ext, _∙_}
+use mathlib.Core.Path.{_≡_, sym, ap, ap₂, _∙_}
 use mathlib.Core.Bool.{true}
 use mathlib.Core.List.{List}
 use Prim.Native.Nat.{ℕ, zero, suc, _+_, _-_, _*_, _%_, _≤_, _<_}
@@ -17,12 +17,11 @@ use Rattle.algebra.proofs.Ring.{mul-left-comm, one-mul}
 use Rattle.algebra.proofs.Sums.{sum, sum-agree, sum-scale}
 use Rattle.algebra.proofs.Combinations.{comb-sum}
 use Rattle.algebra.proofs.Powers.{pow-add, pow-mod}
-use Rattle.algebra.proofs.Parity.{check}
-use Rattle.field.specs.Fields.{mul, power}
+use Rattle.field.specs.Fields.{mul}
 use Rattle.field.specs.Sums.{dot}
-use Rattle.field.specs.Symbols.{Symbol, numbers}
+use Rattle.field.specs.Symbols.{Symbol}
 use Rattle.field.proofs.FieldOf.{size-pos, number-pow}
-use Rattle.field.proofs.Symbols.{getD-numbers, length-numbers}
+use Rattle.field.proofs.Symbols.{getD-numbers}
 use Rattle.generator.specs.declared.Header.{Header}
 use Rattle.generator.specs.Records.{modulusOf, size, Sound}
 use Rattle.generator.specs.Shifts.{negative}

@@ -1,15 +1,13 @@
 -- The lists that the spectrum is computed from: their lengths, and that they are symbols.
-use mathlib.Core.Path.{_≡_, ap, _∙_}
+use mathlib.Core.Path.{_≡_}
 use mathlib.Core.Bool.{true}
 use mathlib.Core.List.{List}
-use Prim.Native.Nat.{ℕ, _≤_, _<_, _%_}
+use Prim.Native.Nat.{ℕ, _<_, _%_}
 use native.Mathlib.Omega.{arith}
-use lib.ListN.{length, getD, take, drop}
+use lib.ListN.{length, drop}
 use Rattle.lists.specs.Rows.{from}
 use Rattle.lists.specs.Numbers.{allBelow}
-use Rattle.lists.specs.Padded.{zeros, padded}
-use Rattle.lists.proofs.Numbers.{at-below, below-at, below-take, below-drop}
-use Rattle.lists.proofs.Padding.{take-padded, below-zeros}
+use Rattle.lists.proofs.Numbers.{at-below, below-at, below-drop}
 use Rattle.lists.proofs.Rows.{length-from}
 use Rattle.field.specs.Sums.{dot}
 use Rattle.field.proofs.Bounds.{mul-below, power-below}
@@ -28,10 +26,6 @@ length-unchirped h ws = length-from (unchirpedAt h ws) 0 (length ws)
 pub length-windows : (p : ℕ) (ws row : List ℕ) (l : ℕ) → length (windowSums p ws row l) ≡ l
 unfolding windowSums
 length-windows p ws row l = length-from (λ t. dot p ws (drop t row)) 0 l
-
--- the first n places of zeros
-pub few-zeros : (n : ℕ) → allBelow 1 (take n (zeros 255)) ≡ true
-few-zeros n = below-take 1 n (zeros 255) (below-zeros 1 255 (omega arith))
 
 module _ (h : Header) (s : Sound h) where
   pub chirps-below : allBelow (size h) (from (chirpAt h) 0 510) ≡ true

@@ -1,7 +1,7 @@
 -- A symbol of a message from the check sums of its word, in the terms of the algebra.
-use mathlib.Core.Path.{_≡_, sym, ap, ap₂, fun-ext, _∙_}
+use mathlib.Core.Path.{_≡_, sym, ap, ap₂, _∙_}
 use mathlib.Core.List.{List, map}
-use Prim.Native.Nat.{ℕ, _-_, _≤_, _<_}
+use Prim.Native.Nat.{ℕ, _-_, _<_}
 use native.Mathlib.Omega.{arith}
 use lib.ListN.{length, getD}
 use Rattle.lists.specs.Rows.{range}
@@ -10,7 +10,7 @@ use Rattle.algebra.specs.Field.{Field}
 use Rattle.algebra.specs.Powers.{pow}
 use Rattle.algebra.proofs.Ring.{mul-left-comm, inv-mul-left}
 use Rattle.algebra.proofs.Sums.{sum, sum-agree, sum-scale}
-use Rattle.algebra.proofs.Poly.{eval, values}
+use Rattle.algebra.proofs.Poly.{eval}
 use Rattle.algebra.proofs.LagrangeBasis.{others, basis, length-others}
 use Rattle.algebra.proofs.Vandermonde.{getD-weights}
 use Rattle.algebra.proofs.BasePolynomial.{base}

@@ -1,6 +1,6 @@
 -- The spectrum of a lane: its sums with the powers of the root. It is computed by way of powers whose exponents are T(x) = 0 + 1 + .. + (x − 1), since T(j + e) = T(j) + T(e) + j·e (Bluestein).
 use mathlib.Core.List.{List}
-use Prim.Native.Nat.{ℕ, zero, suc, _+_, _*_, _%_}
+use Prim.Native.Nat.{ℕ, zero, suc, _+_, _%_}
 use lib.ListN.{length, getD}
 use Rattle.lists.specs.Rows.{from}
 use Rattle.field.specs.Fields.{mul, power}

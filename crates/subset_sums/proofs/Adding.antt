@@ -1,13 +1,11 @@
 -- Listed slices, added one after the other.
-use mathlib.Core.Path.{_≡_, refl, sym, ap, _∙_}
+use mathlib.Core.Path.{_≡_, _∙_}
 use mathlib.Core.List.{List}
-use Prim.Native.Nat.{ℕ, zero, suc, _+_, _-_, _*_, _≤_, _<_}
+use Prim.Native.Nat.{ℕ, zero, suc, _+_, _*_, _<_}
 use native.Mathlib.Numerals.{add-one}
-use native.Mathlib.Omega.{arith}
 use lib.Bits.{bitXor, xor-zero-r}
 use lib.ListN.{length, getD, take, drop}
-use lib.Seq.{drop-length, length-take-le}
-use Rattle.lists.specs.Padded.{zeros}
+use lib.Seq.{drop-length}
 use Rattle.lists.proofs.Fill.{length-zeros}
 use Rattle.lists.proofs.Front.{drop-next}
 use Rattle.field.specs.Bytes.{timesX}

@@ -1,7 +1,6 @@
 -- The slices that an output adds for a digit make the sum of the rows whose weight has the digit, and Horner's rule over them
 -- the sum of the rows times the weights.
 use mathlib.Core.Path.{_≡_, refl, sym, ap, ap₂, _∙_}
-use mathlib.Core.Bool.{Bool, true, false}
 use mathlib.Core.List.{List, [], _∷_, _++_}
 use Prim.Native.Nat.{ℕ, zero, suc, _+_, _-_, _*_, _/_, _%_, _^_, _≤_, _<_}
 use native.Mathlib.Nat.{add-zero, zero-add, mul-zero, mul-one, suc-add, zero-div}
@@ -14,14 +13,12 @@ use lib.Seq.{getD-take, getD-drop, length-take-le}
 use Rattle.lists.specs.Choice.{pick}
 use Rattle.lists.specs.Counting.{passingFrom}
 use Rattle.lists.specs.Rows.{from}
-use Rattle.lists.specs.Padded.{zeros}
 use Rattle.lists.proofs.All.{All, All-at}
 use Rattle.lists.proofs.Cases.{by-test}
 use Rattle.lists.proofs.Numbers.{below-take}
 use Rattle.lists.proofs.Rows.{getD-from, length-from, from-ext, row-inside}
 use Rattle.field.specs.Sums.{dot}
 use Rattle.field.proofs.Xor.{xor-assoc}
-use Rattle.kernel.specs.Lanes.{lanewise}
 use Rattle.kernel.proofs.Lanes.{lanewise-ext, length-lanewise}
 use Rattle.layout.specs.Layout.{byRow, held, laneOf}
 use Rattle.combine.specs.Combined.{combined, Weighted}

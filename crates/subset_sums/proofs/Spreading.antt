@@ -1,20 +1,20 @@
 -- Spread digits, and the slices of a group listed.
-use mathlib.Core.Path.{_≡_, refl, sym, ap, ap₂, _∙_}
+use mathlib.Core.Path.{_≡_, refl, sym, ap, _∙_}
 use mathlib.Core.Bool.{Bool, true, false}
 use mathlib.Core.List.{List, [], _∷_, _++_, append-nil, append-assoc}
 use Prim.Native.Nat.{ℕ, zero, suc, _+_, _-_, _*_, _/_, _%_, _^_, _≤_, _<_}
-use native.Mathlib.Nat.{zero-add, add-zero, sub-zero, div-one, div-div-eq-div-mul, pow-suc, zero-div, mul-comm, le-antisymm}
+use native.Mathlib.Nat.{zero-add, add-zero, sub-zero, div-one, div-div-eq-div-mul, pow-suc, mul-comm, le-antisymm}
 use native.Mathlib.Numerals.{add-one}
 use native.Mathlib.Omega.{arith}
 use borrow.Author.Tests.{eqb-true, eqb-false, ltb-true, ltb-false, leb-true, lt-ltb, le-ltb}
 use lib.Dec.{T, eqb, leb, ltb}
 use lib.ListN.{length, getD, take, drop, set, length-set, length-drop}
-use lib.Seq.{take-suc-set, take-set-le, drop-set-lt, drop-set-add, getD-set-same, getD-set-other, getD-drop}
+use lib.Seq.{take-suc-set, take-set-le, drop-set-lt, drop-set-add, getD-set-same, getD-set-other}
 use Rattle.lists.specs.Choice.{pick, when}
 use Rattle.lists.specs.Rows.{from}
 use Rattle.lists.specs.Padded.{zeros}
 use Rattle.lists.proofs.Cases.{by-test}
-use Rattle.lists.proofs.Fill.{Fills, fills-put, length-zeros}
+use Rattle.lists.proofs.Fill.{fills-put, length-zeros}
 use Rattle.lists.proofs.Rows.{from-next, getD-from, length-from, row-inside, sub-next, sub-end}
 use Rattle.field.proofs.Computed.{at, equal-at}
 use Rattle.lists.proofs.Parts.{Valued, valued-start}

@@ -4,17 +4,17 @@ use mathlib.Core.List.{List, _++_}
 use Prim.Native.Nat.{ℕ, zero, suc, _+_, _-_, _*_, _/_, _%_, _^_, _≤_, _<_}
 use native.Mathlib.Nat.{add-zero, zero-add, mul-zero, mul-one, pow-suc}
 use native.Mathlib.Omega.{arith}
-use lib.Bits.{bitXor, xor-zero-l, xor-zero-r, xor-comm}
-use lib.ListN.{length, getD, take, drop, length-append, length-drop, List·getD-append}
-use lib.Seq.{getD-take, length-take-le, take-at}
+use lib.Bits.{bitXor, xor-zero-r}
+use lib.ListN.{length, getD, take, drop, length-append, length-drop}
+use lib.Seq.{take-at}
 use Rattle.lists.specs.Rows.{from}
 use Rattle.lists.specs.Padded.{zeros}
 use Rattle.lists.proofs.Rows.{length-from, getD-from, from-ext, part-length, part-size, getD-part, from-append}
-use Rattle.lists.proofs.Fill.{Fills, length-zeros, from-zeros}
+use Rattle.lists.proofs.Fill.{length-zeros, from-zeros}
 use Rattle.field.proofs.Xor.{xor-assoc}
 use Rattle.kernel.specs.Lanes.{lanewise}
 use Rattle.lists.proofs.Parts.{Valued, valued-part, valued-at}
-use Rattle.subset_sums.specs.Subsets.{subsetFrom, subset, groupByte, groupOf, tableByte, tableOf, summed}
+use Rattle.subset_sums.specs.Subsets.{subsetFrom, subset, groupByte, groupOf, tableByte, summed}
 
 pub subset-none : (f : ℕ) (x : ℕ → ℕ) (i : ℕ) → subsetFrom f x i 0 ≡ 0
 unfolding subsetFrom

@@ -6,7 +6,7 @@ use native.Mathlib.Omega.{arith}
 use native.Mathlib.Decide.{ℕ-discrete, decLt}
 use lib.ListN.{length, getD, take, drop}
 use mathlib.Core.Logic.{by-cases}
-use Rattle.lists.proofs.Rows.{row-inside, part-length, part-size, getD-part}
+use Rattle.lists.proofs.Rows.{row-inside, part-length, getD-part}
 use Rattle.layout.specs.Layout.{byRow, byLane, held, laneOf, rearranged}
 use Rattle.layout.proofs.Lawful.{by-row}
 use Rattle.layout.proofs.Places.{held-by-row, held-by-lane}

@@ -1,11 +1,10 @@
 -- Lanes of a tile through its blocks.
 use mathlib.Core.Path.{_≡_, refl, sym, ap, _∙_}
-use mathlib.Core.List.{List, [], _∷_, _++_}
+use mathlib.Core.List.{List, _++_}
 use Prim.Native.Nat.{ℕ, zero, suc, _+_, _-_, _*_, _/_, _%_, _≤_, _<_}
-use native.Mathlib.Nat.{zero-add}
 use native.Mathlib.Omega.{arith}
 use lib.ListN.{length, getD, take, drop}
-use Rattle.lists.specs.Rows.{from, rowsFrom}
+use Rattle.lists.specs.Rows.{rowsFrom}
 use Rattle.lists.proofs.Rows.{from-ext, getD-part}
 use Rattle.layout.specs.Layout.{byRow, laneOf}
 use Rattle.layout.proofs.Places.{held-by-row}
@@ -18,10 +17,6 @@ blockByte tile p = getD tile (p / 1024 * 1024 + (p % 16 * 64 + p % 1024 / 16)) 0
 pub length-as-lanes : (tile : List ℕ) → length (asLanes tile) ≡ 1024
 unfolding asLanes
 length-as-lanes tile = length-placed _ 1024 tile
-
-pub length-blocks : (count : ℕ) (tile : List ℕ) → length (blocksOf count tile) ≡ count * 1024
-unfolding blocksOf
-length-blocks count tile = length-placed _ (count * 1024) tile
 
 -- a block's byte in the blocks
 pub block-byte : (tile : List ℕ) (b p : ℕ) → p < 1024 → getD (asLanes (take (b * 1024 + 1024 - b * 1024) (drop (b * 1024) tile))) p 0 ≡ blockByte tile (b * 1024 + p)

@@ -1,15 +1,14 @@
 -- Four shuffles are the transposition of a square of 16 by 16.
 use mathlib.Core.Path.{_≡_, ap, _∙_}
 use mathlib.Core.List.{List}
-use Prim.Native.Nat.{ℕ, _+_, _*_, _/_, _%_, _≤_, _<_, _-_}
+use Prim.Native.Nat.{ℕ, _+_, _*_, _/_, _%_, _<_}
 use native.Mathlib.Nat.{zero-add}
 use native.Mathlib.Omega.{arith}
 use lib.ListN.{length, getD, set}
-use Rattle.lists.specs.Rows.{from}
 use Rattle.lists.proofs.Rows.{length-from, getD-from, from-ext, from-next}
-use Rattle.lists.proofs.Fill.{Fills, fills-put}
+use Rattle.lists.proofs.Fill.{fills-put}
 use Rattle.field.proofs.Computed.{equal-at}
-use Rattle.tiles64.specs.Squares.{placed, shuffled, turned, squareAt, asLanes, asRows}
+use Rattle.tiles64.specs.Squares.{placed, shuffled, turned}
 use Rattle.lists.proofs.Parts.{Valued}
 
 pub length-placed : (g : ℕ → ℕ) (n : ℕ) (x : List ℕ) → length (placed g n x) ≡ n
@@ -46,10 +45,6 @@ turned-shuffled x =
     ∙ ap (placed σ 256) (placed-twice σ (λ p. σ (σ p)) 256 256 x inside)
     ∙ placed-twice σ (λ p. σ (σ (σ p))) 256 256 x inside
     ∙ placed-ext (λ p. σ (σ (σ (σ p)))) (λ p. p % 16 * 16 + p / 16) 256 x four
-
-pub length-shuffled : (x : List ℕ) → length (shuffled x) ≡ 256
-unfolding shuffled
-length-shuffled x = length-placed σ 256 x
 
 pub length-turned : (x : List ℕ) → length (turned x) ≡ 256
 unfolding turned

@@ -1,9 +1,8 @@
 -- The counts of every accepted record with n = 6 and k = 3 over 7 symbols, as 1 7 3 6 3 is.
 use mathlib.Core.Path.{_≡_, refl, _∙_}
-use mathlib.Core.List.{List, [], _∷_}
-use Prim.Native.Nat.{ℕ, _+_, _≤_}
+use mathlib.Core.List.{[], _∷_}
+use Prim.Native.Nat.{_+_}
 use native.Mathlib.Omega.{arith}
-use Rattle.lists.specs.Choice.{pick, when}
 use Rattle.lists.specs.Rows.{from}
 use Rattle.lists.proofs.Rows.{from-ext}
 use Rattle.generator.specs.declared.Header.{Header}

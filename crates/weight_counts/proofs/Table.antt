@@ -1,19 +1,17 @@
 -- The difference table and Pascal's triangle turn by turn, and the counts that they give.
 use mathlib.Core.Path.{_≡_, refl, sym, ap, ap₂, _∙_}
-use mathlib.Core.Logic.{⊎-elim}
-use mathlib.Core.List.{List, _∷_}
+use mathlib.Core.List.{List}
 use Prim.Native.Nat.{ℕ, zero, suc, _+_, _-_, _*_, _%_, _^_, _≤_, _<_}
 use native.Mathlib.Nat.{le-refl, le-trans, zero-add, zero-mul, mul-zero, mul-comm, mul-le-mul, mod-eq-of-lt, mod-add-mod, add-mod-mod, add-comm}
 use native.Mathlib.Numerals.{add-one}
-use native.Mathlib.Decide.{ℕ-discrete, decLt}
+use native.Mathlib.Decide.{decLt}
 use native.Mathlib.Omega.{arith}
 use lib.Dec.{ltb}
-use lib.ListN.{length, getD, set, replicate}
+use lib.ListN.{length, getD, set}
 use borrow.Author.Tests.{lt-ltb, le-ltb}
 use Rattle.lists.specs.Choice.{pick}
 use Rattle.lists.specs.Padded.{zeros}
 use Rattle.lists.specs.Rows.{from}
-use Rattle.lists.proofs.Fill.{from-zeros}
 use Rattle.lists.proofs.Rows.{length-from, getD-from, from-ext}
 use Rattle.generator.specs.declared.Header.{Header}
 use Rattle.generator.specs.Records.{size, Sound}

@@ -1,15 +1,14 @@
 -- The code of an accepted record has any k symbols at any k nodes of exactly one message, so its weight distribution is the textbook's.
-use mathlib.Core.Path.{_≡_, refl, sym, ap, _∙_}
+use mathlib.Core.Path.{_≡_, refl, sym, _∙_}
 use mathlib.Core.Bool.{true}
-use mathlib.Core.List.{List, [], _∷_}
-use Prim.Native.Nat.{ℕ, zero, suc, _+_, _<_}
+use mathlib.Core.List.{List}
+use Prim.Native.Nat.{ℕ, zero, suc, _+_}
 use lib.ListN.{length, replicate}
 use borrow.Author.Tests.{eq-eqb}
 use Rattle.lists.proofs.Cases.{both-true}
 use Rattle.lists.proofs.Numbers.{below-all, all-below, all-distinct}
 use Rattle.lists.proofs.Places.{Places}
-use Rattle.field.specs.Fields.{add}
-use Rattle.field.proofs.Arithmetic.{zero-below, zero-mul}
+use Rattle.field.proofs.Arithmetic.{zero-mul}
 use Rattle.field.proofs.BothKinds.{arithmetic}
 use Rattle.field.proofs.FieldOf.{size-pos}
 use Rattle.generator.specs.declared.Header.{Header}

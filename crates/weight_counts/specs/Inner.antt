@@ -1,7 +1,6 @@
 -- What the functions behind the call rely on and give: a difference table and a row of Pascal's triangle, each made in place.
-use mathlib.Core.Path.{_≡_}
 use mathlib.Core.List.{List}
-use Prim.Native.Nat.{ℕ, zero, suc, _+_, _-_, _%_, _^_, _≤_}
+use Prim.Native.Nat.{ℕ, _+_, _-_, _%_, _^_, _≤_}
 use lib.Dec.{ltb, leb}
 use lib.ListN.{length, getD}
 use Rattle.lists.specs.Choice.{pick, when}

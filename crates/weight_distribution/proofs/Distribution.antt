@@ -1,9 +1,9 @@
 -- The weight distribution of a code of distance n − k + 1: by supports, and by the textbook. Its counts sum to the number of messages.
 use mathlib.Core.Path.{_≡_, refl, sym, ap, fun-ext, _∙_}
-use mathlib.Core.Bool.{Bool, true, false, not}
+use mathlib.Core.Bool.{Bool, not}
 use mathlib.Core.List.{List}
 use Prim.Native.Nat.{ℕ, zero, suc, _+_, _-_, _*_, _^_, _≤_, _<_}
-use native.Mathlib.Nat.{pow-zero, pow-le-pow-right, mul-zero, mul-one, one-mul}
+use native.Mathlib.Nat.{pow-zero, pow-le-pow-right, mul-zero, mul-one}
 use native.Mathlib.Decide.{ℕ-discrete, decLt}
 use native.Mathlib.Omega.{arith}
 use lib.Dec.{eqb, ltb}

@@ -1,9 +1,9 @@
 -- The alternating sum of the textbook obeys Pascal's rule, and so do the differences of powers.
-use mathlib.Core.Path.{_≡_, refl, sym, ap, _∙_}
+use mathlib.Core.Path.{_≡_, refl, ap}
 use mathlib.Core.Bool.{Bool, true, false, not}
 use mathlib.Core.List.{List}
 use Prim.Native.Nat.{ℕ, zero, suc, _+_, _-_, _*_, _%_, _^_, _≤_, _<_}
-use native.Mathlib.Nat.{zero-mul, one-mul, add-mul, add-zero, pow-zero, one-le-pow, mod-lt}
+use native.Mathlib.Nat.{zero-mul, one-mul, add-mul, add-zero, pow-zero, one-le-pow}
 use native.Mathlib.Numerals.{sub-one, add-one}
 use native.Mathlib.Decide.{ℕ-discrete}
 use native.Mathlib.Omega.{arith}

@@ -1,7 +1,7 @@
 -- Codes of distance n − k + 1: how many messages have a word that is zero at given places.
 use mathlib.Core.Path.{_≡_, refl, sym, ap, fun-ext, subst, _∙_}
 use mathlib.Core.Bool.{Bool, true}
-use mathlib.Core.List.{List, [], _∷_, _++_, map, append-assoc}
+use mathlib.Core.List.{List, _++_, map, append-assoc}
 use Prim.Native.Nat.{ℕ, _-_, _^_, _≤_, _<_}
 use native.Mathlib.Decide.{decLe}
 use native.Mathlib.Omega.{arith}

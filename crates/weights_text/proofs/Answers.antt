@@ -1,12 +1,12 @@
 -- What the answers of the count mean for its text.
-use mathlib.Core.Path.{_≡_, refl, sym, ap, _∙_}
+use mathlib.Core.Path.{_≡_, sym, ap, _∙_}
 use mathlib.Core.Bool.{Bool, true, false}
 use mathlib.Core.List.{List, [], _∷_}
-use Prim.Native.Nat.{ℕ, zero, suc, _+_, _^_, _≤_, _<_}
+use Prim.Native.Nat.{ℕ, _+_, _^_, _≤_}
 use native.Mathlib.Omega.{arith}
 use borrow.Author.Tests.{eq-eqb, ltb-false}
 use lib.ListN.{length}
-use Rattle.lists.specs.Choice.{pick, when}
+use Rattle.lists.specs.Choice.{when}
 use Rattle.lists.specs.Numbers.{allBelow}
 use Rattle.lists.specs.Rows.{from}
 use Rattle.lists.proofs.Cases.{by-test}
@@ -14,7 +14,7 @@ use Rattle.lists.proofs.Numbers.{at-below}
 use Rattle.lists.proofs.Rows.{length-from, getD-from}
 use Rattle.generator.specs.declared.Header.{Header}
 use Rattle.generator.specs.declared.Record.the-variants.{Holds}
-use Rattle.generator.specs.Records.{size, Sound}
+use Rattle.generator.specs.Records.{size}
 use Rattle.blocks.specs.declared.Outcome.{Outcome}
 use Rattle.blocks.specs.declared.Outcome.the-variants as O
 use Rattle.blocks.specs.Answers.{outcomeOf}

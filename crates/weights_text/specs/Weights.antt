@@ -1,10 +1,9 @@
 -- The text of a weight distribution: a line for each weight, `w count`.
 use mathlib.Core.List.{List, [], _∷_}
-use Prim.Native.Nat.{ℕ, _+_}
+use Prim.Native.Nat.{ℕ}
 use lib.ListN.{length, getD}
 use Rattle.lists.specs.Choice.{pick}
 use Rattle.lists.specs.Rows.{rowsFrom}
-use Rattle.generator.specs.declared.Header.{Header}
 use Rattle.generator.specs.declared.Record.{Record}
 use Rattle.generator.specs.declared.Record.the-variants.{Holds, Meets}
 use Rattle.text.specs.Text.{ascii, decimal, line}

@@ -12,7 +12,7 @@ use Rattle.lists.specs.Rows.{from}
 use Rattle.lists.specs.Numbers.{allBelow}
 use Rattle.lists.specs.Padded.{zeros, padded}
 use Rattle.lists.proofs.All.{All, All-at}
-use Rattle.lists.proofs.Numbers.{at-below, below-cons, below-getD, below-drop}
+use Rattle.lists.proofs.Numbers.{at-below, below-cons, below-getD}
 use Rattle.lists.proofs.Fill.{drop-zeros}
 use Rattle.lists.proofs.Padding.{length-padded, below-padded}
 use Rattle.lists.proofs.Rows.{getD-from, length-from, from-ext, row-inside}
@@ -25,7 +25,7 @@ use Rattle.kernel.proofs.Lanes.{lanewise-ext, getD-lanewise, length-lanewise}
 use Rattle.combine.specs.Combined.{combined}
 use Rattle.combine.specs.Digits.{sumOf, multiplied}
 use Rattle.subset_sums.specs.Subsets.{subset, tableOf as tableOfRows}
-use Rattle.subset_sums.specs.Lists.{subsetAt, slicesFrom, slicesAdded, turnsOf, Slices, Listing, Grouped}
+use Rattle.subset_sums.specs.Lists.{subsetAt, slicesFrom, slicesAdded, turnsOf, Slices, Grouped}
 use Rattle.subset_sums.proofs.Subsets.{subset-ext}
 use Rattle.subset_sums.proofs.Adding.{length-turns}
 use Rattle.subset_sums.proofs.Right.{table-at as rows-at, subset-low, slices-all, output-right}

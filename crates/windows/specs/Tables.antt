@@ -1,8 +1,8 @@
 -- The table of a row of bytes: in each place the sums of all subsets of the four bytes from there on. Places of the row that stand side by side are rows that are one place apart, so that one table serves them all.
 use mathlib.Core.Path.{_≡_}
 use mathlib.Core.List.{List}
-use Prim.Native.Nat.{ℕ, _+_, _*_, _/_, _%_, _≤_, _<_}
-use lib.ListN.{length, getD, drop}
+use Prim.Native.Nat.{ℕ, _+_, _*_, _/_, _%_}
+use lib.ListN.{getD, drop}
 use Rattle.lists.specs.Rows.{from}
 use Rattle.subset_sums.specs.Subsets.{subset}
 use Rattle.subset_sums.specs.Lists.{turnsOf, Listing}

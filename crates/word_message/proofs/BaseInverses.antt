@@ -1,7 +1,7 @@
 -- The inverses of the coefficients of the base polynomial, from the highest down.
-use mathlib.Core.Path.{_≡_, refl, sym, ap, ap₂, _∙_}
-use mathlib.Core.List.{List, [], _∷_, _++_, map}
-use Prim.Native.Nat.{ℕ, zero, suc, _+_, _-_, _%_, _≤_, _<_}
+use mathlib.Core.Path.{_≡_, sym, ap, ap₂, _∙_}
+use mathlib.Core.List.{List, [], _∷_, _++_}
+use Prim.Native.Nat.{ℕ, suc, _+_, _-_, _%_, _≤_, _<_}
 use native.Mathlib.Nat.{mod-eq-of-lt}
 use native.Mathlib.Omega.{arith}
 use lib.ListN.{length, getD, drop, set, drop-of-length-le}
@@ -15,7 +15,7 @@ use Rattle.algebra.proofs.Ring.{one-mul, mul-nonzero, sub-zero}
 use Rattle.algebra.proofs.Powers.{pow-nonzero, order-nonzero, pow-one}
 use Rattle.algebra.proofs.BasePolynomial.{base, leading-base, base-nonzero}
 use Rattle.field.specs.Fields.{sub, mul, power, inverse}
-use Rattle.field.specs.Symbols.{Symbol, numbers}
+use Rattle.field.specs.Symbols.{Symbol}
 use Rattle.field.proofs.Symbols.{getD-numbers}
 use Rattle.field.proofs.FieldOf.{size-pos, number-sub, number-pow}
 use Rattle.generator.specs.declared.Header.{Header}

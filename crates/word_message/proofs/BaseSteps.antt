@@ -1,12 +1,11 @@
 -- The coefficients of the base polynomial Π_{i<m} (x − a^i), each from the one above it: (a^m − a^(m+c)) times coefficient c is (a^(m+1) − a^c) times coefficient c − 1.
 use mathlib.Core.Path.{_≡_, refl, sym, ap, ap₂, _∙_}
-use mathlib.Core.List.{List, [], _∷_, map}
-use Prim.Native.Nat.{ℕ, zero, suc, _+_, _-_, _≤_, _<_}
-use native.Mathlib.Omega.{arith}
-use lib.ListN.{length, getD}
+use mathlib.Core.List.{List, [], _∷_}
+use Prim.Native.Nat.{ℕ, zero, suc}
+use lib.ListN.{getD}
 use Rattle.algebra.specs.Field.{Field}
 use Rattle.algebra.specs.Powers.{pow}
-use Rattle.algebra.proofs.Ring.{add-left-comm, one-mul, add-mul, neg-add, neg-unique, neg-neg, neg-zero, mul-zero, zero-mul, mul-neg, neg-mul, mul-left-comm, mul-cancel}
+use Rattle.algebra.proofs.Ring.{add-left-comm, add-mul, neg-add, neg-unique, neg-zero, mul-zero, zero-mul, mul-neg, neg-mul, mul-left-comm, mul-cancel}
 use Rattle.algebra.proofs.Poly.{newton}
 use Rattle.algebra.proofs.Product.{product}
 use Rattle.algebra.proofs.BasePolynomial.{base}

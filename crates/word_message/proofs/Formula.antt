@@ -2,13 +2,12 @@
 use mathlib.Core.Path.{_≡_, refl, sym, ap, ap₂, _∙_}
 use mathlib.Core.Bool.{true}
 use mathlib.Core.List.{List, map}
-use Prim.Native.Nat.{ℕ, zero, suc, _+_, _-_, _≤_, _<_}
+use Prim.Native.Nat.{ℕ, zero, suc, _-_, _<_}
 use native.Mathlib.Nat.{zero-add}
 use native.Mathlib.Omega.{arith}
 use lib.ListN.{length, getD, length-map}
 use Rattle.lists.specs.Rows.{range}
 use Rattle.lists.specs.Numbers.{allBelow}
-use Rattle.lists.proofs.All.{getD-map}
 use Rattle.lists.proofs.Places.{length-range}
 use Rattle.lists.proofs.Rows.{length-from, getD-from}
 use Rattle.algebra.specs.Powers.{pow}
@@ -19,11 +18,11 @@ use Rattle.algebra.proofs.BasePolynomial.{base}
 use Rattle.algebra.proofs.ShiftedBasis.{shifted, size-base, size-shifted}
 use Rattle.algebra.proofs.Nodes.{node}
 use Rattle.algebra.proofs.Parity.{check}
-use Rattle.field.specs.Fields.{isField, sizeOf, add, mul, inverse}
+use Rattle.field.specs.Fields.{isField, add, mul, inverse}
 use Rattle.field.specs.Sums.{dot}
 use Rattle.field.specs.Symbols.{Symbol, numbers}
 use Rattle.field.proofs.FieldOf.{fieldOf, size-pos}
-use Rattle.field.proofs.Symbols.{getD-numbers, length-numbers}
+use Rattle.field.proofs.Symbols.{getD-numbers}
 use Rattle.generator.specs.declared.Header.{Header}
 use Rattle.generator.specs.Records.{modulusOf, size, Sound}
 use Rattle.generator.specs.Shifts.{shifts}
@@ -35,7 +34,6 @@ use Rattle.generator.proofs.Bridge.{encoding-map, checkFrom-is}
 use Rattle.generator.proofs.Messages.{word-message}
 use Rattle.generator.proofs.Recovery.{the-code, lifted, lifted-numbers, length-lifted, message-size, message-below, held}
 use Rattle.interpolation.specs.Lagrange.{scaleAt}
-use Rattle.interpolation.specs.Polynomials.{baseOf}
 use Rattle.interpolation.proofs.Bridge.{scaleAt-is, baseOf-is, dot-is}
 use Rattle.recovery.specs.Rows.{rowPoints, baseInverses, rowTerms}
 use Rattle.recovery.proofs.InverseRows.{termsOf, length-terms, term-is}

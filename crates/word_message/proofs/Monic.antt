@@ -1,8 +1,8 @@
 -- Points that come in rounds: their product is a polynomial in x^g, of which only every g-th coefficient is not zero.
 use mathlib.Core.Path.{_≡_, refl, sym, ap, ap₂, _∙_}
 use mathlib.Core.List.{List, [], _∷_, _++_}
-use Prim.Native.Nat.{ℕ, zero, suc, _+_, _-_, _*_, _/_, _%_, _≤_, _<_}
-use native.Mathlib.Nat.{zero-add, add-zero, mul-zero, zero-mod, zero-div, mod-eq-of-lt, add-mod-left, add-div-left}
+use Prim.Native.Nat.{ℕ, zero, suc, _+_, _*_, _/_, _%_, _≤_, _<_}
+use native.Mathlib.Nat.{zero-add, add-zero, zero-mod, zero-div, mod-eq-of-lt, add-mod-left, add-div-left}
 use native.Mathlib.Numerals.{add-one}
 use native.Mathlib.Omega.{arith}
 use borrow.Author.Tests.{ne-eqb}
@@ -11,10 +11,10 @@ use lib.ListN.{length, getD, replicate}
 use Rattle.lists.specs.Choice.{pick}
 use Rattle.lists.specs.Rows.{from}
 use Rattle.lists.proofs.All.{All, Distinct, All-imp, All-both}
-use Rattle.lists.proofs.Rows.{from-append, from-move, from-ext, length-from}
+use Rattle.lists.proofs.Rows.{from-append, from-move, from-ext}
 use Rattle.algebra.specs.Field.{Field}
 use Rattle.algebra.specs.Powers.{pow}
-use Rattle.algebra.proofs.Ring.{one-mul, zero-mul, no-divisors, sub-zero, zero-add as zero-plus, mul-zero as times-zero}
+use Rattle.algebra.proofs.Ring.{one-mul, no-divisors, sub-zero, zero-add as zero-plus, mul-zero as times-zero}
 use Rattle.algebra.proofs.Poly.{eval, newton, quotient, eval-quotient, length-quotient, newton-quotient}
 use Rattle.algebra.proofs.Product.{product}
 

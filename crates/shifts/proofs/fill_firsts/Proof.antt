@@ -3,7 +3,6 @@ use Prim.Native.Nat.{ℕ, _≤_, _<_, _-_}
 use mathlib.Core.Path.{_≡_, refl, ap, _∙_}
 use mathlib.Core.List.{List}
 use native.Mathlib.Omega.{arith}
-use borrow.Author.Needs.{needs}
 use lib.ListN.{length, getD}
 use Rattle.lists.specs.Padded.{zeros, padded}
 use Rattle.lists.proofs.Fill.{Filled, filled-start, filled-put, filled-end}

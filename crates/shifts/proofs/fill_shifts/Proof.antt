@@ -1,6 +1,4 @@
 -- `fill_shifts` meets its contract: the rule is that of `shiftsOf`.
-use mathlib.Core.Path.{_≡_, sym, _∙_}
-use native.Mathlib.Omega.{arith}
 use borrow.Author.Needs.{needs}
 use Rattle.generator.specs.Shifts.{shiftsOf}
 use Rattle.shifts.proofs.fill_shifts.Statement.{statement}

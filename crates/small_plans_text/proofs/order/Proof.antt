@@ -1,14 +1,12 @@
 -- `order` meets its contract. The loop's invariant: the order is at most n.
-use mathlib.Core.Path.{_≡_, sym, ap, _∙_}
-use mathlib.Core.Bool.{true, false}
-use Prim.Native.Nat.{ℕ, _+_, _≤_, _<_}
+use mathlib.Core.Path.{_≡_, sym, _∙_}
+use Prim.Native.Nat.{_≤_}
 use native.Mathlib.Omega.{arith}
 use borrow.Author.Needs.{needs}
 use borrow.Author.Tests.{le-leb, eqb-true, eqb-false}
 use lib.Dec.{eqb}
 use Rattle.lists.proofs.Cases.{both-true}
 use Rattle.field.specs.Fields.{orderOf}
-use Rattle.field.specs.Kinds.{modulus}
 use Rattle.field.proofs.Meanings.{prime-field, prime-size}
 use Rattle.small_plans_text.proofs.OrderBound.{order-fits}
 use Rattle.small_plans_text.proofs.order.Statement.{statement}

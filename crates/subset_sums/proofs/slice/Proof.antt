@@ -1,7 +1,5 @@
 use mathlib.Core.Path.{refl}
 use Rattle.lists.specs.Padded.{zeros}
-use borrow.Author.Needs.{needs}
-use native.Mathlib.Omega.{arith}
 use Rattle.subset_sums.proofs.slice.Statement.{statement}
 use Rattle.subset_sums.proofs.slice.Tie as tie
 

@@ -1,5 +1,5 @@
 -- `largest_pair` meets its contract. The loop's invariant: all are below m where the largest so far and those from i on are.
-use mathlib.Core.Path.{_≡_, sym, _∙_}
+use mathlib.Core.Path.{_≡_, _∙_}
 use mathlib.Core.Bool.{_&&_}
 use Prim.Native.Nat.{ℕ, _-_, _≤_, _<_}
 use native.Mathlib.Nat.{sub-zero}

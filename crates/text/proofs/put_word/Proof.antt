@@ -1,5 +1,5 @@
 -- `put_word` meets its contract. Invariant: i bytes of the word are put, and the others are to come.
-use mathlib.Core.Path.{_≡_, refl}
+use mathlib.Core.Path.{_≡_}
 use mathlib.Core.List.{_++_}
 use Prim.Native.Nat.{ℕ, _≤_, _+_, _-_}
 use native.Mathlib.Omega.{arith}

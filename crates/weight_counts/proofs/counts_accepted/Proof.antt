@@ -1,5 +1,5 @@
 -- `counts_accepted` meets its contract: counts are written only where no number is met.
-use mathlib.Core.Path.{sym, ap, _∙_}
+use mathlib.Core.Path.{sym, _∙_}
 use borrow.Author.Needs.{needs}
 use Rattle.blocks.specs.Answers.{outcomeOf}
 use Rattle.weight_counts.proofs.Refused.{weights-refuses}

@@ -1,11 +1,10 @@
 -- `fill_counts` meets its contract: the powers, their differences, and each times its binomial.
-use mathlib.Core.Path.{_≡_, sym, ap, ap₂, _∙_}
+use mathlib.Core.Path.{ap, ap₂, _∙_}
 use mathlib.Core.List.{List}
-use Prim.Native.Nat.{ℕ, _+_, _*_, _≤_}
+use Prim.Native.Nat.{ℕ, _*_, _≤_}
 use native.Mathlib.Nat.{le-trans, le-of-eq}
 use native.Mathlib.Omega.{arith}
 use lib.ListN.{length, getD}
-use Rattle.lists.specs.Rows.{from}
 use Rattle.weight_counts.proofs.Table.{length-table, length-row, count-fits, product-is, counts-are}
 use borrow.Author.Needs.{needs}
 use Rattle.weight_counts.proofs.fill_counts.Statement.{statement}

@@ -1,6 +1,5 @@
 -- `scale` meets its contract. Invariant: the places below w are multiplied, and the others are to come.
-use mathlib.Core.Path.{_≡_, sym, _∙_}
-use Prim.Native.Nat.{ℕ, _*_, _-_, _≤_, _<_}
+use Prim.Native.Nat.{_*_, _-_, _≤_, _<_}
 use native.Mathlib.Nat.{sub-zero}
 use native.Mathlib.Omega.{arith}
 use lib.ListN.{length, getD}

@@ -1,11 +1,8 @@
 -- `put_counted` meets its contract: the lines of the counts, or the number.
-use mathlib.Core.Path.{_≡_, sym, ap, _∙_}
-use Prim.Native.Nat.{ℕ, _+_, _≤_}
+use Prim.Native.Nat.{_≤_}
 use native.Mathlib.Omega.{arith}
 use borrow.Author.Needs.{needs}
-use Rattle.generator.specs.declared.Record.the-variants.{Holds}
 use Rattle.text.specs.Text.{ascii}
-use Rattle.weights_text.specs.Weights.{countLines, weightsFor}
 use Rattle.weights_text.proofs.Answers.{done-text, refused-text, counts-below}
 use Rattle.weights_text.proofs.put_counted.Statement.{statement}
 use Rattle.weights_text.proofs.put_counted.Tie as tie

@@ -1,9 +1,8 @@
 -- `put_weights` meets its contract: it lends a list of n + 1 counts.
-use mathlib.Core.Path.{_≡_, sym, _∙_}
-use Prim.Native.Nat.{ℕ, _+_, _≤_}
+use mathlib.Core.Path.{sym}
+use Prim.Native.Nat.{ℕ}
 use native.Mathlib.Omega.{arith}
 use borrow.Author.Needs.{needs}
-use lib.ListN.{length}
 use lib.Seq.{length-take-le}
 use Rattle.weights_text.proofs.put_weights.Statement.{statement}
 use Rattle.weights_text.proofs.put_weights.Tie as tie

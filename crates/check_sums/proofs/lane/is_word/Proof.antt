@@ -1,5 +1,5 @@
 -- `is_word` meets its contract: a lane is a word exactly if its check sums are zero.
-use mathlib.Core.Path.{_≡_, sym, ap, _∙_}
+use mathlib.Core.Path.{sym, ap, _∙_}
 use Prim.Native.Nat.{_-_}
 use borrow.Author.Needs.{needs}
 use lib.ListN.{length}

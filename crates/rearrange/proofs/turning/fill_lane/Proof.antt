@@ -1,5 +1,5 @@
 -- `fill_lane` meets its contract. The loop's invariant: the symbols of the rows below i are written.
-use mathlib.Core.Path.{_≡_, sym, _∙_}
+use mathlib.Core.Path.{_≡_}
 use mathlib.Core.Bool.{true}
 use Prim.Native.Nat.{_+_, _-_, _*_, _/_, _≤_, _<_}
 use native.Mathlib.Nat.{sub-zero, zero-mul, mul-le-mul, le-refl}

@@ -1,5 +1,5 @@
 -- `turn` meets its contract: symbols of one byte are bytes.
-use mathlib.Core.Path.{_≡_, sym, ap, ap₂, _∙_}
+use mathlib.Core.Path.{_≡_, sym, ap, _∙_}
 use mathlib.Core.List.{List}
 use Prim.Native.Nat.{ℕ}
 use native.Mathlib.Nat.{mul-one}

@@ -1,7 +1,7 @@
 -- `fill_share` meets its contract. The loop's invariant: the sums of the lanes below `first` are written.
 use mathlib.Core.Path.{_≡_, refl, sym, _∙_}
 use mathlib.Core.List.{List}
-use Prim.Native.Nat.{ℕ, _+_, _-_, _*_, _≤_, _<_}
+use Prim.Native.Nat.{ℕ, _+_, _-_, _*_, _≤_}
 use native.Mathlib.Nat.{zero-mul, add-mul, mul-comm, mul-le-mul, le-refl}
 use native.Mathlib.Omega.{arith}
 use borrow.Author.Needs.{needs}

@@ -11,7 +11,7 @@ use Rattle.lists.proofs.Numbers.{at-below}
 use Rattle.layout.specs.Layout.{byRow}
 use Rattle.layout.specs.Width.{bytesOf}
 use Rattle.layout.specs.Tiles.{tileSymbols}
-use Rattle.generator.specs.Records.{modulusOf, width}
+use Rattle.generator.specs.Records.{modulusOf}
 use Rattle.blocks.proofs.Tiles.{lanes-tile, lanes-symbols}
 use Rattle.combine.specs.Combined.{combined}
 use Rattle.combine.proofs.Columns.{rows-ready, combined-symbols}

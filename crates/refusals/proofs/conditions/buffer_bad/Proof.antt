@@ -1,5 +1,5 @@
 -- `buffer_bad` meets its contract, by the length over the bytes of a lane.
-use mathlib.Core.Path.{sym, _∙_}
+use mathlib.Core.Path.{sym}
 use Prim.Native.Nat.{_≤_}
 use native.Mathlib.Nat.{mul-le-mul}
 use native.Mathlib.Omega.{arith}

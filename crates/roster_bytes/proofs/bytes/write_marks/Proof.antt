@@ -1,10 +1,10 @@
 -- `write_marks` meets its contract. Invariant: the first j marks are written.
-use mathlib.Core.Path.{_≡_, _∙_}
+use mathlib.Core.Path.{_∙_}
 use mathlib.Core.Bool.{false}
 use Prim.Native.Nat.{_≤_, _-_}
 use native.Mathlib.Omega.{arith}
 use borrow.Author.Needs.{needs}
-use lib.ListN.{length, getD}
+use lib.ListN.{getD}
 use Rattle.lists.specs.Choice.{pick}
 use Rattle.lists.specs.Rows.{from}
 use Rattle.lists.proofs.Rows.{from-next, from-end}

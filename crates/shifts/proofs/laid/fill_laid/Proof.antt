@@ -1,6 +1,6 @@
 -- `fill_laid` meets its contract. Invariant: the shifts of the first r rows are written.
 use Prim.Native.Nat.{_+_, _-_}
-use mathlib.Core.Path.{_≡_, ap, _∙_}
+use mathlib.Core.Path.{ap, _∙_}
 use native.Mathlib.Omega.{arith}
 use Rattle.lists.specs.Padded.{zeros}
 use Rattle.lists.proofs.Fill.{Filled, filled-start, filled-put, filled-end}

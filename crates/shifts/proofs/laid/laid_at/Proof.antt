@@ -1,6 +1,5 @@
 -- `laid_at` meets its contract.
 use Prim.Native.Nat.{ℕ, _*_, _/_, _%_, _≤_, _<_}
-use mathlib.Core.Path.{_≡_}
 use native.Mathlib.Nat.{mul-le-mul, mod-le, div-le-self, mod-lt}
 use native.Mathlib.Omega.{arith}
 use borrow.Author.Needs.{needs}

@@ -1,6 +1,5 @@
 -- `period` meets its contract.
-use mathlib.Core.Path.{_≡_, refl}
-use native.Mathlib.Omega.{arith}
+use mathlib.Core.Path.{refl}
 use borrow.Author.Needs.{needs}
 use Rattle.generator.specs.Shifts.{period}
 use Rattle.generator.proofs.Gcd.{gcd-pos}

@@ -10,7 +10,7 @@ use Rattle.lists.specs.Padded.{zeros, padded}
 use Rattle.lists.proofs.Fill.{Filled, filled-start, filled-put, filled-end}
 use Rattle.lists.proofs.Numbers.{below-at}
 use Rattle.lists.proofs.Rows.{from-ext}
-use Rattle.field.specs.Fields.{mul, power}
+use Rattle.field.specs.Fields.{mul}
 use Rattle.field.specs.Kinds.{modulus}
 use Rattle.field.proofs.Bounds.{mul-below, power-below}
 use Rattle.field.proofs.KindLaws.{size-fits}

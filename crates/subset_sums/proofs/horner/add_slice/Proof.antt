@@ -3,7 +3,6 @@ use Prim.Native.Nat.{_-_, _≤_, _+_}
 use lib.Bits.{bitXor}
 use lib.ListN.{length, getD}
 use Rattle.kernel.proofs.Filling.{Changed, changed-none, changed-lane, changed-all}
-use borrow.Author.Needs.{needs}
 use native.Mathlib.Omega.{arith}
 use Rattle.subset_sums.proofs.horner.add_slice.Statement.{statement}
 use Rattle.subset_sums.proofs.horner.add_slice.Tie as tie

@@ -1,12 +1,9 @@
 -- `output` meets its contract. The loop's invariant: the first b digits are done.
-use mathlib.Core.Path.{_≡_, refl, sym, ap, _∙_}
-use mathlib.Core.List.{List}
-use Prim.Native.Nat.{ℕ, _*_, _-_, _≤_, _<_, _+_}
-use lib.ListN.{length, getD, take, drop}
-use Rattle.lists.proofs.Rows.{row-inside, part-length, part-size, getD-part}
-use Rattle.kernel.proofs.Lanes.{length-lanewise}
-use Rattle.subset_sums.specs.Lists.{slicesAdded, turnsOf}
-use Rattle.subset_sums.proofs.Adding.{length-turns, turns-next}
+use mathlib.Core.Path.{_≡_, sym, ap, _∙_}
+use Prim.Native.Nat.{ℕ, _-_, _≤_}
+use lib.ListN.{length}
+use Rattle.subset_sums.specs.Lists.{turnsOf}
+use Rattle.subset_sums.proofs.Adding.{length-turns}
 use borrow.Author.Needs.{needs}
 use native.Mathlib.Omega.{arith}
 use Rattle.subset_sums.proofs.horner.output.Statement.{statement}

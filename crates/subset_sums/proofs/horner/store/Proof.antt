@@ -1,9 +1,7 @@
-use mathlib.Core.Path.{_≡_}
 use Prim.Native.Nat.{_-_, _≤_}
-use lib.ListN.{length, drop, drop-of-length-le}
+use lib.ListN.{drop, drop-of-length-le}
 use Rattle.lists.proofs.Fill.{Fills, fills-start, fills-put, fills-all}
 use Rattle.lists.proofs.Front.{drop-next}
-use borrow.Author.Needs.{needs}
 use native.Mathlib.Omega.{arith}
 use Rattle.subset_sums.proofs.horner.store.Statement.{statement}
 use Rattle.subset_sums.proofs.horner.store.Tie as tie

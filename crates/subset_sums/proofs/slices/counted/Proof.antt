@@ -1,6 +1,5 @@
 use borrow.Author.Tests.{eq-eqb, ne-eqb}
 use borrow.Author.Needs.{needs}
-use native.Mathlib.Omega.{arith}
 use Rattle.subset_sums.proofs.slices.counted.Statement.{statement}
 use Rattle.subset_sums.proofs.slices.counted.Tie as tie
 

@@ -4,7 +4,6 @@ use lib.ListN.{length, getD, length-set}
 use Rattle.lists.proofs.Parts.{Valued, valued-all, valued-at}
 use Rattle.subset_sums.specs.Spread.{spreadOf, spreads}
 use Rattle.subset_sums.proofs.Spreading.{spread-start, spread-turn, spread-low}
-use borrow.Author.Needs.{needs}
 use native.Mathlib.Omega.{arith}
 use Rattle.subset_sums.proofs.slices.fill_spread.Statement.{statement}
 use Rattle.subset_sums.proofs.slices.fill_spread.Tie as tie

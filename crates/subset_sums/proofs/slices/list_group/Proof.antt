@@ -1,11 +1,9 @@
-use mathlib.Core.Path.{_≡_, sym, _∙_}
-use Prim.Native.Nat.{_*_, _-_, _≤_, _+_}
+use mathlib.Core.Path.{sym, _∙_}
+use Prim.Native.Nat.{_-_, _≤_}
 use native.Mathlib.Nat.{zero-div}
-use lib.ListN.{length, getD}
 use Rattle.lists.proofs.Rows.{row-inside}
 use Rattle.subset_sums.specs.Spread.{Streams}
 use Rattle.subset_sums.proofs.Spreading.{ahead, streams-skip, streams-begin, streams-turn, streams-end, count-low, entry-inside}
-use borrow.Author.Needs.{needs}
 use native.Mathlib.Omega.{arith}
 use Rattle.subset_sums.proofs.slices.list_group.Statement.{statement}
 use Rattle.subset_sums.proofs.slices.list_group.Tie as tie

@@ -1,6 +1,5 @@
 use Rattle.subset_sums.proofs.Spreading.{pack-digit}
 use borrow.Author.Needs.{needs}
-use native.Mathlib.Omega.{arith}
 use Rattle.subset_sums.proofs.slices.pack.Statement.{statement}
 use Rattle.subset_sums.proofs.slices.pack.Tie as tie
 

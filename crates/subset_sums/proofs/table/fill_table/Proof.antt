@@ -1,11 +1,9 @@
-use mathlib.Core.Path.{_≡_, sym, _∙_}
 use Prim.Native.Nat.{_*_, _-_, _≤_, _+_}
 use lib.ListN.{take, drop}
 use Rattle.lists.proofs.Rows.{row-after, part-length, part-size}
 use Rattle.lists.proofs.Parts.{Valued, valued-start, valued-part, valued-all}
 use Rattle.subset_sums.specs.Subsets.{tableByte, tableOf, groupOf}
 use Rattle.subset_sums.proofs.Subsets.{length-group, table-group}
-use borrow.Author.Needs.{needs}
 use native.Mathlib.Omega.{arith}
 use Rattle.subset_sums.proofs.table.fill_table.Statement.{statement}
 use Rattle.subset_sums.proofs.table.fill_table.Tie as tie

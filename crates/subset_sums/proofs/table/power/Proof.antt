@@ -1,5 +1,4 @@
 use mathlib.Core.Path.{_≡_}
-use borrow.Author.Needs.{needs}
 use native.Mathlib.Omega.{arith}
 use Rattle.subset_sums.proofs.table.power.Statement.{statement}
 use Rattle.subset_sums.proofs.table.power.Tie as tie

@@ -1,14 +1,10 @@
 -- `gather_blocks` meets its contract. The loop's invariant: the lanes before `first` are gathered.
-use mathlib.Core.Path.{_≡_, refl, sym, ap, _∙_}
-use mathlib.Core.List.{List}
-use Prim.Native.Nat.{ℕ, _+_, _-_, _*_, _/_, _≤_, _<_}
-use native.Mathlib.Nat.{add-mul}
+use mathlib.Core.Path.{_≡_, refl, _∙_}
+use Prim.Native.Nat.{_+_, _-_, _*_, _≤_}
 use native.Mathlib.Omega.{arith}
-use borrow.Author.Needs.{needs}
 use lib.ListN.{length}
 use Rattle.lists.proofs.Rows.{part-length}
 use Rattle.layout.proofs.Runs.{lanes-inside}
-use Rattle.tiles.specs.Beside.{Beside}
 use Rattle.tiles.proofs.Beside.{Gathered, gathered-none, gathered-more, gathered-all}
 use Rattle.tiles.proofs.gathering.gather_blocks.Statement.{statement}
 use Rattle.tiles.proofs.gathering.gather_blocks.Tie as tie

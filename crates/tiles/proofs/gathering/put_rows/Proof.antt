@@ -1,8 +1,7 @@
 -- `put_rows` meets its contract. The loop's invariant: the rows below r have their lanes.
 use mathlib.Core.Path.{_≡_, sym, _∙_}
-use Prim.Native.Nat.{ℕ, _+_, _-_, _*_, _≤_, _<_}
+use Prim.Native.Nat.{_+_, _-_, _*_, _≤_}
 use native.Mathlib.Omega.{arith}
-use borrow.Author.Needs.{needs}
 use lib.ListN.{length}
 use Rattle.lists.proofs.Rows.{row-inside, part-length, part-size}
 use Rattle.tiles.specs.Beside.{Beside}

@@ -1,5 +1,5 @@
 -- `tile_lanes` meets its contract: the lanes that fit the scratch.
-use Prim.Native.Nat.{ℕ, _*_, _/_, _≤_, _<_}
+use Prim.Native.Nat.{ℕ, _*_, _/_, _≤_}
 use native.Mathlib.Nat.{le-div-iff-mul-le, mul-div-le, mul-le-mul, le-refl, le-trans, one-mul}
 use native.Mathlib.Omega.{arith}
 use borrow.Author.Needs.{needs}

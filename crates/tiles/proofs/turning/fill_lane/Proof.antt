@@ -1,5 +1,4 @@
 -- `fill_lane` meets its contract. Invariant: the first i symbols of the lane are written.
-use mathlib.Core.Path.{_≡_, _∙_}
 use Prim.Native.Nat.{_+_, _-_, _*_, _≤_, _<_}
 use native.Mathlib.Nat.{sub-zero}
 use native.Mathlib.Omega.{arith}

@@ -1,13 +1,13 @@
 -- `turn` meets its contract. Invariant: the lanes below t are written, and the others are to come.
-use mathlib.Core.Path.{_≡_, sym, _∙_}
-use Prim.Native.Nat.{_+_, _-_, _*_, _≤_, _<_}
+use mathlib.Core.Path.{sym, _∙_}
+use Prim.Native.Nat.{_+_, _-_, _*_, _≤_}
 use native.Mathlib.Nat.{sub-zero, zero-mul, mul-comm, mul-le-mul, le-refl}
 use native.Mathlib.Omega.{arith}
 use lib.ListN.{length}
 use Rattle.lists.specs.Rows.{rowsFrom}
 use Rattle.lists.proofs.Rows.{rows-next, rows-end, row-after, row-inside, part-size, part-length}
 use Rattle.lists.proofs.Fill.{Fills, fills-start, fills-part, fills-all}
-use Rattle.layout.specs.Layout.{byRow, byLane, held, laneOf, rearranged}
+use Rattle.layout.specs.Layout.{byRow, held, laneOf, rearranged}
 use Rattle.layout.proofs.Buffers.{length-lane}
 use Rattle.layout.proofs.Places.{buffer-by-lane}
 use Rattle.tiles.proofs.turning.turn.Statement.{statement}

@@ -1,9 +1,9 @@
 -- `fill_part` meets its contract. The loop's invariant: the first b digits are done.
-use mathlib.Core.Path.{_≡_, refl, sym, ap, _∙_}
-use Prim.Native.Nat.{ℕ, _-_, _≤_, _<_}
+use mathlib.Core.Path.{_≡_, sym, ap, _∙_}
+use Prim.Native.Nat.{_-_, _≤_}
 use native.Mathlib.Omega.{arith}
 use borrow.Author.Needs.{needs}
-use lib.ListN.{length, getD, drop}
+use lib.ListN.{length, drop}
 use Rattle.lists.proofs.Rows.{part-rest}
 use Rattle.subset_sums.specs.Lists.{turnsOf}
 use Rattle.subset_sums.proofs.Adding.{length-turns}

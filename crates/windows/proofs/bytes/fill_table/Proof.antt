@@ -1,9 +1,6 @@
 -- `fill_table` meets its contract. The loop's invariant: the subsets below v have their places.
-use mathlib.Core.Path.{_≡_, sym, ap, _∙_}
-use Prim.Native.Nat.{ℕ, _+_, _-_, _*_, _≤_, _<_}
+use Prim.Native.Nat.{_-_, _*_, _≤_}
 use native.Mathlib.Omega.{arith}
-use borrow.Author.Needs.{needs}
-use lib.ListN.{length}
 use Rattle.lists.specs.Rows.{from}
 use Rattle.lists.proofs.Parts.{Valued, valued-start, valued-part, valued-all}
 use Rattle.lists.proofs.Rows.{row-after, part-length, part-size, length-from}

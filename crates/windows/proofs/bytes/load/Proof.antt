@@ -1,11 +1,9 @@
 -- `load` meets its contract: the row as bytes has zeros after it.
 use mathlib.Core.Path.{_≡_, sym, ap, _∙_}
-use mathlib.Core.List.{_++_}
 use native.Mathlib.Omega.{arith}
 use borrow.Author.Needs.{needs}
-use lib.ListN.{length, take, drop}
+use lib.ListN.{length, take}
 use lib.Seq.{length-take-le}
-use Rattle.lists.specs.Padded.{zeros, padded}
 use Rattle.lists.proofs.Fill.{length-zeros}
 use Rattle.lists.proofs.Padding.{length-padded}
 use Rattle.windows.specs.Tables.{tableOf}

@@ -1,5 +1,4 @@
 -- `place` meets its contract.
-use native.Mathlib.Omega.{arith}
 use borrow.Author.Needs.{needs}
 use mathlib.Core.Path.{refl}
 use Rattle.windows.specs.Tables.{placeOf}

@@ -1,5 +1,4 @@
 -- `subset_sum` meets its contract.
-use native.Mathlib.Omega.{arith}
 use borrow.Author.Needs.{needs}
 use Rattle.windows.proofs.bytes.subset_sum.Statement.{statement}
 use Rattle.windows.proofs.bytes.subset_sum.Tie as tie

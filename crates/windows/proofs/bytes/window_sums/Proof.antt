@@ -1,14 +1,12 @@
 -- `window_sums` meets its contract: the lists, the table and the sums, one after the other.
 use mathlib.Core.Path.{_≡_, sym, ap, _∙_}
-use mathlib.Core.List.{_++_}
-use Prim.Native.Nat.{ℕ, _+_, _*_, _/_, _≤_}
+use Prim.Native.Nat.{_+_, _*_, _/_}
 use native.Mathlib.Omega.{arith}
 use borrow.Author.Needs.{needs}
-use lib.ListN.{length, take, drop, length-append}
+use lib.ListN.{length, take, length-append}
 use lib.Seq.{length-take-le}
-use Rattle.lists.specs.Padded.{padded}
 use Rattle.lists.proofs.Rows.{length-from}
-use Rattle.windows.specs.Tables.{Placed, tableByte, tableOf}
+use Rattle.windows.specs.Tables.{tableOf}
 use Rattle.windows.proofs.Right.{length-placed, lists-in-front, sums-right}
 use Rattle.windows.proofs.bytes.window_sums.Statement.{statement}
 use Rattle.windows.proofs.bytes.window_sums.Tie as tie

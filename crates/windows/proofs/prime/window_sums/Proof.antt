@@ -1,16 +1,14 @@
 -- `window_sums` meets its contract. The loop's invariant: the places below t have their sum.
-use mathlib.Core.Path.{_≡_, sym, ap, _∙_}
-use Prim.Native.Nat.{ℕ, _-_, _%_, _≤_, _<_}
+use Prim.Native.Nat.{_-_, _≤_}
 use native.Mathlib.Nat.{mod-lt}
 use native.Mathlib.Omega.{arith}
-use borrow.Author.Needs.{needs}
-use lib.ListN.{length, getD, drop, length-drop}
+use lib.ListN.{length, drop, length-drop}
 use Rattle.lists.proofs.Parts.{Valued, valued-start, valued-all}
 use Rattle.lists.proofs.Fill.{fills-put}
 use Rattle.lists.proofs.Rows.{from-next, part-rest}
 use Rattle.field.specs.Sums.{dot}
 use Rattle.field.proofs.Primes.{two≤prime}
-use Rattle.windows.specs.Windows.{windowSums, productSum}
+use Rattle.windows.specs.Windows.{windowSums}
 use Rattle.windows.proofs.Products.{dot-reduced}
 use Rattle.windows.proofs.prime.window_sums.Statement.{statement}
 use Rattle.windows.proofs.prime.window_sums.Tie as tie

@@ -1,6 +1,5 @@
 -- `in_rounds` meets its contract. The loop's invariant: the shifts below i have such a place.
 use mathlib.Core.Logic.{by-cases}
-use mathlib.Core.Path.{_≡_, sym}
 use Prim.Native.Nat.{ℕ, _-_, _%_, _≤_, _<_}
 use native.Mathlib.Decide.{ℕ-discrete}
 use native.Mathlib.Omega.{arith}

@@ -1,10 +1,9 @@
 -- `rounds_of` meets its contract: the tests are what it is to come in rounds.
-use mathlib.Core.Path.{_≡_, sym}
-use Prim.Native.Nat.{ℕ, _*_, _/_, _≤_, _<_}
+use Prim.Native.Nat.{ℕ, _/_}
 use native.Mathlib.Nat.{div-le-self, div-mul-le-self, mul-le-mul}
 use native.Mathlib.Omega.{arith}
 use borrow.Author.Needs.{needs}
-use lib.ListN.{length, getD}
+use lib.ListN.{getD}
 use Rattle.word_message.proofs.rounds.rounds_of.Statement.{statement}
 use Rattle.word_message.proofs.rounds.rounds_of.Tie as tie
 

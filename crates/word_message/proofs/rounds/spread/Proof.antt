@@ -1,9 +1,8 @@
 -- `spread` meets its contract.
-use Prim.Native.Nat.{_-_, _/_, _%_, _≤_}
+use Prim.Native.Nat.{_-_, _/_, _%_}
 use native.Mathlib.Omega.{arith}
-use borrow.Author.Needs.{needs}
 use lib.Dec.{eqb}
-use lib.ListN.{length, getD}
+use lib.ListN.{getD}
 use Rattle.lists.specs.Choice.{pick}
 use Rattle.lists.specs.Padded.{zeros}
 use Rattle.lists.proofs.Fill.{Filled, filled-start, filled-put, filled-end}

@@ -1,6 +1,5 @@
 -- `spread_at` meets its contract.
-use mathlib.Core.Path.{_≡_, refl}
-use Prim.Native.Nat.{_/_, _%_, _≤_}
+use Prim.Native.Nat.{_%_}
 use native.Mathlib.Nat.{div-le-self}
 use native.Mathlib.Omega.{arith}
 use borrow.Author.Needs.{needs}

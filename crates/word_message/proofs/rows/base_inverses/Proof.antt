@@ -6,7 +6,7 @@ use native.Mathlib.Omega.{arith}
 use borrow.Author.Needs.{needs}
 use lib.ListN.{getD, set}
 use Rattle.lists.specs.Padded.{zeros}
-use Rattle.field.specs.Fields.{mul, power}
+use Rattle.field.specs.Fields.{mul}
 use Rattle.field.proofs.Bounds.{power-below}
 use Rattle.field.proofs.KindLaws.{size-fits}
 use Rattle.generator.specs.Records.{modulusOf, size}

@@ -1,7 +1,6 @@
 -- `step_ratio` meets its contract.
-use mathlib.Core.Path.{_≡_, _∙_}
+use mathlib.Core.Path.{_∙_}
 use Prim.Native.Nat.{_<_}
-use native.Mathlib.Omega.{arith}
 use borrow.Author.Needs.{needs}
 use Rattle.field.proofs.Bounds.{one-below, sub-below, mul-below}
 use Rattle.field.proofs.Inverse.{inverse-below}
