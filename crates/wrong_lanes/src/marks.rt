@@ -1,13 +1,16 @@
 // Marks of the lanes that are no word of the code: one lane by its check sums, more as a product of matrices.
 ghost use mathlib.Core.Path.{_≡_};
+ghost use Prim.Native.Nat.{_-_, _*_, _≤_};
 ghost use lib.ListN.{length};
 ghost use Rattle.lists.specs.Choice.{pick};
 ghost use Rattle.lists.specs.Padded.{zeros};
 ghost use Rattle.layout.specs.Layout.{byLane, shareLayout};
 ghost use Rattle.layout.specs.Width.{symbolsOf};
-ghost use Rattle.generator.specs.Records.{width};
+ghost use Rattle.generator.specs.Records.{modulusOf, width};
 ghost use Rattle.refusals.specs.Accepted.{SymbolBuffer, SymbolBytes};
+ghost use Rattle.products.specs.Products.{Codes, groupsOf};
 ghost use Rattle.wrong_lanes.specs.Marks.{wordMarks};
+ghost use Rattle.wrong_lanes.specs.Checks.{checkProduct};
 use crate::check_rows::list_checks;
 use check_sums::lane;
 use generator::Header;
@@ -33,39 +36,62 @@ fn mark_lane(h: Header, w: usize, shares: &[u8], marks: &mut [u8])
     marks[0] = mark_of(word);
 }
 
-// Marks of several lanes as a product of matrices, in the smallest scratch that the record's nodes fit: clearing the largest takes longer than the work of a small record.
-fn mark_several(h: Header, w: usize, lanes: usize, shares: &[u8], marks: &mut [u8])
-    requires { ⌜ SymbolBytes h w (h .n) lanes (now shares) × (length (now marks) ≡ lanes) ⌝ }
-    ensures { λ r. ⌜ now (marks .exit) ≡ wordMarks byLane h lanes (symbolsOf w (now (shares .entry))) ⌝ }
+// The product of the checks and so many lanes.
+fn product_of(h: Header, lanes: usize) -> Product
+    requires { ⌜ h .k ≤ h .n ⌝ }
+    ensures { λ r. ⌜ r ≡ checkProduct h lanes ⌝ }
 {
     let way = Way::LanesToMarks;
     let field = h.field;
     let outputs = (h.n - h.k) as usize;
     let rows = h.n as usize;
-    let m = Product {
+    Product {
         way: way,
         field: field,
         outputs: outputs,
         rows: rows,
         lanes: lanes,
-    };
+    }
+}
+
+// Marks of several lanes as a product of matrices, by lists in scratch that is long enough.
+fn mark_with(
+    h: Header,
+    w: usize,
+    lanes: usize,
+    shares: &[u8],
+    codes: &[u64],
+    lists: &mut [u16],
+    counts: &mut [u8],
+    marks: &mut [u8],
+)
+    requires { ⌜ SymbolBytes h w (h .n) lanes (now shares) × (length (now marks) ≡ lanes) × ((h .n - h .k) * (8 * groupsOf (h .n)) ≤ length (now lists)) × ((h .n - h .k) * 8 ≤ length (now counts)) × Codes (modulusOf h) (now codes) ⌝ }
+    ensures { λ r. ⌜ now (marks .exit) ≡ wordMarks byLane h lanes (symbolsOf w (now (shares .entry))) ⌝ }
+{
+    list_checks(h, lanes, codes, lists, counts);
+    lane_products::fill(product_of(h, lanes), w, lists, counts, shares, marks);
+}
+
+// The same in the smallest scratch that the record's nodes fit: clearing the largest takes longer than the work of a small record.
+fn mark_several(h: Header, w: usize, lanes: usize, shares: &[u8], marks: &mut [u8])
+    requires { ⌜ SymbolBytes h w (h .n) lanes (now shares) × (length (now marks) ≡ lanes) ⌝ }
+    ensures { λ r. ⌜ now (marks .exit) ≡ wordMarks byLane h lanes (symbolsOf w (now (shares .entry))) ⌝ }
+{
+    let field = h.field;
     let codes = products::codes_of(field);
     if h.n <= 16 {
         let mut lists = scratch::small_lists();
         let mut counts = scratch::small_counts();
-        list_checks(h, lanes, &codes, &mut lists, &mut counts);
-        return lane_products::fill(m, w, &lists, &counts, shares, marks);
+        return mark_with(h, w, lanes, shares, &codes, &mut lists, &mut counts, marks);
     }
     if h.n <= 64 {
         let mut lists = scratch::middle_lists();
         let mut counts = scratch::middle_counts();
-        list_checks(h, lanes, &codes, &mut lists, &mut counts);
-        return lane_products::fill(m, w, &lists, &counts, shares, marks);
+        return mark_with(h, w, lanes, shares, &codes, &mut lists, &mut counts, marks);
     }
     let mut lists = scratch::large_lists();
     let mut counts = scratch::large_counts();
-    list_checks(h, lanes, &codes, &mut lists, &mut counts);
-    lane_products::fill(m, w, &lists, &counts, shares, marks);
+    mark_with(h, w, lanes, shares, &codes, &mut lists, &mut counts, marks);
 }
 
 // Marks all lanes, which have the mark 0 before.
