@@ -1,4 +1,5 @@
 -- The inverse of the encoding at listed nodes.
 pub mod Columns
 pub mod Rows
+pub mod Prepared
 pub mod Room

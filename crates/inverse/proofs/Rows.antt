@@ -31,12 +31,8 @@ use Rattle.recovery.specs.Weights.{Recovers}
 use Rattle.recovery.proofs.InverseRows.{length-weightsOf}
 use Rattle.recovery.proofs.Parts.{parts, node-symbols, row-symbols, base-symbols, term-symbols}
 use Rattle.recovery.proofs.Recovering.{recovers}
-use Rattle.layout.specs.Width.{symbolsOf, bytesOf}
-use Rattle.layout.proofs.Widths.{symbols-bytes}
 use Rattle.products.specs.Matrices.{Begun}
-use Rattle.lane_products.specs.declared.Product.{Product}
-use Rattle.lane_products.specs.Ways.{sideOf, written, sumOf}
-use Rattle.inverse.specs.Inverse.{nodePoints, inverseRow, scaledColumn, rowProduct}
+use Rattle.inverse.specs.Inverse.{nodePoints, inverseRow, scaledColumn}
 
 -- a lane of rows that stand one after the other
 row-lane : (k : ℕ) (g : ℕ → List ℕ) → ((r : ℕ) → length (g r) ≡ k) → (r : ℕ) → r < k → laneOf byLane k k r (rowsFrom g 0 k) ≡ g r
@@ -80,16 +76,6 @@ module _ (h : Header) (s : Sound h) (few : h .k ≤ 255) where
     -- the sums of all rows' terms with all quotients
     abbrev pub sumsOf : List ℕ
     sumsOf = buffer byRow (h .k) (h .k) (λ i r. dot (modulusOf h) (laneOf byLane (h .k) (h .k) r (rowsFrom (rowTerms h) 0 (h .k))) (quotientOf (modulusOf h) (getD points i 0) cs))
-
-    -- as they are written
-    pub sums-read : (w : ℕ) → 1 ≤ w → (terms out : List ℕ) (m : Product) → m ≡ rowProduct h (h .k) → terms ≡ bytesOf w (rowsFrom (rowTerms h) 0 (h .k)) → out ≡ written (m .way) w (m .outputs) (m .lanes) (sumOf m w (λ i. quotientOf (modulusOf h) (getD points i 0) cs) terms) → symbolsOf w out ≡ sumsOf
-    unfolding written sideOf
-    sums-read w some terms out m e t o =
-        let read : symbolsOf w terms ≡ rowsFrom (rowTerms h) 0 (h .k) = ap (symbolsOf w) t ∙ symbols-bytes w (rowsFrom (rowTerms h) 0 (h .k)) some in
-        ap (symbolsOf w)
-        (rw e at o
-        ∙ ap (λ (xs : List ℕ). bytesOf w (buffer byRow (h .k) (h .k) (λ i r. dot (modulusOf h) (laneOf byLane (h .k) (h .k) r xs) (quotientOf (modulusOf h) (getD points i 0) cs)))) read)
-        ∙ symbols-bytes w sumsOf some
 
     -- column r of them, with scales, is row r of the inverse
     pub column-row : length scales ≡ h .k → (r : ℕ) → r < h .k → scaledColumn (modulusOf h) (getD (scalesOf (modulusOf h) (rowPoints h)) r 0) scales r sumsOf ≡ inverseRow h js r

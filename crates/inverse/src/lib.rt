@@ -1,6 +1,5 @@
 // The inverse of the encoding at listed nodes, as lists of weights, and the message by it. Each entry is a sum over the terms of a row and the quotient of the nodes' product polynomial by a linear factor: all sums together are the product of two matrices.
 ghost use mathlib.Core.Path.{_≡_};
-ghost use mathlib.Core.Bool.{true};
 ghost use Prim.Native.Nat.{_*_, _<_};
 ghost use lib.ListN.{length, getD};
 ghost use Rattle.lists.specs.Rows.{rowsFrom};
@@ -10,13 +9,12 @@ ghost use Rattle.field.specs.Fields.{sizeOf};
 ghost use Rattle.field.specs.Kinds.{modulus};
 ghost use Rattle.field.specs.Tables.{AreTables};
 ghost use Rattle.generator.specs.Records.{modulusOf, width, Sound};
-ghost use Rattle.generator.specs.Claims.{areNodes};
 ghost use Rattle.interpolation.specs.Points.{SymbolList};
 ghost use Rattle.interpolation.specs.Polynomials.{quotientOf};
-ghost use Rattle.recovery.specs.Rows.{basisOf, rowPoints, baseInverses, setupOf, rowTerms};
+ghost use Rattle.recovery.specs.Rows.{basisOf, rowPoints, baseInverses, rowTerms};
 ghost use Rattle.products.specs.Products.{Codes};
 ghost use Rattle.products.specs.Matrices.{Begun};
-ghost use Rattle.inverse.specs.Inverse.{inverseRow, scaledColumn, rowProduct, ListRoom, SumBytes};
+ghost use Rattle.inverse.specs.Inverse.{Prepared, preparedRow, preparedSums, scaledColumn, rowProduct, ListRoom, SumBytes};
 
 mod message;
 
@@ -134,10 +132,43 @@ fn product_of(h: Header, lanes: usize) -> Product
     }
 }
 
+// The sums of all rows' terms with all quotients; the rest of what is lent is scratch.
+fn fill_sums(
+    h: Header,
+    setup: Setup,
+    w: usize,
+    codes: &[u64],
+    lists: &mut [u16],
+    counts: &mut [u8],
+    terms: &mut [u8],
+    sums: &mut [u8],
+)
+    requires { ⌜ Sound h × (w ≡ width h) × Prepared h setup × Codes (modulusOf h) (now codes) × ListRoom (h .k) (length (now lists)) (length (now counts)) × (length (now terms) ≡ w * h .k * h .k) × (length (now sums) ≡ w * h .k * h .k) ⌝ }
+    ensures { λ r. ⌜ now (sums .exit) ≡ bytesOf w (preparedSums h setup) ⌝ }
+{
+    let field = h.field;
+    let k = h.k as usize;
+    let first: usize = 1;
+    let end = k + 1;
+    let rows = setup.shifts;
+    let points = setup.nodes.points;
+    let product = setup.nodes.product;
+    let base = setup.base;
+    fill_terms(h, w, rows, base, terms);
+    list_quotients(
+        field,
+        &points[..k],
+        &product[first..end],
+        codes,
+        lists,
+        counts,
+    );
+    lane_products::fill(product_of(h, k), w, lists, counts, terms, sums);
+}
+
 // The lists of all rows of the inverse, from what was prepared for the listed nodes; `terms` and `sums` are scratch.
 fn list_rows(
     h: Header,
-    nodes: &[u8],
     setup: Setup,
     w: usize,
     lists: &mut [u16],
@@ -145,31 +176,15 @@ fn list_rows(
     terms: &mut [u8],
     sums: &mut [u8],
 )
-    requires { ⌜ Sound h × (w ≡ width h) × (areNodes h (now nodes) ≡ true) × (setup ≡ setupOf h (now nodes)) × ListRoom (h .k) (length (now lists)) (length (now counts)) × (length (now terms) ≡ w * h .k * h .k) × (length (now sums) ≡ w * h .k * h .k) ⌝ }
-    ensures { λ r. ⌜ Begun (modulusOf h) (h .k) (inverseRow h (now (nodes .entry))) (h .k) (now (lists .exit)) (now (counts .exit)) ⌝ }
+    requires { ⌜ Sound h × (w ≡ width h) × Prepared h setup × ListRoom (h .k) (length (now lists)) (length (now counts)) × (length (now terms) ≡ w * h .k * h .k) × (length (now sums) ≡ w * h .k * h .k) ⌝ }
+    ensures { λ r. ⌜ Begun (modulusOf h) (h .k) (preparedRow h setup) (h .k) (now (lists .exit)) (now (counts .exit)) ⌝ }
 {
     let field = h.field;
     let k = h.k as usize;
-    let first: usize = 1;
-    let end = k + 1;
-    let own = setup.nodes;
-    let rows = setup.shifts;
-    let points = own.points;
-    let product = own.product;
-    let scales = own.scales;
-    let factors = rows.scales;
-    let base = setup.base;
+    let scales = setup.nodes.scales;
+    let factors = setup.shifts.scales;
     let codes = products::codes_of(field);
-    fill_terms(h, w, rows, base, terms);
-    list_quotients(
-        field,
-        &points[..k],
-        &product[first..end],
-        &codes,
-        lists,
-        counts,
-    );
-    lane_products::fill(product_of(h, k), w, lists, counts, terms, sums);
+    fill_sums(h, setup, w, &codes, lists, counts, terms, sums);
     list_columns(
         field,
         &factors[..k],

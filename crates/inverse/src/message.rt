@@ -9,7 +9,7 @@ ghost use Rattle.field.specs.Sums.{dot};
 ghost use Rattle.generator.specs.Records.{modulusOf, width, Sound};
 ghost use Rattle.generator.specs.Claims.{areNodes};
 ghost use Rattle.recovery.specs.Rows.{setupOf};
-ghost use Rattle.inverse.specs.Inverse.{inverseRow, ListRoom};
+ghost use Rattle.inverse.specs.Inverse.{inverseRow, Prepared, preparedRow, ListRoom};
 use crate::list_rows;
 use crate::product_of;
 use generator::Header;
@@ -19,7 +19,6 @@ use recovery::Setup;
 // The message in scratch that is long enough.
 fn fill_with(
     h: Header,
-    nodes: &[u8],
     setup: Setup,
     w: usize,
     lanes: usize,
@@ -30,14 +29,13 @@ fn fill_with(
     sums: &mut [u8],
     out: &mut [u8],
 )
-    requires { ⌜ Sound h × (w ≡ width h) × (areNodes h (now nodes) ≡ true) × (setup ≡ setupOf h (now nodes)) × (lanes ≤ 4096) × (length (now shares) ≡ w * h .k * lanes) × (length (now out) ≡ w * h .k * lanes) × ListRoom (h .k) (length (now lists)) (length (now counts)) × (w * h .k * h .k ≤ length (now terms)) × (w * h .k * h .k ≤ length (now sums)) ⌝ }
-    ensures { λ r. ⌜ now (out .exit) ≡ bytesOf w (buffer byRow (h .k) lanes (λ r t. dot (modulusOf h) (laneOf byLane (h .k) lanes t (symbolsOf w (now (shares .entry)))) (inverseRow h (now (nodes .entry)) r))) ⌝ }
+    requires { ⌜ Sound h × (w ≡ width h) × Prepared h setup × (lanes ≤ 4096) × (length (now shares) ≡ w * h .k * lanes) × (length (now out) ≡ w * h .k * lanes) × ListRoom (h .k) (length (now lists)) (length (now counts)) × (w * h .k * h .k ≤ length (now terms)) × (w * h .k * h .k ≤ length (now sums)) ⌝ }
+    ensures { λ r. ⌜ now (out .exit) ≡ bytesOf w (buffer byRow (h .k) lanes (λ r t. dot (modulusOf h) (laneOf byLane (h .k) lanes t (symbolsOf w (now (shares .entry)))) (preparedRow h setup r))) ⌝ }
 {
     let k = h.k as usize;
     let square = w * k * k;
     list_rows(
         h,
-        nodes,
         setup,
         w,
         lists,
@@ -61,71 +59,7 @@ fn large_square() -> [u8; 130050]
     [0u8; 130050]
 }
 
-// At most 64 nodes listed.
-fn fill_middle(
-    h: Header,
-    nodes: &[u8],
-    setup: Setup,
-    w: usize,
-    lanes: usize,
-    shares: &[u8],
-    out: &mut [u8],
-)
-    requires { ⌜ Sound h × (w ≡ width h) × (areNodes h (now nodes) ≡ true) × (setup ≡ setupOf h (now nodes)) × (lanes ≤ 4096) × (length (now shares) ≡ w * h .k * lanes) × (length (now out) ≡ w * h .k * lanes) × (h .k ≤ 64) ⌝ }
-    ensures { λ r. ⌜ now (out .exit) ≡ bytesOf w (buffer byRow (h .k) lanes (λ r t. dot (modulusOf h) (laneOf byLane (h .k) lanes t (symbolsOf w (now (shares .entry)))) (inverseRow h (now (nodes .entry)) r))) ⌝ }
-{
-    let mut lists = scratch::middle_lists();
-    let mut counts = scratch::middle_counts();
-    let mut terms = middle_square();
-    let mut sums = middle_square();
-    fill_with(
-        h,
-        nodes,
-        setup,
-        w,
-        lanes,
-        shares,
-        &mut lists,
-        &mut counts,
-        &mut terms,
-        &mut sums,
-        out,
-    );
-}
-
-// Any number of nodes listed.
-fn fill_large(
-    h: Header,
-    nodes: &[u8],
-    setup: Setup,
-    w: usize,
-    lanes: usize,
-    shares: &[u8],
-    out: &mut [u8],
-)
-    requires { ⌜ Sound h × (w ≡ width h) × (areNodes h (now nodes) ≡ true) × (setup ≡ setupOf h (now nodes)) × (lanes ≤ 4096) × (length (now shares) ≡ w * h .k * lanes) × (length (now out) ≡ w * h .k * lanes) × (h .k ≤ 255) ⌝ }
-    ensures { λ r. ⌜ now (out .exit) ≡ bytesOf w (buffer byRow (h .k) lanes (λ r t. dot (modulusOf h) (laneOf byLane (h .k) lanes t (symbolsOf w (now (shares .entry)))) (inverseRow h (now (nodes .entry)) r))) ⌝ }
-{
-    let mut lists = scratch::large_lists();
-    let mut counts = scratch::large_counts();
-    let mut terms = large_square();
-    let mut sums = large_square();
-    fill_with(
-        h,
-        nodes,
-        setup,
-        w,
-        lanes,
-        shares,
-        &mut lists,
-        &mut counts,
-        &mut terms,
-        &mut sums,
-        out,
-    );
-}
-
-// The message of the listed shares, row after row.
+// The message of the listed shares, row after row, in the smaller scratch that the nodes fit.
 pub fn fill_message(
     h: Header,
     nodes: &[u8],
@@ -139,8 +73,37 @@ pub fn fill_message(
     ensures { λ r. ⌜ now (out .exit) ≡ bytesOf w (buffer byRow (h .k) lanes (λ r t. dot (modulusOf h) (laneOf byLane (h .k) lanes t (symbolsOf w (now (shares .entry)))) (inverseRow h (now (nodes .entry)) r))) ⌝ }
 {
     if h.k <= 64 {
-        fill_middle(h, nodes, setup, w, lanes, shares, out);
-        return;
+        let mut lists = scratch::middle_lists();
+        let mut counts = scratch::middle_counts();
+        let mut terms = middle_square();
+        let mut sums = middle_square();
+        return fill_with(
+            h,
+            setup,
+            w,
+            lanes,
+            shares,
+            &mut lists,
+            &mut counts,
+            &mut terms,
+            &mut sums,
+            out,
+        );
     }
-    fill_large(h, nodes, setup, w, lanes, shares, out);
+    let mut lists = scratch::large_lists();
+    let mut counts = scratch::large_counts();
+    let mut terms = large_square();
+    let mut sums = large_square();
+    fill_with(
+        h,
+        setup,
+        w,
+        lanes,
+        shares,
+        &mut lists,
+        &mut counts,
+        &mut terms,
+        &mut sums,
+        out,
+    );
 }

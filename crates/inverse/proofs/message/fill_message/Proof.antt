@@ -1,26 +1,84 @@
--- `fill_message` meets its contract: the sizes go up to every record's.
+-- `fill_message` meets its contract: the scratch of either size is long enough, and what is prepared gives the inverse.
+use mathlib.Core.Path.{_∙_}
 use native.Mathlib.Omega.{arith}
 use borrow.Author.Needs.{needs}
+use Rattle.inverse.specs.Inverse.{Prepared}
+use Rattle.inverse.proofs.Room.{square-room}
+use Rattle.inverse.proofs.Prepared.{message-same}
 use Rattle.inverse.proofs.message.fill_message.Statement.{statement}
 use Rattle.inverse.proofs.message.fill_message.Tie as tie
 
-fill-middle-requires : tie.Need-fill-middle-requires
-fill-middle-requires c κs = search needs
+-- what is prepared for the listed nodes
+prepared : (c : tie.Start) → Prepared (c .args .h) (c .args .setup)
+prepared c = record { nodes = c .args .nodes .now; are-nodes = c .pre .2; is = c .pre .3 }
+
+middle-lists-requires : tie.Need-middle-lists-requires
+middle-lists-requires c κs = search needs
+
+middle-counts-requires : tie.Need-middle-counts-requires
+middle-counts-requires c κs = search needs
+
+middle-square-requires : tie.Need-middle-square-requires
+middle-square-requires c κs = search needs
+
+middle-square-requires-2 : tie.Need-middle-square-requires-2
+middle-square-requires-2 c κs = search needs
+
+slice-aggregate-fill-with : tie.Need-slice-aggregate-fill-with
+slice-aggregate-fill-with c = search needs
+
+slice-aggregate-fill-with-2 : tie.Need-slice-aggregate-fill-with-2
+slice-aggregate-fill-with-2 c = search needs
+
+slice-aggregate-fill-with-3 : tie.Need-slice-aggregate-fill-with-3
+slice-aggregate-fill-with-3 c = search needs
+
+slice-aggregate-fill-with-4 : tie.Need-slice-aggregate-fill-with-4
+slice-aggregate-fill-with-4 c = search needs
+
+fill-with-requires : tie.Need-fill-with-requires
+fill-with-requires c κs = let s = c .before .before .before .before .before .before .before .before .before .before .before .before .before .before in let p = s .pre in let r = square-room _ 16 64 (p .1) (c .before .before .before .before .before .before .before .before .before .if1 .taken) (omega arith) (c .before .before .before .before .before .before .before .before .middle-lists .ensures) (c .before .before .before .before .before .before .before .middle-counts .ensures) (c .before .before .before .before .before .before .middle-square .ensures) (c .before .before .before .before .before .middle-square2 .ensures) in (p .0, p .1, prepared s, p .4, p .5, p .6, r .0, r .1, r .2)
 
 same-length : tie.Need-same-length
 same-length c = search needs
 
 returns : tie.Need-returns
-returns c = search needs
+unfolding prepared
+returns c = let s = c .before .before .before .before .before .before .before .before .before .before .before .before .before .before .before .before .before .before .before .before .before in c .before .before .before .before .before .before .fill-with .ensures ∙ message-same (s .pre .0) (prepared s) (s .args .w) (s .args .lanes) (s .args .shares .now)
 
-fill-large-requires : tie.Need-fill-large-requires
-fill-large-requires c κs = let p = c .before .before .before .before .before .before .pre in (p .0, p .1, p .2, p .3, p .4, p .5, p .6, omega (arith, p .0 .fits, p .0 .byte))
+large-lists-requires : tie.Need-large-lists-requires
+large-lists-requires c κs = search needs
+
+large-counts-requires : tie.Need-large-counts-requires
+large-counts-requires c κs = search needs
+
+large-square-requires : tie.Need-large-square-requires
+large-square-requires c κs = search needs
+
+large-square-requires-2 : tie.Need-large-square-requires-2
+large-square-requires-2 c κs = search needs
+
+slice-aggregate-fill-with-5 : tie.Need-slice-aggregate-fill-with-5
+slice-aggregate-fill-with-5 c = search needs
+
+slice-aggregate-fill-with-6 : tie.Need-slice-aggregate-fill-with-6
+slice-aggregate-fill-with-6 c = search needs
+
+slice-aggregate-fill-with-7 : tie.Need-slice-aggregate-fill-with-7
+slice-aggregate-fill-with-7 c = search needs
+
+slice-aggregate-fill-with-8 : tie.Need-slice-aggregate-fill-with-8
+slice-aggregate-fill-with-8 c = search needs
+
+fill-with-requires-2 : tie.Need-fill-with-requires-2
+fill-with-requires-2 c κs = let s = c .before .before .before .before .before .before .before .before .before .before .before .before .before .before in let p = s .pre in let r = square-room _ 64 255 (p .1) (omega (arith, p .0 .fits, p .0 .byte)) (omega arith) (c .before .before .before .before .before .before .before .before .large-lists .ensures) (c .before .before .before .before .before .before .before .large-counts .ensures) (c .before .before .before .before .before .before .large-square .ensures) (c .before .before .before .before .before .large-square2 .ensures) in (p .0, p .1, prepared s, p .4, p .5, p .6, r .0, r .1, r .2)
 
 same-length-2 : tie.Need-same-length-2
 same-length-2 c = search needs
 
 returns-2 : tie.Need-returns-2
-returns-2 c = search needs
+unfolding prepared
+returns-2 c = let s = c .before .before .before .before .before .before .before .before .before .before .before .before .before .before .before .before .before .before .before .before .before in c .before .before .before .before .before .before .fill-with2 .ensures ∙ message-same (s .pre .0) (prepared s) (s .args .w) (s .args .lanes) (s .args .shares .now)
 
 pub fill-message-spec : {M : Type 1} → statement M
-fill-message-spec = tie.close (tie.spec fill-middle-requires same-length returns fill-large-requires same-length-2 returns-2)
+fill-message-spec = tie.close (tie.spec middle-lists-requires middle-counts-requires middle-square-requires middle-square-requires-2 slice-aggregate-fill-with slice-aggregate-fill-with-2 slice-aggregate-fill-with-3 slice-aggregate-fill-with-4 fill-with-requires same-length returns large-lists-requires large-counts-requires large-square-requires large-square-requires-2 slice-aggregate-fill-with-5 slice-aggregate-fill-with-6 slice-aggregate-fill-with-7 slice-aggregate-fill-with-8 fill-with-requires-2 same-length-2 returns-2)
