@@ -1,25 +1,35 @@
 -- `wide::add_products` meets its contract: nothing is added for the weight 0. The loop's invariant: the lanes below t hold their sums.
-use mathlib.Core.Path.{_≡_, sym, ap}
+use mathlib.Core.Path.{_≡_, sym, ap, _∙_}
 use mathlib.Core.List.{List}
-use Prim.Native.Nat.{ℕ, _+_, _-_, _*_, _/_, _%_, _≤_}
+use Prim.Native.Nat.{ℕ, _+_, _-_, _*_, _/_, _%_, _≤_, _<_}
 use native.Mathlib.Nat.{mul-zero}
 use native.Mathlib.Omega.{arith}
 use borrow.Author.Needs.{needs}
-use lib.ListN.{length}
+use lib.ListN.{length, getD, set}
 use Rattle.kernel.specs.Halves.{productAt, wrapped}
 use Rattle.kernel.proofs.Filling.{Changed, changed-none, changed-lane, changed-all}
 use Rattle.kernel.proofs.Halves.{wrapped-none}
 use Rattle.kernel.proofs.wide.add_products.Statement.{statement}
 use Rattle.kernel.proofs.wide.add_products.Tie as tie
 
+-- the lanes below t have their sums
 abbrev Adding : (ℕ → ℕ) → List ℕ → List ℕ → ℕ → Type 0
-Adding f start now t = Changed (λ t y. (y + f t) % 65536) start now t
+Adding f start now t = (length start ≡ 16) × Changed (λ t y. (y + f t) % 65536) start now t
 
 abbrev Inv-loop : tie.InvT-loop
-Inv-loop weight first second a₀ b₀ c₀ d₀ t₀ a b c d t = (t ≤ 16) × ((length a₀ ≡ 16) × Adding (λ t. productAt weight first second t % 65536) a₀ a t) × ((length b₀ ≡ 16) × Adding (λ t. productAt weight first second t % 65536 / 256) b₀ b t) × ((length c₀ ≡ 16) × Adding (λ t. productAt weight first second t / 65536) c₀ c t) × ((length d₀ ≡ 16) × Adding (λ t. productAt weight first second t / 65536 / 256) d₀ d t)
+Inv-loop weight first second a₀ b₀ c₀ d₀ t₀ a b c d t = (t ≤ 16) × Adding (λ t. productAt weight first second t % 65536) a₀ a t × Adding (λ t. productAt weight first second t % 65536 / 256) b₀ b t × Adding (λ t. productAt weight first second t / 65536) c₀ c t × Adding (λ t. productAt weight first second t / 65536 / 256) d₀ d t
 
 abbrev μ-loop : tie.MeasureT-loop
 μ-loop weight first second a₀ b₀ c₀ d₀ t₀ a b c d t = 16 - t
+
+-- one lane more: y is what the lane holds now, x what was added
+added : (f : ℕ → ℕ) (start : List ℕ) {now : List ℕ} {t x y : ℕ} → t < 16 → Adding f start now t → y ≡ (getD now t 0 + x) % 65536 → x ≡ f t → Adding f start (set now t y) (t + 1)
+added f start inside (long, sums) is from = (long, rw (is, from) (changed-lane _ _ sums (rw long inside)))
+
+-- all lanes
+summed : (f : ℕ → ℕ) (start : List ℕ) {now : List ℕ} {t : ℕ} → 16 ≤ t → Adding f start now t → now ≡ wrapped f start
+unfolding wrapped
+summed f start done (long, sums) = changed-all _ _ sums (rw long done)
 
 -- a product with 0
 none : (c : tie.Then1 Inv-loop μ-loop) → let a = c .before .before .before .args in (t : ℕ) → productAt (a .weight) (a .first .now) (a .second .now) t ≡ 0
@@ -128,22 +138,24 @@ product-is c = ap (λ (x : ℕ). x * c .before .before .before .before .before .
 
 loop-again : tie.Need-loop-again Inv-loop μ-loop
 loop-again c =
-    let inv = c .before .before .before .before .before .before .before .before .before .before .before .before .before .before .loop .inv in
-    let is = product-is (c .before .before .before .before .before .before .before .before .before .before) in
-    let low = c .before .before .before .before .before .before .before .before .before .lower .ensures in
-    let high = c .before .before .before .before .before .before .before .before .upper .ensures in (
-      omega arith,
-      (inv .1 .0, rw (c .before .before .before .before .before .before .wrapping-add-u16 .ensures, low, ← is) (changed-lane _ _ (inv .1 .1) (omega arith))),
-      (inv .2 .0, rw (c .before .before .before .before .wrapping-add-u162 .ensures, low, ← is) (changed-lane _ _ (inv .2 .1) (omega arith))),
-      (inv .3 .0, rw (c .before .before .wrapping-add-u163 .ensures, high, ← is) (changed-lane _ _ (inv .3 .1) (omega arith))),
-      (inv .4 .0, rw (c .wrapping-add-u164 .ensures, high, ← is) (changed-lane _ _ (inv .4 .1) (omega arith))),
+    let turn = c .before .before .before .before .before .before .before .before .before .before in
+    let inv = turn .before .before .before .before .loop .inv in
+    let inside = turn .before .before .before .loop-test .taken in
+    let is = sym (product-is turn) in
+    let low = c .before .before .before .before .before .before .before .before .before .lower .ensures ∙ ap (λ (x : ℕ). x % 65536) is in
+    let high = c .before .before .before .before .before .before .before .before .upper .ensures ∙ ap (λ (x : ℕ). x / 65536) is in (
+      omega (arith, inside),
+      added _ _ inside (inv .1) (c .before .before .before .before .before .before .wrapping-add-u16 .ensures) low,
+      added _ _ inside (inv .2) (c .before .before .before .before .wrapping-add-u162 .ensures) (ap (λ (x : ℕ). x / 256) low),
+      added _ _ inside (inv .3) (c .before .before .wrapping-add-u163 .ensures) high,
+      added _ _ inside (inv .4) (c .wrapping-add-u164 .ensures) (ap (λ (x : ℕ). x / 256) high),
     )
 
 returns-2 : tie.Need-returns-2 Inv-loop μ-loop
-unfolding wrapped
 returns-2 c =
     let inv = c .before .loop .inv in
-    (changed-all _ _ (inv .1 .1) (omega arith), changed-all _ _ (inv .2 .1) (omega arith), changed-all _ _ (inv .3 .1) (omega arith), changed-all _ _ (inv .4 .1) (omega arith))
+    let done = c .loop-test .left in
+    (summed _ _ done (inv .1), summed _ _ done (inv .2), summed _ _ done (inv .3), summed _ _ done (inv .4))
 
 pub add-products-spec : {M : Type 1} → statement M
 add-products-spec =
