@@ -1,5 +1,5 @@
 -- What the search for the order of a symbol finds is its order in the field.
-use mathlib.Core.Path.{_≡_, sym, ap, _∙_}
+use mathlib.Core.Path.{_≡_, refl, sym, ap, _∙_}
 use mathlib.Core.Bool.{true, false}
 use mathlib.Core.Logic.{⊎-elim}
 use Prim.Native.Nat.{ℕ, zero, suc, _+_, _-_, _≤_, _<_}
@@ -47,12 +47,12 @@ module _ (p a : ℕ) where
       })
 
   -- one step of the search: it ends where x is 1, else goes on with the next power
-  pub order-stop : (f e x : ℕ) → 0 < f → x ≡ 1 → orderFrom f e p a x ≡ e
+  order-stop : (f e x : ℕ) → 0 < f → x ≡ 1 → orderFrom f e p a x ≡ e
   unfolding orderFrom
   order-stop zero e x pos h = absurd (omega arith)
   order-stop (suc f) e x pos h = rw (eq-eqb x 1 h)
 
-  pub order-step : (f g e x : ℕ) → f ≡ suc g → (x ≡ 1 → ⊥) → orderFrom f e p a x ≡ orderFrom g (e + 1) p a (mul p a x)
+  order-step : (f g e x : ℕ) → f ≡ suc g → (x ≡ 1 → ⊥) → orderFrom f e p a x ≡ orderFrom g (e + 1) p a (mul p a x)
   unfolding orderFrom
   order-step f g e x more h = rw (more, ne-eqb x 1 h)
 
@@ -69,15 +69,46 @@ module _ (p a : ℕ) where
           (λ (t : eqb x 1 ≡ false). go f (e + 1) (mul p a x) (omega arith) (rw t at found))
 
   -- at n: it is the order where the power is 1, and not where it is another
-  pub order-at : (f n x : ℕ) → 0 < f → 1 ≤ n → eqb x 1 ≡ eqb (orderFrom f n p a x) n
+  order-at : (f n x : ℕ) → 0 < f → 1 ≤ n → eqb x 1 ≡ eqb (orderFrom f n p a x) n
   order-at f n x pos some =
       by-test (eqb x 1)
       (λ t. t ∙ sym (eq-eqb _ n (order-stop f n x pos (eqb-true x 1 t))))
       (λ t. t ∙ sym (ne-eqb _ n (λ found. order-past (f - 1) (n + 1) (mul p a x) n some (omega arith) (sym (order-step f (f - 1) n x (omega arith) (eqb-false x 1 t)) ∙ found))))
 
   -- before n it is another number
-  pub order-before : (f e n x : ℕ) → 0 < f → e < n → x ≡ 1 → false ≡ eqb (orderFrom f e p a x) n
+  order-before : (f e n x : ℕ) → 0 < f → e < n → x ≡ 1 → false ≡ eqb (orderFrom f e p a x) n
   order-before f e n x pos low one = sym (ne-eqb _ n (λ found. let here : e ≡ n = sym (order-stop f e x pos one) ∙ found in omega arith))
+
+  -- a loop that looks for the order up to n: the search from e and x finds what the whole search finds
+  pub record Searched (n e x : ℕ) : Type 0 where
+    pub low : 1 ≤ e
+    pub high : e ≤ n
+    pub same : orderFrom (257 - e) e p a x ≡ orderOf p a
+
+  pub searched-start : (n : ℕ) → 1 ≤ n → Searched n 1 a
+  unfolding orderOf
+  searched-start n some = record { low = omega arith; high = some; same = refl }
+
+  -- x is not 1: the next power
+  pub searched-step : (n e x : ℕ) → n ≤ 256 → e < n → (x ≡ 1 → ⊥) → Searched n e x → Searched n (e + 1) (mul p a x)
+  searched-step n e x few more other s =
+      record {
+        low = omega arith;
+        high = omega arith;
+        same = sym (order-step (257 - e) (257 - (e + 1)) e x (omega arith) other) ∙ s .same;
+      }
+
+  -- x is 1 before n: the order is not n
+  pub searched-stop : (n e x : ℕ) → n ≤ 256 → e < n → x ≡ 1 → Searched n e x → false ≡ eqb (orderOf p a) n
+  searched-stop n e x few more one s = order-before (257 - e) e n x (omega arith) more one ∙ ap (λ (y : ℕ). eqb y n) (s .same)
+
+  -- at n: the order is n where x is 1
+  pub searched-end : (n e x : ℕ) → n ≤ 256 → n ≤ e → Searched n e x → eqb x 1 ≡ eqb (orderOf p a) n
+  searched-end n e x few all s =
+      let here : e ≡ n = omega (arith, s .high) in
+      let some : 1 ≤ n = omega (arith, s .low) in
+      order-at (257 - n) n x (omega arith) some
+      ∙ ap (λ (y : ℕ). eqb y n) (ap (λ (y : ℕ). orderFrom (257 - y) y p a x) (sym here) ∙ s .same)
 
 -- an order that is not 0 is the order in the field
 pub order-is : (p : ℕ) (v : isField p ≡ true) (a : Symbol (sizeOf p)) (n : ℕ) → orderOf p (a .0) ≡ n → 1 ≤ n → Order (fieldOf p v) a n

@@ -1,17 +1,17 @@
 -- The two tables: lists that pass one computed test are tables, and products and inverses taken from tables are those of the field.
 use mathlib.Core.Path.{_≡_, refl, sym, ap, ap₂, _∙_}
-use mathlib.Core.Bool.{Bool, true}
+use mathlib.Core.Bool.{Bool, true, false}
 use mathlib.Core.List.{List, [], _∷_}
 use Prim.Native.Nat.{ℕ, zero, suc, _+_, _-_, _%_, _≤_, _<_}
-use native.Mathlib.Nat.{add-zero}
+use native.Mathlib.Nat.{add-zero, mod-lt}
 use native.Mathlib.Numerals.{add-one}
 use native.Mathlib.Omega.{arith}
-use borrow.Author.Tests.{ltb-true, ltb-false}
+use borrow.Author.Tests.{ltb-true, ltb-false, eqb-true, eqb-false, eq-eqb, ne-eqb}
 use lib.Dec.{T, eqb, ltb, eqb→eq, ltb→lt}
 use lib.ListN.{length, getD}
 use Rattle.lists.proofs.Cases.{by-test}
 use Rattle.field.specs.Bytes.{timesX, productFrom, product}
-use Rattle.field.specs.Fields.{sizeOf, mul, power, inverse}
+use Rattle.field.specs.Fields.{sizeOf, mul, power, inverse, orderFrom, orderOf}
 use Rattle.field.specs.Tables.{powersIn, logarithmsIn, AreTables, tableProduct, tableInverse}
 use Rattle.field.proofs.Computed.{both, both-left, both-right, everyEntry, entry-at}
 use Rattle.field.proofs.Product.{timesX-byte, product-one, product-two, product-comm}
@@ -112,6 +112,18 @@ pub times-zero : (a : ℕ) {b : ℕ} → a < 256 → b ≡ 0 → 0 ≡ mul 0 a b
 unfolding sizeOf
 times-zero a h e = sym (ap (mul 0 a) e ∙ mul-zero (arithmetic 0 byte-field) a h)
 
+pub power-zero : (s : ℕ) → s ≡ 0 → power 0 2 s ≡ 1
+unfolding power
+power-zero s e = ap (power 0 2) e
+
+-- 0 has no order
+order-zero : orderOf 0 0 ≡ 0
+unfolding orderOf orderFrom mul product productFrom timesX
+order-zero = refl
+
+pub zero-order : {a : ℕ} (n : ℕ) → 1 ≤ n → a ≡ 0 → false ≡ eqb (orderOf 0 a) n
+zero-order n some e = sym (ne-eqb _ n (λ found. let none : 0 ≡ n = sym (ap (orderOf 0) e ∙ order-zero) ∙ found in omega arith))
+
 module _ {ts : List (List ℕ)} (t : AreTables ts) where
   -- what stands at e is 2 to the power e
   pub power-at : (e : ℕ) → e < 255 → getD (powersIn ts) e 0 ≡ power 0 2 e
@@ -130,13 +142,34 @@ module _ {ts : List (List ℕ)} (t : AreTables ts) where
       (λ b. let low : s < 255 = ltb-true s 255 b in let e : s % 255 ≡ s = omega arith in rw e (power-at s low))
       (λ b. let low : 255 ≤ s = ltb-false s 255 b in let e : s % 255 ≡ s - 255 = omega arith in rw e (wrapped-at s low h))
 
-  log-power : (a : ℕ) → 0 < a → a < 256 → power 0 2 (getD (logarithmsIn ts) (a - 1) 0) ≡ a
+  pub log-power : (a : ℕ) → 0 < a → a < 256 → power 0 2 (getD (logarithmsIn ts) (a - 1) 0) ≡ a
   log-power a pos h = sym (power-at (getD (logarithmsIn ts) (a - 1) 0) (t .below a pos h)) ∙ t .power a pos h
 
   -- the sum of two exponents
   pub logs-add : (a b : ℕ) → 0 < a → a < 256 → 0 < b → b < 256 → power 0 2 (getD (logarithmsIn ts) (a - 1) 0 + getD (logarithmsIn ts) (b - 1) 0) ≡ mul 0 a b
   logs-add a b pa ha pb hb =
       sym (power-add 0 byte-field 2 (getD (logarithmsIn ts) (a - 1) 0) (getD (logarithmsIn ts) (b - 1) 0) two) ∙ ap₂ (mul 0) (log-power a pa ha) (log-power b pb hb)
+
+  -- the power whose exponent is the reduced sum
+  pub log-step : (i j : ℕ) {a : ℕ} → i + j < 510 → power 0 2 i ≡ a → mul 0 a (power 0 2 j) ≡ power 0 2 ((i + j) % 255)
+  log-step i j few at =
+      ap (λ (x : ℕ). mul 0 x (power 0 2 j)) (sym at)
+      ∙ power-add 0 byte-field 2 i j two
+      ∙ sym (reduced-at (i + j) few)
+      ∙ power-at ((i + j) % 255) (mod-lt (i + j) (omega arith))
+
+  -- 1 is the power at 0 alone
+  pub one-power : (s : ℕ) → s < 255 → power 0 2 s ≡ 1 → s ≡ 0
+  one-power s h one =
+      sym (t .logarithm s h)
+      ∙ ap (λ (x : ℕ). getD (logarithmsIn ts) (x - 1) 0) (power-at s h ∙ one ∙ sym (t .first))
+      ∙ t .logarithm 0 (omega arith)
+
+  pub one-test : (s : ℕ) → s < 255 → eqb s 0 ≡ eqb (power 0 2 s) 1
+  one-test s h =
+      by-test (eqb s 0)
+      (λ b. b ∙ sym (eq-eqb _ 1 (power-zero s (eqb-true s 0 b))))
+      (λ b. b ∙ sym (ne-eqb _ 1 (λ one. eqb-false s 0 b (one-power s h one))))
 
   -- the power with the negative of an exponent
   pub log-inverse : (a : ℕ) → 0 < a → a < 256 → power 0 2 (255 - getD (logarithmsIn ts) (a - 1) 0) ≡ inverse 0 a

@@ -1,8 +1,9 @@
 // The field of 256 elements: bytes as polynomials over two elements modulo 0x11D. Its number is 0.
 ghost use mathlib.Core.Path.{_≡_};
-ghost use Prim.Native.Nat.{_-_, _%_, _<_};
+ghost use Prim.Native.Nat.{_-_, _%_, _≤_, _<_};
+ghost use lib.Dec.{eqb};
 ghost use lib.ListN.{getD};
-ghost use Rattle.field.specs.Fields.{add, sub, mul, inverse};
+ghost use Rattle.field.specs.Fields.{add, sub, mul, inverse, orderOf};
 ghost use Rattle.field.specs.Kinds.{gf256};
 ghost use Rattle.field.specs.Tables.{powersIn, logarithmsIn, AreTables};
 use crate::tables::Tables;
@@ -81,6 +82,28 @@ impl Gf256 {
         } else {
             power(tables, 255 - e) as u32
         }
+    }
+
+    // Whether the order of a is n, by n − 1 sums of exponents modulo 255: 1 is the power at 0.
+    pub fn has_order(self, a: u32, n: u32) -> bool
+        requires { ⌜ (a < 256) × (1 ≤ n) × (n ≤ 256) ⌝ }
+        ensures { λ r. ⌜ r ≡ eqb (orderOf 0 a) n ⌝ }
+    {
+        if a == Self::ZERO {
+            return false;
+        }
+        let t = constant_tables();
+        let step = logarithm(&t, a) as u32;
+        let mut e: u32 = 1;
+        let mut s = step;
+        while e < n {
+            if s == 0 {
+                return false;
+            }
+            s = reduced(step + s);
+            e += 1;
+        }
+        s == 0
     }
 }
 

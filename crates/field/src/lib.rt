@@ -143,21 +143,14 @@ impl Field {
         r
     }
 
-    // Whether the order of a is n: the first exponent whose power of a is 1. It takes n − 1 products.
+    // Whether the order of a is n: the first exponent whose power of a is 1.
     pub fn has_order(self, a: u32, n: u32) -> bool
         requires { ⌜ (usable self ≡ true) × (a < sizeOf (modulus self)) × (1 ≤ n) × (n ≤ 256) ⌝ }
         ensures { λ r. ⌜ r ≡ eqb (orderOf (modulus self) a) n ⌝ }
     {
-        let tables = constant_tables();
-        let mut e: u32 = 1;
-        let mut x = a;
-        while e < n {
-            if x == Self::ONE {
-                return false;
-            }
-            x = self.mul_with(&tables, a, x);
-            e += 1;
+        match self {
+            Field::Prime(f) => f.has_order(a, n),
+            Field::Binary(g) => g.has_order(a, n),
         }
-        x == Self::ONE
     }
 }

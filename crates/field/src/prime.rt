@@ -2,8 +2,9 @@
 ghost use mathlib.Core.Path.{_≡_};
 ghost use mathlib.Core.Bool.{true};
 ghost use Prim.Native.Nat.{_≤_, _<_};
+ghost use lib.Dec.{eqb};
 ghost use Rattle.field.specs.Primes.{isPrime};
-ghost use Rattle.field.specs.Fields.{add, sub, mul, inverse};
+ghost use Rattle.field.specs.Fields.{add, sub, mul, inverse, orderOf};
 ghost use Rattle.field.specs.Kinds.{primeOf};
 
 pub struct PrimeField {
@@ -67,6 +68,23 @@ impl PrimeField {
             }
         }
         t
+    }
+
+    // Whether the order of a is n, by n − 1 products.
+    pub fn has_order(self, a: u32, n: u32) -> bool
+        requires { ⌜ (self .p ≤ 65521) × (a < self .p) × (1 ≤ n) × (n ≤ 256) ⌝ }
+        ensures { λ r. ⌜ r ≡ eqb (orderOf (self .p) a) n ⌝ }
+    {
+        let mut e: u32 = 1;
+        let mut x = a;
+        while e < n {
+            if x == Self::ONE {
+                return false;
+            }
+            x = self.mul(a, x);
+            e += 1;
+        }
+        x == Self::ONE
     }
 }
 
