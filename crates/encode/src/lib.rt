@@ -73,8 +73,9 @@ fn encode_accepted(h: Header, lanes: usize, message: &[u8], out: &mut [u8]) -> O
         return Outcome::Refused(number);
     }
     let w = symbols::width_of(h);
-    let plan = plan::plan_of(h);
-    encode_lanes(h, &plan.shifts, &plan.base, w, lanes, message, out);
+    let shifts = plan::row_shifts(h);
+    let base = plan::base_word(h);
+    encode_lanes(h, &shifts, &base, w, lanes, message, out);
     Outcome::Done
 }
 

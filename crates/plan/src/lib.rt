@@ -1,6 +1,9 @@
 // Plans: the numbers, the shifts, the first nodes and the base word that a record stands for.
 ghost use mathlib.Core.Path.{_≡_};
+ghost use Rattle.lists.specs.Padded.{padded};
 ghost use Rattle.generator.specs.Records.{Sound};
+ghost use Rattle.generator.specs.Shifts.{shiftsOf};
+ghost use Rattle.generator.specs.Generator.{baseWord};
 ghost use Rattle.plan.specs.Plans.{planFor, PlanSays};
 use generator::Header;
 use generator::Record;
@@ -41,6 +44,23 @@ fn refused(number: u8) -> Plan
     }
 }
 
+// The shifts of an accepted record's rows, and zeros after them: for a caller that needs no whole plan.
+pub fn row_shifts(h: Header) -> [u8; 255]
+    requires { ⌜ Sound h ⌝ }
+    ensures { λ r. ⌜ r ≡ padded 255 (shiftsOf (h .n) (h .k)) ⌝ }
+{
+    shifts::fill_shifts(h.n, h.k)
+}
+
+// Its base word, and zeros after it.
+pub fn base_word(h: Header) -> [u16; 255]
+    requires { ⌜ Sound h ⌝ }
+    ensures { λ r. ⌜ r ≡ padded 255 (baseWord h) ⌝ }
+{
+    let tables = field::constant_tables();
+    base::fill_base(h, &tables)
+}
+
 // The plan of what an accepted record holds.
 pub fn plan_of(h: Header) -> Plan
     requires { ⌜ Sound h ⌝ }
@@ -54,8 +74,7 @@ pub fn plan_of(h: Header) -> Plan
     let rows = shifts::place_rows(n, k);
     let shifts = rows.shifts;
     let firsts = rows.firsts;
-    let tables = field::constant_tables();
-    let base = base::fill_base(h, &tables);
+    let base = base_word(h);
     Plan {
         number: 0,
         n: n,

@@ -16,20 +16,17 @@ high-reads-requires c κs = search needs
 place-rows-requires : tie.Need-place-rows-requires
 place-rows-requires c κs = search needs
 
-constant-tables-requires : tie.Need-constant-tables-requires
-constant-tables-requires c κs = search needs
-
-fill-base-requires : tie.Need-fill-base-requires
-fill-base-requires c κs = search needs
+base-word-requires : tie.Need-base-word-requires
+base-word-requires c κs = search needs
 
 returns : tie.Need-returns
 unfolding planFor
 returns c =
-    let placed = c .before .before .before .before .before in
+    let placed = c .before .before .before in
     let high = placed .before in
     let low = high .before in
-    simp (low .before .distance-of .ensures, low .low-reads .ensures, high .high-reads .ensures, placed .place-rows .ensures .0, placed .place-rows .ensures .1, c .fill-base .ensures)
+    simp (low .before .distance-of .ensures, low .low-reads .ensures, high .high-reads .ensures, placed .place-rows .ensures .0, placed .place-rows .ensures .1, c .base-word .ensures)
 
 pub plan-of-spec : {M : Type 1} → statement M
 plan-of-spec =
-    tie.close (tie.spec distance-of-requires low-reads-requires high-reads-requires place-rows-requires constant-tables-requires fill-base-requires returns)
+    tie.close (tie.spec distance-of-requires low-reads-requires high-reads-requires place-rows-requires base-word-requires returns)
