@@ -38,14 +38,15 @@ fn list_columns(
     }
 }
 
-// The same in scratch of its own.
+// The same in scratch of its own. The codes are filled in place: as the result of a call they would be copied.
 fn fill_lists(h: Header, shifts: &[u8], base: &[u16], lists: &mut [u16], counts: &mut [u8])
     requires { ⌜ Planned h (now shifts) (now base) × ListRoom h (length (now lists)) (length (now counts)) ⌝ }
     ensures { λ r. ⌜ Begun (modulusOf h) (h .k) (columnOf h) (h .n) (now (lists .exit)) (now (counts .exit)) ⌝ }
 {
     let field = h.field;
     let k = h.k as usize;
-    let codes = products::codes_of(field);
+    let mut codes = scratch::codes();
+    products::fill_codes(field, &mut codes);
     let mut column = [0u16; 255];
     list_columns(h, shifts, base, &codes, &mut column[..k], lists, counts);
 }

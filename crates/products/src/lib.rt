@@ -36,7 +36,7 @@ pub fn groups_of(rows: usize) -> usize
 }
 
 // What stands for each weight: made once for a call.
-fn fill_codes(field: Field, codes: &mut [u64])
+pub fn fill_codes(field: Field, codes: &mut [u64])
     requires { ⌜ (usable field ≡ true) × (length (now codes) ≡ 256) ⌝ }
     ensures { λ r. ⌜ Codes (modulus field) (now (codes .exit)) ⌝ }
 {
