@@ -1,8 +1,8 @@
 -- `wide::block_sums` meets its contract. The loop's invariant: a, b, c and d hold the sums over the rows below i.
+use Prim.{tt}
 use mathlib.Core.Path.{_∙_}
-use Prim.Native.Nat.{_+_, _-_, _*_, _≤_}
+use Prim.Native.Nat.{_+_, _-_, _*_, _^_, _≤_, _<_}
 use native.Mathlib.Omega.{arith}
-use borrow.Author.Needs.{needs}
 use lib.ListN.{length}
 use Rattle.lists.proofs.Rows.{part-length}
 use Rattle.combine.proofs.WideSums.{inside, Held, held-none, held-row, held-all}
@@ -15,51 +15,51 @@ Inv-loop p weights count lanes at rows a₀ b₀ c₀ d₀ i₀ a b c d i = (i �
 abbrev μ-loop : tie.MeasureT-loop
 μ-loop p weights count lanes at rows a₀ b₀ c₀ d₀ i₀ a b c d i = count - i
 
--- row i lies in the buffer
-within : (c : tie.In-loop Inv-loop μ-loop) → let a = c .before .before .before .before .before .before .before .before .args in c .before .loop .i * 2 * a .lanes + a .lanes + a .lanes ≤ length (a .rows .now)
-within c = let st = c .before .before .before .before .before .before .before .before in inside _ _ _ _ (st .pre .1) (c .before .loop .i) (c .loop-test .taken)
-
-few : (c : tie.In-loop Inv-loop μ-loop) → c .before .loop .i ≤ 254
-few c = omega (arith, c .before .before .before .before .before .before .before .before .pre .1 .few)
+-- row i lies in the buffer, whose places are numbers of 64 binary digits
+within : (c : tie.In-loop Inv-loop μ-loop) → let a = c .before .before .before .before .before .before .before .before .args in let i = c .before .loop .i in (i * 2 * a .lanes + a .lanes + a .lanes ≤ length (a .rows .now)) × (a .at + 16 ≤ a .lanes) × (length (a .rows .now) < 2 ^ 64) × (i < 255)
+within c =
+    let st = c .before .before .before .before .before .before .before .before in
+    let row = inside _ _ _ _ (st .pre .1) (c .before .loop .i) (c .loop-test .taken) in
+    omega (arith, row, st .pre .2, st .good, st .pre .1 .few, c .loop-test .taken)
 
 sums-requires : tie.Need-sums-requires Inv-loop μ-loop
-sums-requires c κs = search needs
+sums-requires c κs = tt
 
 sums-requires-2 : tie.Need-sums-requires-2 Inv-loop μ-loop
-sums-requires-2 c κs = search needs
+sums-requires-2 c κs = tt
 
 sums-requires-3 : tie.Need-sums-requires-3 Inv-loop μ-loop
-sums-requires-3 c κs = search needs
+sums-requires-3 c κs = tt
 
 sums-requires-4 : tie.Need-sums-requires-4 Inv-loop μ-loop
-sums-requires-4 c κs = search needs
+sums-requires-4 c κs = tt
 
 loop-holds : tie.Need-loop-holds Inv-loop μ-loop
 loop-holds c = (omega arith, rw (c .before .before .before .sums .ensures, c .before .before .sums2 .ensures, c .before .sums3 .ensures, c .sums4 .ensures) (held-none _ _ _ _ _))
 
 mul-high : tie.Need-mul-high Inv-loop μ-loop
-mul-high c = omega (arith, within c, few c)
+mul-high c = omega (arith, within c)
 
 mul-high-2 : tie.Need-mul-high-2 Inv-loop μ-loop
-mul-high-2 c = omega (arith, within c, few c)
+mul-high-2 c = omega (arith, within c)
 
 add-high : tie.Need-add-high Inv-loop μ-loop
-add-high c = omega (arith, within c, few c)
+add-high c = omega (arith, within c)
 
 add-low : tie.Need-add-low Inv-loop μ-loop
-add-low c = omega (arith, within c, few c)
+add-low c = omega (arith, within c)
 
 add-high-end : tie.Need-add-high-end Inv-loop μ-loop
-add-high-end c = omega (arith, within c, few c)
+add-high-end c = omega (arith, within c)
 
 add-low-end : tie.Need-add-low-end Inv-loop μ-loop
-add-low-end c = omega (arith, within c, few c)
+add-low-end c = omega (arith, within c)
 
 mul-add-products : tie.Need-mul-add-products Inv-loop μ-loop
-mul-add-products c = omega (arith, within c, few c)
+mul-add-products c = omega (arith, within c)
 
 shared-slice-read-add-products : tie.Need-shared-slice-read-add-products Inv-loop μ-loop
-shared-slice-read-add-products c = omega (arith, c .before .before .before .before .before .before .before .before .before .pre .1 .weights)
+shared-slice-read-add-products c = omega (arith, c .before .loop-test .taken, c .before .before .before .before .before .before .before .before .before .pre .1 .weights)
 
 sub-add-products : tie.Need-sub-add-products Inv-loop μ-loop
 sub-add-products c = omega arith
@@ -94,10 +94,10 @@ add-products-requires c κs =
     )
 
 add-i : tie.Need-add-i Inv-loop μ-loop
-add-i c = omega (arith, few (c .before .before .before .before .before .before .before .before))
+add-i c = omega (arith, within (c .before .before .before .before .before .before .before .before))
 
 loop-less : tie.Need-loop-less Inv-loop μ-loop
-loop-less c = omega arith
+loop-less c = omega (arith, c .before .before .before .before .before .before .before .before .loop-test .taken)
 
 loop-again : tie.Need-loop-again Inv-loop μ-loop
 loop-again c =
@@ -107,7 +107,7 @@ loop-again c =
     let sums = c .add-products .ensures in
     let bytes = at .before .before .before .before .before .before .shared-slice-known2 .given in
     let twos = at .before .before .before .before .before .before .before .shared-slice-known .given in
-    (omega arith, rw (sums .0, sums .1, sums .2, sums .3) (held-row _ _ _ _ (st .args .at) (st .pre .1) (st .pre .2) (λ x. omega (arith, bytes x)) (λ x. omega (arith, twos x)) (l .i) (at .loop-test .taken) (l .a) (l .b) (l .c) (l .d) (l .inv .1)))
+    (omega (arith, at .loop-test .taken), rw (sums .0, sums .1, sums .2, sums .3) (held-row _ _ _ _ (st .args .at) (st .pre .1) (st .pre .2) (λ x. omega (arith, bytes x)) (λ x. omega (arith, twos x)) (l .i) (at .loop-test .taken) (l .a) (l .b) (l .c) (l .d) (l .inv .1)))
 
 remainders-requires : tie.Need-remainders-requires Inv-loop μ-loop
 remainders-requires c κs = c .before .before .before .before .before .before .before .before .before .before .before .before .pre .0
@@ -116,7 +116,7 @@ returns : tie.Need-returns Inv-loop μ-loop
 returns c =
     let l = c .before .before .before .before .before .before .loop in
     let st = c .before .before .before .before .before .before .before .before .before .before .before .before .before in
-    c .remainders .ensures ∙ held-all _ _ _ _ (st .args .at) (st .args .p) (st .pre .0) (l .i) (c .before .before .before .before .before .loop-test .left) (omega (arith, st .pre .1 .few)) (l .a) (l .b) (l .c) (l .d) (l .inv .1)
+    c .remainders .ensures ∙ held-all _ _ _ _ (st .args .at) (st .args .p) (st .pre .0) (l .i) (c .before .before .before .before .before .loop-test .left) (omega (arith, l .inv .0, st .pre .1 .few)) (l .a) (l .b) (l .c) (l .d) (l .inv .1)
 
 pub block-sums-spec : {M : Type 1} → statement M
 block-sums-spec =
