@@ -2,15 +2,13 @@
 use mathlib.Core.Path.{_≡_, refl, sym, ap, _∙_}
 use mathlib.Core.Bool.{true}
 use mathlib.Core.List.{List, [], _∷_, _++_}
-use Prim.Native.Nat.{ℕ, zero, suc, _+_, _-_, _*_, _≤_, _<_}
+use Prim.Native.Nat.{ℕ, zero, suc, _+_, _-_, _*_, _≤_}
 use native.Mathlib.Omega.{arith}
 use lib.ListN.{length}
 use Rattle.lists.specs.Numbers.{allBelow}
 use Rattle.lists.specs.Padded.{zeros, padded}
 use Rattle.lists.specs.Rows.{from}
-use Rattle.lists.proofs.Numbers.{at-below}
-use Rattle.lists.proofs.Padding.{length-padded, below-padded}
-use Rattle.lists.proofs.Rows.{length-from, getD-from, from-ext}
+use Rattle.lists.proofs.Rows.{from-ext}
 use Rattle.layout.specs.Layout.{Arrangement, byRow, laneOf}
 use Rattle.layout.specs.Width.{bytesOf}
 use Rattle.layout.specs.Tiles.{tileSymbols, tileBytes}
@@ -18,7 +16,6 @@ use Rattle.layout.proofs.Buffers.{length-lane}
 use Rattle.layout.proofs.Tiles.{length-tile-symbols}
 use Rattle.field.specs.Fields.{add, mul}
 use Rattle.field.specs.Sums.{dot}
-use Rattle.field.proofs.FieldOf.{size-pos}
 use Rattle.generator.specs.declared.Header.{Header}
 use Rattle.generator.specs.Records.{modulusOf, size, width, Sound}
 use Rattle.combine.specs.Combined.{combined, combinedTile, combinedBytes, WeightedRows}
@@ -36,14 +33,6 @@ rows-ready {h} {rows} {l} {ws} {s} sound few lanes weights below long symbols ou
         out-bytes = out-long;
       };
     }
-
--- the same where the weight of row r is f r
-pub column-ready : {h : Header} (f : ℕ → ℕ) {rows l : ℕ} {s : List ℕ} {out : ℕ} → Sound h → rows ≤ 255 → l ≤ 4096 → ((r : ℕ) → f r < size h) → length s ≡ width h * rows * l → allBelow (size h) (tileSymbols (width h) rows l s) ≡ true → out ≡ width h * l → WeightedRows (h .field) rows l (padded 255 (from f 0 rows)) s out
-column-ready {h} f {rows} sound few lanes low long symbols out-long =
-    let n = length-from f 0 rows in
-    rows-ready sound few lanes (length-padded 255 (from f 0 rows) (omega arith))
-    (below-padded (size h) 255 (from f 0 rows) (size-pos (modulusOf h) (sound .field)) (at-below (size h) (from f 0 rows) (λ i h. rw (getD-from f 0 rows i 0 (omega arith)) (low (0 + i)))))
-    long symbols out-long
 
 -- what a tile's sums are as symbols one after the other
 pub combined-symbols : (h : Header) (w rows l : ℕ) (ws s : List ℕ) → w ≡ width h → combinedBytes (modulusOf h) rows l ws s ≡ bytesOf w (combined byRow (modulusOf h) rows l ws (tileSymbols w rows l s))

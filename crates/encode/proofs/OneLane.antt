@@ -9,7 +9,6 @@ use lib.ListN.{length, getD, take, drop, set, length-drop}
 use lib.Seq.{getD-drop}
 use Rattle.lists.specs.Numbers.{allBelow}
 use Rattle.lists.specs.Padded.{zeros}
-use Rattle.lists.specs.Rows.{from}
 use Rattle.lists.proofs.All.{Distinct-at}
 use Rattle.lists.proofs.Fill.{length-zeros}
 use Rattle.lists.proofs.Numbers.{at-below, below-cons, below-drop, below-set}

@@ -1,5 +1,5 @@
 -- Sums of symbols that stand at the places of their rows' shifts, times what the base word holds from a node on, are what the node holds.
-use mathlib.Core.Path.{_≡_, refl, sym, ap, _∙_}
+use mathlib.Core.Path.{_≡_, sym, ap, _∙_}
 use mathlib.Core.Bool.{true}
 use mathlib.Core.List.{List, [], _∷_}
 use Prim.Native.Nat.{ℕ, zero, suc, _+_, _≤_, _<_}
@@ -7,7 +7,7 @@ use native.Mathlib.Omega.{arith}
 use lib.ListN.{length, getD, take, set, length-set}
 use lib.Seq.{getD-set-other}
 use Rattle.lists.specs.Numbers.{allBelow}
-use Rattle.lists.proofs.Numbers.{at-below, below-take, below-set, below-getD, below-cons}
+use Rattle.lists.proofs.Numbers.{below-take, below-set, below-getD, below-cons}
 use Rattle.field.specs.Fields.{isField, sizeOf, add, sub, mul}
 use Rattle.field.specs.Sums.{dot}
 use Rattle.field.proofs.Arithmetic.{Arithmetic, zero-mul}

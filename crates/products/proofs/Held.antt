@@ -2,8 +2,8 @@
 use mathlib.Core.Path.{_≡_, refl, sym, ap, ap₂, _∙_}
 use mathlib.Core.Bool.{true}
 use mathlib.Core.List.{List, [], _∷_}
-use Prim.Native.Nat.{ℕ, zero, suc, _+_, _-_, _*_, _/_, _%_, _≤_, _<_}
-use native.Mathlib.Nat.{zero-add, add-zero, mul-zero, zero-mul, zero-mod, zero-div, mod-mod, add-mod, add-mod-mod, mod-add-mod, mul-le-mul, add-assoc}
+use Prim.Native.Nat.{ℕ, zero, suc, _+_, _-_, _*_, _%_, _≤_, _<_}
+use native.Mathlib.Nat.{zero-add, add-zero, mul-zero, zero-mul, zero-mod, zero-div, mod-mod, add-mod-mod, mod-add-mod, mul-le-mul, add-assoc}
 use native.Mathlib.Omega.{arith}
 use lib.ListN.{length, getD, take, drop, drop-of-length-le}
 use Rattle.lists.specs.Rows.{from}
@@ -13,7 +13,7 @@ use Rattle.lists.proofs.Fill.{length-zeros}
 use Rattle.lists.proofs.Front.{drop-next}
 use Rattle.lists.proofs.Numbers.{below-at}
 use Rattle.lists.proofs.Rows.{from-ext, row-after, row-inside, getD-part}
-use Rattle.field.specs.Fields.{add, mul}
+use Rattle.field.specs.Fields.{mul}
 use Rattle.field.specs.Sums.{dot}
 use Rattle.field.proofs.Meanings.{add-modulo, mul-modulo}
 use Rattle.kernel.specs.Lanes.{lanewise}

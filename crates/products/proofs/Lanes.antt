@@ -1,7 +1,7 @@
 -- The lanes of a tile, their symbols, and the rows of an output.
 use mathlib.Core.Path.{_≡_, refl, sym, ap, _∙_}
 use mathlib.Core.List.{List, [], _∷_}
-use Prim.Native.Nat.{ℕ, suc, _+_, _-_, _*_, _/_, _≤_, _<_}
+use Prim.Native.Nat.{ℕ, suc, _+_, _*_, _/_, _≤_, _<_}
 use native.Mathlib.Nat.{zero-add, one-mul, mul-comm, mul-div-cancel}
 use native.Mathlib.Omega.{arith}
 use lib.ListN.{length, getD, take}

@@ -9,9 +9,9 @@ use lib.ListN.{length, getD, take, drop}
 use lib.Seq.{ext-getD}
 use Rattle.lists.proofs.Cases.{by-test}
 use Rattle.lists.proofs.Rows.{part-length, part-size, getD-part}
-use Rattle.tiles64.specs.Squares.{placed, turned, squareAt, asLanes, asRows, Squared}
+use Rattle.tiles64.specs.Squares.{turned, squareAt, asRows, Squared}
 use Rattle.layout.proofs.Runs.{replaced, length-replaced, replaced-inside, replaced-before, replaced-after}
-use Rattle.tiles64.proofs.Shuffles.{length-placed, getD-placed, length-turned}
+use Rattle.tiles64.proofs.Shuffles.{length-placed, getD-placed}
 
 -- the place of a square's byte in the block's rows
 abbrev pub squareByte : List ℕ → ℕ → ℕ → ℕ

@@ -1,11 +1,11 @@
 -- Bytes of a number.
-use mathlib.Core.Path.{_≡_, refl, sym, ap, ap₂, _∙_}
-use mathlib.Core.List.{List, [], _∷_, _++_}
-use Prim.Native.Nat.{ℕ, _+_, _*_, _/_, _%_, _≤_, _<_}
+use mathlib.Core.Path.{_≡_, refl, sym, ap₂, _∙_}
+use mathlib.Core.List.{List, [], _∷_}
+use Prim.Native.Nat.{ℕ, _+_, _*_, _<_}
 use native.Mathlib.Omega.{arith}
 use lib.ListN.{length, getD, set}
 use Rattle.lists.specs.Rows.{from}
-use Rattle.lists.proofs.Fill.{Fills, fills-start, fills-put, fills-all}
+use Rattle.lists.proofs.Fill.{fills-start, fills-put, fills-all}
 use Rattle.tiles64.specs.Words.{bytes8, bytes4}
 use Rattle.lists.proofs.Parts.{from-at}
 

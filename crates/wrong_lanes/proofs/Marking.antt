@@ -10,7 +10,6 @@ use lib.Dec.{eqb}
 use lib.ListN.{length, getD, take, drop}
 use Rattle.lists.specs.Choice.{pick}
 use Rattle.lists.specs.Padded.{zeros}
-use Rattle.lists.specs.Rows.{from}
 use Rattle.lists.specs.Search.{firstFalse}
 use Rattle.lists.proofs.Fill.{from-zeros}
 use Rattle.lists.proofs.Parts.{from-at}

@@ -2,7 +2,6 @@
 -- That the base word at (node + shift of row r) modulo n is entry (r, node) is `entry-read`.
 use mathlib.Core.Path.{_≡_, _∙_}
 use Prim.Native.Nat.{_-_, _≤_, _<_}
-use lib.ListN.{length}
 use native.Mathlib.Omega.{arith}
 use Rattle.lists.proofs.Fill.{fills-put}
 use Rattle.lists.proofs.Parts.{Valued, valued-start, valued-all}

@@ -1,6 +1,6 @@
 -- `fill_tile` meets its contract: the lanes are loaded, and the rows of the product stored.
 use mathlib.Core.Path.{_≡_, sym, ap, _∙_}
-use Prim.Native.Nat.{ℕ, _-_, _*_, _≤_}
+use Prim.Native.Nat.{ℕ, _*_, _≤_}
 use native.Mathlib.Nat.{mul-le-mul, mul-comm, mul-assoc}
 use native.Mathlib.Omega.{arith}
 use borrow.Author.Needs.{needs}

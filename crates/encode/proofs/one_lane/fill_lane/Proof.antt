@@ -1,12 +1,11 @@
 -- `fill_lane` meets its contract: the sums of the placed symbols with the base word are the lane's encoding.
 use mathlib.Core.Path.{_≡_, sym, ap, _∙_}
-use Prim.Native.Nat.{ℕ, _+_, _*_, _≤_}
+use Prim.Native.Nat.{ℕ, _+_, _*_}
 use native.Mathlib.Nat.{mul-comm}
 use native.Mathlib.Omega.{arith}
 use borrow.Author.Needs.{needs}
-use lib.ListN.{length, take}
+use lib.ListN.{take}
 use lib.Seq.{length-take-le}
-use Rattle.lists.specs.Padded.{zeros}
 use Rattle.lists.proofs.Numbers.{below-take}
 use Rattle.lists.proofs.Padding.{take-padded}
 use Rattle.layout.specs.Width.{bytesOf}

@@ -1,7 +1,7 @@
 -- `placed` meets its contract. The loop's invariant: with the symbols from r on placed, the array is what it should be.
 use mathlib.Core.Path.{_≡_, refl, sym, ap, _∙_}
 use mathlib.Core.List.{List}
-use Prim.Native.Nat.{ℕ, _+_, _-_, _≤_, _<_}
+use Prim.Native.Nat.{ℕ, _-_, _≤_, _<_}
 use native.Mathlib.Omega.{arith}
 use lib.ListN.{length, getD, drop, length-set, drop-of-length-le}
 use Rattle.lists.specs.Padded.{zeros}

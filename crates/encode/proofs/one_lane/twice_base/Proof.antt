@@ -1,5 +1,5 @@
 -- `twice_base` meets its contract. The loop's invariant: the places below i are written.
-use Prim.Native.Nat.{_+_, _-_, _%_, _≤_}
+use Prim.Native.Nat.{_+_, _-_, _%_}
 use native.Mathlib.Omega.{arith}
 use lib.ListN.{getD}
 use mathlib.Core.Path.{ap}

@@ -1,12 +1,9 @@
 -- `write_sums` meets its contract: the sums are symbols, so they fit their bytes.
-use mathlib.Core.Path.{_≡_, sym, ap, _∙_}
-use mathlib.Core.Bool.{true}
-use mathlib.Core.List.{List}
-use Prim.Native.Nat.{ℕ, _*_, _^_, _≤_}
+use mathlib.Core.Path.{sym, ap, _∙_}
+use Prim.Native.Nat.{ℕ, _*_, _^_}
 use native.Mathlib.Nat.{lt-of-lt-of-le}
 use borrow.Author.Needs.{needs}
 use lib.ListN.{length}
-use Rattle.lists.specs.Numbers.{allBelow}
 use Rattle.lists.proofs.Numbers.{at-below, below-at}
 use Rattle.layout.specs.Width.{bytesOf}
 use Rattle.field.proofs.KindLaws.{usable-field}

@@ -1,6 +1,6 @@
 -- `load_lanes` meets its contract: the part of the lanes is gathered.
 use mathlib.Core.Path.{ap, _∙_}
-use Prim.Native.Nat.{_+_, _-_, _*_, _≤_}
+use Prim.Native.Nat.{_+_, _*_, _≤_}
 use native.Mathlib.Omega.{arith}
 use borrow.Author.Needs.{needs}
 use lib.ListN.{length}

@@ -1,6 +1,6 @@
 -- `store_lanes` meets its contract: the lanes are scattered to their part.
 use mathlib.Core.Path.{sym, _∙_}
-use Prim.Native.Nat.{_+_, _-_, _*_, _/_, _≤_}
+use Prim.Native.Nat.{_+_, _*_, _/_, _≤_}
 use native.Mathlib.Omega.{arith}
 use borrow.Author.Needs.{needs}
 use lib.ListN.{length, take}

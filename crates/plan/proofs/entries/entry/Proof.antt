@@ -1,5 +1,5 @@
 -- `entry` meets its contract: the shift may be reduced modulo n first.
-use mathlib.Core.Path.{_≡_, sym, _∙_}
+use mathlib.Core.Path.{_≡_}
 use mathlib.Core.Logic.{⊎-elim}
 use Prim.Native.Nat.{_%_, _<_}
 use native.Mathlib.Nat.{mod-lt, add-mod-mod}

@@ -1,6 +1,5 @@
 -- `prepare` meets its contract: the lists are made in their part.
-use Prim.Native.Nat.{ℕ, _+_, _*_, _-_, _≤_, _<_}
-use mathlib.Core.Path.{_≡_, ap, sym, _∙_}
+use Prim.Native.Nat.{_*_}
 use lib.ListN.{length}
 use Rattle.lists.proofs.Rows.{part-length, part-size}
 use Rattle.products.specs.Products.{groupsOf}

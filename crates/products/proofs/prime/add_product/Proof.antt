@@ -5,7 +5,6 @@ use Rattle.lists.proofs.Fill.{fills-next}
 use Rattle.kernel.proofs.Filling.{Changed, changed-none, changed-lane, changed-all}
 use Rattle.products.specs.Ratios.{nearlyOf}
 use Rattle.products.proofs.Reduction.{nearly-below}
-use borrow.Author.Needs.{needs}
 use native.Mathlib.Omega.{arith}
 use Rattle.products.proofs.prime.add_product.Statement.{statement}
 use Rattle.products.proofs.prime.add_product.Tie as tie

@@ -1,8 +1,6 @@
 -- `fill_ratios` meets its contract. The loop's invariant: the first c of p places hold ratios.
-use mathlib.Core.Path.{_≡_}
-use Prim.Native.Nat.{ℕ, _-_, _≤_, _<_}
+use Prim.Native.Nat.{_-_, _≤_}
 use native.Mathlib.Omega.{arith}
-use lib.ListN.{length}
 use Rattle.lists.proofs.Rows.{from-next}
 use Rattle.lists.proofs.Fill.{fills-put}
 use Rattle.lists.proofs.Parts.{Valued, valued-start, valued-at}

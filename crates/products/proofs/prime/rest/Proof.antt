@@ -1,5 +1,5 @@
 use mathlib.Core.Path.{_≡_, ap, _∙_}
-use Prim.Native.Nat.{ℕ, _-_, _*_, _/_, _%_}
+use Prim.Native.Nat.{ℕ, _-_, _*_, _/_}
 use native.Mathlib.Nat.{mod-lt}
 use Rattle.products.proofs.Reduction.{rest-low, rest-below, rest-same}
 use borrow.Author.Needs.{needs}

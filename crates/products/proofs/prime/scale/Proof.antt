@@ -1,10 +1,9 @@
 -- `scale` meets its contract. The loop's invariant: the weights of the rows below i stand in the list, and their ratios after all weights.
-use mathlib.Core.Path.{_≡_, refl}
+use mathlib.Core.Path.{refl}
 use Prim.Native.Nat.{ℕ, _-_, _≤_, _<_}
 use native.Mathlib.Omega.{arith}
 use lib.ListN.{length, getD, length-set}
 use Rattle.lists.proofs.Numbers.{below-at}
-use Rattle.products.specs.Ratios.{ratioOf}
 use Rattle.products.proofs.Reduction.{ratio-fits}
 use Rattle.products.proofs.Scaling.{Scaling, scaling-start, scaling-row, scaling-end}
 use Rattle.products.proofs.prime.scale.Statement.{statement}

@@ -1,10 +1,9 @@
-use mathlib.Core.Path.{_≡_, sym, _∙_}
-use Prim.Native.Nat.{ℕ, _-_, _≤_, _<_, _+_, _%_}
+use mathlib.Core.Path.{_≡_}
+use Prim.Native.Nat.{_-_, _≤_, _%_}
 use lib.ListN.{length, getD}
 use Rattle.lists.specs.Rows.{from}
 use Rattle.lists.proofs.Rows.{from-next, from-end}
 use Rattle.lists.proofs.Fill.{Fills, fills-start, fills-put, fills-all}
-use borrow.Author.Needs.{needs}
 use native.Mathlib.Omega.{arith}
 use Rattle.products.proofs.prime.store.Statement.{statement}
 use Rattle.products.proofs.prime.store.Tie as tie

@@ -1,7 +1,5 @@
 use mathlib.Core.Path.{refl}
 use Rattle.lists.specs.Padded.{zeros}
-use borrow.Author.Needs.{needs}
-use native.Mathlib.Omega.{arith}
 use Rattle.products.proofs.prime.sums.Statement.{statement}
 use Rattle.products.proofs.prime.sums.Tie as tie
 

@@ -1,5 +1,4 @@
 -- `fill_codes` meets its contract: a weight of two bytes stands for itself.
-use Prim.Native.Nat.{_≤_}
 use native.Mathlib.Omega.{arith}
 use borrow.Author.Needs.{needs}
 use Rattle.field.proofs.Primes.{two≤prime}

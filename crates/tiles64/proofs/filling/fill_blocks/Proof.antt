@@ -1,7 +1,6 @@
 -- `fill_blocks` meets its contract. The loop's invariant: the first b blocks are filled.
-use Prim.Native.Nat.{ℕ, _+_, _*_, _-_, _/_, _%_, _≤_, _<_}
-use mathlib.Core.Path.{_≡_, _∙_, sym}
-use lib.ListN.{length, getD, take, drop}
+use Prim.Native.Nat.{_+_, _*_, _-_, _≤_}
+use lib.ListN.{take, drop}
 use Rattle.lists.proofs.Rows.{row-after, part-length, part-size}
 use Rattle.lists.proofs.Parts.{Valued, valued-start, valued-part, valued-all}
 use Rattle.tiles64.specs.Squares.{asLanes, blocksOf, placed}

@@ -1,5 +1,4 @@
-use mathlib.Core.Path.{_≡_, sym, ap, _∙_}
-use Prim.Native.Nat.{ℕ, _*_, _-_, _≤_, _+_}
+use Prim.Native.Nat.{_*_, _-_, _≤_, _+_}
 use native.Mathlib.Nat.{sub-zero, zero-mul, mul-le-mul, le-refl}
 use lib.ListN.{length}
 use Rattle.lists.specs.Rows.{rowsFrom}
@@ -7,7 +6,6 @@ use Rattle.lists.proofs.Rows.{rows-next, rows-end, row-after, row-inside, part-
 use Rattle.lists.proofs.Fill.{Fills, fills-start, fills-part, fills-all}
 use Rattle.tiles64.specs.Squares.{laneAt}
 use Rattle.tiles64.proofs.Rests.{length-lane}
-use borrow.Author.Needs.{needs}
 use native.Mathlib.Omega.{arith}
 use Rattle.tiles64.proofs.filling.fill_lanes.Statement.{statement}
 use Rattle.tiles64.proofs.filling.fill_lanes.Tie as tie

@@ -1,5 +1,4 @@
 -- `scatter` meets its contract: the rows become blocks, and the blocks lanes.
-use mathlib.Core.Path.{_≡_, ap, _∙_}
 use Rattle.tiles64.proofs.Scattered.{lanes-of-tile}
 use borrow.Author.Needs.{needs}
 use Rattle.tiles64.proofs.filling.scatter.Statement.{statement}

@@ -1,7 +1,6 @@
 -- `fill_block` meets its contract. The loop's invariant: the block holds the lanes below t.
-use Prim.Native.Nat.{ℕ, _*_, _-_, _≤_}
+use Prim.Native.Nat.{_-_, _≤_}
 use mathlib.Core.Path.{_≡_, _∙_, sym}
-use lib.ListN.{length}
 use Rattle.lists.proofs.Rows.{row-inside}
 use Rattle.tiles64.specs.Tiles.{BlockOf}
 use Rattle.tiles64.proofs.Gathered.{block-none, block-lane}

@@ -1,6 +1,6 @@
 -- `gather` meets its contract. The loop's invariant: the rows below j are in the tile.
-use Prim.Native.Nat.{ℕ, _+_, _*_, _-_, _/_, _%_, _≤_, _<_}
-use mathlib.Core.Path.{_≡_, refl, _∙_, sym, ap}
+use Prim.Native.Nat.{_+_, _*_, _-_, _%_, _≤_}
+use mathlib.Core.Path.{_≡_, refl, _∙_, sym}
 use lib.ListN.{length}
 use Rattle.lists.proofs.Rows.{part-length, part-size}
 use Rattle.layout.specs.Layout.{byLane, held, laneOf}

@@ -1,5 +1,5 @@
 -- `read16` meets its contract: 16 bytes, or all that are left.
-use Prim.Native.Nat.{ℕ, _+_, _-_}
+use Prim.Native.Nat.{_+_, _-_}
 use mathlib.Core.Path.{_≡_}
 use lib.ListN.{length, take, drop}
 use Rattle.lists.proofs.Rows.{part-length, part-size, getD-part}

@@ -1,6 +1,5 @@
 use Rattle.tiles64.proofs.Bytes.{read4}
 use borrow.Author.Needs.{needs}
-use native.Mathlib.Omega.{arith}
 use Rattle.tiles64.proofs.moves.get4.Statement.{statement}
 use Rattle.tiles64.proofs.moves.get4.Tie as tie
 

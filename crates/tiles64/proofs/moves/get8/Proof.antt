@@ -1,6 +1,5 @@
 use Rattle.tiles64.proofs.Bytes.{read8}
 use borrow.Author.Needs.{needs}
-use native.Mathlib.Omega.{arith}
 use Rattle.tiles64.proofs.moves.get8.Statement.{statement}
 use Rattle.tiles64.proofs.moves.get8.Tie as tie
 

@@ -1,6 +1,5 @@
 use mathlib.Core.Path.{_∙_}
 use borrow.Author.Needs.{needs}
-use native.Mathlib.Omega.{arith}
 use Rattle.tiles64.proofs.moves.move8.Statement.{statement}
 use Rattle.tiles64.proofs.moves.move8.Tie as tie
 

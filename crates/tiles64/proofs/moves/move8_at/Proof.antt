@@ -1,6 +1,5 @@
 use Rattle.tiles64.specs.Words.{patched}
 use borrow.Author.Needs.{needs}
-use native.Mathlib.Omega.{arith}
 use Rattle.tiles64.proofs.moves.move8_at.Statement.{statement}
 use Rattle.tiles64.proofs.moves.move8_at.Tie as tie
 

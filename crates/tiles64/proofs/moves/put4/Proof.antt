@@ -1,8 +1,6 @@
-use lib.ListN.{length-set}
 use Rattle.tiles64.specs.Words.{bytes4}
 use Rattle.tiles64.proofs.Bytes.{put-quad}
 use borrow.Author.Needs.{needs}
-use native.Mathlib.Omega.{arith}
 use Rattle.tiles64.proofs.moves.put4.Statement.{statement}
 use Rattle.tiles64.proofs.moves.put4.Tie as tie
 

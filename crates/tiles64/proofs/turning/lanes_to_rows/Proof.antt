@@ -1,9 +1,8 @@
 use mathlib.Core.Path.{_≡_, sym, _∙_}
-use Prim.Native.Nat.{_*_, _-_, _≤_, _+_}
+use Prim.Native.Nat.{_*_, _-_, _≤_}
 use lib.ListN.{length}
 use Rattle.lists.proofs.Rows.{part-length}
 use Rattle.tiles64.proofs.Blocks.{RowsBelow, rows-more, rows-all}
-use borrow.Author.Needs.{needs}
 use native.Mathlib.Omega.{arith}
 use Rattle.tiles64.proofs.turning.lanes_to_rows.Statement.{statement}
 use Rattle.tiles64.proofs.turning.lanes_to_rows.Tie as tie

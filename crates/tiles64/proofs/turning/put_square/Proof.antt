@@ -1,9 +1,8 @@
 use mathlib.Core.Path.{_≡_, sym, _∙_}
 use Prim.Native.Nat.{_*_, _-_, _≤_, _+_}
-use Rattle.lists.proofs.Rows.{row-after, part-length, part-size}
+use Rattle.lists.proofs.Rows.{part-length}
 use Rattle.tiles64.specs.Squares.{Squared}
 use Rattle.tiles64.proofs.Blocks.{squared-none, squared-row}
-use borrow.Author.Needs.{needs}
 use native.Mathlib.Omega.{arith}
 use Rattle.tiles64.proofs.turning.put_square.Statement.{statement}
 use Rattle.tiles64.proofs.turning.put_square.Tie as tie

@@ -1,4 +1,3 @@
-use mathlib.Core.Path.{_≡_, sym, _∙_}
 use Prim.Native.Nat.{_*_, _-_, _≤_, _+_, _%_, _/_}
 use lib.ListN.{getD}
 use Rattle.lists.proofs.Rows.{row-after, part-length, part-size}
@@ -6,7 +5,6 @@ use Rattle.tiles64.specs.Squares.{asLanes, placed, turned, squareAt}
 use Rattle.lists.proofs.Parts.{Valued, valued-start, valued-part, valued-all}
 use Rattle.tiles64.proofs.Shuffles.{length-turned}
 use Rattle.tiles64.proofs.Blocks.{turned-square}
-use borrow.Author.Needs.{needs}
 use native.Mathlib.Omega.{arith}
 use Rattle.tiles64.proofs.turning.rows_to_lanes.Statement.{statement}
 use Rattle.tiles64.proofs.turning.rows_to_lanes.Tie as tie

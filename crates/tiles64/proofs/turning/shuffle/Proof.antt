@@ -1,9 +1,8 @@
 use Prim.Native.Nat.{_*_, _-_, _≤_}
-use lib.ListN.{length, length-set}
+use lib.ListN.{length-set}
 use Rattle.tiles64.specs.Squares.{placed, shuffled}
 use Rattle.lists.proofs.Parts.{Valued, valued-start, valued-all}
 use Rattle.tiles64.proofs.Shuffles.{shuffledAt, shuffle-turn}
-use borrow.Author.Needs.{needs}
 use native.Mathlib.Omega.{arith}
 use Rattle.tiles64.proofs.turning.shuffle.Statement.{statement}
 use Rattle.tiles64.proofs.turning.shuffle.Tie as tie

@@ -5,7 +5,6 @@ use Rattle.lists.proofs.Rows.{row-after, part-length, part-size}
 use Rattle.tiles64.specs.Squares.{squareAt, placed}
 use Rattle.lists.proofs.Parts.{Valued, valued-start, valued-part, valued-all}
 use Rattle.tiles64.proofs.Blocks.{squareByte, square-row}
-use borrow.Author.Needs.{needs}
 use native.Mathlib.Omega.{arith}
 use Rattle.tiles64.proofs.turning.take_square.Statement.{statement}
 use Rattle.tiles64.proofs.turning.take_square.Tie as tie

@@ -2,7 +2,6 @@ use mathlib.Core.Path.{ap, _∙_}
 use Rattle.tiles64.specs.Squares.{shuffled}
 use Rattle.tiles64.proofs.Shuffles.{turned-shuffled}
 use borrow.Author.Needs.{needs}
-use native.Mathlib.Omega.{arith}
 use Rattle.tiles64.proofs.turning.turn.Statement.{statement}
 use Rattle.tiles64.proofs.turning.turn.Tie as tie
 

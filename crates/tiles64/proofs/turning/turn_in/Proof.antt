@@ -1,5 +1,4 @@
 use borrow.Author.Needs.{needs}
-use native.Mathlib.Omega.{arith}
 use Rattle.tiles64.proofs.turning.turn_in.Statement.{statement}
 use Rattle.tiles64.proofs.turning.turn_in.Tie as tie
 

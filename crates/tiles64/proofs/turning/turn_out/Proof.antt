@@ -1,7 +1,6 @@
 use mathlib.Core.Path.{ap, _∙_}
 use Rattle.tiles64.specs.Squares.{turned}
 use borrow.Author.Needs.{needs}
-use native.Mathlib.Omega.{arith}
 use Rattle.tiles64.proofs.turning.turn_out.Statement.{statement}
 use Rattle.tiles64.proofs.turning.turn_out.Tie as tie
 

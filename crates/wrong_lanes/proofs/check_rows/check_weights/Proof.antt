@@ -1,9 +1,9 @@
 -- `check_weights` meets its contract: the values of the first nodes' basis polynomials, and −1.
-use mathlib.Core.Path.{_≡_, sym, ap, ap₂, _∙_}
-use Prim.Native.Nat.{ℕ, _+_, _-_, _≤_, _<_}
+use mathlib.Core.Path.{_≡_, sym, _∙_}
+use Prim.Native.Nat.{_+_, _≤_, _<_}
 use native.Mathlib.Omega.{arith}
 use borrow.Author.Needs.{needs}
-use lib.ListN.{length, getD, take, set}
+use lib.ListN.{length, getD, take}
 use Rattle.lists.specs.Rows.{range}
 use Rattle.lists.proofs.Padding.{length-padded}
 use Rattle.lists.proofs.Places.{length-range}
@@ -15,9 +15,9 @@ use Rattle.field.proofs.KindLaws.{size-fits}
 use Rattle.generator.specs.Records.{modulusOf, size}
 use Rattle.interpolation.proofs.Points.{length-points, points-symbols}
 use Rattle.check_sums.specs.Powers.{powersOf}
-use Rattle.check_sums.proofs.Sums.{length-powers, power-place, power-at}
-use Rattle.wrong_lanes.specs.Checks.{firstPoints, firstWeights}
-use Rattle.wrong_lanes.proofs.CheckRows.{few, first-points, length-first}
+use Rattle.check_sums.proofs.Sums.{length-powers, power-at}
+use Rattle.wrong_lanes.specs.Checks.{firstPoints}
+use Rattle.wrong_lanes.proofs.CheckRows.{few, first-points}
 use Rattle.wrong_lanes.proofs.check_rows.check_weights.Statement.{statement}
 use Rattle.wrong_lanes.proofs.check_rows.check_weights.Tie as tie
 

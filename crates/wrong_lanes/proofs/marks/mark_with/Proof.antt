@@ -1,5 +1,5 @@
 -- `mark_with` meets its contract: the sums are 0 where the lane is a word.
-use mathlib.Core.Path.{refl, _∙_}
+use mathlib.Core.Path.{_∙_}
 use borrow.Author.Needs.{needs}
 use Rattle.wrong_lanes.proofs.Checks.{sums-words, checks-ready}
 use Rattle.wrong_lanes.proofs.marks.mark_with.Statement.{statement}
