@@ -43,13 +43,13 @@ fn product_of(h: Header, lanes: usize) -> Product
 {
     let way = Way::LanesToMarks;
     let field = h.field;
-    let outputs = (h.n - h.k) as usize;
-    let rows = h.n as usize;
+    let checks = (h.n - h.k) as usize;
+    let nodes = h.n as usize;
     Product {
         way: way,
         field: field,
-        outputs: outputs,
-        rows: rows,
+        outputs: checks,
+        rows: nodes,
         lanes: lanes,
     }
 }
