@@ -15,7 +15,7 @@ use Rattle.plan.specs.declared.Plan.{Plan}
 use Rattle.plan.specs.Plans.{planFor, PlanSays}
 use Rattle.refusals.specs.Faults.{faultOf}
 use Rattle.blocks.proofs.Refused.{refused-value}
-use Rattle.balanced_c.specs.Calls.{lengthFault, numbersOf, PlanGives}
+use Rattle.balanced_c.specs.Calls.{planRoomFault, numbersOf, PlanGives}
 
 -- a plan's number is its record's
 plan-number : (rec : List ℕ) → planFor (recordOf rec) .number ≡ recordFault rec
@@ -27,8 +27,8 @@ plan-number rec = go (recordFault rec) (headerOf rec)
     go (suc f) h = refl
 
 -- number 8 is not met
-lengths : (numbers shifts firsts base : ℕ) → lengthFault numbers shifts firsts base ≡ 0 → (numbers ≡ 5) × (shifts ≡ 255) × (firsts ≡ 255) × (base ≡ 255)
-unfolding lengthFault
+lengths : (numbers shifts firsts base : ℕ) → planRoomFault numbers shifts firsts base ≡ 0 → (numbers ≡ 5) × (shifts ≡ 255) × (firsts ≡ 255) × (base ≡ 255)
+unfolding planRoomFault
 lengths numbers shifts firsts base e =
     let all : (eqb numbers 5 && (eqb shifts 255 && (eqb firsts 255 && eqb base 255))) ≡ true = not-false _ (when-zero _ 7 e) in
     let three : (eqb shifts 255 && (eqb firsts 255 && eqb base 255)) ≡ true = and-right (eqb numbers 5) _ all in
@@ -49,10 +49,10 @@ five-set (v ∷ w ∷ x ∷ y ∷ []) a b c d e h = absurd (omega arith)
 five-set (v ∷ w ∷ x ∷ y ∷ z ∷ []) a b c d e h = refl
 five-set (v ∷ w ∷ x ∷ y ∷ z ∷ u ∷ t) a b c d e h = absurd (omega arith)
 
-module _ (rec numbers shifts firsts base : List ℕ) (p : Plan) (r : ℕ) (says : PlanSays rec p) (e : r ≡ firstOf (p .number) (lengthFault (length numbers) (length shifts) (length firsts) (length base))) where
+module _ (rec numbers shifts firsts base : List ℕ) (p : Plan) (r : ℕ) (says : PlanSays rec p) (e : r ≡ firstOf (p .number) (planRoomFault (length numbers) (length shifts) (length firsts) (length base))) where
   number-is : r ≡ faultOf rec (λ h. lengthFault (length numbers) (length shifts) (length firsts) (length base))
   unfolding faultOf
-  number-is = e ∙ ap (λ (f : ℕ). firstOf f (lengthFault (length numbers) (length shifts) (length firsts) (length base))) (ap (λ (q : Plan). q .number) (says .plan) ∙ plan-number rec)
+  number-is = e ∙ ap (λ (f : ℕ). firstOf f (planRoomFault (length numbers) (length shifts) (length firsts) (length base))) (ap (λ (q : Plan). q .number) (says .plan) ∙ plan-number rec)
 
   -- where no number is met, the buffers have the stated lengths
   pub plan-lengths : r ≡ 0 → (length numbers ≡ 5) × (length shifts ≡ 255) × (length firsts ≡ 255) × (length base ≡ 255)

@@ -21,8 +21,8 @@ use Rattle.rearrange.specs.Calls.{RearrangeSays}
 use Rattle.weight_counts.specs.Weights.{weightsFault, WeightsSay}
 
 -- number 8 of `balanced_plan`, from the lengths of its buffers
-unfoldable pub lengthFault : ℕ → ℕ → ℕ → ℕ → ℕ
-lengthFault numbers shifts firsts base = when (not (eqb numbers 5 && (eqb shifts 255 && (eqb firsts 255 && eqb base 255)))) 8
+unfoldable pub planRoomFault : ℕ → ℕ → ℕ → ℕ → ℕ
+planRoomFault numbers shifts firsts base = when (not (eqb numbers 5 && (eqb shifts 255 && (eqb firsts 255 && eqb base 255)))) 8
 
 -- n, k, d, and k·d / n rounded down and up
 unfoldable pub numbersOf : Plan → List ℕ

@@ -3,7 +3,7 @@ ghost use mathlib.Core.Path.{_≡_};
 ghost use lib.ListN.{length};
 ghost use Rattle.lists.specs.Choice.{firstOf};
 ghost use Rattle.blocks.specs.Answers.{outcomeNumber};
-ghost use Rattle.balanced_c.specs.Calls.{lengthFault, numbersOf, PlanGives, EncodeGives, UpdateGives, RecoverGives, RebuildGives, BelongsGives, ToLanesGives, ToNodesGives, WeightsGive};
+ghost use Rattle.balanced_c.specs.Calls.{planRoomFault, numbersOf, PlanGives, EncodeGives, UpdateGives, RecoverGives, RebuildGives, BelongsGives, ToLanesGives, ToNodesGives, WeightsGive};
 
 mod correction;
 mod one_lane;
@@ -26,7 +26,7 @@ fn number_of(answer: Outcome) -> u8
 
 // The record's number, else 8 where a buffer for a part of a plan has another length than stated, else 0.
 fn plan_fault(number: u8, numbers: usize, shifts: usize, firsts: usize, base: usize) -> u8
-    ensures { λ r. ⌜ r ≡ firstOf number (lengthFault numbers shifts firsts base) ⌝ }
+    ensures { λ r. ⌜ r ≡ firstOf number (planRoomFault numbers shifts firsts base) ⌝ }
 {
     if number != 0 {
         return number;

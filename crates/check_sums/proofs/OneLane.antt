@@ -32,8 +32,8 @@ use Rattle.generator.specs.declared.Header.{Header}
 use Rattle.generator.specs.Records.{modulusOf, size, width, Sound}
 use Rattle.generator.specs.Codewords.{checkFrom, checksFrom, isWord}
 use Rattle.generator.proofs.Widths.{width-some}
-use Rattle.combine.specs.Combined.{combined, combinedBytes, WeightedRows}
-use Rattle.combine.proofs.Columns.{combined-symbols}
+use Rattle.row_sums.specs.Combined.{combined, combinedBytes, WeightedRows}
+use Rattle.row_sums.proofs.Columns.{combined-symbols}
 use Rattle.check_sums.specs.Sums.{checkSums, powerRow, powerBytes, powerRows}
 
 -- the place of the next power

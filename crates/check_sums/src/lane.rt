@@ -77,7 +77,7 @@ fn fill_sums(h: Header, rows: &[u8], lane: &[u16], sums: &mut [u8])
     let field = h.field;
     let n = h.n as usize;
     let checks = (h.n - h.k) as usize;
-    combine::combine_symbols(field, lane, n, checks, rows, sums);
+    row_sums::combine_symbols(field, lane, n, checks, rows, sums);
 }
 
 // The check sums of a lane, from the rows of powers, and zeros after them.

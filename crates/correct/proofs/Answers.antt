@@ -12,7 +12,7 @@ use Rattle.generator.specs.declared.Header.{Header}
 use Rattle.generator.specs.Records.{width}
 use Rattle.refusals.specs.Faults.{belongsFault}
 use Rattle.blocks.proofs.Refused.{refused-value}
-use Rattle.decoding.specs.Nearest.{hasNear}
+use Rattle.nearest_word.specs.Nearest.{hasNear}
 use Rattle.correct.proofs.Answered.{means-refused}
 use Rattle.correct.specs.declared.Correction.the-variants.{Altered, Refused}
 use Rattle.correct.specs.Blocks.{firstFar, correctedBytes, correctedCount, farBad}

@@ -42,8 +42,8 @@ use Rattle.blocks.specs.Promises.{BelongsSays}
 use Rattle.blocks.proofs.Refused.{refused-value}
 use Rattle.rearrange.specs.Lanes.{Full}
 use Rattle.rearrange.proofs.Bytes.{belongs-turned}
-use Rattle.decoding.specs.Nearest.{hasNear, corrected}
-use Rattle.decoding.proofs.Corrected.{corrected-word, exact}
+use Rattle.nearest_word.specs.Nearest.{hasNear, corrected}
+use Rattle.nearest_word.proofs.Corrected.{corrected-word, exact}
 use Rattle.correct.specs.declared.Correction.{Correction}
 use Rattle.correct.specs.declared.Correction.the-variants as C
 use Rattle.correct.specs.Blocks.{correctedShares, firstFar, correctedBytes, correctedCount, farBad}

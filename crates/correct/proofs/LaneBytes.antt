@@ -17,7 +17,7 @@ use Rattle.layout.proofs.LaneParts.{lanes-long, lane-inside, lane-part}
 use Rattle.generator.specs.declared.Header.{Header}
 use Rattle.generator.specs.Records.{size, width}
 use Rattle.symbols.proofs.Fits.{symbols-fit}
-use Rattle.decoding.specs.Nearest.{corrected}
+use Rattle.nearest_word.specs.Nearest.{corrected}
 use Rattle.correct.specs.Blocks.{correctedShares, correctedBytes}
 use Rattle.correct.specs.Marked.{MarkedLane, MarkedShares}
 use Rattle.correct.proofs.Shares.{is-lane, lane-corrected, length-corrected, corrected-symbols}

@@ -17,8 +17,8 @@ use Rattle.generator.specs.declared.Header.{Header}
 use Rattle.generator.specs.Records.{width}
 use Rattle.generator.proofs.Widths.{width-some}
 use Rattle.symbols.proofs.Fits.{symbols-fit}
-use Rattle.decoding.specs.Nearest.{hasNear, corrected}
-use Rattle.decoding.proofs.Corrected.{word-near, word-stays, corrected-long, corrected-below}
+use Rattle.nearest_word.specs.Nearest.{hasNear, corrected}
+use Rattle.nearest_word.proofs.Corrected.{word-near, word-stays, corrected-long, corrected-below}
 use Rattle.correct.specs.Marked.{MarkedLane}
 
 module _ {h : Header} {mark : ℕ} {lane : List ℕ} (m : MarkedLane h mark lane) where

@@ -18,9 +18,9 @@ use Rattle.generator.specs.Records.{size, distance, Sound}
 use Rattle.generator.specs.Codewords.{isWord}
 use Rattle.generator.specs.Claims.{Codeword}
 use Rattle.generator.proofs.Words.{words-poly}
-use Rattle.decoding.specs.Nearest.{radius, isNear, hasNear, nearest, corrected}
-use Rattle.decoding.proofs.Near.{Near, near-word, near-close, at-most-one, nearest-is, nearest-near, words-apart}
-use Rattle.decoding.proofs.Corrected.{word-stays, corrected-long, corrected-below, corrected-word, corrected-close, corrected-is}
+use Rattle.nearest_word.specs.Nearest.{radius, isNear, hasNear, nearest, corrected}
+use Rattle.nearest_word.proofs.Near.{Near, near-word, near-close, at-most-one, nearest-is, nearest-near, words-apart}
+use Rattle.nearest_word.proofs.Corrected.{word-stays, corrected-long, corrected-below, corrected-word, corrected-close, corrected-is}
 use Rattle.correct.specs.Blocks.{firstFar}
 use Rattle.correct.specs.Meaning.{NearWord}
 

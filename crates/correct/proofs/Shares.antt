@@ -13,14 +13,14 @@ use Rattle.layout.proofs.Lawful.{Lawful}
 use Rattle.layout.proofs.Buffers.{length-lane, length-buffer, lane-buffer, lane-symbols, buffer-below}
 use Rattle.generator.specs.declared.Header.{Header}
 use Rattle.generator.specs.Records.{size, Sound}
-use Rattle.decoding.specs.Nearest.{corrected}
-use Rattle.decoding.proofs.Corrected.{corrected-long, corrected-below}
-use Rattle.decode.specs.Candidates.{IsLane}
+use Rattle.nearest_word.specs.Nearest.{corrected}
+use Rattle.nearest_word.proofs.Corrected.{corrected-long, corrected-below}
+use Rattle.decode.specs.Candidates.{SoundLane}
 use Rattle.correct.specs.Blocks.{correctedShares}
 
 module _ {y : Arrangement} (a : Lawful y) (h : Header) (sound : Sound h) (l : ℕ) (s : List ℕ) (long : length s ≡ h .n * l) (below : allBelow (size h) s ≡ true) where
   -- a lane is n symbols
-  pub is-lane : (t : ℕ) → t < l → IsLane h (laneOf y (h .n) l t s)
+  pub is-lane : (t : ℕ) → t < l → SoundLane h (laneOf y (h .n) l t s)
   is-lane t inside = record { sound = sound; long = length-lane y (h .n) l t s; below = lane-symbols a (h .n) l (size h) t s inside long below }
 
   -- lane t set right

@@ -17,7 +17,7 @@ use Rattle.layout.specs.Layout.{Arrangement, held, laneOf, buffer, rearranged}
 use Rattle.layout.proofs.Lawful.{Lawful}
 use Rattle.layout.proofs.Buffers.{length-buffer, held-buffer, buffer-ext, rearranged-lane}
 use Rattle.generator.specs.declared.Header.{Header}
-use Rattle.decoding.specs.Nearest.{hasNear, corrected}
+use Rattle.nearest_word.specs.Nearest.{hasNear, corrected}
 use Rattle.correct.specs.Blocks.{correctedShares, firstFar}
 
 module _ {y z : Arrangement} (a : Lawful y) (b : Lawful z) (rows l : ℕ) where

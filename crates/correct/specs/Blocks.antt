@@ -10,7 +10,7 @@ use Rattle.layout.specs.Layout.{Arrangement, laneOf, buffer}
 use Rattle.layout.specs.Width.{symbolsOf, bytesOf}
 use Rattle.generator.specs.declared.Header.{Header}
 use Rattle.generator.specs.Records.{width}
-use Rattle.decoding.specs.Nearest.{hasNear, corrected}
+use Rattle.nearest_word.specs.Nearest.{hasNear, corrected}
 
 -- each lane as the word nearest to it
 unfoldable pub correctedShares : Arrangement → Header → ℕ → List ℕ → List ℕ

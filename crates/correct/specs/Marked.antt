@@ -10,12 +10,12 @@ use Rattle.layout.specs.Width.{symbolsOf}
 use Rattle.generator.specs.declared.Header.{Header}
 use Rattle.generator.specs.Records.{size, width, Sound}
 use Rattle.generator.specs.Codewords.{isWord}
-use Rattle.decode.specs.Candidates.{IsLane}
+use Rattle.decode.specs.Candidates.{SoundLane}
 
 -- the bytes of one lane, and its mark: 0 is put only to a word
 pub record MarkedLane (h : Header) (mark : ℕ) (lane : List ℕ) : Type 0 where
   pub bytes : length lane ≡ width h * h .n
-  pub symbols : IsLane h (symbolsOf (width h) lane)
+  pub symbols : SoundLane h (symbolsOf (width h) lane)
   pub word : mark ≡ 0 → isWord h (symbolsOf (width h) lane) ≡ true
 
 -- the bytes of n shares, and the marks of their l lanes

@@ -4,7 +4,7 @@ ghost use Rattle.lists.specs.Counting.{differ};
 ghost use Rattle.layout.specs.Width.{symbolsOf, bytesOf};
 ghost use Rattle.generator.specs.Records.{width};
 ghost use Rattle.check_sums.specs.Sums.{powerRows};
-ghost use Rattle.decoding.specs.Nearest.{hasNear, corrected};
+ghost use Rattle.nearest_word.specs.Nearest.{hasNear, corrected};
 ghost use Rattle.correct.specs.Marked.{MarkedLane};
 use generator::Header;
 

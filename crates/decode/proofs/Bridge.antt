@@ -17,8 +17,8 @@ use Rattle.field.specs.Fields.{isField, sizeOf, add, sub, mul}
 use Rattle.field.specs.Symbols.{Symbol}
 use Rattle.field.proofs.Symbols.{symbol-below, residue}
 use Rattle.field.proofs.FieldOf.{fieldOf, size-pos, number-sub}
-use Rattle.decoding.proofs.Recurrence.{discrepancy, shift, discrepancy-take, getD-plus, getD-scale, getD-shift}
-use Rattle.decoding.proofs.Massey.{amend}
+use Rattle.nearest_word.proofs.Recurrence.{discrepancy, shift, discrepancy-take, getD-plus, getD-scale, getD-shift}
+use Rattle.nearest_word.proofs.Massey.{amend}
 use Rattle.decode.specs.Locating.{Below, partial, shifted, amendedAt}
 use Rattle.decode.proofs.Arrays.{shifted-low, shifted-high, filled-at, filled-past}
 

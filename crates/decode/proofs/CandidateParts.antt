@@ -21,14 +21,14 @@ use Rattle.interpolation.specs.Points.{SymbolList, pointsOf}
 use Rattle.interpolation.specs.Lagrange.{scalesOf}
 use Rattle.interpolation.specs.Polynomials.{productOf}
 use Rattle.interpolation.proofs.Points.{length-points, points-symbols}
-use Rattle.recovery.specs.Rows.{basisOf}
-use Rattle.recovery.proofs.Parts.{Parts, parts}
+use Rattle.node_weights.specs.Rows.{basisOf}
+use Rattle.node_weights.proofs.Parts.{Parts, parts}
 use Rattle.check_sums.specs.Sums.{checkSums}
 use Rattle.check_sums.proofs.OneLane.{length-sums}
-use Rattle.decoding.specs.Nearest.{radius}
+use Rattle.nearest_word.specs.Nearest.{radius}
 use Rattle.decode.specs.Locating.{Below}
 use Rattle.decode.specs.Errors.{rootsOf, errorsOf, removed}
-use Rattle.decode.specs.Candidates.{IsLane, WrongNodes, Candidate}
+use Rattle.decode.specs.Candidates.{SoundLane, WrongNodes, Candidate}
 use Rattle.decode.proofs.Arrays.{below-everywhere}
 use Rattle.decode.proofs.RootNodes.{few-roots, roots-low}
 use Rattle.decode.proofs.ErrorSymbols.{errorsFrom-below}
@@ -61,7 +61,7 @@ pub record CandidateParts (h : Header) (ws sums nodes : List ℕ) (count : ℕ) 
   pub errors-symbols : SymbolList (h .field) es
   pub candidate : (array : List ℕ) → array ≡ padded 255 (removed (modulusOf h) js es ws) → Candidate h ws array
 
-module _ (h : Header) (ws : List ℕ) (lane : IsLane h ws) (sums : List ℕ) (sums-are : sums ≡ padded 255 (checkSums h ws)) where
+module _ (h : Header) (ws : List ℕ) (lane : SoundLane h ws) (sums : List ℕ) (sums-are : sums ≡ padded 255 (checkSums h ws)) where
   abbrev p : ℕ
   p = modulusOf h
 

@@ -45,13 +45,13 @@ use Rattle.interpolation.proofs.Points.{length-points}
 use Rattle.interpolation.proofs.Values.{getD-scales}
 use Rattle.check_sums.specs.Sums.{checkSums}
 use Rattle.check_sums.proofs.OneLane.{length-sums}
-use Rattle.decoding.specs.Nearest.{radius}
-use Rattle.decoding.proofs.Selection.{cons-if, keep}
-use Rattle.decoding.proofs.Recurrence.{discrepancy, getD-zeros}
-use Rattle.decoding.proofs.Massey.{Locator}
-use Rattle.decoding.proofs.Errors.{value, wrong, syndrome, discrepancy-agree}
-use Rattle.decoding.proofs.Repair.{roots, few-roots, right, repaired}
-use Rattle.decoding.proofs.Near.{Polynomial, term, Near, radius-fits, numbers-values, near-polynomial, near-faults}
+use Rattle.nearest_word.specs.Nearest.{radius}
+use Rattle.nearest_word.proofs.Selection.{cons-if, keep}
+use Rattle.nearest_word.proofs.Recurrence.{discrepancy, getD-zeros}
+use Rattle.nearest_word.proofs.Massey.{Locator}
+use Rattle.nearest_word.proofs.Errors.{value, wrong, syndrome, discrepancy-agree}
+use Rattle.nearest_word.proofs.Repair.{roots, few-roots, right, repaired}
+use Rattle.nearest_word.proofs.Near.{Polynomial, term, Near, radius-fits, numbers-values, near-polynomial, near-faults}
 use Rattle.decode.specs.Locating.{Below, Locates}
 use Rattle.decode.specs.Errors.{rootsOf, errorOf, errorsFrom, errorsOf, removed}
 use Rattle.decode.proofs.Bridge.{number, Holds, partial-discrepancy, term-number}

@@ -13,8 +13,8 @@ use Rattle.algebra.proofs.Poly.{scale}
 use Rattle.field.specs.Fields.{isField, sizeOf, mul, inverse}
 use Rattle.field.specs.Symbols.{Symbol}
 use Rattle.field.proofs.Symbols.{symbol-below, symbol-path}
-use Rattle.decoding.proofs.Recurrence.{discrepancy}
-use Rattle.decoding.proofs.Massey.{Locator, Now, Past, State, After, amend, kept, mended, grown, chosen-locates}
+use Rattle.nearest_word.proofs.Recurrence.{discrepancy}
+use Rattle.nearest_word.proofs.Massey.{Locator, Now, Past, State, After, amend, kept, mended, grown, chosen-locates}
 use Rattle.decode.specs.Locating.{Below, partial, amendedAt, Locates}
 use Rattle.decode.proofs.Arrays.{zeros-getD}
 use Rattle.decode.proofs.Bridge.{F, term, Holds, holds-below, holds-filled, partial-discrepancy, amendedAt-number, scaled-number}

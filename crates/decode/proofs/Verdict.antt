@@ -10,10 +10,10 @@ use Rattle.lists.specs.Padded.{padded}
 use Rattle.lists.proofs.Differ.{differ-same}
 use Rattle.generator.specs.declared.Header.{Header}
 use Rattle.generator.specs.Codewords.{isWord}
-use Rattle.decoding.specs.Nearest.{radius, isNear, hasNear, nearest, corrected}
-use Rattle.decoding.proofs.Near.{judged}
-use Rattle.decoding.proofs.Corrected.{corrected-near, corrected-far}
-use Rattle.decode.specs.Candidates.{IsLane, Candidate}
+use Rattle.nearest_word.specs.Nearest.{radius, isNear, hasNear, nearest, corrected}
+use Rattle.nearest_word.proofs.Near.{judged}
+use Rattle.nearest_word.proofs.Corrected.{corrected-near, corrected-far}
+use Rattle.decode.specs.Candidates.{SoundLane, Candidate}
 
 -- what is promised of a lane that was set right, or that was not
 abbrev Says : Header → List ℕ → List ℕ → ℕ → Bool → Type 0
@@ -23,7 +23,7 @@ and-false : (b : Bool) → (b && false) ≡ false
 and-false true = refl
 and-false false = refl
 
-module _ (h : Header) (ws array : List ℕ) (lane : IsLane h ws) (c : Candidate h ws array) where
+module _ (h : Header) (ws array : List ℕ) (lane : SoundLane h ws) (c : Candidate h ws array) where
   abbrev word : List ℕ
   word = c .word
 

@@ -8,12 +8,12 @@ use Rattle.lists.specs.Numbers.{allBelow}
 use Rattle.lists.specs.Padded.{padded}
 use Rattle.generator.specs.declared.Header.{Header}
 use Rattle.generator.specs.Records.{modulusOf, size, Sound}
-use Rattle.decoding.specs.Nearest.{radius, isNear}
+use Rattle.nearest_word.specs.Nearest.{radius, isNear}
 use Rattle.decode.specs.Locating.{Locates}
 use Rattle.decode.specs.Errors.{rootsOf}
 
 -- n symbols of the field of a sound header
-pub record IsLane (h : Header) (ws : List ℕ) : Type 0 where
+pub record SoundLane (h : Header) (ws : List ℕ) : Type 0 where
   pub sound : Sound h
   pub long : length ws ≡ h .n
   pub below : allBelow (size h) ws ≡ true

@@ -57,7 +57,7 @@ pub fn errors(field: Field, tables: &Tables, root: u32, nodes: &[u8], sums: &[u1
     let count = nodes.len();
     let first: usize = 1;
     let end = count + 1;
-    let basis = recovery::lagrange_basis(field, tables, root, nodes, 0);
+    let basis = node_weights::lagrange_basis(field, tables, root, nodes, 0);
     let points = basis.points;
     let scales = basis.scales;
     let product = basis.product;

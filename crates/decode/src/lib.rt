@@ -6,11 +6,11 @@ ghost use lib.ListN.{length};
 ghost use Rattle.lists.specs.Counting.{differ};
 ghost use Rattle.lists.specs.Padded.{padded};
 ghost use Rattle.check_sums.specs.Sums.{checkSums, powerRows};
-ghost use Rattle.decoding.specs.Nearest.{hasNear, corrected};
+ghost use Rattle.nearest_word.specs.Nearest.{hasNear, corrected};
 ghost use Rattle.field.specs.Tables.{AreTables};
 ghost use Rattle.generator.specs.Records.{size, Sound};
 ghost use Rattle.decode.specs.Locating.{Below};
-ghost use Rattle.decode.specs.Candidates.{IsLane, WrongNodes, Candidate};
+ghost use Rattle.decode.specs.Candidates.{SoundLane, WrongNodes, Candidate};
 use field::Tables;
 use generator::Header;
 
@@ -37,7 +37,7 @@ pub struct Corrected {
 
 // The only symbols that may be a word near enough, and zeros after them.
 fn candidate(h: Header, tables: &Tables, lane: &[u16], sums: [u16; 255]) -> [u16; 255]
-    requires { ⌜ IsLane h (now lane) × (sums ≡ padded 255 (checkSums h (now lane))) × AreTables (now tables) ⌝ }
+    requires { ⌜ SoundLane h (now lane) × (sums ≡ padded 255 (checkSums h (now lane))) × AreTables (now tables) ⌝ }
     ensures { λ r. ⌜ Candidate h (now (lane .entry)) r ⌝ }
 {
     let field = h.field;
@@ -77,7 +77,7 @@ fn kept(lane: &[u16]) -> Corrected
 
 // The lane set right, or as it was. `rows` are the rows of powers of the check sums.
 pub fn correct_lane(h: Header, rows: &[u8], lane: &[u16]) -> Corrected
-    requires { ⌜ IsLane h (now lane) × (now rows ≡ powerRows h) ⌝ }
+    requires { ⌜ SoundLane h (now lane) × (now rows ≡ powerRows h) ⌝ }
     ensures { λ r. ⌜ (r .near ≡ hasNear h (now (lane .entry))) × (r .lane ≡ padded 255 (corrected h (now (lane .entry)))) × (r .altered ≡ differ (now (lane .entry)) (corrected h (now (lane .entry)))) ⌝ }
 {
     let n = h.n as usize;

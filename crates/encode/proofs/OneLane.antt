@@ -29,7 +29,7 @@ use Rattle.generator.proofs.Bounds.{entryAt-below, nodeFrom-below}
 use Rattle.generator.proofs.Recovery.{shifts-are-places}
 use Rattle.plan.specs.Plans.{planFor}
 use Rattle.plan.proofs.Plans.{shift-in, shift-below, base-in, entry-read}
-use Rattle.windows.specs.Windows.{windowSums}
+use Rattle.sliding_sums.specs.Windows.{windowSums}
 use Rattle.encode.specs.OneLane.{placedFrom, twice}
 use Rattle.encode.proofs.Placed.{Leads, placed-sum}
 

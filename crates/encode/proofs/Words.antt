@@ -20,15 +20,15 @@ use Rattle.generator.specs.Generator.{entry}
 use Rattle.generator.specs.Codewords.{nodeFrom, nodeOf}
 use Rattle.generator.proofs.Bounds.{entry-below}
 use Rattle.blocks.specs.Blocks.{shareAt, sharesOf}
-use Rattle.combine.proofs.Columns.{dot-column}
-use Rattle.products.specs.Products.{groupsOf}
-use Rattle.products.specs.Matrices.{Begun}
-use Rattle.products.proofs.Beginning.{begun-made}
-use Rattle.products.proofs.Fitting.{lists-fit}
-use Rattle.lane_products.specs.declared.Product.{Product}
-use Rattle.lane_products.specs.declared.Way.the-variants.{RowsToLanes}
-use Rattle.lane_products.specs.Ways.{sideOf, outBytes, written, sumOf, Ready}
-use Rattle.encode.specs.Inner.{MessageBytes, ListRoom, columnOf, columnProduct}
+use Rattle.row_sums.proofs.Columns.{dot-column}
+use Rattle.tile_products.specs.Products.{groupsOf}
+use Rattle.tile_products.specs.Matrices.{Begun}
+use Rattle.tile_products.proofs.Beginning.{begun-made}
+use Rattle.tile_products.proofs.Fitting.{lists-fit}
+use Rattle.block_products.specs.declared.Product.{Product}
+use Rattle.block_products.specs.declared.Way.the-variants.{RowsToLanes}
+use Rattle.block_products.specs.Ways.{sideOf, outBytes, resultBytes, laneSum, Ready}
+use Rattle.encode.specs.Inner.{MessageBytes, ColumnRoom, columnOf, columnProduct}
 
 pub length-column : (h : Header) (j : ℕ) → length (columnOf h j) ≡ h .k
 unfolding columnOf
@@ -42,8 +42,8 @@ column-sum h j ms few =
     ∙ dot-column (modulusOf h) (λ r. entry h r j) (λ r ms. nodeFrom r h ms j) (λ r. refl) (λ r m ms. refl) 0 (h .k) ms [] few
 
 -- so the products of the columns and the lanes are the shares
-pub product-shares : (h : Header) (w l : ℕ) (m : List ℕ) (p : Product) → p ≡ columnProduct h l → written RowsToLanes w (h .n) l (sumOf p w (columnOf h) m) ≡ bytesOf w (sharesOf byLane h l (symbolsOf w m))
-unfolding written sharesOf shareAt sideOf
+pub product-shares : (h : Header) (w l : ℕ) (m : List ℕ) (p : Product) → p ≡ columnProduct h l → resultBytes RowsToLanes w (h .n) l (laneSum p w (columnOf h) m) ≡ bytesOf w (sharesOf byLane h l (symbolsOf w m))
+unfolding resultBytes sharesOf shareAt sideOf
 product-shares h w l m p e =
     rw e
     (ap (bytesOf w)
@@ -57,7 +57,7 @@ column-below h j sound =
     (λ r low. rw (getD-from (λ r. entry h r j) 0 (h .k) r 0 (omega (arith, length-column h j))) (entry-below h sound (0 + r) j))
 
 -- the lists of all columns fit scratch for so many nodes, and groups of four for as many rows
-pub list-room : (h : Header) (groups most : ℕ) → Sound h → h .n ≤ most → most ≤ 4 * groups → ListRoom h (most * (8 * groups)) (most * 8)
+pub list-room : (h : Header) (groups most : ℕ) → Sound h → h .n ≤ most → most ≤ 4 * groups → ColumnRoom h (most * (8 * groups)) (most * 8)
 list-room h groups most sound few all = record { entries = lists-fit (h .n) (h .k) groups most few (omega (arith, sound .fits)); sizes = omega arith }
 
 -- with their lists made, the product is ready

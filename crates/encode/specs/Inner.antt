@@ -8,9 +8,9 @@ use Rattle.generator.specs.declared.Record.the-variants.{Holds}
 use Rattle.generator.specs.Records.{Sound}
 use Rattle.generator.specs.Generator.{entry}
 use Rattle.plan.specs.Plans.{planFor}
-use Rattle.products.specs.Products.{groupsOf}
-use Rattle.lane_products.specs.declared.Product.{Product}
-use Rattle.lane_products.specs.declared.Way.the-variants.{RowsToLanes}
+use Rattle.tile_products.specs.Products.{groupsOf}
+use Rattle.block_products.specs.declared.Product.{Product}
+use Rattle.block_products.specs.declared.Way.the-variants.{RowsToLanes}
 use Rattle.refusals.specs.Accepted.{SymbolBytes}
 
 -- the shifts and the base word of an accepted record's plan
@@ -28,7 +28,7 @@ abbrev pub MessageBytes : Header → ℕ → ℕ → List ℕ → Type 0
 MessageBytes h w l m = SymbolBytes h w (h .k) l m
 
 -- room for the lists of all nodes' columns
-pub record ListRoom (h : Header) (lists counts : ℕ) : Type 0 where
+pub record ColumnRoom (h : Header) (lists counts : ℕ) : Type 0 where
   pub entries : h .n * (8 * groupsOf (h .k)) ≤ lists
   pub sizes : h .n * 8 ≤ counts
 

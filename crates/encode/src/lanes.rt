@@ -6,14 +6,14 @@ ghost use Rattle.layout.specs.Layout.{byLane};
 ghost use Rattle.layout.specs.Width.{symbolsOf, bytesOf};
 ghost use Rattle.generator.specs.Records.{modulusOf};
 ghost use Rattle.blocks.specs.Blocks.{sharesOf};
-ghost use Rattle.products.specs.Products.{Codes};
-ghost use Rattle.products.specs.Matrices.{Begun};
-ghost use Rattle.encode.specs.Inner.{Planned, MessageBytes, ListRoom, columnOf, columnProduct};
+ghost use Rattle.tile_products.specs.Products.{Codes};
+ghost use Rattle.tile_products.specs.Matrices.{Begun};
+ghost use Rattle.encode.specs.Inner.{Planned, MessageBytes, ColumnRoom, columnOf, columnProduct};
 use crate::fill_column;
+use block_products::Product;
+use block_products::Way;
 use generator::Header;
-use lane_products::Product;
-use lane_products::Way;
-use products::scratch;
+use tile_products::scratch;
 
 // The lists of every node's column; `column` is scratch.
 fn list_columns(
@@ -25,7 +25,7 @@ fn list_columns(
     lists: &mut [u16],
     counts: &mut [u8],
 )
-    requires { ⌜ Planned h (now shifts) (now base) × Codes (modulusOf h) (now codes) × (length (now column) ≡ h .k) × ListRoom h (length (now lists)) (length (now counts)) ⌝ }
+    requires { ⌜ Planned h (now shifts) (now base) × Codes (modulusOf h) (now codes) × (length (now column) ≡ h .k) × ColumnRoom h (length (now lists)) (length (now counts)) ⌝ }
     ensures { λ r. ⌜ Begun (modulusOf h) (h .k) (columnOf h) (h .n) (now (lists .exit)) (now (counts .exit)) ⌝ }
 {
     let field = h.field;
@@ -33,20 +33,20 @@ fn list_columns(
     let mut node: usize = 0;
     while node < n {
         fill_column(h, shifts, base, node, column);
-        products::prepare(field, codes, column, node, lists, counts);
+        tile_products::prepare(field, codes, column, node, lists, counts);
         node += 1;
     }
 }
 
 // The same in scratch of its own. The codes are filled in place: as the result of a call they would be copied.
 fn fill_lists(h: Header, shifts: &[u8], base: &[u16], lists: &mut [u16], counts: &mut [u8])
-    requires { ⌜ Planned h (now shifts) (now base) × ListRoom h (length (now lists)) (length (now counts)) ⌝ }
+    requires { ⌜ Planned h (now shifts) (now base) × ColumnRoom h (length (now lists)) (length (now counts)) ⌝ }
     ensures { λ r. ⌜ Begun (modulusOf h) (h .k) (columnOf h) (h .n) (now (lists .exit)) (now (counts .exit)) ⌝ }
 {
     let field = h.field;
     let k = h.k as usize;
     let mut codes = scratch::codes();
-    products::fill_codes(field, &mut codes);
+    tile_products::fill_codes(field, &mut codes);
     let mut column = [0u16; 255];
     list_columns(h, shifts, base, &codes, &mut column[..k], lists, counts);
 }
@@ -87,16 +87,16 @@ pub fn fill_lanes<'a>(
         let mut lists = scratch::small_lists();
         let mut counts = scratch::small_counts();
         fill_lists(h, shifts, base, &mut lists, &mut counts);
-        return lane_products::fill(m, w, &lists, &counts, message, out);
+        return block_products::fill(m, w, &lists, &counts, message, out);
     }
     if h.n <= 64 {
         let mut lists = scratch::middle_lists();
         let mut counts = scratch::middle_counts();
         fill_lists(h, shifts, base, &mut lists, &mut counts);
-        return lane_products::fill(m, w, &lists, &counts, message, out);
+        return block_products::fill(m, w, &lists, &counts, message, out);
     }
     let mut lists = scratch::large_lists();
     let mut counts = scratch::large_counts();
     fill_lists(h, shifts, base, &mut lists, &mut counts);
-    lane_products::fill(m, w, &lists, &counts, message, out);
+    block_products::fill(m, w, &lists, &counts, message, out);
 }

@@ -15,7 +15,7 @@ ghost use Rattle.generator.specs.Codewords.{encoding};
 ghost use Rattle.generator.specs.declared.Record.the-variants.{Holds};
 ghost use Rattle.plan.specs.Plans.{planFor};
 ghost use Rattle.blocks.specs.Blocks.{sharesOf};
-ghost use Rattle.windows.specs.Windows.{windowSums, Windows};
+ghost use Rattle.sliding_sums.specs.Windows.{windowSums, Windows};
 ghost use Rattle.encode.specs.Inner.{Planned, MessageBytes};
 ghost use Rattle.encode.specs.OneLane.{placedFrom, twice};
 use field::Field;
@@ -78,7 +78,7 @@ fn write_sums(
     requires { ⌜ (usable field ≡ true) × Windows (sizeOf (modulus field)) (now weights) (now row) (length (now sums)) × (1 ≤ w) × (w ≤ 2) × (sizeOf (modulus field) ≤ 256 ^ w) × (length (now out) ≡ length (now sums) * w) ⌝ }
     ensures { λ r. ⌜ now (out .exit) ≡ bytesOf w (windowSums (modulus field) (now (weights .entry)) (now (row .entry)) (length (now (sums .entry)))) ⌝ }
 {
-    windows::window_sums(field, weights, row, sums);
+    sliding_sums::window_sums(field, weights, row, sums);
     symbols::write_symbols(w, sums, out);
 }
 

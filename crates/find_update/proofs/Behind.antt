@@ -27,11 +27,12 @@ use Rattle.generator.specs.Generator.{entry}
 use Rattle.generator.proofs.Bounds.{entry-below}
 use Rattle.find_update.specs.declared.Finding.the-variants.{Unchanged}
 use Rattle.refusals.specs.Accepted.{IsLane}
-use Rattle.find_update.specs.Finding.{added, findingOf}
-use Rattle.find_update.specs.Starts.{differences, rowAt, firstOther, amountIn, updateIn}
+use Rattle.find_update.specs.Finding.{findingOf}
+use Rattle.find_update.specs.Starts.{differences, rowStarting, firstOther, amountIn, updateIn}
 use Rattle.find_update.proofs.Multiples.{Multiple, first-node, first-entry, row-is}
 use Rattle.find_update.proofs.Single.{getD-added, length-added, nothing-added}
 use Rattle.find_update.proofs.Meaning.{finds, finding-added}
+use Rattle.blocks.specs.Blocks.{wordAdded}
 
 module _ (h : Header) (s : Sound h) where
   abbrev p : ℕ
@@ -40,7 +41,7 @@ module _ (h : Header) (s : Sound h) where
   abbrev laws : Arithmetic (size h) (add p) (sub p) (mul p)
   laws = arithmetic p (s .field)
 
-  -- u and what was added make v
+  -- u and what was wordAdded make v
   add-difference : (u v : ℕ) → u < size h → v < size h → add p u (sub p v u) ≡ v
   add-difference u v hu hv = laws .add-comm u (sub p v u) hu (laws .sub-below v u hv hu) ∙ laws .sub-add v u hv hu
 
@@ -102,9 +103,9 @@ module _ (h : Header) (s : Sound h) where
         }
 
     -- where it is a multiple of a row, adding that leads from the first lane to the second
-    multiple-leads : (r x : ℕ) → ((j : ℕ) → j < h .n → getD ws j 0 ≡ mul p x (entry h r j)) → added h r x us ≡ vs
+    multiple-leads : (r x : ℕ) → ((j : ℕ) → j < h .n → getD ws j 0 ≡ mul p x (entry h r j)) → wordAdded h r x us ≡ vs
     multiple-leads r x same =
-        ext-getD 0 (added h r x us) vs (length-added h s us before r x ∙ sym (after .long))
+        ext-getD 0 (wordAdded h r x us) vs (length-added h s us before r x ∙ sym (after .long))
         (λ j l.
         let node : j < h .n = omega (arith, length-added h s us before r x) in
         getD-added h s us before r x j node
@@ -112,7 +113,7 @@ module _ (h : Header) (s : Sound h) where
         ∙ add-difference (getD us j 0) (getD vs j 0) (first-symbol j node) (second-symbol j node))
 
     -- and the other way round
-    leads-multiple : (r x : ℕ) → x < size h → added h r x us ≡ vs → (j : ℕ) → j < h .n → getD ws j 0 ≡ mul p x (entry h r j)
+    leads-multiple : (r x : ℕ) → x < size h → wordAdded h r x us ≡ vs → (j : ℕ) → j < h .n → getD ws j 0 ≡ mul p x (entry h r j)
     leads-multiple r x low e j node =
         getD-differences j node
         ∙ ap (λ (v : ℕ). sub p v (getD us j 0)) (ap (λ (l : List ℕ). getD l j 0) (sym e) ∙ getD-added h s us before r x j node)
@@ -139,15 +140,15 @@ module _ (h : Header) (s : Sound h) where
 
     -- the row that it begins with
     abbrev row : ℕ
-    row = rowAt h ws
+    row = rowStarting h ws
 
     module _ (apart : us ≡ vs → ⊥) where
       -- what leads from the first lane to the second is the row that the difference begins with, and the quotient
-      behind : (r x : ℕ) → r < h .k → x < size h → added h r x us ≡ vs → (row ≡ r) × (amountIn h ws r ≡ x)
+      behind : (r x : ℕ) → r < h .k → x < size h → wordAdded h r x us ≡ vs → (row ≡ r) × (amountIn h ws r ≡ x)
       unfolding amountIn
       behind r x inside low e =
           let same = leads-multiple r x low e in
-          let some : x ≡ 0 → ⊥ = λ z. apart (sym (nothing-added h s us before r) ∙ ap (λ (a : ℕ). added h r a us) (sym z) ∙ e) in
+          let some : x ≡ 0 → ⊥ = λ z. apart (sym (nothing-added h s us before r) ∙ ap (λ (a : ℕ). wordAdded h r a us) (sym z) ∙ e) in
           let m : Multiple h r x ws = record { long = length-differences; row = inside; factor = low; some = some; holds = same } in
           let first = getD (firsts h) r 0 in (
             row-is h s r x ws m,
@@ -155,7 +156,7 @@ module _ (h : Header) (s : Sound h) where
           )
 
       -- the comparison passes there
-      passes : (r x : ℕ) → r < h .k → x < size h → added h r x us ≡ vs → (ltb row (h .k) && eqb (firstOther h ws row (amountIn h ws row)) (h .n)) ≡ true
+      passes : (r x : ℕ) → r < h .k → x < size h → wordAdded h r x us ≡ vs → (ltb row (h .k) && eqb (firstOther h ws row (amountIn h ws row)) (h .n)) ≡ true
       passes r x low small e =
           let (same, amount) = behind r x low small e in
           rw (same, amount) (both-true (lt-ltb r (h .k) low) (eq-eqb _ (h .n) (all-same ws r x (leads-multiple r x small e))))

@@ -18,8 +18,9 @@ use Rattle.generator.specs.declared.Header.{Header}
 use Rattle.generator.specs.Records.{size, Sound}
 use Rattle.find_update.specs.declared.Finding.the-variants.{Unchanged, Added, NoSingleUpdate, Refused}
 use Rattle.refusals.specs.Accepted.{IsLane}
-use Rattle.find_update.specs.Finding.{added, takenAway, leads, amountAt, symbolOf, findingOf, Finds}
+use Rattle.find_update.specs.Finding.{takenAway, leads, amountAt, symbolOf, findingOf, Finds}
 use Rattle.find_update.proofs.Single.{length-added, one-addition, nothing-added, taken-back}
+use Rattle.blocks.specs.Blocks.{wordAdded}
 
 -- the finding is no refusal
 pub not-refused : (h : Header) (us vs : List ℕ) (g : ℕ) → findingOf h us vs ≡ Refused g → ⊥
@@ -33,21 +34,21 @@ not-refused h us vs g = go (eqb (differ us vs) 0) (ltb (symbolOf h us vs) (h .k)
 
 module _ (h : Header) (s : Sound h) (us vs : List ℕ) (before : IsLane h us) (after : IsLane h vs) where
   -- the test says that the addition gives the second lane
-  leads-is : (r x : ℕ) → leads h us vs r x ≡ true → added h r x us ≡ vs
+  leads-is : (r x : ℕ) → leads h us vs r x ≡ true → wordAdded h r x us ≡ vs
   unfolding leads
-  leads-is r x e = same-lists (added h r x us) vs (length-added h s us before r x ∙ sym (after .long)) (eqb-true _ 0 e)
+  leads-is r x e = same-lists (wordAdded h r x us) vs (length-added h s us before r x ∙ sym (after .long)) (eqb-true _ 0 e)
 
-  is-leads : (r x : ℕ) → added h r x us ≡ vs → leads h us vs r x ≡ true
+  is-leads : (r x : ℕ) → wordAdded h r x us ≡ vs → leads h us vs r x ≡ true
   unfolding leads
   is-leads r x e = eq-eqb _ 0 (ap (λ (l : List ℕ). differ l vs) e ∙ differ-same vs)
 
   -- an amount that leads to the second lane is found, or a lesser one
-  amount-found : (r x : ℕ) → x < size h → added h r x us ≡ vs → amountAt h us vs r < size h
+  amount-found : (r x : ℕ) → x < size h → wordAdded h r x us ≡ vs → amountAt h us vs r < size h
   unfolding amountAt
   amount-found r x low e = omega (arith, search-within (size h) 0 (λ x. not (leads h us vs r x)) x (omega arith) (omega arith) (ap not (is-leads r x e)))
 
   -- and what is found leads there
-  amount-leads : (r : ℕ) → amountAt h us vs r < size h → added h r (amountAt h us vs r) us ≡ vs
+  amount-leads : (r : ℕ) → amountAt h us vs r < size h → wordAdded h r (amountAt h us vs r) us ≡ vs
   unfolding amountAt
   amount-leads r low = leads-is r _ (sym (not-not _) ∙ ap not (search-fails (size h) 0 (λ x. not (leads h us vs r x)) (omega arith)))
 
@@ -56,7 +57,7 @@ module _ (h : Header) (s : Sound h) (us vs : List ℕ) (before : IsLane h us) (a
   amount-high r = rw zero-add at (search-high (size h) 0 (λ x. not (leads h us vs r x)))
 
   -- likewise for the symbol
-  symbol-found : (r x : ℕ) → r < h .k → x < size h → added h r x us ≡ vs → symbolOf h us vs < h .k
+  symbol-found : (r x : ℕ) → r < h .k → x < size h → wordAdded h r x us ≡ vs → symbolOf h us vs < h .k
   unfolding symbolOf
   symbol-found r x row low e =
       omega (arith, search-within (h .k) 0 (λ r. eqb (amountAt h us vs r) (size h)) r (omega arith) (omega arith) (ne-eqb _ (size h) (λ z. omega (arith, amount-found r x low e))))
@@ -102,7 +103,7 @@ module _ (h : Header) (s : Sound h) (us vs : List ℕ) (before : IsLane h us) (a
       is-unchanged : us ≡ vs → findingOf h us vs ≡ Unchanged
       is-unchanged e = ⊎-elim (λ a. a .1) (⊎-elim (λ a. absurd (a .0 e)) (λ a. absurd (a .0 e))) answer
 
-      is-none : (us ≡ vs → ⊥) × ((r x : ℕ) → r < h .k → x < size h → added h r x us ≡ vs → ⊥) → findingOf h us vs ≡ NoSingleUpdate
+      is-none : (us ≡ vs → ⊥) × ((r x : ℕ) → r < h .k → x < size h → wordAdded h r x us ≡ vs → ⊥) → findingOf h us vs ≡ NoSingleUpdate
       is-none (apart, never) =
           ⊎-elim (λ a. absurd (apart (a .0)))
           (⊎-elim (λ a. absurd (never (symbolOf h us vs) (amountAt h us vs (symbolOf h us vs)) (a .1) (symbol-amount (a .1)) (amount-leads (symbolOf h us vs) (symbol-amount (a .1))))) (λ a. a .2))
@@ -114,19 +115,19 @@ module _ (h : Header) (s : Sound h) (us vs : List ℕ) (before : IsLane h us) (a
           (⊎-elim (λ a. (a .0, a .1, cc (e, a .2), cc (e, a .2))) (λ a. absurd (let z : _≡_ {A = ℕ} 0 1 = cc (e, a .2) in omega arith)))
           answer
 
-      leads-there : (r x : ℕ) → findingOf h us vs ≡ Added r x → (r < h .k) × (x < size h) × (added h r x us ≡ vs)
+      leads-there : (r x : ℕ) → findingOf h us vs ≡ Added r x → (r < h .k) × (x < size h) × (wordAdded h r x us ≡ vs)
       leads-there r x e =
           let (apart, row, er, ex) = found r x e in
           rw (er, ex) (row, symbol-amount row, amount-leads (symbolOf h us vs) (symbol-amount row))
 
-      only-one : (r x q y : ℕ) → findingOf h us vs ≡ Added r x → q < h .k → y < size h → added h q y us ≡ vs → (q ≡ r) × (y ≡ x)
+      only-one : (r x q y : ℕ) → findingOf h us vs ≡ Added r x → q < h .k → y < size h → wordAdded h q y us ≡ vs → (q ≡ r) × (y ≡ x)
       only-one r x q y e row low l =
           let (hr, hx, lr) = leads-there r x e in
           let apart = found r x e .0 in
-          one-addition h s us before q y r x row hr low hx (λ z. apart (sym (nothing-added h s us before q) ∙ ap (λ (a : ℕ). added h q a us) (sym z) ∙ l)) (l ∙ sym lr)
+          one-addition h s us before q y r x row hr low hx (λ z. apart (sym (nothing-added h s us before q) ∙ ap (λ (a : ℕ). wordAdded h q a us) (sym z) ∙ l)) (l ∙ sym lr)
 
   -- where something leads from the first lane to the second, it is found
-  pub finding-added : (us ≡ vs → ⊥) → (r x : ℕ) → r < h .k → x < size h → added h r x us ≡ vs → findingOf h us vs ≡ Added r x
+  pub finding-added : (us ≡ vs → ⊥) → (r x : ℕ) → r < h .k → x < size h → wordAdded h r x us ≡ vs → findingOf h us vs ≡ Added r x
   finding-added apart r x row low l =
       ⊎-elim (λ a. absurd (apart (a .0)))
       (⊎-elim

@@ -23,7 +23,7 @@ use Rattle.generator.proofs.Bounds.{entry-below}
 use Rattle.generator.proofs.Entries.{row-weight}
 use Rattle.generator.proofs.Recovery.{shifts-are-places}
 use Rattle.generator.proofs.Shifts.{shifts-below, firsts-at, firsts-below}
-use Rattle.find_update.specs.Starts.{nodeBefore, beginsAt, rowAt}
+use Rattle.find_update.specs.Starts.{nodeBefore, beginsAt, rowStarting}
 use Rattle.find_update.proofs.Starts.{same-start}
 
 -- x times row r
@@ -126,8 +126,8 @@ module _ (h : Header) (s : Sound h) where
         Distinct-at 0 (shifts h) (shifts-are-places h s .distinct) q r (omega (arith, shifts-are-places h s .size)) (omega (arith, m .row, shifts-are-places h s .size)) (rows-start r q (m .row) row low high))
 
     -- so the least row that it begins with is its own
-    pub row-is : rowAt h ws ≡ r
-    unfolding rowAt
+    pub row-is : rowStarting h ws ≡ r
+    unfolding rowStarting
     row-is =
         let test : ℕ → Bool = λ q. not (beginsAt (h .k) ws (getD (firsts h) q 0)) in
         let found = search-within (h .k) 0 test r (omega arith) (omega (arith, m .row)) (ap not begins-own) in

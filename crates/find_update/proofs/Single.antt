@@ -26,7 +26,8 @@ use Rattle.generator.proofs.Costs.{zero-message}
 use Rattle.generator.proofs.PlainLayout.{first-nodes}
 use Rattle.generator.proofs.Recovery.{one-message}
 use Rattle.refusals.specs.Accepted.{IsLane}
-use Rattle.find_update.specs.Finding.{added, takenAway}
+use Rattle.find_update.specs.Finding.{takenAway}
+use Rattle.blocks.specs.Blocks.{wordAdded}
 
 module _ (h : Header) (s : Sound h) where
   abbrev p : ℕ
@@ -40,7 +41,7 @@ module _ (h : Header) (s : Sound h) where
   less-zero x low =
       sym (laws .add-zero (sub p x 0) (laws .sub-below x 0 low (zero-below laws))) ∙ laws .sub-add x 0 low (zero-below laws)
 
-  -- what is added to the same symbol with the same sum is the same
+  -- what is wordAdded to the same symbol with the same sum is the same
   same-added : (u a b : ℕ) → u < size h → a < size h → b < size h → add p u a ≡ add p u b → a ≡ b
   same-added u a b hu ha hb e =
       sym (add-back laws a u ha hu)
@@ -87,35 +88,35 @@ module _ (h : Header) (s : Sound h) where
     symbol-at j node = All-at (λ x. x < size h) 0 us (below-all (size h) us (lane .symbols)) j (omega (arith, lane .long))
 
     -- what node j holds after the addition
-    pub getD-added : (r x j : ℕ) → j < h .n → getD (added h r x us) j 0 ≡ add p (getD us j 0) (mul p x (entry h r j))
-    unfolding added
+    pub getD-added : (r x j : ℕ) → j < h .n → getD (wordAdded h r x us) j 0 ≡ add p (getD us j 0) (mul p x (entry h r j))
+    unfolding wordAdded
     getD-added r x j node = rw zero-add at (getD-from (λ j. add p (getD us j 0) (mul p x (entry h r j))) 0 (h .n) j 0 node)
 
-    pub length-added : (r x : ℕ) → length (added h r x us) ≡ h .n
-    unfolding added
+    pub length-added : (r x : ℕ) → length (wordAdded h r x us) ≡ h .n
+    unfolding wordAdded
     length-added r x = length-from (λ j. add p (getD us j 0) (mul p x (entry h r j))) 0 (h .n)
 
-    -- two additions with the same result are the same, where something is added
-    pub one-addition : (r x q y : ℕ) → r < h .k → q < h .k → x < size h → y < size h → (x ≡ 0 → ⊥) → added h r x us ≡ added h q y us → (r ≡ q) × (x ≡ y)
+    -- two additions with the same result are the same, where something is wordAdded
+    pub one-addition : (r x q y : ℕ) → r < h .k → q < h .k → x < size h → y < size h → (x ≡ 0 → ⊥) → wordAdded h r x us ≡ wordAdded h q y us → (r ≡ q) × (x ≡ y)
     one-addition r x q y hr hq hx hy some e =
         same-multiples r x q y hr hq hx hy some
         (λ j node.
         same-added (getD us j 0) (mul p x (entry h r j)) (mul p y (entry h q j)) (symbol-at j node) (term-below r x j hx) (term-below q y j hy)
         (sym (getD-added r x j node) ∙ ap (λ (l : List ℕ). getD l j 0) e ∙ getD-added q y j node))
 
-    -- nothing added alters nothing
-    pub nothing-added : (r : ℕ) → added h r 0 us ≡ us
+    -- nothing wordAdded alters nothing
+    pub nothing-added : (r : ℕ) → wordAdded h r 0 us ≡ us
     nothing-added r =
-        ext-getD 0 (added h r 0 us) us (length-added r 0 ∙ sym (lane .long))
+        ext-getD 0 (wordAdded h r 0 us) us (length-added r 0 ∙ sym (lane .long))
         (λ j b.
         let node : j < h .n = omega (arith, length-added r 0) in
         getD-added r 0 j node ∙ ap (add p (getD us j 0)) (zero-mul laws (entry h r j) (entry-below h s r j)) ∙ laws .add-zero (getD us j 0) (symbol-at j node))
 
-    -- what was added is taken away again
-    pub taken-back : (r x : ℕ) → x < size h → takenAway h r x (added h r x us) ≡ us
+    -- what was wordAdded is taken away again
+    pub taken-back : (r x : ℕ) → x < size h → takenAway h r x (wordAdded h r x us) ≡ us
     unfolding takenAway
     taken-back r x low =
-        ext-getD 0 (takenAway h r x (added h r x us)) us (length-from back 0 (h .n) ∙ sym (lane .long))
+        ext-getD 0 (takenAway h r x (wordAdded h r x us)) us (length-from back 0 (h .n) ∙ sym (lane .long))
         (λ j b.
         let node : j < h .n = omega (arith, length-from back 0 (h .n)) in
         rw zero-add at (getD-from back 0 (h .n) j 0 node)
@@ -124,4 +125,4 @@ module _ (h : Header) (s : Sound h) where
         ∙ add-back laws (getD us j 0) (mul p x (entry h r j)) (symbol-at j node) (term-below r x j low))
       where
         back : ℕ → ℕ
-        back j = sub p (getD (added h r x us) j 0) (mul p x (entry h r j))
+        back j = sub p (getD (wordAdded h r x us) j 0) (mul p x (entry h r j))

@@ -16,17 +16,14 @@ use Rattle.generator.specs.Records.{modulusOf, size}
 use Rattle.generator.specs.Generator.{entry}
 use Rattle.find_update.specs.declared.Finding.{Finding}
 use Rattle.find_update.specs.declared.Finding.the-variants.{Unchanged, Added, NoSingleUpdate}
-
--- x times row r of the generator added to a lane, and taken away from it
-unfoldable pub added : Header → ℕ → ℕ → List ℕ → List ℕ
-added h r x us = from (λ j. add (modulusOf h) (getD us j 0) (mul (modulusOf h) x (entry h r j))) 0 (h .n)
+use Rattle.blocks.specs.Blocks.{wordAdded}
 
 unfoldable pub takenAway : Header → ℕ → ℕ → List ℕ → List ℕ
 takenAway h r x vs = from (λ j. sub (modulusOf h) (getD vs j 0) (mul (modulusOf h) x (entry h r j))) 0 (h .n)
 
 -- adding x to symbol r of the message leads from us to vs
 unfoldable pub leads : Header → List ℕ → List ℕ → ℕ → ℕ → Bool
-leads h us vs r x = eqb (differ (added h r x us) vs) 0
+leads h us vs r x = eqb (differ (wordAdded h r x us) vs) 0
 
 -- the least amount that does so at symbol r, or the field's size
 unfoldable pub amountAt : Header → List ℕ → List ℕ → ℕ → ℕ
@@ -45,8 +42,8 @@ findingOf h us vs =
 pub record Finds (h : Header) (us vs : List ℕ) : Type 0 where
   pub unchanged : (findingOf h us vs ≡ Unchanged) ↔ (us ≡ vs)
   -- they differ, and no symbol and amount lead from the first to the second
-  pub none : (findingOf h us vs ≡ NoSingleUpdate) ↔ ((us ≡ vs → ⊥) × ((r x : ℕ) → r < h .k → x < size h → added h r x us ≡ vs → ⊥))
+  pub none : (findingOf h us vs ≡ NoSingleUpdate) ↔ ((us ≡ vs → ⊥) × ((r x : ℕ) → r < h .k → x < size h → wordAdded h r x us ≡ vs → ⊥))
   -- the amount leads from the first to the second and back, and no other symbol and amount do
-  pub there : (r x : ℕ) → findingOf h us vs ≡ Added r x → (r < h .k) × (x < size h) × (added h r x us ≡ vs)
+  pub there : (r x : ℕ) → findingOf h us vs ≡ Added r x → (r < h .k) × (x < size h) × (wordAdded h r x us ≡ vs)
   pub back : (r x : ℕ) → findingOf h us vs ≡ Added r x → takenAway h r x vs ≡ us
-  pub only : (r x q y : ℕ) → findingOf h us vs ≡ Added r x → q < h .k → y < size h → added h q y us ≡ vs → (q ≡ r) × (y ≡ x)
+  pub only : (r x q y : ℕ) → findingOf h us vs ≡ Added r x → q < h .k → y < size h → wordAdded h q y us ≡ vs → (q ≡ r) × (y ≡ x)

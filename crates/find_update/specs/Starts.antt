@@ -28,8 +28,8 @@ unfoldable pub beginsAt : ℕ → List ℕ → ℕ → Bool
 beginsAt k ws first = not (eqb (getD ws first 0) 0) && (eqb k 1 || eqb (getD ws (nodeBefore (length ws) first) 0) 0)
 
 -- the least row that it begins with, or k
-unfoldable pub rowAt : Header → List ℕ → ℕ
-rowAt h ws = firstFalse (h .k) 0 (λ r. not (beginsAt (h .k) ws (getD (firsts h) r 0)))
+unfoldable pub rowStarting : Header → List ℕ → ℕ
+rowStarting h ws = firstFalse (h .k) 0 (λ r. not (beginsAt (h .k) ws (getD (firsts h) r 0)))
 
 -- the first of n nodes at which a list is not x times row r, or n
 unfoldable pub firstOther : Header → List ℕ → ℕ → ℕ → ℕ
@@ -42,5 +42,5 @@ amountIn h ws r = mul (modulusOf h) (getD ws (getD (firsts h) r 0) 0) (inverse (
 -- the update that a difference is of, where it is not zero at some node
 unfoldable pub updateIn : Header → List ℕ → Finding
 updateIn h ws =
-    pick (ltb (rowAt h ws) (h .k) && eqb (firstOther h ws (rowAt h ws) (amountIn h ws (rowAt h ws))) (h .n))
-    (Added (rowAt h ws) (amountIn h ws (rowAt h ws))) NoSingleUpdate
+    pick (ltb (rowStarting h ws) (h .k) && eqb (firstOther h ws (rowStarting h ws) (amountIn h ws (rowStarting h ws))) (h .n))
+    (Added (rowStarting h ws) (amountIn h ws (rowStarting h ws))) NoSingleUpdate

@@ -4,7 +4,7 @@ ghost use Prim.Native.Nat.{_<_};
 ghost use lib.ListN.{length};
 ghost use Rattle.generator.specs.Records.{Sound};
 ghost use Rattle.plan.specs.Plans.{planFor};
-ghost use Rattle.find_update.specs.Starts.{beginsAt, rowAt};
+ghost use Rattle.find_update.specs.Starts.{beginsAt, rowStarting};
 use generator::Header;
 use generator::Record;
 use plan::Plan;
@@ -22,7 +22,7 @@ fn begins_at(k: u8, first: usize, difference: &[u16]) -> bool
 // The least row that the difference begins with, or k.
 pub fn row_at(h: Header, plan: Plan, difference: &[u16]) -> usize
     requires { ⌜ Sound h × (plan ≡ planFor (Record.Holds h)) × (length (now difference) ≡ h .n) ⌝ }
-    ensures { λ r. ⌜ r ≡ rowAt h (now (difference .entry)) ⌝ }
+    ensures { λ r. ⌜ r ≡ rowStarting h (now (difference .entry)) ⌝ }
 {
     let k = h.k as usize;
     let mut r: usize = 0;

@@ -8,8 +8,8 @@ use Rattle.lists.specs.Numbers.{allBelow}
 use Rattle.kernel.specs.Lanes.{lanewise}
 
 -- symbol t of a row of high bytes and a row of low bytes, times the weight
-unfoldable pub productAt : ℕ → List ℕ → List ℕ → ℕ → ℕ
-productAt weight first second t = (getD first t 0 * 256 + getD second t 0) * weight
+unfoldable pub pairProduct : ℕ → List ℕ → List ℕ → ℕ → ℕ
+pairProduct weight first second t = (getD first t 0 * 256 + getD second t 0) * weight
 
 -- f t added to each lane, modulo 65536
 unfoldable pub wrapped : (ℕ → ℕ) → List ℕ → List ℕ

@@ -19,8 +19,8 @@ use Rattle.blocks.specs.Blocks.{MessageFor}
 use Rattle.blocks.specs.Bytes.{RecoveredBytes}
 use Rattle.blocks.proofs.Messages.{lane-message, some-buffer}
 use Rattle.interpolation.proofs.PaddedSums.{dot-padded}
-use Rattle.inverse.specs.Inverse.{inverseRow}
-use Rattle.inverse.proofs.Rows.{row-recovers, length-row}
+use Rattle.recover_matrix.specs.Inverse.{inverseRow}
+use Rattle.recover_matrix.proofs.Rows.{row-recovers, length-row}
 
 -- the products are the message
 products-message : {h : Header} {l : ℕ} {nodes xs : List ℕ} → SymbolRows h (h .k) l xs → areNodes h nodes ≡ true → h .k ≤ 255 → MessageFor byLane h l nodes xs (buffer byRow (h .k) l (λ r t. dot (modulusOf h) (laneOf byLane (h .k) l t xs) (inverseRow h nodes r)))

@@ -21,8 +21,8 @@ use Rattle.generator.proofs.Widths.{width-range}
 use Rattle.refusals.specs.Accepted.{SymbolRows, SymbolBytes, ListedShares}
 use Rattle.blocks.specs.Bytes.{RebuiltBytes}
 use Rattle.blocks.proofs.Messages.{some-buffer}
-use Rattle.combine.specs.Combined.{combined}
-use Rattle.recovery.specs.Weights.{Rebuilds}
+use Rattle.row_sums.specs.Combined.{combined}
+use Rattle.node_weights.specs.Weights.{Rebuilds}
 use Rattle.recover.proofs.Rebuilding.{rebuilt}
 
 module _ (p rows l : ℕ) (s : List ℕ) (t c : ℕ) where

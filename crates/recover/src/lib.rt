@@ -21,9 +21,9 @@ fn recover_accepted(h: Header, lanes: usize, nodes: &[u8], shares: &[u8], out: &
     }
     let k = h.k as usize;
     let shifts = shifts::fill_shifts(h.n, h.k);
-    let setup = recovery::prepare(h, nodes, &shifts[..k]);
+    let setup = node_weights::prepare(h, nodes, &shifts[..k]);
     let w = symbols::width_of(h);
-    inverse::fill_message(h, nodes, setup, w, lanes, shares, out);
+    recover_matrix::fill_message(h, nodes, setup, w, lanes, shares, out);
     Outcome::Done
 }
 
@@ -54,7 +54,7 @@ fn rebuild_accepted(
         return Outcome::Refused(number);
     }
     let w = symbols::width_of(h);
-    let weights = recovery::rebuild_weights(h, nodes, target);
+    let weights = node_weights::rebuild_weights(h, nodes, target);
     shares::rebuild_lanes(h, w, lanes, &weights, shares, out);
     Outcome::Done
 }

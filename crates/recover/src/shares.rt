@@ -8,7 +8,7 @@ ghost use Rattle.layout.specs.Layout.{byRow, byLane, someLanes};
 ghost use Rattle.layout.specs.Width.{symbolsOf, bytesOf};
 ghost use Rattle.generator.specs.Records.{modulusOf, size};
 ghost use Rattle.refusals.specs.Accepted.{SymbolBytes};
-ghost use Rattle.combine.specs.Combined.{combined};
+ghost use Rattle.row_sums.specs.Combined.{combined};
 use generator::Header;
 
 // Sums of `count` lanes of the listed shares times the weights, from lane `first` on.
@@ -29,7 +29,7 @@ fn fill_tile(
     let field = h.field;
     let k = h.k as usize;
     tiles::gather_lanes(w * k, lanes, first, count, shares, tile);
-    combine::combine_symbols(field, weights, k, count, tile, out);
+    row_sums::combine_symbols(field, weights, k, count, tile, out);
 }
 
 // Sums of the listed shares times the weights, tile by tile.

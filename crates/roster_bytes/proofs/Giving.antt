@@ -19,8 +19,8 @@ use Rattle.roster.specs.Rosters.{startOf, stepOf, listingNumber, wrote, lowestO
 use Rattle.roster.proofs.Stepping.{start-number, step-number}
 use Rattle.roster.proofs.Lowest.{lowest-number, lowest-wrote, lowest-kept, lowest-refused}
 use Rattle.roster.proofs.OneJob.{job-kept}
-use Rattle.roster_bytes.specs.Bytes.{rosterOf, bytesOf, bytesFault, eventBytes}
-use Rattle.roster_bytes.specs.Calls.{lengthFault, toldOf, listFault, isEnough, StartGives, EventGives, LowestGives, JobGives}
+use Rattle.roster_bytes.specs.Bytes.{rosterOf, rosterBytes, bytesFault, eventBytes}
+use Rattle.roster_bytes.specs.Calls.{rosterRoomFault, toldOf, listingFault, isEnough, StartGives, EventGives, LowestGives, JobGives}
 
 -- no second number
 first-none : (f : ℕ) → firstOf f 0 ≡ f
@@ -54,48 +54,48 @@ module _ (rec bytes : List ℕ) where
   -- bytes of another length
   module _ (r : ℕ) (short : length bytes ≡ 256 → ⊥) (e : r ≡ firstOf (recordFault rec) 8) where
     pub start-short : StartGives rec bytes bytes r
-    unfolding lengthFault
+    unfolding rosterRoomFault
     start-short = record { number = rw (ne-eqb (length bytes) 256 short) e; bytes-are = rw (ne-eqb (length bytes) 256 short) }
 
     pub event-short : (d : Event) → EventGives rec bytes d bytes r
-    unfolding lengthFault
+    unfolding rosterRoomFault
     event-short d = record { number = rw (ne-eqb (length bytes) 256 short) e; bytes-are = rw (ne-eqb (length bytes) 256 short) }
 
     pub lowest-short : (list : List ℕ) (enough : ℕ) → LowestGives rec bytes list enough list enough r
-    unfolding listFault
+    unfolding listingFault
     lowest-short list enough =
         let some : eqb r 0 ≡ false = ne-eqb r 0 (λ z. number-some (recordFault rec) (sym e ∙ z)) in
         record { number = rw (ne-eqb (length bytes) 256 short) e; list-is = rw some; enough-is = rw some }
 
     pub job-short : (list : List ℕ) (enough : ℕ) → JobGives rec bytes list enough bytes list enough r
-    unfolding listFault
+    unfolding listingFault
     job-short list enough =
         let some : eqb r 0 ≡ false = ne-eqb r 0 (λ z. number-some (recordFault rec) (sym e ∙ z)) in
         record { number = rw (ne-eqb (length bytes) 256 short) e; list-is = rw some; enough-is = rw some; bytes-are = rw some }
 
   -- 256 bytes
   module _ (long : length bytes ≡ 256) where
-    pub start-done : (step : Step) (bytes′ : List ℕ) (r : ℕ) → step ≡ startOf (recordOf rec) → r ≡ step .number → bytes′ ≡ bytesOf (step .roster) → StartGives rec bytes bytes′ r
-    unfolding lengthFault
+    pub start-done : (step : Step) (bytes′ : List ℕ) (r : ℕ) → step ≡ startOf (recordOf rec) → r ≡ step .number → bytes′ ≡ rosterBytes (step .roster) → StartGives rec bytes bytes′ r
+    unfolding rosterRoomFault
     start-done step bytes′ r e n w =
         record {
           number = rw (eq-eqb (length bytes) 256 long) (n ∙ ap (λ (s : Step). s .number) e ∙ start-number rec ∙ sym (first-none (recordFault rec)));
           bytes-are = rw (eq-eqb (length bytes) 256 long) (w ∙ ap (λ (s : Step). bytesOf (s .roster)) e);
         }
 
-    pub event-done : (d : Event) (step : Step) (bytes′ : List ℕ) (r : ℕ) → step ≡ stepOf (recordOf rec) d (rosterOf bytes) → r ≡ step .number → bytes′ ≡ pick (eqb (step .number) 0) (bytesOf (step .roster)) bytes → EventGives rec bytes d bytes′ r
-    unfolding lengthFault eventBytes bytesFault
+    pub event-done : (d : Event) (step : Step) (bytes′ : List ℕ) (r : ℕ) → step ≡ stepOf (recordOf rec) d (rosterOf bytes) → r ≡ step .number → bytes′ ≡ pick (eqb (step .number) 0) (rosterBytes (step .roster)) bytes → EventGives rec bytes d bytes′ r
+    unfolding rosterRoomFault eventBytes bytesFault
     event-done d step bytes′ r e n w =
         let number : step .number ≡ bytesFault rec d bytes = ap (λ (s : Step). s .number) e ∙ step-number d (rosterOf bytes) rec in
         record {
           number = rw (eq-eqb (length bytes) 256 long) (n ∙ number);
-          bytes-are = rw (eq-eqb (length bytes) 256 long) (w ∙ ap (λ (f : ℕ). pick (eqb f 0) (bytesOf (step .roster)) bytes) number ∙ ap (λ (s : Step). pick (eqb (bytesFault rec d bytes) 0) (bytesOf (s .roster)) bytes) e);
+          bytes-are = rw (eq-eqb (length bytes) 256 long) (w ∙ ap (λ (f : ℕ). pick (eqb f 0) (rosterBytes (step .roster)) bytes) number ∙ ap (λ (s : Step). pick (eqb (bytesFault rec d bytes) 0) (rosterBytes (s .roster)) bytes) e);
         }
 
     -- the answer to a list, its number, and what `enough` receives
     module _ (list : List ℕ) (enough enough′ r : ℕ) (a : Listing) (e : a ≡ lowestOf (recordOf rec) (rosterOf bytes) list) (n : r ≡ listingNumber a) (x : enough′ ≡ toldOf a enough) where
-      number-is : r ≡ listFault rec (length bytes) (length list)
-      unfolding listFault
+      number-is : r ≡ listingFault rec (length bytes) (length list)
+      unfolding listingFault
       number-is = rw (eq-eqb (length bytes) 256 long) (n ∙ ap listingNumber e ∙ lowest-number (rosterOf bytes) list rec)
 
       -- by the case of the answer
@@ -129,11 +129,11 @@ module _ (rec bytes : List ℕ) where
       wrote-both : wrote a ≡ (eqb (listingNumber a) 0 && isEnough rec bytes)
       wrote-both = by-test (eqb (listingNumber a) 0) (λ t. rw (t, wrote-is (eqb-true (listingNumber a) 0 t))) (λ t. rw t (unwritten a (eqb-false (listingNumber a) 0 t)))
 
-      pub job-done : (bytes′ list′ : List ℕ) (next : Roster) → next ≡ jobOf (recordOf rec) (rosterOf bytes) list .roster → bytes′ ≡ pick (wrote a) (bytesOf next) bytes → list′ ≡ jobList (recordOf rec) (rosterOf bytes) list → JobGives rec bytes list enough bytes′ list′ enough′ r
+      pub job-done : (bytes′ list′ : List ℕ) (next : Roster) → next ≡ jobOf (recordOf rec) (rosterOf bytes) list .roster → bytes′ ≡ pick (wrote a) (rosterBytes next) bytes → list′ ≡ jobList (recordOf rec) (rosterOf bytes) list → JobGives rec bytes list enough bytes′ list′ enough′ r
       job-done bytes′ list′ next q b w =
           record {
             number = number-is;
             list-is = w ∙ list-kept (jobList (recordOf rec) (rosterOf bytes) list) (λ bad. job-kept (rosterOf bytes) list (recordOf rec) (λ z. bad (ap listingNumber e ∙ z)));
             enough-is = enough-told;
-            bytes-are = b ∙ rw (q, n) (ap (λ t. pick t (bytesOf (jobOf (recordOf rec) (rosterOf bytes) list .roster)) bytes) wrote-both);
+            bytes-are = b ∙ rw (q, n) (ap (λ t. pick t (rosterBytes (jobOf (recordOf rec) (rosterOf bytes) list .roster)) bytes) wrote-both);
           }

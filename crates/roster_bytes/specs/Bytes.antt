@@ -22,8 +22,8 @@ rosterOf s = record { marks = marksOf s; job = getD s 255 0 }
 unfoldable pub markBytes : List Bool → List ℕ
 markBytes marks = from (λ j. pick (getD marks j false) 1 0) 0 255
 
-unfoldable pub bytesOf : Roster → List ℕ
-bytesOf r = markBytes (r .marks) ++ (r .job ∷ [])
+unfoldable pub rosterBytes : Roster → List ℕ
+rosterBytes r = markBytes (r .marks) ++ (r .job ∷ [])
 
 -- the bytes with other marks
 unfoldable pub marksIn : List Bool → List ℕ → List ℕ
@@ -35,7 +35,7 @@ bytesFault rec e s = firstOf (recordFault rec) (eventFault (headerOf rec .n) (na
 
 -- the bytes after an event: those of the next roster, or the same beside a number
 unfoldable pub eventBytes : List ℕ → Event → List ℕ → List ℕ
-eventBytes rec e s = pick (eqb (bytesFault rec e s) 0) (bytesOf (stepOf (recordOf rec) e (rosterOf s) .roster)) s
+eventBytes rec e s = pick (eqb (bytesFault rec e s) 0) (rosterBytes (stepOf (recordOf rec) e (rosterOf s) .roster)) s
 
 -- after events one after the other
 unfoldable pub afterBytes : List ℕ → List Event → List ℕ → List ℕ

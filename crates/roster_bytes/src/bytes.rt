@@ -2,7 +2,7 @@
 ghost use mathlib.Core.Path.{_≡_};
 ghost use lib.ListN.{length};
 ghost use Rattle.lists.specs.Choice.{pick};
-ghost use Rattle.roster_bytes.specs.Bytes.{marksOf, rosterOf, marksIn, bytesOf};
+ghost use Rattle.roster_bytes.specs.Bytes.{marksOf, rosterOf, marksIn, rosterBytes};
 use roster::Roster;
 
 // The marks: a byte other than 0 counts as present.
@@ -53,7 +53,7 @@ fn write_marks(marks: [bool; 255], bytes: &mut [u8])
 // Writes a roster.
 pub fn write_roster(roster: Roster, bytes: &mut [u8])
     requires { ⌜ length (now bytes) ≡ 256 ⌝ }
-    ensures { λ r. ⌜ now (bytes .exit) ≡ bytesOf roster ⌝ }
+    ensures { λ r. ⌜ now (bytes .exit) ≡ rosterBytes roster ⌝ }
 {
     let marks = roster.marks;
     let job = roster.job;

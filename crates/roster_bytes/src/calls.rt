@@ -6,7 +6,7 @@ ghost use Rattle.lists.specs.Choice.{pick, firstOf};
 ghost use Rattle.generator.specs.Records.{recordFault};
 ghost use Rattle.roster.specs.Events.{leaves, returns};
 ghost use Rattle.roster.specs.Rosters.{listingNumber, wrote};
-ghost use Rattle.roster_bytes.specs.Bytes.{bytesOf};
+ghost use Rattle.roster_bytes.specs.Bytes.{rosterBytes};
 ghost use Rattle.roster_bytes.specs.Calls.{toldOf, StartGives, EventGives, LowestGives, JobGives};
 use crate::bytes::read_roster;
 use crate::bytes::write_roster;
@@ -29,7 +29,7 @@ fn length_number(rec: &[u8]) -> u8
 // Writes the roster of an accepted step; gives the step's number.
 fn put_step(step: Step, bytes: &mut [u8]) -> u8
     requires { ⌜ length (now bytes) ≡ 256 ⌝ }
-    ensures { λ r. ⌜ (r ≡ step .number) × (now (bytes .exit) ≡ pick (eqb (step .number) 0) (bytesOf (step .roster)) (now (bytes .entry))) ⌝ }
+    ensures { λ r. ⌜ (r ≡ step .number) × (now (bytes .exit) ≡ pick (eqb (step .number) 0) (rosterBytes (step .roster)) (now (bytes .entry))) ⌝ }
 {
     let number = step.number;
     if number == 0 {
@@ -70,7 +70,7 @@ fn is_written(listing: Listing) -> bool
 // Writes the roster after a job that wrote its list.
 fn put_job(job: Job, bytes: &mut [u8])
     requires { ⌜ length (now bytes) ≡ 256 ⌝ }
-    ensures { λ r. ⌜ now (bytes .exit) ≡ pick (wrote (job .listing)) (bytesOf (job .roster)) (now (bytes .entry)) ⌝ }
+    ensures { λ r. ⌜ now (bytes .exit) ≡ pick (wrote (job .listing)) (rosterBytes (job .roster)) (now (bytes .entry)) ⌝ }
 {
     let listing = job.listing;
     if is_written(listing) {

@@ -30,7 +30,7 @@ use Rattle.generator.proofs.Sound.{fieldFor, rootFor, root-order}
 use Rattle.generator.proofs.Bridge.{checkFrom-is}
 use Rattle.generator.proofs.Recovery.{lifted, lifted-numbers, length-lifted}
 use Rattle.interpolation.proofs.Bridge.{dot-is}
-use Rattle.windows.specs.Windows.{windowSums}
+use Rattle.sliding_sums.specs.Windows.{windowSums}
 use Rattle.spectrum.specs.Spectrum.{spectrumOf, triangle, chirpAt, unchirpedAt, unchirped}
 use Rattle.spectrum.proofs.Arrays.{value-at}
 

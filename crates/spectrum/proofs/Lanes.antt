@@ -15,7 +15,7 @@ use Rattle.field.proofs.Sums.{dot-below}
 use Rattle.generator.specs.declared.Header.{Header}
 use Rattle.generator.specs.Records.{modulusOf, size, Sound}
 use Rattle.generator.specs.Shifts.{negative}
-use Rattle.windows.specs.Windows.{windowSums}
+use Rattle.sliding_sums.specs.Windows.{windowSums}
 use Rattle.spectrum.specs.Spectrum.{triangle, chirpAt, unchirpedAt, unchirped}
 use Rattle.spectrum.proofs.Arrays.{value-at}
 

@@ -32,6 +32,6 @@ pub fn spectrum_of(h: Header, tables: &Tables, powers: &[u16], lane: &[u16]) -> 
     let row = chirps::chirps(h, powers, &exponents);
     let weights = chirps::unchirp(h, tables, powers, &exponents, lane);
     let mut sums = blank();
-    windows::window_sums(field, &weights[..n], &row, &mut sums[..n]);
+    sliding_sums::window_sums(field, &weights[..n], &row, &mut sums[..n]);
     chirps::unchirp(h, tables, powers, &exponents, &sums[..n])
 }

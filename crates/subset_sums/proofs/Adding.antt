@@ -12,7 +12,7 @@ use Rattle.field.specs.Bytes.{timesX}
 use Rattle.field.proofs.Xor.{xor-assoc}
 use Rattle.kernel.specs.Lanes.{lanewise}
 use Rattle.kernel.proofs.Lanes.{lanewise-same, lanewise-ext, lanewise-twice, length-lanewise}
-use Rattle.combine.specs.Digits.{sumOf, multiplied}
+use Rattle.row_sums.specs.Digits.{xorSum, multiplied}
 use Rattle.subset_sums.specs.Lists.{slicesAdded, turnsOf}
 
 module _ (tab os acc : List ℕ) where
@@ -21,14 +21,14 @@ module _ (tab os acc : List ℕ) where
   length-added = length-lanewise _ acc
 
   pub slices-none : (i : ℕ) → i ≡ length os → slicesAdded tab (drop i os) acc ≡ acc
-  unfolding slicesAdded sumOf
+  unfolding slicesAdded xorSum
   slices-none i e = rw (e, drop-length) (lanewise-same _ acc (λ t inside. xor-zero-r (getD acc t 0)))
 
   pub slices-one : (i o : ℕ) → i < length os → o ≡ getD os i 0 → slicesAdded tab (drop (i + 1) os) (lanewise (λ t y. bitXor y (getD tab (o + t) 0)) acc) ≡ slicesAdded tab (drop i os) acc
-  unfolding slicesAdded sumOf
+  unfolding slicesAdded xorSum
   slices-one i o inside e =
       rw (lanewise-twice, drop-next os i 0 inside, ← e)
-      (lanewise-ext _ _ acc (λ t lane. xor-assoc (getD acc t 0) (getD tab (o + t) 0) (sumOf (λ o. getD tab (o + t) 0) (drop (i + 1) os))))
+      (lanewise-ext _ _ acc (λ t lane. xor-assoc (getD acc t 0) (getD tab (o + t) 0) (xorSum (λ o. getD tab (o + t) 0) (drop (i + 1) os))))
 
 pub length-turns : (b groups : ℕ) (tab list counts : List ℕ) → length (turnsOf b groups tab list counts) ≡ 64
 unfolding turnsOf slicesAdded multiplied

@@ -21,9 +21,9 @@ use Rattle.field.specs.Sums.{dot}
 use Rattle.field.proofs.Xor.{xor-assoc}
 use Rattle.kernel.proofs.Lanes.{lanewise-ext, length-lanewise}
 use Rattle.layout.specs.Layout.{byRow, held, laneOf}
-use Rattle.combine.specs.Combined.{combined, Weighted}
-use Rattle.combine.specs.Digits.{sumOf, rowAt, added, multiplied, rowsWith}
-use Rattle.combine.proofs.Turns.{sumsOf, length-sums, sums-start, sums-turn, sums-end}
+use Rattle.row_sums.specs.Combined.{combined, Weighted}
+use Rattle.row_sums.specs.Digits.{xorSum, rowAt, rowsAdded, multiplied, rowsWith}
+use Rattle.row_sums.proofs.Turns.{sumsOf, length-sums, sums-start, sums-turn, sums-end}
 use Rattle.subset_sums.specs.Subsets.{subsetFrom, subset, tableByte, tableOf}
 use Rattle.subset_sums.specs.Lists.{subsetAt, slicesFrom, slicesAdded, turnsOf, Slices, Listing, Grouped}
 use Rattle.subset_sums.proofs.Subsets.{subset-none, subset-ext}
@@ -33,8 +33,8 @@ unfoldable sumDigits : (ℕ → ℕ) → (ℕ → ℕ) → ℕ → ℕ → ℕ
 sumDigits x e zero i = 0
 sumDigits x e (suc f) i = bitXor (x i * e i) (sumDigits x e f (i + 1))
 
-front : (x : ℕ → ℕ) (i d : ℕ) (js : List ℕ) → d < 2 → sumOf x (pick (eqb d 1) (i ∷ []) [] ++ js) ≡ bitXor (x i * d) (sumOf x js)
-unfolding sumOf
+front : (x : ℕ → ℕ) (i d : ℕ) (js : List ℕ) → d < 2 → xorSum x (pick (eqb d 1) (i ∷ []) [] ++ js) ≡ bitXor (x i * d) (xorSum x js)
+unfolding xorSum
 front x i zero js h = rw (mul-zero)
 front x i (suc zero) js h = rw (mul-one)
 front x i (suc (suc d)) js h = absurd (omega arith)
@@ -48,8 +48,8 @@ digits-of a b c d ha hb hc hd =
     rw (one, two, three) (omega arith, omega arith, omega arith, omega arith)
 
 module _ (x e : ℕ → ℕ) (digit : (i : ℕ) → e i < 2) where
-  passing-digits : (f i : ℕ) → sumOf x (passingFrom f i (λ i. eqb (e i) 1)) ≡ sumDigits x e f i
-  unfolding sumOf passingFrom sumDigits
+  passing-digits : (f i : ℕ) → xorSum x (passingFrom f i (λ i. eqb (e i) 1)) ≡ sumDigits x e f i
+  unfolding xorSum passingFrom sumDigits
   passing-digits zero i = refl
   passing-digits (suc f) i =
       front x i (e i) (passingFrom f (i + 1) (λ i. eqb (e i) 1)) (digit i) ∙ ap (bitXor (x i * e i)) (passing-digits f (i + 1))
@@ -105,8 +105,8 @@ module _ (x e : ℕ → ℕ) (digit : (i : ℕ) → e i < 2) where
 
   -- slices of a table whose bytes are the sums of the subsets
   module _ (value : ℕ → ℕ) (groups : ℕ) (right : (g v : ℕ) → g < groups → v < 16 → value (g * 1024 + v * 64) ≡ subset (λ i. x (4 * g + i)) v) where
-    slices-sum : (f g : ℕ) → g + f ≤ groups → sumOf value (slicesFrom f g at) ≡ groupsSum f g
-    unfolding sumOf slicesFrom groupsSum subset
+    slices-sum : (f g : ℕ) → g + f ≤ groups → xorSum value (slicesFrom f g at) ≡ groupsSum f g
+    unfolding xorSum slicesFrom groupsSum subset
     slices-sum zero g h = refl
     slices-sum (suc f) g h =
         let d₀ : e (4 * g) < 2 = digit (4 * g) in
@@ -167,7 +167,7 @@ module _ (rows groups : ℕ) (ws buffer : List ℕ) (a : Grouped rows groups ws 
       (λ t low high. ap (λ (lane : List ℕ). dot 0 lane ws) (from-ext _ _ 0 rows (λ i from to. sym (used-at t (omega arith) i (omega arith)))))
 
   -- in each lane the slices of a digit make the sum of the rows that have it
-  slices-rows : (d t : ℕ) → t < 64 → sumOf (λ o. getD (tableOf groups buffer) (o + t) 0) (slicesFrom groups 0 (subsetAt ws d)) ≡ sumOf (λ j. getD used (j * 64 + t) 0) (rowsWith d rows ws)
+  slices-rows : (d t : ℕ) → t < 64 → xorSum (λ o. getD (tableOf groups buffer) (o + t) 0) (slicesFrom groups 0 (subsetAt ws d)) ≡ xorSum (λ j. getD used (j * 64 + t) 0) (rowsWith d rows ws)
   unfolding rowsWith subsetAt
   slices-rows d t lane =
       let x : ℕ → ℕ = λ i. getD buffer (i * 64 + t) 0 in
@@ -181,9 +181,9 @@ module _ (rows groups : ℕ) (ws buffer : List ℕ) (a : Grouped rows groups ws 
       ∙ digits-ext x (digitAt d) small y rows 0 (λ k low high. used-at t lane k (omega arith))
       ∙ sym (passing-digits y (digitAt d) small rows 0)
 
-  -- the slices of digit d added to acc are the rows that have it
-  slices-added : (d : ℕ) (acc : List ℕ) → length acc ≡ 64 → slicesAdded (tableOf groups buffer) (slicesFrom groups 0 (subsetAt ws d)) acc ≡ added 64 used (rowsWith d rows ws) acc
-  unfolding slicesAdded added rowAt held byRow
+  -- the slices of digit d rowsAdded to acc are the rows that have it
+  slices-added : (d : ℕ) (acc : List ℕ) → length acc ≡ 64 → slicesAdded (tableOf groups buffer) (slicesFrom groups 0 (subsetAt ws d)) acc ≡ rowsAdded 64 used (rowsWith d rows ws) acc
+  unfolding slicesAdded rowsAdded rowAt held byRow
   slices-added d acc long =
       lanewise-ext _ _ acc (λ t inside. ap (bitXor (getD acc t 0)) (slices-rows d t (omega arith)))
 

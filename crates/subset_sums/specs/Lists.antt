@@ -10,7 +10,7 @@ use Rattle.lists.specs.Choice.{pick}
 use Rattle.lists.specs.Numbers.{allBelow}
 use Rattle.lists.specs.Padded.{zeros}
 use Rattle.kernel.specs.Lanes.{lanewise}
-use Rattle.combine.specs.Digits.{sumOf, multiplied}
+use Rattle.row_sums.specs.Digits.{xorSum, multiplied}
 
 -- the subset of group g's four rows whose weight has the digit
 unfoldable pub subsetAt : List ℕ → ℕ → ℕ → ℕ
@@ -23,7 +23,7 @@ slicesFrom (suc f) g v = pick (eqb (v g) 0) [] ((g * 1024 + v g * 64) ∷ []) ++
 
 -- acc with listed slices of 64 lanes added
 unfoldable pub slicesAdded : List ℕ → List ℕ → List ℕ → List ℕ
-slicesAdded tab os acc = lanewise (λ t y. bitXor y (sumOf (λ o. getD tab (o + t) 0) os)) acc
+slicesAdded tab os acc = lanewise (λ t y. bitXor y (xorSum (λ o. getD tab (o + t) 0) os)) acc
 
 -- Horner's rule over the first b digits: multiplied by x, and the slices listed for the digit added
 unfoldable pub turnsOf : ℕ → ℕ → List ℕ → List ℕ → List ℕ → List ℕ

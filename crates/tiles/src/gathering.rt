@@ -1,38 +1,58 @@
-// Lanes gathered into rows, 64 lanes at a time.
+// Tiles of 64 lanes filled: row i of lane t stands at i·64 + t. Lanes from `count` on hold anything.
 ghost use mathlib.Core.Path.{_≡_};
 ghost use Prim.Native.Nat.{ℕ, _+_, _*_, _/_, _≤_, _<_};
 ghost use lib.ListN.{length};
-ghost use Rattle.layout.specs.Layout.{byRow, byLane, rearranged};
-ghost use Rattle.tiles.specs.Beside.{Beside};
+ghost use Rattle.layout.specs.Layout.{byRow, byLane, laneOf};
+ghost use Rattle.tiles.specs.Tiles.{Read, BlockOf};
+use crate::moves;
+use crate::squares;
 
-// Puts rows of 64 lanes beside the lanes before lane `first`: `count` lanes of each row.
-fn put_rows(rows: usize, lanes: usize, first: usize, count: usize, block: &[u8], tile: &mut [u8])
-    requires { ⌜ (rows * 64 ≤ length (now block)) × (length (now tile) ≡ rows * lanes) × (first + count ≤ lanes) × (count ≤ 64) ⌝ }
-    ensures { λ r. ⌜ Beside lanes first count rows (now (block .entry)) (now (tile .entry)) (now (tile .exit)) ⌝ }
+// 16 bytes from place `at` on, or those that there are.
+fn read16(part: &[u8], at: usize, to: usize, block: &mut [u8])
+    requires { ⌜ (at < length (now part)) × (to + 16 ≤ length (now block)) ⌝ }
+    ensures { λ r. ⌜ Read (now (part .entry)) at to (now (block .entry)) (now (block .exit)) ⌝ }
 {
-    let mut r: usize = 0;
-    while r < rows {
-        let from = r * 64;
-        let from_end = from + count;
-        let to = r * lanes + first;
-        let to_end = to + count;
-        kernel::copy(&block[from..from_end], &mut tile[to..to_end]);
-        r += 1;
+    let left = part.len() - at;
+    if 16 <= left {
+        let end = at + 16;
+        let to_end = to + 16;
+        moves::move16(&part[at..end], &mut block[to..to_end]);
+        return;
+    }
+    let to_end = to + left;
+    kernel::copy(&part[at..], &mut block[to..to_end]);
+}
+
+// 16 rows of each lane, from row j on, as lanes of 16.
+fn fill_block(rows: usize, j: usize, count: usize, part: &[u8], block: &mut [u8])
+    requires { ⌜ (rows ≤ 65535) × (count ≤ 64) × (length (now part) ≡ count * rows) × (j < rows) × (length (now block) ≡ 1024) ⌝ }
+    ensures { λ r. ⌜ BlockOf rows j count (now (part .entry)) (now (block .exit)) ⌝ }
+{
+    let mut t = 0;
+    while t < count {
+        read16(part, t * rows + j, t * 16, block);
+        t += 1;
     }
 }
 
-// The rows of lanes that stand side by side; `block` is scratch for 64 lanes.
-pub fn gather_blocks(rows: usize, lanes: usize, part: &[u8], block: &mut [u8], tile: &mut [u8])
-    requires { ⌜ (rows ≤ 512) × ((rows + 15) / 16 * 1024 ≤ length (now block)) × (length (now part) ≡ rows * lanes) × (length (now tile) ≡ rows * lanes) ⌝ }
-    ensures { λ r. ⌜ now (tile .exit) ≡ rearranged byLane byRow rows lanes (now (part .entry)) ⌝ }
+fn block() -> [u8; 1024]
+    ensures { λ r. ⌜ length r ≡ 1024 ⌝ }
 {
-    let mut first: usize = 0;
-    while first < lanes {
-        let count = tiles64::lanes_of(lanes - first);
-        let start = first * rows;
-        let end = start + count * rows;
-        tiles64::gather(rows, count, &part[start..end], block);
-        put_rows(rows, lanes, first, count, block, tile);
-        first += count;
+    [0u8; 1024]
+}
+
+// Lanes that stand side by side, 16 rows at a time.
+pub fn gather64(rows: usize, count: usize, part: &[u8], tile: &mut [u8])
+    requires { ⌜ (rows ≤ 65535) × (count ≤ 64) × (length (now part) ≡ count * rows) × ((rows + 15) / 16 * 1024 ≤ length (now tile)) ⌝ }
+    ensures { λ r. ⌜ (length (now (tile .exit)) ≡ length (now (tile .entry))) × ((t : ℕ) → t < count → laneOf byRow rows 64 t (now (tile .exit)) ≡ laneOf byLane rows count t (now (part .entry))) ⌝ }
+{
+    let mut lanes = block();
+    let mut j = 0;
+    while j < rows {
+        fill_block(rows, j, count, part, &mut lanes);
+        let start = j * 64;
+        let end = start + 1024;
+        squares::lanes_to_rows(&lanes, &mut tile[start..end]);
+        j += 16;
     }
 }

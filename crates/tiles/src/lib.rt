@@ -1,10 +1,17 @@
-// Tiles: some lanes of a buffer as rows of their own, so that each row is worked on as a whole.
+// Tiles: some lanes of a buffer as rows of their own, so that each row is worked on as a whole; 64 lanes, or any number of them.
+mod columns;
 mod gathering;
+mod many_lanes;
+mod moves;
+mod scattering;
 mod size;
-mod turning;
+mod squares;
 
+pub use columns::gather_lanes;
+pub use columns::scatter;
+pub use gathering::gather64;
+pub use scattering::scatter64;
+pub use size::lanes64;
 pub use size::scratch;
 pub use size::small_scratch;
 pub use size::tile_lanes;
-pub use turning::gather_lanes;
-pub use turning::scatter;

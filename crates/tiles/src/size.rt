@@ -54,3 +54,11 @@ pub fn tile_lanes(rows: usize, size: usize, left: usize) -> usize
     }
     in_blocks(fitting)
 }
+
+// How many of the lanes that are left the next tile of 64 takes.
+pub fn lanes64(left: usize) -> usize
+    requires { ⌜ 0 < left ⌝ }
+    ensures { λ r. ⌜ (0 < r) × (r ≤ left) × (r ≤ 64) ⌝ }
+{
+    if left < 64 { left } else { 64 }
+}

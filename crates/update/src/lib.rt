@@ -89,7 +89,7 @@ fn judge(h: Header, w: usize, which: u32, old: u32, lane: &[u8]) -> u8
 {
     let n = h.n as usize;
     let symbols = symbols::read_symbols(w, lane);
-    word_message::stale_fault(h, &symbols[..n], which as usize, old)
+    lane_message::stale_fault(h, &symbols[..n], which as usize, old)
 }
 
 // The same for one lane of the shares, which is handed on likewise.

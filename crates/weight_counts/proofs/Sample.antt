@@ -7,12 +7,12 @@ use Rattle.lists.specs.Rows.{from}
 use Rattle.lists.proofs.Rows.{from-ext}
 use Rattle.generator.specs.declared.Header.{Header}
 use Rattle.generator.specs.Records.{size, distance, Sound}
-use Rattle.weight_distribution.specs.Counts.{sumOf, binomial, term, added, subtracted, textbook}
+use Rattle.weight_distribution.specs.Counts.{sumOf, binomial, term, evenTerms, oddTerms, textbook}
 use Rattle.weight_counts.specs.Weights.{weightCountOf, weightCounts}
 use Rattle.weight_counts.proofs.Weights.{distribution}
 
 by-textbook : from (textbook 6 4 7) 0 7 ≡ 1 ∷ 0 ∷ 0 ∷ 0 ∷ 90 ∷ 108 ∷ 144 ∷ []
-unfolding from textbook added subtracted term binomial sumOf
+unfolding from textbook evenTerms oddTerms term binomial sumOf
 by-textbook = refl
 
 pub sample-counts : (h : Header) → Sound h → h .n ≡ 6 → h .k ≡ 3 → size h ≡ 7 → weightCounts h ≡ 1 ∷ 0 ∷ 0 ∷ 0 ∷ 90 ∷ 108 ∷ 144 ∷ []

@@ -16,7 +16,7 @@ use Rattle.generator.specs.Claims.{isMessage}
 use Rattle.blocks.specs.declared.Outcome.{Outcome}
 use Rattle.refusals.specs.Promise.{OnRecord}
 use Rattle.blocks.specs.Answers.{outcomeOf}
-use Rattle.weight_distribution.specs.Counts.{sumOf, messageAt, weightCount, added, subtracted, textbook}
+use Rattle.weight_distribution.specs.Counts.{sumOf, messageAt, weightCount, evenTerms, oddTerms, textbook}
 
 -- how many messages have a word with w nodes that are not zero
 unfoldable pub weightCountOf : Header → ℕ → ℕ
@@ -44,7 +44,7 @@ pub record Distribution (h : Header) : Type 0 where
   pub whole : sumOf (range 0 (h .n + 1)) (weightCountOf h) ≡ size h ^ h .k
   -- the textbook agrees, and its difference is never below zero
   pub agrees : (w : ℕ) → w ≤ h .n → weightCountOf h w ≡ textbook (h .n) (distance h) (size h) w
-  pub exact : (w : ℕ) → distance h ≤ w → w ≤ h .n → subtracted (distance h) (size h) w ≤ added (distance h) (size h) w
+  pub exact : (w : ℕ) → distance h ≤ w → w ≤ h .n → oddTerms (distance h) (size h) w ≤ evenTerms (distance h) (size h) w
 
 -- the same of a record that was read
 unfoldable pub Distributed : Record → Type 0

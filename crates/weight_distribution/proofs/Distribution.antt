@@ -13,7 +13,7 @@ use Rattle.lists.specs.Counting.{countFrom}
 use Rattle.lists.specs.Rows.{range}
 use Rattle.lists.proofs.Count.{count-not}
 use Rattle.lists.proofs.Places.{length-range}
-use Rattle.weight_distribution.specs.Counts.{sumOf, messageAt, hammingWeight, weightCount, binomial, added, subtracted, textbook, prescribed}
+use Rattle.weight_distribution.specs.Counts.{sumOf, messageAt, hammingWeight, weightCount, binomial, evenTerms, oddTerms, textbook, prescribed}
 use Rattle.weight_distribution.proofs.Sums.{sum-count, sum-swap, sum-const}
 use Rattle.weight_distribution.proofs.Messages.{sum-numbered, symbol-once}
 use Rattle.weight_distribution.proofs.Zeros.{Mds, total}
@@ -76,11 +76,11 @@ module _ {n k q : ℕ} {word : List ℕ → ℕ → ℕ} (code : Mds n k q word)
       weights-by-support 0 ∙ rw (binomial-zero n, none, pow-zero) refl
   weights-textbook (suc w) l = weights-by-support (suc w) ∙ by-distance (decLt (suc w) (n - k + 1))
     where
-      by-distance : Dec (suc w < n - k + 1) → binomial n (suc w) * prescribed n k q (suc w) (suc w) ≡ pick (ltb (suc w) (n - k + 1)) 0 (binomial n (suc w) * (added (n - k + 1) q (suc w) - subtracted (n - k + 1) q (suc w)))
+      by-distance : Dec (suc w < n - k + 1) → binomial n (suc w) * prescribed n k q (suc w) (suc w) ≡ pick (ltb (suc w) (n - k + 1)) 0 (binomial n (suc w) * (evenTerms (n - k + 1) q (suc w) - oddTerms (n - k + 1) q (suc w)))
       by-distance (yes b) = rw (lt-ltb (suc w) (n - k + 1) b, support-none code w b) (mul-zero (binomial n (suc w)))
       by-distance (no b) = rw (le-ltb (suc w) (n - k + 1) (omega arith)) (less _ _ _ (binomial n (suc w)) (support-terms code w (omega arith) l))
 
   -- Its difference is never cut off at zero.
-  pub textbook-exact : (w : ℕ) → n - k + 1 ≤ w → w ≤ n → subtracted (n - k + 1) q w ≤ added (n - k + 1) q w
+  pub textbook-exact : (w : ℕ) → n - k + 1 ≤ w → w ≤ n → oddTerms (n - k + 1) q w ≤ evenTerms (n - k + 1) q w
   textbook-exact zero d l = absurd (omega arith)
   textbook-exact (suc w) d l = omega (arith, support-terms code w d l)

@@ -37,17 +37,17 @@ binomial (suc a) (suc b) = binomial a b + binomial a (suc b)
 unfoldable pub term : ℕ → ℕ → ℕ → ℕ → ℕ
 term d q w j = binomial w j * (q ^ (w - d + 1 - j) - 1)
 
--- of the terms for j from 0 to w − d, the sum of those that are added, j even, and of those that are subtracted, j odd
-unfoldable pub added : ℕ → ℕ → ℕ → ℕ
-added d q w = sumOf (range 0 (w - d + 1)) (λ j. when (eqb (j % 2) 0) (term d q w j))
+-- of the terms for j from 0 to w − d, the sum of those that are evenTerms, j even, and of those that are oddTerms, j odd
+unfoldable pub evenTerms : ℕ → ℕ → ℕ → ℕ
+evenTerms d q w = sumOf (range 0 (w - d + 1)) (λ j. when (eqb (j % 2) 0) (term d q w j))
 
-unfoldable pub subtracted : ℕ → ℕ → ℕ → ℕ
-subtracted d q w = sumOf (range 0 (w - d + 1)) (λ j. when (eqb (j % 2) 1) (term d q w j))
+unfoldable pub oddTerms : ℕ → ℕ → ℕ → ℕ
+oddTerms d q w = sumOf (range 0 (w - d + 1)) (λ j. when (eqb (j % 2) 1) (term d q w j))
 
 -- the textbook count of the words of Hamming weight w, for words of n places, distance d and q symbols
 unfoldable pub textbook : ℕ → ℕ → ℕ → ℕ → ℕ
 textbook n d q zero = 1
-textbook n d q (suc w) = pick (ltb (suc w) d) 0 (binomial n (suc w) * (added d q (suc w) - subtracted d q (suc w)))
+textbook n d q (suc w) = pick (ltb (suc w) d) 0 (binomial n (suc w) * (evenTerms d q (suc w) - oddTerms d q (suc w)))
 
 -- of all messages, those whose word is zero at n − y given places and not zero at w given others, w at most y: by differences,
 -- since a place that is not zero is one that may be anything, less one that is zero

@@ -31,12 +31,12 @@ use Rattle.generator.proofs.PlainLayout.{first-nodes}
 use Rattle.interpolation.specs.Points.{pointsOf}
 use Rattle.interpolation.specs.Lagrange.{scaleAt, basisAt, basisValues, scalesOf}
 use Rattle.interpolation.proofs.Points.{length-points}
-use Rattle.recovery.specs.Weights.{Rebuilds}
-use Rattle.recovery.proofs.Rebuilding.{rebuilds}
-use Rattle.combine.proofs.Combined.{getD-zeros}
+use Rattle.node_weights.specs.Weights.{Rebuilds}
+use Rattle.node_weights.proofs.Rebuilding.{rebuilds}
+use Rattle.row_sums.proofs.Combined.{getD-zeros}
 use Rattle.check_sums.specs.Powers.{powersOf}
 use Rattle.check_sums.proofs.Sums.{length-powers, power-at}
-use Rattle.lane_products.specs.Marks.{allZero}
+use Rattle.block_products.specs.Marks.{allZero}
 use Rattle.wrong_lanes.specs.Checks.{firstPoints, firstWeights, checkRow}
 use Rattle.wrong_lanes.proofs.FirstNodes.{words-rebuilt}
 

@@ -21,15 +21,15 @@ use Rattle.generator.specs.declared.Header.{Header}
 use Rattle.generator.specs.Records.{modulusOf, size, width, Sound}
 use Rattle.generator.specs.Codewords.{checkFrom, isWord}
 use Rattle.refusals.specs.Accepted.{SymbolRows, SymbolBytes}
-use Rattle.combine.proofs.Columns.{dot-column}
+use Rattle.row_sums.proofs.Columns.{dot-column}
 use Rattle.check_sums.specs.Powers.{factorsOf}
-use Rattle.products.specs.Products.{groupsOf}
-use Rattle.products.proofs.Beginning.{begun-made}
-use Rattle.products.proofs.Fitting.{lists-fit}
-use Rattle.lane_products.specs.declared.Product.{Product}
-use Rattle.lane_products.specs.Marks.{allZero, zeroMarks}
-use Rattle.lane_products.specs.Ways.{sideOf, outBytes, written, sumOf, Ready}
-use Rattle.lane_products.proofs.Marks.{all-zero-ext}
+use Rattle.tile_products.specs.Products.{groupsOf}
+use Rattle.tile_products.proofs.Beginning.{begun-made}
+use Rattle.tile_products.proofs.Fitting.{lists-fit}
+use Rattle.block_products.specs.declared.Product.{Product}
+use Rattle.block_products.specs.Marks.{allZero, zeroMarks}
+use Rattle.block_products.specs.Ways.{sideOf, outBytes, resultBytes, laneSum, Ready}
+use Rattle.block_products.proofs.Marks.{all-zero-ext}
 use Rattle.wrong_lanes.specs.Marks.{wordMarks}
 use Rattle.wrong_lanes.specs.Checks.{CheckLists, checkProduct}
 use Rattle.wrong_lanes.proofs.Marking.{sums-checks}
@@ -59,8 +59,8 @@ unfolding isWord
 factors-word h ws long = all-zero-ext (h .n - h .k) _ (λ i. checkFrom h (i + 1) 0 ws) (λ i low. factors-sum h (i + 1) ws long) ∙ sums-checks (h .n - h .k) h ws
 
 -- the lanes whose sums are all 0 are the words
-pub sums-words : {h : Header} {l : ℕ} (s : List ℕ) (w : ℕ) (m : Product) (ws : ℕ → List ℕ) → m ≡ checkProduct h l → ((xs : List ℕ) → length xs ≡ h .n → allBelow (size h) xs ≡ true → allZero (h .n - h .k) (λ i. dot (modulusOf h) xs (ws i)) ≡ isWord h xs) → SymbolRows h (h .n) l (symbolsOf w s) → written (m .way) w (m .outputs) (m .lanes) (sumOf m w ws s) ≡ wordMarks byLane h l (symbolsOf w s)
-unfolding written sideOf zeroMarks wordMarks
+pub sums-words : {h : Header} {l : ℕ} (s : List ℕ) (w : ℕ) (m : Product) (ws : ℕ → List ℕ) → m ≡ checkProduct h l → ((xs : List ℕ) → length xs ≡ h .n → allBelow (size h) xs ≡ true → allZero (h .n - h .k) (λ i. dot (modulusOf h) xs (ws i)) ≡ isWord h xs) → SymbolRows h (h .n) l (symbolsOf w s) → resultBytes (m .way) w (m .outputs) (m .lanes) (laneSum m w ws s) ≡ wordMarks byLane h l (symbolsOf w s)
+unfolding resultBytes sideOf zeroMarks wordMarks
 sums-words {h} {l} s w m ws is tell rows =
     rw is
     (from-ext _ _ 0 l

@@ -22,7 +22,7 @@ use Rattle.generator.specs.Claims.{isMessage, atNodes}
 use Rattle.generator.proofs.PlainLayout.{first-nodes}
 use Rattle.generator.proofs.Recovery.{some-message}
 use Rattle.generator.proofs.Words.{words-encode}
-use Rattle.recovery.specs.Weights.{Rebuilds}
+use Rattle.node_weights.specs.Weights.{Rebuilds}
 
 module _ (h : Header) (s : Sound h) (w : ℕ → List ℕ) (gives : (i : ℕ) → i < h .n - h .k → Rebuilds h (range 0 (h .k)) (h .k + i) (w i)) where
   -- each other node holds the sum of the first k nodes' symbols times the weights

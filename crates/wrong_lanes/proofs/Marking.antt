@@ -20,8 +20,8 @@ use Rattle.generator.specs.declared.Header.{Header}
 use Rattle.generator.specs.Codewords.{checkFrom, checksFrom, isWord}
 use Rattle.tiles.proofs.Parts.{from-part}
 use Rattle.blocks.specs.Blocks.{firstWrong}
-use Rattle.lane_products.specs.Marks.{allZero}
-use Rattle.lane_products.proofs.Lanes.{lane-is}
+use Rattle.block_products.specs.Marks.{allZero}
+use Rattle.block_products.proofs.Lanes.{lane-is}
 use Rattle.wrong_lanes.specs.Marks.{wordMarks}
 
 -- a part of zeros

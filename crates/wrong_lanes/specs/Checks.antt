@@ -14,11 +14,11 @@ use Rattle.generator.specs.Records.{modulusOf, size}
 use Rattle.generator.specs.Codewords.{isWord}
 use Rattle.interpolation.specs.Points.{pointsOf}
 use Rattle.interpolation.specs.Lagrange.{basisValues}
-use Rattle.products.specs.Products.{groupsOf}
-use Rattle.products.specs.Matrices.{Begun}
-use Rattle.lane_products.specs.declared.Product.{Product}
-use Rattle.lane_products.specs.declared.Way.the-variants.{LanesToMarks}
-use Rattle.lane_products.specs.Marks.{allZero}
+use Rattle.tile_products.specs.Products.{groupsOf}
+use Rattle.tile_products.specs.Matrices.{Begun}
+use Rattle.block_products.specs.declared.Product.{Product}
+use Rattle.block_products.specs.declared.Way.the-variants.{LanesToMarks}
+use Rattle.block_products.specs.Marks.{allZero}
 
 -- the points of the first k nodes
 abbrev pub firstPoints : Header → List ℕ

@@ -8,7 +8,7 @@ ghost use Rattle.field.specs.Tables.{AreTables};
 ghost use Rattle.generator.specs.Records.{modulusOf, Sound};
 ghost use Rattle.interpolation.specs.Lagrange.{scalesOf};
 ghost use Rattle.check_sums.specs.Powers.{powersOf};
-ghost use Rattle.products.specs.Products.{Codes, groupsOf};
+ghost use Rattle.tile_products.specs.Products.{Codes, groupsOf};
 ghost use Rattle.wrong_lanes.specs.Checks.{firstPoints, firstWeights, CheckLists};
 use check_sums::powers;
 use field::Tables;
@@ -45,7 +45,7 @@ fn list_nodes(h: Header, codes: &[u64], lists: &mut [u16], counts: &mut [u8])
     let mut e: usize = 0;
     while e < checks {
         let weights = check_weights(h, &t, &roots, &scales[..k], e);
-        products::prepare(field, codes, &weights[..n], e, lists, counts);
+        tile_products::prepare(field, codes, &weights[..n], e, lists, counts);
         e += 1;
     }
 }
@@ -62,7 +62,7 @@ fn list_sums(h: Header, codes: &[u64], lists: &mut [u16], counts: &mut [u8])
     let mut e: usize = 0;
     while e < checks {
         let weights = powers::factors(h, &table, e + 1);
-        products::prepare(field, codes, &weights[..n], e, lists, counts);
+        tile_products::prepare(field, codes, &weights[..n], e, lists, counts);
         e += 1;
     }
 }

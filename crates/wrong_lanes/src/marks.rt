@@ -8,15 +8,15 @@ ghost use Rattle.layout.specs.Layout.{byLane, shareLayout};
 ghost use Rattle.layout.specs.Width.{symbolsOf};
 ghost use Rattle.generator.specs.Records.{modulusOf, width};
 ghost use Rattle.refusals.specs.Accepted.{SymbolBuffer, SymbolBytes};
-ghost use Rattle.products.specs.Products.{Codes, groupsOf};
+ghost use Rattle.tile_products.specs.Products.{Codes, groupsOf};
 ghost use Rattle.wrong_lanes.specs.Marks.{wordMarks};
 ghost use Rattle.wrong_lanes.specs.Checks.{checkProduct};
 use crate::check_rows::list_checks;
+use block_products::Product;
+use block_products::Way;
 use check_sums::lane;
 use generator::Header;
-use lane_products::Product;
-use lane_products::Way;
-use products::scratch;
+use tile_products::scratch;
 
 // The mark of a lane.
 fn mark_of(word: bool) -> u8
@@ -69,7 +69,7 @@ fn mark_with(
     ensures { λ r. ⌜ now (marks .exit) ≡ wordMarks byLane h lanes (symbolsOf w (now (shares .entry))) ⌝ }
 {
     list_checks(h, lanes, codes, lists, counts);
-    lane_products::fill(product_of(h, lanes), w, lists, counts, shares, marks);
+    block_products::fill(product_of(h, lanes), w, lists, counts, shares, marks);
 }
 
 // The same in the smallest scratch that the record's nodes fit: clearing the largest takes longer than the work of a small record.
@@ -78,7 +78,7 @@ fn mark_several(h: Header, w: usize, lanes: usize, shares: &[u8], marks: &mut [u
     ensures { λ r. ⌜ now (marks .exit) ≡ wordMarks byLane h lanes (symbolsOf w (now (shares .entry))) ⌝ }
 {
     let field = h.field;
-    let codes = products::codes_of(field);
+    let codes = tile_products::codes_of(field);
     if h.n <= 16 {
         let mut lists = scratch::small_lists();
         let mut counts = scratch::small_counts();

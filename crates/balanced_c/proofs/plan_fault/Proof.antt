@@ -4,13 +4,13 @@ use mathlib.Core.Logic.{⊎-elim}
 use lib.Dec.{eqb}
 use borrow.Author.Tests.{eq-eqb, ne-eqb, not-true, not-false}
 use Rattle.refusals.proofs.Order.{first-given}
-use Rattle.balanced_c.specs.Calls.{lengthFault}
+use Rattle.balanced_c.specs.Calls.{planRoomFault}
 use Rattle.balanced_c.proofs.plan_fault.Statement.{statement}
 use Rattle.balanced_c.proofs.plan_fault.Tie as tie
 
 -- number 8 holds where the second test passes
-met : (c : tie.Joined2) → let a = c .before .before .args in 8 ≡ lengthFault (a .numbers) (a .shifts) (a .firsts) (a .base)
-unfolding lengthFault
+met : (c : tie.Joined2) → let a = c .before .before .args in 8 ≡ planRoomFault (a .numbers) (a .shifts) (a .firsts) (a .base)
+unfolding planRoomFault
 met c =
     let a = c .before .before .args in
     ⊎-elim
@@ -29,7 +29,7 @@ returns-2 : tie.Need-returns-2
 returns-2 c = rw (c .before .if1 .left) (met c)
 
 returns-3 : tie.Need-returns-3
-unfolding lengthFault
+unfolding planRoomFault
 returns-3 c =
     let a = c .before .before .before .before .before .args in
     rw

@@ -15,7 +15,7 @@ use Rattle.layout.specs.Width.{symbolsOf}
 use Rattle.generator.specs.declared.Header.{Header}
 use Rattle.generator.specs.Records.{width}
 use Rattle.generator.proofs.Widths.{width-some}
-use Rattle.decoding.specs.Nearest.{hasNear}
+use Rattle.nearest_word.specs.Nearest.{hasNear}
 use Rattle.correct.specs.Blocks.{firstFar}
 use Rattle.correct.proofs.LaneBytes.{part-inside, part-lane, part-marked}
 use Rattle.correct.proofs.first_far.Statement.{statement}

@@ -6,7 +6,7 @@ use lib.ListN.{length, take}
 use Rattle.lists.proofs.Padding.{take-padded}
 use Rattle.lists.specs.Counting.{differ}
 use Rattle.generator.specs.Codewords.{isWord}
-use Rattle.decoding.specs.Nearest.{radius}
+use Rattle.nearest_word.specs.Nearest.{radius}
 use Rattle.decode.proofs.Verdict.{says-near, says-far, says-none}
 use Rattle.decode.proofs.correct_lane.Statement.{statement}
 use Rattle.decode.proofs.correct_lane.Tie as tie

@@ -9,7 +9,7 @@ use lib.Seq.{length-take-le, getD-take}
 use Rattle.lists.specs.Numbers.{allBelow}
 use Rattle.lists.proofs.Numbers.{at-below}
 use Rattle.generator.specs.Records.{size}
-use Rattle.decoding.specs.Nearest.{radius}
+use Rattle.nearest_word.specs.Nearest.{radius}
 use Rattle.decode.proofs.wrong_nodes.Statement.{statement}
 use Rattle.decode.proofs.wrong_nodes.Tie as tie
 

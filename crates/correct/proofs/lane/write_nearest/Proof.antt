@@ -8,8 +8,8 @@ use Rattle.lists.proofs.Differ.{differ-most}
 use Rattle.lists.proofs.Numbers.{at-below}
 use Rattle.layout.specs.Width.{symbolsOf}
 use Rattle.generator.specs.Records.{width}
-use Rattle.decoding.specs.Nearest.{corrected}
-use Rattle.decoding.proofs.Corrected.{corrected-long}
+use Rattle.nearest_word.specs.Nearest.{corrected}
+use Rattle.nearest_word.proofs.Corrected.{corrected-long}
 use Rattle.correct.proofs.LaneSymbols.{lane-short, held-front, word-front, word-room, word-fits, word-bytes, marked-count, marked-bytes}
 use Rattle.correct.proofs.lane.write_nearest.Statement.{statement}
 use Rattle.correct.proofs.lane.write_nearest.Tie as tie

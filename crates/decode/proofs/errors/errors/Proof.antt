@@ -6,7 +6,7 @@ use lib.ListN.{length}
 use Rattle.field.specs.Kinds.{modulus}
 use Rattle.interpolation.specs.Points.{pointsOf}
 use Rattle.interpolation.proofs.Points.{length-points, points-symbols}
-use Rattle.recovery.proofs.Parts.{Symbols, Parts, parts}
+use Rattle.node_weights.proofs.Parts.{Symbols, Parts, parts}
 use Rattle.decode.specs.Errors.{errorsOf}
 use Rattle.decode.proofs.errors.errors.Statement.{statement}
 use Rattle.decode.proofs.errors.errors.Tie as tie

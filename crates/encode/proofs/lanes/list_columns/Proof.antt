@@ -6,9 +6,9 @@ use native.Mathlib.Omega.{arith}
 use borrow.Author.Needs.{needs}
 use Rattle.lists.proofs.Rows.{row-inside}
 use Rattle.generator.specs.Records.{modulusOf}
-use Rattle.products.specs.Products.{groupsOf}
-use Rattle.products.specs.Matrices.{Begun}
-use Rattle.products.proofs.Beginning.{begun-none}
+use Rattle.tile_products.specs.Products.{groupsOf}
+use Rattle.tile_products.specs.Matrices.{Begun}
+use Rattle.tile_products.proofs.Beginning.{begun-none}
 use Rattle.encode.specs.Inner.{columnOf}
 use Rattle.encode.proofs.Words.{length-column, column-below}
 use Rattle.encode.proofs.lanes.list_columns.Statement.{statement}

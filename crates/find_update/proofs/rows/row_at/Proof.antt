@@ -12,7 +12,7 @@ use Rattle.lists.proofs.Search.{search-next, search-found, search-end}
 use Rattle.generator.specs.declared.Header.{Header}
 use Rattle.generator.specs.Shifts.{firsts}
 use Rattle.plan.proofs.Plans.{first-in}
-use Rattle.find_update.specs.Starts.{beginsAt, rowAt}
+use Rattle.find_update.specs.Starts.{beginsAt, rowStarting}
 use Rattle.find_update.proofs.Multiples.{first-node}
 use Rattle.find_update.proofs.rows.row_at.Statement.{statement}
 use Rattle.find_update.proofs.rows.row_at.Tie as tie
@@ -21,7 +21,7 @@ abbrev other : Header → List ℕ → ℕ → Bool
 other h difference r = not (beginsAt (h .k) difference (getD (firsts h) r 0))
 
 abbrev Inv-loop : tie.InvT-loop
-Inv-loop h difference plan k r₀ r = (r ≤ k) × (firstFalse (k - r) r (other h difference) ≡ rowAt h difference)
+Inv-loop h difference plan k r₀ r = (r ≤ k) × (firstFalse (k - r) r (other h difference) ≡ rowStarting h difference)
 
 abbrev μ-loop : tie.MeasureT-loop
 μ-loop h difference plan k r₀ r = k - r
@@ -38,7 +38,7 @@ cast-k : tie.Need-cast-k Inv-loop μ-loop
 cast-k c = search needs
 
 loop-holds : tie.Need-loop-holds Inv-loop μ-loop
-unfolding rowAt
+unfolding rowStarting
 loop-holds c = (omega arith, rw sub-zero)
 
 element-copy-out-first : tie.Need-element-copy-out-first Inv-loop μ-loop

@@ -6,7 +6,7 @@ use native.Mathlib.Nat.{mul-zero}
 use native.Mathlib.Omega.{arith}
 use borrow.Author.Needs.{needs}
 use lib.ListN.{length, getD, set}
-use Rattle.kernel.specs.Halves.{productAt, wrapped}
+use Rattle.kernel.specs.Halves.{pairProduct, wrapped}
 use Rattle.kernel.proofs.Filling.{Changed, changed-none, changed-lane, changed-all}
 use Rattle.kernel.proofs.Halves.{wrapped-none}
 use Rattle.kernel.proofs.wide.add_products.Statement.{statement}
@@ -32,8 +32,8 @@ unfolding wrapped
 summed f start done (long, sums) = changed-all _ _ sums (rw long done)
 
 -- a product with 0
-none : (c : tie.Then1 Inv-loop μ-loop) → let a = c .before .before .before .args in (t : ℕ) → productAt (a .weight) (a .first .now) (a .second .now) t ≡ 0
-unfolding productAt
+none : (c : tie.Then1 Inv-loop μ-loop) → let a = c .before .before .before .args in (t : ℕ) → pairProduct (a .weight) (a .first .now) (a .second .now) t ≡ 0
+unfolding pairProduct
 none c t = rw (c .if1 .taken) (mul-zero _)
 
 returns : tie.Need-returns Inv-loop μ-loop
@@ -132,8 +132,8 @@ loop-less : tie.Need-loop-less Inv-loop μ-loop
 loop-less c = omega arith
 
 -- the product of this turn's lane
-product-is : (c : tie.After-symbol Inv-loop μ-loop) → let start : tie.Start Inv-loop μ-loop = search in let a = start .args in productAt (a .weight) (a .first .now) (a .second .now) (c .before .before .before .before .loop .t) ≡ c .symbol .result * a .weight
-unfolding productAt
+product-is : (c : tie.After-symbol Inv-loop μ-loop) → let start : tie.Start Inv-loop μ-loop = search in let a = start .args in pairProduct (a .weight) (a .first .now) (a .second .now) (c .before .before .before .before .loop .t) ≡ c .symbol .result * a .weight
+unfolding pairProduct
 product-is c = let start : tie.Start Inv-loop μ-loop = search in ap (λ (x : ℕ). x * start .args .weight) (sym (c .symbol .ensures))
 
 loop-again : tie.Need-loop-again Inv-loop μ-loop

@@ -11,9 +11,9 @@ use Rattle.lists.proofs.Rows.{row-inside}
 use Rattle.generator.specs.Records.{modulusOf}
 use Rattle.interpolation.specs.Lagrange.{scalesOf}
 use Rattle.interpolation.proofs.Points.{length-points, points-symbols}
-use Rattle.products.specs.Products.{groupsOf}
-use Rattle.products.specs.Matrices.{Begun}
-use Rattle.products.proofs.Beginning.{begun-none}
+use Rattle.tile_products.specs.Products.{groupsOf}
+use Rattle.tile_products.specs.Matrices.{Begun}
+use Rattle.tile_products.proofs.Beginning.{begun-none}
 use Rattle.check_sums.specs.Powers.{powersOf}
 use Rattle.check_sums.proofs.Sums.{length-powers}
 use Rattle.wrong_lanes.specs.Checks.{firstPoints, checkRow}

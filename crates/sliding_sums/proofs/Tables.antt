@@ -1,0 +1,33 @@
+-- The table of a row.
+use mathlib.Core.Path.{_≡_, _∙_}
+use mathlib.Core.List.{List}
+use Prim.Native.Nat.{ℕ, _+_, _*_, _/_, _%_, _<_}
+use native.Mathlib.Nat.{add-zero, zero-add}
+use native.Mathlib.Omega.{arith}
+use lib.Bits.{bitXor, xor-zero-r}
+use lib.ListN.{getD}
+use Rattle.lists.specs.Rows.{from}
+use Rattle.lists.proofs.Rows.{getD-from}
+use Rattle.subset_sums.specs.Subsets.{subsetFrom, subset}
+use Rattle.sliding_sums.specs.Tables.{subsetFrom as sumFrom, slidingByte, slidingTable}
+
+-- the sum of a subset, symbol by symbol
+pub subset-is : (row : List ℕ) (v t : ℕ) → bitXor (getD row t 0 * (v % 2)) (bitXor (getD row (t + 1) 0 * (v / 2 % 2)) (bitXor (getD row (t + 2) 0 * (v / 2 / 2 % 2)) (getD row (t + 3) 0 * (v / 2 / 2 / 2 % 2)))) ≡ sumFrom row v t
+unfolding sumFrom subset subsetFrom
+subset-is row v t = rw (add-zero t, xor-zero-r)
+
+-- byte t of subset v
+pub table-at : (row : List ℕ) (v t : ℕ) → v < 16 → t < 512 → getD (slidingTable row) (v * 512 + t) 0 ≡ sumFrom row v t
+unfolding slidingTable slidingByte
+table-at row v t low inside =
+    let part : (v * 512 + t) / 512 ≡ v = omega arith in
+    let place : (v * 512 + t) % 512 ≡ t = omega arith in
+    rw zero-add at (getD-from (slidingByte row) 0 8192 (v * 512 + t) 0 (omega arith)) ∙ rw (part, place)
+
+-- and the part of the table that subset v has
+pub table-part : (row : List ℕ) (v p : ℕ) → p < 512 → getD (from (sumFrom row v) 0 512) p 0 ≡ slidingByte row (v * 512 + p)
+unfolding slidingByte
+table-part row v p inside =
+    let part : (v * 512 + p) / 512 ≡ v = omega arith in
+    let place : (v * 512 + p) % 512 ≡ p = omega arith in
+    rw zero-add at (getD-from (sumFrom row v) 0 512 p 0 inside) ∙ rw (part, place)
