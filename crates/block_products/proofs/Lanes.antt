@@ -21,17 +21,17 @@ use Rattle.layout.proofs.Readings.{bytes-symbols, getD-bytes}
 use Rattle.layout.proofs.Runs as runs
 use Rattle.layout.proofs.Tiles.{many-symbols}
 use Rattle.layout.proofs.Widths.{length-symbols}
-use Rattle.tiles.specs.Tiles.{TileOf}
+use Rattle.tiles.specs.Inner.Tiles.{TileOf}
 use Rattle.field.specs.Kinds.{modulus}
-use Rattle.field.specs.Sums.{dot}
+use Rattle.field.specs.Inner.Sums.{dot}
 use Rattle.field.specs.Widths.{bytesFor}
 use Rattle.field.proofs.Widths.{bytes-range}
-use Rattle.tile_products.specs.Products.{groupsOf}
-use Rattle.tile_products.specs.Matrices.{laneProduct}
+use Rattle.tile_products.specs.Inner.Products.{groupsOf}
+use Rattle.tile_products.specs.Inner.Matrices.{laneProduct}
 use Rattle.tile_products.proofs.Fitting.{groups-few}
 use Rattle.tile_products.proofs.Lanes.{lane-prefix}
 use Rattle.block_products.specs.declared.Product.{Product}
-use Rattle.block_products.specs.Ways.{Ready, Room}
+use Rattle.block_products.specs.Inner.Ways.{Ready, Room}
 
 -- lane t from what its places hold
 pub lane-is : (n l t : ℕ) (s xs : List ℕ) → length xs ≡ n → ((r : ℕ) → r < n → getD s (t * n + r) 0 ≡ getD xs r 0) → laneOf byLane n l t s ≡ xs

@@ -17,8 +17,8 @@ use Rattle.lists.specs.Rows.{from}
 use Rattle.lists.proofs.Fill.{from-zeros}
 use Rattle.lists.proofs.Rows.{from-ext, length-from, getD-from}
 use Rattle.layout.specs.Width.{symbolBytes}
-use Rattle.kernel.specs.Lanes.{lanewise}
-use Rattle.block_products.specs.Marks.{allZero, zeroMarks}
+use Rattle.kernel.specs.Inner.Lanes.{lanewise}
+use Rattle.block_products.specs.Inner.Marks.{allZero, zeroMarks}
 
 -- the mark of a test
 abbrev mark : Bool → ℕ

@@ -26,8 +26,8 @@ use Rattle.layout.proofs.Widths.{length-bytes}
 use Rattle.tiles.proofs.Scattered.{rows-ext}
 use Rattle.block_products.specs.declared.Way.{Way}
 use Rattle.block_products.specs.declared.Way.the-variants.{RowsToLanes, LanesToRows, LanesToMarks}
-use Rattle.block_products.specs.Marks.{allZero, zeroMarks}
-use Rattle.block_products.specs.Ways.{outBytes, resultBytes, Sums, LanesDone, MarksDone, Done}
+use Rattle.block_products.specs.Inner.Marks.{allZero, zeroMarks}
+use Rattle.block_products.specs.Inner.Ways.{outBytes, resultBytes, Sums, LanesDone, MarksDone, Done}
 use Rattle.block_products.proofs.Marks.{length-zero-marks, getD-zero-marks, bytes-zero}
 use Rattle.block_products.proofs.Lanes.{lane-is}
 

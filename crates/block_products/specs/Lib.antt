@@ -1,3 +1,2 @@
--- Products of a matrix and the lanes of a block: how the lanes stand, and what is written.
-pub mod Marks
-pub mod Ways
+-- Nothing here is promised to a caller of the library.
+pub mod Inner

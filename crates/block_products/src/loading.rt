@@ -5,8 +5,8 @@ ghost use lib.ListN.{length, getD};
 ghost use Rattle.lists.specs.Rows.{from};
 ghost use Rattle.layout.specs.Layout.{byRow, byLane, laneOf};
 ghost use Rattle.layout.specs.Width.{symbolsOf, bytesOf};
-ghost use Rattle.tiles.specs.Tiles.{TileOf};
-ghost use Rattle.block_products.specs.Ways.{sideOf};
+ghost use Rattle.tiles.specs.Inner.Tiles.{TileOf};
+ghost use Rattle.block_products.specs.Inner.Ways.{sideOf};
 use crate::Product;
 use crate::Way;
 

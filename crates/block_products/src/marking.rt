@@ -5,8 +5,8 @@ ghost use lib.Dec.{eqb};
 ghost use lib.ListN.{length, getD};
 ghost use Rattle.lists.specs.Choice.{pick};
 ghost use Rattle.lists.specs.Padded.{zeros};
-ghost use Rattle.kernel.specs.Lanes.{lanewise};
-ghost use Rattle.block_products.specs.Marks.{zeroMarks};
+ghost use Rattle.kernel.specs.Inner.Lanes.{lanewise};
+ghost use Rattle.block_products.specs.Inner.Marks.{zeroMarks};
 
 fn clear(marks: &mut [u8])
     ensures { λ r. ⌜ now (marks .exit) ≡ zeros (length (now (marks .entry))) ⌝ }

@@ -2,7 +2,7 @@
 ghost use mathlib.Core.Path.{_≡_};
 ghost use Prim.Native.Nat.{ℕ, _+_, _*_, _/_, _≤_, _<_};
 ghost use lib.ListN.{length, getD};
-ghost use Rattle.block_products.specs.Ways.{outBytes, Sums, LanesDone, RowsDone, MarksDone, Done};
+ghost use Rattle.block_products.specs.Inner.Ways.{outBytes, Sums, LanesDone, RowsDone, MarksDone, Done};
 use crate::Product;
 use crate::Way;
 use crate::marking;

@@ -12,7 +12,7 @@ use Rattle.lists.proofs.Rows.{from-ext, from-move}
 use Rattle.lists.proofs.Search.{search-ext}
 use Rattle.layout.specs.Layout.{Arrangement, byRow, byLane, laneOf, rearranged, someLanes}
 use Rattle.layout.specs.Width.{symbolsOf}
-use Rattle.layout.specs.Tiles.{tileSymbols}
+use Rattle.layout.specs.Inner.Tiles.{tileSymbols}
 use Rattle.layout.proofs.TileLanes.{tile-read, tile-lanes}
 use Rattle.layout.proofs.Lawful.{Lawful, by-row, by-lane}
 use Rattle.layout.proofs.Buffers.{held-buffer, buffer-ext}

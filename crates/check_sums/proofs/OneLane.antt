@@ -17,7 +17,7 @@ use Rattle.lists.proofs.Numbers.{below-cons}
 use Rattle.lists.proofs.Rows.{length-from, getD-from, from-ext, from-move, from-append}
 use Rattle.layout.specs.Layout.{byRow, held, buffer}
 use Rattle.layout.specs.Width.{symbolsOf, symbolBytes, bytesOf}
-use Rattle.layout.specs.Tiles.{tileSymbols, tileBytes}
+use Rattle.layout.specs.Inner.Tiles.{tileSymbols, tileBytes}
 use Rattle.layout.proofs.Lawful.{by-row}
 use Rattle.layout.proofs.Buffers.{lane-buffer, length-buffer, held-buffer, held-equal, buffer-below}
 use Rattle.layout.proofs.Places.{held-by-row, buffer-by-row}
@@ -25,16 +25,16 @@ use Rattle.layout.proofs.Tiles.{length-tile-symbols, length-tile-bytes, held-ti
 use Rattle.layout.proofs.TileLanes.{tile-read}
 use Rattle.layout.proofs.Widths.{length-bytes, symbols-bytes}
 use Rattle.field.specs.Fields.{add, power}
-use Rattle.field.specs.Sums.{dot}
+use Rattle.field.specs.Inner.Sums.{dot}
 use Rattle.field.proofs.BothKinds.{arithmetic}
 use Rattle.field.proofs.Bounds.{power-below}
 use Rattle.generator.specs.declared.Header.{Header}
 use Rattle.generator.specs.Records.{modulusOf, size, width, Sound}
 use Rattle.generator.specs.Codewords.{checkFrom, checksFrom, isWord}
 use Rattle.generator.proofs.Widths.{width-some}
-use Rattle.row_sums.specs.Combined.{combined, combinedBytes, WeightedRows}
+use Rattle.row_sums.specs.Inner.Combined.{combined, combinedBytes, WeightedRows}
 use Rattle.row_sums.proofs.Columns.{combined-symbols}
-use Rattle.check_sums.specs.Sums.{checkSums, powerRow, powerBytes, powerRows}
+use Rattle.check_sums.specs.Inner.Sums.{checkSums, powerRow, powerBytes, powerRows}
 
 -- the place of the next power
 pub next-place : (j e n : ℕ) → (j * (1 + e) % n + j) % n ≡ j * (1 + (e + 1)) % n

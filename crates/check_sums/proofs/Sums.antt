@@ -10,7 +10,7 @@ use Rattle.lists.proofs.Rows.{length-from, getD-from}
 use Rattle.field.specs.Fields.{power}
 use Rattle.generator.specs.declared.Header.{Header}
 use Rattle.generator.specs.Records.{modulusOf}
-use Rattle.check_sums.specs.Powers.{powersOf}
+use Rattle.check_sums.specs.Inner.Powers.{powersOf}
 
 -- the place of the next node's factor
 pub next-factor : (j e n : ℕ) → (j * e % n + e % n) % n ≡ (j + 1) * e % n

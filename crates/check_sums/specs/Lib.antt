@@ -1,3 +1,2 @@
--- Powers of the root, and the check sums of one lane.
-pub mod Powers
-pub mod Sums
+-- Nothing here is promised to a caller of the library.
+pub mod Inner

@@ -10,8 +10,8 @@ ghost use Rattle.lists.specs.Padded.{padded};
 ghost use Rattle.layout.specs.Width.{bytesOf};
 ghost use Rattle.generator.specs.Records.{size, width, Sound};
 ghost use Rattle.generator.specs.Codewords.{isWord};
-ghost use Rattle.check_sums.specs.Powers.{powersOf};
-ghost use Rattle.check_sums.specs.Sums.{checkSums, powerBytes, powerRows};
+ghost use Rattle.check_sums.specs.Inner.Powers.{powersOf};
+ghost use Rattle.check_sums.specs.Inner.Sums.{checkSums, powerBytes, powerRows};
 use crate::powers;
 use generator::Header;
 

@@ -3,7 +3,7 @@ ghost use mathlib.Core.Path.{_≡_};
 ghost use Prim.Native.Nat.{_≤_};
 ghost use Rattle.lists.specs.Padded.{padded};
 ghost use Rattle.generator.specs.Records.{Sound};
-ghost use Rattle.check_sums.specs.Powers.{powersOf, factorsOf};
+ghost use Rattle.check_sums.specs.Inner.Powers.{powersOf, factorsOf};
 use crate::lane::stepped;
 use generator::Header;
 

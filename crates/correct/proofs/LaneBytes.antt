@@ -19,7 +19,7 @@ use Rattle.generator.specs.Records.{size, width}
 use Rattle.symbols.proofs.Fits.{symbols-fit}
 use Rattle.nearest_word.specs.Nearest.{corrected}
 use Rattle.correct.specs.Blocks.{correctedShares, correctedBytes}
-use Rattle.correct.specs.Marked.{MarkedLane, MarkedShares}
+use Rattle.correct.specs.Inner.Marked.{MarkedLane, MarkedShares}
 use Rattle.correct.proofs.Shares.{is-lane, lane-corrected, length-corrected, corrected-symbols}
 
 module _ {h : Header} {l : ℕ} {marks shares : List ℕ} (m : MarkedShares h l marks shares) (some : 0 < width h) where

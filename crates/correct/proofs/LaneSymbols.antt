@@ -19,7 +19,7 @@ use Rattle.generator.proofs.Widths.{width-some}
 use Rattle.symbols.proofs.Fits.{symbols-fit}
 use Rattle.nearest_word.specs.Nearest.{hasNear, corrected}
 use Rattle.nearest_word.proofs.Corrected.{word-near, word-stays, corrected-long, corrected-below}
-use Rattle.correct.specs.Marked.{MarkedLane}
+use Rattle.correct.specs.Inner.Marked.{MarkedLane}
 
 module _ {h : Header} {mark : ℕ} {lane : List ℕ} (m : MarkedLane h mark lane) where
   abbrev w : ℕ

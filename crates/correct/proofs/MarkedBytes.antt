@@ -9,9 +9,9 @@ use Rattle.layout.proofs.LaneParts.{lanes-long}
 use Rattle.generator.specs.declared.Header.{Header}
 use Rattle.generator.specs.Records.{width}
 use Rattle.refusals.specs.Accepted.{SymbolBuffer}
-use Rattle.wrong_lanes.specs.Marks.{wordMarks}
+use Rattle.wrong_lanes.specs.Inner.Marks.{wordMarks}
 use Rattle.wrong_lanes.proofs.Marking.{length-marks, unmarked-word}
-use Rattle.correct.specs.Marked.{MarkedShares}
+use Rattle.correct.specs.Inner.Marked.{MarkedShares}
 
 pub marked-shares : (h : Header) (l : ℕ) (marks shares : List ℕ) → SymbolBuffer h (h .n) l shares → marks ≡ wordMarks shareLayout h l (symbolsOf (width h) shares) → MarkedShares h l marks shares
 marked-shares h l marks shares is m =

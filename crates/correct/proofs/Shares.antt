@@ -15,7 +15,7 @@ use Rattle.generator.specs.declared.Header.{Header}
 use Rattle.generator.specs.Records.{size, Sound}
 use Rattle.nearest_word.specs.Nearest.{corrected}
 use Rattle.nearest_word.proofs.Corrected.{corrected-long, corrected-below}
-use Rattle.decode.specs.Candidates.{SoundLane}
+use Rattle.decode.specs.Inner.Candidates.{SoundLane}
 use Rattle.correct.specs.Blocks.{correctedShares}
 
 module _ {y : Arrangement} (a : Lawful y) (h : Header) (sound : Sound h) (l : ℕ) (s : List ℕ) (long : length s ≡ h .n * l) (below : allBelow (size h) s ≡ true) where

@@ -3,9 +3,9 @@ ghost use mathlib.Core.Path.{_≡_};
 ghost use Rattle.lists.specs.Counting.{differ};
 ghost use Rattle.layout.specs.Width.{symbolsOf, bytesOf};
 ghost use Rattle.generator.specs.Records.{width};
-ghost use Rattle.check_sums.specs.Sums.{powerRows};
+ghost use Rattle.check_sums.specs.Inner.Sums.{powerRows};
 ghost use Rattle.nearest_word.specs.Nearest.{hasNear, corrected};
-ghost use Rattle.correct.specs.Marked.{MarkedLane};
+ghost use Rattle.correct.specs.Inner.Marked.{MarkedLane};
 use generator::Header;
 
 // Whether a word is near enough.

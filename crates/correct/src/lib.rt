@@ -5,10 +5,10 @@ ghost use Rattle.layout.specs.Layout.{shareLayout};
 ghost use Rattle.layout.specs.Width.{symbolsOf};
 ghost use Rattle.generator.specs.Records.{Sound, width};
 ghost use Rattle.refusals.specs.Accepted.{SymbolBuffer};
-ghost use Rattle.check_sums.specs.Sums.{powerRows};
+ghost use Rattle.check_sums.specs.Inner.Sums.{powerRows};
 ghost use Rattle.correct.specs.Blocks.{firstFar, correctedBytes, correctedCount, farBad};
 ghost use Rattle.correct.specs.Promises.{correctFault, CorrectPromise, CorrectSays};
-ghost use Rattle.correct.specs.Marked.{MarkedShares};
+ghost use Rattle.correct.specs.Inner.Marked.{MarkedShares};
 use generator::Header;
 use generator::Record;
 

@@ -19,7 +19,7 @@ use Rattle.field.proofs.Symbols.{symbol-below, residue}
 use Rattle.field.proofs.FieldOf.{fieldOf, size-pos, number-sub}
 use Rattle.nearest_word.proofs.Recurrence.{discrepancy, shift, discrepancy-take, getD-plus, getD-scale, getD-shift}
 use Rattle.nearest_word.proofs.Massey.{amend}
-use Rattle.decode.specs.Locating.{Below, partial, shifted, amendedAt}
+use Rattle.decode.specs.Inner.Locating.{Below, partial, shifted, amendedAt}
 use Rattle.decode.proofs.Arrays.{shifted-low, shifted-high, filled-at, filled-past}
 
 module _ (p : ℕ) (v : isField p ≡ true) where

@@ -17,18 +17,18 @@ use Rattle.generator.specs.declared.Header.{Header}
 use Rattle.generator.specs.Records.{modulusOf, size, Sound}
 use Rattle.generator.specs.Codewords.{checkFrom}
 use Rattle.generator.proofs.Bounds.{checkFrom-below}
-use Rattle.interpolation.specs.Points.{SymbolList, pointsOf}
-use Rattle.interpolation.specs.Lagrange.{scalesOf}
-use Rattle.interpolation.specs.Polynomials.{productOf}
+use Rattle.interpolation.specs.Inner.Points.{SymbolList, pointsOf}
+use Rattle.interpolation.specs.Inner.Lagrange.{scalesOf}
+use Rattle.interpolation.specs.Inner.Polynomials.{productOf}
 use Rattle.interpolation.proofs.Points.{length-points, points-symbols}
-use Rattle.node_weights.specs.Rows.{basisOf}
+use Rattle.node_weights.specs.Inner.Rows.{basisOf}
 use Rattle.node_weights.proofs.Parts.{Parts, parts}
-use Rattle.check_sums.specs.Sums.{checkSums}
+use Rattle.check_sums.specs.Inner.Sums.{checkSums}
 use Rattle.check_sums.proofs.OneLane.{length-sums}
 use Rattle.nearest_word.specs.Nearest.{radius}
-use Rattle.decode.specs.Locating.{Below}
-use Rattle.decode.specs.Errors.{rootsOf, errorsOf, removed}
-use Rattle.decode.specs.Candidates.{SoundLane, WrongNodes, Candidate}
+use Rattle.decode.specs.Inner.Locating.{Below}
+use Rattle.decode.specs.Inner.Errors.{rootsOf, errorsOf, removed}
+use Rattle.decode.specs.Inner.Candidates.{SoundLane, WrongNodes, Candidate}
 use Rattle.decode.proofs.Arrays.{below-everywhere}
 use Rattle.decode.proofs.RootNodes.{few-roots, roots-low}
 use Rattle.decode.proofs.ErrorSymbols.{errorsFrom-below}

@@ -13,7 +13,7 @@ use Rattle.field.proofs.Bounds.{mul-below}
 use Rattle.field.proofs.Sums.{dot-below}
 use Rattle.field.proofs.Inverse.{inverse-below}
 use Rattle.interpolation.proofs.Coefficients.{quotientOf-below}
-use Rattle.decode.specs.Errors.{errorOf, errorsFrom}
+use Rattle.decode.specs.Inner.Errors.{errorOf, errorsFrom}
 
 module _ (p : ℕ) (v : isField p ≡ true) where
   module _ (cs ts : List ℕ) (below-cs : allBelow (sizeOf p) cs ≡ true) (below-ts : allBelow (sizeOf p) ts ≡ true) where

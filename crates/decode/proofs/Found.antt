@@ -27,7 +27,7 @@ use Rattle.algebra.proofs.Poly.{eval}
 use Rattle.algebra.proofs.LagrangeBasis.{others, length-others}
 use Rattle.algebra.proofs.Parity.{check}
 use Rattle.field.specs.Fields.{add, sub, mul, power, inverse}
-use Rattle.field.specs.Sums.{dot}
+use Rattle.field.specs.Inner.Sums.{dot}
 use Rattle.field.specs.Symbols.{Symbol, numbers}
 use Rattle.field.proofs.Symbols.{symbol-path, residue, getD-numbers}
 use Rattle.field.proofs.FieldOf.{size-pos, number-sub, number-pow}
@@ -37,13 +37,13 @@ use Rattle.generator.specs.Codewords.{polyAt, checkFrom}
 use Rattle.generator.proofs.Sound.{fieldFor, rootFor, root-order}
 use Rattle.generator.proofs.Bridge.{polyAt-is, checkFrom-is}
 use Rattle.generator.proofs.Recovery.{lifted, lifted-numbers, length-lifted}
-use Rattle.interpolation.specs.Points.{pointsOf}
-use Rattle.interpolation.specs.Lagrange.{scaleAt, scalesOf}
-use Rattle.interpolation.specs.Polynomials.{productOf, quotientOf}
+use Rattle.interpolation.specs.Inner.Points.{pointsOf}
+use Rattle.interpolation.specs.Inner.Lagrange.{scaleAt, scalesOf}
+use Rattle.interpolation.specs.Inner.Polynomials.{productOf, quotientOf}
 use Rattle.interpolation.proofs.Bridge.{pointsOf-is, others-is, scaleAt-is}
 use Rattle.interpolation.proofs.Points.{length-points}
 use Rattle.interpolation.proofs.Values.{getD-scales}
-use Rattle.check_sums.specs.Sums.{checkSums}
+use Rattle.check_sums.specs.Inner.Sums.{checkSums}
 use Rattle.check_sums.proofs.OneLane.{length-sums}
 use Rattle.nearest_word.specs.Nearest.{radius}
 use Rattle.nearest_word.proofs.Selection.{cons-if, keep}
@@ -52,8 +52,8 @@ use Rattle.nearest_word.proofs.Massey.{Locator}
 use Rattle.nearest_word.proofs.Errors.{value, wrong, syndrome, discrepancy-agree}
 use Rattle.nearest_word.proofs.Repair.{roots, few-roots, right, repaired}
 use Rattle.nearest_word.proofs.Near.{Polynomial, term, Near, radius-fits, numbers-values, near-polynomial, near-faults}
-use Rattle.decode.specs.Locating.{Below, Locates}
-use Rattle.decode.specs.Errors.{rootsOf, errorOf, errorsFrom, errorsOf, removed}
+use Rattle.decode.specs.Inner.Locating.{Below, Locates}
+use Rattle.decode.specs.Inner.Errors.{rootsOf, errorOf, errorsFrom, errorsOf, removed}
 use Rattle.decode.proofs.Bridge.{number, Holds, partial-discrepancy, term-number}
 use Rattle.decode.proofs.RootNodes.{roots-low, roots-distinct}
 use Rattle.decode.proofs.Removing.{length-removed, removed-other, removed-at}

@@ -15,7 +15,7 @@ use Rattle.lists.proofs.Padding.{getD-padded}
 use Rattle.field.specs.Fields.{isField, sizeOf, sub}
 use Rattle.field.proofs.Bounds.{sub-below}
 use Rattle.field.proofs.FieldOf.{size-pos}
-use Rattle.decode.specs.Errors.{removed}
+use Rattle.decode.specs.Inner.Errors.{removed}
 
 -- a place of a list that is padded, set
 set-padded : (n : ℕ) (ws : List ℕ) (j x : ℕ) → j < length ws → set (padded n ws) j x ≡ padded n (set ws j x)

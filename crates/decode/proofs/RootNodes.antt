@@ -15,7 +15,7 @@ use Rattle.lists.proofs.Numbers.{all-below}
 use Rattle.lists.proofs.Passing.{passing-most, passing-within, passing-rises, rises-distinct}
 use Rattle.field.specs.Fields.{power}
 use Rattle.generator.specs.Codewords.{polyAt}
-use Rattle.decode.specs.Errors.{rootsOf}
+use Rattle.decode.specs.Inner.Errors.{rootsOf}
 
 module _ (p root n : ℕ) (cs : List ℕ) where
   -- the loop's answer

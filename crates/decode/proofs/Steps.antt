@@ -15,7 +15,7 @@ use Rattle.field.specs.Symbols.{Symbol}
 use Rattle.field.proofs.Symbols.{symbol-below, symbol-path}
 use Rattle.nearest_word.proofs.Recurrence.{discrepancy}
 use Rattle.nearest_word.proofs.Massey.{Locator, Now, Past, State, After, amend, kept, mended, grown, chosen-locates}
-use Rattle.decode.specs.Locating.{Below, partial, amendedAt, Locates}
+use Rattle.decode.specs.Inner.Locating.{Below, partial, amendedAt, Locates}
 use Rattle.decode.proofs.Arrays.{zeros-getD}
 use Rattle.decode.proofs.Bridge.{F, term, Holds, holds-below, holds-filled, partial-discrepancy, amendedAt-number, scaled-number}
 

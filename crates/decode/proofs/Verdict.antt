@@ -13,7 +13,7 @@ use Rattle.generator.specs.Codewords.{isWord}
 use Rattle.nearest_word.specs.Nearest.{radius, isNear, hasNear, nearest, corrected}
 use Rattle.nearest_word.proofs.Near.{judged}
 use Rattle.nearest_word.proofs.Corrected.{corrected-near, corrected-far}
-use Rattle.decode.specs.Candidates.{SoundLane, Candidate}
+use Rattle.decode.specs.Inner.Candidates.{SoundLane, Candidate}
 
 -- what is promised of a lane that was set right, or that was not
 abbrev Says : Header → List ℕ → List ℕ → ℕ → Bool → Type 0

@@ -1,4 +1,2 @@
--- What the functions return.
-pub mod Locating
-pub mod Errors
-pub mod Candidates
+-- Nothing here is promised to a caller of the library.
+pub mod Inner

@@ -5,12 +5,12 @@ ghost use Prim.Native.Nat.{_<_, _≤_};
 ghost use lib.ListN.{length};
 ghost use Rattle.lists.specs.Counting.{differ};
 ghost use Rattle.lists.specs.Padded.{padded};
-ghost use Rattle.check_sums.specs.Sums.{checkSums, powerRows};
+ghost use Rattle.check_sums.specs.Inner.Sums.{checkSums, powerRows};
 ghost use Rattle.nearest_word.specs.Nearest.{hasNear, corrected};
 ghost use Rattle.field.specs.Tables.{AreTables};
 ghost use Rattle.generator.specs.Records.{size, Sound};
-ghost use Rattle.decode.specs.Locating.{Below};
-ghost use Rattle.decode.specs.Candidates.{SoundLane, WrongNodes, Candidate};
+ghost use Rattle.decode.specs.Inner.Locating.{Below};
+ghost use Rattle.decode.specs.Inner.Candidates.{SoundLane, WrongNodes, Candidate};
 use field::Tables;
 use generator::Header;
 

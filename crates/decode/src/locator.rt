@@ -8,7 +8,7 @@ ghost use Rattle.lists.specs.Padded.{padded};
 ghost use Rattle.field.specs.Fields.{sizeOf, mul};
 ghost use Rattle.field.specs.Kinds.{modulus, usable};
 ghost use Rattle.field.specs.Tables.{AreTables};
-ghost use Rattle.decode.specs.Locating.{Below, partial, shifted, amendedAt, Locates};
+ghost use Rattle.decode.specs.Inner.Locating.{Below, partial, shifted, amendedAt, Locates};
 use crate::field_symbols::narrow;
 use crate::field_symbols::wide;
 use field::Field;

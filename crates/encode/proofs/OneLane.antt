@@ -14,7 +14,7 @@ use Rattle.lists.proofs.Fill.{length-zeros}
 use Rattle.lists.proofs.Numbers.{at-below, below-cons, below-drop, below-set}
 use Rattle.lists.proofs.Rows.{from-ext, length-from, getD-from}
 use Rattle.field.specs.Fields.{isField, sizeOf, add}
-use Rattle.field.specs.Sums.{dot}
+use Rattle.field.specs.Inner.Sums.{dot}
 use Rattle.field.proofs.Arithmetic.{zero-mul}
 use Rattle.field.proofs.BothKinds.{arithmetic}
 use Rattle.field.proofs.FieldOf.{size-pos}
@@ -29,8 +29,8 @@ use Rattle.generator.proofs.Bounds.{entryAt-below, nodeFrom-below}
 use Rattle.generator.proofs.Recovery.{shifts-are-places}
 use Rattle.plan.specs.Plans.{planFor}
 use Rattle.plan.proofs.Plans.{shift-in, shift-below, base-in, entry-read}
-use Rattle.sliding_sums.specs.Windows.{windowSums}
-use Rattle.encode.specs.OneLane.{placedFrom, twice}
+use Rattle.sliding_sums.specs.Inner.Windows.{windowSums}
+use Rattle.encode.specs.Inner.OneLane.{placedFrom, twice}
 use Rattle.encode.proofs.Placed.{Leads, placed-sum}
 
 pub length-twice : (n : ℕ) (xs : List ℕ) → length (twice n xs) ≡ n + n

@@ -9,7 +9,7 @@ use lib.Seq.{getD-set-other}
 use Rattle.lists.specs.Numbers.{allBelow}
 use Rattle.lists.proofs.Numbers.{below-take, below-set, below-getD, below-cons}
 use Rattle.field.specs.Fields.{isField, sizeOf, add, sub, mul}
-use Rattle.field.specs.Sums.{dot}
+use Rattle.field.specs.Inner.Sums.{dot}
 use Rattle.field.proofs.Arithmetic.{Arithmetic, zero-mul}
 use Rattle.field.proofs.BothKinds.{arithmetic}
 use Rattle.field.proofs.FieldOf.{size-pos}
@@ -19,7 +19,7 @@ use Rattle.generator.specs.Records.{modulusOf, size, Sound}
 use Rattle.generator.specs.Generator.{entry}
 use Rattle.generator.specs.Codewords.{nodeFrom}
 use Rattle.generator.proofs.Bounds.{entry-below, nodeFrom-below}
-use Rattle.encode.specs.OneLane.{placedFrom}
+use Rattle.encode.specs.Inner.OneLane.{placedFrom}
 
 module _ (p : ℕ) (v : isField p ≡ true) where
   abbrev q : ℕ

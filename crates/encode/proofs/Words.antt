@@ -13,7 +13,7 @@ use Rattle.layout.specs.Layout.{byRow, byLane, laneOf}
 use Rattle.layout.specs.Width.{symbolsOf, bytesOf}
 use Rattle.layout.proofs.Buffers.{length-lane, buffer-ext}
 use Rattle.layout.proofs.Lawful.{by-lane}
-use Rattle.field.specs.Sums.{dot}
+use Rattle.field.specs.Inner.Sums.{dot}
 use Rattle.generator.specs.declared.Header.{Header}
 use Rattle.generator.specs.Records.{modulusOf, size, width, Sound}
 use Rattle.generator.specs.Generator.{entry}
@@ -21,14 +21,14 @@ use Rattle.generator.specs.Codewords.{nodeFrom, nodeOf}
 use Rattle.generator.proofs.Bounds.{entry-below}
 use Rattle.blocks.specs.Blocks.{shareAt, sharesOf}
 use Rattle.row_sums.proofs.Columns.{dot-column}
-use Rattle.tile_products.specs.Products.{groupsOf}
-use Rattle.tile_products.specs.Matrices.{Begun}
+use Rattle.tile_products.specs.Inner.Products.{groupsOf}
+use Rattle.tile_products.specs.Inner.Matrices.{Begun}
 use Rattle.tile_products.proofs.Beginning.{begun-made}
 use Rattle.tile_products.proofs.Fitting.{lists-fit}
 use Rattle.block_products.specs.declared.Product.{Product}
 use Rattle.block_products.specs.declared.Way.the-variants.{RowsToLanes}
-use Rattle.block_products.specs.Ways.{sideOf, outBytes, resultBytes, laneSum, Ready}
-use Rattle.encode.specs.Inner.{MessageBytes, ColumnRoom, columnOf, columnProduct}
+use Rattle.block_products.specs.Inner.Ways.{sideOf, outBytes, resultBytes, laneSum, Ready}
+use Rattle.encode.specs.Inner.Columns.{MessageBytes, ColumnRoom, columnOf, columnProduct}
 
 pub length-column : (h : Header) (j : ℕ) → length (columnOf h j) ≡ h .k
 unfolding columnOf

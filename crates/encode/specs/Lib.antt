@@ -1,3 +1,2 @@
--- What the functions behind the call rely on and give.
+-- Nothing here is promised to a caller of the library.
 pub mod Inner
-pub mod OneLane

@@ -8,7 +8,7 @@ ghost use Rattle.generator.specs.Records.{Sound};
 ghost use Rattle.blocks.specs.Blocks.{sharesOf};
 ghost use Rattle.refusals.specs.Faults.{encodeFault};
 ghost use Rattle.blocks.specs.Promises.{EncodePromise, EncodeSays};
-ghost use Rattle.encode.specs.Inner.{Planned, MessageBytes, columnOf};
+ghost use Rattle.encode.specs.Inner.Columns.{Planned, MessageBytes, columnOf};
 use blocks::Outcome;
 use generator::Header;
 use generator::Record;

@@ -15,9 +15,9 @@ ghost use Rattle.generator.specs.Codewords.{encoding};
 ghost use Rattle.generator.specs.declared.Record.the-variants.{Holds};
 ghost use Rattle.plan.specs.Plans.{planFor};
 ghost use Rattle.blocks.specs.Blocks.{sharesOf};
-ghost use Rattle.sliding_sums.specs.Windows.{windowSums, Windows};
-ghost use Rattle.encode.specs.Inner.{Planned, MessageBytes};
-ghost use Rattle.encode.specs.OneLane.{placedFrom, twice};
+ghost use Rattle.sliding_sums.specs.Inner.Windows.{windowSums, Windows};
+ghost use Rattle.encode.specs.Inner.Columns.{Planned, MessageBytes};
+ghost use Rattle.encode.specs.Inner.OneLane.{placedFrom, twice};
 use field::Field;
 use generator::Header;
 

@@ -6,7 +6,7 @@ use Prim.Native.Nat.{ℕ, _<_}
 use Rattle.lists.specs.Numbers.{allBelow}
 use Rattle.lists.proofs.Numbers.{below-cons}
 use Rattle.field.specs.Fields.{isField, sizeOf}
-use Rattle.field.specs.Sums.{dot}
+use Rattle.field.specs.Inner.Sums.{dot}
 use Rattle.field.proofs.Bounds.{add-below, mul-below}
 use Rattle.field.proofs.FieldOf.{size-pos}
 

@@ -6,4 +6,4 @@ pub mod Fields
 pub mod Kinds
 pub mod Widths
 pub mod Symbols
-pub mod Sums
+pub mod Inner

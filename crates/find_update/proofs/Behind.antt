@@ -28,7 +28,7 @@ use Rattle.generator.proofs.Bounds.{entry-below}
 use Rattle.find_update.specs.declared.Finding.the-variants.{Unchanged}
 use Rattle.refusals.specs.Accepted.{IsLane}
 use Rattle.find_update.specs.Finding.{findingOf}
-use Rattle.find_update.specs.Starts.{differences, rowStarting, firstOther, amountIn, updateIn}
+use Rattle.find_update.specs.Inner.Starts.{differences, rowStarting, firstOther, amountIn, updateIn}
 use Rattle.find_update.proofs.Multiples.{Multiple, first-node, first-entry, row-is}
 use Rattle.find_update.proofs.Single.{getD-added, length-added, nothing-added}
 use Rattle.find_update.proofs.Meaning.{finds, finding-added}

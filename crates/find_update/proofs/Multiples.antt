@@ -23,7 +23,7 @@ use Rattle.generator.proofs.Bounds.{entry-below}
 use Rattle.generator.proofs.Entries.{row-weight}
 use Rattle.generator.proofs.Recovery.{shifts-are-places}
 use Rattle.generator.proofs.Shifts.{shifts-below, firsts-at, firsts-below}
-use Rattle.find_update.specs.Starts.{nodeBefore, beginsAt, rowStarting}
+use Rattle.find_update.specs.Inner.Starts.{nodeBefore, beginsAt, rowStarting}
 use Rattle.find_update.proofs.Starts.{same-start}
 
 -- x times row r

@@ -9,7 +9,7 @@ ghost use Rattle.field.specs.Tables.{AreTables};
 ghost use Rattle.generator.specs.Records.{size, Sound};
 ghost use Rattle.plan.specs.Plans.{planFor};
 ghost use Rattle.refusals.specs.Accepted.{IsLane};
-ghost use Rattle.find_update.specs.Starts.{differences, firstOther};
+ghost use Rattle.find_update.specs.Inner.Starts.{differences, firstOther};
 use field::Tables;
 use generator::Header;
 use generator::Record;

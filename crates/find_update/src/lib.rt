@@ -8,7 +8,7 @@ ghost use Rattle.generator.specs.Records.{Sound};
 ghost use Rattle.plan.specs.Plans.{planFor};
 ghost use Rattle.refusals.specs.Accepted.{IsLane};
 ghost use Rattle.find_update.specs.Finding.{findingOf};
-ghost use Rattle.find_update.specs.Starts.{amountIn, updateIn};
+ghost use Rattle.find_update.specs.Inner.Starts.{amountIn, updateIn};
 ghost use Rattle.find_update.specs.Promise.{findFault, FindPromise, FindSays};
 use field::Tables;
 use generator::Header;

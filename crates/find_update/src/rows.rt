@@ -4,7 +4,7 @@ ghost use Prim.Native.Nat.{_<_};
 ghost use lib.ListN.{length};
 ghost use Rattle.generator.specs.Records.{Sound};
 ghost use Rattle.plan.specs.Plans.{planFor};
-ghost use Rattle.find_update.specs.Starts.{beginsAt, rowStarting};
+ghost use Rattle.find_update.specs.Inner.Starts.{beginsAt, rowStarting};
 use generator::Header;
 use generator::Record;
 use plan::Plan;

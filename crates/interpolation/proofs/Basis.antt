@@ -15,7 +15,7 @@ use Rattle.lists.proofs.Rows.{length-from, getD-from}
 use Rattle.field.specs.Fields.{isField, sizeOf, sub, mul}
 use Rattle.field.proofs.BothKinds.{arithmetic}
 use Rattle.field.proofs.Bounds.{one-below, sub-below}
-use Rattle.interpolation.specs.Lagrange.{productAt, othersAt, scaleAt, basisAt}
+use Rattle.interpolation.specs.Inner.Lagrange.{productAt, othersAt, scaleAt, basisAt}
 use Rattle.interpolation.proofs.Values.{productAt-below}
 
 module _ (p : ℕ) (v : isField p ≡ true) (z : ℕ) (low : z < sizeOf p) where

@@ -18,10 +18,10 @@ use Rattle.field.specs.Fields.{isField, sizeOf, add, mul, inverse}
 use Rattle.field.specs.Symbols.{Symbol, numbers}
 use Rattle.field.proofs.Symbols.{getD-numbers}
 use Rattle.field.proofs.FieldOf.{fieldOf, size-pos, number-sub, number-pow}
-use Rattle.field.specs.Sums.{dot}
-use Rattle.interpolation.specs.Points.{pointsOf}
-use Rattle.interpolation.specs.Polynomials.{timesLinear, productOf, baseOf, quotientOf}
-use Rattle.interpolation.specs.Lagrange.{productAt, othersAt, scaleAt, basisAt}
+use Rattle.field.specs.Inner.Sums.{dot}
+use Rattle.interpolation.specs.Inner.Points.{pointsOf}
+use Rattle.interpolation.specs.Inner.Polynomials.{timesLinear, productOf, baseOf, quotientOf}
+use Rattle.interpolation.specs.Inner.Lagrange.{productAt, othersAt, scaleAt, basisAt}
 
 module _ (p : ℕ) (v : isField p ≡ true) where
   abbrev number : Symbol (sizeOf p) → ℕ

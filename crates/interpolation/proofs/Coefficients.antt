@@ -25,8 +25,8 @@ use Rattle.field.proofs.Bounds.{one-below, add-below, sub-below, mul-below, pow
 use Rattle.field.proofs.FieldOf.{size-pos}
 use Rattle.field.proofs.Inverse.{inverse-below}
 use Rattle.field.proofs.KindLaws.{usable-field}
-use Rattle.interpolation.specs.Points.{SymbolList}
-use Rattle.interpolation.specs.Polynomials.{timesLinear, carried, productOf, baseOf, quotientOf, termwise, inversesOf}
+use Rattle.interpolation.specs.Inner.Points.{SymbolList}
+use Rattle.interpolation.specs.Inner.Polynomials.{timesLinear, carried, productOf, baseOf, quotientOf, termwise, inversesOf}
 
 -- a list with zeros after it, as far as one place more: the list and a 0; and what is left is zeros
 pub one-more : (n m : ℕ) (cs : List ℕ) → length cs ≡ m → m < n → (take (m + 1) (padded n cs) ≡ cs ++ (0 ∷ [])) × (drop (m + 1) (padded n cs) ≡ zeros (n - (m + 1)))

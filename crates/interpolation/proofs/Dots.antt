@@ -6,7 +6,7 @@ use lib.ListN.{length, getD, drop}
 use lib.Seq.{drop-length}
 use Rattle.lists.proofs.Front.{drop-before}
 use Rattle.field.specs.Fields.{add, mul}
-use Rattle.field.specs.Sums.{dot}
+use Rattle.field.specs.Inner.Sums.{dot}
 
 module _ (p : ℕ) where
   pub dot-before : (ys ws : List ℕ) (i : ℕ) → 0 < i → i ≤ length ys → i ≤ length ws → dot p (drop (i - 1) ys) (drop (i - 1) ws) ≡ add p (mul p (getD ys (i - 1) 0) (getD ws (i - 1) 0)) (dot p (drop i ys) (drop i ws))

@@ -6,7 +6,7 @@ use native.Mathlib.Omega.{arith}
 use lib.ListN.{length}
 use Rattle.lists.specs.Padded.{zeros, padded}
 use Rattle.field.specs.Fields.{add, mul}
-use Rattle.field.specs.Sums.{dot}
+use Rattle.field.specs.Inner.Sums.{dot}
 
 -- what comes after the shorter list plays no part
 dot-front : (p : ℕ) (ys ws rest : List ℕ) → length ys ≡ length ws → dot p ys (ws ++ rest) ≡ dot p ys ws

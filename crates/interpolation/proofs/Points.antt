@@ -12,7 +12,7 @@ use Rattle.field.specs.Fields.{isField, sizeOf, power}
 use Rattle.field.specs.Kinds.{modulus, usable}
 use Rattle.field.proofs.Bounds.{power-below}
 use Rattle.field.proofs.KindLaws.{usable-field}
-use Rattle.interpolation.specs.Points.{SymbolList, pointsOf}
+use Rattle.interpolation.specs.Inner.Points.{SymbolList, pointsOf}
 
 module _ (p root e : ℕ) where
   pub length-points : (js : List ℕ) → length (pointsOf p root e js) ≡ length js

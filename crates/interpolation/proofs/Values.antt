@@ -13,7 +13,7 @@ use Rattle.lists.proofs.Rows.{length-from, getD-from}
 use Rattle.field.specs.Fields.{isField, sizeOf, sub, mul}
 use Rattle.field.proofs.Bounds.{one-below, sub-below, mul-below}
 use Rattle.field.proofs.Inverse.{inverse-below}
-use Rattle.interpolation.specs.Lagrange.{productAt, othersAt, scaleAt, basisAt, basisValues, scalesOf}
+use Rattle.interpolation.specs.Inner.Lagrange.{productAt, othersAt, scaleAt, basisAt, basisValues, scalesOf}
 
 -- as many scales as points, and scale i
 pub length-scales : (p : ℕ) (xs : List ℕ) → length (scalesOf p xs) ≡ length xs

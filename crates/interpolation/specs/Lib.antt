@@ -1,4 +1,2 @@
--- What the functions return.
-pub mod Points
-pub mod Lagrange
-pub mod Polynomials
+-- Nothing here is promised to a caller of the library.
+pub mod Inner

@@ -7,8 +7,8 @@ ghost use Rattle.lists.specs.Rows.{from};
 ghost use Rattle.field.specs.Fields.{sizeOf};
 ghost use Rattle.field.specs.Kinds.{modulus};
 ghost use Rattle.field.specs.Tables.{AreTables};
-ghost use Rattle.interpolation.specs.Points.{SymbolList};
-ghost use Rattle.interpolation.specs.Lagrange.{productAt, othersAt, scaleAt, basisValues, scalesOf};
+ghost use Rattle.interpolation.specs.Inner.Points.{SymbolList};
+ghost use Rattle.interpolation.specs.Inner.Lagrange.{productAt, othersAt, scaleAt, basisValues, scalesOf};
 use field::Field;
 use field::Tables;
 

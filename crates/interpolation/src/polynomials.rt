@@ -7,8 +7,8 @@ ghost use Rattle.lists.specs.Padded.{padded};
 ghost use Rattle.field.specs.Fields.{sizeOf};
 ghost use Rattle.field.specs.Kinds.{modulus, usable};
 ghost use Rattle.field.specs.Tables.{AreTables};
-ghost use Rattle.interpolation.specs.Points.{SymbolList};
-ghost use Rattle.interpolation.specs.Polynomials.{carried, productOf, baseOf, inversesOf};
+ghost use Rattle.interpolation.specs.Inner.Points.{SymbolList};
+ghost use Rattle.interpolation.specs.Inner.Polynomials.{carried, productOf, baseOf, inversesOf};
 use field::Field;
 use field::Tables;
 

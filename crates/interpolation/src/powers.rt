@@ -7,7 +7,7 @@ ghost use Rattle.lists.specs.Padded.{padded};
 ghost use Rattle.field.specs.Fields.{sizeOf};
 ghost use Rattle.field.specs.Kinds.{modulus, usable};
 ghost use Rattle.field.specs.Tables.{AreTables};
-ghost use Rattle.interpolation.specs.Points.{pointsOf};
+ghost use Rattle.interpolation.specs.Inner.Points.{pointsOf};
 use field::Field;
 use field::Tables;
 

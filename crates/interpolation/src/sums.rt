@@ -7,10 +7,10 @@ ghost use Rattle.lists.specs.Numbers.{allBelow};
 ghost use Rattle.lists.specs.Padded.{padded};
 ghost use Rattle.field.specs.Fields.{sizeOf};
 ghost use Rattle.field.specs.Kinds.{modulus, usable};
-ghost use Rattle.field.specs.Sums.{dot};
+ghost use Rattle.field.specs.Inner.Sums.{dot};
 ghost use Rattle.field.specs.Tables.{AreTables};
-ghost use Rattle.interpolation.specs.Points.{SymbolList};
-ghost use Rattle.interpolation.specs.Polynomials.{termwise};
+ghost use Rattle.interpolation.specs.Inner.Points.{SymbolList};
+ghost use Rattle.interpolation.specs.Inner.Polynomials.{termwise};
 use field::Field;
 use field::Tables;
 

@@ -7,7 +7,7 @@ use lib.ListN.{length, getD, set}
 use Rattle.lists.specs.Rows.{from}
 use Rattle.lists.proofs.Rows.{from-next, from-end}
 use Rattle.lists.proofs.Fill.{Fills, fills-start, fills-next, fills-put, fills-all}
-use Rattle.kernel.specs.Lanes.{lanewise}
+use Rattle.kernel.specs.Inner.Lanes.{lanewise}
 
 -- the lanes below t are changed, those from t on are as at the start
 abbrev pub Changed : (ℕ → ℕ → ℕ) → List ℕ → List ℕ → ℕ → Type 0

@@ -6,7 +6,7 @@ use native.Mathlib.Nat.{add-zero, mul-le-mul, mod-eq-of-lt}
 use native.Mathlib.Omega.{arith}
 use lib.ListN.{length, getD}
 use Rattle.lists.proofs.Numbers.{at-below, below-at}
-use Rattle.kernel.specs.Halves.{wrapped, Sixteen}
+use Rattle.kernel.specs.Inner.Halves.{wrapped, Sixteen}
 use Rattle.kernel.proofs.Lanes.{length-lanewise, getD-lanewise, lanewise-same}
 
 pub product16 : (a b : ℕ) → a < 65536 → b < 65536 → a * b ≤ 4294836225

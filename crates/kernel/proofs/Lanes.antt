@@ -12,7 +12,7 @@ use Rattle.lists.specs.Numbers.{allBelow}
 use Rattle.lists.proofs.Rows.{length-from, getD-from, from-ext}
 use Rattle.lists.proofs.Numbers.{below-at}
 use Rattle.field.proofs.Meanings.{add-modulo, mul-modulo}
-use Rattle.kernel.specs.Lanes.{lanewise, addScaled}
+use Rattle.kernel.specs.Inner.Lanes.{lanewise, addScaled}
 
 module _ (f : ℕ → ℕ → ℕ) (acc : List ℕ) where
   pub length-lanewise : length (lanewise f acc) ≡ length acc

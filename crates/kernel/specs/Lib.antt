@@ -1,3 +1,2 @@
--- What the operations over lanes make of their slices.
-pub mod Lanes
-pub mod Halves
+-- Nothing here is promised to a caller of the library.
+pub mod Inner

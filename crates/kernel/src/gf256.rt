@@ -4,7 +4,7 @@ ghost use Prim.Native.Nat.{_*_, _<_};
 ghost use lib.Bits.{bitXor};
 ghost use lib.ListN.{length, getD};
 ghost use Rattle.field.specs.Bytes.{timesX};
-ghost use Rattle.kernel.specs.Lanes.{lanewise};
+ghost use Rattle.kernel.specs.Inner.Lanes.{lanewise};
 
 // x times acc.
 pub fn multiply_x(acc: &mut [u8])

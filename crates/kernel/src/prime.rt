@@ -5,7 +5,7 @@ ghost use Prim.Native.Nat.{_*_, _/_, _%_, _≤_, _<_};
 ghost use lib.ListN.{length};
 ghost use Rattle.lists.specs.Numbers.{allBelow};
 ghost use Rattle.field.specs.Fields.{add, mul};
-ghost use Rattle.kernel.specs.Lanes.{addScaled};
+ghost use Rattle.kernel.specs.Inner.Lanes.{addScaled};
 
 pub fn add_scaled(p: u16, c: u16, row: &[u8], acc: &mut [u8])
     requires { ⌜ (p ≤ 256) × (c < p) × (length (now row) ≡ length (now acc)) × (allBelow p (now acc) ≡ true) ⌝ }

@@ -4,7 +4,7 @@ ghost use mathlib.Core.Path.{_≡_};
 ghost use Prim.Native.Nat.{_+_, _*_, _/_, _%_, _<_};
 ghost use lib.ListN.{length, getD};
 ghost use Rattle.lists.specs.Rows.{from};
-ghost use Rattle.kernel.specs.Halves.{pairProduct, wrapped, Sixteen, totalOf, restOf};
+ghost use Rattle.kernel.specs.Inner.Halves.{pairProduct, wrapped, Sixteen, totalOf, restOf};
 use std::num::wrapping_add_u16;
 use std::num::wrapping_sub_u16;
 

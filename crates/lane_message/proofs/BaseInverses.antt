@@ -21,11 +21,11 @@ use Rattle.field.proofs.FieldOf.{size-pos, number-sub, number-pow}
 use Rattle.generator.specs.declared.Header.{Header}
 use Rattle.generator.specs.Records.{modulusOf, size, Sound}
 use Rattle.generator.proofs.Sound.{fieldFor, rootFor, root-order}
-use Rattle.interpolation.specs.Polynomials.{baseOf, inversesOf}
+use Rattle.interpolation.specs.Inner.Polynomials.{baseOf, inversesOf}
 use Rattle.interpolation.proofs.Bridge.{baseOf-is}
 use Rattle.interpolation.proofs.Coefficients.{length-baseOf, length-inversesOf, baseOf-below, inversesOf-below}
-use Rattle.node_weights.specs.Rows.{baseInverses}
-use Rattle.lane_message.specs.Rows.{stepRatio}
+use Rattle.node_weights.specs.Inner.Rows.{baseInverses}
+use Rattle.lane_message.specs.Inner.Rows.{stepRatio}
 use Rattle.lane_message.proofs.BaseSteps.{inverse-below}
 
 -- an array of zeros in which the inverses from c on are written, and the last one that was

@@ -19,7 +19,7 @@ use Rattle.algebra.proofs.ShiftedBasis.{shifted, size-base, size-shifted}
 use Rattle.algebra.proofs.Nodes.{node}
 use Rattle.algebra.proofs.Parity.{check}
 use Rattle.field.specs.Fields.{isField, add, mul, inverse}
-use Rattle.field.specs.Sums.{dot}
+use Rattle.field.specs.Inner.Sums.{dot}
 use Rattle.field.specs.Symbols.{Symbol, numbers}
 use Rattle.field.proofs.FieldOf.{fieldOf, size-pos}
 use Rattle.field.proofs.Symbols.{getD-numbers}
@@ -33,14 +33,14 @@ use Rattle.generator.proofs.Sound.{fieldFor, rootFor}
 use Rattle.generator.proofs.Bridge.{encoding-map, checkFrom-is}
 use Rattle.generator.proofs.Messages.{word-message}
 use Rattle.generator.proofs.Recovery.{the-code, lifted, lifted-numbers, length-lifted, message-size, message-below, held}
-use Rattle.interpolation.specs.Lagrange.{scaleAt}
+use Rattle.interpolation.specs.Inner.Lagrange.{scaleAt}
 use Rattle.interpolation.proofs.Bridge.{scaleAt-is, baseOf-is, dot-is}
-use Rattle.node_weights.specs.Rows.{rowPoints, baseInverses, rowTerms}
+use Rattle.node_weights.specs.Inner.Rows.{rowPoints, baseInverses, rowTerms}
 use Rattle.node_weights.proofs.InverseRows.{termsOf, length-terms, term-is}
 use Rattle.node_weights.proofs.Recovering.{row-points}
 use Rattle.spectrum.proofs.Inversion.{times}
 use Rattle.spectrum.proofs.Symbols.{symbol-sum}
-use Rattle.lane_message.specs.Symbols.{onesOf, coefficientSums, symbolFrom}
+use Rattle.lane_message.specs.Inner.Symbols.{onesOf, coefficientSums, symbolFrom}
 
 -- n ones
 ones-is : (p : ℕ) (v : isField p ≡ true) (n : ℕ) → onesOf p n ≡ times (fieldOf p v) n .0

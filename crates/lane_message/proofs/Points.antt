@@ -18,8 +18,8 @@ use Rattle.generator.specs.Shifts.{shifts}
 use Rattle.generator.proofs.Claims.{ours}
 use Rattle.generator.proofs.Shifts.{shifts-length}
 use Rattle.generator.proofs.Sound.{fieldFor, rootFor, root-order}
-use Rattle.interpolation.specs.Points.{pointsOf}
-use Rattle.node_weights.specs.Rows.{rowPoints}
+use Rattle.interpolation.specs.Inner.Points.{pointsOf}
+use Rattle.node_weights.specs.Inner.Rows.{rowPoints}
 
 module _ (h : Header) (s : Sound h) where
   many : length (shifts h) ≡ h .k

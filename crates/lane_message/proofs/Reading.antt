@@ -13,7 +13,7 @@ use Rattle.generator.specs.Records.{size, Sound}
 use Rattle.generator.specs.Shifts.{negative}
 use Rattle.generator.proofs.LaidShifts.{negative-below}
 use Rattle.spectrum.proofs.Arrays.{value-at}
-use Rattle.lane_message.specs.Symbols.{coefficientsOf}
+use Rattle.lane_message.specs.Inner.Symbols.{coefficientsOf}
 
 pub length-coefficients : (h : Header) (spectrum : List ℕ) → length (coefficientsOf h spectrum) ≡ h .k
 unfolding coefficientsOf

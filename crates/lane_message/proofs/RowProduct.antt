@@ -32,13 +32,13 @@ use Rattle.generator.specs.Shifts.{shifts}
 use Rattle.generator.proofs.Sound.{fieldFor, rootFor, root-order}
 use Rattle.generator.proofs.Recovery.{the-code}
 use Rattle.generator.proofs.Shifts.{shifts-length}
-use Rattle.interpolation.specs.Points.{SymbolList}
-use Rattle.interpolation.specs.Polynomials.{productOf}
+use Rattle.interpolation.specs.Inner.Points.{SymbolList}
+use Rattle.interpolation.specs.Inner.Polynomials.{productOf}
 use Rattle.interpolation.proofs.Coefficients.{length-productOf}
 use Rattle.interpolation.proofs.Bridge.{productOf-is}
-use Rattle.node_weights.specs.Rows.{rowPoints}
+use Rattle.node_weights.specs.Inner.Rows.{rowPoints}
 use Rattle.node_weights.proofs.Recovering.{row-points}
-use Rattle.lane_message.specs.Rows.{InRounds, roundPoints, spacedOf}
+use Rattle.lane_message.specs.Inner.Rows.{InRounds, roundPoints, spacedOf}
 use Rattle.lane_message.proofs.Monic.{monic-product, spread, eval-spread}
 
 module _ (h : Header) (s : Sound h) (m : ℕ) (r : InRounds (h .n) (shifts h) (suc m)) where

@@ -13,10 +13,10 @@ use Rattle.generator.specs.declared.Header.{Header}
 use Rattle.generator.specs.Records.{Sound}
 use Rattle.generator.specs.Shifts.{negative}
 use Rattle.generator.specs.Codewords.{checkFrom}
-use Rattle.check_sums.specs.Sums.{checkSums}
-use Rattle.spectrum.specs.Spectrum.{spectrumOf}
+use Rattle.check_sums.specs.Inner.Sums.{checkSums}
+use Rattle.spectrum.specs.Inner.Spectrum.{spectrumOf}
 use Rattle.spectrum.proofs.Arrays.{value-at}
-use Rattle.lane_message.specs.Symbols.{coefficientSums, coefficientsOf}
+use Rattle.lane_message.specs.Inner.Symbols.{coefficientSums, coefficientsOf}
 
 module _ (h : Header) (ws : List ℕ) where
   pub length-spectrum : length (spectrumOf h ws) ≡ h .n

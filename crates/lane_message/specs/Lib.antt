@@ -1,3 +1,2 @@
--- A symbol of a word's message, from the word's sums.
-pub mod Symbols
-pub mod Rows
+-- Nothing here is promised to a caller of the library.
+pub mod Inner

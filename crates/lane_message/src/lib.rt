@@ -9,8 +9,8 @@ ghost use Rattle.lists.specs.Padded.{padded};
 ghost use Rattle.field.specs.Tables.{AreTables};
 ghost use Rattle.generator.specs.Records.{size, Sound};
 ghost use Rattle.refusals.specs.Faults.{staleFault};
-ghost use Rattle.check_sums.specs.Powers.{powersOf};
-ghost use Rattle.lane_message.specs.Symbols.{coefficientsOf, symbolFrom};
+ghost use Rattle.check_sums.specs.Inner.Powers.{powersOf};
+ghost use Rattle.lane_message.specs.Inner.Symbols.{coefficientsOf, symbolFrom};
 
 mod rounds;
 mod rows;

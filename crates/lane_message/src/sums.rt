@@ -8,7 +8,7 @@ ghost use Rattle.lists.specs.Padded.{padded};
 ghost use Rattle.field.specs.Fields.{sizeOf};
 ghost use Rattle.field.specs.Kinds.{modulus, usable};
 ghost use Rattle.generator.specs.Shifts.{negative};
-ghost use Rattle.lane_message.specs.Symbols.{onesOf};
+ghost use Rattle.lane_message.specs.Inner.Symbols.{onesOf};
 use field::Field;
 
 // n ones added up.

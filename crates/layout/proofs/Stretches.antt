@@ -11,7 +11,7 @@ use lib.ListN.{length, getD, take, drop}
 use Rattle.lists.specs.Choice.{pick}
 use Rattle.lists.proofs.Rows.{row-inside}
 use Rattle.layout.specs.Layout.{byRow, held, buffer}
-use Rattle.layout.specs.Filling.{RowsFilled}
+use Rattle.layout.specs.Inner.Filling.{RowsFilled}
 use Rattle.layout.proofs.Lawful.{by-row}
 use Rattle.layout.proofs.Buffers.{length-buffer, held-buffer, held-equal}
 use Rattle.layout.proofs.Places.{held-by-row}

@@ -11,7 +11,7 @@ use Rattle.lists.proofs.Numbers.{below-take, below-drop}
 use Rattle.lists.proofs.Rows.{part-size, part-length}
 use Rattle.layout.specs.Layout.{byRow, byLane, held, rearranged, someLanes}
 use Rattle.layout.specs.Width.{symbolsOf, bytesOf}
-use Rattle.layout.specs.Tiles.{tileSymbols, tileBytes}
+use Rattle.layout.specs.Inner.Tiles.{tileSymbols, tileBytes}
 use Rattle.layout.proofs.Lawful.{by-row, by-lane}
 use Rattle.layout.proofs.Buffers.{held-equal, rearranged-back, held-below, buffer-below}
 use Rattle.layout.proofs.Places.{held-by-lane}

@@ -14,7 +14,7 @@ use Rattle.lists.proofs.Rows.{from-ext, length-from, getD-from}
 use Rattle.lists.proofs.Lanes.{getD-rows, length-rows}
 use Rattle.layout.specs.Layout.{byRow, byLane, held, rearranged}
 use Rattle.layout.specs.Width.{valueFrom, symbolsOf, symbolBytes, bytesOf}
-use Rattle.layout.specs.Tiles.{tileSymbols, tileBytes}
+use Rattle.layout.specs.Inner.Tiles.{tileSymbols, tileBytes}
 use Rattle.layout.proofs.Lawful.{by-row, by-lane}
 use Rattle.layout.proofs.Buffers.{length-buffer, held-buffer, held-equal, rearranged-back}
 use Rattle.layout.proofs.Places.{held-by-row, held-by-lane}

@@ -1,5 +1,4 @@
 -- Buffers of rows and lanes, and symbols of one byte or more.
 pub mod Layout
-pub mod Filling
 pub mod Width
-pub mod Tiles
+pub mod Inner

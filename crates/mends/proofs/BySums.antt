@@ -23,11 +23,11 @@ use Rattle.field.proofs.Bounds.{power-below}
 use Rattle.generator.specs.declared.Header.{Header}
 use Rattle.generator.specs.Records.{modulusOf, size, Sound}
 use Rattle.generator.specs.Codewords.{checkFrom, isWord}
-use Rattle.check_sums.specs.Sums.{checkSums}
+use Rattle.check_sums.specs.Inner.Sums.{checkSums}
 use Rattle.check_sums.proofs.OneLane.{length-sums}
 use Rattle.refusals.specs.Accepted.{IsLane}
 use Rattle.mends.specs.Mends.{mendAt, canMend, mendNodes, mendSymbols}
-use Rattle.mends.specs.BySums.{firstOff, goesUp, upNodes, mendedAt, LaneSums}
+use Rattle.mends.specs.Inner.BySums.{firstOff, goesUp, upNodes, mendedAt, LaneSums}
 use Rattle.mends.proofs.Powers.{rootPower}
 use Rattle.mends.proofs.Geometric.{sum-below, GoesUp, amount-below, up-word, word-up, word-symbol}
 use Rattle.mends.proofs.Meaning.{some-sums, found-word, word-found, nodes-of}

@@ -15,7 +15,7 @@ use Rattle.generator.specs.declared.Header.{Header}
 use Rattle.generator.specs.Records.{size, width}
 use Rattle.generator.specs.Codewords.{isWord}
 use Rattle.mends.specs.Mends.{mendNodes, mendSymbols}
-use Rattle.mends.specs.BySums.{LaneSums, mendedAt}
+use Rattle.mends.specs.Inner.BySums.{LaneSums, mendedAt}
 use Rattle.mends.specs.Promise.{inFront}
 use Rattle.mends.proofs.BySums.{mended-below}
 use Rattle.mends.proofs.Meaning.{none-of}

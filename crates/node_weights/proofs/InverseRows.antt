@@ -16,10 +16,10 @@ use Rattle.field.specs.Fields.{isField, sizeOf, mul, inverse}
 use Rattle.field.specs.Symbols.{Symbol, numbers}
 use Rattle.field.proofs.Symbols.{length-numbers, getD-numbers}
 use Rattle.field.proofs.FieldOf.{fieldOf, size-pos}
-use Rattle.field.specs.Sums.{dot}
-use Rattle.interpolation.specs.Lagrange.{scalesOf}
-use Rattle.interpolation.specs.Polynomials.{productOf, quotientOf, termwise, inversesOf}
-use Rattle.node_weights.specs.Rows.{weightOf, weightsOf}
+use Rattle.field.specs.Inner.Sums.{dot}
+use Rattle.interpolation.specs.Inner.Lagrange.{scalesOf}
+use Rattle.interpolation.specs.Inner.Polynomials.{productOf, quotientOf, termwise, inversesOf}
+use Rattle.node_weights.specs.Inner.Rows.{weightOf, weightsOf}
 use Rattle.interpolation.proofs.Values.{getD-scales}
 use Rattle.interpolation.proofs.Coefficients.{length-termwise, getD-termwise, length-inversesOf}
 use Rattle.interpolation.proofs.Bridge.{scaleAt-is, others-is, dot-is}

@@ -19,10 +19,10 @@ use Rattle.generator.specs.Claims.{areNodes}
 use Rattle.generator.proofs.Shifts.{shifts-length}
 use Rattle.generator.proofs.Recovery.{nodes-places}
 use Rattle.node_weights.specs.declared.Basis.{Basis}
-use Rattle.interpolation.specs.Points.{SymbolList, pointsOf}
-use Rattle.interpolation.specs.Lagrange.{scalesOf}
-use Rattle.interpolation.specs.Polynomials.{productOf, baseOf, quotientOf, termwise, inversesOf}
-use Rattle.node_weights.specs.Rows.{basisOf, rowPoints, baseInverses, rowTerms}
+use Rattle.interpolation.specs.Inner.Points.{SymbolList, pointsOf}
+use Rattle.interpolation.specs.Inner.Lagrange.{scalesOf}
+use Rattle.interpolation.specs.Inner.Polynomials.{productOf, baseOf, quotientOf, termwise, inversesOf}
+use Rattle.node_weights.specs.Inner.Rows.{basisOf, rowPoints, baseInverses, rowTerms}
 use Rattle.interpolation.proofs.Points.{length-points, points-symbols}
 use Rattle.interpolation.proofs.Values.{length-scales, getD-scales, scaleAt-below}
 use Rattle.interpolation.proofs.Coefficients.{length-productOf, productOf-below, length-baseOf, baseOf-below, length-quotientOf, quotientOf-below, length-termwise, termwise-below, length-inversesOf, inversesOf-below}

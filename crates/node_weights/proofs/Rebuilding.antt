@@ -23,9 +23,9 @@ use Rattle.generator.proofs.Sound.{fieldFor, rootFor}
 use Rattle.generator.proofs.Shifts.{shifts-length}
 use Rattle.generator.proofs.Bridge.{nodeOf-is}
 use Rattle.generator.proofs.Recovery.{the-code, nodes-places, lifted, length-lifted, message-size}
-use Rattle.node_weights.specs.Weights.{Rebuilds}
-use Rattle.interpolation.specs.Points.{pointsOf}
-use Rattle.interpolation.specs.Lagrange.{basisAt, basisValues}
+use Rattle.node_weights.specs.Inner.Weights.{Rebuilds}
+use Rattle.interpolation.specs.Inner.Points.{pointsOf}
+use Rattle.interpolation.specs.Inner.Lagrange.{basisAt, basisValues}
 use Rattle.interpolation.proofs.Values.{length-values, getD-values}
 use Rattle.interpolation.proofs.Bridge.{pointsOf-is, basisAt-is}
 use Rattle.node_weights.proofs.Weights.{size-points, heldBy, weights-for}

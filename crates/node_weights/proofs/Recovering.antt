@@ -23,11 +23,11 @@ use Rattle.generator.specs.Shifts.{shifts}
 use Rattle.generator.specs.Claims.{areNodes}
 use Rattle.generator.proofs.Sound.{fieldFor, rootFor}
 use Rattle.generator.proofs.Recovery.{the-code, shifts-are-places, nodes-places, lifted, length-lifted, message-size}
-use Rattle.node_weights.specs.Weights.{Recovers}
-use Rattle.interpolation.specs.Points.{pointsOf}
-use Rattle.interpolation.specs.Lagrange.{scalesOf}
-use Rattle.interpolation.specs.Polynomials.{productOf, baseOf}
-use Rattle.node_weights.specs.Rows.{rowPoints, baseInverses, rowTerms, weightOf, weightsOf}
+use Rattle.node_weights.specs.Inner.Weights.{Recovers}
+use Rattle.interpolation.specs.Inner.Points.{pointsOf}
+use Rattle.interpolation.specs.Inner.Lagrange.{scalesOf}
+use Rattle.interpolation.specs.Inner.Polynomials.{productOf, baseOf}
+use Rattle.node_weights.specs.Inner.Rows.{rowPoints, baseInverses, rowTerms, weightOf, weightsOf}
 use Rattle.interpolation.proofs.Bridge.{pointsOf-is, baseOf-is}
 use Rattle.node_weights.proofs.Weights.{size-points, heldBy, weights-for}
 use Rattle.node_weights.proofs.Rebuilding.{node-points}

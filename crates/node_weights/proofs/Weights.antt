@@ -20,11 +20,11 @@ use Rattle.generator.specs.Shifts.{shifts}
 use Rattle.generator.specs.Claims.{isMessage, areNodes, atNodes}
 use Rattle.generator.proofs.Sound.{fieldFor, rootFor}
 use Rattle.generator.proofs.Recovery.{nodes-places, lifted, lifted-numbers, length-lifted, message-size, message-below, held}
-use Rattle.field.specs.Sums.{dot}
-use Rattle.interpolation.specs.Points.{pointsOf}
+use Rattle.field.specs.Inner.Sums.{dot}
+use Rattle.interpolation.specs.Inner.Points.{pointsOf}
 use Rattle.interpolation.proofs.Points.{length-points}
 use Rattle.interpolation.proofs.Bridge.{dot-is}
-use Rattle.node_weights.specs.Weights.{WeightsFor}
+use Rattle.node_weights.specs.Inner.Weights.{WeightsFor}
 
 module _ (h : Header) (s : Sound h) (js : List ℕ) (nodes : areNodes h js ≡ true) where
   -- the nodes have k points

@@ -1,4 +1,2 @@
--- What weights for listed nodes are good for.
-pub mod Weights
--- What the functions that compute them return.
-pub mod Rows
+-- Nothing here is promised to a caller of the library.
+pub mod Inner

@@ -10,7 +10,7 @@ use Rattle.layout.specs.Width.{symbolsOf, bytesOf}
 use Rattle.layout.proofs.Lawful.{by-row, by-lane}
 use Rattle.layout.proofs.Buffers.{getD-lane, length-lane, buffer-ext, buffer-held}
 use Rattle.layout.proofs.Places.{share-by-lane}
-use Rattle.field.specs.Sums.{dot}
+use Rattle.field.specs.Inner.Sums.{dot}
 use Rattle.generator.specs.declared.Header.{Header}
 use Rattle.generator.specs.Records.{modulusOf, width}
 use Rattle.generator.specs.Claims.{areNodes}
@@ -19,7 +19,7 @@ use Rattle.blocks.specs.Blocks.{MessageFor}
 use Rattle.blocks.specs.Bytes.{RecoveredBytes}
 use Rattle.blocks.proofs.Messages.{lane-message, some-buffer}
 use Rattle.interpolation.proofs.PaddedSums.{dot-padded}
-use Rattle.recover_matrix.specs.Inverse.{inverseRow}
+use Rattle.recover_matrix.specs.Inner.Inverse.{inverseRow}
 use Rattle.recover_matrix.proofs.Rows.{row-recovers, length-row}
 
 -- the products are the message

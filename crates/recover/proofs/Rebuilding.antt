@@ -5,13 +5,13 @@ use Prim.Native.Nat.{ℕ, _<_}
 use native.Mathlib.Omega.{arith}
 use Rattle.lists.proofs.Rows.{from-ext}
 use Rattle.layout.specs.Layout.{Arrangement, byRow, laneOf}
-use Rattle.field.specs.Sums.{dot}
+use Rattle.field.specs.Inner.Sums.{dot}
 use Rattle.generator.specs.declared.Header.{Header}
 use Rattle.generator.specs.Records.{modulusOf}
 use Rattle.blocks.specs.Blocks.{shareAt, shareOf, MessageFor}
 use Rattle.blocks.proofs.Messages.{lane-message}
-use Rattle.row_sums.specs.Combined.{combined}
-use Rattle.node_weights.specs.Weights.{Rebuilds}
+use Rattle.row_sums.specs.Inner.Combined.{combined}
+use Rattle.node_weights.specs.Inner.Weights.{Rebuilds}
 
 -- each lane's sum is what the node holds for that lane's message
 pub rebuilt : {y : Arrangement} {h : Header} {l : ℕ} {nodes shares m : List ℕ} → MessageFor y h l nodes shares m → (target : ℕ) (ws : List ℕ) → Rebuilds h nodes target ws → combined y (modulusOf h) (h .k) l ws shares ≡ shareOf h l m target

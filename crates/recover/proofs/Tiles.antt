@@ -14,15 +14,15 @@ use Rattle.layout.proofs.Lawful.{by-row, by-lane}
 use Rattle.layout.proofs.Places.{share-by-lane}
 use Rattle.layout.proofs.Runs.{lane-some}
 use Rattle.tiles.proofs.Parts.{from-part}
-use Rattle.field.specs.Sums.{dot}
+use Rattle.field.specs.Inner.Sums.{dot}
 use Rattle.generator.specs.declared.Header.{Header}
 use Rattle.generator.specs.Records.{modulusOf, width, Sound}
 use Rattle.generator.proofs.Widths.{width-range}
 use Rattle.refusals.specs.Accepted.{SymbolRows, SymbolBytes, ListedShares}
 use Rattle.blocks.specs.Bytes.{RebuiltBytes}
 use Rattle.blocks.proofs.Messages.{some-buffer}
-use Rattle.row_sums.specs.Combined.{combined}
-use Rattle.node_weights.specs.Weights.{Rebuilds}
+use Rattle.row_sums.specs.Inner.Combined.{combined}
+use Rattle.node_weights.specs.Inner.Weights.{Rebuilds}
 use Rattle.recover.proofs.Rebuilding.{rebuilt}
 
 module _ (p rows l : ℕ) (s : List ℕ) (t c : ℕ) where

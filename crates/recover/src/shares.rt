@@ -8,7 +8,7 @@ ghost use Rattle.layout.specs.Layout.{byRow, byLane, someLanes};
 ghost use Rattle.layout.specs.Width.{symbolsOf, bytesOf};
 ghost use Rattle.generator.specs.Records.{modulusOf, size};
 ghost use Rattle.refusals.specs.Accepted.{SymbolBytes};
-ghost use Rattle.row_sums.specs.Combined.{combined};
+ghost use Rattle.row_sums.specs.Inner.Combined.{combined};
 use generator::Header;
 
 // Sums of `count` lanes of the listed shares times the weights, from lane `first` on.

@@ -11,7 +11,7 @@ use Rattle.lists.proofs.Rows.{length-from, getD-from}
 use Rattle.field.specs.Fields.{isField, sizeOf, mul}
 use Rattle.field.proofs.Bounds.{mul-below}
 use Rattle.field.proofs.FieldOf.{size-pos}
-use Rattle.recover_matrix.specs.Inverse.{scaledColumn}
+use Rattle.recover_matrix.specs.Inner.Inverse.{scaledColumn}
 
 pub length-column : (p scale : ℕ) (ds : List ℕ) (r : ℕ) (sums : List ℕ) → length (scaledColumn p scale ds r sums) ≡ length ds
 unfolding scaledColumn

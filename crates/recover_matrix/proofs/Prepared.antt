@@ -12,18 +12,18 @@ use Rattle.layout.specs.Width.{symbolsOf, bytesOf}
 use Rattle.layout.proofs.Lawful.{by-row}
 use Rattle.layout.proofs.Buffers.{buffer-ext}
 use Rattle.layout.proofs.Widths.{symbols-bytes}
-use Rattle.field.specs.Sums.{dot}
+use Rattle.field.specs.Inner.Sums.{dot}
 use Rattle.generator.specs.declared.Header.{Header}
 use Rattle.generator.specs.Records.{modulusOf, size, Sound}
-use Rattle.interpolation.specs.Polynomials.{quotientOf}
+use Rattle.interpolation.specs.Inner.Polynomials.{quotientOf}
 use Rattle.node_weights.specs.declared.Setup.{Setup}
-use Rattle.node_weights.specs.Rows.{rowPoints, setupOf, rowTerms}
+use Rattle.node_weights.specs.Inner.Rows.{rowPoints, setupOf, rowTerms}
 use Rattle.node_weights.proofs.InverseRows.{length-weightsOf}
 use Rattle.node_weights.proofs.Parts.{Symbols, Parts, parts, node-symbols, row-symbols}
-use Rattle.tile_products.specs.Matrices.{Begun}
+use Rattle.tile_products.specs.Inner.Matrices.{Begun}
 use Rattle.block_products.specs.declared.Product.{Product}
-use Rattle.block_products.specs.Ways.{sideOf, resultBytes, laneSum}
-use Rattle.recover_matrix.specs.Inverse.{nodePoints, inverseRow, PreparedNodes, preparedRow, preparedSums, scaledColumn, rowProduct}
+use Rattle.block_products.specs.Inner.Ways.{sideOf, resultBytes, laneSum}
+use Rattle.recover_matrix.specs.Inner.Inverse.{nodePoints, inverseRow, PreparedNodes, preparedRow, preparedSums, scaledColumn, rowProduct}
 use Rattle.recover_matrix.proofs.Rows.{sumsOf, sums-below, columns-rows}
 
 -- the sums as they are resultBytes

@@ -7,7 +7,7 @@ use Rattle.generator.specs.declared.Header.{Header}
 use Rattle.generator.specs.Records.{width}
 use Rattle.generator.proofs.Widths.{width-range}
 use Rattle.tile_products.proofs.Fitting.{lists-fit}
-use Rattle.recover_matrix.specs.Inverse.{ListRoom}
+use Rattle.recover_matrix.specs.Inner.Inverse.{ListRoom}
 
 -- room for the lists and the squares of at most so many rows, in groups of four
 pub square-room : (h : Header) (groups most : ℕ) {w lists counts terms sums : ℕ} → w ≡ width h → h .k ≤ most → most ≤ 4 * groups → lists ≡ most * (8 * groups) → counts ≡ most * 8 → terms ≡ 2 * most * most → sums ≡ 2 * most * most → ListRoom (h .k) lists counts × (w * h .k * h .k ≤ terms) × (w * h .k * h .k ≤ sums)

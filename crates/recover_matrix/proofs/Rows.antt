@@ -18,21 +18,21 @@ use Rattle.layout.proofs.Lawful.{by-row}
 use Rattle.layout.proofs.Buffers.{length-lane, getD-lane, held-buffer, buffer-below}
 use Rattle.layout.proofs.Places.{held-by-row, held-by-lane}
 use Rattle.field.specs.Fields.{mul}
-use Rattle.field.specs.Sums.{dot}
+use Rattle.field.specs.Inner.Sums.{dot}
 use Rattle.field.proofs.Sums.{dot-below}
 use Rattle.generator.specs.declared.Header.{Header}
 use Rattle.generator.specs.Records.{modulusOf, size, Sound}
 use Rattle.generator.specs.Claims.{areNodes}
-use Rattle.interpolation.specs.Lagrange.{scalesOf}
-use Rattle.interpolation.specs.Polynomials.{productOf, quotientOf}
+use Rattle.interpolation.specs.Inner.Lagrange.{scalesOf}
+use Rattle.interpolation.specs.Inner.Polynomials.{productOf, quotientOf}
 use Rattle.interpolation.proofs.Coefficients.{length-quotientOf, quotientOf-below, length-termwise}
-use Rattle.node_weights.specs.Rows.{basisOf, rowPoints, rowTerms, weightOf, weightsOf}
-use Rattle.node_weights.specs.Weights.{Recovers}
+use Rattle.node_weights.specs.Inner.Rows.{basisOf, rowPoints, rowTerms, weightOf, weightsOf}
+use Rattle.node_weights.specs.Inner.Weights.{Recovers}
 use Rattle.node_weights.proofs.InverseRows.{length-weightsOf}
 use Rattle.node_weights.proofs.Parts.{parts, node-symbols, row-symbols, base-symbols, term-symbols}
 use Rattle.node_weights.proofs.Recovering.{recovers}
-use Rattle.tile_products.specs.Matrices.{Begun}
-use Rattle.recover_matrix.specs.Inverse.{nodePoints, inverseRow, scaledColumn}
+use Rattle.tile_products.specs.Inner.Matrices.{Begun}
+use Rattle.recover_matrix.specs.Inner.Inverse.{nodePoints, inverseRow, scaledColumn}
 
 -- a lane of rows that stand one after the other
 row-lane : (k : ℕ) (g : ℕ → List ℕ) → ((r : ℕ) → length (g r) ≡ k) → (r : ℕ) → r < k → laneOf byLane k k r (rowsFrom g 0 k) ≡ g r

@@ -1,2 +1,2 @@
--- The inverse of the encoding at listed nodes.
-pub mod Inverse
+-- Nothing here is promised to a caller of the library.
+pub mod Inner

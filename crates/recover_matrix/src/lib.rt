@@ -9,12 +9,12 @@ ghost use Rattle.field.specs.Fields.{sizeOf};
 ghost use Rattle.field.specs.Kinds.{modulus};
 ghost use Rattle.field.specs.Tables.{AreTables};
 ghost use Rattle.generator.specs.Records.{modulusOf, width, Sound};
-ghost use Rattle.interpolation.specs.Points.{SymbolList};
-ghost use Rattle.interpolation.specs.Polynomials.{quotientOf};
-ghost use Rattle.node_weights.specs.Rows.{basisOf, rowPoints, baseInverses, rowTerms};
-ghost use Rattle.tile_products.specs.Products.{Codes};
-ghost use Rattle.tile_products.specs.Matrices.{Begun};
-ghost use Rattle.recover_matrix.specs.Inverse.{PreparedNodes, preparedRow, preparedSums, scaledColumn, rowProduct, ListRoom, SumBytes};
+ghost use Rattle.interpolation.specs.Inner.Points.{SymbolList};
+ghost use Rattle.interpolation.specs.Inner.Polynomials.{quotientOf};
+ghost use Rattle.node_weights.specs.Inner.Rows.{basisOf, rowPoints, baseInverses, rowTerms};
+ghost use Rattle.tile_products.specs.Inner.Products.{Codes};
+ghost use Rattle.tile_products.specs.Inner.Matrices.{Begun};
+ghost use Rattle.recover_matrix.specs.Inner.Inverse.{PreparedNodes, preparedRow, preparedSums, scaledColumn, rowProduct, ListRoom, SumBytes};
 
 mod message;
 

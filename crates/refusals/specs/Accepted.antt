@@ -12,7 +12,7 @@ use Rattle.generator.specs.Messages.{messageOf}
 use Rattle.generator.specs.Claims.{areNodes}
 use Rattle.layout.specs.Layout.{laneOf, shareLayout}
 use Rattle.layout.specs.Width.{symbolsOf}
-use Rattle.layout.specs.Tiles.{tileSymbols}
+use Rattle.layout.specs.Inner.Tiles.{tileSymbols}
 
 -- rows of symbols in l lanes, over a sound header
 pub record SymbolRows (h : Header) (rows l : ℕ) (s : List ℕ) : Type 0 where

@@ -10,9 +10,9 @@ use Rattle.lists.proofs.Front.{drop-next}
 use Rattle.lists.proofs.Rows.{getD-part}
 use Rattle.layout.proofs.Places.{held-by-row}
 use Rattle.field.proofs.Xor.{xor-assoc}
-use Rattle.kernel.specs.Lanes.{lanewise}
+use Rattle.kernel.specs.Inner.Lanes.{lanewise}
 use Rattle.kernel.proofs.Lanes.{lanewise-same, lanewise-ext, lanewise-twice}
-use Rattle.row_sums.specs.Digits.{rowAt, xorSum, rowsAdded}
+use Rattle.row_sums.specs.Inner.Digits.{rowAt, xorSum, rowsAdded}
 
 module _ (l : ℕ) (s : List ℕ) where
   -- lane t of the sum of listed rows

@@ -11,14 +11,14 @@ use Rattle.lists.specs.Rows.{from}
 use Rattle.lists.proofs.Rows.{from-ext}
 use Rattle.layout.specs.Layout.{Arrangement, byRow, laneOf}
 use Rattle.layout.specs.Width.{bytesOf}
-use Rattle.layout.specs.Tiles.{tileSymbols, tileBytes}
+use Rattle.layout.specs.Inner.Tiles.{tileSymbols, tileBytes}
 use Rattle.layout.proofs.Buffers.{length-lane}
 use Rattle.layout.proofs.Tiles.{length-tile-symbols}
 use Rattle.field.specs.Fields.{add, mul}
-use Rattle.field.specs.Sums.{dot}
+use Rattle.field.specs.Inner.Sums.{dot}
 use Rattle.generator.specs.declared.Header.{Header}
 use Rattle.generator.specs.Records.{modulusOf, size, width, Sound}
-use Rattle.row_sums.specs.Combined.{combined, combinedTile, combinedBytes, WeightedRows}
+use Rattle.row_sums.specs.Inner.Combined.{combined, combinedTile, combinedBytes, WeightedRows}
 
 -- symbols of a sound header's field in a tile and in an array of weights can be combined
 pub rows-ready : {h : Header} {rows l : ℕ} {ws s : List ℕ} {out : ℕ} → Sound h → rows ≤ 255 → l ≤ 4096 → length ws ≡ 255 → allBelow (size h) ws ≡ true → length s ≡ width h * rows * l → allBelow (size h) (tileSymbols (width h) rows l s) ≡ true → out ≡ width h * l → WeightedRows (h .field) rows l ws s out

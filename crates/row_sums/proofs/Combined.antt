@@ -18,14 +18,14 @@ use Rattle.layout.proofs.Lawful.{by-row}
 use Rattle.layout.proofs.Buffers.{length-lane, getD-lane, lane-symbols}
 use Rattle.layout.proofs.Places.{held-by-row}
 use Rattle.field.specs.Fields.{isField, sizeOf, add, mul}
-use Rattle.field.specs.Sums.{dot}
+use Rattle.field.specs.Inner.Sums.{dot}
 use Rattle.field.proofs.BothKinds.{arithmetic}
 use Rattle.field.proofs.Bounds.{add-below, mul-below}
 use Rattle.field.proofs.FieldOf.{size-pos}
 use Rattle.field.proofs.Sums.{dot-below}
-use Rattle.kernel.specs.Lanes.{addScaled}
+use Rattle.kernel.specs.Inner.Lanes.{addScaled}
 use Rattle.kernel.proofs.Lanes.{length-lanewise, getD-lanewise}
-use Rattle.row_sums.specs.Combined.{combined, Weighted}
+use Rattle.row_sums.specs.Inner.Combined.{combined, Weighted}
 
 -- another row to write, of the same length
 pub other-row : {q rows l : ℕ} {ws s : List ℕ} {n : ℕ} → Weighted q rows l ws s n → (m : ℕ) → m ≡ l → Weighted q rows l ws s m

@@ -2,7 +2,7 @@
 use mathlib.Core.Path.{_≡_, ap, ap₂, _∙_}
 use Prim.Native.Nat.{ℕ, _+_, _*_, _/_, _%_, _≤_, _<_}
 use native.Mathlib.Omega.{arith}
-use Rattle.kernel.specs.Halves.{totalOf, restOf}
+use Rattle.kernel.specs.Inner.Halves.{totalOf, restOf}
 
 -- the sum of n numbers below 65536: a is the sum modulo 65536, b the sum of their upper bytes
 pub record Half (n a b whole : ℕ) : Type 0 where

@@ -11,11 +11,11 @@ use Rattle.lists.specs.Counting.{passingFrom}
 use Rattle.lists.specs.Rows.{from}
 use Rattle.field.specs.Bytes.{timesX, product}
 use Rattle.field.specs.Fields.{add, mul}
-use Rattle.field.specs.Sums.{dot}
+use Rattle.field.specs.Inner.Sums.{dot}
 use Rattle.field.proofs.Xor.{xor-swap}
 use Rattle.field.proofs.ByteSteps.{timesX-low}
 use Rattle.field.proofs.Product.{timesX-additive, product-byte, product-zero, product-one, product-right, product-timesX}
-use Rattle.row_sums.specs.Digits.{xorSum}
+use Rattle.row_sums.specs.Inner.Digits.{xorSum}
 
 -- the product with a digit
 product-digit : (a d : ℕ) → a < 256 → d < 2 → product a d ≡ a * d

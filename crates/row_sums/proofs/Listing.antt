@@ -14,8 +14,8 @@ use Rattle.lists.specs.Counting.{passingFrom}
 use Rattle.lists.proofs.All.{All-at}
 use Rattle.lists.proofs.Passing.{passing-within}
 use Rattle.lists.proofs.Rows.{sub-next, sub-end, row-inside}
-use Rattle.row_sums.specs.Combined.{Weighted}
-use Rattle.row_sums.specs.Digits.{rowsWith, ListedRows}
+use Rattle.row_sums.specs.Inner.Combined.{Weighted}
+use Rattle.row_sums.specs.Inner.Digits.{rowsWith, ListedRows}
 
 -- whether the weight of row i has the digit
 abbrev pub has : ℕ → List ℕ → ℕ → Bool

@@ -11,8 +11,8 @@ use Rattle.lists.specs.Rows.{from}
 use Rattle.lists.proofs.Rows.{sub-next, sub-end}
 use Rattle.layout.proofs.Places.{held-by-row}
 use Rattle.field.proofs.Xor.{xor-assoc}
-use Rattle.kernel.specs.Lanes.{lanewise}
-use Rattle.row_sums.specs.Digits.{rowsWith, rowAt, xorSum, rowsAdded}
+use Rattle.kernel.specs.Inner.Lanes.{lanewise}
+use Rattle.row_sums.specs.Inner.Digits.{rowsWith, rowAt, xorSum, rowsAdded}
 use Rattle.row_sums.proofs.Horner.{sum-front}
 use Rattle.row_sums.proofs.Listing.{has}
 

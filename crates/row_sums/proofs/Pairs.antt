@@ -11,9 +11,9 @@ use lib.Seq.{getD-set-same, getD-set-other, getD-take, getD-drop, length-take-le
 use Rattle.lists.specs.Rows.{from}
 use Rattle.lists.proofs.Parts.{from-at}
 use Rattle.lists.proofs.Rows.{getD-from}
-use Rattle.layout.specs.Tiles.{tileBytes}
+use Rattle.layout.specs.Inner.Tiles.{tileBytes}
 use Rattle.layout.proofs.Tiles.{tile-pair}
-use Rattle.row_sums.specs.WideSums.{pairsPut}
+use Rattle.row_sums.specs.Inner.WideSums.{pairsPut}
 
 pub length-pairs : (l t : ℕ) (xs acc : List ℕ) → length (pairsPut l t xs acc) ≡ length acc
 unfolding pairsPut

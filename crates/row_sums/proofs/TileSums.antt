@@ -7,15 +7,15 @@ use lib.ListN.{length}
 use Rattle.lists.proofs.Rows.{length-from}
 use Rattle.layout.specs.Layout.{byRow, byLane, laneOf, rearranged}
 use Rattle.layout.specs.Width.{bytesOf}
-use Rattle.layout.specs.Tiles.{tileSymbols, tileBytes}
+use Rattle.layout.specs.Inner.Tiles.{tileSymbols, tileBytes}
 use Rattle.layout.proofs.Tiles.{length-tile-bytes, tile-symbols-one, tile-bytes-one, row-bytes}
 use Rattle.layout.proofs.Widths.{bytes-one}
 use Rattle.field.specs.declared.Field.{Field}
 use Rattle.field.specs.Fields.{sizeOf}
-use Rattle.field.specs.Sums.{dot}
+use Rattle.field.specs.Inner.Sums.{dot}
 use Rattle.field.specs.Widths.{bytesFor}
-use Rattle.row_sums.specs.Combined.{combined, combinedTile, combinedBytes, Weighted, TileRows, WeightedRows}
-use Rattle.row_sums.specs.WideSums.{WideRows}
+use Rattle.row_sums.specs.Inner.Combined.{combined, combinedTile, combinedBytes, Weighted, TileRows, WeightedRows}
+use Rattle.row_sums.specs.Inner.WideSums.{WideRows}
 use Rattle.row_sums.proofs.Combined.{other-row}
 
 pub length-combined : (p rows l : ℕ) (ws s : List ℕ) → length (combined byRow p rows l ws s) ≡ l

@@ -17,10 +17,10 @@ use Rattle.layout.specs.Layout.{byRow, held, laneOf}
 use Rattle.layout.proofs.Lawful.{by-row}
 use Rattle.layout.proofs.Buffers.{held-below}
 use Rattle.field.specs.Bytes.{timesX}
-use Rattle.field.specs.Sums.{dot}
+use Rattle.field.specs.Inner.Sums.{dot}
 use Rattle.kernel.proofs.Lanes.{lanewise-twice, lanewise-from}
-use Rattle.row_sums.specs.Combined.{combined, Weighted}
-use Rattle.row_sums.specs.Digits.{rowsWith, rowAt, xorSum, rowsAdded, multiplied}
+use Rattle.row_sums.specs.Inner.Combined.{combined, Weighted}
+use Rattle.row_sums.specs.Inner.Digits.{rowsWith, rowAt, xorSum, rowsAdded, multiplied}
 use Rattle.row_sums.proofs.Horner.{dot-none, dot-halved}
 
 -- a sum over the first rows by their weights, as a list by index

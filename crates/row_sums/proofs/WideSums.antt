@@ -13,16 +13,16 @@ use Rattle.lists.proofs.Fill.{length-zeros}
 use Rattle.lists.proofs.Rows.{getD-part, from-ext, row-after, row-inside}
 use Rattle.layout.specs.Layout.{byRow, laneOf}
 use Rattle.layout.specs.Width.{valueFrom}
-use Rattle.layout.specs.Tiles.{tileSymbols}
+use Rattle.layout.specs.Inner.Tiles.{tileSymbols}
 use Rattle.layout.proofs.Buffers.{length-lane, getD-lane}
 use Rattle.layout.proofs.Places.{held-by-row}
 use Rattle.layout.proofs.Tiles.{held-tile-symbols}
 use Rattle.field.specs.Fields.{mul}
-use Rattle.field.specs.Sums.{dot}
+use Rattle.field.specs.Inner.Sums.{dot}
 use Rattle.field.proofs.Meanings.{add-modulo, mul-modulo}
-use Rattle.kernel.specs.Halves.{pairProduct, wrapped, Sixteen, restOf}
+use Rattle.kernel.specs.Inner.Halves.{pairProduct, wrapped, Sixteen, restOf}
 use Rattle.kernel.proofs.Halves.{product16, getD-wrapped, sixteen-wrapped}
-use Rattle.row_sums.specs.WideSums.{productSum, WideRows, wideSum}
+use Rattle.row_sums.specs.Inner.WideSums.{productSum, WideRows, wideSum}
 use Rattle.row_sums.proofs.Combined.{getD-zeros}
 use Rattle.row_sums.proofs.Halves.{Halves, halves-none, halves-more, halves-rest}
 

@@ -1,4 +1,2 @@
--- Sums of rows times weights, and the rows of a digit.
-pub mod Combined
-pub mod Digits
-pub mod WideSums
+-- Nothing here is promised to a caller of the library.
+pub mod Inner

@@ -4,8 +4,8 @@ ghost use mathlib.Core.Path.{_≡_};
 ghost use Prim.Native.Nat.{_+_, _-_, _*_, _%_, _≤_, _<_};
 ghost use lib.ListN.{length, getD, take, drop};
 ghost use Rattle.layout.specs.Layout.{byRow};
-ghost use Rattle.row_sums.specs.Combined.{Weighted, combined};
-ghost use Rattle.row_sums.specs.Digits.{rowsWith, xorSum, rowsAdded, multiplied, ListedRows, Started};
+ghost use Rattle.row_sums.specs.Inner.Combined.{Weighted, combined};
+ghost use Rattle.row_sums.specs.Inner.Digits.{rowsWith, xorSum, rowsAdded, multiplied, ListedRows, Started};
 use kernel::gf256;
 
 // Lists those of the first rows whose weight has the digit, and gives how many they are. Each row is written after those listed,

@@ -6,7 +6,7 @@ ghost use lib.ListN.{length};
 ghost use Rattle.field.specs.Kinds.{modulus};
 ghost use Rattle.field.specs.Primes.{isPrime};
 ghost use Rattle.field.specs.Widths.{bytesFor};
-ghost use Rattle.row_sums.specs.Combined.{TileRows, WeightedRows, combinedTile, combinedBytes};
+ghost use Rattle.row_sums.specs.Inner.Combined.{TileRows, WeightedRows, combinedTile, combinedBytes};
 use field::Field;
 
 mod gf256;

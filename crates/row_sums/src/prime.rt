@@ -5,7 +5,7 @@ ghost use Prim.Native.Nat.{_≤_};
 ghost use lib.ListN.{length};
 ghost use Rattle.field.specs.Primes.{isPrime};
 ghost use Rattle.layout.specs.Layout.{byRow};
-ghost use Rattle.row_sums.specs.Combined.{Weighted, combined};
+ghost use Rattle.row_sums.specs.Inner.Combined.{Weighted, combined};
 use kernel::prime;
 
 // Each row times its weight is added, from the first row to the last: where the rows go down, the compiler's test for overlap

@@ -6,9 +6,9 @@ ghost use lib.ListN.{length};
 ghost use Rattle.lists.specs.Padded.{zeros};
 ghost use Rattle.lists.specs.Rows.{from};
 ghost use Rattle.layout.specs.Layout.{byRow};
-ghost use Rattle.layout.specs.Tiles.{tileSymbols, tileBytes};
-ghost use Rattle.row_sums.specs.Combined.{combined};
-ghost use Rattle.row_sums.specs.WideSums.{WideRows, wideSum, pairsPut};
+ghost use Rattle.layout.specs.Inner.Tiles.{tileSymbols, tileBytes};
+ghost use Rattle.row_sums.specs.Inner.Combined.{combined};
+ghost use Rattle.row_sums.specs.Inner.WideSums.{WideRows, wideSum, pairsPut};
 use kernel::wide;
 
 fn sums() -> [u16; 16]

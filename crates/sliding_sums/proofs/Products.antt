@@ -7,9 +7,9 @@ use native.Mathlib.Omega.{arith}
 use lib.ListN.{length, getD, drop}
 use lib.Seq.{drop-length}
 use Rattle.lists.proofs.Front.{drop-next}
-use Rattle.field.specs.Sums.{dot}
+use Rattle.field.specs.Inner.Sums.{dot}
 use Rattle.field.proofs.Meanings.{add-modulo, mul-modulo}
-use Rattle.row_sums.specs.WideSums.{productSum}
+use Rattle.row_sums.specs.Inner.WideSums.{productSum}
 
 -- one reduction is enough
 pub dot-reduced : (p : ℕ) → 0 < p → (xs ys : List ℕ) → dot p xs ys ≡ productSum xs ys % p

@@ -18,19 +18,19 @@ use Rattle.lists.proofs.Padding.{length-padded, below-padded}
 use Rattle.lists.proofs.Rows.{getD-from, length-from, from-ext, row-inside}
 use Rattle.layout.specs.Layout.{byRow, held, laneOf}
 use Rattle.field.specs.Fields.{isField, sizeOf, add, mul}
-use Rattle.field.specs.Sums.{dot}
+use Rattle.field.specs.Inner.Sums.{dot}
 use Rattle.field.proofs.BothKinds.{arithmetic}
-use Rattle.kernel.specs.Lanes.{lanewise}
+use Rattle.kernel.specs.Inner.Lanes.{lanewise}
 use Rattle.kernel.proofs.Lanes.{lanewise-ext, getD-lanewise, length-lanewise}
-use Rattle.row_sums.specs.Combined.{combined}
-use Rattle.row_sums.specs.Digits.{xorSum, multiplied}
-use Rattle.subset_sums.specs.Subsets.{subset, slidingTable as tableOfRows}
-use Rattle.subset_sums.specs.Lists.{subsetAt, slicesFrom, slicesAdded, turnsOf, Slices, Grouped}
+use Rattle.row_sums.specs.Inner.Combined.{combined}
+use Rattle.row_sums.specs.Inner.Digits.{xorSum, multiplied}
+use Rattle.subset_sums.specs.Inner.Subsets.{subset, slidingTable as tableOfRows}
+use Rattle.subset_sums.specs.Inner.Lists.{subsetAt, slicesFrom, slicesAdded, turnsOf, Slices, Grouped}
 use Rattle.subset_sums.proofs.Subsets.{subset-ext}
 use Rattle.subset_sums.proofs.Adding.{length-turns}
 use Rattle.subset_sums.proofs.Right.{table-at as rows-at, subset-low, slices-all, output-right}
-use Rattle.sliding_sums.specs.Windows.{windowSums, Windows}
-use Rattle.sliding_sums.specs.Tables.{slidingSubset, slidingTable, placeOf, Placed, Slicing, sumAt}
+use Rattle.sliding_sums.specs.Inner.Windows.{windowSums, Windows}
+use Rattle.sliding_sums.specs.Inner.Tables.{slidingSubset, slidingTable, placeOf, Placed, Slicing, sumAt}
 use Rattle.sliding_sums.proofs.Tables.{table-at}
 
 -- what a slice of a table of rows begins at: group and subset

@@ -8,8 +8,8 @@ use lib.Bits.{bitXor, xor-zero-r}
 use lib.ListN.{getD}
 use Rattle.lists.specs.Rows.{from}
 use Rattle.lists.proofs.Rows.{getD-from}
-use Rattle.subset_sums.specs.Subsets.{subsetFrom, subset}
-use Rattle.sliding_sums.specs.Tables.{subsetFrom as sumFrom, slidingByte, slidingTable}
+use Rattle.subset_sums.specs.Inner.Subsets.{subsetFrom, subset}
+use Rattle.sliding_sums.specs.Inner.Tables.{subsetFrom as sumFrom, slidingByte, slidingTable}
 
 -- the sum of a subset, symbol by symbol
 pub subset-is : (row : List ℕ) (v t : ℕ) → bitXor (getD row t 0 * (v % 2)) (bitXor (getD row (t + 1) 0 * (v / 2 % 2)) (bitXor (getD row (t + 2) 0 * (v / 2 / 2 % 2)) (getD row (t + 3) 0 * (v / 2 / 2 / 2 % 2)))) ≡ sumFrom row v t

@@ -1,3 +1,2 @@
--- Sums of weights times the symbols of a row, from each of its places on.
-pub mod Windows
-pub mod Tables
+-- Nothing here is promised to a caller of the library.
+pub mod Inner

@@ -7,10 +7,10 @@ ghost use lib.ListN.{length, getD, drop};
 ghost use Rattle.lists.specs.Rows.{from};
 ghost use Rattle.lists.specs.Numbers.{allBelow};
 ghost use Rattle.lists.specs.Padded.{padded};
-ghost use Rattle.kernel.specs.Lanes.{lanewise};
-ghost use Rattle.subset_sums.specs.Lists.{turnsOf};
-ghost use Rattle.sliding_sums.specs.Windows.{windowSums, Windows};
-ghost use Rattle.sliding_sums.specs.Tables.{slidingSubset, slidingTable, placeOf, Placed, Slicing, sumAt};
+ghost use Rattle.kernel.specs.Inner.Lanes.{lanewise};
+ghost use Rattle.subset_sums.specs.Inner.Lists.{turnsOf};
+ghost use Rattle.sliding_sums.specs.Inner.Windows.{windowSums, Windows};
+ghost use Rattle.sliding_sums.specs.Inner.Tables.{slidingSubset, slidingTable, placeOf, Placed, Slicing, sumAt};
 use crate::scratch;
 
 // The symbols as bytes.

@@ -4,7 +4,7 @@ ghost use mathlib.Core.Bool.{true};
 ghost use lib.ListN.{length};
 ghost use Rattle.field.specs.Fields.{sizeOf};
 ghost use Rattle.field.specs.Kinds.{modulus, usable};
-ghost use Rattle.sliding_sums.specs.Windows.{windowSums, Windows};
+ghost use Rattle.sliding_sums.specs.Inner.Windows.{windowSums, Windows};
 
 mod bytes;
 mod prime;

@@ -4,8 +4,8 @@ ghost use mathlib.Core.Bool.{true};
 ghost use Prim.Native.Nat.{_*_, _≤_, _<_};
 ghost use lib.ListN.{length};
 ghost use Rattle.field.specs.Primes.{isPrime};
-ghost use Rattle.sliding_sums.specs.Windows.{windowSums, Windows};
-ghost use Rattle.row_sums.specs.WideSums.{productSum};
+ghost use Rattle.sliding_sums.specs.Inner.Windows.{windowSums, Windows};
+ghost use Rattle.row_sums.specs.Inner.WideSums.{productSum};
 
 // The sum of the products as a number.
 fn product_sum(weights: &[u16], row: &[u16]) -> u64

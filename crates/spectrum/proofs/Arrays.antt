@@ -9,7 +9,7 @@ use Rattle.lists.specs.Rows.{from}
 use Rattle.lists.specs.Padded.{zeros, padded}
 use Rattle.lists.proofs.Fill.{Filled, filled-end}
 use Rattle.lists.proofs.Rows.{length-from, getD-from}
-use Rattle.spectrum.specs.Spectrum.{triangle}
+use Rattle.spectrum.specs.Inner.Spectrum.{triangle}
 
 pub all-filled : {n : ℕ} {f : ℕ → ℕ} {i : ℕ} {now : List ℕ} → Filled n n f i now → n ≤ i → now ≡ from f 0 n
 unfolding padded zeros from

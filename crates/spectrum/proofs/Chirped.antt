@@ -18,7 +18,7 @@ use Rattle.algebra.proofs.Sums.{sum, sum-agree, sum-scale}
 use Rattle.algebra.proofs.Combinations.{comb-sum}
 use Rattle.algebra.proofs.Powers.{pow-add, pow-mod}
 use Rattle.field.specs.Fields.{mul}
-use Rattle.field.specs.Sums.{dot}
+use Rattle.field.specs.Inner.Sums.{dot}
 use Rattle.field.specs.Symbols.{Symbol}
 use Rattle.field.proofs.FieldOf.{size-pos, number-pow}
 use Rattle.field.proofs.Symbols.{getD-numbers}
@@ -30,8 +30,8 @@ use Rattle.generator.proofs.Sound.{fieldFor, rootFor, root-order}
 use Rattle.generator.proofs.Bridge.{checkFrom-is}
 use Rattle.generator.proofs.Recovery.{lifted, lifted-numbers, length-lifted}
 use Rattle.interpolation.proofs.Bridge.{dot-is}
-use Rattle.sliding_sums.specs.Windows.{windowSums}
-use Rattle.spectrum.specs.Spectrum.{spectrumOf, triangle, chirpAt, unchirpedAt, unchirped}
+use Rattle.sliding_sums.specs.Inner.Windows.{windowSums}
+use Rattle.spectrum.specs.Inner.Spectrum.{spectrumOf, triangle, chirpAt, unchirpedAt, unchirped}
 use Rattle.spectrum.proofs.Arrays.{value-at}
 
 -- T(t + j) = T(t) + T(j) + j·t

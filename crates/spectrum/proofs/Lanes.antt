@@ -9,14 +9,14 @@ use Rattle.lists.specs.Rows.{from}
 use Rattle.lists.specs.Numbers.{allBelow}
 use Rattle.lists.proofs.Numbers.{at-below, below-at, below-drop}
 use Rattle.lists.proofs.Rows.{length-from}
-use Rattle.field.specs.Sums.{dot}
+use Rattle.field.specs.Inner.Sums.{dot}
 use Rattle.field.proofs.Bounds.{mul-below, power-below}
 use Rattle.field.proofs.Sums.{dot-below}
 use Rattle.generator.specs.declared.Header.{Header}
 use Rattle.generator.specs.Records.{modulusOf, size, Sound}
 use Rattle.generator.specs.Shifts.{negative}
-use Rattle.sliding_sums.specs.Windows.{windowSums}
-use Rattle.spectrum.specs.Spectrum.{triangle, chirpAt, unchirpedAt, unchirped}
+use Rattle.sliding_sums.specs.Inner.Windows.{windowSums}
+use Rattle.spectrum.specs.Inner.Spectrum.{triangle, chirpAt, unchirpedAt, unchirped}
 use Rattle.spectrum.proofs.Arrays.{value-at}
 
 pub length-unchirped : (h : Header) (ws : List ℕ) → length (unchirped h ws) ≡ length ws

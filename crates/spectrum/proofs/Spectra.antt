@@ -12,7 +12,7 @@ use Rattle.field.proofs.FieldOf.{size-pos}
 use Rattle.generator.specs.declared.Header.{Header}
 use Rattle.generator.specs.Records.{modulusOf, size, Sound}
 use Rattle.generator.specs.Codewords.{checkFrom}
-use Rattle.spectrum.specs.Spectrum.{spectrumOf}
+use Rattle.spectrum.specs.Inner.Spectrum.{spectrumOf}
 use Rattle.spectrum.proofs.Arrays.{value-at}
 
 module _ (h : Header) (s : Sound h) where

@@ -1,2 +1,2 @@
--- The spectrum of a lane, and how it is computed.
-pub mod Spectrum
+-- Nothing here is promised to a caller of the library.
+pub mod Inner

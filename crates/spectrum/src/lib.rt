@@ -6,8 +6,8 @@ ghost use Rattle.lists.specs.Numbers.{allBelow};
 ghost use Rattle.lists.specs.Padded.{zeros, padded};
 ghost use Rattle.field.specs.Tables.{AreTables};
 ghost use Rattle.generator.specs.Records.{size, Sound};
-ghost use Rattle.check_sums.specs.Powers.{powersOf};
-ghost use Rattle.spectrum.specs.Spectrum.{spectrumOf};
+ghost use Rattle.check_sums.specs.Inner.Powers.{powersOf};
+ghost use Rattle.spectrum.specs.Inner.Spectrum.{spectrumOf};
 
 mod chirps;
 

@@ -10,10 +10,10 @@ use Rattle.lists.proofs.Fill.{length-zeros}
 use Rattle.lists.proofs.Front.{drop-next}
 use Rattle.field.specs.Bytes.{timesX}
 use Rattle.field.proofs.Xor.{xor-assoc}
-use Rattle.kernel.specs.Lanes.{lanewise}
+use Rattle.kernel.specs.Inner.Lanes.{lanewise}
 use Rattle.kernel.proofs.Lanes.{lanewise-same, lanewise-ext, lanewise-twice, length-lanewise}
-use Rattle.row_sums.specs.Digits.{xorSum, multiplied}
-use Rattle.subset_sums.specs.Lists.{slicesAdded, turnsOf}
+use Rattle.row_sums.specs.Inner.Digits.{xorSum, multiplied}
+use Rattle.subset_sums.specs.Inner.Lists.{slicesAdded, turnsOf}
 
 module _ (tab os acc : List ℕ) where
   pub length-added : length (slicesAdded tab os acc) ≡ length acc

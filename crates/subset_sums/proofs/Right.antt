@@ -17,15 +17,15 @@ use Rattle.lists.proofs.All.{All, All-at}
 use Rattle.lists.proofs.Cases.{by-test}
 use Rattle.lists.proofs.Numbers.{below-take}
 use Rattle.lists.proofs.Rows.{getD-from, length-from, from-ext, row-inside}
-use Rattle.field.specs.Sums.{dot}
+use Rattle.field.specs.Inner.Sums.{dot}
 use Rattle.field.proofs.Xor.{xor-assoc}
 use Rattle.kernel.proofs.Lanes.{lanewise-ext, length-lanewise}
 use Rattle.layout.specs.Layout.{byRow, held, laneOf}
-use Rattle.row_sums.specs.Combined.{combined, Weighted}
-use Rattle.row_sums.specs.Digits.{xorSum, rowAt, rowsAdded, multiplied, rowsWith}
+use Rattle.row_sums.specs.Inner.Combined.{combined, Weighted}
+use Rattle.row_sums.specs.Inner.Digits.{xorSum, rowAt, rowsAdded, multiplied, rowsWith}
 use Rattle.row_sums.proofs.Turns.{sumsOf, length-sums, sums-start, sums-turn, sums-end}
-use Rattle.subset_sums.specs.Subsets.{subsetFrom, subset, tableByte, tableOf}
-use Rattle.subset_sums.specs.Lists.{subsetAt, slicesFrom, slicesAdded, turnsOf, Slices, Listing, Grouped}
+use Rattle.subset_sums.specs.Inner.Subsets.{subsetFrom, subset, tableByte, tableOf}
+use Rattle.subset_sums.specs.Inner.Lists.{subsetAt, slicesFrom, slicesAdded, turnsOf, Slices, Listing, Grouped}
 use Rattle.subset_sums.proofs.Subsets.{subset-none, subset-ext}
 
 -- the sum of the f values from i on, each times its digit

@@ -18,8 +18,8 @@ use Rattle.lists.proofs.Fill.{fills-put, length-zeros}
 use Rattle.lists.proofs.Rows.{from-next, getD-from, length-from, row-inside, sub-next, sub-end}
 use Rattle.field.proofs.Computed.{at, equal-at}
 use Rattle.lists.proofs.Parts.{Valued, valued-start}
-use Rattle.subset_sums.specs.Lists.{subsetAt, slicesFrom, Listing}
-use Rattle.subset_sums.specs.Spread.{spreadFrom, spreadOf, spreads, Streams}
+use Rattle.subset_sums.specs.Inner.Lists.{subsetAt, slicesFrom, Listing}
+use Rattle.subset_sums.specs.Inner.Spread.{spreadFrom, spreadOf, spreads, Streams}
 
 -- what the loop over the table wants of its entries
 twice-even : (c : ℕ) → c < 128 → spreadOf c * 256 ≡ spreadOf (2 * c)

@@ -12,9 +12,9 @@ use Rattle.lists.specs.Padded.{zeros}
 use Rattle.lists.proofs.Rows.{length-from, getD-from, from-ext, part-length, part-size, getD-part, from-append}
 use Rattle.lists.proofs.Fill.{length-zeros, from-zeros}
 use Rattle.field.proofs.Xor.{xor-assoc}
-use Rattle.kernel.specs.Lanes.{lanewise}
+use Rattle.kernel.specs.Inner.Lanes.{lanewise}
 use Rattle.lists.proofs.Parts.{Valued, valued-part, valued-at}
-use Rattle.subset_sums.specs.Subsets.{subsetFrom, subset, groupByte, groupOf, tableByte, summed}
+use Rattle.subset_sums.specs.Inner.Subsets.{subsetFrom, subset, groupByte, groupOf, tableByte, summed}
 
 pub subset-none : (f : ℕ) (x : ℕ → ℕ) (i : ℕ) → subsetFrom f x i 0 ≡ 0
 unfolding subsetFrom

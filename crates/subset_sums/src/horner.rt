@@ -4,8 +4,8 @@ ghost use Prim.Native.Nat.{ℕ, _+_, _≤_, _<_};
 ghost use lib.Bits.{bitXor};
 ghost use lib.ListN.{length, getD};
 ghost use Rattle.field.specs.Bytes.{timesX};
-ghost use Rattle.kernel.specs.Lanes.{lanewise};
-ghost use Rattle.subset_sums.specs.Lists.{slicesAdded, turnsOf, Slices};
+ghost use Rattle.kernel.specs.Inner.Lanes.{lanewise};
+ghost use Rattle.subset_sums.specs.Inner.Lists.{slicesAdded, turnsOf, Slices};
 use crate::slice;
 use kernel::gf256;
 

@@ -7,8 +7,8 @@ ghost use lib.Dec.{eqb};
 ghost use lib.ListN.{length, getD};
 ghost use Rattle.lists.specs.Choice.{pick};
 ghost use Rattle.lists.specs.Numbers.{allBelow};
-ghost use Rattle.subset_sums.specs.Lists.{subsetAt, Listing};
-ghost use Rattle.subset_sums.specs.Spread.{spreadOf, spreads, Streams};
+ghost use Rattle.subset_sums.specs.Inner.Lists.{subsetAt, Listing};
+ghost use Rattle.subset_sums.specs.Inner.Spread.{spreadOf, spreads, Streams};
 
 // Byte c as a number whose byte b is binary digit b of c, for all c: the digits of 2·c are those of c, one place up.
 pub fn fill_spread(sp: &mut [u64])

@@ -4,8 +4,8 @@ ghost use mathlib.Core.Path.{_≡_};
 ghost use Prim.Native.Nat.{_+_, _*_, _^_, _≤_, _<_};
 ghost use lib.Bits.{bitXor};
 ghost use lib.ListN.{length, getD};
-ghost use Rattle.kernel.specs.Lanes.{lanewise};
-ghost use Rattle.subset_sums.specs.Subsets.{groupOf, tableOf, summed};
+ghost use Rattle.kernel.specs.Inner.Lanes.{lanewise};
+ghost use Rattle.subset_sums.specs.Inner.Subsets.{groupOf, tableOf, summed};
 use crate::slice;
 
 // A row added to acc.

@@ -19,12 +19,12 @@ use Rattle.field.proofs.KindLaws.{usable-prime}
 use Rattle.field.proofs.Meanings.{prime-size}
 use Rattle.field.proofs.Primes.{two≤prime}
 use Rattle.field.proofs.Widths.{one-byte, two-bytes}
-use Rattle.subset_sums.specs.Subsets.{tableOf}
-use Rattle.subset_sums.specs.Lists.{turnsOf, Slices, Listing, Grouped}
-use Rattle.subset_sums.specs.Spread.{spreads}
+use Rattle.subset_sums.specs.Inner.Subsets.{tableOf}
+use Rattle.subset_sums.specs.Inner.Lists.{turnsOf, Slices, Listing, Grouped}
+use Rattle.subset_sums.specs.Inner.Spread.{spreads}
 use Rattle.subset_sums.proofs.Right.{output-right, listing-slices}
-use Rattle.tile_products.specs.Ratios.{Ratios, Scaled, InScale}
-use Rattle.tile_products.specs.Products.{groupsOf, Codes, Plain, Prepared, Lists, Loaded, OutputRows}
+use Rattle.tile_products.specs.Inner.Ratios.{Ratios, Scaled, InScale}
+use Rattle.tile_products.specs.Inner.Products.{groupsOf, Codes, Plain, Prepared, Lists, Loaded, OutputRows}
 use Rattle.tile_products.proofs.Scaling.{scaled-alone}
 use Rattle.tile_products.proofs.Lanes.{output-front, one-row}
 

@@ -9,8 +9,8 @@ use lib.ListN.{length, take, drop}
 use lib.Seq.{ext-getD}
 use Rattle.lists.proofs.Rows.{part-length, getD-part, row-inside}
 use Rattle.layout.proofs.Runs.{replaced, length-replaced, replaced-before, replaced-inside}
-use Rattle.tile_products.specs.Products.{groupsOf, Prepared}
-use Rattle.tile_products.specs.Matrices.{partOf, Begun, Made}
+use Rattle.tile_products.specs.Inner.Products.{groupsOf, Prepared}
+use Rattle.tile_products.specs.Inner.Matrices.{partOf, Begun, Made}
 
 -- parts of a list of which part j was replaced
 module _ (size j : ℕ) (xs s : List ℕ) (long : length xs ≡ size) (fits : j * size + size ≤ length s) where

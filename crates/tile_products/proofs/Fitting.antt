@@ -2,7 +2,7 @@
 use Prim.Native.Nat.{ℕ, _*_, _≤_}
 use native.Mathlib.Nat.{mul-le-mul}
 use native.Mathlib.Omega.{arith}
-use Rattle.tile_products.specs.Products.{groupsOf}
+use Rattle.tile_products.specs.Inner.Products.{groupsOf}
 
 pub groups-few : (k m : ℕ) → k ≤ 4 * m → groupsOf k ≤ m
 unfolding groupsOf

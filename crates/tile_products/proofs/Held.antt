@@ -14,15 +14,15 @@ use Rattle.lists.proofs.Front.{drop-next}
 use Rattle.lists.proofs.Numbers.{below-at}
 use Rattle.lists.proofs.Rows.{from-ext, row-after, row-inside, getD-part}
 use Rattle.field.specs.Fields.{mul}
-use Rattle.field.specs.Sums.{dot}
+use Rattle.field.specs.Inner.Sums.{dot}
 use Rattle.field.proofs.Meanings.{add-modulo, mul-modulo}
-use Rattle.kernel.specs.Lanes.{lanewise}
+use Rattle.kernel.specs.Inner.Lanes.{lanewise}
 use Rattle.kernel.proofs.Lanes.{length-lanewise, getD-lanewise, lanewise-same}
 use Rattle.layout.specs.Layout.{byRow, laneOf}
 use Rattle.layout.proofs.Buffers.{length-lane, getD-lane}
 use Rattle.layout.proofs.Places.{held-by-row}
-use Rattle.row_sums.specs.Combined.{combined}
-use Rattle.tile_products.specs.Ratios.{ratioOf, nearlyOf, InScale}
+use Rattle.row_sums.specs.Inner.Combined.{combined}
+use Rattle.tile_products.specs.Inner.Ratios.{ratioOf, nearlyOf, InScale}
 use Rattle.tile_products.proofs.Reduction.{nearly-below, nearly-same}
 
 getD-zeros : (n i : ℕ) → getD (zeros n) i 0 ≡ 0

@@ -11,20 +11,20 @@ use Rattle.lists.proofs.Images.{from-self}
 use Rattle.lists.proofs.Rows.{from-ext, length-from, getD-from, row-inside}
 use Rattle.layout.specs.Layout.{byRow, held, laneOf}
 use Rattle.layout.specs.Width.{valueFrom, symbolAt, symbolsOf, symbolBytes}
-use Rattle.layout.specs.Tiles.{tileSymbols, tileBytes}
+use Rattle.layout.specs.Inner.Tiles.{tileSymbols, tileBytes}
 use Rattle.layout.proofs.Buffers.{length-lane, getD-lane}
 use Rattle.layout.proofs.Places.{held-by-row}
 use Rattle.layout.proofs.Widths.{symbols-one, length-bytes}
 use Rattle.layout.proofs.Readings.{count-symbols, symbol-digits, getD-bytes}
 use Rattle.layout.proofs.Tiles.{byte-row, held-tile-symbols, held-tile-bytes}
 use Rattle.field.specs.Fields.{add, mul}
-use Rattle.field.specs.Sums.{dot}
+use Rattle.field.specs.Inner.Sums.{dot}
 use Rattle.field.specs.Widths.{bytesFor}
 use Rattle.field.proofs.Widths.{bytes-range}
 use Rattle.tiles.proofs.Gathered.{tile-lane}
-use Rattle.row_sums.specs.Combined.{combined}
-use Rattle.tile_products.specs.Products.{symbolsIn, OutputRows}
-use Rattle.tile_products.specs.Matrices.{laneProduct, OutputsOf, Multiplied}
+use Rattle.row_sums.specs.Inner.Combined.{combined}
+use Rattle.tile_products.specs.Inner.Products.{symbolsIn, OutputRows}
+use Rattle.tile_products.specs.Inner.Matrices.{laneProduct, OutputsOf, Multiplied}
 
 -- a tile's lane lies in its first places
 pub lane-prefix : (rows size t : ℕ) (tile : List ℕ) → rows * 64 ≤ size → t < 64 → laneOf byRow rows 64 t (take size tile) ≡ laneOf byRow rows 64 t tile

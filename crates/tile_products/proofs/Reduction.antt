@@ -3,7 +3,7 @@ use mathlib.Core.Path.{_≡_, sym, ap, _∙_}
 use Prim.Native.Nat.{ℕ, _+_, _-_, _*_, _/_, _%_, _≤_, _<_}
 use native.Mathlib.Nat.{mul-add, add-mul, mul-assoc, mul-comm, mul-le-mul, le-refl, mod-lt, div-add-mod', div-lt-iff-lt-mul, add-mul-mod-self-right}
 use native.Mathlib.Omega.{arith}
-use Rattle.tile_products.specs.Ratios.{ratioOf, nearlyOf}
+use Rattle.tile_products.specs.Inner.Ratios.{ratioOf, nearlyOf}
 
 -- x·c by the quotient of x·r, where r·p + d is c·65536
 parts : (p c r d x : ℕ) → r * p + d ≡ c * 65536 → x * c * 65536 ≡ x * r / 65536 * p * 65536 + x * r % 65536 * p + x * d

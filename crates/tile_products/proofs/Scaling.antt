@@ -10,7 +10,7 @@ use lib.ListN.{length, getD, set, length-set}
 use lib.Seq.{getD-set-same, getD-set-other}
 use Rattle.lists.specs.Numbers.{allBelow}
 use Rattle.lists.proofs.Numbers.{below-at}
-use Rattle.tile_products.specs.Ratios.{ratioOf, Scaled, InScale}
+use Rattle.tile_products.specs.Inner.Ratios.{ratioOf, Scaled, InScale}
 
 pub record Scaling (p : ℕ) (ws : List ℕ) (size i : ℕ) (list : List ℕ) : Type 0 where
   pub long : length list ≡ size

@@ -1,4 +1,2 @@
--- Products of a matrix of weights and a tile of rows.
-pub mod Ratios
-pub mod Products
-pub mod Matrices
+-- Nothing here is promised to a caller of the library.
+pub mod Inner

@@ -9,7 +9,7 @@ ghost use Rattle.lists.specs.Numbers.{allBelow};
 ghost use Rattle.field.specs.Fields.{sizeOf};
 ghost use Rattle.field.specs.Kinds.{modulus, usable};
 ghost use Rattle.field.specs.Widths.{bytesFor};
-ghost use Rattle.tile_products.specs.Products.{groupsOf, Codes, Prepared, Lists, Loaded, OutputRows};
+ghost use Rattle.tile_products.specs.Inner.Products.{groupsOf, Codes, Prepared, Lists, Loaded, OutputRows};
 use field::Field;
 
 mod matrix;

@@ -8,9 +8,9 @@ ghost use Rattle.lists.specs.Numbers.{allBelow};
 ghost use Rattle.lists.specs.Padded.{zeros};
 ghost use Rattle.lists.specs.Rows.{from};
 ghost use Rattle.layout.specs.Layout.{byRow};
-ghost use Rattle.kernel.specs.Lanes.{lanewise};
-ghost use Rattle.row_sums.specs.Combined.{combined};
-ghost use Rattle.tile_products.specs.Ratios.{ratioOf, Ratios, nearlyOf, Scaled, InScale};
+ghost use Rattle.kernel.specs.Inner.Lanes.{lanewise};
+ghost use Rattle.row_sums.specs.Inner.Combined.{combined};
+ghost use Rattle.tile_products.specs.Inner.Ratios.{ratioOf, Ratios, nearlyOf, Scaled, InScale};
 
 fn sums() -> [u16; 64]
     ensures { λ r. ⌜ r ≡ zeros 64 ⌝ }

@@ -8,8 +8,8 @@ ghost use lib.ListN.{length};
 ghost use Rattle.lists.specs.Numbers.{allBelow};
 ghost use Rattle.field.specs.Primes.{isPrime};
 ghost use Rattle.field.specs.Widths.{bytesFor};
-ghost use Rattle.tile_products.specs.Ratios.{InScale};
-ghost use Rattle.tile_products.specs.Products.{groupsOf, Codes, Prepared, OutputRows};
+ghost use Rattle.tile_products.specs.Inner.Ratios.{InScale};
+ghost use Rattle.tile_products.specs.Inner.Products.{groupsOf, Codes, Prepared, OutputRows};
 use crate::prime;
 use row_sums::wide;
 

@@ -12,7 +12,7 @@ use Rattle.layout.proofs.Lawful.{by-row}
 use Rattle.layout.proofs.Places.{held-by-row, held-by-lane}
 use Rattle.layout.proofs.Buffers.{getD-lane, held-buffer, held-equal, length-buffer}
 use Rattle.layout.proofs.Runs.{held-part, length-replaced, replaced-before, replaced-inside, replaced-after}
-use Rattle.tiles.specs.Beside.{Beside}
+use Rattle.tiles.specs.Inner.Beside.{Beside}
 
 pub beside-none : (lanes first count : ℕ) (block start : List ℕ) → Beside lanes first count 0 block start start
 beside-none lanes first count block start = record { long = refl; put = λ i q none inside. absurd (omega arith); kept = λ i t low. refl }

@@ -9,7 +9,7 @@ use lib.ListN.{length, getD, take, drop}
 use lib.Seq.{ext-getD}
 use Rattle.lists.proofs.Cases.{by-test}
 use Rattle.lists.proofs.Rows.{part-length, part-size, getD-part}
-use Rattle.tiles.specs.Squares.{turned, squareAt, asRows, Squared}
+use Rattle.tiles.specs.Inner.Squares.{turned, squareAt, asRows, Squared}
 use Rattle.layout.proofs.Runs.{replaced, length-replaced, replaced-inside, replaced-before, replaced-after}
 use Rattle.tiles.proofs.Shuffles.{length-placed, getD-placed}
 

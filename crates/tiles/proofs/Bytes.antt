@@ -6,7 +6,7 @@ use native.Mathlib.Omega.{arith}
 use lib.ListN.{length, getD, set}
 use Rattle.lists.specs.Rows.{from}
 use Rattle.lists.proofs.Fill.{fills-start, fills-put, fills-all}
-use Rattle.tiles.specs.Words.{bytes8, bytes4}
+use Rattle.tiles.specs.Inner.Words.{bytes8, bytes4}
 use Rattle.lists.proofs.Parts.{from-at}
 
 -- a list of eight or of four by its elements

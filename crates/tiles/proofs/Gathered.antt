@@ -11,8 +11,8 @@ use Rattle.lists.proofs.Rows.{from-ext, row-inside}
 use Rattle.layout.specs.Layout.{byRow, byLane, held, laneOf}
 use Rattle.layout.proofs.Places.{held-by-row, held-by-lane}
 use Rattle.layout.proofs.Runs.{length-replaced, replaced-before, replaced-inside}
-use Rattle.tiles.specs.Squares.{asRows}
-use Rattle.tiles.specs.Tiles.{Read, BlockOf, TileOf}
+use Rattle.tiles.specs.Inner.Squares.{asRows}
+use Rattle.tiles.specs.Inner.Tiles.{Read, BlockOf, TileOf}
 use Rattle.tiles.proofs.Shuffles.{length-placed, getD-placed}
 
 -- bytes from `at` on copied to `to`: 16 of them, or all that there are

@@ -10,8 +10,8 @@ use lib.ListN.{length, getD, take, drop, length-take, length-drop}
 use lib.Seq.{ext-getD, getD-take, length-take-le}
 use Rattle.lists.proofs.Cases.{by-test}
 use Rattle.lists.proofs.Rows.{part-length, part-size, getD-part}
-use Rattle.tiles.specs.Squares.{placed, laneAt}
-use Rattle.tiles.specs.Words.{patched}
+use Rattle.tiles.specs.Inner.Squares.{placed, laneAt}
+use Rattle.tiles.specs.Inner.Words.{patched}
 use Rattle.tiles.proofs.Shuffles.{length-placed}
 use Rattle.lists.proofs.Parts.{Valued, valued-part, valued-all}
 use Rattle.layout.proofs.Runs.{length-replaced, replaced-inside, replaced-before}

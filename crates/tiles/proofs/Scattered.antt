@@ -8,7 +8,7 @@ use Rattle.lists.specs.Rows.{rowsFrom}
 use Rattle.lists.proofs.Rows.{from-ext, getD-part}
 use Rattle.layout.specs.Layout.{byRow, laneOf}
 use Rattle.layout.proofs.Places.{held-by-row}
-use Rattle.tiles.specs.Squares.{placed, asLanes, blocksOf, laneAt}
+use Rattle.tiles.specs.Inner.Squares.{placed, asLanes, blocksOf, laneAt}
 use Rattle.tiles.proofs.Shuffles.{length-placed, getD-placed}
 
 abbrev pub blockByte : List ℕ → ℕ → ℕ

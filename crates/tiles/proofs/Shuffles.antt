@@ -8,7 +8,7 @@ use lib.ListN.{length, getD, set}
 use Rattle.lists.proofs.Rows.{length-from, getD-from, from-ext, from-next}
 use Rattle.lists.proofs.Fill.{fills-put}
 use Rattle.field.proofs.Computed.{equal-at}
-use Rattle.tiles.specs.Squares.{placed, shuffled, turned}
+use Rattle.tiles.specs.Inner.Squares.{placed, shuffled, turned}
 use Rattle.lists.proofs.Parts.{Valued}
 
 pub length-placed : (g : ℕ → ℕ) (n : ℕ) (x : List ℕ) → length (placed g n x) ≡ n

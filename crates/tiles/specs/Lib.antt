@@ -1,5 +1,2 @@
--- Tiles: what is put beside what.
-pub mod Beside
-pub mod Squares
-pub mod Words
-pub mod Tiles
+-- Nothing here is promised to a caller of the library.
+pub mod Inner

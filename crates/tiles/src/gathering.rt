@@ -3,7 +3,7 @@ ghost use mathlib.Core.Path.{_≡_};
 ghost use Prim.Native.Nat.{ℕ, _+_, _*_, _/_, _≤_, _<_};
 ghost use lib.ListN.{length};
 ghost use Rattle.layout.specs.Layout.{byRow, byLane, laneOf};
-ghost use Rattle.tiles.specs.Tiles.{Read, BlockOf};
+ghost use Rattle.tiles.specs.Inner.Tiles.{Read, BlockOf};
 use crate::moves;
 use crate::squares;
 

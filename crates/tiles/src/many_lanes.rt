@@ -3,7 +3,7 @@ ghost use mathlib.Core.Path.{_≡_};
 ghost use Prim.Native.Nat.{ℕ, _+_, _*_, _/_, _≤_, _<_};
 ghost use lib.ListN.{length};
 ghost use Rattle.layout.specs.Layout.{byRow, byLane, rearranged};
-ghost use Rattle.tiles.specs.Beside.{Beside};
+ghost use Rattle.tiles.specs.Inner.Beside.{Beside};
 use crate::gathering;
 use crate::size;
 

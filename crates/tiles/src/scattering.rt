@@ -4,7 +4,7 @@ ghost use Prim.Native.Nat.{_+_, _*_, _/_, _≤_, _<_};
 ghost use lib.ListN.{length};
 ghost use Rattle.lists.specs.Rows.{rowsFrom};
 ghost use Rattle.layout.specs.Layout.{byRow, laneOf};
-ghost use Rattle.tiles.specs.Squares.{laneAt, blocksOf};
+ghost use Rattle.tiles.specs.Inner.Squares.{laneAt, blocksOf};
 use crate::moves;
 use crate::squares;
 

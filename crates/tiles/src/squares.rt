@@ -3,7 +3,7 @@
 ghost use mathlib.Core.Path.{_≡_};
 ghost use Prim.Native.Nat.{_+_, _≤_};
 ghost use lib.ListN.{length};
-ghost use Rattle.tiles.specs.Squares.{shuffled, turned, squareAt, asLanes, asRows, Squared};
+ghost use Rattle.tiles.specs.Inner.Squares.{shuffled, turned, squareAt, asLanes, asRows, Squared};
 
 // A square of 16 by 16 bytes.
 fn square() -> [u8; 256]

@@ -27,7 +27,7 @@ use Rattle.plan.proofs.Plans as Plans
 use Rattle.refusals.specs.Accepted.{UpdatableLane}
 use Rattle.blocks.specs.Blocks.{rowAdded, wordAdded}
 use Rattle.blocks.proofs.Updates.{added-part, differ-part}
-use Rattle.update.specs.Words.{UpdatableWord}
+use Rattle.update.specs.Inner.Words.{UpdatableWord}
 
 -- an entry, read from the plan's base word by the shift of its row
 pub entry-read : (h : Header) → Sound h → (p : Plan) → p ≡ planFor (Holds h) → (r j : ℕ) → r < h .k → j < h .n → getD (p .base) ((j + getD (p .shifts) r 0) % h .n) 0 ≡ entry h r j

@@ -19,7 +19,7 @@ use Rattle.generator.specs.Records.{modulusOf, size}
 use Rattle.generator.proofs.Bounds.{entry-below}
 use Rattle.generator.proofs.Widths.{width-some, width-range}
 use Rattle.blocks.specs.Blocks.{wordAdded}
-use Rattle.update.specs.Words.{UpdatableWord}
+use Rattle.update.specs.Inner.Words.{UpdatableWord}
 use Rattle.update.proofs.Lane.{symbol-written, word-long}
 use Rattle.update.proofs.Rewriting.{Rewriting, after, rewriting-start, rewriting-held, rewriting-put, rewriting-skip, rewriting-end}
 

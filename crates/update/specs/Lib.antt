@@ -1,2 +1,2 @@
--- What the functions behind the call rely on.
-pub mod Words
+-- Nothing here is promised to a caller of the library.
+pub mod Inner

@@ -12,7 +12,7 @@ ghost use Rattle.refusals.specs.Faults.{staleFault, updateFault};
 ghost use Rattle.refusals.specs.Accepted.{UpdatableLane};
 ghost use Rattle.blocks.specs.Blocks.{rowAdded, wordAdded};
 ghost use Rattle.blocks.specs.Promises.{UpdatePromise, UpdateSays};
-ghost use Rattle.update.specs.Words.{UpdatableWord};
+ghost use Rattle.update.specs.Inner.Words.{UpdatableWord};
 use blocks::Update;
 use field::Tables;
 use generator::Header;

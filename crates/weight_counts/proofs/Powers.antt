@@ -16,7 +16,7 @@ use Rattle.generator.specs.Records.{size, Sound}
 use Rattle.refusals.proofs.Accepts.{not-met}
 use Rattle.weight_distribution.specs.Counts.{prescribed}
 use Rattle.weight_counts.specs.Weights.{messagesBad, weightsFault}
-use Rattle.weight_counts.specs.Inner.{Small, messageCount, differencesOf}
+use Rattle.weight_counts.specs.Inner.Counting.{Small, messageCount, differencesOf}
 
 pub few-messages : (q k : ℕ) → q ^ k ≤ 65536 → q ^ k ≡ messageCount q k
 unfolding messageCount

@@ -12,7 +12,7 @@ use borrow.Author.Tests.{lt-ltb, le-ltb}
 use Rattle.lists.specs.Choice.{pick}
 use Rattle.lists.specs.Rows.{from}
 use Rattle.lists.proofs.Rows.{length-from, getD-from}
-use Rattle.weight_counts.specs.Inner.{withPrevious}
+use Rattle.weight_counts.specs.Inner.Counting.{withPrevious}
 
 module _ (op : ℕ → ℕ → ℕ) (start : List ℕ) where
   -- what place i becomes

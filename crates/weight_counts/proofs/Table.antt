@@ -20,7 +20,7 @@ use Rattle.weight_distribution.specs.Counts.{binomial, prescribed}
 use Rattle.weight_distribution.proofs.Prescribed.{binomial-zero, prescribed-mono}
 use Rattle.weight_distribution.proofs.Distribution.{count-least, weights-by-support}
 use Rattle.weight_counts.specs.Weights.{weightCountOf, weightCounts}
-use Rattle.weight_counts.specs.Inner.{Small, withPrevious, differencesOf, binomials}
+use Rattle.weight_counts.specs.Inner.Counting.{Small, withPrevious, differencesOf, binomials}
 use Rattle.weight_counts.proofs.Weights.{code}
 
 -- a list by index, each place renewed by the one before it

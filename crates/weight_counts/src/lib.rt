@@ -8,7 +8,7 @@ ghost use Rattle.lists.specs.Rows.{from};
 ghost use Rattle.field.specs.Kinds.{usable};
 ghost use Rattle.generator.specs.Records.{Sound};
 ghost use Rattle.weight_counts.specs.Weights.{weightCounts, weightsFault, WeightsPromise, WeightsSay};
-ghost use Rattle.weight_counts.specs.Inner.{Small, messageCount, withPrevious, differencesOf, binomials};
+ghost use Rattle.weight_counts.specs.Inner.Counting.{Small, messageCount, withPrevious, differencesOf, binomials};
 use blocks::Outcome;
 use generator::Header;
 use generator::Record;

@@ -20,7 +20,7 @@ use Rattle.blocks.specs.declared.Outcome.the-variants as O
 use Rattle.blocks.specs.Answers.{outcomeOf}
 use Rattle.text.specs.Text.{ascii, line}
 use Rattle.weight_counts.specs.Weights.{weightCounts, weightCountOf, messagesBad, weightsFault, WeightsPromise}
-use Rattle.weight_counts.specs.Inner.{Small}
+use Rattle.weight_counts.specs.Inner.Counting.{Small}
 use Rattle.weight_counts.proofs.Table.{count-fits}
 use Rattle.weights_text.specs.Weights.{countLines, weightsFor}
 

@@ -19,7 +19,7 @@ use Rattle.lists.proofs.Padding.{length-padded}
 use Rattle.lists.proofs.Places.{length-range, map-range}
 use Rattle.lists.proofs.Rows.{length-from, getD-from}
 use Rattle.field.specs.Fields.{isField, sizeOf, add, sub, mul, power}
-use Rattle.field.specs.Sums.{dot}
+use Rattle.field.specs.Inner.Sums.{dot}
 use Rattle.field.proofs.Arithmetic.{zero-below, add-neg, add-back, mul-zero}
 use Rattle.field.proofs.BothKinds.{arithmetic}
 use Rattle.field.proofs.Bounds.{one-below, sub-below, mul-below}
@@ -28,16 +28,16 @@ use Rattle.generator.specs.declared.Header.{Header}
 use Rattle.generator.specs.Records.{modulusOf, size, Sound}
 use Rattle.generator.specs.Codewords.{isWord}
 use Rattle.generator.proofs.PlainLayout.{first-nodes}
-use Rattle.interpolation.specs.Points.{pointsOf}
-use Rattle.interpolation.specs.Lagrange.{scaleAt, basisAt, basisValues, scalesOf}
+use Rattle.interpolation.specs.Inner.Points.{pointsOf}
+use Rattle.interpolation.specs.Inner.Lagrange.{scaleAt, basisAt, basisValues, scalesOf}
 use Rattle.interpolation.proofs.Points.{length-points}
-use Rattle.node_weights.specs.Weights.{Rebuilds}
+use Rattle.node_weights.specs.Inner.Weights.{Rebuilds}
 use Rattle.node_weights.proofs.Rebuilding.{rebuilds}
 use Rattle.row_sums.proofs.Combined.{getD-zeros}
-use Rattle.check_sums.specs.Powers.{powersOf}
+use Rattle.check_sums.specs.Inner.Powers.{powersOf}
 use Rattle.check_sums.proofs.Sums.{length-powers, power-at}
-use Rattle.block_products.specs.Marks.{allZero}
-use Rattle.wrong_lanes.specs.Checks.{firstPoints, firstWeights, checkRow}
+use Rattle.block_products.specs.Inner.Marks.{allZero}
+use Rattle.wrong_lanes.specs.Inner.Checks.{firstPoints, firstWeights, checkRow}
 use Rattle.wrong_lanes.proofs.FirstNodes.{words-rebuilt}
 
 -- what comes after the shorter list plays no part

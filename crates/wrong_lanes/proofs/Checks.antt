@@ -15,23 +15,23 @@ use Rattle.layout.specs.Width.{symbolsOf}
 use Rattle.layout.proofs.Lawful.{by-lane}
 use Rattle.layout.proofs.Buffers.{length-lane, lane-symbols}
 use Rattle.field.specs.Fields.{power}
-use Rattle.field.specs.Sums.{dot}
+use Rattle.field.specs.Inner.Sums.{dot}
 use Rattle.field.proofs.Bounds.{power-below}
 use Rattle.generator.specs.declared.Header.{Header}
 use Rattle.generator.specs.Records.{modulusOf, size, width, Sound}
 use Rattle.generator.specs.Codewords.{checkFrom, isWord}
 use Rattle.refusals.specs.Accepted.{SymbolRows, SymbolBytes}
 use Rattle.row_sums.proofs.Columns.{dot-column}
-use Rattle.check_sums.specs.Powers.{factorsOf}
-use Rattle.tile_products.specs.Products.{groupsOf}
+use Rattle.check_sums.specs.Inner.Powers.{factorsOf}
+use Rattle.tile_products.specs.Inner.Products.{groupsOf}
 use Rattle.tile_products.proofs.Beginning.{begun-made}
 use Rattle.tile_products.proofs.Fitting.{lists-fit}
 use Rattle.block_products.specs.declared.Product.{Product}
-use Rattle.block_products.specs.Marks.{allZero, zeroMarks}
-use Rattle.block_products.specs.Ways.{sideOf, outBytes, resultBytes, laneSum, Ready}
+use Rattle.block_products.specs.Inner.Marks.{allZero, zeroMarks}
+use Rattle.block_products.specs.Inner.Ways.{sideOf, outBytes, resultBytes, laneSum, Ready}
 use Rattle.block_products.proofs.Marks.{all-zero-ext}
-use Rattle.wrong_lanes.specs.Marks.{wordMarks}
-use Rattle.wrong_lanes.specs.Checks.{CheckLists, checkProduct}
+use Rattle.wrong_lanes.specs.Inner.Marks.{wordMarks}
+use Rattle.wrong_lanes.specs.Inner.Checks.{CheckLists, checkProduct}
 use Rattle.wrong_lanes.proofs.Marking.{sums-checks}
 
 module _ (h : Header) (e : ℕ) where

@@ -14,7 +14,7 @@ use Rattle.lists.specs.Rows.{from, range}
 use Rattle.lists.proofs.Numbers.{below-take}
 use Rattle.lists.proofs.Places.{map-range}
 use Rattle.lists.proofs.Rows.{length-from, getD-from}
-use Rattle.field.specs.Sums.{dot}
+use Rattle.field.specs.Inner.Sums.{dot}
 use Rattle.generator.specs.declared.Header.{Header}
 use Rattle.generator.specs.Records.{modulusOf, size, Sound}
 use Rattle.generator.specs.Codewords.{nodeOf, encoding, isWord}
@@ -22,7 +22,7 @@ use Rattle.generator.specs.Claims.{isMessage, atNodes}
 use Rattle.generator.proofs.PlainLayout.{first-nodes}
 use Rattle.generator.proofs.Recovery.{some-message}
 use Rattle.generator.proofs.Words.{words-encode}
-use Rattle.node_weights.specs.Weights.{Rebuilds}
+use Rattle.node_weights.specs.Inner.Weights.{Rebuilds}
 
 module _ (h : Header) (s : Sound h) (w : ℕ → List ℕ) (gives : (i : ℕ) → i < h .n - h .k → Rebuilds h (range 0 (h .k)) (h .k + i) (w i)) where
   -- each other node holds the sum of the first k nodes' symbols times the weights

@@ -20,9 +20,9 @@ use Rattle.generator.specs.declared.Header.{Header}
 use Rattle.generator.specs.Codewords.{checkFrom, checksFrom, isWord}
 use Rattle.tiles.proofs.Parts.{from-part}
 use Rattle.blocks.specs.Blocks.{firstWrong}
-use Rattle.block_products.specs.Marks.{allZero}
+use Rattle.block_products.specs.Inner.Marks.{allZero}
 use Rattle.block_products.proofs.Lanes.{lane-is}
-use Rattle.wrong_lanes.specs.Marks.{wordMarks}
+use Rattle.wrong_lanes.specs.Inner.Marks.{wordMarks}
 
 -- a part of zeros
 pub zeros-part : (l t c : ℕ) → t + c ≤ l → take (t + c - t) (drop t (zeros l)) ≡ zeros c

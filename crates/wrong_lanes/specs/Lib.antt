@@ -1,3 +1,2 @@
--- Marks of lanes, and the checks of a lane as a matrix of weights.
-pub mod Marks
-pub mod Checks
+-- Nothing here is promised to a caller of the library.
+pub mod Inner

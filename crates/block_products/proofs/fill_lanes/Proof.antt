@@ -5,8 +5,8 @@ use Prim.Native.Nat.{ℕ, _+_, _-_, _≤_}
 use native.Mathlib.Omega.{arith}
 use lib.ListN.{length}
 use Rattle.field.specs.Kinds.{modulus}
-use Rattle.tile_products.specs.Matrices.{Begun}
-use Rattle.block_products.specs.Ways.{laneSum, Done}
+use Rattle.tile_products.specs.Inner.Matrices.{Begun}
+use Rattle.block_products.specs.Inner.Ways.{laneSum, Done}
 use Rattle.block_products.proofs.Writing.{done-start, done-end}
 use Rattle.block_products.proofs.fill_lanes.Statement.{statement}
 use Rattle.block_products.proofs.fill_lanes.Tie as tie

@@ -5,7 +5,7 @@ use native.Mathlib.Omega.{arith}
 use borrow.Author.Needs.{needs}
 use lib.ListN.{length}
 use lib.Seq.{length-take-le}
-use Rattle.check_sums.specs.Sums.{powerRows}
+use Rattle.check_sums.specs.Inner.Sums.{powerRows}
 use Rattle.check_sums.proofs.Sizes.{lane-small, rows-small}
 use Rattle.check_sums.proofs.Prefix.{whole-fits, whole-is, length-whole}
 use Rattle.check_sums.proofs.OneLane.{length-power-rows}

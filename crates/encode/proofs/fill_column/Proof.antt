@@ -8,7 +8,7 @@ use Rattle.lists.proofs.Parts.{Valued, valued-start, valued-all}
 use Rattle.lists.proofs.Rows.{from-next}
 use Rattle.generator.specs.Generator.{entry}
 use Rattle.plan.proofs.Plans.{shift-place, shift-below, base-room, entry-read}
-use Rattle.encode.specs.Inner.{columnOf}
+use Rattle.encode.specs.Inner.Columns.{columnOf}
 use Rattle.encode.proofs.fill_column.Statement.{statement}
 use Rattle.encode.proofs.fill_column.Tie as tie
 

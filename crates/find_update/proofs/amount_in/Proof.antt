@@ -10,7 +10,7 @@ use Rattle.generator.specs.Shifts.{firsts}
 use Rattle.generator.specs.Generator.{entry}
 use Rattle.generator.proofs.Bounds.{entry-below}
 use Rattle.plan.proofs.Plans.{first-in, shift-in, entry-read}
-use Rattle.find_update.specs.Starts.{amountIn}
+use Rattle.find_update.specs.Inner.Starts.{amountIn}
 use Rattle.find_update.proofs.Multiples.{first-node, first-place}
 use borrow.Author.Needs.{needs}
 use Rattle.find_update.proofs.amount_in.Statement.{statement}

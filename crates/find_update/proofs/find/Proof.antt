@@ -6,7 +6,7 @@ use lib.Dec.{eqb}
 use lib.ListN.{length, getD, take}
 use Rattle.lists.specs.Search.{firstFalse}
 use borrow.Author.Tests.{eq-eqb, ne-eqb}
-use Rattle.find_update.specs.Starts.{differences}
+use Rattle.find_update.specs.Inner.Starts.{differences}
 use Rattle.find_update.proofs.Behind.{differences-lane, finding-is}
 use Rattle.refusals.proofs.LaneSymbols.{lane-part}
 use borrow.Author.Needs.{needs}

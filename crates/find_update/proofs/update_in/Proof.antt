@@ -5,7 +5,7 @@ use lib.Dec.{eqb}
 use lib.ListN.{length}
 use Rattle.lists.specs.Choice.{pick}
 use Rattle.find_update.specs.declared.Finding.the-variants.{Added, NoSingleUpdate}
-use Rattle.find_update.specs.Starts.{updateIn}
+use Rattle.find_update.specs.Inner.Starts.{updateIn}
 use Rattle.find_update.proofs.Behind.{amount-symbol}
 use borrow.Author.Needs.{needs}
 use Rattle.find_update.proofs.update_in.Statement.{statement}

@@ -10,7 +10,7 @@ use Rattle.lists.proofs.Padding.{take-padded}
 use Rattle.generator.specs.Codewords.{isWord}
 use Rattle.generator.specs.Messages.{messageOf}
 use Rattle.check_sums.proofs.OneLane.{word-sums}
-use Rattle.spectrum.specs.Spectrum.{spectrumOf}
+use Rattle.spectrum.specs.Inner.Spectrum.{spectrumOf}
 use Rattle.spectrum.proofs.Spectra.{spectrum-below}
 use Rattle.lane_message.proofs.Formula.{word-symbol}
 use Rattle.lane_message.proofs.Numbers.{number-is}

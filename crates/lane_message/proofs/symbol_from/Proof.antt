@@ -12,13 +12,13 @@ use Rattle.field.specs.Fields.{mul, inverse}
 use Rattle.field.proofs.Bounds.{mul-below}
 use Rattle.field.proofs.FieldOf.{size-pos}
 use Rattle.field.proofs.Inverse.{inverse-below}
-use Rattle.field.specs.Sums.{dot}
+use Rattle.field.specs.Inner.Sums.{dot}
 use Rattle.field.proofs.Sums.{dot-below}
 use Rattle.generator.specs.Records.{modulusOf, size}
 use Rattle.interpolation.proofs.Values.{scaleAt-below}
-use Rattle.node_weights.specs.Rows.{rowPoints, rowTerms}
+use Rattle.node_weights.specs.Inner.Rows.{rowPoints, rowTerms}
 use Rattle.node_weights.proofs.Parts.{Symbols, row-symbols, term-symbols}
-use Rattle.lane_message.specs.Symbols.{coefficientsOf, symbolFrom}
+use Rattle.lane_message.specs.Inner.Symbols.{coefficientsOf, symbolFrom}
 use Rattle.interpolation.proofs.PaddedSums.{dot-padded}
 use Rattle.lane_message.proofs.Reading.{length-coefficients, coefficients-below}
 use Rattle.lane_message.proofs.symbol_from.Statement.{statement}

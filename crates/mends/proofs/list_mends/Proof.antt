@@ -7,7 +7,7 @@ use lib.ListN.{length, take}
 use Rattle.lists.specs.Numbers.{allBelow}
 use Rattle.lists.proofs.Padding.{take-padded}
 use Rattle.generator.specs.Codewords.{isWord}
-use Rattle.check_sums.specs.Sums.{checkSums}
+use Rattle.check_sums.specs.Inner.Sums.{checkSums}
 use Rattle.check_sums.proofs.OneLane.{word-sums, length-sums}
 use Rattle.mends.proofs.BySums.{has-sums, nodes-are, symbols-are}
 use Rattle.mends.proofs.Front.{word-lists}

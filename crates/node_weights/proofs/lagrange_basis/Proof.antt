@@ -4,8 +4,8 @@ use borrow.Author.Needs.{needs}
 use lib.ListN.{length, take}
 use Rattle.lists.proofs.Padding.{take-padded}
 use Rattle.field.specs.Kinds.{modulus}
-use Rattle.interpolation.specs.Points.{pointsOf}
-use Rattle.node_weights.specs.Rows.{basisOf}
+use Rattle.interpolation.specs.Inner.Points.{pointsOf}
+use Rattle.node_weights.specs.Inner.Rows.{basisOf}
 use Rattle.interpolation.proofs.Points.{length-points, points-symbols}
 use Rattle.node_weights.proofs.lagrange_basis.Statement.{statement}
 use Rattle.node_weights.proofs.lagrange_basis.Tie as tie

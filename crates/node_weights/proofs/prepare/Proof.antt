@@ -8,8 +8,8 @@ use Rattle.lists.proofs.Padding.{take-padded}
 use Rattle.generator.specs.Records.{modulusOf}
 use Rattle.generator.proofs.Shifts.{shifts-length}
 use Rattle.generator.proofs.Recovery.{nodes-places}
-use Rattle.interpolation.specs.Polynomials.{baseOf}
-use Rattle.node_weights.specs.Rows.{rowPoints, baseInverses, setupOf}
+use Rattle.interpolation.specs.Inner.Polynomials.{baseOf}
+use Rattle.node_weights.specs.Inner.Rows.{rowPoints, baseInverses, setupOf}
 use Rattle.interpolation.proofs.Coefficients.{length-baseOf, baseOf-below}
 use Rattle.node_weights.proofs.prepare.Statement.{statement}
 use Rattle.node_weights.proofs.prepare.Tie as tie

@@ -8,8 +8,8 @@ use Rattle.lists.proofs.Padding.{take-padded}
 use Rattle.field.proofs.Bounds.{power-below}
 use Rattle.generator.specs.Records.{modulusOf, size}
 use Rattle.generator.proofs.Recovery.{nodes-places}
-use Rattle.interpolation.specs.Points.{SymbolList, pointsOf}
-use Rattle.interpolation.specs.Lagrange.{scalesOf}
+use Rattle.interpolation.specs.Inner.Points.{SymbolList, pointsOf}
+use Rattle.interpolation.specs.Inner.Lagrange.{scalesOf}
 use Rattle.interpolation.proofs.Values.{length-scales}
 use Rattle.interpolation.proofs.Points.{length-points, points-symbols}
 use Rattle.node_weights.proofs.Rebuilding.{rebuilds}

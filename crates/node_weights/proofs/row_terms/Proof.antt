@@ -8,7 +8,7 @@ use Rattle.lists.proofs.Numbers.{below-at}
 use Rattle.field.proofs.KindLaws.{size-fits}
 use Rattle.generator.specs.Records.{size}
 use Rattle.node_weights.specs.declared.Basis.{Basis}
-use Rattle.node_weights.specs.Rows.{basisOf, rowPoints, rowTerms}
+use Rattle.node_weights.specs.Inner.Rows.{basisOf, rowPoints, rowTerms}
 use Rattle.node_weights.proofs.Parts.{Symbols, Parts, parts, row-symbols}
 use Rattle.node_weights.proofs.row_terms.Statement.{statement}
 use Rattle.node_weights.proofs.row_terms.Tie as tie

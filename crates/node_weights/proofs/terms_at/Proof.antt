@@ -6,9 +6,9 @@ use borrow.Author.Needs.{needs}
 use lib.ListN.{length, take, drop}
 use Rattle.lists.proofs.Padding.{length-padded, take-padded, part-padded}
 use Rattle.generator.specs.Records.{modulusOf}
-use Rattle.interpolation.specs.Polynomials.{productOf}
+use Rattle.interpolation.specs.Inner.Polynomials.{productOf}
 use Rattle.interpolation.proofs.Coefficients.{length-productOf}
-use Rattle.node_weights.specs.Rows.{basisOf, rowPoints, baseInverses}
+use Rattle.node_weights.specs.Inner.Rows.{basisOf, rowPoints, baseInverses}
 use Rattle.node_weights.proofs.Parts.{Symbols, parts, row-symbols, base-symbols}
 use Rattle.node_weights.proofs.terms_at.Statement.{statement}
 use Rattle.node_weights.proofs.terms_at.Tie as tie

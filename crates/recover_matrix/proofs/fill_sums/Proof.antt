@@ -6,12 +6,12 @@ use borrow.Author.Needs.{needs}
 use lib.ListN.{length, getD, take, drop}
 use Rattle.generator.specs.Records.{modulusOf, width}
 use Rattle.generator.proofs.Widths.{width-range}
-use Rattle.interpolation.specs.Polynomials.{quotientOf}
+use Rattle.interpolation.specs.Inner.Polynomials.{quotientOf}
 use Rattle.node_weights.specs.declared.Setup.{Setup}
-use Rattle.node_weights.specs.Rows.{setupOf}
-use Rattle.tile_products.specs.Matrices.{Begun}
+use Rattle.node_weights.specs.Inner.Rows.{setupOf}
+use Rattle.tile_products.specs.Inner.Matrices.{Begun}
 use Rattle.tile_products.proofs.Beginning.{begun-made}
-use Rattle.block_products.specs.Ways.{outBytes}
+use Rattle.block_products.specs.Inner.Ways.{outBytes}
 use Rattle.recover_matrix.proofs.Prepared.{own-parts, own-points, own-product, sums-written}
 use Rattle.recover_matrix.proofs.fill_sums.Statement.{statement}
 use Rattle.recover_matrix.proofs.fill_sums.Tie as tie

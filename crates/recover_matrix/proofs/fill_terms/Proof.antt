@@ -12,7 +12,7 @@ use Rattle.layout.specs.Width.{bytesOf}
 use Rattle.layout.proofs.LaneParts.{bytes-rows}
 use Rattle.layout.proofs.Widths.{length-bytes}
 use Rattle.generator.proofs.Widths.{width-range, symbols-fit}
-use Rattle.node_weights.specs.Rows.{rowTerms}
+use Rattle.node_weights.specs.Inner.Rows.{rowTerms}
 use Rattle.node_weights.proofs.Parts.{Symbols, term-symbols}
 use Rattle.recover_matrix.proofs.fill_terms.Statement.{statement}
 use Rattle.recover_matrix.proofs.fill_terms.Tie as tie

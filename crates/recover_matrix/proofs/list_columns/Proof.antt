@@ -9,10 +9,10 @@ use Rattle.lists.proofs.Rows.{row-inside}
 use Rattle.field.specs.Fields.{sizeOf}
 use Rattle.field.specs.Kinds.{modulus}
 use Rattle.field.proofs.KindLaws.{usable-field}
-use Rattle.tile_products.specs.Products.{groupsOf}
-use Rattle.tile_products.specs.Matrices.{Begun}
+use Rattle.tile_products.specs.Inner.Products.{groupsOf}
+use Rattle.tile_products.specs.Inner.Matrices.{Begun}
 use Rattle.tile_products.proofs.Beginning.{begun-none}
-use Rattle.recover_matrix.specs.Inverse.{scaledColumn}
+use Rattle.recover_matrix.specs.Inner.Inverse.{scaledColumn}
 use Rattle.layout.specs.Width.{symbolsOf}
 use Rattle.recover_matrix.proofs.Columns.{length-column, column-below}
 use Rattle.recover_matrix.proofs.list_columns.Statement.{statement}

@@ -9,10 +9,10 @@ use Rattle.lists.proofs.Rows.{row-inside}
 use Rattle.field.specs.Fields.{sizeOf}
 use Rattle.field.specs.Kinds.{modulus}
 use Rattle.field.proofs.KindLaws.{usable-field}
-use Rattle.interpolation.specs.Polynomials.{quotientOf}
+use Rattle.interpolation.specs.Inner.Polynomials.{quotientOf}
 use Rattle.interpolation.proofs.Coefficients.{length-quotientOf, quotientOf-below}
-use Rattle.tile_products.specs.Products.{groupsOf}
-use Rattle.tile_products.specs.Matrices.{Begun}
+use Rattle.tile_products.specs.Inner.Products.{groupsOf}
+use Rattle.tile_products.specs.Inner.Matrices.{Begun}
 use Rattle.tile_products.proofs.Beginning.{begun-none}
 use Rattle.recover_matrix.proofs.list_quotients.Statement.{statement}
 use Rattle.recover_matrix.proofs.list_quotients.Tie as tie

@@ -7,7 +7,7 @@ use lib.ListN.{length}
 use Rattle.layout.specs.Width.{symbolsOf}
 use Rattle.layout.proofs.Widths.{symbols-bytes}
 use Rattle.generator.proofs.Widths.{width-range}
-use Rattle.recover_matrix.specs.Inverse.{preparedSums}
+use Rattle.recover_matrix.specs.Inner.Inverse.{preparedSums}
 use Rattle.recover_matrix.proofs.Prepared.{own-parts, row-parts, own-scales, row-scales, sums-symbols, columns-prepared}
 use Rattle.recover_matrix.proofs.list_rows.Statement.{statement}
 use Rattle.recover_matrix.proofs.list_rows.Tie as tie

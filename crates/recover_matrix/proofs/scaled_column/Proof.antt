@@ -15,7 +15,7 @@ use Rattle.field.proofs.KindLaws.{usable-field, size-fits}
 use Rattle.layout.specs.Width.{symbolsOf}
 use Rattle.layout.proofs.Tiles.{many-symbols}
 use Rattle.layout.proofs.Widths.{length-symbols, getD-symbols}
-use Rattle.recover_matrix.specs.Inverse.{scaledColumn}
+use Rattle.recover_matrix.specs.Inner.Inverse.{scaledColumn}
 use Rattle.recover_matrix.proofs.scaled_column.Statement.{statement}
 use Rattle.recover_matrix.proofs.scaled_column.Tie as tie
 

@@ -14,7 +14,7 @@ use Rattle.field.specs.Kinds.{modulus}
 use Rattle.field.specs.Widths.{bytesFor}
 use Rattle.field.proofs.KindLaws.{usable-prime}
 use Rattle.field.proofs.Widths.{one-byte}
-use Rattle.row_sums.specs.Combined.{TileRows, WeightedRows}
+use Rattle.row_sums.specs.Inner.Combined.{TileRows, WeightedRows}
 use Rattle.row_sums.proofs.TileSums.{narrow-rows, narrow-sums}
 use Rattle.row_sums.proofs.combine.Statement.{statement}
 use Rattle.row_sums.proofs.combine.Tie as tie

@@ -5,7 +5,7 @@ use borrow.Author.Needs.{needs}
 use lib.ListN.{length}
 use Rattle.layout.specs.Layout.{byRow, byLane, rearranged}
 use Rattle.field.specs.Kinds.{modulus}
-use Rattle.row_sums.specs.Combined.{combinedTile}
+use Rattle.row_sums.specs.Inner.Combined.{combinedTile}
 use Rattle.row_sums.proofs.TileSums.{other-tile, length-tile, turned-after}
 use Rattle.row_sums.proofs.combine_turned.Statement.{statement}
 use Rattle.row_sums.proofs.combine_turned.Tie as tie

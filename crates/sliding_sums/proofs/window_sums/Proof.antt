@@ -11,7 +11,7 @@ use Rattle.field.specs.Primes.{isPrime}
 use Rattle.field.specs.Fields.{sizeOf}
 use Rattle.field.specs.Kinds.{modulus, usable}
 use Rattle.field.proofs.KindLaws.{usable-prime}
-use Rattle.sliding_sums.specs.Windows.{Windows}
+use Rattle.sliding_sums.specs.Inner.Windows.{Windows}
 use Rattle.sliding_sums.proofs.window_sums.Statement.{statement}
 use Rattle.sliding_sums.proofs.window_sums.Tie as tie
 

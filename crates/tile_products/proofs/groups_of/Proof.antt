@@ -1,7 +1,7 @@
 use mathlib.Core.Path.{refl}
 use native.Mathlib.Omega.{arith}
 use borrow.Author.Needs.{needs}
-use Rattle.tile_products.specs.Products.{groupsOf}
+use Rattle.tile_products.specs.Inner.Products.{groupsOf}
 use Rattle.tile_products.proofs.groups_of.Statement.{statement}
 use Rattle.tile_products.proofs.groups_of.Tie as tie
 

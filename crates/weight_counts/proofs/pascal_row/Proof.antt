@@ -5,7 +5,7 @@ use native.Mathlib.Omega.{arith}
 use borrow.Author.Needs.{needs}
 use lib.ListN.{length}
 use Rattle.lists.specs.Padded.{zeros}
-use Rattle.weight_counts.specs.Inner.{binomials}
+use Rattle.weight_counts.specs.Inner.Counting.{binomials}
 use Rattle.weight_counts.proofs.Table.{row-start, row-next, length-row}
 use Rattle.weight_counts.proofs.pascal_row.Statement.{statement}
 use Rattle.weight_counts.proofs.pascal_row.Tie as tie

@@ -4,7 +4,7 @@ use Prim.Native.Nat.{_+_, _-_, _≤_}
 use native.Mathlib.Omega.{arith}
 use borrow.Author.Needs.{needs}
 use lib.ListN.{length}
-use Rattle.weight_counts.specs.Inner.{withPrevious, differencesOf}
+use Rattle.weight_counts.specs.Inner.Counting.{withPrevious, differencesOf}
 use Rattle.weight_counts.proofs.Table.{turnsOf, turns-next, turns-table, table-mono, length-table}
 use Rattle.weight_counts.proofs.take_differences.Statement.{statement}
 use Rattle.weight_counts.proofs.take_differences.Tie as tie

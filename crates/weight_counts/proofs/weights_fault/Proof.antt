@@ -7,7 +7,7 @@ use Rattle.field.proofs.FieldOf.{size-pos}
 use Rattle.field.proofs.KindLaws.{usable-field, size-fits}
 use Rattle.generator.specs.Records.{modulusOf, size}
 use Rattle.weight_counts.specs.Weights.{weightsFault}
-use Rattle.weight_counts.specs.Inner.{messageCount}
+use Rattle.weight_counts.specs.Inner.Counting.{messageCount}
 use Rattle.weight_counts.proofs.Powers.{messages-bad, messages-not-bad}
 use Rattle.weight_counts.proofs.weights_fault.Statement.{statement}
 use Rattle.weight_counts.proofs.weights_fault.Tie as tie

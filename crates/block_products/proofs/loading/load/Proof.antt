@@ -5,7 +5,7 @@ use native.Mathlib.Omega.{arith}
 use borrow.Author.Needs.{needs}
 use Rattle.layout.specs.Width.{symbolsOf}
 use Rattle.layout.proofs.Widths.{symbols-bytes}
-use Rattle.block_products.specs.Ways.{sideOf}
+use Rattle.block_products.specs.Inner.Ways.{sideOf}
 use Rattle.block_products.proofs.Lanes.{rows-inside}
 use Rattle.block_products.proofs.loading.load.Statement.{statement}
 use Rattle.block_products.proofs.loading.load.Tie as tie

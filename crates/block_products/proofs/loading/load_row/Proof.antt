@@ -8,7 +8,7 @@ use lib.ListN.{length, getD}
 use Rattle.lists.specs.Rows.{from}
 use Rattle.lists.proofs.Rows.{part-size, part-length, row-inside, length-from, getD-from}
 use Rattle.layout.proofs.Runs.{length-replaced}
-use Rattle.tiles.specs.Tiles.{TileOf}
+use Rattle.tiles.specs.Inner.Tiles.{TileOf}
 use Rattle.tiles.proofs.Gathered.{tile-none, tile-more}
 use Rattle.block_products.proofs.loading.load_row.Statement.{statement}
 use Rattle.block_products.proofs.loading.load_row.Tie as tie

@@ -14,7 +14,7 @@ use Rattle.layout.specs.Layout.{byRow, laneOf}
 use Rattle.layout.specs.Width.{symbolsOf, bytesOf}
 use Rattle.layout.proofs.Buffers.{length-lane}
 use Rattle.layout.proofs.Widths.{length-bytes}
-use Rattle.tiles.specs.Tiles.{TileOf}
+use Rattle.tiles.specs.Inner.Tiles.{TileOf}
 use Rattle.tiles.proofs.Gathered.{tile-none, tile-more, tile-lane}
 use Rattle.block_products.proofs.Lanes.{row-part, row-loaded}
 use Rattle.block_products.proofs.loading.load_rows.Statement.{statement}

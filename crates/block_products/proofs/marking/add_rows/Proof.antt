@@ -5,8 +5,8 @@ use native.Mathlib.Omega.{arith}
 use lib.ListN.{length, getD, take, drop}
 use Rattle.lists.proofs.Fill.{length-zeros}
 use Rattle.lists.proofs.Rows.{part-length, getD-part, row-inside}
-use Rattle.kernel.specs.Lanes.{lanewise}
-use Rattle.block_products.specs.Marks.{zeroMarks}
+use Rattle.kernel.specs.Inner.Lanes.{lanewise}
+use Rattle.block_products.specs.Inner.Marks.{zeroMarks}
 use Rattle.block_products.proofs.Marks.{zero-none, zero-more, length-zero-marks}
 use Rattle.block_products.proofs.marking.add_rows.Statement.{statement}
 use Rattle.block_products.proofs.marking.add_rows.Tie as tie

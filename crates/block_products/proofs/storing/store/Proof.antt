@@ -4,7 +4,7 @@ use native.Mathlib.Nat.{mul-le-mul}
 use native.Mathlib.Omega.{arith}
 use borrow.Author.Needs.{needs}
 use lib.ListN.{length}
-use Rattle.block_products.specs.Ways.{outBytes, Done}
+use Rattle.block_products.specs.Inner.Ways.{outBytes, Done}
 use Rattle.block_products.proofs.Lanes.{rows-inside}
 use Rattle.block_products.proofs.storing.store.Statement.{statement}
 use Rattle.block_products.proofs.storing.store.Tie as tie

@@ -8,7 +8,7 @@ use lib.Seq.{length-take-le}
 use Rattle.lists.proofs.Rows.{part-size, part-length}
 use Rattle.layout.proofs.Runs.{lanes-inside}
 use Rattle.tile_products.proofs.Lanes.{lane-prefix}
-use Rattle.block_products.specs.Ways.{Sums}
+use Rattle.block_products.specs.Inner.Ways.{Sums}
 use Rattle.block_products.proofs.Lanes.{rows-inside}
 use Rattle.block_products.proofs.Writing.{lanes-step}
 use Rattle.block_products.proofs.storing.store_lanes.Statement.{statement}

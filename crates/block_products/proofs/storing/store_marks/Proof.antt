@@ -5,7 +5,7 @@ use native.Mathlib.Omega.{arith}
 use borrow.Author.Needs.{needs}
 use lib.ListN.{length, getD}
 use Rattle.lists.proofs.Rows.{part-size, part-length}
-use Rattle.block_products.specs.Marks.{zeroMarks}
+use Rattle.block_products.specs.Inner.Marks.{zeroMarks}
 use Rattle.block_products.proofs.Writing.{marks-step}
 use Rattle.block_products.proofs.storing.store_marks.Statement.{statement}
 use Rattle.block_products.proofs.storing.store_marks.Tie as tie

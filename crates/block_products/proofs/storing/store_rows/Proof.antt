@@ -6,12 +6,12 @@ use native.Mathlib.Omega.{arith}
 use lib.ListN.{length, getD, take, drop}
 use Rattle.lists.specs.Rows.{from}
 use Rattle.lists.proofs.Rows.{part-size, part-length, getD-part, row-inside}
-use Rattle.layout.specs.Filling.{RowsFilled}
+use Rattle.layout.specs.Inner.Filling.{RowsFilled}
 use Rattle.layout.specs.Width.{bytesOf}
 use Rattle.layout.proofs.LaneParts.{lanes-long}
 use Rattle.layout.proofs.Runs.{length-replaced}
 use Rattle.layout.proofs.Stretches.{stretch, stretch-start, stretch-end, stretch-row}
-use Rattle.block_products.specs.Ways.{Sums, RowsDone}
+use Rattle.block_products.specs.Inner.Ways.{Sums, RowsDone}
 use Rattle.block_products.proofs.Writing.{row-sums}
 use Rattle.block_products.proofs.storing.store_rows.Statement.{statement}
 use Rattle.block_products.proofs.storing.store_rows.Tie as tie

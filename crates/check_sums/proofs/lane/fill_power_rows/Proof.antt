@@ -8,7 +8,7 @@ use lib.ListN.{length}
 use Rattle.lists.specs.Rows.{rowsFrom}
 use Rattle.lists.proofs.Rows.{rows-next, rows-end, row-after, row-inside, part-size, part-length}
 use Rattle.lists.proofs.Fill.{Fills, fills-start, fills-part, fills-all}
-use Rattle.check_sums.specs.Sums.{powerBytes}
+use Rattle.check_sums.specs.Inner.Sums.{powerBytes}
 use Rattle.check_sums.proofs.Sizes.{lane-small}
 use Rattle.check_sums.proofs.OneLane.{byteRow, length-power-bytes, power-tile}
 use Rattle.check_sums.proofs.lane.fill_power_rows.Statement.{statement}

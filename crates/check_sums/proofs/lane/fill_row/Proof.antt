@@ -14,7 +14,7 @@ use Rattle.lists.proofs.Fill.{Fills, fills-start, fills-put, fills-all}
 use Rattle.field.proofs.Bounds.{power-below}
 use Rattle.generator.specs.Records.{modulusOf}
 use Rattle.generator.proofs.Widths.{width-range, size-fits-width}
-use Rattle.check_sums.specs.Sums.{powerBytes}
+use Rattle.check_sums.specs.Inner.Sums.{powerBytes}
 use Rattle.check_sums.proofs.Sums.{power-place, power-at}
 use Rattle.check_sums.proofs.OneLane.{next-place, byte-at}
 use Rattle.check_sums.proofs.lane.fill_row.Statement.{statement}

@@ -5,7 +5,7 @@ use borrow.Author.Needs.{needs}
 use lib.ListN.{length}
 use Rattle.lists.specs.Numbers.{allBelow}
 use Rattle.lists.proofs.Padding.{take-padded}
-use Rattle.check_sums.specs.Sums.{checkSums}
+use Rattle.check_sums.specs.Inner.Sums.{checkSums}
 use Rattle.check_sums.proofs.OneLane.{word-sums, length-sums}
 use Rattle.check_sums.proofs.lane.is_word.Statement.{statement}
 use Rattle.check_sums.proofs.lane.is_word.Tie as tie

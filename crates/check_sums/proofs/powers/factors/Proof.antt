@@ -9,7 +9,7 @@ use lib.ListN.{getD}
 use Rattle.lists.specs.Padded.{zeros, padded}
 use Rattle.lists.proofs.Rows.{from-ext}
 use Rattle.lists.proofs.Fill.{Filled, filled-start, filled-put, filled-end}
-use Rattle.check_sums.specs.Powers.{factorsOf}
+use Rattle.check_sums.specs.Inner.Powers.{factorsOf}
 use Rattle.check_sums.proofs.Sums.{power-place, power-at, next-factor}
 use Rattle.check_sums.proofs.powers.factors.Statement.{statement}
 use Rattle.check_sums.proofs.powers.factors.Tie as tie

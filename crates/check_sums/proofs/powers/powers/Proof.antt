@@ -11,7 +11,7 @@ use Rattle.field.proofs.Bounds.{power-below}
 use Rattle.field.proofs.KindLaws.{size-fits}
 use Rattle.field.proofs.Powers.{power-next}
 use Rattle.generator.specs.Records.{size}
-use Rattle.check_sums.specs.Powers.{powersOf}
+use Rattle.check_sums.specs.Inner.Powers.{powersOf}
 use Rattle.check_sums.proofs.powers.powers.Statement.{statement}
 use Rattle.check_sums.proofs.powers.powers.Tie as tie
 

@@ -4,14 +4,14 @@ use Prim.Native.Nat.{_<_}
 use borrow.Author.Needs.{needs}
 use Rattle.field.specs.Fields.{sizeOf}
 use Rattle.field.specs.Kinds.{modulus}
-use Rattle.field.specs.Sums.{dot}
+use Rattle.field.specs.Inner.Sums.{dot}
 use Rattle.field.proofs.Bounds.{mul-below}
 use Rattle.field.proofs.Inverse.{inverse-below}
 use Rattle.field.proofs.Sums.{dot-below}
 use Rattle.field.proofs.KindLaws.{usable-field}
-use Rattle.interpolation.specs.Polynomials.{quotientOf}
+use Rattle.interpolation.specs.Inner.Polynomials.{quotientOf}
 use Rattle.interpolation.proofs.Coefficients.{quotientOf-below}
-use Rattle.decode.specs.Errors.{errorOf}
+use Rattle.decode.specs.Inner.Errors.{errorOf}
 use Rattle.decode.proofs.ErrorSymbols.{errorOf-below}
 use Rattle.decode.proofs.errors.error_at.Statement.{statement}
 use Rattle.decode.proofs.errors.error_at.Tie as tie

@@ -4,10 +4,10 @@ use native.Mathlib.Omega.{arith}
 use borrow.Author.Needs.{needs}
 use lib.ListN.{length}
 use Rattle.field.specs.Kinds.{modulus}
-use Rattle.interpolation.specs.Points.{pointsOf}
+use Rattle.interpolation.specs.Inner.Points.{pointsOf}
 use Rattle.interpolation.proofs.Points.{length-points, points-symbols}
 use Rattle.node_weights.proofs.Parts.{Symbols, Parts, parts}
-use Rattle.decode.specs.Errors.{errorsOf}
+use Rattle.decode.specs.Inner.Errors.{errorsOf}
 use Rattle.decode.proofs.errors.errors.Statement.{statement}
 use Rattle.decode.proofs.errors.errors.Tie as tie
 

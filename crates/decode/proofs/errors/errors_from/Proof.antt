@@ -8,7 +8,7 @@ use Rattle.lists.specs.Padded.{zeros}
 use Rattle.lists.proofs.Fill.{Filled, filled-start, filled-put, filled-end}
 use Rattle.lists.proofs.Numbers.{below-at}
 use Rattle.field.specs.Kinds.{modulus}
-use Rattle.decode.specs.Errors.{errorOf, errorsFrom}
+use Rattle.decode.specs.Inner.Errors.{errorOf, errorsFrom}
 use Rattle.decode.proofs.errors.errors_from.Statement.{statement}
 use Rattle.decode.proofs.errors.errors_from.Tie as tie
 

@@ -14,7 +14,7 @@ use Rattle.field.specs.Kinds.{modulus}
 use Rattle.field.proofs.Bounds.{sub-below}
 use Rattle.field.proofs.FieldOf.{size-pos}
 use Rattle.field.proofs.KindLaws.{usable-field}
-use Rattle.decode.specs.Errors.{removed}
+use Rattle.decode.specs.Inner.Errors.{removed}
 use Rattle.decode.proofs.Removing.{removed-next, removed-end, removed-padded}
 use Rattle.decode.proofs.lanes.removed.Statement.{statement}
 use Rattle.decode.proofs.lanes.removed.Tie as tie

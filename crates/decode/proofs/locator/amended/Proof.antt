@@ -9,7 +9,7 @@ use Rattle.field.specs.Kinds.{modulus}
 use Rattle.field.proofs.Bounds.{mul-below, sub-below}
 use Rattle.field.proofs.FieldOf.{size-pos}
 use Rattle.field.proofs.KindLaws.{usable-field}
-use Rattle.decode.specs.Locating.{shifted, amendedAt}
+use Rattle.decode.specs.Inner.Locating.{shifted, amendedAt}
 use Rattle.decode.proofs.Arrays.{shifted-below}
 use Rattle.decode.proofs.locator.amended.Statement.{statement}
 use Rattle.decode.proofs.locator.amended.Tie as tie

@@ -10,7 +10,7 @@ use Rattle.field.specs.Kinds.{modulus}
 use Rattle.field.proofs.Bounds.{add-below, mul-below}
 use Rattle.field.proofs.FieldOf.{size-pos}
 use Rattle.field.proofs.KindLaws.{usable-field}
-use Rattle.decode.specs.Locating.{partial}
+use Rattle.decode.specs.Inner.Locating.{partial}
 
 abbrev Inv-loop : tie.InvT-loop
 Inv-loop field tables v s e m sum₀ i₀ sum i = (i ≤ m) × (sum < sizeOf (modulus field)) × (sum ≡ partial (modulus field) v s e i)

@@ -11,7 +11,7 @@ use Rattle.field.specs.Fields.{isField, sizeOf}
 use Rattle.field.specs.Kinds.{modulus}
 use Rattle.field.proofs.Inverse.{inverse-below}
 use Rattle.field.proofs.KindLaws.{usable-field}
-use Rattle.decode.specs.Locating.{Below, partial}
+use Rattle.decode.specs.Inner.Locating.{Below, partial}
 use Rattle.decode.proofs.Arrays.{length-filled}
 use Rattle.decode.proofs.Bridge.{holds-below}
 use Rattle.decode.proofs.Steps.{Held, held-start, discrepancy-below, held-kept, held-mended, held-grown, held-now, held-past}

@@ -2,7 +2,7 @@
 use mathlib.Core.Path.{refl, _∙_}
 use native.Mathlib.Omega.{arith}
 use borrow.Author.Needs.{needs}
-use Rattle.encode.specs.Inner.{columnOf}
+use Rattle.encode.specs.Inner.Columns.{columnOf}
 use Rattle.encode.proofs.Words.{product-shares, list-room, columns-ready}
 use Rattle.encode.proofs.lanes.fill_lanes.Statement.{statement}
 use Rattle.encode.proofs.lanes.fill_lanes.Tie as tie

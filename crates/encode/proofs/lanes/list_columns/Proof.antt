@@ -6,10 +6,10 @@ use native.Mathlib.Omega.{arith}
 use borrow.Author.Needs.{needs}
 use Rattle.lists.proofs.Rows.{row-inside}
 use Rattle.generator.specs.Records.{modulusOf}
-use Rattle.tile_products.specs.Products.{groupsOf}
-use Rattle.tile_products.specs.Matrices.{Begun}
+use Rattle.tile_products.specs.Inner.Products.{groupsOf}
+use Rattle.tile_products.specs.Inner.Matrices.{Begun}
 use Rattle.tile_products.proofs.Beginning.{begun-none}
-use Rattle.encode.specs.Inner.{columnOf}
+use Rattle.encode.specs.Inner.Columns.{columnOf}
 use Rattle.encode.proofs.Words.{length-column, column-below}
 use Rattle.encode.proofs.lanes.list_columns.Statement.{statement}
 use Rattle.encode.proofs.lanes.list_columns.Tie as tie

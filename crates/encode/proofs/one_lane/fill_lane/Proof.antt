@@ -13,7 +13,7 @@ use Rattle.field.proofs.FieldOf.{size-pos}
 use Rattle.generator.specs.Records.{modulusOf, size}
 use Rattle.generator.proofs.Widths.{width-range, size-fits-width}
 use Rattle.plan.proofs.Plans.{base-room}
-use Rattle.encode.specs.OneLane.{twice}
+use Rattle.encode.specs.Inner.OneLane.{twice}
 use Rattle.encode.proofs.OneLane.{length-twice, twice-below, placed-below, zeros-below, lane-sums}
 use Rattle.encode.proofs.one_lane.fill_lane.Statement.{statement}
 use Rattle.encode.proofs.one_lane.fill_lane.Tie as tie

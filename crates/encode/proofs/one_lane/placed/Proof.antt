@@ -7,7 +7,7 @@ use lib.ListN.{length, getD, drop, length-set, drop-of-length-le}
 use Rattle.lists.specs.Padded.{zeros}
 use Rattle.lists.proofs.Front.{drop-next}
 use Rattle.plan.proofs.Plans.{shift-place, shift-below}
-use Rattle.encode.specs.OneLane.{placedFrom}
+use Rattle.encode.specs.Inner.OneLane.{placedFrom}
 use Rattle.encode.proofs.one_lane.placed.Statement.{statement}
 use Rattle.encode.proofs.one_lane.placed.Tie as tie
 

@@ -5,7 +5,7 @@ use lib.ListN.{getD}
 use mathlib.Core.Path.{ap}
 use Rattle.lists.specs.Padded.{zeros}
 use Rattle.lists.proofs.Fill.{Filled, filled-start, filled-put, filled-end}
-use Rattle.encode.specs.OneLane.{twice}
+use Rattle.encode.specs.Inner.OneLane.{twice}
 use Rattle.encode.proofs.one_lane.twice_base.Statement.{statement}
 use Rattle.encode.proofs.one_lane.twice_base.Tie as tie
 

@@ -12,7 +12,7 @@ use Rattle.field.specs.Kinds.{modulus}
 use Rattle.field.proofs.Bounds.{sub-below}
 use Rattle.field.proofs.KindLaws.{size-fits}
 use Rattle.generator.specs.Records.{modulusOf, size}
-use Rattle.find_update.specs.Starts.{differences}
+use Rattle.find_update.specs.Inner.Starts.{differences}
 use Rattle.find_update.proofs.compare.difference.Statement.{statement}
 use Rattle.find_update.proofs.compare.difference.Tie as tie
 

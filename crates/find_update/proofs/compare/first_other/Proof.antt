@@ -17,7 +17,7 @@ use Rattle.generator.specs.Records.{modulusOf}
 use Rattle.generator.specs.Generator.{entry}
 use Rattle.generator.proofs.Bounds.{entry-below}
 use Rattle.plan.proofs.Plans.{shift-below, base-room, entry-read}
-use Rattle.find_update.specs.Starts.{firstOther}
+use Rattle.find_update.specs.Inner.Starts.{firstOther}
 use Rattle.find_update.proofs.compare.first_other.Statement.{statement}
 use Rattle.find_update.proofs.compare.first_other.Tie as tie
 

@@ -4,7 +4,7 @@ use native.Mathlib.Nat.{mod-lt}
 use native.Mathlib.Omega.{arith}
 use borrow.Author.Needs.{needs}
 use borrow.Author.Tests.{eq-eqb, ne-eqb}
-use Rattle.find_update.specs.Starts.{nodeBefore, beginsAt}
+use Rattle.find_update.specs.Inner.Starts.{nodeBefore, beginsAt}
 use Rattle.find_update.proofs.rows.begins_at.Statement.{statement}
 use Rattle.find_update.proofs.rows.begins_at.Tie as tie
 

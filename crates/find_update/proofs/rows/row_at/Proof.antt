@@ -12,7 +12,7 @@ use Rattle.lists.proofs.Search.{search-next, search-found, search-end}
 use Rattle.generator.specs.declared.Header.{Header}
 use Rattle.generator.specs.Shifts.{firsts}
 use Rattle.plan.proofs.Plans.{first-in}
-use Rattle.find_update.specs.Starts.{beginsAt, rowStarting}
+use Rattle.find_update.specs.Inner.Starts.{beginsAt, rowStarting}
 use Rattle.find_update.proofs.Multiples.{first-node}
 use Rattle.find_update.proofs.rows.row_at.Statement.{statement}
 use Rattle.find_update.proofs.rows.row_at.Tie as tie

@@ -10,7 +10,7 @@ use Rattle.lists.proofs.Numbers.{below-at}
 use Rattle.field.specs.Fields.{sizeOf}
 use Rattle.field.specs.Kinds.{modulus}
 use Rattle.field.proofs.KindLaws.{usable-field, size-fits}
-use Rattle.interpolation.specs.Polynomials.{quotientOf}
+use Rattle.interpolation.specs.Inner.Polynomials.{quotientOf}
 use Rattle.interpolation.proofs.Coefficients.{Dividing, dividing-start, dividing-next, dividing-below, length-quotientOf, quotientOf-next, quotientOf-end}
 use Rattle.interpolation.proofs.division.quotient.Statement.{statement}
 use Rattle.interpolation.proofs.division.quotient.Tie as tie

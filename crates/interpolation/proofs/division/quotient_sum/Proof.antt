@@ -6,7 +6,7 @@ use Rattle.lists.proofs.Padding.{length-padded, below-padded}
 use Rattle.field.specs.Kinds.{modulus}
 use Rattle.field.proofs.FieldOf.{size-pos}
 use Rattle.field.proofs.KindLaws.{usable-field}
-use Rattle.interpolation.specs.Polynomials.{quotientOf}
+use Rattle.interpolation.specs.Inner.Polynomials.{quotientOf}
 use Rattle.interpolation.proofs.Coefficients.{length-quotientOf, quotientOf-symbols}
 use Rattle.interpolation.proofs.PaddedSums.{dot-padded}
 use Rattle.interpolation.proofs.division.quotient_sum.Statement.{statement}

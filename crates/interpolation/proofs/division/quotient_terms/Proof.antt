@@ -4,7 +4,7 @@ use borrow.Author.Needs.{needs}
 use lib.ListN.{length, take}
 use Rattle.lists.proofs.Padding.{take-padded}
 use Rattle.field.specs.Kinds.{modulus}
-use Rattle.interpolation.specs.Polynomials.{quotientOf}
+use Rattle.interpolation.specs.Inner.Polynomials.{quotientOf}
 use Rattle.interpolation.proofs.Coefficients.{length-quotientOf, quotientOf-symbols}
 use Rattle.interpolation.proofs.division.quotient_terms.Statement.{statement}
 use Rattle.interpolation.proofs.division.quotient_terms.Tie as tie

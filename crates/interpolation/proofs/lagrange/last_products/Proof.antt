@@ -11,7 +11,7 @@ use Rattle.field.specs.Fields.{sizeOf}
 use Rattle.field.specs.Kinds.{modulus}
 use Rattle.field.proofs.Bounds.{sub-below}
 use Rattle.field.proofs.KindLaws.{usable-field, size-fits}
-use Rattle.interpolation.specs.Lagrange.{productAt}
+use Rattle.interpolation.specs.Inner.Lagrange.{productAt}
 use Rattle.interpolation.proofs.Values.{productAt-end, productAt-next, productAt-below}
 use Rattle.interpolation.proofs.lagrange.last_products.Statement.{statement}
 use Rattle.interpolation.proofs.lagrange.last_products.Tie as tie

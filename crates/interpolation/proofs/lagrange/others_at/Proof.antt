@@ -7,7 +7,7 @@ use lib.Seq.{length-take-le}
 use Rattle.lists.proofs.Rows.{part-rest}
 use Rattle.lists.proofs.Numbers.{below-take, below-drop}
 use Rattle.field.proofs.KindLaws.{usable-field}
-use Rattle.interpolation.specs.Lagrange.{othersAt}
+use Rattle.interpolation.specs.Inner.Lagrange.{othersAt}
 use Rattle.interpolation.proofs.Points.{symbols-take, symbols-drop}
 use Rattle.interpolation.proofs.Values.{productAt-below}
 use Rattle.interpolation.proofs.lagrange.others_at.Statement.{statement}

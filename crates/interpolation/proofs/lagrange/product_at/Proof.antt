@@ -8,7 +8,7 @@ use Rattle.field.specs.Fields.{sizeOf}
 use Rattle.field.specs.Kinds.{modulus}
 use Rattle.field.proofs.Bounds.{sub-below}
 use Rattle.field.proofs.KindLaws.{usable-field}
-use Rattle.interpolation.specs.Lagrange.{productAt}
+use Rattle.interpolation.specs.Inner.Lagrange.{productAt}
 use Rattle.interpolation.proofs.Values.{productAt-end, productAt-next, productAt-below}
 use Rattle.interpolation.proofs.lagrange.product_at.Statement.{statement}
 use Rattle.interpolation.proofs.lagrange.product_at.Tie as tie

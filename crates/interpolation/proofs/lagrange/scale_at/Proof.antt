@@ -4,7 +4,7 @@ use native.Mathlib.Omega.{arith}
 use borrow.Author.Needs.{needs}
 use Rattle.lists.proofs.Numbers.{below-at}
 use Rattle.field.proofs.KindLaws.{usable-field}
-use Rattle.interpolation.specs.Lagrange.{scaleAt}
+use Rattle.interpolation.specs.Inner.Lagrange.{scaleAt}
 use Rattle.interpolation.proofs.Values.{othersAt-below}
 use Rattle.interpolation.proofs.lagrange.scale_at.Statement.{statement}
 use Rattle.interpolation.proofs.lagrange.scale_at.Tie as tie

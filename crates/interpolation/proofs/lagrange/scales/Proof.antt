@@ -6,7 +6,7 @@ use Rattle.lists.specs.Padded.{zeros}
 use Rattle.lists.proofs.Fill.{Filled, filled-start, filled-put, filled-end}
 use Rattle.field.specs.Kinds.{modulus}
 use Rattle.field.proofs.KindLaws.{usable-field, size-fits}
-use Rattle.interpolation.specs.Lagrange.{scaleAt, scalesOf}
+use Rattle.interpolation.specs.Inner.Lagrange.{scaleAt, scalesOf}
 use Rattle.interpolation.proofs.Values.{scaleAt-below}
 use Rattle.interpolation.proofs.lagrange.scales.Statement.{statement}
 use Rattle.interpolation.proofs.lagrange.scales.Tie as tie

@@ -10,7 +10,7 @@ use Rattle.field.specs.Fields.{sizeOf}
 use Rattle.field.specs.Kinds.{modulus}
 use Rattle.field.proofs.Bounds.{sub-below, mul-below}
 use Rattle.field.proofs.KindLaws.{usable-field, size-fits}
-use Rattle.interpolation.specs.Lagrange.{productAt, scaleAt, basisAt, basisValues}
+use Rattle.interpolation.specs.Inner.Lagrange.{productAt, scaleAt, basisAt, basisValues}
 use Rattle.interpolation.proofs.Values.{length-scales, getD-scales, productAt-below, scaleAt-below, basisAt-below}
 use Rattle.interpolation.proofs.Basis.{product-last, product-none, after-at, basis-is}
 use Rattle.interpolation.proofs.lagrange.values.Statement.{statement}

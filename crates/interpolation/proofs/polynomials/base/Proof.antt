@@ -10,7 +10,7 @@ use Rattle.field.specs.Kinds.{modulus}
 use Rattle.field.proofs.Bounds.{power-below}
 use Rattle.field.proofs.KindLaws.{usable-field}
 use Rattle.field.proofs.Powers.{power-next}
-use Rattle.interpolation.specs.Polynomials.{timesLinear, baseOf}
+use Rattle.interpolation.specs.Inner.Polynomials.{timesLinear, baseOf}
 use Rattle.interpolation.proofs.Coefficients.{Grows, grows, one-padded, baseOf-next, length-baseOf, baseOf-below}
 use Rattle.interpolation.proofs.polynomials.base.Statement.{statement}
 use Rattle.interpolation.proofs.polynomials.base.Tie as tie

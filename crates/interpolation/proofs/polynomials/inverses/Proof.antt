@@ -11,7 +11,7 @@ use Rattle.field.specs.Fields.{sizeOf, inverse}
 use Rattle.field.specs.Kinds.{modulus}
 use Rattle.field.proofs.Inverse.{inverse-below}
 use Rattle.field.proofs.KindLaws.{usable-field, size-fits}
-use Rattle.interpolation.specs.Polynomials.{inversesOf}
+use Rattle.interpolation.specs.Inner.Polynomials.{inversesOf}
 use Rattle.interpolation.proofs.polynomials.inverses.Statement.{statement}
 use Rattle.interpolation.proofs.polynomials.inverses.Tie as tie
 

@@ -8,7 +8,7 @@ use Rattle.lists.specs.Padded.{zeros, padded}
 use Rattle.lists.proofs.Numbers.{below-at, below-drop}
 use Rattle.field.specs.Kinds.{modulus}
 use Rattle.field.proofs.KindLaws.{usable-field}
-use Rattle.interpolation.specs.Polynomials.{productOf}
+use Rattle.interpolation.specs.Inner.Polynomials.{productOf}
 use Rattle.interpolation.proofs.Coefficients.{Grows, grows, one-padded, productOf-end, productOf-next, length-productOf, productOf-below}
 use Rattle.interpolation.proofs.polynomials.product.Statement.{statement}
 use Rattle.interpolation.proofs.polynomials.product.Tie as tie

@@ -10,7 +10,7 @@ use Rattle.field.specs.Kinds.{modulus}
 use Rattle.field.proofs.Bounds.{sub-below, mul-below}
 use Rattle.field.proofs.FieldOf.{size-pos}
 use Rattle.field.proofs.KindLaws.{usable-field, size-fits}
-use Rattle.interpolation.specs.Polynomials.{carried}
+use Rattle.interpolation.specs.Inner.Polynomials.{carried}
 use Rattle.interpolation.proofs.Coefficients.{carried-next, carried-end}
 use Rattle.interpolation.proofs.polynomials.times_linear.Statement.{statement}
 use Rattle.interpolation.proofs.polynomials.times_linear.Tie as tie

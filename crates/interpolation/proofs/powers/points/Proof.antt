@@ -10,7 +10,7 @@ use Rattle.field.specs.Fields.{power}
 use Rattle.field.specs.Kinds.{modulus}
 use Rattle.field.proofs.Bounds.{power-below}
 use Rattle.field.proofs.KindLaws.{usable-field, size-fits}
-use Rattle.interpolation.specs.Points.{pointsOf}
+use Rattle.interpolation.specs.Inner.Points.{pointsOf}
 use Rattle.interpolation.proofs.powers.points.Statement.{statement}
 use Rattle.interpolation.proofs.powers.points.Tie as tie
 

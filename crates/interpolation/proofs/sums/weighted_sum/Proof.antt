@@ -6,7 +6,7 @@ use lib.ListN.{length, getD, drop}
 use Rattle.lists.proofs.Numbers.{below-at, below-drop}
 use Rattle.field.specs.Fields.{sizeOf}
 use Rattle.field.specs.Kinds.{modulus}
-use Rattle.field.specs.Sums.{dot}
+use Rattle.field.specs.Inner.Sums.{dot}
 use Rattle.field.proofs.Bounds.{mul-below}
 use Rattle.field.proofs.KindLaws.{usable-field}
 use Rattle.field.proofs.Sums.{dot-below}

@@ -7,7 +7,7 @@ use lib.ListN.{length, getD}
 use Rattle.lists.proofs.Numbers.{below-at}
 use Rattle.lists.proofs.Fill.{fills-next}
 use Rattle.field.specs.Fields.{add, mul}
-use Rattle.kernel.specs.Lanes.{addScaled}
+use Rattle.kernel.specs.Inner.Lanes.{addScaled}
 use Rattle.kernel.proofs.Filling.{Changed, changed-none, changed-lane, changed-all}
 use Rattle.kernel.proofs.Lanes.{none-added}
 use Rattle.kernel.proofs.prime.add_scaled.Statement.{statement}

@@ -6,7 +6,7 @@ use native.Mathlib.Nat.{mul-zero}
 use native.Mathlib.Omega.{arith}
 use borrow.Author.Needs.{needs}
 use lib.ListN.{length, getD, set}
-use Rattle.kernel.specs.Halves.{pairProduct, wrapped}
+use Rattle.kernel.specs.Inner.Halves.{pairProduct, wrapped}
 use Rattle.kernel.proofs.Filling.{Changed, changed-none, changed-lane, changed-all}
 use Rattle.kernel.proofs.Halves.{wrapped-none}
 use Rattle.kernel.proofs.wide.add_products.Statement.{statement}

@@ -4,7 +4,7 @@ use Prim.Native.Nat.{ℕ, _+_, _*_, _%_}
 use native.Mathlib.Nat.{mod-lt}
 use native.Mathlib.Omega.{arith}
 use borrow.Author.Needs.{needs}
-use Rattle.kernel.specs.Halves.{restOf}
+use Rattle.kernel.specs.Inner.Halves.{restOf}
 use Rattle.kernel.proofs.wide.remainder.Statement.{statement}
 use Rattle.kernel.proofs.wide.remainder.Tie as tie
 

@@ -5,7 +5,7 @@ use lib.ListN.{getD}
 use Rattle.lists.specs.Rows.{from}
 use Rattle.lists.specs.Padded.{zeros, padded}
 use Rattle.lists.proofs.Fill.{Filled, filled-start, filled-put, filled-end}
-use Rattle.kernel.specs.Halves.{restOf}
+use Rattle.kernel.specs.Inner.Halves.{restOf}
 use Rattle.kernel.proofs.wide.remainders.Statement.{statement}
 use Rattle.kernel.proofs.wide.remainders.Tie as tie
 

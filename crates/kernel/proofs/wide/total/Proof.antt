@@ -1,7 +1,7 @@
 -- `wide::total` meets its contract.
 use native.Mathlib.Omega.{arith}
 use borrow.Author.Needs.{needs}
-use Rattle.kernel.specs.Halves.{totalOf}
+use Rattle.kernel.specs.Inner.Halves.{totalOf}
 use Rattle.kernel.proofs.wide.total.Statement.{statement}
 use Rattle.kernel.proofs.wide.total.Tie as tie
 

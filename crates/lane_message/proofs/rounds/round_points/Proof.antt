@@ -10,7 +10,7 @@ use Rattle.lists.specs.Padded.{zeros, padded}
 use Rattle.lists.proofs.Fill.{Filled, filled-start, filled-put, filled-end}
 use Rattle.lists.proofs.Rows.{from-ext}
 use Rattle.check_sums.proofs.Sums.{power-place, power-at}
-use Rattle.lane_message.specs.Rows.{roundPoints}
+use Rattle.lane_message.specs.Inner.Rows.{roundPoints}
 use Rattle.lane_message.proofs.Points.{power-modulo}
 use Rattle.lane_message.proofs.rounds.round_points.Statement.{statement}
 use Rattle.lane_message.proofs.rounds.round_points.Tie as tie

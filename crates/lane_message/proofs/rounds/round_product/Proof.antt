@@ -7,7 +7,7 @@ use borrow.Author.Needs.{needs}
 use lib.ListN.{length, take}
 use Rattle.lists.specs.Padded.{padded}
 use Rattle.lists.proofs.Padding.{take-padded, length-padded}
-use Rattle.lane_message.specs.Rows.{roundPoints}
+use Rattle.lane_message.specs.Inner.Rows.{roundPoints}
 use Rattle.lane_message.proofs.RowProduct.{length-round, round-symbols, round-product}
 use Rattle.lane_message.proofs.rounds.round_product.Statement.{statement}
 use Rattle.lane_message.proofs.rounds.round_product.Tie as tie

@@ -6,7 +6,7 @@ use lib.ListN.{getD}
 use Rattle.lists.specs.Choice.{pick}
 use Rattle.lists.specs.Padded.{zeros}
 use Rattle.lists.proofs.Fill.{Filled, filled-start, filled-put, filled-end}
-use Rattle.lane_message.specs.Rows.{spacedOf}
+use Rattle.lane_message.specs.Inner.Rows.{spacedOf}
 use Rattle.lane_message.proofs.rounds.spread.Statement.{statement}
 use Rattle.lane_message.proofs.rounds.spread.Tie as tie
 

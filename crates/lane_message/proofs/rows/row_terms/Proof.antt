@@ -6,7 +6,7 @@ use borrow.Author.Needs.{needs}
 use lib.ListN.{length, getD}
 use Rattle.lists.proofs.Numbers.{below-at}
 use Rattle.generator.specs.Records.{size}
-use Rattle.node_weights.specs.Rows.{rowPoints, rowTerms}
+use Rattle.node_weights.specs.Inner.Rows.{rowPoints, rowTerms}
 use Rattle.node_weights.proofs.Parts.{Symbols, row-symbols}
 use Rattle.lane_message.proofs.rows.row_terms.Statement.{statement}
 use Rattle.lane_message.proofs.rows.row_terms.Tie as tie

@@ -5,7 +5,7 @@ use borrow.Author.Needs.{needs}
 use Rattle.field.proofs.Bounds.{one-below, sub-below, mul-below}
 use Rattle.field.proofs.Inverse.{inverse-below}
 use Rattle.generator.specs.Records.{size}
-use Rattle.lane_message.specs.Rows.{stepRatio}
+use Rattle.lane_message.specs.Inner.Rows.{stepRatio}
 use Rattle.lane_message.proofs.rows.step_ratio.Statement.{statement}
 use Rattle.lane_message.proofs.rows.step_ratio.Tie as tie
 

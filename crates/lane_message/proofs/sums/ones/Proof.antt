@@ -9,7 +9,7 @@ use Rattle.field.proofs.BothKinds.{arithmetic}
 use Rattle.field.proofs.Bounds.{add-below}
 use Rattle.field.proofs.FieldOf.{size-pos}
 use Rattle.field.proofs.KindLaws.{usable-field}
-use Rattle.lane_message.specs.Symbols.{onesOf}
+use Rattle.lane_message.specs.Inner.Symbols.{onesOf}
 use Rattle.lane_message.proofs.sums.ones.Statement.{statement}
 use Rattle.lane_message.proofs.sums.ones.Tie as tie
 

@@ -14,7 +14,7 @@ use Rattle.lists.proofs.Search.{search-next, search-found, search-end}
 use Rattle.field.specs.declared.Field.{Field}
 use Rattle.field.specs.Fields.{mul}
 use Rattle.field.specs.Kinds.{modulus}
-use Rattle.mends.specs.BySums.{firstOff}
+use Rattle.mends.specs.Inner.BySums.{firstOff}
 use Rattle.mends.proofs.changes.first_off.Statement.{statement}
 use Rattle.mends.proofs.changes.first_off.Tie as tie
 

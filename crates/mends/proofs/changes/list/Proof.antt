@@ -8,7 +8,7 @@ use lib.ListN.{take, length-map}
 use Rattle.lists.proofs.Padding.{take-padded}
 use Rattle.layout.specs.Width.{bytesOf}
 use Rattle.generator.specs.Records.{width}
-use Rattle.mends.specs.BySums.{upNodes, mendedAt}
+use Rattle.mends.specs.Inner.BySums.{upNodes, mendedAt}
 use Rattle.mends.specs.Promise.{inFront}
 use Rattle.mends.proofs.BySums.{up-few, up-below}
 use Rattle.mends.proofs.Front.{front-room, front-part, front-length, new-below}

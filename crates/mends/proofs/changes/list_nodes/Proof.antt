@@ -17,7 +17,7 @@ use Rattle.field.proofs.Bounds.{power-below}
 use Rattle.generator.specs.declared.Header.{Header}
 use Rattle.generator.specs.Records.{modulusOf}
 use Rattle.check_sums.proofs.Sums.{power-place, power-at}
-use Rattle.mends.specs.BySums.{firstOff, goesUp, upNodes}
+use Rattle.mends.specs.Inner.BySums.{firstOff, goesUp, upNodes}
 use Rattle.mends.specs.Promise.{inFront}
 use Rattle.mends.proofs.changes.list_nodes.Statement.{statement}
 use Rattle.mends.proofs.changes.list_nodes.Tie as tie

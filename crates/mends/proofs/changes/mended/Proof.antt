@@ -11,7 +11,7 @@ use Rattle.field.proofs.Bounds.{mul-below, power-below}
 use Rattle.field.proofs.KindLaws.{size-fits}
 use Rattle.generator.specs.Records.{modulusOf, size}
 use Rattle.check_sums.proofs.Sums.{power-place, power-at}
-use Rattle.mends.specs.BySums.{mendedAt}
+use Rattle.mends.specs.Inner.BySums.{mendedAt}
 use Rattle.mends.proofs.BySums.{mended-below}
 use Rattle.mends.proofs.changes.mended.Statement.{statement}
 use Rattle.mends.proofs.changes.mended.Tie as tie

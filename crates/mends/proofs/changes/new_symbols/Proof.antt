@@ -7,7 +7,7 @@ use Rattle.lists.specs.Padded.{zeros, padded}
 use Rattle.lists.proofs.Fill.{Filled, filled-start, filled-put, filled-end}
 use Rattle.lists.proofs.Numbers.{below-at}
 use Rattle.lists.proofs.Places.{map-from}
-use Rattle.mends.specs.BySums.{mendedAt}
+use Rattle.mends.specs.Inner.BySums.{mendedAt}
 use Rattle.mends.proofs.changes.new_symbols.Statement.{statement}
 use Rattle.mends.proofs.changes.new_symbols.Tie as tie
 

@@ -15,7 +15,7 @@ use Rattle.generator.specs.declared.Header.{Header}
 use Rattle.generator.specs.Records.{modulusOf}
 use Rattle.generator.proofs.Widths.{width-some}
 use Rattle.tiles.proofs.Parts.{fills-stretch, fills-whole}
-use Rattle.row_sums.specs.Combined.{combined}
+use Rattle.row_sums.specs.Inner.Combined.{combined}
 use Rattle.recover.proofs.Tiles.{length-sums, combined-part}
 use Rattle.recover.proofs.shares.fill_share.Statement.{statement}
 use Rattle.recover.proofs.shares.fill_share.Tie as tie

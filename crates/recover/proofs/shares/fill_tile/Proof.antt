@@ -10,10 +10,10 @@ use Rattle.lists.specs.Numbers.{allBelow}
 use Rattle.lists.proofs.Numbers.{at-below}
 use Rattle.layout.specs.Layout.{byRow}
 use Rattle.layout.specs.Width.{bytesOf}
-use Rattle.layout.specs.Tiles.{tileSymbols}
+use Rattle.layout.specs.Inner.Tiles.{tileSymbols}
 use Rattle.generator.specs.Records.{modulusOf}
 use Rattle.blocks.proofs.Tiles.{lanes-tile, lanes-symbols}
-use Rattle.row_sums.specs.Combined.{combined}
+use Rattle.row_sums.specs.Inner.Combined.{combined}
 use Rattle.row_sums.proofs.Columns.{rows-ready, combined-symbols}
 use Rattle.recover.proofs.shares.fill_tile.Statement.{statement}
 use Rattle.recover.proofs.shares.fill_tile.Tie as tie

@@ -2,7 +2,7 @@
 use mathlib.Core.Path.{_∙_}
 use native.Mathlib.Omega.{arith}
 use borrow.Author.Needs.{needs}
-use Rattle.recover_matrix.specs.Inverse.{PreparedNodes}
+use Rattle.recover_matrix.specs.Inner.Inverse.{PreparedNodes}
 use Rattle.recover_matrix.proofs.Room.{square-room}
 use Rattle.recover_matrix.proofs.Prepared.{message-same}
 use Rattle.recover_matrix.proofs.message.fill_message.Statement.{statement}

@@ -9,8 +9,8 @@ use lib.Seq.{length-take-le}
 use Rattle.generator.specs.Records.{width}
 use Rattle.generator.proofs.Widths.{width-range}
 use Rattle.tile_products.proofs.Beginning.{begun-made}
-use Rattle.block_products.specs.Ways.{sideOf, outBytes, resultBytes}
-use Rattle.recover_matrix.specs.Inverse.{preparedRow}
+use Rattle.block_products.specs.Inner.Ways.{sideOf, outBytes, resultBytes}
+use Rattle.recover_matrix.specs.Inner.Inverse.{preparedRow}
 use Rattle.recover_matrix.proofs.message.fill_with.Statement.{statement}
 use Rattle.recover_matrix.proofs.message.fill_with.Tie as tie
 

@@ -5,7 +5,7 @@ use native.Mathlib.Omega.{arith}
 use borrow.Author.Needs.{needs}
 use lib.ListN.{length, drop}
 use Rattle.kernel.proofs.Lanes.{length-lanewise}
-use Rattle.row_sums.specs.Digits.{rowsAdded}
+use Rattle.row_sums.specs.Inner.Digits.{rowsAdded}
 use Rattle.row_sums.proofs.Adding.{added-none, added-pair}
 use Rattle.row_sums.proofs.gf256.add_pairs.Statement.{statement}
 use Rattle.row_sums.proofs.gf256.add_pairs.Tie as tie

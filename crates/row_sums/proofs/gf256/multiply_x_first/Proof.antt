@@ -3,7 +3,7 @@ use mathlib.Core.Path.{ap}
 use native.Mathlib.Omega.{arith}
 use borrow.Author.Needs.{needs}
 use Rattle.field.specs.Bytes.{timesX}
-use Rattle.row_sums.specs.Digits.{rowsAdded, multiplied}
+use Rattle.row_sums.specs.Inner.Digits.{rowsAdded, multiplied}
 use Rattle.row_sums.proofs.Adding.{added-one, added-two}
 use Rattle.row_sums.proofs.gf256.multiply_x_first.Statement.{statement}
 use Rattle.row_sums.proofs.gf256.multiply_x_first.Tie as tie

@@ -2,7 +2,7 @@
 use mathlib.Core.Path.{_∙_}
 use borrow.Author.Needs.{needs}
 use Rattle.kernel.proofs.Lanes.{length-lanewise}
-use Rattle.row_sums.specs.Digits.{multiplied}
+use Rattle.row_sums.specs.Inner.Digits.{multiplied}
 use Rattle.row_sums.proofs.OneLane.{lane-added}
 use Rattle.row_sums.proofs.gf256.step_lane.Statement.{statement}
 use Rattle.row_sums.proofs.gf256.step_lane.Tie as tie

@@ -5,7 +5,7 @@ use Prim.Native.Nat.{ℕ}
 use native.Mathlib.Omega.{arith}
 use borrow.Author.Needs.{needs}
 use lib.Seq.{length-take-le}
-use Rattle.row_sums.specs.Digits.{rowsAdded, multiplied}
+use Rattle.row_sums.specs.Inner.Digits.{rowsAdded, multiplied}
 use Rattle.row_sums.proofs.Listing.{listed-rows}
 use Rattle.row_sums.proofs.gf256.step_rows.Statement.{statement}
 use Rattle.row_sums.proofs.gf256.step_rows.Tie as tie

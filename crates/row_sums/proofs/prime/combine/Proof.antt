@@ -8,7 +8,7 @@ use Rattle.lists.proofs.Numbers.{below-at}
 use Rattle.lists.proofs.Rows.{row-inside, part-length}
 use Rattle.field.specs.Fields.{sizeOf}
 use Rattle.field.proofs.Meanings.{prime-field, prime-size}
-use Rattle.row_sums.specs.Combined.{Weighted}
+use Rattle.row_sums.specs.Inner.Combined.{Weighted}
 use Rattle.row_sums.proofs.Combined.{Summed, summed-none, summed-row, summed-all}
 use Rattle.row_sums.proofs.prime.combine.Statement.{statement}
 use Rattle.row_sums.proofs.prime.combine.Tie as tie

@@ -5,8 +5,8 @@ use native.Mathlib.Nat.{zero-add}
 use native.Mathlib.Omega.{arith}
 use lib.ListN.{length, getD}
 use Rattle.lists.proofs.Rows.{length-from, getD-from}
-use Rattle.row_sums.specs.Combined.{combined}
-use Rattle.row_sums.specs.WideSums.{wideSum}
+use Rattle.row_sums.specs.Inner.Combined.{combined}
+use Rattle.row_sums.specs.Inner.WideSums.{wideSum}
 use Rattle.row_sums.proofs.Pairs.{Written, written-none, written-less, written-pairs, written-all}
 use Rattle.row_sums.proofs.wide.combine_blocks.Statement.{statement}
 use Rattle.row_sums.proofs.wide.combine_blocks.Tie as tie

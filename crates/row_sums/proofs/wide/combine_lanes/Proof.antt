@@ -3,8 +3,8 @@ use mathlib.Core.Path.{sym, _∙_}
 use Prim.Native.Nat.{_-_, _≤_}
 use native.Mathlib.Omega.{arith}
 use borrow.Author.Needs.{needs}
-use Rattle.row_sums.specs.Combined.{combined}
-use Rattle.row_sums.specs.WideSums.{wideSum}
+use Rattle.row_sums.specs.Inner.Combined.{combined}
+use Rattle.row_sums.specs.Inner.WideSums.{wideSum}
 use Rattle.row_sums.proofs.Pairs.{Written, written-none, written-one, written-all}
 use Rattle.row_sums.proofs.wide.combine_lanes.Statement.{statement}
 use Rattle.row_sums.proofs.wide.combine_lanes.Tie as tie

@@ -5,7 +5,7 @@ use native.Mathlib.Nat.{add-zero, add-assoc}
 use native.Mathlib.Omega.{arith}
 use lib.ListN.{length, drop, length-set, drop-of-length-le}
 use Rattle.lists.proofs.Front.{drop-next}
-use Rattle.row_sums.specs.WideSums.{pairsPut}
+use Rattle.row_sums.specs.Inner.WideSums.{pairsPut}
 use Rattle.row_sums.proofs.wide.put.Statement.{statement}
 use Rattle.row_sums.proofs.wide.put.Tie as tie
 

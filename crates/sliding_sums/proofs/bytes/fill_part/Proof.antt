@@ -5,7 +5,7 @@ use native.Mathlib.Omega.{arith}
 use borrow.Author.Needs.{needs}
 use lib.ListN.{length, drop}
 use Rattle.lists.proofs.Rows.{part-rest}
-use Rattle.subset_sums.specs.Lists.{turnsOf}
+use Rattle.subset_sums.specs.Inner.Lists.{turnsOf}
 use Rattle.subset_sums.proofs.Adding.{length-turns}
 use Rattle.sliding_sums.proofs.Right.{slices-inside}
 use Rattle.sliding_sums.proofs.bytes.fill_part.Statement.{statement}

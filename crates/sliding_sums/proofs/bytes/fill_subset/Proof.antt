@@ -6,7 +6,7 @@ use lib.ListN.{length}
 use Rattle.lists.proofs.Parts.{Valued, valued-start, valued-all}
 use Rattle.lists.proofs.Fill.{fills-put}
 use Rattle.lists.proofs.Rows.{from-next}
-use Rattle.sliding_sums.specs.Tables.{slidingSubset}
+use Rattle.sliding_sums.specs.Inner.Tables.{slidingSubset}
 use Rattle.sliding_sums.proofs.Tables.{subset-is}
 use Rattle.sliding_sums.proofs.bytes.fill_subset.Statement.{statement}
 use Rattle.sliding_sums.proofs.bytes.fill_subset.Tie as tie

@@ -11,8 +11,8 @@ use Rattle.lists.specs.Rows.{from}
 use Rattle.lists.proofs.Cases.{by-test}
 use Rattle.lists.proofs.Parts.{Valued, valued-start, valued-part, valued-all}
 use Rattle.lists.proofs.Rows.{part-length, part-size, getD-from, length-from}
-use Rattle.subset_sums.specs.Lists.{turnsOf}
-use Rattle.sliding_sums.specs.Tables.{sumAt}
+use Rattle.subset_sums.specs.Inner.Lists.{turnsOf}
+use Rattle.sliding_sums.specs.Inner.Tables.{sumAt}
 use Rattle.sliding_sums.proofs.bytes.fill_sums.Statement.{statement}
 use Rattle.sliding_sums.proofs.bytes.fill_sums.Tie as tie
 

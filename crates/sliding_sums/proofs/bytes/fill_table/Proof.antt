@@ -4,7 +4,7 @@ use native.Mathlib.Omega.{arith}
 use Rattle.lists.specs.Rows.{from}
 use Rattle.lists.proofs.Parts.{Valued, valued-start, valued-part, valued-all}
 use Rattle.lists.proofs.Rows.{row-after, part-length, part-size, length-from}
-use Rattle.sliding_sums.specs.Tables.{slidingSubset, slidingByte, slidingTable}
+use Rattle.sliding_sums.specs.Inner.Tables.{slidingSubset, slidingByte, slidingTable}
 use Rattle.sliding_sums.proofs.Tables.{table-part}
 use Rattle.sliding_sums.proofs.bytes.fill_table.Statement.{statement}
 use Rattle.sliding_sums.proofs.bytes.fill_table.Tie as tie

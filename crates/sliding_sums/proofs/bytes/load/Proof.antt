@@ -6,7 +6,7 @@ use lib.ListN.{length, take}
 use lib.Seq.{length-take-le}
 use Rattle.lists.proofs.Fill.{length-zeros}
 use Rattle.lists.proofs.Padding.{length-padded}
-use Rattle.sliding_sums.specs.Tables.{slidingTable}
+use Rattle.sliding_sums.specs.Inner.Tables.{slidingTable}
 use Rattle.sliding_sums.proofs.Right.{row-in-front}
 use Rattle.sliding_sums.proofs.bytes.load.Statement.{statement}
 use Rattle.sliding_sums.proofs.bytes.load.Tie as tie

@@ -4,7 +4,7 @@ use native.Mathlib.Omega.{arith}
 use borrow.Author.Needs.{needs}
 use lib.ListN.{length}
 use Rattle.kernel.proofs.Filling.{Changed, changed-none, changed-lane, changed-all}
-use Rattle.sliding_sums.specs.Tables.{placeOf}
+use Rattle.sliding_sums.specs.Inner.Tables.{placeOf}
 use Rattle.sliding_sums.proofs.bytes.move_slices.Statement.{statement}
 use Rattle.sliding_sums.proofs.bytes.move_slices.Tie as tie
 

@@ -1,7 +1,7 @@
 -- `place` meets its contract.
 use borrow.Author.Needs.{needs}
 use mathlib.Core.Path.{refl}
-use Rattle.sliding_sums.specs.Tables.{placeOf}
+use Rattle.sliding_sums.specs.Inner.Tables.{placeOf}
 use Rattle.sliding_sums.proofs.bytes.place.Statement.{statement}
 use Rattle.sliding_sums.proofs.bytes.place.Tie as tie
 

@@ -6,7 +6,7 @@ use borrow.Author.Needs.{needs}
 use lib.ListN.{length, take, length-append}
 use lib.Seq.{length-take-le}
 use Rattle.lists.proofs.Rows.{length-from}
-use Rattle.sliding_sums.specs.Tables.{slidingTable}
+use Rattle.sliding_sums.specs.Inner.Tables.{slidingTable}
 use Rattle.sliding_sums.proofs.Right.{length-placed, lists-in-front, sums-right}
 use Rattle.sliding_sums.proofs.bytes.window_sums.Statement.{statement}
 use Rattle.sliding_sums.proofs.bytes.window_sums.Tie as tie

@@ -6,9 +6,9 @@ use lib.ListN.{length, drop, length-drop}
 use Rattle.lists.proofs.Parts.{Valued, valued-start, valued-all}
 use Rattle.lists.proofs.Fill.{fills-put}
 use Rattle.lists.proofs.Rows.{from-next, part-rest}
-use Rattle.field.specs.Sums.{dot}
+use Rattle.field.specs.Inner.Sums.{dot}
 use Rattle.field.proofs.Primes.{two≤prime}
-use Rattle.sliding_sums.specs.Windows.{windowSums}
+use Rattle.sliding_sums.specs.Inner.Windows.{windowSums}
 use Rattle.sliding_sums.proofs.Products.{dot-reduced}
 use Rattle.sliding_sums.proofs.prime.window_sums.Statement.{statement}
 use Rattle.sliding_sums.proofs.prime.window_sums.Tie as tie

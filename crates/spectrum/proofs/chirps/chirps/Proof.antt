@@ -9,7 +9,7 @@ use Rattle.lists.specs.Padded.{zeros}
 use Rattle.lists.proofs.Fill.{Filled, filled-start, filled-put}
 use Rattle.lists.proofs.Rows.{from-ext}
 use Rattle.check_sums.proofs.Sums.{power-place, power-at}
-use Rattle.spectrum.specs.Spectrum.{triangle, chirpAt}
+use Rattle.spectrum.specs.Inner.Spectrum.{triangle, chirpAt}
 use Rattle.spectrum.proofs.Arrays.{all-filled, value-at}
 use Rattle.spectrum.proofs.chirps.chirps.Statement.{statement}
 use Rattle.spectrum.proofs.chirps.chirps.Tie as tie

@@ -5,7 +5,7 @@ use native.Mathlib.Nat.{mod-lt, zero-mod}
 use native.Mathlib.Omega.{arith}
 use Rattle.lists.specs.Padded.{zeros}
 use Rattle.lists.proofs.Fill.{Filled, filled-start, filled-put}
-use Rattle.spectrum.specs.Spectrum.{triangle}
+use Rattle.spectrum.specs.Inner.Spectrum.{triangle}
 use Rattle.spectrum.proofs.Arrays.{all-filled, triangle-next, next-modulo}
 use Rattle.spectrum.proofs.chirps.exponents.Statement.{statement}
 use Rattle.spectrum.proofs.chirps.exponents.Tie as tie

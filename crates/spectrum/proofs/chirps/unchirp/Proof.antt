@@ -18,7 +18,7 @@ use Rattle.generator.specs.Records.{modulusOf, size}
 use Rattle.generator.specs.Shifts.{negative}
 use Rattle.generator.proofs.LaidShifts.{negative-below}
 use Rattle.check_sums.proofs.Sums.{power-place, power-at}
-use Rattle.spectrum.specs.Spectrum.{triangle, unchirpedAt, unchirped}
+use Rattle.spectrum.specs.Inner.Spectrum.{triangle, unchirpedAt, unchirped}
 use Rattle.spectrum.proofs.Arrays.{value-at}
 use Rattle.spectrum.proofs.chirps.unchirp.Statement.{statement}
 use Rattle.spectrum.proofs.chirps.unchirp.Tie as tie

@@ -2,7 +2,7 @@ use mathlib.Core.Path.{_≡_, refl, sym, ap, _∙_}
 use Prim.Native.Nat.{_-_, _≤_}
 use lib.ListN.{length, drop}
 use Rattle.kernel.proofs.Lanes.{length-lanewise}
-use Rattle.subset_sums.specs.Lists.{slicesAdded}
+use Rattle.subset_sums.specs.Inner.Lists.{slicesAdded}
 use Rattle.subset_sums.proofs.Adding.{slices-none, slices-one}
 use native.Mathlib.Omega.{arith}
 use Rattle.subset_sums.proofs.horner.add_listed.Statement.{statement}

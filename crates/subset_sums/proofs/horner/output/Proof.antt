@@ -2,7 +2,7 @@
 use mathlib.Core.Path.{_≡_, sym, ap, _∙_}
 use Prim.Native.Nat.{ℕ, _-_, _≤_}
 use lib.ListN.{length}
-use Rattle.subset_sums.specs.Lists.{turnsOf}
+use Rattle.subset_sums.specs.Inner.Lists.{turnsOf}
 use Rattle.subset_sums.proofs.Adding.{length-turns}
 use borrow.Author.Needs.{needs}
 use native.Mathlib.Omega.{arith}

@@ -4,7 +4,7 @@ use Prim.Native.Nat.{_*_, _-_, _≤_, _<_, _+_}
 use lib.ListN.{length, getD, take, drop}
 use Rattle.lists.proofs.Rows.{row-inside, part-length, part-size, getD-part}
 use Rattle.kernel.proofs.Lanes.{length-lanewise}
-use Rattle.subset_sums.specs.Lists.{slicesAdded}
+use Rattle.subset_sums.specs.Inner.Lists.{slicesAdded}
 use Rattle.subset_sums.proofs.Adding.{length-turns, turns-next}
 use borrow.Author.Needs.{needs}
 use native.Mathlib.Omega.{arith}

@@ -2,7 +2,7 @@ use mathlib.Core.Path.{_≡_, sym, _∙_}
 use Prim.Native.Nat.{_*_, _-_, _≤_}
 use lib.ListN.{length, getD, length-set}
 use Rattle.lists.proofs.Parts.{Valued, valued-all, valued-at}
-use Rattle.subset_sums.specs.Spread.{spreadOf, spreads}
+use Rattle.subset_sums.specs.Inner.Spread.{spreadOf, spreads}
 use Rattle.subset_sums.proofs.Spreading.{spread-start, spread-turn, spread-low}
 use native.Mathlib.Omega.{arith}
 use Rattle.subset_sums.proofs.slices.fill_spread.Statement.{statement}

@@ -2,7 +2,7 @@ use mathlib.Core.Path.{sym, _∙_}
 use Prim.Native.Nat.{_-_, _≤_}
 use native.Mathlib.Nat.{zero-div}
 use Rattle.lists.proofs.Rows.{row-inside}
-use Rattle.subset_sums.specs.Spread.{Streams}
+use Rattle.subset_sums.specs.Inner.Spread.{Streams}
 use Rattle.subset_sums.proofs.Spreading.{ahead, streams-skip, streams-begin, streams-turn, streams-end, count-low, entry-inside}
 use native.Mathlib.Omega.{arith}
 use Rattle.subset_sums.proofs.slices.list_group.Statement.{statement}

@@ -1,6 +1,6 @@
 use mathlib.Core.Path.{sym, _∙_}
 use Prim.Native.Nat.{_-_, _≤_}
-use Rattle.subset_sums.specs.Spread.{Streams}
+use Rattle.subset_sums.specs.Inner.Spread.{Streams}
 use Rattle.subset_sums.proofs.Spreading.{streams-none, streams-all}
 use borrow.Author.Needs.{needs}
 use native.Mathlib.Omega.{arith}

@@ -5,7 +5,7 @@ use native.Mathlib.Omega.{arith}
 use borrow.Author.Needs.{needs}
 use lib.ListN.{length, getD, List·getD-eq-default}
 use Rattle.lists.proofs.Numbers.{below-at}
-use Rattle.subset_sums.specs.Spread.{spreadOf, spreadFrom}
+use Rattle.subset_sums.specs.Inner.Spread.{spreadOf, spreadFrom}
 use Rattle.subset_sums.proofs.Spreading.{length-spreads, spread-at, spread-small}
 use Rattle.subset_sums.proofs.slices.spread.Statement.{statement}
 use Rattle.subset_sums.proofs.slices.spread.Tie as tie

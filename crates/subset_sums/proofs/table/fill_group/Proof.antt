@@ -4,7 +4,7 @@ use lib.ListN.{length}
 use lib.Seq.{length-take-le}
 use Rattle.lists.proofs.Rows.{part-length}
 use Rattle.lists.proofs.Parts.{Valued, valued-all}
-use Rattle.subset_sums.specs.Subsets.{groupByte, groupOf}
+use Rattle.subset_sums.specs.Inner.Subsets.{groupByte, groupOf}
 use Rattle.subset_sums.proofs.Subsets.{group-first, group-turn, first-long}
 use borrow.Author.Needs.{needs}
 use native.Mathlib.Omega.{arith}

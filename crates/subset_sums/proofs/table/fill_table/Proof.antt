@@ -2,7 +2,7 @@ use Prim.Native.Nat.{_*_, _-_, _≤_, _+_}
 use lib.ListN.{take, drop}
 use Rattle.lists.proofs.Rows.{row-after, part-length, part-size}
 use Rattle.lists.proofs.Parts.{Valued, valued-start, valued-part, valued-all}
-use Rattle.subset_sums.specs.Subsets.{tableByte, tableOf, groupOf}
+use Rattle.subset_sums.specs.Inner.Subsets.{tableByte, tableOf, groupOf}
 use Rattle.subset_sums.proofs.Subsets.{length-group, table-group}
 use native.Mathlib.Omega.{arith}
 use Rattle.subset_sums.proofs.table.fill_table.Statement.{statement}

@@ -1,4 +1,4 @@
-use Rattle.subset_sums.specs.Subsets.{summed}
+use Rattle.subset_sums.specs.Inner.Subsets.{summed}
 use Rattle.subset_sums.proofs.Subsets.{sum-part}
 use borrow.Author.Needs.{needs}
 use native.Mathlib.Omega.{arith}

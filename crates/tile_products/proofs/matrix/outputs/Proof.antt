@@ -9,8 +9,8 @@ use Rattle.field.specs.Kinds.{modulus}
 use Rattle.field.specs.Widths.{bytesFor}
 use Rattle.field.proofs.Widths.{bytes-range}
 use Rattle.tiles.proofs.Gathered.{tile-none, tile-more}
-use Rattle.tile_products.specs.Products.{groupsOf}
-use Rattle.tile_products.specs.Matrices.{Begun, OutputsOf}
+use Rattle.tile_products.specs.Inner.Products.{groupsOf}
+use Rattle.tile_products.specs.Inner.Matrices.{Begun, OutputsOf}
 use Rattle.tile_products.proofs.Lanes.{output-row}
 use native.Mathlib.Omega.{arith}
 use Rattle.tile_products.proofs.matrix.outputs.Statement.{statement}

@@ -2,7 +2,7 @@
 use Prim.Native.Nat.{_*_}
 use lib.ListN.{length}
 use Rattle.lists.proofs.Rows.{part-length, part-size}
-use Rattle.tile_products.specs.Products.{groupsOf}
+use Rattle.tile_products.specs.Inner.Products.{groupsOf}
 use Rattle.tile_products.proofs.Beginning.{begun-row}
 use native.Mathlib.Omega.{arith}
 use borrow.Author.Needs.{needs}

@@ -3,7 +3,7 @@ use Prim.Native.Nat.{ℕ, _-_, _≤_, _<_, _+_}
 use lib.ListN.{length, getD}
 use Rattle.lists.proofs.Fill.{fills-next}
 use Rattle.kernel.proofs.Filling.{Changed, changed-none, changed-lane, changed-all}
-use Rattle.tile_products.specs.Ratios.{nearlyOf}
+use Rattle.tile_products.specs.Inner.Ratios.{nearlyOf}
 use Rattle.tile_products.proofs.Reduction.{nearly-below}
 use native.Mathlib.Omega.{arith}
 use Rattle.tile_products.proofs.prime.add_product.Statement.{statement}

@@ -4,7 +4,7 @@ use native.Mathlib.Omega.{arith}
 use Rattle.lists.proofs.Rows.{from-next}
 use Rattle.lists.proofs.Fill.{fills-put}
 use Rattle.lists.proofs.Parts.{Valued, valued-start, valued-at}
-use Rattle.tile_products.specs.Ratios.{ratioOf}
+use Rattle.tile_products.specs.Inner.Ratios.{ratioOf}
 use Rattle.tile_products.proofs.Reduction.{ratio-fits}
 use Rattle.tile_products.proofs.prime.fill_ratios.Statement.{statement}
 use Rattle.tile_products.proofs.prime.fill_ratios.Tie as tie

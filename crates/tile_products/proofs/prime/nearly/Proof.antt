@@ -1,6 +1,6 @@
 use mathlib.Core.Path.{_≡_, ap, _∙_}
 use Prim.Native.Nat.{ℕ, _*_, _/_}
-use Rattle.tile_products.specs.Ratios.{ratioOf, nearlyOf}
+use Rattle.tile_products.specs.Inner.Ratios.{ratioOf, nearlyOf}
 use Rattle.tile_products.proofs.Reduction.{nearly-low, nearly-fits}
 use borrow.Author.Needs.{needs}
 use native.Mathlib.Omega.{arith}

@@ -6,7 +6,7 @@ use borrow.Author.Needs.{needs}
 use lib.ListN.{length}
 use lib.Seq.{length-take-le}
 use Rattle.field.proofs.Primes.{two≤prime}
-use Rattle.tile_products.specs.Products.{groupsOf}
+use Rattle.tile_products.specs.Inner.Products.{groupsOf}
 use Rattle.tile_products.proofs.Arms.{groups-room, prime-one, prime-two}
 use Rattle.tile_products.proofs.Lanes.{one-row, two-rows}
 use Rattle.tile_products.proofs.primes.output.Statement.{statement}

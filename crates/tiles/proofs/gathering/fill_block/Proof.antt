@@ -2,7 +2,7 @@
 use Prim.Native.Nat.{_-_, _≤_}
 use mathlib.Core.Path.{_≡_, _∙_, sym}
 use Rattle.lists.proofs.Rows.{row-inside}
-use Rattle.tiles.specs.Tiles.{BlockOf}
+use Rattle.tiles.specs.Inner.Tiles.{BlockOf}
 use Rattle.tiles.proofs.Gathered.{block-none, block-lane}
 use native.Mathlib.Omega.{arith}
 use Rattle.tiles.proofs.gathering.fill_block.Statement.{statement}

@@ -5,8 +5,8 @@ use lib.ListN.{length}
 use Rattle.lists.proofs.Rows.{part-length, part-size}
 use Rattle.layout.specs.Layout.{byLane, held, laneOf}
 use Rattle.layout.proofs.Runs.{length-replaced}
-use Rattle.tiles.specs.Squares.{asRows}
-use Rattle.tiles.specs.Tiles.{TileOf}
+use Rattle.tiles.specs.Inner.Squares.{asRows}
+use Rattle.tiles.specs.Inner.Tiles.{TileOf}
 use Rattle.tiles.proofs.Gathered.{tile-none, tile-more, tile-lane, block-rows, length-rows-of}
 use native.Mathlib.Omega.{arith}
 use borrow.Author.Needs.{needs}

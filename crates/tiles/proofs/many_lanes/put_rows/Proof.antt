@@ -4,7 +4,7 @@ use Prim.Native.Nat.{_+_, _-_, _*_, _≤_}
 use native.Mathlib.Omega.{arith}
 use lib.ListN.{length}
 use Rattle.lists.proofs.Rows.{row-inside, part-length, part-size}
-use Rattle.tiles.specs.Beside.{Beside}
+use Rattle.tiles.specs.Inner.Beside.{Beside}
 use Rattle.tiles.proofs.Beside.{beside-none, beside-row}
 use Rattle.tiles.proofs.many_lanes.put_rows.Statement.{statement}
 use Rattle.tiles.proofs.many_lanes.put_rows.Tie as tie

@@ -1,6 +1,6 @@
 use mathlib.Core.Path.{ap, _∙_}
 use lib.Seq.{take-all}
-use Rattle.tiles.specs.Words.{patched}
+use Rattle.tiles.specs.Inner.Words.{patched}
 use Rattle.tiles.proofs.Rests.{patched-twice}
 use borrow.Author.Needs.{needs}
 use native.Mathlib.Omega.{arith}

@@ -1,4 +1,4 @@
-use Rattle.tiles.specs.Words.{patched}
+use Rattle.tiles.specs.Inner.Words.{patched}
 use borrow.Author.Needs.{needs}
 use Rattle.tiles.proofs.moves.move4_at.Statement.{statement}
 use Rattle.tiles.proofs.moves.move4_at.Tie as tie

@@ -2,7 +2,7 @@ use mathlib.Core.Path.{refl, sym, ap, _∙_}
 use Prim.Native.Nat.{_-_}
 use lib.ListN.{length}
 use lib.Seq.{length-take-le}
-use Rattle.tiles.specs.Words.{patched}
+use Rattle.tiles.specs.Inner.Words.{patched}
 use Rattle.tiles.proofs.Rests.{patched-twice}
 use borrow.Author.Needs.{needs}
 use native.Mathlib.Omega.{arith}

@@ -1,4 +1,4 @@
-use Rattle.tiles.specs.Words.{bytes4}
+use Rattle.tiles.specs.Inner.Words.{bytes4}
 use Rattle.tiles.proofs.Bytes.{put-quad}
 use borrow.Author.Needs.{needs}
 use Rattle.tiles.proofs.moves.put4.Statement.{statement}

@@ -1,5 +1,5 @@
 use lib.ListN.{length-set}
-use Rattle.tiles.specs.Words.{bytes8}
+use Rattle.tiles.specs.Inner.Words.{bytes8}
 use Rattle.tiles.proofs.Bytes.{put-eight}
 use borrow.Author.Needs.{needs}
 use native.Mathlib.Omega.{arith}

@@ -3,7 +3,7 @@ use Prim.Native.Nat.{_+_, _*_, _-_, _≤_}
 use lib.ListN.{take, drop}
 use Rattle.lists.proofs.Rows.{row-after, part-length, part-size}
 use Rattle.lists.proofs.Parts.{Valued, valued-start, valued-part, valued-all}
-use Rattle.tiles.specs.Squares.{asLanes, blocksOf, placed}
+use Rattle.tiles.specs.Inner.Squares.{asLanes, blocksOf, placed}
 use Rattle.tiles.proofs.Scattered.{blockByte, block-byte, length-as-lanes}
 use native.Mathlib.Omega.{arith}
 use Rattle.tiles.proofs.scattering.fill_blocks.Statement.{statement}

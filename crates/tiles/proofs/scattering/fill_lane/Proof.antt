@@ -3,7 +3,7 @@ use Prim.Native.Nat.{_+_, _*_, _-_, _%_, _≤_, _<_}
 use native.Mathlib.Nat.{le-refl}
 use lib.ListN.{length, take, drop, length-take, length-drop}
 use Rattle.lists.proofs.Rows.{part-length, part-size}
-use Rattle.tiles.specs.Squares.{placed, laneAt}
+use Rattle.tiles.specs.Inner.Squares.{placed, laneAt}
 use Rattle.lists.proofs.Parts.{Valued, valued-start, valued-part, valued-all}
 use Rattle.tiles.proofs.Rests.{laneByte, lane-row, lane-rest, length-lane}
 use native.Mathlib.Omega.{arith}

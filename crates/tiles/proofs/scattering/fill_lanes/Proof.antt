@@ -4,7 +4,7 @@ use lib.ListN.{length}
 use Rattle.lists.specs.Rows.{rowsFrom}
 use Rattle.lists.proofs.Rows.{rows-next, rows-end, row-after, row-inside, part-size, part-length}
 use Rattle.lists.proofs.Fill.{Fills, fills-start, fills-part, fills-all}
-use Rattle.tiles.specs.Squares.{laneAt}
+use Rattle.tiles.specs.Inner.Squares.{laneAt}
 use Rattle.tiles.proofs.Rests.{length-lane}
 use native.Mathlib.Omega.{arith}
 use Rattle.tiles.proofs.scattering.fill_lanes.Statement.{statement}

@@ -1,7 +1,7 @@
 use mathlib.Core.Path.{_≡_, sym, _∙_}
 use Prim.Native.Nat.{_*_, _-_, _≤_, _+_}
 use Rattle.lists.proofs.Rows.{part-length}
-use Rattle.tiles.specs.Squares.{Squared}
+use Rattle.tiles.specs.Inner.Squares.{Squared}
 use Rattle.tiles.proofs.Blocks.{squared-none, squared-row}
 use native.Mathlib.Omega.{arith}
 use Rattle.tiles.proofs.squares.put_square.Statement.{statement}

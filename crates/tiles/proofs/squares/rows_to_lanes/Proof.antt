@@ -1,7 +1,7 @@
 use Prim.Native.Nat.{_*_, _-_, _≤_, _+_, _%_, _/_}
 use lib.ListN.{getD}
 use Rattle.lists.proofs.Rows.{row-after, part-length, part-size}
-use Rattle.tiles.specs.Squares.{asLanes, placed, turned, squareAt}
+use Rattle.tiles.specs.Inner.Squares.{asLanes, placed, turned, squareAt}
 use Rattle.lists.proofs.Parts.{Valued, valued-start, valued-part, valued-all}
 use Rattle.tiles.proofs.Shuffles.{length-turned}
 use Rattle.tiles.proofs.Blocks.{turned-square}

@@ -1,6 +1,6 @@
 use Prim.Native.Nat.{_*_, _-_, _≤_}
 use lib.ListN.{length-set}
-use Rattle.tiles.specs.Squares.{placed, shuffled}
+use Rattle.tiles.specs.Inner.Squares.{placed, shuffled}
 use Rattle.lists.proofs.Parts.{Valued, valued-start, valued-all}
 use Rattle.tiles.proofs.Shuffles.{shuffledAt, shuffle-turn}
 use native.Mathlib.Omega.{arith}

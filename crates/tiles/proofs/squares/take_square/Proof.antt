@@ -2,7 +2,7 @@ use mathlib.Core.Path.{sym, _∙_}
 use Prim.Native.Nat.{_*_, _-_, _≤_, _+_}
 use lib.ListN.{take, drop}
 use Rattle.lists.proofs.Rows.{row-after, part-length, part-size}
-use Rattle.tiles.specs.Squares.{squareAt, placed}
+use Rattle.tiles.specs.Inner.Squares.{squareAt, placed}
 use Rattle.lists.proofs.Parts.{Valued, valued-start, valued-part, valued-all}
 use Rattle.tiles.proofs.Blocks.{squareByte, square-row}
 use native.Mathlib.Omega.{arith}

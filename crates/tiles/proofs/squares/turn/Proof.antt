@@ -1,5 +1,5 @@
 use mathlib.Core.Path.{ap, _∙_}
-use Rattle.tiles.specs.Squares.{shuffled}
+use Rattle.tiles.specs.Inner.Squares.{shuffled}
 use Rattle.tiles.proofs.Shuffles.{turned-shuffled}
 use borrow.Author.Needs.{needs}
 use Rattle.tiles.proofs.squares.turn.Statement.{statement}

@@ -1,5 +1,5 @@
 use mathlib.Core.Path.{ap, _∙_}
-use Rattle.tiles.specs.Squares.{turned}
+use Rattle.tiles.specs.Inner.Squares.{turned}
 use borrow.Author.Needs.{needs}
 use Rattle.tiles.proofs.squares.turn_out.Statement.{statement}
 use Rattle.tiles.proofs.squares.turn_out.Tie as tie

@@ -14,9 +14,9 @@ use Rattle.field.proofs.Bounds.{one-below, sub-below, power-below}
 use Rattle.field.proofs.KindLaws.{size-fits}
 use Rattle.generator.specs.Records.{modulusOf, size}
 use Rattle.interpolation.proofs.Points.{length-points, points-symbols}
-use Rattle.check_sums.specs.Powers.{powersOf}
+use Rattle.check_sums.specs.Inner.Powers.{powersOf}
 use Rattle.check_sums.proofs.Sums.{length-powers, power-at}
-use Rattle.wrong_lanes.specs.Checks.{firstPoints}
+use Rattle.wrong_lanes.specs.Inner.Checks.{firstPoints}
 use Rattle.wrong_lanes.proofs.CheckRows.{few, first-points}
 use Rattle.wrong_lanes.proofs.check_rows.check_weights.Statement.{statement}
 use Rattle.wrong_lanes.proofs.check_rows.check_weights.Tie as tie

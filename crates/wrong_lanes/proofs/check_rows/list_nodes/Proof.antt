@@ -9,14 +9,14 @@ use Rattle.lists.proofs.Padding.{length-padded, take-padded}
 use Rattle.lists.proofs.Places.{length-range}
 use Rattle.lists.proofs.Rows.{row-inside}
 use Rattle.generator.specs.Records.{modulusOf}
-use Rattle.interpolation.specs.Lagrange.{scalesOf}
+use Rattle.interpolation.specs.Inner.Lagrange.{scalesOf}
 use Rattle.interpolation.proofs.Points.{length-points, points-symbols}
-use Rattle.tile_products.specs.Products.{groupsOf}
-use Rattle.tile_products.specs.Matrices.{Begun}
+use Rattle.tile_products.specs.Inner.Products.{groupsOf}
+use Rattle.tile_products.specs.Inner.Matrices.{Begun}
 use Rattle.tile_products.proofs.Beginning.{begun-none}
-use Rattle.check_sums.specs.Powers.{powersOf}
+use Rattle.check_sums.specs.Inner.Powers.{powersOf}
 use Rattle.check_sums.proofs.Sums.{length-powers}
-use Rattle.wrong_lanes.specs.Checks.{firstPoints, checkRow}
+use Rattle.wrong_lanes.specs.Inner.Checks.{firstPoints, checkRow}
 use Rattle.wrong_lanes.proofs.CheckRows.{few, first-points, length-scales, row-long, row-taken, length-check-row, check-row-below, rows-word}
 use Rattle.wrong_lanes.proofs.check_rows.list_nodes.Statement.{statement}
 use Rattle.wrong_lanes.proofs.check_rows.list_nodes.Tie as tie

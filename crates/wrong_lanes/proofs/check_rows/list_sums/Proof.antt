@@ -7,10 +7,10 @@ use lib.ListN.{length, take}
 use Rattle.lists.proofs.Padding.{length-padded, take-padded}
 use Rattle.lists.proofs.Rows.{row-inside}
 use Rattle.generator.specs.Records.{modulusOf}
-use Rattle.tile_products.specs.Products.{groupsOf}
-use Rattle.tile_products.specs.Matrices.{Begun}
+use Rattle.tile_products.specs.Inner.Products.{groupsOf}
+use Rattle.tile_products.specs.Inner.Matrices.{Begun}
 use Rattle.tile_products.proofs.Beginning.{begun-none}
-use Rattle.check_sums.specs.Powers.{factorsOf}
+use Rattle.check_sums.specs.Inner.Powers.{factorsOf}
 use Rattle.wrong_lanes.proofs.Checks.{length-factors, factors-below, factors-word}
 use Rattle.wrong_lanes.proofs.check_rows.list_sums.Statement.{statement}
 use Rattle.wrong_lanes.proofs.check_rows.list_sums.Tie as tie

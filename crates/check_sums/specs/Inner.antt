@@ -1,0 +1,3 @@
+-- What the functions behind the promises give and rely on: powers of the root, check sums of one lane.
+pub mod Powers
+pub mod Sums

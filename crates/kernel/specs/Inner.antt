@@ -1,0 +1,3 @@
+-- What the functions behind the promises give and rely on: slices lane by lane, halves of products.
+pub mod Lanes
+pub mod Halves

@@ -1,0 +1,3 @@
+-- What the functions behind the promises give and rely on: weights for listed nodes.
+pub mod Weights
+pub mod Rows
