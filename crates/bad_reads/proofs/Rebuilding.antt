@@ -1,8 +1,8 @@
 -- What one bad read does to Rebuild, from what the call promises.
-use mathlib.Core.Path.{_≡_, refl, sym, ap, _∙_}
+use mathlib.Core.Path.{_≡_, sym, ap, _∙_}
 use mathlib.Core.Bool.{true, false}
 use mathlib.Core.List.{List}
-use Prim.Native.Nat.{ℕ, zero, suc, _<_}
+use Prim.Native.Nat.{ℕ, _<_}
 use native.Mathlib.Decide.{ℕ-discrete}
 use native.Mathlib.Nat.{zero-add}
 use native.Mathlib.Omega.{arith}
@@ -25,19 +25,13 @@ use Rattle.generator.proofs.Recovery.{one-message}
 use Rattle.refusals.specs.Faults.{faultOf, rebuildFault}
 use Rattle.refusals.proofs.Accepts.{rebuild-accepts}
 use Rattle.blocks.specs.declared.Outcome.the-variants as O
-use Rattle.blocks.specs.Answers.{outcomeOf}
 use Rattle.blocks.specs.Blocks.{shareAt, shareOf, MessageFor}
 use Rattle.blocks.specs.Bytes.{RebuiltBytes}
 use Rattle.blocks.specs.Promises.{RebuildSays}
 use Rattle.blocks.proofs.Messages.{lane-message}
+use Rattle.blocks.proofs.Answered.{done-means}
 use Rattle.bad_reads.specs.Rebuilding.{readAt, OneOff, rebuiltAt, BadRead}
 use Rattle.bad_reads.proofs.Changes.{reaches}
-
--- a call that is done met no number
-done-means : (f : ℕ) → O.Done ≡ outcomeOf f → f ≡ 0
-unfolding outcomeOf
-done-means zero e = refl
-done-means (suc f) e = let z : _≡_ {A = ℕ} 0 1 = cc in absurd (omega arith)
 
 module _ (h : Header) (l target : ℕ) (m out : List ℕ) (is : out ≡ bytesOf (width h) (shareOf h l m target)) where
   -- what a rebuilt share has in a lane

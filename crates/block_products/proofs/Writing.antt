@@ -12,7 +12,7 @@ use Rattle.lists.specs.Rows.{from, rowsFrom}
 use Rattle.lists.proofs.Images.{from-self}
 use Rattle.lists.proofs.Lanes.{getD-rows, length-rows}
 use Rattle.lists.proofs.Parts.{from-at}
-use Rattle.lists.proofs.Rows.{length-from, getD-from, row-inside}
+use Rattle.lists.proofs.Rows.{length-from, getD-from, row-inside, rows-ext}
 use Rattle.layout.specs.Layout.{byRow, byLane, laneOf}
 use Rattle.layout.specs.Width.{symbolBytes, bytesOf}
 use Rattle.layout.proofs.Buffers.{length-lane, getD-lane}
@@ -23,7 +23,6 @@ use Rattle.layout.proofs.Runs.{replaced, length-replaced, replaced-before, repl
 use Rattle.layout.proofs.Stretches.{rows-start, rows-end}
 use Rattle.layout.proofs.Tiles.{byte-row}
 use Rattle.layout.proofs.Widths.{length-bytes}
-use Rattle.tiles.proofs.Scattered.{rows-ext}
 use Rattle.block_products.specs.declared.Way.{Way}
 use Rattle.block_products.specs.declared.Way.the-variants.{RowsToLanes, LanesToRows, LanesToMarks}
 use Rattle.block_products.specs.Inner.Marks.{allZero, zeroMarks}

@@ -4,7 +4,7 @@ use Prim.Native.Nat.{ℕ, zero, suc}
 use native.Mathlib.Omega.{arith}
 use borrow.Author.Tests.{eqb-true, eqb-false}
 use lib.Dec.{eqb}
-use Rattle.lists.proofs.Cases.{by-test}
+use Rattle.lists.proofs.Cases.{by-test, never}
 use Rattle.blocks.specs.declared.Outcome.the-variants as O
 use Rattle.blocks.specs.declared.Update.the-variants as U
 use Rattle.blocks.specs.declared.Membership.the-variants as M
@@ -20,10 +20,6 @@ outcome-number (suc f) = refl
 pub done-means : (f : ℕ) → O.Done ≡ outcomeOf f → f ≡ 0
 unfolding outcomeNumber
 done-means f e = sym (outcome-number f) ∙ ap outcomeNumber (sym e)
-
--- two cases of an enum are never equal
-pub never : {A : Type 0} → _≡_ {A = ℕ} 0 1 → A
-never z = absurd (omega arith)
 
 -- an update that altered nodes met no number; one that was refused met its number
 pub altered-means : (f count x : ℕ) → U.Altered x ≡ updateOf f count → (f ≡ 0) × (x ≡ count)

@@ -2,7 +2,7 @@
 use mathlib.Core.Path.{_≡_, refl}
 use Prim.Native.Nat.{ℕ, zero, suc}
 use native.Mathlib.Omega.{arith}
-use Rattle.blocks.proofs.Answered.{never}
+use Rattle.lists.proofs.Cases.{never}
 use Rattle.correct.specs.declared.Correction.the-variants as C
 use Rattle.correct.specs.Promises.{correctionOf}
 

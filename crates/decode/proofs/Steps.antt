@@ -9,6 +9,7 @@ use lib.ListN.{length, getD, List·getD-eq-default}
 use Rattle.lists.specs.Rows.{from}
 use Rattle.lists.specs.Padded.{zeros, padded}
 use Rattle.lists.proofs.All.{All-of}
+use Rattle.lists.proofs.Padding.{getD-zeros}
 use Rattle.algebra.proofs.Poly.{scale}
 use Rattle.field.specs.Fields.{isField, sizeOf, mul, inverse}
 use Rattle.field.specs.Symbols.{Symbol}
@@ -16,7 +17,6 @@ use Rattle.field.proofs.Symbols.{symbol-below, symbol-path}
 use Rattle.nearest_word.proofs.Recurrence.{discrepancy}
 use Rattle.nearest_word.proofs.Massey.{Locator, Now, Past, State, After, amend, kept, mended, grown, chosen-locates}
 use Rattle.decode.specs.Inner.Locating.{Below, partial, amendedAt, Locates}
-use Rattle.decode.proofs.Arrays.{zeros-getD}
 use Rattle.decode.proofs.Bridge.{F, term, Holds, holds-below, holds-filled, partial-discrepancy, amendedAt-number, scaled-number}
 
 module _ (p : ℕ) (field : isField p ≡ true) (s : List ℕ) where
@@ -38,12 +38,12 @@ module _ (p : ℕ) (field : isField p ≡ true) (s : List ℕ) where
         now = record { short = omega arith; leads = F p field .one-not-zero; recurs = λ e h. absurd (omega arith) };
         past = record { short = omega arith; recurs = λ e h. absurd (omega arith); breaks = λ e h. absurd (omega arith) };
         holds-now = first;
-        holds-past = zeros-getD k;
+        holds-past = getD-zeros k;
       }
     where
       first : Holds p field (1 ∷ zeros m) (F p field .1f ∷ [])
       first zero = refl
-      first (suc x) = zeros-getD m x
+      first (suc x) = getD-zeros m x
 
   module _ (b : Below (sizeOf p) s) (w v : List ℕ) (l q : ℕ) (h : Held w v l q) where
     -- the discrepancy at q, and the number that the program has for it

@@ -5,7 +5,7 @@ use native.Mathlib.Nat.{mul-add, add-mul, mul-assoc, mul-comm, mul-le-mul, le-re
 use native.Mathlib.Omega.{arith}
 
 -- a product of bytes fits 16 bits
-byte-product : (a b : ℕ) → a < 256 → b < 256 → a * b < 65536
+pub byte-product : (a b : ℕ) → a < 256 → b < 256 → a * b < 65536
 byte-product a b ha hb =
     let la : a ≤ 255 = omega arith in
     let lb : b ≤ 255 = omega arith in

@@ -54,3 +54,13 @@ first-zero (suc a) b e = absurd (omega arith)
 pub when-zero : (t : Bool) (n : ℕ) → when t (suc n) ≡ 0 → t ≡ false
 when-zero true n e = absurd (omega arith)
 when-zero false n e = refl
+
+-- two tests that follow from each other are one
+pub same-test : (a b : Bool) → (a ≡ true → b ≡ true) → (b ≡ true → a ≡ true) → a ≡ b
+same-test true b f g = sym (f refl)
+same-test false true f g = g refl
+same-test false false f g = refl
+
+-- two cases of an enum are never equal
+pub never : {A : Type 0} → _≡_ {A = ℕ} 0 1 → A
+never z = absurd (omega arith)

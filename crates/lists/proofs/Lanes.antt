@@ -24,3 +24,7 @@ module _ (g : ℕ → List ℕ) (l : ℕ) (long : (j : ℕ) → length (g j) ≡
       let place : suc j * l + t ≡ length (g i) + (j * l + t) = omega (arith, long i, suc-mul j l) in
       let row : i + 1 + j ≡ i + suc j = omega arith in
       rw (place, getD-append-add (g i) (rowsFrom g (i + 1) n) (j * l + t) 0) (getD-rows (i + 1) n j t (omega arith) ht ∙ ap (λ (x : ℕ). getD (g x) t 0) row)
+
+-- the low part of a number in base 16
+pub low-sixteen : (a b : ℕ) → b < 16 → (a * 16 + b) % 16 ≡ b
+low-sixteen a b h = omega arith

@@ -48,3 +48,10 @@ below-zeros q (suc n) h = cons-below q 0 (zeros n) h (below-zeros q n h)
 pub below-padded : (q n : ℕ) (xs : List ℕ) → 0 < q → allBelow q xs ≡ true → allBelow q (padded n xs) ≡ true
 unfolding padded
 below-padded q n xs pos h = below-append q xs (zeros (n - length xs)) h (below-zeros q (n - length xs) pos)
+
+-- every place of zeros holds 0
+pub getD-zeros : (n i : ℕ) → getD (zeros n) i 0 ≡ 0
+unfolding zeros
+getD-zeros zero i = refl
+getD-zeros (suc n) zero = refl
+getD-zeros (suc n) (suc i) = getD-zeros n i

@@ -1,5 +1,5 @@
 -- The list from the check sums is the list by definition.
-use mathlib.Core.Path.{_≡_, refl, sym, ap, _∙_}
+use mathlib.Core.Path.{_≡_, sym, ap, _∙_}
 use mathlib.Core.Bool.{Bool, true, false}
 use mathlib.Core.List.{List, map}
 use Prim.Native.Nat.{ℕ, zero, suc, _+_, _-_, _%_, _≤_, _<_}
@@ -16,6 +16,7 @@ use Rattle.lists.proofs.Numbers.{below-at, at-below, all-below}
 use Rattle.lists.proofs.Passing.{passing-within, passing-pass, passing-ext, passing-most}
 use Rattle.lists.proofs.Rows.{getD-from}
 use Rattle.lists.proofs.Search.{search-none, search-passes}
+use Rattle.lists.proofs.Cases.{same-test}
 use Rattle.field.specs.Fields.{add, sub, mul, power}
 use Rattle.field.proofs.Arithmetic.{Arithmetic}
 use Rattle.field.proofs.BothKinds.{arithmetic}
@@ -31,12 +32,6 @@ use Rattle.mends.specs.Inner.BySums.{firstOff, goesUp, upNodes, mendedAt
 use Rattle.mends.proofs.Powers.{rootPower}
 use Rattle.mends.proofs.Geometric.{sum-below, GoesUp, amount-below, up-word, word-up, word-symbol}
 use Rattle.mends.proofs.Meaning.{some-sums, found-word, word-found, nodes-of}
-
--- tests that pass together are equal
-same-test : (a b : Bool) → (a ≡ true → b ≡ true) → (b ≡ true → a ≡ true) → a ≡ b
-same-test true b f g = sym (f refl)
-same-test false true f g = g refl
-same-test false false f g = refl
 
 module _ (h : Header) (ws : List ℕ) where
   -- the check sums by place

@@ -14,7 +14,7 @@ use Rattle.lists.specs.Choice.{firstOf, when}
 use Rattle.lists.specs.Rows.{from}
 use Rattle.lists.specs.Around.{around}
 use Rattle.lists.specs.Numbers.{isIn}
-use Rattle.lists.proofs.Cases.{by-test, both-true}
+use Rattle.lists.proofs.Cases.{by-test, both-true, never}
 use Rattle.lists.proofs.All.{All-at}
 use Rattle.lists.proofs.Numbers.{isIn-place, place-isIn, all-below, all-distinct}
 use Rattle.lists.proofs.Passing.{passing-ext}
@@ -55,10 +55,6 @@ module _ (h : Header) (marks : List Bool) (some : 0 < h .k) (enough : h .k ≤ l
       let ps = presentOf (h .n) marks in
       let (u, low, e) = isIn-place j (from (around ps) x (h .k)) is in
       rw (sym e) (All-at (λ j. isPresent marks j ≡ true) 0 (from (around ps) x (h .k)) (around-all ps x (h .k) (λ j. isPresent marks j ≡ true) (omega arith) (present-marked (h .n) marks)) u low)
-
--- two answers that are not the same
-never : {A : Type 0} → _≡_ {A = ℕ} 0 1 → A
-never z = absurd (omega arith)
 
 -- where the list is written, at least k nodes are present
 pub written-enough : (k s l : ℕ) → listing k s l ≡ Written → k ≤ s

@@ -1,8 +1,8 @@
 -- One lane: the sum of the symbols whose weight has a digit, symbol after symbol, and a lane to which it is rowsAdded.
 use mathlib.Core.Path.{_≡_, refl, sym, ap, ap₂, _∙_}
 use mathlib.Core.List.{List, [], _∷_}
-use Prim.Native.Nat.{ℕ, zero, suc, _+_, _-_, _*_, _/_, _%_, _^_, _≤_, _<_}
-use native.Mathlib.Nat.{sub-zero, mul-zero, mul-one}
+use Prim.Native.Nat.{ℕ, _+_, _-_, _*_, _/_, _%_, _^_, _≤_, _<_}
+use native.Mathlib.Nat.{sub-zero}
 use native.Mathlib.Omega.{arith}
 use lib.Bits.{bitXor, xor-zero-l, xor-zero-r}
 use lib.ListN.{length, getD, set}
@@ -33,12 +33,6 @@ module _ (digit rows : ℕ) (ws : List ℕ) (x : ℕ → ℕ) where
   pub summed-all : (sum i : ℕ) → rows ≤ i → SummedBelow sum i → sum ≡ xorSum x (rowsWith digit rows ws)
   unfolding passingFrom xorSum
   summed-all sum i end e = sym (xor-zero-r sum) ∙ (rw (sub-end rows i end) at e)
-
--- a byte times a digit is a byte
-pub digit-byte : (x d : ℕ) → x < 256 → d < 2 → x * d < 256
-digit-byte x zero byte low = rw mul-zero (omega arith)
-digit-byte x (suc zero) byte low = rw mul-one byte
-digit-byte x (suc (suc d)) byte low = absurd (omega arith)
 
 -- sums of equal values
 sum-ext : (f g : ℕ → ℕ) → ((j : ℕ) → f j ≡ g j) → (js : List ℕ) → xorSum f js ≡ xorSum g js

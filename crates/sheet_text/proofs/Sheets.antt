@@ -1,12 +1,12 @@
 -- The sheet of the plan of a record says what the definitions of the generator say.
-use mathlib.Core.Path.{_≡_, refl, ap, ap₂}
+use mathlib.Core.Path.{_≡_, refl, ap}
 use mathlib.Core.List.{List, [], _∷_, _++_, append-nil}
-use Prim.Native.Nat.{ℕ, zero, suc, _+_, _≤_, _<_}
+use Prim.Native.Nat.{ℕ, zero, suc, _+_, _<_}
 use native.Mathlib.Omega.{arith}
 use borrow.Author.Tests.{ne-eqb}
 use lib.ListN.{getD}
-use Rattle.lists.specs.Rows.{from, rowsFrom}
-use Rattle.lists.proofs.Rows.{from-ext}
+use Rattle.lists.specs.Rows.{from}
+use Rattle.lists.proofs.Rows.{from-ext, rows-ext}
 use Rattle.generator.specs.declared.Header.{Header}
 use Rattle.generator.specs.declared.Record.the-variants.{Holds, Meets}
 use Rattle.generator.specs.Records.{distance, lowReads, highReads, recordFault, headerOf, judged, recordOf, Sound}
@@ -17,14 +17,6 @@ use Rattle.plan.proofs.Plans.{shift-in, first-in, entry-in}
 use Rattle.generator.proofs.Accepts.{accepted-sound}
 use Rattle.text.specs.Text.{ascii, line}
 use Rattle.sheet_text.specs.Sheet.{roundings, numbersLine, headLine, rowLine, sheetOf, sheetFor}
-
--- rows that agree where they are asked give the same text
-rows-ext : (f g : ℕ → List ℕ) (i n : ℕ) → ((k : ℕ) → i ≤ k → k < i + n → f k ≡ g k) → rowsFrom f i n ≡ rowsFrom g i n
-unfolding rowsFrom
-rows-ext f g i zero h = refl
-rows-ext f g i (suc n) h =
-    ap₂ _++_ (h i (omega arith) (omega arith))
-    (rows-ext f g (i + 1) n (λ k a b. h k (omega arith) (omega arith)))
 
 -- the line of a row of a sound header
 row-is : (h : Header) → Sound h → (r : ℕ) → r < h .k → rowLine (planFor (Holds h)) r ≡ line (ascii "row") (r ∷ getD (shifts h) r 0 ∷ getD (firsts h) r 0 ∷ from (entry h r) 0 (h .n))

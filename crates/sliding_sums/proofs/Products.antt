@@ -2,7 +2,7 @@
 use mathlib.Core.Path.{_≡_, sym, _∙_}
 use mathlib.Core.List.{List, [], _∷_}
 use Prim.Native.Nat.{ℕ, _+_, _*_, _%_, _≤_, _<_}
-use native.Mathlib.Nat.{zero-mod, mod-add-mod, add-mod-mod, mul-le-mul, add-assoc, add-zero}
+use native.Mathlib.Nat.{zero-mod, mod-add-mod, add-mod-mod, add-assoc, add-zero}
 use native.Mathlib.Omega.{arith}
 use lib.ListN.{length, getD, drop}
 use lib.Seq.{drop-length}
@@ -10,6 +10,7 @@ use Rattle.lists.proofs.Front.{drop-next}
 use Rattle.field.specs.Inner.Sums.{dot}
 use Rattle.field.proofs.Meanings.{add-modulo, mul-modulo}
 use Rattle.row_sums.specs.Inner.WideSums.{productSum}
+use Rattle.kernel.proofs.Halves.{product16}
 
 -- one reduction is enough
 pub dot-reduced : (p : ℕ) → 0 < p → (xs ys : List ℕ) → dot p xs ys ≡ productSum xs ys % p
@@ -28,17 +29,10 @@ pub record Added (xs ys : List ℕ) (j sum : ℕ) : Type 0 where
 pub added-none : (xs ys : List ℕ) → Added xs ys 0 0
 added-none xs ys = record { low = omega arith; whole = omega arith }
 
--- a product of two numbers of 16 binary digits has 32
-pub product-fits : (x y : ℕ) → x < 65536 → y < 65536 → x * y ≤ 4294836225
-product-fits x y a b = mul-le-mul (low x a) (low y b)
-  where
-    low : (x : ℕ) → x < 65536 → x ≤ 65535
-    low x a = omega arith
-
 pub added-one : {xs ys : List ℕ} {j sum : ℕ} → Added xs ys j sum → j < length xs → j < length ys → getD xs j 0 < 65536 → getD ys j 0 < 65536 → Added xs ys (j + 1) (sum + getD xs j 0 * getD ys j 0)
 unfolding productSum
 added-one {xs} {ys} {j} {sum} a inside room low high =
-    let fits = product-fits (getD xs j 0) (getD ys j 0) low high in
+    let fits = product16 (getD xs j 0) (getD ys j 0) low high in
     record {
       low = omega (arith, a .low);
       whole = add-assoc sum (getD xs j 0 * getD ys j 0) (productSum (drop (j + 1) xs) (drop (j + 1) ys)) ∙ rw (drop-next xs j 0 inside, drop-next ys j 0 room) at (a .whole);

@@ -5,18 +5,13 @@ use Prim.Native.Nat.{ℕ, zero, suc, _+_, _-_, _≤_, _<_}
 use native.Mathlib.Nat.{add-zero, zero-add, suc-add}
 use native.Mathlib.Omega.{arith}
 use Rattle.lists.specs.Rows.{rowsFrom}
+use Rattle.lists.proofs.Rows.{rows-ext}
 
 -- empty rows
 pub rows-none : (g : ℕ → List ℕ) (i n : ℕ) → ((x : ℕ) → i ≤ x → x < i + n → g x ≡ []) → rowsFrom g i n ≡ []
 unfolding rowsFrom
 rows-none g i zero h = refl
 rows-none g i (suc n) h = ap₂ _++_ (h i (omega arith) (omega arith)) (rows-none g (i + 1) n (λ x a b. h x (omega arith) (omega arith)))
-
--- functions that agree where they are asked give the same rows
-rows-ext : (g f : ℕ → List ℕ) (i n : ℕ) → ((x : ℕ) → i ≤ x → x < i + n → g x ≡ f x) → rowsFrom g i n ≡ rowsFrom f i n
-unfolding rowsFrom
-rows-ext g f i zero h = refl
-rows-ext g f i (suc n) h = ap₂ _++_ (h i (omega arith) (omega arith)) (rows-ext g f (i + 1) n (λ x a b. h x (omega arith) (omega arith)))
 
 -- two stretches end to end
 rows-append : (g : ℕ → List ℕ) (i m n : ℕ) → rowsFrom g i (m + n) ≡ rowsFrom g i m ++ rowsFrom g (i + m) n

@@ -1,16 +1,15 @@
 -- The slices that an output adds for a digit make the sum of the rows whose weight has the digit, and Horner's rule over them
 -- the sum of the rows times the weights.
 use mathlib.Core.Path.{_≡_, refl, sym, ap, ap₂, _∙_}
-use mathlib.Core.List.{List, [], _∷_, _++_}
+use mathlib.Core.List.{List}
 use Prim.Native.Nat.{ℕ, zero, suc, _+_, _-_, _*_, _/_, _%_, _^_, _≤_, _<_}
-use native.Mathlib.Nat.{add-zero, zero-add, mul-zero, mul-one, suc-add, zero-div}
+use native.Mathlib.Nat.{add-zero, zero-add, mul-zero, suc-add, zero-div}
 use native.Mathlib.Omega.{arith}
 use borrow.Author.Tests.{eqb-true}
 use lib.Bits.{bitXor, xor-zero-l, xor-zero-r}
 use lib.Dec.{eqb}
 use lib.ListN.{length, getD, take, drop, length-take, length-drop, List·getD-eq-default}
 use lib.Seq.{getD-take, getD-drop, length-take-le}
-use Rattle.lists.specs.Choice.{pick}
 use Rattle.lists.specs.Counting.{passingFrom}
 use Rattle.lists.specs.Rows.{from}
 use Rattle.lists.proofs.All.{All, All-at}
@@ -24,6 +23,7 @@ use Rattle.layout.specs.Layout.{byRow, held, laneOf}
 use Rattle.row_sums.specs.Inner.Combined.{combined, Weighted}
 use Rattle.row_sums.specs.Inner.Digits.{xorSum, rowAt, rowsAdded, multiplied, rowsWith}
 use Rattle.row_sums.proofs.Turns.{sumsOf, length-sums, sums-start, sums-turn, sums-end}
+use Rattle.row_sums.proofs.Horner.{sum-front}
 use Rattle.subset_sums.specs.Inner.Subsets.{subsetFrom, subset, tableByte, tableOf}
 use Rattle.subset_sums.specs.Inner.Lists.{subsetAt, slicesFrom, slicesAdded, turnsOf, Slices, Listing, Grouped}
 use Rattle.subset_sums.proofs.Subsets.{subset-none, subset-ext}
@@ -32,12 +32,6 @@ use Rattle.subset_sums.proofs.Subsets.{subset-none, subset-ext}
 unfoldable sumDigits : (ℕ → ℕ) → (ℕ → ℕ) → ℕ → ℕ → ℕ
 sumDigits x e zero i = 0
 sumDigits x e (suc f) i = bitXor (x i * e i) (sumDigits x e f (i + 1))
-
-front : (x : ℕ → ℕ) (i d : ℕ) (js : List ℕ) → d < 2 → xorSum x (pick (eqb d 1) (i ∷ []) [] ++ js) ≡ bitXor (x i * d) (xorSum x js)
-unfolding xorSum
-front x i zero js h = rw (mul-zero)
-front x i (suc zero) js h = rw (mul-one)
-front x i (suc (suc d)) js h = absurd (omega arith)
 
 -- the digits of a subset
 digits-of : (a b c d : ℕ) → a < 2 → b < 2 → c < 2 → d < 2 → ((a + b * 2 + c * 4 + d * 8) % 2 ≡ a) × ((a + b * 2 + c * 4 + d * 8) / 2 % 2 ≡ b) × ((a + b * 2 + c * 4 + d * 8) / 2 / 2 % 2 ≡ c) × ((a + b * 2 + c * 4 + d * 8) / 2 / 2 / 2 % 2 ≡ d)
@@ -52,7 +46,7 @@ module _ (x e : ℕ → ℕ) (digit : (i : ℕ) → e i < 2) where
   unfolding xorSum passingFrom sumDigits
   passing-digits zero i = refl
   passing-digits (suc f) i =
-      front x i (e i) (passingFrom f (i + 1) (λ i. eqb (e i) 1)) (digit i) ∙ ap (bitXor (x i * e i)) (passing-digits f (i + 1))
+      sum-front x i (e i) (passingFrom f (i + 1) (λ i. eqb (e i) 1)) (digit i) ∙ ap (bitXor (x i * e i)) (passing-digits f (i + 1))
 
   digits-none : (n i : ℕ) → ((k : ℕ) → i ≤ k → k < i + n → e k ≡ 0) → sumDigits x e n i ≡ 0
   unfolding sumDigits

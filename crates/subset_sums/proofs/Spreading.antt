@@ -18,6 +18,7 @@ use Rattle.lists.proofs.Fill.{fills-put, length-zeros}
 use Rattle.lists.proofs.Rows.{from-next, getD-from, length-from, row-inside, sub-next, sub-end}
 use Rattle.field.proofs.Computed.{at, equal-at}
 use Rattle.lists.proofs.Parts.{Valued, valued-start}
+use Rattle.lists.proofs.Padding.{getD-zeros}
 use Rattle.subset_sums.specs.Inner.Lists.{subsetAt, slicesFrom, Listing}
 use Rattle.subset_sums.specs.Inner.Spread.{spreadFrom, spreadOf, spreads, Streams}
 
@@ -230,12 +231,6 @@ module _ (groups : ℕ) (ws : List ℕ) (g : ℕ) (more : g < groups) where
           by-test (ltb d b)
           (λ e. rw e (lt-ltb d (b + 1) (omega (arith, ltb-true d b e))))
           (λ e. let above : b < d = lt-of-other b d (λ same. other (sym same)) (ltb-false d b e) in rw e (le-ltb d (b + 1) (omega arith)))
-
-getD-zeros : (n i : ℕ) → getD (zeros n) i 0 ≡ 0
-unfolding zeros
-getD-zeros zero i = refl
-getD-zeros (suc n) zero = refl
-getD-zeros (suc n) (suc i) = getD-zeros n i
 
 pub streams-none : (groups : ℕ) (ws list : List ℕ) → length list ≡ 8 * groups → Streams groups (λ b. 0) ws list (zeros 8)
 streams-none groups ws list long =

@@ -14,6 +14,7 @@ use Rattle.lists.proofs.Fill.{length-zeros, from-zeros}
 use Rattle.field.proofs.Xor.{xor-assoc}
 use Rattle.kernel.specs.Inner.Lanes.{lanewise}
 use Rattle.lists.proofs.Parts.{Valued, valued-part, valued-at}
+use Rattle.lists.proofs.Lanes.{low-sixteen}
 use Rattle.subset_sums.specs.Inner.Subsets.{subsetFrom, subset, groupByte, groupOf, tableByte, summed}
 
 pub subset-none : (f : ℕ) (x : ℕ → ℕ) (i : ℕ) → subsetFrom f x i 0 ≡ 0
@@ -104,9 +105,6 @@ pub length-group : (rows : List ℕ) → length (groupOf rows) ≡ 1024
 unfolding groupOf
 length-group rows = length-from (groupByte rows) 0 1024
 
-slice-of : (g v : ℕ) → v < 16 → (g * 16 + v) % 16 ≡ v
-slice-of g v h = omega arith
-
 -- a group of the table
 pub table-group : (rows : List ℕ) (g p : ℕ) → p < 1024 → getD (groupOf (take (g * 256 + 256 - g * 256) (drop (g * 256) rows))) p 0 ≡ tableByte rows (g * 1024 + p)
 unfolding groupOf groupByte tableByte subset
@@ -116,7 +114,7 @@ table-group rows g p h =
     let lane : (g * 1024 + p) % 64 ≡ p % 64 = omega arith in
     let slices : (g * 1024 + p) / 64 ≡ g * 16 + p / 64 = omega arith in
     let low : p / 64 < 16 = omega arith in
-    let slice : (g * 16 + p / 64) % 16 ≡ p / 64 = slice-of g (p / 64) low in
+    let slice : (g * 16 + p / 64) % 16 ≡ p / 64 = low-sixteen g (p / 64) low in
     rw zero-add at (getD-from (groupByte part) 0 1024 p 0 h)
     ∙ rw (group, lane, slices, slice)
     (subset-ext 4 (λ i. getD part (i * 64 + p % 64) 0) (λ i. getD rows (g * 256 + (i * 64 + p % 64)) 0) 0 (p / 64)

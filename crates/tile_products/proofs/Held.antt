@@ -1,8 +1,8 @@
 -- Sums of nearly reduced products, row after row.
-use mathlib.Core.Path.{_≡_, refl, sym, ap, ap₂, _∙_}
+use mathlib.Core.Path.{_≡_, sym, ap, ap₂, _∙_}
 use mathlib.Core.Bool.{true}
 use mathlib.Core.List.{List, [], _∷_}
-use Prim.Native.Nat.{ℕ, zero, suc, _+_, _-_, _*_, _%_, _≤_, _<_}
+use Prim.Native.Nat.{ℕ, _+_, _-_, _*_, _%_, _≤_, _<_}
 use native.Mathlib.Nat.{zero-add, add-zero, mul-zero, zero-mul, zero-mod, zero-div, mod-mod, add-mod-mod, mod-add-mod, mul-le-mul, add-assoc}
 use native.Mathlib.Omega.{arith}
 use lib.ListN.{length, getD, take, drop, drop-of-length-le}
@@ -13,6 +13,7 @@ use Rattle.lists.proofs.Fill.{length-zeros}
 use Rattle.lists.proofs.Front.{drop-next}
 use Rattle.lists.proofs.Numbers.{below-at}
 use Rattle.lists.proofs.Rows.{from-ext, row-after, row-inside, getD-part}
+use Rattle.lists.proofs.Padding.{getD-zeros}
 use Rattle.field.specs.Fields.{mul}
 use Rattle.field.specs.Inner.Sums.{dot}
 use Rattle.field.proofs.Meanings.{add-modulo, mul-modulo}
@@ -24,12 +25,6 @@ use Rattle.layout.proofs.Places.{held-by-row}
 use Rattle.row_sums.specs.Inner.Combined.{combined}
 use Rattle.tile_products.specs.Inner.Ratios.{ratioOf, nearlyOf, InScale}
 use Rattle.tile_products.proofs.Reduction.{nearly-below, nearly-same}
-
-getD-zeros : (n i : ℕ) → getD (zeros n) i 0 ≡ 0
-unfolding zeros
-getD-zeros zero i = refl
-getD-zeros (suc n) zero = refl
-getD-zeros (suc n) (suc i) = getD-zeros n i
 
 -- a weight of 0 adds nothing
 nearly-zero : (p x : ℕ) → nearlyOf p 0 x ≡ 0

@@ -3,6 +3,7 @@ use mathlib.Core.Path.{_≡_, sym, ap, _∙_}
 use Prim.Native.Nat.{ℕ, _+_, _-_, _*_, _/_, _%_, _≤_, _<_}
 use native.Mathlib.Nat.{mul-add, add-mul, mul-assoc, mul-comm, mul-le-mul, le-refl, mod-lt, div-add-mod', div-lt-iff-lt-mul, add-mul-mod-self-right}
 use native.Mathlib.Omega.{arith}
+use Rattle.kernel.proofs.Ratio.{byte-product}
 use Rattle.tile_products.specs.Inner.Ratios.{ratioOf, nearlyOf}
 
 -- x·c by the quotient of x·r, where r·p + d is c·65536
@@ -13,12 +14,6 @@ parts p c r d x ratio =
     let scaled : x * (r * p + d) ≡ x * (c * 65536) = ap (λ (n : ℕ). x * n) ratio in
     let quotient : (q * 65536 + f) * p ≡ x * r * p = ap (λ (n : ℕ). n * p) (div-add-mod' (x * r) 65536) in
     omega (arith, mul-add x (r * p) d, add-mul (q * 65536) f p, mul-assoc x r p, mul-assoc x c 65536, mul-assoc q 65536 p, mul-comm 65536 p, mul-assoc q p 65536)
-
-product-fits : (a b : ℕ) → a < 256 → b < 256 → a * b < 65536
-product-fits a b ha hb =
-    let la : a ≤ 255 = omega arith in
-    let lb : b ≤ 255 = omega arith in
-    omega (arith, mul-le-mul la lb)
 
 module _ (p c : ℕ) (hp : p ≤ 256) (hc : c < p) where
   pub ratio-fits : ratioOf p c < 65536
@@ -37,7 +32,7 @@ module _ (p c : ℕ) (hp : p ≤ 256) (hc : c < p) where
     nearly-low = omega (arith, whole)
 
     pub nearly-fits : x * c < 65536
-    nearly-fits = product-fits x c hx (omega arith)
+    nearly-fits = byte-product x c hx (omega arith)
 
     pub nearly-below : nearlyOf p c x ≤ p
     unfolding nearlyOf

@@ -9,6 +9,7 @@ use lib.ListN.{length, getD, take, drop}
 use lib.Seq.{ext-getD}
 use Rattle.lists.proofs.Cases.{by-test}
 use Rattle.lists.proofs.Rows.{part-length, part-size, getD-part}
+use Rattle.lists.proofs.Lanes.{low-sixteen}
 use Rattle.tiles.specs.Inner.Squares.{turned, squareAt, asRows, Squared}
 use Rattle.layout.proofs.Runs.{replaced, length-replaced, replaced-inside, replaced-before, replaced-after}
 use Rattle.tiles.proofs.Shuffles.{length-placed, getD-placed}
@@ -72,16 +73,13 @@ turned-byte x r t hr ht =
 split-high : (a b : ℕ) → b < 16 → (a * 16 + b) / 16 ≡ a
 split-high a b h = omega arith
 
-split-low : (a b : ℕ) → b < 16 → (a * 16 + b) % 16 ≡ b
-split-low a b h = omega arith
-
 -- 16 lanes more are turned out of the rows
 pub turned-square : (tile : List ℕ) (q p : ℕ) → q < 4 → p < 256 → getD (turned (squareAt (q * 16) tile)) p 0 ≡ getD tile ((q * 256 + p) % 16 * 64 + (q * 256 + p) / 16) 0
 unfolding turned squareAt
 turned-square tile q p hq hp =
     let low : p / 16 < 16 = omega arith in
     let row : (p % 16 * 16 + p / 16) / 16 ≡ p % 16 = split-high (p % 16) (p / 16) low in
-    let lane : (p % 16 * 16 + p / 16) % 16 ≡ p / 16 = split-low (p % 16) (p / 16) low in
+    let lane : (p % 16 * 16 + p / 16) % 16 ≡ p / 16 = low-sixteen (p % 16) (p / 16) low in
     let place : p % 16 * 64 + (q * 16 + p / 16) ≡ (q * 256 + p) % 16 * 64 + (q * 256 + p) / 16 = omega arith in
     getD-placed _ 256 (squareAt (q * 16) tile) p hp
     ∙ getD-placed _ 256 tile (p % 16 * 16 + p / 16) (omega arith)

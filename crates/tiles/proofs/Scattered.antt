@@ -1,11 +1,11 @@
 -- Lanes of a tile through its blocks.
-use mathlib.Core.Path.{_≡_, refl, sym, ap, _∙_}
-use mathlib.Core.List.{List, _++_}
-use Prim.Native.Nat.{ℕ, zero, suc, _+_, _-_, _*_, _/_, _%_, _≤_, _<_}
+use mathlib.Core.Path.{_≡_, sym, _∙_}
+use mathlib.Core.List.{List}
+use Prim.Native.Nat.{ℕ, _+_, _-_, _*_, _/_, _%_, _≤_, _<_}
 use native.Mathlib.Omega.{arith}
 use lib.ListN.{length, getD, take, drop}
 use Rattle.lists.specs.Rows.{rowsFrom}
-use Rattle.lists.proofs.Rows.{from-ext, getD-part}
+use Rattle.lists.proofs.Rows.{from-ext, getD-part, rows-ext}
 use Rattle.layout.specs.Layout.{byRow, laneOf}
 use Rattle.layout.proofs.Places.{held-by-row}
 use Rattle.tiles.specs.Inner.Squares.{placed, asLanes, blocksOf, laneAt}
@@ -46,13 +46,6 @@ pub lane-of-tile : (tile : List ℕ) (n t : ℕ) → t < 64 → laneAt t n (bloc
 unfolding laneAt placed laneOf
 lane-of-tile tile n t lane =
     from-ext _ _ 0 n (λ j low high. lane-byte tile n t j lane (omega arith) ∙ sym (held-by-row n 64 tile j t))
-
-pub rows-ext : (f g : ℕ → List ℕ) (i n : ℕ) → ((k : ℕ) → i ≤ k → k < i + n → f k ≡ g k) → rowsFrom f i n ≡ rowsFrom g i n
-unfolding rowsFrom
-rows-ext f g i zero same = refl
-rows-ext f g i (suc n) same =
-    ap (λ (l : List ℕ). l ++ rowsFrom f (i + 1) n) (same i (omega arith) (omega arith))
-    ∙ ap (λ (l : List ℕ). g i ++ l) (rows-ext f g (i + 1) n (λ k low high. same k (omega arith) (omega arith)))
 
 pub lanes-of-tile : (tile : List ℕ) (n count : ℕ) → count ≤ 64 → rowsFrom (λ t. laneAt t n (blocksOf ((n + 15) / 16) tile)) 0 count ≡ rowsFrom (λ t. laneOf byRow n 64 t tile) 0 count
 lanes-of-tile tile n count few = rows-ext _ _ 0 count (λ t low high. lane-of-tile tile n t (omega arith))

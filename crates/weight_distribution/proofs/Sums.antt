@@ -10,14 +10,8 @@ use Rattle.lists.specs.Choice.{when}
 use Rattle.lists.specs.Counting.{countFrom}
 use Rattle.lists.specs.Rows.{from, range}
 use Rattle.lists.proofs.All.{All}
-use Rattle.lists.proofs.Cases.{and-left, and-right}
+use Rattle.lists.proofs.Cases.{and-left, and-right, same-test}
 use Rattle.weight_distribution.specs.Counts.{sumOf}
-
--- two tests that say the same
-pub same-test : (a b : Bool) → (a ≡ true → b ≡ true) → (b ≡ true → a ≡ true) → a ≡ b
-same-test true b f g = sym (f refl)
-same-test false true f g = g refl
-same-test false false f g = refl
 
 module _ {A : Type 0} where
   -- every element passes the test

@@ -12,8 +12,9 @@ use borrow.Author.Tests.{eqb-true, eq-eqb}
 use Rattle.lists.specs.Choice.{when}
 use Rattle.lists.proofs.All.{All, All-imp, All-both, All-map, All-replicate, ExactlyOne, map-agree, map-take}
 use Rattle.lists.proofs.Places.{Places}
+use Rattle.lists.proofs.Cases.{same-test}
 use Rattle.weight_distribution.specs.Counts.{sumOf}
-use Rattle.weight_distribution.proofs.Sums.{same-test, allPass, pass-all, all-pass, pass-map, sum-ext, sum-permute}
+use Rattle.weight_distribution.proofs.Sums.{allPass, pass-all, all-pass, pass-map, sum-ext, sum-permute}
 use Rattle.weight_distribution.proofs.Moves.{All-take, Places-take}
 use Rattle.weight_distribution.proofs.Messages.{Message, messages, All-messages, sameList, same-list, list-same, messages-once, messages-zero}
 

@@ -9,7 +9,7 @@ use lib.ListN.{length}
 use Rattle.lists.specs.Choice.{when}
 use Rattle.lists.specs.Numbers.{allBelow}
 use Rattle.lists.specs.Rows.{from}
-use Rattle.lists.proofs.Cases.{by-test}
+use Rattle.lists.proofs.Cases.{by-test, never}
 use Rattle.lists.proofs.Numbers.{at-below}
 use Rattle.lists.proofs.Rows.{length-from, getD-from}
 use Rattle.generator.specs.declared.Header.{Header}
@@ -28,10 +28,6 @@ use Rattle.weights_text.specs.Weights.{countLines, weightsFor}
 by-messages : (h : Header) (counts : List ℕ) → length counts ≡ h .n + 1 → weightsFault h (length counts) ≡ when (messagesBad h) 16
 unfolding weightsFault
 by-messages h counts long = rw (eq-eqb (length counts) (h .n + 1) long)
-
--- two cases of an enum are never equal
-never : {A : Type 0} → _≡_ {A = ℕ} 0 1 → A
-never z = absurd (omega arith)
 
 few : (h : Header) → messagesBad h ≡ false → size h ^ h .k ≤ 65536
 unfolding messagesBad

@@ -1,7 +1,7 @@
 -- Sums with the weights of the checks: all are 0 where the other nodes hold what the first k give, and there the lane is a word.
 use mathlib.Core.Path.{_≡_, refl, sym, ap, ap₂, _∙_}
 use mathlib.Core.Logic.{_↔_, by-cases}
-use mathlib.Core.Bool.{Bool, true, false}
+use mathlib.Core.Bool.{true}
 use mathlib.Core.List.{List, [], _∷_, _++_}
 use Prim.Native.Nat.{ℕ, zero, suc, _+_, _-_, _≤_, _<_}
 use native.Mathlib.Decide.{ℕ-discrete}
@@ -13,7 +13,7 @@ use lib.Seq.{ext-getD, getD-drop, getD-take, length-take-le}
 use Rattle.lists.specs.Numbers.{allBelow}
 use Rattle.lists.specs.Padded.{zeros, padded}
 use Rattle.lists.specs.Rows.{from, range}
-use Rattle.lists.proofs.Cases.{and-left, and-right, both-true}
+use Rattle.lists.proofs.Cases.{and-left, and-right, both-true, same-test}
 use Rattle.lists.proofs.Numbers.{below-cons, below-take, below-set, below-at}
 use Rattle.lists.proofs.Padding.{length-padded}
 use Rattle.lists.proofs.Places.{length-range, map-range}
@@ -110,12 +110,6 @@ each-zero : (m : ℕ) (f : ℕ → ℕ) → ((i : ℕ) → i < m → f i ≡ 0) 
 unfolding allZero
 each-zero zero f z = refl
 each-zero (suc m) f z = both-true (eq-eqb _ 0 (z m (omega arith))) (each-zero m f (λ i l. z i (omega arith)))
-
--- two tests that hold together
-same-test : (a b : Bool) → (a ≡ true → b ≡ true) → (b ≡ true → a ≡ true) → a ≡ b
-same-test true b f g = sym (f refl)
-same-test false true f g = g refl
-same-test false false f g = refl
 
 pub length-first : (h : Header) (i : ℕ) → length (firstWeights h i) ≡ h .k
 unfolding basisValues

@@ -2,7 +2,8 @@
 use Prim.Native.Nat.{_-_, _/_, _%_, _^_, _≤_}
 use native.Mathlib.Omega.{arith}
 use lib.ListN.{length, getD}
-use Rattle.row_sums.proofs.OneLane.{digit-byte, SummedBelow, summed-none, summed-row, summed-all}
+use Rattle.field.proofs.Product.{times-digit}
+use Rattle.row_sums.proofs.OneLane.{SummedBelow, summed-none, summed-row, summed-all}
 use Rattle.row_sums.proofs.gf256.digit_sum.Statement.{statement}
 use Rattle.row_sums.proofs.gf256.digit_sum.Tie as tie
 
@@ -34,7 +35,7 @@ mul-sum : tie.Need-mul-sum Inv-loop μ-loop
 mul-sum c =
     let a = c .before .before .before .before .args in
     let i = c .before .before .before .loop .i in
-    omega (arith, digit-byte (getD (a .symbols .now) i 0) (getD (a .weights .now) i 0 / 2 ^ a .digit % 2) (omega (arith, c .shared-slice-known2 .given i)) (omega arith))
+    omega (arith, times-digit (getD (a .symbols .now) i 0) (getD (a .weights .now) i 0 / 2 ^ a .digit % 2) (omega (arith, c .shared-slice-known2 .given i)) (omega arith))
 
 add-i : tie.Need-add-i Inv-loop μ-loop
 add-i c = omega arith

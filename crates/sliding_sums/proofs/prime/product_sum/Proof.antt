@@ -2,7 +2,8 @@
 use Prim.Native.Nat.{_-_, _*_, _≤_}
 use native.Mathlib.Omega.{arith}
 use lib.ListN.{length, getD}
-use Rattle.sliding_sums.proofs.Products.{Added, added-none, added-one, added-all, product-fits}
+use Rattle.kernel.proofs.Halves.{product16}
+use Rattle.sliding_sums.proofs.Products.{Added, added-none, added-one, added-all}
 use Rattle.sliding_sums.proofs.prime.product_sum.Statement.{statement}
 use Rattle.sliding_sums.proofs.prime.product_sum.Tie as tie
 
@@ -20,7 +21,7 @@ fits : (c : tie.After-shared-slice-known2 Inv-loop μ-loop)
     getD (a .weights .now) j 0 * getD (a .row .now) j 0 ≤ 4294836225
 fits c =
     let j = c .before .before .before .loop .j in
-    product-fits _ _ (omega (arith, c .before .shared-slice-known .given j)) (omega (arith, c .shared-slice-known2 .given j))
+    product16 _ _ (omega (arith, c .before .shared-slice-known .given j)) (omega (arith, c .shared-slice-known2 .given j))
 
 loop-holds : tie.Need-loop-holds Inv-loop μ-loop
 loop-holds c = (omega arith, added-none _ _)
