@@ -1,7 +1,7 @@
 -- Rows of l places each, one after the other: their length, and what stands at place t of row j.
 use mathlib.Core.Path.{_≡_, sym, ap, _∙_}
 use mathlib.Core.List.{List}
-use Prim.Native.Nat.{ℕ, zero, suc, _+_, _*_, _<_}
+use Prim.Native.Nat.{ℕ, zero, suc, _+_, _*_, _%_, _<_}
 use native.Mathlib.Omega.{arith}
 use native.Mathlib.Nat.{zero-mul, suc-mul, zero-add, add-zero}
 use lib.ListN.{length, getD, length-append, List·getD-append}
