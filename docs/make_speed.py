@@ -11,8 +11,11 @@ import sys
 DOCS = os.path.dirname(os.path.abspath(__file__))
 RUN, TABLE, PICTURE = (os.path.join(DOCS, name) for name in ("speed.txt", "SPEED.md", os.path.join("pictures", "speed.svg")))
 START, END = "<!-- made by make_speed.py -->\n", "<!-- end -->\n"
+# what Correct is compared with, and how its rows are named
+CORRECT_PEERS = {"libfec": "to libfec", "belongs": "to Belongs"}
+NAMES = {"correct": "Correct, words", "correct_wrong": "Correct, wrong"}
 SHOWN = [(15, 10, 64), (15, 10, 4096), (51, 34, 64), (51, 34, 4096), (255, 120, 1), (255, 120, 64), (255, 120, 4096), (250, 125, 4096)]
-CALLS = ["encode", "update", "recover", "rebuild", "belongs", "correct", "plan"]
+CALLS = ["encode", "update", "recover", "rebuild", "belongs", "correct", "correct_wrong", "plan"]
 PEERS = ["isal", "isal_turned", "jerasure", "jerasure_turned", "isal_kept", "jerasure_kept"]
 HEADS = ["to ISA-L", "ISA-L turned", "to Jerasure", "Jer. turned", "ISA-L kept", "Jer. kept"]
 COLOURS = {"encode": "#1f6f8b", "recover": "#c9772b", "belongs": "#6b7f3f"}
@@ -36,11 +39,12 @@ def time_words(us):
 
 
 def ratio_words(ratio):
-    return "" if ratio is None else f"{ratio:.0f}" if ratio >= 20 else f"{ratio:.2f}"
+    return "" if ratio is None else f"{ratio:.0f}" if ratio >= 20 else f"{ratio:.2f}" if ratio >= 0.01 else f"{ratio:.3f}"
 
 
 def table(times, ratios):
-    lines = ["| n, k, lanes | call | time | rate | " + " | ".join(HEADS) + " |", "|---" * (4 + len(HEADS)) + "|"]
+    peers, heads = [*PEERS, *CORRECT_PEERS], [*HEADS, *CORRECT_PEERS.values()]
+    lines = ["| n, k, lanes | call | time | rate | " + " | ".join(heads) + " |", "|---" * (4 + len(heads)) + "|"]
     for n, k, lanes in SHOWN:
         block = f"{n}, {k}, {lanes}"
         for call in CALLS:
@@ -48,8 +52,8 @@ def table(times, ratios):
             if us is None:
                 continue
             rate = "" if call in ("update", "plan") else f"{k * lanes / us:.0f} MB/s"
-            cells = [ratio_words(ratios.get((call, n, k, lanes, peer))) for peer in PEERS]
-            lines.append("| " + " | ".join([block, call.capitalize(), time_words(us), rate, *cells]) + " |")
+            cells = [ratio_words(ratios.get((call, n, k, lanes, peer))) for peer in peers]
+            lines.append("| " + " | ".join([block, NAMES.get(call, call.capitalize()), time_words(us), rate, *cells]) + " |")
             block = ""
     return "\n".join(lines) + "\n"
 
