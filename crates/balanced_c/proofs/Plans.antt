@@ -50,7 +50,7 @@ five-set (v ∷ w ∷ x ∷ y ∷ z ∷ []) a b c d e h = refl
 five-set (v ∷ w ∷ x ∷ y ∷ z ∷ u ∷ t) a b c d e h = absurd (omega arith)
 
 module _ (rec numbers shifts firsts base : List ℕ) (p : Plan) (r : ℕ) (says : PlanSays rec p) (e : r ≡ firstOf (p .number) (planRoomFault (length numbers) (length shifts) (length firsts) (length base))) where
-  number-is : r ≡ faultOf rec (λ h. lengthFault (length numbers) (length shifts) (length firsts) (length base))
+  number-is : r ≡ faultOf rec (λ h. planRoomFault (length numbers) (length shifts) (length firsts) (length base))
   unfolding faultOf
   number-is = e ∙ ap (λ (f : ℕ). firstOf f (planRoomFault (length numbers) (length shifts) (length firsts) (length base))) (ap (λ (q : Plan). q .number) (says .plan) ∙ plan-number rec)
 

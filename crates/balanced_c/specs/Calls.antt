@@ -30,7 +30,7 @@ numbersOf p = p .n ∷ p .k ∷ p .d ∷ p .low ∷ p .high ∷ []
 
 -- `balanced_plan`: the plan's parts, and what is claimed of every accepted record
 pub record PlanGives (rec numbers shifts firsts base numbers′ shifts′ firsts′ base′ : List ℕ) (r : ℕ) : Type 0 where
-  pub number : r ≡ faultOf rec (λ h. lengthFault (length numbers) (length shifts) (length firsts) (length base))
+  pub number : r ≡ faultOf rec (λ h. planRoomFault (length numbers) (length shifts) (length firsts) (length base))
   pub numbers-are : numbers′ ≡ pick (eqb r 0) (numbersOf (planFor (recordOf rec))) numbers
   pub shifts-are : shifts′ ≡ pick (eqb r 0) (planFor (recordOf rec) .shifts) shifts
   pub firsts-are : firsts′ ≡ pick (eqb r 0) (planFor (recordOf rec) .firsts) firsts

@@ -45,7 +45,7 @@ pub fn add_products(
     d: &mut [u16; 16],
 )
     requires { ⌜ (length (now first) ≡ 16) × (length (now second) ≡ 16) × Sixteen (now a) × Sixteen (now b) × Sixteen (now c) × Sixteen (now d) ⌝ }
-    ensures { λ r. ⌜ (now (a .exit) ≡ wrapped (λ t. productAt weight (now (first .entry)) (now (second .entry)) t % 65536) (now (a .entry))) × (now (b .exit) ≡ wrapped (λ t. productAt weight (now (first .entry)) (now (second .entry)) t % 65536 / 256) (now (b .entry))) × (now (c .exit) ≡ wrapped (λ t. productAt weight (now (first .entry)) (now (second .entry)) t / 65536) (now (c .entry))) × (now (d .exit) ≡ wrapped (λ t. productAt weight (now (first .entry)) (now (second .entry)) t / 65536 / 256) (now (d .entry))) ⌝ }
+    ensures { λ r. ⌜ (now (a .exit) ≡ wrapped (λ t. pairProduct weight (now (first .entry)) (now (second .entry)) t % 65536) (now (a .entry))) × (now (b .exit) ≡ wrapped (λ t. pairProduct weight (now (first .entry)) (now (second .entry)) t % 65536 / 256) (now (b .entry))) × (now (c .exit) ≡ wrapped (λ t. pairProduct weight (now (first .entry)) (now (second .entry)) t / 65536) (now (c .entry))) × (now (d .exit) ≡ wrapped (λ t. pairProduct weight (now (first .entry)) (now (second .entry)) t / 65536 / 256) (now (d .entry))) ⌝ }
 {
     if weight == 0 {
         return;

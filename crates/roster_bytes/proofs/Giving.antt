@@ -80,7 +80,7 @@ module _ (rec bytes : List ℕ) where
     start-done step bytes′ r e n w =
         record {
           number = rw (eq-eqb (length bytes) 256 long) (n ∙ ap (λ (s : Step). s .number) e ∙ start-number rec ∙ sym (first-none (recordFault rec)));
-          bytes-are = rw (eq-eqb (length bytes) 256 long) (w ∙ ap (λ (s : Step). bytesOf (s .roster)) e);
+          bytes-are = rw (eq-eqb (length bytes) 256 long) (w ∙ ap (λ (s : Step). rosterBytes (s .roster)) e);
         }
 
     pub event-done : (d : Event) (step : Step) (bytes′ : List ℕ) (r : ℕ) → step ≡ stepOf (recordOf rec) d (rosterOf bytes) → r ≡ step .number → bytes′ ≡ pick (eqb (step .number) 0) (rosterBytes (step .roster)) bytes → EventGives rec bytes d bytes′ r

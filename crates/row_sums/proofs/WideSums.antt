@@ -125,7 +125,7 @@ module _ (rows l : ℕ) (ws s : List ℕ) where
           rw (product-is t lane)
           (product16 _ _ (omega (arith, bytes (i * 2 * l + (at + t)), bytes (i * 2 * l + (at + t) + l))) (omega (arith, twos i)))
 
-      pub held-row : (a b c d : List ℕ) → Held i a b c d → Held (i + 1) (wrapped (λ t. productAt (getD ws i 0) high low t % 65536) a) (wrapped (λ t. productAt (getD ws i 0) high low t % 65536 / 256) b) (wrapped (λ t. productAt (getD ws i 0) high low t / 65536) c) (wrapped (λ t. productAt (getD ws i 0) high low t / 65536 / 256) d)
+      pub held-row : (a b c d : List ℕ) → Held i a b c d → Held (i + 1) (wrapped (λ t. pairProduct (getD ws i 0) high low t % 65536) a) (wrapped (λ t. pairProduct (getD ws i 0) high low t % 65536 / 256) b) (wrapped (λ t. pairProduct (getD ws i 0) high low t / 65536) c) (wrapped (λ t. pairProduct (getD ws i 0) high low t / 65536 / 256) d)
       held-row a b c d h =
           record {
             a-sums = sixteen-wrapped _ a (h .a-sums);

@@ -129,7 +129,7 @@ module _ (groups at : ℕ) (row : List ℕ) (few : groups ≤ 64) (low : at ≤ 
           let f : ℕ → ℕ → ℕ = λ t o. placeOf o in
           let fits : b * groups + groups ≤ length rows = omega (arith, l .long, row-inside 8 b groups digit) in
           let size : length (take n (drop (b * groups) rows)) ≡ n = simp (length-take, length-drop) (omega (arith, l .few b digit)) in
-          ap (λ (os : List ℕ). sumOf (λ o. getD (drop at (slidingTable row)) (o + t) 0) (take n (drop (b * groups) os))) (p .moved)
+          ap (λ (os : List ℕ). xorSum (λ o. getD (drop at (slidingTable row)) (o + t) 0) (take n (drop (b * groups) os))) (p .moved)
           ∙ (sums-agree _ _ (take n (drop (b * groups) (lanewise f rows))) (take n (drop (b * groups) rows))
           (simp (length-take, length-drop, length-lanewise) refl)
           (λ i h.

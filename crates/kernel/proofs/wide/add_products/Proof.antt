@@ -17,7 +17,7 @@ abbrev Adding : (ℕ → ℕ) → List ℕ → List ℕ → ℕ → Type 0
 Adding f start now t = (length start ≡ 16) × Changed (λ t y. (y + f t) % 65536) start now t
 
 abbrev Inv-loop : tie.InvT-loop
-Inv-loop weight first second a₀ b₀ c₀ d₀ t₀ a b c d t = (t ≤ 16) × Adding (λ t. productAt weight first second t % 65536) a₀ a t × Adding (λ t. productAt weight first second t % 65536 / 256) b₀ b t × Adding (λ t. productAt weight first second t / 65536) c₀ c t × Adding (λ t. productAt weight first second t / 65536 / 256) d₀ d t
+Inv-loop weight first second a₀ b₀ c₀ d₀ t₀ a b c d t = (t ≤ 16) × Adding (λ t. pairProduct weight first second t % 65536) a₀ a t × Adding (λ t. pairProduct weight first second t % 65536 / 256) b₀ b t × Adding (λ t. pairProduct weight first second t / 65536) c₀ c t × Adding (λ t. pairProduct weight first second t / 65536 / 256) d₀ d t
 
 abbrev μ-loop : tie.MeasureT-loop
 μ-loop weight first second a₀ b₀ c₀ d₀ t₀ a b c d t = 16 - t

@@ -50,7 +50,7 @@ returns c =
     let st : tie.Start = search in
     c .before .before .add-pairs .ensures
     ∙ after-multiply-x-first .multiply-x-first .ensures .rest
-    ∙ ap (λ (js : List ℕ). added (st .args .lanes) (st .args .rows .now) js (multiplied (st .args .acc .now))) (after-list-rows .list-rows .ensures .1)
+    ∙ ap (λ (js : List ℕ). rowsAdded (st .args .lanes) (st .args .rows .now) js (multiplied (st .args .acc .now))) (after-list-rows .list-rows .ensures .1)
 
 pub step-rows-spec : {M : Type 1} → statement M
 step-rows-spec =
