@@ -3,6 +3,7 @@ pub mod Shares
 pub mod Tiles
 pub mod Updates
 pub mod Messages
+pub mod Recovered
 pub mod Words
 pub mod Bytes
 pub mod Refused
