@@ -2,6 +2,7 @@
 pub mod Shares
 pub mod Tiles
 pub mod Updates
+pub mod OneSymbol
 pub mod Messages
 pub mod Recovered
 pub mod Words
