@@ -2,7 +2,7 @@
 use mathlib.Core.Path.{_≡_, refl, sym, ap, _∙_}
 use mathlib.Core.Bool.{Bool, true}
 use mathlib.Core.List.{List}
-use Prim.Native.Nat.{ℕ, _*_, _<_}
+use Prim.Native.Nat.{ℕ, _*_}
 use native.Mathlib.Decide.{ℕ-discrete}
 use borrow.Author.Tests.{eqb-true, eq-eqb, ne-eqb}
 use lib.Dec.{eqb}
