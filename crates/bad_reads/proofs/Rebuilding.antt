@@ -9,27 +9,28 @@ use native.Mathlib.Omega.{arith}
 use lib.ListN.{length, getD, set, length-set}
 use lib.Seq.{getD-set-same, getD-set-other, ext-getD}
 use Rattle.lists.specs.Numbers.{isIn}
-use Rattle.lists.proofs.Cases.{first-zero}
 use Rattle.lists.proofs.Rows.{from-ext, getD-from}
 use Rattle.layout.specs.Layout.{byRow, shareLayout, laneOf}
 use Rattle.layout.specs.Width.{symbolsOf, bytesOf}
 use Rattle.layout.proofs.Buffers.{length-lane, getD-lane}
+use Rattle.layout.proofs.Places.{share-lawful}
 use Rattle.layout.proofs.Widths.{symbols-bytes}
 use Rattle.generator.specs.declared.Header.{Header}
 use Rattle.generator.proofs.Widths.{width-some}
-use Rattle.generator.specs.Records.{headerOf, recordFault, width, Sound}
+use Rattle.generator.specs.Records.{headerOf, width, Sound}
 use Rattle.generator.specs.Codewords.{nodeOf}
 use Rattle.generator.specs.Claims.{isMessage, areNodes, atNodes}
-use Rattle.generator.proofs.Accepts.{faultless-sound}
 use Rattle.generator.proofs.Recovery.{one-message}
 use Rattle.refusals.specs.Faults.{faultOf, rebuildFault}
 use Rattle.refusals.proofs.Accepts.{rebuild-accepts}
-use Rattle.blocks.specs.declared.Outcome.the-variants as O
+use Rattle.refusals.proofs.OnRecord.{none-met}
+use Rattle.blocks.specs.declared.Outcome.the-variants.{Done}
 use Rattle.blocks.specs.Blocks.{shareAt, shareOf, MessageFor}
 use Rattle.blocks.specs.Bytes.{RebuiltBytes}
 use Rattle.blocks.specs.Promises.{RebuildSays}
-use Rattle.blocks.proofs.Messages.{lane-message}
 use Rattle.blocks.proofs.Answered.{done-means}
+use Rattle.blocks.proofs.Messages.{lane-message}
+use Rattle.blocks.proofs.Recovered.{rebuild-law}
 use Rattle.bad_reads.specs.Rebuilding.{readAt, OneOff, rebuiltAt, BadRead}
 use Rattle.bad_reads.proofs.Changes.{reaches}
 
@@ -90,14 +91,12 @@ module _ (h : Header) (l i t : ℕ) (shares wrong : List ℕ) (off : OneOff h l 
         (one-message h s nodes (laneOf byRow (h .k) l q u) (laneOf byRow (h .k) l q m) different (message′ q inside) (message q inside) (misread .lanes q inside ∙ other-lane q inside other ∙ sym (read .lanes q inside)))
 
 -- what a call that is done relied on and gave
-done-call : (rec : List ℕ) (l : ℕ) (nodes shares : List ℕ) (target : ℕ) (out out′ : List ℕ) → RebuildSays rec l nodes shares target out out′ O.Done → Sound (headerOf rec) × (areNodes (headerOf rec) nodes ≡ true) × (target < headerOf rec .n) × RebuiltBytes shareLayout (headerOf rec) l nodes shares target out′
-unfolding faultOf
+done-call : (rec : List ℕ) (l : ℕ) (nodes shares : List ℕ) (target : ℕ) (out out′ : List ℕ) → RebuildSays rec l nodes shares target out out′ Done → Sound (headerOf rec) × (areNodes (headerOf rec) nodes ≡ true) × (target < headerOf rec .n) × RebuiltBytes shareLayout (headerOf rec) l nodes shares target out′
 done-call rec l nodes shares target out out′ says =
     let none = done-means (faultOf rec (λ h. rebuildFault h l nodes shares target (length out))) (says .promise .answer) in
-    let (own, call) = first-zero (recordFault rec) (rebuildFault (headerOf rec) l nodes shares target (length out)) none in
-    let s = faultless-sound rec own in
-    let (listed, low, size-is) = rebuild-accepts (headerOf rec) s l nodes shares target (length out) call in
-    (s, listed .different, low, rw none at (says .promise .written))
+    let (s, own) = none-met rec (λ h. rebuildFault h l nodes shares target (length out)) none in
+    let (listed, low, size-is) = rebuild-accepts (headerOf rec) s l nodes shares target (length out) own in
+    (s, listed .different, low, rw none at (rebuild-law share-lawful rec l nodes shares out out′ Done target says))
 
 pub bad-read : BadRead
 unfolding RebuiltBytes

@@ -10,8 +10,8 @@ use Rattle.generator.specs.declared.Header.{Header}
 use Rattle.generator.specs.Records.{width}
 use Rattle.generator.proofs.Widths.{width-some}
 use Rattle.refusals.proofs.OneByte.{symbols-are, bytes-are}
-use Rattle.blocks.specs.Blocks.{shareOf, sharesOf, updated, firstWrong, MessageFor}
-use Rattle.blocks.specs.Bytes.{encodedBytes, updatedBytes, alteredCount, RecoveredBytes, RebuiltBytes, wrongLane, rearrangedBytes}
+use Rattle.blocks.specs.Blocks.{shareOf, sharesOf, updated, firstWrong, recovered}
+use Rattle.blocks.specs.Bytes.{encodedBytes, updatedBytes, alteredCount, recoveredBytes, rebuiltBytes, wrongLane, rearrangedBytes}
 
 -- how many symbols differ in the buffers before and after an update
 pub altered-symbols : (h : Header) (y : Arrangement) (l r t old new : ℕ) (shares shares′ : List ℕ) → shares′ ≡ updatedBytes y h l r t old new shares → alteredCount y h l r t old new shares ≡ differ (symbolsOf (width h) shares) (symbolsOf (width h) shares′)
@@ -31,13 +31,13 @@ module _ (h : Header) (one : width h ≡ 1) where
   unfolding alteredCount
   altered-count y l r t old new shares = rw (symbols-are h one shares)
 
-  pub recovered-bytes : (y : Arrangement) (l : ℕ) (nodes shares m : List ℕ) → MessageFor y h l nodes shares m → RecoveredBytes y h l nodes shares m
-  unfolding RecoveredBytes
-  recovered-bytes y l nodes shares m is = (m, rw (symbols-are h one shares) is, rw (bytes-are h one m))
+  pub recovered-bytes : (y : Arrangement) (l : ℕ) (nodes shares : List ℕ) → recoveredBytes y h l nodes shares ≡ recovered y h l nodes shares
+  unfolding recoveredBytes
+  recovered-bytes y l nodes shares = rw (symbols-are h one shares) (bytes-are h one _)
 
-  pub rebuilt-bytes : (y : Arrangement) (l : ℕ) (nodes shares : List ℕ) (target : ℕ) (m out : List ℕ) → MessageFor y h l nodes shares m → out ≡ shareOf h l m target → RebuiltBytes y h l nodes shares target out
-  unfolding RebuiltBytes
-  rebuilt-bytes y l nodes shares target m out is e = (m, rw (symbols-are h one shares) is, rw (bytes-are h one (shareOf h l m target)) e)
+  pub rebuilt-bytes : (y : Arrangement) (l : ℕ) (nodes shares : List ℕ) (target : ℕ) → rebuiltBytes y h l nodes shares target ≡ shareOf h l (recovered y h l nodes shares) target
+  unfolding rebuiltBytes
+  rebuilt-bytes y l nodes shares target = rw (symbols-are h one shares) (bytes-are h one _)
 
   pub wrong-lane : (y : Arrangement) (l : ℕ) (shares : List ℕ) → wrongLane y h l shares ≡ firstWrong y h l shares
   unfolding wrongLane

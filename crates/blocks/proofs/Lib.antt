@@ -2,7 +2,9 @@
 pub mod Shares
 pub mod Tiles
 pub mod Updates
+pub mod OneSymbol
 pub mod Messages
+pub mod Recovered
 pub mod Words
 pub mod Bytes
 pub mod Refused

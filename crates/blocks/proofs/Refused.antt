@@ -4,7 +4,7 @@ use mathlib.Core.List.{List}
 use Prim.Native.Nat.{ℕ, zero, suc}
 use borrow.Author.Tests.{ne-eqb}
 use lib.Dec.{eqb}
-use Rattle.lists.specs.Choice.{pick, pickT}
+use Rattle.lists.specs.Choice.{pick}
 use Rattle.layout.specs.Layout.{Arrangement}
 use Rattle.generator.specs.declared.Header.{Header}
 use Rattle.blocks.specs.declared.Outcome.the-variants as O
@@ -29,12 +29,9 @@ unfolding membershipOf
 membership-refused zero l wrong n = absurd (n refl)
 membership-refused (suc g) l wrong n = refl
 
--- what is written: the second of two values, of two statements
+-- what is written: the second of two values
 pub refused-value : {A : Type 0} (g : ℕ) (a b : A) → (g ≡ 0 → ⊥) → pick (eqb g 0) a b ≡ b
 refused-value g a b n = rw (ne-eqb g 0 n)
-
-refused-claim : (g : ℕ) (A B : Type 0) → (g ≡ 0 → ⊥) → B → pickT (eqb g 0) A B
-refused-claim g A B n b = rw (ne-eqb g 0 n) b
 
 module _ {y : Arrangement} (h : Header) (g : ℕ) (some : g ≡ 0 → ⊥) (l : ℕ) where
   pub encode-refuses : (message out : List ℕ) → EncodePromise y l message out out (O.Refused g) h g
@@ -44,10 +41,10 @@ module _ {y : Arrangement} (h : Header) (g : ℕ) (some : g ≡ 0 → ⊥) (l : 
   update-refuses r t old new shares = record { answer = sym (update-refused g _ some); written = sym (refused-value g _ shares some) }
 
   pub recover-refuses : (nodes shares out : List ℕ) → RecoverPromise y l nodes shares out out (O.Refused g) h g
-  recover-refuses nodes shares out = record { answer = sym (outcome-refused g some); written = refused-claim g _ _ some refl }
+  recover-refuses nodes shares out = record { answer = sym (outcome-refused g some); written = sym (refused-value g _ out some) }
 
   pub rebuild-refuses : (nodes shares : List ℕ) (target : ℕ) (out : List ℕ) → RebuildPromise y l nodes shares target out out (O.Refused g) h g
-  rebuild-refuses nodes shares target out = record { answer = sym (outcome-refused g some); written = refused-claim g _ _ some refl }
+  rebuild-refuses nodes shares target out = record { answer = sym (outcome-refused g some); written = sym (refused-value g _ out some) }
 
   pub belongs-refuses : (shares : List ℕ) → BelongsPromise y l shares (M.Refused g) h g
   belongs-refuses shares = record { answer = sym (membership-refused g l _ some) }

@@ -3,7 +3,10 @@ use mathlib.Core.Path.{_≡_}
 use mathlib.Core.Bool.{true}
 use mathlib.Core.List.{List}
 use Prim.Native.Nat.{ℕ, _*_, _<_}
+use lib.Dec.{eqb}
 use lib.ListN.{length, getD}
+use Rattle.lists.specs.AllLists.{firstList}
+use Rattle.lists.specs.Counting.{differ}
 use Rattle.lists.specs.Numbers.{allBelow}
 use Rattle.lists.specs.Rows.{from}
 use Rattle.lists.specs.Search.{firstFalse}
@@ -51,7 +54,15 @@ updated y h l r t old new s = rowAdded y h l r t (sub (modulusOf h) new old) s
 unfoldable pub firstWrong : Arrangement → Header → ℕ → List ℕ → ℕ
 firstWrong y h l s = firstFalse l 0 (λ t. isWord h (laneOf y (h .n) l t s))
 
--- m holds, in each lane, the message whose encoding has the listed shares' symbols at the listed nodes
+-- the message of one lane of listed symbols: of all lists of k symbols the first whose encoding has them at the listed nodes
+unfoldable pub recoveredLane : Header → List ℕ → List ℕ → List ℕ
+recoveredLane h nodes ys = firstList (size h) (h .k) (λ ms. eqb (differ ys (atNodes h ms nodes)) 0)
+
+-- the message of listed shares: that of each lane, as a message buffer
+unfoldable pub recovered : Arrangement → Header → ℕ → List ℕ → List ℕ → List ℕ
+recovered y h l nodes s = buffer byRow (h .k) l (λ r t. getD (recoveredLane h nodes (laneOf y (h .k) l t s)) r 0)
+
+-- the law of that message: m holds, in each lane, the message whose encoding has the listed shares' symbols at the listed nodes
 pub record MessageFor (y : Arrangement) (h : Header) (l : ℕ) (nodes shares m : List ℕ) : Type 0 where
   pub size-is : length m ≡ h .k * l
   pub symbols : allBelow (size h) m ≡ true

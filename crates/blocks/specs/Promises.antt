@@ -4,7 +4,7 @@ use mathlib.Core.List.{List}
 use Prim.Native.Nat.{ℕ}
 use lib.Dec.{eqb}
 use lib.ListN.{length}
-use Rattle.lists.specs.Choice.{pick, pickT}
+use Rattle.lists.specs.Choice.{pick}
 use Rattle.layout.specs.Layout.{Arrangement, shareLayout}
 use Rattle.generator.specs.declared.Header.{Header}
 use Rattle.refusals.specs.Faults.{encodeFault, updateFault, recoverFault, rebuildFault, belongsFault}
@@ -12,7 +12,7 @@ use Rattle.refusals.specs.Promise.{OnRecord}
 use Rattle.blocks.specs.declared.Outcome.{Outcome}
 use Rattle.blocks.specs.declared.Update.{Update}
 use Rattle.blocks.specs.declared.Membership.{Membership}
-use Rattle.blocks.specs.Bytes.{encodedBytes, updatedBytes, alteredCount, RecoveredBytes, RebuiltBytes, wrongLane}
+use Rattle.blocks.specs.Bytes.{encodedBytes, updatedBytes, alteredCount, recoveredBytes, rebuiltBytes, wrongLane}
 use Rattle.blocks.specs.Answers.{outcomeOf, updateOf, membershipOf}
 
 -- Encode: in each lane the encoding of the message
@@ -28,12 +28,12 @@ pub record UpdatePromise (y : Arrangement) (l r t old new : ℕ) (shares shares�
 -- Recover: the message of the listed shares
 pub record RecoverPromise (y : Arrangement) (l : ℕ) (nodes shares out out′ : List ℕ) (r : Outcome) (h : Header) (f : ℕ) : Type 0 where
   pub answer : r ≡ outcomeOf f
-  pub written : pickT (eqb f 0) (RecoveredBytes y h l nodes shares out′) (out′ ≡ out)
+  pub written : out′ ≡ pick (eqb f 0) (recoveredBytes y h l nodes shares) out
 
 -- Rebuild: the target's share of the encoding of that message
 pub record RebuildPromise (y : Arrangement) (l : ℕ) (nodes shares : List ℕ) (target : ℕ) (out out′ : List ℕ) (r : Outcome) (h : Header) (f : ℕ) : Type 0 where
   pub answer : r ≡ outcomeOf f
-  pub written : pickT (eqb f 0) (RebuiltBytes y h l nodes shares target out′) (out′ ≡ out)
+  pub written : out′ ≡ pick (eqb f 0) (rebuiltBytes y h l nodes shares target) out
 
 -- Belongs: yes, or the smallest lane that is no word
 pub record BelongsPromise (y : Arrangement) (l : ℕ) (shares : List ℕ) (r : Membership) (h : Header) (f : ℕ) : Type 0 where

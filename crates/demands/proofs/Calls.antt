@@ -6,6 +6,7 @@ use native.Mathlib.Omega.{arith}
 use lib.ListN.{length}
 use Rattle.layout.specs.Layout.{shareLayout}
 use Rattle.layout.specs.Width.{bytesOf}
+use Rattle.layout.proofs.Places.{share-lawful}
 use Rattle.layout.proofs.Widths.{symbols-bytes}
 use Rattle.generator.specs.declared.Header.{Header}
 use Rattle.generator.specs.Records.{headerOf, width}
@@ -22,6 +23,7 @@ use Rattle.blocks.specs.Bytes.{encodedBytes, updatedBytes, RecoveredBytes, Rebu
 use Rattle.blocks.specs.Promises.{EncodeSays, UpdateSays, RecoverSays, RebuildSays, BelongsSays}
 use Rattle.blocks.proofs.Answered.{done-means, altered-means, yes-means, no-means}
 use Rattle.blocks.proofs.Bytes.{altered-symbols}
+use Rattle.blocks.proofs.Recovered.{recover-law, rebuild-law}
 use Rattle.blocks.proofs.Shares.{length-share}
 use Rattle.blocks.proofs.Words.{wrong-most}
 use Rattle.demands.specs.Coding.{Symbols}
@@ -34,7 +36,7 @@ rows-are : (h : Header) (rows l : ℕ) (s : List ℕ) → SymbolRows h rows l s 
 rows-are h rows l s r = record { long = r .long; symbols = r .symbols }
 
 -- a buffer that was written as the bytes of symbols is read as these
-read-written : (h : Header) (out xs : List ℕ) → out ≡ bytesOf (width h) xs → read h out ≡ xs
+pub read-written : (h : Header) (out xs : List ℕ) → out ≡ bytesOf (width h) xs → read h out ≡ xs
 read-written h out xs e = ap (read h) e ∙ symbols-bytes (width h) xs (width-some h)
 
 module _ (rec : List ℕ) (l : ℕ) where
@@ -62,7 +64,7 @@ module _ (rec : List ℕ) (l : ℕ) where
         let none = done-means (faultOf rec (λ h. recoverFault h l nodes shares (length out))) (says .promise .answer) in
         let (sound, own) = none-met rec (λ h. recoverFault h l nodes shares (length out)) none in
         let (listed, long) = recover-accepts h sound l nodes shares (length out) own in
-        let (m, is, written) = rw none at (says .promise .written) in
+        let (m, is, written) = rw none at (recover-law share-lawful rec l nodes shares out out′ O.Done says) in
         let same : read h out′ ≡ m = read-written h out′ m written in
         let code = code-demands h sound in
         record {
@@ -77,7 +79,7 @@ module _ (rec : List ℕ) (l : ℕ) where
         let none = done-means (faultOf rec (λ h. rebuildFault h l nodes shares target (length out))) (says .promise .answer) in
         let (sound, own) = none-met rec (λ h. rebuildFault h l nodes shares target (length out)) none in
         let (listed, node, long) = rebuild-accepts h sound l nodes shares target (length out) own in
-        let (m, is, written) = rw none at (says .promise .written) in
+        let (m, is, written) = rw none at (rebuild-law share-lawful rec l nodes shares out out′ O.Done target says) in
         let same : read h out′ ≡ shareOf h l m target = read-written h out′ (shareOf h l m target) written in
         let code = code-demands h sound in
         record {

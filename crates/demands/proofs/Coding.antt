@@ -14,6 +14,7 @@ use Rattle.generator.proofs.Words.{encoding-word}
 use Rattle.blocks.specs.Blocks.{shareAt, shareOf}
 use Rattle.blocks.proofs.Shares.{lane-encodes}
 use Rattle.blocks.proofs.Messages.{lane-message, some-buffer, one-buffer, gathered-message}
+use Rattle.blocks.proofs.Recovered.{recovered-message}
 use Rattle.generator.proofs.Messages.{node-at}
 use Rattle.blocks.proofs.Words.{passes-code, names-code}
 use Rattle.demands.specs.Coding.{CodeDemands}
@@ -31,6 +32,7 @@ code-demands h s =
       returns = λ l nodes m out different is found. one-buffer share-lawful h s l nodes different _ out m found (gathered-message share-lawful h s l nodes different m (is .long) (is .symbols));
       some = λ l nodes shares different is. some-buffer share-lawful h s l nodes different shares (is .long) (is .symbols);
       one = λ l nodes shares m u different a b. one-buffer share-lawful h s l nodes different shares m u a b;
+      recovers = λ l nodes shares different is. recovered-message h s nodes different share-lawful l shares (is .long) (is .symbols);
       rebuilds = share-symbol h;
       passes = λ l shares is. passes-code shareLayout h l shares share-lawful s (is .long) (is .symbols);
       names = λ l shares is. names-code shareLayout h l shares share-lawful s (is .long) (is .symbols);

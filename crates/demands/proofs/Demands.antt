@@ -11,6 +11,7 @@ use Rattle.demands.specs.Demands.{Demands}
 use Rattle.demands.proofs.Coding.{code-demands}
 use Rattle.demands.proofs.Updates.{update-demands}
 use Rattle.demands.proofs.Calls.{call-demands}
+use Rattle.demands.proofs.RoundTrips.{round-trips}
 
 pub demands : Demands
 unfolding our-scheme
@@ -22,6 +23,7 @@ demands =
       least = λ rec none S C t x y two. scheme-least (headerOf rec) (faultless-sound rec none) t x y two;
       updating = λ rec none. update-demands (headerOf rec) (faultless-sound rec none);
       calls = call-demands;
+      trips = round-trips;
       lanes = lane-after-lane;
       weights = λ rec none. distribution (headerOf rec) (faultless-sound rec none);
       corrections = corrections;

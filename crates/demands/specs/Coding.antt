@@ -11,7 +11,7 @@ use Rattle.generator.specs.declared.Header.{Header}
 use Rattle.generator.specs.Records.{size}
 use Rattle.generator.specs.Codewords.{encoding}
 use Rattle.generator.specs.Claims.{areNodes, Codeword}
-use Rattle.blocks.specs.Blocks.{shareOf, sharesOf, gathered, firstWrong, MessageFor}
+use Rattle.blocks.specs.Blocks.{shareOf, sharesOf, gathered, firstWrong, recovered, MessageFor}
 
 -- rows of symbols in l lanes
 pub record Symbols (h : Header) (rows l : ℕ) (s : List ℕ) : Type 0 where
@@ -29,6 +29,8 @@ pub record CodeDemands (h : Header) : Type 0 where
   -- any k symbols on k nodes, in each lane, are of a message, and of one only
   pub some : (l : ℕ) (nodes shares : List ℕ) → areNodes h nodes ≡ true → Symbols h (h .k) l shares → (m : List ℕ) × MessageFor shareLayout h l nodes shares m
   pub one : (l : ℕ) (nodes shares m u : List ℕ) → areNodes h nodes ≡ true → MessageFor shareLayout h l nodes shares m → MessageFor shareLayout h l nodes shares u → m ≡ u
+  -- which is the one that Recover writes
+  pub recovers : (l : ℕ) (nodes shares : List ℕ) → areNodes h nodes ≡ true → Symbols h (h .k) l shares → MessageFor shareLayout h l nodes shares (recovered shareLayout h l nodes shares)
   -- rebuilding gives the node's share of that encoding: its symbol in each lane
   pub rebuilds : (l : ℕ) (m : List ℕ) (target t : ℕ) → target < h .n → t < l → getD (shareOf h l m target) t 0 ≡ getD (encoding h (laneOf byRow (h .k) l t m)) target 0
   -- the code test passes just the words of the code ..

@@ -13,6 +13,7 @@ use Rattle.weight_counts.specs.Weights.{Distribution}
 use Rattle.demands.specs.Coding.{CodeDemands}
 use Rattle.demands.specs.Updates.{UpdateDemands}
 use Rattle.demands.specs.Calls.{CallDemands}
+use Rattle.demands.specs.RoundTrips.{RoundTrips}
 
 pub record Demands : Type 1 where
   -- demand 2
@@ -26,6 +27,8 @@ pub record Demands : Type 1 where
   pub updating : (rec : List ℕ) → recordFault rec ≡ 0 → UpdateDemands (headerOf rec)
   -- both of the calls themselves
   pub calls : CallDemands
+  -- one call after the other
+  pub trips : RoundTrips
   -- shares lane after lane beside shares node after node
   pub lanes : LaneAfterLane
   -- the textbook's weight distribution is that of every accepted record

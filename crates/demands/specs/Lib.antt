@@ -1,7 +1,8 @@
--- The demands, what holds of rosters, which update it was and the single changes that make a lane a word, as statements over the definitions that the calls promise, and of the calls themselves.
+-- The demands, calls one after the other, what holds of rosters, which update it was and the single changes that make a lane a word, as statements over the definitions that the calls promise, and of the calls themselves.
 pub mod Coding
 pub mod Updates
 pub mod Calls
+pub mod RoundTrips
 pub mod Demands
 pub mod Rosters
 pub mod Findings

@@ -21,10 +21,10 @@ use Rattle.refusals.specs.Conditions.{lanesBad, lengthBad, numberBad, symbolBad
 use Rattle.refusals.specs.Faults.{inputFault, staleFault, updateFault, listFault, recoverFault, rebuildFault, belongsFault}
 use Rattle.refusals.proofs.Accepts.{not-met}
 use Rattle.refusals.proofs.NotMet.{number-good}
-use Rattle.blocks.specs.Blocks.{updated, firstWrong, MessageFor}
-use Rattle.blocks.specs.Bytes.{encodedBytes, updatedBytes, alteredCount, wrongLane, rearrangedBytes}
+use Rattle.blocks.specs.Blocks.{shareOf, updated, firstWrong, recovered}
+use Rattle.blocks.specs.Bytes.{encodedBytes, updatedBytes, alteredCount, recoveredBytes, rebuiltBytes, wrongLane, rearrangedBytes}
 use Rattle.blocks.proofs.Tiles.{shares-rearranged}
-use Rattle.rearrange.proofs.Symbols.{length-rearranged, same-below, same-updated, same-altered, same-wrong, same-message}
+use Rattle.rearrange.proofs.Symbols.{length-rearranged, same-below, same-updated, same-altered, same-wrong, same-recovered}
 
 -- the lane of an update that numbers 7 to 11 do not turn away
 pub input-inside : (y : Arrangement) (h : Header) (l r t old new : ℕ) (shares : List ℕ) → inputFault y h l r t old new shares ≡ 0 → t < l
@@ -137,7 +137,11 @@ module _ {y z : Arrangement} (a : Lawful y) (b : Lawful z) (h : Header) (l : ℕ
     same-listed : length listed ≡ length shares
     same-listed = length-turned h (h .k) l shares y z ∙ sym full
 
-    -- Recover and Rebuild: the numbers and the message
+    -- their message
+    same-read : recovered z h l nodes (symbolsOf (width h) listed) ≡ recovered y h l nodes (symbolsOf (width h) shares)
+    same-read = ap (recovered z h l nodes) (symbols-turned h (h .k) l shares y z) ∙ same-recovered a b h l nodes (symbolsOf (width h) shares)
+
+    -- Recover and Rebuild: the numbers, the message and the share
     pub recover-turned : (out : ℕ) → recoverFault h l nodes listed out ≡ recoverFault h l nodes shares out
     unfolding recoverFault listFault
     recover-turned out = rw (same-listed, same-symbols (h .k) shares full)
@@ -146,5 +150,10 @@ module _ {y z : Arrangement} (a : Lawful y) (b : Lawful z) (h : Header) (l : ℕ
     unfolding rebuildFault listFault
     rebuild-turned target out = rw (same-listed, same-symbols (h .k) shares full)
 
-    pub message-turned : (m : List ℕ) → MessageFor y h l nodes (symbolsOf (width h) shares) m → MessageFor z h l nodes (symbolsOf (width h) listed) m
-    message-turned m is = rw (symbols-turned h (h .k) l shares y z) (same-message a b h l nodes (symbolsOf (width h) shares) m is)
+    pub recovered-turned : recoveredBytes z h l nodes listed ≡ recoveredBytes y h l nodes shares
+    unfolding recoveredBytes
+    recovered-turned = ap (bytesOf (width h)) same-read
+
+    pub rebuilt-turned : (target : ℕ) → rebuiltBytes z h l nodes listed target ≡ rebuiltBytes y h l nodes shares target
+    unfolding rebuiltBytes
+    rebuilt-turned target = ap (λ (m : List ℕ). bytesOf (width h) (shareOf h l m target)) same-read

@@ -5,33 +5,30 @@ use mathlib.Core.List.{List}
 use mathlib.Core.Logic.{by-cases}
 use Prim.Native.Nat.{ℕ, _<_}
 use native.Mathlib.Decide.{ℕ-discrete}
-use borrow.Author.Tests.{ne-eqb}
+use lib.Dec.{eqb}
 use lib.ListN.{length}
-use Rattle.lists.specs.Choice.{firstOf}
+use Rattle.lists.specs.Choice.{pick, firstOf}
 use Rattle.lists.specs.Numbers.{allBelow}
 use Rattle.lists.proofs.Cases.{first-zero}
 use Rattle.layout.specs.Layout.{Arrangement, shareLayout}
-use Rattle.layout.specs.Width.{symbolsOf, bytesOf}
 use Rattle.layout.proofs.Lawful.{Lawful, by-row, by-lane}
 use Rattle.generator.specs.declared.Header.{Header}
-use Rattle.generator.specs.Records.{headerOf, recordFault, width}
+use Rattle.generator.specs.Records.{headerOf, recordFault}
 use Rattle.refusals.specs.Faults.{encodeFault, inputFault, updateFault, recoverFault, rebuildFault, belongsFault, rearrangeFault, faultOf}
-use Rattle.refusals.proofs.Accepts.{recover-accepts, rebuild-accepts, rearrange-accepts}
+use Rattle.refusals.proofs.Accepts.{rearrange-accepts}
 use Rattle.refusals.proofs.OnRecord.{none-met}
 use Rattle.blocks.specs.declared.Outcome.{Outcome}
 use Rattle.blocks.specs.declared.Outcome.the-variants.{Done}
 use Rattle.blocks.specs.declared.Update.{Update}
 use Rattle.blocks.specs.declared.Membership.{Membership}
 use Rattle.blocks.specs.Answers.{outcomeOf, updateOf, membershipOf}
-use Rattle.blocks.specs.Blocks.{shareOf}
-use Rattle.blocks.specs.Bytes.{alteredCount, RecoveredBytes, RebuiltBytes, rearrangedBytes}
+use Rattle.blocks.specs.Bytes.{alteredCount, rearrangedBytes}
 use Rattle.blocks.specs.Promises.{EncodeSaysIn, UpdateSaysIn, RecoverSaysIn, RebuildSaysIn, BelongsSaysIn}
 use Rattle.blocks.proofs.Answered.{done-means}
-use Rattle.blocks.proofs.Messages.{one-buffer}
 use Rattle.blocks.proofs.Refused.{update-refused, refused-value}
 use Rattle.rearrange.specs.Calls.{RearrangeSays}
 use Rattle.rearrange.specs.Lanes.{Full, LaneAfterLane}
-use Rattle.rearrange.proofs.Bytes.{input-inside, turned-back, encoded-turned, belongs-turned, wrong-turned, update-turned, updated-turned, altered-turned, recover-turned, rebuild-turned, message-turned}
+use Rattle.rearrange.proofs.Bytes.{input-inside, turned-back, encoded-turned, belongs-turned, wrong-turned, update-turned, updated-turned, altered-turned, recover-turned, rebuild-turned, recovered-turned, rebuilt-turned}
 
 -- the lane of an update that no number turns away
 update-inside : (y : Arrangement) (h : Header) (l r t old new : ℕ) (shares : List ℕ) → updateFault y h l r t old new shares ≡ 0 → t < l
@@ -100,48 +97,18 @@ module _ {y z : Arrangement} (a : Lawful y) (b : Lawful z) (rec : List ℕ) (l :
     listed = rearrangedBytes y z h (h .k) l shares
 
     recover : (out out′ now : List ℕ) (r u : Outcome) → RecoverSaysIn y rec l nodes shares out out′ r → RecoverSaysIn z rec l nodes listed out now u → (u ≡ r) × (now ≡ out′)
-    unfolding RecoveredBytes
-    recover out out′ now r u was is = (
-      is .promise .answer ∙ ap outcomeOf same ∙ sym (was .promise .answer),
-      by-cases (ℕ-discrete number 0)
-          (λ none.
-          let (sound, own) = none-met rec (λ h. recoverFault h l nodes shares (length out)) none in
-          let (rows, long) = recover-accepts h sound l nodes shares (length out) own in
-          let (m, old-is, old-written) = rw none at (was .promise .written) in
-          let (w, new-is, new-written) = rw (same ∙ none) at (is .promise .written) in
-          new-written
-          ∙ ap (bytesOf (width h)) (one-buffer b h sound l nodes (rows .different) (symbolsOf (width h) listed) w m new-is (message-turned a b h l nodes shares full m old-is))
-          ∙ sym old-written)
-          (λ some. rw (same, ne-eqb number 0 some) at (is .promise .written) ∙ sym (rw (ne-eqb number 0 some) at (was .promise .written))),
-    )
-      where
-        number : ℕ
-        number = faultOf rec (λ h. recoverFault h l nodes shares (length out))
-
-        same : faultOf rec (λ h. recoverFault h l nodes listed (length out)) ≡ number
-        same = same-number (λ h. recoverFault h l nodes shares (length out)) (λ h. recoverFault h l nodes listed (length out)) (recover-turned a b h l nodes shares full (length out))
+    recover out out′ now r u was is =
+        let same = same-number (λ h. recoverFault h l nodes shares (length out)) (λ h. recoverFault h l nodes listed (length out)) (recover-turned a b h l nodes shares full (length out)) in (
+          is .promise .answer ∙ ap outcomeOf same ∙ sym (was .promise .answer),
+          is .promise .written ∙ ap₂ (λ (f : ℕ) (m : List ℕ). pick (eqb f 0) m out) same (recovered-turned a b h l nodes shares full) ∙ sym (was .promise .written),
+        )
 
     rebuild : (target : ℕ) (out out′ now : List ℕ) (r u : Outcome) → RebuildSaysIn y rec l nodes shares target out out′ r → RebuildSaysIn z rec l nodes listed target out now u → (u ≡ r) × (now ≡ out′)
-    unfolding RebuiltBytes
-    rebuild target out out′ now r u was is = (
-      is .promise .answer ∙ ap outcomeOf same ∙ sym (was .promise .answer),
-      by-cases (ℕ-discrete number 0)
-          (λ none.
-          let (sound, own) = none-met rec (λ h. rebuildFault h l nodes shares target (length out)) none in
-          let (rows, node, long) = rebuild-accepts h sound l nodes shares target (length out) own in
-          let (m, old-is, old-written) = rw none at (was .promise .written) in
-          let (w, new-is, new-written) = rw (same ∙ none) at (is .promise .written) in
-          new-written
-          ∙ ap (λ (x : List ℕ). bytesOf (width h) (shareOf h l x target)) (one-buffer b h sound l nodes (rows .different) (symbolsOf (width h) listed) w m new-is (message-turned a b h l nodes shares full m old-is))
-          ∙ sym old-written)
-          (λ some. rw (same, ne-eqb number 0 some) at (is .promise .written) ∙ sym (rw (ne-eqb number 0 some) at (was .promise .written))),
-    )
-      where
-        number : ℕ
-        number = faultOf rec (λ h. rebuildFault h l nodes shares target (length out))
-
-        same : faultOf rec (λ h. rebuildFault h l nodes listed target (length out)) ≡ number
-        same = same-number (λ h. rebuildFault h l nodes shares target (length out)) (λ h. rebuildFault h l nodes listed target (length out)) (rebuild-turned a b h l nodes shares full target (length out))
+    rebuild target out out′ now r u was is =
+        let same = same-number (λ h. rebuildFault h l nodes shares target (length out)) (λ h. rebuildFault h l nodes listed target (length out)) (rebuild-turned a b h l nodes shares full target (length out)) in (
+          is .promise .answer ∙ ap outcomeOf same ∙ sym (was .promise .answer),
+          is .promise .written ∙ ap₂ (λ (f : ℕ) (m : List ℕ). pick (eqb f 0) m out) same (rebuilt-turned a b h l nodes shares full target) ∙ sym (was .promise .written),
+        )
 
   -- the two calls
   calls : (s out out′ end end′ : List ℕ) → allBelow 256 s ≡ true → RearrangeSays y z rec l s out out′ Done → RearrangeSays z y rec l out′ end end′ Done → end′ ≡ s

@@ -5,7 +5,7 @@ use mathlib.Core.List.{List}
 use Prim.Native.Nat.{ℕ, _*_, _<_}
 use native.Mathlib.Omega.{arith}
 use lib.Dec.{eqb}
-use lib.ListN.{length}
+use lib.ListN.{length, getD}
 use Rattle.lists.specs.Choice.{pick}
 use Rattle.lists.specs.Counting.{differ}
 use Rattle.lists.specs.Numbers.{allBelow}
@@ -13,14 +13,14 @@ use Rattle.lists.proofs.Cases.{by-test}
 use Rattle.lists.proofs.Count.{count-ext}
 use Rattle.lists.proofs.Search.{search-ext}
 use Rattle.layout.specs.Layout.{Arrangement, held, rearranged, withLane}
-use Rattle.layout.proofs.Lawful.{Lawful}
+use Rattle.layout.proofs.Lawful.{Lawful, by-row}
 use Rattle.layout.proofs.Buffers.{length-buffer, held-buffer, buffer-ext, held-below, buffer-below, rearranged-lane, rearranged-back}
 use Rattle.field.specs.Fields.{add, sub, mul}
 use Rattle.generator.specs.declared.Header.{Header}
 use Rattle.generator.specs.Records.{modulusOf}
 use Rattle.generator.specs.Generator.{entry}
 use Rattle.generator.specs.Codewords.{isWord}
-use Rattle.blocks.specs.Blocks.{addedAt, rowAdded, updated, firstWrong, MessageFor}
+use Rattle.blocks.specs.Blocks.{addedAt, rowAdded, updated, firstWrong, recoveredLane, recovered}
 use Rattle.blocks.proofs.Updates.{differ-added}
 
 -- the length
@@ -87,10 +87,6 @@ module _ {y z : Arrangement} (a : Lawful y) (b : Lawful z) where
     same-wrong = search-ext l 0 _ _ (λ t above below. ap (isWord h) (rearranged-lane a b (h .n) l s t (omega arith)))
 
   -- the message of listed shares
-  pub same-message : (h : Header) (l : ℕ) (nodes shares m : List ℕ) → MessageFor y h l nodes shares m → MessageFor z h l nodes (rearranged y z (h .k) l shares) m
-  same-message h l nodes shares m is =
-      record {
-        size-is = is .size-is;
-        symbols = is .symbols;
-        lanes = λ t inside. is .lanes t inside ∙ sym (rearranged-lane a b (h .k) l shares t inside);
-      }
+  pub same-recovered : (h : Header) (l : ℕ) (nodes s : List ℕ) → recovered z h l nodes (rearranged y z (h .k) l s) ≡ recovered y h l nodes s
+  unfolding recovered
+  same-recovered h l nodes s = buffer-ext by-row (h .k) l _ _ (λ r t row inside. ap (λ (ys : List ℕ). getD (recoveredLane h nodes ys) r 0) (rearranged-lane a b (h .k) l s t inside))

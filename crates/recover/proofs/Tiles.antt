@@ -18,9 +18,9 @@ use Rattle.field.specs.Inner.Sums.{dot}
 use Rattle.generator.specs.declared.Header.{Header}
 use Rattle.generator.specs.Records.{modulusOf, width, Sound}
 use Rattle.generator.proofs.Widths.{width-range}
-use Rattle.refusals.specs.Accepted.{SymbolRows, SymbolBytes, ListedShares}
-use Rattle.blocks.specs.Bytes.{RebuiltBytes}
-use Rattle.blocks.proofs.Messages.{some-buffer}
+use Rattle.refusals.specs.Accepted.{SymbolBytes, ListedShares}
+use Rattle.blocks.specs.Bytes.{rebuiltBytes}
+use Rattle.blocks.proofs.Recovered.{listed-message}
 use Rattle.row_sums.specs.Inner.Combined.{combined}
 use Rattle.node_weights.specs.Inner.Weights.{Rebuilds}
 use Rattle.recover.proofs.Rebuilding.{rebuilt}
@@ -62,13 +62,7 @@ listed-bytes {h} {l} w wide listed =
 pub row-small : (h : Header) → Sound h → (w : ℕ) → w ≡ width h → w * h .k ≤ 510
 row-small h s w is = let two : w ≤ 2 = rw is (width-range h .1) in mul-le-mul two (le-trans (s .fits) (s .byte))
 
-module _ {h : Header} {l : ℕ} {nodes shares : List ℕ} (listed : ListedShares h l nodes shares) where
-  abbrev all-rows : SymbolRows h (h .k) l (symbolsOf (width h) shares)
-  all-rows = listed .buffer .symbol-rows
-
-  -- sums with weights that rebuild a node are its share
-  pub rebuilt-lanes : {out : List ℕ} (target : ℕ) (ws : List ℕ) → Rebuilds h nodes target ws → out ≡ bytesOf (width h) (combined byLane (modulusOf h) (h .k) l ws (symbolsOf (width h) shares)) → RebuiltBytes shareLayout h l nodes shares target out
-  unfolding RebuiltBytes
-  rebuilt-lanes {out} target ws w e =
-      let (m, is) = some-buffer by-lane h (all-rows .sound) l nodes (listed .different) (symbolsOf (width h) shares) (all-rows .long) (all-rows .symbols) in
-      rw share-by-lane (m, is, e ∙ ap (bytesOf (width h)) (rebuilt is target ws w))
+-- sums with weights that rebuild a node are its share
+pub rebuilt-lanes : {h : Header} {l : ℕ} {nodes shares out : List ℕ} → ListedShares h l nodes shares → (target : ℕ) (ws : List ℕ) → Rebuilds h nodes target ws → out ≡ bytesOf (width h) (combined byLane (modulusOf h) (h .k) l ws (symbolsOf (width h) shares)) → out ≡ rebuiltBytes shareLayout h l nodes shares target
+unfolding rebuiltBytes
+rebuilt-lanes {h} listed target ws w e = rw share-by-lane (e ∙ ap (bytesOf (width h)) (rebuilt (listed-message by-lane listed) target ws w))

@@ -33,7 +33,10 @@ width-of-requires : tie.Need-width-of-requires
 width-of-requires c κs = search needs
 
 rebuild-weights-requires : tie.Need-rebuild-weights-requires
-rebuild-weights-requires c κs = let known = accepted (c .before) in (known .0 .buffer .symbol-rows .sound, known .0 .different, known .1)
+rebuild-weights-requires c κs =
+    let at : tie.Else1 = search in
+    let (listed, node, out) = accepted at in
+    (listed .buffer .symbol-rows .sound, listed .different, node)
 
 slice-aggregate-rebuild-lanes : tie.Need-slice-aggregate-rebuild-lanes
 slice-aggregate-rebuild-lanes c = search needs
@@ -41,10 +44,11 @@ slice-aggregate-rebuild-lanes c = search needs
 rebuild-lanes-requires : tie.Need-rebuild-lanes-requires
 rebuild-lanes-requires c κs =
     let start : tie.Start = search in
-    let at = c .before .before .before in
+    let at : tie.Else1 = search in
+    let after-width-of : tie.After-width-of = search in
     let a = start .args in
-    let wide = at .width-of .ensures .0 in
-    let (listed, target, out) = accepted (at .before) in
+    let wide = after-width-of .width-of .ensures .0 in
+    let (listed, node, out) = accepted at in
     (listed-bytes _ wide listed, sym (slice-aggregate-rebuild-lanes (c .before)), c .before .before .rebuild-weights .ensures .symbols, out ∙ mul-comm (a .lanes) (width (a .h)) ∙ ap (λ (w : ℕ). w * a .lanes) (sym wide))
 
 same-length : tie.Need-same-length
