@@ -47,10 +47,18 @@ large_cases() {
     if [ ${#checked[@]} -gt 0 ]; then "${checked[@]}" target/examples/large_cases 3 >/dev/null; fi
 }
 
+# every two parameters of one type are told apart: each call held to another implementation's, and made again with them exchanged
+parameters() {
+    gcc -std=c99 -O2 "${strict[@]}" -o target/examples/parameters tests/parameters.c "$library"
+    "${checked[@]}" target/examples/parameters >target/examples/parameters.out
+    cmp target/examples/parameters.out tests/reference/parameters.out
+}
+
 in_c() {
     plain
     example
     large_cases
+    parameters
 }
 
 in_rust() {

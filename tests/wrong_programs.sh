@@ -3,6 +3,7 @@
 # crates/*/must-fail, and must be refused. tests/wrong_programs.sh [CRATE]..
 set -euo pipefail
 cd "$(dirname "$0")/.."
+tests/check_edits.sh
 work=$(mktemp -d)
 trap 'rm -rf "$work"' EXIT
 cp -r crates crates.txt "$work"

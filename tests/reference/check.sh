@@ -5,11 +5,12 @@ here=$(cd "$(dirname "$0")" && pwd)
 crates=$here/../../crates
 work=$(mktemp -d)
 trap 'rm -rf "$work"' EXIT
-mkdir -p "$work"/{sheet,compare,sheet_cases,small_plans,cases}
+mkdir -p "$work"/{sheet,compare,weights,sheet_cases,small_plans,cases}
 "$here/make_sheets.sh" "$work"
 "$here/make_cases.sh" "$work"
 for file in $(cd "$work" && find . -type f); do
     cmp "$work/$file" "$crates/$file"
 done
 python3 "$here/large_cases.py" | cmp - "$here/large_cases.out"
+python3 "$here/parameters.py" | cmp - "$here/parameters.out"
 echo "every stored output is what the reference makes"

@@ -1,5 +1,5 @@
-// Lane by lane: a lane's symbols are placed at their rows' shifts, and what node j holds is the sum of them times the base word from
-// place j on.
+// Lane by lane, with the base word as it stands in the plan: a lane's symbols are placed at their rows' shifts, two times round, and what
+// node j holds is the sum of the base word's entries times the symbols from place −j on. No row is copied.
 ghost use mathlib.Core.Path.{_≡_};
 ghost use mathlib.Core.Bool.{true};
 ghost use Prim.Native.Nat.{_+_, _*_, _%_, _^_, _≤_, _<_};
@@ -17,20 +17,23 @@ ghost use Rattle.plan.specs.Plans.{planFor};
 ghost use Rattle.blocks.specs.Blocks.{sharesOf};
 ghost use Rattle.sliding_sums.specs.Inner.Windows.{windowSums, Windows};
 ghost use Rattle.encode.specs.Inner.Columns.{Planned, MessageBytes};
-ghost use Rattle.encode.specs.Inner.OneLane.{placedFrom, twice};
+ghost use Rattle.encode.specs.Inner.OneLane.{placedFrom, byNode};
 use field::Field;
 use generator::Header;
 
-// The symbols at the places of their rows' shifts, and zeros elsewhere.
-fn placed(h: Header, shifts: &[u8], symbols: &[u16]) -> [u16; 255]
+// The symbols at the places of their rows' shifts, two times round, and zeros elsewhere.
+fn placed(h: Header, shifts: &[u8], symbols: &[u16]) -> [u16; 510]
     requires { ⌜ Sound h × (now shifts ≡ planFor (Holds h) .shifts) × (length (now symbols) ≡ h .k) ⌝ }
-    ensures { λ r. ⌜ r ≡ placedFrom 0 (now (shifts .entry)) (now (symbols .entry)) (zeros 255) ⌝ }
+    ensures { λ r. ⌜ r ≡ placedFrom (h .n) 0 (now (shifts .entry)) (now (symbols .entry)) (zeros 510) ⌝ }
 {
-    let mut out = [0u16; 255];
+    let n = h.n as usize;
+    let mut out = [0u16; 510];
     let mut r = 0;
     while r < symbols.len() {
         let place = shifts[r] as usize;
-        out[place] = symbols[r];
+        let symbol = symbols[r];
+        out[place] = symbol;
+        out[place + n] = symbol;
         r += 1;
     }
     out
@@ -44,18 +47,17 @@ fn around(n: usize, i: usize) -> usize
     if i < n { i } else { i - n }
 }
 
-// The base word two times, and zeros after it.
-fn twice_base(h: Header, base: &[u16]) -> [u16; 510]
-    requires { ⌜ h .n ≤ length (now base) ⌝ }
-    ensures { λ r. ⌜ r ≡ padded 510 (twice (h .n) (now (base .entry))) ⌝ }
+// The sums from each place in the order of the nodes: node j's is the one from place −j on, modulo n.
+fn by_node(sums: &[u16]) -> [u16; 255]
+    requires { ⌜ length (now sums) ≤ 255 ⌝ }
+    ensures { λ r. ⌜ r ≡ padded 255 (byNode (now (sums .entry))) ⌝ }
 {
-    let n = h.n as usize;
-    let size = n + n;
-    let mut out = [0u16; 510];
-    let mut i: usize = 0;
-    while i < size {
-        out[i] = base[around(n, i)];
-        i += 1;
+    let n = sums.len();
+    let mut out = [0u16; 255];
+    let mut j: usize = 0;
+    while j < n {
+        out[j] = sums[around(n, n - j)];
+        j += 1;
     }
     out
 }
@@ -66,8 +68,8 @@ fn room() -> [u16; 255]
     [0u16; 255]
 }
 
-// The sums from each place that `sums` has room for, as bytes.
-fn write_sums(
+// What the nodes hold, as bytes; `sums` is scratch with a place for each node.
+fn write_nodes(
     field: Field,
     w: usize,
     weights: &[u16],
@@ -76,13 +78,15 @@ fn write_sums(
     out: &mut [u8],
 )
     requires { ⌜ (usable field ≡ true) × Windows (sizeOf (modulus field)) (now weights) (now row) (length (now sums)) × (1 ≤ w) × (w ≤ 2) × (sizeOf (modulus field) ≤ 256 ^ w) × (length (now out) ≡ length (now sums) * w) ⌝ }
-    ensures { λ r. ⌜ now (out .exit) ≡ bytesOf w (windowSums (modulus field) (now (weights .entry)) (now (row .entry)) (length (now (sums .entry)))) ⌝ }
+    ensures { λ r. ⌜ now (out .exit) ≡ bytesOf w (byNode (windowSums (modulus field) (now (weights .entry)) (now (row .entry)) (length (now (sums .entry))))) ⌝ }
 {
     sliding_sums::window_sums(field, weights, row, sums);
-    symbols::write_symbols(w, sums, out);
+    let n = sums.len();
+    let nodes = by_node(sums);
+    symbols::write_symbols(w, &nodes[..n], out);
 }
 
-// Fills a lane with the encoding of its k symbols.
+// Fills a lane with the encoding of its k symbols. Of the base word the first d entries are not zero.
 fn fill_lane<'a>(
     h: Header,
     shifts: &'a [u8],
@@ -96,11 +100,10 @@ fn fill_lane<'a>(
 {
     let field = h.field;
     let n = h.n as usize;
-    let size = n + n;
-    let weights = placed(h, shifts, symbols);
-    let row = twice_base(h, base);
+    let d = (h.n - h.k) as usize + 1;
+    let row = placed(h, shifts, symbols);
     let mut sums = room();
-    write_sums(field, w, &weights[..n], &row[..size], &mut sums[..n], out);
+    write_nodes(field, w, &base[..d], &row, &mut sums[..n], out);
 }
 
 // The symbols of lane t of a message, and zeros after them.
