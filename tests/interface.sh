@@ -10,11 +10,6 @@ strict=(-pedantic -Wall -Wextra -Werror -Iinclude)
 checked=()
 if command -v valgrind >/dev/null; then checked=(valgrind --quiet --leak-check=full --errors-for-leak-kinds=all --error-exitcode=1); fi
 
-# the crates below are proved side by side; `rt staticlib` then proves and compiles the interface
-build() {
-    rt check balanced && rt staticlib balanced_c
-}
-
 # the header alone, as C and as C++
 plain() {
     printf '#include "balanced.h"\nint main(void) { unsigned char b[1] = { 0 }; uint16_t s[1]; return balanced_plan(b, 0, b, 0, b, 0, b, 0, s, 0) != BALANCED_KIND; }\n' >target/examples/plain.c
@@ -62,8 +57,7 @@ in_rust() {
 mkdir -p target/examples
 log=$(mktemp)
 trap 'rm -f "$log"' EXIT
-build >"$log" 2>&1 || { cat "$log"; exit 1; }
-tail -n 1 "$log"
+tools/build_library.sh
 # side by side
 (in_c) >"$log" 2>&1 &
 (in_rust)
