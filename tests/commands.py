@@ -113,6 +113,13 @@ def statuses():
         expect((ended.returncode, ended.stdout) == (status, output) and said in ended.stderr, f"{' '.join(words)}: {ended}")
 
 
+def cutting():
+    """A reader that closes the output early, of a sheet that is longer than a pipe holds, is no fault."""
+    words = "make sheet RECORD='2 2 255 120' | head -n 1; echo ${PIPESTATUS[0]}"
+    ended = command(["bash", "-c", words])
+    expect(ended.stdout == "plan 255 120 136 64\n0\n" and not ended.stderr, f"{words}: {ended}")
+
+
 # ---------------------------------------------------------------- make
 
 def making():
@@ -183,7 +190,7 @@ def waiting():
 
 
 def main():
-    for part in (reading, refusing, statuses, making, keeping_out, waiting):
+    for part in (reading, refusing, statuses, cutting, making, keeping_out, waiting):
         part()
     for fault in faults:
         print(fault)

@@ -35,6 +35,15 @@ def run(program, record):
     return subprocess.run([path], input=record, stdout=subprocess.PIPE, check=True).stdout
 
 
+def hand_on(output):
+    """Writes the output; a reader who has seen enough, as `head`, may close it before its end."""
+    try:
+        with open(sys.stdout.fileno(), "wb", closefd=False) as out:
+            out.write(output)
+    except BrokenPipeError:
+        pass
+
+
 def main():
     program, text = asked()
     try:
@@ -44,8 +53,7 @@ def main():
         sys.exit(2)
     prove([program])
     output = run(program, record)
-    sys.stdout.buffer.write(output)
-    sys.stdout.flush()
+    hand_on(output)
     refused = re.fullmatch(rb"refused ([0-9]+)\n", output)
     if refused:
         say(words_for(int(refused[1]), record))
