@@ -1,8 +1,9 @@
 # The commands that people expect. `make help` lists them.
-# The scripts read RECORD from the environment, as it was typed: neither make nor a shell ever reads its text.
+# The scripts read RECORD and LIBRARY from the environment, as they were typed: neither make nor a shell ever reads their text.
 RECORD ?= 1 7 3 6 4
 override RECORD := $(value RECORD)
-export RECORD
+override LIBRARY := $(value LIBRARY)
+export RECORD LIBRARY
 # started by make, too, the programs' output is all that stands on standard output
 MAKEFLAGS += --no-print-directory
 
@@ -39,7 +40,7 @@ test: ## the gate: everything proved from nothing, wrong programs refused, outpu
 wrong: ## further wrong programs, each of which must be refused
 	tests/wrong_programs.sh
 
-bench: ## our times beside those of other libraries, in one run, as ratios
+bench: ## our times beside those of other libraries, in one run, as ratios; beside an older build, too: make bench LIBRARY=path/to/libbalanced_c.a
 	bench/run.sh
 
 docs: programs library ## draw the pictures anew and check what the documents show and cite

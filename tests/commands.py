@@ -154,6 +154,8 @@ def keeping_out():
                     ended = command(["make", target, *given], **variables)
                     expect(ended.returncode and not ended.stdout and "is not a number" in ended.stderr, f"make {target} RECORD={text!r}: {ended}")
                     expect(not os.path.exists(file), f"make {target} ran the text {text!r}")
+            command(["make", "help", f"LIBRARY={text}"])
+            expect(not os.path.exists(file), f"make ran the text {text!r} of LIBRARY")
 
 
 # ---------------------------------------------------------------- waiting
