@@ -7,7 +7,7 @@ BYTES = $(patsubst .%,%,$(or $(DOTTED),$(error RECORD is not a list of numbers f
 # proves a program, quietly unless that fails
 proved = @mkdir -p target && { rt check $(1) >target/$(1).log 2>&1 || { cat target/$(1).log; exit 1; }; }
 
-.PHONY: help build test wrong sheet compare weights plans bench docs
+.PHONY: help build test wrong sheet compare weights plans explore bench docs
 
 help: ## this list
 	@awk -F ':.*## ' '/^[a-z]+:.*## / { printf "make %-8s %s\n", $$1, $$2 }' Makefile
@@ -36,6 +36,9 @@ weights: ## a record's messages by their nodes that are not zero: make weights R
 plans: ## every accepted record of kind 1 with p up to 31, a line `p α n k` for each
 	$(call proved,small_plans)
 	@target/bin/small_plans
+
+explore: ## the learners' page in a browser, or its path where there is none
+	@docs/explore/open.sh
 
 bench: ## our times beside those of other libraries, in one run, as ratios
 	bench/run.sh

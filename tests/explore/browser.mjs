@@ -27,6 +27,11 @@ class Pipe {
     error ? reject(new Error(`${asked}: ${error.message}`)) : resolve(result);
   }
 
+  // the browser is gone: nothing more will be answered
+  end() {
+    for (const { reject, asked } of this.waiting.values()) reject(new Error(`${asked}: the browser has ended`));
+  }
+
   send(method, params, sessionId) {
     const id = ++this.last;
     this.input.write(JSON.stringify({ id, method, params, sessionId }) + "\0");
@@ -47,9 +52,10 @@ export class Page {
     const page = new Page();
     page.folder = mkdtempSync(join(tmpdir(), "explore-"));
     page.complaints = [];
-    const options = ["--headless", "--no-sandbox", "--disable-gpu", "--no-first-run", "--remote-debugging-pipe", `--user-data-dir=${page.folder}`, "about:blank"];
+    const options = ["--headless", "--no-sandbox", "--disable-gpu", "--disable-dev-shm-usage", "--no-first-run", "--remote-debugging-pipe", `--user-data-dir=${page.folder}`, "about:blank"];
     page.browser = spawn(program, options, { stdio: ["ignore", "ignore", "ignore", "pipe", "pipe"] });
     page.ended = new Promise((resolve) => page.browser.on("close", resolve));
+    page.ended.then(() => page.pipe.end());
     page.pipe = new Pipe(page.browser.stdio[3], page.browser.stdio[4], (method, params) => page.happened(method, params));
     await page.attach();
     await page.visit(url);

@@ -45,12 +45,12 @@ async function chooseStore() {
   await useRecord("1 7 3 6 x");
   await says("#store-said", "A record is a list of numbers");
   await page.choose("#store-field", "0");
-  await says("#store-said", "on bytes", "15 nodes, any 4 return");
+  await says("#store-said", "on bytes", "15 nodes; any 4 nodes return");
   await page.choose("#store-k", "10");
   same(await page.text("#now-record"), await page.evaluate(`document.querySelector("#store-text").value`));
   await page.choose("#store-field", "31");
   await page.choose("#store-n", "30");
-  await says("#store-said", "modulo 31, 30 nodes, any 10 return");
+  await says("#store-said", "modulo 31, 30 nodes; any 10 nodes return");
 }
 
 async function seeLayouts() {
@@ -95,7 +95,7 @@ async function countTraffic() {
   const [head, all, busiest, looked] = await tableRows("#change-traffic");
   same([head, all, looked], ["10,000 changes Plain Balanced", "nodes written, all together 40,000 40,000", "symbols looked at, all together 100,000 80,000"]);
   const [, plain, ours] = busiest.match(/([\d,]+) ([\d,]+)$/).map((word) => Number(word.replace(",", "")));
-  same([plain, ours > 6667 && ours < 7200], [10000, true]);
+  same([plain, ours >= 6667 && ours < 7200], [10000, true]);
   same(await page.evaluate(`[...document.querySelectorAll("#change-bars .bars")].map((bars) => bars.children.length)`), [6, 6, 6, 6]);
 }
 
@@ -137,7 +137,7 @@ async function goWrongWays() {
   await says("#shifts-verdict", "all 15 sets", "1 1 0 0 is stored as 4 3 2 3 0 0, by the rule as 3 2 3 0 0 4", "reads yours as 2 4 4 6: another image, and no alarm");
   await takeWay("twice");
   same(await shiftsShown(), "0 0 3 4");
-  await says("#shifts-verdict", "The nodes read 2 2 3 2 2 1 symbols", "No: 15 of the 15 sets of 4 nodes");
+  await says("#shifts-verdict", "The nodes read 2 2 3 2 2 1 symbols", "No: none of the 15 sets of 4 nodes does, and not even all 6 nodes together");
   const { seen, signs } = await readTwins("#shifts-twins");
   same([seen, new Set(signs).size], [[0, 1, 2, 3], 1]);
   await takeWay("others");
@@ -150,7 +150,7 @@ async function shiftByHand() {
   const width = await page.evaluate(`document.querySelector('#shifts-grid [data-cell="0 1"]').getBoundingClientRect().left - document.querySelector('#shifts-grid [data-cell="0 0"]').getBoundingClientRect().left`);
   await page.drag(`#shifts-grid [data-cell="0 2"]`, 2 * width);
   same(await shiftsShown(), "4 1 3 4");
-  await says("#shifts-verdict", "broken: Any 4 nodes return the message?", "No: 15 of the 15");
+  await says("#shifts-verdict", "broken: Any 4 nodes return the message?", "none of the 15 sets");
   await page.type(`[data-key="shift 0"]`, "2");
   await page.key("Enter");
   same(await shiftsShown(), "2 1 3 4");
@@ -172,9 +172,11 @@ async function mistype() {
   await page.key("Enter");
   await says("#shifts-dozen-said", "a node's below 6");
   await useRecord("1 31 3 30 15");
-  await says("#shifts-verdict", "There are 155,117,520 sets of 15 nodes of 30; 12 were tried, and none failed", "the theorem shifted-basis covers all of them");
+  await says("#shifts-verdict", "There are 155,117,520 sets of 15 nodes; 12 were tried, and none failed", "the theorem shifted-basis covers all of them");
+  await takeWay("twice");
+  await says("#shifts-verdict", "none of the 155,117,520 sets of 15 nodes does");
   await takeWay("mistyped");
-  await says("#shifts-verdict", "broken: Any 15 nodes return the message?");
+  same(/unknown: Any 15 nodes.* Nobody knows|broken: Any 15 nodes.* that were tried/.test(await page.text("#shifts-verdict")), true);
 }
 
 async function takeWrongRoots() {
@@ -328,7 +330,7 @@ async function changeTheme() {
 try {
   await page.media("screen", "light");
   await page.size(1400, 900);
-  for (const step of [chooseStore, seeLayouts, changeSymbols, countTraffic, loseNodes, goWrongWays, shiftByHand, mistype, takeWrongRoots, seeLarge, doExercises, useKeys, haveNames, changeTheme]) { const t0=Date.now(); await step(); if (process.env.TIMES) console.log(step.name, Date.now()-t0); }
+  for (const step of [chooseStore, seeLayouts, changeSymbols, countTraffic, loseNodes, goWrongWays, shiftByHand, mistype, takeWrongRoots, seeLarge, doExercises, useKeys, haveNames, changeTheme]) await step();
   for (const width of [1400, 1000, 390]) for (const scheme of ["light", "dark"]) await fits(width, scheme, "1 7 3 6 4");
   await fits(1000, "light", "2 11 15 10");
   await fits(390, "light", "1 31 3 30 15");
