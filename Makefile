@@ -7,7 +7,7 @@ export RECORD LIBRARY
 # started by make, too, the programs' output is all that stands on standard output
 MAKEFLAGS += --no-print-directory
 
-.PHONY: help build test wrong sheet compare weights plans programs library bench docs
+.PHONY: help build test wrong sheet compare weights plans programs library explore bench docs
 
 help: ## this list
 	@awk -F ':.*## ' '/^[a-z]+:.*## / { printf "make %-8s %s\n", $$1, $$2 }' Makefile
@@ -39,6 +39,9 @@ test: ## the gate: everything proved from nothing, wrong programs refused, outpu
 
 wrong: ## further wrong programs, each of which must be refused
 	tests/wrong_programs.sh
+
+explore: ## the learners' page in a browser, or its path where there is none
+	@docs/explore/open.sh
 
 bench: ## our times beside those of other libraries, in one run, as ratios; beside an older build, too: make bench LIBRARY=path/to/libbalanced_c.a
 	bench/run.sh

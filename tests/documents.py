@@ -42,6 +42,14 @@ def anchor(heading):
     return re.sub(r"[^\w\- ]", "", heading.strip().lower()).replace(" ", "-")
 
 
+def places(file):
+    """The places that a link into a file can name: the headings of a document, the ids of a page."""
+    text = open(file, encoding="utf-8").read()
+    if file.endswith(".html"):
+        return re.findall(r'\bid="([^"]+)"', text)
+    return [anchor(heading) for heading in re.findall(r"^#+ (.*)$", text, re.M)]
+
+
 def broken_links(path, text):
     for target, place in LINK.findall(re.sub(r"```.*?```", "", text, flags=re.S)):
         if "://" in target:
@@ -49,8 +57,8 @@ def broken_links(path, text):
         file = os.path.normpath(os.path.join(os.path.dirname(path), target)) if target else path
         if not os.path.exists(file):
             yield f"no file {target}"
-        elif place and place not in map(anchor, re.findall(r"^#+ (.*)$", open(file, encoding="utf-8").read(), re.M)):
-            yield f"no heading {place} in {target or 'this file'}"
+        elif place and place not in places(file):
+            yield f"no place {place} in {target or 'this file'}"
 
 
 def missing(text):
