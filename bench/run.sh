@@ -6,7 +6,7 @@ set -euo pipefail
 cd "$(dirname "$0")/.."
 mkdir -p target/bench
 
-rt staticlib balanced_c >target/bench/build.log 2>&1 || { cat target/bench/build.log; exit 1; }
+tools/build_library.sh
 
 # a build as a shared object, so that two can be loaded
 shared() { gcc -shared -Wl,-Bsymbolic -Wl,--whole-archive "$1" -Wl,--no-whole-archive -o "$2"; }

@@ -11,13 +11,17 @@ import glob
 import os
 import re
 import sys
+from drawing import MARGIN, OURS, PALE, PLAIN, THEORY, Drawing, text_width
 
 TOP = os.path.dirname(os.path.dirname(os.path.abspath(__file__)))
+sys.path.append(os.path.join(TOP, "tools"))
+from crates import crates  # noqa: E402
+
 MAP, README = os.path.join(TOP, "docs", "MAP.md"), os.path.join(TOP, "README.md")
 PICTURE = os.path.join(TOP, "docs", "pictures", "crates.svg")
 BEGIN, END = "<!-- the table of crates, made from docs/MAP.md -->", "<!-- end of the table -->"
-KIT = {"check", "libc", "io", "os", "bytes", "std"}
-FILLS = {"theory": "#dfe6cf", "code": "#cfe3ea", "program": "#f3dcc6"}
+WIDTH, INDENT = 960, 110
+KINDS = {"theory": (THEORY, "theory, no functions"), "code": (OURS, "proved functions"), "program": (PLAIN, "programs")}
 
 
 def read(path):
@@ -33,12 +37,6 @@ def layers():
         rows = re.findall(r"(?m)^\| `(\w+)` \| (.*?) \|$", part.split("\n## ")[0])
         found.append((name, says, rows))
     return found
-
-
-def uses():
-    """the project's crates that each crate rests on"""
-    listed = re.findall(r"(?m)^(\w+):(.*)$", read(os.path.join(TOP, "crates.txt")))
-    return {name: [word for word in rest.split() if word not in KIT] for name, rest in listed}
 
 
 def kind(crate):
@@ -87,43 +85,35 @@ def readme(found):
     return text[:start] + "\n" + table(found) + "\n" + text[end:]
 
 
-def boxes(rows, width):
+def boxes(rows):
     """(crate, x, line, width of its box): side by side, a new line where the width is used up"""
-    x, line = 150, 0
+    x, line = INDENT, 0
     for crate, _ in rows:
-        size = 8 * len(crate) + 18
-        if x + size > width - 20:
-            x, line = 150, line + 1
+        size = text_width(crate, 13) + 20
+        if x + size > WIDTH:
+            x, line = INDENT, line + 1
         yield crate, x, line, size
         x += size + 8
 
 
 def picture(found):
-    width, y, parts = 1000, 56, []
+    drawing, y = Drawing("The crates by layer. A crate uses its own layer and those below it."), 44
     for name, _, rows in reversed(found):
-        placed = list(boxes(rows, width))
-        high = 34 * (1 + max(line for _, _, line, _ in placed)) + 10
-        parts.append(f'<rect x="10" y="{y}" width="{width - 20}" height="{high}" fill="#f6f7f8" stroke="#d5d9dc"/>')
-        parts.append(f'<text x="22" y="{y + high / 2 + 5:g}" font-size="14" font-weight="bold">{name}</text>')
+        placed = list(boxes(rows))
+        high = 36 * (1 + placed[-1][2]) + 8
+        drawing.box(MARGIN, y, WIDTH, high, PALE)
+        drawing.text(MARGIN + 10, y + high / 2 + 5, name, 14)
         for crate, x, line, size in placed:
-            top = y + 8 + 34 * line
-            parts.append(f'<rect x="{x}" y="{top}" width="{size}" height="26" rx="4" fill="{FILLS[kind(crate)]}" stroke="#8a949b"/>')
-            parts.append(f'<text x="{x + size / 2:g}" y="{top + 17}" font-size="13" font-family="monospace" text-anchor="middle">{crate}</text>')
+            top = y + 8 + 36 * line
+            drawing.box(MARGIN + x, top, size, 28, KINDS[kind(crate)][0], ' rx="4"')
+            drawing.text(MARGIN + x + size / 2, top + 19, crate, 13, "middle", "white")
         y += high + 8
-    head = [f'<svg xmlns="http://www.w3.org/2000/svg" viewBox="0 0 {width} {y + 4}" width="{width}" height="{y + 4}" font-family="sans-serif" fill="#222222">',
-            "<title>The crates by layer</title>", f'<rect width="{width}" height="{y + 4}" fill="#ffffff"/>',
-            '<text x="20" y="24" font-size="15">The crates by layer. A crate uses its own layer and those below it.</text>']
-    x = 20
-    for what, fill in FILLS.items():
-        words = {"theory": "theory alone", "code": "functions with contracts", "program": "a program"}[what]
-        head.append(f'<rect x="{x}" y="34" width="14" height="14" fill="{fill}" stroke="#8a949b"/>')
-        head.append(f'<text x="{x + 20}" y="46" font-size="13">{words}</text>')
-        x += 40 + 8 * len(words)
-    return "\n".join(head + parts + ["</svg>"]) + "\n"
+    drawing.legend(MARGIN, y + 8, KINDS.values())
+    return drawing.done()
 
 
 def main():
-    found, graph = layers(), uses()
+    found, graph = layers(), crates()
     faults = list(order_faults(found, graph)) + list(walk_faults())
     wanted = {README: readme(found), PICTURE: picture(found)}
     for path, text in wanted.items():

@@ -2,7 +2,7 @@
 # Proves and compiles the static library, and builds the Rust crate over it. Words are passed to cargo: build.sh --release
 set -euo pipefail
 cd "$(dirname "$0")/../.."
-rt staticlib balanced_c
+tools/build_library.sh
 export BALANCED_LIB_DIR="$PWD/target/staticlib"
 cd bindings/rust
 cargo build --offline --locked "$@"
