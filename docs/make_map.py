@@ -90,7 +90,7 @@ def boxes(rows):
     x, line = INDENT, 0
     for crate, _ in rows:
         size = text_width(crate, 13) + 20
-        if x + size > WIDTH:
+        if x + size > WIDTH - 10:
             x, line = INDENT, line + 1
         yield crate, x, line, size
         x += size + 8
