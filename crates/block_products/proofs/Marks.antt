@@ -60,10 +60,6 @@ unfolding allZero
 all-zero-ext zero f g same = refl
 all-zero-ext (suc m) f g same = ap₂ (λ (x : ℕ) (b : Bool). eqb x 0 && b) (same m (omega arith)) (all-zero-ext m f g (λ i low. same i (omega arith)))
 
-pub zero-marks-ext : (m l : ℕ) (f g : ℕ → ℕ → ℕ) → ((i t : ℕ) → i < m → t < l → f i t ≡ g i t) → zeroMarks m l f ≡ zeroMarks m l g
-unfolding zeroMarks
-zero-marks-ext m l f g same = from-ext _ _ 0 l (λ t low high. ap mark (all-zero-ext m (λ i. f i t) (λ i. g i t) (λ i row. same i t row (omega arith))))
-
 -- a symbol of two bytes is 0 where both are
 two-zero : (x : ℕ) (b : Bool) → (eqb (x % 256) 0 && (eqb (x / 256) 0 && b)) ≡ (eqb x 0 && b)
 two-zero x b =

@@ -5,8 +5,8 @@ use mathlib.Core.List.{List, [], _∷_}
 use Prim.Native.Nat.{ℕ, zero, suc, _+_, _-_, _%_, _≤_, _<_}
 use native.Mathlib.Nat.{mod-lt, mod-self, mod-eq-of-lt, add-mod-left, add-comm, sub-zero, zero-add, add-zero}
 use native.Mathlib.Omega.{arith}
-use borrow.Author.Tests.{eqb-true, ltb-true, ltb-false, le-ltb}
-use lib.Dec.{eqb, ltb}
+use borrow.Author.Tests.{eqb-true, ltb-true, ltb-false}
+use lib.Dec.{ltb}
 use lib.ListN.{length, getD, take, drop, set, length-set}
 use lib.Seq.{getD-take, length-take-le}
 use Rattle.lists.specs.Numbers.{allBelow}
@@ -16,7 +16,7 @@ use Rattle.lists.proofs.All.{Distinct-at}
 use Rattle.lists.proofs.Cases.{by-test}
 use Rattle.lists.proofs.Fill.{length-zeros, drop-zeros}
 use Rattle.lists.proofs.Numbers.{at-below, below-getD, below-cons, below-drop, below-set}
-use Rattle.lists.proofs.Padding.{below-zeros}
+use Rattle.lists.proofs.Padding.{below-zeros, getD-zeros}
 use Rattle.lists.proofs.Rows.{from-ext, length-from, getD-from}
 use Rattle.field.specs.Fields.{isField, sizeOf, add}
 use Rattle.field.specs.Inner.Sums.{dot}
@@ -33,17 +33,12 @@ use Rattle.generator.specs.Shifts.{shifts, negative}
 use Rattle.generator.proofs.Bounds.{entryAt-below, nodeFrom-below}
 use Rattle.generator.proofs.Entries.{entryAt-zero}
 use Rattle.generator.proofs.Recovery.{shifts-are-places}
+use Rattle.generator.proofs.LaidShifts.{negative-below}
 use Rattle.plan.specs.Plans.{planFor}
 use Rattle.plan.proofs.Plans.{shift-in, shift-below, base-in, base-room, entry-read}
 use Rattle.sliding_sums.specs.Inner.Windows.{windowSums}
 use Rattle.encode.specs.Inner.OneLane.{placedFrom, byNode}
 use Rattle.encode.proofs.Placed.{past, Leads, placed-sum}
-
-zero-at : (n i : ℕ) → getD (zeros n) i 0 ≡ 0
-unfolding zeros
-zero-at zero i = refl
-zero-at (suc n) zero = refl
-zero-at (suc n) (suc i) = zero-at n i
 
 -- sums with zeros are 0
 zeros-sum : (p : ℕ) → isField p ≡ true → (ws : List ℕ) (m : ℕ) → allBelow (sizeOf p) ws ≡ true → dot p ws (zeros m) ≡ 0
@@ -55,11 +50,6 @@ zeros-sum p v (w ∷ ws) (suc m) b =
     ap (λ (x : ℕ). add p x (dot p ws (zeros m))) (mul-zero A w (below-cons (sizeOf p) w ws b .0))
     ∙ ap (add p 0) (zeros-sum p v ws m (below-cons (sizeOf p) w ws b .1))
     ∙ A .add-zero 0 (size-pos p v)
-
--- −j is a place below n, and from there on a symbol at place s stands (j + s) modulo n places further
-negative-low : (n j : ℕ) → 0 < n → negative n j < n
-unfolding negative
-negative-low n j pos = mod-lt (n - j) pos
 
 from-negative : (n j s : ℕ) → j < n → (s + (n - negative n j)) % n ≡ (j + s) % n
 unfolding negative
@@ -119,7 +109,7 @@ module _ (h : Header) (s : Sound h) where
         entries = λ r row.
             let place = from-negative (h .n) j (getD ss r 0) node in
             ap (λ (x : ℕ). getD entries x 0) place ∙ entries-at _ (mod-lt (j + getD ss r 0) (omega arith)) ∙ entry-read h s r j row node;
-        from-low = negative-low (h .n) j (omega arith);
+        from-low = negative-below (h .n) j (omega arith);
         short = omega (arith, length-entries, distance-low);
         symbols = entries-below;
       }
@@ -130,7 +120,7 @@ module _ (h : Header) (s : Sound h) where
       let p = modulusOf h in
       let t = negative (h .n) j in
       let held = nodeFrom-below h s 0 ms j symbols in
-      placed-sum h s (h .n) j t ss entries (leads j node) 0 ms (zeros 510) (omega arith) (omega (arith, length-zeros 510, s .byte)) symbols (below-zeros (size h) 510 (size-pos p (s .field))) (λ u high row. (zero-at 510 (getD ss u 0), zero-at 510 (getD ss u 0 + h .n)))
+      placed-sum h s (h .n) j t ss entries (leads j node) 0 ms (zeros 510) (omega arith) (omega (arith, length-zeros 510, s .byte)) symbols (below-zeros (size h) 510 (size-pos p (s .field))) (λ u high row. (getD-zeros 510 (getD ss u 0), getD-zeros 510 (getD ss u 0 + h .n)))
       ∙ ap (λ (x : ℕ). add p x (nodeFrom 0 h ms j)) (ap (dot p entries) (drop-zeros t 510) ∙ zeros-sum p (s .field) entries (510 - t) entries-below)
       ∙ arithmetic p (s .field) .add-comm 0 _ (size-pos p (s .field)) held
       ∙ arithmetic p (s .field) .add-zero _ held
@@ -144,7 +134,7 @@ module _ (h : Header) (s : Sound h) where
       (from-ext _ _ 0 (h .n)
       (λ j low high.
       let node : j < h .n = omega arith in
-      getD-from f 0 (h .n) (negative (h .n) j) 0 (negative-low (h .n) j (omega arith)) ∙ ap f (zero-add (negative (h .n) j)) ∙ node-sum ms count symbols j node))
+      getD-from f 0 (h .n) (negative (h .n) j) 0 (negative-below (h .n) j (omega arith)) ∙ ap f (zero-add (negative (h .n) j)) ∙ node-sum ms count symbols j node))
 
 -- what is placed is symbols, in the room that was there
 pub placed-below : (q n r : ℕ) (ss ms xs : List ℕ) → allBelow q ms ≡ true → allBelow q xs ≡ true → allBelow q (placedFrom n r ss ms xs) ≡ true
@@ -168,10 +158,6 @@ nodes-below p v ws row l bw br =
     let f : ℕ → ℕ = λ j. getD xs (negative (length xs) j) 0 in
     at-below (sizeOf p) (byNode xs)
     (λ i inside. rw (getD-from f 0 (length xs) i 0 (omega (arith, length-from f 0 (length xs)))) (below-getD (sizeOf p) xs (size-pos p v) (sums-below p v ws row l bw br) (negative (length xs) (0 + i))))
-
-pub length-sums : (p : ℕ) (ws row : List ℕ) (l : ℕ) → length (windowSums p ws row l) ≡ l
-unfolding windowSums
-length-sums p ws row l = length-from (λ t. dot p ws (drop t row)) 0 l
 
 pub length-by-node : (xs : List ℕ) → length (byNode xs) ≡ length xs
 unfolding byNode

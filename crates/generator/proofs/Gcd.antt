@@ -1,7 +1,7 @@
 -- Euclid's algorithm computes the greatest common divisor.
 use mathlib.Core.Path.{_≡_, refl, ap}
 use Prim.Native.Nat.{ℕ, zero, suc, _+_, _*_, _/_, _%_, _<_, _∣_}
-use native.Mathlib.Nat.{mod-lt, zero-lt-suc, not-suc-le-zero, dvd-zero, dvd-refl, dvd-mod-iff, dvd-add-iff-right, dvd-mul-left-of-dvd, div-add-mod, mul-one, pos-of-dvd-of-pos, mul-div-cancel', dvd-of-mul-dvd-mul-left}
+use native.Mathlib.Nat.{mod-lt, zero-lt-suc, not-suc-le-zero, dvd-zero, dvd-refl, dvd-mod-iff, dvd-add-iff-right, dvd-mul-left-of-dvd, div-add-mod, pos-of-dvd-of-pos, mul-div-cancel', dvd-of-mul-dvd-mul-left}
 use native.Mathlib.Omega.{arith}
 use lib.Dec.{eqb·suc-zero}
 use borrow.Author.Tests.{eq-eqb, ne-eqb}
@@ -47,10 +47,6 @@ gcd-right a b = gcdFrom-divides (suc b) a b (omega arith) .1
 pub gcd-greatest : (a b e x : ℕ) → e ∣ a * x → e ∣ b * x → e ∣ gcd a b * x
 unfolding gcd
 gcd-greatest a b e x = gcdFrom-greatest (suc b) a b e x (omega arith)
-
--- every common divisor divides it
-pub divides-gcd : (a b e : ℕ) → e ∣ a → e ∣ b → e ∣ gcd a b
-divides-gcd a b e u v = rw mul-one at (gcd-greatest a b e 1 (rw mul-one u) (rw mul-one v))
 
 -- a is g times a / g
 pub gcd-times : (a b : ℕ) → gcd a b * (a / gcd a b) ≡ a

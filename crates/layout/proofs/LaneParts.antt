@@ -10,12 +10,11 @@ use lib.Seq.{take-nil, take-append-add}
 use Rattle.lists.specs.Numbers.{allBelow}
 use Rattle.lists.specs.Rows.{from, rowsFrom}
 use Rattle.lists.proofs.Rows.{from-ext, row-inside, part-length, getD-part}
-use Rattle.layout.specs.Layout.{byLane, laneOf, withLane}
+use Rattle.layout.specs.Layout.{byLane, laneOf}
 use Rattle.layout.specs.Width.{valueFrom, symbolAt, symbolsOf, symbolBytes, bytesOf}
 use Rattle.layout.proofs.Places.{held-by-lane}
 use Rattle.layout.proofs.Widths.{getD-symbols, length-symbol, drop-bytes, symbols-bytes}
-use Rattle.layout.proofs.Runs.{with-lane-part}
-use Rattle.layout.proofs.Readings.{count-symbols, symbol-inside, symbol-digits, bytes-symbols}
+use Rattle.layout.proofs.Readings.{symbol-inside, symbol-digits, bytes-symbols}
 use Rattle.layout.proofs.Tiles.{byte-place, byte-row, lane-place, many-symbols}
 
 -- the bytes of the lanes, counted as the conditions of length do
@@ -95,13 +94,3 @@ module _ (w count : ℕ) (s : List ℕ) (some : 0 < w) (long : length s ≡ coun
   symbols-replaced a k ys =
       ap (λ (u : List ℕ). take (a * w) u ++ (bytesOf w ys ++ drop (k * w) (drop (a * w) u))) (sym whole)
       ∙ bytes-replaced w a k ys (symbolsOf w s)
-
--- a lane's bytes replaced by the bytes of other symbols
-pub lane-written : (w rows l t : ℕ) (g : ℕ → ℕ) (s : List ℕ) → 0 < w → length s ≡ w * rows * l → allBelow 256 s ≡ true → t < l → take (t * (w * rows)) s ++ (bytesOf w (from g 0 rows) ++ drop (w * rows) (drop (t * (w * rows)) s)) ≡ bytesOf w (withLane byLane rows l t g (symbolsOf w s))
-lane-written w rows l t g s some long low inside =
-    let xs = symbolsOf w s in
-    let total : length s ≡ rows * l * w = long ∙ sym (lanes-long w rows l) in
-    let at : t * (w * rows) ≡ t * rows * w = ap (λ (x : ℕ). t * x) (mul-comm w rows) ∙ sym (mul-assoc t rows w) in
-    ap₂ (λ (x y : ℕ). take x s ++ (bytesOf w (from g 0 rows) ++ drop y (drop x s))) at (mul-comm w rows)
-    ∙ symbols-replaced w (rows * l) s some total low (t * rows) rows (from g 0 rows)
-    ∙ ap (bytesOf w) (with-lane-part rows l t g xs (count-symbols w (rows * l) s some total) inside)

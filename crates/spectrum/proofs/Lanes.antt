@@ -16,16 +16,13 @@ use Rattle.generator.specs.declared.Header.{Header}
 use Rattle.generator.specs.Records.{modulusOf, size, Sound}
 use Rattle.generator.specs.Shifts.{negative}
 use Rattle.sliding_sums.specs.Inner.Windows.{windowSums}
+use Rattle.sliding_sums.proofs.Tables.{length-windows}
 use Rattle.spectrum.specs.Inner.Spectrum.{triangle, chirpAt, unchirpedAt, unchirped}
 use Rattle.spectrum.proofs.Arrays.{value-at}
 
 pub length-unchirped : (h : Header) (ws : List ℕ) → length (unchirped h ws) ≡ length ws
 unfolding unchirped
 length-unchirped h ws = length-from (unchirpedAt h ws) 0 (length ws)
-
-pub length-windows : (p : ℕ) (ws row : List ℕ) (l : ℕ) → length (windowSums p ws row l) ≡ l
-unfolding windowSums
-length-windows p ws row l = length-from (λ t. dot p ws (drop t row)) 0 l
 
 module _ (h : Header) (s : Sound h) where
   pub chirps-below : allBelow (size h) (from (chirpAt h) 0 510) ≡ true

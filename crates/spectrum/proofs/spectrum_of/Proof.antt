@@ -12,9 +12,10 @@ use Rattle.lists.proofs.Rows.{length-from}
 use Rattle.lists.proofs.Fill.{length-zeros}
 use Rattle.generator.specs.Records.{modulusOf}
 use Rattle.sliding_sums.specs.Inner.Windows.{windowSums}
+use Rattle.sliding_sums.proofs.Tables.{length-windows}
 use Rattle.spectrum.specs.Inner.Spectrum.{chirpAt, unchirped}
 use Rattle.check_sums.proofs.Prefix.{whole-fits, whole-is, length-whole}
-use Rattle.spectrum.proofs.Lanes.{length-unchirped, length-windows, chirps-below, unchirped-below, windows-below}
+use Rattle.spectrum.proofs.Lanes.{length-unchirped, chirps-below, unchirped-below, windows-below}
 use Rattle.spectrum.proofs.Chirped.{spectrum-is}
 use Rattle.spectrum.proofs.spectrum_of.Statement.{statement}
 use Rattle.spectrum.proofs.spectrum_of.Tie as tie

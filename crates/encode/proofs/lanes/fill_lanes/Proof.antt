@@ -32,7 +32,16 @@ slice-aggregate-fill-2 : tie.Need-slice-aggregate-fill-2
 slice-aggregate-fill-2 c = search needs
 
 fill-requires : tie.Need-fill-requires
-fill-requires c κs = let s = c .before .before .before .before .before .before .before .before .before .before .before .before .before .before .before .before .before in let room = list-room (s .args .h) 4 16 (s .pre .0 .sound) (c .before .before .before .before .before .before .before .before .before .before .if1 .taken) (omega arith) in rw (c .before .before .before .before .before .before .before .before .before .before .before .before .product-of .ensures) (columns-ready (s .pre .0 .sound) (s .pre .1) (s .pre .2) (omega (arith, room .entries, c .before .before .before .before .before .before .before .before .before .small-lists .ensures)) (omega (arith, room .sizes, c .before .before .before .before .before .before .before .before .small-counts .ensures)) (c .before .before .before .before .before .fill-lists .ensures))
+fill-requires c κs =
+    let listed : tie.After-fill-lists = search in
+    let product : tie.After-product-of = search in
+    let s : tie.Start = search in
+    let room = list-room (s .args .h) 4 16 (s .pre .0 .sound) (listed .before .before .before .before .before .if1 .taken) (omega arith) in
+    rw (product .product-of .ensures)
+    (columns-ready (s .pre .0 .sound) (s .pre .1) (s .pre .2)
+    (omega (arith, room .entries, listed .before .before .before .before .small-lists .ensures))
+    (omega (arith, room .sizes, listed .before .before .before .small-counts .ensures))
+    (listed .fill-lists .ensures))
 
 same-length : tie.Need-same-length
 same-length c = search needs
@@ -66,7 +75,16 @@ slice-aggregate-fill-4 : tie.Need-slice-aggregate-fill-4
 slice-aggregate-fill-4 c = search needs
 
 fill-requires-2 : tie.Need-fill-requires-2
-fill-requires-2 c κs = let s = c .before .before .before .before .before .before .before .before .before .before .before .before .before .before .before .before .before .before .before in let room = list-room (s .args .h) 16 64 (s .pre .0 .sound) (c .before .before .before .before .before .before .before .before .before .before .if2 .taken) (omega arith) in rw (c .before .before .before .before .before .before .before .before .before .before .before .before .before .before .product-of .ensures) (columns-ready (s .pre .0 .sound) (s .pre .1) (s .pre .2) (omega (arith, room .entries, c .before .before .before .before .before .before .before .before .before .middle-lists .ensures)) (omega (arith, room .sizes, c .before .before .before .before .before .before .before .before .middle-counts .ensures)) (c .before .before .before .before .before .fill-lists2 .ensures))
+fill-requires-2 c κs =
+    let listed : tie.After-fill-lists2 = search in
+    let product : tie.After-product-of = search in
+    let s : tie.Start = search in
+    let room = list-room (s .args .h) 16 64 (s .pre .0 .sound) (listed .before .before .before .before .before .if2 .taken) (omega arith) in
+    rw (product .product-of .ensures)
+    (columns-ready (s .pre .0 .sound) (s .pre .1) (s .pre .2)
+    (omega (arith, room .entries, listed .before .before .before .before .middle-lists .ensures))
+    (omega (arith, room .sizes, listed .before .before .before .middle-counts .ensures))
+    (listed .fill-lists2 .ensures))
 
 same-length-2 : tie.Need-same-length-2
 same-length-2 c = search needs

@@ -10,8 +10,9 @@ use Rattle.layout.specs.Width.{bytesOf}
 use Rattle.field.specs.Kinds.{modulus}
 use Rattle.field.proofs.KindLaws.{usable-field}
 use Rattle.sliding_sums.specs.Inner.Windows.{windowSums}
+use Rattle.sliding_sums.proofs.Tables.{length-windows}
 use Rattle.encode.specs.Inner.OneLane.{byNode}
-use Rattle.encode.proofs.OneLane.{nodes-below, length-sums, length-by-node}
+use Rattle.encode.proofs.OneLane.{nodes-below, length-by-node}
 use Rattle.encode.proofs.one_lane.write_nodes.Statement.{statement}
 use Rattle.encode.proofs.one_lane.write_nodes.Tie as tie
 
@@ -39,7 +40,7 @@ write-symbols-requires c κs =
     let windows = s .pre .1 in
     let low = nodes-below _ (usable-field _ (s .pre .0)) (a .weights .now) (a .row .now) (length (a .sums .now)) (windows .weights) (windows .symbols) in
     rw (taken (c .before .before), w .window-sums .ensures)
-    (s .pre .2, s .pre .3, at-below (256 ^ a .w) _ (λ i inside. lt-of-lt-of-le (below-at _ _ low i inside) (s .pre .4)), s .pre .5 ∙ ap (λ (x : ℕ). x * a .w) (sym (length-by-node _ ∙ length-sums _ _ _ _)))
+    (s .pre .2, s .pre .3, at-below (256 ^ a .w) _ (λ i inside. lt-of-lt-of-le (below-at _ _ low i inside) (s .pre .4)), s .pre .5 ∙ ap (λ (x : ℕ). x * a .w) (sym (length-by-node _ ∙ length-windows _ _ _ _)))
 
 same-length : tie.Need-same-length
 same-length c = search needs
