@@ -1,11 +1,11 @@
--- What the search for the order of a symbol finds is its order in the field.
+-- What the search for the order of a symbol finds is its order in the field, and an order up to 256 is found.
 use mathlib.Core.Path.{_≡_, refl, sym, ap, _∙_}
 use mathlib.Core.Bool.{true, false}
 use mathlib.Core.Logic.{⊎-elim}
 use Prim.Native.Nat.{ℕ, zero, suc, _+_, _-_, _≤_, _<_}
 use native.Mathlib.Omega.{arith}
 use native.Mathlib.Numerals.{add-one}
-use native.Mathlib.Nat.{eq-or-lt-of-le}
+use native.Mathlib.Nat.{eq-or-lt-of-le, le-refl}
 use borrow.Author.Tests.{eqb-true, eqb-false, eq-eqb, ne-eqb}
 use lib.Dec.{eqb}
 use Rattle.lists.proofs.Cases.{by-test}
@@ -18,12 +18,12 @@ use Rattle.field.proofs.FieldOf.{fieldOf, number-pow}
 
 module _ (p a : ℕ) where
   -- the n-th power is 1, and none before it from the e-th on
-  record FirstFrom (e n : ℕ) : Type 0 where
-    from : e ≤ n
-    one : power p a n ≡ 1
-    before : (i : ℕ) → e ≤ i → i < n → power p a i ≡ 1 → ⊥
+  pub record FirstFrom (e n : ℕ) : Type 0 where
+    pub from : e ≤ n
+    pub one : power p a n ≡ 1
+    pub before : (i : ℕ) → e ≤ i → i < n → power p a i ≡ 1 → ⊥
 
-  order-from : (f e x n : ℕ) → power p a e ≡ x → 1 ≤ n → orderFrom f e p a x ≡ n → FirstFrom e n
+  pub order-from : (f e x n : ℕ) → power p a e ≡ x → 1 ≤ n → orderFrom f e p a x ≡ n → FirstFrom e n
   unfolding orderFrom power
   order-from zero e x n at pos found = absurd (omega arith)
   order-from (suc f) e x n at pos found =
@@ -45,6 +45,19 @@ module _ (p a : ℕ) where
             (λ l. later .before i (omega arith) high h)
             (eq-or-lt-of-le low);
       })
+
+  -- and of f numbers from e on the search finds such an n
+  pub order-finds : (f e x n : ℕ) → power p a e ≡ x → n < e + f → FirstFrom e n → orderFrom f e p a x ≡ n
+  unfolding orderFrom power
+  order-finds zero e x n at few first = absurd (omega (arith, first .from))
+  order-finds (suc f) e x n at few first =
+      by-test (eqb x 1)
+      (λ t. rw t (⊎-elim (λ q. q) (λ l. absurd (first .before e (le-refl e) l (at ∙ eqb-true x 1 t))) (eq-or-lt-of-le (first .from))))
+      (λ t. rw t
+      (⊎-elim
+      (λ q. absurd (eqb-false x 1 t (sym at ∙ ap (power p a) q ∙ first .one)))
+      (λ l. order-finds f (e + 1) (mul p a x) n (ap (power p a) (add-one e) ∙ ap (mul p a) at) (omega arith) (record { from = omega arith; one = first .one; before = λ i low high h. first .before i (omega arith) high h }))
+      (eq-or-lt-of-le (first .from))))
 
   -- one step of the search: it ends where x is 1, else goes on with the next power
   order-stop : (f e x : ℕ) → 0 < f → x ≡ 1 → orderFrom f e p a x ≡ e
@@ -120,3 +133,14 @@ order-is p v a n found pos =
       returns = symbol-path (sizeOf p) (number-pow p v a n ∙ first .one);
       least = λ e low high h. first .before e low high (sym (number-pow p v a e) ∙ ap (λ (s : Symbol (sizeOf p)). s .0) h);
     }
+
+-- and an order in the field, up to 256, is what is found
+pub order-found : (p : ℕ) (v : isField p ≡ true) (a : Symbol (sizeOf p)) (n : ℕ) → Order (fieldOf p v) a n → n ≤ 256 → orderOf p (a .0) ≡ n
+unfolding orderOf power
+order-found p v a n order few =
+    order-finds p (a .0) 256 1 (a .0) n (arithmetic p v .mul-one (a .0) (symbol-below (sizeOf p) a)) (omega arith)
+    (record {
+      from = order .positive;
+      one = sym (number-pow p v a n) ∙ ap (λ (s : Symbol (sizeOf p)). s .0) (order .returns);
+      before = λ e low high h. order .least e low high (symbol-path (sizeOf p) (number-pow p v a e ∙ h));
+    })

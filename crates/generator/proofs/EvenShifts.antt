@@ -57,17 +57,17 @@ products : (g c t q : ℕ) {n k d : ℕ} → g * c ≡ n → g * t ≡ k → q *
 products g c t q e₁ e₂ e₃ = rw (← e₁, ← e₂, ← e₃) (omega arith)
 
 -- the places that a round takes and skips, and its length
-abbrev taken : ℕ → ℕ → ℕ
+abbrev pub taken : ℕ → ℕ → ℕ
 taken n k = k / gcd k n
 
-abbrev skipped : ℕ → ℕ → ℕ
+abbrev pub skipped : ℕ → ℕ → ℕ
 skipped n k = (n - k) / gcd k n
 
-abbrev around : ℕ → ℕ → ℕ
+abbrev pub around : ℕ → ℕ → ℕ
 around n k = taken n k + skipped n k
 
 -- the test for a shift
-abbrev isShift : ℕ → ℕ → ℕ → Bool
+abbrev pub isShift : ℕ → ℕ → ℕ → Bool
 isShift n k i = ltb (i % around n k) (taken n k)
 
 module _ (n k : ℕ) (some : 0 < k) (fits : k ≤ n) where
@@ -76,7 +76,7 @@ module _ (n k : ℕ) (some : 0 < k) (fits : k ≤ n) where
   pos-n = omega arith
 
   -- k is g times what a round takes
-  times-taken : gcd k n * taken n k ≡ k
+  pub times-taken : gcd k n * taken n k ≡ k
   times-taken = gcd-times k n
 
   -- n − k is g times what a round skips
@@ -84,7 +84,7 @@ module _ (n k : ℕ) (some : 0 < k) (fits : k ≤ n) where
   times-skipped = mul-div-cancel' _ (dvd-sub _ (gcd-right k n) (gcd-left k n))
 
   -- g rounds make n
-  times-around : gcd k n * around n k ≡ n
+  pub times-around : gcd k n * around n k ≡ n
   times-around = omega (arith, times-taken, times-skipped)
 
   -- a round takes some
@@ -99,7 +99,7 @@ module _ (n k : ℕ) (some : 0 < k) (fits : k ≤ n) where
   around-within = le-of-dvd pos-n (rw times-around at (dvd-mul-left (around n k) (gcd k n)))
 
   -- the shifts are the numbers below n whose residue is among the first
-  even-are : evenShifts n k ≡ passingFrom n 0 (isShift n k)
+  pub even-are : evenShifts n k ≡ passingFrom n 0 (isShift n k)
   unfolding evenShifts
   even-are = rw zero-mod at (shifts-chosen n 0 (taken n k) (skipped n k) pos-around)
 

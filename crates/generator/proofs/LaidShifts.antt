@@ -170,7 +170,7 @@ negative-twice n x h =
 
 module _ (n d : ℕ) (some : 0 < d) (small : d ≤ n) where
   -- n is gcd(n, d) times a period
-  times-period : gcd n d * period n d ≡ n
+  pub times-period : gcd n d * period n d ≡ n
   unfolding period
   times-period = gcd-times n d
 
@@ -225,7 +225,7 @@ laid-first n d = rw (zero-div, zero-mod, zero-mul) (zero-mod n)
 
 module _ (n k : ℕ) (some : 0 < k) (fits : k ≤ n) where
   -- the shift of row r is the negative of its first node
-  laid-at : (r : ℕ) → r < k → getD (laidShifts n k) r 0 ≡ negative n (laidAt n (n - k + 1) r)
+  pub laid-at : (r : ℕ) → r < k → getD (laidShifts n k) r 0 ≡ negative n (laidAt n (n - k + 1) r)
   unfolding laidShifts
   laid-at r h = rw zero-add at (getD-from (λ i. negative n (laidAt n (n - k + 1) i)) 0 k r 0 h)
 
@@ -234,7 +234,7 @@ module _ (n k : ℕ) (some : 0 < k) (fits : k ≤ n) where
   laid-length = length-from (λ i. negative n (laidAt n (n - k + 1) i)) 0 k
 
   -- the first node of a row, from its shift
-  laid-begin : (r : ℕ) → r < k → negative n (getD (laidShifts n k) r 0) ≡ laidAt n (n - k + 1) r
+  pub laid-begin : (r : ℕ) → r < k → negative n (getD (laidShifts n k) r 0) ≡ laidAt n (n - k + 1) r
   laid-begin r h = rw (laid-at r h) (negative-twice n (laidAt n (n - k + 1) r) (laid-below n (n - k + 1) (omega arith) (omega arith) r))
 
   -- k different shifts below n

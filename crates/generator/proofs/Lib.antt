@@ -23,6 +23,10 @@ pub mod Accepts
 pub mod Claims
 pub mod Comparison
 pub mod EvenSizes
+-- What the documents fix of records and rows.
+pub mod PinnedRecords
+pub mod PinnedRows
+pub mod Pinned
 -- The same definitions as document 03 has them.
 pub mod RecordsAgreement
 pub mod ShiftsAgreement

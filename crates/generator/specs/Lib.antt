@@ -6,3 +6,4 @@ pub mod Codewords
 pub mod Messages
 pub mod Claims
 pub mod Comparison
+pub mod Pinned
