@@ -2,8 +2,9 @@
 """Order in crates/: each spec name is defined once, no proof counts more than five steps back, no law is proved in two files,
 and none stands that nobody cites.
 
-A law is a declaration of a proofs/ file that is no function's own proof. It is cited by another declaration, by a must-fail edit
-or by docs/CLAIMS.md. Two laws are the same if their statements are, but for the names of variables.
+A law is a declaration of a proofs/ file that is no function's own proof. It is cited by another declaration or by docs/CLAIMS.md; a law
+`..-agrees` says that two definitions are the same, and is a statement by itself. Two laws are the same if their statements are, but
+for the names of variables.
 """
 import collections
 import glob
@@ -36,13 +37,16 @@ def proofs():
 
 
 def declarations(text):
-    """(name, the lines that declare it) for each declaration, at the margin or inside a module; a record's fields are part of it"""
-    found, depth = [], None
+    """(name, the lines that declare it, the modules around it) for each declaration; a record's fields are part of it"""
+    found, depth, around = [], None, []
     for line in text.split("\n"):
         if not line.strip() or line.lstrip().startswith(("--", "use ", "pub mod", "mod ")):
             continue
         indent = len(line) - len(line.lstrip())
+        while around and indent <= around[-1][0]:
+            around.pop()
         if line.lstrip().startswith("module "):
+            around.append((indent, line.strip()))
             depth = None
             continue
         if depth is not None and indent > depth:
@@ -56,7 +60,7 @@ def declarations(text):
             continue
         name = head.group(1)
         if depth != indent or not found or found[-1][0] != name:
-            found.append((name, []))
+            found.append((name, [], " ".join(text for _, text in around)))
         found[-1][1].append(line)
         depth = indent
     return found
@@ -65,7 +69,7 @@ def declarations(text):
 def names_once():
     places = collections.defaultdict(list)
     for path in specs():
-        for name in {name for name, lines in declarations(read(path))}:
+        for name in {name for name, _, _ in declarations(read(path))}:
             places[name].append(short(path))
     for name, where in sorted(places.items()):
         if len(where) > 1:
@@ -79,11 +83,10 @@ def steps():
                 faults.append(f"{short(path)}:{number}: more than {MOST_STEPS} steps back")
 
 
-def statement(lines):
-    """the declared type with its variables numbered in the order in which they are bound"""
+def statement(around, lines):
+    """the declared type in its modules, with the variables numbered in the order in which they are bound"""
     text = " ".join(line.strip() for line in lines)
-    start = text.index(" : ") + 3 if " : " in text else 0
-    text = text[start:]
+    text = around + " " + text[text.index(" : ") + 3 :]
     bound = re.findall(r"[({]([^(){}:]+) :|λ ([^\s.(]+)|λ \(([^\s:]+)", text)
     order = []
     for group in bound:
@@ -99,16 +102,16 @@ def laws():
     for path in proofs():
         if os.path.basename(path) in ("Proof.antt", "Lib.antt"):
             continue
-        for name, lines in declarations(read(path)):
+        for name, lines, around in declarations(read(path)):
             typed = [line.strip() for line in lines if re.match(r"\s*(pub )?%s : " % re.escape(name), line)]
             if typed and not lines[0].lstrip().startswith(("abbrev", "unfoldable", "pub record", "record")):
-                yield path, name, statement(typed), lines
+                yield path, name, statement(around, typed), lines
 
 
 def said_once():
     places = collections.defaultdict(list)
     for path, name, says, _ in laws():
-        if len(says) > 30:
+        if re.search("[≡<≤↔⊥]", says.split("where ")[-1]) and len(says) > 30:
             places[says].append(f"{short(path)} {name}")
     for says, where in sorted(places.items()):
         if len(where) > 1:
@@ -123,7 +126,7 @@ def cited():
     told = set(re.findall(r"`([^`]+)`", read(f"{top}/docs/CLAIMS.md")))
     told |= {name.split(".")[-1] for name in told}
     for path, name, _, lines in laws():
-        if uses[name] <= WORD.findall("\n".join(lines)).count(name) and name not in told:
+        if uses[name] <= WORD.findall("\n".join(lines)).count(name) and name not in told and not name.endswith("-agrees"):
             faults.append(f"{short(path)}: nobody cites {name}")
 
 

@@ -31,7 +31,7 @@ module _ (F : Field) where
   check a e ws js = comb F (λ j. pow F a (j * e)) ws js
 
   -- the lowest coefficient apart
-  peel : (c x v y : Carrier) → (c ⊕ x ⊗ v) ⊗ y ≡ c ⊗ y ⊕ v ⊗ (y ⊗ x)
+  pub peel : (c x v y : Carrier) → (c ⊕ x ⊗ v) ⊗ y ≡ c ⊗ y ⊕ v ⊗ (y ⊗ x)
   peel c x v y = simp (add-mul F, mul-assoc, mul-comm, mul-left-comm F)
 
   -- the sum Σ_j f(a^j)·a^(j·e), with the lowest coefficient of f apart

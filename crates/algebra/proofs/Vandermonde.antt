@@ -8,7 +8,7 @@ use lib.ListN.{length, getD, replicate, length-replicate}
 use lib.Seq.{ext-getD}
 use Rattle.lists.specs.Rows.{from}
 use Rattle.lists.proofs.Rows.{length-from}
-use Rattle.lists.proofs.All.{All-replicate, Distinct, ExactlyOne}
+use Rattle.lists.proofs.All.{All-replicate, Distinct}
 use Rattle.algebra.specs.Field.{Field}
 use Rattle.algebra.specs.Powers.{pow}
 use Rattle.algebra.proofs.Ring.{mul-zero}
@@ -101,11 +101,3 @@ module _ (F : Field) where
         ∙ sum-one F k (λ c. h c ⊗ getD (monomial F i) c 0f) i l (λ c b n. ap (λ y. h c ⊗ y) (monomial-other F i c n) ∙ mul-zero F (h c))
         ∙ ap (λ y. h i ⊗ y) (monomial-own F i)
         ∙ mul-one (h i)
-
-    -- both halves: exactly one list of k weights has the moments h_0 .. h_{k−1}
-    pub transposed-vandermonde : (h : ℕ → Carrier) → ExactlyOne (λ cs. (length cs ≡ length bs) × ((i : ℕ) → i < length bs → moment cs bs i ≡ h i))
-    transposed-vandermonde h = (
-      weights bs h,
-      (length-weights bs h, moment-weights h),
-      λ ds k. moments-determine ds (weights bs h) (k .0) (length-weights bs h) (λ i j. k .1 i j ∙ sym (moment-weights h i j)),
-    )

@@ -34,6 +34,7 @@ use Rattle.generator.proofs.Bounds.{entryAt-below, nodeFrom-below}
 use Rattle.generator.proofs.Entries.{entryAt-zero}
 use Rattle.generator.proofs.Recovery.{shifts-are-places}
 use Rattle.generator.proofs.LaidShifts.{negative-below}
+use Rattle.generator.proofs.Sound.{weight-fits}
 use Rattle.plan.specs.Plans.{planFor}
 use Rattle.plan.proofs.Plans.{shift-in, shift-below, base-in, base-room, entry-read}
 use Rattle.sliding_sums.specs.Inner.Windows.{windowSums}
@@ -72,12 +73,8 @@ module _ (h : Header) (s : Sound h) where
   abbrev entries : List ℕ
   entries = take (distance h) base
 
-  distance-low : distance h ≤ h .n
-  unfolding distance
-  distance-low = omega (arith, s .some, s .fits)
-
   pub length-entries : length entries ≡ distance h
-  length-entries = length-take-le _ _ (omega (arith, distance-low, base-room h))
+  length-entries = length-take-le _ _ (omega (arith, weight-fits h s, base-room h))
 
   entry-is : (i : ℕ) → i < h .n → getD base i 0 ≡ entryAt h 0 i
   unfolding baseWord
@@ -96,7 +93,7 @@ module _ (h : Header) (s : Sound h) where
   entries-below =
       at-below (size h) entries
       (λ i inside.
-      let low : i < h .n = omega (arith, length-entries, distance-low) in
+      let low : i < h .n = omega (arith, length-entries, weight-fits h s) in
       rw (entries-at i low, entry-is i low) (entryAt-below h s 0 i))
 
   -- from place −j on the base word meets each row's symbol with its entry of node j
@@ -110,7 +107,7 @@ module _ (h : Header) (s : Sound h) where
             let place = from-negative (h .n) j (getD ss r 0) node in
             ap (λ (x : ℕ). getD entries x 0) place ∙ entries-at _ (mod-lt (j + getD ss r 0) (omega arith)) ∙ entry-read h s r j row node;
         from-low = negative-below (h .n) j (omega arith);
-        short = omega (arith, length-entries, distance-low);
+        short = omega (arith, length-entries, weight-fits h s);
         symbols = entries-below;
       }
 

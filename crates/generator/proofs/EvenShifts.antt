@@ -11,7 +11,7 @@ use lib.ListN.{length, getD}
 use borrow.Author.Tests.{eq-eqb, ne-eqb, lt-ltb, le-ltb}
 use Rattle.lists.specs.Choice.{pick}
 use Rattle.lists.specs.Counting.{countFrom, passingFrom}
-use Rattle.lists.proofs.All.{All, All-imp, All-at}
+use Rattle.lists.proofs.All.{All, All-imp}
 use Rattle.lists.proofs.Count.{count-add, count-all, count-none, count-period, count-periods}
 use Rattle.lists.proofs.Passing.{length-passing, countList, count-passing, passing-within, passing-first, Rises, passing-rises, rises-distinct}
 use Rattle.lists.proofs.Places.{Places}
@@ -120,9 +120,6 @@ module _ (n k : ℕ) (some : 0 < k) (fits : k ≤ n) where
   -- they lie below n
   even-low : All (λ j. j < n) (evenShifts n k)
   even-low = rw even-are (All-imp (λ j. (0 ≤ j) × (j < 0 + n)) (λ j. j < n) (λ j h. omega arith) (passingFrom n 0 (isShift n k)) (passing-within n 0 (isShift n k)))
-
-  pub even-below : (r : ℕ) → r < k → getD (evenShifts n k) r 0 < n
-  even-below r h = All-at (λ j. j < n) 0 (evenShifts n k) even-low r (omega (arith, even-length))
 
   -- they rise
   pub even-rise : Rises (evenShifts n k)

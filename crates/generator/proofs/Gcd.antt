@@ -48,6 +48,10 @@ pub gcd-greatest : (a b e x : ℕ) → e ∣ a * x → e ∣ b * x → e ∣ gcd
 unfolding gcd
 gcd-greatest a b e x = gcdFrom-greatest (suc b) a b e x (omega arith)
 
+-- every common divisor divides it
+pub divides-gcd : (a b e : ℕ) → e ∣ a → e ∣ b → e ∣ gcd a b
+divides-gcd a b e u v = rw mul-one at (gcd-greatest a b e 1 (rw mul-one u) (rw mul-one v))
+
 -- a is g times a / g
 pub gcd-times : (a b : ℕ) → gcd a b * (a / gcd a b) ≡ a
 gcd-times a b = mul-div-cancel' _ (gcd-left a b)

@@ -1,5 +1,5 @@
 -- What the documents fix of records and rows, with worked examples.
-use mathlib.Core.Path.{_≡_, refl}
+use mathlib.Core.Path.{refl}
 use Rattle.lists.specs.Counting.{countFrom}
 use Rattle.lists.specs.Rows.{from}
 use Rattle.field.specs.Primes.{dividesSome, isPrime}

@@ -1,9 +1,9 @@
 -- What the documents fix of records: the primes that number 3 passes, the numbers of two bytes, and the roots that number 5 passes.
 use mathlib.Core.Path.{_≡_, refl, sym, ap, _∙_}
 use mathlib.Core.Logic.{_↔_}
-use mathlib.Core.Bool.{Bool, true, false, _&&_, not, true≢false}
-use mathlib.Core.List.{List, [], _∷_}
-use Prim.Native.Nat.{ℕ, zero, suc, _+_, _*_, _/_, _%_, _≤_, _<_}
+use mathlib.Core.Bool.{true, false, _&&_, not, true≢false}
+use mathlib.Core.List.{[], _∷_}
+use Prim.Native.Nat.{ℕ, _+_, _*_, _/_, _%_, _≤_, _<_}
 use native.Mathlib.Nat.{div-self, div-add-mod', mul-mod-right, mul-le-mul-left, mul-le-mul-right, lt-of-not-le}
 use native.Mathlib.Omega.{arith}
 use borrow.Author.Tests.{ltb-true, lt-ltb, leb-true, le-leb, eqb-true, eq-eqb, not-false}
@@ -18,7 +18,7 @@ use Rattle.field.proofs.KindLaws.{usable-field}
 use Rattle.field.proofs.Orders.{FirstFrom, order-from, order-finds}
 use Rattle.field.proofs.Primes.{prime-no-divisor, trial}
 use Rattle.generator.specs.declared.Header.{Header}
-use Rattle.generator.specs.Records.{pairAt, headerOf, modulusOf, size, kindBad, bodyBad, primeIn, fieldBad, sizeBad, rootBad, headerFault, recordFault}
+use Rattle.generator.specs.Records.{headerOf, modulusOf, size, kindBad, bodyBad, primeIn, fieldBad, sizeBad, rootBad, headerFault, recordFault}
 use Rattle.generator.specs.Pinned.{PrimeFrom, HasOrder}
 use Rattle.generator.proofs.Faults.{sizes}
 

@@ -7,7 +7,7 @@ use native.Mathlib.Nat.{le-antisymm, le-of-dvd, eq-of-mul-eq-mul-left, mul-comm,
 use native.Mathlib.Omega.{arith}
 use borrow.Author.Tests.{eq-eqb, ne-eqb}
 use lib.Dec.{ltb}
-use lib.ListN.{length, getD}
+use lib.ListN.{getD}
 use Rattle.lists.specs.Counting.{passingFrom}
 use Rattle.lists.specs.Numbers.{isIn}
 use Rattle.lists.proofs.All.{All-at}

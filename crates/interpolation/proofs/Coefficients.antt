@@ -43,15 +43,6 @@ unfolding zeros padded
 one-padded = refl
 
 module _ (p : ℕ) where
-  -- (x − a)·q(x), coefficient by coefficient
-  pub timesLinear-next : (a c : ℕ) (qs : List ℕ) (i : ℕ) → i < length qs → timesLinear p a c (drop i qs) ≡ sub p c (mul p a (getD qs i 0)) ∷ timesLinear p a (getD qs i 0) (drop (i + 1) qs)
-  unfolding timesLinear
-  timesLinear-next a c qs i h = ap (timesLinear p a c) (drop-next qs i 0 h)
-
-  pub timesLinear-end : (a c : ℕ) (qs : List ℕ) (i : ℕ) → length qs ≤ i → timesLinear p a c (drop i qs) ≡ c ∷ []
-  unfolding timesLinear
-  timesLinear-end a c qs i h = ap (timesLinear p a c) (drop-of-length-le qs h)
-
   -- the same in place
   pub carried-next : (a c : ℕ) (qs : List ℕ) (i : ℕ) → i < length qs → carried p a c (drop i qs) ≡ sub p c (mul p a (getD qs i 0)) ∷ carried p a (getD qs i 0) (drop (i + 1) qs)
   unfolding carried

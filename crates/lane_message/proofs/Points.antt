@@ -22,13 +22,13 @@ use Rattle.interpolation.specs.Inner.Points.{pointsOf}
 use Rattle.node_weights.specs.Inner.Rows.{rowPoints}
 
 module _ (h : Header) (s : Sound h) where
-  many : length (shifts h) ≡ h .k
-  many = shifts-length (h .n) (h .k) (s .some) (s .fits)
+  pub length-shifts : length (shifts h) ≡ h .k
+  length-shifts = shifts-length (h .n) (h .k) (s .some) (s .fits)
 
   -- the shift of row r, read from the padded list
   pub shift-at : (r : ℕ) → r < h .k → (getD (padded 255 (shifts h)) r 0 ≡ getD (shifts h) r 0) × (getD (padded 255 (shifts h)) r 0 < h .n)
   shift-at r row =
-      let inside : r < length (shifts h) = omega (arith, many) in
+      let inside : r < length (shifts h) = omega (arith, length-shifts) in
       let is = getD-padded 255 (shifts h) r inside in
       (is, rw is (below-at (h .n) (shifts h) (ours h s .shifts-below) r inside))
 
@@ -46,5 +46,5 @@ module _ (h : Header) (s : Sound h) where
   pub points-from : from (λ r. power (modulusOf h) (h .root) (getD (shifts h) r 0 + (h .k - 1))) 0 (h .k) ≡ rowPoints h
   unfolding rowPoints pointsOf
   points-from =
-      ap (from (λ r. power (modulusOf h) (h .root) (getD (shifts h) r 0 + (h .k - 1))) 0) (sym many)
+      ap (from (λ r. power (modulusOf h) (h .root) (getD (shifts h) r 0 + (h .k - 1))) 0) (sym length-shifts)
       ∙ sym (map-from (λ j. power (modulusOf h) (h .root) (j + (h .k - 1))) (shifts h))

@@ -40,6 +40,7 @@ use Rattle.node_weights.specs.Inner.Rows.{rowPoints}
 use Rattle.node_weights.proofs.Recovering.{row-points}
 use Rattle.lane_message.specs.Inner.Rows.{InRounds, roundPoints, spacedOf}
 use Rattle.lane_message.proofs.Monic.{monic-product, spread, eval-spread}
+use Rattle.lane_message.proofs.Points.{length-shifts}
 
 module _ (h : Header) (s : Sound h) (m : ℕ) (r : InRounds (h .n) (shifts h) (suc m)) where
   abbrev g : ℕ
@@ -162,9 +163,6 @@ module _ (h : Header) (s : Sound h) (m : ℕ) (r : InRounds (h .n) (shifts h) (s
       ∙ sym (ap (productOf p) (row-points h s) ∙ productOf-is p (s .field) bs)
 
 module _ (h : Header) (s : Sound h) where
-  pub length-shifts : length (shifts h) ≡ h .k
-  length-shifts = shifts-length (h .n) (h .k) (s .some) (s .fits)
-
   module _ (g : ℕ) (some : 0 < g) where
     pub length-round : length (roundPoints h g) ≡ h .k / g
     unfolding roundPoints
@@ -185,7 +183,7 @@ module _ (h : Header) (s : Sound h) where
     spread-padded : InRounds (h .n) (shifts h) g → spacedOf g (h .k + 1) (padded 256 (productOf (modulusOf h) (roundPoints h g))) ≡ spacedOf g (h .k + 1) (productOf (modulusOf h) (roundPoints h g))
     unfolding spacedOf
     spread-padded r =
-        let whole : g * r .taken ≡ h .k = r .all-shifts ∙ length-shifts in
+        let whole : g * r .taken ≡ h .k = r .all-shifts ∙ length-shifts h s in
         let count : h .k / g ≡ r .taken = ap (λ (k : ℕ). k / g) (sym whole) ∙ mul-div-right (r .taken) {m = g} some in
         let q = productOf (modulusOf h) (roundPoints h g) in
         from-ext _ _ 0 (h .k + 1)

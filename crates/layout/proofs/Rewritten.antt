@@ -8,7 +8,7 @@ use native.Mathlib.Omega.{arith}
 use borrow.Author.Tests.{lt-ltb, le-ltb}
 use lib.Dec.{ltb}
 use lib.ListN.{length, set, length-set}
-use lib.Seq.{getD-set-same, getD-set-other, set-getD}
+use lib.Seq.{getD-set-same, getD-set-other}
 use Rattle.lists.specs.Choice.{pick}
 use Rattle.layout.specs.Layout.{Arrangement, held, withLane}
 use Rattle.layout.proofs.Lawful.{Lawful}
@@ -78,9 +78,3 @@ module _ {y : Arrangement} (a : Lawful y) (rows l t : ℕ) (g : ℕ → ℕ) (s 
             getD-set-other u (y rows l .place j t) (y rows l .place i q) v 0 (λ z. p (sym (a .lane-of rows l i q hi hq) ∙ ap (y rows l .lane) z ∙ a .lane-of rows l j t row inside))
             ∙ held-kept a rows l t (part j) s i q hi hq p
             ∙ sym (held-kept a rows l t (part (j + 1)) s i q hi hq p)
-
-    -- it holds that already
-    pub rewritten-kept : held y rows l s j t ≡ g j → rewritten y rows l t g s j ≡ rewritten y rows l t g s (j + 1)
-    unfolding held
-    rewritten-kept e =
-        sym (set-getD (rewritten y rows l t g s j) (y rows l .place j t) 0) ∙ rewritten-row _ (rewritten-held ∙ e)

@@ -14,7 +14,7 @@ use Rattle.lists.specs.Numbers.{allBelow}
 use Rattle.lists.proofs.Rows.{length-from, getD-from, row-inside, part-length, getD-part}
 use Rattle.layout.specs.Layout.{Arrangement, byRow, byLane, held, laneOf, buffer, rearranged, someLanes, withLane}
 use Rattle.layout.proofs.Lawful.{Lawful, by-lane}
-use Rattle.layout.proofs.Buffers.{length-lane, getD-lane, length-buffer, held-buffer, lane-buffer, buffer-ext, held-equal, held-below, buffer-below}
+use Rattle.layout.proofs.Buffers.{length-lane, getD-lane, length-buffer, lane-buffer, buffer-ext, held-equal, held-below, buffer-below}
 use Rattle.layout.proofs.OneLane.{length-with-lane, held-changed, held-kept}
 use Rattle.layout.proofs.Places.{held-by-row, held-by-lane}
 
@@ -44,13 +44,6 @@ module _ (rows l : ℕ) (s : List ℕ) (long : length s ≡ rows * l) where
   unfolding rearranged someLanes
   rearranged-part b t c = buffer-ext b rows c _ _ (λ i q row inside. held-part t c i q row inside)
 
-  -- they are the part itself, as they stand
-  pub some-part : (t c : ℕ) → t + c ≤ l → someLanes byLane byLane rows l t c s ≡ take (t * rows + c * rows - t * rows) (drop (t * rows) s)
-  unfolding someLanes
-  some-part t c fits =
-      held-equal by-lane rows c _ _ (length-buffer byLane rows c _) (part-length (t * rows) (c * rows) s (lanes-inside t c fits) ∙ mul-comm c rows)
-      (λ i q row inside. held-buffer by-lane rows c _ i q row inside ∙ sym (held-part t c i q row inside))
-
 -- rows of a tile are the lanes of it turned: one transposition gathers and scatters
 pub turned : (rows l : ℕ) (s : List ℕ) → rearranged byRow byLane l rows s ≡ rearranged byLane byRow rows l s
 unfolding rearranged buffer held byRow byLane
@@ -63,11 +56,6 @@ one-lane rows s i =
     held-by-row rows 1 s i 0 ∙ ap (λ (p : ℕ). getD s p 0) place ∙ sym (held-by-lane rows 1 s i 0)
 
 module _ {y z : Arrangement} (a : Lawful y) (b : Lawful z) (rows l t c : ℕ) (s : List ℕ) where
-  -- what some lanes hold
-  pub held-some : (i q : ℕ) → i < rows → q < c → held z rows c (someLanes y z rows l t c s) i q ≡ held y rows l s i (t + q)
-  unfolding someLanes
-  held-some i q row inside = held-buffer b rows c (λ i q. held y rows l s i (t + q)) i q row inside
-
   pub length-some : length (someLanes y z rows l t c s) ≡ rows * c
   unfolding someLanes
   length-some = length-buffer z rows c (λ i q. held y rows l s i (t + q))

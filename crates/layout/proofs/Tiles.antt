@@ -187,18 +187,6 @@ module _ (w rows l : ℕ) (some : 0 < w) where
         ∙ sym (held-by-row (w * 1) l (tileBytes w 1 l (g i)) (0 * w + v) t ∙ ap (λ (x : ℕ). getD (tileBytes w 1 l (g i)) (x * l + t) 0) first)
         ∙ held-tile-bytes w 1 l (g i) 0 v t (omega arith) hv ht
 
-    -- written so
-    pub tile-rows : rowsFrom (λ i. tileBytes w 1 l (g i)) 0 rows ≡ tileBytes w rows l (rowsFrom g 0 rows)
-    tile-rows =
-        let e : rows * (w * l) ≡ w * rows * l = sym (mul-assoc rows w l) ∙ ap (λ (x : ℕ). x * l) (mul-comm rows w) in
-        held-equal by-row (w * rows) l _ _ (length-rows (λ i. tileBytes w 1 l (g i)) (w * l) bytes-part 0 rows ∙ e) (length-tile-bytes w rows l (rowsFrom g 0 rows))
-        (λ r t hr ht.
-        let (row, byte, at) = row-parts r hr in
-        rw (← at)
-        (bytes-held (r / w) (r % w) t row byte ht
-        ∙ ap (λ (x : ℕ). getD (symbolBytes w x) (r % w) 0) (sym (rows-held (r / w) t row ht))
-        ∙ sym (held-tile-bytes w rows l (rowsFrom g 0 rows) (r / w) (r % w) t row byte ht)))
-
   -- and read so
   module _ (g : ℕ → List ℕ) (long : (i : ℕ) → length (g i) ≡ w * l) where
     pub rows-tile : tileSymbols w rows l (rowsFrom g 0 rows) ≡ rowsFrom (λ i. tileSymbols w 1 l (g i)) 0 rows

@@ -1,9 +1,9 @@
 -- The first number of a stretch that fails a test.
 use mathlib.Core.Path.{_≡_, refl, sym, ap, ap₂, _∙_}
 use mathlib.Core.Logic.{⊎-elim}
-use mathlib.Core.Bool.{Bool, true, false, _&&_, true≢false}
-use Prim.Native.Nat.{ℕ, zero, suc, _+_, _-_, _≤_, _<_, min}
-use native.Mathlib.Nat.{le-refl, eq-or-lt-of-le}
+use mathlib.Core.Bool.{Bool, true, false, true≢false}
+use Prim.Native.Nat.{ℕ, zero, suc, _+_, _-_, _≤_, _<_}
+use native.Mathlib.Nat.{eq-or-lt-of-le}
 use native.Mathlib.Omega.{arith}
 use borrow.Author.Tests.{ltb-true, ltb-false}
 use lib.Dec.{ltb}
@@ -11,12 +11,6 @@ use Rattle.lists.specs.Choice.{pick}
 use Rattle.lists.proofs.Cases.{by-test}
 use Rattle.lists.proofs.Rows.{sub-next, sub-end}
 use Rattle.lists.specs.Search.{firstFalse}
-
--- it lies within the stretch or just after it
-pub search-low : (f t : ℕ) (p : ℕ → Bool) → t ≤ firstFalse f t p
-unfolding firstFalse
-search-low zero t p = le-refl t
-search-low (suc f) t p = by-test (p t) (λ e. rw e (omega (arith, search-low f (t + 1) p))) (λ e. rw e (le-refl t))
 
 pub search-high : (f t : ℕ) (p : ℕ → Bool) → firstFalse f t p ≤ t + f
 unfolding firstFalse
@@ -36,18 +30,6 @@ pub search-none : (f t : ℕ) (p : ℕ → Bool) → ((i : ℕ) → t ≤ i → 
 unfolding firstFalse
 search-none zero t p h = omega arith
 search-none (suc f) t p h = rw (h t (omega arith) (omega arith)) (search-none f (t + 1) p (λ i a b. h i (omega arith) (omega arith)) ∙ omega arith)
-
--- two tests at once: the smaller of the numbers that they find
-pub search-both : (f t : ℕ) (p q : ℕ → Bool) → firstFalse f t (λ i. p i && q i) ≡ min (firstFalse f t p) (firstFalse f t q)
-unfolding firstFalse
-search-both zero t p q = omega arith
-search-both (suc f) t p q = go (p t) (q t) (search-both f (t + 1) p q)
-  where
-    go : (a b : Bool) → firstFalse f (t + 1) (λ i. p i && q i) ≡ min (firstFalse f (t + 1) p) (firstFalse f (t + 1) q) → pick (a && b) (firstFalse f (t + 1) (λ i. p i && q i)) t ≡ min (pick a (firstFalse f (t + 1) p) t) (pick b (firstFalse f (t + 1) q) t)
-    go true true rest = rest
-    go true false rest = omega (arith, search-low f (t + 1) p)
-    go false true rest = omega (arith, search-low f (t + 1) q)
-    go false false rest = omega arith
 
 -- what is left of n numbers at t: the next passes, it fails, or there is none
 module _ (n t : ℕ) (p : ℕ → Bool) where

@@ -15,8 +15,9 @@ use Rattle.generator.specs.declared.Header.{Header}
 use Rattle.generator.specs.Records.{modulusOf, size, Sound}
 use Rattle.generator.specs.Codewords.{checkFrom, isWord}
 use Rattle.generator.proofs.Words.{checks-zero, zero-checks}
+use Rattle.generator.proofs.Bounds.{checkFrom-below}
 use Rattle.refusals.specs.Accepted.{IsLane}
-use Rattle.mends.proofs.Sums.{factor, factor-below, check-below, check-change, sub-zero, zero-sub, sub-back}
+use Rattle.mends.proofs.Sums.{factor, factor-below, check-change, sub-zero, zero-sub, sub-back}
 use Rattle.mends.proofs.Powers.{rootPower, root-back, factor-one, factor-next}
 
 module _ (h : Header) (s : Sound h) where
@@ -38,7 +39,7 @@ module _ (h : Header) (s : Sound h) where
     sumAt e = checkFrom h e 0 ws
 
     pub sum-below : (e : ℕ) → sumAt e < size h
-    sum-below e = check-below h s e 0 ws (lane .symbols)
+    sum-below e = checkFrom-below h s e 0 ws (lane .symbols)
 
     module _ (j : ℕ) (node : j < h .n) where
       abbrev held : ℕ

@@ -15,6 +15,7 @@ use Rattle.field.proofs.Bounds.{power-below}
 use Rattle.generator.specs.declared.Header.{Header}
 use Rattle.generator.specs.Records.{modulusOf, size, Sound}
 use Rattle.generator.specs.Codewords.{checkFrom}
+use Rattle.generator.proofs.Bounds.{checkFrom-below}
 
 module _ (h : Header) (s : Sound h) where
   abbrev p : ℕ
@@ -68,13 +69,6 @@ module _ (h : Header) (s : Sound h) where
   pub factor-below : (e j : ℕ) → factor e j < size h
   factor-below e j = power-below p (s .field) (j * e % h .n) (s .root-below)
 
-  pub check-below : (e j : ℕ) (ws : List ℕ) → allBelow (size h) ws ≡ true → checkFrom h e j ws < size h
-  unfolding checkFrom
-  check-below e j [] low = zero-below laws
-  check-below e j (w ∷ ws) low =
-      let (hw, rest) = below-cons (size h) w ws low in
-      laws .add-below _ _ (laws .mul-below w (factor e j) hw (factor-below e j)) (check-below e (j + 1) ws rest)
-
   -- y taken away from the symbol at place i, that of node j + i, takes y times its factor from check sum e
   pub check-change : (e y : ℕ) → y < size h → (j : ℕ) (ws : List ℕ) → allBelow (size h) ws ≡ true → (i : ℕ) → i < length ws → checkFrom h e j (set ws i (sub p (getD ws i 0) y)) ≡ sub p (checkFrom h e j ws) (mul p y (factor e (j + i)))
   unfolding checkFrom
@@ -84,7 +78,7 @@ module _ (h : Header) (s : Sound h) where
       let f = factor e j in
       let hf = factor-below e j in
       let r = checkFrom h e (j + 1) ws in
-      let hr = check-below e (j + 1) ws rest in
+      let hr = checkFrom-below h s e (j + 1) ws rest in
       ap (λ (x : ℕ). add p x r) (sub-mul w y f hw hy hf)
       ∙ sub-add-right (mul p w f) (mul p y f) r (laws .mul-below w f hw hf) (laws .mul-below y f hy hf) hr
       ∙ ap (λ (x : ℕ). sub p (add p (mul p w f) r) (mul p y (factor e x))) (sym (add-zero j))
@@ -94,5 +88,5 @@ module _ (h : Header) (s : Sound h) where
       let r = checkFrom h e (j + 1) ws in
       let next : j + 1 + i ≡ j + suc i = omega arith in
       ap (add p (mul p w f)) (check-change e y hy (j + 1) ws rest i (omega arith))
-      ∙ add-sub-left (mul p w f) r (mul p y (factor e (j + 1 + i))) (laws .mul-below w f hw (factor-below e j)) (check-below e (j + 1) ws rest) (laws .mul-below y _ hy (factor-below e (j + 1 + i)))
+      ∙ add-sub-left (mul p w f) r (mul p y (factor e (j + 1 + i))) (laws .mul-below w f hw (factor-below e j)) (checkFrom-below h s e (j + 1) ws rest) (laws .mul-below y _ hy (factor-below e (j + 1 + i)))
       ∙ ap (λ (x : ℕ). sub p (add p (mul p w f) r) (mul p y (factor e x))) next

@@ -24,7 +24,7 @@ use Rattle.algebra.specs.Powers.{pow, Order}
 use Rattle.algebra.proofs.Poly.{eval, values, unique}
 use Rattle.algebra.proofs.Powers.{Distinct-pow}
 use Rattle.field.specs.Symbols.{Symbol, numbers}
-use Rattle.field.proofs.Symbols.{symbol-path, residue, numbers-below, length-numbers, getD-numbers}
+use Rattle.field.proofs.Symbols.{symbol-path, residue, length-numbers, getD-numbers}
 use Rattle.field.proofs.FieldOf.{size-pos}
 use Rattle.generator.specs.declared.Header.{Header}
 use Rattle.generator.specs.Records.{modulusOf, size, Sound}
@@ -102,13 +102,6 @@ module _ (h : Header) (s : Sound h) where
         size-is = length-lifted h s cs ∙ lc;
         word = sym at ∙ ap (valuesOf h) (sym (lifted-numbers h s cs bc)) ∙ valuesOf-is h s (lifted h s cs);
       }
-
-  -- and the word of a polynomial
-  pub polynomial-word : (f : List (Symbol (size h))) → length f ≡ h .k → isWord h (numbers (size h) (values F a f (range 0 (h .n)))) ≡ true
-  polynomial-word f l =
-      let us = numbers (size h) (values F a f (range 0 (h .n))) in
-      words-poly h s us (length-numbers (size h) (values F a f (range 0 (h .n))) ∙ length-map (range 0 (h .n)) (value F a f) ∙ length-range 0 (h .n)) (numbers-below (size h) (values F a f (range 0 (h .n)))) .1
-      (numbers (size h) f, length-numbers (size h) f ∙ l, numbers-below (size h) f, valuesOf-is h s f)
 
   pub length-values : (f : List (Symbol (size h))) → length (numbers (size h) (values F a f (range 0 (h .n)))) ≡ h .n
   length-values f = length-numbers (size h) (values F a f (range 0 (h .n))) ∙ length-map (range 0 (h .n)) (value F a f) ∙ length-range 0 (h .n)

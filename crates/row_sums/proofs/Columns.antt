@@ -8,11 +8,9 @@ use lib.ListN.{length}
 use Rattle.lists.specs.Numbers.{allBelow}
 use Rattle.lists.specs.Padded.{zeros, padded}
 use Rattle.lists.specs.Rows.{from}
-use Rattle.lists.proofs.Rows.{from-ext}
-use Rattle.layout.specs.Layout.{Arrangement, byRow, laneOf}
+use Rattle.layout.specs.Layout.{byRow}
 use Rattle.layout.specs.Width.{bytesOf}
 use Rattle.layout.specs.Inner.Tiles.{tileSymbols, tileBytes}
-use Rattle.layout.proofs.Buffers.{length-lane}
 use Rattle.layout.proofs.Tiles.{length-tile-symbols}
 use Rattle.field.specs.Fields.{add, mul}
 use Rattle.field.specs.Inner.Sums.{dot}
@@ -52,10 +50,3 @@ module _ (p : ℕ) (f : ℕ → ℕ) (g : ℕ → List ℕ → ℕ) (none : (r :
   dot-column r n [] rest fits = sym (none r)
   dot-column r zero (m ∷ ms) rest fits = absurd (omega arith)
   dot-column r (suc n) (m ∷ ms) rest fits = ap (add p (mul p m (f r))) (dot-column (r + 1) n ms rest (omega arith)) ∙ sym (more r m ms)
-
-  -- in every lane
-  pub combined-column : (y : Arrangement) (size rows l : ℕ) (s : List ℕ) → combined y p rows l (padded size (from f 0 rows)) s ≡ from (λ t. g 0 (laneOf y rows l t s)) 0 l
-  unfolding combined padded
-  combined-column y size rows l s =
-      from-ext _ (λ t. g 0 (laneOf y rows l t s)) 0 l
-      (λ t low high. dot-column 0 rows (laneOf y rows l t s) (zeros (size - length (from f 0 rows))) (omega (arith, length-lane y rows l t s)))

@@ -1,5 +1,5 @@
 -- Symbols written as a row of high bytes and a row of low bytes, lane after lane.
-use mathlib.Core.Path.{_≡_, refl, sym, ap, ap₂, _∙_}
+use mathlib.Core.Path.{_≡_, sym, ap, ap₂, _∙_}
 use mathlib.Core.List.{List, [], _∷_, _++_}
 use mathlib.Core.Logic.{by-cases}
 use Prim.Native.Nat.{ℕ, suc, _+_, _*_, _/_, _%_, _≤_, _<_}
@@ -14,11 +14,6 @@ use Rattle.lists.proofs.Rows.{getD-from}
 use Rattle.layout.specs.Inner.Tiles.{tileBytes}
 use Rattle.layout.proofs.Tiles.{tile-pair}
 use Rattle.row_sums.specs.Inner.WideSums.{pairsPut}
-
-pub length-pairs : (l t : ℕ) (xs acc : List ℕ) → length (pairsPut l t xs acc) ≡ length acc
-unfolding pairsPut
-length-pairs l t [] acc = refl
-length-pairs l t (x ∷ xs) acc = length-pairs l (t + 1) xs _ ∙ simp length-set
 
 module _ (l : ℕ) (f : ℕ → ℕ) where
   -- the lanes below t hold the symbols that f names

@@ -18,7 +18,7 @@ use Rattle.layout.proofs.Lawful.{by-row}
 use Rattle.layout.proofs.Buffers.{held-below}
 use Rattle.field.specs.Bytes.{timesX}
 use Rattle.field.specs.Inner.Sums.{dot}
-use Rattle.kernel.proofs.Lanes.{lanewise-twice, lanewise-from}
+use Rattle.kernel.proofs.Lanes.{lanewise-twice, lanewise-from, length-lanewise}
 use Rattle.row_sums.specs.Inner.Combined.{combined, Weighted}
 use Rattle.row_sums.specs.Inner.Digits.{rowsWith, rowAt, xorSum, rowsAdded, multiplied}
 use Rattle.row_sums.proofs.Horner.{dot-none, dot-halved}
@@ -88,3 +88,8 @@ module _ (rows l : ℕ) (ws s : List ℕ) where
         (λ t low high.
         ap (dot 0 (from (heldAt t) 0 rows)) (from-ext (highOf 0) (λ i. getD ws i 0) 0 rows (λ i low high. div-one (getD ws i 0)))
         ∙ dot-index (heldAt t) ws rows 0 (omega (arith, a .weights)))
+
+-- a row times x is as long
+pub length-multiplied : (acc : List ℕ) → length (multiplied acc) ≡ length acc
+unfolding multiplied
+length-multiplied acc = length-lanewise _ acc

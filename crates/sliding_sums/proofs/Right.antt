@@ -24,11 +24,12 @@ use Rattle.kernel.specs.Inner.Lanes.{lanewise}
 use Rattle.kernel.proofs.Lanes.{lanewise-ext, getD-lanewise, length-lanewise}
 use Rattle.row_sums.specs.Inner.Combined.{combined}
 use Rattle.row_sums.specs.Inner.Digits.{xorSum, multiplied}
-use Rattle.subset_sums.specs.Inner.Subsets.{subset, tableOf as tableOfRows}
+use Rattle.row_sums.proofs.Turns.{length-multiplied}
+use Rattle.subset_sums.specs.Inner.Subsets.{subset}
 use Rattle.subset_sums.specs.Inner.Lists.{subsetAt, slicesFrom, slicesAdded, turnsOf, Slices, Grouped}
 use Rattle.subset_sums.proofs.Subsets.{subset-ext}
 use Rattle.subset_sums.proofs.Adding.{length-turns}
-use Rattle.subset_sums.proofs.Right.{table-at as rows-at, subset-low, slices-all, output-right}
+use Rattle.subset_sums.proofs.Right.{subset-low, slices-all, output-right}
 use Rattle.sliding_sums.specs.Inner.Windows.{windowSums, Windows}
 use Rattle.sliding_sums.specs.Inner.Tables.{slidingSubset, slidingTable, placeOf, Placed, Slicing, sumAt}
 use Rattle.sliding_sums.proofs.Tables.{table-at}
@@ -60,10 +61,6 @@ dot-turned p v (x ∷ xs) (w ∷ ws) (y ∷ ys) long room below weights same =
     let a = below-cons (sizeOf p) x xs below in
     let b = below-cons (sizeOf p) w ws weights in
     ap₂ (add p) (arithmetic p v .mul-comm x w (a .0) (b .0) ∙ ap (mul p w) (same 0 (omega arith))) (dot-turned p v xs ws ys (omega arith) (omega arith) (a .1) (b .1) (λ i h. same (suc i) (omega arith)))
-
-length-multiplied : (acc : List ℕ) → length (multiplied acc) ≡ length acc
-unfolding multiplied
-length-multiplied acc = length-lanewise _ acc
 
 module _ (groups at : ℕ) (row : List ℕ) (few : groups ≤ 64) (low : at ≤ 192) where
   -- the rows that stand one place apart, from place `at` on

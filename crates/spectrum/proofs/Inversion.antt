@@ -11,12 +11,12 @@ use Rattle.lists.proofs.All.{getD-map}
 use Rattle.lists.proofs.Places.{Places-range, length-range}
 use Rattle.algebra.specs.Field.{Field}
 use Rattle.algebra.specs.Powers.{pow, Order}
-use Rattle.algebra.proofs.Ring.{mul-left-comm, add-mul, mul-zero, zero-mul, zero-add, one-mul}
+use Rattle.algebra.proofs.Ring.{mul-zero, zero-mul, zero-add, one-mul}
 use Rattle.algebra.proofs.Sums.{sum, sum-add, sum-scale, sum-zero}
 use Rattle.algebra.proofs.Combinations.{comb-range}
 use Rattle.algebra.proofs.Poly.{eval, values}
 use Rattle.algebra.proofs.Powers.{pow-add, pow-mul, one-pow, pow-mod, power-sum-zero}
-use Rattle.algebra.proofs.Parity.{check, checks-determine}
+use Rattle.algebra.proofs.Parity.{check, checks-determine, peel}
 
 module _ (F : Field) where
   infixl 70 _⊕_
@@ -32,14 +32,10 @@ module _ (F : Field) where
   abbrev valueSum : Carrier → ℕ → List Carrier → ℕ → Carrier
   valueSum a n f e = sum F n (λ j. eval F f (pow F a j) ⊗ pow F a (j * e))
 
-  -- the lowest coefficient apart
-  peel : (c x v y : Carrier) → (c ⊕ x ⊗ v) ⊗ y ≡ c ⊗ y ⊕ v ⊗ (y ⊗ x)
-  peel c x v y = simp (add-mul F, mul-assoc, mul-comm, mul-left-comm F)
-
   value-step : (a : Carrier) (n : ℕ) (c : Carrier) (f : List Carrier) (e : ℕ) → valueSum a n (c ∷ f) e ≡ c ⊗ sum F n (λ j. pow F a (j * e)) ⊕ valueSum a n f (suc e)
   unfolding eval
   value-step a n c f e =
-      ap (sum F n) (fun-ext (λ j. peel c (pow F a j) (eval F f (pow F a j)) (pow F a (j * e)) ∙ ap (λ y. c ⊗ pow F a (j * e) ⊕ eval F f (pow F a j) ⊗ y) (sym (pow-add F a (j * e) j) ∙ ap (pow F a) (sym (Nat.mul-suc j e)))))
+      ap (sum F n) (fun-ext (λ j. peel F c (pow F a j) (eval F f (pow F a j)) (pow F a (j * e)) ∙ ap (λ y. c ⊗ pow F a (j * e) ⊕ eval F f (pow F a j) ⊗ y) (sym (pow-add F a (j * e) j) ∙ ap (pow F a) (sym (Nat.mul-suc j e)))))
       ∙ sum-add F n (λ j. c ⊗ pow F a (j * e)) (λ j. eval F f (pow F a j) ⊗ pow F a (j * suc e))
       ∙ ap (λ y. y ⊕ valueSum a n f (suc e)) (sum-scale F n c (λ j. pow F a (j * e)))
 

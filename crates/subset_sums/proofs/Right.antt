@@ -18,11 +18,11 @@ use Rattle.lists.proofs.Numbers.{below-take}
 use Rattle.lists.proofs.Rows.{getD-from, length-from, from-ext, row-inside}
 use Rattle.field.specs.Inner.Sums.{dot}
 use Rattle.field.proofs.Xor.{xor-assoc}
-use Rattle.kernel.proofs.Lanes.{lanewise-ext, length-lanewise}
+use Rattle.kernel.proofs.Lanes.{lanewise-ext}
 use Rattle.layout.specs.Layout.{byRow, held, laneOf}
 use Rattle.row_sums.specs.Inner.Combined.{combined, Weighted}
 use Rattle.row_sums.specs.Inner.Digits.{xorSum, rowAt, rowsAdded, multiplied, rowsWith}
-use Rattle.row_sums.proofs.Turns.{sumsOf, length-sums, sums-start, sums-turn, sums-end}
+use Rattle.row_sums.proofs.Turns.{sumsOf, length-sums, sums-start, sums-turn, sums-end, length-multiplied}
 use Rattle.row_sums.proofs.Horner.{sum-front}
 use Rattle.subset_sums.specs.Inner.Subsets.{subsetFrom, subset, tableByte, tableOf}
 use Rattle.subset_sums.specs.Inner.Lists.{subsetAt, slicesFrom, slicesAdded, turnsOf, Slices, Listing, Grouped}
@@ -180,10 +180,6 @@ module _ (rows groups : ℕ) (ws buffer : List ℕ) (a : Grouped rows groups ws 
   unfolding slicesAdded rowsAdded rowAt held byRow
   slices-added d acc long =
       lanewise-ext _ _ acc (λ t inside. ap (bitXor (getD acc t 0)) (slices-rows d t (omega arith)))
-
-  length-multiplied : (acc : List ℕ) → length (multiplied acc) ≡ length acc
-  unfolding multiplied
-  length-multiplied acc = length-lanewise _ acc
 
   module _ (list counts : List ℕ) (l : Listing groups ws list counts) where
     turns-sums : (b d : ℕ) → b + d ≡ 8 → turnsOf b groups (tableOf groups buffer) list counts ≡ sumsOf rows 64 ws used d

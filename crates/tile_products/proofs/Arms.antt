@@ -24,7 +24,7 @@ use Rattle.subset_sums.specs.Inner.Lists.{turnsOf, Slices, Listing, Grouped}
 use Rattle.subset_sums.specs.Inner.Spread.{spreads}
 use Rattle.subset_sums.proofs.Right.{output-right, listing-slices}
 use Rattle.tile_products.specs.Inner.Ratios.{Ratios, Scaled, InScale}
-use Rattle.tile_products.specs.Inner.Products.{groupsOf, Codes, Plain, Prepared, Lists, Loaded, OutputRows}
+use Rattle.tile_products.specs.Inner.Products.{groupsOf, Codes, InFrontOf, Prepared, Lists, Loaded, OutputRows}
 use Rattle.tile_products.proofs.Scaling.{scaled-alone}
 use Rattle.tile_products.proofs.Lanes.{output-front, one-row}
 
@@ -51,12 +51,12 @@ module _ (p : ℕ) (prime : isPrime p ≡ true) where
     lists-one low s =
         record { few = few; below = rw (prime-size p prime) below; long = long; counted = counted; slices = λ e. absurd (omega (arith, two≤prime p prime)); ratios = λ h less. s; plain = λ more. absurd (omega arith) }
 
-    pub lists-two : 256 < p → Plain ws list → Prepared p ws list counts
+    pub lists-two : 256 < p → InFrontOf ws list → Prepared p ws list counts
     lists-two many s =
         record { few = few; below = rw (prime-size p prime) below; long = long; counted = counted; slices = λ e. absurd (omega arith); ratios = λ h less. absurd (omega arith); plain = λ more. s }
 
 -- a list that begins with the weights
-pub plain-list : {ws list : List ℕ} (rest : List ℕ) → list ≡ ws ++ rest → Plain ws list
+pub plain-list : {ws list : List ℕ} (rest : List ℕ) → list ≡ ws ++ rest → InFrontOf ws list
 plain-list {ws} {list} rest e = rw e record { long = omega (arith, length-append ws rest); weights = λ i h. List·getD-append ws rest 0 i h }
 
 module _ (f : PrimeField) (u : usable (Prime f) ≡ true) {rows : ℕ} {list counts : List ℕ} where

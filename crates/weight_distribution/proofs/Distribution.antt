@@ -3,7 +3,7 @@ use mathlib.Core.Path.{_≡_, refl, sym, ap, fun-ext, _∙_}
 use mathlib.Core.Bool.{Bool, not}
 use mathlib.Core.List.{List}
 use Prim.Native.Nat.{ℕ, zero, suc, _+_, _-_, _*_, _^_, _≤_, _<_}
-use native.Mathlib.Nat.{pow-zero, pow-le-pow-right, mul-zero, mul-one}
+use native.Mathlib.Nat.{pow-zero, mul-zero, mul-one}
 use native.Mathlib.Decide.{ℕ-discrete, decLt}
 use native.Mathlib.Omega.{arith}
 use lib.Dec.{eqb, ltb}
@@ -34,12 +34,6 @@ count-messages n k q word w =
 pub count-least : (n k q : ℕ) (word : List ℕ → ℕ → ℕ) (w : ℕ) → weightCount n k q word w ≤ q ^ k
 unfolding weightCount
 count-least n k q word w = count-most (q ^ k) (λ x. eqb (hammingWeight n (word (messageAt k q x))) w)
-
--- no entry of the difference table does
-pub prescribed-most : (n k q : ℕ) → 0 < q → (w y : ℕ) → y ≤ n → prescribed n k q w y ≤ q ^ k
-unfolding prescribed
-prescribed-most n k q h zero y l = pow-le-pow-right h (omega arith)
-prescribed-most n k q h (suc w) y l = omega (arith, prescribed-most n k q h w y l)
 
 -- each word has one weight
 weight-once : (n v : ℕ) → v ≤ n → sumOf (range 0 (n + 1)) (λ w. when (eqb v w) 1) ≡ 1

@@ -21,7 +21,7 @@ use Rattle.generator.specs.Codewords.{nodeOf, encoding, isWord}
 use Rattle.generator.specs.Claims.{isMessage, atNodes}
 use Rattle.generator.proofs.PlainLayout.{first-nodes}
 use Rattle.generator.proofs.Recovery.{some-message}
-use Rattle.generator.proofs.Words.{words-encode}
+use Rattle.generator.proofs.Words.{words-encode, encoding-size}
 use Rattle.node_weights.specs.Inner.Weights.{Rebuilds}
 
 module _ (h : Header) (s : Sound h) (w : ℕ → List ℕ) (gives : (i : ℕ) → i < h .n - h .k → Rebuilds h (range 0 (h .k)) (h .k + i) (w i)) where
@@ -33,14 +33,10 @@ module _ (h : Header) (s : Sound h) (w : ℕ → List ℕ) (gives : (i : ℕ) �
   unfolding encoding
   node-at ms j low = rw zero-add at (getD-from (nodeOf h ms) 0 (h .n) j 0 low)
 
-  length-encoding : (ms : List ℕ) → length (encoding h ms) ≡ h .n
-  unfolding encoding
-  length-encoding ms = length-from (nodeOf h ms) 0 (h .n)
-
   -- the first k nodes of an encoding
   first-held : (ms : List ℕ) → take (h .k) (encoding h ms) ≡ atNodes h ms (range 0 (h .k))
   first-held ms =
-      let fits : h .k ≤ length (encoding h ms) = omega (arith, length-encoding ms, s .fits) in
+      let fits : h .k ≤ length (encoding h ms) = omega (arith, encoding-size h s ms, s .fits) in
       let long : length (take (h .k) (encoding h ms)) ≡ h .k = length-take-le (h .k) (encoding h ms) fits in
       ext-getD 0 (take (h .k) (encoding h ms)) (from (nodeOf h ms) 0 (h .k)) (long ∙ sym (length-from (nodeOf h ms) 0 (h .k)))
       (λ j inside.
@@ -75,4 +71,4 @@ module _ (h : Header) (s : Sound h) (w : ℕ → List ℕ) (gives : (i : ℕ) �
       back : Rebuilt ws → isWord h ws ≡ true
       back r =
           let (ms, m, at) = some-message h s (range 0 (h .k)) (take (h .k) ws) (first-nodes h s) (length-take-le (h .k) ws (omega (arith, long, s .fits))) (below-take (size h) (h .k) ws below) in
-          words-encode h s ws long below .1 (ms, m, same-lane (encoding h ms) ws (length-encoding ms) long (first-held ms ∙ at) (encoding-rebuilt ms m) r)
+          words-encode h s ws long below .1 (ms, m, same-lane (encoding h ms) ws (encoding-size h s ms) long (first-held ms ∙ at) (encoding-rebuilt ms m) r)

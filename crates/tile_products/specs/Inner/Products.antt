@@ -25,7 +25,7 @@ pub record Codes (p : ℕ) (codes : List ℕ) : Type 0 where
   pub ratios : 0 < p → p ≤ 256 → Ratios p codes
 
 -- the weights that a list begins with
-pub record Plain (ws list : List ℕ) : Type 0 where
+pub record InFrontOf (ws list : List ℕ) : Type 0 where
   pub long : length ws ≤ length list
   pub weights : (i : ℕ) → i < length ws → getD list i 0 ≡ getD ws i 0
 
@@ -37,7 +37,7 @@ pub record Prepared (p : ℕ) (ws list counts : List ℕ) : Type 0 where
   pub counted : length counts ≡ 8
   pub slices : p ≡ 0 → Listing (groupsOf (length ws)) ws list counts
   pub ratios : 0 < p → p ≤ 256 → Scaled p ws list
-  pub plain : 256 < p → Plain ws list
+  pub plain : 256 < p → InFrontOf ws list
 
 -- some weights of so many rows have these lists
 pub record Lists (p rows : ℕ) (list counts : List ℕ) : Type 0 where
