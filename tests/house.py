@@ -130,9 +130,14 @@ def cited():
             faults.append(f"{short(path)}: nobody cites {name}")
 
 
-for check in (names_once, steps, said_once, cited):
-    check()
-for fault in faults:
-    print(fault)
-print(f"house: {len(faults)} faults")
-sys.exit(1 if faults else 0)
+def main():
+    for check in (names_once, steps, said_once, cited):
+        check()
+    for fault in faults:
+        print(fault)
+    print(f"house: {len(faults)} faults")
+    sys.exit(1 if faults else 0)
+
+
+if __name__ == "__main__":
+    main()

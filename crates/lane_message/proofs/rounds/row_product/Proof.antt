@@ -7,7 +7,7 @@ use lib.ListN.{length, take}
 use Rattle.lists.proofs.Padding.{take-padded}
 use Rattle.generator.specs.Shifts.{shifts}
 use Rattle.node_weights.proofs.Parts.{row-symbols}
-use Rattle.lane_message.proofs.RowProduct.{length-shifts}
+use Rattle.lane_message.proofs.Points.{length-shifts}
 use Rattle.lane_message.proofs.rounds.row_product.Statement.{statement}
 use Rattle.lane_message.proofs.rounds.row_product.Tie as tie
 
