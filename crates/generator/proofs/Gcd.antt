@@ -1,7 +1,7 @@
 -- Euclid's algorithm computes the greatest common divisor.
 use mathlib.Core.Path.{_≡_, refl, ap}
 use Prim.Native.Nat.{ℕ, zero, suc, _+_, _*_, _/_, _%_, _<_, _∣_}
-use native.Mathlib.Nat.{mod-lt, zero-lt-suc, not-suc-le-zero, dvd-zero, dvd-refl, dvd-mod-iff, dvd-add-iff-right, dvd-mul-left-of-dvd, div-add-mod, pos-of-dvd-of-pos, mul-div-cancel', dvd-of-mul-dvd-mul-left}
+use native.Mathlib.Nat.{mul-one, mod-lt, zero-lt-suc, not-suc-le-zero, dvd-zero, dvd-refl, dvd-mod-iff, dvd-add-iff-right, dvd-mul-left-of-dvd, div-add-mod, pos-of-dvd-of-pos, mul-div-cancel', dvd-of-mul-dvd-mul-left}
 use native.Mathlib.Omega.{arith}
 use lib.Dec.{eqb·suc-zero}
 use borrow.Author.Tests.{eq-eqb, ne-eqb}
