@@ -25,7 +25,7 @@ use Rattle.kernel.proofs.Lanes.{lanewise-ext, getD-lanewise, length-lanewise}
 use Rattle.row_sums.specs.Inner.Combined.{combined}
 use Rattle.row_sums.specs.Inner.Digits.{xorSum, multiplied}
 use Rattle.row_sums.proofs.Turns.{length-multiplied}
-use Rattle.subset_sums.specs.Inner.Subsets.{subset}
+use Rattle.subset_sums.specs.Inner.Subsets.{subset, tableOf as tableOfRows}
 use Rattle.subset_sums.specs.Inner.Lists.{subsetAt, slicesFrom, slicesAdded, turnsOf, Slices, Grouped}
 use Rattle.subset_sums.proofs.Subsets.{subset-ext}
 use Rattle.subset_sums.proofs.Adding.{length-turns}

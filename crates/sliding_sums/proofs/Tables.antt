@@ -27,12 +27,12 @@ table-at row v t low inside =
     rw zero-add at (getD-from (slidingByte row) 0 8192 (v * 512 + t) 0 (omega arith)) ∙ rw (part, place)
 
 -- and the part of the table that subset v has
-pub table-part : (row : List ℕ) (v p : ℕ) → p < 512 → getD (from (sumFrom row v) 0 512) p 0 ≡ slidingByte row (v * 512 + p)
+pub table-part : (row : List ℕ) (v p : ℕ) → p < 512 → getD (from (slidingSubset row v) 0 512) p 0 ≡ slidingByte row (v * 512 + p)
 unfolding slidingByte
 table-part row v p inside =
     let part : (v * 512 + p) / 512 ≡ v = omega arith in
     let place : (v * 512 + p) % 512 ≡ p = omega arith in
-    rw zero-add at (getD-from (sumFrom row v) 0 512 p 0 inside) ∙ rw (part, place)
+    rw zero-add at (getD-from (slidingSubset row v) 0 512 p 0 inside) ∙ rw (part, place)
 
 -- a sum for each place
 pub length-windows : (p : ℕ) (ws row : List ℕ) (l : ℕ) → length (windowSums p ws row l) ≡ l
