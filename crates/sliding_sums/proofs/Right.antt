@@ -29,7 +29,7 @@ use Rattle.subset_sums.specs.Inner.Subsets.{subset, tableOf as tableOfRows}
 use Rattle.subset_sums.specs.Inner.Lists.{subsetAt, slicesFrom, slicesAdded, turnsOf, Slices, Grouped}
 use Rattle.subset_sums.proofs.Subsets.{subset-ext}
 use Rattle.subset_sums.proofs.Adding.{length-turns}
-use Rattle.subset_sums.proofs.Right.{subset-low, slices-all, output-right}
+use Rattle.subset_sums.proofs.Right.{table-at as rows-at, subset-low, slices-all, output-right}
 use Rattle.sliding_sums.specs.Inner.Windows.{windowSums, Windows}
 use Rattle.sliding_sums.specs.Inner.Tables.{slidingSubset, slidingTable, placeOf, Placed, Slicing, sumAt}
 use Rattle.sliding_sums.proofs.Tables.{table-at}
