@@ -11,11 +11,11 @@ use Rattle.lists.specs.Numbers.{allBelow}
 use Rattle.lists.proofs.All.{All-at}
 use Rattle.lists.proofs.Rows.{from-ext, length-from, getD-from}
 use Rattle.layout.specs.Layout.{byRow, held, laneOf, buffer, shareLayout}
-use Rattle.layout.specs.Width.{bytesOf}
+use Rattle.layout.specs.Width.{symbolBytes, bytesOf}
 use Rattle.layout.proofs.Buffers.{length-buffer, length-lane, getD-lane, held-buffer, held-equal, buffer-ext, lanes-equal}
-use Rattle.layout.proofs.Places.{share-lawful, held-share, held-by-row}
-use Rattle.layout.proofs.Readings.{bytes-symbols}
-use Rattle.layout.proofs.Widths.{symbols-bytes}
+use Rattle.layout.proofs.Places.{share-lawful, place-share, held-share, held-by-row}
+use Rattle.layout.proofs.Readings.{count-symbols, bytes-symbols, getD-bytes}
+use Rattle.layout.proofs.Widths.{length-bytes, symbols-bytes}
 use Rattle.generator.specs.declared.Header.{Header}
 use Rattle.generator.specs.Records.{headerOf, width, Sound}
 use Rattle.generator.specs.Codewords.{encoding}
@@ -39,6 +39,7 @@ use Rattle.blocks.proofs.Messages.{lane-message, gathered-message}
 use Rattle.blocks.proofs.OneSymbol.{updated-shares}
 use Rattle.blocks.proofs.Recovered.{recovered-only}
 use Rattle.blocks.proofs.Shares.{length-shares, lane-encodes}
+use Rattle.rearrange.specs.Lanes.{Full}
 use Rattle.correct.specs.declared.Correction.the-variants as C
 use Rattle.correct.specs.Blocks.{correctedShares, correctedBytes}
 use Rattle.correct.specs.Promises.{correctFault, CorrectSays}
@@ -66,17 +67,28 @@ encoded rec l message out shares says =
     let written : shares ≡ bytesOf (width h) (sharesOf shareLayout h l (read h message)) = rw none at (says .promise .written) in
     record { sound = sound; buffer-is = rows; written = written; shares-are = read-written h shares _ written }
 
--- the symbols that are cut out
+-- what is cut out: how long it is, its symbols, and its bytes
+cut-long : (h : Header) (l : ℕ) (nodes shares : List ℕ) → length (cutOf h l nodes shares) ≡ length nodes * l * width h
+unfolding cutOf
+cut-long h l nodes shares = length-bytes (width h) _ ∙ ap (λ (x : ℕ). x * width h) (length-buffer shareLayout (length nodes) l _)
+
 cut-symbols : (h : Header) (l : ℕ) (nodes shares : List ℕ) → read h (cutOf h l nodes shares) ≡ buffer shareLayout (length nodes) l (λ i t. held shareLayout (h .n) l (read h shares) (getD nodes i 0) t)
 unfolding cutOf
 cut-symbols h l nodes shares = symbols-bytes (width h) _ (width-some h)
 
-cut : (h : Header) (l : ℕ) (nodes shares : List ℕ) (i t : ℕ) → i < length nodes → t < l → getD (read h (cutOf h l nodes shares)) (t * length nodes + i) 0 ≡ getD (read h shares) (t * h .n + getD nodes i 0) 0
-cut h l nodes shares i t place inside =
-    ap (λ (s : List ℕ). getD s (t * length nodes + i) 0) (cut-symbols h l nodes shares)
-    ∙ sym (held-share (length nodes) l _ i t)
-    ∙ held-buffer share-lawful (length nodes) l (λ i t. held shareLayout (h .n) l (read h shares) (getD nodes i 0) t) i t place inside
-    ∙ held-share (h .n) l (read h shares) (getD nodes i 0) t
+place-inside : (rows l i t : ℕ) → i < rows → t < l → t * rows + i < rows * l
+place-inside rows l i t row inside = rw (place-share rows l i t) at (share-lawful .inside rows l i t row inside)
+
+cut : (h : Header) (l : ℕ) (nodes shares : List ℕ) → Full h (h .n) l shares → allBelow 256 shares ≡ true → (i t v : ℕ) → i < length nodes → getD nodes i 0 < h .n → t < l → v < width h → getD (cutOf h l nodes shares) ((t * length nodes + i) * width h + v) 0 ≡ getD shares ((t * h .n + getD nodes i 0) * width h + v) 0
+unfolding cutOf
+cut h l nodes shares full bytes i t v place node inside low =
+    let w = width h in
+    let f : ℕ → ℕ → ℕ = λ i t. held shareLayout (h .n) l (read h shares) (getD nodes i 0) t in
+    let xs = buffer shareLayout (length nodes) l f in
+    getD-bytes w xs (t * length nodes + i) v (rw (length-buffer shareLayout (length nodes) l f) (place-inside (length nodes) l i t place inside)) low
+    ∙ ap (λ (x : ℕ). getD (symbolBytes w x) v 0) (sym (held-share (length nodes) l xs i t) ∙ held-buffer share-lawful (length nodes) l f i t place inside ∙ held-share (h .n) l (read h shares) (getD nodes i 0) t)
+    ∙ sym (getD-bytes w (read h shares) (t * h .n + getD nodes i 0) v (rw (count-symbols w (h .n * l) shares (width-some h) full) (place-inside (h .n) l (getD nodes i 0) t node inside)) low)
+    ∙ ap (λ (s : List ℕ). getD s ((t * h .n + getD nodes i 0) * w + v) 0) (bytes-symbols w (h .n * l) shares (width-some h) full bytes)
 
 -- a buffer of one row is that row
 one-row : (l : ℕ) (f : ℕ → ℕ → ℕ) → buffer shareLayout 1 l f ≡ from (f 0) 0 l
@@ -209,6 +221,7 @@ module _ (rec : List ℕ) (l : ℕ) (message out shares : List ℕ) (says : Enco
 pub round-trips : RoundTrips
 round-trips =
     record {
+      cut-long = cut-long;
       cut = cut;
       recover = λ rec l message out shares nodes back back′ bytes says. recover rec l message out shares says nodes back back′ bytes;
       rebuild = λ rec l message out shares nodes target back back′ says. rebuild rec l message out shares says nodes target back back′;

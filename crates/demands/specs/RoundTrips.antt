@@ -13,6 +13,7 @@ use Rattle.generator.specs.Records.{headerOf, width}
 use Rattle.blocks.specs.declared.Outcome.the-variants as O
 use Rattle.blocks.specs.declared.Update.the-variants as U
 use Rattle.blocks.specs.Promises.{EncodeSays, UpdateSays, RecoverSays, RebuildSays}
+use Rattle.rearrange.specs.Lanes.{Full}
 use Rattle.correct.specs.declared.Correction.the-variants as C
 use Rattle.correct.specs.Promises.{CorrectSays}
 use Rattle.correct.specs.Meaning.{laneIn}
@@ -31,8 +32,11 @@ abbrev pub FewWrong : Header → ℕ → List ℕ → List ℕ → Type 0
 FewWrong h l shares wrong = (t : ℕ) → t < l → differ (laneIn h l wrong t) (laneIn h l shares t) ≤ (h .n - h .k) / 2
 
 pub record RoundTrips : Type 0 where
-  -- the symbol of the node at place i of a list of k nodes stands at t·k + i of what is cut out, and at t·n + that node of the shares
-  pub cut : (h : Header) (l : ℕ) (nodes shares : List ℕ) (i t : ℕ) → i < length nodes → t < l → getD (read h (cutOf h l nodes shares)) (t * length nodes + i) 0 ≡ getD (read h shares) (t * h .n + getD nodes i 0) 0
+  -- what is cut out has each listed node's symbol of each lane ..
+  pub cut-long : (h : Header) (l : ℕ) (nodes shares : List ℕ) → length (cutOf h l nodes shares) ≡ length nodes * l * width h
+  -- .. and byte by byte, that of the node at place i of k stands in lane t at t·k + i, as it stands at t·n + the node in the shares
+  pub cut : (h : Header) (l : ℕ) (nodes shares : List ℕ) → Full h (h .n) l shares → allBelow 256 shares ≡ true → (i t v : ℕ) → i < length nodes → getD nodes i 0 < h .n → t < l → v < width h
+      → getD (cutOf h l nodes shares) ((t * length nodes + i) * width h + v) 0 ≡ getD shares ((t * h .n + getD nodes i 0) * width h + v) 0
   -- Recover from listed nodes' symbols of what Encode wrote: the bytes that were encoded
   pub recover : (rec : List ℕ) (l : ℕ) (message out shares nodes back back′ : List ℕ) → allBelow 256 message ≡ true
       → EncodeSays rec l message out shares O.Done → RecoverSays rec l nodes (cutOf (headerOf rec) l nodes shares) back back′ O.Done
