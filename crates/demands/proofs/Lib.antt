@@ -6,3 +6,8 @@ pub mod Demands
 pub mod Rosters
 pub mod Findings
 pub mod Mending
+pub mod Judging
+pub mod Conditions
+pub mod RecordNumbers
+pub mod Numbers
+pub mod Refusals

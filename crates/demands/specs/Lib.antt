@@ -6,3 +6,6 @@ pub mod Demands
 pub mod Rosters
 pub mod Findings
 pub mod Mending
+pub mod Judging
+pub mod Numbers
+pub mod Refusals
