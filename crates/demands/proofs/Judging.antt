@@ -2,7 +2,7 @@
 use mathlib.Core.Path.{_≡_, refl, sym, subst, _∙_}
 use mathlib.Core.Logic.{_↔_, _⊎_, inl, inr, ⊎-elim, by-cases}
 use mathlib.Core.Bool.{Bool, true, false, _&&_, true≢false}
-use mathlib.Core.List.{List, [], _∷_, _++_}
+use mathlib.Core.List.{[], _∷_, _++_}
 use Prim.Native.Nat.{ℕ, zero, suc, _≤_, _<_}
 use native.Mathlib.Decide.{ℕ-discrete}
 use native.Mathlib.Omega.{arith}
@@ -102,8 +102,8 @@ told {table = table} {number = number} tells f = (
 )
 
 -- a call that gives this number
-pub judged : {table : Table} {gives : ℕ → Type 0} {kept : Type 0} (number : ℕ) → Tells table number → ((f : ℕ) → gives f ↔ ((number ≡ f) × (f ≡ 0 → ⊥))) → ((number ≡ 0 → ⊥) → kept) → Judged table gives kept
-judged {table = table} number tells means kept =
+pub call-judged : {table : Table} {gives : ℕ → Type 0} {kept : Type 0} (number : ℕ) → Tells table number → ((f : ℕ) → gives f ↔ ((number ≡ f) × (f ≡ 0 → ⊥))) → ((number ≡ 0 → ⊥) → kept) → Judged table gives kept
+call-judged {table = table} number tells means kept =
     record {
       number = λ f. (λ g. told tells f .0 (means f .0 g), λ m. means f .1 (told tells f .1 m));
       accepted = (

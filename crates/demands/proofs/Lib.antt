@@ -11,3 +11,4 @@ pub mod Conditions
 pub mod RecordNumbers
 pub mod Numbers
 pub mod Refusals
+pub mod RosterRefusals

@@ -1,6 +1,6 @@
 -- The numbers of each call: what turns it away is the lowest number of its table that is met.
 use mathlib.Core.Path.{_≡_, refl, ap}
-use mathlib.Core.Logic.{_↔_, _≢_, _⊎_}
+use mathlib.Core.Logic.{_↔_, _≢_}
 use mathlib.Core.Bool.{true, false, not}
 use mathlib.Core.List.{List, _++_}
 use Prim.Native.Nat.{ℕ, _+_, _*_, _^_, _≤_, _<_}
@@ -29,7 +29,7 @@ use Rattle.demands.specs.Judging.{Table}
 use Rattle.demands.specs.Numbers.{SomeFrom, SomeTwice, recordNumbers, OtherLanes, OtherSymbols, encodeNumbers, givenNumbers, staleNumbers, updateNumbers, recoverNumbers, rebuildNumbers, belongsNumbers, correctNumbers, rearrangeNumbers, findNumbers, mendsNumbers, weightsNumbers}
 use Rattle.demands.proofs.Judging.{Tells, allFrom, line, last, then}
 use Rattle.demands.proofs.Conditions.{equal-test, other-test, less-test, most-test, or-test, some-from, some-twice}
-use Rattle.demands.proofs.RecordNumbers.{record-tells}
+use Rattle.demands.proofs.RecordNumbers.{after-record}
 use Rattle.demands.proofs.Updates.{stale-tells}
 
 -- the tests of the numbers that several calls share
@@ -69,7 +69,7 @@ module _ (h : Header) where
 -- a call's own numbers after the record's
 pub own-after : (rec : List ℕ) (own : Table) (call : Header → ℕ) → allFrom 5 own ≡ true → (recordFault rec ≡ 0 → Tells own (call (headerOf rec))) → Tells (recordNumbers rec ++ own) (faultOf rec call)
 unfolding faultOf
-own-after rec own call low tells = then 5 (recordNumbers rec) own refl low (record-tells rec) tells
+own-after rec own call low tells = after-record rec own low tells
 
 module _ (h : Header) (l : ℕ) where
   pub encode-tells : (message : List ℕ) (out : ℕ) → Tells (encodeNumbers h l message out) (encodeFault h l out message)

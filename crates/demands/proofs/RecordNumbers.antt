@@ -1,20 +1,20 @@
 -- Numbers 1 to 5: the record's number is the lowest that is met.
 use mathlib.Core.Path.{_≡_, refl, sym, ap, _∙_}
 use mathlib.Core.Logic.{_↔_, _≢_, _⊎_, inl, inr, ⊎-elim}
-use mathlib.Core.Bool.{Bool, true, false, _&&_, _||_, not, true≢false}
-use mathlib.Core.List.{List}
-use Prim.Native.Nat.{ℕ, zero, suc, _+_, _*_, _/_, _%_, _≤_, _<_}
+use mathlib.Core.Bool.{true, false, _&&_, _||_, not, true≢false}
+use mathlib.Core.List.{List, _++_}
+use Prim.Native.Nat.{ℕ, zero, suc, _+_, _*_, _/_, _≤_, _<_}
 use native.Mathlib.Nat.{div-self}
 use native.Mathlib.Numerals.{add-one}
 use native.Mathlib.Omega.{arith}
 use borrow.Author.Tests.{eqb-true, eqb-false, eq-eqb, ltb-true, lt-ltb}
 use lib.Dec.{eqb, ltb, leb}
 use lib.ListN.{length, getD}
-use Rattle.lists.specs.Choice.{pick, firstOf, when}
+use Rattle.lists.specs.Choice.{firstOf}
 use Rattle.lists.proofs.Cases.{by-test, and-left, and-right, both-true, or-right-false}
 use Rattle.field.specs.Primes.{isPrime}
-use Rattle.field.specs.Fields.{isField, sizeOf, mul, power, orderFrom, orderOf}
-use Rattle.field.proofs.Primes.{two≤prime, prime-no-divisor, trial}
+use Rattle.field.specs.Fields.{isField, mul, power, orderFrom, orderOf}
+use Rattle.field.proofs.Primes.{prime-no-divisor, trial}
 use Rattle.field.proofs.BothKinds.{arithmetic}
 use Rattle.field.proofs.KindLaws.{usable-field}
 use Rattle.field.specs.Symbols.{Symbol}
@@ -26,7 +26,8 @@ use Rattle.generator.specs.Records.{headerOf, modulusOf, size, pairAt, kindBad,
 use Rattle.generator.proofs.Accepts.{field-usable}
 use Rattle.generator.proofs.Faults.{sizes}
 use Rattle.demands.specs.Numbers.{PrimeFrom, HasOrder, kind, recordNumbers}
-use Rattle.demands.proofs.Judging.{Tells, line, last}
+use Rattle.demands.specs.Judging.{Table}
+use Rattle.demands.proofs.Judging.{Tells, allFrom, line, last, then}
 use Rattle.demands.proofs.Conditions.{equal-test, other-test, less-test, most-test, not-test, or-test, and-test}
 
 -- three numbers that a number is none of
@@ -166,3 +167,7 @@ module _ (rec : List ℕ) where
       (λ two. line 2 (fieldBad rec) refl field-means
       (λ three. line 3 (sizeBad h) refl size-means
       (λ four. last 4 (rootBad h) (root-means three four)))))
+
+-- the numbers of a call after those of its record
+pub after-record : (rec : List ℕ) (own : Table) {number : ℕ} → allFrom 5 own ≡ true → (recordFault rec ≡ 0 → Tells own number) → Tells (recordNumbers rec ++ own) (firstOf (recordFault rec) number)
+after-record rec own low tells = then 5 (recordNumbers rec) own refl low (record-tells rec) tells

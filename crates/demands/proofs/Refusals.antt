@@ -1,14 +1,13 @@
 -- Demand 1, from what each call promises.
-use mathlib.Core.Path.{_≡_, refl, sym, ap, _∙_}
-use mathlib.Core.Logic.{_↔_}
+use mathlib.Core.Path.{_≡_, refl}
 use mathlib.Core.List.{List, _++_}
 use Prim.Native.Nat.{ℕ, zero, suc}
 use native.Mathlib.Omega.{arith}
 use borrow.Author.Tests.{ne-eqb}
 use lib.ListN.{length}
-use Rattle.layout.specs.Layout.{Arrangement, byRow, byLane, shareLayout}
+use Rattle.layout.specs.Layout.{Arrangement, shareLayout}
 use Rattle.generator.specs.declared.Header.{Header}
-use Rattle.generator.specs.Records.{headerOf, recordFault}
+use Rattle.generator.specs.Records.{headerOf}
 use Rattle.generator.proofs.Accepts.{faultless-sound}
 use Rattle.refusals.specs.Faults.{encodeFault, updateFault, recoverFault, rebuildFault, belongsFault, rearrangeFault, faultOf}
 use Rattle.blocks.specs.declared.Outcome.{Outcome}
@@ -17,7 +16,7 @@ use Rattle.blocks.specs.declared.Update.{Update}
 use Rattle.blocks.specs.declared.Update.the-variants as U
 use Rattle.blocks.specs.declared.Membership.{Membership}
 use Rattle.blocks.specs.declared.Membership.the-variants as M
-use Rattle.blocks.specs.Answers.{outcomeOf, updateOf, membershipOf}
+use Rattle.blocks.specs.Answers.{outcomeOf, membershipOf}
 use Rattle.blocks.specs.Promises.{EncodeSays, UpdateSays, RecoverSays, RebuildSays, BelongsSays}
 use Rattle.blocks.proofs.Answered.{never, refused-means, refusal-means}
 use Rattle.blocks.proofs.Refused.{outcome-refused, update-refused}
@@ -39,7 +38,7 @@ use Rattle.weight_counts.specs.Weights.{weightsFault, WeightsSay}
 use Rattle.demands.specs.Judging.{Table, Judged}
 use Rattle.demands.specs.Numbers.{recordNumbers, encodeNumbers, updateNumbers, recoverNumbers, rebuildNumbers, belongsNumbers, correctNumbers, rearrangeNumbers, findNumbers, mendsNumbers, weightsNumbers}
 use Rattle.demands.specs.Refusals.{Refusals}
-use Rattle.demands.proofs.Judging.{Tells, judged, by-answer}
+use Rattle.demands.proofs.Judging.{Tells, call-judged, by-answer}
 use Rattle.demands.proofs.Numbers.{own-after, encode-tells, update-tells, recover-tells, rebuild-tells, belongs-tells, correct-tells, rearrange-tells, find-tells, mends-tells, weights-tells}
 
 -- the number of each kind of answer
@@ -60,7 +59,7 @@ mending-refused (suc f) count some = refl
 
 -- a call that answers with an outcome
 by-outcome : {table : Table} {kept : Type 0} {number : ℕ} {r : Outcome} → Tells table number → r ≡ outcomeOf number → ((number ≡ 0 → ⊥) → kept) → Judged table (λ f. r ≡ O.Refused f) kept
-by-outcome {number = number} tells answer kept = judged number tells (by-answer O.Refused answer (outcome-means number) (outcome-refused number)) kept
+by-outcome {number = number} tells answer kept = call-judged number tells (by-answer O.Refused answer (outcome-means number) (outcome-refused number)) kept
 
 module _ (rec : List ℕ) where
   abbrev h : Header
@@ -75,7 +74,7 @@ module _ (rec : List ℕ) where
     update : (r t old new : ℕ) (shares shares′ : List ℕ) (a : Update) → UpdateSays rec l r t old new shares shares′ a → Judged (recordNumbers rec ++ updateNumbers h l r t old new shares) (λ f. a ≡ U.Refused f) (shares′ ≡ shares)
     update r t old new shares shares′ a says =
         let number = faultOf rec (λ h. updateFault shareLayout h l r t old new shares) in
-        judged number (own-after rec _ (λ h. updateFault shareLayout h l r t old new shares) refl (λ none. update-tells h (faultless-sound rec none) l r t old new shares))
+        call-judged number (own-after rec _ (λ h. updateFault shareLayout h l r t old new shares) refl (λ none. update-tells h (faultless-sound rec none) l r t old new shares))
         (by-answer U.Refused (says .promise .answer) (refused-means number _) (update-refused number _))
         (λ some. rw (ne-eqb number 0 some) at (says .promise .written))
 
@@ -94,14 +93,14 @@ module _ (rec : List ℕ) where
       belongs : (r : Membership) → BelongsSays rec l shares r → Judged (recordNumbers rec ++ belongsNumbers h l shares) (λ f. r ≡ M.Refused f) (Unit {0})
       belongs r says =
           let number = faultOf rec (λ h. belongsFault h l shares) in
-          judged number (own-after rec _ (λ h. belongsFault h l shares) refl (λ none. belongs-tells h l shares))
+          call-judged number (own-after rec _ (λ h. belongsFault h l shares) refl (λ none. belongs-tells h l shares))
           (by-answer M.Refused (says .promise .answer) (refusal-means number l _) (membership-refused number l _))
           (λ some. tt)
 
       correct : (shares′ : List ℕ) (r : Correction) → CorrectSays rec l shares shares′ r → Judged (recordNumbers rec ++ correctNumbers h l shares) (λ f. r ≡ C.Refused f) (shares′ ≡ shares)
       correct shares′ r says =
           let number = faultOf rec (λ h. correctFault shareLayout h l shares) in
-          judged number (own-after rec _ (λ h. correctFault shareLayout h l shares) refl (λ none. correct-tells h (faultless-sound rec none) l shares))
+          call-judged number (own-after rec _ (λ h. correctFault shareLayout h l shares) refl (λ none. correct-tells h (faultless-sound rec none) l shares))
           (by-answer C.Refused (says .promise .answer) (A.refused-means number _) (A.means-refused number _))
           (λ some. rw (ne-eqb number 0 some) at (says .promise .written))
 
@@ -113,7 +112,7 @@ module _ (rec : List ℕ) where
   find : (before after : List ℕ) (r : Finding) → FindSays rec before after r → Judged (recordNumbers rec ++ findNumbers h before after) (λ f. r ≡ F.Refused f) (Unit {0})
   find before after r says =
       let number = faultOf rec (λ h. findFault h before after) in
-      judged number (own-after rec _ (λ h. findFault h before after) refl (λ none. find-tells h before after))
+      call-judged number (own-after rec _ (λ h. findFault h before after) refl (λ none. find-tells h before after))
       (by-answer F.Refused (says .found .promise .answer) (λ f. FA.refused-means number _ f (not-refused h _ _)) (FA.answer-refused number _))
       (λ some. tt)
 
@@ -121,7 +120,7 @@ module _ (rec : List ℕ) where
   mends lane nodes symbols nodes′ symbols′ r says =
       let number = faultOf rec (λ h. mendsFault h lane (length nodes) (length symbols)) in
       let promise = says .listed .promise in
-      judged number (own-after rec _ (λ h. mendsFault h lane (length nodes) (length symbols)) refl (λ none. mends-tells h lane (length nodes) (length symbols)))
+      call-judged number (own-after rec _ (λ h. mendsFault h lane (length nodes) (length symbols)) refl (λ none. mends-tells h lane (length nodes) (length symbols)))
       (by-answer N.Refused (promise .answer) (refused-number number _) (mending-refused number _))
       (λ some. (rw (ne-eqb number 0 some) at (promise .nodes-written), rw (ne-eqb number 0 some) at (promise .symbols-written)))
 

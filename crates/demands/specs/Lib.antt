@@ -9,3 +9,4 @@ pub mod Mending
 pub mod Judging
 pub mod Numbers
 pub mod Refusals
+pub mod RosterRefusals

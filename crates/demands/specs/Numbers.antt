@@ -11,7 +11,6 @@ use Rattle.generator.specs.Records.{headerOf, modulusOf, size, width}
 use Rattle.generator.specs.Codewords.{encoding}
 use Rattle.generator.specs.Claims.{isMessage, Codeword}
 use Rattle.correct.specs.Meaning.{NearWord, laneIn}
-use Rattle.roster.specs.Events.{Event, leaves, returns, named}
 use Rattle.demands.specs.Judging.{Table}
 use Rattle.demands.specs.Calls.{read}
 
@@ -155,7 +154,3 @@ mendsNumbers h lane nodes symbols =
 -- weight_counts: more than 65,536 messages
 abbrev pub weightsNumbers : Header → ℕ → Table
 weightsNumbers h out = (8, out ≢ h .n + 1) ∷ (16, 65536 < size h ^ h .k) ∷ []
-
--- a roster's query and job
-abbrev pub listNumbers : Header → ℕ → Table
-listNumbers h list = (8, list ≢ h .k) ∷ []

@@ -3,10 +3,7 @@ use mathlib.Core.Path.{_≡_}
 use mathlib.Core.List.{List, _++_}
 use Prim.Native.Nat.{ℕ}
 use lib.ListN.{length}
-use Rattle.layout.specs.Layout.{byRow, byLane}
-use Rattle.generator.specs.Records.{headerOf, recordOf}
-use Rattle.plan.specs.declared.Plan.{Plan}
-use Rattle.plan.specs.Plans.{PlanSays}
+use Rattle.generator.specs.Records.{headerOf}
 use Rattle.blocks.specs.declared.Outcome.{Outcome}
 use Rattle.blocks.specs.declared.Outcome.the-variants as O
 use Rattle.blocks.specs.declared.Update.{Update}
@@ -25,7 +22,7 @@ use Rattle.mends.specs.declared.Mending.{Mending}
 use Rattle.mends.specs.declared.Mending.the-variants as N
 use Rattle.mends.specs.Promise.{MendsSay}
 use Rattle.weight_counts.specs.Weights.{WeightsSay}
-use Rattle.demands.specs.Judging.{Table, Judged}
+use Rattle.demands.specs.Judging.{Judged}
 use Rattle.demands.specs.Numbers.{recordNumbers, encodeNumbers, updateNumbers, recoverNumbers, rebuildNumbers, belongsNumbers, correctNumbers, rearrangeNumbers, findNumbers, mendsNumbers, weightsNumbers}
 
 pub record Refusals : Type 0 where

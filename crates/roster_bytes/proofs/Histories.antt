@@ -1,44 +1,31 @@
 -- Calls one after the other on the bytes of a roster are the same calls on the roster that they hold.
 use mathlib.Core.Path.{_≡_, refl, sym, ap, ap₂, subst, _∙_}
-use mathlib.Core.Bool.{Bool, true, false, _&&_, not, true≢false}
+use mathlib.Core.Bool.{Bool, true, false, _&&_, true≢false}
 use mathlib.Core.List.{List, [], _∷_, _++_}
-use Prim.Native.Nat.{ℕ, zero, suc, _+_, _-_, _*_, _/_, _≤_, _<_}
+use Prim.Native.Nat.{ℕ, suc}
 use native.Mathlib.Nat.{zero-add}
 use native.Mathlib.Omega.{arith}
-use borrow.Author.Tests.{eq-eqb, ne-eqb, eqb-true, not-true, lt-ltb}
-use lib.Dec.{eqb, ltb, leb}
-use lib.ListN.{length, getD, take, length-append, List·getD-append}
-use Rattle.lists.specs.Choice.{pick, firstOf, when}
-use Rattle.lists.specs.Rows.{from}
-use Rattle.lists.specs.Around.{around}
-use Rattle.lists.specs.Counting.{passingFrom, occurrences}
+use borrow.Author.Tests.{eq-eqb, eqb-true}
+use lib.Dec.{eqb}
+use lib.ListN.{length, length-append}
+use Rattle.lists.specs.Choice.{pick, when}
 use Rattle.lists.proofs.Cases.{by-test, not-both}
-use Rattle.lists.proofs.Passing.{passing-ext}
-use Rattle.lists.proofs.Rows.{getD-from}
-use Rattle.generator.specs.declared.Header.{Header}
 use Rattle.generator.specs.declared.Record.{Record}
 use Rattle.generator.specs.declared.Record.the-variants.{Holds, Meets}
-use Rattle.generator.specs.Records.{headerOf, recordFault, recordOf, judged, Sound}
-use Rattle.generator.proofs.Accepts.{faultless-sound}
+use Rattle.generator.specs.Records.{recordOf}
 use Rattle.roster.specs.declared.Roster.{Roster}
-use Rattle.roster.specs.declared.Listing.{Listing}
-use Rattle.roster.specs.declared.Listing.the-variants.{Written, TooFew, Refused}
 use Rattle.roster.specs.Events.{Event}
-use Rattle.roster.specs.Rosters.{isPresent, presentOf, startOf, stepOf, wrote, listingNumber, lowestOf, lowestList, jobOf, jobList}
-use Rattle.roster.specs.Histories.{afterEvents, lastSays, presentBy}
-use Rattle.roster.specs.Runs.{Call, event, job, eventsIn, next, afterCalls, isRead, readBy, readsOf, jobsIn, Quiet}
-use Rattle.roster.specs.Claims.{Kept, Turns, IsIn, presentCount, RosterSays}
-use Rattle.roster.proofs.Claims.{roster-says}
+use Rattle.roster.specs.Rosters.{stepOf, wrote, jobOf, jobList}
+use Rattle.roster.specs.Runs.{Call, event, job, next, afterCalls, isRead, readBy, readsOf, jobsIn, Quiet}
 use Rattle.roster.proofs.Stepping.{step-number}
-use Rattle.roster.proofs.Lowest.{lowest-number, lowest-wrote}
 use Rattle.roster.proofs.OneJob.{job-marks, job-idle, job-listing}
-use Rattle.roster_bytes.specs.Bytes.{marksOf, rosterOf, markBytes, bytesOf, bytesFault, eventBytes}
-use Rattle.roster_bytes.specs.Calls.{lengthFault, listFault, isEnough, StartGives, EventGives, LowestGives, JobGives}
-use Rattle.roster_bytes.specs.Histories.{History, no-call, then-event, then-job, Run, no-job, refused-event, idle-job, written-job, presentIn, IsPresent, Tell, BytesSay}
+use Rattle.roster_bytes.specs.Bytes.{rosterOf, markBytes, bytesOf, bytesFault, eventBytes}
+use Rattle.roster_bytes.specs.Calls.{lengthFault, isEnough, EventGives, JobGives}
+use Rattle.roster_bytes.specs.Histories.{History, no-call, then-event, then-job, Run, no-job, refused-event, idle-job, written-job}
 use Rattle.roster_bytes.proofs.Reading.{length-marks, roster-back, length-read, event-back}
 use Rattle.roster_bytes.proofs.Giving.{listing-wrote}
 
-length-bytes : (r : Roster) → length (bytesOf r) ≡ 256
+pub length-bytes : (r : Roster) → length (bytesOf r) ≡ 256
 unfolding bytesOf
 length-bytes r = length-append (markBytes (r .marks)) (r .job ∷ []) ∙ omega (arith, length-marks (r .marks))
 
@@ -61,7 +48,7 @@ unfolding jobOf
 job-long r list (Meets f) = refl
 job-long r list (Holds h) = ap length (job-marks h r list)
 
-job-same : (r : Roster) (list : List ℕ) (R : Record) → wrote (jobOf R r list .listing) ≡ false → jobOf R r list .roster ≡ r
+pub job-same : (r : Roster) (list : List ℕ) (R : Record) → wrote (jobOf R r list .listing) ≡ false → jobOf R r list .roster ≡ r
 unfolding jobOf wrote
 job-same r list (Meets f) no-list = refl
 job-same r list (Holds h) no-list = job-idle h r list (λ e. true≢false (sym (ap wrote e) ∙ no-list)) .0
@@ -114,8 +101,8 @@ module _ (rec : List ℕ) where
   -- a history on bytes is the history on their roster
   pub record Traced (s : List ℕ) (cs : List Call) (t : List ℕ) : Type 0 where
     pub roster : rosterOf t ≡ afterCalls (recordOf rec) cs (rosterOf s)
-    long : length t ≡ 256
-    clean : Clean s → Clean t
+    pub long : length t ≡ 256
+    pub clean : Clean s → Clean t
 
   pub history-back : {s t : List ℕ} {cs : List Call} → History rec s cs t → length s ≡ 256 → Traced s cs t
   unfolding afterCalls next
@@ -138,13 +125,13 @@ module _ (rec : List ℕ) where
       }
 
 -- a run on bytes is a run of the roster, as the record reads
-record Ran (R : Record) (s : List ℕ) (reads : List ℕ) (jobs : ℕ) (t : List ℕ) : Type 0 where
-  calls : List Call
-  quiet : Quiet R calls (rosterOf s)
-  read : readsOf R calls (rosterOf s) ≡ reads
-  count : jobsIn R calls (rosterOf s) ≡ jobs
-  end : rosterOf t ≡ afterCalls R calls (rosterOf s)
-  long : length t ≡ 256
+pub record Ran (R : Record) (s : List ℕ) (reads : List ℕ) (jobs : ℕ) (t : List ℕ) : Type 0 where
+  pub calls : List Call
+  pub quiet : Quiet R calls (rosterOf s)
+  pub read : readsOf R calls (rosterOf s) ≡ reads
+  pub count : jobsIn R calls (rosterOf s) ≡ jobs
+  pub end : rosterOf t ≡ afterCalls R calls (rosterOf s)
+  pub long : length t ≡ 256
 
 module _ (rec : List ℕ) where
   abbrev R : Record
@@ -196,7 +183,7 @@ module _ (rec : List ℕ) where
   told-wrote : (s : List ℕ) → 1 ≡ when (isEnough rec s) 1 → isEnough rec s ≡ true
   told-wrote s e = by-test (isEnough rec s) (λ t. t) (λ t. let z : _≡_ {A = ℕ} 1 0 = rw t at e in absurd (omega arith))
 
-  run-back : {s t reads : List ℕ} {jobs : ℕ} → Run rec s reads jobs t → length s ≡ 256 → Ran R s reads jobs t
+  pub run-back : {s t reads : List ℕ} {jobs : ℕ} → Run rec s reads jobs t → length s ≡ 256 → Ran R s reads jobs t
   unfolding afterCalls Quiet readsOf jobsIn
   run-back (no-job s) long = record { calls = []; quiet = tt; read = refl; count = refl; end = refl; long = long }
   run-back (refused-event {s = s} {u = u} {t = t} {reads = reads} {jobs = jobs} {r = r} {e = e} g some later) long =
