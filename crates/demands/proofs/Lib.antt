@@ -12,3 +12,7 @@ pub mod RecordNumbers
 pub mod Numbers
 pub mod Refusals
 pub mod RosterRefusals
+pub mod Weights
+pub mod BadReads
+pub mod Tables
+pub mod Plans

@@ -1,23 +1,22 @@
 -- Demand 1 of the calls of a roster, proved.
 use mathlib.Core.Path.{_≡_, refl, sym, ap, _∙_}
-use mathlib.Core.Logic.{_↔_, _≢_, Iff·trans, by-cases}
+use mathlib.Core.Logic.{_↔_, Iff·trans, by-cases}
 use mathlib.Core.Bool.{Bool, Bool·beq, true, false, _&&_, not, true≢false}
-use mathlib.Core.List.{List, [], _∷_, _++_}
-use Prim.Native.Nat.{ℕ, zero, suc, _≤_, _<_}
+use mathlib.Core.List.{List, [], _++_}
+use Prim.Native.Nat.{ℕ, zero, suc, _<_}
 use native.Mathlib.Decide.{ℕ-discrete, decLt}
 use native.Mathlib.Omega.{arith}
 use borrow.Author.Tests.{eqb-true, eqb-false, eq-eqb, ne-eqb, leb-false, not-true, not-false}
 use lib.Dec.{eqb, leb}
 use lib.ListN.{length, getD, List·getD-eq-default}
 use lib.Seq.{getD-at}
-use Rattle.lists.specs.Choice.{pick, firstOf, when}
+use Rattle.lists.specs.Choice.{firstOf, when}
 use Rattle.lists.proofs.Cases.{by-test}
 use Rattle.generator.specs.declared.Header.{Header}
 use Rattle.generator.specs.declared.Record.{Record}
 use Rattle.generator.specs.declared.Record.the-variants.{Holds, Meets}
-use Rattle.generator.specs.Records.{headerOf, recordFault, recordOf, judged, Sound}
+use Rattle.generator.specs.Records.{headerOf, recordFault, recordOf, judged}
 use Rattle.generator.proofs.Accepts.{faultless-sound}
-use Rattle.refusals.specs.Faults.{faultOf}
 use Rattle.roster.specs.declared.Roster.{Roster}
 use Rattle.roster.specs.declared.Listing.{Listing}
 use Rattle.roster.specs.declared.Listing.the-variants.{Written, TooFew, Refused}
@@ -34,7 +33,7 @@ use Rattle.roster_bytes.proofs.Claims.{byte-at, mark-at}
 use Rattle.demands.specs.Judging.{Table, Judged}
 use Rattle.demands.specs.Numbers.{recordNumbers}
 use Rattle.demands.specs.RosterRefusals.{eventNumbers, listNumbers, bytesNumbers, Already, eventBytesNumbers, listBytesNumbers, Returns, NoNode, RosterRefusals}
-use Rattle.demands.proofs.Judging.{Tells, line, last, call-judged, by-answer}
+use Rattle.demands.proofs.Judging.{Tells, line, last, call-judged}
 use Rattle.demands.proofs.Conditions.{other-test, most-test}
 use Rattle.demands.proofs.RecordNumbers.{record-tells, after-record}
 

@@ -10,3 +10,7 @@ pub mod Judging
 pub mod Numbers
 pub mod Refusals
 pub mod RosterRefusals
+pub mod Weights
+pub mod BadReads
+pub mod Tables
+pub mod Plans
