@@ -10,6 +10,7 @@ use lib.Seq.{take-suc, getD-take, length-take-le, getD-at, getD-append-add, take
 use Rattle.lists.proofs.All.{All, All-at, All-imp, All-map, Distinct, Distinct-at, Distinct-map, getD-map}
 use Rattle.weight_distribution.specs.Counts.{binomial}
 use Rattle.weight_distribution.specs.Choosing.{Rising, choices, Choosing}
+use Rattle.weight_distribution.proofs.Sums.{All-append}
 
 -- a list stands at some place of a list of lists
 abbrev StandsAt : List ℕ → List (List ℕ) → Type 0
@@ -25,10 +26,6 @@ stands-map : (f : List ℕ → List ℕ) (js : List ℕ) (xs : List (List ℕ)) 
 stands-map f js xs (i, low, is) = (i, omega (arith, length-map xs f), getD-map f [] [] xs i low ∙ ap f is)
 
 -- two lists of lists end to end
-All-append : (P : List ℕ → Type 0) (xs ys : List (List ℕ)) → All P xs → All P ys → All P (xs ++ ys)
-All-append P [] ys a b = b
-All-append P (x ∷ xs) ys a b = (a .0, All-append P xs ys (a .1) b)
-
 Distinct-append : (P Q : List ℕ → Type 0) → ((x y : List ℕ) → P x → Q y → x ≡ y → ⊥) → (xs ys : List (List ℕ)) → All P xs → All Q ys → Distinct xs → Distinct ys → Distinct (xs ++ ys)
 Distinct-append P Q apart [] ys a b d e = e
 Distinct-append P Q apart (x ∷ xs) ys a b d e =
