@@ -9,6 +9,7 @@ use Rattle.correct.proofs.Corrections.{corrections}
 use Rattle.demands.specs.Demands.{Demands}
 use Rattle.demands.proofs.Refusals.{refusals}
 use Rattle.demands.proofs.RosterRefusals.{roster-refusals}
+use Rattle.demands.proofs.Interface.{interface}
 use Rattle.demands.proofs.Coding.{code-demands}
 use Rattle.demands.proofs.Updates.{update-demands}
 use Rattle.demands.proofs.Calls.{call-demands}
@@ -27,6 +28,7 @@ demands =
     record {
       refusals = refusals;
       roster-refusals = roster-refusals;
+      interface = interface;
       code = λ rec none. code-demands (headerOf rec) (faultless-sound rec none);
       price = λ k n S C s. price s;
       ours = λ rec none. record { code = ours (headerOf rec) (faultless-sound rec none); scheme = our-scheme (headerOf rec) (faultless-sound rec none) };

@@ -56,11 +56,11 @@ again h sound l r t old new s symbols row inside ho hn other =
 other : {A : Type 0} → _≡_ {A = ℕ} 0 1 → A
 other z = absurd (omega arith)
 
-in-numbers : (h : Header) (us vs : List ℕ) → Finds h us vs → InNumbers h us vs (findingOf h us vs)
+pub in-numbers : (h : Header) (us vs : List ℕ) → Finds h us vs → let found = findingOf h us vs in InNumbers h us vs (caseOf found) (foundSymbol found) (foundAmount found)
 unfolding caseOf foundSymbol foundAmount
 in-numbers h us vs finds = go (findingOf h us vs) refl
   where
-    go : (found : Finding) → findingOf h us vs ≡ found → InNumbers h us vs found
+    go : (found : Finding) → findingOf h us vs ≡ found → InNumbers h us vs (caseOf found) (foundSymbol found) (foundAmount found)
     go Unchanged is =
         let same : us ≡ vs = finds .unchanged .0 is in
         record {

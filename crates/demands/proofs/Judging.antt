@@ -10,7 +10,7 @@ use borrow.Author.Tests.{leb-true}
 use lib.Dec.{leb}
 use Rattle.lists.specs.Choice.{firstOf, when}
 use Rattle.lists.proofs.Cases.{and-left, and-right}
-use Rattle.demands.specs.Judging.{Table, Met, Judged}
+use Rattle.demands.specs.Judging.{Table, Met, Judged, Returns}
 
 -- the number is the lowest that is met, or 0 where none is
 pub record Tells (table : Table) (number : ℕ) : Type 0 where
@@ -119,3 +119,7 @@ by-answer refused {r} {answer} {number} is means beside f = (
   λ e. let (same, some) = means f (sym e ∙ is) in (sym same, some),
   λ e. let (same, some) = e in is ∙ beside (λ z. some (sym same ∙ z)) ∙ subst (λ (x : ℕ). refused number ≡ refused x) same refl,
 )
+
+-- a call that returns its number, which is 0 where there is none
+pub by-number : {table : Table} {kept : Type 0} {r number : ℕ} → r ≡ number → Tells table number → ((r ≡ 0 → ⊥) → kept) → Judged table (Returns r) kept
+by-number {r = r} is tells kept = call-judged r (rw is tells) (λ f. (λ e. e, λ e. e)) kept

@@ -16,4 +16,5 @@ pub mod BadReads
 pub mod Weights
 pub mod SmallPlans
 pub mod Mending
+pub mod Interface
 pub mod Demands

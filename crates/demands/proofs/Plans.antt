@@ -1,6 +1,5 @@
 -- Records and plans: the sentences, proved.
 use mathlib.Core.Path.{_≡_, refl, sym, ap, ap₂, _∙_}
-use mathlib.Core.Logic.{_≢_}
 use mathlib.Core.List.{List, _++_}
 use Prim.Native.Nat.{ℕ, zero, suc, _+_, _-_, _*_, _≤_}
 use native.Mathlib.Omega.{arith}
@@ -22,10 +21,10 @@ use Rattle.generator.proofs.Shifts.{shifts-length, firsts-length}
 use Rattle.plan.specs.declared.Plan.{Plan}
 use Rattle.plan.specs.Plans.{planFor, PlanSays}
 use Rattle.plan.proofs.Plans.{shift-in, first-in, entry-read}
-use Rattle.demands.specs.Judging.{Judged}
+use Rattle.demands.specs.Judging.{Judged, Returns}
 use Rattle.demands.specs.Numbers.{recordNumbers}
 use Rattle.demands.specs.Plans.{PlanHolds, EmptyPlan, Plans}
-use Rattle.demands.proofs.Judging.{call-judged}
+use Rattle.demands.proofs.Judging.{by-number}
 use Rattle.demands.proofs.RecordNumbers.{record-tells}
 
 -- zeros, and what stands past a list that is padded with them
@@ -93,12 +92,10 @@ empty rec = go (recordFault rec)
     go zero some = absurd (some refl)
     go (suc f) some = record { numbers = (refl, refl, refl, refl, refl); places = λ i. (zeros-at 255 i, zeros-at 255 i, zeros-at 255 i) }
 
-number : (rec : List ℕ) (p : Plan) → PlanSays rec p → Judged (recordNumbers rec) (λ f. (p .number ≡ f) × (f ≢ 0)) (EmptyPlan p)
+number : (rec : List ℕ) (p : Plan) → PlanSays rec p → Judged (recordNumbers rec) (Returns (p .number)) (EmptyPlan p)
 number rec p says =
     let is : p .number ≡ recordFault rec = ap (λ (x : Plan). x .number) (says .plan) ∙ number-is rec in
-    call-judged (recordFault rec) (record-tells rec)
-    (λ f. (λ e. (sym is ∙ e .0, e .1), λ e. (is ∙ e .0, e .1)))
-    (λ some. rw (says .plan) (empty rec some))
+    by-number is (record-tells rec) (λ some. rw (says .plan) (empty rec (λ z. some (is ∙ z))))
 
 -- two bytes as a number
 pair : (high low : ℕ) → high * 256 + low ≡ 256 * high + low

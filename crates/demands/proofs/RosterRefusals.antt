@@ -30,10 +30,10 @@ use Rattle.roster_bytes.specs.Calls.{lengthFault, listFault, StartGives, EventG
 use Rattle.roster_bytes.proofs.Reading.{length-marks}
 use Rattle.roster_bytes.proofs.Histories.{length-bytes, job-same}
 use Rattle.roster_bytes.proofs.Claims.{byte-at, mark-at}
-use Rattle.demands.specs.Judging.{Table, Judged}
+use Rattle.demands.specs.Judging.{Judged, Returns}
 use Rattle.demands.specs.Numbers.{recordNumbers}
-use Rattle.demands.specs.RosterRefusals.{eventNumbers, listNumbers, bytesNumbers, Already, eventBytesNumbers, listBytesNumbers, Returns, NoNode, RosterRefusals}
-use Rattle.demands.proofs.Judging.{Tells, line, last, call-judged}
+use Rattle.demands.specs.RosterRefusals.{eventNumbers, listNumbers, bytesNumbers, Already, eventBytesNumbers, listBytesNumbers, NoNode, RosterRefusals}
+use Rattle.demands.proofs.Judging.{Tells, line, last, call-judged, by-number}
 use Rattle.demands.proofs.Conditions.{other-test, most-test}
 use Rattle.demands.proofs.RecordNumbers.{record-tells, after-record}
 
@@ -50,10 +50,6 @@ unfolding listingNumber
 listing-refused Written f e some = absurd (some (sym e))
 listing-refused TooFew f e some = absurd (some (sym e))
 listing-refused (Refused g) f e some = ap Refused e
-
--- a call that returns the number itself
-by-number : {table : Table} {kept : Type 0} {r number : ℕ} → r ≡ number → Tells table number → ((r ≡ 0 → ⊥) → kept) → Judged table (Returns r) kept
-by-number {r = r} is tells kept = call-judged r (rw is tells) (λ f. (λ e. e, λ e. e)) kept
 
 -- two lengths under one number
 two-lengths : (a b : Bool) → when (not (a && b)) 8 ≡ firstOf (when (not a) 8) (when (not b) 8)

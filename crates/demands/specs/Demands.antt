@@ -11,6 +11,7 @@ use Rattle.rearrange.specs.Lanes.{LaneAfterLane}
 use Rattle.correct.specs.Corrections.{Corrections}
 use Rattle.demands.specs.Refusals.{Refusals}
 use Rattle.demands.specs.RosterRefusals.{RosterRefusals}
+use Rattle.demands.specs.Interface.{Interface}
 use Rattle.demands.specs.Coding.{CodeDemands}
 use Rattle.demands.specs.Updates.{UpdateDemands}
 use Rattle.demands.specs.Calls.{CallDemands}
@@ -27,6 +28,8 @@ pub record Demands : Type 1 where
   -- demand 1: which number turns a call away, that it then alters nothing, and that every other call is accepted
   pub refusals : Refusals
   pub roster-refusals : RosterRefusals
+  -- the same of the interface for C
+  pub interface : Interface
   -- demand 2
   pub code : (rec : List ℕ) → recordFault rec ≡ 0 → CodeDemands (headerOf rec)
   -- demand 3: the least writes and reads of any scheme

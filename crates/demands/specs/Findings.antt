@@ -19,18 +19,20 @@ use Rattle.find_update.specs.Promise.{FindSays}
 use Rattle.demands.specs.Calls.{read}
 
 -- a finding in numbers, as the interface for C gives it: 0 for equal lanes, 1 for an update that was found, 2 where there is none
-pub record InNumbers (h : Header) (us vs : List ℕ) (found : Finding) : Type 0 where
-  pub unchanged : (caseOf found ≡ 0) ↔ (us ≡ vs)
-  pub one : (caseOf found ≡ 1) ↔ ((us ≢ vs) × ((r : ℕ) × (x : ℕ) × (r < h .k) × (x < size h) × (added h r x us ≡ vs)))
-  pub none : (caseOf found ≡ 2) ↔ ((us ≢ vs) × ((r x : ℕ) → r < h .k → x < size h → added h r x us ≡ vs → ⊥))
+pub record InNumbers (h : Header) (us vs : List ℕ) (answer symbol amount : ℕ) : Type 0 where
+  pub unchanged : (answer ≡ 0) ↔ (us ≡ vs)
+  pub one : (answer ≡ 1) ↔ ((us ≢ vs) × ((r : ℕ) × (x : ℕ) × (r < h .k) × (x < size h) × (added h r x us ≡ vs)))
+  pub none : (answer ≡ 2) ↔ ((us ≢ vs) × ((r x : ℕ) → r < h .k → x < size h → added h r x us ≡ vs → ⊥))
   -- the symbol and the amount; 0 where none was found
-  pub update : caseOf found ≡ 1 → (foundSymbol found < h .k) × (foundAmount found < size h) × (added h (foundSymbol found) (foundAmount found) us ≡ vs)
-  pub zeros : caseOf found ≢ 1 → (foundSymbol found ≡ 0) × (foundAmount found ≡ 0)
+  pub update : answer ≡ 1 → (symbol < h .k) × (amount < size h) × (added h symbol amount us ≡ vs)
+  pub zeros : answer ≢ 1 → (symbol ≡ 0) × (amount ≡ 0)
 
 pub record Findings : Type 0 where
   -- of every two lanes of an accepted record
   pub accepted : (rec : List ℕ) → recordFault rec ≡ 0 → (us vs : List ℕ) → IsLane (headerOf rec) us → IsLane (headerOf rec) vs → Finds (headerOf rec) us vs
-  pub numbers : (rec : List ℕ) → recordFault rec ≡ 0 → (us vs : List ℕ) → IsLane (headerOf rec) us → IsLane (headerOf rec) vs → InNumbers (headerOf rec) us vs (findingOf (headerOf rec) us vs)
+  pub numbers : (rec : List ℕ) → recordFault rec ≡ 0 → (us vs : List ℕ) → IsLane (headerOf rec) us → IsLane (headerOf rec) vs →
+      let found = findingOf (headerOf rec) us vs in
+      InNumbers (headerOf rec) us vs (caseOf found) (foundSymbol found) (foundAmount found)
   -- of the two lanes of a call that no number turned away
   pub call : (rec before after : List ℕ) (r : Finding) → FindSays rec before after r → ((g : ℕ) → r ≡ Refused g → ⊥) →
       let h = headerOf rec in

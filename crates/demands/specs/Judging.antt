@@ -1,6 +1,6 @@
 -- What turns a call away, as a table: numbers, each with what it is given for. The lowest number that is met is given.
 use mathlib.Core.Path.{_≡_}
-use mathlib.Core.Logic.{_↔_, _⊎_}
+use mathlib.Core.Logic.{_↔_, _≢_, _⊎_}
 use mathlib.Core.List.{List, [], _∷_}
 use Prim.Native.Nat.{ℕ, _<_}
 
@@ -21,3 +21,7 @@ pub record Judged (table : Table) (gives : ℕ → Type 0) (kept : Type 0) : Typ
   pub accepted : ((f : ℕ) → gives f → ⊥) ↔ ((f : ℕ) → Met table f → ⊥)
   -- a call that is turned away alters nothing
   pub unaltered : (f : ℕ) → gives f → kept
+
+-- a number that is returned; 0 is none
+abbrev pub Returns : ℕ → ℕ → Type 0
+Returns r f = (r ≡ f) × (f ≢ 0)

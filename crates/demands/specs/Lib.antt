@@ -2,7 +2,7 @@
 --   Demands         all of it in one statement
 --   Judging         tables of numbers, and what it is that the lowest number met is given
 --   Numbers         the table of each call: what each number is given for, in plain terms
---   Refusals, RosterRefusals    demand 1 of each call
+--   Refusals, RosterRefusals, Interface    demand 1 of each call, of a roster's calls, and of the interface for C
 --   Coding          demand 2 of the definitions; Updates  demand 3's sentence on updates; Calls  both of the calls themselves
 --   Plans, Tables, Findings, Rosters, BadReads, Weights, SmallPlans, Mending    a subject each
 pub mod Coding
@@ -20,4 +20,5 @@ pub mod BadReads
 pub mod Weights
 pub mod SmallPlans
 pub mod Mending
+pub mod Interface
 pub mod Demands

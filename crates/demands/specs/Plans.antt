@@ -1,6 +1,5 @@
 -- Records and plans, sentence by sentence: what a record of each kind holds, and what `build_plan` gives.
 use mathlib.Core.Path.{_≡_}
-use mathlib.Core.Logic.{_≢_}
 use mathlib.Core.List.{List, [], _∷_}
 use Prim.Native.Nat.{ℕ, _+_, _-_, _*_, _/_, _%_, _≤_, _<_}
 use lib.ListN.{length, getD}
@@ -12,7 +11,7 @@ use Rattle.generator.specs.Shifts.{shifts}
 use Rattle.generator.specs.Generator.{entry}
 use Rattle.plan.specs.declared.Plan.{Plan}
 use Rattle.plan.specs.Plans.{PlanSays}
-use Rattle.demands.specs.Judging.{Judged}
+use Rattle.demands.specs.Judging.{Judged, Returns}
 use Rattle.demands.specs.Numbers.{recordNumbers}
 
 -- the plan of a header: places beyond the k shifts, the k first nodes and the n entries hold 0
@@ -44,4 +43,4 @@ pub record Plans : Type 0 where
   -- the plan of an accepted record
   pub accepted : (rec : List ℕ) (p : Plan) → PlanSays rec p → recordFault rec ≡ 0 → PlanHolds (headerOf rec) p
   -- which number a record meets
-  pub number : (rec : List ℕ) (p : Plan) → PlanSays rec p → Judged (recordNumbers rec) (λ f. (p .number ≡ f) × (f ≢ 0)) (EmptyPlan p)
+  pub number : (rec : List ℕ) (p : Plan) → PlanSays rec p → Judged (recordNumbers rec) (Returns (p .number)) (EmptyPlan p)

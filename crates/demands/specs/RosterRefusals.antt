@@ -12,7 +12,7 @@ use Rattle.roster.specs.declared.Listing.the-variants.{Refused}
 use Rattle.roster.specs.Events.{Event, leaves, returns, named, says}
 use Rattle.roster.specs.Rosters.{isPresent, startOf, stepOf, lowestOf, lowestList, jobOf, jobList}
 use Rattle.roster_bytes.specs.Calls.{StartGives, EventGives, LowestGives, JobGives}
-use Rattle.demands.specs.Judging.{Table, Judged}
+use Rattle.demands.specs.Judging.{Table, Judged, Returns}
 use Rattle.demands.specs.Numbers.{recordNumbers}
 
 -- an event: its node is none of the n, or already is what the event says
@@ -37,10 +37,6 @@ eventBytesNumbers h e bytes = (8, length bytes ≢ 256) ∷ (9, h .n ≤ named e
 
 abbrev pub listBytesNumbers : Header → List ℕ → List ℕ → Table
 listBytesNumbers h bytes list = (8, length bytes ≢ 256) ∷ (8, length list ≢ h .k) ∷ []
-
--- a number that is returned; 0 is none
-abbrev pub Returns : ℕ → ℕ → Type 0
-Returns r f = (r ≡ f) × (f ≢ 0)
 
 -- bytes of a roster with no node present, where there are 256 of them
 pub record NoNode (bytes bytes′ : List ℕ) : Type 0 where
