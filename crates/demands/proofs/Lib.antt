@@ -1,9 +1,21 @@
--- The demands, calls one after the other, what holds of rosters, which update it was and the single changes that make a lane a word, proved.
+-- The demands and the change requests, proved. Judging and Conditions are what the tables of numbers rest on; RecordNumbers and Numbers hold a call's number to its table.
 pub mod Coding
+pub mod Judging
+pub mod Conditions
 pub mod Updates
 pub mod Calls
 pub mod RoundTrips
-pub mod Demands
-pub mod Rosters
+pub mod RecordNumbers
+pub mod Numbers
+pub mod Refusals
+pub mod RosterRefusals
+pub mod Plans
+pub mod Tables
 pub mod Findings
+pub mod Rosters
+pub mod BadReads
+pub mod Weights
+pub mod SmallPlans
 pub mod Mending
+pub mod Interface
+pub mod Demands

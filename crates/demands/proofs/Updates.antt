@@ -1,15 +1,15 @@
 -- Demand 3's sentence on updates, and what numbers 12 and 13 say, proved for every sound header.
-use mathlib.Core.Path.{_≡_, refl, sym, ap, ap₂, _∙_}
-use mathlib.Core.Logic.{_↔_}
-use mathlib.Core.Bool.{Bool, true, false, not}
+use mathlib.Core.Path.{_≡_, refl, sym, ap, ap₂, subst, _∙_}
+use mathlib.Core.Logic.{_↔_, inl, inr, ⊎-elim}
+use mathlib.Core.Bool.{true}
 use mathlib.Core.List.{List}
 use Prim.Native.Nat.{ℕ, _*_, _<_}
 use native.Mathlib.Omega.{arith}
-use borrow.Author.Tests.{eqb-true, eqb-false, ne-eqb}
+use borrow.Author.Tests.{eqb-true, eqb-false, not-false}
 use lib.Dec.{eqb}
 use lib.ListN.{length, getD, set}
 use lib.Seq.{set-getD}
-use Rattle.lists.specs.Choice.{pick, firstOf, when}
+use Rattle.lists.specs.Choice.{pick}
 use Rattle.lists.specs.Counting.{differ}
 use Rattle.lists.specs.Numbers.{allBelow}
 use Rattle.lists.proofs.Cases.{by-test}
@@ -27,13 +27,16 @@ use Rattle.generator.specs.Claims.{isMessage, Codeword}
 use Rattle.generator.proofs.Changes.{alters}
 use Rattle.generator.proofs.Widths.{width-some}
 use Rattle.generator.proofs.Messages.{encoding-injective, message-back, word-message}
-use Rattle.generator.proofs.Words.{words-poly, words-encode}
+use Rattle.generator.proofs.Words.{words-poly, encoding-word}
 use Rattle.refusals.specs.Conditions.{noWord, otherSymbol}
 use Rattle.refusals.specs.Faults.{inputFault, staleFault, updateFault}
 use Rattle.refusals.proofs.Accepts.{input-accepts, update-accepts}
 use Rattle.blocks.specs.Blocks.{updated}
 use Rattle.blocks.proofs.Updates.{updated-encodes, updated-others, updated-count}
+use Rattle.demands.specs.Numbers.{staleNumbers}
 use Rattle.demands.specs.Updates.{Afterwards, Updated, laneFor, UpdateDemands}
+use Rattle.demands.proofs.Judging.{Tells, line, last, told}
+use Rattle.demands.proofs.Conditions.{not-test, other-test}
 
 -- how many nodes a change alters
 count : (h : Header) → Sound h → (ms : List ℕ) (r new : ℕ) → isMessage h ms ≡ true → r < h .k → new < size h → differ (encoding h ms) (encoding h (set ms r new)) ≡ pick (eqb new (getD ms r 0)) 0 (distance h)
@@ -78,57 +81,56 @@ module _ (h : Header) (s : Sound h) (shares : List ℕ) (l r t old new : ℕ) wh
         after = rw (← fresh .holds) (afterwards h s (messageOf h ws) b l r t new message (lane .row) (lane .lane) new-symbol long (sym at));
       }
 
-  -- where what is given meets no number, the lane decides
-  module _ (given : inputFault shareLayout h l r t old new shares ≡ 0) where
-    abbrev ws : List ℕ
-    ws = laneFor h l t shares
+-- a lane of symbols: what its two tests say
+module _ (h : Header) (s : Sound h) (ws : List ℕ) (long : length ws ≡ h .n) (below : allBelow (size h) ws ≡ true) where
+  pub no-word-test : (noWord h ws ≡ true) ↔ (Codeword h ws → ⊥)
+  unfolding noWord
+  no-word-test = not-test (isWord h ws) (words-poly h s ws long below)
 
-    decided : updateFault shareLayout h l r t old new shares ≡ staleFault h ws r old
-    unfolding updateFault
-    decided = rw given
+  -- of a word
+  pub other-symbol-test : isWord h ws ≡ true → (r old : ℕ) → (otherSymbol h ws r old ≡ true) ↔ ((ms : List ℕ) × (isMessage h ms ≡ true) × (encoding h ms ≡ ws) × (getD ms r 0 ≡ old → ⊥))
+  unfolding otherSymbol
+  other-symbol-test word r old = (
+    λ e. let (message, at) = word-message h s ws long below word in (messageOf h ws, message, at, other-test _ old .0 e),
+    λ e.
+        let (ms, m, at, other) = e in
+        let is : messageOf h ws ≡ ms = ap (messageOf h) (sym at) ∙ message-back h s ms m in
+        rw is (other-test _ old .1 other),
+  )
 
-    long : length ws ≡ h .n
-    long = length-lane shareLayout (h .n) l t (symbolsOf (width h) shares)
+  -- so of the numbers 12 and 13 the first that is met is given
+  pub stale-tells : (r old : ℕ) → Tells (staleNumbers h ws r old) (staleFault h ws r old)
+  unfolding staleFault noWord
+  stale-tells r old =
+      line 11 (noWord h ws) refl no-word-test
+      (λ word. last 12 (otherSymbol h ws r old) (other-symbol-test (not-false _ word) r old))
 
-    below : allBelow (size h) ws ≡ true
-    below = input-accepts h s l r t old new shares given .0 .symbols
+-- where what is given meets no number, the lane decides
+module _ (h : Header) (s : Sound h) (shares : List ℕ) (l r t old new : ℕ) (given : inputFault shareLayout h l r t old new shares ≡ 0) where
+  abbrev ws : List ℕ
+  ws = laneFor h l t shares
 
-    word : (isWord h ws ≡ true) ↔ Codeword h ws
-    word = words-poly h s ws long below
+  decided : updateFault shareLayout h l r t old new shares ≡ staleFault h ws r old
+  unfolding updateFault
+  decided = rw given
 
-    pub no-word : (updateFault shareLayout h l r t old new shares ≡ 12) ↔ (Codeword h ws → ⊥)
-    unfolding staleFault noWord otherSymbol
-    no-word = (
-      λ e c. let f : staleFault h ws r old ≡ 12 = sym decided ∙ e in let g = rw (word .1 c) at f in never-twelve (eqb (getD (messageOf h ws) r 0) old) g,
-      λ none. decided ∙ rw (by-test (isWord h ws) (λ t. absurd (none (word .0 t))) (λ t. t)),
-    )
-      where
-        never-twelve : (b : Bool) → when (not b) 13 ≡ 12 → ⊥
-        never-twelve true e = omega arith
-        never-twelve false e = omega arith
+  tells : Tells (staleNumbers h ws r old) (updateFault shareLayout h l r t old new shares)
+  tells = rw decided (stale-tells h s ws (length-lane shareLayout (h .n) l t (symbolsOf (width h) shares)) (input-accepts h s l r t old new shares given .0 .symbols) r old)
 
-    pub other-symbol : (updateFault shareLayout h l r t old new shares ≡ 13) ↔ ((ms : List ℕ) × (isMessage h ms ≡ true) × (encoding h ms ≡ ws) × (getD ms r 0 ≡ old → ⊥))
-    unfolding staleFault noWord otherSymbol
-    other-symbol = (to, back)
-      where
-        not-twelve : (b : Bool) (rest : ℕ) → firstOf (when (not b) 12) rest ≡ 13 → (b ≡ true) × (rest ≡ 13)
-        not-twelve true rest e = (refl, e)
-        not-twelve false rest e = absurd (omega arith)
+  pub no-word : (updateFault shareLayout h l r t old new shares ≡ 12) ↔ (Codeword h ws → ⊥)
+  no-word = (
+    λ e. ⊎-elim (λ x. x .1) (⊎-elim (λ x. absurd (omega (arith, x .0))) (λ x. absurd x)) (told tells 12 .0 (e, λ z. omega arith) .0),
+    λ none. told tells 12 .1 (inl (refl, none), λ g low. ⊎-elim (λ x. omega (arith, x .0)) (⊎-elim (λ x. omega (arith, x .0)) (λ x. x))) .0,
+  )
 
-        is-thirteen : (b : Bool) → when (not b) 13 ≡ 13 → b ≡ false
-        is-thirteen true e = absurd (omega arith)
-        is-thirteen false e = refl
-
-        to : updateFault shareLayout h l r t old new shares ≡ 13 → (ms : List ℕ) × (isMessage h ms ≡ true) × (encoding h ms ≡ ws) × (getD ms r 0 ≡ old → ⊥)
-        to e =
-            let (passes, last) = not-twelve (isWord h ws) (when (not (eqb (getD (messageOf h ws) r 0) old)) 13) (sym decided ∙ e) in
-            let (message, at) = word-message h s ws long below passes in
-            (messageOf h ws, message, at, eqb-false _ old (is-thirteen (eqb (getD (messageOf h ws) r 0) old) last))
-
-        back : (ms : List ℕ) × (isMessage h ms ≡ true) × (encoding h ms ≡ ws) × (getD ms r 0 ≡ old → ⊥) → updateFault shareLayout h l r t old new shares ≡ 13
-        back (ms, m, at, other) =
-            let is : messageOf h ws ≡ ms = ap (messageOf h) (sym at) ∙ message-back h s ms m in
-            decided ∙ rw (words-encode h s ws long below .1 (ms, m, at), is, ne-eqb (getD ms r 0) old other)
+  pub other-symbol : (updateFault shareLayout h l r t old new shares ≡ 13) ↔ ((ms : List ℕ) × (isMessage h ms ≡ true) × (encoding h ms ≡ ws) × (getD ms r 0 ≡ old → ⊥))
+  other-symbol = (
+    λ e. ⊎-elim (λ x. absurd (omega (arith, x .0))) (⊎-elim (λ x. x .1) (λ x. absurd x)) (told tells 13 .0 (e, λ z. omega arith) .0),
+    λ e.
+        let (ms, m, at, other) = e in
+        let word : Codeword h ws = subst (Codeword h) at (encoding-word h s ms m) in
+        told tells 13 .1 (inr (inl (refl, e)), λ g low. ⊎-elim (λ x. x .1 word) (⊎-elim (λ x. omega (arith, x .0)) (λ x. x))) .0,
+  )
 
 pub update-demands : (h : Header) → Sound h → UpdateDemands h
 update-demands h s = record { updates = accepted h s; no-word = no-word h s; other-symbol = other-symbol h s }

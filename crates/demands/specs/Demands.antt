@@ -1,4 +1,4 @@
--- Demands 2 and 3 in one statement: over every accepted record, every scheme and every call; and what holds besides.
+-- The demands and the change requests in one statement: over every record, every scheme and every call.
 use mathlib.Core.Path.{_≡_}
 use mathlib.Core.Logic.{_≢_}
 use mathlib.Core.List.{List}
@@ -9,13 +9,28 @@ use Rattle.generator.specs.Records.{headerOf, recordFault}
 use Rattle.generator.specs.Claims.{Accepted}
 use Rattle.rearrange.specs.Lanes.{LaneAfterLane}
 use Rattle.correct.specs.Corrections.{Corrections}
-use Rattle.weight_counts.specs.Weights.{Distribution}
+use Rattle.demands.specs.Refusals.{Refusals}
+use Rattle.demands.specs.RosterRefusals.{RosterRefusals}
+use Rattle.demands.specs.Interface.{Interface}
 use Rattle.demands.specs.Coding.{CodeDemands}
 use Rattle.demands.specs.Updates.{UpdateDemands}
 use Rattle.demands.specs.Calls.{CallDemands}
 use Rattle.demands.specs.RoundTrips.{RoundTrips}
+use Rattle.demands.specs.Plans.{Plans}
+use Rattle.demands.specs.Tables.{Tables}
+use Rattle.demands.specs.Findings.{Findings}
+use Rattle.demands.specs.Rosters.{Rosters}
+use Rattle.demands.specs.BadReads.{BadReads}
+use Rattle.demands.specs.Weights.{Weights}
+use Rattle.demands.specs.SmallPlans.{SmallPlans}
+use Rattle.demands.specs.Mending.{SingleMends}
 
 pub record Demands : Type 1 where
+  -- demand 1: which number turns a call away, that it then alters nothing, and that every other call is accepted
+  pub refusals : Refusals
+  pub roster-refusals : RosterRefusals
+  -- the same of the interface for C
+  pub interface : Interface
   -- demand 2
   pub code : (rec : List ℕ) → recordFault rec ≡ 0 → CodeDemands (headerOf rec)
   -- demand 3: the least writes and reads of any scheme
@@ -29,9 +44,22 @@ pub record Demands : Type 1 where
   pub calls : CallDemands
   -- one call after the other
   pub trips : RoundTrips
-  -- shares lane after lane beside shares node after node
-  pub lanes : LaneAfterLane
-  -- the textbook's weight distribution is that of every accepted record
-  pub weights : (rec : List ℕ) → recordFault rec ≡ 0 → Distribution (headerOf rec)
+  -- records and plans
+  pub plans : Plans
+  -- the tables of the field of 256 elements
+  pub tables : Tables
+  -- which update it was
+  pub findings : Findings
   -- setting a block right
   pub corrections : Corrections
+  -- nodes that leave and return, and the nodes that jobs read
+  pub rosters : Rosters
+  -- shares lane after lane beside shares node after node
+  pub lanes : LaneAfterLane
+  -- what one bad read does
+  pub bad-reads : BadReads
+  -- how many messages light how many nodes
+  pub weights : Weights
+  -- every small plan, and the single changes that make a lane a word
+  pub small-plans : SmallPlans
+  pub mends : SingleMends

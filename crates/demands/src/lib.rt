@@ -1,1 +1,1 @@
-// The demands, of every accepted record and of every call, as theorems over what the calls promise: theory, no code.
+// The demands and the change requests, of every record and of every call, as theorems over what the calls promise: theory, no code.

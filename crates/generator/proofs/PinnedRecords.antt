@@ -24,7 +24,7 @@ use Rattle.generator.proofs.Faults.{sizes}
 
 -- the test of number 3 passes just the primes of the range
 module _ (low high p : ℕ) (two : 2 ≤ low) where
-  prime-test : primeIn low high p ≡ true → PrimeFrom low high p
+  pub prime-test : primeIn low high p ≡ true → PrimeFrom low high p
   unfolding primeIn
   prime-test e =
       let rest : (leb p high && isPrime p) ≡ true = and-right (leb low p) _ e in
@@ -41,7 +41,7 @@ module _ (low high p : ℕ) (two : 2 ≤ low) where
       let whole : p / d * d ≡ p = omega (arith, div-add-mod' p d) in
       f .no-product (p / d) d (lt-of-not-le (λ h. omega (arith, mul-le-mul-right d h, whole))) many whole
 
-  test-prime : PrimeFrom low high p → primeIn low high p ≡ true
+  pub test-prime : PrimeFrom low high p → primeIn low high p ≡ true
   unfolding primeIn
   test-prime f =
       let above = f .above in
@@ -85,7 +85,7 @@ module _ (h : Header) (usable : usable (h .field) ≡ true) (size-good : sizeBad
   unfolding power
   first-power low = arithmetic (modulusOf h) (usable-field (h .field) usable) .mul-one (h .root) low
 
-  root-test : rootBad h ≡ false → HasOrder (size h) (modulusOf h) (h .root) (h .n)
+  pub root-test : rootBad h ≡ false → HasOrder (size h) (modulusOf h) (h .root) (h .n)
   unfolding rootBad orderOf
   root-test e =
       let both : (ltb (h .root) (size h) && eqb (orderOf (modulusOf h) (h .root)) (h .n)) ≡ true = not-false _ e in
@@ -94,7 +94,7 @@ module _ (h : Header) (usable : usable (h .field) ≡ true) (size-good : sizeBad
       let first = order-from (modulusOf h) (h .root) 256 1 (h .root) (h .n) (first-power low) (omega (arith, sizes h size-good .0)) order in
       record { symbol = low; returns = first .one; least = first .before }
 
-  test-root : HasOrder (size h) (modulusOf h) (h .root) (h .n) → rootBad h ≡ false
+  pub test-root : HasOrder (size h) (modulusOf h) (h .root) (h .n) → rootBad h ≡ false
   unfolding rootBad orderOf
   test-root o =
       let first : FirstFrom (modulusOf h) (h .root) 1 (h .n) = record { from = omega (arith, sizes h size-good .0); one = o .returns; before = o .least } in

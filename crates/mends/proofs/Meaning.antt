@@ -7,15 +7,15 @@ use Prim.Native.Nat.{ℕ, zero, suc, _+_, _-_, _%_, _≤_, _<_}
 use native.Mathlib.Omega.{arith}
 use borrow.Author.Tests.{not-false, ltb-true, ltb-false, lt-ltb}
 use lib.Dec.{ltb}
-use lib.ListN.{length, getD, set}
+use lib.ListN.{length, getD, set, length-set, length-map}
 use lib.Seq.{set-getD}
 use Rattle.lists.specs.Counting.{passingFrom}
 use Rattle.lists.specs.Numbers.{isIn}
 use Rattle.lists.specs.Rows.{from, range}
 use Rattle.lists.specs.Search.{firstFalse}
-use Rattle.lists.proofs.All.{All-at}
+use Rattle.lists.proofs.All.{All-at, getD-map}
 use Rattle.lists.proofs.Cases.{by-test}
-use Rattle.lists.proofs.Numbers.{below-at, isIn-place, place-isIn}
+use Rattle.lists.proofs.Numbers.{below-at, below-set, isIn-place, place-isIn}
 use Rattle.lists.proofs.Passing.{Rises, passing-within, passing-pass, passing-place, passing-rises, passing-most}
 use Rattle.lists.proofs.Search.{search-fails, search-within}
 use Rattle.field.specs.Fields.{add, sub, mul}
@@ -24,8 +24,10 @@ use Rattle.field.proofs.BothKinds.{arithmetic}
 use Rattle.generator.specs.declared.Header.{Header}
 use Rattle.generator.specs.Records.{modulusOf, size, Sound}
 use Rattle.generator.specs.Codewords.{checksFrom, isWord}
+use Rattle.generator.specs.Claims.{Codeword}
+use Rattle.generator.proofs.Words.{words-poly}
 use Rattle.refusals.specs.Accepted.{IsLane}
-use Rattle.mends.specs.Mends.{mendAt, canMend, mendNodes, Mends}
+use Rattle.mends.specs.Mends.{mendAt, canMend, mendNodes, mendSymbols, MendedBy, Mends}
 use Rattle.mends.proofs.Sums.{sub-unique}
 use Rattle.mends.proofs.Powers.{rootPower, root-injective}
 use Rattle.mends.proofs.Geometric.{sumAt, sum-below, root-below, amount, amount-below, GoesUp, up-word, word-up, word-symbol}
@@ -168,15 +170,59 @@ module _ (h : Header) (s : Sound h) (ws : List ℕ) (lane : IsLane h ws) where
         absurd (omega (arith, rises 0 1 (omega arith) more, same)))
         (λ e. ltb-false _ _ e)
 
+  -- a lane with another symbol is a lane
+  set-lane : (j x : ℕ) → x < size h → IsLane h (set ws j x)
+  set-lane j x low = record { long = length-set ws j x ∙ lane .long; symbols = below-set (size h) ws j x low (lane .symbols) }
+
+  -- the test of a lane, and of a lane with another symbol
+  word-is : (isWord h ws ≡ true) ↔ Codeword h ws
+  word-is = words-poly h s ws (lane .long) (lane .symbols)
+
+  set-word : (j x : ℕ) → x < size h → (isWord h (set ws j x) ≡ true) ↔ Codeword h (set ws j x)
+  set-word j x low = words-poly h s (set ws j x) (set-lane j x low .long) (set-lane j x low .symbols)
+
+  fails : (Codeword h ws → ⊥) → isWord h ws ≡ false
+  fails none = by-test (isWord h ws) (λ is. absurd (none (word-is .0 is))) (λ other. other)
+
+  -- symbol i of the list is that of node i
+  symbol-at : (i : ℕ) → i < length (mendNodes h ws) → getD (mendSymbols h ws) i 0 ≡ mendAt h ws (getD (mendNodes h ws) i 0)
+  unfolding mendSymbols
+  symbol-at i inside = getD-map (mendAt h ws) 0 0 (mendNodes h ws) i inside
+
+  symbols-long : length (mendSymbols h ws) ≡ length (mendNodes h ws)
+  unfolding mendSymbols
+  symbols-long = length-map (mendNodes h ws) (mendAt h ws)
+
+  makes : (i : ℕ) → i < length (mendNodes h ws) → MendedBy h ws (getD (mendNodes h ws) i 0) (getD (mendSymbols h ws) i 0) × (getD (mendSymbols h ws) i 0 ≡ getD ws (getD (mendNodes h ws) i 0) 0 → ⊥)
+  makes i inside =
+      let other : isWord h ws ≡ false = by-test (isWord h ws) (λ is. absurd (omega (arith, ap length (none-of h ws is)))) (λ other. other) in
+      let j = getD (mendNodes h ws) i 0 in
+      let (node, can) = at-place other i inside in
+      let (low, word) = found-word h ws j can in
+      rw (symbol-at i inside) ((node, low, set-word j (mendAt h ws j) low .0 word), other-symbol other j (mendAt h ws j) word)
+
+  entry : isWord h ws ≡ false → (j x : ℕ) → MendedBy h ws j x → (i : ℕ) × (i < length (mendNodes h ws)) × (getD (mendNodes h ws) i 0 ≡ j) × (getD (mendSymbols h ws) i 0 ≡ x)
+  entry other j x (node, low, code) =
+      let word = set-word j x low .1 code in
+      let (i, inside, is) = isIn-place j (mendNodes h ws) (listed other j .1 (node, (x, low, word))) in
+      (i, inside, is, symbol-at i inside ∙ ap (mendAt h ws) is ∙ sym (one-symbol other j x node low word))
+
   -- all of it
   pub mends : Mends h ws
   mends =
       record {
-        word = none-of h ws;
-        listed = listed;
-        one = λ other j x node low word. (one-symbol other j x node low word, other-symbol other j x word);
+        paired = symbols-long;
+        makes = makes;
+        word = λ code. none-of h ws (word-is .1 code);
+        all = λ none. entry (fails none);
+        listed = λ none j. (
+          λ t. let (node, (x, low, word)) = listed (fails none) j .0 t in (x, (node, low, set-word j x low .0 word)),
+          λ e. let (x, (node, low, code)) = e in listed (fails none) j .1 (node, (x, low, set-word j x low .1 code)),
+        );
+        one = λ none j x y (node, low, first) (again, below, second).
+            one-symbol (fails none) j x node low (set-word j x low .1 first) ∙ sym (one-symbol (fails none) j y again below (set-word j y below .1 second));
         rises = rises;
-        single = λ two. by-test (isWord h ws) (λ word-is. rw (none-of h ws word-is) (omega arith)) (λ other. single other two);
-        every = λ one other. every other one;
-        always = λ e. no-sums h ws (omega arith);
+        single = λ two. by-test (isWord h ws) (λ is. rw (none-of h ws is) (omega arith)) (λ other. single other two);
+        every = λ one none. every (fails none) one;
+        always = λ e. word-is .0 (no-sums h ws (omega arith));
       }

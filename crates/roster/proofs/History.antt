@@ -2,13 +2,15 @@
 use mathlib.Core.Path.{_≡_, refl, sym, ap, _∙_}
 use mathlib.Core.Bool.{Bool, Bool·beq, true, false}
 use mathlib.Core.List.{List, [], _∷_, _++_}
+use mathlib.Core.Logic.{by-cases}
 use Prim.Native.Nat.{ℕ, zero, suc, _+_, _≤_, _<_}
-use native.Mathlib.Decide.{ℕ-discrete}
+use native.Mathlib.Decide.{ℕ-discrete, decLt}
+use native.Mathlib.Nat.{zero-add}
 use native.Mathlib.Omega.{arith}
 use lib.Dec.{eqb, ltb}
-use lib.ListN.{length}
+use lib.ListN.{length, List·getD-eq-default}
 use lib.Seq.{getD-set-same, getD-set-other}
-use borrow.Author.Tests.{eq-eqb, ne-eqb, lt-ltb, lt-leb}
+use borrow.Author.Tests.{eq-eqb, ne-eqb, lt-ltb, le-ltb, lt-leb}
 use Rattle.lists.specs.Choice.{pick, when}
 use Rattle.lists.proofs.Passing.{passing-ext}
 use Rattle.lists.proofs.Rows.{length-from, getD-from}
@@ -20,7 +22,7 @@ use Rattle.roster.specs.Rosters.{firstMarks, isPresent, presentOf, first
 use Rattle.roster.specs.Histories.{afterEvents, lastSays, presentBy, NoneNames}
 use Rattle.roster.specs.Runs.{Call, event, job, eventsIn, next, afterCalls}
 use Rattle.roster.specs.Claims.{reached, Kept}
-use Rattle.roster.proofs.Stepping.{step-length, step-marks}
+use Rattle.roster.proofs.Stepping.{step-length, step-marks, stepping}
 use Rattle.roster.proofs.OneJob.{job-marks}
 
 -- two marks that are the same
@@ -94,14 +96,43 @@ calls-marks h [] r q same = same
 calls-marks h (event e ∷ cs) r q same = calls-marks h cs (stepOf (Holds h) e r .roster) (stepOf (Holds h) e q .roster) (step-marks e r h q same)
 calls-marks h (job list ∷ cs) r q same = calls-marks h cs (jobOf (Holds h) r list .roster) q (job-marks h r list ∙ same)
 
+-- calls leave the number of marks, and the marks at n and above
+calls-length : (h : Header) (cs : List Call) (r : Roster) → length (afterCalls (Holds h) cs r .marks) ≡ length (r .marks)
+unfolding afterCalls next
+calls-length h [] r = refl
+calls-length h (event e ∷ cs) r = calls-length h cs (stepOf (Holds h) e r .roster) ∙ step-length e r (Holds h)
+calls-length h (job list ∷ cs) r = calls-length h cs (jobOf (Holds h) r list .roster) ∙ ap length (job-marks h r list)
+
+calls-above : (h : Header) (cs : List Call) (r : Roster) (j : ℕ) → h .n ≤ j → isPresent (afterCalls (Holds h) cs r .marks) j ≡ isPresent (r .marks) j
+unfolding afterCalls next
+calls-above h [] r j high = refl
+calls-above h (event e ∷ cs) r j high = calls-above h cs (stepOf (Holds h) e r .roster) j high ∙ stepping h .above r e j high
+calls-above h (job list ∷ cs) r j high = calls-above h cs (jobOf (Holds h) r list .roster) j high ∙ ap (λ (ms : List Bool). isPresent ms j) (job-marks h r list)
+
+-- the marks at first
+start-marks : (h : Header) → h .n ≤ 255 → (j : ℕ) → isPresent (startOf (Holds h) .roster .marks) j ≡ ltb j (h .n)
+unfolding startOf firstStep firstMarks
+start-marks h small j =
+    by-cases (decLt j 255)
+    (λ l. rw zero-add at (getD-from (λ i. ltb i (h .n)) 0 255 j false l))
+    (λ l. List·getD-eq-default (firstMarks (h .n)) false (omega (arith, length-from (λ i. ltb i (h .n)) 0 255)) ∙ sym (le-ltb j (h .n) (omega arith)))
+
+start-job : (h : Header) → startOf (Holds h) .roster .job ≡ 0
+unfolding startOf firstStep
+start-job h = refl
+
 pub kept : (h : Header) → h .n ≤ 255 → Kept h
 unfolding lowestOf lowestList lowestNodes
 kept h small =
     record {
+      start = start-marks h small;
+      start-job = start-job h;
       node = reached-node h small;
       answer = λ es list. rw (reached-present h small es);
       written = λ es list. rw (reached-present h small es);
       last = λ j before e later is none. last-named j before e later true is none;
       none = λ j es free. last-unnamed j es free true;
       between = λ cs r. calls-marks h cs r r refl;
+      many = λ cs. calls-length h cs (startOf (Holds h) .roster) ∙ start-long h small;
+      above = λ cs j high. calls-above h cs (startOf (Holds h) .roster) j high ∙ start-marks h small j ∙ le-ltb j (h .n) high;
     }

@@ -78,8 +78,11 @@ module _ (h : Header) (r : Roster) (list : List ℕ) where
     unfolding jobOf after
     job-moved = rw e
 
-    job-below : 0 < h .k → movedOn (h .n) r .job < presentCount h r
+    job-next : jobOf (Holds h) r list .roster .job ≡ (r .job + 1) % presentCount h r
     unfolding movedOn
+    job-next = ap (λ (x : Roster). x .job) job-moved
+
+    job-below : 0 < h .k → (r .job + 1) % presentCount h r < presentCount h r
     job-below some = mod-lt (r .job + 1) {m = presentCount h r} (omega (arith, enough-are h r list e))
 
 -- for every record: a job answers as the query, and beside a number the list is as it was
@@ -104,6 +107,7 @@ jobs h some =
       nodes = λ r list e. rw (job-around h r list e) (around-nodes h (r .marks) some (enough-are h r list e) (r .job % presentCount h r * h .k));
       here = λ r list e j is. around-here h (r .marks) some (enough-are h r list e) (r .job % presentCount h r * h .k) j (rw (job-around h r list e) at is);
       idle = job-idle h;
-      moves = λ r list e. (job-marks h r list, rw (job-moved h r list e) (job-below h r list e some));
+      marks = job-marks h;
+      moves = λ r list e. (job-next h r list e, rw (job-next h r list e) (job-below h r list e some));
       beyond = λ r q list same number. let ps = same-present h r q same in rw (ps, rw ps at number);
     }

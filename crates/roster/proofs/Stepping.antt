@@ -3,11 +3,12 @@ use mathlib.Core.Path.{_≡_, refl, sym, ap, _∙_}
 use mathlib.Core.Bool.{Bool, Bool·beq, true, false, true≢false}
 use mathlib.Core.List.{List}
 use mathlib.Core.Logic.{by-cases}
-use Prim.Native.Nat.{ℕ, zero, suc, _+_, _<_}
+use Prim.Native.Nat.{ℕ, zero, suc, _+_, _≤_, _<_}
 use native.Mathlib.Decide.{decLt}
 use native.Mathlib.Omega.{arith}
 use lib.Dec.{ltb, leb}
 use lib.ListN.{length, set, length-set, List·getD-eq-default}
+use lib.Seq.{getD-set-other}
 use borrow.Author.Tests.{le-ltb, leb-false}
 use Rattle.lists.specs.Choice.{firstOf, when}
 use Rattle.lists.proofs.Cases.{first-zero, when-zero}
@@ -44,6 +45,15 @@ module _ (n node : ℕ) (here : Bool) (r : Roster) where
       go : (f : ℕ) → eventFault n node here (r .marks) ≡ f → marked f node here r .number ≡ 0 → (marked f node here r .roster .job ≡ 0) × (node < n) × (isPresent (r .marks) node ≡ here → ⊥)
       go zero e z = let (nine, fifteen) = passed n node here (r .marks) e in (refl, leb-false n node nine, λ same. true≢false (sym (beq-same _ here same) ∙ fifteen))
       go (suc f) e z = absurd (omega arith)
+
+  -- an event leaves the marks at n and above
+  step-above : (j : ℕ) → n ≤ j → isPresent (stepWith n node here r .roster .marks) j ≡ isPresent (r .marks) j
+  unfolding stepWith marked
+  step-above j high = go (eventFault n node here (r .marks)) refl
+    where
+      go : (f : ℕ) → eventFault n node here (r .marks) ≡ f → isPresent (marked f node here r .roster .marks) j ≡ isPresent (r .marks) j
+      go zero e = let below : node < n = leb-false n node (passed n node here (r .marks) e .0) in getD-set-other (r .marks) node j here false (λ same. omega arith)
+      go (suc f) e = refl
 
 -- the next roster and its number, by the number that was met
 module _ (node : ℕ) (here : Bool) (r : Roster) where
@@ -111,6 +121,7 @@ stepping h =
     record {
       refused = λ r e bad. step-same e r (Holds h) bad;
       accepted = λ r e z. accepted-event (h .n) (named e) (says e) r z;
+      above = λ r e. step-above (h .n) (named e) (says e) r;
     }
 
 -- no node is present beside a number

@@ -1,7 +1,7 @@
 -- Runs of jobs: they read the present nodes in succession, going round, so that each has its turn.
-use mathlib.Core.Path.{_≡_, refl, sym, ap, ap₂, _∙_}
+use mathlib.Core.Path.{_≡_, refl, sym, ap, ap₂, subst, _∙_}
 use mathlib.Core.Bool.{Bool, true, false, true≢false}
-use mathlib.Core.List.{List, [], _∷_, _++_}
+use mathlib.Core.List.{List, [], _∷_, _++_, append-nil}
 use Prim.Native.Nat.{ℕ, _+_, _-_, _*_, _/_, _%_, _≤_, _<_}
 use native.Mathlib.Nat.{zero-add, zero-mul, mod-mod, mod-add-mod, le-div-iff-mul-le, lt-mul-div-succ, mul-le-mul, le-refl}
 use native.Mathlib.Omega.{arith}
@@ -144,6 +144,7 @@ pub turns : (h : Header) → 0 < h .k → Turns h
 turns h some =
     record {
       reads = λ r cs q. calls-read h (presentOf (h .n) (r .marks)) cs r (r .job) refl refl q;
+      stays = λ r cs q. quiet-marks h cs [] r (subst (λ (l : List Call). Quiet (Holds h) l r) (sym (append-nil cs)) q);
       fair = λ r cs q i j a b. omega (arith, node-turns h r cs q i a, node-turns h r cs q j b);
       waits = λ r before cs q j a enough.
           let same = quiet-marks h before cs r q in

@@ -4,6 +4,7 @@ use mathlib.Core.Logic.{_↔_}
 use mathlib.Core.Bool.{true, false}
 use mathlib.Core.List.{List, _∷_, _++_}
 use Prim.Native.Nat.{ℕ, _+_, _-_, _*_, _/_, _%_, _≤_, _<_}
+use lib.Dec.{ltb}
 use lib.ListN.{length, getD, take}
 use Rattle.lists.specs.Rows.{from}
 use Rattle.lists.specs.Around.{around}
@@ -34,6 +35,9 @@ presentCount h r = length (presentOf (h .n) (r .marks))
 
 -- the roster is that of the history of events
 pub record Kept (h : Header) : Type 0 where
+  -- at first just the nodes below n are present, and the jobs are counted from 0
+  pub start : (j : ℕ) → isPresent (startOf (Holds h) .roster .marks) j ≡ ltb j (h .n)
+  pub start-job : startOf (Holds h) .roster .job ≡ 0
   -- a node is present exactly if the last event that names it says so, or none names it
   pub node : (es : List Event) (j : ℕ) → j < h .n → isPresent (reached h es .marks) j ≡ lastSays j es true
   -- the query's answer and the list afterwards, worked out from the events alone
@@ -44,6 +48,9 @@ pub record Kept (h : Header) : Type 0 where
   pub none : (j : ℕ) (es : List Event) → NoneNames j es → lastSays j es true ≡ true
   -- jobs between the events play no part
   pub between : (cs : List Call) (r : Roster) → afterCalls (Holds h) cs r .marks ≡ afterEvents (Holds h) (eventsIn cs) r .marks
+  -- after any events and jobs there are 255 marks, and those at n and above are absent
+  pub many : (cs : List Call) → length (afterCalls (Holds h) cs (startOf (Holds h) .roster) .marks) ≡ 255
+  pub above : (cs : List Call) (j : ℕ) → h .n ≤ j → isPresent (afterCalls (Holds h) cs (startOf (Holds h) .roster) .marks) j ≡ false
 
 -- one event, on any roster
 pub record Stepping (h : Header) : Type 0 where
@@ -51,6 +58,8 @@ pub record Stepping (h : Header) : Type 0 where
   pub refused : (r : Roster) (e : Event) → (stepOf (Holds h) e r .number ≡ 0 → ⊥) → stepOf (Holds h) e r .roster ≡ r
   -- an accepted one names a node below n that was not what the event says, and the jobs are counted from 0
   pub accepted : (r : Roster) (e : Event) → stepOf (Holds h) e r .number ≡ 0 → (stepOf (Holds h) e r .roster .job ≡ 0) × (named e < h .n) × (isPresent (r .marks) (named e) ≡ says e → ⊥)
+  -- marks at n and above stay as they are
+  pub above : (r : Roster) (e : Event) (j : ℕ) → h .n ≤ j → isPresent (stepOf (Holds h) e r .roster .marks) j ≡ isPresent (r .marks) j
 
 -- the query, on any roster
 pub record Lowest (h : Header) : Type 0 where
@@ -74,8 +83,10 @@ pub record Jobs (h : Header) : Type 0 where
   pub here : (r : Roster) (list : List ℕ) → jobOf (Holds h) r list .listing ≡ Written → (j : ℕ) → isIn j (jobList (Holds h) r list) ≡ true → isPresent (r .marks) j ≡ true
   -- a job that writes nothing leaves roster and list equal
   pub idle : (r : Roster) (list : List ℕ) → (jobOf (Holds h) r list .listing ≡ Written → ⊥) → (jobOf (Holds h) r list .roster ≡ r) × (jobList (Holds h) r list ≡ list)
-  -- after a job that writes, the marks are the same and the job number is below the number of present nodes
-  pub moves : (r : Roster) (list : List ℕ) → jobOf (Holds h) r list .listing ≡ Written → (jobOf (Holds h) r list .roster .marks ≡ r .marks) × (jobOf (Holds h) r list .roster .job < presentCount h r)
+  -- a job leaves the marks
+  pub marks : (r : Roster) (list : List ℕ) → jobOf (Holds h) r list .roster .marks ≡ r .marks
+  -- one that writes moves the job number on by one, modulo the number of present nodes
+  pub moves : (r : Roster) (list : List ℕ) → jobOf (Holds h) r list .listing ≡ Written → (jobOf (Holds h) r list .roster .job ≡ (r .job + 1) % presentCount h r) × (jobOf (Holds h) r list .roster .job < presentCount h r)
   -- marks at n and above play no part, and the job number counts modulo the number of present nodes
   pub beyond : (r q : Roster) (list : List ℕ) → ((j : ℕ) → j < h .n → isPresent (r .marks) j ≡ isPresent (q .marks) j) → r .job % presentCount h r ≡ q .job % presentCount h r → jobList (Holds h) r list ≡ jobList (Holds h) q list
 
@@ -83,6 +94,8 @@ pub record Jobs (h : Header) : Type 0 where
 pub record Turns (h : Header) : Type 0 where
   -- job after job, k places each, the present nodes are read in succession, going round
   pub reads : (r : Roster) (cs : List Call) → Quiet (Holds h) cs r → readsOf (Holds h) cs r ≡ from (around (presentOf (h .n) (r .marks))) (r .job * h .k) (jobsIn (Holds h) cs r * h .k)
+  -- the marks stay
+  pub stays : (r : Roster) (cs : List Call) → Quiet (Holds h) cs r → afterCalls (Holds h) cs r .marks ≡ r .marks
   -- no present node is read more than once oftener than another
   pub fair : (r : Roster) (cs : List Call) → Quiet (Holds h) cs r → (i j : ℕ) → IsIn h r i → IsIn h r j → occurrences i (readsOf (Holds h) cs r) ≤ occurrences j (readsOf (Holds h) cs r) + 1
   -- in s / k jobs of the run, rounded up, wherever they begin in it, every present node is read

@@ -92,11 +92,24 @@ module _ (rec bytes : List ℕ) where
           bytes-are = rw (eq-eqb (length bytes) 256 long) (w ∙ ap (λ (f : ℕ). pick (eqb f 0) (rosterBytes (step .roster)) bytes) number ∙ ap (λ (s : Step). pick (eqb (bytesFault rec d bytes) 0) (rosterBytes (s .roster)) bytes) e);
         }
 
+    -- the number of the answer to a list, and whether the list is written
+    listing-number : (list : List ℕ) → listFault rec (length bytes) (length list) ≡ listingNumber (lowestOf (recordOf rec) (rosterOf bytes) list)
+    unfolding listFault
+    listing-number list = rw (eq-eqb (length bytes) 256 long) (sym (lowest-number (rosterOf bytes) list rec))
+
+    pub listing-wrote : (list : List ℕ) → wrote (lowestOf (recordOf rec) (rosterOf bytes) list) ≡ (eqb (listFault rec (length bytes) (length list)) 0 && isEnough rec bytes)
+    unfolding isEnough
+    listing-wrote list =
+        let a = lowestOf (recordOf rec) (rosterOf bytes) list in
+        rw (listing-number list)
+        (by-test (eqb (listingNumber a) 0)
+        (λ t. rw (t, lowest-wrote (rosterOf bytes) list rec (eqb-true (listingNumber a) 0 t)))
+        (λ t. rw t (unwritten a (eqb-false (listingNumber a) 0 t))))
+
     -- the answer to a list, its number, and what `enough` receives
     module _ (list : List ℕ) (enough enough′ r : ℕ) (a : Listing) (e : a ≡ lowestOf (recordOf rec) (rosterOf bytes) list) (n : r ≡ listingNumber a) (x : enough′ ≡ toldOf a enough) where
-      number-is : r ≡ listingFault rec (length bytes) (length list)
-      unfolding listingFault
-      number-is = rw (eq-eqb (length bytes) 256 long) (n ∙ ap listingNumber e ∙ lowest-number (rosterOf bytes) list rec)
+      number-is : r ≡ listFault rec (length bytes) (length list)
+      number-is = n ∙ ap listingNumber e ∙ sym (listing-number list)
 
       -- by the case of the answer
       told : (a : Listing) → a ≡ lowestOf (recordOf rec) (rosterOf bytes) list → toldOf a enough ≡ pick (eqb (listingNumber a) 0) (when (wrote a) 1) enough
@@ -127,7 +140,7 @@ module _ (rec bytes : List ℕ) where
 
       -- where a job writes, no number is met and k nodes are present
       wrote-both : wrote a ≡ (eqb (listingNumber a) 0 && isEnough rec bytes)
-      wrote-both = by-test (eqb (listingNumber a) 0) (λ t. rw (t, wrote-is (eqb-true (listingNumber a) 0 t))) (λ t. rw t (unwritten a (eqb-false (listingNumber a) 0 t)))
+      wrote-both = ap wrote e ∙ listing-wrote list ∙ ap (λ (x : ℕ). eqb x 0 && isEnough rec bytes) (listing-number list ∙ ap listingNumber (sym e))
 
       pub job-done : (bytes′ list′ : List ℕ) (next : Roster) → next ≡ jobOf (recordOf rec) (rosterOf bytes) list .roster → bytes′ ≡ pick (wrote a) (rosterBytes next) bytes → list′ ≡ jobList (recordOf rec) (rosterOf bytes) list → JobGives rec bytes list enough bytes′ list′ enough′ r
       job-done bytes′ list′ next q b w =

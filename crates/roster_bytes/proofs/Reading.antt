@@ -1,4 +1,4 @@
--- Rosters as bytes: a roster that is written and read again is the same, and so is every history.
+-- Rosters as bytes: a roster that is written and read again is the same, and an event on bytes is the event on their roster.
 use mathlib.Core.Path.{_≡_, refl, sym, ap, ap₂, _∙_}
 use mathlib.Core.Bool.{Bool, true, false, not}
 use mathlib.Core.List.{List, [], _∷_}
@@ -16,9 +16,8 @@ use Rattle.generator.specs.Records.{recordOf}
 use Rattle.roster.specs.declared.Roster.{Roster}
 use Rattle.roster.specs.Events.{Event}
 use Rattle.roster.specs.Rosters.{stepOf}
-use Rattle.roster.specs.Histories.{afterEvents}
 use Rattle.roster.proofs.Stepping.{step-number, step-same, step-length}
-use Rattle.roster_bytes.specs.Bytes.{marksOf, rosterOf, markBytes, rosterBytes, marksIn, bytesFault, eventBytes, afterBytes}
+use Rattle.roster_bytes.specs.Bytes.{marksOf, rosterOf, markBytes, rosterBytes, marksIn, bytesFault, eventBytes}
 
 pub length-marks : (marks : List Bool) → length (markBytes marks) ≡ 255
 unfolding markBytes
@@ -70,9 +69,3 @@ event-back rec e s = go (bytesFault rec e s) (step-number e (rosterOf s) rec)
     go : (f : ℕ) → stepOf (recordOf rec) e (rosterOf s) .number ≡ f → rosterOf (pick (eqb f 0) (rosterBytes next) s) ≡ next
     go zero q = roster-back next (step-length e (rosterOf s) (recordOf rec) ∙ length-read s)
     go (suc f) q = rw (ne-eqb (suc f) 0 (λ z. omega arith)) (sym (step-same e (rosterOf s) (recordOf rec) (λ z. omega arith)))
-
--- and so are events one after the other
-pub history-back : (rec : List ℕ) (es : List Event) (s : List ℕ) → rosterOf (afterBytes rec es s) ≡ afterEvents (recordOf rec) es (rosterOf s)
-unfolding afterBytes afterEvents
-history-back rec [] s = refl
-history-back rec (e ∷ es) s = history-back rec es (eventBytes rec e s) ∙ ap (afterEvents (recordOf rec) es) (event-back rec e s)

@@ -36,8 +36,3 @@ bytesFault rec e s = firstOf (recordFault rec) (eventFault (headerOf rec .n) (na
 -- the bytes after an event: those of the next roster, or the same beside a number
 unfoldable pub eventBytes : List ℕ → Event → List ℕ → List ℕ
 eventBytes rec e s = pick (eqb (bytesFault rec e s) 0) (rosterBytes (stepOf (recordOf rec) e (rosterOf s) .roster)) s
-
--- after events one after the other
-unfoldable pub afterBytes : List ℕ → List Event → List ℕ → List ℕ
-afterBytes rec [] s = s
-afterBytes rec (e ∷ es) s = afterBytes rec es (eventBytes rec e s)

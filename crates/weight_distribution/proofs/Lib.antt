@@ -6,3 +6,4 @@ pub mod Zeros
 pub mod Prescribed
 pub mod Terms
 pub mod Distribution
+pub mod Choosing

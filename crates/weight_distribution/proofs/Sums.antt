@@ -27,6 +27,11 @@ module _ {A : Type 0} where
   all-pass p [] h = refl
   all-pass p (x ∷ xs) h = rw (h .0) (all-pass p xs (h .1))
 
+  -- two lists end to end
+  pub All-append : (P : A → Type 0) (xs ys : List A) → All P xs → All P ys → All P (xs ++ ys)
+  All-append P [] ys a b = b
+  All-append P (x ∷ xs) ys a b = (a .0, All-append P xs ys (a .1) b)
+
   pub sum-ext : (P : A → Type 0) (xs : List A) (f g : A → ℕ) → All P xs → ((x : A) → P x → f x ≡ g x) → sumOf xs f ≡ sumOf xs g
   unfolding sumOf
   sum-ext P [] f g h e = refl

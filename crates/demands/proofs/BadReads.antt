@@ -1,0 +1,7 @@
+-- What one bad read does: gathered.
+use Rattle.bad_reads.proofs.Changes.{record-reaches}
+use Rattle.bad_reads.proofs.Rebuilding.{bad-read}
+use Rattle.demands.specs.BadReads.{BadReads}
+
+pub bad-reads : BadReads
+bad-reads = record { accepted = record-reaches; rebuild = bad-read }

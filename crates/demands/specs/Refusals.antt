@@ -1,0 +1,51 @@
+-- Demand 1: of each call, which number turns it away, that it alters nothing then, and that every other call is accepted.
+use mathlib.Core.Path.{_≡_}
+use mathlib.Core.List.{List, _++_}
+use Prim.Native.Nat.{ℕ}
+use lib.ListN.{length}
+use Rattle.generator.specs.Records.{headerOf}
+use Rattle.blocks.specs.declared.Outcome.{Outcome}
+use Rattle.blocks.specs.declared.Outcome.the-variants as O
+use Rattle.blocks.specs.declared.Update.{Update}
+use Rattle.blocks.specs.declared.Update.the-variants as U
+use Rattle.blocks.specs.declared.Membership.{Membership}
+use Rattle.blocks.specs.declared.Membership.the-variants as M
+use Rattle.blocks.specs.Promises.{EncodeSays, UpdateSays, RecoverSays, RebuildSays, BelongsSays}
+use Rattle.rearrange.specs.Calls.{ToLanesSays, ToNodesSays}
+use Rattle.correct.specs.declared.Correction.{Correction}
+use Rattle.correct.specs.declared.Correction.the-variants as C
+use Rattle.correct.specs.Promises.{CorrectSays}
+use Rattle.find_update.specs.declared.Finding.{Finding}
+use Rattle.find_update.specs.declared.Finding.the-variants as F
+use Rattle.find_update.specs.Promise.{FindSays}
+use Rattle.mends.specs.declared.Mending.{Mending}
+use Rattle.mends.specs.declared.Mending.the-variants as N
+use Rattle.mends.specs.Promise.{MendsSay}
+use Rattle.weight_counts.specs.Weights.{WeightsSay}
+use Rattle.demands.specs.Judging.{Judged}
+use Rattle.demands.specs.Numbers.{recordNumbers, encodeNumbers, updateNumbers, recoverNumbers, rebuildNumbers, belongsNumbers, correctNumbers, rearrangeNumbers, findNumbers, mendsNumbers, weightsNumbers}
+
+pub record Refusals : Type 0 where
+  pub encode : (rec : List ℕ) (l : ℕ) (message out out′ : List ℕ) (r : Outcome) → EncodeSays rec l message out out′ r
+      → Judged (recordNumbers rec ++ encodeNumbers (headerOf rec) l message (length out)) (λ f. r ≡ O.Refused f) (out′ ≡ out)
+  pub update : (rec : List ℕ) (l r t old new : ℕ) (shares shares′ : List ℕ) (a : Update) → UpdateSays rec l r t old new shares shares′ a
+      → Judged (recordNumbers rec ++ updateNumbers (headerOf rec) l r t old new shares) (λ f. a ≡ U.Refused f) (shares′ ≡ shares)
+  pub recover : (rec : List ℕ) (l : ℕ) (nodes shares out out′ : List ℕ) (r : Outcome) → RecoverSays rec l nodes shares out out′ r
+      → Judged (recordNumbers rec ++ recoverNumbers (headerOf rec) l nodes shares (length out)) (λ f. r ≡ O.Refused f) (out′ ≡ out)
+  pub rebuild : (rec : List ℕ) (l : ℕ) (nodes shares : List ℕ) (target : ℕ) (out out′ : List ℕ) (r : Outcome) → RebuildSays rec l nodes shares target out out′ r
+      → Judged (recordNumbers rec ++ rebuildNumbers (headerOf rec) l nodes shares target (length out)) (λ f. r ≡ O.Refused f) (out′ ≡ out)
+  -- a call that only reads alters nothing
+  pub belongs : (rec : List ℕ) (l : ℕ) (shares : List ℕ) (r : Membership) → BelongsSays rec l shares r
+      → Judged (recordNumbers rec ++ belongsNumbers (headerOf rec) l shares) (λ f. r ≡ M.Refused f) (Unit {0})
+  pub correct : (rec : List ℕ) (l : ℕ) (shares shares′ : List ℕ) (r : Correction) → CorrectSays rec l shares shares′ r
+      → Judged (recordNumbers rec ++ correctNumbers (headerOf rec) l shares) (λ f. r ≡ C.Refused f) (shares′ ≡ shares)
+  pub to-lanes : (rec : List ℕ) (l : ℕ) (source out out′ : List ℕ) (r : Outcome) → ToLanesSays rec l source out out′ r
+      → Judged (recordNumbers rec ++ rearrangeNumbers (headerOf rec) l (length source) (length out)) (λ f. r ≡ O.Refused f) (out′ ≡ out)
+  pub to-nodes : (rec : List ℕ) (l : ℕ) (source out out′ : List ℕ) (r : Outcome) → ToNodesSays rec l source out out′ r
+      → Judged (recordNumbers rec ++ rearrangeNumbers (headerOf rec) l (length source) (length out)) (λ f. r ≡ O.Refused f) (out′ ≡ out)
+  pub find : (rec before after : List ℕ) (r : Finding) → FindSays rec before after r
+      → Judged (recordNumbers rec ++ findNumbers (headerOf rec) before after) (λ f. r ≡ F.Refused f) (Unit {0})
+  pub mends : (rec lane nodes symbols nodes′ symbols′ : List ℕ) (r : Mending) → MendsSay rec lane nodes symbols nodes′ symbols′ r
+      → Judged (recordNumbers rec ++ mendsNumbers (headerOf rec) lane (length nodes) (length symbols)) (λ f. r ≡ N.Refused f) ((nodes′ ≡ nodes) × (symbols′ ≡ symbols))
+  pub weights : (rec counts counts′ : List ℕ) (r : Outcome) → WeightsSay rec counts counts′ r
+      → Judged (recordNumbers rec ++ weightsNumbers (headerOf rec) (length counts)) (λ f. r ≡ O.Refused f) (counts′ ≡ counts)
