@@ -2,17 +2,16 @@
 -- Its text stands here as it is. Its definitions are quoted in Agreement, and in the agreements of the crates `generator` and `field`.
 use mathlib.Core.Path.{_≡_, sym, ap, ap₂, subst, _∙_}
 use mathlib.Core.Logic.{_↔_, ⊎-elim}
-use mathlib.Core.Bool.{Bool, true, false, _||_, not, or-true, true≢false}
+use mathlib.Core.Bool.{Bool, true, false, not}
 use mathlib.Core.List.{List}
 use Prim.Native.Nat.{ℕ, _+_, _*_, _%_, _<_}
 use native.Mathlib.Nat.{div-add-mod}
 use native.Mathlib.Omega.{arith}
-use borrow.Author.Tests.{ltb-true, lt-ltb, eqb-true, eqb-false}
+use borrow.Author.Tests.{ltb-true, lt-ltb, eqb-false}
 use lib.Dec.{eqb, ltb}
 use lib.ListN.{length, getD, set}
 use Rattle.lists.specs.Counting as Counting
 use Rattle.lists.specs.Numbers.{allBelow}
-use Rattle.lists.proofs.Cases.{by-test, first-zero, when-zero}
 use Rattle.lists.proofs.Rows.{length-from}
 use Rattle.layout.specs.Layout.{byRow}
 use Rattle.layout.specs.Layout as Layout
@@ -24,9 +23,9 @@ use Rattle.generator.specs.Generator as G
 use Rattle.generator.specs.Shifts as Shifts
 use Rattle.generator.specs.Codewords as Codewords
 use Rattle.generator.specs.Claims as Claims
+use Rattle.generator.proofs.AcceptedBytes.{accepted-older}
 use Rattle.generator.proofs.Changes.{set-message, message-symbol}
 use Rattle.generator.proofs.Claims.{ours}
-use Rattle.generator.proofs.Older.{Older}
 use Rattle.generator.proofs.Recovery.{message-below}
 use Rattle.generator.proofs.RecordsAgreement.{Header, headerOf, weight, recordFault, given, headerOf-agrees, weight-agrees, given-sound}
 use Rattle.generator.proofs.ShiftsAgreement.{shifts, shifts-agrees}
@@ -214,20 +213,9 @@ module _ (h : Own.Header) (s : R.Sound h) (even : h .k * R.distance h % h .n ≡
         );
       }
 
--- a record that document 03 accepts is not of kind 3
-older : (rec : List ℕ) → allBelow 256 rec ≡ true → recordFault rec ≡ 0 → Older rec
-unfolding recordFault
-older rec bytes e =
-    by-test (eqb (getD rec 0 0) 3)
-    (λ t.
-    let three : getD rec 0 0 ≡ 3 = eqb-true (getD rec 0 0) 3 t in
-    let one : (eqb (length rec) 0 || not (eqb (getD rec 0 0) 1 || eqb (getD rec 0 0) 2)) ≡ false = when-zero _ 0 (first-zero _ _ e .0) in
-    absurd (true≢false (sym (or-true (eqb (length rec) 0)) ∙ rw three at one)))
-    (λ t. record { bytes = bytes; kind = t })
-
--- so its claims hold of every record, a list of bytes, that it accepts
-pub ours-holds : (rec : List ℕ) → allBelow 256 rec ≡ true → recordFault rec ≡ 0 → Ours (headerOf rec)
-ours-holds rec bytes e =
-    let old = older rec bytes e in
+-- so its claims hold of every record that it accepts
+pub ours-holds : (rec : List ℕ) → recordFault rec ≡ 0 → Ours (headerOf rec)
+ours-holds rec e =
+    let old = accepted-older rec e in
     let (sound, even) = given-sound rec old e in
     subst Ours (sym (headerOf-agrees rec old)) (ours-given (R.headerOf rec) sound even)
