@@ -5,6 +5,7 @@ pub mod EvenShifts
 pub mod LaidShifts
 pub mod Shifts
 pub mod Sound
+pub mod OrderBound
 pub mod Widths
 pub mod Older
 pub mod Bridge
@@ -29,5 +30,6 @@ pub mod PinnedRows
 pub mod Pinned
 -- The same definitions as document 03 has them.
 pub mod RecordsAgreement
+pub mod AcceptedBytes
 pub mod ShiftsAgreement
 pub mod Agreement

@@ -2,8 +2,8 @@
 use native.Mathlib.Omega.{arith}
 use borrow.Author.Needs.{needs}
 use Rattle.field.proofs.ByteSteps.{timesX-low, timesX-high}
-use Rattle.tables.proofs.next.Statement.{statement}
-use Rattle.tables.proofs.next.Tie as tie
+use Rattle.tables.proofs.powers.next.Statement.{statement}
+use Rattle.tables.proofs.powers.next.Tie as tie
 
 mul-shifted : tie.Need-mul-shifted
 mul-shifted c = search needs

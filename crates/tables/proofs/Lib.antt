@@ -1,0 +1,2 @@
+-- The powers of 2.
+pub mod TwoPowers

@@ -1,0 +1,2 @@
+-- The text of the field's tables.
+pub mod Tables
