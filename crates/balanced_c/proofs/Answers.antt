@@ -11,13 +11,16 @@ use Rattle.blocks.specs.declared.Update.the-variants as U
 use Rattle.blocks.specs.declared.Membership.{Membership}
 use Rattle.blocks.specs.declared.Membership.the-variants as M
 use Rattle.blocks.specs.Bytes.{wrongLane}
-use Rattle.refusals.specs.Faults.{encodeFault, updateFault, recoverFault, rebuildFault, belongsFault, rearrangeFault, faultOf}
+use Rattle.refusals.specs.Faults.{faultOf}
+use Rattle.belongs.specs.Promise.{belongsFault, BelongsSays}
+use Rattle.recover.specs.Promise.{recoverFault, rebuildFault, RecoverSays, RebuildSays}
+use Rattle.update.specs.Promise.{updateFault, UpdateSays}
+use Rattle.encode.specs.Promise.{encodeFault, EncodeSays}
 use Rattle.blocks.specs.Answers.{outcomeOf, outcomeNumber}
-use Rattle.blocks.specs.Promises.{EncodeSays, UpdateSays, RecoverSays, RebuildSays, BelongsSays}
 use Rattle.blocks.proofs.Answered.{outcome-number, altered-means, refused-means, yes-means, no-means, refusal-means}
 use Rattle.blocks.proofs.Bytes.{altered-symbols}
 use Rattle.blocks.proofs.Refused.{update-refused, refused-value}
-use Rattle.rearrange.specs.Calls.{RearrangeSays}
+use Rattle.rearrange.specs.Promise.{RearrangeSays, rearrangeFault}
 use Rattle.weight_counts.specs.Weights.{weightsFault, WeightsSay}
 use Rattle.balanced_c.specs.Calls.{EncodeGives, UpdateGives, RecoverGives, RebuildGives, BelongsGives, RearrangeGives, WeightsGive}
 

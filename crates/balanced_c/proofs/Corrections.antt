@@ -7,9 +7,8 @@ use Rattle.refusals.specs.Faults.{faultOf}
 use Rattle.blocks.proofs.Refused.{refused-value}
 use Rattle.correct.specs.declared.Correction.{Correction}
 use Rattle.correct.specs.declared.Correction.the-variants as C
-use Rattle.correct.specs.Promises.{correctFault, CorrectSays}
-use Rattle.correct.proofs.Answered.{altered-means, refused-means, means-refused}
-use Rattle.correct.proofs.Corrections.{corrections}
+use Rattle.correct.specs.Promise.{correctFault, CorrectSays}
+use Rattle.correct.proofs.Answered.{altered-means, refused-means, means-refused, counted}
 use Rattle.balanced_c.specs.Corrections.{CorrectGives}
 
 module _ (rec : List ℕ) (l : ℕ) (shares : List ℕ) (altered : ℕ) (shares′ : List ℕ) (a : Correction) (says : CorrectSays rec l shares shares′ a) where
@@ -19,7 +18,7 @@ module _ (rec : List ℕ) (l : ℕ) (shares : List ℕ) (altered : ℕ) (shares�
       record {
         number = sym none;
         says = record { promise = record { answer = rw (none, same); written = says .promise .written } };
-        altered-is = corrections .done rec l shares shares′ count (rw e at says) .counts;
+        altered-is = counted rec l shares shares′ count (rw e at says);
       }
 
   pub correct-refuses : (g : ℕ) → a ≡ C.Refused g → CorrectGives rec l shares altered shares′ altered g

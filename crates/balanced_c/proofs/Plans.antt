@@ -2,29 +2,19 @@
 use mathlib.Core.Path.{_≡_, refl, sym, ap, _∙_}
 use mathlib.Core.Bool.{true, _&&_}
 use mathlib.Core.List.{List, [], _∷_}
-use Prim.Native.Nat.{ℕ, zero, suc}
+use Prim.Native.Nat.{ℕ}
 use native.Mathlib.Omega.{arith}
 use lib.Dec.{eqb}
 use lib.ListN.{length, set}
 use borrow.Author.Tests.{eqb-true, not-false}
 use Rattle.lists.specs.Choice.{firstOf}
 use Rattle.lists.proofs.Cases.{and-left, and-right, first-zero, when-zero}
-use Rattle.generator.specs.declared.Header.{Header}
-use Rattle.generator.specs.Records.{headerOf, recordFault, judged, recordOf}
 use Rattle.plan.specs.declared.Plan.{Plan}
-use Rattle.plan.specs.Plans.{planFor, PlanSays}
+use Rattle.plan.specs.Plans.{PlanSays}
+use Rattle.plan.proofs.Plans.{plan-number}
 use Rattle.refusals.specs.Faults.{faultOf}
 use Rattle.blocks.proofs.Refused.{refused-value}
 use Rattle.balanced_c.specs.Calls.{planRoomFault, numbersOf, PlanGives}
-
--- a plan's number is its record's
-plan-number : (rec : List ℕ) → planFor (recordOf rec) .number ≡ recordFault rec
-unfolding planFor recordOf judged
-plan-number rec = go (recordFault rec) (headerOf rec)
-  where
-    go : (f : ℕ) (h : Header) → planFor (judged f h) .number ≡ f
-    go zero h = refl
-    go (suc f) h = refl
 
 -- number 8 is not met
 lengths : (numbers shifts firsts base : ℕ) → planRoomFault numbers shifts firsts base ≡ 0 → (numbers ≡ 5) × (shifts ≡ 255) × (firsts ≡ 255) × (base ≡ 255)

@@ -14,10 +14,13 @@ use Rattle.generator.specs.Claims.{Promised}
 use Rattle.plan.specs.declared.Plan.{Plan}
 use Rattle.plan.specs.Plans.{planFor}
 use Rattle.blocks.specs.Bytes.{wrongLane}
-use Rattle.refusals.specs.Faults.{encodeFault, updateFault, recoverFault, rebuildFault, belongsFault, rearrangeFault, faultOf}
+use Rattle.refusals.specs.Faults.{faultOf}
+use Rattle.belongs.specs.Promise.{belongsFault}
+use Rattle.recover.specs.Promise.{recoverFault, rebuildFault, RecoverSays, RebuildSays}
+use Rattle.update.specs.Promise.{updateFault, UpdateSays}
+use Rattle.encode.specs.Promise.{encodeFault, EncodeSays}
 use Rattle.blocks.specs.Answers.{outcomeOf, updateOf}
-use Rattle.blocks.specs.Promises.{EncodeSays, UpdateSays, RecoverSays, RebuildSays}
-use Rattle.rearrange.specs.Calls.{RearrangeSays}
+use Rattle.rearrange.specs.Promise.{RearrangeSays, rearrangeFault}
 use Rattle.weight_counts.specs.Weights.{weightsFault, WeightsSay}
 
 -- number 8 of `balanced_plan`, from the lengths of its buffers

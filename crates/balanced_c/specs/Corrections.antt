@@ -9,7 +9,7 @@ use Rattle.layout.specs.Layout.{shareLayout}
 use Rattle.layout.specs.Width.{symbolsOf}
 use Rattle.generator.specs.Records.{headerOf, width}
 use Rattle.refusals.specs.Faults.{faultOf}
-use Rattle.correct.specs.Promises.{correctFault, correctionOf, CorrectSays}
+use Rattle.correct.specs.Promise.{correctFault, correctionOf, CorrectSays}
 
 -- `balanced_correct`: the number, what the call says of the shares, and how many of their symbols differ afterwards
 pub record CorrectGives (rec : List ℕ) (l : ℕ) (shares : List ℕ) (altered : ℕ) (shares′ : List ℕ) (altered′ r : ℕ) : Type 0 where

@@ -1,18 +1,19 @@
 // Belongs: whether every lane of a block is a word of the code.
 ghost use Rattle.generator.specs.Records.{Sound};
 ghost use Rattle.layout.specs.Layout.{shareLayout};
-ghost use Rattle.refusals.specs.Faults.{belongsFault};
-ghost use Rattle.blocks.specs.Promises.{BelongsPromise, BelongsSays};
+ghost use Rattle.belongs.specs.Promise.{belongsFault, BelongsPromise, BelongsSays};
 use blocks::Membership;
 use generator::Header;
 use generator::Record;
+
+pub mod fault;
 
 // Tests a block over an accepted record's header.
 fn test_accepted(h: Header, lanes: usize, shares: &[u8]) -> Membership
     requires { ⌜ Sound h ⌝ }
     ensures { λ r. ⌜ BelongsPromise shareLayout lanes (now (shares .entry)) r h (belongsFault h lanes (now (shares .entry))) ⌝ }
 {
-    let number = refusals::belongs_fault(h, lanes, shares);
+    let number = fault::belongs_fault(h, lanes, shares);
     if number != 0 {
         return Membership::Refused(number);
     }

@@ -12,5 +12,4 @@ pub mod Answered
 pub mod Notebook
 -- The same definitions as document 03 has them.
 pub mod Agreement
-pub mod FaultsAgreement
 pub mod OursAgreement

@@ -10,13 +10,13 @@ use Rattle.layout.specs.Layout.{Arrangement, laneOf}
 use Rattle.layout.specs.Width.{symbolsOf}
 use Rattle.generator.specs.declared.Header.{Header}
 use Rattle.generator.specs.Records.{width}
-use Rattle.refusals.specs.Faults.{belongsFault}
+use Rattle.belongs.specs.Promise.{belongsFault}
 use Rattle.blocks.proofs.Refused.{refused-value}
 use Rattle.nearest_word.specs.Nearest.{hasNear}
 use Rattle.correct.proofs.Answered.{means-refused}
 use Rattle.correct.specs.declared.Correction.the-variants.{Altered, Refused}
 use Rattle.correct.specs.Blocks.{firstFar, correctedBytes, correctedCount, farBad}
-use Rattle.correct.specs.Promises.{correctFault, correctionOf, CorrectPromise}
+use Rattle.correct.specs.Promise.{correctFault, correctionOf, CorrectPromise}
 
 module _ (y : Arrangement) (h : Header) (l : ℕ) (shares : List ℕ) where
   -- a number turns the call away, and nothing is written

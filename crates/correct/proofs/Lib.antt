@@ -8,4 +8,3 @@ pub mod Answers
 pub mod MarkedBytes
 pub mod Meaning
 pub mod Turned
-pub mod Corrections

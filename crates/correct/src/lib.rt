@@ -7,7 +7,7 @@ ghost use Rattle.generator.specs.Records.{Sound, width};
 ghost use Rattle.refusals.specs.Accepted.{SymbolBuffer};
 ghost use Rattle.check_sums.specs.Inner.Sums.{powerRows};
 ghost use Rattle.correct.specs.Blocks.{firstFar, correctedBytes, correctedCount, farBad};
-ghost use Rattle.correct.specs.Promises.{correctFault, CorrectPromise, CorrectSays};
+ghost use Rattle.correct.specs.Promise.{correctFault, CorrectPromise, CorrectSays};
 ghost use Rattle.correct.specs.Inner.Marked.{MarkedShares};
 use generator::Header;
 use generator::Record;
@@ -106,7 +106,7 @@ fn correct_accepted(h: Header, lanes: usize, shares: &mut [u8]) -> Correction
     requires { ⌜ Sound h ⌝ }
     ensures { λ r. ⌜ CorrectPromise shareLayout lanes (now (shares .entry)) (now (shares .exit)) r h (correctFault shareLayout h lanes (now (shares .entry))) ⌝ }
 {
-    let number = refusals::belongs_fault(h, lanes, shares);
+    let number = belongs::fault::belongs_fault(h, lanes, shares);
     if number != 0 {
         return Correction::Refused(number);
     }

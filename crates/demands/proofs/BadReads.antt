@@ -1,6 +1,6 @@
 -- What one bad read does: gathered.
-use Rattle.bad_reads.proofs.Changes.{record-reaches}
-use Rattle.bad_reads.proofs.Rebuilding.{bad-read}
+use Rattle.demands.proofs.Changes.{record-reaches}
+use Rattle.demands.proofs.Rebuilding.{bad-read}
 use Rattle.demands.specs.BadReads.{BadReads}
 
 pub bad-reads : BadReads

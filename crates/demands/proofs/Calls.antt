@@ -11,19 +11,24 @@ use Rattle.layout.proofs.Widths.{symbols-bytes}
 use Rattle.generator.specs.declared.Header.{Header}
 use Rattle.generator.specs.Records.{headerOf, width}
 use Rattle.generator.proofs.Widths.{width-some}
-use Rattle.refusals.specs.Faults.{encodeFault, updateFault, recoverFault, rebuildFault, belongsFault, faultOf}
+use Rattle.refusals.specs.Faults.{faultOf}
+use Rattle.belongs.specs.Promise.{belongsFault, BelongsSays}
+use Rattle.recover.specs.Promise.{recoverFault, rebuildFault, RecoverSays, RebuildSays}
+use Rattle.update.specs.Promise.{updateFault, UpdateSays}
+use Rattle.encode.specs.Promise.{encodeFault, EncodeSays}
 use Rattle.refusals.specs.Accepted.{SymbolRows}
-use Rattle.refusals.proofs.Accepts.{encode-accepts, recover-accepts, rebuild-accepts, belongs-accepts}
+use Rattle.recover.proofs.Accepts.{recover-accepts, rebuild-accepts}
+use Rattle.belongs.proofs.Accepts.{belongs-accepts}
+use Rattle.encode.proofs.Accepts.{encode-accepts}
 use Rattle.refusals.proofs.OnRecord.{none-met}
 use Rattle.blocks.specs.declared.Outcome.the-variants as O
 use Rattle.blocks.specs.declared.Update.the-variants as U
 use Rattle.blocks.specs.declared.Membership.the-variants as M
 use Rattle.blocks.specs.Blocks.{shareOf, sharesOf, updated, firstWrong, MessageFor}
 use Rattle.blocks.specs.Bytes.{encodedBytes, updatedBytes, RecoveredBytes, RebuiltBytes, wrongLane}
-use Rattle.blocks.specs.Promises.{EncodeSays, UpdateSays, RecoverSays, RebuildSays, BelongsSays}
 use Rattle.blocks.proofs.Answered.{done-means, altered-means, yes-means, no-means}
 use Rattle.blocks.proofs.Bytes.{altered-symbols}
-use Rattle.blocks.proofs.Recovered.{recover-law, rebuild-law}
+use Rattle.recover.proofs.Laws.{recover-law, rebuild-law}
 use Rattle.blocks.proofs.Shares.{length-share}
 use Rattle.blocks.proofs.Words.{wrong-most}
 use Rattle.demands.specs.Coding.{Symbols}

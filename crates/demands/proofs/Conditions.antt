@@ -1,7 +1,7 @@
 -- What a test says, in plain terms.
 use mathlib.Core.Path.{_≡_, refl, sym}
 use mathlib.Core.Logic.{_↔_, _≢_, _⊎_, inl, inr, ⊎-elim}
-use mathlib.Core.Bool.{Bool, true, false, _&&_, _||_, not, true≢false}
+use mathlib.Core.Bool.{Bool, true, false, _||_, not, true≢false}
 use mathlib.Core.List.{List, [], _∷_}
 use Prim.Native.Nat.{ℕ, suc, _≤_, _<_}
 use native.Mathlib.Omega.{arith}
@@ -9,7 +9,7 @@ use borrow.Author.Tests.{ltb-true, ltb-false, leb-true, eqb-true, lt-ltb, le-leb
 use lib.Dec.{eqb, ltb, leb}
 use Rattle.lists.specs.Numbers.{allBelow, isIn, distinct}
 use Rattle.lists.proofs.All.{Distinct-at}
-use Rattle.lists.proofs.Cases.{by-test, and-left, and-right, both-true}
+use Rattle.lists.proofs.Cases.{by-test}
 use Rattle.lists.proofs.Numbers.{below-at, isIn-place, distinct-all}
 use Rattle.demands.specs.Numbers.{SomeFrom, SomeTwice}
 
@@ -32,9 +32,6 @@ module _ {A : Type 0} where
   pub or-test : {B : Type 0} (a b : Bool) → (a ≡ true) ↔ A → (b ≡ true) ↔ B → ((a || b) ≡ true) ↔ (A ⊎ B)
   or-test true b f g = (λ e. inl (f .0 refl), λ e. refl)
   or-test false b f g = (λ e. inr (g .0 e), ⊎-elim (λ x. absurd (true≢false (sym (f .1 x)))) (g .1))
-
-  pub and-test : {B : Type 0} (a b : Bool) → (a ≡ true) ↔ A → (b ≡ true) ↔ B → ((a && b) ≡ true) ↔ (A × B)
-  and-test a b f g = (λ e. (f .0 (and-left a b e), g .0 (and-right a b e)), λ e. both-true (f .1 (e .0)) (g .1 (e .1)))
 
 pub other-test : (a b : ℕ) → (not (eqb a b) ≡ true) ↔ (a ≢ b)
 other-test a b = not-test (eqb a b) (equal-test a b)

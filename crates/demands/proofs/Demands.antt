@@ -3,9 +3,10 @@ use Rattle.scheme.proofs.Bounds.{price}
 use Rattle.generator.specs.Records.{headerOf}
 use Rattle.generator.proofs.Accepts.{faultless-sound}
 use Rattle.generator.proofs.Claims.{ours}
+use Rattle.generator.proofs.Pinned.{pinned}
 use Rattle.generator.proofs.SchemeOf.{our-scheme, scheme-least}
-use Rattle.rearrange.proofs.Lanes.{lane-after-lane}
-use Rattle.correct.proofs.Corrections.{corrections}
+use Rattle.demands.proofs.LaneAfterLane.{lane-after-lane}
+use Rattle.demands.proofs.Corrections.{corrections}
 use Rattle.demands.specs.Demands.{Demands}
 use Rattle.demands.proofs.Refusals.{refusals}
 use Rattle.demands.proofs.RosterRefusals.{roster-refusals}
@@ -31,6 +32,7 @@ demands =
       roster-refusals = roster-refusals;
       interface = interface;
       code = λ rec none. code-demands (headerOf rec) (faultless-sound rec none);
+      pins = pinned;
       price = λ k n S C s. price s;
       ours = λ rec none. record { code = ours (headerOf rec) (faultless-sound rec none); scheme = our-scheme (headerOf rec) (faultless-sound rec none) };
       least = λ rec none S C t x y two. scheme-least (headerOf rec) (faultless-sound rec none) t x y two;

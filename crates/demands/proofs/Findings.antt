@@ -6,6 +6,7 @@ use mathlib.Core.List.{List}
 use Prim.Native.Nat.{ℕ, _<_}
 use native.Mathlib.Omega.{arith}
 use Rattle.lists.specs.Numbers.{allBelow}
+use Rattle.lists.proofs.Cases.{never}
 use Rattle.layout.specs.Layout.{laneOf, shareLayout}
 use Rattle.layout.proofs.Buffers.{length-lane}
 use Rattle.layout.proofs.Places.{share-lawful}
@@ -31,9 +32,9 @@ use Rattle.demands.specs.Calls.{read}
 use Rattle.demands.specs.Findings.{InNumbers, Findings}
 
 call : (rec before after : List ℕ) (r : Finding) → FindSays rec before after r → ((g : ℕ) → r ≡ Refused g → ⊥) → (r ≡ findingOf (headerOf rec) (read (headerOf rec) before) (read (headerOf rec) after)) × Finds (headerOf rec) (read (headerOf rec) before) (read (headerOf rec) after)
-call rec before after r says other =
+call rec before after r says never =
     let h = headerOf rec in
-    let (none, same) = found-means (faultOf rec (λ h. findFault h before after)) (findingOf h (read h before) (read h after)) r (says .found .promise .answer) other in
+    let (none, same) = found-means (faultOf rec (λ h. findFault h before after)) (findingOf h (read h before) (read h after)) r (says .found .promise .answer) never in
     let (sound, own) = none-met rec (λ h. findFault h before after) none in
     let lanes = find-accepts h before after own in
     (sym same, finds h sound (read h before) (read h after) (lanes .first) (lanes .second))
@@ -45,16 +46,12 @@ same-symbols h s a b ha hb e =
     sym (laws .sub-add a b ha hb) ∙ ap (λ (x : ℕ). add (modulusOf h) x b) e ∙ laws .add-comm 0 b (zero-below laws) hb ∙ laws .add-zero b hb
 
 again : (h : Header) → Sound h → (l r t old new : ℕ) (s : List ℕ) → allBelow (size h) (laneOf shareLayout (h .n) l t s) ≡ true → r < h .k → t < l → old < size h → new < size h → (new ≡ old → ⊥) → findingOf h (laneOf shareLayout (h .n) l t s) (laneOf shareLayout (h .n) l t (updated shareLayout h l r t old new s)) ≡ Added r (sub (modulusOf h) new old)
-again h sound l r t old new s symbols row inside ho hn other =
+again h sound l r t old new s symbols row inside ho hn never =
     let us = laneOf shareLayout (h .n) l t s in
     let lane : IsLane h us = record { long = length-lane shareLayout (h .n) l t s; symbols = symbols } in
     let laws = arithmetic (modulusOf h) (sound .field) in
     ap (findingOf h us) (update-adds share-lawful h l r t old new s inside)
-    ∙ finds-again h sound us lane r (sub (modulusOf h) new old) row (laws .sub-below new old hn ho) (λ z. other (same-symbols h sound new old hn ho z))
-
--- two cases are never equal
-other : {A : Type 0} → _≡_ {A = ℕ} 0 1 → A
-other z = absurd (omega arith)
+    ∙ finds-again h sound us lane r (sub (modulusOf h) new old) row (laws .sub-below new old hn ho) (λ z. never (same-symbols h sound new old hn ho z))
 
 pub in-numbers : (h : Header) (us vs : List ℕ) → Finds h us vs → let found = findingOf h us vs in InNumbers h us vs (caseOf found) (foundSymbol found) (foundAmount found)
 unfolding caseOf foundSymbol foundAmount
@@ -72,7 +69,7 @@ in-numbers h us vs finds = go (findingOf h us vs) refl
         }
     go (Added r x) is =
         let (row, low, leads) = finds .there r x is in
-        let apart : us ≢ vs = λ same. let w : Added r x ≡ Unchanged = sym is ∙ finds .unchanged .1 same in other cc in
+        let apart : us ≢ vs = λ same. let w : Added r x ≡ Unchanged = sym is ∙ finds .unchanged .1 same in never cc in
         record {
           unchanged = (λ e. absurd (omega arith), λ e. absurd (apart e));
           one = (λ e. (apart, (r, x, row, low, leads)), λ e. refl);

@@ -11,10 +11,14 @@ use Rattle.layout.specs.Layout.{Arrangement, shareLayout}
 use Rattle.generator.specs.declared.Header.{Header}
 use Rattle.generator.specs.Records.{headerOf, recordOf}
 use Rattle.generator.proofs.Accepts.{faultless-sound}
-use Rattle.refusals.specs.Faults.{encodeFault, updateFault, recoverFault, rebuildFault, belongsFault, rearrangeFault}
+use Rattle.rearrange.specs.Promise.{rearrangeFault}
+use Rattle.belongs.specs.Promise.{belongsFault}
+use Rattle.recover.specs.Promise.{recoverFault, rebuildFault}
+use Rattle.update.specs.Promise.{updateFault}
+use Rattle.encode.specs.Promise.{encodeFault}
 use Rattle.refusals.proofs.OnRecord.{none-met}
 use Rattle.plan.specs.Plans.{planFor}
-use Rattle.correct.specs.Promises.{correctFault}
+use Rattle.correct.specs.Promise.{correctFault}
 use Rattle.find_update.specs.Promise.{findFault}
 use Rattle.find_update.proofs.Accepts.{find-accepts}
 use Rattle.find_update.proofs.Meaning.{finds}

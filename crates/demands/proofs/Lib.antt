@@ -19,3 +19,11 @@ pub mod SmallPlans
 pub mod Mending
 pub mod Interface
 pub mod Demands
+pub mod TurnedSymbols
+pub mod TurnedBytes
+pub mod LaneAfterLane
+pub mod Corrections
+pub mod FaultsAgreement
+pub mod Changes
+pub mod Rebuilding
+pub mod Examples

@@ -15,11 +15,17 @@ use Rattle.layout.proofs.Places.{share-lawful}
 use Rattle.generator.specs.declared.Header.{Header}
 use Rattle.generator.specs.Records.{headerOf, recordFault, size, width, Sound}
 use Rattle.refusals.specs.Conditions.{lanesBad, lengthBad, numberBad, nodesBad, twiceBad, symbolBad, symbolsBad, laneBad}
-use Rattle.refusals.specs.Faults.{encodeFault, inputFault, staleFault, updateFault, listFault, recoverFault, rebuildFault, belongsFault, rearrangeFault, faultOf}
-use Rattle.refusals.proofs.Accepts.{input-accepts, belongs-accepts}
+use Rattle.refusals.specs.Faults.{staleFault, listFault, faultOf}
+use Rattle.rearrange.specs.Promise.{rearrangeFault}
+use Rattle.belongs.specs.Promise.{belongsFault}
+use Rattle.recover.specs.Promise.{recoverFault, rebuildFault}
+use Rattle.update.specs.Promise.{inputFault, updateFault}
+use Rattle.encode.specs.Promise.{encodeFault}
+use Rattle.update.proofs.Accepts.{input-accepts}
+use Rattle.belongs.proofs.Accepts.{belongs-accepts}
 use Rattle.nearest_word.specs.Nearest.{hasNear}
 use Rattle.correct.specs.Blocks.{farBad}
-use Rattle.correct.specs.Promises.{correctFault}
+use Rattle.correct.specs.Promise.{correctFault}
 use Rattle.correct.specs.Meaning.{NearWord, laneIn}
 use Rattle.correct.proofs.Meaning.{has-near, none-near, one-far, far-not}
 use Rattle.find_update.specs.Promise.{findFault}

@@ -1,48 +1,27 @@
 -- Records and plans: the sentences, proved.
 use mathlib.Core.Path.{_≡_, refl, sym, ap, ap₂, _∙_}
-use mathlib.Core.List.{List, _++_}
-use Prim.Native.Nat.{ℕ, zero, suc, _+_, _-_, _*_, _≤_}
+use mathlib.Core.List.{List}
+use Prim.Native.Nat.{ℕ, zero, suc, _+_, _-_, _*_}
 use native.Mathlib.Omega.{arith}
-use lib.ListN.{length, getD}
-use lib.Seq.{getD-append-add}
-use Rattle.lists.specs.Padded.{zeros, padded}
-use Rattle.lists.proofs.Padding.{length-padded}
-use Rattle.lists.proofs.Rows.{length-from}
+use Rattle.lists.proofs.Padding.{length-padded, padded-past, getD-zeros}
 use Rattle.field.specs.declared.Field.the-variants.{Prime}
 use Rattle.field.specs.Kinds.{primeOf}
 use Rattle.generator.specs.declared.Header.{Header}
 use Rattle.generator.specs.declared.Record.the-variants.{Holds}
 use Rattle.generator.specs.Records.{headerOf, recordFault, recordOf, judged, distance, lowReads, highReads, Sound}
 use Rattle.generator.specs.Shifts.{shifts, negative, firsts}
-use Rattle.generator.specs.Generator.{entryAt, baseWord}
+use Rattle.generator.specs.Generator.{baseWord}
 use Rattle.generator.proofs.Accepts.{faultless-sound}
 use Rattle.generator.proofs.Claims.{ours}
 use Rattle.generator.proofs.Shifts.{shifts-length, firsts-length}
 use Rattle.plan.specs.declared.Plan.{Plan}
 use Rattle.plan.specs.Plans.{planFor, PlanSays}
-use Rattle.plan.proofs.Plans.{shift-in, first-in, entry-read}
+use Rattle.plan.proofs.Plans.{shift-in, first-in, entry-read, length-base, plan-number}
 use Rattle.demands.specs.Judging.{Judged, Returns}
 use Rattle.demands.specs.Numbers.{recordNumbers}
 use Rattle.demands.specs.Plans.{PlanHolds, EmptyPlan, Plans}
 use Rattle.demands.proofs.Judging.{by-number}
 use Rattle.demands.proofs.RecordNumbers.{record-tells}
-
--- zeros, and what stands past a list that is padded with them
-zeros-at : (n i : ℕ) → getD (zeros n) i 0 ≡ 0
-unfolding zeros
-zeros-at zero i = refl
-zeros-at (suc n) zero = refl
-zeros-at (suc n) (suc i) = zeros-at n i
-
-past : (n : ℕ) (xs : List ℕ) (i : ℕ) → length xs ≤ i → getD (padded n xs) i 0 ≡ 0
-unfolding padded
-past n xs i high =
-    let place : i ≡ length xs + (i - length xs) = omega arith in
-    ap (λ (j : ℕ). getD (xs ++ zeros (n - length xs)) j 0) place ∙ getD-append-add xs (zeros (n - length xs)) (i - length xs) 0 ∙ zeros-at (n - length xs) (i - length xs)
-
-base-long : (h : Header) → length (baseWord h) ≡ h .n
-unfolding baseWord
-base-long h = length-from (entryAt h 0) 0 (h .n)
 
 holds : (h : Header) → Sound h → PlanHolds h (planFor (Holds h))
 unfolding planFor distance lowReads highReads negative
@@ -58,14 +37,14 @@ holds h s =
       places = (
         length-padded 255 (shifts h) (omega (arith, shifts-long, s .fits, s .byte)),
         length-padded 255 (firsts h) (omega (arith, firsts-long, s .fits, s .byte)),
-        length-padded 255 (baseWord h) (omega (arith, base-long h, s .byte)),
+        length-padded 255 (baseWord h) (omega (arith, length-base h, s .byte)),
       );
       shift = shift-in h s;
       first = λ r row. first-in h s r row ∙ ours h s .firsts-negative r row ∙ rw (shift-in h s r row);
       entries = λ r j row node. sym (entry-read h s r j row node);
       beyond = λ i. (
-        λ high. (past 255 (shifts h) i (omega (arith, shifts-long)), past 255 (firsts h) i (omega (arith, firsts-long))),
-        λ high. past 255 (baseWord h) i (omega (arith, base-long h)),
+        λ high. (padded-past 255 (shifts h) i (omega (arith, shifts-long)), padded-past 255 (firsts h) i (omega (arith, firsts-long))),
+        λ high. padded-past 255 (baseWord h) i (omega (arith, length-base h)),
       );
     }
 
@@ -75,26 +54,17 @@ accepted rec p says none =
     let is : p ≡ planFor (Holds (headerOf rec)) = says .plan ∙ rw none in
     rw is (holds (headerOf rec) (faultless-sound rec none))
 
--- the number is the record's, and beside it the plan is empty
-number-is : (rec : List ℕ) → planFor (recordOf rec) .number ≡ recordFault rec
-unfolding recordOf judged planFor
-number-is rec = go (recordFault rec)
-  where
-    go : (f : ℕ) → planFor (judged f (headerOf rec)) .number ≡ f
-    go zero = refl
-    go (suc f) = refl
-
 empty : (rec : List ℕ) → (recordFault rec ≡ 0 → ⊥) → EmptyPlan (planFor (recordOf rec))
 unfolding recordOf judged planFor
 empty rec = go (recordFault rec)
   where
     go : (f : ℕ) → (f ≡ 0 → ⊥) → EmptyPlan (planFor (judged f (headerOf rec)))
     go zero some = absurd (some refl)
-    go (suc f) some = record { numbers = (refl, refl, refl, refl, refl); places = λ i. (zeros-at 255 i, zeros-at 255 i, zeros-at 255 i) }
+    go (suc f) some = record { numbers = (refl, refl, refl, refl, refl); places = λ i. (getD-zeros 255 i, getD-zeros 255 i, getD-zeros 255 i) }
 
 number : (rec : List ℕ) (p : Plan) → PlanSays rec p → Judged (recordNumbers rec) (Returns (p .number)) (EmptyPlan p)
 number rec p says =
-    let is : p .number ≡ recordFault rec = ap (λ (x : Plan). x .number) (says .plan) ∙ number-is rec in
+    let is : p .number ≡ recordFault rec = ap (λ (x : Plan). x .number) (says .plan) ∙ plan-number rec in
     by-number is (record-tells rec) (λ some. rw (says .plan) (empty rec (λ z. some (is ∙ z))))
 
 -- two bytes as a number

@@ -10,21 +10,24 @@ use Rattle.layout.specs.Layout.{Arrangement, shareLayout}
 use Rattle.generator.specs.declared.Header.{Header}
 use Rattle.generator.specs.Records.{headerOf}
 use Rattle.generator.proofs.Accepts.{faultless-sound}
-use Rattle.refusals.specs.Faults.{encodeFault, updateFault, recoverFault, rebuildFault, belongsFault, rearrangeFault, faultOf}
+use Rattle.refusals.specs.Faults.{faultOf}
+use Rattle.belongs.specs.Promise.{belongsFault, BelongsSays}
+use Rattle.recover.specs.Promise.{recoverFault, rebuildFault, RecoverSays, RebuildSays}
+use Rattle.update.specs.Promise.{updateFault, UpdateSays}
+use Rattle.encode.specs.Promise.{encodeFault, EncodeSays}
 use Rattle.blocks.specs.declared.Outcome.{Outcome}
 use Rattle.blocks.specs.declared.Outcome.the-variants as O
 use Rattle.blocks.specs.declared.Update.{Update}
 use Rattle.blocks.specs.declared.Update.the-variants as U
 use Rattle.blocks.specs.declared.Membership.{Membership}
 use Rattle.blocks.specs.declared.Membership.the-variants as M
-use Rattle.blocks.specs.Answers.{outcomeOf, membershipOf}
-use Rattle.blocks.specs.Promises.{EncodeSays, UpdateSays, RecoverSays, RebuildSays, BelongsSays}
+use Rattle.blocks.specs.Answers.{outcomeOf}
 use Rattle.blocks.proofs.Answered.{refused-means, refusal-means}
-use Rattle.blocks.proofs.Refused.{outcome-refused, update-refused}
-use Rattle.rearrange.specs.Calls.{RearrangeSays}
+use Rattle.blocks.proofs.Refused.{outcome-refused, update-refused, membership-refused}
+use Rattle.rearrange.specs.Promise.{RearrangeSays, rearrangeFault}
 use Rattle.correct.specs.declared.Correction.{Correction}
 use Rattle.correct.specs.declared.Correction.the-variants as C
-use Rattle.correct.specs.Promises.{correctFault, CorrectSays}
+use Rattle.correct.specs.Promise.{correctFault, CorrectSays}
 use Rattle.correct.proofs.Answered as A
 use Rattle.find_update.specs.declared.Finding.{Finding}
 use Rattle.find_update.specs.declared.Finding.the-variants as F
@@ -47,11 +50,6 @@ outcome-means : (f g : ℕ) → O.Refused g ≡ outcomeOf f → (g ≡ f) × (g 
 unfolding outcomeOf
 outcome-means zero g e = never cc
 outcome-means (suc f) g e = let same : g ≡ suc f = cc in (same, λ z. omega arith)
-
-membership-refused : (f l wrong : ℕ) → (f ≡ 0 → ⊥) → membershipOf f l wrong ≡ M.Refused f
-unfolding membershipOf
-membership-refused zero l wrong some = absurd (some refl)
-membership-refused (suc f) l wrong some = refl
 
 mending-refused : (f count : ℕ) → (f ≡ 0 → ⊥) → mendingOf f count ≡ N.Refused f
 unfolding mendingOf

@@ -13,9 +13,10 @@ use Rattle.lists.proofs.Rows.{from-ext, length-from, getD-from}
 use Rattle.layout.specs.Layout.{byRow, held, laneOf, buffer, shareLayout}
 use Rattle.layout.specs.Width.{symbolBytes, bytesOf}
 use Rattle.layout.proofs.Buffers.{length-buffer, length-lane, getD-lane, held-buffer, held-equal, buffer-ext, lanes-equal}
-use Rattle.layout.proofs.Places.{share-lawful, place-share, held-share, held-by-row}
+use Rattle.layout.proofs.Places.{share-lawful, held-share, held-by-row}
 use Rattle.layout.proofs.Readings.{count-symbols, bytes-symbols, getD-bytes}
 use Rattle.layout.proofs.Widths.{length-bytes, symbols-bytes}
+use Rattle.layout.proofs.Tiles.{lane-place}
 use Rattle.generator.specs.declared.Header.{Header}
 use Rattle.generator.specs.Records.{headerOf, width, Sound}
 use Rattle.generator.specs.Codewords.{encoding}
@@ -26,26 +27,30 @@ use Rattle.generator.proofs.Recovery.{nodes-places}
 use Rattle.generator.proofs.Widths.{width-some}
 use Rattle.generator.proofs.Words.{encoding-symbols, encoding-word}
 use Rattle.refusals.specs.Accepted.{SymbolBuffer}
-use Rattle.refusals.specs.Faults.{encodeFault, updateFault, recoverFault, rebuildFault, faultOf}
-use Rattle.refusals.proofs.Accepts.{encode-accepts, update-accepts, recover-accepts, rebuild-accepts}
+use Rattle.refusals.specs.Faults.{faultOf}
+use Rattle.recover.specs.Promise.{recoverFault, rebuildFault, RecoverSays, RebuildSays}
+use Rattle.update.specs.Promise.{updateFault, UpdateSays}
+use Rattle.encode.specs.Promise.{encodeFault, EncodeSays}
+use Rattle.recover.proofs.Accepts.{recover-accepts, rebuild-accepts}
+use Rattle.update.proofs.Accepts.{update-accepts}
+use Rattle.encode.proofs.Accepts.{encode-accepts}
 use Rattle.refusals.proofs.OnRecord.{none-met}
 use Rattle.blocks.specs.declared.Outcome.the-variants as O
 use Rattle.blocks.specs.declared.Update.the-variants as U
 use Rattle.blocks.specs.Blocks.{shareAt, shareOf, sharesOf, gathered, recovered, updated}
 use Rattle.blocks.specs.Bytes.{encodedBytes, updatedBytes, recoveredBytes, rebuiltBytes}
-use Rattle.blocks.specs.Promises.{EncodeSays, UpdateSays, RecoverSays, RebuildSays}
 use Rattle.blocks.proofs.Answered.{done-means, altered-means}
 use Rattle.blocks.proofs.Messages.{lane-message, gathered-message}
 use Rattle.blocks.proofs.OneSymbol.{updated-shares}
 use Rattle.blocks.proofs.Recovered.{recovered-only}
 use Rattle.blocks.proofs.Shares.{length-shares, lane-encodes}
-use Rattle.rearrange.specs.Lanes.{Full}
+use Rattle.demands.specs.LaneAfterLane.{Full}
 use Rattle.correct.specs.declared.Correction.the-variants as C
 use Rattle.correct.specs.Blocks.{correctedShares, correctedBytes}
-use Rattle.correct.specs.Promises.{correctFault, CorrectSays}
+use Rattle.correct.specs.Promise.{correctFault, CorrectSays}
 use Rattle.correct.specs.Meaning.{NearWord, laneIn}
 use Rattle.correct.proofs.Answered as Corrected
-use Rattle.correct.proofs.Corrections.{corrections}
+use Rattle.demands.proofs.Corrections.{corrections}
 use Rattle.demands.specs.Calls.{read}
 use Rattle.demands.specs.RoundTrips.{cutOf, withSymbol, FewWrong, RoundTrips}
 use Rattle.demands.proofs.Calls.{read-written}
@@ -76,18 +81,15 @@ cut-symbols : (h : Header) (l : ℕ) (nodes shares : List ℕ) → read h (cutOf
 unfolding cutOf
 cut-symbols h l nodes shares = symbols-bytes (width h) _ (width-some h)
 
-place-inside : (rows l i t : ℕ) → i < rows → t < l → t * rows + i < rows * l
-place-inside rows l i t row inside = rw (place-share rows l i t) at (share-lawful .inside rows l i t row inside)
-
 cut : (h : Header) (l : ℕ) (nodes shares : List ℕ) → Full h (h .n) l shares → allBelow 256 shares ≡ true → (i t v : ℕ) → i < length nodes → getD nodes i 0 < h .n → t < l → v < width h → getD (cutOf h l nodes shares) ((t * length nodes + i) * width h + v) 0 ≡ getD shares ((t * h .n + getD nodes i 0) * width h + v) 0
 unfolding cutOf
 cut h l nodes shares full bytes i t v place node inside low =
     let w = width h in
     let f : ℕ → ℕ → ℕ = λ i t. held shareLayout (h .n) l (read h shares) (getD nodes i 0) t in
     let xs = buffer shareLayout (length nodes) l f in
-    getD-bytes w xs (t * length nodes + i) v (rw (length-buffer shareLayout (length nodes) l f) (place-inside (length nodes) l i t place inside)) low
+    getD-bytes w xs (t * length nodes + i) v (rw (length-buffer shareLayout (length nodes) l f) (lane-place (length nodes) l i t place inside)) low
     ∙ ap (λ (x : ℕ). getD (symbolBytes w x) v 0) (sym (held-share (length nodes) l xs i t) ∙ held-buffer share-lawful (length nodes) l f i t place inside ∙ held-share (h .n) l (read h shares) (getD nodes i 0) t)
-    ∙ sym (getD-bytes w (read h shares) (t * h .n + getD nodes i 0) v (rw (count-symbols w (h .n * l) shares (width-some h) full) (place-inside (h .n) l (getD nodes i 0) t node inside)) low)
+    ∙ sym (getD-bytes w (read h shares) (t * h .n + getD nodes i 0) v (rw (count-symbols w (h .n * l) shares (width-some h) full) (lane-place (h .n) l (getD nodes i 0) t node inside)) low)
     ∙ ap (λ (s : List ℕ). getD s ((t * h .n + getD nodes i 0) * w + v) 0) (bytes-symbols w (h .n * l) shares (width-some h) full bytes)
 
 -- a buffer of one row is that row

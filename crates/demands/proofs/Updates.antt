@@ -29,8 +29,9 @@ use Rattle.generator.proofs.Widths.{width-some}
 use Rattle.generator.proofs.Messages.{encoding-injective, message-back, word-message}
 use Rattle.generator.proofs.Words.{words-poly, encoding-word}
 use Rattle.refusals.specs.Conditions.{noWord, otherSymbol}
-use Rattle.refusals.specs.Faults.{inputFault, staleFault, updateFault}
-use Rattle.refusals.proofs.Accepts.{input-accepts, update-accepts}
+use Rattle.refusals.specs.Faults.{staleFault}
+use Rattle.update.specs.Promise.{inputFault, updateFault}
+use Rattle.update.proofs.Accepts.{input-accepts, update-accepts}
 use Rattle.blocks.specs.Blocks.{updated}
 use Rattle.blocks.proofs.Updates.{updated-encodes, updated-others, updated-count}
 use Rattle.demands.specs.Numbers.{staleNumbers}

@@ -3,8 +3,8 @@ use mathlib.Core.Path.{_≡_}
 use mathlib.Core.List.{List}
 use Prim.Native.Nat.{ℕ}
 use Rattle.generator.specs.Records.{headerOf, recordFault}
-use Rattle.bad_reads.specs.Changes.{Reaches}
-use Rattle.bad_reads.specs.Rebuilding.{BadRead}
+use Rattle.demands.specs.Changes.{Reaches}
+use Rattle.demands.specs.Rebuilding.{BadRead}
 
 pub record BadReads : Type 0 where
   -- of every accepted record

@@ -14,7 +14,10 @@ use Rattle.blocks.specs.declared.Outcome.the-variants as O
 use Rattle.blocks.specs.declared.Update.the-variants as U
 use Rattle.blocks.specs.declared.Membership.the-variants as M
 use Rattle.blocks.specs.Blocks.{gathered, MessageFor}
-use Rattle.blocks.specs.Promises.{EncodeSays, UpdateSays, RecoverSays, RebuildSays, BelongsSays}
+use Rattle.belongs.specs.Promise.{BelongsSays}
+use Rattle.recover.specs.Promise.{RecoverSays, RebuildSays}
+use Rattle.update.specs.Promise.{UpdateSays}
+use Rattle.encode.specs.Promise.{EncodeSays}
 use Rattle.demands.specs.Coding.{Symbols}
 use Rattle.demands.specs.Updates.{Updated}
 

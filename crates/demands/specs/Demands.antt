@@ -7,8 +7,9 @@ use Rattle.scheme.specs.Schemes.{Scheme}
 use Rattle.scheme.specs.Costs.{Price, CostsAtLeast}
 use Rattle.generator.specs.Records.{headerOf, recordFault}
 use Rattle.generator.specs.Claims.{Accepted}
-use Rattle.rearrange.specs.Lanes.{LaneAfterLane}
-use Rattle.correct.specs.Corrections.{Corrections}
+use Rattle.generator.specs.Pinned.{Pinned}
+use Rattle.demands.specs.LaneAfterLane.{LaneAfterLane}
+use Rattle.demands.specs.Corrections.{Corrections}
 use Rattle.demands.specs.Refusals.{Refusals}
 use Rattle.demands.specs.RosterRefusals.{RosterRefusals}
 use Rattle.demands.specs.Interface.{Interface}
@@ -33,6 +34,8 @@ pub record Demands : Type 1 where
   pub interface : Interface
   -- demand 2
   pub code : (rec : List ℕ) → recordFault rec ≡ 0 → CodeDemands (headerOf rec)
+  -- what the documents fix of records and rows
+  pub pins : Pinned
   -- demand 3: the least writes and reads of any scheme
   pub price : (k n : ℕ) (S : Type 0) (C : Fin n → Type 0) (s : Scheme k n S C) → 1 ≤ k → k ≤ n → Price s
   -- every accepted plan is a scheme at that price, and every other scheme for the same k and n costs at least as much

@@ -23,3 +23,7 @@ pub mod SmallPlans
 pub mod Mending
 pub mod Interface
 pub mod Demands
+pub mod LaneAfterLane
+pub mod Corrections
+pub mod Changes
+pub mod Rebuilding

@@ -10,11 +10,14 @@ use Rattle.blocks.specs.declared.Update.{Update}
 use Rattle.blocks.specs.declared.Update.the-variants as U
 use Rattle.blocks.specs.declared.Membership.{Membership}
 use Rattle.blocks.specs.declared.Membership.the-variants as M
-use Rattle.blocks.specs.Promises.{EncodeSays, UpdateSays, RecoverSays, RebuildSays, BelongsSays}
-use Rattle.rearrange.specs.Calls.{ToLanesSays, ToNodesSays}
+use Rattle.belongs.specs.Promise.{BelongsSays}
+use Rattle.recover.specs.Promise.{RecoverSays, RebuildSays}
+use Rattle.update.specs.Promise.{UpdateSays}
+use Rattle.encode.specs.Promise.{EncodeSays}
+use Rattle.rearrange.specs.Promise.{ToLanesSays, ToNodesSays}
 use Rattle.correct.specs.declared.Correction.{Correction}
 use Rattle.correct.specs.declared.Correction.the-variants as C
-use Rattle.correct.specs.Promises.{CorrectSays}
+use Rattle.correct.specs.Promise.{CorrectSays}
 use Rattle.find_update.specs.declared.Finding.{Finding}
 use Rattle.find_update.specs.declared.Finding.the-variants as F
 use Rattle.find_update.specs.Promise.{FindSays}

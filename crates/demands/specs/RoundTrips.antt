@@ -12,10 +12,12 @@ use Rattle.generator.specs.declared.Header.{Header}
 use Rattle.generator.specs.Records.{headerOf, width}
 use Rattle.blocks.specs.declared.Outcome.the-variants as O
 use Rattle.blocks.specs.declared.Update.the-variants as U
-use Rattle.blocks.specs.Promises.{EncodeSays, UpdateSays, RecoverSays, RebuildSays}
-use Rattle.rearrange.specs.Lanes.{Full}
+use Rattle.recover.specs.Promise.{RecoverSays, RebuildSays}
+use Rattle.update.specs.Promise.{UpdateSays}
+use Rattle.encode.specs.Promise.{EncodeSays}
+use Rattle.demands.specs.LaneAfterLane.{Full}
 use Rattle.correct.specs.declared.Correction.the-variants as C
-use Rattle.correct.specs.Promises.{CorrectSays}
+use Rattle.correct.specs.Promise.{CorrectSays}
 use Rattle.correct.specs.Meaning.{laneIn}
 use Rattle.demands.specs.Calls.{read}
 

@@ -14,7 +14,7 @@ use Rattle.generator.specs.declared.Header.{Header}
 use Rattle.generator.specs.Records.{distance, width}
 use Rattle.generator.specs.Codewords.{encoding}
 use Rattle.generator.specs.Claims.{isMessage, Codeword}
-use Rattle.refusals.specs.Faults.{inputFault, updateFault}
+use Rattle.update.specs.Promise.{inputFault, updateFault}
 use Rattle.blocks.specs.Blocks.{updated}
 
 -- lane t of the shares s encoded the message ms, and symbol r of it became `new`: the shares s′ afterwards, whatever the other lanes hold

@@ -5,3 +5,4 @@ pub mod Shares
 pub mod Words
 pub mod Placed
 pub mod OneLane
+pub mod Accepts

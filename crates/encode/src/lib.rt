@@ -6,13 +6,13 @@ ghost use Rattle.layout.specs.Layout.{byLane, shareLayout};
 ghost use Rattle.layout.specs.Width.{symbolsOf, bytesOf};
 ghost use Rattle.generator.specs.Records.{Sound};
 ghost use Rattle.blocks.specs.Blocks.{sharesOf};
-ghost use Rattle.refusals.specs.Faults.{encodeFault};
-ghost use Rattle.blocks.specs.Promises.{EncodePromise, EncodeSays};
+ghost use Rattle.encode.specs.Promise.{encodeFault, EncodePromise, EncodeSays};
 ghost use Rattle.encode.specs.Inner.Columns.{Planned, MessageBytes, columnOf};
 use blocks::Outcome;
 use generator::Header;
 use generator::Record;
 
+mod fault;
 mod lanes;
 mod one_lane;
 
@@ -68,7 +68,7 @@ fn encode_accepted(h: Header, lanes: usize, message: &[u8], out: &mut [u8]) -> O
     requires { ⌜ Sound h ⌝ }
     ensures { λ r. ⌜ EncodePromise shareLayout lanes (now (message .entry)) (now (out .entry)) (now (out .exit)) r h (encodeFault h lanes (length (now (out .entry))) (now (message .entry))) ⌝ }
 {
-    let number = refusals::encode_fault(h, lanes, message, out.len());
+    let number = fault::encode_fault(h, lanes, message, out.len());
     if number != 0 {
         return Outcome::Refused(number);
     }

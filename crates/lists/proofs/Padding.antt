@@ -1,7 +1,7 @@
 -- Lists that are padded with zeros: their length, elements and parts.
 use mathlib.Core.Path.{_≡_, refl, ap, _∙_}
 use mathlib.Core.Bool.{true}
-use mathlib.Core.List.{List}
+use mathlib.Core.List.{List, [], _∷_, _++_}
 use Prim.Native.Nat.{ℕ, zero, suc, _-_, _≤_, _<_}
 use native.Mathlib.Omega.{arith}
 use lib.ListN.{length, getD, take, drop, length-append, length-drop, List·getD-append}
@@ -55,3 +55,13 @@ unfolding zeros
 getD-zeros zero i = refl
 getD-zeros (suc n) zero = refl
 getD-zeros (suc n) (suc i) = getD-zeros n i
+
+-- past the list an array has zeros
+pub padded-past : (n : ℕ) (xs : List ℕ) (x : ℕ) → length xs ≤ x → getD (padded n xs) x 0 ≡ 0
+unfolding padded
+padded-past n xs x h = past xs (n - length xs) x h
+  where
+    past : (xs : List ℕ) (k x : ℕ) → length xs ≤ x → getD (xs ++ zeros k) x 0 ≡ 0
+    past [] k x h = getD-zeros k x
+    past (y ∷ xs) k zero h = absurd (omega arith)
+    past (y ∷ xs) k (suc x) h = past xs k x (omega arith)

@@ -1,6 +1,7 @@
 -- What is read from the plan of a sound header.
-use mathlib.Core.Path.{_≡_, sym}
-use Prim.Native.Nat.{ℕ, _+_, _%_, _≤_, _<_}
+use mathlib.Core.Path.{_≡_, refl, sym}
+use mathlib.Core.List.{List}
+use Prim.Native.Nat.{ℕ, zero, suc, _+_, _%_, _≤_, _<_}
 use native.Mathlib.Omega.{arith}
 use native.Mathlib.Nat.{mod-lt}
 use borrow.Author.Tests.{lt-ltb}
@@ -10,14 +11,14 @@ use Rattle.lists.proofs.Rows.{length-from}
 use Rattle.lists.proofs.Padding.{getD-padded, in-padded}
 use Rattle.generator.specs.declared.Header.{Header}
 use Rattle.generator.specs.declared.Record.the-variants.{Holds}
-use Rattle.generator.specs.Records.{Sound}
+use Rattle.generator.specs.Records.{headerOf, recordFault, judged, recordOf, Sound}
 use Rattle.generator.specs.Shifts.{shifts, firsts}
 use Rattle.generator.specs.Generator.{entryAt, entry, baseWord}
 use Rattle.plan.specs.Plans.{planFor, entryIn}
 use Rattle.generator.proofs.Shifts.{shifts-length, shifts-below, firsts-length}
 use Rattle.generator.proofs.Entries.{rows-base}
 
-length-base : (h : Header) → length (baseWord h) ≡ h .n
+pub length-base : (h : Header) → length (baseWord h) ≡ h .n
 unfolding baseWord
 length-base h = length-from (entryAt h 0) 0 (h .n)
 
@@ -61,3 +62,12 @@ module _ (h : Header) (s : Sound h) where
   pub entry-in : (r j : ℕ) → r < h .k → j < h .n → entryIn (planFor (Holds h)) r j ≡ entry h r j
   unfolding entryIn planFor
   entry-in r j row node = rw (lt-ltb r (h .k) row, lt-ltb j (h .n) node) (entry-read r j row node)
+
+-- a plan's number is its record's
+pub plan-number : (rec : List ℕ) → planFor (recordOf rec) .number ≡ recordFault rec
+unfolding planFor recordOf judged
+plan-number rec = go (recordFault rec) (headerOf rec)
+  where
+    go : (f : ℕ) (h : Header) → planFor (judged f h) .number ≡ f
+    go zero h = refl
+    go (suc f) h = refl

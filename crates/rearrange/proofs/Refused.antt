@@ -6,7 +6,7 @@ use Rattle.layout.specs.Layout.{Arrangement}
 use Rattle.generator.specs.declared.Header.{Header}
 use Rattle.blocks.specs.declared.Outcome.the-variants.{Refused}
 use Rattle.blocks.proofs.Refused.{outcome-refused, refused-value}
-use Rattle.rearrange.specs.Calls.{RearrangePromise}
+use Rattle.rearrange.specs.Promise.{RearrangePromise}
 
 -- the number, and nothing is written
 pub rearrange-refuses : {y z : Arrangement} (h : Header) (g : ℕ) → (g ≡ 0 → ⊥) → (l : ℕ) (source out : List ℕ) → RearrangePromise y z l source out out (Refused g) h g

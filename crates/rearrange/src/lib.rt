@@ -4,12 +4,12 @@ ghost use lib.ListN.{length};
 ghost use Rattle.lists.specs.Choice.{pick};
 ghost use Rattle.layout.specs.Layout.{byRow, byLane};
 ghost use Rattle.generator.specs.Records.{Sound};
-ghost use Rattle.refusals.specs.Faults.{rearrangeFault};
-ghost use Rattle.rearrange.specs.Calls.{RearrangePromise, ToLanesSays, ToNodesSays};
+ghost use Rattle.rearrange.specs.Promise.{RearrangePromise, ToLanesSays, ToNodesSays, rearrangeFault};
 use blocks::Outcome;
 use generator::Header;
 use generator::Record;
 
+mod fault;
 mod turning;
 
 // Over the header of an accepted record: node j's symbol of lane t goes from j·lanes + t to t·n + j, or back.
@@ -23,7 +23,7 @@ fn move_accepted(
     requires { ⌜ Sound h ⌝ }
     ensures { λ r. ⌜ RearrangePromise (pick «from_nodes» byRow byLane) (pick «from_nodes» byLane byRow) lanes (now (source .entry)) (now (out .entry)) (now (out .exit)) r h (rearrangeFault h lanes (length (now (source .entry))) (length (now (out .entry)))) ⌝ }
 {
-    let number = refusals::rearrange_fault(h, lanes, source.len(), out.len());
+    let number = fault::rearrange_fault(h, lanes, source.len(), out.len());
     if number != 0 {
         return Outcome::Refused(number);
     }

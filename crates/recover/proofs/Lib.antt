@@ -3,3 +3,5 @@ pub mod Rebuilding
 pub mod Recovering
 pub mod Tiles
 pub mod Products
+pub mod Accepts
+pub mod Laws

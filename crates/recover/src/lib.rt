@@ -2,12 +2,12 @@
 ghost use lib.ListN.{length};
 ghost use Rattle.layout.specs.Layout.{shareLayout};
 ghost use Rattle.generator.specs.Records.{Sound};
-ghost use Rattle.refusals.specs.Faults.{recoverFault, rebuildFault};
-ghost use Rattle.blocks.specs.Promises.{RecoverPromise, RebuildPromise, RecoverSays, RebuildSays};
+ghost use Rattle.recover.specs.Promise.{recoverFault, rebuildFault, RecoverPromise, RebuildPromise, RecoverSays, RebuildSays};
 use blocks::Outcome;
 use generator::Header;
 use generator::Record;
 
+mod fault;
 mod shares;
 
 // Recovers over an accepted record's header.
@@ -15,7 +15,7 @@ fn recover_accepted(h: Header, lanes: usize, nodes: &[u8], shares: &[u8], out: &
     requires { ⌜ Sound h ⌝ }
     ensures { λ r. ⌜ RecoverPromise shareLayout lanes (now (nodes .entry)) (now (shares .entry)) (now (out .entry)) (now (out .exit)) r h (recoverFault h lanes (now (nodes .entry)) (now (shares .entry)) (length (now (out .entry)))) ⌝ }
 {
-    let number = refusals::recover_fault(h, lanes, nodes, shares, out.len());
+    let number = fault::recover_fault(h, lanes, nodes, shares, out.len());
     if number != 0 {
         return Outcome::Refused(number);
     }
@@ -49,7 +49,7 @@ fn rebuild_accepted(
     requires { ⌜ Sound h ⌝ }
     ensures { λ r. ⌜ RebuildPromise shareLayout lanes (now (nodes .entry)) (now (shares .entry)) target (now (out .entry)) (now (out .exit)) r h (rebuildFault h lanes (now (nodes .entry)) (now (shares .entry)) target (length (now (out .entry)))) ⌝ }
 {
-    let number = refusals::rebuild_fault(h, lanes, nodes, shares, target as usize, out.len());
+    let number = fault::rebuild_fault(h, lanes, nodes, shares, target as usize, out.len());
     if number != 0 {
         return Outcome::Refused(number);
     }

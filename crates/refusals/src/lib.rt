@@ -1,16 +1,16 @@
-// What turns a call away: the condition of each number, and the first number that each call meets.
+// What turns a call away: the condition of each number. Each call puts its own together.
 mod conditions;
-mod faults;
 mod field_symbols;
 mod nodes;
 
+pub use conditions::buffer_bad;
 pub use conditions::first;
 pub use conditions::lane_length_bad;
+pub use conditions::lanes_bad;
 pub use conditions::length_bad;
-pub use faults::belongs_fault;
-pub use faults::encode_fault;
-pub use faults::input_fault;
-pub use faults::rearrange_fault;
-pub use faults::rebuild_fault;
-pub use faults::recover_fault;
+pub use conditions::number_bad;
+pub use field_symbols::first_lane;
+pub use field_symbols::first_shares;
+pub use field_symbols::symbol_bad;
 pub use field_symbols::symbols_bad;
+pub use nodes::first_list;

@@ -11,7 +11,7 @@ use Rattle.blocks.specs.declared.Update.the-variants.{Altered}
 use Rattle.blocks.specs.Blocks.{updated}
 use Rattle.blocks.specs.Bytes.{updatedBytes, alteredCount}
 use Rattle.blocks.specs.Answers.{updateOf}
-use Rattle.blocks.specs.Promises.{UpdatePromise}
+use Rattle.update.specs.Promise.{UpdatePromise}
 
 pub altered-says : (h : Header) (w l r t old new : ℕ) (s s′ : List ℕ) (f count : ℕ) → w ≡ width h → f ≡ 0 → s′ ≡ bytesOf w (updated shareLayout h l r t old new (symbolsOf w s)) → count ≡ differ (symbolsOf w s) (updated shareLayout h l r t old new (symbolsOf w s)) → UpdatePromise shareLayout l r t old new s s′ (Altered count) h f
 unfolding updateOf updatedBytes alteredCount

@@ -6,7 +6,8 @@ use Rattle.layout.specs.Layout.{laneOf, shareLayout}
 use Rattle.layout.specs.Width.{symbolsOf}
 use Rattle.generator.specs.declared.Header.{Header}
 use Rattle.generator.specs.Records.{width}
-use Rattle.refusals.specs.Faults.{inputFault, staleFault, updateFault}
+use Rattle.refusals.specs.Faults.{staleFault}
+use Rattle.update.specs.Promise.{inputFault, updateFault}
 use Rattle.refusals.proofs.Order.{first-given}
 
 module _ (h : Header) (l r t old new : ℕ) (shares : List ℕ) where

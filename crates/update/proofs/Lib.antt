@@ -5,3 +5,4 @@ pub mod Rewriting
 pub mod LaneBytes
 pub mod Answering
 pub mod EqualSymbols
+pub mod Accepts

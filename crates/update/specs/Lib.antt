@@ -1,2 +1,3 @@
--- Nothing here is promised to a caller of the library.
+-- What the call promises.
+pub mod Promise
 pub mod Inner

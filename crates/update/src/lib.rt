@@ -8,16 +8,18 @@ ghost use Rattle.field.specs.Fields.{add, mul};
 ghost use Rattle.field.specs.Tables.{AreTables};
 ghost use Rattle.generator.specs.Records.{modulusOf, size, width, Sound};
 ghost use Rattle.plan.specs.Plans.{planFor};
-ghost use Rattle.refusals.specs.Faults.{staleFault, updateFault};
+ghost use Rattle.refusals.specs.Faults.{staleFault};
+ghost use Rattle.update.specs.Promise.{updateFault, UpdatePromise, UpdateSays};
 ghost use Rattle.refusals.specs.Accepted.{UpdatableLane};
 ghost use Rattle.blocks.specs.Blocks.{rowAdded, wordAdded};
-ghost use Rattle.blocks.specs.Promises.{UpdatePromise, UpdateSays};
 ghost use Rattle.update.specs.Inner.Words.{UpdatableWord};
 use blocks::Update;
 use field::Tables;
 use generator::Header;
 use generator::Record;
 use plan::Plan;
+
+mod fault;
 
 // What a node holds after x times its entry is added to what it held.
 fn renewed(h: Header, tables: &Tables, x: u32, entry: u16, before: u16) -> u16
@@ -125,7 +127,7 @@ fn update_accepted(
     ensures { λ a. ⌜ UpdatePromise shareLayout lanes which lane old new (now (shares .entry)) (now (shares .exit)) a h (updateFault shareLayout h lanes which lane old new (now (shares .entry))) ⌝ }
 {
     let field = h.field;
-    let number = refusals::input_fault(
+    let number = fault::input_fault(
         h,
         lanes as usize,
         which as usize,

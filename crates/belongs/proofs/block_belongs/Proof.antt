@@ -1,7 +1,7 @@
 -- `block_belongs` meets its contract: the record's number, or what the test over its header gives.
 use borrow.Author.Needs.{needs}
 use Rattle.refusals.proofs.OnRecord.{read-sound, on-held, on-met}
-use Rattle.blocks.proofs.Refused.{belongs-refuses}
+use Rattle.belongs.proofs.Accepts.{belongs-refuses}
 use Rattle.belongs.proofs.block_belongs.Statement.{statement}
 use Rattle.belongs.proofs.block_belongs.Tie as tie
 

@@ -9,16 +9,14 @@ use Rattle.layout.specs.Layout.{shareLayout}
 use Rattle.layout.specs.Width.{symbolsOf}
 use Rattle.generator.specs.declared.Header.{Header}
 use Rattle.generator.specs.Records.{width}
-use Rattle.refusals.specs.Faults.{belongsFault}
+use Rattle.belongs.specs.Promise.{belongsFault, BelongsPromise}
 use Rattle.refusals.specs.Accepted.{SymbolBuffer}
-use Rattle.refusals.proofs.Accepts.{belongs-accepts}
+use Rattle.belongs.proofs.Accepts.{belongs-accepts, belongs-refuses}
 use Rattle.blocks.specs.declared.Membership.the-variants.{Yes, No}
 use Rattle.blocks.specs.Blocks.{firstWrong}
 use Rattle.blocks.specs.Bytes.{wrongLane}
 use Rattle.blocks.specs.Answers.{membershipOf}
-use Rattle.blocks.specs.Promises.{BelongsPromise}
 use Rattle.blocks.proofs.Words.{wrong-most}
-use Rattle.blocks.proofs.Refused.{belongs-refuses}
 use Rattle.belongs.proofs.test_accepted.Statement.{statement}
 use Rattle.belongs.proofs.test_accepted.Tie as tie
 

@@ -1,8 +1,8 @@
 -- `correct_accepted` meets its contract: the number of the symbols' test, or what the lanes say.
 use mathlib.Core.Path.{_≡_, sym, _∙_}
 use borrow.Author.Needs.{needs}
-use Rattle.refusals.specs.Faults.{belongsFault}
-use Rattle.refusals.proofs.Accepts.{belongs-accepts}
+use Rattle.belongs.specs.Promise.{belongsFault}
+use Rattle.belongs.proofs.Accepts.{belongs-accepts}
 use Rattle.layout.specs.Layout.{shareLayout}
 use Rattle.correct.proofs.Answers.{correct-refuses, fault-first, fault-last}
 use Rattle.correct.proofs.correct_accepted.Statement.{statement}

@@ -3,9 +3,8 @@ use mathlib.Core.Path.{refl, sym, _∙_}
 use borrow.Author.Needs.{needs}
 use Rattle.layout.proofs.LaneParts.{lanes-long}
 use Rattle.generator.specs.Records.{width}
-use Rattle.refusals.proofs.Accepts.{encode-accepts}
+use Rattle.encode.proofs.Accepts.{encode-accepts, encode-refuses}
 use Rattle.blocks.specs.Answers.{outcomeOf}
-use Rattle.blocks.proofs.Refused.{encode-refuses}
 use Rattle.plan.specs.Plans.{planFor}
 use Rattle.encode.proofs.Shares.{encoded-lanes}
 use Rattle.encode.proofs.encode_accepted.Statement.{statement}

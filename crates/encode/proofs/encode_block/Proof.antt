@@ -1,7 +1,7 @@
 -- `encode_block` meets its contract: the record's number, or what encoding over its header gives.
 use borrow.Author.Needs.{needs}
 use Rattle.refusals.proofs.OnRecord.{read-sound, on-held, on-met}
-use Rattle.blocks.proofs.Refused.{encode-refuses}
+use Rattle.encode.proofs.Accepts.{encode-refuses}
 use Rattle.encode.proofs.encode_block.Statement.{statement}
 use Rattle.encode.proofs.encode_block.Tie as tie
 

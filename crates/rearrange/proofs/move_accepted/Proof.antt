@@ -6,8 +6,8 @@ use lib.ListN.{length}
 use Rattle.layout.specs.Width.{bytesOf}
 use Rattle.layout.proofs.Runs.{turned}
 use Rattle.generator.specs.Records.{width}
-use Rattle.refusals.specs.Faults.{rearrangeFault}
-use Rattle.refusals.proofs.Accepts.{rearrange-accepts}
+use Rattle.rearrange.specs.Promise.{rearrangeFault}
+use Rattle.rearrange.proofs.Accepts.{rearrange-accepts}
 use Rattle.blocks.specs.Answers.{outcomeOf}
 use Rattle.blocks.specs.Bytes.{rearrangedBytes}
 use Rattle.rearrange.proofs.Refused.{rearrange-refuses}

@@ -6,9 +6,8 @@ use borrow.Author.Needs.{needs}
 use lib.ListN.{length}
 use Rattle.generator.specs.Records.{width}
 use Rattle.refusals.specs.Accepted.{ListedShares}
-use Rattle.refusals.proofs.Accepts.{rebuild-accepts}
+use Rattle.recover.proofs.Accepts.{rebuild-accepts, rebuild-refuses}
 use Rattle.blocks.specs.Answers.{outcomeOf}
-use Rattle.blocks.proofs.Refused.{rebuild-refuses}
 use Rattle.recover.proofs.Tiles.{listed-bytes, rebuilt-lanes}
 use Rattle.recover.proofs.rebuild_accepted.Statement.{statement}
 use Rattle.recover.proofs.rebuild_accepted.Tie as tie

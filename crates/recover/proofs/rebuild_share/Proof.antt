@@ -1,7 +1,7 @@
 -- `rebuild_share` meets its contract: the record's number, or what Rebuild over its header gives.
 use borrow.Author.Needs.{needs}
 use Rattle.refusals.proofs.OnRecord.{read-sound, on-held, on-met}
-use Rattle.blocks.proofs.Refused.{rebuild-refuses}
+use Rattle.recover.proofs.Accepts.{rebuild-refuses}
 use Rattle.recover.proofs.rebuild_share.Statement.{statement}
 use Rattle.recover.proofs.rebuild_share.Tie as tie
 

@@ -9,9 +9,8 @@ use Rattle.generator.specs.Records.{width}
 use Rattle.generator.specs.Shifts.{shifts}
 use Rattle.generator.proofs.Shifts.{shifts-length}
 use Rattle.refusals.specs.Accepted.{ListedShares}
-use Rattle.refusals.proofs.Accepts.{recover-accepts}
+use Rattle.recover.proofs.Accepts.{recover-accepts, recover-refuses}
 use Rattle.blocks.specs.Answers.{outcomeOf}
-use Rattle.blocks.proofs.Refused.{recover-refuses}
 use Rattle.recover.proofs.Recovering.{shifts-part}
 use Rattle.recover.proofs.Products.{recovered-lanes}
 use Rattle.recover.proofs.recover_accepted.Statement.{statement}

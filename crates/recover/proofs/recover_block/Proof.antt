@@ -1,7 +1,7 @@
 -- `recover_block` meets its contract: the record's number, or what Recover over its header gives.
 use borrow.Author.Needs.{needs}
 use Rattle.refusals.proofs.OnRecord.{read-sound, on-held, on-met}
-use Rattle.blocks.proofs.Refused.{recover-refuses}
+use Rattle.recover.proofs.Accepts.{recover-refuses}
 use Rattle.recover.proofs.recover_block.Statement.{statement}
 use Rattle.recover.proofs.recover_block.Tie as tie
 

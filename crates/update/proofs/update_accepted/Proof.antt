@@ -5,11 +5,10 @@ use borrow.Author.Needs.{needs}
 use Rattle.field.proofs.Bounds.{sub-below}
 use Rattle.layout.specs.Layout.{shareLayout}
 use Rattle.generator.specs.Records.{size}
-use Rattle.refusals.specs.Faults.{inputFault, updateFault}
+use Rattle.update.specs.Promise.{inputFault, updateFault}
 use Rattle.refusals.specs.Accepted.{UpdatableLane}
-use Rattle.refusals.proofs.Accepts.{input-accepts}
+use Rattle.update.proofs.Accepts.{input-accepts, update-refuses}
 use Rattle.blocks.specs.Blocks.{updated}
-use Rattle.blocks.proofs.Refused.{update-refuses}
 use Rattle.update.proofs.Answering.{altered-says}
 use Rattle.update.proofs.Judging.{input-met, lane-met}
 use Rattle.update.proofs.update_accepted.Statement.{statement}

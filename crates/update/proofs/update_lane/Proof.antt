@@ -1,7 +1,7 @@
 -- `update_lane` meets its contract: the promise over the header that was read, or the record's number.
 use borrow.Author.Needs.{needs}
 use Rattle.refusals.proofs.OnRecord.{read-sound, on-held, on-met}
-use Rattle.blocks.proofs.Refused.{update-refuses}
+use Rattle.update.proofs.Accepts.{update-refuses}
 use Rattle.update.proofs.update_lane.Statement.{statement}
 use Rattle.update.proofs.update_lane.Tie as tie
 

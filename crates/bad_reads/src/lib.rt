@@ -1,1 +1,0 @@
-// What one bad read does, and how far a change of several symbols reaches: theory, no code.

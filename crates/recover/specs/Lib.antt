@@ -1,0 +1,2 @@
+-- What the calls of this crate promise.
+pub mod Promise
