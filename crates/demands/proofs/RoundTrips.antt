@@ -5,7 +5,7 @@ use mathlib.Core.List.{List, [], _∷_}
 use Prim.Native.Nat.{ℕ, _+_, _*_, _<_}
 use native.Mathlib.Nat.{zero-add, add-zero, mul-one, one-mul}
 use native.Mathlib.Omega.{arith}
-use lib.ListN.{length, getD}
+use lib.ListN.{length, getD, set}
 use Rattle.lists.specs.Rows.{from}
 use Rattle.lists.specs.Numbers.{allBelow}
 use Rattle.lists.proofs.All.{All-at}
@@ -75,22 +75,26 @@ encoded rec l message out shares says =
 -- what is cut out: how long it is, its symbols, and its bytes
 cut-long : (h : Header) (l : ℕ) (nodes shares : List ℕ) → length (cutOf h l nodes shares) ≡ length nodes * l * width h
 unfolding cutOf
-cut-long h l nodes shares = length-bytes (width h) _ ∙ ap (λ (x : ℕ). x * width h) (length-buffer shareLayout (length nodes) l _)
+cut-long h l nodes shares = length-bytes (width h) _ ∙ ap (λ (x : ℕ). x * width h) (length-buffer _ (length nodes) l _)
 
 cut-symbols : (h : Header) (l : ℕ) (nodes shares : List ℕ) → read h (cutOf h l nodes shares) ≡ buffer shareLayout (length nodes) l (λ i t. held shareLayout (h .n) l (read h shares) (getD nodes i 0) t)
 unfolding cutOf
 cut-symbols h l nodes shares = symbols-bytes (width h) _ (width-some h)
 
-cut : (h : Header) (l : ℕ) (nodes shares : List ℕ) → Full h (h .n) l shares → allBelow 256 shares ≡ true → (i t v : ℕ) → i < length nodes → getD nodes i 0 < h .n → t < l → v < width h → getD (cutOf h l nodes shares) ((t * length nodes + i) * width h + v) 0 ≡ getD shares ((t * h .n + getD nodes i 0) * width h + v) 0
+-- a byte of what is cut out is one of the symbol of that node and lane ..
+cut-byte : (h : Header) (l : ℕ) (nodes shares : List ℕ) (i t v : ℕ) → i < length nodes → t < l → v < width h → getD (cutOf h l nodes shares) ((t * length nodes + i) * width h + v) 0 ≡ getD (symbolBytes (width h) (getD (read h shares) (t * h .n + getD nodes i 0) 0)) v 0
 unfolding cutOf
-cut h l nodes shares full bytes i t v place node inside low =
-    let w = width h in
+cut-byte h l nodes shares i t v place inside low =
     let f : ℕ → ℕ → ℕ = λ i t. held shareLayout (h .n) l (read h shares) (getD nodes i 0) t in
     let xs = buffer shareLayout (length nodes) l f in
-    getD-bytes w xs (t * length nodes + i) v (rw (length-buffer shareLayout (length nodes) l f) (lane-place (length nodes) l i t place inside)) low
-    ∙ ap (λ (x : ℕ). getD (symbolBytes w x) v 0) (sym (held-share (length nodes) l xs i t) ∙ held-buffer share-lawful (length nodes) l f i t place inside ∙ held-share (h .n) l (read h shares) (getD nodes i 0) t)
-    ∙ sym (getD-bytes w (read h shares) (t * h .n + getD nodes i 0) v (rw (count-symbols w (h .n * l) shares (width-some h) full) (lane-place (h .n) l (getD nodes i 0) t node inside)) low)
-    ∙ ap (λ (s : List ℕ). getD s ((t * h .n + getD nodes i 0) * w + v) 0) (bytes-symbols w (h .n * l) shares (width-some h) full bytes)
+    getD-bytes (width h) xs (t * length nodes + i) v (rw (length-buffer shareLayout (length nodes) l f) (lane-place (length nodes) l i t place inside)) low
+    ∙ ap (λ (x : ℕ). getD (symbolBytes (width h) x) v 0) (sym (held-share (length nodes) l xs i t) ∙ held-buffer share-lawful (length nodes) l f i t place inside ∙ held-share (h .n) l (read h shares) (getD nodes i 0) t)
+
+-- .. and so is a byte of the shares
+share-byte : (h : Header) (l : ℕ) (shares : List ℕ) → Full h (h .n) l shares → allBelow 256 shares ≡ true → (j t v : ℕ) → j < h .n → t < l → v < width h → getD (symbolBytes (width h) (getD (read h shares) (t * h .n + j) 0)) v 0 ≡ getD shares ((t * h .n + j) * width h + v) 0
+share-byte h l shares full bytes j t v node inside low =
+    sym (getD-bytes (width h) (read h shares) (t * h .n + j) v (rw (count-symbols (width h) (h .n * l) shares (width-some h) full) (lane-place (h .n) l j t node inside)) low)
+    ∙ ap (λ (s : List ℕ). getD s ((t * h .n + j) * width h + v) 0) (bytes-symbols (width h) (h .n * l) shares (width-some h) full bytes)
 
 -- a buffer of one row is that row
 one-row : (l : ℕ) (f : ℕ → ℕ → ℕ) → buffer shareLayout 1 l f ≡ from (f 0) 0 l
@@ -170,28 +174,27 @@ module _ (rec : List ℕ) (l : ℕ) (message out shares : List ℕ) (says : Enco
   abbrev e : Encoded h l message shares
   e = encoded rec l message out shares says
 
-  recover : (nodes back back′ : List ℕ) → allBelow 256 message ≡ true → RecoverSays rec l nodes (cutOf h l nodes shares) back back′ O.Done → back′ ≡ message
+  -- Recover writes the message again
+  recover : (nodes back back′ : List ℕ) → RecoverSays rec l nodes (cutOf h l nodes shares) back back′ O.Done → back′ ≡ bytesOf (width h) (read h message)
   unfolding recoveredBytes
-  recover nodes back back′ bytes done =
+  recover nodes back back′ done =
       let listed = cutOf h l nodes shares in
       let none = done-means (faultOf rec (λ h. recoverFault h l nodes listed (length back))) (done .promise .answer) in
       let (sound, own) = none-met rec (λ h. recoverFault h l nodes listed (length back)) none in
       let different = recover-accepts h sound l nodes listed (length back) own .0 .different in
-      rw none at (done .promise .written)
-      ∙ ap (bytesOf (width h)) (recovered-back e nodes different)
-      ∙ bytes-symbols (width h) (h .k * l) message (width-some h) (e .buffer-is .bytes) bytes
+      rw none at (done .promise .written) ∙ ap (bytesOf (width h)) (recovered-back e nodes different)
 
-  rebuild : (nodes : List ℕ) (target : ℕ) (back back′ : List ℕ) → RebuildSays rec l nodes (cutOf h l nodes shares) target back back′ O.Done → back′ ≡ cutOf h l (target ∷ []) shares
+  -- Rebuild writes a node's share of it
+  rebuild : (nodes : List ℕ) (target : ℕ) (back back′ : List ℕ) → RebuildSays rec l nodes (cutOf h l nodes shares) target back back′ O.Done → (target < h .n) × (back′ ≡ bytesOf (width h) (shareOf h l (read h message) target))
   unfolding rebuiltBytes
   rebuild nodes target back back′ done =
       let listed = cutOf h l nodes shares in
       let none = done-means (faultOf rec (λ h. rebuildFault h l nodes listed target (length back))) (done .promise .answer) in
       let (sound, own) = none-met rec (λ h. rebuildFault h l nodes listed target (length back)) none in
       let (is, node, long) = rebuild-accepts h sound l nodes listed target (length back) own in
-      rw none at (done .promise .written)
-      ∙ ap (λ (u : List ℕ). bytesOf (width h) (shareOf h l u target)) (recovered-back e nodes (is .different))
-      ∙ sym (cut-share e target node)
+      (node, rw none at (done .promise .written) ∙ ap (λ (u : List ℕ). bytesOf (width h) (shareOf h l u target)) (recovered-back e nodes (is .different)))
 
+  -- the setting right writes the shares again
   correct : (wrong wrong′ : List ℕ) (count : ℕ) → FewWrong h l shares wrong → CorrectSays rec l wrong wrong′ (C.Altered count) → wrong′ ≡ shares
   unfolding correctedBytes correctedShares
   correct wrong wrong′ count few done =
@@ -205,9 +208,10 @@ module _ (rec : List ℕ) (l : ℕ) (message out shares : List ℕ) (says : Enco
       (λ t inside. sym (corrections .done rec l wrong wrong′ count done .only t inside (laneIn h l shares t) (near e wrong few t inside))) in
       written ∙ ap (bytesOf (width h)) (sym now ∙ same ∙ e .shares-are) ∙ sym (e .written)
 
-  update : (r t old new : ℕ) (shares′ : List ℕ) (count : ℕ) → UpdateSays rec l r t old new shares shares′ (U.Altered count) → (again again′ : List ℕ) → EncodeSays rec l (withSymbol h l r t new message) again again′ O.Done → shares′ ≡ again′
-  unfolding updatedBytes withSymbol
-  update r t old new shares′ count done again again′ later =
+  -- Update writes the shares of the message with the new symbol
+  update : (r t old new : ℕ) (shares′ : List ℕ) (count : ℕ) → UpdateSays rec l r t old new shares shares′ (U.Altered count) → shares′ ≡ bytesOf (width h) (sharesOf shareLayout h l (set (read h message) (r * l + t) new))
+  unfolding updatedBytes
+  update r t old new shares′ count done =
       let none = altered-means (faultOf rec (λ h. updateFault shareLayout h l r t old new shares)) _ count (done .promise .answer) .0 in
       let (sound, own) = none-met rec (λ h. updateFault shareLayout h l r t old new shares) none in
       let (lane, old-symbol, new-symbol, fresh) = update-accepts h sound l r t old new shares own in
@@ -216,17 +220,27 @@ module _ (rec : List ℕ) (l : ℕ) (message out shares : List ℕ) (says : Enco
       rw none at (done .promise .written)
       ∙ ap (bytesOf (width h))
       (ap₂ (λ (o : ℕ) (s : List ℕ). updated shareLayout h l r t o new s) was (e .shares-are)
-      ∙ updated-shares share-lawful h sound l r t new (read h message) (rows .long) (rows .symbols) (lane .row) (lane .lane) new-symbol
-      ∙ ap (sharesOf shareLayout h l) (sym (symbols-bytes (width h) _ (width-some h))))
-      ∙ sym (encoded rec l (withSymbol h l r t new message) again again′ later .written)
+      ∙ updated-shares share-lawful h sound l r t new (read h message) (rows .long) (rows .symbols) (lane .row) (lane .lane) new-symbol)
+
+-- what Encode writes of a message with another symbol
+changed : (h : Header) (l r t new : ℕ) (message shares : List ℕ) → Encoded h l (withSymbol h l r t new message) shares → shares ≡ bytesOf (width h) (sharesOf shareLayout h l (set (read h message) (r * l + t) new))
+unfolding withSymbol
+changed h l r t new message shares e = e .written ∙ ap (λ (m : List ℕ). bytesOf (width h) (sharesOf shareLayout h l m)) (symbols-bytes (width h) _ (width-some h))
 
 pub round-trips : RoundTrips
 round-trips =
     record {
       cut-long = cut-long;
-      cut = cut;
-      recover = λ rec l message out shares nodes back back′ bytes says. recover rec l message out shares says nodes back back′ bytes;
-      rebuild = λ rec l message out shares nodes target back back′ says. rebuild rec l message out shares says nodes target back back′;
-      correct = λ rec l message out shares wrong wrong′ count says. correct rec l message out shares says wrong wrong′ count;
-      update = λ rec l r t old new message out shares shares′ again again′ count says done. update rec l message out shares says r t old new shares′ count done again again′;
+      cut = λ h l nodes shares full bytes i t v place node inside low. cut-byte h l nodes shares i t v place inside low ∙ share-byte h l shares full bytes (getD nodes i 0) t v node inside low;
+      recover = λ rec l message out shares nodes back back′ bytes says done.
+          let h = headerOf rec in
+          let e = encoded rec l message out shares says in
+          recover rec l message out shares says nodes back back′ done ∙ bytes-symbols (width h) (h .k * l) message (width-some h) (e .buffer-is .bytes) bytes;
+      rebuild = λ rec l message out shares nodes target back back′ says done.
+          let (node, written) = rebuild rec l message out shares says nodes target back back′ done in
+          written ∙ sym (cut-share (encoded rec l message out shares says) target node);
+      correct = λ rec l message out shares wrong wrong′ count says few done. correct rec l message out shares says wrong wrong′ count few done;
+      update = λ rec l r t old new message out shares shares′ again again′ count says done later.
+          update rec l message out shares says r t old new shares′ count done
+          ∙ sym (changed (headerOf rec) l r t new message again′ (encoded rec l (withSymbol (headerOf rec) l r t new message) again again′ later));
     }
