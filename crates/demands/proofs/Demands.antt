@@ -14,6 +14,7 @@ use Rattle.demands.proofs.Coding.{code-demands}
 use Rattle.demands.proofs.Updates.{update-demands}
 use Rattle.demands.proofs.Calls.{call-demands}
 use Rattle.demands.proofs.Plans.{plans}
+use Rattle.demands.proofs.Widths.{widths}
 use Rattle.demands.proofs.Tables.{tables}
 use Rattle.demands.proofs.Findings.{findings}
 use Rattle.demands.proofs.Rosters.{rosters}
@@ -36,6 +37,7 @@ demands =
       updating = λ rec none. update-demands (headerOf rec) (faultless-sound rec none);
       calls = call-demands;
       plans = plans;
+      widths = widths;
       tables = tables;
       findings = findings;
       corrections = corrections;

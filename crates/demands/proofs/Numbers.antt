@@ -171,8 +171,7 @@ module _ (h : Header) (s : Sound h) (l : ℕ) (shares : List ℕ) where
   far-means none =
       let rows = belongs-accepts h s l shares none .symbol-rows in
       let b = symbolsOf (width h) shares in
-      let size-of : (t : ℕ) → length (laneIn h l shares t) ≡ h .n = λ t. length-lane shareLayout (h .n) l t b in
-      (
+      let size-of : (t : ℕ) → length (laneIn h l shares t) ≡ h .n = λ t. length-lane shareLayout (h .n) l t b in (
         λ bad.
             let (t, inside, far) = one-far h s share-lawful l b (rows .long) (rows .symbols) (eqb-false _ l (not-true _ bad)) in
             (t, inside, none-near h s (laneIn h l shares t) (size-of t) far),

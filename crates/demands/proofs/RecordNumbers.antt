@@ -33,8 +33,7 @@ use Rattle.demands.proofs.Conditions.{equal-test, other-test, less-test
 -- three numbers that a number is none of
 none-of-three : (x a b c : ℕ) → (not (eqb x a || (eqb x b || eqb x c)) ≡ true) ↔ ((x ≢ a) × (x ≢ b) × (x ≢ c))
 none-of-three x a b c =
-    let some = not-test (eqb x a || (eqb x b || eqb x c)) (or-test (eqb x a) (eqb x b || eqb x c) (equal-test x a) (or-test (eqb x b) (eqb x c) (equal-test x b) (equal-test x c))) in
-    (
+    let some = not-test (eqb x a || (eqb x b || eqb x c)) (or-test (eqb x a) (eqb x b || eqb x c) (equal-test x a) (or-test (eqb x b) (eqb x c) (equal-test x b) (equal-test x c))) in (
       λ e. let none = some .0 e in (λ q. none (inl q), λ q. none (inr (inl q)), λ q. none (inr (inr q))),
       λ none. some .1 (⊎-elim (none .0) (⊎-elim (none .1) (none .2))),
     )
@@ -43,8 +42,7 @@ none-of-three x a b c =
 prime-test : (low high p : ℕ) → 2 ≤ low → (primeIn low high p ≡ true) ↔ PrimeFrom low high p
 unfolding primeIn
 prime-test low high p two =
-    let all = and-test (leb low p) (leb p high && isPrime p) (most-test low p) (and-test (leb p high) (isPrime p) (most-test p high) (λ e. e, λ e. e)) in
-    (
+    let all = and-test (leb low p) (leb p high && isPrime p) (most-test low p) (and-test (leb p high) (isPrime p) (most-test p high) (λ e. e, λ e. e)) in (
       λ e. let (least, (most, prime)) = all .0 e in record { least = least; most = most; prime = prime-no-divisor p prime },
       λ f.
           let low-p : 2 ≤ p = omega (arith, f .least) in
@@ -137,8 +135,7 @@ module _ (rec : List ℕ) where
   order-means three four low =
       let (two, byte, some, fits) = sizes h four in
       let field : isField (modulusOf h) ≡ true = usable-field (h .field) (field-usable rec three) in
-      let at-one : power (modulusOf h) (h .root) 1 ≡ h .root = arithmetic (modulusOf h) field .mul-one (h .root) low in
-      (
+      let at-one : power (modulusOf h) (h .root) 1 ≡ h .root = arithmetic (modulusOf h) field .mul-one (h .root) low in (
         λ e.
             let root = symbol (size h) (h .root) low in
             let o = order-is (modulusOf h) field root (h .n) e (omega arith) in

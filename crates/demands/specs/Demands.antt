@@ -16,6 +16,7 @@ use Rattle.demands.specs.Coding.{CodeDemands}
 use Rattle.demands.specs.Updates.{UpdateDemands}
 use Rattle.demands.specs.Calls.{CallDemands}
 use Rattle.demands.specs.Plans.{Plans}
+use Rattle.demands.specs.Widths.{Widths}
 use Rattle.demands.specs.Tables.{Tables}
 use Rattle.demands.specs.Findings.{Findings}
 use Rattle.demands.specs.Rosters.{Rosters}
@@ -41,8 +42,9 @@ pub record Demands : Type 1 where
   pub updating : (rec : List ℕ) → recordFault rec ≡ 0 → UpdateDemands (headerOf rec)
   -- both of the calls themselves
   pub calls : CallDemands
-  -- records and plans
+  -- records and plans, and the bytes of symbols
   pub plans : Plans
+  pub widths : (rec : List ℕ) → recordFault rec ≡ 0 → Widths rec
   -- the tables of the field of 256 elements
   pub tables : Tables
   -- which update it was

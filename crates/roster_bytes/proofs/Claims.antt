@@ -163,8 +163,7 @@ module _ (rec : List ℕ) (none : recordFault rec ≡ 0) where
           let fits : (eqb (length t) 256 && eqb (length list) (h .k)) ≡ true = not-false _ (when-zero (not (eqb (length t) 256 && eqb (length list) (h .k))) 7 (sym (rw none at (q .number)))) in
           let whole : eqb (length list) (h .k) ≡ true = and-right (eqb (length t) 256) _ fits in
           let is : list′ ≡ lowestList (Holds h) (rosterOf t) list = rw holds at (q .list-is) in
-          let ps = presentBy (h .n) (eventsIn cs) in
-          (
+          let ps = presentBy (h .n) (eventsIn cs) in (
             q .enough-is ∙ rw present-by,
             is ∙ rw (present-by, whole) (by-test (leb (h .k) (length ps)) (λ b. rw b) (λ b. rw b)),
           )
