@@ -16,6 +16,7 @@ use Rattle.demands.proofs.Updates.{update-demands}
 use Rattle.demands.proofs.Calls.{call-demands}
 use Rattle.demands.proofs.RoundTrips.{round-trips}
 use Rattle.demands.proofs.Plans.{plans}
+use Rattle.demands.proofs.Widths.{widths}
 use Rattle.demands.proofs.Tables.{tables}
 use Rattle.demands.proofs.Findings.{findings}
 use Rattle.demands.proofs.Rosters.{rosters}
@@ -40,6 +41,7 @@ demands =
       calls = call-demands;
       trips = round-trips;
       plans = plans;
+      widths = widths;
       tables = tables;
       findings = findings;
       corrections = corrections;

@@ -10,6 +10,7 @@ pub mod Numbers
 pub mod Refusals
 pub mod RosterRefusals
 pub mod Plans
+pub mod Widths
 pub mod Tables
 pub mod Findings
 pub mod Rosters

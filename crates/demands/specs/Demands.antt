@@ -18,6 +18,7 @@ use Rattle.demands.specs.Updates.{UpdateDemands}
 use Rattle.demands.specs.Calls.{CallDemands}
 use Rattle.demands.specs.RoundTrips.{RoundTrips}
 use Rattle.demands.specs.Plans.{Plans}
+use Rattle.demands.specs.Widths.{Widths}
 use Rattle.demands.specs.Tables.{Tables}
 use Rattle.demands.specs.Findings.{Findings}
 use Rattle.demands.specs.Rosters.{Rosters}
@@ -29,8 +30,9 @@ use Rattle.demands.specs.Mending.{SingleMends}
 pub record Demands : Type 1 where
   -- demand 1: which number turns a call away, that it then alters nothing, and that every other call is accepted
   pub refusals : Refusals
+  -- the same of a roster's calls
   pub roster-refusals : RosterRefusals
-  -- the same of the interface for C
+  -- and of the interface for C
   pub interface : Interface
   -- demand 2
   pub code : (rec : List ℕ) → recordFault rec ≡ 0 → CodeDemands (headerOf rec)
@@ -38,8 +40,9 @@ pub record Demands : Type 1 where
   pub pins : Pinned
   -- demand 3: the least writes and reads of any scheme
   pub price : (k n : ℕ) (S : Type 0) (C : Fin n → Type 0) (s : Scheme k n S C) → 1 ≤ k → k ≤ n → Price s
-  -- every accepted plan is a scheme at that price, and every other scheme for the same k and n costs at least as much
+  -- every accepted plan is a scheme at that price ..
   pub ours : (rec : List ℕ) → recordFault rec ≡ 0 → Accepted (headerOf rec)
+  -- .. and every other scheme for the same k and n costs at least as much
   pub least : (rec : List ℕ) (accepted : recordFault rec ≡ 0) (S : Type 0) (C : Fin (headerOf rec .n) → Type 0) (s : Scheme (headerOf rec .k) (headerOf rec .n) S C) (x y : S) → x ≢ y → CostsAtLeast s (ours rec accepted .scheme .scheme)
   -- demand 3: updates
   pub updating : (rec : List ℕ) → recordFault rec ≡ 0 → UpdateDemands (headerOf rec)
@@ -49,6 +52,8 @@ pub record Demands : Type 1 where
   pub trips : RoundTrips
   -- records and plans
   pub plans : Plans
+  -- the bytes of symbols in lent buffers
+  pub widths : (rec : List ℕ) → recordFault rec ≡ 0 → Widths rec
   -- the tables of the field of 256 elements
   pub tables : Tables
   -- which update it was
@@ -63,6 +68,7 @@ pub record Demands : Type 1 where
   pub bad-reads : BadReads
   -- how many messages light how many nodes
   pub weights : Weights
-  -- every small plan, and the single changes that make a lane a word
+  -- every small plan
   pub small-plans : SmallPlans
+  -- the single changes that make a lane a word
   pub mends : SingleMends

@@ -29,26 +29,35 @@ use Rattle.demands.specs.Judging.{Judged}
 use Rattle.demands.specs.Numbers.{recordNumbers, encodeNumbers, updateNumbers, recoverNumbers, rebuildNumbers, belongsNumbers, correctNumbers, rearrangeNumbers, findNumbers, mendsNumbers, weightsNumbers}
 
 pub record Refusals : Type 0 where
+  -- Encode: no byte of the shares is written
   pub encode : (rec : List ℕ) (l : ℕ) (message out out′ : List ℕ) (r : Outcome) → EncodeSays rec l message out out′ r
       → Judged (recordNumbers rec ++ encodeNumbers (headerOf rec) l message (length out)) (λ f. r ≡ O.Refused f) (out′ ≡ out)
+  -- Update: its lane is as it was, and so is every other
   pub update : (rec : List ℕ) (l r t old new : ℕ) (shares shares′ : List ℕ) (a : Update) → UpdateSays rec l r t old new shares shares′ a
       → Judged (recordNumbers rec ++ updateNumbers (headerOf rec) l r t old new shares) (λ f. a ≡ U.Refused f) (shares′ ≡ shares)
+  -- Recover: no byte of the message is written
   pub recover : (rec : List ℕ) (l : ℕ) (nodes shares out out′ : List ℕ) (r : Outcome) → RecoverSays rec l nodes shares out out′ r
       → Judged (recordNumbers rec ++ recoverNumbers (headerOf rec) l nodes shares (length out)) (λ f. r ≡ O.Refused f) (out′ ≡ out)
+  -- Rebuild: no byte of the share is written
   pub rebuild : (rec : List ℕ) (l : ℕ) (nodes shares : List ℕ) (target : ℕ) (out out′ : List ℕ) (r : Outcome) → RebuildSays rec l nodes shares target out out′ r
       → Judged (recordNumbers rec ++ rebuildNumbers (headerOf rec) l nodes shares target (length out)) (λ f. r ≡ O.Refused f) (out′ ≡ out)
-  -- a call that only reads alters nothing
+  -- Belongs only reads
   pub belongs : (rec : List ℕ) (l : ℕ) (shares : List ℕ) (r : Membership) → BelongsSays rec l shares r
       → Judged (recordNumbers rec ++ belongsNumbers (headerOf rec) l shares) (λ f. r ≡ M.Refused f) (Unit {0})
+  -- setting right: no lane is touched
   pub correct : (rec : List ℕ) (l : ℕ) (shares shares′ : List ℕ) (r : Correction) → CorrectSays rec l shares shares′ r
       → Judged (recordNumbers rec ++ correctNumbers (headerOf rec) l shares) (λ f. r ≡ C.Refused f) (shares′ ≡ shares)
+  -- to_lanes and to_nodes: no byte is moved
   pub to-lanes : (rec : List ℕ) (l : ℕ) (source out out′ : List ℕ) (r : Outcome) → ToLanesSays rec l source out out′ r
       → Judged (recordNumbers rec ++ rearrangeNumbers (headerOf rec) l (length source) (length out)) (λ f. r ≡ O.Refused f) (out′ ≡ out)
   pub to-nodes : (rec : List ℕ) (l : ℕ) (source out out′ : List ℕ) (r : Outcome) → ToNodesSays rec l source out out′ r
       → Judged (recordNumbers rec ++ rearrangeNumbers (headerOf rec) l (length source) (length out)) (λ f. r ≡ O.Refused f) (out′ ≡ out)
+  -- find_update only reads
   pub find : (rec before after : List ℕ) (r : Finding) → FindSays rec before after r
       → Judged (recordNumbers rec ++ findNumbers (headerOf rec) before after) (λ f. r ≡ F.Refused f) (Unit {0})
+  -- single_mends: both buffers are as they were
   pub mends : (rec lane nodes symbols nodes′ symbols′ : List ℕ) (r : Mending) → MendsSay rec lane nodes symbols nodes′ symbols′ r
       → Judged (recordNumbers rec ++ mendsNumbers (headerOf rec) lane (length nodes) (length symbols)) (λ f. r ≡ N.Refused f) ((nodes′ ≡ nodes) × (symbols′ ≡ symbols))
+  -- weight_counts: no count is written
   pub weights : (rec counts counts′ : List ℕ) (r : Outcome) → WeightsSay rec counts counts′ r
       → Judged (recordNumbers rec ++ weightsNumbers (headerOf rec) (length counts)) (λ f. r ≡ O.Refused f) (counts′ ≡ counts)

@@ -191,7 +191,7 @@ module _ (h : Header) (s : Sound h) (ws : List ℕ) (lane : IsLane h ws) where
 
   symbols-long : length (mendSymbols h ws) ≡ length (mendNodes h ws)
   unfolding mendSymbols
-  symbols-long = length-map (mendNodes h ws) (mendAt h ws)
+  symbols-long = length-map (mendNodes h ws) _
 
   makes : (i : ℕ) → i < length (mendNodes h ws) → MendedBy h ws (getD (mendNodes h ws) i 0) (getD (mendSymbols h ws) i 0) × (getD (mendSymbols h ws) i 0 ≡ getD ws (getD (mendNodes h ws) i 0) 0 → ⊥)
   makes i inside =
