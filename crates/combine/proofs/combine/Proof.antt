@@ -38,14 +38,14 @@ enum-known-field : tie.Need-enum-known-field
 enum-known-field c = search needs
 
 combine-prime-requires : tie.Need-combine-prime-requires
-combine-prime-requires c κs = prime-rows _ (rw (c .before .before .field .given .1) at (c .before .before .before .before .before .before .before .pre))
+combine-prime-requires c κs = let start : tie.Start = search in prime-rows _ (rw (c .before .before .field .given .1) at (start .pre))
 
 enum-told : tie.Need-enum-told
 enum-told c = search needs
 
 combine-requires : tie.Need-combine-requires
 unfolding sizeOf
-combine-requires c κs = narrow-rows _ _ _ _ _ _ (byte-rows _ (rw (c .before .enum-told .given .1) at (c .before .before .before .before .before .before .pre))) one
+combine-requires c κs = let start : tie.Start = search in narrow-rows _ _ _ _ _ _ (byte-rows _ (rw (c .before .enum-told .given .1) at (start .pre))) one
 
 same-length : tie.Need-same-length
 same-length c = search needs
@@ -59,7 +59,7 @@ same-length-2 c = search needs
 
 returns-2 : tie.Need-returns-2
 unfolding modulus
-returns-2 c = rw (c .before .before .before .before .enum-told .given .1) (c .before .before .combine .ensures ∙ narrow-sums _ _ _ _ _ _ (byte-rows _ (rw (c .before .before .before .before .enum-told .given .1) at (c .before .before .before .before .before .before .before .before .before .pre))) one)
+returns-2 c = let start : tie.Start = search in rw (c .before .before .before .before .enum-told .given .1) (c .before .before .combine .ensures ∙ narrow-sums _ _ _ _ _ _ (byte-rows _ (rw (c .before .before .before .before .enum-told .given .1) at (start .pre))) one)
 
 pub combine-spec : {M : Type 1} → statement M
 combine-spec =

@@ -26,7 +26,7 @@ slice-aggregate-combine-turned : tie.Need-slice-aggregate-combine-turned
 slice-aggregate-combine-turned c = sym (long (c .before .before .before .before .before) _ (c .before .pair-scratch .ensures))
 
 combine-turned-requires : tie.Need-combine-turned-requires
-combine-turned-requires c κs = let st = c .before .before .before .before .before .before in (st .pre .0, st .pre .1, long st _ (c .before .before .pair-scratch .ensures))
+combine-turned-requires c κs = let st : tie.Start = search in (st .pre .0, st .pre .1, long st _ (c .before .before .pair-scratch .ensures))
 
 same-length : tie.Need-same-length
 same-length c = search needs

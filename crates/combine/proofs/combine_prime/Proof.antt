@@ -36,7 +36,7 @@ same-length : tie.Need-same-length
 same-length c = search needs
 
 returns : tie.Need-returns
-returns c = c .before .before .combine .ensures ∙ narrow-sums _ _ _ _ _ _ (c .before .before .before .before .before .before .before .before .pre .2) (one (c .before .before .before .before))
+returns c = let start : tie.Start = search in c .before .before .combine .ensures ∙ narrow-sums _ _ _ _ _ _ (start .pre .2) (one (c .before .before .before .before))
 
 cast-combine-2 : tie.Need-cast-combine-2
 cast-combine-2 c = search needs
@@ -51,7 +51,7 @@ same-length-2 : tie.Need-same-length-2
 same-length-2 c = search needs
 
 returns-2 : tie.Need-returns-2
-returns-2 c = c .before .before .combine2 .ensures ∙ wide-sums _ _ _ _ _ _ (c .before .before .before .before .before .before .before .before .pre .2) (two (c .before .before .before .before))
+returns-2 c = let start : tie.Start = search in c .before .before .combine2 .ensures ∙ wide-sums _ _ _ _ _ _ (start .pre .2) (two (c .before .before .before .before))
 
 pub combine-prime-spec : {M : Type 1} → statement M
 combine-prime-spec =

@@ -19,12 +19,13 @@ same-length c = search needs
 
 returns : tie.Need-returns
 returns c =
-    let a = c .before .before .before .before .before .before .before .before .before .args in
+    let start : tie.Start = search in
+    let a = start .args in
     c .before .before .combine .ensures ∙ one-after (modulus (a .field)) (a .count) (a .lanes) (a .weights .now) (a .rows .now) (sym (c .before .before .before .before .before .width .ensures) ∙ c .before .before .before .before .if1 .taken)
 
 combine-pairs-requires : tie.Need-combine-pairs-requires
 combine-pairs-requires c κs =
-    let st = c .before .before .before .before .before .before in
+    let st : tie.Start = search in
     (st .pre, omega (arith, bytes-range (modulus (st .args .field)), c .before .before .width .ensures))
 
 same-length-2 : tie.Need-same-length-2

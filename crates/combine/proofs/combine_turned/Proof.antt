@@ -19,7 +19,7 @@ combine-requires c κs = let st = c .before .before .before .before .before in o
 
 scatter-requires : tie.Need-scatter-requires
 scatter-requires c κs =
-    let st = c .before .before .before .before .before .before .before .before .before .before in
+    let st : tie.Start = search in
     let a = st .args in
     (ap length (c .before .before .before .before .combine .ensures) ∙ length-tile (modulus (a .field)) (a .count) (a .lanes) (a .weights .now) (a .rows .now) ∙ ap (λ (w : ℕ). w * a .lanes) (st .pre .1), out-two st)
 
@@ -31,10 +31,11 @@ same-length-2 c = search needs
 
 returns : tie.Need-returns
 returns c =
-    let st = c .before .before .before .before .before .before .before .before .before .before .before .before .before in
+    let after-combine : tie.After-combine = search in
+    let st : tie.Start = search in
     let a = st .args in
     c .before .before .scatter .ensures
-    ∙ ap (rearranged byRow byLane 2 (a .lanes)) (c .before .before .before .before .before .before .before .combine .ensures)
+    ∙ ap (rearranged byRow byLane 2 (a .lanes)) (after-combine .combine .ensures)
     ∙ ap (λ (w : ℕ). rearranged byRow byLane w (a .lanes) (combinedTile (modulus (a .field)) (a .count) (a .lanes) (a .weights .now) (a .rows .now))) (sym (st .pre .1))
     ∙ turned-after (modulus (a .field)) (a .count) (a .lanes) (a .weights .now) (a .rows .now)
 

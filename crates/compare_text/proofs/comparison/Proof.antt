@@ -16,7 +16,7 @@ enum-known-h : tie.Need-enum-known-h
 enum-known-h c = search needs
 
 put-comparison-requires : tie.Need-put-comparison-requires
-put-comparison-requires c κs = (accepted-sound (c .before .before .before .before .before .before .args .rec .now) _ (sym (c .before .before .before .before .read-record .ensures) ∙ c .before .before .h .given .1), search needs)
+put-comparison-requires c κs = let start : tie.Start = search in (accepted-sound (start .args .rec .now) _ (sym (c .before .before .before .before .read-record .ensures) ∙ c .before .before .h .given .1), search needs)
 
 enum-known-number : tie.Need-enum-known-number
 enum-known-number c = search needs
@@ -35,7 +35,7 @@ returns c = (puts-page comparisonFor (sym (c .before .before .before .h .given .
 
 returns-2 : tie.Need-returns-2
 unfolding comparisonFor ascii
-returns-2 c = (puts-page comparisonFor (sym (c .before .before .before .before .before .number .given .1) ∙ c .before .before .before .before .before .before .before .read-record .ensures) (c .put-line .ensures .0), compared _)
+returns-2 c = let after-read-record : tie.After-read-record = search in (puts-page comparisonFor (sym (c .before .before .before .before .before .number .given .1) ∙ after-read-record .read-record .ensures) (c .put-line .ensures .0), compared _)
 
 pub comparison-spec : {M : Type 1} → statement M
 comparison-spec =

@@ -31,7 +31,8 @@ same-length-2 c = search needs
 
 returns-2 : tie.Need-returns-2
 returns-2 c =
-    let a = c .before .before .before .before .before .before .before .before .args in
+    let start : tie.Start = search in
+    let a = start .args in
     rw (fault-last shareLayout (a .h) (a .lanes) (a .shares .now) (none-met (c .before .before .before .before))) (c .before .before .correct-symbols .ensures)
 
 pub correct-accepted-spec : {M : Type 1} → statement M

@@ -41,10 +41,10 @@ abbrev μ-loop : tie.MeasureT-loop
 μ-loop h rows lanes marks shares₀ n size count₀ t₀ shares count t = lanes - t
 
 -- the bytes of lane t, which are as they were
-inside : (c : tie.In-loop Inv-loop μ-loop) → c .before .loop .t * (c .before .before .width-of .result * c .before .before .before .before .before .before .before .args .h .n) + c .before .before .width-of .result * c .before .before .before .before .before .before .before .args .h .n ≤ length (c .before .before .before .before .before .before .before .args .shares .now)
-inside c = rw (c .before .before .width-of .ensures .0) (part-inside (c .before .before .before .before .before .before .before .pre .0) (width-some _) (c .before .loop .t) (c .loop-test .taken))
+inside : (c : tie.In-loop Inv-loop μ-loop) → let start : tie.Start Inv-loop μ-loop = search in c .before .loop .t * (c .before .before .width-of .result * start .args .h .n) + c .before .before .width-of .result * start .args .h .n ≤ length (start .args .shares .now)
+inside c = let start : tie.Start Inv-loop μ-loop = search in rw (c .before .before .width-of .ensures .0) (part-inside (start .pre .0) (width-some _) (c .before .loop .t) (c .loop-test .taken))
 
-untouched : (c : tie.In-loop Inv-loop μ-loop) → let a = c .before .loop .t * (width (c .before .before .before .before .before .before .before .args .h) * c .before .before .before .before .before .before .before .args .h .n) in drop a (c .before .loop .shares) ≡ drop a (c .before .before .before .before .before .before .before .args .shares .now)
+untouched : (c : tie.In-loop Inv-loop μ-loop) → let start : tie.Start Inv-loop μ-loop = search in let a = c .before .loop .t * (width (start .args .h) * start .args .h .n) in drop a (c .before .loop .shares) ≡ drop a (start .args .shares .now)
 untouched c = c .before .loop .inv .3 .kept
 
 cast-n : tie.Need-cast-n Inv-loop μ-loop
@@ -70,7 +70,7 @@ add-end : tie.Need-add-end Inv-loop μ-loop
 add-end c = omega (arith, inside c)
 
 shared-slice-read-write-nearest : tie.Need-shared-slice-read-write-nearest Inv-loop μ-loop
-shared-slice-read-write-nearest c = omega (arith, c .before .before .before .before .before .before .before .before .pre .0 .marked, c .before .loop-test .taken)
+shared-slice-read-write-nearest c = let start : tie.Start Inv-loop μ-loop = search in omega (arith, start .pre .0 .marked, c .before .loop-test .taken)
 
 sub-write-nearest : tie.Need-sub-write-nearest Inv-loop μ-loop
 sub-write-nearest c = omega arith
@@ -83,12 +83,13 @@ part-write-nearest-end c = omega (arith, inside (c .before), c .before .before .
 
 write-nearest-requires : tie.Need-write-nearest-requires Inv-loop μ-loop
 write-nearest-requires c κs =
-    rw (c .before .before .before .before .width-of .ensures .0, untouched (c .before .before)) (part-marked (c .before .before .before .before .before .before .before .before .before .pre .0) (width-some _) (c .before .before .before .loop .t) (c .before .before .loop-test .taken), c .before .before .before .before .before .before .before .before .before .pre .1)
+    let start : tie.Start Inv-loop μ-loop = search in
+    rw (c .before .before .before .before .width-of .ensures .0, untouched (c .before .before)) (part-marked (start .pre .0) (width-some _) (c .before .before .before .loop .t) (c .before .before .loop-test .taken), start .pre .1)
 
 -- how many symbols of lane t differ
-altered : (c : tie.After-write-nearest Inv-loop μ-loop) → let s = c .before .before .before .before .before .before .before .before .before .before .args in c .write-nearest .result ≡ differ (laneOf shareLayout (s .h .n) (s .lanes) (c .before .before .before .before .loop .t) (before (s .h) (s .shares .now))) (laneOf shareLayout (s .h .n) (s .lanes) (c .before .before .before .before .loop .t) (after (s .h) (s .lanes) (s .shares .now)))
+altered : (c : tie.After-write-nearest Inv-loop μ-loop) → let start : tie.Start Inv-loop μ-loop = search in let s = start .args in c .write-nearest .result ≡ differ (laneOf shareLayout (s .h .n) (s .lanes) (c .before .before .before .before .loop .t) (before (s .h) (s .shares .now))) (laneOf shareLayout (s .h .n) (s .lanes) (c .before .before .before .before .loop .t) (after (s .h) (s .lanes) (s .shares .now)))
 altered c =
-    let s = c .before .before .before .before .before .before .before .before .before .before in
+    let s : tie.Start Inv-loop μ-loop = search in
     let m = s .pre .0 in
     let lane = part-lane m (width-some _) (c .before .before .before .before .loop .t) (c .before .before .before .loop-test .taken) in
     let right = lane-corrected share-lawful (s .args .h) (m .sound) (s .args .lanes) (before (s .args .h) (s .args .shares .now)) (symbols-long m (width-some _)) (m .symbols) (c .before .before .before .before .loop .t) (c .before .before .before .loop-test .taken) in
@@ -96,12 +97,17 @@ altered c =
 
 few : (c : tie.After-write-nearest Inv-loop μ-loop) → c .write-nearest .result ≤ 255
 few c =
-    let s = c .before .before .before .before .before .before .before .before .before .before .args in
+    let after-struct-known : tie.After-struct-known Inv-loop μ-loop = search in
+    let start : tie.Start Inv-loop μ-loop = search in
+    let s = start .args in
     let lane = laneOf shareLayout (s .h .n) (s .lanes) (c .before .before .before .before .loop .t) (before (s .h) (s .shares .now)) in
-    omega (arith, altered c, differ-most lane (laneOf shareLayout (s .h .n) (s .lanes) (c .before .before .before .before .loop .t) (after (s .h) (s .lanes) (s .shares .now))), length-lane shareLayout (s .h .n) (s .lanes) (c .before .before .before .before .loop .t) (before (s .h) (s .shares .now)), c .before .before .before .before .before .before .struct-known .given)
+    omega (arith, altered c, differ-most lane (laneOf shareLayout (s .h .n) (s .lanes) (c .before .before .before .before .loop .t) (after (s .h) (s .lanes) (s .shares .now))), length-lane shareLayout (s .h .n) (s .lanes) (c .before .before .before .before .loop .t) (before (s .h) (s .shares .now)), after-struct-known .struct-known .given)
 
 add-count : tie.Need-add-count Inv-loop μ-loop
-add-count c = omega (arith, few (c .before .before), c .before .before .before .before .before .before .loop .inv .1, c .before .before .before .before .before .loop-test .taken, c .before .before .before .before .before .before .before .before .before .before .before .before .pre .0 .few-lanes)
+add-count c =
+    let at-loop : tie.At-loop Inv-loop μ-loop = search in
+    let start : tie.Start Inv-loop μ-loop = search in
+    omega (arith, few (c .before .before), at-loop .loop .inv .1, c .before .before .before .before .before .loop-test .taken, start .pre .0 .few-lanes)
 
 add-t : tie.Need-add-t Inv-loop μ-loop
 add-t c = omega arith
@@ -111,10 +117,12 @@ loop-less c = omega (arith, c .before .before .before .before .before .loop-test
 
 loop-again : tie.Need-loop-again Inv-loop μ-loop
 loop-again c =
-    let s = c .before .before .before .before .before .before .before .before .before .before .before .before in
+    let at-loop : tie.At-loop Inv-loop μ-loop = search in
+    let after-width-of : tie.After-width-of Inv-loop μ-loop = search in
+    let s : tie.Start Inv-loop μ-loop = search in
     let a = s .args in
     let m = s .pre .0 in
-    let l = c .before .before .before .before .before .before .loop in
+    let l = at-loop .loop in
     let k = width (a .h) * a .h .n in
     let taken = c .before .before .before .before .before .loop-test .taken in
     let whole = correctedBytes shareLayout (a .h) (a .lanes) (a .shares .now) in
@@ -123,8 +131,8 @@ loop-again c =
       omega (arith, taken),
       omega (arith, few (c .before .before), l .inv .1),
       count,
-      rw (row-after (l .t) k, c .before .before .before .before .before .before .before .width-of .ensures .0)
-          (fills-stretch whole (l .t * k) _ k (l .inv .3) (rw (c .before .before .before .before .before .before .before .width-of .ensures .0, untouched (c .before .before .before .before .before)) at (c .before .before .write-nearest .ensures .0) ∙ part-corrected m (width-some _) (l .t) taken) (corrected-size m (width-some _)) (part-inside m (width-some _) (l .t) taken)),
+      rw (row-after (l .t) k, after-width-of .width-of .ensures .0)
+          (fills-stretch whole (l .t * k) _ k (l .inv .3) (rw (after-width-of .width-of .ensures .0, untouched (c .before .before .before .before .before)) at (c .before .before .write-nearest .ensures .0) ∙ part-corrected m (width-some _) (l .t) taken) (corrected-size m (width-some _)) (part-inside m (width-some _) (l .t) taken)),
     )
 
 same-length : tie.Need-same-length Inv-loop μ-loop
@@ -133,7 +141,7 @@ same-length c = c .before .loop .inv .3 .long
 returns : tie.Need-returns Inv-loop μ-loop
 unfolding correctedCount
 returns c =
-    let s = c .before .before .before .before .before .before .before in
+    let s : tie.Start Inv-loop μ-loop = search in
     let a = s .args in
     let m = s .pre .0 in
     let l = c .before .loop in

@@ -23,7 +23,8 @@ same-length-2 c = search needs
 
 returns-2 : tie.Need-returns-2
 returns-2 c =
-    let a = c .before .before .before .before .before .before .before .before .before .before .args in
+    let start : tie.Start = search in
+    let a = start .args in
     let done = c .before .before .correct-lanes .ensures in
     rw (far-none shareLayout (a .h) (a .lanes) (a .shares .now) _ (c .before .before .before .before .before .first-far .ensures) (c .before .before .before .before .if1 .left)) (correct-done shareLayout (a .h) (a .lanes) (a .shares .now) _ _ (done .0) (done .1))
 

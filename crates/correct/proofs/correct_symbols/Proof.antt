@@ -30,7 +30,7 @@ slice-aggregate-correct-wrong c = sym (length-whole _ _ _ _ (c .before .before .
 
 correct-wrong-requires : tie.Need-correct-wrong-requires
 correct-wrong-requires c κs =
-    let s = c .before .before .before .before .before .before .before in
+    let s : tie.Start = search in
     marked-shares (s .args .h) (s .args .lanes) _ (s .args .shares .now) (s .pre) (whole-is _ _ _ _ (c .before .before .before .mark-lanes .ensures) (length-marks shareLayout _ _ _))
 
 same-length : tie.Need-same-length

@@ -48,7 +48,7 @@ slice-aggregate-fill-power-rows : tie.Need-slice-aggregate-fill-power-rows
 slice-aggregate-fill-power-rows c = sym (length-take-le _ _ (omega (arith, size-fits (c .before .before), c .before .room .ensures)))
 
 fill-power-rows-requires : tie.Need-fill-power-rows-requires
-fill-power-rows-requires c κs = (c .before .before .before .before .before .before .before .pre .sound, sym (slice-aggregate-fill-power-rows c) ∙ rw (c .before .before .before .before .width-of .ensures .0))
+fill-power-rows-requires c κs = let start : tie.Start = search in (start .pre .sound, sym (slice-aggregate-fill-power-rows c) ∙ rw (c .before .before .before .before .width-of .ensures .0))
 
 array-share-prefix-rows : tie.Need-array-share-prefix-rows
 array-share-prefix-rows c = whole-fits _ _ _ _ (c .before .fill-power-rows .ensures) (long (c .before .before .before .before))
@@ -57,7 +57,10 @@ slice-aggregate-correct-marked : tie.Need-slice-aggregate-correct-marked
 slice-aggregate-correct-marked c = sym (length-whole _ _ _ _ (c .before .before .fill-power-rows .ensures) (long (c .before .before .before .before .before)))
 
 correct-marked-requires : tie.Need-correct-marked-requires
-correct-marked-requires c κs = (c .before .before .before .before .before .before .before .before .before .before .before .pre, whole-is _ _ _ _ (c .before .before .before .fill-power-rows .ensures) (long (c .before .before .before .before .before .before)))
+correct-marked-requires c κs =
+    let after-struct-known2 : tie.After-struct-known2 = search in
+    let start : tie.Start = search in
+    (start .pre, whole-is _ _ _ _ (c .before .before .before .fill-power-rows .ensures) (long after-struct-known2))
 
 same-length : tie.Need-same-length
 same-length c = search needs

@@ -33,13 +33,14 @@ abbrev μ-loop : tie.MeasureT-loop
 μ-loop h rows lanes marks shares n size t₀ t = lanes - t
 
 -- the bytes of lane t
-inside : (c : tie.In-loop Inv-loop μ-loop) → c .before .loop .t * (c .before .before .width-of .result * c .before .before .before .before .before .before .before .args .h .n) + c .before .before .width-of .result * c .before .before .before .before .before .before .before .args .h .n ≤ length (c .before .before .before .before .before .before .before .args .shares .now)
-inside c = rw (c .before .before .width-of .ensures .0) (part-inside (c .before .before .before .before .before .before .before .pre .0) (width-some _) (c .before .loop .t) (c .loop-test .taken))
+inside : (c : tie.In-loop Inv-loop μ-loop) → let start : tie.Start Inv-loop μ-loop = search in c .before .loop .t * (c .before .before .width-of .result * start .args .h .n) + c .before .before .width-of .result * start .args .h .n ≤ length (start .args .shares .now)
+inside c = let start : tie.Start Inv-loop μ-loop = search in rw (c .before .before .width-of .ensures .0) (part-inside (start .pre .0) (width-some _) (c .before .loop .t) (c .loop-test .taken))
 
 -- lane t has a word near enough, or not
-near-is : (c : tie.After-is-near Inv-loop μ-loop) → c .is-near .result ≡ near (c .before .before .before .before .before .before .before .before .before .before .args .h) (c .before .before .before .before .before .before .before .before .before .before .args .lanes) (c .before .before .before .before .before .before .before .before .before .before .args .shares .now) (c .before .before .before .before .loop .t)
+near-is : (c : tie.After-is-near Inv-loop μ-loop) → let start : tie.Start Inv-loop μ-loop = search in c .is-near .result ≡ near (start .args .h) (start .args .lanes) (start .args .shares .now) (c .before .before .before .before .loop .t)
 near-is c =
-    let bytes = part-lane (c .before .before .before .before .before .before .before .before .before .before .pre .0) (width-some _) (c .before .before .before .before .loop .t) (c .before .before .before .loop-test .taken) in
+    let start : tie.Start Inv-loop μ-loop = search in
+    let bytes = part-lane (start .pre .0) (width-some _) (c .before .before .before .before .loop .t) (c .before .before .before .loop-test .taken) in
     rw (bytes) at (rw (c .before .before .before .before .before .width-of .ensures .0) at (c .is-near .ensures))
 
 cast-n : tie.Need-cast-n Inv-loop μ-loop
@@ -63,7 +64,7 @@ add-end : tie.Need-add-end Inv-loop μ-loop
 add-end c = omega (arith, inside c)
 
 shared-slice-read-is-near : tie.Need-shared-slice-read-is-near Inv-loop μ-loop
-shared-slice-read-is-near c = omega (arith, c .before .before .before .before .before .before .before .before .pre .0 .marked, c .before .loop-test .taken)
+shared-slice-read-is-near c = let start : tie.Start Inv-loop μ-loop = search in omega (arith, start .pre .0 .marked, c .before .loop-test .taken)
 
 sub-is-near : tie.Need-sub-is-near Inv-loop μ-loop
 sub-is-near c = omega arith
@@ -75,7 +76,7 @@ part-is-near-end : tie.Need-part-is-near-end Inv-loop μ-loop
 part-is-near-end c = omega (arith, inside (c .before))
 
 is-near-requires : tie.Need-is-near-requires Inv-loop μ-loop
-is-near-requires c κs = rw (c .before .before .before .before .width-of .ensures .0) (part-marked (c .before .before .before .before .before .before .before .before .before .pre .0) (width-some _) (c .before .before .before .loop .t) (c .before .before .loop-test .taken), c .before .before .before .before .before .before .before .before .before .pre .1)
+is-near-requires c κs = let start : tie.Start Inv-loop μ-loop = search in rw (c .before .before .before .before .width-of .ensures .0) (part-marked (start .pre .0) (width-some _) (c .before .before .before .loop .t) (c .before .before .loop-test .taken), start .pre .1)
 
 returns : tie.Need-returns Inv-loop μ-loop
 unfolding firstFar
@@ -97,8 +98,9 @@ loop-again c =
 returns-2 : tie.Need-returns-2 Inv-loop μ-loop
 unfolding firstFar
 returns-2 c =
+    let start : tie.Start Inv-loop μ-loop = search in
     let l = c .before .loop in
-    let end : c .before .before .before .before .before .before .before .args .lanes ≡ l .t = omega (arith, l .inv .0, c .loop-test .left) in
+    let end : start .args .lanes ≡ l .t = omega (arith, l .inv .0, c .loop-test .left) in
     end ∙ sym (l .inv .1 ∙ search-end _ _ _ (c .loop-test .left))
 
 pub first-far-spec : {M : Type 1} → statement M

@@ -39,7 +39,9 @@ slice-aggregate-errors-2 : tie.Need-slice-aggregate-errors-2
 slice-aggregate-errors-2 c = sym (facts (c .before .before .before) .terms-long)
 
 errors-requires : tie.Need-errors-requires
-errors-requires c κs = let s = c .before .before .before .before .before .before .pre in (facts (c .before .before .before) .terms-symbols, facts (c .before .before .before) .terms-long ∙ listed (c .before .before .before), s .0 .sound .root-below, s .2)
+errors-requires c κs =
+    let start : tie.Start = search in
+    let s = start .pre in (facts (c .before .before .before) .terms-symbols, facts (c .before .before .before) .terms-long ∙ listed (c .before .before .before), s .0 .sound .root-below, s .2)
 
 array-share-prefix-nodes-2 : tie.Need-array-share-prefix-nodes-2
 array-share-prefix-nodes-2 c = omega (arith, facts (c .before .before .before .before) .count-few, facts (c .before .before .before .before) .nodes-long)
@@ -51,15 +53,18 @@ array-share-prefix-wrong : tie.Need-array-share-prefix-wrong
 array-share-prefix-wrong c = let f = facts (c .before .before .before .before .before) in omega (arith, f .count-few, ap length (errors-is (c .before)), length-padded 255 (f .es) (omega (arith, f .errors-count, f .count-few)))
 
 slice-aggregate-removed-2 : tie.Need-slice-aggregate-removed-2
-slice-aggregate-removed-2 c = sym (ap length (errors-part (c .before .before)) ∙ facts (c .before .before .before .before .before .before) .errors-count)
+slice-aggregate-removed-2 c = let after-wrong-nodes : tie.After-wrong-nodes = search in sym (ap length (errors-part (c .before .before)) ∙ facts after-wrong-nodes .errors-count)
 
 removed-requires : tie.Need-removed-requires
 removed-requires c κs =
-    let f = facts (c .before .before .before .before .before .before) in
+    let after-wrong-nodes : tie.After-wrong-nodes = search in
+    let f = facts after-wrong-nodes in
     rw (f .nodes-part, errors-part (c .before .before)) (f .lane-symbols, f .errors-symbols, f .nodes-low, f .errors-count ∙ f .counted)
 
 returns : tie.Need-returns
-returns c = let f = facts (c .before .before .before .before .before .before .before) in f .candidate _ (c .removed .ensures ∙ rw (f .nodes-part, errors-part (c .before .before .before)))
+returns c =
+    let after-wrong-nodes : tie.After-wrong-nodes = search in
+    let f = facts after-wrong-nodes in f .candidate _ (c .removed .ensures ∙ rw (f .nodes-part, errors-part (c .before .before .before)))
 
 pub candidate-spec : {M : Type 1} → statement M
 candidate-spec =

@@ -52,7 +52,7 @@ same-length c = search needs
 returns-2 : tie.Need-returns-2
 unfolding outcomeOf
 returns-2 c =
-    let measured = c .before .before .before .before .before .before .before .before in
+    let measured : tie.After-width-of = search in
     let none = sym (measured .before .before .encode-fault .ensures) ∙ measured .before .if1 .left in
     let wide = measured .width-of .ensures .0 in
     record { answer = rw none; written = rw none (rw wide at (c .before .before .encode-lanes .ensures) ∙ sym (encoded-lanes _ _ _ _ refl)) }

@@ -48,7 +48,7 @@ loop-less c = omega (arith, row (c .before))
 
 loop-again : tie.Need-loop-again Inv-loop μ-loop
 loop-again c =
-    let s = c .before .before .before .before .before .before in
+    let s : tie.Start Inv-loop μ-loop = search in
     let low = row (c .before) in
     let inv = c .before .before .loop .inv in
     let read : c .coefficient .result ≡ entry (s .args .h) (c .before .before .loop .r) (s .args .node) = c .coefficient .ensures ∙ rw (s .pre .0 .base-is, s .pre .0 .shifts-are) (entry-read _ (s .pre .0 .sound) _ _ low (s .pre .1)) in

@@ -66,7 +66,7 @@ mul-with-requires c κs =
 
 returns : tie.Need-returns
 unfolding amountIn
-returns c = rw (c .mul-with .ensures, c .before .before .inverse-with .ensures, over (c .before .before .before .before .before .before), first (c .before .before .before .before .before .before))
+returns c = let start : tie.Start = search in rw (c .mul-with .ensures, c .before .before .inverse-with .ensures, over start, first start)
 
 pub amount-in-spec : {M : Type 1} → statement M
 amount-in-spec =

@@ -30,10 +30,11 @@ length-part c =
 
 -- the first node that changed, by the difference
 searched : (c : tie.After-first-changed)
-    → let a = c .before .before .before .before .before .before .args in
+    → let start : tie.Start = search in let a = start .args in
     c .first-changed .result ≡ firstFalse (a .h .n) 0 (λ j. eqb (getD (differences (a .h) (a .before .now) (a .after .now)) j 0) 0)
 searched c =
-    let a = c .before .before .before .before .before .before .args in
+    let start : tie.Start = search in
+    let a = start .args in
     let ws = differences (a .h) (a .before .now) (a .after .now) in
     c .first-changed .ensures
     ∙ ap (λ (l : List ℕ). firstFalse (length l) 0 (λ j. eqb (getD l j 0) 0)) (part (c .before .before))
@@ -56,7 +57,7 @@ first-changed-requires c κs = search needs
 
 returns : tie.Need-returns
 returns c =
-    let start = c .before .before .before .before .before .before .before in
+    let start : tie.Start = search in
     let (sound, us, vs) = start .pre in
     let at = c .before .before .before in
     rw (finding-is _ sound _ _ us vs, eq-eqb _ _ (sym (searched (c .before)) ∙ c .if1 .taken))
@@ -72,13 +73,15 @@ slice-aggregate-update-in c = let at = c .before .before .before .before .before
 
 update-in-requires : tie.Need-update-in-requires
 update-in-requires c κs =
-    let (sound, us, vs) = c .before .before .before .before .before .before .before .before .before .pre in
+    let start : tie.Start = search in
+    let (sound, us, vs) = start .pre in
     (sound, c .before .plan-of .ensures, rw (part (c .before .before .before .before .before)) (differences-lane _ sound _ _ us vs))
 
 returns-2 : tie.Need-returns-2
 returns-2 c =
-    let (sound, us, vs) = c .before .before .before .before .before .before .before .before .before .before .pre in
-    let at = c .before .before .before .before .before .before in
+    let at : tie.After-difference = search in
+    let start : tie.Start = search in
+    let (sound, us, vs) = start .pre in
     rw (finding-is _ sound _ _ us vs, ne-eqb _ _ (λ e. c .before .before .before .if1 .left (searched (c .before .before .before .before) ∙ e))) (c .update-in .ensures ∙ rw (part at))
 
 pub find-spec : {M : Type 1} → statement M

@@ -19,12 +19,12 @@ lanes c = find-accepts _ _ _ (sym (c .before .find-fault .ensures) ∙ c .if1 .l
 
 -- the lanes as they are read
 first : (c : tie.After-read-symbols)
-    → let a = c .before .before .before .before .before .before .before .args in
+    → let start : tie.Start = search in let a = start .args in
     take (a .h .n) (c .read-symbols .result) ≡ symbolsOf (width (a .h)) (a .before .now)
 first c = lane-read _ _ _ _ (lanes (c .before .before .before) .first) (c .before .width-of .ensures .0) (c .read-symbols .ensures)
 
 second : (c : tie.After-read-symbols2)
-    → let a = c .before .before .before .before .before .before .before .before .args in
+    → let start : tie.Start = search in let a = start .args in
     take (a .h .n) (c .read-symbols2 .result) ≡ symbolsOf (width (a .h)) (a .after .now)
 second c = lane-read _ _ _ _ (lanes (c .before .before .before .before) .second) (c .before .before .width-of .ensures .0) (c .read-symbols2 .ensures)
 
@@ -42,13 +42,15 @@ width-of-requires c κs = search needs
 
 read-symbols-requires : tie.Need-read-symbols-requires
 read-symbols-requires c κs =
-    let few : c .before .before .before .before .before .before .args .h .n ≤ 255 = omega arith in
+    let start : tie.Start = search in
+    let few : start .args .h .n ≤ 255 = omega arith in
     let (is, some, two) = c .width-of .ensures in
     (some, two, few-bytes _ _ _ few (rw is (lanes (c .before .before) .first-long)))
 
 read-symbols-requires-2 : tie.Need-read-symbols-requires-2
 read-symbols-requires-2 c κs =
-    let few : c .before .before .before .before .before .before .before .args .h .n ≤ 255 = omega arith in
+    let start : tie.Start = search in
+    let few : start .args .h .n ≤ 255 = omega arith in
     let (is, some, two) = c .before .width-of .ensures in
     (some, two, few-bytes _ _ _ few (rw is (lanes (c .before .before .before) .second-long)))
 
@@ -62,17 +64,19 @@ array-share-prefix-vs : tie.Need-array-share-prefix-vs
 array-share-prefix-vs c = search needs
 
 slice-aggregate-find-2 : tie.Need-slice-aggregate-find-2
-slice-aggregate-find-2 c = rw (second (c .before .before)) (sym (lanes (c .before .before .before .before .before .before) .second .long))
+slice-aggregate-find-2 c = let else1 : tie.Else1 = search in rw (second (c .before .before)) (sym (lanes else1 .second .long))
 
 find-requires : tie.Need-find-requires
 find-requires c κs =
-    let both = lanes (c .before .before .before .before .before .before) in
-    (c .before .before .before .before .before .before .before .before .before .before .pre, rw (first (c .before .before .before)) (both .first), rw (second (c .before .before)) (both .second))
+    let else1 : tie.Else1 = search in
+    let start : tie.Start = search in
+    let both = lanes else1 in
+    (start .pre, rw (first (c .before .before .before)) (both .first), rw (second (c .before .before)) (both .second))
 
 returns-2 : tie.Need-returns-2
 unfolding answerOf
 returns-2 c =
-    let at = c .before .before .before .before .before .before .before in
+    let at : tie.Else1 = search in
     let none = sym (at .before .find-fault .ensures) ∙ at .if1 .left in
     record { answer = rw none (c .find .ensures ∙ ap₂ (findingOf _) (first (c .before .before .before .before)) (second (c .before .before .before))) }
 

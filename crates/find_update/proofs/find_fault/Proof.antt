@@ -32,8 +32,10 @@ first-requires-4 c κs = search needs
 returns : tie.Need-returns
 unfolding findFault
 returns c =
-    then (c .before .before .before .before .before .before .before .lane-length-bad .ensures) 0 8 _ (c .before .before .before .before .before .before .first .ensures)
-    (then (c .before .before .before .before .before .lane-length-bad2 .ensures) (c .before .before .before .before .before .before .first .result) 8 _ (c .before .before .before .before .first2 .ensures)
+    let after-first : tie.After-first = search in
+    let after-lane-length-bad : tie.After-lane-length-bad = search in
+    then (after-lane-length-bad .lane-length-bad .ensures) 0 8 _ (after-first .first .ensures)
+    (then (c .before .before .before .before .before .lane-length-bad2 .ensures) (after-first .first .result) 8 _ (c .before .before .before .before .first2 .ensures)
     (then (c .before .before .before .symbols-bad .ensures) (c .before .before .before .before .first2 .result) 11 _ (c .before .before .first3 .ensures)
     (last (c .before .symbols-bad2 .ensures) (c .before .before .first3 .result) 11 (c .first4 .ensures))))
 

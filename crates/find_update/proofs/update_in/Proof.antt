@@ -13,13 +13,15 @@ use Rattle.find_update.proofs.update_in.Tie as tie
 
 -- what comparing the row with the difference says
 compared : (c : tie.After-first-other)
-    → let a = c .before .before .before .before .before .before .before .before .before .args in
-    pick (eqb (c .first-other .result) (length (a .difference .now))) (Added (c .before .before .before .before .before .before .row-at .result) (c .before .before .amount-in .result)) NoSingleUpdate
+    → let after-row-at : tie.After-row-at = search in let start : tie.Start = search in let a = start .args in
+    pick (eqb (c .first-other .result) (length (a .difference .now))) (Added (after-row-at .row-at .result) (c .before .before .amount-in .result)) NoSingleUpdate
     ≡ updateIn (a .h) (a .difference .now)
 unfolding updateIn
 compared c =
-    let (sound, plan, lane) = c .before .before .before .before .before .before .before .before .before .pre in
-    rw (lane .long, ← c .before .before .before .before .before .before .row-at .ensures, lt-ltb _ _ (c .before .before .before .before .before .if1 .left), ← c .before .before .amount-in .ensures, ← c .first-other .ensures)
+    let after-row-at : tie.After-row-at = search in
+    let start : tie.Start = search in
+    let (sound, plan, lane) = start .pre in
+    rw (lane .long, ← after-row-at .row-at .ensures, lt-ltb _ _ (c .before .before .before .before .before .if1 .left), ← c .before .before .amount-in .ensures, ← c .first-other .ensures)
 
 cast-k : tie.Need-cast-k
 cast-k c = search needs
@@ -39,7 +41,8 @@ amount-in-requires c κs = search needs
 
 first-other-requires : tie.Need-first-other-requires
 first-other-requires c κs =
-    let (sound, plan, lane) = c .before .before .before .before .before .before .before .before .pre in
+    let start : tie.Start = search in
+    let (sound, plan, lane) = start .pre in
     (sound, plan, c .before .before .before .before .if1 .left, rw (c .before .amount-in .ensures) (amount-symbol _ sound _ lane _ (c .before .before .before .before .if1 .left)), lane .long, c .before .before .before .constant-tables .ensures)
 
 returns-2 : tie.Need-returns-2

@@ -36,7 +36,7 @@ terms : (c : tie.In-loop Inv-loop μ-loop) → let a = c .before .before .before
 terms c = let s = c .before .before .before .before .before in term-symbols (s .args .h) (s .pre .0) (omega (arith, c .before .before .before .struct-known .given)) (c .before .loop .r) (c .loop-test .taken)
 
 -- they are what is lent
-taken : (c : tie.After-row-terms Inv-loop μ-loop) → take (c .before .before .before .before .before .before .before .args .h .k) (c .row-terms .result) ≡ rowTerms (c .before .before .before .before .before .before .before .args .h) (c .before .before .before .loop .r)
+taken : (c : tie.After-row-terms Inv-loop μ-loop) → let start : tie.Start Inv-loop μ-loop = search in take (start .args .h .k) (c .row-terms .result) ≡ rowTerms (start .args .h) (c .before .before .before .loop .r)
 taken c = rw (c .row-terms .ensures) (take-padded 255 _ _ (terms (c .before .before) .size))
 
 cast-k : tie.Need-cast-k Inv-loop μ-loop
@@ -55,7 +55,7 @@ loop-holds : tie.Need-loop-holds Inv-loop μ-loop
 loop-holds c = (omega arith, rw (sub-zero, zero-mul) (fills-start _ _))
 
 row-terms-requires : tie.Need-row-terms-requires Inv-loop μ-loop
-row-terms-requires c κs = let s = c .before .before .before .before .before .before in (s .pre .0, s .pre .2, s .pre .3, c .before .loop-test .taken, c .before .before .before .constant-tables .ensures)
+row-terms-requires c κs = let s : tie.Start Inv-loop μ-loop = search in (s .pre .0, s .pre .2, s .pre .3, c .before .loop-test .taken, c .before .before .before .constant-tables .ensures)
 
 mul-start : tie.Need-mul-start Inv-loop μ-loop
 mul-start c = omega (arith, row-in (c .before .before))
@@ -96,7 +96,7 @@ loop-less c = omega arith
 
 loop-again : tie.Need-loop-again Inv-loop μ-loop
 loop-again c =
-    let at = c .before .before .before .before .before .before .before in
+    let at : tie.In-loop Inv-loop μ-loop = search in
     let s = at .before .before .before .before .before in
     let h = s .args .h in
     let w = s .args .w in

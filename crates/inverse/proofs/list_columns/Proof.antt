@@ -31,8 +31,8 @@ loop-holds : tie.Need-loop-holds Inv-loop μ-loop
 loop-holds c = (omega arith, refl, refl, begun-none _ _ _ _ _ (λ r. length-column _ _ _ _ _))
 
 -- the factor is a symbol
-factor : (c : tie.In-loop Inv-loop μ-loop) → let a = c .before .before .before .before .before .before .before .before .before .args in getD (a .factors .now) (c .before .loop .r) 0 < sizeOf (modulus (a .field))
-factor c = below-at _ _ (c .before .before .before .before .before .before .before .before .before .pre .0 .below) _ (c .loop-test .taken)
+factor : (c : tie.In-loop Inv-loop μ-loop) → let start : tie.Start Inv-loop μ-loop = search in let a = start .args in getD (a .factors .now) (c .before .loop .r) 0 < sizeOf (modulus (a .field))
+factor c = let start : tie.Start Inv-loop μ-loop = search in below-at _ _ (start .pre .0 .below) _ (c .loop-test .taken)
 
 mul-scaled-column : tie.Need-mul-scaled-column Inv-loop μ-loop
 mul-scaled-column c = omega arith
@@ -44,16 +44,17 @@ cast-scaled-column : tie.Need-cast-scaled-column Inv-loop μ-loop
 cast-scaled-column c = omega (arith, c .shared-slice-known5 .given (c .before .before .before .loop .r))
 
 scaled-column-requires : tie.Need-scaled-column-requires Inv-loop μ-loop
-scaled-column-requires c κs = let s = c .before .before .before .before .before .before .before .before .before .before .before in (s .pre .1, factor (c .before .before), omega (arith, s .pre .2, c .before .before .loop-test .taken), s .pre .3, c .before .before .before .before .constant-tables .ensures)
+scaled-column-requires c κs = let s : tie.Start Inv-loop μ-loop = search in (s .pre .1, factor (c .before .before), omega (arith, s .pre .2, c .before .before .loop-test .taken), s .pre .3, c .before .before .before .before .constant-tables .ensures)
 
 -- the column as it is lent
-taken : (c : tie.After-scaled-column Inv-loop μ-loop) → let a = c .before .before .before .before .before .before .before .before .before .before .before .before .args in take (length (a .scales .now)) (c .scaled-column .result) ≡ scaledColumn (modulus (a .field)) (getD (a .factors .now) (c .before .before .before .before .loop .r) 0) (a .scales .now) (c .before .before .before .before .loop .r) (symbolsOf (a .w) (a .sums .now))
+taken : (c : tie.After-scaled-column Inv-loop μ-loop) → let start : tie.Start Inv-loop μ-loop = search in let a = start .args in take (length (a .scales .now)) (c .scaled-column .result) ≡ scaledColumn (modulus (a .field)) (getD (a .factors .now) (c .before .before .before .before .loop .r) 0) (a .scales .now) (c .before .before .before .before .loop .r) (symbolsOf (a .w) (a .sums .now))
 taken c = rw (c .scaled-column .ensures) (take-padded 255 _ _ (length-column _ _ _ _ _))
 
 array-share-prefix-column : tie.Need-array-share-prefix-column Inv-loop μ-loop
 array-share-prefix-column c =
-    let a = c .before .before .before .before .before .before .before .before .before .before .before .before .args in
-    let short = c .before .before .before .before .before .before .before .before .before .before .before .before .pre .1 .short in
+    let start : tie.Start Inv-loop μ-loop = search in
+    let a = start .args in
+    let short = start .pre .1 .short in
     let r = c .before .before .before .before .loop .r in
     let x = getD (a .factors .now) r 0 in
     rw (c .scaled-column .ensures) (omega (arith, short, length-padded 255 (scaledColumn (modulus (a .field)) x (a .scales .now) r (symbolsOf (a .w) (a .sums .now))) (omega (arith, short, length-column (modulus (a .field)) x (a .scales .now) r (symbolsOf (a .w) (a .sums .now))))))
@@ -63,8 +64,8 @@ slice-aggregate-prepare c = rw (taken (c .before)) (sym (length-column _ _ _ _ _
 
 prepare-requires : tie.Need-prepare-requires Inv-loop μ-loop
 prepare-requires c κs =
-    let at = c .before .before .before .before .before .before in
-    let s = at .before .before .before .before .before .before .before .before .before in
+    let at : tie.In-loop Inv-loop μ-loop = search in
+    let s : tie.Start Inv-loop μ-loop = search in
     let a = s .args in
     let l = at .before .loop in
     let n = length (a .scales .now) in
@@ -82,17 +83,19 @@ prepare-requires c κs =
     )
 
 add-r : tie.Need-add-r Inv-loop μ-loop
-add-r c = omega (arith, c .before .before .before .before .before .before .before .before .before .before .before .loop-test .taken)
+add-r c = let in-loop : tie.In-loop Inv-loop μ-loop = search in omega (arith, in-loop .loop-test .taken)
 
 loop-less : tie.Need-loop-less Inv-loop μ-loop
 loop-less c = omega arith
 
 loop-again : tie.Need-loop-again Inv-loop μ-loop
 loop-again c =
-    let at = c .before .before .before .before .before .before .before .before .before .before .before in
-    let a = at .before .before .before .before .before .before .before .before .before .args in
+    let after-scaled-column : tie.After-scaled-column Inv-loop μ-loop = search in
+    let at : tie.In-loop Inv-loop μ-loop = search in
+    let start : tie.Start Inv-loop μ-loop = search in
+    let a = start .args in
     let l = at .before .loop in
-    let made = rw (taken (c .before .before .before .before .before .before .before .before), length-column (modulus (a .field)) (getD (a .factors .now) (l .r) 0) (a .scales .now) (l .r) (symbolsOf (a .w) (a .sums .now))) at (c .before .before .before .before .prepare .ensures) in
+    let made = rw (taken after-scaled-column, length-column (modulus (a .field)) (getD (a .factors .now) (l .r) 0) (a .scales .now) (l .r) (symbolsOf (a .w) (a .sums .now))) at (c .before .before .before .before .prepare .ensures) in
     (omega arith, omega (arith, l .inv .1), omega (arith, l .inv .2), made (λ j. scaledColumn (modulus (a .field)) (getD (a .factors .now) j 0) (a .scales .now) j (symbolsOf (a .w) (a .sums .now))) refl (l .inv .3))
 
 same-length : tie.Need-same-length Inv-loop μ-loop
@@ -103,7 +106,7 @@ same-length-2 c = c .before .loop .inv .2
 
 returns : tie.Need-returns Inv-loop μ-loop
 returns c =
-    let s = c .before .before .before .before .before .before .before .before .before in
+    let s : tie.Start Inv-loop μ-loop = search in
     let all : c .before .loop .r ≡ length (s .args .scales .now) = omega (arith, s .pre .2) in
     rw all at (c .before .loop .inv .3)
 

@@ -28,7 +28,7 @@ constant-tables-requires c κs = _
 
 loop-holds : tie.Need-loop-holds Inv-loop μ-loop
 loop-holds c =
-    let s = c .before .before .before .before .before .before in
+    let s : tie.Start Inv-loop μ-loop = search in
     (omega arith, refl, refl, begun-none _ _ _ _ _ (λ i. length-quotientOf _ _ (s .args .product .now) ∙ s .pre .2))
 
 mul-quotient : tie.Need-mul-quotient Inv-loop μ-loop
@@ -38,23 +38,24 @@ shared-slice-read-quotient : tie.Need-shared-slice-read-quotient Inv-loop μ-loo
 shared-slice-read-quotient c = c .before .before .loop-test .taken
 
 -- the point is a symbol
-point : (c : tie.In-loop Inv-loop μ-loop) → let a = c .before .before .before .before .before .before .before .before .args in getD (a .points .now) (c .before .loop .i) 0 < sizeOf (modulus (a .field))
-point c = below-at _ _ (c .before .before .before .before .before .before .before .before .pre .0 .below) _ (c .loop-test .taken)
+point : (c : tie.In-loop Inv-loop μ-loop) → let start : tie.Start Inv-loop μ-loop = search in let a = start .args in getD (a .points .now) (c .before .loop .i) 0 < sizeOf (modulus (a .field))
+point c = let start : tie.Start Inv-loop μ-loop = search in below-at _ _ (start .pre .0 .below) _ (c .loop-test .taken)
 
 cast-quotient : tie.Need-cast-quotient Inv-loop μ-loop
 cast-quotient c = omega (arith, c .shared-slice-known4 .given (c .before .before .before .loop .i))
 
 quotient-requires : tie.Need-quotient-requires Inv-loop μ-loop
-quotient-requires c κs = let s = c .before .before .before .before .before .before .before .before .before .before in (s .pre .1, point (c .before .before), c .before .before .before .before .constant-tables .ensures)
+quotient-requires c κs = let s : tie.Start Inv-loop μ-loop = search in (s .pre .1, point (c .before .before), c .before .before .before .before .constant-tables .ensures)
 
 -- the quotient as it is lent
-taken : (c : tie.After-quotient Inv-loop μ-loop) → let a = c .before .before .before .before .before .before .before .before .before .before .before .args in take (length (a .product .now)) (c .quotient .result) ≡ quotientOf (modulus (a .field)) (getD (a .points .now) (c .before .before .before .before .loop .i) 0) (a .product .now)
+taken : (c : tie.After-quotient Inv-loop μ-loop) → let start : tie.Start Inv-loop μ-loop = search in let a = start .args in take (length (a .product .now)) (c .quotient .result) ≡ quotientOf (modulus (a .field)) (getD (a .points .now) (c .before .before .before .before .loop .i) 0) (a .product .now)
 taken c = rw (c .quotient .ensures) (take-padded 255 _ _ (length-quotientOf _ _ _))
 
 array-share-prefix-q : tie.Need-array-share-prefix-q Inv-loop μ-loop
 array-share-prefix-q c =
-    let a = c .before .before .before .before .before .before .before .before .before .before .before .args in
-    let short = c .before .before .before .before .before .before .before .before .before .before .before .pre .1 .short in
+    let start : tie.Start Inv-loop μ-loop = search in
+    let a = start .args in
+    let short = start .pre .1 .short in
     let q = quotientOf (modulus (a .field)) (getD (a .points .now) (c .before .before .before .before .loop .i) 0) (a .product .now) in
     rw (c .quotient .ensures) (omega (arith, short, length-padded 255 q (omega (arith, short, length-quotientOf (modulus (a .field)) (getD (a .points .now) (c .before .before .before .before .loop .i) 0) (a .product .now)))))
 
@@ -63,8 +64,8 @@ slice-aggregate-prepare c = rw (taken (c .before)) (sym (length-quotientOf _ _ _
 
 prepare-requires : tie.Need-prepare-requires Inv-loop μ-loop
 prepare-requires c κs =
-    let at = c .before .before .before .before .before .before in
-    let s = at .before .before .before .before .before .before .before .before in
+    let at : tie.In-loop Inv-loop μ-loop = search in
+    let s : tie.Start Inv-loop μ-loop = search in
     let a = s .args in
     let l = at .before .loop in
     let low = at .loop-test .taken in
@@ -82,18 +83,19 @@ prepare-requires c κs =
     )
 
 add-i : tie.Need-add-i Inv-loop μ-loop
-add-i c = omega (arith, c .before .before .before .before .before .before .before .before .before .before .before .loop-test .taken)
+add-i c = let in-loop : tie.In-loop Inv-loop μ-loop = search in omega (arith, in-loop .loop-test .taken)
 
 loop-less : tie.Need-loop-less Inv-loop μ-loop
 loop-less c = omega arith
 
 loop-again : tie.Need-loop-again Inv-loop μ-loop
 loop-again c =
-    let at = c .before .before .before .before .before .before .before .before .before .before .before in
-    let s = at .before .before .before .before .before .before .before .before in
+    let after-quotient : tie.After-quotient Inv-loop μ-loop = search in
+    let at : tie.In-loop Inv-loop μ-loop = search in
+    let s : tie.Start Inv-loop μ-loop = search in
     let a = s .args in
     let l = at .before .loop in
-    let made = rw (taken (c .before .before .before .before .before .before .before .before), length-quotientOf (modulus (a .field)) (getD (a .points .now) (l .i) 0) (a .product .now), s .pre .2) at (c .before .before .before .before .prepare .ensures) in
+    let made = rw (taken after-quotient, length-quotientOf (modulus (a .field)) (getD (a .points .now) (l .i) 0) (a .product .now), s .pre .2) at (c .before .before .before .before .prepare .ensures) in
     (omega arith, omega (arith, l .inv .1), omega (arith, l .inv .2), made (λ j. quotientOf (modulus (a .field)) (getD (a .points .now) j 0) (a .product .now)) refl (l .inv .3))
 
 same-length : tie.Need-same-length Inv-loop μ-loop
@@ -103,7 +105,9 @@ same-length-2 : tie.Need-same-length-2 Inv-loop μ-loop
 same-length-2 c = c .before .loop .inv .2
 
 returns : tie.Need-returns Inv-loop μ-loop
-returns c = let all : c .before .loop .i ≡ length (c .before .before .before .before .before .before .before .before .args .points .now) = omega arith in rw all at (c .before .loop .inv .3)
+returns c =
+    let start : tie.Start Inv-loop μ-loop = search in
+    let all : c .before .loop .i ≡ length (start .args .points .now) = omega arith in rw all at (c .before .loop .inv .3)
 
 pub list-quotients-spec : {M : Type 1} → statement M
 list-quotients-spec =

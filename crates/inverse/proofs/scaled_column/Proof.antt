@@ -61,8 +61,8 @@ mul-with-requires : tie.Need-mul-with-requires Inv-loop μ-loop
 mul-with-requires c κs = let s = c .before .before .before .before .before in (s .pre .0 .usable-field, s .pre .1, turn (c .before) .0, s .pre .4)
 
 -- the scales' product is a symbol
-own : (c : tie.After-mul-with Inv-loop μ-loop) → c .mul-with .result < sizeOf (modulus (c .before .before .before .before .before .before .args .field))
-own c = let s = c .before .before .before .before .before .before in rw (c .mul-with .ensures) (mul-below _ (usable-field _ (s .pre .0 .usable-field)) (s .pre .1) (turn (c .before .before) .0))
+own : (c : tie.After-mul-with Inv-loop μ-loop) → let start : tie.Start Inv-loop μ-loop = search in c .mul-with .result < sizeOf (modulus (start .args .field))
+own c = let s : tie.Start Inv-loop μ-loop = search in rw (c .mul-with .ensures) (mul-below _ (usable-field _ (s .pre .0 .usable-field)) (s .pre .1) (turn (c .before .before) .0))
 
 mul-symbol-at : tie.Need-mul-symbol-at Inv-loop μ-loop
 mul-symbol-at c = omega (arith, in-bytes (c .before .before))
@@ -71,24 +71,28 @@ add-symbol-at : tie.Need-add-symbol-at Inv-loop μ-loop
 add-symbol-at c = omega (arith, in-bytes (c .before .before))
 
 symbol-at-requires : tie.Need-symbol-at-requires Inv-loop μ-loop
-symbol-at-requires c κs = let m = c .before .before .before .before .before .before .pre .3 in (m .some, m .two, sum-in (c .before .before))
+symbol-at-requires c κs =
+    let start : tie.Start Inv-loop μ-loop = search in
+    let m = start .pre .3 in (m .some, m .two, sum-in (c .before .before))
 
 -- the symbol that was read
-sum-is : (c : tie.After-symbol-at Inv-loop μ-loop) → let a = c .before .before .before .before .before .before .before .args in c .symbol-at .result ≡ getD (symbolsOf (a .w) (a .sums .now)) (c .before .before .before .before .loop .i * length (a .scales .now) + a .r) 0
-sum-is c = let a = c .before .before .before .before .before .before .before .args in c .symbol-at .ensures ∙ sym (getD-symbols (a .w) (a .sums .now) _ (sum-in (c .before .before .before)))
+sum-is : (c : tie.After-symbol-at Inv-loop μ-loop) → let start : tie.Start Inv-loop μ-loop = search in let a = start .args in c .symbol-at .result ≡ getD (symbolsOf (a .w) (a .sums .now)) (c .before .before .before .before .loop .i * length (a .scales .now) + a .r) 0
+sum-is c =
+    let start : tie.Start Inv-loop μ-loop = search in
+    let a = start .args in c .symbol-at .ensures ∙ sym (getD-symbols (a .w) (a .sums .now) _ (sum-in (c .before .before .before)))
 
-sum-below : (c : tie.After-symbol-at Inv-loop μ-loop) → c .symbol-at .result < sizeOf (modulus (c .before .before .before .before .before .before .before .args .field))
+sum-below : (c : tie.After-symbol-at Inv-loop μ-loop) → let start : tie.Start Inv-loop μ-loop = search in c .symbol-at .result < sizeOf (modulus (start .args .field))
 sum-below c = rw (sum-is c) (turn (c .before .before .before) .1)
 
 cast-sum : tie.Need-cast-sum Inv-loop μ-loop
-cast-sum c = let s = c .before .before .before .before .before .before .before in omega (arith, sum-is c, turn (c .before .before .before) .1, size-fits _ (s .pre .0 .usable-field))
+cast-sum c = let s : tie.Start Inv-loop μ-loop = search in omega (arith, sum-is c, turn (c .before .before .before) .1, size-fits _ (s .pre .0 .usable-field))
 
 mul-with-requires-2 : tie.Need-mul-with-requires-2 Inv-loop μ-loop
-mul-with-requires-2 c κs = let s = c .before .before .before .before .before .before .before in (s .pre .0 .usable-field, own (c .before), sum-below c, s .pre .4)
+mul-with-requires-2 c κs = let s : tie.Start Inv-loop μ-loop = search in (s .pre .0 .usable-field, own (c .before), sum-below c, s .pre .4)
 
 cast-out : tie.Need-cast-out Inv-loop μ-loop
 cast-out c =
-    let s = c .before .before .before .before .before .before .before .before in
+    let s : tie.Start Inv-loop μ-loop = search in
     let low = mul-below _ (usable-field _ (s .pre .0 .usable-field)) (own (c .before .before)) (sum-below (c .before)) in
     omega (arith, c .mul-with2 .ensures, size-fits _ (s .pre .0 .usable-field))
 
@@ -96,7 +100,7 @@ mul-out : tie.Need-mul-out Inv-loop μ-loop
 mul-out c = omega arith
 
 array-write-out : tie.Need-array-write-out Inv-loop μ-loop
-array-write-out c = omega (arith, c .before .before .before .before .loop-test .taken, c .before .before .before .before .before .before .before .before .pre .0 .short)
+array-write-out c = let start : tie.Start Inv-loop μ-loop = search in omega (arith, c .before .before .before .before .loop-test .taken, start .pre .0 .short)
 
 add-i : tie.Need-add-i Inv-loop μ-loop
 add-i c = omega (arith, c .before .before .before .before .loop-test .taken)
@@ -106,7 +110,8 @@ loop-less c = omega arith
 
 loop-again : tie.Need-loop-again Inv-loop μ-loop
 loop-again c =
-    let a = c .before .before .before .before .before .before .before .before .args in
+    let start : tie.Start Inv-loop μ-loop = search in
+    let a = start .args in
     filled-put (c .before .before .before .before .before .loop .inv) (c .before .before .before .before .loop-test .taken)
     (c .mul-with2 .ensures ∙ ap₂ (mul (modulus (a .field))) (c .before .before .mul-with .ensures) (sum-is (c .before)))
 

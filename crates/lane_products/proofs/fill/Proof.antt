@@ -20,7 +20,7 @@ mul-most c =
 
 fill-small-requires : tie.Need-fill-small-requires
 fill-small-requires c κs =
-    let st = c .before .before .before .before .before .before .before in
+    let st : tie.Start = search in
     let w = st .args .w in
     let o = mul-le-mul (le-refl w) (c .before .before .larger .ensures .0) in
     let r = mul-le-mul (le-refl w) (c .before .before .larger .ensures .1) in
@@ -34,7 +34,7 @@ returns c = search needs
 
 fill-middle-requires : tie.Need-fill-middle-requires
 fill-middle-requires c κs =
-    let st = c .before .before .before .before .before .before .before .before in
+    let st : tie.Start = search in
     let w = st .args .w in
     let o = mul-le-mul (le-refl w) (c .before .before .before .larger .ensures .0) in
     let r = mul-le-mul (le-refl w) (c .before .before .before .larger .ensures .1) in

@@ -24,11 +24,13 @@ abbrev μ-loop : tie.MeasureT-loop
 μ-loop m w lists counts source tile₀ table₀ words₀ out₀ lanes first₀ tile table words out first = m .lanes - first
 
 -- the next lanes lie among the lanes
-next : (c : tie.After-lanes-of Inv-loop μ-loop) → c .before .before .loop .first + c .lanes-of .result ≤ c .before .before .before .before .before .before .before .before .before .before .args .m .lanes
+next : (c : tie.After-lanes-of Inv-loop μ-loop) → let start : tie.Start Inv-loop μ-loop = search in c .before .before .loop .first + c .lanes-of .result ≤ start .args .m .lanes
 next c = omega (arith, c .lanes-of .ensures .1, c .before .loop-test .taken)
 
 loop-holds : tie.Need-loop-holds Inv-loop μ-loop
-loop-holds c = let st = c .before .before .before .before .before .before .before in let a = st .args in (omega arith, refl, refl, refl, refl, λ ws begun. done-start (a .m .way) (a .w) (a .m .outputs) (a .m .lanes) _ (a .out .now) (st .pre .0 .out-long))
+loop-holds c =
+    let st : tie.Start Inv-loop μ-loop = search in
+    let a = st .args in (omega arith, refl, refl, refl, refl, λ ws begun. done-start (a .m .way) (a .w) (a .m .outputs) (a .m .lanes) _ (a .out .now) (st .pre .0 .out-long))
 
 sub-lanes-of : tie.Need-sub-lanes-of Inv-loop μ-loop
 sub-lanes-of c = omega arith
@@ -38,9 +40,10 @@ lanes-of-requires c κs = omega (arith, c .loop-test .taken)
 
 fill-tile-requires : tie.Need-fill-tile-requires Inv-loop μ-loop
 fill-tile-requires c κs =
+    let at-loop : tie.At-loop Inv-loop μ-loop = search in
+    let st : tie.Start Inv-loop μ-loop = search in
     let at = c .before .before .before .before in
-    let l = c .before .before .before .before .before .before .loop in
-    let st = c .before .before .before .before .before .before .before .before .before .before .before .before .before .before in
+    let l = at-loop .loop in
     let r = st .pre .0 in
     let room = st .pre .1 in (
       record { usable-field = r .usable-field; wide = r .wide; few = r .few; few-lanes = r .few-lanes; made = r .made; source-long = r .source-long; out-long = l .inv .4 ∙ r .out-long },
@@ -50,15 +53,21 @@ fill-tile-requires c κs =
     )
 
 add-first : tie.Need-add-first Inv-loop μ-loop
-add-first c = omega (arith, next (c .before .before .before .before .before .before .before .before .before .before .before .before .before), c .before .before .before .before .before .before .before .before .before .before .before .before .before .before .before .before .before .before .before .before .before .before .before .pre .0 .few-lanes)
+add-first c =
+    let after-lanes-of : tie.After-lanes-of Inv-loop μ-loop = search in
+    let start : tie.Start Inv-loop μ-loop = search in
+    omega (arith, next after-lanes-of, start .pre .0 .few-lanes)
 
 loop-less : tie.Need-loop-less Inv-loop μ-loop
-loop-less c = omega (arith, next (c .before .before .before .before .before .before .before .before .before .before .before .before .before), c .before .before .before .before .before .before .before .before .before .before .before .before .before .lanes-of .ensures .0)
+loop-less c = let after-lanes-of : tie.After-lanes-of Inv-loop μ-loop = search in omega (arith, next after-lanes-of, after-lanes-of .lanes-of .ensures .0)
 
 loop-again : tie.Need-loop-again Inv-loop μ-loop
 loop-again c =
-    let l = c .before .before .before .before .before .before .before .before .before .before .before .before .before .before .before .loop in
-    (next (c .before .before .before .before .before .before .before .before .before .before .before .before .before), omega (arith, l .inv .1), omega (arith, l .inv .2), omega (arith, l .inv .3), omega (arith, l .inv .4), λ ws begun. c .before .before .before .before .before .before .before .before .fill-tile .ensures ws begun (l .inv .5 ws begun))
+    let after-fill-tile : tie.After-fill-tile Inv-loop μ-loop = search in
+    let after-lanes-of : tie.After-lanes-of Inv-loop μ-loop = search in
+    let at-loop : tie.At-loop Inv-loop μ-loop = search in
+    let l = at-loop .loop in
+    (next after-lanes-of, omega (arith, l .inv .1), omega (arith, l .inv .2), omega (arith, l .inv .3), omega (arith, l .inv .4), λ ws begun. after-fill-tile .fill-tile .ensures ws begun (l .inv .5 ws begun))
 
 same-length : tie.Need-same-length Inv-loop μ-loop
 same-length c = c .before .loop .inv .1
@@ -73,8 +82,10 @@ same-length-4 : tie.Need-same-length-4 Inv-loop μ-loop
 same-length-4 c = c .before .loop .inv .4
 
 returns : tie.Need-returns Inv-loop μ-loop
-returns c = λ ws begun.
-    let a = c .before .before .before .before .before .before .before .before .before .args in
+returns c =
+    let start : tie.Start Inv-loop μ-loop = search in
+    λ ws begun.
+    let a = start .args in
     done-end (a .m .way) (a .w) (a .m .outputs) (a .m .lanes) (c .before .loop .first) _ _ (c .loop-test .left) (c .before .loop .inv .5 ws begun)
 
 pub fill-lanes-spec : {M : Type 1} → statement M

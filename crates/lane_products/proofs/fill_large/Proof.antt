@@ -32,12 +32,13 @@ slice-aggregate-fill-lanes-3 c = search needs
 
 fill-lanes-requires : tie.Need-fill-lanes-requires
 fill-lanes-requires c κs =
-    let st = c .before .before .before .before .before .before .before .before .before .before .before in
+    let after-large-rows : tie.After-large-rows = search in
+    let st : tie.Start = search in
     let a = st .args in
     let r = st .pre in
     let outputs = mul-le-mul (width-of st .1) (r .made .few) in
     let rows = mul-le-mul (width-of st .1) (r .few) in
-    (r, rw (c .before .before .before .before .before .before .large-rows .ensures, c .before .before .before .before .before .large-table .ensures, c .before .before .before .before .large-rows2 .ensures) (room-for (a .w) (a .m .outputs) (a .m .rows) 64 32 (width-of st .0) (omega (arith, r .few)) (omega (arith, outputs)) (omega (arith, rows)) (omega arith)))
+    (r, rw (after-large-rows .large-rows .ensures, c .before .before .before .before .before .large-table .ensures, c .before .before .before .before .large-rows2 .ensures) (room-for (a .w) (a .m .outputs) (a .m .rows) 64 32 (width-of st .0) (omega (arith, r .few)) (omega (arith, outputs)) (omega (arith, rows)) (omega arith)))
 
 same-length : tie.Need-same-length
 same-length c = search needs

@@ -23,7 +23,10 @@ slice-aggregate-fill-lanes-3 : tie.Need-slice-aggregate-fill-lanes-3
 slice-aggregate-fill-lanes-3 c = search needs
 
 fill-lanes-requires : tie.Need-fill-lanes-requires
-fill-lanes-requires c κs = let p = c .before .before .before .before .before .before .before .before .before .before .before .pre in (p .0, rw (c .before .before .before .before .before .before .small-rows .ensures, c .before .before .before .before .before .small-table .ensures, c .before .before .before .before .small-rows2 .ensures) (few-room (p .0) 1 (p .1) (p .2)))
+fill-lanes-requires c κs =
+    let after-small-rows : tie.After-small-rows = search in
+    let start : tie.Start = search in
+    let p = start .pre in (p .0, rw (after-small-rows .small-rows .ensures, c .before .before .before .before .before .small-table .ensures, c .before .before .before .before .small-rows2 .ensures) (few-room (p .0) 1 (p .1) (p .2)))
 
 same-length : tie.Need-same-length
 same-length c = search needs

@@ -18,14 +18,15 @@ width : (c : tie.Start) → (1 ≤ c .args .w) × (c .args .w ≤ 2)
 width c = rw (c .pre .0 .wide) (bytes-range (modulus (c .args .m .field)))
 
 groups-of-requires : tie.Need-groups-of-requires
-groups-of-requires c κs = c .before .before .before .before .before .before .before .pre .0 .few
+groups-of-requires c κs = let start : tie.Start = search in start .pre .0 .few
 
 mul-size : tie.Need-mul-size
-mul-size c = omega (arith, width (c .before .before .before .before .before .before .before .before))
+mul-size c = let start : tie.Start = search in omega (arith, width start)
 
 mul-size-2 : tie.Need-mul-size-2
 mul-size-2 c =
-    let low : c .before .before .before .before .before .before .before .before .args .w * 256 ≤ 512 = omega (arith, width (c .before .before .before .before .before .before .before .before)) in
+    let start : tie.Start = search in
+    let low : start .args .w * 256 ≤ 512 = omega (arith, width start) in
     let e = mul-le-mul (c .groups-of .ensures .1) low in
     omega (arith, e)
 
@@ -33,12 +34,14 @@ mul-sums : tie.Need-mul-sums
 mul-sums c = omega (arith, c .groups-of .ensures .1)
 
 load-requires : tie.Need-load-requires
-load-requires c κs = let st = c .before .before .before .before .before .before .before .before .before in let r = st .pre .0 in (width st .0, width st .1, r .few, r .source-long, st .pre .3, st .pre .2, st .pre .1 .lanes)
+load-requires c κs =
+    let st : tie.Start = search in
+    let r = st .pre .0 in (width st .0, width st .1, r .few, r .source-long, st .pre .3, st .pre .2, st .pre .1 .lanes)
 
 -- the groups' rows lie in the tile
-tile-in : (c : tie.After-slice-known5) → c .before .before .before .before .groups-of .result * (c .before .before .before .before .before .before .before .before .before .before .before .before .args .w * 256) ≤ length (c .before .before .load .last .1 .1 .1 .1 .1 .0)
+tile-in : (c : tie.After-slice-known5) → let start : tie.Start = search in c .before .before .before .before .groups-of .result * (start .args .w * 256) ≤ length (c .before .before .load .last .1 .1 .1 .1 .1 .0)
 tile-in c =
-    let st = c .before .before .before .before .before .before .before .before .before .before .before .before in
+    let st : tie.Start = search in
     let a = st .args in
     let inside = groups-inside (a .w) (a .m .rows) (width st .0) (width st .1) in
     rw (c .before .before .before .before .groups-of .ensures .0) (omega (arith, inside, c .before .before .load .ensures .0, st .pre .1 .lanes))
@@ -50,8 +53,8 @@ slice-aggregate-apply : tie.Need-slice-aggregate-apply
 slice-aggregate-apply c = sym (length-take-le _ _ (tile-in (c .before)))
 
 -- the groups' sums lie in the table
-table-in : (c : tie.After-slice-known5) → c .before .before .before .before .groups-of .result * 1024 ≤ length (c .before .before .before .before .before .before .before .before .before .before .before .before .args .table .now)
-table-in c = omega (arith, c .before .before .before .before .groups-of .ensures .0, c .before .before .before .before .before .before .before .before .before .before .before .before .pre .1 .sums)
+table-in : (c : tie.After-slice-known5) → let start : tie.Start = search in c .before .before .before .before .groups-of .result * 1024 ≤ length (start .args .table .now)
+table-in c = let start : tie.Start = search in omega (arith, c .before .before .before .before .groups-of .ensures .0, start .pre .1 .sums)
 
 slice-relend-prefix-apply : tie.Need-slice-relend-prefix-apply
 slice-relend-prefix-apply c = table-in (c .before)
@@ -61,8 +64,8 @@ slice-aggregate-apply-2 c = sym (length-take-le _ _ (table-in (c .before .before
 
 apply-requires : tie.Need-apply-requires
 apply-requires c κs =
+    let st : tie.Start = search in
     let at = c .before .before .before in
-    let st = at .before .before .before .before .before .before .before .before .before .before .before .before in
     let a = st .args in
     let r = st .pre .0 in
     let g = at .before .before .before .before .groups-of .ensures .0 in
@@ -84,10 +87,11 @@ apply-requires c κs =
 
 store-requires : tie.Need-store-requires
 store-requires c κs =
-    let st = c .before .before .before .before .before .before .before .before .before .before .before .before .before .before .before .before .before .before .before .before .before .before .before in
+    let after-groups-of : tie.After-groups-of = search in
+    let st : tie.Start = search in
     let a = st .args in
     let r = st .pre .0 in
-    let g = c .before .before .before .before .before .before .before .before .before .before .before .before .before .before .before .groups-of in
+    let g = after-groups-of .groups-of in
     let table = length-take-le (g .result * 1024) (a .table .now) (omega (arith, g .ensures .0, st .pre .1 .sums)) in
     (width st .0, width st .1, r .made .few, st .pre .2, st .pre .3, r .few-lanes, omega (arith, st .pre .1 .products), simp (length-append, length-drop) (omega (arith, table, st .pre .1 .blocks, st .pre .1 .sums, g .ensures .0)), r .out-long)
 
@@ -104,15 +108,20 @@ same-length-4 : tie.Need-same-length-4
 same-length-4 c = search needs
 
 returns : tie.Need-returns
-returns c = λ ws begun base.
-    let st = c .before .before .before .before .before .before .before .before .before .before .before .before .before .before .before .before .before .before .before .before .before .before .before .before .before .before .before .before in
+returns c =
+    let after-apply : tie.After-apply = search in
+    let after-load : tie.After-load = search in
+    let after-groups-of : tie.After-groups-of = search in
+    let start : tie.Start = search in
+    λ ws begun base.
+    let st = start in
     let a = st .args in
     let r = st .pre .0 in
-    let g = c .before .before .before .before .before .before .before .before .before .before .before .before .before .before .before .before .before .before .before .before .groups-of in
+    let g = after-groups-of .groups-of in
     let size = g .result * (a .w * 256) in
     let inside : a .w * a .m .rows * 64 ≤ size = rw (g .ensures .0) (rows-grouped (a .w) (a .m .rows)) in
     c .before .before .before .before .store .ensures _
-    (λ q lane. product-lane (modulus (a .m .field)) (a .w) (a .m .outputs) (a .m .rows) size q ws _ _ _ (r .wide) inside (omega (arith, st .pre .2)) (c .before .before .before .before .before .before .before .before .before .before .before .before .before .before .before .before .before .before .load .ensures .1 q lane) (c .before .before .before .before .before .before .before .before .before .before .before .before .apply .ensures ws begun q (omega (arith, st .pre .2))))
+    (λ q lane. product-lane (modulus (a .m .field)) (a .w) (a .m .outputs) (a .m .rows) size q ws _ _ _ (r .wide) inside (omega (arith, st .pre .2)) (after-load .load .ensures .1 q lane) (after-apply .apply .ensures ws begun q (omega (arith, st .pre .2))))
     base
 
 pub fill-tile-spec : {M : Type 1} → statement M

@@ -24,7 +24,7 @@ length-part : (c : tie.After-sums) → let a = c .before .before .before .before
 length-part c = ap length (part c) ∙ length-sums _ _
 
 -- they tell a word
-tested : (c : tie.After-all-zero) → let a = c .before .before .before .before .before .before .before .args in c .all-zero .result ≡ isWord (a .h) (a .lane .now)
+tested : (c : tie.After-all-zero) → let start : tie.Start = search in let a = start .args in c .all-zero .result ≡ isWord (a .h) (a .lane .now)
 tested c = c .all-zero .ensures ∙ ap (allBelow 1) (part (c .before .before)) ∙ word-sums _ _
 
 sub-checks : tie.Need-sub-checks
@@ -58,9 +58,11 @@ slice-aggregate-list c = sym (length-part (c .before .before .before .before))
 
 list-requires : tie.Need-list-requires
 list-requires c κs =
-    let (sound, lane, nodes, symbols) = c .before .before .before .before .before .before .before .before .before .before .before .pre in
+    let after-sums : tie.After-sums = search in
+    let start : tie.Start = search in
+    let (sound, lane, nodes, symbols) = start .pre in
     let other = sym (tested (c .before .before .before .before)) ∙ c .before .before .before .if1 .left in
-    (rw (part (c .before .before .before .before .before .before)) (has-sums _ _ sound lane other), omega arith, nodes, symbols)
+    (rw (part after-sums) (has-sums _ _ sound lane other), omega arith, nodes, symbols)
 
 same-length : tie.Need-same-length
 same-length c = search needs
@@ -70,9 +72,13 @@ same-length-2 c = search needs
 
 returns-2 : tie.Need-returns-2
 returns-2 c =
-    let (sound, lane, nodes, symbols) = c .before .before .before .before .before .before .before .before .before .before .before .before .before .before .before .before .pre in
-    let other = sym (tested (c .before .before .before .before .before .before .before .before .before)) ∙ c .before .before .before .before .before .before .before .before .if1 .left in
-    rw (nodes-are _ _ sound lane other, symbols-are _ _ sound lane other) (rw (part (c .before .before .before .before .before .before .before .before .before .before .before)) at (c .before .before .before .before .list .ensures))
+    let else1 : tie.Else1 = search in
+    let after-all-zero : tie.After-all-zero = search in
+    let after-sums : tie.After-sums = search in
+    let start : tie.Start = search in
+    let (sound, lane, nodes, symbols) = start .pre in
+    let other = sym (tested after-all-zero) ∙ else1 .if1 .left in
+    rw (nodes-are _ _ sound lane other, symbols-are _ _ sound lane other) (rw (part after-sums) at (c .before .before .before .before .list .ensures))
 
 pub list-mends-spec : {M : Type 1} → statement M
 list-mends-spec =

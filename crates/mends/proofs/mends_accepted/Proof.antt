@@ -20,7 +20,7 @@ given c = mends-accepts _ _ _ _ (sym (c .before .mends-fault .ensures) ∙ c .if
 
 -- the lane as it is read
 part : (c : tie.After-read-symbols)
-    → let a = c .before .before .before .before .before .before .before .before .args in
+    → let start : tie.Start = search in let a = start .args in
     take (a .h .n) (c .read-symbols .result) ≡ symbolsOf (width (a .h)) (a .lane .now)
 part c = lane-read _ _ _ _ (given (c .before .before .before) .lane-is) (c .before .width-of .ensures .0) (c .read-symbols .ensures)
 
@@ -38,7 +38,8 @@ width-of-requires c κs = search needs
 
 read-symbols-requires : tie.Need-read-symbols-requires
 read-symbols-requires c κs =
-    let few : c .before .before .before .before .before .before .before .args .h .n ≤ 255 = omega arith in
+    let start : tie.Start = search in
+    let few : start .args .h .n ≤ 255 = omega arith in
     let (is, some, two) = c .width-of .ensures in
     (some, two, few-bytes _ _ _ few (rw is (given (c .before .before) .lane-long)))
 
@@ -50,13 +51,17 @@ slice-aggregate-list-mends c = rw (part (c .before)) (sym (given (c .before .bef
 
 list-mends-requires : tie.Need-list-mends-requires
 list-mends-requires c κs =
-    let g = given (c .before .before .before .before .before .before) in
-    (c .before .before .before .before .before .before .before .before .before .before .before .pre, rw (part (c .before .before .before)) (g .lane-is), g .nodes-long, g .symbols-long)
+    let else1 : tie.Else1 = search in
+    let start : tie.Start = search in
+    let g = given else1 in
+    (start .pre, rw (part (c .before .before .before)) (g .lane-is), g .nodes-long, g .symbols-long)
 
 cast-count : tie.Need-cast-count
 cast-count c =
-    let few : c .before .before .before .before .before .before .before .before .before .before .before .before .before .before .before .before .args .h .n ≤ 255 = omega arith in
-    omega (arith, c .before .before .before .before .list-mends .ensures .0, mends-few (c .before .before .before .before .before .before .before .before .before .before .before .before .before .before .before .before .args .h) (take (c .before .before .before .before .before .before .before .before .before .before .before .before .before .before .before .before .args .h .n) (c .before .before .before .before .before .before .before .before .read-symbols .result)))
+    let after-read-symbols : tie.After-read-symbols = search in
+    let start : tie.Start = search in
+    let few : start .args .h .n ≤ 255 = omega arith in
+    omega (arith, c .before .before .before .before .list-mends .ensures .0, mends-few (start .args .h) (take (start .args .h .n) (after-read-symbols .read-symbols .result)))
 
 same-length : tie.Need-same-length
 same-length c = search needs
@@ -67,8 +72,11 @@ same-length-2 c = search needs
 returns-2 : tie.Need-returns-2
 unfolding mendingOf
 returns-2 c =
-    let none = sym (c .before .before .before .before .before .before .before .before .before .before .before .before .mends-fault .ensures) ∙ c .before .before .before .before .before .before .before .before .before .before .before .if1 .left in
-    let e = rw (part (c .before .before .before .before .before .before .before .before)) at (c .before .before .before .before .list-mends .ensures) in
+    let after-read-symbols : tie.After-read-symbols = search in
+    let else1 : tie.Else1 = search in
+    let after-mends-fault : tie.After-mends-fault = search in
+    let none = sym (after-mends-fault .mends-fault .ensures) ∙ else1 .if1 .left in
+    let e = rw (part after-read-symbols) at (c .before .before .before .before .list-mends .ensures) in
     record { answer = rw none (ap Listed (e .0)); nodes-written = rw none (e .1); symbols-written = rw none (e .2) }
 
 pub mends-accepted-spec : {M : Type 1} → statement M

@@ -26,7 +26,9 @@ same-length-2 c = search needs
 
 returns : tie.Need-returns
 returns c =
-    record { listed = on-held (c .before .before .before .before .before .before .before .before .before .before .read-record .ensures) (c .before .before .before .before .before .before .before .before .h .given .1) (c .before .before .before .before .mends-accepted .ensures); claims = mended-lanes _ _ refl }
+    let after-h : tie.After-h = search in
+    let after-read-record : tie.After-read-record = search in
+    record { listed = on-held (after-read-record .read-record .ensures) (after-h .h .given .1) (c .before .before .before .before .mends-accepted .ensures); claims = mended-lanes _ _ refl }
 
 returns-2 : tie.Need-returns-2
 returns-2 c =

@@ -13,8 +13,9 @@ enum-known-field c = search needs
 list-weights-requires : tie.Need-list-weights-requires
 unfolding modulus
 list-weights-requires c κs =
+    let start : tie.Start = search in
     let e = c .before .before .field .given .1 in
-    let pre = c .before .before .before .before .before .before .before .before .pre in
+    let pre = start .pre in
     let k = usable-prime _ (rw e at (pre .0)) in
     (k .1, rw e at (pre .1), pre .2, rw (k .2) at (rw e at (pre .3)), pre .4, k .0)
 
@@ -26,8 +27,8 @@ groups-of-requires c κs = search needs
 
 list-output-requires : tie.Need-list-output-requires
 list-output-requires c κs =
+    let st : tie.Start = search in
     let e = c .before .before .before .enum-told .given .1 in
-    let st = c .before .before .before .before .before .before .before .before .before in
     let pre = st .pre in
     let g = c .before .before .groups-of .ensures in
     let r = list-ready _ (st .args .weights .now) (rw e at (pre .1)) (rw e at (pre .3)) in
@@ -38,7 +39,7 @@ same-length c = search needs
 
 returns : tie.Need-returns
 unfolding modulus
-returns c = rw (c .before .before .before .before .before .field .given .1) (c .before .before .list-weights .ensures _ (c .before .before .before .before .before .before .before .before .before .before .before .pre .5))
+returns c = let start : tie.Start = search in rw (c .before .before .before .before .before .field .given .1) (c .before .before .list-weights .ensures _ (start .pre .5))
 
 same-length-2 : tie.Need-same-length-2
 same-length-2 c = search needs
@@ -48,9 +49,12 @@ same-length-3 c = search needs
 
 returns-2 : tie.Need-returns-2
 returns-2 c =
-    let e = c .before .before .before .before .before .before .before .before .enum-told .given .1 in
-    let pre = c .before .before .before .before .before .before .before .before .before .before .before .before .before .before .pre in
-    rw e (byte-lists _ _ (c .before .before .before .before .before .before .before .groups-of .ensures .0) (pre .2) (rw e at (pre .3)) (c .before .before .before .before .list-output .ensures))
+    let after-groups-of : tie.After-groups-of = search in
+    let after-enum-told : tie.After-enum-told = search in
+    let start : tie.Start = search in
+    let e = after-enum-told .enum-told .given .1 in
+    let pre = start .pre in
+    rw e (byte-lists _ _ (after-groups-of .groups-of .ensures .0) (pre .2) (rw e at (pre .3)) (c .before .before .before .before .list-output .ensures))
 
 pub list-weights-spec : {M : Type 1} → statement M
 list-weights-spec =

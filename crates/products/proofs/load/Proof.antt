@@ -33,8 +33,9 @@ same-length c = search needs
 
 returns-2 : tie.Need-returns-2
 returns-2 c =
+    let start : tie.Start = search in
     let e = c .before .before .before .before .enum-told2 .given .1 in
-    let pre = c .before .before .before .before .before .before .before .before .pre in
+    let pre = start .pre in
     let made = c .before .before .fill-table .ensures in
     rw e (byte-loaded _ (pre .0) (rw e at (pre .1)) (ap length made ∙ length-table _ _) made)
 

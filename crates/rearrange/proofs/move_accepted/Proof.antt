@@ -32,7 +32,7 @@ width-of-requires c κs = search needs
 
 turn-requires : tie.Need-turn-requires
 turn-requires c κs =
-    let s = c .before .before .before .before .before .before .before .before in
+    let s : tie.Start = search in
     let width = c .before .before .width-of .ensures in
     let (read, room) = rearrange-accepts (s .args .h) (s .pre) (s .args .lanes) _ _ (none (c .before .before .before .before)) in
     (width .1, width .2, rw (width .0) read, rw (width .0) room)
@@ -43,13 +43,14 @@ same-length c = search needs
 returns-2 : tie.Need-returns-2
 unfolding outcomeOf rearrangedBytes
 returns-2 c =
-    let zero = none (c .before .before .before .before .before .before .before) in
+    let else1 : tie.Else1 = search in
+    let zero = none else1 in
     let written = rw (c .before .before .before .before .before .width-of .ensures .0) at (c .before .before .turn .ensures) in
     rw (c .before .before .before .before .if2 .taken) (record { answer = rw zero; written = rw zero written })
 
 turn-requires-2 : tie.Need-turn-requires-2
 turn-requires-2 c κs =
-    let s = c .before .before .before .before .before .before .before .before in
+    let s : tie.Start = search in
     let width = c .before .before .width-of .ensures in
     let (read, room) = rearrange-accepts (s .args .h) (s .pre) (s .args .lanes) _ _ (none (c .before .before .before .before)) in
     (width .1, width .2, rw (width .0, mul-comm (s .args .lanes) (s .args .h .n)) read, rw (width .0, mul-comm (s .args .lanes) (s .args .h .n)) room)
@@ -60,8 +61,10 @@ same-length-2 c = search needs
 returns-3 : tie.Need-returns-3
 unfolding outcomeOf rearrangedBytes
 returns-3 c =
-    let zero = none (c .before .before .before .before .before .before .before) in
-    let written = rw (c .before .before .before .before .before .width-of .ensures .0) at (c .before .before .turn2 .ensures) ∙ ap (bytesOf (width (c .before .before .before .before .before .before .before .before .before .before .before .args .h))) (turned _ _ _) in
+    let else1 : tie.Else1 = search in
+    let start : tie.Start = search in
+    let zero = none else1 in
+    let written = rw (c .before .before .before .before .before .width-of .ensures .0) at (c .before .before .turn2 .ensures) ∙ ap (bytesOf (width (start .args .h))) (turned _ _ _) in
     rw (c .before .before .before .before .if2 .left) (record { answer = rw zero; written = rw zero written })
 
 pub move-accepted-spec : {M : Type 1} → statement M

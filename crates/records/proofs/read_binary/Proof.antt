@@ -31,7 +31,7 @@ judge-requires c κs = refl
 
 returns-2 : tie.Need-returns-2
 returns-2 c =
-    let st = c .before .before .before .before .before .before .before in
+    let st : tie.Start = search in
     c .judge .ensures ∙ binary-judged _ (st .pre .0) (st .pre .1) (c .before .before .before .before .before .if1 .left) _ (rw (c .before .before .before .before .new .ensures))
 
 pub read-binary-spec : {M : Type 1} → statement M

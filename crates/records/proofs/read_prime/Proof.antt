@@ -43,8 +43,10 @@ judge-requires c κs = rw (c .before .before .before .new .ensures) (usable-in 3
 
 returns-3 : tie.Need-returns-3
 returns-3 c =
-    let st = c .before .before .before .before .before .before .before .before .before .before in
-    c .judge .ensures ∙ prime-judged _ (st .pre .0) (st .pre .1) (c .before .before .before .before .before .before .before .before .if1 .left) (sym (c .before .before .before .before .before .before .prime-in .ensures) ∙ not-false _ (c .before .before .before .before .before .if2 .left)) _ (rw (c .before .before .before .before .new .ensures))
+    let after-prime-in : tie.After-prime-in = search in
+    let else1 : tie.Else1 = search in
+    let st : tie.Start = search in
+    c .judge .ensures ∙ prime-judged _ (st .pre .0) (st .pre .1) (else1 .if1 .left) (sym (after-prime-in .prime-in .ensures) ∙ not-false _ (c .before .before .before .before .before .if2 .left)) _ (rw (c .before .before .before .before .new .ensures))
 
 pub read-prime-spec : {M : Type 1} → statement M
 read-prime-spec =

@@ -25,7 +25,7 @@ prime-in-requires c κs = search needs
 
 returns-2 : tie.Need-returns-2
 returns-2 c =
-    let st = c .before .before .before .before .before .before .before in
+    let st : tie.Start = search in
     wide-field _ (st .pre .0) (st .pre .1) (c .before .before .before .before .before .if1 .left) (sym (rw (c .before .before .pair .ensures) at (c .before .prime-in .ensures)) ∙ not-true _ (c .if2 .taken))
 
 shared-slice-read-pair-3 : tie.Need-shared-slice-read-pair-3
@@ -47,12 +47,19 @@ shared-slice-read-t8 : tie.Need-shared-slice-read-t8
 shared-slice-read-t8 c = search needs
 
 judge-requires : tie.Need-judge-requires
-judge-requires c κs = rw (c .before .before .new .ensures) (usable-in 257 65521 _ (omega arith) (sym (c .before .before .before .before .before .before .before .prime-in .ensures) ∙ not-false _ (c .before .before .before .before .before .before .if2 .left)))
+judge-requires c κs =
+    let else2 : tie.Else2 = search in
+    let after-prime-in : tie.After-prime-in = search in
+    rw (c .before .before .new .ensures) (usable-in 257 65521 _ (omega arith) (sym (after-prime-in .prime-in .ensures) ∙ not-false _ (else2 .if2 .left)))
 
 returns-3 : tie.Need-returns-3
 returns-3 c =
-    let st = c .before .before .before .before .before .before .before .before .before .before .before .before .before .before in
-    c .judge .ensures ∙ wide-judged _ (st .pre .0) (st .pre .1) (c .before .before .before .before .before .before .before .before .before .before .before .before .if1 .left) (sym (rw (c .before .before .before .before .before .before .before .before .before .pair .ensures) at (c .before .before .before .before .before .before .before .before .prime-in .ensures)) ∙ not-false _ (c .before .before .before .before .before .before .before .if2 .left)) _ (rw (c .before .before .before .new .ensures, c .before .before .before .before .before .before .before .before .before .pair .ensures, c .before .before .before .before .pair2 .ensures))
+    let else2 : tie.Else2 = search in
+    let after-prime-in : tie.After-prime-in = search in
+    let after-pair : tie.After-pair = search in
+    let else1 : tie.Else1 = search in
+    let st : tie.Start = search in
+    c .judge .ensures ∙ wide-judged _ (st .pre .0) (st .pre .1) (else1 .if1 .left) (sym (rw (after-pair .pair .ensures) at (after-prime-in .prime-in .ensures)) ∙ not-false _ (else2 .if2 .left)) _ (rw (c .before .before .before .new .ensures, after-pair .pair .ensures, c .before .before .before .before .pair2 .ensures))
 
 pub read-wide-spec : {M : Type 1} → statement M
 read-wide-spec =

@@ -40,8 +40,9 @@ slice-aggregate-rebuild-lanes c = search needs
 
 rebuild-lanes-requires : tie.Need-rebuild-lanes-requires
 rebuild-lanes-requires c κs =
+    let start : tie.Start = search in
     let at = c .before .before .before in
-    let a = at .before .before .before .before .before .before .args in
+    let a = start .args in
     let wide = at .width-of .ensures .0 in
     let (listed, target, out) = accepted (at .before) in
     (listed-bytes _ wide listed, sym (slice-aggregate-rebuild-lanes (c .before)), c .before .before .rebuild-weights .ensures .symbols, out ∙ mul-comm (a .lanes) (width (a .h)) ∙ ap (λ (w : ℕ). w * a .lanes) (sym wide))
@@ -52,8 +53,9 @@ same-length c = search needs
 returns-2 : tie.Need-returns-2
 unfolding outcomeOf
 returns-2 c =
-    let wide = c .before .before .before .before .before .before .width-of .ensures .0 in
-    let at = c .before .before .before .before .before .before .before in
+    let after-width-of : tie.After-width-of = search in
+    let at : tie.Else1 = search in
+    let wide = after-width-of .width-of .ensures .0 in
     let a = at .before .before .before .before .before .args in
     let none = sym (at .before .rebuild-fault .ensures) ∙ at .if1 .left in
     record {

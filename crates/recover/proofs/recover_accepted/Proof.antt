@@ -19,28 +19,28 @@ use Rattle.recover.proofs.recover_accepted.Tie as tie
 
 -- what is known where no number was met
 accepted : (c : tie.After-struct-known)
-    → let a = c .before .before .before .before .before .before .args in
+    → let start : tie.Start = search in let a = start .args in
     ListedShares (a .h) (a .lanes) (a .nodes .now) (a .shares .now) × (length (a .out .now) ≡ a .h .k * a .lanes * width (a .h))
 accepted c =
-    let st = c .before .before .before .before .before .before in
+    let st : tie.Start = search in
     let a = st .args in
     recover-accepts (a .h) (st .pre) (a .lanes) (a .nodes .now) (a .shares .now) (length (a .out .now))
     (sym (c .before .before .recover-fault .ensures) ∙ c .before .if1 .left)
 
 -- the lent part of the shifts
 part : (c : tie.After-fill-shifts)
-    → let a = c .before .before .before .before .before .before .before .args in
+    → let start : tie.Start = search in let a = start .args in
     take (a .h .k) (c .fill-shifts .result) ≡ shifts (a .h)
 part c =
-    let st = c .before .before .before .before .before .before .before in
+    let st : tie.Start = search in
     ap (take (st .args .h .k)) (c .fill-shifts .ensures) ∙ shifts-part (st .args .h) (st .pre)
 
 -- it has k places
 part-size : (c : tie.After-fill-shifts)
-    → let a = c .before .before .before .before .before .before .before .args in
+    → let start : tie.Start = search in let a = start .args in
     length (take (a .h .k) (c .fill-shifts .result)) ≡ a .h .k
 part-size c =
-    let st = c .before .before .before .before .before .before .before in
+    let st : tie.Start = search in
     ap length (part c) ∙ shifts-length (st .args .h .n) (st .args .h .k) (st .pre .some) (st .pre .fits)
 
 recover-fault-requires : tie.Need-recover-fault-requires
@@ -57,7 +57,8 @@ fill-shifts-requires c κs = search needs
 
 array-share-prefix-shifts : tie.Need-array-share-prefix-shifts
 array-share-prefix-shifts c =
-    let k = c .before .before .before .before .before .before .before .args .h .k in
+    let start : tie.Start = search in
+    let k = start .args .h .k in
     omega (arith, length-take k (c .fill-shifts .result), part-size c)
 
 slice-aggregate-prepare : tie.Need-slice-aggregate-prepare
@@ -73,8 +74,9 @@ width-of-requires c κs = search needs
 
 fill-message-requires : tie.Need-fill-message-requires
 fill-message-requires c κs =
+    let start : tie.Start = search in
     let at = c .before .before .before .before .before in
-    let a = at .before .before .before .before .before .before .args in
+    let a = start .args in
     let (listed, out) = accepted at in
     let wide = c .before .width-of .ensures .0 in (
       listed .buffer .symbol-rows .sound,
@@ -92,7 +94,7 @@ same-length c = search needs
 returns-2 : tie.Need-returns-2
 unfolding outcomeOf
 returns-2 c =
-    let at = c .before .before .before .before .before .before .before .before in
+    let at : tie.After-struct-known = search in
     let wide = c .before .before .before .before .width-of .ensures .0 in
     let none = sym (at .before .before .recover-fault .ensures) ∙ at .before .if1 .left in
     record {

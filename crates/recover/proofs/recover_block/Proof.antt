@@ -21,7 +21,7 @@ same-length : tie.Need-same-length
 same-length c = search needs
 
 returns : tie.Need-returns
-returns c = on-held (c .before .before .before .before .before .before .before .read-record .ensures) (c .before .before .before .before .before .h .given .1) (c .before .before .recover-accepted .ensures)
+returns c = let after-read-record : tie.After-read-record = search in on-held (after-read-record .read-record .ensures) (c .before .before .before .before .before .h .given .1) (c .before .before .recover-accepted .ensures)
 
 returns-2 : tie.Need-returns-2
 returns-2 c = on-met (c .before .before .before .read-record .ensures) (c .before .number .given .1) (λ h some. recover-refuses h _ some _ _ _ _)

@@ -31,12 +31,13 @@ array-share-prefix-base c = search needs
 
 -- the base polynomial has k coefficients, at most 255, and so the array's part
 part : (c : tie.After-base)
-    → let h = c .before .before .before .before .before .before .args .h in
+    → let start : tie.Start = search in let h = start .args .h in
     let cs = baseOf (modulusOf h) (h .root) (h .k - 1) in
     (take (h .k) (c .base .result) ≡ cs) × (length cs ≡ h .k) × (h .k ≤ 255)
 part c =
-    let h = c .before .before .before .before .before .before .args .h in
-    let s = c .before .before .before .before .before .before .pre .0 in
+    let start : tie.Start = search in
+    let h = start .args .h in
+    let s = start .pre .0 in
     let size : length (baseOf (modulusOf h) (h .root) (h .k - 1)) ≡ h .k = omega (arith, length-baseOf (modulusOf h) (h .root) (h .k - 1), s .some) in
     (rw (c .base .ensures) (take-padded 256 (h .k) _ size), size, omega (arith, c .before .before .before .struct-known .given))
 
@@ -45,33 +46,41 @@ slice-aggregate-inverses c = let t = part (c .before .before) in rw (t .0) (sym 
 
 inverses-requires : tie.Need-inverses-requires
 inverses-requires c κs =
-    let s = c .before .before .before .before .before .before .before .before .pre .0 in
+    let start : tie.Start = search in
+    let s = start .pre .0 in
     let t = part (c .before .before) in
     (rw (t .0) record { usable-field = s .usable-field; below = baseOf-below _ (s .field) _ _ (s .root-below); short = omega (arith, t .1, t .2) }, c .before .before .before .before .constant-tables .ensures)
 
 lagrange-basis-requires : tie.Need-lagrange-basis-requires
 lagrange-basis-requires c κs =
-    let p = c .before .before .before .before .before .before .before .before .before .before .pre in
+    let after-constant-tables : tie.After-constant-tables = search in
+    let start : tie.Start = search in
+    let p = start .pre in
     let s = p .0 in
     let t = part (c .before .before .before .before) in
-    (s .usable-field, s .root-below, omega (arith, nodes-places _ _ (p .1) .size, t .2), omega arith, c .before .before .before .before .before .before .constant-tables .ensures)
+    (s .usable-field, s .root-below, omega (arith, nodes-places _ _ (p .1) .size, t .2), omega arith, after-constant-tables .constant-tables .ensures)
 
 cast-lagrange-basis : tie.Need-cast-lagrange-basis
 cast-lagrange-basis c = search needs
 
 lagrange-basis-requires-2 : tie.Need-lagrange-basis-requires-2
 lagrange-basis-requires-2 c κs =
-    let h = c .before .before .before .before .before .before .before .before .before .before .before .before .args .h in
-    let p = c .before .before .before .before .before .before .before .before .before .before .before .before .pre in
+    let after-base : tie.After-base = search in
+    let after-constant-tables : tie.After-constant-tables = search in
+    let start : tie.Start = search in
+    let h = start .args .h in
+    let p = start .pre in
     let s = p .0 in
-    let t = part (c .before .before .before .before .before .before) in
-    (s .usable-field, s .root-below, rw (p .2, shifts-length (h .n) (h .k) (s .some) (s .fits)) (t .2), omega (arith, t .2), c .before .before .before .before .before .before .before .before .constant-tables .ensures)
+    let t = part after-base in
+    (s .usable-field, s .root-below, rw (p .2, shifts-length (h .n) (h .k) (s .some) (s .fits)) (t .2), omega (arith, t .2), after-constant-tables .constant-tables .ensures)
 
 returns : tie.Need-returns
 unfolding setupOf rowPoints baseInverses
 returns c =
-    let p = c .before .before .before .before .before .before .before .before .before .before .before .before .before .pre in
-    rw (c .before .before .lagrange-basis .ensures, c .lagrange-basis2 .ensures, c .before .before .before .before .inverses .ensures, part (c .before .before .before .before .before .before .before) .0, p .2)
+    let after-base : tie.After-base = search in
+    let start : tie.Start = search in
+    let p = start .pre in
+    rw (c .before .before .lagrange-basis .ensures, c .lagrange-basis2 .ensures, c .before .before .before .before .inverses .ensures, part after-base .0, p .2)
 
 pub prepare-spec : {M : Type 1} → statement M
 prepare-spec =

@@ -31,7 +31,8 @@ few c = (nodes-places _ _ (c .before .before .before .before .before .pre .1) .s
 
 points-requires : tie.Need-points-requires
 points-requires c κs =
-    let s = c .before .before .before .before .before .before .pre .0 in
+    let start : tie.Start = search in
+    let s = start .pre .0 in
     let n = few (c .before) in
     (s .usable-field, s .root-below, omega arith, omega arith, c .before .before .before .constant-tables .ensures)
 
@@ -40,23 +41,26 @@ array-share-prefix-points c = search needs
 
 -- the part of the array that holds the points
 part : (c : tie.After-points)
-    → let a = c .before .before .before .before .before .before .before .args in
+    → let start : tie.Start = search in let a = start .args in
     take (a .h .k) (c .points .result) ≡ pointsOf (modulusOf (a .h)) (a .h .root) 0 (a .nodes .now)
 part c =
-    let a = c .before .before .before .before .before .before .before .args in
+    let start : tie.Start = search in
+    let a = start .args in
     rw (c .points .ensures) (take-padded 255 (a .h .k) _ (length-points (modulusOf (a .h)) (a .h .root) 0 (a .nodes .now) ∙ few (c .before .before) .0))
 
 -- there are k points
-many : (c : tie.After-points) → let a = c .before .before .before .before .before .before .before .args in a .h .k ≡ length (take (a .h .k) (c .points .result))
+many : (c : tie.After-points) → let start : tie.Start = search in let a = start .args in a .h .k ≡ length (take (a .h .k) (c .points .result))
 many c =
-    let a = c .before .before .before .before .before .before .before .args in
+    let start : tie.Start = search in
+    let a = start .args in
     rw (part c) (sym (length-points (modulusOf (a .h)) (a .h .root) 0 (a .nodes .now) ∙ few (c .before .before) .0))
 
 -- they are symbols
-symbols : (c : tie.After-points) → let a = c .before .before .before .before .before .before .before .args in SymbolList (a .h .field) (take (a .h .k) (c .points .result))
+symbols : (c : tie.After-points) → let start : tie.Start = search in let a = start .args in SymbolList (a .h .field) (take (a .h .k) (c .points .result))
 symbols c =
-    let a = c .before .before .before .before .before .before .before .args in
-    let s = c .before .before .before .before .before .before .before .pre .0 in
+    let start : tie.Start = search in
+    let a = start .args in
+    let s = start .pre .0 in
     let n = few (c .before .before) in
     rw (part c) (points-symbols (a .h .root) 0 (a .nodes .now) (s .usable-field) (s .root-below) (omega arith))
 
@@ -64,12 +68,13 @@ slice-aggregate-scales : tie.Need-slice-aggregate-scales
 slice-aggregate-scales c = many (c .before .before)
 
 scales-requires : tie.Need-scales-requires
-scales-requires c κs = (symbols (c .before .before), c .before .before .before .before .before .before .constant-tables .ensures)
+scales-requires c κs = let after-constant-tables : tie.After-constant-tables = search in (symbols (c .before .before), after-constant-tables .constant-tables .ensures)
 
 -- their scales as they are lent
-scales-are : (c : tie.After-scales) → let a = c .before .before .before .before .before .before .before .before .before .before .args in let xs = take (a .h .k) (c .before .before .before .points .result) in take (a .h .k) (c .scales .result) ≡ scalesOf (modulusOf (a .h)) xs
+scales-are : (c : tie.After-scales) → let start : tie.Start = search in let a = start .args in let xs = take (a .h .k) (c .before .before .before .points .result) in take (a .h .k) (c .scales .result) ≡ scalesOf (modulusOf (a .h)) xs
 scales-are c =
-    let a = c .before .before .before .before .before .before .before .before .before .before .args in
+    let start : tie.Start = search in
+    let a = start .args in
     let xs = take (a .h .k) (c .before .before .before .points .result) in
     rw (c .scales .ensures) (take-padded 255 (a .h .k) _ (length-scales (modulusOf (a .h)) xs ∙ sym (many (c .before .before .before))))
 
@@ -84,23 +89,31 @@ array-share-prefix-scales c = search needs
 
 slice-aggregate-values-2 : tie.Need-slice-aggregate-values-2
 slice-aggregate-values-2 c =
+    let start : tie.Start = search in
     let at = c .before .before .before in
-    rw (scales-are at) (many (at .before .before .before) ∙ sym (length-scales _ (take (at .before .before .before .before .before .before .before .before .before .before .args .h .k) (at .before .before .before .points .result))))
+    rw (scales-are at) (many (at .before .before .before) ∙ sym (length-scales _ (take (start .args .h .k) (at .before .before .before .points .result))))
 
 values-requires : tie.Need-values-requires
 values-requires c κs =
-    let s = c .before .before .before .before .before .before .before .before .before .before .before .before .before .pre .0 in (
-      symbols (c .before .before .before .before .before .before),
+    let after-points : tie.After-points = search in
+    let after-power : tie.After-power = search in
+    let after-constant-tables : tie.After-constant-tables = search in
+    let start : tie.Start = search in
+    let s = start .pre .0 in (
+      symbols after-points,
       scales-are (c .before .before .before),
-      rw (c .before .before .before .before .before .before .before .before .power .ensures) (power-below _ (s .field) _ (s .root-below)),
-      c .before .before .before .before .before .before .before .before .before .before .constant-tables .ensures,
+      rw (after-power .power .ensures) (power-below _ (s .field) _ (s .root-below)),
+      after-constant-tables .constant-tables .ensures,
     )
 
 returns : tie.Need-returns
 returns c =
-    let a = c .before .before .before .before .before .before .before .before .before .before .before .before .before .before .args in
-    let s = c .before .before .before .before .before .before .before .before .before .before .before .before .before .before .pre in
-    rw (c .values .ensures, part (c .before .before .before .before .before .before .before), c .before .before .before .before .before .before .before .before .before .power .ensures) (rebuilds (a .h) (s .0) (a .nodes .now) (s .1) (a .target) (few (c .before .before .before .before .before .before .before .before .before) .1))
+    let after-points : tie.After-points = search in
+    let after-power : tie.After-power = search in
+    let start : tie.Start = search in
+    let a = start .args in
+    let s = start .pre in
+    rw (c .values .ensures, part after-points, after-power .power .ensures) (rebuilds (a .h) (s .0) (a .nodes .now) (s .1) (a .target) (few after-power .1))
 
 pub rebuild-weights-spec : {M : Type 1} → statement M
 rebuild-weights-spec =

@@ -46,9 +46,10 @@ loop-less c = omega arith
 
 loop-again : tie.Need-loop-again Inv-loop μ-loop
 loop-again c =
+    let start : tie.Start Inv-loop μ-loop = search in
     let turn = c .before .before .before .before in
     let l = turn .before .loop in
-    let p = turn .before .before .before .before .before .before .before .before .args .plan in
+    let p = start .args .plan in
     let todo = rw (rows-next (rowLine p) (p .k) (l .r) (turn .loop-test .taken)) at (l .inv .2) in
     (omega arith, omega arith, puts-next todo (c .before .before .put-row .ensures .0) (omega arith))
 

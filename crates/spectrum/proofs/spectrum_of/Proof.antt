@@ -23,26 +23,26 @@ few : (c : tie.After-struct-known) → c .before .before .before .args .h .n ≤
 few c = omega (arith, c .struct-known .given)
 
 -- the weights, lent as a part
-weights-are : (c : tie.After-unchirp) → let a = c .before .before .before .before .before .before .before .before .args in take (a .h .n) (c .unchirp .result) ≡ unchirped (a .h) (a .lane .now)
+weights-are : (c : tie.After-unchirp) → let start : tie.Start = search in let a = start .args in take (a .h .n) (c .unchirp .result) ≡ unchirped (a .h) (a .lane .now)
 weights-are c =
-    let st = c .before .before .before .before .before .before .before .before in
+    let st : tie.Start = search in
     rw (c .unchirp .ensures) (take-padded 255 _ _ (length-unchirped (st .args .h) (st .args .lane .now) ∙ st .pre .2))
 
-weights-size : (c : tie.After-unchirp) → let a = c .before .before .before .before .before .before .before .before .args in length (take (a .h .n) (c .unchirp .result)) ≡ a .h .n
+weights-size : (c : tie.After-unchirp) → let start : tie.Start = search in let a = start .args in length (take (a .h .n) (c .unchirp .result)) ≡ a .h .n
 weights-size c =
-    let st = c .before .before .before .before .before .before .before .before in
+    let st : tie.Start = search in
     ap length (weights-are c) ∙ length-unchirped (st .args .h) (st .args .lane .now) ∙ st .pre .2
 
 -- the room for the sums, lent as a part
-room-size : (c : tie.After-blank) → let a = c .before .before .before .before .before .before .before .before .before .args in length (take (a .h .n) (c .blank .result)) ≡ a .h .n
-room-size c = length-take-le _ _ (rw (c .blank .ensures, length-zeros 255) (few (c .before .before .before .before .before .before)))
+room-size : (c : tie.After-blank) → let start : tie.Start = search in let a = start .args in length (take (a .h .n) (c .blank .result)) ≡ a .h .n
+room-size c = let after-struct-known : tie.After-struct-known = search in length-take-le _ _ (rw (c .blank .ensures, length-zeros 255) (few after-struct-known))
 
 -- the sums
 sums-of : (c : tie.After-window-sums)
-    → let a = c .before .before .before .before .before .before .before .before .before .before .before .before .before .args in
-    windowSums (modulusOf (a .h)) (take (a .h .n) (c .before .before .before .before .before .unchirp .result)) (c .before .before .before .before .before .before .before .chirps .result) (length (take (a .h .n) (c .before .before .before .before .blank .result)))
+    → let after-chirps : tie.After-chirps = search in let start : tie.Start = search in let a = start .args in
+    windowSums (modulusOf (a .h)) (take (a .h .n) (c .before .before .before .before .before .unchirp .result)) (after-chirps .chirps .result) (length (take (a .h .n) (c .before .before .before .before .blank .result)))
     ≡ windowSums (modulusOf (a .h)) (unchirped (a .h) (a .lane .now)) (from (chirpAt (a .h)) 0 510) (a .h .n)
-sums-of c = rw (weights-are (c .before .before .before .before .before), c .before .before .before .before .before .before .before .chirps .ensures, room-size (c .before .before .before .before))
+sums-of c = let after-chirps : tie.After-chirps = search in rw (weights-are (c .before .before .before .before .before), after-chirps .chirps .ensures, room-size (c .before .before .before .before))
 
 cast-n : tie.Need-cast-n
 cast-n c = search needs
@@ -76,10 +76,11 @@ slice-aggregate-window-sums-3 c = sym (room-size (c .before .before .before))
 
 window-sums-requires : tie.Need-window-sums-requires
 window-sums-requires c κs =
-    let st = c .before .before .before .before .before .before .before .before .before .before .before .before in
+    let row : tie.After-chirps = search in
+    let after-struct-known : tie.After-struct-known = search in
+    let st : tie.Start = search in
     let weights = c .before .before .before .before in
-    let row = c .before .before .before .before .before .before in
-    let few = few (c .before .before .before .before .before .before .before .before .before) in
+    let few = few after-struct-known in
     let long = weights-size weights in
     let room = room-size (c .before .before .before) in
     let wide = ap length (row .chirps .ensures) ∙ length-from (chirpAt (st .args .h)) 0 510 in (
@@ -102,17 +103,20 @@ slice-aggregate-unchirp c = sym (length-whole _ _ _ _ (c .before .before .before
 
 unchirp-requires-2 : tie.Need-unchirp-requires-2
 unchirp-requires-2 c κs =
-    let st = c .before .before .before .before .before .before .before .before .before .before .before .before .before .before .before .before in
+    let after-exponents : tie.After-exponents = search in
+    let after-struct-known : tie.After-struct-known = search in
+    let st : tie.Start = search in
     let sums = c .before .before .before in
     let is = whole-is (st .args .h .n) _ (sums .before .before .before .before .blank .result) _ (sums .window-sums .ensures ∙ sums-of sums) (length-windows _ _ _ _) in
-    (st .pre .0, st .pre .1, c .before .before .before .before .before .before .before .before .before .before .before .before .exponents .ensures, rw (is, length-windows) (few (c .before .before .before .before .before .before .before .before .before .before .before .before .before)), rw is (windows-below _ (st .pre .0) _ _ _ (unchirped-below _ (st .pre .0) _ (st .pre .3)) (chirps-below _ (st .pre .0))), st .pre .4)
+    (st .pre .0, st .pre .1, after-exponents .exponents .ensures, rw (is, length-windows) (few after-struct-known), rw is (windows-below _ (st .pre .0) _ _ _ (unchirped-below _ (st .pre .0) _ (st .pre .3)) (chirps-below _ (st .pre .0))), st .pre .4)
 
 returns : tie.Need-returns
 returns c =
-    let st = c .before .before .before .before .before .before .before .before .before .before .before .before .before .before .before .before .before in
+    let after-struct-known : tie.After-struct-known = search in
+    let st : tie.Start = search in
     let sums = c .before .before .before .before in
     let is = whole-is (st .args .h .n) _ (sums .before .before .before .before .blank .result) _ (sums .window-sums .ensures ∙ sums-of sums) (length-windows _ _ _ _) in
-    c .unchirp2 .ensures ∙ ap (padded 255) (ap (unchirped _) is ∙ spectrum-is _ (st .pre .0) _ (st .pre .2) (st .pre .3) (few (c .before .before .before .before .before .before .before .before .before .before .before .before .before .before)))
+    c .unchirp2 .ensures ∙ ap (padded 255) (ap (unchirped _) is ∙ spectrum-is _ (st .pre .0) _ (st .pre .2) (st .pre .3) (few after-struct-known))
 
 pub spectrum-of-spec : {M : Type 1} → statement M
 spectrum-of-spec =

@@ -50,8 +50,8 @@ part-write-symbol-end c = omega (arith, symbol-in (c .before), c .before .before
 
 write-symbol-requires : tie.Need-write-symbol-requires Inv-loop μ-loop
 write-symbol-requires c κs =
+    let s : tie.Start Inv-loop μ-loop = search in
     let now = c .before .before .before .loop in
-    let s = c .before .before .before .before .before .before in
     let w = s .args .w in (
       s .pre .0,
       s .pre .1,

@@ -50,9 +50,9 @@ digits f x a b c d e first h ha hb hc hd he = rw (ha, hb, hc, hd, he) (part-rest
 
 returns : tie.Need-returns
 returns c =
-    let start = c .before .before .before .before .before .before .before .before .before .before .before .before .before in
+    let last5 : tie.After-last-digit5 = search in
+    let start : tie.Start = search in
     let put = c .before .before .put-word .ensures in
-    let last5 = c .before .before .before .before .before .before in
     let text = digits _ (start .args .x) _ _ _ _ _ (last5 .before .before .before .before .before .zeros-before .ensures .0) (start .pre .0) (last5 .before .before .before .before .last-digit .ensures) (last5 .before .before .before .last-digit2 .ensures) (last5 .before .before .last-digit3 .ensures) (last5 .before .last-digit4 .ensures) (last5 .last-digit5 .ensures) in
     (rw (← text) put, omega (arith, put .place, ap length text, decimal-short (start .args .x) (start .pre .0)))
 

@@ -18,7 +18,7 @@ same-length c = search needs
 returns : tie.Need-returns
 unfolding field
 returns c =
-    let spaced = c .before .before .before .before .before .before in
+    let spaced : tie.After-put-byte = search in
     (puts-then (spaced .put-byte .ensures) (c .before .before .put-number .ensures .0) (omega arith), omega arith)
 
 pub put-number-field-spec : {M : Type 1} → statement M

@@ -39,11 +39,14 @@ held c =
     rw (bytes-held ready _ (c .before .loop .inv) (c .loop-test .taken)) (below-at _ _ (ready .symbols) _ (omega (arith, word-long ready, c .loop-test .taken)))
 
 -- and becomes what the update says
-becomes : (c : tie.After-renewed Inv-loop μ-loop) → let a = c .before .before .before .before .before .before .before .before .before .before .before .before .args in c .renewed .result ≡ after (a .h) (a .which) (a .x) (symbolsOf (a .w) (a .lane .now)) (c .before .before .before .before .before .before .before .before .loop .j)
+becomes : (c : tie.After-renewed Inv-loop μ-loop) → let at-loop : tie.At-loop Inv-loop μ-loop = search in let start : tie.Start Inv-loop μ-loop = search in let a = start .args in c .renewed .result ≡ after (a .h) (a .which) (a .x) (symbolsOf (a .w) (a .lane .now)) (at-loop .loop .j)
 becomes c =
-    let (ready, factor, plan, tables) = c .before .before .before .before .before .before .before .before .before .before .before .before .pre in
-    let node = c .before .before .before .before .before .before .before .loop-test .taken in
-    rw (← entry-read _ (ready .sound) _ plan _ _ (ready .row) node, ← c .before .before .before .entry-at .ensures, ← bytes-held ready _ (c .before .before .before .before .before .before .before .before .loop .inv) node, ← c .before .symbol-at .ensures) (c .renewed .ensures)
+    let in-loop : tie.In-loop Inv-loop μ-loop = search in
+    let at-loop : tie.At-loop Inv-loop μ-loop = search in
+    let start : tie.Start Inv-loop μ-loop = search in
+    let (ready, factor, plan, tables) = start .pre in
+    let node = in-loop .loop-test .taken in
+    rw (← entry-read _ (ready .sound) _ plan _ _ (ready .row) node, ← c .before .before .before .entry-at .ensures, ← bytes-held ready _ (at-loop .loop .inv) node, ← c .before .symbol-at .ensures) (c .renewed .ensures)
 
 cast-n : tie.Need-cast-n Inv-loop μ-loop
 cast-n c = search needs
@@ -59,31 +62,35 @@ loop-holds c = bytes-start (c .before .before .before .pre .0) _ (at-below 256 _
 
 entry-at-requires : tie.Need-entry-at-requires Inv-loop μ-loop
 entry-at-requires c κs =
-    let (ready, factor, plan, tables) = c .before .before .before .before .before .before .before .before .pre in
+    let start : tie.Start Inv-loop μ-loop = search in
+    let (ready, factor, plan, tables) = start .pre in
     (omega arith, rw plan (shift-below _ (ready .sound) _ (ready .row)), c .before .before .before .loop-test .taken, rw plan (base-room _))
 
 symbol-at-requires : tie.Need-symbol-at-requires Inv-loop μ-loop
 symbol-at-requires c κs =
-    let st = c .before .before .before .before .before .before .before .before .before .before in
+    let at-loop : tie.At-loop Inv-loop μ-loop = search in
+    let st : tie.Start Inv-loop μ-loop = search in
     let ready = st .pre .0 in
     let range = width-range (st .args .h) in
-    (rw (ready .wide) (range .0), rw (ready .wide) (range .1), place-inside ready _ (c .before .before .before .before .before .before .loop .inv) (c .before .before .before .before .before .loop-test .taken))
+    (rw (ready .wide) (range .0), rw (ready .wide) (range .1), place-inside ready _ (at-loop .loop .inv) (c .before .before .before .before .before .loop-test .taken))
 
 renewed-requires : tie.Need-renewed-requires Inv-loop μ-loop
 renewed-requires c κs =
-    let (ready, factor, plan, tables) = c .before .before .before .before .before .before .before .before .before .before .before .pre in (
+    let in-loop : tie.In-loop Inv-loop μ-loop = search in
+    let start : tie.Start Inv-loop μ-loop = search in
+    let (ready, factor, plan, tables) = start .pre in (
       ready .sound,
       factor,
-      rw (c .before .before .entry-at .ensures, entry-read _ (ready .sound) _ plan _ _ (ready .row) (c .before .before .before .before .before .before .loop-test .taken)) (entry-below _ (ready .sound) _ _),
-      rw (c .symbol-at .ensures) (held (c .before .before .before .before .before .before)),
+      rw (c .before .before .entry-at .ensures, entry-read _ (ready .sound) _ plan _ _ (ready .row) (in-loop .loop-test .taken)) (entry-below _ (ready .sound) _ _),
+      rw (c .symbol-at .ensures) (held in-loop),
       tables,
     )
 
 mul-start : tie.Need-mul-start Inv-loop μ-loop
-mul-start c = omega (arith, inside (c .before .before .before .before .before .before .before .before), few (c .before .before .before .before .before .before .before .before))
+mul-start c = let in-loop : tie.In-loop Inv-loop μ-loop = search in omega (arith, inside in-loop, few in-loop)
 
 add-end : tie.Need-add-end Inv-loop μ-loop
-add-end c = omega (arith, inside (c .before .before .before .before .before .before .before .before), few (c .before .before .before .before .before .before .before .before))
+add-end c = let in-loop : tie.In-loop Inv-loop μ-loop = search in omega (arith, inside in-loop, few in-loop)
 
 sub-write-symbol : tie.Need-sub-write-symbol Inv-loop μ-loop
 sub-write-symbol c = omega arith
@@ -92,22 +99,27 @@ part-write-symbol-start : tie.Need-part-write-symbol-start Inv-loop μ-loop
 part-write-symbol-start c = omega arith
 
 part-write-symbol-end : tie.Need-part-write-symbol-end Inv-loop μ-loop
-part-write-symbol-end c = omega (arith, inside (c .before .before .before .before .before .before .before .before))
+part-write-symbol-end c = let in-loop : tie.In-loop Inv-loop μ-loop = search in omega (arith, inside in-loop)
 
 write-symbol-requires : tie.Need-write-symbol-requires Inv-loop μ-loop
 write-symbol-requires c κs =
-    let st = c .before .before .before .before .before .before .before .before .before .before .before .before .before .before in
+    let in-loop : tie.In-loop Inv-loop μ-loop = search in
+    let at-loop : tie.At-loop Inv-loop μ-loop = search in
+    let st : tie.Start Inv-loop μ-loop = search in
     let (ready, factor, plan, tables) = st .pre in
     let range = width-range (st .args .h) in
-    let j = c .before .before .before .before .before .before .before .before .before .before .loop .j in (
+    let j = at-loop .loop .j in (
       rw (ready .wide) (range .0),
       rw (ready .wide) (range .1),
-      rw (ready .wide, becomes (c .before .before)) (lt-of-lt-of-le (after-below ready (st .args .x) factor j (c .before .before .before .before .before .before .before .before .before .loop-test .taken)) (size-fits-width (st .args .h) (ready .sound))),
-      part-length (j * st .args .w) (st .args .w) _ (inside (c .before .before .before .before .before .before .before .before .before)),
+      rw (ready .wide, becomes (c .before .before)) (lt-of-lt-of-le (after-below ready (st .args .x) factor j (in-loop .loop-test .taken)) (size-fits-width (st .args .h) (ready .sound))),
+      part-length (j * st .args .w) (st .args .w) _ (inside in-loop),
     )
 
 add-count : tie.Need-add-count Inv-loop μ-loop
-add-count c = omega (arith, c .before .before .before .before .before .before .before .before .before .before .before .before .before .loop .inv .symbols .few, c .before .before .before .before .before .before .before .before .before .before .before .before .loop-test .taken)
+add-count c =
+    let in-loop : tie.In-loop Inv-loop μ-loop = search in
+    let at-loop : tie.At-loop Inv-loop μ-loop = search in
+    omega (arith, at-loop .loop .inv .symbols .few, in-loop .loop-test .taken)
 
 add-j : tie.Need-add-j Inv-loop μ-loop
 add-j c = omega arith
@@ -117,9 +129,12 @@ loop-less c = omega arith
 
 loop-again : tie.Need-loop-again Inv-loop μ-loop
 loop-again c =
-    let (ready, factor, plan, tables) = c .before .before .before .before .before .before .before .before .before .before .before .before .before .pre in
-    let turn = c .before .before .before .before .before .before .before .before .before .loop .inv in
-    let node = c .before .before .before .before .before .before .before .before .loop-test .taken in
+    let in-loop : tie.In-loop Inv-loop μ-loop = search in
+    let at-loop : tie.At-loop Inv-loop μ-loop = search in
+    let start : tie.Start Inv-loop μ-loop = search in
+    let (ready, factor, plan, tables) = start .pre in
+    let turn = at-loop .loop .inv in
+    let node = in-loop .loop-test .taken in
     ⊎-elim
     (λ u. rw (u .5, u .6, u .2 .ensures) (bytes-put ready _ turn node _ (becomes (c .before)) (λ e. u .0 .taken (e ∙ sym (c .before .before .symbol-at .ensures)))))
     (λ u. rw (u .1, u .2) (bytes-skip ready _ turn node _ (becomes (c .before)) (u .0 .left ∙ c .before .before .symbol-at .ensures)))

@@ -42,7 +42,8 @@ same-length c = search needs
 
 returns : tie.Need-returns
 returns c =
-    let (ready, wide, factor, plan, tables) = c .before .before .before .before .before .before .pre in
+    let start : tie.Start = search in
+    let (ready, wide, factor, plan, tables) = start .pre in
     let (added, counted) = c .before .before .rewrite .ensures in
     let low = bytes (c .before .before .before .before .before) in
     (lane-rewritten ready _ wide low _ _ _ added counted, lane-differs ready _ wide low _ _ _ added counted)

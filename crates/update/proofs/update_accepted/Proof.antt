@@ -28,7 +28,7 @@ ready c = input-accepts _ (c .before .before .before .before .pre) _ _ _ _ _ _ (
 
 -- Update's number is the lane's
 judged : (c : tie.After-judge-lane)
-    → let a = c .before .before .before .before .before .before .before .args in
+    → let start : tie.Start = search in let a = start .args in
     updateFault shareLayout (a .h) (a .lanes) (a .which) (a .lane) (a .old) (a .new) (a .shares .now) ≡ c .judge-lane .result
 judged c = lane-met _ _ _ _ _ _ _ _ _ (c .before .before .width-of .ensures .0) (given (c .before .before .before)) (c .judge-lane .ensures)
 
@@ -66,8 +66,10 @@ constant-tables-requires c κs = search needs
 
 rewrite-lane-requires : tie.Need-rewrite-lane-requires
 rewrite-lane-requires c κs =
-    let (lane, old, new) = ready (c .before .before .before .before .before .before .before .before .before) in
-    (lane, c .before .before .before .before .before .before .before .before .width-of .ensures .0, rw (c .before .before .before .before .sub .ensures) (sub-below _ (lane .sound .field) new old), c .before .before .before .plan-of .ensures, c .before .before .constant-tables .ensures)
+    let after-width-of : tie.After-width-of = search in
+    let else1 : tie.Else1 = search in
+    let (lane, old, new) = ready else1 in
+    (lane, after-width-of .width-of .ensures .0, rw (c .before .before .before .before .sub .ensures) (sub-below _ (lane .sound .field) new old), c .before .before .before .plan-of .ensures, c .before .before .constant-tables .ensures)
 
 same-length-3 : tie.Need-same-length-3
 same-length-3 c = search needs
@@ -75,9 +77,10 @@ same-length-3 c = search needs
 returns-3 : tie.Need-returns-3
 unfolding updated
 returns-3 c =
+    let at : tie.After-sub = search in
+    let after-width-of : tie.After-width-of = search in
     let (done, counted) = c .before .before .rewrite-lane .ensures in
-    let at = c .before .before .before .before .before .before .before in
-    altered-says _ _ _ _ _ _ _ _ _ _ _ (c .before .before .before .before .before .before .before .before .before .before .before .width-of .ensures .0) (judged (at .before .before) ∙ at .before .if2 .left) (rw (← at .sub .ensures) done) (rw (← at .sub .ensures) counted)
+    altered-says _ _ _ _ _ _ _ _ _ _ _ (after-width-of .width-of .ensures .0) (judged (at .before .before) ∙ at .before .if2 .left) (rw (← at .sub .ensures) done) (rw (← at .sub .ensures) counted)
 
 pub update-accepted-spec : {M : Type 1} → statement M
 update-accepted-spec =

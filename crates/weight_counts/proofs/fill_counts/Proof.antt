@@ -24,7 +24,7 @@ slice-aggregate-scale c = search needs
 
 scale-requires : tie.Need-scale-requires
 scale-requires c κs =
-    let start = c .before .before .before .before .before .before .before .before .before .before .before .before in
+    let start : tie.Start = search in
     let h = start .args .h in
     let small = start .pre .0 in
     let byte : h .n ≤ 255 = omega arith in
@@ -40,10 +40,11 @@ same-length c = search needs
 
 returns : tie.Need-returns
 returns c =
-    let start = c .before .before .before .before .before .before .before .before .before .before .before .before .before .before .before in
+    let after-take-differences : tie.After-take-differences = search in
+    let start : tie.Start = search in
     let h = start .args .h in
     let byte : h .n ≤ 255 = omega arith in
-    let table = c .before .before .before .before .before .before .before .before .take-differences .ensures in
+    let table = after-take-differences .take-differences .ensures in
     let row = c .before .before .before .before .before .pascal-row .ensures in
     c .before .before .scale .ensures ∙ rw (table, row, length-table h (h .n)) (counts-are h (start .pre .0) byte)
 

@@ -45,7 +45,7 @@ slice-write-counts c = omega arith
 
 mul-x : tie.Need-mul-x Inv-loop μ-loop
 mul-x c =
-    let start = c .before .before .before .before .before .before in
+    let start : tie.Start Inv-loop μ-loop = search in
     let h = start .args .h in
     let l = c .before .before .loop in
     let small = start .pre .0 in
@@ -64,10 +64,11 @@ loop-less c = omega (arith, c .before .before .loop .inv .1 .long)
 
 loop-again : tie.Need-loop-again Inv-loop μ-loop
 loop-again c =
+    let start : tie.Start Inv-loop μ-loop = search in
     let l = c .before .before .loop in
-    let h = c .before .before .before .before .before .before .args .h in
+    let h = start .args .h in
     let q = c .before .before .before .before .size .result in
-    let more : l .y < length (c .before .before .before .before .before .before .args .counts .now) = omega (arith, l .inv .1 .long) in
+    let more : l .y < length (start .args .counts .now) = omega (arith, l .inv .1 .long) in
     let todo = rw (from-next _ _ _ more) at (l .inv .1) in (
       ⊎-elim
           (λ w. w .1 ∙ ap (λ (x : ℕ). x * q) (l .inv .0) ∙ power-more q (h .n - h .k) (l .y) (omega arith))

@@ -24,7 +24,8 @@ same-length c = search needs
 
 returns : tie.Need-returns
 returns c =
-    record { counted = on-held (c .before .before .before .before .before .before .before .read-record .ensures) (c .before .before .before .before .before .h .given .1) (c .before .before .counts-accepted .ensures); claims = distributed _ _ refl }
+    let after-read-record : tie.After-read-record = search in
+    record { counted = on-held (after-read-record .read-record .ensures) (c .before .before .before .before .before .h .given .1) (c .before .before .counts-accepted .ensures); claims = distributed _ _ refl }
 
 returns-2 : tie.Need-returns-2
 returns-2 c =

@@ -15,10 +15,11 @@ enum-told c = search needs
 
 put-counts-requires : tie.Need-put-counts-requires
 put-counts-requires c κs =
-    let start = c .before .before .before .before .before .before .before .before .before .before in
+    let after-counts-accepted : tie.After-counts-accepted = search in
+    let start : tie.Start = search in
     let h = start .args .h in
     let byte : h .n ≤ 255 = omega arith in
-    let (text, is, few) = done-text h _ _ _ (start .pre .1) (c .before .before .before .before .before .before .counts-accepted .ensures) (c .before .before .enum-told .given .1) in
+    let (text, is, few) = done-text h _ _ _ (start .pre .1) (after-counts-accepted .counts-accepted .ensures) (c .before .before .enum-told .given .1) in
     let (below, long) = counts-below h (record { sound = start .pre .0; few = few }) byte _ is in
     (below, omega (arith, long), omega (arith, long))
 
@@ -42,8 +43,9 @@ same-length-2 c = search needs
 
 returns : tie.Need-returns
 returns c =
-    let start = c .before .before .before .before .before .before .before .before .before .before .before .before .before in
-    let text = done-text (start .args .h) _ _ _ (start .pre .1) (c .before .before .before .before .before .before .before .before .before .counts-accepted .ensures) (c .before .before .before .before .before .enum-told .given .1) .0 in
+    let after-counts-accepted : tie.After-counts-accepted = search in
+    let start : tie.Start = search in
+    let text = done-text (start .args .h) _ _ _ (start .pre .1) (after-counts-accepted .counts-accepted .ensures) (c .before .before .before .before .before .enum-told .given .1) .0 in
     rw text (c .before .before .put-counts .ensures)
 
 same-length-3 : tie.Need-same-length-3
@@ -55,8 +57,10 @@ same-length-4 c = search needs
 returns-2 : tie.Need-returns-2
 unfolding ascii
 returns-2 c =
-    let start = c .before .before .before .before .before .before .before .before .before .before .before .before .before .before .before in
-    let text = refused-text (start .args .h) _ _ _ (start .pre .1) (c .before .before .before .before .before .before .before .before .before .before .before .counts-accepted .ensures) _ (c .before .before .before .before .before .before .before .number .given .1) in
+    let after-number : tie.After-number = search in
+    let after-counts-accepted : tie.After-counts-accepted = search in
+    let start : tie.Start = search in
+    let text = refused-text (start .args .h) _ _ _ (start .pre .1) (after-counts-accepted .counts-accepted .ensures) _ (after-number .number .given .1) in
     rw text (c .before .before .put-line .ensures .0)
 
 pub put-counted-spec : {M : Type 1} → statement M

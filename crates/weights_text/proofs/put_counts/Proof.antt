@@ -38,8 +38,8 @@ shared-slice-read-put-count c = omega arith
 
 put-count-requires : tie.Need-put-count-requires Inv-loop μ-loop
 put-count-requires c κs =
+    let start : tie.Start Inv-loop μ-loop = search in
     let l = c .before .before .before .loop in
-    let start = c .before .before .before .before .before .before in
     (omega arith, below-at 100000 (start .args .counts .now) (start .pre .0) (l .w) (omega arith), omega arith)
 
 add-w : tie.Need-add-w Inv-loop μ-loop

@@ -15,7 +15,7 @@ enum-known-h : tie.Need-enum-known-h
 enum-known-h c = search needs
 
 put-weights-requires : tie.Need-put-weights-requires
-put-weights-requires c κs = (accepted-sound (c .before .before .before .before .before .before .args .rec .now) _ (sym (c .before .before .before .before .read-record .ensures) ∙ c .before .before .h .given .1), search needs)
+put-weights-requires c κs = let start : tie.Start = search in (accepted-sound (start .args .rec .now) _ (sym (c .before .before .before .before .read-record .ensures) ∙ c .before .before .h .given .1), search needs)
 
 enum-known-number : tie.Need-enum-known-number
 enum-known-number c = search needs
@@ -34,7 +34,7 @@ returns c = puts-page weightsFor (sym (c .before .before .before .h .given .1) �
 
 returns-2 : tie.Need-returns-2
 unfolding weightsFor ascii
-returns-2 c = puts-page weightsFor (sym (c .before .before .before .before .before .number .given .1) ∙ c .before .before .before .before .before .before .before .read-record .ensures) (c .put-line .ensures .0)
+returns-2 c = let after-read-record : tie.After-read-record = search in puts-page weightsFor (sym (c .before .before .before .before .before .number .given .1) ∙ after-read-record .read-record .ensures) (c .put-line .ensures .0)
 
 pub weights-spec : {M : Type 1} → statement M
 weights-spec =

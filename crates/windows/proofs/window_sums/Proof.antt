@@ -30,13 +30,13 @@ enum-known-field : tie.Need-enum-known-field
 enum-known-field c = search needs
 
 window-sums-requires : tie.Need-window-sums-requires
-window-sums-requires c κs = prime-windows _ (rw (c .before .before .field .given .1) at (c .before .before .before .before .before .before .before .pre))
+window-sums-requires c κs = let start : tie.Start = search in prime-windows _ (rw (c .before .before .field .given .1) at (start .pre))
 
 enum-told : tie.Need-enum-told
 enum-told c = search needs
 
 window-sums-requires-2 : tie.Need-window-sums-requires-2
-window-sums-requires-2 c κs = byte-windows _ (rw (c .before .enum-told .given .1) at (c .before .before .before .before .before .before .pre))
+window-sums-requires-2 c κs = let start : tie.Start = search in byte-windows _ (rw (c .before .enum-told .given .1) at (start .pre))
 
 same-length : tie.Need-same-length
 same-length c = search needs

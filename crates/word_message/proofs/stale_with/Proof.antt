@@ -22,9 +22,9 @@ few : (c : tie.After-struct-known) → c .before .before .before .args .h .n ≤
 few c = omega (arith, c .struct-known .given)
 
 -- the word test
-test : (c : tie.After-all-zero) → let a = c .before .before .before .before .before .before .before .before .args in c .all-zero .result ≡ isWord (a .h) (a .lane .now)
+test : (c : tie.After-all-zero) → let start : tie.Start = search in let a = start .args in c .all-zero .result ≡ isWord (a .h) (a .lane .now)
 test c =
-    let st = c .before .before .before .before .before .before .before .before in
+    let st : tie.Start = search in
     let h = st .args .h in
     c .all-zero .ensures
     ∙ ap (allBelow 1) (rw (c .before .before .before .spectrum-of .ensures) (check-part h (st .args .lane .now) (st .pre .0) (few (c .before .before .before .before .before))))
@@ -38,10 +38,10 @@ part c =
 
 -- the symbol of a word's message
 symbol : (c : tie.After-symbol-from)
-    → let a = c .before .before .before .before .before .before .before .before .before .before .args in
+    → let start : tie.Start = search in let a = start .args in
     isWord (a .h) (a .lane .now) ≡ true → c .symbol-from .result ≡ getD (messageOf (a .h) (a .lane .now)) (a .r) 0
 symbol c word =
-    let st = c .before .before .before .before .before .before .before .before .before .before in
+    let st : tie.Start = search in
     let h = st .args .h in
     let ws = st .args .lane .now in
     c .symbol-from .ensures ∙ rw (part (c .before .before .before .before .before), coefficients-are h (st .pre .0) ws) (word-symbol h (st .pre .0) ws (st .pre .2) (st .pre .3) word (st .args .r) (st .pre .4))
@@ -84,7 +84,7 @@ slice-aggregate-symbol-from c = rw (part (c .before .before .before .before)) (s
 
 symbol-from-requires : tie.Need-symbol-from-requires
 symbol-from-requires c κs =
-    let st = c .before .before .before .before .before .before .before .before .before in
+    let st : tie.Start = search in
     let h = st .args .h in
     (st .pre .0, st .pre .1, rw (part (c .before .before .before .before)) (length-spectrum h (st .args .lane .now)), rw (part (c .before .before .before .before)) (spectrum-below h (st .pre .0) (st .args .lane .now) (st .pre .3)), st .pre .4, st .pre .5)
 
@@ -93,7 +93,8 @@ number-of-requires c κs = search needs
 
 returns : tie.Need-returns
 returns c =
-    let a = c .before .before .before .before .before .before .before .before .before .before .before .args in
+    let start : tie.Start = search in
+    let a = start .args in
     c .number-of .ensures ∙ number-is (a .h) (a .lane .now) (a .r) (a .old) (c .before .symbol-from .result) (c .before .before .before .all-zero .result) (test (c .before .before .before)) (symbol (c .before))
 
 pub stale-with-spec : {M : Type 1} → statement M

@@ -38,28 +38,28 @@ points c =
 
 -- the terms of the row
 terms : (c : tie.After-row-terms)
-    → let a = c .before .before .before .before .before .before .before .args in
+    → let start : tie.Start = search in let a = start .args in
     (take (a .h .k) (c .row-terms .result) ≡ rowTerms (a .h) (a .r)) × Symbols (a .h .field) (a .h .k) (rowTerms (a .h) (a .r))
 terms c =
-    let st = c .before .before .before .before .before .before .before in
+    let st : tie.Start = search in
     let s = term-symbols (st .args .h) (st .pre .0) (few (c .before .before .before) .0) (st .args .r) (st .pre .4) in
     (rw (c .row-terms .ensures) (take-padded 255 _ _ (s .size)), s)
 
 -- the coefficients
 coefficients : (c : tie.After-coefficients)
-    → let a = c .before .before .before .before .before .before .before .before .args in
+    → let start : tie.Start = search in let a = start .args in
     (c .coefficients .result ≡ padded 255 (coefficientsOf (a .h) (a .spectrum .now))) × (allBelow (size (a .h)) (coefficientsOf (a .h) (a .spectrum .now)) ≡ true)
 unfolding coefficientsOf
 coefficients c =
-    let st = c .before .before .before .before .before .before .before .before in
+    let st : tie.Start = search in
     (c .coefficients .ensures, coefficients-below (st .args .h) (st .pre .0) (st .args .spectrum .now) (st .pre .2) (st .pre .3))
 
 -- their sum with the terms, a symbol
 sum : (c : tie.After-weighted-sum)
-    → let a = c .before .before .before .before .before .before .before .before .before .before .before .args in
+    → let start : tie.Start = search in let a = start .args in
     (c .weighted-sum .result ≡ dot (modulusOf (a .h)) (rowTerms (a .h) (a .r)) (coefficientsOf (a .h) (a .spectrum .now))) × (c .weighted-sum .result < size (a .h))
 sum c =
-    let st = c .before .before .before .before .before .before .before .before .before .before .before in
+    let st : tie.Start = search in
     let t = terms (c .before .before .before .before) in
     let k = coefficients (c .before .before .before) in
     let h = st .args .h in
@@ -69,10 +69,11 @@ sum c =
     (is, rw is (dot-below _ (st .pre .0 .field) _ _ (t .1 .are .below) (k .1)))
 
 -- the row's scale
-scale : (c : tie.After-scale-at) → c .scale-at .result < size (c .before .before .before .before .before .before .before .before .before .before .before .before .before .args .h)
+scale : (c : tie.After-scale-at) → let start : tie.Start = search in c .scale-at .result < size (start .args .h)
 scale c =
-    let st = c .before .before .before .before .before .before .before .before .before .before .before .before .before in
-    let q = points (c .before .before .before .before .before .before .before .before) in
+    let after-row-points : tie.After-row-points = search in
+    let st : tie.Start = search in
+    let q = points after-row-points in
     rw (c .scale-at .ensures, q .0) (scaleAt-below _ (st .pre .0 .field) _ _ (q .1 .are .below) (omega (arith, q .1 .size, st .pre .4)))
 
 cast-n : tie.Need-cast-n
@@ -92,7 +93,7 @@ slice-aggregate-row-terms c = let q = points (c .before) in rw (q .0) (sym (q .1
 
 row-terms-requires : tie.Need-row-terms-requires
 row-terms-requires c κs =
-    let st = c .before .before .before .before .before .before in
+    let st : tie.Start = search in
     (st .pre .0, st .pre .1, points (c .before) .0, st .pre .4, st .pre .5)
 
 coefficients-requires : tie.Need-coefficients-requires
@@ -109,21 +110,25 @@ slice-aggregate-weighted-sum-2 c = search needs
 
 weighted-sum-requires : tie.Need-weighted-sum-requires
 weighted-sum-requires c κs =
-    let st = c .before .before .before .before .before .before .before .before .before .before in
+    let after-struct-known2 : tie.After-struct-known2 = search in
+    let st : tie.Start = search in
     let t = terms (c .before .before .before) in
     let k = coefficients (c .before .before) in
-    (st .pre .0 .usable-field, rw (t .0) (t .1 .are .below), rw (k .0) (below-padded _ 255 _ (size-pos _ (st .pre .0 .field)) (k .1)), omega (arith, ap length (t .0), t .1 .size, ap length (k .0), length-padded 255 (coefficientsOf (st .args .h) (st .args .spectrum .now)) (omega (arith, length-coefficients (st .args .h) (st .args .spectrum .now), few (c .before .before .before .before .before .before) .0)), few (c .before .before .before .before .before .before) .0), st .pre .5)
+    (st .pre .0 .usable-field, rw (t .0) (t .1 .are .below), rw (k .0) (below-padded _ 255 _ (size-pos _ (st .pre .0 .field)) (k .1)), omega (arith, ap length (t .0), t .1 .size, ap length (k .0), length-padded 255 (coefficientsOf (st .args .h) (st .args .spectrum .now)) (omega (arith, length-coefficients (st .args .h) (st .args .spectrum .now), few after-struct-known2 .0)), few after-struct-known2 .0), st .pre .5)
 
 array-share-prefix-points-2 : tie.Need-array-share-prefix-points-2
 array-share-prefix-points-2 c = search needs
 
 slice-aggregate-scale-at : tie.Need-slice-aggregate-scale-at
-slice-aggregate-scale-at c = let q = points (c .before .before .before .before .before .before .before) in rw (q .0) (sym (q .1 .size))
+slice-aggregate-scale-at c =
+    let after-row-points : tie.After-row-points = search in
+    let q = points after-row-points in rw (q .0) (sym (q .1 .size))
 
 scale-at-requires : tie.Need-scale-at-requires
 scale-at-requires c κs =
-    let st = c .before .before .before .before .before .before .before .before .before .before .before .before in
-    let q = points (c .before .before .before .before .before .before .before) in
+    let after-row-points : tie.After-row-points = search in
+    let st : tie.Start = search in
+    let q = points after-row-points in
     rw (q .0) (q .1 .are, rw (q .1 .size) (st .pre .4), st .pre .5)
 
 ones-requires : tie.Need-ones-requires
@@ -133,29 +138,31 @@ inverse-with-requires : tie.Need-inverse-with-requires
 inverse-with-requires c κs = search needs
 
 -- 1 over n
-over : (c : tie.After-inverse-with) → c .inverse-with .result < size (c .before .before .before .before .before .before .before .before .before .before .before .before .before .before .before .args .h)
+over : (c : tie.After-inverse-with) → let start : tie.Start = search in c .inverse-with .result < size (start .args .h)
 over c =
-    let st = c .before .before .before .before .before .before .before .before .before .before .before .before .before .before .before in
+    let st : tie.Start = search in
     rw (c .inverse-with .ensures) (inverse-below _ (st .pre .0 .field) (c .before .ones .ensures .1))
 
 mul-with-requires : tie.Need-mul-with-requires
 mul-with-requires c κs =
-    let st = c .before .before .before .before .before .before .before .before .before .before .before .before .before .before .before in
+    let st : tie.Start = search in
     (st .pre .0 .usable-field, over c, sum (c .before .before .before .before) .1, st .pre .5)
 
 mul-with-requires-2 : tie.Need-mul-with-requires-2
 mul-with-requires-2 c κs =
-    let st = c .before .before .before .before .before .before .before .before .before .before .before .before .before .before .before .before in
+    let st : tie.Start = search in
     (st .pre .0 .usable-field, scale (c .before .before .before), rw (c .mul-with .ensures) (mul-below _ (st .pre .0 .field) (over (c .before)) (sum (c .before .before .before .before .before) .1)), st .pre .5)
 
 returns : tie.Need-returns
 unfolding symbolFrom
 returns c =
-    let q = points (c .before .before .before .before .before .before .before .before .before .before .before .before) in
+    let after-weighted-sum : tie.After-weighted-sum = search in
+    let after-row-points : tie.After-row-points = search in
+    let q = points after-row-points in
     c .mul-with2 .ensures
     ∙ ap₂ (mul _) (c .before .before .before .before .scale-at .ensures ∙ rw (q .0))
     (c .before .mul-with .ensures
-    ∙ ap₂ (mul _) (c .before .before .inverse-with .ensures ∙ ap (inverse _) (c .before .before .before .ones .ensures .0)) (sum (c .before .before .before .before .before .before) .0))
+    ∙ ap₂ (mul _) (c .before .before .inverse-with .ensures ∙ ap (inverse _) (c .before .before .before .ones .ensures .0)) (sum after-weighted-sum .0))
 
 pub symbol-from-spec : {M : Type 1} → statement M
 symbol-from-spec =

@@ -41,7 +41,8 @@ first-nonzero-requires c κs = whole-reach _ _ _ _ (c .before .before .mark-lane
 
 returns : tie.Need-returns
 returns c =
-    let a = c .before .before .before .before .before .before .before .args in
+    let start : tie.Start = search in
+    let a = start .args in
     c .first-nonzero .ensures ∙ first-marked shareLayout (a .h) (a .lanes) (symbolsOf (width (a .h)) (a .shares .now)) _ (whole-is _ _ _ _ (c .before .before .before .mark-lanes .ensures) (length-marks shareLayout _ _ _))
 
 pub first-wrong-spec : {M : Type 1} → statement M

@@ -20,7 +20,7 @@ same-length-2 : tie.Need-same-length-2
 same-length-2 c = search needs
 
 returns : tie.Need-returns
-returns c = mends-listed _ _ _ _ _ _ _ (c .before .before .before .before .before .before .before .single-mends .ensures) _ _ (c .before .listed .given .1)
+returns c = let after-single-mends : tie.After-single-mends = search in mends-listed _ _ _ _ _ _ _ (after-single-mends .single-mends .ensures) _ _ (c .before .listed .given .1)
 
 same-length-3 : tie.Need-same-length-3
 same-length-3 c = search needs
@@ -29,7 +29,7 @@ same-length-4 : tie.Need-same-length-4
 same-length-4 c = search needs
 
 returns-2 : tie.Need-returns-2
-returns-2 c = mends-refused _ _ _ _ _ _ _ (c .before .before .before .before .before .before .before .single-mends .ensures) _ _ (c .before .number .given .1)
+returns-2 c = let after-single-mends : tie.After-single-mends = search in mends-refused _ _ _ _ _ _ _ (after-single-mends .single-mends .ensures) _ _ (c .before .number .given .1)
 
 pub balanced-mends-spec : {M : Type 1} → statement M
 balanced-mends-spec =

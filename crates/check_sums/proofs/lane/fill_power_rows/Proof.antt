@@ -22,9 +22,9 @@ abbrev μ-loop : tie.MeasureT-loop
 μ-loop h rows₀ w count checks table i₀ rows i = count - i
 
 -- a row of bytes lies within the buffer
-row-in : (c : tie.In-loop Inv-loop μ-loop) → let a = c .before .before .before .before .before .before .before .args in c .before .loop .i * (a .h .n - a .h .k) + (a .h .n - a .h .k) ≤ length (a .rows .now)
+row-in : (c : tie.In-loop Inv-loop μ-loop) → let start : tie.Start Inv-loop μ-loop = search in let a = start .args in c .before .loop .i * (a .h .n - a .h .k) + (a .h .n - a .h .k) ≤ length (a .rows .now)
 row-in c =
-    let s = c .before .before .before .before .before .before .before in
+    let s : tie.Start Inv-loop μ-loop = search in
     let width = c .before .before .before .before .before .width-of in
     rw (s .pre .1, ← width .ensures .0) (row-inside (width .result * s .args .h .n) (c .before .loop .i) (s .args .h .n - s .args .h .k) (c .loop-test .taken))
 
@@ -62,7 +62,7 @@ slice-aggregate-fill-row : tie.Need-slice-aggregate-fill-row Inv-loop μ-loop
 slice-aggregate-fill-row c = search needs
 
 div-fill-row : tie.Need-div-fill-row Inv-loop μ-loop
-div-fill-row c = omega (arith, c .before .before .before .before .before .before .width-of .ensures .1)
+div-fill-row c = let after-width-of : tie.After-width-of Inv-loop μ-loop = search in omega (arith, after-width-of .width-of .ensures .1)
 
 sub-fill-row : tie.Need-sub-fill-row Inv-loop μ-loop
 sub-fill-row c = omega arith
@@ -75,26 +75,31 @@ part-fill-row-end c = omega (arith, row-in (c .before))
 
 fill-row-requires : tie.Need-fill-row-requires Inv-loop μ-loop
 fill-row-requires c κs =
-    let st = c .before .before .before .before .before .before .before .before .before in
-    let width = c .before .before .before .before .before .before .before .width-of in
+    let after-width-of : tie.After-width-of Inv-loop μ-loop = search in
+    let st : tie.Start Inv-loop μ-loop = search in
+    let width = after-width-of .width-of in
     let (wide, some, few) = width .ensures in
     let test = c .before .before .loop-test .taken in
     (st .pre .0, wide, mod-lt _ some, c .before .before .before .before .powers .ensures, div-lt-iff-lt-mul some .1 (rw (mul-comm (width .result) (st .args .h .n)) at test))
 
 add-i : tie.Need-add-i Inv-loop μ-loop
 add-i c =
-    let st = c .before .before .before .before .before .before .before .before .before .before .before .before in
-    omega (arith, lane-small (st .args .h) (st .pre .0) _ (c .before .before .before .before .before .before .before .before .before .before .width-of .ensures .0), c .before .before .before .before .before .loop-test .taken)
+    let after-width-of : tie.After-width-of Inv-loop μ-loop = search in
+    let st : tie.Start Inv-loop μ-loop = search in
+    omega (arith, lane-small (st .args .h) (st .pre .0) _ (after-width-of .width-of .ensures .0), c .before .before .before .before .before .loop-test .taken)
 
 loop-less : tie.Need-loop-less Inv-loop μ-loop
 loop-less c = omega arith
 
 loop-again : tie.Need-loop-again Inv-loop μ-loop
 loop-again c =
-    let a = c .before .before .before .before .before .before .before .before .before .before .before .before .args in
-    let w = c .before .before .before .before .before .before .before .before .before .before .width-of .result in
+    let at-loop : tie.At-loop Inv-loop μ-loop = search in
+    let after-width-of : tie.After-width-of Inv-loop μ-loop = search in
+    let start : tie.Start Inv-loop μ-loop = search in
+    let a = start .args in
+    let w = after-width-of .width-of .result in
     let checks = a .h .n - a .h .k in
-    let l = c .before .before .before .before .before .before .loop in
+    let l = at-loop .loop in
     let at = c .before .before .before .before .before in (
       omega arith,
       rw (row-after, part-size, c .before .before .fill-row .ensures ∙ ap (λ (x : ℕ). powerBytes (a .h) x w (l .i % w) (l .i / w)) (part-length (l .i * checks) checks (l .rows) (omega (arith, l .inv .1 .long, row-in at))))
@@ -109,7 +114,7 @@ same-length c = c .before .loop .inv .1 .long
 
 returns : tie.Need-returns Inv-loop μ-loop
 returns c =
-    let st = c .before .before .before .before .before .before .before in
+    let st : tie.Start Inv-loop μ-loop = search in
     let wide = c .before .before .before .before .before .width-of .ensures .0 in
     fills-all (rw (rows-end _ _ _ (c .loop-test .left)) at (c .before .loop .inv .1))
     (rw (st .pre .1, ← wide) (mul-le-mul (c .loop-test .left) (le-refl _)))

@@ -54,7 +54,7 @@ mul-byte-of : tie.Need-mul-byte-of Inv-loop μ-loop
 mul-byte-of c = omega (arith, place c, c .before .before .struct-known .given)
 
 shared-slice-read-byte-of : tie.Need-shared-slice-read-byte-of Inv-loop μ-loop
-shared-slice-read-byte-of c = let st = c .before .before .before .before .before .before in rw (st .pre .3) (power-place (st .args .h) _ (place (c .before)))
+shared-slice-read-byte-of c = let st : tie.Start Inv-loop μ-loop = search in rw (st .pre .3) (power-place (st .args .h) _ (place (c .before)))
 
 byte-of-requires : tie.Need-byte-of-requires Inv-loop μ-loop
 byte-of-requires c κs = search needs
@@ -63,7 +63,7 @@ slice-write-row : tie.Need-slice-write-row Inv-loop μ-loop
 slice-write-row c = omega (arith, c .before .before .before .loop .inv .2 .long)
 
 stepped-requires : tie.Need-stepped-requires Inv-loop μ-loop
-stepped-requires c κs = (place (c .before .before), c .before .before .before .before .before .before .before .pre .4, omega (arith, c .before .before .before .before .struct-known .given))
+stepped-requires c κs = let start : tie.Start Inv-loop μ-loop = search in (place (c .before .before), start .pre .4, omega (arith, c .before .before .before .before .struct-known .given))
 
 add-e : tie.Need-add-e Inv-loop μ-loop
 add-e c = omega arith
@@ -73,8 +73,9 @@ loop-less c = omega arith
 
 loop-again : tie.Need-loop-again Inv-loop μ-loop
 loop-again c =
+    let start : tie.Start Inv-loop μ-loop = search in
     let l = c .before .before .before .before .loop in
-    let a = c .before .before .before .before .before .before .before .before .args in (
+    let a = start .args in (
       omega arith,
       c .stepped .ensures ∙ ap (λ (x : ℕ). (x + a .j) % a .h .n) (l .inv .1) ∙ next-place (a .j) (l .e) (a .h .n),
       rw (c .before .byte-of .ensures, l .inv .1) (fills-put (rw (from-next-at {A = ℕ} (read (a .powers .now) (a .j) (a .h .n) _) 1 (length (a .row .now)) (l .e) (room (c .before .before .before))) at (l .inv .2)) (room (c .before .before .before))),

@@ -16,7 +16,7 @@ cast-checks c = search needs
 
 combine-symbols-requires : tie.Need-combine-symbols-requires
 combine-symbols-requires c κs =
-    let st = c .before .before .before .before .before .before in
+    let st : tie.Start = search in
     rw (st .pre .1) (lane-ready (st .args .h) (st .pre .0) _ (st .pre .2) (st .pre .3) _ (st .pre .4))
 
 same-length : tie.Need-same-length
@@ -24,7 +24,7 @@ same-length c = search needs
 
 returns : tie.Need-returns
 returns c =
-    let st = c .before .before .before .before .before .before .before .before .before in
+    let st : tie.Start = search in
     c .before .before .combine-symbols .ensures ∙ rw (st .pre .1) (combined-sums (st .args .h) (st .pre .0) _ (st .pre .2) (st .pre .3))
 
 pub fill-sums-spec : {M : Type 1} → statement M

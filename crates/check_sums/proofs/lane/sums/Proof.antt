@@ -49,7 +49,7 @@ slice-aggregate-fill-power-rows c = sym (length-take-le _ _ (omega (arith, size-
 
 fill-power-rows-requires : tie.Need-fill-power-rows-requires
 fill-power-rows-requires c κs =
-    let st = c .before .before .before .before .before .before in
+    let st : tie.Start = search in
     (st .pre .0, sym (slice-aggregate-fill-power-rows c) ∙ rw (c .before .before .before .before .width-of .ensures .0))
 
 array-share-prefix-rows : tie.Need-array-share-prefix-rows
@@ -60,7 +60,7 @@ slice-aggregate-sums-with c = sym (length-whole _ _ _ _ (c .before .before .fill
 
 sums-with-requires : tie.Need-sums-with-requires
 sums-with-requires c κs =
-    let st = c .before .before .before .before .before .before .before .before .before in
+    let st : tie.Start = search in
     (st .pre .0, whole-is _ _ _ _ (c .before .before .fill-power-rows .ensures) (long (c .before .before .before .before .before)), st .pre .1, st .pre .2)
 
 returns : tie.Need-returns

@@ -49,7 +49,7 @@ slice-aggregate-read-symbols c = sym (length-whole _ _ _ _ (c .before .before .f
 
 read-symbols-requires : tie.Need-read-symbols-requires
 read-symbols-requires c κs =
-    let st = c .before .before .before .before .before .before .before .before in
+    let st : tie.Start = search in
     let width = c .before .before .before .before .before .width-of in
     let (wide, some, few) = width .ensures in
     let checks : st .args .h .n - st .args .h .k ≤ 255 = omega (arith, st .pre .0 .byte) in
@@ -57,8 +57,10 @@ read-symbols-requires c κs =
 
 returns : tie.Need-returns
 returns c =
-    let a = c .before .before .before .before .before .before .before .before .before .args in
-    let width = c .before .before .before .before .before .before .width-of in
+    let after-width-of : tie.After-width-of = search in
+    let start : tie.Start = search in
+    let a = start .args in
+    let width = after-width-of .width-of in
     let wide = width .ensures .0 in
     c .read-symbols .ensures
     ∙ ap (λ (u : List ℕ). padded 255 (symbolsOf (width .result) u)) (whole-is _ _ _ _ (c .before .before .before .fill-sums .ensures) (length-sum-bytes (a .h) (a .lane .now) _ wide))

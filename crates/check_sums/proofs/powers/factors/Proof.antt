@@ -69,7 +69,8 @@ loop-less c = omega arith
 
 loop-again : tie.Need-loop-again Inv-loop μ-loop
 loop-again c =
-    let a = c .before .before .before .before .before .before .args in
+    let start : tie.Start Inv-loop μ-loop = search in
+    let a = start .args in
     let l = c .before .before .before .loop in
     (c .stepped .ensures ∙ ap (λ (x : ℕ). (x + a .e % a .h .n) % a .h .n) (l .inv .0) ∙ next-factor (l .j) (a .e) (a .h .n), filled-put (l .inv .1) (c .before .before .loop-test .taken) (ap (λ (x : ℕ). getD (a .powers .now) x 0) (l .inv .0)))
 

@@ -25,7 +25,7 @@ shared-slice-read-start-of : tie.Need-shared-slice-read-start-of Inv-loop μ-loo
 shared-slice-read-start-of c = omega arith
 
 start-of-requires : tie.Need-start-of-requires Inv-loop μ-loop
-start-of-requires c κs = c .before .before .before .before .before .before .pre .0 .within _ (omega arith)
+start-of-requires c κs = let start : tie.Start Inv-loop μ-loop = search in start .pre .0 .within _ (omega arith)
 
 add-start-of : tie.Need-add-start-of Inv-loop μ-loop
 add-start-of c = omega arith
@@ -34,7 +34,7 @@ shared-slice-read-start-of-2 : tie.Need-shared-slice-read-start-of-2 Inv-loop μ
 shared-slice-read-start-of-2 c = omega arith
 
 start-of-requires-2 : tie.Need-start-of-requires-2 Inv-loop μ-loop
-start-of-requires-2 c κs = c .before .before .before .before .before .before .before .before .pre .0 .within _ (omega arith)
+start-of-requires-2 c κs = let start : tie.Start Inv-loop μ-loop = search in start .pre .0 .within _ (omega arith)
 
 add-a-end : tie.Need-add-a-end Inv-loop μ-loop
 add-a-end c = omega arith
@@ -71,14 +71,17 @@ loop-less c = omega arith
 
 loop-again : tie.Need-loop-again Inv-loop μ-loop
 loop-again c =
-    let st = c .before .before .before .before .before .before .before .before .before .before .before .before .before .before .before in
-    let l = c .before .before .before .before .before .before .before .before .before .before .before .loop in
+    let after-start-of2 : tie.After-start-of2 Inv-loop μ-loop = search in
+    let after-start-of : tie.After-start-of Inv-loop μ-loop = search in
+    let at-loop : tie.At-loop Inv-loop μ-loop = search in
+    let st : tie.Start Inv-loop μ-loop = search in
+    let l = at-loop .loop in
     let long = l .inv .2 in (
       omega arith,
       omega arith,
       ap length (c .before .before .add-two .ensures) ∙ length-lanewise _ _ ∙ long,
       rw (c .before .before .add-two .ensures)
-          (added-pair (st .args .lanes) (st .args .rows .now) (λ y. y) (st .args .list .now) (l .acc) long (l .i) _ (omega arith) (c .before .before .before .before .before .before .before .before .start-of .ensures .0) _ (omega arith) (c .before .before .before .before .before .before .start-of2 .ensures .0) (λ y. refl))
+          (added-pair (st .args .lanes) (st .args .rows .now) (λ y. y) (st .args .list .now) (l .acc) long (l .i) _ (omega arith) (after-start-of .start-of .ensures .0) _ (omega arith) (after-start-of2 .start-of2 .ensures .0) (λ y. refl))
           ∙ l .inv .3,
     )
 

@@ -22,21 +22,21 @@ clear-requires c κs = search needs
 
 loop-holds : tie.Need-loop-holds Inv-loop μ-loop
 loop-holds c =
-    let st = c .before .before .before .before .before .before .before in
+    let st : tie.Start Inv-loop μ-loop = search in
     (omega arith, refl, c .before .before .clear .ensures ∙ ap zeros (st .pre .out-long) ∙ sums-start (st .args .count) (st .args .lanes) (st .args .weights .now) (st .args .rows .now) (st .pre))
 
 sub-digit : tie.Need-sub-digit Inv-loop μ-loop
 sub-digit c = omega arith
 
 array-borrow-prefix-list : tie.Need-array-borrow-prefix-list Inv-loop μ-loop
-array-borrow-prefix-list c = omega (arith, c .before .before .before .before .before .before .before .before .before .pre .few)
+array-borrow-prefix-list c = let start : tie.Start Inv-loop μ-loop = search in omega (arith, start .pre .few)
 
 slice-aggregate-step : tie.Need-slice-aggregate-step Inv-loop μ-loop
-slice-aggregate-step c = sym (length-take-le _ _ (omega (arith, c .before .before .before .before .before .before .before .before .before .before .pre .few)))
+slice-aggregate-step c = let start : tie.Start Inv-loop μ-loop = search in sym (length-take-le _ _ (omega (arith, start .pre .few)))
 
 step-requires : tie.Need-step-requires Inv-loop μ-loop
 step-requires c κs =
-    let st = c .before .before .before .before .before .before .before .before .before .before .before in
+    let st : tie.Start Inv-loop μ-loop = search in
     let l = c .before .before .before .loop in
     (omega arith, rw (length-take-le (st .args .count) (l .list) (omega (arith, st .pre .few))) (other-row (st .pre) _ (ap length (l .inv .2) ∙ length-sums (st .args .count) (st .args .lanes) (st .args .weights .now) (st .args .rows .now) (l .digit))))
 
@@ -45,8 +45,9 @@ loop-less c = omega arith
 
 loop-again : tie.Need-loop-again Inv-loop μ-loop
 loop-again c =
-    let st = c .before .before .before .before .before .before .before .before .before .before .before .before .before .before .before in
-    let l = c .before .before .before .before .before .before .before .loop in
+    let at-loop : tie.At-loop Inv-loop μ-loop = search in
+    let st : tie.Start Inv-loop μ-loop = search in
+    let l = at-loop .loop in
     let next : l .digit - 1 + 1 ≡ l .digit = omega arith in (
       omega arith,
       simp (length-append, length-drop) (omega (arith, st .pre .few, length-take-le (st .args .count) (l .list) (omega (arith, st .pre .few)))),
@@ -56,12 +57,12 @@ loop-again c =
 
 same-length : tie.Need-same-length Inv-loop μ-loop
 same-length c =
-    let st = c .before .before .before .before .before .before .before .before .before in
+    let st : tie.Start Inv-loop μ-loop = search in
     ap length (c .before .loop .inv .2) ∙ length-sums (st .args .count) (st .args .lanes) (st .args .weights .now) (st .args .rows .now) (c .before .loop .digit) ∙ sym (st .pre .out-long)
 
 returns : tie.Need-returns Inv-loop μ-loop
 returns c =
-    let st = c .before .before .before .before .before .before .before .before .before in
+    let st : tie.Start Inv-loop μ-loop = search in
     let none : c .before .loop .digit ≡ 0 = omega arith in
     c .before .loop .inv .2
     ∙ ap (sumsOf (st .args .count) (st .args .lanes) (st .args .weights .now) (st .args .rows .now)) none

@@ -46,19 +46,20 @@ same-length-2 c = search needs
 returns-2 : tie.Need-returns-2
 unfolding multiplied
 returns-2 c =
-    let st = c .before .before .before .before .before .before .before .before .before .before .before .before in
+    let after-start-of : tie.After-start-of = search in
+    let st : tie.Start = search in
     record {
       few = omega arith;
       even = omega arith;
       rest = rw (c .before .before .multiply-x-add .ensures)
-          (added-one (st .args .lanes) (st .args .rows .now) timesX (st .args .list .now) (st .args .acc .now) (st .pre .out-long) 0 _ (omega arith) (c .before .before .before .before .before .before .start-of .ensures .0));
+          (added-one (st .args .lanes) (st .args .rows .now) timesX (st .args .list .now) (st .args .acc .now) (st .pre .out-long) 0 _ (omega arith) (after-start-of .start-of .ensures .0));
     }
 
 shared-slice-read-start-of-2 : tie.Need-shared-slice-read-start-of-2
 shared-slice-read-start-of-2 c = search needs
 
 start-of-requires-2 : tie.Need-start-of-requires-2
-start-of-requires-2 c κs = c .before .before .before .before .before .before .before .before .pre .within 1 (omega arith)
+start-of-requires-2 c κs = let start : tie.Start = search in start .pre .within 1 (omega arith)
 
 add-next-end : tie.Need-add-next-end
 add-next-end c = search needs
@@ -90,12 +91,14 @@ same-length-3 c = search needs
 returns-3 : tie.Need-returns-3
 unfolding multiplied
 returns-3 c =
-    let st = c .before .before .before .before .before .before .before .before .before .before .before .before .before .before .before in
+    let after-start-of2 : tie.After-start-of2 = search in
+    let after-start-of : tie.After-start-of = search in
+    let st : tie.Start = search in
     record {
       few = omega arith;
       even = omega arith;
       rest = rw (c .before .before .multiply-x-add-two .ensures)
-          (added-two (st .args .lanes) (st .args .rows .now) timesX (st .args .list .now) (st .args .acc .now) (st .pre .out-long) 0 _ (omega arith) (c .before .before .before .before .before .before .before .before .before .start-of .ensures .0) _ (omega arith) (c .before .before .before .before .before .before .start-of2 .ensures .0));
+          (added-two (st .args .lanes) (st .args .rows .now) timesX (st .args .list .now) (st .args .acc .now) (st .pre .out-long) 0 _ (omega arith) (after-start-of .start-of .ensures .0) _ (omega arith) (after-start-of2 .start-of2 .ensures .0));
     }
 
 pub multiply-x-first-spec : {M : Type 1} → statement M

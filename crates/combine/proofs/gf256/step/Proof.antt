@@ -16,7 +16,7 @@ rows-are c =
 
 step-lane-requires : tie.Need-step-lane-requires
 step-lane-requires c κs =
-    let s = c .before .before .before .before .before .before in
+    let s : tie.Start = search in
     (s .pre .0, omega (arith, rows-are (c .before), s .pre .1 .weights), omega (arith, s .pre .1 .out-long, c .before .if1 .taken))
 
 same-length : tie.Need-same-length

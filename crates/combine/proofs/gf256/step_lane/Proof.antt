@@ -25,7 +25,7 @@ same-length c = search needs
 returns : tie.Need-returns
 unfolding multiplied
 returns c =
-    let s = c .before .before .before .before .before .before .before .before .before in
+    let s : tie.Start = search in
     rw (c .digit-sum .ensures, c .before .before .before .before .multiply-x .ensures)
     (lane-added (s .args .symbols .now) _ _ (length-lanewise _ (s .args .acc .now) ∙ s .pre .2))
 

@@ -21,7 +21,7 @@ slice-aggregate-multiply-x-first c = sym (length-take-le _ _ (omega arith))
 
 multiply-x-first-requires : tie.Need-multiply-x-first-requires
 multiply-x-first-requires c κs =
-    let st = c .before .before .before .before .before .before .before .before .before .before in
+    let st : tie.Start = search in
     rw (c .before .before .before .before .list-rows .ensures .1) (listed-rows (st .args .digit) _ (st .args .weights .now) (st .pre .1) _ (st .pre .1 .out-long))
 
 slice-reshare-prefix-add-pairs : tie.Need-slice-reshare-prefix-add-pairs
@@ -32,9 +32,10 @@ slice-aggregate-add-pairs c = sym (length-take-le _ _ (omega arith))
 
 add-pairs-requires : tie.Need-add-pairs-requires
 add-pairs-requires c κs =
-    let st = c .before .before .before .before .before .before .before .before .before .before .before .before .before .before .before in
+    let after-list-rows : tie.After-list-rows = search in
+    let st : tie.Start = search in
     let started = c .before .before .before .before .multiply-x-first .ensures in
-    (rw (c .before .before .before .before .before .before .before .before .before .list-rows .ensures .1) (listed-rows (st .args .digit) _ (st .args .weights .now) (st .pre .1) _ (search needs)), started .few, started .even)
+    (rw (after-list-rows .list-rows .ensures .1) (listed-rows (st .args .digit) _ (st .args .weights .now) (st .pre .1) _ (search needs)), started .few, started .even)
 
 same-length : tie.Need-same-length
 same-length c = search needs
@@ -44,10 +45,12 @@ same-length-2 c = search needs
 
 returns : tie.Need-returns
 returns c =
-    let st = c .before .before .before .before .before .before .before .before .before .before .before .before .before .before .before .before .before .before in
+    let after-multiply-x-first : tie.After-multiply-x-first = search in
+    let after-list-rows : tie.After-list-rows = search in
+    let st : tie.Start = search in
     c .before .before .add-pairs .ensures
-    ∙ c .before .before .before .before .before .before .before .multiply-x-first .ensures .rest
-    ∙ ap (λ (js : List ℕ). added (st .args .lanes) (st .args .rows .now) js (multiplied (st .args .acc .now))) (c .before .before .before .before .before .before .before .before .before .before .before .before .list-rows .ensures .1)
+    ∙ after-multiply-x-first .multiply-x-first .ensures .rest
+    ∙ ap (λ (js : List ℕ). added (st .args .lanes) (st .args .rows .now) js (multiplied (st .args .acc .now))) (after-list-rows .list-rows .ensures .1)
 
 pub step-rows-spec : {M : Type 1} → statement M
 step-rows-spec =

@@ -24,9 +24,9 @@ sized : (c : tie.Start Inv-loop μ-loop) → let a = c .args in Weighted (sizeOf
 sized c = rw (prime-size (c .args .p) (c .pre .0)) (c .pre .2)
 
 -- row i lies in the buffer
-inside : (c : tie.In-loop Inv-loop μ-loop) → let a = c .before .before .before .before .before .before .before .before .before .args in c .before .loop .i * a .lanes + a .lanes ≤ length (a .rows .now)
+inside : (c : tie.In-loop Inv-loop μ-loop) → let start : tie.Start Inv-loop μ-loop = search in let a = start .args in c .before .loop .i * a .lanes + a .lanes ≤ length (a .rows .now)
 inside c =
-    let st = c .before .before .before .before .before .before .before .before .before in
+    let st : tie.Start Inv-loop μ-loop = search in
     rw (st .pre .2 .long) (row-inside (st .args .count) (c .before .loop .i) (st .args .lanes) (c .loop-test .taken))
 
 clear-requires : tie.Need-clear-requires Inv-loop μ-loop
@@ -34,7 +34,7 @@ clear-requires c κs = search needs
 
 loop-holds : tie.Need-loop-holds Inv-loop μ-loop
 loop-holds c =
-    let st = c .before .before .before .before .before .before .before in
+    let st : tie.Start Inv-loop μ-loop = search in
     (omega arith, rw (c .before .before .clear .ensures, st .pre .2 .out-long) (summed-none (st .args .p) (st .args .count) (st .args .lanes) (st .args .weights .now) (st .args .rows .now) (prime-field _ (st .pre .0)) (sized st)))
 
 mul-start : tie.Need-mul-start Inv-loop μ-loop
@@ -47,7 +47,7 @@ mul-add-scaled : tie.Need-mul-add-scaled Inv-loop μ-loop
 mul-add-scaled c = omega arith
 
 shared-slice-read-add-scaled : tie.Need-shared-slice-read-add-scaled Inv-loop μ-loop
-shared-slice-read-add-scaled c = omega (arith, c .before .before .before .before .before .before .before .before .before .before .pre .2 .weights)
+shared-slice-read-add-scaled c = let start : tie.Start Inv-loop μ-loop = search in omega (arith, start .pre .2 .weights)
 
 sub-add-scaled : tie.Need-sub-add-scaled Inv-loop μ-loop
 sub-add-scaled c = search needs
@@ -60,8 +60,8 @@ part-add-scaled-end c = omega (arith, inside (c .before))
 
 add-scaled-requires : tie.Need-add-scaled-requires Inv-loop μ-loop
 add-scaled-requires c κs =
+    let st : tie.Start Inv-loop μ-loop = search in
     let at = c .before .before .before in
-    let st = at .before .before .before .before .before .before .before .before .before in
     let l = at .before .loop in
     let a = st .pre .2 in (
       st .pre .1,
@@ -78,17 +78,17 @@ loop-less c = omega arith
 
 loop-again : tie.Need-loop-again Inv-loop μ-loop
 loop-again c =
-    let at = c .before .before .before .before .before .before in
-    let st = at .before .before .before .before .before .before .before .before .before in
+    let at : tie.In-loop Inv-loop μ-loop = search in
+    let st : tie.Start Inv-loop μ-loop = search in
     let l = at .before .loop in
     (omega arith, rw (c .before .before .add-scaled .ensures) (summed-row (st .args .p) (st .args .count) (st .args .lanes) (st .args .weights .now) (st .args .rows .now) (prime-field _ (st .pre .0)) (sized st) (l .i) (at .loop-test .taken) (l .acc) (l .inv .1)))
 
 same-length : tie.Need-same-length Inv-loop μ-loop
-same-length c = c .before .loop .inv .1 .long ∙ sym (c .before .before .before .before .before .before .before .before .before .pre .2 .out-long)
+same-length c = let start : tie.Start Inv-loop μ-loop = search in c .before .loop .inv .1 .long ∙ sym (start .pre .2 .out-long)
 
 returns : tie.Need-returns Inv-loop μ-loop
 returns c =
-    let st = c .before .before .before .before .before .before .before .before .before in
+    let st : tie.Start Inv-loop μ-loop = search in
     summed-all (st .args .p) (st .args .count) (st .args .lanes) (st .args .weights .now) (st .args .rows .now) (prime-field _ (st .pre .0)) (sized st) (c .before .loop .i) (c .before .loop .acc) (c .loop-test .left) (c .before .loop .inv .1)
 
 pub combine-spec : {M : Type 1} → statement M

@@ -16,9 +16,9 @@ abbrev μ-loop : tie.MeasureT-loop
 μ-loop p weights count lanes at rows a₀ b₀ c₀ d₀ i₀ a b c d i = count - i
 
 -- row i lies in the buffer, whose places are numbers of 64 binary digits
-within : (c : tie.In-loop Inv-loop μ-loop) → let a = c .before .before .before .before .before .before .before .before .args in let i = c .before .loop .i in (i * 2 * a .lanes + a .lanes + a .lanes ≤ length (a .rows .now)) × (a .at + 16 ≤ a .lanes) × (length (a .rows .now) < 2 ^ 64) × (i < 255)
+within : (c : tie.In-loop Inv-loop μ-loop) → let start : tie.Start Inv-loop μ-loop = search in let a = start .args in let i = c .before .loop .i in (i * 2 * a .lanes + a .lanes + a .lanes ≤ length (a .rows .now)) × (a .at + 16 ≤ a .lanes) × (length (a .rows .now) < 2 ^ 64) × (i < 255)
 within c =
-    let st = c .before .before .before .before .before .before .before .before in
+    let st : tie.Start Inv-loop μ-loop = search in
     let row = inside _ _ _ _ (st .pre .1) (c .before .loop .i) (c .loop-test .taken) in
     omega (arith, row, st .pre .2, st .good, st .pre .1 .few, c .loop-test .taken)
 
@@ -59,7 +59,7 @@ mul-add-products : tie.Need-mul-add-products Inv-loop μ-loop
 mul-add-products c = omega (arith, within c)
 
 shared-slice-read-add-products : tie.Need-shared-slice-read-add-products Inv-loop μ-loop
-shared-slice-read-add-products c = omega (arith, c .before .loop-test .taken, c .before .before .before .before .before .before .before .before .before .pre .1 .weights)
+shared-slice-read-add-products c = let start : tie.Start Inv-loop μ-loop = search in omega (arith, c .before .loop-test .taken, start .pre .1 .weights)
 
 sub-add-products : tie.Need-sub-add-products Inv-loop μ-loop
 sub-add-products c = omega arith
@@ -81,8 +81,9 @@ part-add-products-end-2 c = omega (arith, within (c .before .before))
 
 add-products-requires : tie.Need-add-products-requires Inv-loop μ-loop
 add-products-requires c κs =
-    let at = c .before .before .before .before .before .before .before in
-    let a = at .before .before .before .before .before .before .before .before .args in
+    let at : tie.In-loop Inv-loop μ-loop = search in
+    let start : tie.Start Inv-loop μ-loop = search in
+    let a = start .args in
     let l = at .before .loop in
     let high = l .i * 2 * a .lanes + a .at in (
       part-length high 16 (a .rows .now) (omega (arith, within at)),
@@ -94,28 +95,31 @@ add-products-requires c κs =
     )
 
 add-i : tie.Need-add-i Inv-loop μ-loop
-add-i c = omega (arith, within (c .before .before .before .before .before .before .before .before))
+add-i c = let in-loop : tie.In-loop Inv-loop μ-loop = search in omega (arith, within in-loop)
 
 loop-less : tie.Need-loop-less Inv-loop μ-loop
-loop-less c = omega (arith, c .before .before .before .before .before .before .before .before .loop-test .taken)
+loop-less c = let in-loop : tie.In-loop Inv-loop μ-loop = search in omega (arith, in-loop .loop-test .taken)
 
 loop-again : tie.Need-loop-again Inv-loop μ-loop
 loop-again c =
-    let at = c .before .before .before .before .before .before .before .before in
-    let st = at .before .before .before .before .before .before .before .before in
+    let at : tie.In-loop Inv-loop μ-loop = search in
+    let after-shared-slice-known2 : tie.After-shared-slice-known2 Inv-loop μ-loop = search in
+    let after-shared-slice-known : tie.After-shared-slice-known Inv-loop μ-loop = search in
+    let st : tie.Start Inv-loop μ-loop = search in
     let l = at .before .loop in
     let sums = c .add-products .ensures in
-    let bytes = at .before .before .before .before .before .before .shared-slice-known2 .given in
-    let twos = at .before .before .before .before .before .before .before .shared-slice-known .given in
+    let bytes = after-shared-slice-known2 .shared-slice-known2 .given in
+    let twos = after-shared-slice-known .shared-slice-known .given in
     (omega (arith, at .loop-test .taken), rw (sums .0, sums .1, sums .2, sums .3) (held-row _ _ _ _ (st .args .at) (st .pre .1) (st .pre .2) (λ x. omega (arith, bytes x)) (λ x. omega (arith, twos x)) (l .i) (at .loop-test .taken) (l .a) (l .b) (l .c) (l .d) (l .inv .1)))
 
 remainders-requires : tie.Need-remainders-requires Inv-loop μ-loop
-remainders-requires c κs = c .before .before .before .before .before .before .before .before .before .before .before .before .pre .0
+remainders-requires c κs = let start : tie.Start Inv-loop μ-loop = search in start .pre .0
 
 returns : tie.Need-returns Inv-loop μ-loop
 returns c =
-    let l = c .before .before .before .before .before .before .loop in
-    let st = c .before .before .before .before .before .before .before .before .before .before .before .before .before in
+    let at-loop : tie.At-loop Inv-loop μ-loop = search in
+    let st : tie.Start Inv-loop μ-loop = search in
+    let l = at-loop .loop in
     c .remainders .ensures ∙ held-all _ _ _ _ (st .args .at) (st .args .p) (st .pre .0) (l .i) (c .before .before .before .before .before .loop-test .left) (omega (arith, l .inv .0, st .pre .1 .few)) (l .a) (l .b) (l .c) (l .d) (l .inv .1)
 
 pub block-sums-spec : {M : Type 1} → statement M

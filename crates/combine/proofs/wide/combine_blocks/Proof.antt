@@ -24,7 +24,9 @@ block-start-requires : tie.Need-block-start-requires Inv-loop μ-loop
 block-start-requires c κs = (c .loop-test .taken, c .before .before .before .before .before .pre .1)
 
 block-sums-requires : tie.Need-block-sums-requires Inv-loop μ-loop
-block-sums-requires c κs = let pre = c .before .before .before .before .before .before .pre in (pre .0, pre .2, c .block-start .ensures .2)
+block-sums-requires c κs =
+    let start : tie.Start Inv-loop μ-loop = search in
+    let pre = start .pre in (pre .0, pre .2, c .block-start .ensures .2)
 
 -- a block has 16 sums
 sixteen : (c : tie.After-block-sums Inv-loop μ-loop) → length (c .block-sums .result) ≡ 16
@@ -37,17 +39,20 @@ put-requires : tie.Need-put-requires Inv-loop μ-loop
 put-requires c κs = (omega (arith, sixteen (c .before .before), c .before .before .before .block-start .ensures .2), c .before .before .before .before .before .loop .inv .1 .long)
 
 add-done : tie.Need-add-done Inv-loop μ-loop
-add-done c = omega (arith, c .before .before .before .before .before .before .block-start .ensures .2)
+add-done c = let after-block-start : tie.After-block-start Inv-loop μ-loop = search in omega (arith, after-block-start .block-start .ensures .2)
 
 loop-less : tie.Need-loop-less Inv-loop μ-loop
-loop-less c = omega (arith, c .before .before .before .before .before .before .block-start .ensures .1)
+loop-less c = let after-block-start : tie.After-block-start Inv-loop μ-loop = search in omega (arith, after-block-start .block-start .ensures .1)
 
 loop-again : tie.Need-loop-again Inv-loop μ-loop
 loop-again c =
-    let l = c .before .before .before .before .before .before .before .before .loop in
-    let at = c .before .before .before .before .before .before .block-start in
+    let after-block-start : tie.After-block-start Inv-loop μ-loop = search in
+    let at-loop : tie.At-loop Inv-loop μ-loop = search in
+    let start : tie.Start Inv-loop μ-loop = search in
+    let l = at-loop .loop in
+    let at = after-block-start .block-start in
     let sums = c .before .before .before .before .before in
-    let a = c .before .before .before .before .before .before .before .before .before .before .before .before .args in
+    let a = start .args in
     let f = wideSum (a .p) (a .count) (a .lanes) (a .weights .now) (a .rows .now) in
     let end = sixteen sums in
     (omega (arith, at .ensures .2), rw (c .before .before .put .ensures, ← end) (written-pairs _ _ (sums .block-sums .result) (at .result) (l .acc) (omega (arith, at .ensures .2)) (λ i low. let lane : i < 16 = omega (arith, end) in ap (λ s. getD s i 0) (sums .block-sums .ensures) ∙ rw zero-add at (getD-from (λ t. f (at .result + t)) 0 16 i 0 lane)) (written-less _ _ (l .done) (at .result) (l .acc) (at .ensures .0) (l .inv .1))))

@@ -35,7 +35,8 @@ loop-less c = omega arith
 
 loop-again : tie.Need-loop-again Inv-loop μ-loop
 loop-again c =
-    let l = c .before .before .before .before .before .before .before .loop in
+    let at-loop : tie.At-loop Inv-loop μ-loop = search in
+    let l = at-loop .loop in
     let sum = c .before .before .before .before .before .lane-sum in
     (omega arith, rw (c .before .before .put .ensures) (written-one _ _ (l .t) (sum .result) (l .acc) (omega arith) (sum .ensures) (l .inv .1)))
 

@@ -66,10 +66,10 @@ loop-less : tie.Need-loop-less Inv-loop μ-loop
 loop-less c = omega arith
 
 -- a row of weight 0 adds nothing
-more : (c : tie.Joined1 Inv-loop μ-loop) → let a = c .before .before .before .before .before .before .args in let i = c .before .before .before .loop .i in (c .if1 .sum ≤ (i + 1) * 4294967295) × (c .if1 .sum + restAt (a .count) (a .lanes) (a .weights .now) (a .rows .now) (i + 1) (a .t) ≡ wholeAt (a .count) (a .lanes) (a .weights .now) (a .rows .now) (a .t))
+more : (c : tie.Joined1 Inv-loop μ-loop) → let start : tie.Start Inv-loop μ-loop = search in let a = start .args in let i = c .before .before .before .loop .i in (c .if1 .sum ≤ (i + 1) * 4294967295) × (c .if1 .sum + restAt (a .count) (a .lanes) (a .weights .now) (a .rows .now) (i + 1) (a .t) ≡ wholeAt (a .count) (a .lanes) (a .weights .now) (a .rows .now) (a .t))
 unfolding productOf
 more c =
-    let st = c .before .before .before .before .before .before in
+    let st : tie.Start Inv-loop μ-loop = search in
     let a = st .args in
     let l = c .before .before .before .loop in
     let rest : ℕ = restAt (a .count) (a .lanes) (a .weights .now) (a .rows .now) (l .i + 1) (a .t) in

@@ -10,8 +10,8 @@ use Rattle.correct.proofs.lane.is_near.Statement.{statement}
 use Rattle.correct.proofs.lane.is_near.Tie as tie
 
 -- the first n places of the array are the lane
-front : (c : tie.After-read-symbols) → let a = c .before .before .before .before .before .before .args in take (a .h .n) (c .read-symbols .result) ≡ symbolsOf (width (a .h)) (a .lane .now)
-front c = held-front (c .before .before .before .before .before .before .pre .0) _ (rw (c .before .width-of .ensures .0) at (c .read-symbols .ensures))
+front : (c : tie.After-read-symbols) → let start : tie.Start = search in let a = start .args in take (a .h .n) (c .read-symbols .result) ≡ symbolsOf (width (a .h)) (a .lane .now)
+front c = let start : tie.Start = search in held-front (start .pre .0) _ (rw (c .before .width-of .ensures .0) at (c .read-symbols .ensures))
 
 returns : tie.Need-returns
 returns c = sym (marked-near (c .before .before .before .pre .0) (c .if1 .taken))
@@ -31,10 +31,10 @@ array-share-prefix-held : tie.Need-array-share-prefix-held
 array-share-prefix-held c = search needs
 
 slice-aggregate-correct-lane : tie.Need-slice-aggregate-correct-lane
-slice-aggregate-correct-lane c = sym (ap length (front (c .before)) ∙ c .before .before .before .before .before .before .before .pre .0 .symbols .long)
+slice-aggregate-correct-lane c = let start : tie.Start = search in sym (ap length (front (c .before)) ∙ start .pre .0 .symbols .long)
 
 correct-lane-requires : tie.Need-correct-lane-requires
-correct-lane-requires c κs = rw (front (c .before)) (c .before .before .before .before .before .before .before .pre .0 .symbols, c .before .before .before .before .before .before .before .pre .1)
+correct-lane-requires c κs = let start : tie.Start = search in rw (front (c .before)) (start .pre .0 .symbols, start .pre .1)
 
 returns-2 : tie.Need-returns-2
 returns-2 c = rw (front (c .before .before)) at (c .correct-lane .ensures .0)

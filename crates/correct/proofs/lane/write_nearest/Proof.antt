@@ -15,15 +15,15 @@ use Rattle.correct.proofs.lane.write_nearest.Statement.{statement}
 use Rattle.correct.proofs.lane.write_nearest.Tie as tie
 
 -- the first n places of the array are the lane
-front : (c : tie.After-read-symbols) → let a = c .before .before .before .before .before .before .before .args in take (a .h .n) (c .read-symbols .result) ≡ symbolsOf (width (a .h)) (a .lane .now)
-front c = held-front (c .before .before .before .before .before .before .before .pre .0) _ (rw (c .before .before .width-of .ensures .0) at (c .read-symbols .ensures))
+front : (c : tie.After-read-symbols) → let start : tie.Start = search in let a = start .args in take (a .h .n) (c .read-symbols .result) ≡ symbolsOf (width (a .h)) (a .lane .now)
+front c = let start : tie.Start = search in held-front (start .pre .0) _ (rw (c .before .before .width-of .ensures .0) at (c .read-symbols .ensures))
 
 -- and those of the answer the nearest word
-word : (c : tie.After-correct-lane) → let a = c .before .before .before .before .before .before .before .before .before .args in take (a .h .n) (c .correct-lane .result .lane) ≡ corrected (a .h) (symbolsOf (width (a .h)) (a .lane .now))
-word c = word-front (c .before .before .before .before .before .before .before .before .before .pre .0) _ (rw (front (c .before .before)) at (c .correct-lane .ensures .1))
+word : (c : tie.After-correct-lane) → let start : tie.Start = search in let a = start .args in take (a .h .n) (c .correct-lane .result .lane) ≡ corrected (a .h) (symbolsOf (width (a .h)) (a .lane .now))
+word c = let start : tie.Start = search in word-front (start .pre .0) _ (rw (front (c .before .before)) at (c .correct-lane .ensures .1))
 
 -- with the number of altered symbols
-count : (c : tie.After-correct-lane) → let a = c .before .before .before .before .before .before .before .before .before .args in let ws = symbolsOf (width (a .h)) (a .lane .now) in c .correct-lane .result .altered ≡ differ ws (corrected (a .h) ws)
+count : (c : tie.After-correct-lane) → let start : tie.Start = search in let a = start .args in let ws = symbolsOf (width (a .h)) (a .lane .now) in c .correct-lane .result .altered ≡ differ ws (corrected (a .h) ws)
 count c = rw (front (c .before .before)) at (c .correct-lane .ensures .2)
 
 returns : tie.Need-returns
@@ -37,41 +37,54 @@ width-of-requires c κs = c .before .before .before .before .pre .0 .symbols .so
 
 read-symbols-requires : tie.Need-read-symbols-requires
 read-symbols-requires c κs =
+    let start : tie.Start = search in
     let w = c .before .width-of .ensures in
-    (w .1, w .2, rw (w .0) (lane-short (c .before .before .before .before .before .before .pre .0) (omega (arith, c .before .before .struct-known .given))))
+    (w .1, w .2, rw (w .0) (lane-short (start .pre .0) (omega (arith, c .before .before .struct-known .given))))
 
 array-share-prefix-held : tie.Need-array-share-prefix-held
 array-share-prefix-held c = search needs
 
 slice-aggregate-correct-lane : tie.Need-slice-aggregate-correct-lane
-slice-aggregate-correct-lane c = sym (ap length (front (c .before)) ∙ c .before .before .before .before .before .before .before .before .pre .0 .symbols .long)
+slice-aggregate-correct-lane c = let start : tie.Start = search in sym (ap length (front (c .before)) ∙ start .pre .0 .symbols .long)
 
 correct-lane-requires : tie.Need-correct-lane-requires
-correct-lane-requires c κs = rw (front (c .before)) (c .before .before .before .before .before .before .before .before .pre .0 .symbols, c .before .before .before .before .before .before .before .before .pre .1)
+correct-lane-requires c κs = let start : tie.Start = search in rw (front (c .before)) (start .pre .0 .symbols, start .pre .1)
 
 array-share-prefix-word : tie.Need-array-share-prefix-word
-array-share-prefix-word c = word-room (c .before .before .before .before .before .before .before .before .before .before .pre .0) (omega (arith, c .before .before .before .before .before .before .struct-known .given)) _ (rw (front (c .before .before .before)) at (c .before .correct-lane .ensures .1))
+array-share-prefix-word c =
+    let after-struct-known : tie.After-struct-known = search in
+    let start : tie.Start = search in
+    word-room (start .pre .0) (omega (arith, after-struct-known .struct-known .given)) _ (rw (front (c .before .before .before)) at (c .before .correct-lane .ensures .1))
 
 slice-aggregate-write-symbols : tie.Need-slice-aggregate-write-symbols
 slice-aggregate-write-symbols c =
-    let m = c .before .before .before .before .before .before .before .before .before .before .before .pre .0 .symbols in
+    let start : tie.Start = search in
+    let m = start .pre .0 .symbols in
     sym (ap length (word (c .before .before)) ∙ corrected-long _ (m .sound) _ (m .long) (m .below))
 
 write-symbols-requires : tie.Need-write-symbols-requires
 write-symbols-requires c κs =
-    let w = c .before .before .before .before .before .before .before .width-of .ensures in
-    rw (word (c .before .before .before)) (w .1, w .2, rw (w .0) (word-fits (c .before .before .before .before .before .before .before .before .before .before .before .before .pre .0)), rw (w .0) (word-bytes (c .before .before .before .before .before .before .before .before .before .before .before .before .pre .0)))
+    let after-width-of : tie.After-width-of = search in
+    let start : tie.Start = search in
+    let w = after-width-of .width-of .ensures in
+    rw (word (c .before .before .before)) (w .1, w .2, rw (w .0) (word-fits (start .pre .0)), rw (w .0) (word-bytes (start .pre .0)))
 
 cast-result : tie.Need-cast-result
 cast-result c =
-    let m = c .before .before .before .before .before .before .before .before .before .before .before .before .before .before .before .pre .0 .symbols in
-    omega (arith, count (c .before .before .before .before .before .before), differ-most (symbolsOf (width (c .before .before .before .before .before .before .before .before .before .before .before .before .before .before .before .args .h)) (c .before .before .before .before .before .before .before .before .before .before .before .before .before .before .before .args .lane .now)) (corrected (c .before .before .before .before .before .before .before .before .before .before .before .before .before .before .before .args .h) (symbolsOf (width (c .before .before .before .before .before .before .before .before .before .before .before .before .before .before .before .args .h)) (c .before .before .before .before .before .before .before .before .before .before .before .before .before .before .before .args .lane .now))), m .long, c .before .before .before .before .before .before .before .before .before .before .before .struct-known .given)
+    let after-correct-lane : tie.After-correct-lane = search in
+    let after-struct-known : tie.After-struct-known = search in
+    let start : tie.Start = search in
+    let m = start .pre .0 .symbols in
+    omega (arith, count after-correct-lane, differ-most (symbolsOf (width (start .args .h)) (start .args .lane .now)) (corrected (start .args .h) (symbolsOf (width (start .args .h)) (start .args .lane .now))), m .long, after-struct-known .struct-known .given)
 
 same-length : tie.Need-same-length
 same-length c = search needs
 
 returns-2 : tie.Need-returns-2
-returns-2 c = (c .before .before .write-symbols .ensures ∙ rw (word (c .before .before .before .before .before .before), c .before .before .before .before .before .before .before .before .before .before .width-of .ensures .0), count (c .before .before .before .before .before .before))
+returns-2 c =
+    let after-correct-lane : tie.After-correct-lane = search in
+    let after-width-of : tie.After-width-of = search in
+    (c .before .before .write-symbols .ensures ∙ rw (word after-correct-lane, after-width-of .width-of .ensures .0), count after-correct-lane)
 
 pub write-nearest-spec : {M : Type 1} → statement M
 write-nearest-spec =

@@ -40,7 +40,7 @@ mul-with-requires-2 c κs =
 returns : tie.Need-returns
 unfolding errorOf
 returns c =
-    let s = c .before .before .before .before .before .before in
+    let s : tie.Start = search in
     let p = modulus (s .args .field) in
     let is : c .mul-with2 .result ≡ errorOf p (s .args .product .now) (s .args .sums .now) (s .args .x) (s .args .scale) =
     c .mul-with2 .ensures ∙ rw (c .before .before .mul-with .ensures, c .before .before .before .quotient-sum .ensures, c .before .inverse-with .ensures) in

@@ -29,13 +29,13 @@ lagrange-basis-requires : tie.Need-lagrange-basis-requires
 lagrange-basis-requires c κs = let s = c .before .before .pre in (s .0 .usable-field, s .2, omega (arith, s .0 .short, s .1), omega arith, s .3)
 
 array-share-prefix-points : tie.Need-array-share-prefix-points
-array-share-prefix-points c = omega (arith, basis (c .before .before .before) .long-points, c .before .before .before .before .before .before .pre .0 .short, c .before .before .before .before .before .before .pre .1)
+array-share-prefix-points c = let start : tie.Start = search in omega (arith, basis (c .before .before .before) .long-points, start .pre .0 .short, start .pre .1)
 
 slice-aggregate-errors-from : tie.Need-slice-aggregate-errors-from
-slice-aggregate-errors-from c = rw (basis (c .before .before .before .before) .points) (sym (points-are (c .before .before .before .before .before .before .before) .size))
+slice-aggregate-errors-from c = let start : tie.Start = search in rw (basis (c .before .before .before .before) .points) (sym (points-are start .size))
 
 array-share-prefix-scales : tie.Need-array-share-prefix-scales
-array-share-prefix-scales c = omega (arith, basis (c .before .before .before .before) .long-scales, c .before .before .before .before .before .before .before .pre .0 .short, c .before .before .before .before .before .before .before .pre .1)
+array-share-prefix-scales c = let start : tie.Start = search in omega (arith, basis (c .before .before .before .before) .long-scales, start .pre .0 .short, start .pre .1)
 
 slice-aggregate-errors-from-2 : tie.Need-slice-aggregate-errors-from-2
 slice-aggregate-errors-from-2 c = rw (basis (c .before .before .before .before .before) .scales) (sym (basis (c .before .before .before .before .before) .some-scales .size))
@@ -50,18 +50,23 @@ part-errors-from-start : tie.Need-part-errors-from-start
 part-errors-from-start c = search needs
 
 part-errors-from-end : tie.Need-part-errors-from-end
-part-errors-from-end c = omega (arith, basis (c .before .before .before .before .before .before) .long-product, c .before .before .before .before .before .before .before .before .before .pre .0 .short, c .before .before .before .before .before .before .before .before .before .pre .1)
+part-errors-from-end c =
+    let after-lagrange-basis : tie.After-lagrange-basis = search in
+    let start : tie.Start = search in
+    omega (arith, basis after-lagrange-basis .long-product, start .pre .0 .short, start .pre .1)
 
 errors-from-requires : tie.Need-errors-from-requires
 errors-from-requires c κs =
-    let s = c .before .before .before .before .before .before .before .before .before .before .pre in
-    let b = basis (c .before .before .before .before .before .before .before) in
+    let after-lagrange-basis : tie.After-lagrange-basis = search in
+    let start : tie.Start = search in
+    let s = start .pre in
+    let b = basis after-lagrange-basis in
     rw (b .points, b .scales, b .product) (
-      points-are (c .before .before .before .before .before .before .before .before .before .before) .are,
+      points-are start .are,
       b .some-scales .are,
       b .some-product .are,
       s .0,
-      b .some-scales .size ∙ sym (points-are (c .before .before .before .before .before .before .before .before .before .before) .size),
+      b .some-scales .size ∙ sym (points-are start .size),
       s .1 ∙ sym (b .some-product .size),
       s .3,
     )
@@ -69,7 +74,8 @@ errors-from-requires c κs =
 returns : tie.Need-returns
 unfolding errorsOf
 returns c =
-    let b = basis (c .before .before .before .before .before .before .before .before) in
+    let after-lagrange-basis : tie.After-lagrange-basis = search in
+    let b = basis after-lagrange-basis in
     c .errors-from .ensures ∙ rw (b .points, b .scales, b .product)
 
 pub errors-spec : {M : Type 1} → statement M

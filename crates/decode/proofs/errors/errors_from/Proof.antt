@@ -36,14 +36,15 @@ mul-wide-2 : tie.Need-mul-wide-2 Inv-loop μ-loop
 mul-wide-2 c = omega arith
 
 shared-slice-read-wide-2 : tie.Need-shared-slice-read-wide-2 Inv-loop μ-loop
-shared-slice-read-wide-2 c = omega (arith, c .before .before .before .before .before .before .before .before .before .pre .4, c .before .before .before .loop-test .taken)
+shared-slice-read-wide-2 c = let start : tie.Start Inv-loop μ-loop = search in omega (arith, start .pre .4, c .before .before .before .loop-test .taken)
 
 wide-requires-2 : tie.Need-wide-requires-2 Inv-loop μ-loop
 wide-requires-2 c κs = search needs
 
 error-at-requires : tie.Need-error-at-requires Inv-loop μ-loop
 error-at-requires c κs =
-    let s = c .before .before .before .before .before .before .before .before .before .before .pre in (
+    let start : tie.Start Inv-loop μ-loop = search in
+    let s = start .pre in (
       s .2,
       s .3,
       s .5,
@@ -53,13 +54,13 @@ error-at-requires c κs =
     )
 
 narrow-requires : tie.Need-narrow-requires Inv-loop μ-loop
-narrow-requires c κs = (c .before .before .before .before .before .before .before .before .before .before .before .pre .0 .usable-field, c .error-at .ensures .1)
+narrow-requires c κs = let start : tie.Start Inv-loop μ-loop = search in (start .pre .0 .usable-field, c .error-at .ensures .1)
 
 mul-out : tie.Need-mul-out Inv-loop μ-loop
 mul-out c = omega arith
 
 array-write-out : tie.Need-array-write-out Inv-loop μ-loop
-array-write-out c = omega (arith, c .before .before .before .before .before .before .before .before .before .before .before .before .pre .0 .short)
+array-write-out c = let start : tie.Start Inv-loop μ-loop = search in omega (arith, start .pre .0 .short)
 
 add-i : tie.Need-add-i Inv-loop μ-loop
 add-i c = omega arith
@@ -69,8 +70,11 @@ loop-less c = omega arith
 
 loop-again : tie.Need-loop-again Inv-loop μ-loop
 loop-again c =
-    let s = c .before .before .before .before .before .before .before .before .before .before .before .before .args in
-    filled-put (c .before .before .before .before .before .before .before .loop .inv) (c .before .before .before .before .before .before .loop-test .taken)
+    let in-loop : tie.In-loop Inv-loop μ-loop = search in
+    let at-loop : tie.At-loop Inv-loop μ-loop = search in
+    let start : tie.Start Inv-loop μ-loop = search in
+    let s = start .args in
+    filled-put (at-loop .loop .inv) (in-loop .loop-test .taken)
     (c .narrow .ensures ∙ c .before .error-at .ensures .0 ∙ ap₂ (errorOf (modulus (s .field)) (s .product .now) (s .sums .now)) (c .before .before .before .before .wide .ensures) (c .before .before .wide2 .ensures))
 
 returns : tie.Need-returns Inv-loop μ-loop

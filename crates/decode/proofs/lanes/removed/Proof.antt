@@ -28,8 +28,10 @@ abbrev μ-loop : tie.MeasureT-loop
 μ-loop field lane nodes errors out₀ i₀ out i = length nodes - i
 
 -- node i of the list lies in the lane
-node : (c : tie.In-loop Inv-loop μ-loop) → getD (c .before .before .before .before .before .before .args .nodes .now) (c .before .loop .i) 0 < 255
-node c = let s = c .before .before .before .before .before .before .pre in omega (arith, below-at _ (c .before .before .before .before .before .before .args .nodes .now) (s .2) (c .before .loop .i) (c .loop-test .taken), s .0 .short)
+node : (c : tie.In-loop Inv-loop μ-loop) → let start : tie.Start Inv-loop μ-loop = search in getD (start .args .nodes .now) (c .before .loop .i) 0 < 255
+node c =
+    let start : tie.Start Inv-loop μ-loop = search in
+    let s = start .pre in omega (arith, below-at _ (start .args .nodes .now) (s .2) (c .before .loop .i) (c .loop-test .taken), s .0 .short)
 
 copied-requires : tie.Need-copied-requires Inv-loop μ-loop
 copied-requires c κs = c .before .before .before .pre .0 .short
@@ -63,31 +65,37 @@ mul-wide-2 : tie.Need-mul-wide-2 Inv-loop μ-loop
 mul-wide-2 c = omega arith
 
 shared-slice-read-wide : tie.Need-shared-slice-read-wide Inv-loop μ-loop
-shared-slice-read-wide c = omega (arith, c .before .before .before .before .before .before .before .before .before .pre .3, c .before .before .before .loop-test .taken)
+shared-slice-read-wide c = let start : tie.Start Inv-loop μ-loop = search in omega (arith, start .pre .3, c .before .before .before .loop-test .taken)
 
 wide-requires-2 : tie.Need-wide-requires-2 Inv-loop μ-loop
 wide-requires-2 c κs = search needs
 
 sub-requires : tie.Need-sub-requires Inv-loop μ-loop
 sub-requires c κs =
-    let s = c .before .before .before .before .before .before .before .before .before .before .pre in
+    let start : tie.Start Inv-loop μ-loop = search in
+    let s = start .pre in
     let v = usable-field _ (s .0 .usable-field) in (
       s .0 .usable-field,
       rw (c .before .before .wide .ensures) (below-getD _ (c .before .before .before .before .before .loop .out) (size-pos _ v) (c .before .before .before .before .before .loop .inv .2) _),
-      rw (c .wide2 .ensures) (below-at _ (c .before .before .before .before .before .before .before .before .before .before .args .errors .now) (s .1 .below) _ (omega (arith, s .3, c .before .before .before .before .loop-test .taken))),
+      rw (c .wide2 .ensures) (below-at _ (start .args .errors .now) (s .1 .below) _ (omega (arith, s .3, c .before .before .before .before .loop-test .taken))),
     )
 
 narrow-requires : tie.Need-narrow-requires Inv-loop μ-loop
 narrow-requires c κs =
-    let s = c .before .before .before .before .before .before .before .before .before .before .before .pre in
+    let at-loop : tie.At-loop Inv-loop μ-loop = search in
+    let start : tie.Start Inv-loop μ-loop = search in
+    let s = start .pre in
     let v = usable-field _ (s .0 .usable-field) in
-    (s .0 .usable-field, rw (c .sub .ensures, c .before .before .before .wide .ensures, c .before .wide2 .ensures) (sub-below _ v (below-getD _ (c .before .before .before .before .before .before .loop .out) (size-pos _ v) (c .before .before .before .before .before .before .loop .inv .2) _) (below-at _ (c .before .before .before .before .before .before .before .before .before .before .before .args .errors .now) (s .1 .below) _ (omega (arith, s .3, c .before .before .before .before .before .loop-test .taken)))))
+    (s .0 .usable-field, rw (c .sub .ensures, c .before .before .before .wide .ensures, c .before .wide2 .ensures) (sub-below _ v (below-getD _ (at-loop .loop .out) (size-pos _ v) (at-loop .loop .inv .2) _) (below-at _ (start .args .errors .now) (s .1 .below) _ (omega (arith, s .3, c .before .before .before .before .before .loop-test .taken)))))
 
 mul-out : tie.Need-mul-out Inv-loop μ-loop
-mul-out c = omega (arith, node (c .before .before .before .before .before .before))
+mul-out c = let in-loop : tie.In-loop Inv-loop μ-loop = search in omega (arith, node in-loop)
 
 array-write-out : tie.Need-array-write-out Inv-loop μ-loop
-array-write-out c = omega (arith, node (c .before .before .before .before .before .before), c .before .before .before .before .before .before .before .loop .inv .1)
+array-write-out c =
+    let in-loop : tie.In-loop Inv-loop μ-loop = search in
+    let at-loop : tie.At-loop Inv-loop μ-loop = search in
+    omega (arith, node in-loop, at-loop .loop .inv .1)
 
 add-i : tie.Need-add-i Inv-loop μ-loop
 add-i c = omega arith
@@ -97,10 +105,12 @@ loop-less c = omega arith
 
 loop-again : tie.Need-loop-again Inv-loop μ-loop
 loop-again c =
-    let s = c .before .before .before .before .before .before .before .before .before .before .before .before in
-    let l = c .before .before .before .before .before .before .before .loop in
+    let in-loop : tie.In-loop Inv-loop μ-loop = search in
+    let at-loop : tie.At-loop Inv-loop μ-loop = search in
+    let s : tie.Start Inv-loop μ-loop = search in
+    let l = at-loop .loop in
     let v = usable-field _ (s .pre .0 .usable-field) in
-    let taken = c .before .before .before .before .before .before .loop-test .taken in
+    let taken = in-loop .loop-test .taken in
     let e = below-at _ (s .args .errors .now) (s .pre .1 .below) (l .i) (omega (arith, s .pre .3)) in (
       omega arith,
       length-set (l .out) _ _ ∙ l .inv .1,
@@ -110,7 +120,7 @@ loop-again c =
 
 returns : tie.Need-returns Inv-loop μ-loop
 returns c =
-    let s = c .before .before .before .before .before .before in
+    let s : tie.Start Inv-loop μ-loop = search in
     let l = c .before .loop in
     sym (removed-end _ (s .args .nodes .now) (s .args .errors .now) (l .out) (l .i) (c .loop-test .left)) ∙ l .inv .3 ∙ removed-padded _ 255 (s .args .nodes .now) (s .args .errors .now) (s .args .lane .now) (s .pre .2)
 

@@ -47,7 +47,7 @@ sub-requires c κs =
 
 narrow-requires : tie.Need-narrow-requires Inv-loop μ-loop
 narrow-requires c κs =
-    let s = c .before .before .before .before .before .before in
+    let s : tie.Start Inv-loop μ-loop = search in
     let v = usable-field _ (s .pre .0) in
     (s .pre .0, rw (c .sub .ensures, c .before .at2 .ensures, c .before .before .mul-with .ensures, c .before .before .before .at .ensures) (sub-below _ v (first (c .before .before .before .before)) (mul-below _ v (s .pre .1) (second (c .before .before .before .before)))))
 
@@ -55,10 +55,10 @@ mul-out : tie.Need-mul-out Inv-loop μ-loop
 mul-out c = omega arith
 
 array-write-out : tie.Need-array-write-out Inv-loop μ-loop
-array-write-out c = omega (arith, c .before .before .before .before .before .before .before .pre .4, c .before .before .before .before .before .loop-test .taken)
+array-write-out c = let start : tie.Start Inv-loop μ-loop = search in omega (arith, start .pre .4, c .before .before .before .before .before .loop-test .taken)
 
 add-x : tie.Need-add-x Inv-loop μ-loop
-add-x c = omega (arith, c .before .before .before .before .before .before .before .pre .4, c .before .before .before .before .before .loop-test .taken)
+add-x c = let start : tie.Start Inv-loop μ-loop = search in omega (arith, start .pre .4, c .before .before .before .before .before .loop-test .taken)
 
 loop-less : tie.Need-loop-less Inv-loop μ-loop
 loop-less c = omega (arith, c .before .before .before .before .before .loop-test .taken)
@@ -66,8 +66,10 @@ loop-less c = omega (arith, c .before .before .before .before .before .loop-test
 loop-again : tie.Need-loop-again Inv-loop μ-loop
 unfolding amendedAt
 loop-again c =
-    let a = c .before .before .before .before .before .before .before .args in
-    filled-put (c .before .before .before .before .before .before .loop .inv) (c .before .before .before .before .before .loop-test .taken)
+    let at-loop : tie.At-loop Inv-loop μ-loop = search in
+    let start : tie.Start Inv-loop μ-loop = search in
+    let a = start .args in
+    filled-put (at-loop .loop .inv) (c .before .before .before .before .before .loop-test .taken)
     (c .narrow .ensures
     ∙ c .before .sub .ensures
     ∙ ap₂ (sub (modulus (a .field))) (c .before .before .at2 .ensures) (c .before .before .before .mul-with .ensures ∙ ap (mul (modulus (a .field)) (a .d)) (c .before .before .before .before .at .ensures)))

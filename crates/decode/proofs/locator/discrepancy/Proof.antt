@@ -47,7 +47,8 @@ loop-less c = omega arith
 
 loop-again : tie.Need-loop-again Inv-loop μ-loop
 unfolding partial
-loop-again c = let s = c .before .before .before .before .before .before in
+loop-again c =
+    let s : tie.Start Inv-loop μ-loop = search in
     let l = c .before .before .before .before .before .loop in
     let v = usable-field _ (s .pre .0) in
     let p = modulus (s .args .field) in

@@ -83,27 +83,33 @@ sub-j : tie.Need-sub-j Inv-loop μ-loop
 sub-j c = omega (arith, c .if2 .taken)
 
 add-amended : tie.Need-add-amended Inv-loop μ-loop
-add-amended c = omega (arith, steps (c .before .before .before .before .before .before))
+add-amended c = let in-loop : tie.In-loop Inv-loop μ-loop = search in omega (arith, steps in-loop)
 
 amended-requires : tie.Need-amended-requires Inv-loop μ-loop
-amended-requires c κs = let s = c .before .before .before .before .before .before .before .before .pre in (s .0, below-d (c .before .before .before .before .before .before .before) _ (c .before .before .before .before .discrepancy .ensures), below-w (c .before .before .before .before .before .before .before), below-v (c .before .before .before .before .before .before .before), omega (arith, steps (c .before .before .before .before .before .before)), s .3)
+amended-requires c κs =
+    let in-loop : tie.In-loop Inv-loop μ-loop = search in
+    let at-loop : tie.At-loop Inv-loop μ-loop = search in
+    let start : tie.Start Inv-loop μ-loop = search in
+    let s = start .pre in (s .0, below-d at-loop _ (c .before .before .before .before .discrepancy .ensures), below-w at-loop, below-v at-loop, omega (arith, steps in-loop), s .3)
 
 add-q-2 : tie.Need-add-q-2 Inv-loop μ-loop
-add-q-2 c = omega (arith, steps (c .before .before .before .before .before .before .before))
+add-q-2 c = let in-loop : tie.In-loop Inv-loop μ-loop = search in omega (arith, steps in-loop)
 
 loop-less-2 : tie.Need-loop-less-2 Inv-loop μ-loop
-loop-less-2 c = omega (arith, c .before .before .before .before .before .before .before .loop-test .taken)
+loop-less-2 c = let in-loop : tie.In-loop Inv-loop μ-loop = search in omega (arith, in-loop .loop-test .taken)
 
 loop-again-2 : tie.Need-loop-again-2 Inv-loop μ-loop
 loop-again-2 c =
-    let a = c .before .before .before .before .before .before .before .before in
-    let i = c .before .before .before .before .before .before .before .before .before .args in
+    let in-loop : tie.In-loop Inv-loop μ-loop = search in
+    let a : tie.At-loop Inv-loop μ-loop = search in
+    let start : tie.Start Inv-loop μ-loop = search in
+    let i = start .args in
     let d = c .before .before .before .before .before .discrepancy in (
-      omega (arith, c .before .before .before .before .before .before .before .loop-test .taken),
-      rw (c .amended .ensures) (length-filled 255 (a .loop .l + 1) _ (omega (arith, steps (c .before .before .before .before .before .before .before)))),
+      omega (arith, in-loop .loop-test .taken),
+      rw (c .amended .ensures) (length-filled 255 (a .loop .l + 1) _ (omega (arith, steps in-loop))),
       a .loop .inv .2,
       λ f.
-          held-mended (modulus (i .field)) f (i .s .now) (c .before .before .before .before .before .before .before .before .before .pre .2) (a .loop .w) (a .loop .v) (a .loop .l) (a .loop .q) (a .loop .inv .3 f) (c .amended .result) (d .result) (d .ensures)
+          held-mended (modulus (i .field)) f (i .s .now) (start .pre .2) (a .loop .w) (a .loop .v) (a .loop .l) (a .loop .q) (a .loop .inv .3 f) (c .amended .result) (d .result) (d .ensures)
           (c .amended .ensures) (c .before .before .before .if2 .taken),
     )
 
@@ -114,41 +120,57 @@ sub-i : tie.Need-sub-i Inv-loop μ-loop
 sub-i c = omega (arith, c .if2 .left)
 
 add-amended-2 : tie.Need-add-amended-2 Inv-loop μ-loop
-add-amended-2 c = omega (arith, steps (c .before .before .before .before .before .before))
+add-amended-2 c = let in-loop : tie.In-loop Inv-loop μ-loop = search in omega (arith, steps in-loop)
 
 amended-requires-2 : tie.Need-amended-requires-2 Inv-loop μ-loop
-amended-requires-2 c κs = let s = c .before .before .before .before .before .before .before .before .pre in (s .0, below-d (c .before .before .before .before .before .before .before) _ (c .before .before .before .before .discrepancy .ensures), below-w (c .before .before .before .before .before .before .before), below-v (c .before .before .before .before .before .before .before), omega (arith, steps (c .before .before .before .before .before .before)), s .3)
+amended-requires-2 c κs =
+    let in-loop : tie.In-loop Inv-loop μ-loop = search in
+    let at-loop : tie.At-loop Inv-loop μ-loop = search in
+    let start : tie.Start Inv-loop μ-loop = search in
+    let s = start .pre in (s .0, below-d at-loop _ (c .before .before .before .before .discrepancy .ensures), below-w at-loop, below-v at-loop, omega (arith, steps in-loop), s .3)
 
 inverse-with-requires : tie.Need-inverse-with-requires Inv-loop μ-loop
-inverse-with-requires c κs = let s = c .before .before .before .before .before .before .before .before .before .pre in (s .0, below-d (c .before .before .before .before .before .before .before .before) _ (c .before .before .before .before .before .discrepancy .ensures), s .3)
+inverse-with-requires c κs =
+    let at-loop : tie.At-loop Inv-loop μ-loop = search in
+    let start : tie.Start Inv-loop μ-loop = search in
+    let s = start .pre in (s .0, below-d at-loop _ (c .before .before .before .before .before .discrepancy .ensures), s .3)
 
 add-scaled : tie.Need-add-scaled Inv-loop μ-loop
-add-scaled c = omega (arith, steps (c .before .before .before .before .before .before .before .before .before))
+add-scaled c = let in-loop : tie.In-loop Inv-loop μ-loop = search in omega (arith, steps in-loop)
 
 scaled-requires : tie.Need-scaled-requires Inv-loop μ-loop
 scaled-requires c κs =
-    let s = c .before .before .before .before .before .before .before .before .before .before .before .pre in
-    (s .0, rw (c .before .inverse-with .ensures) (inverse-below _ (named (c .before .before .before .before .before .before .before .before .before .before)) (below-d (c .before .before .before .before .before .before .before .before .before .before) _ (c .before .before .before .before .before .before .before .discrepancy .ensures))), below-w (c .before .before .before .before .before .before .before .before .before .before), omega (arith, steps (c .before .before .before .before .before .before .before .before .before)), s .3)
+    let after-discrepancy : tie.After-discrepancy Inv-loop μ-loop = search in
+    let in-loop : tie.In-loop Inv-loop μ-loop = search in
+    let at-loop : tie.At-loop Inv-loop μ-loop = search in
+    let start : tie.Start Inv-loop μ-loop = search in
+    let s = start .pre in
+    (s .0, rw (c .before .inverse-with .ensures) (inverse-below _ (named at-loop) (below-d at-loop _ (after-discrepancy .discrepancy .ensures))), below-w at-loop, omega (arith, steps in-loop), s .3)
 
 add-grown : tie.Need-add-grown Inv-loop μ-loop
-add-grown c = omega (arith, steps (c .before .before .before .before .before .before .before .before .before .before))
+add-grown c = let in-loop : tie.In-loop Inv-loop μ-loop = search in omega (arith, steps in-loop)
 
 loop-less-3 : tie.Need-loop-less-3 Inv-loop μ-loop
-loop-less-3 c = omega (arith, c .before .before .before .before .before .before .before .before .before .before .loop-test .taken)
+loop-less-3 c = let in-loop : tie.In-loop Inv-loop μ-loop = search in omega (arith, in-loop .loop-test .taken)
 
 loop-again-3 : tie.Need-loop-again-3 Inv-loop μ-loop
 loop-again-3 c =
-    let a = c .before .before .before .before .before .before .before .before .before .before .before in
-    let i = c .before .before .before .before .before .before .before .before .before .before .before .before .args in
+    let else2 : tie.Else2 Inv-loop μ-loop = search in
+    let else1 : tie.Else1 Inv-loop μ-loop = search in
+    let after-discrepancy : tie.After-discrepancy Inv-loop μ-loop = search in
+    let in-loop : tie.In-loop Inv-loop μ-loop = search in
+    let a : tie.At-loop Inv-loop μ-loop = search in
+    let start : tie.Start Inv-loop μ-loop = search in
+    let i = start .args in
     let u = c .before .before .before .amended2 in
     let e = c .before .before .inverse-with in
-    let d = c .before .before .before .before .before .before .before .before .discrepancy in (
-      omega (arith, c .before .before .before .before .before .before .before .before .before .before .loop-test .taken),
-      rw (u .ensures) (length-filled 255 (a .loop .q + 2) _ (omega (arith, steps (c .before .before .before .before .before .before .before .before .before .before)))),
-      rw (c .scaled .ensures) (length-filled 255 (a .loop .l + 1) _ (omega (arith, steps (c .before .before .before .before .before .before .before .before .before .before)))),
+    let d = after-discrepancy .discrepancy in (
+      omega (arith, in-loop .loop-test .taken),
+      rw (u .ensures) (length-filled 255 (a .loop .q + 2) _ (omega (arith, steps in-loop))),
+      rw (c .scaled .ensures) (length-filled 255 (a .loop .l + 1) _ (omega (arith, steps in-loop))),
       λ f.
-          held-grown (modulus (i .field)) f (i .s .now) (c .before .before .before .before .before .before .before .before .before .before .before .before .pre .2) (a .loop .w) (a .loop .v) (a .loop .l) (a .loop .q) (a .loop .inv .3 f) (u .result) (c .scaled .result) (d .result) (e .result)
-          (d .ensures) (c .before .before .before .before .before .before .before .if1 .left) (e .ensures) (u .ensures) (c .scaled .ensures) (c .before .before .before .before .before .before .if2 .left),
+          held-grown (modulus (i .field)) f (i .s .now) (start .pre .2) (a .loop .w) (a .loop .v) (a .loop .l) (a .loop .q) (a .loop .inv .3 f) (u .result) (c .scaled .result) (d .result) (e .result)
+          (d .ensures) (else1 .if1 .left) (e .ensures) (u .ensures) (c .scaled .ensures) (else2 .if2 .left),
     )
 
 returns : tie.Need-returns Inv-loop μ-loop

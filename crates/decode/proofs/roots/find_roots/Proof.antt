@@ -53,22 +53,23 @@ mul-with-requires : tie.Need-mul-with-requires Inv-loop μ-loop
 mul-with-requires c κs = let s = c .before .before .before .before .pre in (s .0 .usable-field, s .1, symbol (c .before .before), s .3)
 
 cast-nodes : tie.Need-cast-nodes Inv-loop μ-loop
-cast-nodes c = omega (arith, c .before .before .before .before .before .before .pre .2)
+cast-nodes c = let start : tie.Start Inv-loop μ-loop = search in omega (arith, start .pre .2)
 
 array-write-nodes : tie.Need-array-write-nodes Inv-loop μ-loop
-array-write-nodes c = omega (arith, c .before .before .before .before .before .before .pre .2)
+array-write-nodes c = let start : tie.Start Inv-loop μ-loop = search in omega (arith, start .pre .2)
 
 add-count : tie.Need-add-count Inv-loop μ-loop
-add-count c = omega (arith, c .before .before .before .before .before .before .pre .2)
+add-count c = let start : tie.Start Inv-loop μ-loop = search in omega (arith, start .pre .2)
 
 add-j : tie.Need-add-j Inv-loop μ-loop
-add-j c = omega (arith, c .before .before .before .before .before .before .pre .2)
+add-j c = let start : tie.Start Inv-loop μ-loop = search in omega (arith, start .pre .2)
 
 loop-less : tie.Need-loop-less Inv-loop μ-loop
 loop-less c = omega arith
 
 loop-again : tie.Need-loop-again Inv-loop μ-loop
 loop-again c =
+    let start : tie.Start Inv-loop μ-loop = search in
     let l = c .before .before .before .before .loop in
     let todo = rw (passing-next _ _ _ (c .before .before .before .loop-test .taken)) at (l .inv .3) in
     let came = c .if1 .came in (
@@ -76,7 +77,7 @@ loop-again c =
       omega arith,
       c .before .mul-with .ensures ∙ ap (mul _ _) (l .inv .2) ∙ sym (power-next _ _ (l .j)),
       ⊎-elim
-          (λ w. rw (w .1, w .2) (fills-put (rw (eq-eqb _ 0 (sym (value-is (c .before)) ∙ w .0 .taken)) at todo) (omega (arith, length-zeros 255, c .before .before .before .before .before .before .pre .2))))
+          (λ w. rw (w .1, w .2) (fills-put (rw (eq-eqb _ 0 (sym (value-is (c .before)) ∙ w .0 .taken)) at todo) (omega (arith, length-zeros 255, start .pre .2))))
           (λ w. rw (w .1, w .2) (rw (ne-eqb _ 0 (λ z. w .0 .left (value-is (c .before) ∙ z))) at todo))
           came,
     )

@@ -47,7 +47,8 @@ wide-requires c κs = search needs
 
 add-requires : tie.Need-add-requires Inv-loop μ-loop
 add-requires c κs =
-    let s = c .before .before .before .before .before .before .pre in
+    let start : tie.Start Inv-loop μ-loop = search in
+    let s = start .pre in
     (s .0 .usable-field, rw (c .wide .ensures) (below-at _ _ (s .0 .below) _ (omega arith)), rw (c .before .before .mul-with .ensures) (mul-below _ (usable-field _ (s .0 .usable-field)) (s .1) (symbol (c .before .before .before .before))))
 
 loop-less : tie.Need-loop-less Inv-loop μ-loop
@@ -55,7 +56,8 @@ loop-less c = omega arith
 
 loop-again : tie.Need-loop-again Inv-loop μ-loop
 loop-again c =
-    let a = c .before .before .before .before .before .before .before .args in
+    let start : tie.Start Inv-loop μ-loop = search in
+    let a = start .args in
     let l = c .before .before .before .before .before .loop in
     (omega arith, c .add .ensures ∙ rw (c .before .wide .ensures, c .before .before .before .mul-with .ensures, l .inv .1) (sym (polyAt-next _ (a .coefficients .now) (a .x) (l .i) (omega arith) (omega arith))))
 

@@ -28,8 +28,8 @@ slice-aggregate-list-columns-2 c = sym (length-take-le _ _ (array-borrow-prefix-
 
 list-columns-requires : tie.Need-list-columns-requires
 list-columns-requires c κs =
+    let s : tie.Start = search in
     let filled = c .before .before .before .before .before in
-    let s = filled .before .before .before .before .before .before .before .before in
     (s .pre .0, filled .fill-codes .ensures, length-take-le _ _ (array-borrow-prefix-column (c .before .before .before)), s .pre .1)
 
 same-length : tie.Need-same-length

@@ -24,17 +24,21 @@ cast-n : tie.Need-cast-n Inv-loop μ-loop
 cast-n c = search needs
 
 loop-holds : tie.Need-loop-holds Inv-loop μ-loop
-loop-holds c = let s = c .before .before .before .before .before .before .before in let a = s .args in (omega arith, s .pre .2, refl, refl, begun-none (modulusOf (a .h)) (a .h .k) (columnOf (a .h)) (a .lists .now) (a .counts .now) (length-column (a .h)))
+loop-holds c =
+    let s : tie.Start Inv-loop μ-loop = search in
+    let a = s .args in (omega arith, s .pre .2, refl, refl, begun-none (modulusOf (a .h)) (a .h .k) (columnOf (a .h)) (a .lists .now) (a .counts .now) (length-column (a .h)))
 
 fill-column-requires : tie.Need-fill-column-requires Inv-loop μ-loop
-fill-column-requires c κs = (c .before .before .before .before .before .before .before .before .before .before .pre .0, c .before .loop-test .taken, c .before .before .loop .inv .1)
+fill-column-requires c κs = let start : tie.Start Inv-loop μ-loop = search in (start .pre .0, c .before .loop-test .taken, c .before .before .loop .inv .1)
 
 prepare-requires : tie.Need-prepare-requires Inv-loop μ-loop
 prepare-requires c κs =
-    let st = c .before .before .before .before .before .before .before .before .before .before .before .before .before .before .before .before in
+    let in-loop : tie.In-loop Inv-loop μ-loop = search in
+    let at-loop : tie.At-loop Inv-loop μ-loop = search in
+    let st : tie.Start Inv-loop μ-loop = search in
     let a = st .args in
-    let l = c .before .before .before .before .before .before .before .before .loop in
-    let low = c .before .before .before .before .before .before .before .loop-test .taken in
+    let l = at-loop .loop in
+    let low = in-loop .loop-test .taken in
     let sound = st .pre .0 .sound in
     let g = 8 * groupsOf (a .h .k) in
     rw (c .before .before .before .before .before .fill-column .ensures, length-column (a .h) (l .node)) (
@@ -55,9 +59,12 @@ loop-less c = omega arith
 
 loop-again : tie.Need-loop-again Inv-loop μ-loop
 loop-again c =
-    let a = c .before .before .before .before .before .before .before .before .before .before .before .before .before .before .before .before .before .before .before .before .before .args in
-    let l = c .before .before .before .before .before .before .before .before .before .before .before .before .before .loop in
-    let filled = c .before .before .before .before .before .before .before .before .before .before .fill-column .ensures in
+    let after-fill-column : tie.After-fill-column Inv-loop μ-loop = search in
+    let at-loop : tie.At-loop Inv-loop μ-loop = search in
+    let start : tie.Start Inv-loop μ-loop = search in
+    let a = start .args in
+    let l = at-loop .loop in
+    let filled = after-fill-column .fill-column .ensures in
     let made = rw (filled, length-column (a .h) (l .node)) at (c .before .before .before .before .prepare .ensures) in
     (omega arith, rw filled (length-column (a .h) (l .node)), omega (arith, l .inv .2), omega (arith, l .inv .3), made (columnOf (a .h)) refl (l .inv .4))
 
@@ -71,7 +78,9 @@ same-length-3 : tie.Need-same-length-3 Inv-loop μ-loop
 same-length-3 c = search needs
 
 returns : tie.Need-returns Inv-loop μ-loop
-returns c = let all : c .before .loop .node ≡ c .before .before .before .before .before .before .before .before .before .args .h .n = omega arith in rw all at (c .before .loop .inv .4)
+returns c =
+    let start : tie.Start Inv-loop μ-loop = search in
+    let all : c .before .loop .node ≡ start .args .h .n = omega arith in rw all at (c .before .loop .inv .4)
 
 pub list-columns-spec : {M : Type 1} → statement M
 list-columns-spec =

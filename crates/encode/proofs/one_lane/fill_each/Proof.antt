@@ -33,11 +33,13 @@ abbrev μ-loop : tie.MeasureT-loop
 μ-loop h shifts base w lanes message out₀ k size t₀ out t = lanes - t
 
 -- a lane lies within the buffer
-lane-in : (c : tie.In-loop Inv-loop μ-loop) → let a = c .before .before .before .before .before .before .before .before .args in c .before .loop .t * (a .w * a .h .n) + a .w * a .h .n ≤ length (a .out .now)
-lane-in c = let s = c .before .before .before .before .before .before .before .before in let a = s .args in omega (arith, s .pre .2, mul-comm (a .w * a .h .n) (a .lanes), row-inside (a .lanes) (c .before .loop .t) (a .w * a .h .n) (c .loop-test .taken))
+lane-in : (c : tie.In-loop Inv-loop μ-loop) → let start : tie.Start Inv-loop μ-loop = search in let a = start .args in c .before .loop .t * (a .w * a .h .n) + a .w * a .h .n ≤ length (a .out .now)
+lane-in c =
+    let s : tie.Start Inv-loop μ-loop = search in
+    let a = s .args in omega (arith, s .pre .2, mul-comm (a .w * a .h .n) (a .lanes), row-inside (a .lanes) (c .before .loop .t) (a .w * a .h .n) (c .loop-test .taken))
 
 -- the lane's symbols as they are lent
-taken : (c : tie.After-lane-symbols Inv-loop μ-loop) → let a = c .before .before .before .before .before .before .before .before .before .args in take (a .h .k) (c .lane-symbols .result) ≡ laneOf byRow (a .h .k) (a .lanes) (c .before .before .loop .t) (symbolsOf (a .w) (a .message .now))
+taken : (c : tie.After-lane-symbols Inv-loop μ-loop) → let start : tie.Start Inv-loop μ-loop = search in let a = start .args in take (a .h .k) (c .lane-symbols .result) ≡ laneOf byRow (a .h .k) (a .lanes) (c .before .before .loop .t) (symbolsOf (a .w) (a .message .now))
 taken c = rw (c .lane-symbols .ensures) (take-padded 255 _ _ (length-lane byRow _ _ _ _))
 
 cast-k : tie.Need-cast-k Inv-loop μ-loop
@@ -48,7 +50,7 @@ cast-size c = search needs
 
 mul-size : tie.Need-mul-size Inv-loop μ-loop
 mul-size c =
-    let s = c .before .before .before .before .before .before in
+    let s : tie.Start Inv-loop μ-loop = search in
     let two : s .args .w ≤ 2 = rw (s .pre .1 .wide) (width-range (s .args .h) .1) in
     let e = mul-le-mul two (s .pre .0 .sound .byte) in omega (arith, e)
 
@@ -56,7 +58,7 @@ loop-holds : tie.Need-loop-holds Inv-loop μ-loop
 loop-holds c = (omega arith, rw (sub-zero, zero-mul) (fills-start _ _))
 
 lane-symbols-requires : tie.Need-lane-symbols-requires Inv-loop μ-loop
-lane-symbols-requires c κs = let s = c .before .before .before .before .before .before .before .before in (s .pre .0 .sound, s .pre .1, c .loop-test .taken)
+lane-symbols-requires c κs = let s : tie.Start Inv-loop μ-loop = search in (s .pre .0 .sound, s .pre .1, c .loop-test .taken)
 
 mul-start : tie.Need-mul-start Inv-loop μ-loop
 mul-start c = omega (arith, lane-in (c .before))
@@ -81,8 +83,8 @@ part-fill-lane-end c = omega (arith, lane-in (c .before .before), c .before .bef
 
 fill-lane-requires : tie.Need-fill-lane-requires Inv-loop μ-loop
 fill-lane-requires c κs =
+    let s : tie.Start Inv-loop μ-loop = search in
     let at = c .before .before .before in
-    let s = at .before .before .before .before .before .before .before .before in
     let a = s .args in
     let l = at .before .loop in
     let rows = s .pre .1 .symbol-rows in
@@ -97,8 +99,8 @@ loop-less c = omega arith
 
 loop-again : tie.Need-loop-again Inv-loop μ-loop
 loop-again c =
-    let at = c .before .before .before .before .before .before in
-    let s = at .before .before .before .before .before .before .before .before in
+    let at : tie.In-loop Inv-loop μ-loop = search in
+    let s : tie.Start Inv-loop μ-loop = search in
     let a = s .args in
     let l = at .before .loop in
     let m = symbolsOf (a .w) (a .message .now) in
@@ -114,7 +116,7 @@ same-length c = c .before .loop .inv .1 .long
 
 returns : tie.Need-returns Inv-loop μ-loop
 returns c =
-    let s = c .before .before .before .before .before .before .before .before in
+    let s : tie.Start Inv-loop μ-loop = search in
     let a = s .args in
     let m = symbolsOf (a .w) (a .message .now) in
     let shares = sharesOf byLane (a .h) (a .lanes) m in

@@ -19,7 +19,7 @@ use Rattle.encode.proofs.one_lane.fill_lane.Statement.{statement}
 use Rattle.encode.proofs.one_lane.fill_lane.Tie as tie
 
 -- the base word two times
-row-is : (c : tie.After-twice-base) → let a = c .before .before .before .before .before .before .before .args in take (a .h .n + a .h .n) (c .twice-base .result) ≡ twice (a .h .n) (a .base .now)
+row-is : (c : tie.After-twice-base) → let start : tie.Start = search in let a = start .args in take (a .h .n + a .h .n) (c .twice-base .result) ≡ twice (a .h .n) (a .base .now)
 row-is c = rw (c .twice-base .ensures) (take-padded 510 _ _ (length-twice _ _))
 
 cast-n : tie.Need-cast-n
@@ -32,7 +32,7 @@ placed-requires : tie.Need-placed-requires
 placed-requires c κs = let s = c .before .before .before .before .before in (s .pre .0 .sound, s .pre .0 .shifts-are, s .pre .2)
 
 twice-base-requires : tie.Need-twice-base-requires
-twice-base-requires c κs = let s = c .before .before .before .before .before .before in rw (s .pre .0 .base-is) (base-room (s .args .h))
+twice-base-requires c κs = let s : tie.Start = search in rw (s .pre .0 .base-is) (base-room (s .args .h))
 
 room-requires : tie.Need-room-requires
 room-requires c κs = search needs
@@ -57,7 +57,8 @@ slice-aggregate-write-sums-3 c = sym (length-take-le _ _ (array-borrow-prefix-su
 
 write-sums-requires : tie.Need-write-sums-requires
 write-sums-requires c κs =
-    let s = c .before .before .before .before .before .before .before .before .before .before .before .before in
+    let after-placed : tie.After-placed = search in
+    let s : tie.Start = search in
     let a = s .args in
     let sound = s .pre .0 .sound in
     let weights = sym (slice-aggregate-write-sums (c .before .before .before)) in
@@ -70,7 +71,7 @@ write-sums-requires c κs =
         places = omega (arith, sums, sound .byte);
         room = omega (arith, weights, row, sums);
         short = omega (arith, row, sound .byte);
-        weights = rw (c .before .before .before .before .before .before .placed .ensures) (below-take (size (a .h)) (a .h .n) _ (placed-below (size (a .h)) 0 _ _ _ (s .pre .3) (zeros-below (size (a .h)) 255 (size-pos (modulusOf (a .h)) (sound .field)))));
+        weights = rw (after-placed .placed .ensures) (below-take (size (a .h)) (a .h .n) _ (placed-below (size (a .h)) 0 _ _ _ (s .pre .3) (zeros-below (size (a .h)) 255 (size-pos (modulusOf (a .h)) (sound .field)))));
         symbols = rw (row-is (c .before .before .before .before .before), s .pre .0 .base-is) (twice-below (a .h) sound);
       },
       rw (s .pre .1) (range .0),
@@ -84,11 +85,13 @@ same-length c = search needs
 
 returns : tie.Need-returns
 returns c =
-    let s = c .before .before .before .before .before .before .before .before .before .before .before .before .before .before .before .before in
+    let after-twice-base : tie.After-twice-base = search in
+    let after-placed : tie.After-placed = search in
+    let s : tie.Start = search in
     let a = s .args in
     let sums = sym (slice-aggregate-write-sums-3 (c .before .before .before .before .before)) in
     c .before .before .before .write-sums .ensures
-    ∙ ap (bytesOf (a .w)) (rw (c .before .before .before .before .before .before .before .before .before .before .placed .ensures, row-is (c .before .before .before .before .before .before .before .before .before), sums, s .pre .0 .shifts-are, s .pre .0 .base-is) (lane-sums (a .h) (s .pre .0 .sound) (a .symbols .now) (s .pre .2) (s .pre .3)))
+    ∙ ap (bytesOf (a .w)) (rw (after-placed .placed .ensures, row-is after-twice-base, sums, s .pre .0 .shifts-are, s .pre .0 .base-is) (lane-sums (a .h) (s .pre .0 .sound) (a .symbols .now) (s .pre .2) (s .pre .3)))
 
 pub fill-lane-spec : {M : Type 1} → statement M
 fill-lane-spec =

@@ -32,7 +32,7 @@ mul-out : tie.Need-mul-out Inv-loop μ-loop
 mul-out c = omega (arith, c .around .ensures .1, c .before .before .before .struct-known .given)
 
 shared-slice-read-out : tie.Need-shared-slice-read-out Inv-loop μ-loop
-shared-slice-read-out c = omega (arith, c .before .around .ensures .1, c .before .before .before .before .before .before .pre)
+shared-slice-read-out c = let start : tie.Start Inv-loop μ-loop = search in omega (arith, c .before .around .ensures .1, start .pre)
 
 mul-out-2 : tie.Need-mul-out-2 Inv-loop μ-loop
 mul-out-2 c = omega (arith, c .before .before .loop-test .taken, c .before .before .before .before .struct-known .given)
@@ -47,7 +47,7 @@ loop-less : tie.Need-loop-less Inv-loop μ-loop
 loop-less c = omega arith
 
 loop-again : tie.Need-loop-again Inv-loop μ-loop
-loop-again c = filled-put (c .before .before .before .loop .inv) (c .before .before .loop-test .taken) (ap (λ (x : _). getD (c .before .before .before .before .before .before .args .base .now) x 0) (c .before .around .ensures .0))
+loop-again c = let start : tie.Start Inv-loop μ-loop = search in filled-put (c .before .before .before .loop .inv) (c .before .before .loop-test .taken) (ap (λ (x : _). getD (start .args .base .now) x 0) (c .before .around .ensures .0))
 
 returns : tie.Need-returns Inv-loop μ-loop
 unfolding twice

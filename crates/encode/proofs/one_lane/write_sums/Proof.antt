@@ -16,7 +16,7 @@ window-sums-requires c κs = search needs
 
 write-symbols-requires : tie.Need-write-symbols-requires
 write-symbols-requires c κs =
-    let s = c .before .before .before .before .before .before .before .before .before .before in
+    let s : tie.Start = search in
     let windows = s .pre .1 in
     let low = sums-below _ (usable-field _ (s .pre .0)) (s .args .weights .now) (s .args .row .now) (length (s .args .sums .now)) (windows .weights) (windows .symbols) in
     rw (c .before .before .before .before .window-sums .ensures)
@@ -29,7 +29,10 @@ same-length-2 : tie.Need-same-length-2
 same-length-2 c = search needs
 
 returns : tie.Need-returns
-returns c = c .before .before .write-symbols .ensures ∙ ap (bytesOf (c .before .before .before .before .before .before .before .before .before .before .before .before .before .args .w)) (c .before .before .before .before .before .before .before .window-sums .ensures)
+returns c =
+    let after-window-sums : tie.After-window-sums = search in
+    let start : tie.Start = search in
+    c .before .before .write-symbols .ensures ∙ ap (bytesOf (start .args .w)) (after-window-sums .window-sums .ensures)
 
 pub write-sums-spec : {M : Type 1} → statement M
 write-sums-spec = tie.close (tie.spec window-sums-requires write-symbols-requires same-length same-length-2 returns)

@@ -55,20 +55,23 @@ cast-sub-2 : tie.Need-cast-sub-2 Inv-loop μ-loop
 cast-sub-2 c = omega (arith, c .shared-slice-known4 .given (c .before .before .before .loop .j))
 
 sub-requires : tie.Need-sub-requires Inv-loop μ-loop
-sub-requires c κs = let (us, vs, inside) = held (c .before .before) in (c .before .before .before .before .before .before .pre .0 .usable-field, vs, us)
+sub-requires c κs =
+    let start : tie.Start Inv-loop μ-loop = search in
+    let (us, vs, inside) = held (c .before .before) in (start .pre .0 .usable-field, vs, us)
 
 cast-out : tie.Need-cast-out Inv-loop μ-loop
 cast-out c =
+    let start : tie.Start Inv-loop μ-loop = search in
     let (us, vs, inside) = held (c .before .before .before) in
-    let sound = c .before .before .before .before .before .before .before .pre .0 in
-    let low = sub-below (modulusOf (c .before .before .before .before .before .before .before .args .h)) (sound .field) vs us in
+    let sound = start .pre .0 in
+    let low = sub-below (modulusOf (start .args .h)) (sound .field) vs us in
     omega (arith, c .sub .ensures, size-fits _ (sound .usable-field), low)
 
 mul-out : tie.Need-mul-out Inv-loop μ-loop
 mul-out c = omega arith
 
 array-write-out : tie.Need-array-write-out Inv-loop μ-loop
-array-write-out c = omega (arith, c .before .before .before .before .before .before .before .pre .1 .long)
+array-write-out c = let start : tie.Start Inv-loop μ-loop = search in omega (arith, start .pre .1 .long)
 
 add-j : tie.Need-add-j Inv-loop μ-loop
 add-j c = omega arith

@@ -33,19 +33,21 @@ abbrev μ-loop : tie.MeasureT-loop
 
 -- the entry that is read is the generator's
 read : (c : tie.After-entry-at Inv-loop μ-loop)
-    → let start = c .before .before .before .before .before .before .before .before .before in
-    c .entry-at .result ≡ entry (start .args .h) (start .args .row) (c .before .before .before .before .before .loop .j)
+    → let start : tie.Start Inv-loop μ-loop = search in c .entry-at .result ≡ entry (start .args .h) (start .args .row) (c .before .before .before .before .before .loop .j)
 read c =
-    let (sound, plan, row, factor, long, tables) = c .before .before .before .before .before .before .before .before .before .pre in
+    let start : tie.Start Inv-loop μ-loop = search in
+    let (sound, plan, row, factor, long, tables) = start .pre in
     c .entry-at .ensures ∙ rw plan (entry-read _ sound _ _ row (c .before .before .before .before .loop-test .taken))
 
 -- so the test is the comparison
 compared : (c : tie.After-is-product Inv-loop μ-loop)
-    → let a = c .before .before .before .before .before .before .before .before .before .before .before .args in
-    c .is-product .result ≡ same (a .h) (a .difference .now) (a .row) (a .x) (c .before .before .before .before .before .before .before .loop .j)
+    → let at-loop : tie.At-loop Inv-loop μ-loop = search in let start : tie.Start Inv-loop μ-loop = search in let a = start .args in
+    c .is-product .result ≡ same (a .h) (a .difference .now) (a .row) (a .x) (at-loop .loop .j)
 compared c =
-    let a = c .before .before .before .before .before .before .before .before .before .before .before .args in
-    c .is-product .ensures ∙ ap (λ (e : ℕ). eqb (getD (a .difference .now) (c .before .before .before .before .before .before .before .loop .j) 0) (mul (modulusOf (a .h)) (a .x) e)) (read (c .before .before))
+    let at-loop : tie.At-loop Inv-loop μ-loop = search in
+    let start : tie.Start Inv-loop μ-loop = search in
+    let a = start .args in
+    c .is-product .ensures ∙ ap (λ (e : ℕ). eqb (getD (a .difference .now) (at-loop .loop .j) 0) (mul (modulusOf (a .h)) (a .x) e)) (read (c .before .before))
 
 cast-n : tie.Need-cast-n Inv-loop μ-loop
 cast-n c = search needs
@@ -62,7 +64,8 @@ loop-holds c = (omega arith, rw sub-zero)
 
 entry-at-requires : tie.Need-entry-at-requires Inv-loop μ-loop
 entry-at-requires c κs =
-    let (sound, plan, row, factor, long, tables) = c .before .before .before .before .before .before .before .before .pre in
+    let start : tie.Start Inv-loop μ-loop = search in
+    let (sound, plan, row, factor, long, tables) = start .pre in
     (omega arith, rw plan (shift-below _ sound _ row), c .before .before .before .loop-test .taken, rw plan (base-room _))
 
 mul-is-product : tie.Need-mul-is-product Inv-loop μ-loop
@@ -73,13 +76,15 @@ shared-slice-read-is-product c = omega arith
 
 is-product-requires : tie.Need-is-product-requires Inv-loop μ-loop
 is-product-requires c κs =
-    let (sound, plan, row, factor, long, tables) = c .before .before .before .before .before .before .before .before .before .before .pre in
+    let start : tie.Start Inv-loop μ-loop = search in
+    let (sound, plan, row, factor, long, tables) = start .pre in
     (sound .usable-field, factor, rw (read (c .before)) (entry-below _ sound _ _), tables)
 
 returns : tie.Need-returns Inv-loop μ-loop
 returns c =
-    let at = c .before .before .before .before .before .before .before .before in
-    let node = c .before .before .before .before .before .before .before .loop-test .taken in
+    let in-loop : tie.In-loop Inv-loop μ-loop = search in
+    let at : tie.At-loop Inv-loop μ-loop = search in
+    let node = in-loop .loop-test .taken in
     sym (search-found _ _ _ node (sym (compared (c .before)) ∙ not-true _ (c .if1 .taken))) ∙ at .loop .inv .1
 
 add-j : tie.Need-add-j Inv-loop μ-loop
@@ -90,8 +95,9 @@ loop-less c = omega arith
 
 loop-again : tie.Need-loop-again Inv-loop μ-loop
 loop-again c =
-    let at = c .before .before .before .before .before .before .before .before in
-    let node = c .before .before .before .before .before .before .before .loop-test .taken in
+    let in-loop : tie.In-loop Inv-loop μ-loop = search in
+    let at : tie.At-loop Inv-loop μ-loop = search in
+    let node = in-loop .loop-test .taken in
     (omega arith, sym (search-next _ _ _ node (sym (compared (c .before)) ∙ not-false _ (c .if1 .left))) ∙ at .loop .inv .1)
 
 returns-2 : tie.Need-returns-2 Inv-loop μ-loop

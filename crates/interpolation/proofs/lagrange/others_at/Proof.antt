@@ -53,7 +53,7 @@ mul-with-requires c κs =
 returns : tie.Need-returns
 unfolding othersAt
 returns c =
-    let s = c .before .before .before .before .before .before in
+    let s : tie.Start = search in
     c .mul-with .ensures ∙ rw (c .before .before .before .product-at .ensures, c .before .product-at2 .ensures, part-rest (s .args .i + 1) (s .args .points .now))
 
 pub others-at-spec : {M : Type 1} → statement M

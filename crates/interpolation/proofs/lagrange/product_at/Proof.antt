@@ -63,7 +63,8 @@ loop-less c = omega arith
 
 loop-again : tie.Need-loop-again Inv-loop μ-loop
 loop-again c =
-    let a = c .before .before .before .before .before .before .args in
+    let start : tie.Start Inv-loop μ-loop = search in
+    let a = start .args in
     let l = c .before .before .before .before .loop in
     (omega arith, c .mul-with .ensures ∙ rw (c .before .sub .ensures, l .inv .1) (sym (productAt-next _ (a .points .now) (a .z) (l .i) (omega arith) (omega arith))))
 

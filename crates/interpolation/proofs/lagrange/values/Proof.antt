@@ -44,9 +44,10 @@ scale-low : (c : tie.In-loop Inv-loop μ-loop) → let a = c .before .before .be
 scale-low c = let s = c .before .before .before .before .before .pre in rw (scale-here c) (scaleAt-below _ (usable-field _ (s .0 .usable-field)) _ _ (s .0 .below) (c .loop-test .taken))
 
 -- the value
-value-is : (c : tie.After-mul-with2 Inv-loop μ-loop) → let a = c .before .before .before .before .before .before .before .before .args in c .mul-with2 .result ≡ basisAt (modulus (a .field)) (a .points .now) (c .before .before .before .before .loop .i) (a .z)
+value-is : (c : tie.After-mul-with2 Inv-loop μ-loop) → let start : tie.Start Inv-loop μ-loop = search in let a = start .args in c .mul-with2 .result ≡ basisAt (modulus (a .field)) (a .points .now) (c .before .before .before .before .loop .i) (a .z)
 value-is c =
-    let a = c .before .before .before .before .before .before .before .before .args in
+    let start : tie.Start Inv-loop μ-loop = search in
+    let a = start .args in
     let at = c .before .before .before in
     c .mul-with2 .ensures ∙ rw (scale-here at, c .before .before .mul-with .ensures, c .before .before .before .before .loop .inv .0, after-is at) (basis-is (modulus (a .field)) (a .points .now) (a .z) (c .before .before .before .before .loop .i) (at .loop-test .taken))
 
@@ -76,61 +77,68 @@ mul-with-requires : tie.Need-mul-with-requires Inv-loop μ-loop
 mul-with-requires c κs = let s = c .before .before .before .before .before .pre in (s .0 .usable-field, before-low c, rw (after-is c) (after-low c), s .3)
 
 mul-mul-with-2 : tie.Need-mul-mul-with-2 Inv-loop μ-loop
-mul-mul-with-2 c = omega (arith, c .before .before .before .before .before .before .pre .0 .short, c .before .loop-test .taken)
+mul-mul-with-2 c = let start : tie.Start Inv-loop μ-loop = search in omega (arith, start .pre .0 .short, c .before .loop-test .taken)
 
 shared-slice-read-mul-with : tie.Need-shared-slice-read-mul-with Inv-loop μ-loop
-shared-slice-read-mul-with c = let s = c .before .before .before .before .before .before .before in rw (s .pre .1) (omega (arith, length-scales (modulus (s .args .field)) (s .args .points .now), c .before .before .loop-test .taken))
+shared-slice-read-mul-with c = let s : tie.Start Inv-loop μ-loop = search in rw (s .pre .1) (omega (arith, length-scales (modulus (s .args .field)) (s .args .points .now), c .before .before .loop-test .taken))
 
 cast-mul-with-2 : tie.Need-cast-mul-with-2 Inv-loop μ-loop
-cast-mul-with-2 c = omega (arith, scale-low (c .before .before), size-fits _ (c .before .before .before .before .before .before .before .pre .0 .usable-field))
+cast-mul-with-2 c = let start : tie.Start Inv-loop μ-loop = search in omega (arith, scale-low (c .before .before), size-fits _ (start .pre .0 .usable-field))
 
 mul-with-requires-2 : tie.Need-mul-with-requires-2 Inv-loop μ-loop
 mul-with-requires-2 c κs =
-    let s = c .before .before .before .before .before .before .before .pre in
+    let start : tie.Start Inv-loop μ-loop = search in
+    let s = start .pre in
     let at = c .before .before in
     (s .0 .usable-field, scale-low at, rw (c .before .mul-with .ensures) (mul-below _ (usable-field _ (s .0 .usable-field)) (before-low at) (rw (after-is at) (after-low at))), s .3)
 
 cast-out : tie.Need-cast-out Inv-loop μ-loop
 cast-out c =
-    let s = c .before .before .before .before .before .before .before .before .pre in
+    let start : tie.Start Inv-loop μ-loop = search in
+    let s = start .pre in
     let low = basisAt-below _ (usable-field _ (s .0 .usable-field)) _ _ _ (s .0 .below) (c .before .before .before .loop-test .taken) (s .2) in
     omega (arith, value-is c, low, size-fits _ (s .0 .usable-field))
 
 mul-out : tie.Need-mul-out Inv-loop μ-loop
-mul-out c = omega (arith, c .before .before .before .before .before .before .before .before .pre .0 .short, c .before .before .before .loop-test .taken)
+mul-out c = let start : tie.Start Inv-loop μ-loop = search in omega (arith, start .pre .0 .short, c .before .before .before .loop-test .taken)
 
 array-write-out : tie.Need-array-write-out Inv-loop μ-loop
-array-write-out c = omega (arith, c .before .before .before .before .before .before .before .before .pre .0 .short, c .before .before .before .loop-test .taken)
+array-write-out c = let start : tie.Start Inv-loop μ-loop = search in omega (arith, start .pre .0 .short, c .before .before .before .loop-test .taken)
 
 mul-sub : tie.Need-mul-sub Inv-loop μ-loop
-mul-sub c = omega (arith, c .before .before .before .before .before .before .before .before .pre .0 .short, c .before .before .before .loop-test .taken)
+mul-sub c = let start : tie.Start Inv-loop μ-loop = search in omega (arith, start .pre .0 .short, c .before .before .before .loop-test .taken)
 
 shared-slice-read-sub : tie.Need-shared-slice-read-sub Inv-loop μ-loop
 shared-slice-read-sub c = c .before .before .before .before .loop-test .taken
 
 cast-sub : tie.Need-cast-sub Inv-loop μ-loop
-cast-sub c = omega (arith, point-low (c .before .before .before .before), size-fits _ (c .before .before .before .before .before .before .before .before .before .pre .0 .usable-field))
+cast-sub c = let start : tie.Start Inv-loop μ-loop = search in omega (arith, point-low (c .before .before .before .before), size-fits _ (start .pre .0 .usable-field))
 
 sub-requires : tie.Need-sub-requires Inv-loop μ-loop
-sub-requires c κs = let s = c .before .before .before .before .before .before .before .before .before .pre in (s .0 .usable-field, s .2, point-low (c .before .before .before .before))
+sub-requires c κs =
+    let start : tie.Start Inv-loop μ-loop = search in
+    let s = start .pre in (s .0 .usable-field, s .2, point-low (c .before .before .before .before))
 
 mul-with-requires-3 : tie.Need-mul-with-requires-3 Inv-loop μ-loop
 mul-with-requires-3 c κs =
-    let s = c .before .before .before .before .before .before .before .before .before .before .pre in
+    let start : tie.Start Inv-loop μ-loop = search in
+    let s = start .pre in
     (s .0 .usable-field, before-low (c .before .before .before .before .before), rw (c .sub .ensures) (sub-below _ (usable-field _ (s .0 .usable-field)) (s .2) (point-low (c .before .before .before .before .before))), s .3)
 
 add-i : tie.Need-add-i Inv-loop μ-loop
 add-i c = omega arith
 
 loop-less : tie.Need-loop-less Inv-loop μ-loop
-loop-less c = omega (arith, c .before .before .before .before .before .before .loop-test .taken)
+loop-less c = let in-loop : tie.In-loop Inv-loop μ-loop = search in omega (arith, in-loop .loop-test .taken)
 
 loop-again : tie.Need-loop-again Inv-loop μ-loop
 loop-again c =
-    let s = c .before .before .before .before .before .before .before .before .before .before .before in
+    let in-loop : tie.In-loop Inv-loop μ-loop = search in
+    let at-loop : tie.At-loop Inv-loop μ-loop = search in
+    let s : tie.Start Inv-loop μ-loop = search in
     let a = s .args in
-    let l = c .before .before .before .before .before .before .before .loop in
-    let test = c .before .before .before .before .before .before .loop-test .taken in (
+    let l = at-loop .loop in
+    let test = in-loop .loop-test .taken in (
       c .mul-with3 .ensures ∙ rw (c .before .sub .ensures, l .inv .0) (sym (product-last (modulus (a .field)) (usable-field _ (s .pre .0 .usable-field)) (a .z) (s .pre .2) (a .points .now) (l .i) (s .pre .0 .below) test)),
       filled-put (l .inv .1) test (value-is (c .before .before .before)),
     )

@@ -77,7 +77,8 @@ loop-less c = omega arith
 
 loop-again : tie.Need-loop-again Inv-loop μ-loop
 loop-again c =
-    let a = c .before .before .before .before .before .before .args in
+    let start : tie.Start Inv-loop μ-loop = search in
+    let a = start .args in
     let l = c .before .before .before .before .before .loop in
     let at = c .before .before .before .before in
     let next : timesLinear (modulus (a .field)) (l .y) 0 (baseOf (modulus (a .field)) (a .root) (l .i)) ≡ baseOf (modulus (a .field)) (a .root) (l .i + 1) = rw (l .inv .1) (sym (baseOf-next (modulus (a .field)) (a .root) (l .i))) in (

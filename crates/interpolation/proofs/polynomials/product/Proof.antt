@@ -73,7 +73,8 @@ loop-less c = omega arith
 
 loop-again : tie.Need-loop-again Inv-loop μ-loop
 loop-again c =
-    let a = c .before .before .before .before .before .before .before .args in
+    let start : tie.Start Inv-loop μ-loop = search in
+    let a = start .args in
     let l = c .before .before .before .before .before .loop in
     (omega arith, omega arith, more (c .before .before .before .before) .whole _ (c .before .times-linear .ensures) ∙ ap (padded 256) (sym (productOf-next _ (a .points .now) (l .i) (omega arith) (omega arith))))
 

@@ -62,7 +62,8 @@ sub-requires c κs = (c .before .before .before .before .before .pre .0, c .befo
 
 cast-coefficients : tie.Need-cast-coefficients Inv-loop μ-loop
 cast-coefficients c =
-    let s = c .before .before .before .before .before .before .pre in
+    let start : tie.Start Inv-loop μ-loop = search in
+    let s = start .pre in
     let low = sub-below _ (usable-field _ (s .0)) (c .before .before .before .before .loop .inv .1) (scaled (c .before)) in
     omega (arith, c .sub .ensures, size-fits _ (s .0))
 
@@ -80,7 +81,7 @@ loop-less c = omega (arith, turn (c .before .before .before) .0)
 
 loop-again : tie.Need-loop-again Inv-loop μ-loop
 loop-again c =
-    let s = c .before .before .before .before .before .before in
+    let s : tie.Start Inv-loop μ-loop = search in
     let l = c .before .before .before .before .loop in
     let (inside, same, low) = turn (c .before .before .before) in
     let todo = rw (carried-next _ _ _ (s .args .coefficients .now) (l .i) inside) at (l .inv .2) in

@@ -46,20 +46,22 @@ mul-mul-with-2 : tie.Need-mul-mul-with-2 Inv-loop μ-loop
 mul-mul-with-2 c = omega arith
 
 shared-slice-read-mul-with-2 : tie.Need-shared-slice-read-mul-with-2 Inv-loop μ-loop
-shared-slice-read-mul-with-2 c = omega (arith, c .before .before .before .before .before .before .pre .2)
+shared-slice-read-mul-with-2 c = let start : tie.Start Inv-loop μ-loop = search in omega (arith, start .pre .2)
 
 cast-mul-with-2 : tie.Need-cast-mul-with-2 Inv-loop μ-loop
 cast-mul-with-2 c = omega (arith, c .shared-slice-known4 .given (c .before .before .before .loop .i))
 
 mul-with-requires : tie.Need-mul-with-requires Inv-loop μ-loop
 mul-with-requires c κs =
-    let (xs, ys, same, tables) = c .before .before .before .before .before .before .pre in
+    let start : tie.Start Inv-loop μ-loop = search in
+    let (xs, ys, same, tables) = start .pre in
     let t = turn (c .before .before) in
     (xs .usable-field, t .0, t .1, tables)
 
 cast-out : tie.Need-cast-out Inv-loop μ-loop
 cast-out c =
-    let (xs, ys, same, tables) = c .before .before .before .before .before .before .before .pre in
+    let start : tie.Start Inv-loop μ-loop = search in
+    let (xs, ys, same, tables) = start .pre in
     let t = turn (c .before .before .before) in
     omega (arith, c .mul-with .ensures, mul-below _ (usable-field _ (xs .usable-field)) (t .0) (t .1), size-fits _ (xs .usable-field))
 

@@ -57,13 +57,15 @@ cast-mul-with-2 c = omega (arith, c .shared-slice-known4 .given (c .before .befo
 
 mul-with-requires : tie.Need-mul-with-requires Inv-loop μ-loop
 mul-with-requires c κs =
-    let (usable, symbols, weights, fits, tables) = c .before .before .before .before .before .before .pre in
+    let start : tie.Start Inv-loop μ-loop = search in
+    let (usable, symbols, weights, fits, tables) = start .pre in
     let t = turn (c .before .before) in
     (usable, t .0, t .1, tables)
 
 add-requires : tie.Need-add-requires Inv-loop μ-loop
 add-requires c κs =
-    let (usable, symbols, weights, fits, tables) = c .before .before .before .before .before .before .before .pre in
+    let start : tie.Start Inv-loop μ-loop = search in
+    let (usable, symbols, weights, fits, tables) = start .pre in
     let t = turn (c .before .before .before) in
     let v = usable-field _ usable in
     let l = c .before .before .before .before .loop in
@@ -74,7 +76,7 @@ loop-less c = omega arith
 
 loop-again : tie.Need-loop-again Inv-loop μ-loop
 loop-again c =
-    let s = c .before .before .before .before .before .before .before .before in
+    let s : tie.Start Inv-loop μ-loop = search in
     let l = c .before .before .before .before .before .loop in
     let inside = l .inv .0 in
     (omega arith, rw (c .add .ensures, c .before .mul-with .ensures, l .inv .1) (sym (dot-before _ (s .args .symbols .now) (s .args .weights .now) (l .i) (omega arith) inside (omega arith))))

@@ -24,41 +24,45 @@ cast-k : tie.Need-cast-k
 cast-k c = search needs
 
 mul-square : tie.Need-mul-square
-mul-square c = omega (arith, row (c .before .before .before .before .before .before .before))
+mul-square c = let start : tie.Start = search in omega (arith, row start)
 
 mul-square-2 : tie.Need-mul-square-2
-mul-square-2 c = let e = mul-le-mul (row (c .before .before .before .before .before .before .before)) (few (c .before .before .before .before .before .before .before)) in omega (arith, e)
+mul-square-2 c =
+    let start : tie.Start = search in
+    let e = mul-le-mul (row start) (few start) in omega (arith, e)
 
 slice-relend-prefix-list-rows : tie.Need-slice-relend-prefix-list-rows
-slice-relend-prefix-list-rows c = c .before .before .before .before .before .before .before .before .before .pre .7
+slice-relend-prefix-list-rows c = let start : tie.Start = search in start .pre .7
 
 slice-aggregate-list-rows : tie.Need-slice-aggregate-list-rows
-slice-aggregate-list-rows c = sym (length-take-le _ _ (c .before .before .before .before .before .before .before .before .before .before .pre .7))
+slice-aggregate-list-rows c = let start : tie.Start = search in sym (length-take-le _ _ (start .pre .7))
 
 slice-relend-prefix-list-rows-2 : tie.Need-slice-relend-prefix-list-rows-2
-slice-relend-prefix-list-rows-2 c = c .before .before .before .before .before .before .before .before .before .before .pre .8
+slice-relend-prefix-list-rows-2 c = let start : tie.Start = search in start .pre .8
 
 slice-aggregate-list-rows-2 : tie.Need-slice-aggregate-list-rows-2
-slice-aggregate-list-rows-2 c = sym (length-take-le _ _ (c .before .before .before .before .before .before .before .before .before .before .before .pre .8))
+slice-aggregate-list-rows-2 c = let start : tie.Start = search in sym (length-take-le _ _ (start .pre .8))
 
 list-rows-requires : tie.Need-list-rows-requires
-list-rows-requires c κs = let p = c .before .before .before .before .before .before .before .before .before .before .before .pre in (p .0, p .1, p .2, p .6, length-take-le _ _ (p .7), length-take-le _ _ (p .8))
+list-rows-requires c κs =
+    let start : tie.Start = search in
+    let p = start .pre in (p .0, p .1, p .2, p .6, length-take-le _ _ (p .7), length-take-le _ _ (p .8))
 
 product-of-requires : tie.Need-product-of-requires
 product-of-requires c κs = search needs
 
 -- the lists are as long as they were
-same-lists : (c : tie.After-list-rows) → length (c .list-rows .last .1 .1 .1 .0) ≡ length (c .before .before .before .before .before .before .before .before .before .before .before .before .args .lists .now)
+same-lists : (c : tie.After-list-rows) → let start : tie.Start = search in length (c .list-rows .last .1 .1 .1 .0) ≡ length (start .args .lists .now)
 same-lists c = search needs
 
-same-sizes : (c : tie.After-list-rows) → length (c .list-rows .last .1 .1 .1 .1 .0) ≡ length (c .before .before .before .before .before .before .before .before .before .before .before .before .args .counts .now)
+same-sizes : (c : tie.After-list-rows) → let start : tie.Start = search in length (c .list-rows .last .1 .1 .1 .1 .0) ≡ length (start .args .counts .now)
 same-sizes c = search needs
 
 fill-requires : tie.Need-fill-requires
 unfolding outBytes width
 fill-requires c κs =
-    let s = c .before .before .before .before .before .before .before .before .before .before .before .before .before .before .before .before .before .before .before .before .before .before .before .before in
-    let lists = c .before .before .before .before .before .before .before .before .before .before .before .before in
+    let lists : tie.After-list-rows = search in
+    let s : tie.Start = search in
     rw (c .before .before .before .product-of .ensures)
     record {
       usable-field = s .pre .0 .usable-field;
@@ -88,9 +92,10 @@ same-length-5 c = search needs
 returns : tie.Need-returns
 unfolding written sideOf
 returns c =
-    let a = c .before .before .before .before .before .before .before .before .before .before .before .before .before .before .before .before .before .before .before .before .before .before .before .before .before .before .before .args in
-    let m = c .before .before .before .before .before .before .product-of .ensures in
-    rw m at (c .before .before .fill .ensures (preparedRow (a .h) (a .setup)) (rw m (c .before .before .before .before .before .before .before .before .before .before .before .before .before .before .before .list-rows .ensures)))
+    let (after-product-of, after-list-rows, start) : tie.After-product-of × tie.After-list-rows × tie.Start = (search, search, search) in
+    let a = start .args in
+    let m = after-product-of .product-of .ensures in
+    rw m at (c .before .before .fill .ensures (preparedRow (a .h) (a .setup)) (rw m (after-list-rows .list-rows .ensures)))
 
 pub fill-with-spec : {M : Type 1} → statement M
 fill-with-spec = tie.close (tie.spec cast-k mul-square mul-square-2 slice-relend-prefix-list-rows slice-aggregate-list-rows slice-relend-prefix-list-rows-2 slice-aggregate-list-rows-2 list-rows-requires product-of-requires fill-requires same-length same-length-2 same-length-3 same-length-4 same-length-5 returns)

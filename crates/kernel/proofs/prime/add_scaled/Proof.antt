@@ -41,7 +41,7 @@ slice-read-lane c = omega arith
 
 lane-requires : tie.Need-lane-requires Inv-loop μ-loop
 lane-requires c κs =
-    let s = c .before .before .before .before .before .before .before in
+    let s : tie.Start Inv-loop μ-loop = search in
     let inv = c .before .before .before .loop .inv .1 in
     (s .pre .0, s .pre .1, refl, rw (fills-next inv 0) (below-at _ _ (s .pre .3) _ (omega arith)))
 

@@ -132,20 +132,23 @@ loop-less : tie.Need-loop-less Inv-loop μ-loop
 loop-less c = omega arith
 
 -- the product of this turn's lane
-product-is : (c : tie.After-symbol Inv-loop μ-loop) → let a = c .before .before .before .before .before .before .before .before .args in productAt (a .weight) (a .first .now) (a .second .now) (c .before .before .before .before .loop .t) ≡ c .symbol .result * a .weight
+product-is : (c : tie.After-symbol Inv-loop μ-loop) → let start : tie.Start Inv-loop μ-loop = search in let a = start .args in productAt (a .weight) (a .first .now) (a .second .now) (c .before .before .before .before .loop .t) ≡ c .symbol .result * a .weight
 unfolding productAt
-product-is c = ap (λ (x : ℕ). x * c .before .before .before .before .before .before .before .before .args .weight) (sym (c .symbol .ensures))
+product-is c = let start : tie.Start Inv-loop μ-loop = search in ap (λ (x : ℕ). x * start .args .weight) (sym (c .symbol .ensures))
 
 loop-again : tie.Need-loop-again Inv-loop μ-loop
 loop-again c =
-    let turn = c .before .before .before .before .before .before .before .before .before .before in
+    let after-wrapping-add-u16 : tie.After-wrapping-add-u16 Inv-loop μ-loop = search in
+    let after-upper : tie.After-upper Inv-loop μ-loop = search in
+    let after-lower : tie.After-lower Inv-loop μ-loop = search in
+    let turn : tie.After-symbol Inv-loop μ-loop = search in
     let inv = turn .before .before .before .before .loop .inv in
     let inside = turn .before .before .before .loop-test .taken in
     let is = sym (product-is turn) in
-    let low = c .before .before .before .before .before .before .before .before .before .lower .ensures ∙ ap (λ (x : ℕ). x % 65536) is in
-    let high = c .before .before .before .before .before .before .before .before .upper .ensures ∙ ap (λ (x : ℕ). x / 65536) is in (
+    let low = after-lower .lower .ensures ∙ ap (λ (x : ℕ). x % 65536) is in
+    let high = after-upper .upper .ensures ∙ ap (λ (x : ℕ). x / 65536) is in (
       omega (arith, inside),
-      added _ _ inside (inv .1) (c .before .before .before .before .before .before .wrapping-add-u16 .ensures) low,
+      added _ _ inside (inv .1) (after-wrapping-add-u16 .wrapping-add-u16 .ensures) low,
       added _ _ inside (inv .2) (c .before .before .before .before .wrapping-add-u162 .ensures) (ap (λ (x : ℕ). x / 256) low),
       added _ _ inside (inv .3) (c .before .before .wrapping-add-u163 .ensures) high,
       added _ _ inside (inv .4) (c .wrapping-add-u164 .ensures) (ap (λ (x : ℕ). x / 256) high),

@@ -44,7 +44,7 @@ element-copy-out-remainder-4 : tie.Need-element-copy-out-remainder-4 Inv-loop μ
 element-copy-out-remainder-4 c = omega arith
 
 remainder-requires : tie.Need-remainder-requires Inv-loop μ-loop
-remainder-requires c κs = c .before .before .before .before .before .before .pre
+remainder-requires c κs = let start : tie.Start Inv-loop μ-loop = search in start .pre
 
 mul-out : tie.Need-mul-out Inv-loop μ-loop
 mul-out c = omega arith
@@ -59,7 +59,7 @@ loop-less : tie.Need-loop-less Inv-loop μ-loop
 loop-less c = omega arith
 
 loop-again : tie.Need-loop-again Inv-loop μ-loop
-loop-again c = filled-put (c .before .before .before .before .before .before .loop .inv) (omega arith) (c .remainder .ensures)
+loop-again c = let at-loop : tie.At-loop Inv-loop μ-loop = search in filled-put (at-loop .loop .inv) (omega arith) (c .remainder .ensures)
 
 returns : tie.Need-returns Inv-loop μ-loop
 unfolding from padded zeros

@@ -19,7 +19,7 @@ same-length c = search needs
 
 returns : tie.Need-returns
 returns c =
-    let st = c .before .before .before .before .before .before .before in
+    let st : tie.Start = search in
     let a = st .args in
     let one = c .before .before .before .before .if1 .taken in
     let none : a .v ≡ 0 = omega arith in
@@ -38,7 +38,8 @@ same-length-2 c = search needs
 
 returns-2 : tie.Need-returns-2
 returns-2 c =
-    let a = c .before .before .before .before .before .before .before .args in
+    let start : tie.Start = search in
+    let a = start .args in
     let two : 2 ≡ a .w = omega arith in
     c .before .before .pick-bytes .ensures ∙ ap (λ (x : ℕ). from (λ q. getD (a .part .now) (q * x + a .v) 0) 0 (length (a .out .now))) two
 

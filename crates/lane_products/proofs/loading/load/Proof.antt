@@ -34,7 +34,7 @@ same-length c = search needs
 returns : tie.Need-returns
 unfolding sideOf
 returns c =
-    let st = c .before .before .before .before .before .before .before .before in
+    let st : tie.Start = search in
     let r = c .before .before .load-rows .ensures in
     rw (c .before .before .before .before .enum-told .given .1) (r .0, λ t lane. ap (symbolsOf (st .args .w)) (r .1 t lane) ∙ symbols-bytes (st .args .w) _ (st .pre .0))
 

@@ -47,7 +47,7 @@ same-length c = search needs
 
 returns : tie.Need-returns
 returns c =
-    let s = c .before .before .before .before .before .before .before in
+    let s : tie.Start = search in
     let a = s .args in
     let g = c .before .before .gather .ensures in
     (g .0, λ t lane. ap (symbolsOf (a .w)) (g .1 t lane ∙ lane-of-part (a .w * a .m .rows) (a .m .lanes) (a .source .now) (s .pre .2) (a .first) (a .count) t lane) ∙ lane-read (a .w) (a .m .rows) (a .m .lanes) (a .source .now) (s .pre .0) (s .pre .2) (a .first + t) (omega arith))

@@ -64,7 +64,7 @@ loop-less c = omega arith
 
 loop-again : tie.Need-loop-again Inv-loop μ-loop
 loop-again c =
-    let st = c .before .before .before .before .before .before .before .before in
+    let st : tie.Start Inv-loop μ-loop = search in
     let a = st .args in
     let l = c .before .before .before .before .before .loop in
     let fits = row-in (c .before .before .before .before) in

@@ -96,7 +96,7 @@ part-load-row-end-2 c = tile-in (c .before)
 
 load-row-requires : tie.Need-load-row-requires Inv-loop μ-loop
 load-row-requires c κs =
-    let st = c .before .before .before .before .before .before in
+    let st : tie.Start Inv-loop μ-loop = search in
     let a = st .args in
     let l = c .before .before .before .loop in
     (st .pre .1, st .pre .4, part-length ((l .r * a .m .lanes + a .first) * a .w) (a .count * a .w) (a .source .now) (source-in (c .before .before)), part-length (l .r * (a .w * 64)) (a .w * 64) (l .tile) (tile-in (c .before .before)))
@@ -109,15 +109,17 @@ loop-less c = omega arith
 
 loop-again : tie.Need-loop-again Inv-loop μ-loop
 loop-again c =
-    let st = c .before .before .before .before .before .before .before .before .before in
+    let at-loop : tie.At-loop Inv-loop μ-loop = search in
+    let after-shared-slice-known : tie.After-shared-slice-known Inv-loop μ-loop = search in
+    let st : tie.Start Inv-loop μ-loop = search in
     let a = st .args in
-    let l = c .before .before .before .before .before .before .loop in
+    let l = at-loop .loop in
     let row = c .before .before .before .before .before .loop-test .taken in
     let after = c .before .before .load-row .last .1 .1 .1 .0 in
     let at : l .r * (a .w * 64) ≡ l .r * a .w * 64 = sym (mul-assoc (l .r) (a .w) 64) in
     let fits : l .r * a .w * 64 + a .w * 64 ≤ length (l .tile) = rw (← at) (tile-in (c .before .before .before .before .before)) in
     let size : length after ≡ a .w * 64 = omega (arith, part-length (l .r * (a .w * 64)) (a .w * 64) (l .tile) (tile-in (c .before .before .before .before .before))) in
-    let low : allBelow 256 (a .source .now) ≡ true = at-below 256 (a .source .now) (λ i h. omega (arith, c .before .before .before .before .before .before .before .before .shared-slice-known .given i)) in
+    let low : allBelow 256 (a .source .now) ≡ true = at-below 256 (a .source .now) (λ i h. omega (arith, after-shared-slice-known .shared-slice-known .given i)) in
     (omega arith, omega (arith, l .inv .1), rw (at, part-size (l .r * a .w * 64) (a .w * 64), row-after (l .r) (a .w)) (tile-more (a .w * a .m .rows) (l .r * a .w) (a .w) (a .count) _ (l .tile) after (a .w * 64) size fits (st .pre .4) (l .inv .2) (row-loaded (a .w) (a .m .rows) (a .m .lanes) (a .source .now) (st .pre .0) (st .pre .2) low (l .r) (a .first) (a .count) row (st .pre .3) (st .pre .4) after (c .before .before .load-row .ensures))))
 
 same-length : tie.Need-same-length Inv-loop μ-loop

@@ -43,7 +43,7 @@ part-add-marks-end : tie.Need-part-add-marks-end Inv-loop μ-loop
 part-add-marks-end c = omega (arith, row-in c)
 
 add-marks-requires : tie.Need-add-marks-requires Inv-loop μ-loop
-add-marks-requires c κs = omega (arith, c .before .before .before .before .before .before .pre .0, marks-long (c .before .before .before), part-length (c .before .before .before .loop .i * 64) 64 (c .before .before .before .before .before .before .args .words .now) (row-in (c .before .before)))
+add-marks-requires c κs = let start : tie.Start Inv-loop μ-loop = search in omega (arith, start .pre .0, marks-long (c .before .before .before), part-length (c .before .before .before .loop .i * 64) 64 (start .args .words .now) (row-in (c .before .before)))
 
 add-i : tie.Need-add-i Inv-loop μ-loop
 add-i c = omega arith
@@ -53,9 +53,10 @@ loop-less c = omega arith
 
 loop-again : tie.Need-loop-again Inv-loop μ-loop
 loop-again c =
-    let st = c .before .before .before .before .before .before .before .before .before in
+    let at-loop : tie.At-loop Inv-loop μ-loop = search in
+    let st : tie.Start Inv-loop μ-loop = search in
     let a = st .args in
-    let l = c .before .before .before .before .before .before .loop in
+    let l = at-loop .loop in
     let part = take (l .i * 64 + 64 - l .i * 64) (drop (l .i * 64) (a .words .now)) in
     (omega arith, c .before .before .add-marks .ensures ∙ ap (lanewise _) (l .inv .1) ∙ zero-more (a .count) (λ i t. getD (a .words .now) (i * 64 + t) 0) (l .i) part (λ t lane. getD-part (l .i * 64) 64 (a .words .now) t (omega (arith, st .pre .0))))
 

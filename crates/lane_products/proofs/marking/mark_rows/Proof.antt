@@ -7,7 +7,7 @@ clear-requires : tie.Need-clear-requires
 clear-requires c κs = search needs
 
 add-rows-requires : tie.Need-add-rows-requires
-add-rows-requires c κs = let st = c .before .before .before .before .before .before .before in (st .pre .0, st .pre .1, c .before .before .before .clear .ensures)
+add-rows-requires c κs = let st : tie.Start = search in (st .pre .0, st .pre .1, c .before .before .before .clear .ensures)
 
 same-length : tie.Need-same-length
 same-length c = search needs

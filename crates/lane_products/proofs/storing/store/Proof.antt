@@ -20,21 +20,21 @@ enum-told c = search needs
 
 store-lanes-requires : tie.Need-store-lanes-requires
 unfolding outBytes
-store-lanes-requires c κs = let st = c .before .before .before .before .before .before .before in (omega (arith, few st), st .pre .3, st .pre .4, st .pre .6, st .pre .7, rw (c .before .before .enum-told .given .1) at (st .pre .8))
+store-lanes-requires c κs = let st : tie.Start = search in (omega (arith, few st), st .pre .3, st .pre .4, st .pre .6, st .pre .7, rw (c .before .before .enum-told .given .1) at (st .pre .8))
 
 enum-told-2 : tie.Need-enum-told-2
 enum-told-2 c = search needs
 
 store-rows-requires : tie.Need-store-rows-requires
 unfolding outBytes
-store-rows-requires c κs = let st = c .before .before .before .before .before .before in (st .pre .0, st .pre .1, st .pre .3, st .pre .4, st .pre .5, room st, rw (c .before .enum-told2 .given .1) at (st .pre .8))
+store-rows-requires c κs = let st : tie.Start = search in (st .pre .0, st .pre .1, st .pre .3, st .pre .4, st .pre .5, room st, rw (c .before .enum-told2 .given .1) at (st .pre .8))
 
 enum-told-3 : tie.Need-enum-told-3
 enum-told-3 c = search needs
 
 store-marks-requires : tie.Need-store-marks-requires
 unfolding outBytes
-store-marks-requires c κs = let st = c .before .before .before .before .before .before in (st .pre .0, st .pre .1, omega (arith, few st), st .pre .3, st .pre .4, room st, rw (c .before .enum-told3 .given .1) at (st .pre .8))
+store-marks-requires c κs = let st : tie.Start = search in (st .pre .0, st .pre .1, omega (arith, few st), st .pre .3, st .pre .4, room st, rw (c .before .enum-told3 .given .1) at (st .pre .8))
 
 same-length : tie.Need-same-length
 same-length c = search needs
@@ -44,7 +44,7 @@ same-length-2 c = search needs
 
 returns : tie.Need-returns
 unfolding Done
-returns c = rw (c .before .before .before .before .before .before .before .enum-told .given .1) (c .before .before .before .before .store-lanes .ensures)
+returns c = let after-enum-told : tie.After-enum-told = search in rw (after-enum-told .enum-told .given .1) (c .before .before .before .before .store-lanes .ensures)
 
 same-length-3 : tie.Need-same-length-3
 same-length-3 c = search needs

@@ -56,7 +56,7 @@ part-scatter-end c = out-in (c .before .before .before .before .before)
 
 scatter-requires : tie.Need-scatter-requires
 scatter-requires c κs =
-    let st = c .before .before .before .before .before .before in
+    let st : tie.Start = search in
     let a = st .args in
     (st .pre .0, st .pre .1, length-take-le _ _ (st .pre .3), length-take-le _ _ (st .pre .4) ∙ sym (length-take-le _ _ (st .pre .3)), part-length (a .first * (a .w * a .m .outputs)) (a .count * (a .w * a .m .outputs)) (a .out .now) (out-in st))
 
@@ -67,8 +67,10 @@ same-length-2 : tie.Need-same-length-2
 same-length-2 c = search needs
 
 returns : tie.Need-returns
-returns c = λ f sums base.
-    let st = c .before .before .before .before .before .before .before .before .before .before .before in
+returns c =
+    let start : tie.Start = search in
+    λ f sums base.
+    let st = start in
     let a = st .args in
     let n = a .w * a .m .outputs in
     let size = (n + 15) / 16 * 1024 in

@@ -35,8 +35,10 @@ same-length : tie.Need-same-length
 same-length c = search needs
 
 returns : tie.Need-returns
-returns c = λ f sums base.
-    let st = c .before .before .before .before .before .before in
+returns c =
+    let start : tie.Start = search in
+    λ f sums base.
+    let st = start in
     let a = st .args in
     let count = part-length (a .first) (a .count) (a .out .now) (marks-in st) in
     let made = c .before .before .mark-rows .ensures ∙ ap (λ (x : ℕ). zeroMarks (a .w * a .m .outputs) x (λ i t. getD (a .words .now) (i * 64 + t) 0)) count in

@@ -24,7 +24,8 @@ same-length c = search needs
 
 returns : tie.Need-returns
 returns c =
-    let a = c .before .before .before .before .before .before .before .before .args in
+    let start : tie.Start = search in
+    let a = start .args in
     rw (c .before .before .before .before .before .if1 .taken)
     (λ q v lane byte.
     let none : v ≡ 0 = omega arith in
@@ -39,7 +40,9 @@ same-length-2 : tie.Need-same-length-2
 same-length-2 c = search needs
 
 returns-2 : tie.Need-returns-2
-returns-2 c = let two : c .before .before .before .before .before .before .before .args .w ≡ 2 = omega arith in rw two (c .before .before .join .ensures)
+returns-2 c =
+    let start : tie.Start = search in
+    let two : start .args .w ≡ 2 = omega arith in rw two (c .before .before .join .ensures)
 
 pub store-row-spec : {M : Type 1} → statement M
 store-row-spec = tie.close (tie.spec slice-aggregate-copy copy-requires same-length returns join-requires same-length-2 returns-2)

@@ -97,7 +97,7 @@ part-store-row-end-2 c = omega (arith, out-in (c .before))
 
 store-row-requires : tie.Need-store-row-requires Inv-loop μ-loop
 store-row-requires c κs =
-    let st = c .before .before .before .before .before .before in
+    let st : tie.Start Inv-loop μ-loop = search in
     let a = st .args in
     let l = c .before .before .before .loop in
     (st .pre .0, st .pre .1, st .pre .2, part-length (l .i * (a .w * 64)) (a .w * 64) (a .words .now) (words-in (c .before .before)), part-length (l .i * (a .m .lanes * a .w) + a .first * a .w) (a .count * a .w) (l .out) (out-in (c .before .before)))
@@ -110,9 +110,10 @@ loop-less c = omega arith
 
 loop-again : tie.Need-loop-again Inv-loop μ-loop
 loop-again c =
-    let st = c .before .before .before .before .before .before .before .before .before in
+    let at-loop : tie.At-loop Inv-loop μ-loop = search in
+    let st : tie.Start Inv-loop μ-loop = search in
     let a = st .args in
-    let l = c .before .before .before .before .before .before .loop in
+    let l = at-loop .loop in
     let in-loop = c .before .before .before .before .before in
     let start = l .i * (a .m .lanes * a .w) + a .first * a .w in
     let row = take (l .i * (a .w * 64) + a .w * 64 - l .i * (a .w * 64)) (drop (l .i * (a .w * 64)) (a .words .now)) in

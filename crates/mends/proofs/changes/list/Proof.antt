@@ -26,7 +26,8 @@ slice-aggregate-list-nodes c = search needs
 
 list-nodes-requires : tie.Need-list-nodes-requires
 list-nodes-requires c κs =
-    let (has, few, nodes, symbols) = c .before .before .before .before .before .before .before .before .before .pre in
+    let start : tie.Start = search in
+    let (has, few, nodes, symbols) = start .pre in
     (has .has, c .before .before .before .powers .ensures, nodes, c .before .before .before .before .constant-tables .ensures)
 
 slice-aggregate-new-symbols : tie.Need-slice-aggregate-new-symbols
@@ -40,35 +41,44 @@ slice-aggregate-new-symbols-2 c = let e = c .before .before .before .before .bef
 
 new-symbols-requires : tie.Need-new-symbols-requires
 new-symbols-requires c κs =
-    let (has, few, nodes, symbols) = c .before .before .before .before .before .before .before .before .before .before .before .before .before .before .before .pre in
+    let after-powers : tie.After-powers = search in
+    let after-constant-tables : tie.After-constant-tables = search in
+    let start : tie.Start = search in
+    let (has, few, nodes, symbols) = start .pre in
     let e = c .before .before .before .before .before .list-nodes .ensures in
     let part = front-part _ _ _ _ (e .1) (e .0) in
-    let short = up-few (c .before .before .before .before .before .before .before .before .before .before .before .before .before .before .before .args .h) (c .before .before .before .before .before .before .before .before .before .before .before .before .before .before .before .args .sums .now) in
-    (has, c .before .before .before .before .before .before .before .before .before .powers .ensures, rw part (up-below _ _), rw part (omega (arith, short, few)), c .before .before .before .before .before .before .before .before .before .before .constant-tables .ensures)
+    let short = up-few (start .args .h) (start .args .sums .now) in
+    (has, after-powers .powers .ensures, rw part (up-below _ _), rw part (omega (arith, short, few)), after-constant-tables .constant-tables .ensures)
 
 -- the part of the new symbols that is written
 new-part : (c : tie.After-new-symbols)
-    → let a = c .before .before .before .before .before .before .before .before .before .before .before .before .before .before .before .before .args in
-    take (c .before .before .before .before .before .before .list-nodes .result) (c .new-symbols .result) ≡ map (mendedAt (a .h) (a .lane .now) (a .sums .now)) (upNodes (a .h) (a .sums .now))
+    → let after-list-nodes : tie.After-list-nodes = search in let start : tie.Start = search in let a = start .args in
+    take (after-list-nodes .list-nodes .result) (c .new-symbols .result) ≡ map (mendedAt (a .h) (a .lane .now) (a .sums .now)) (upNodes (a .h) (a .sums .now))
 new-part c =
-    let a = c .before .before .before .before .before .before .before .before .before .before .before .before .before .before .before .before .args in
-    let e = c .before .before .before .before .before .before .list-nodes .ensures in
+    let after-list-nodes : tie.After-list-nodes = search in
+    let start : tie.Start = search in
+    let a = start .args in
+    let e = after-list-nodes .list-nodes .ensures in
     rw (c .new-symbols .ensures, front-part _ _ _ _ (e .1) (e .0)) (take-padded 255 _ _ (length-map (upNodes (a .h) (a .sums .now)) (mendedAt (a .h) (a .lane .now) (a .sums .now)) ∙ sym (e .0)))
 
 array-share-prefix-new : tie.Need-array-share-prefix-new
 array-share-prefix-new c =
-    let s = c .before .before .before .before .before .before .before .before .before .before .before .before .before .before .before .before in
-    omega (arith, up-few (s .args .h) (s .args .sums .now), c .before .before .before .before .before .before .list-nodes .ensures .0, s .pre .1)
+    let after-list-nodes : tie.After-list-nodes = search in
+    let s : tie.Start = search in
+    omega (arith, up-few (s .args .h) (s .args .sums .now), after-list-nodes .list-nodes .ensures .0, s .pre .1)
 
 slice-aggregate-put-symbols : tie.Need-slice-aggregate-put-symbols
 slice-aggregate-put-symbols c =
-    let a = c .before .before .before .before .before .before .before .before .before .before .before .before .before .before .before .before .before .args in
-    rw (new-part (c .before)) (c .before .before .before .before .before .before .before .list-nodes .ensures .0 ∙ sym (length-map (upNodes (a .h) (a .sums .now)) (mendedAt (a .h) (a .lane .now) (a .sums .now))))
+    let after-list-nodes : tie.After-list-nodes = search in
+    let start : tie.Start = search in
+    let a = start .args in
+    rw (new-part (c .before)) (after-list-nodes .list-nodes .ensures .0 ∙ sym (length-map (upNodes (a .h) (a .sums .now)) (mendedAt (a .h) (a .lane .now) (a .sums .now))))
 
 put-symbols-requires : tie.Need-put-symbols-requires
 put-symbols-requires c κs =
-    let a = c .before .before .before .before .before .before .before .before .before .before .before .before .before .before .before .before .before .before .args in
-    let (has, few, nodes, symbols) = c .before .before .before .before .before .before .before .before .before .before .before .before .before .before .before .before .before .before .pre in
+    let start : tie.Start = search in
+    let a = start .args in
+    let (has, few, nodes, symbols) = start .pre in
     let many = length-map (upNodes (a .h) (a .sums .now)) (mendedAt (a .h) (a .lane .now) (a .sums .now)) in
     rw (new-part (c .before .before)) (has .has .sound, new-below _ _ _ has _ (up-below _ _), omega (arith, many, up-few (a .h) (a .sums .now)), few, symbols)
 
@@ -80,8 +90,10 @@ same-length-2 c = search needs
 
 returns : tie.Need-returns
 returns c =
-    let a = c .before .before .before .before .before .before .before .before .before .before .before .before .before .before .before .before .before .before .before .before .before .args in
-    let e = c .before .before .before .before .before .before .before .before .before .before .before .list-nodes .ensures in
+    let after-list-nodes : tie.After-list-nodes = search in
+    let start : tie.Start = search in
+    let a = start .args in
+    let e = after-list-nodes .list-nodes .ensures in
     let symbols = ap (λ (l : List ℕ). inFront (bytesOf (width (a .h)) l) (a .symbols .now)) (new-part (c .before .before .before .before .before)) in
     (e .0, e .1, c .before .before .put-symbols .ensures ∙ symbols)
 

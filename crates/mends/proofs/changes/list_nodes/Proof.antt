@@ -35,19 +35,21 @@ abbrev μ-loop : tie.MeasureT-loop
 
 -- the power of node j
 read : (c : tie.In-loop Inv-loop μ-loop)
-    → let a = c .before .before .before .before .before .before .args in
+    → let start : tie.Start Inv-loop μ-loop = search in let a = start .args in
     getD (a .roots .now) (c .before .loop .j) 0 ≡ power (modulusOf (a .h)) (a .h .root) (c .before .loop .j)
 read c =
-    let (has, table, long, tables) = c .before .before .before .before .before .before .pre in
+    let start : tie.Start Inv-loop μ-loop = search in
+    let (has, table, long, tables) = start .pre in
     rw table (power-at _ _ (c .loop-test .taken))
 
 -- the place that is found decides the test
 tested : (c : tie.After-first-off Inv-loop μ-loop)
-    → let a = c .before .before .before .before .before .before .before .before .args in
+    → let start : tie.Start Inv-loop μ-loop = search in let a = start .args in
     eqb (c .first-off .result) (length (a .sums .now) - 1) ≡ up (a .h) (a .sums .now) (c .before .before .before .loop .j)
 unfolding goesUp
 tested c =
-    let a = c .before .before .before .before .before .before .before .before .args in
+    let start : tie.Start Inv-loop μ-loop = search in
+    let a = start .args in
     ap (λ (e : ℕ). eqb e (length (a .sums .now) - 1)) (c .first-off .ensures ∙ ap (λ (x : ℕ). firstOff (modulusOf (a .h)) x (a .sums .now)) (read (c .before .before)))
 
 cast-n : tie.Need-cast-n Inv-loop μ-loop
@@ -65,7 +67,8 @@ mul-first-off c = omega arith
 
 shared-slice-read-first-off : tie.Need-shared-slice-read-first-off Inv-loop μ-loop
 shared-slice-read-first-off c =
-    let (has, table, long, tables) = c .before .before .before .before .before .before .before .pre in
+    let start : tie.Start Inv-loop μ-loop = search in
+    let (has, table, long, tables) = start .pre in
     rw table (power-place _ _ (c .before .loop-test .taken))
 
 cast-first-off : tie.Need-cast-first-off Inv-loop μ-loop
@@ -73,7 +76,8 @@ cast-first-off c = omega (arith, c .shared-slice-known3 .given (c .before .befor
 
 first-off-requires : tie.Need-first-off-requires Inv-loop μ-loop
 first-off-requires c κs =
-    let (has, table, long, tables) = c .before .before .before .before .before .before .before .pre in
+    let start : tie.Start Inv-loop μ-loop = search in
+    let (has, table, long, tables) = start .pre in
     let s = has .sound in
     (has, rw (read (c .before)) (power-below _ (s .field) _ (s .root-below)), tables)
 
@@ -82,7 +86,8 @@ cast-nodes c = omega arith
 
 slice-write-nodes : tie.Need-slice-write-nodes Inv-loop μ-loop
 slice-write-nodes c =
-    let (has, table, long, tables) = c .before .before .before .before .before .before .before .before .before .pre in
+    let start : tie.Start Inv-loop μ-loop = search in
+    let (has, table, long, tables) = start .pre in
     omega (arith, long, c .before .before .before .before .loop .inv .2 .long)
 
 add-count : tie.Need-add-count Inv-loop μ-loop
@@ -96,8 +101,9 @@ loop-less c = omega arith
 
 loop-again : tie.Need-loop-again Inv-loop μ-loop
 loop-again c =
+    let start : tie.Start Inv-loop μ-loop = search in
     let l = c .before .before .before .before .loop in
-    let (has, table, long, tables) = c .before .before .before .before .before .before .before .before .before .pre in
+    let (has, table, long, tables) = start .pre in
     let todo = rw (passing-next _ _ _ (c .before .before .before .loop-test .taken)) at (l .inv .2) in
     let test = tested (c .before) in
     let came = c .if1 .came in (
@@ -111,7 +117,7 @@ loop-again c =
 
 -- all nodes are tested
 done : (c : tie.After-loop Inv-loop μ-loop)
-    → let a = c .before .before .before .before .before .before .args in
+    → let start : tie.Start Inv-loop μ-loop = search in let a = start .args in
     Fills (a .nodes .now) (c .before .loop .nodes) (c .before .loop .count) [] (upNodes (a .h) (a .sums .now))
 done c = rw (passing-end _ _ _ (c .loop-test .left)) at (c .before .loop .inv .2)
 

@@ -22,40 +22,46 @@ inside n j node = mod-lt (n - j) (omega arith)
 
 -- what is read there
 read : (c : tie.After-shared-slice-known5)
-    → let a = c .before .before .before .before .before .before .args in
+    → let start : tie.Start = search in let a = start .args in
     getD (a .roots .now) ((a .h .n - a .j) % a .h .n) 0 ≡ power (modulusOf (a .h)) (a .h .root) ((a .h .n - a .j) % a .h .n)
 read c =
-    let (has, table, node, tables) = c .before .before .before .before .before .before .pre in
+    let start : tie.Start = search in
+    let (has, table, node, tables) = start .pre in
     rw table (power-at _ _ (inside _ _ node))
 
 -- and the first check sum are symbols
 read-below : (c : tie.After-shared-slice-known5)
-    → let a = c .before .before .before .before .before .before .args in
+    → let start : tie.Start = search in let a = start .args in
     getD (a .roots .now) ((a .h .n - a .j) % a .h .n) 0 < size (a .h)
 read-below c =
-    let (has, table, node, tables) = c .before .before .before .before .before .before .pre in
+    let start : tie.Start = search in
+    let (has, table, node, tables) = start .pre in
     let s = has .has .sound in
     rw (read c) (power-below _ (s .field) _ (s .root-below))
 
-sum-below : (c : tie.After-shared-slice-known5) → let a = c .before .before .before .before .before .before .args in getD (a .sums .now) 0 0 < size (a .h)
+sum-below : (c : tie.After-shared-slice-known5) → let start : tie.Start = search in let a = start .args in getD (a .sums .now) 0 0 < size (a .h)
 sum-below c =
-    let (has, table, node, tables) = c .before .before .before .before .before .before .pre in
+    let start : tie.Start = search in
+    let (has, table, node, tables) = start .pre in
     below-at _ _ (has .has .symbols) 0 (has .has .some)
 
-amount-below : (c : tie.After-mul-with) → c .mul-with .result < size (c .before .before .before .before .before .before .before .args .h)
+amount-below : (c : tie.After-mul-with) → let start : tie.Start = search in c .mul-with .result < size (start .args .h)
 amount-below c =
-    let (has, table, node, tables) = c .before .before .before .before .before .before .before .pre in
+    let start : tie.Start = search in
+    let (has, table, node, tables) = start .pre in
     rw (c .mul-with .ensures) (mul-below _ (has .has .sound .field) (sum-below (c .before)) (read-below (c .before)))
 
-held-below : (c : tie.After-shared-slice-known6) → let a = c .before .before .before .before .before .before .before .before .args in getD (a .lane .now) (a .j) 0 < size (a .h)
+held-below : (c : tie.After-shared-slice-known6) → let start : tie.Start = search in let a = start .args in getD (a .lane .now) (a .j) 0 < size (a .h)
 held-below c =
-    let (has, table, node, tables) = c .before .before .before .before .before .before .before .before .pre in
+    let start : tie.Start = search in
+    let (has, table, node, tables) = start .pre in
     below-at _ _ (has .lane .symbols) _ (omega (arith, has .lane .long))
 
-result-is : (c : tie.After-sub) → let a = c .before .before .before .before .before .before .before .before .before .args in c .sub .result ≡ mendedAt (a .h) (a .lane .now) (a .sums .now) (a .j)
+result-is : (c : tie.After-sub) → let start : tie.Start = search in let a = start .args in c .sub .result ≡ mendedAt (a .h) (a .lane .now) (a .sums .now) (a .j)
 unfolding mendedAt
 result-is c =
-    let a = c .before .before .before .before .before .before .before .before .before .args in
+    let start : tie.Start = search in
+    let a = start .args in
     c .sub .ensures
     ∙ ap (sub (modulusOf (a .h)) (getD (a .lane .now) (a .j) 0)) (c .before .before .mul-with .ensures ∙ ap (mul (modulusOf (a .h)) (getD (a .sums .now) 0 0)) (read (c .before .before .before)))
 
@@ -79,34 +85,42 @@ mul-mul-with c = let (has, table, node, tables) = c .before .before .before .bef
 
 shared-slice-read-mul-with-2 : tie.Need-shared-slice-read-mul-with-2
 shared-slice-read-mul-with-2 c =
-    let (has, table, node, tables) = c .before .before .before .before .before .before .pre in
+    let start : tie.Start = search in
+    let (has, table, node, tables) = start .pre in
     rw table (power-place _ _ (inside _ _ node))
 
 cast-mul-with-2 : tie.Need-cast-mul-with-2
-cast-mul-with-2 c = let a = c .before .before .before .before .before .before .args in omega (arith, c .shared-slice-known5 .given ((a .h .n - a .j) % a .h .n))
+cast-mul-with-2 c =
+    let start : tie.Start = search in
+    let a = start .args in omega (arith, c .shared-slice-known5 .given ((a .h .n - a .j) % a .h .n))
 
 mul-with-requires : tie.Need-mul-with-requires
 mul-with-requires c κs =
-    let (has, table, node, tables) = c .before .before .before .before .before .before .pre in
+    let start : tie.Start = search in
+    let (has, table, node, tables) = start .pre in
     (has .has .sound .usable-field, sum-below c, read-below c, tables)
 
 mul-sub : tie.Need-mul-sub
 mul-sub c = search needs
 
 shared-slice-read-sub : tie.Need-shared-slice-read-sub
-shared-slice-read-sub c = let (has, table, node, tables) = c .before .before .before .before .before .before .before .before .pre in omega (arith, has .lane .long)
+shared-slice-read-sub c =
+    let start : tie.Start = search in
+    let (has, table, node, tables) = start .pre in omega (arith, has .lane .long)
 
 cast-sub : tie.Need-cast-sub
-cast-sub c = omega (arith, c .shared-slice-known6 .given (c .before .before .before .before .before .before .before .before .args .j))
+cast-sub c = let start : tie.Start = search in omega (arith, c .shared-slice-known6 .given (start .args .j))
 
 sub-requires : tie.Need-sub-requires
 sub-requires c κs =
-    let (has, table, node, tables) = c .before .before .before .before .before .before .before .before .pre in
+    let start : tie.Start = search in
+    let (has, table, node, tables) = start .pre in
     (has .has .sound .usable-field, held-below c, amount-below (c .before))
 
 cast-result : tie.Need-cast-result
 cast-result c =
-    let (has, table, node, tables) = c .before .before .before .before .before .before .before .before .before .pre in
+    let start : tie.Start = search in
+    let (has, table, node, tables) = start .pre in
     omega (arith, result-is c, mended-below _ _ _ has _ node, size-fits _ (has .has .sound .usable-field))
 
 returns : tie.Need-returns

@@ -29,14 +29,19 @@ cast-mended c = omega (arith, c .shared-slice-known5 .given (c .before .before .
 
 mended-requires : tie.Need-mended-requires Inv-loop μ-loop
 mended-requires c κs =
-    let (has, table, nodes, few, tables) = c .before .before .before .before .before .before .before .pre in
+    let start : tie.Start Inv-loop μ-loop = search in
+    let (has, table, nodes, few, tables) = start .pre in
     (has, table, below-at _ _ nodes _ (c .before .loop-test .taken), tables)
 
 mul-out : tie.Need-mul-out Inv-loop μ-loop
-mul-out c = let (has, table, nodes, few, tables) = c .before .before .before .before .before .before .before .before .pre in omega arith
+mul-out c =
+    let start : tie.Start Inv-loop μ-loop = search in
+    let (has, table, nodes, few, tables) = start .pre in omega arith
 
 array-write-out : tie.Need-array-write-out Inv-loop μ-loop
-array-write-out c = let (has, table, nodes, few, tables) = c .before .before .before .before .before .before .before .before .pre in omega arith
+array-write-out c =
+    let start : tie.Start Inv-loop μ-loop = search in
+    let (has, table, nodes, few, tables) = start .pre in omega arith
 
 add-i : tie.Need-add-i Inv-loop μ-loop
 add-i c = omega arith
@@ -49,7 +54,8 @@ loop-again c = filled-put (c .before .before .before .loop .inv) (c .before .bef
 
 returns : tie.Need-returns Inv-loop μ-loop
 returns c =
-    let a = c .before .before .before .before .before .before .args in
+    let start : tie.Start Inv-loop μ-loop = search in
+    let a = start .args in
     filled-end (c .before .loop .inv) (c .loop-test .left) ∙ ap (padded 255) (sym (map-from (mendedAt (a .h) (a .lane .now) (a .sums .now)) (a .nodes .now)))
 
 pub new-symbols-spec : {M : Type 1} → statement M

@@ -44,7 +44,8 @@ same-length c = search needs
 
 returns : tie.Need-returns
 returns c =
-    let a = c .before .before .before .before .before .before .before .args in
+    let start : tie.Start = search in
+    let a = start .args in
     let wide = c .before .before .before .before .width-of in
     front-bytes (width (a .h)) (length (a .new .now)) (wide .result) _ (a .new .now) _ (c .before .before .write-symbols .ensures) (wide .ensures .0) refl
 

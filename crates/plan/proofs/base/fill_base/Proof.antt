@@ -82,8 +82,9 @@ loop-holds c =
 
 next-entry-requires : tie.Need-next-entry-requires Inv-loop μ-loop
 next-entry-requires c κs =
-    let h = c .before .before .before .before .before .before .before .args .h in
-    let s = c .before .before .before .before .before .before .before .pre .0 in
+    let start : tie.Start Inv-loop μ-loop = search in
+    let h = start .args .h in
+    let s = start .pre .0 in
     let pole = c .before .before .before .power2 .ensures in
     let l = c .before .loop in (
       s,
@@ -92,23 +93,25 @@ next-entry-requires c κs =
       rw (l .inv .1) (power-below _ (s .field) _ (s .root-below)),
       λ q. pole-apart h s (l .j) (omega (arith, s .some)) (sym (l .inv .1) ∙ q ∙ pole),
       l .inv .2,
-      c .before .before .before .before .before .before .before .pre .1,
+      start .pre .1,
     )
 
 mul-with-requires : tie.Need-mul-with-requires Inv-loop μ-loop
 mul-with-requires c κs =
-    let s = c .before .before .before .before .before .before .before .before .pre .0 in
-    (s .usable-field, s .root-below, rw (c .before .before .loop .inv .1) (power-below _ (s .field) _ (s .root-below)), c .before .before .before .before .before .before .before .before .pre .1)
+    let start : tie.Start Inv-loop μ-loop = search in
+    let s = start .pre .0 in
+    (s .usable-field, s .root-below, rw (c .before .before .loop .inv .1) (power-below _ (s .field) _ (s .root-below)), start .pre .1)
 
 -- after a turn, x and the entry are those of j + 1
 turn : (c : tie.After-mul-with Inv-loop μ-loop)
-    → let h = c .before .before .before .before .before .before .before .before .before .args .h in
+    → let start : tie.Start Inv-loop μ-loop = search in let h = start .args .h in
     (c .mul-with .result ≡ power (modulusOf h) (h .root) (c .before .before .before .loop .j + 1 + (h .k - 1)))
     × (c .before .next-entry .result ≡ baseAt h (c .mul-with .result))
     × (c .before .next-entry .result ≡ entryAt h 0 (c .before .before .before .loop .j + 1))
 turn c =
-    let h = c .before .before .before .before .before .before .before .before .before .args .h in
-    let s = c .before .before .before .before .before .before .before .before .before .pre .0 in
+    let start : tie.Start Inv-loop μ-loop = search in
+    let h = start .args .h in
+    let s = start .pre .0 in
     let l = c .before .before .before .loop in
     let next = c .mul-with .ensures ∙ power-turn _ _ _ (l .j) (h .k - 1) (l .inv .1) in
     let value : c .before .next-entry .result ≡ baseAt h (c .mul-with .result) = rw (c .mul-with .ensures) (c .before .next-entry .ensures) in
@@ -119,7 +122,8 @@ add-j c = omega arith
 
 cast-out-2 : tie.Need-cast-out-2 Inv-loop μ-loop
 cast-out-2 c =
-    let s = c .before .before .before .before .before .before .before .before .before .pre .0 in
+    let start : tie.Start Inv-loop μ-loop = search in
+    let s = start .pre .0 in
     omega (arith, turn c .2, entryAt-below _ s 0 (c .before .before .before .loop .j + 1), size-fits _ (s .usable-field))
 
 mul-out : tie.Need-mul-out Inv-loop μ-loop
@@ -134,7 +138,8 @@ loop-less c = omega arith
 loop-again : tie.Need-loop-again Inv-loop μ-loop
 unfolding distance
 loop-again c =
-    let h = c .before .before .before .before .before .before .before .before .before .args .h in
+    let start : tie.Start Inv-loop μ-loop = search in
+    let h = start .args .h in
     let l = c .before .before .before .loop in
     let t = turn c in (
       omega arith,
@@ -146,8 +151,9 @@ loop-again c =
 returns : tie.Need-returns Inv-loop μ-loop
 unfolding distance
 returns c =
-    let h = c .before .before .before .before .before .before .before .args .h in
-    let s = c .before .before .before .before .before .before .before .pre .0 in
+    let start : tie.Start Inv-loop μ-loop = search in
+    let h = start .args .h in
+    let s = start .pre .0 in
     let l = c .before .loop in
     filled-end (l .inv .3) (omega arith)
     ∙ sym (base-padded h s 255 (omega arith))

@@ -58,8 +58,9 @@ mul-with-requires c κs =
 
 mul-with-requires-2 : tie.Need-mul-with-requires-2 Inv-loop μ-loop
 mul-with-requires-2 c κs =
-    let s = c .before .before .before .before .before .before .pre .0 in
-    (s .usable-field, s .root-below, turn (c .before .before) .1, c .before .before .before .before .before .before .pre .1)
+    let start : tie.Start Inv-loop μ-loop = search in
+    let s = start .pre .0 in
+    (s .usable-field, s .root-below, turn (c .before .before) .1, start .pre .1)
 
 add-i : tie.Need-add-i Inv-loop μ-loop
 add-i c = omega arith
@@ -69,7 +70,8 @@ loop-less c = omega arith
 
 loop-again : tie.Need-loop-again Inv-loop μ-loop
 loop-again c =
-    let s = c .before .before .before .before .before .before .before .pre .0 in
+    let start : tie.Start Inv-loop μ-loop = search in
+    let s = start .pre .0 in
     let x = c .before .before .before .before .before .power .result in
     let l = c .before .before .before .before .loop in
     let t = turn (c .before .before .before) in (

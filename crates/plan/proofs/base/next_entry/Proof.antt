@@ -63,8 +63,9 @@ mul-with-requires-3 c κs =
 
 returns : tie.Need-returns
 returns c =
-    let a = c .before .before .before .before .before .before .args in
-    let (s, scale, pole, low, apart, entry, tables) = c .before .before .before .before .before .before .pre in
+    let start : tie.Start = search in
+    let a = start .args in
+    let (s, scale, pole, low, apart, entry, tables) = start .pre in
     rw (
       c .mul-with3 .ensures,
       c .before .inverse-with .ensures,

@@ -48,7 +48,8 @@ cast-entry-at-2 c = omega (arith, node (c .before) .1)
 
 entry-at-requires : tie.Need-entry-at-requires
 entry-at-requires c κs =
-    let a = c .before .before .before .before .before .before .args in
+    let start : tie.Start = search in
+    let a = start .args in
     let t = node (c .before .before .before .before) in
     let long : 255 ≡ length (a .t1 .base) = search needs in
     (omega arith, t .1, t .0, omega arith)

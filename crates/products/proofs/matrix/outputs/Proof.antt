@@ -23,16 +23,16 @@ abbrev μ-loop : tie.MeasureT-loop
 μ-loop lists counts tile table out₀ field count rows row size j₀ out j = count - j
 
 -- part j lies in the lists
-fits : (c : tie.In-loop Inv-loop μ-loop) → c .before .loop .j * (8 * groupsOf (c .before .before .before .before .before .before .before .before .before .args .m .rows)) + 8 * groupsOf (c .before .before .before .before .before .before .before .before .before .args .m .rows) ≤ length (c .before .before .before .before .before .before .before .before .before .args .lists .now)
-fits c = let st = c .before .before .before .before .before .before .before .before .before in omega (arith, st .pre .2 .lists-room, row-inside (st .args .m .outputs) (c .before .loop .j) (8 * groupsOf (st .args .m .rows)) (c .loop-test .taken))
+fits : (c : tie.In-loop Inv-loop μ-loop) → let start : tie.Start Inv-loop μ-loop = search in c .before .loop .j * (8 * groupsOf (start .args .m .rows)) + 8 * groupsOf (start .args .m .rows) ≤ length (start .args .lists .now)
+fits c = let st : tie.Start Inv-loop μ-loop = search in omega (arith, st .pre .2 .lists-room, row-inside (st .args .m .outputs) (c .before .loop .j) (8 * groupsOf (st .args .m .rows)) (c .loop-test .taken))
 
-counts-fit : (c : tie.In-loop Inv-loop μ-loop) → c .before .loop .j * 8 + 8 ≤ length (c .before .before .before .before .before .before .before .before .before .args .counts .now)
-counts-fit c = let st = c .before .before .before .before .before .before .before .before .before in omega (arith, st .pre .2 .counts-room, row-inside (st .args .m .outputs) (c .before .loop .j) 8 (c .loop-test .taken))
+counts-fit : (c : tie.In-loop Inv-loop μ-loop) → let start : tie.Start Inv-loop μ-loop = search in c .before .loop .j * 8 + 8 ≤ length (start .args .counts .now)
+counts-fit c = let st : tie.Start Inv-loop μ-loop = search in omega (arith, st .pre .2 .counts-room, row-inside (st .args .m .outputs) (c .before .loop .j) 8 (c .loop-test .taken))
 
 -- and among the rows
 rows-fit : (c : tie.In-loop Inv-loop μ-loop) → c .before .loop .j * (c .before .before .before .width .result * 64) + c .before .before .before .width .result * 64 ≤ length (c .before .loop .out)
 rows-fit c =
-    let st = c .before .before .before .before .before .before .before .before .before in
+    let st : tie.Start Inv-loop μ-loop = search in
     rw (c .before .before .before .width .ensures)
     (omega (arith, c .before .loop .inv .1, st .pre .4, row-inside (st .args .m .outputs) (c .before .loop .j) (bytesFor (modulus (st .args .m .field)) * 64) (c .loop-test .taken)))
 
@@ -40,16 +40,16 @@ width-requires : tie.Need-width-requires Inv-loop μ-loop
 width-requires c κs = c .before .before .before .before .before .pre .0
 
 mul-row : tie.Need-mul-row Inv-loop μ-loop
-mul-row c = omega (arith, c .width .ensures, bytes-range (modulus (c .before .before .before .before .before .before .args .m .field)) .1)
+mul-row c = let start : tie.Start Inv-loop μ-loop = search in omega (arith, c .width .ensures, bytes-range (modulus (start .args .m .field)) .1)
 
 groups-of-requires : tie.Need-groups-of-requires Inv-loop μ-loop
-groups-of-requires c κs = c .before .before .before .before .before .before .pre .1
+groups-of-requires c κs = let start : tie.Start Inv-loop μ-loop = search in start .pre .1
 
 mul-size : tie.Need-mul-size Inv-loop μ-loop
 mul-size c = omega arith
 
 loop-holds : tie.Need-loop-holds Inv-loop μ-loop
-loop-holds c = (omega arith, refl, λ w b. rw (zero-mul (bytesFor (modulus (c .before .before .before .before .before .before .before .args .m .field)))) (tile-none _ _ _ _))
+loop-holds c = let start : tie.Start Inv-loop μ-loop = search in (omega arith, refl, λ w b. rw (zero-mul (bytesFor (modulus (start .args .m .field)))) (tile-none _ _ _ _))
 
 mul-start : tie.Need-mul-start Inv-loop μ-loop
 mul-start c = rw (c .before .before .groups-of .ensures .0) (omega (arith, fits c))
@@ -101,9 +101,10 @@ part-output-end-3 c = rows-fit (c .before .before)
 
 output-requires : tie.Need-output-requires Inv-loop μ-loop
 output-requires c κs =
-    let st = c .before .before .before .before .before .before .before .before .before .before .before .before in
+    let after-width : tie.After-width Inv-loop μ-loop = search in
+    let st : tie.Start Inv-loop μ-loop = search in
     let l = c .before .before .before .before .loop in
-    (st .pre .0, st .pre .1, rw (c .before .before .before .before .before .groups-of .ensures .0) (st .pre .2 .each (l .j) (c .before .before .before .loop-test .taken)), st .pre .3, part-length (l .j * (c .before .before .before .before .before .before .width .result * 64)) (c .before .before .before .before .before .before .width .result * 64) (l .out) (rows-fit (c .before .before .before)) ∙ ap (λ (x : ℕ). x * 64) (c .before .before .before .before .before .before .width .ensures))
+    (st .pre .0, st .pre .1, rw (c .before .before .before .before .before .groups-of .ensures .0) (st .pre .2 .each (l .j) (c .before .before .before .loop-test .taken)), st .pre .3, part-length (l .j * (after-width .width .result * 64)) (after-width .width .result * 64) (l .out) (rows-fit (c .before .before .before)) ∙ ap (λ (x : ℕ). x * 64) (after-width .width .ensures))
 
 add-j : tie.Need-add-j Inv-loop μ-loop
 add-j c = omega arith
@@ -113,21 +114,26 @@ loop-less c = omega arith
 
 loop-again : tie.Need-loop-again Inv-loop μ-loop
 loop-again c =
-    let a = c .before .before .before .before .before .before .before .before .before .before .before .before .before .before .before .args in
-    let l = c .before .before .before .before .before .before .before .loop in
-    let low = c .before .before .before .before .before .before .loop-test .taken in
+    let in-loop : tie.In-loop Inv-loop μ-loop = search in
+    let at-loop : tie.At-loop Inv-loop μ-loop = search in
+    let after-groups-of : tie.After-groups-of Inv-loop μ-loop = search in
+    let after-width : tie.After-width Inv-loop μ-loop = search in
+    let start : tie.Start Inv-loop μ-loop = search in
+    let a = start .args in
+    let l = at-loop .loop in
+    let low = in-loop .loop-test .taken in
     let b = bytesFor (modulus (a .m .field)) in
-    let wide = c .before .before .before .before .before .before .before .before .before .width .ensures in
+    let wide = after-width .width .ensures in
     let at : l .j * (b * 64) ≡ l .j * b * 64 = sym (mul-assoc (l .j) b 64) in
-    let room : l .j * b * 64 + b * 64 ≤ length (l .out) = rw (← at) (rw wide at (rows-fit (c .before .before .before .before .before .before))) in
+    let room : l .j * b * 64 + b * 64 ≤ length (l .out) = rw (← at) (rw wide at (rows-fit in-loop)) in
     let after = c .before .before .output .last .1 .1 .1 .1 .1 .1 .0 in
-    let from = l .j * (c .before .before .before .before .before .before .before .before .before .width .result * 64) in
-    let size : length after ≡ b * 64 = omega (arith, wide, part-length from (c .before .before .before .before .before .before .before .before .before .width .result * 64) (l .out) (rows-fit (c .before .before .before .before .before .before))) in
+    let from = l .j * (after-width .width .result * 64) in
+    let size : length after ≡ b * 64 = omega (arith, wide, part-length from (after-width .width .result * 64) (l .out) (rows-fit in-loop)) in
     let row = c .before .before .output .ensures in (
       omega arith,
       omega arith,
       λ w begun.
-          let made = row (w (l .j)) (begun .size (l .j)) (rw (c .before .before .before .before .before .before .before .before .groups-of .ensures .0) (begun .each (l .j) low)) in
+          let made = row (w (l .j)) (begun .size (l .j)) (rw (after-groups-of .groups-of .ensures .0) (begun .each (l .j) low)) in
           rw (wide, at, part-size (l .j * b * 64) (b * 64), row-after (l .j) b) (tile-more (b * a .m .outputs) (l .j * b) b 64 _ (l .out) after (b * 64) size room (omega arith) (l .inv .2 w begun) (output-row (modulus (a .m .field)) (a .m .rows) (a .m .outputs) w (a .tile .now) (l .j) low made)),
     )
 
@@ -135,9 +141,11 @@ same-length : tie.Need-same-length Inv-loop μ-loop
 same-length c = c .before .loop .inv .1
 
 returns : tie.Need-returns Inv-loop μ-loop
-returns c = λ w b.
+returns c =
+    let start : tie.Start Inv-loop μ-loop = search in
+    λ w b.
     let l = c .before .loop in
-    let all : l .j ≡ c .before .before .before .before .before .before .before .before .before .args .m .outputs = omega arith in
+    let all : l .j ≡ start .args .m .outputs = omega arith in
     rw all at (l .inv .2 w b)
 
 pub outputs-spec : {M : Type 1} → statement M

@@ -49,7 +49,8 @@ part-list-weights-end-2 : tie.Need-part-list-weights-end-2
 part-list-weights-end-2 c = search needs
 
 list-weights-requires : tie.Need-list-weights-requires
-list-weights-requires c κs = let st = c .before .before .before .before .before .before .before in
+list-weights-requires c κs =
+    let st : tie.Start = search in
     let a = st .args in
     let g = c .before .before .groups-of .ensures .0 in
     let n = length (a .weights .now) in
@@ -63,10 +64,13 @@ same-length-2 : tie.Need-same-length-2
 same-length-2 c = search needs
 
 returns : tie.Need-returns
-returns c = λ w is b.
-    let st = c .before .before .before .before .before .before .before .before .before .before .before .before in
+returns c =
+    let after-groups-of : tie.After-groups-of = search in
+    let start : tie.Start = search in
+    λ w is b.
+    let st = start in
     let a = st .args in
-    let g = c .before .before .before .before .before .before .before .groups-of .ensures .0 in
+    let g = after-groups-of .groups-of .ensures .0 in
     let n = length (a .weights .now) in
     rw (g, part-size (a .j * (8 * groupsOf n)) (8 * groupsOf n), part-size (a .j * 8) 8) (begun-row w (a .j) (a .lists .now) (a .counts .now) is (st .pre .5) (st .pre .6) (c .before .before .before .before .list-weights .ensures) b)
 

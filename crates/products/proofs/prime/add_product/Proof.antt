@@ -32,9 +32,10 @@ nearly-requires c κs = let pre = c .before .before .before .before .before .pre
 
 add-acc : tie.Need-add-acc Inv-loop μ-loop
 add-acc c =
+    let start : tie.Start Inv-loop μ-loop = search in
     let l = c .before .before .before .before .loop in
-    let a = c .before .before .before .before .before .before .args in
-    omega (arith, c .nearly .ensures, fills-next (l .inv .3) 0, l .inv .2 (l .t) (omega arith), nearly-below (a .p) (a .c) (c .before .before .before .before .before .before .pre .0) (c .before .before .before .before .before .before .pre .1) (getD (a .row .now) (l .t) 0) (omega (arith, c .before .shared-slice-known2 .given (l .t))))
+    let a = start .args in
+    omega (arith, c .nearly .ensures, fills-next (l .inv .3) 0, l .inv .2 (l .t) (omega arith), nearly-below (a .p) (a .c) (start .pre .0) (start .pre .1) (getD (a .row .now) (l .t) 0) (omega (arith, c .before .shared-slice-known2 .given (l .t))))
 
 mul-acc-2 : tie.Need-mul-acc-2 Inv-loop μ-loop
 mul-acc-2 c = omega arith

@@ -32,25 +32,25 @@ loop-holds : tie.Need-loop-holds Inv-loop μ-loop
 loop-holds c = let a = c .before .before .before .before .args in rw (c .sums .ensures) (omega arith, held-none (a .p) (a .rows) (a .list .now) (a .tile .now) (omega arith))
 
 mul-start : tie.Need-mul-start Inv-loop μ-loop
-mul-start c = omega (arith, c .before .before .before .before .before .before .pre .2 .few)
+mul-start c = let start : tie.Start Inv-loop μ-loop = search in omega (arith, start .pre .2 .few)
 
 add-end : tie.Need-add-end Inv-loop μ-loop
-add-end c = omega (arith, c .before .before .before .before .before .before .pre .2 .few)
+add-end c = let start : tie.Start Inv-loop μ-loop = search in omega (arith, start .pre .2 .few)
 
 mul-add-weighted : tie.Need-mul-add-weighted Inv-loop μ-loop
-mul-add-weighted c = omega (arith, c .before .before .before .before .before .before .pre .2 .few)
+mul-add-weighted c = let start : tie.Start Inv-loop μ-loop = search in omega (arith, start .pre .2 .few)
 
 shared-slice-read-add-weighted : tie.Need-shared-slice-read-add-weighted Inv-loop μ-loop
-shared-slice-read-add-weighted c = omega (arith, c .before .before .before .before .before .before .before .pre .2 .long)
+shared-slice-read-add-weighted c = let start : tie.Start Inv-loop μ-loop = search in omega (arith, start .pre .2 .long)
 
 add-add-weighted : tie.Need-add-add-weighted Inv-loop μ-loop
-add-add-weighted c = omega (arith, c .before .before .before .before .before .before .before .pre .2 .few)
+add-add-weighted c = let start : tie.Start Inv-loop μ-loop = search in omega (arith, start .pre .2 .few)
 
 mul-add-weighted-2 : tie.Need-mul-add-weighted-2 Inv-loop μ-loop
-mul-add-weighted-2 c = omega (arith, c .before .before .before .before .before .before .before .pre .2 .few)
+mul-add-weighted-2 c = let start : tie.Start Inv-loop μ-loop = search in omega (arith, start .pre .2 .few)
 
 shared-slice-read-add-weighted-2 : tie.Need-shared-slice-read-add-weighted-2 Inv-loop μ-loop
-shared-slice-read-add-weighted-2 c = omega (arith, c .before .before .before .before .before .before .before .before .pre .2 .long)
+shared-slice-read-add-weighted-2 c = let start : tie.Start Inv-loop μ-loop = search in omega (arith, start .pre .2 .long)
 
 sub-add-weighted : tie.Need-sub-add-weighted Inv-loop μ-loop
 sub-add-weighted c = omega arith
@@ -62,13 +62,13 @@ part-add-weighted-end : tie.Need-part-add-weighted-end Inv-loop μ-loop
 part-add-weighted-end c = omega arith
 
 -- the symbols are bytes
-bytes : (c : tie.In-loop Inv-loop μ-loop) → allBelow 256 (c .before .before .before .before .before .before .args .tile .now) ≡ true
-bytes c = at-below 256 (c .before .before .before .before .before .before .args .tile .now) (λ i h. omega (arith, c .before .before .before .before .shared-slice-known2 .given i))
+bytes : (c : tie.In-loop Inv-loop μ-loop) → let start : tie.Start Inv-loop μ-loop = search in allBelow 256 (start .args .tile .now) ≡ true
+bytes c = let start : tie.Start Inv-loop μ-loop = search in at-below 256 (start .args .tile .now) (λ i h. omega (arith, c .before .before .before .before .shared-slice-known2 .given i))
 
 add-weighted-requires : tie.Need-add-weighted-requires Inv-loop μ-loop
 add-weighted-requires c κs =
+    let st : tie.Start Inv-loop μ-loop = search in
     let l = c .before .before .before .before .before .loop in
-    let st = c .before .before .before .before .before .before .before .before .before .before in
     let a = st .args in
     let pre = st .pre in
     let some : 0 < a .p = omega arith in
@@ -89,8 +89,9 @@ loop-less c = omega arith
 
 loop-again : tie.Need-loop-again Inv-loop μ-loop
 loop-again c =
-    let l = c .before .before .before .before .before .before .loop in
-    let st = c .before .before .before .before .before .before .before .before .before .before .before in
+    let at-loop : tie.At-loop Inv-loop μ-loop = search in
+    let st : tie.Start Inv-loop μ-loop = search in
+    let l = at-loop .loop in
     let a = st .args in
     let pre = st .pre in
     let some : 0 < a .p = omega arith in
@@ -98,15 +99,19 @@ loop-again c =
     (omega arith, rw (c .add-weighted .ensures) (held-row (a .p) (a .rows) (a .list .now) (a .tile .now) some (pre .2) (pre .3) (bytes (c .before .before .before .before .before)) (pre .1) (l .i) row (l .acc) (l .inv .1)))
 
 store-requires : tie.Need-store-requires Inv-loop μ-loop
-store-requires c κs = let pre = c .before .before .before .before .before .before .before .before .pre in (pre .0, pre .1, refl, c .before .before .before .loop .inv .1 .long, pre .4)
+store-requires c κs =
+    let start : tie.Start Inv-loop μ-loop = search in
+    let pre = start .pre in (pre .0, pre .1, refl, c .before .before .before .loop .inv .1 .long, pre .4)
 
 same-length : tie.Need-same-length Inv-loop μ-loop
-same-length c = ap length (c .before .before .store .ensures) ∙ length-from _ 0 64 ∙ sym (c .before .before .before .before .before .before .before .before .before .before .before .pre .4)
+same-length c = let start : tie.Start Inv-loop μ-loop = search in ap length (c .before .before .store .ensures) ∙ length-from _ 0 64 ∙ sym (start .pre .4)
 
 returns : tie.Need-returns Inv-loop μ-loop
 returns c =
-    let l = c .before .before .before .before .before .before .loop in
-    let a = c .before .before .before .before .before .before .before .before .before .before .before .args in
+    let at-loop : tie.At-loop Inv-loop μ-loop = search in
+    let start : tie.Start Inv-loop μ-loop = search in
+    let l = at-loop .loop in
+    let a = start .args in
     c .before .before .store .ensures ∙ held-all (a .p) (a .rows) (a .list .now) (a .tile .now) (omega arith) (l .i) (l .acc) (omega arith) (l .inv .1)
 
 pub output-spec : {M : Type 1} → statement M

@@ -19,7 +19,7 @@ same-length : tie.Need-same-length
 same-length c = search needs
 
 returns : tie.Need-returns
-returns c = codes-one _ (c .before .before .before .before .before .before .pre .0) (c .before .before .fill-ratios .ensures)
+returns c = let start : tie.Start = search in codes-one _ (start .pre .0) (c .before .before .fill-ratios .ensures)
 
 returns-2 : tie.Need-returns-2
 returns-2 c = let st = c .before .before in codes-two _ (st .pre .0) (omega (arith, c .if1 .left))

@@ -28,8 +28,10 @@ same-length : tie.Need-same-length
 same-length c = search needs
 
 returns : tie.Need-returns
-returns c = λ counts counted.
-    let st = c .before .before .before .before .before .before .before .before in
+returns c =
+    let start : tie.Start = search in
+    λ counts counted.
+    let st = start in
     let made = c .before .before .scale .ensures in
     lists-one _ (st .pre .0) (st .pre .2) (st .pre .3) (made .0 ∙ st .pre .4) counted (omega (arith, two≤prime (st .args .p) (st .pre .0), c .before .before .before .before .if1 .taken, st .pre .5)) (made .1)
 
@@ -50,8 +52,10 @@ same-length-2 : tie.Need-same-length-2
 same-length-2 c = search needs
 
 returns-2 : tie.Need-returns-2
-returns-2 c = λ counts counted.
-    let st = c .before .before .before .before .before .before .before .before in
+returns-2 c =
+    let start : tie.Start = search in
+    λ counts counted.
+    let st = start in
     let ws = st .args .weights .now in
     let rest = drop (length ws) (st .args .list .now) in
     lists-two _ (st .pre .0) (st .pre .2) (st .pre .3) (same-length-2 c ∙ st .pre .4) counted (omega arith) (plain-list rest (ap (λ (x : List ℕ). x ++ rest) (c .before .before .copy .ensures)))

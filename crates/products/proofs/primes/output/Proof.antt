@@ -28,7 +28,7 @@ same-length c = search needs
 
 returns : tie.Need-returns
 returns c =
-    let st = c .before .before .before .before .before .before .before .before in
+    let st : tie.Start = search in
     one-row (st .args .p) (st .args .rows) (st .args .list .now) (st .args .tile .now) (prime-one (st .args .p) (st .pre .0) (c .before .before .before .before .if1 .taken)) (c .before .before .output .ensures)
 
 mul-size : tie.Need-mul-size
@@ -50,7 +50,7 @@ slice-aggregate-combine c = sym (length-take-le _ _ (room (c .before)))
 
 combine-requires : tie.Need-combine-requires
 combine-requires c κs =
-    let st = c .before .before .before .before .before .before in
+    let st : tie.Start = search in
     let two = prime-two (st .args .p) (st .pre .0) (omega arith) in
     let size : length (st .args .out .now) ≡ 2 * 64 = st .pre .6 ∙ ap (λ (x : ℕ). x * 64) two in
     (omega arith, omega arith, record { few = st .pre .2; weights = st .pre .3; long = length-take-le _ _ (room (c .before .before)) ∙ omega arith }, size)
@@ -60,7 +60,7 @@ same-length-2 c = search needs
 
 returns-2 : tie.Need-returns-2
 returns-2 c =
-    let st = c .before .before .before .before .before .before .before .before .before in
+    let st : tie.Start = search in
     two-rows (st .args .p) (st .args .rows) (st .args .list .now) (st .args .tile .now) (st .args .rows * 128) (omega arith) (prime-two (st .args .p) (st .pre .0) (omega arith)) (c .before .before .combine .ensures)
 
 pub output-spec : {M : Type 1} → statement M

@@ -32,16 +32,16 @@ abbrev μ-loop : tie.MeasureT-loop
 μ-loop h w lanes weights shares tile₀ out₀ rows first₀ tile out first = lanes - first
 
 -- the next lanes lie among the lanes, and their symbols within the scratch
-next : (c : tie.After-tile-lanes Inv-loop μ-loop) → c .before .before .loop .first + c .tile-lanes .result ≤ c .before .before .before .before .before .before .before .before .args .lanes
+next : (c : tie.After-tile-lanes Inv-loop μ-loop) → let start : tie.Start Inv-loop μ-loop = search in c .before .before .loop .first + c .tile-lanes .result ≤ start .args .lanes
 next c = omega (arith, c .tile-lanes .ensures .1, c .before .loop-test .taken)
 
-symbols-in : (c : tie.After-tile-lanes Inv-loop μ-loop) → let a = c .before .before .before .before .before .before .before .before .args in a .w * a .h .k * c .tile-lanes .result ≤ length (c .before .before .loop .tile)
+symbols-in : (c : tie.After-tile-lanes Inv-loop μ-loop) → let start : tie.Start Inv-loop μ-loop = search in let a = start .args in a .w * a .h .k * c .tile-lanes .result ≤ length (c .before .before .loop .tile)
 symbols-in c = c .tile-lanes .ensures .2
 
 -- and their sums within the buffer
-sums-in : (c : tie.After-tile-lanes Inv-loop μ-loop) → let a = c .before .before .before .before .before .before .before .before .args in c .before .before .loop .first * a .w + c .tile-lanes .result * a .w ≤ length (a .out .now)
+sums-in : (c : tie.After-tile-lanes Inv-loop μ-loop) → let start : tie.Start Inv-loop μ-loop = search in let a = start .args in c .before .before .loop .first * a .w + c .tile-lanes .result * a .w ≤ length (a .out .now)
 sums-in c =
-    let s = c .before .before .before .before .before .before .before .before in
+    let s : tie.Start Inv-loop μ-loop = search in
     let (shares, size, weights, room, out) = s .pre in
     let a = s .args in
     rw (out ∙ mul-comm (a .w) (a .lanes), ← add-mul (c .before .before .loop .first) (c .tile-lanes .result) (a .w)) (mul-le-mul (next c) (le-refl (a .w)))
@@ -60,8 +60,9 @@ sub-tile-lanes c = omega arith
 
 tile-lanes-requires : tie.Need-tile-lanes-requires Inv-loop μ-loop
 tile-lanes-requires c κs =
-    let (shares, size, weights, room, out) = c .before .before .before .before .before .before .before .pre in
-    let a = c .before .before .before .before .before .before .before .args in
+    let start : tie.Start Inv-loop μ-loop = search in
+    let (shares, size, weights, room, out) = start .pre in
+    let a = start .args in
     let some : 1 ≤ a .w = rw (shares .wide) (width-some (a .h)) in
     let unit : 1 ≤ a .w * a .h .k = mul-le-mul some (shares .symbol-rows .sound .some) in
     (omega arith, omega (arith, room, c .before .loop .inv .1), omega (arith, c .loop-test .taken))
@@ -95,8 +96,8 @@ part-fill-tile-end c = omega (arith, sums-in (c .before), c .before .before .bef
 
 fill-tile-requires : tie.Need-fill-tile-requires Inv-loop μ-loop
 fill-tile-requires c κs =
+    let s : tie.Start Inv-loop μ-loop = search in
     let at = c .before .before in
-    let s = at .before .before .before .before .before .before .before .before in
     let now = at .before .before .loop in
     let count = at .tile-lanes .result in
     let (shares, size, weights, room, out) = s .pre in (
@@ -110,15 +111,15 @@ fill-tile-requires c κs =
     )
 
 add-first : tie.Need-add-first Inv-loop μ-loop
-add-first c = omega (arith, next (c .before .before .before .before .before .before .before))
+add-first c = let after-tile-lanes : tie.After-tile-lanes Inv-loop μ-loop = search in omega (arith, next after-tile-lanes)
 
 loop-less : tie.Need-loop-less Inv-loop μ-loop
-loop-less c = omega (arith, next (c .before .before .before .before .before .before .before), c .before .before .before .before .before .before .before .tile-lanes .ensures .0)
+loop-less c = let after-tile-lanes : tie.After-tile-lanes Inv-loop μ-loop = search in omega (arith, next after-tile-lanes, after-tile-lanes .tile-lanes .ensures .0)
 
 loop-again : tie.Need-loop-again Inv-loop μ-loop
 loop-again c =
-    let at = c .before .before .before .before .before .before .before in
-    let s = at .before .before .before .before .before .before .before .before in
+    let at : tie.After-tile-lanes Inv-loop μ-loop = search in
+    let s : tie.Start Inv-loop μ-loop = search in
     let a = s .args in
     let now = at .before .before .loop in
     let count = at .tile-lanes .result in
@@ -139,7 +140,7 @@ same-length-2 c = c .before .loop .inv .2 .long
 
 returns : tie.Need-returns Inv-loop μ-loop
 returns c =
-    let s = c .before .before .before .before .before .before .before in
+    let s : tie.Start Inv-loop μ-loop = search in
     let a = s .args in
     let long = length-sums (a .h) (a .w) (a .lanes) (a .weights .now) (symbolsOf (a .w) (a .shares .now)) in
     let end : a .w * a .lanes ≤ c .before .loop .first * a .w = rw (mul-comm (a .w) (a .lanes)) (mul-le-mul (c .loop-test .left) (le-refl (a .w))) in

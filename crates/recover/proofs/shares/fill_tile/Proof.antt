@@ -30,7 +30,9 @@ mul-gather-lanes c =
     omega (arith, tile, mul-one unit)
 
 gather-lanes-requires : tie.Need-gather-lanes-requires
-gather-lanes-requires c κs = let (shares, size, weights, some, fits, tile, out) = c .before .before .before .before .before .before .pre in (shares .bytes, fits, tile)
+gather-lanes-requires c κs =
+    let start : tie.Start = search in
+    let (shares, size, weights, some, fits, tile, out) = start .pre in (shares .bytes, fits, tile)
 
 -- the shares are bytes
 bytes : (c : tie.After-shared-slice-known2) → allBelow 256 (c .before .before .args .shares .now) ≡ true
@@ -38,10 +40,11 @@ bytes c = at-below 256 _ (λ i h. omega (arith, c .shared-slice-known2 .given i)
 
 combine-symbols-requires : tie.Need-combine-symbols-requires
 combine-symbols-requires c κs =
-    let st = c .before .before .before .before .before .before .before .before .before .before .before in
+    let after-shared-slice-known2 : tie.After-shared-slice-known2 = search in
+    let st : tie.Start = search in
     let a = st .args in
     let (shares, size, weights, some, fits, tile, out) = st .pre in
-    let rows = lanes-tile (a .h) (a .w) (a .h .k) (a .lanes) (a .first) (a .count) (a .shares .now) shares (bytes (c .before .before .before .before .before .before .before .before .before)) fits some in
+    let rows = lanes-tile (a .h) (a .w) (a .h .k) (a .lanes) (a .first) (a .count) (a .shares .now) shares (bytes after-shared-slice-known2) fits some in
     let sound = shares .symbol-rows .sound in
     rw (c .before .before .before .before .gather-lanes .ensures)
     (rows-ready sound (omega (arith, sound .byte, sound .fits)) (rows .symbol-rows .few-lanes) size weights (rw (← shares .wide) (rows .bytes)) (rw (← shares .wide) (rows .symbol-rows .symbols)) (rw (← shares .wide) out))
@@ -54,13 +57,15 @@ same-length-2 c = search needs
 
 returns : tie.Need-returns
 returns c =
-    let st = c .before .before .before .before .before .before .before .before .before .before .before .before .before .before in
+    let after-gather-lanes : tie.After-gather-lanes = search in
+    let after-shared-slice-known2 : tie.After-shared-slice-known2 = search in
+    let st : tie.Start = search in
     let a = st .args in
     let (shares, size, weights, some, fits, tile, out) = st .pre in
     c .before .before .combine-symbols .ensures
     ∙ combined-symbols (a .h) (a .w) (a .h .k) (a .count) (a .weights .now) _ (shares .wide)
     ∙ ap (λ (u : List ℕ). bytesOf (a .w) (combined byRow (modulusOf (a .h)) (a .h .k) (a .count) (a .weights .now) u))
-    (ap (tileSymbols (a .w) (a .h .k) (a .count)) (c .before .before .before .before .before .before .before .gather-lanes .ensures) ∙ lanes-symbols (a .h) (a .w) (a .h .k) (a .lanes) (a .first) (a .count) (a .shares .now) shares (bytes (c .before .before .before .before .before .before .before .before .before .before .before .before)) fits)
+    (ap (tileSymbols (a .w) (a .h .k) (a .count)) (after-gather-lanes .gather-lanes .ensures) ∙ lanes-symbols (a .h) (a .w) (a .h .k) (a .lanes) (a .first) (a .count) (a .shares .now) shares (bytes after-shared-slice-known2) fits)
 
 pub fill-tile-spec : {M : Type 1} → statement M
 fill-tile-spec = tie.close (tie.spec cast-k mul-gather-lanes gather-lanes-requires combine-symbols-requires same-length same-length-2 returns)

@@ -13,7 +13,7 @@ slice-aggregate-fill-share c = search needs
 
 fill-share-requires : tie.Need-fill-share-requires
 fill-share-requires c κs =
-    let st = c .before .before .before .before .before .before .before in
+    let st : tie.Start = search in
     let (shares, size, weights, out) = st .pre in
     (shares, size, weights, rw (c .before .before .small-scratch .ensures) (omega (arith, row-small (st .args .h) (shares .symbol-rows .sound) (st .args .w) (shares .wide))), out)
 
@@ -31,7 +31,7 @@ slice-aggregate-fill-share-2 c = search needs
 
 fill-share-requires-2 : tie.Need-fill-share-requires-2
 fill-share-requires-2 c κs =
-    let st = c .before .before .before .before .before .before .before in
+    let st : tie.Start = search in
     let (shares, size, weights, out) = st .pre in
     (shares, size, weights, rw (c .before .before .scratch .ensures) (omega (arith, row-small (st .args .h) (shares .symbol-rows .sound) (st .args .w) (shares .wide))), out)
 

@@ -32,8 +32,10 @@ first-requires-4 c κs = search needs
 returns : tie.Need-returns
 unfolding encodeFault
 returns c =
-    then (c .before .before .before .before .before .before .before .lanes-bad .ensures) 0 7 _ (c .before .before .before .before .before .before .first .ensures)
-    (then (c .before .before .before .before .before .buffer-bad .ensures) (c .before .before .before .before .before .before .first .result) 8 _ (c .before .before .before .before .first2 .ensures)
+    let after-first : tie.After-first = search in
+    let after-lanes-bad : tie.After-lanes-bad = search in
+    then (after-lanes-bad .lanes-bad .ensures) 0 7 _ (after-first .first .ensures)
+    (then (c .before .before .before .before .before .buffer-bad .ensures) (after-first .first .result) 8 _ (c .before .before .before .before .first2 .ensures)
     (then (c .before .before .before .buffer-bad2 .ensures) (c .before .before .before .before .first2 .result) 8 _ (c .before .before .first3 .ensures)
     (last (c .before .symbols-bad .ensures) (c .before .before .first3 .result) 11 (c .first4 .ensures))))
 

@@ -46,23 +46,35 @@ first-requires-6 : tie.Need-first-requires-6
 first-requires-6 c κs = search needs
 
 first-lane-requires : tie.Need-first-lane-requires
-first-lane-requires c κs = (
-  c .before .before .before .before .before .before .before .before .before .before .before .before .before .before .pre,
-  λ e.
-      let places = before (c .before .before .before .before .first4 .result) _ (c .before .before .first5 .ensures) (before (c .before .before .first5 .result) _ (c .first6 .ensures) e) in
-      let lengths = before (c .before .before .before .before .before .before .before .before .before .first2 .result) _ (c .before .before .before .before .before .before .first3 .ensures) (before (c .before .before .before .before .before .before .first3 .result) _ (c .before .before .before .before .first4 .ensures) places) in (
-        number-good _ _ (passed (c .before .before .before .before .before .number-bad2 .ensures) (c .before .before .before .before .before .before .first3 .result) 8 (c .before .before .before .before .first4 .ensures) places),
-        length-good _ _ (passed (c .before .before .before .before .before .before .before .before .before .before .buffer-bad .ensures) (c .before .before .before .before .before .before .before .before .before .before .before .first .result) 7 (c .before .before .before .before .before .before .before .before .before .first2 .ensures) lengths),
-      ),
-)
+first-lane-requires c κs =
+    let after-first3 : tie.After-first3 = search in
+    let after-first2 : tie.After-first2 = search in
+    let after-buffer-bad : tie.After-buffer-bad = search in
+    let after-first : tie.After-first = search in
+    let start : tie.Start = search in (
+      start .pre,
+      λ e.
+          let places = before (c .before .before .before .before .first4 .result) _ (c .before .before .first5 .ensures) (before (c .before .before .first5 .result) _ (c .first6 .ensures) e) in
+          let lengths = before (after-first2 .first2 .result) _ (after-first3 .first3 .ensures) (before (after-first3 .first3 .result) _ (c .before .before .before .before .first4 .ensures) places) in (
+            number-good _ _ (passed (c .before .before .before .before .before .number-bad2 .ensures) (after-first3 .first3 .result) 8 (c .before .before .before .before .first4 .ensures) places),
+            length-good _ _ (passed (after-buffer-bad .buffer-bad .ensures) (after-first .first .result) 7 (after-first2 .first2 .ensures) lengths),
+          ),
+    )
 
 returns : tie.Need-returns
 unfolding inputFault
 returns c =
-    then (c .before .before .before .before .before .before .before .before .before .before .before .before .before .lanes-bad .ensures) 0 7 _ (c .before .before .before .before .before .before .before .before .before .before .before .before .first .ensures)
-    (then (c .before .before .before .before .before .before .before .before .before .before .before .buffer-bad .ensures) (c .before .before .before .before .before .before .before .before .before .before .before .before .first .result) 8 _ (c .before .before .before .before .before .before .before .before .before .before .first2 .ensures)
-    (then (c .before .before .before .before .before .before .before .before .number-bad .ensures) (c .before .before .before .before .before .before .before .before .before .before .first2 .result) 9 _ (c .before .before .before .before .before .before .before .first3 .ensures)
-    (then (c .before .before .before .before .before .before .number-bad2 .ensures) (c .before .before .before .before .before .before .before .first3 .result) 9 _ (c .before .before .before .before .before .first4 .ensures)
+    let after-number-bad2 : tie.After-number-bad2 = search in
+    let after-first3 : tie.After-first3 = search in
+    let after-number-bad : tie.After-number-bad = search in
+    let after-first2 : tie.After-first2 = search in
+    let after-buffer-bad : tie.After-buffer-bad = search in
+    let after-first : tie.After-first = search in
+    let after-lanes-bad : tie.After-lanes-bad = search in
+    then (after-lanes-bad .lanes-bad .ensures) 0 7 _ (after-first .first .ensures)
+    (then (after-buffer-bad .buffer-bad .ensures) (after-first .first .result) 8 _ (after-first2 .first2 .ensures)
+    (then (after-number-bad .number-bad .ensures) (after-first2 .first2 .result) 9 _ (after-first3 .first3 .ensures)
+    (then (after-number-bad2 .number-bad2 .ensures) (after-first3 .first3 .result) 9 _ (c .before .before .before .before .before .first4 .ensures)
     (then (c .before .before .before .before .symbol-bad .ensures) (c .before .before .before .before .before .first4 .result) 11 _ (c .before .before .before .first5 .ensures)
     (then (c .before .before .symbol-bad2 .ensures) (c .before .before .before .first5 .result) 11 _ (c .before .first6 .ensures)
     (c .first-lane .ensures))))))

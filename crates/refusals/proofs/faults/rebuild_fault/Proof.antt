@@ -44,15 +44,25 @@ first-requires-5 : tie.Need-first-requires-5
 first-requires-5 c κs = search needs
 
 first-list-requires : tie.Need-first-list-requires
-first-list-requires c κs = (c .before .before .before .before .before .before .before .before .before .before .before .before .before .before .pre, λ e. length-good _ _ (passed (c .before .before .before .before .before .before .buffer-bad .ensures) (c .before .before .before .before .before .before .before .first2 .result) 7 (c .before .before .before .before .before .first3 .ensures) (before (c .before .before .before .before .before .first3 .result) _ (c .before .before .before .first4 .ensures) (before (c .before .before .before .first4 .result) _ (c .first5 .ensures) e))))
+first-list-requires c κs =
+    let after-buffer-bad : tie.After-buffer-bad = search in
+    let after-first2 : tie.After-first2 = search in
+    let start : tie.Start = search in
+    (start .pre, λ e. length-good _ _ (passed (after-buffer-bad .buffer-bad .ensures) (after-first2 .first2 .result) 7 (c .before .before .before .before .before .first3 .ensures) (before (c .before .before .before .before .before .first3 .result) _ (c .before .before .before .first4 .ensures) (before (c .before .before .before .first4 .result) _ (c .first5 .ensures) e))))
 
 returns : tie.Need-returns
 unfolding rebuildFault
 returns c =
-    then (c .before .before .before .before .before .before .before .before .before .before .before .before .lanes-bad .ensures) 0 7 _ (c .before .before .before .before .before .before .before .before .before .before .before .first .ensures)
-    (then (c .before .before .before .before .before .before .before .before .before .length-bad .ensures) (c .before .before .before .before .before .before .before .before .before .before .before .first .result) 8 _ (c .before .before .before .before .before .before .before .before .first2 .ensures)
-    (then (c .before .before .before .before .before .before .before .buffer-bad .ensures) (c .before .before .before .before .before .before .before .before .first2 .result) 8 _ (c .before .before .before .before .before .before .first3 .ensures)
-    (then (rw one-mul at (c .before .before .before .before .before .buffer-bad2 .ensures)) (c .before .before .before .before .before .before .first3 .result) 8 _ (c .before .before .before .before .first4 .ensures)
+    let after-first3 : tie.After-first3 = search in
+    let after-buffer-bad : tie.After-buffer-bad = search in
+    let after-first2 : tie.After-first2 = search in
+    let after-length-bad : tie.After-length-bad = search in
+    let after-first : tie.After-first = search in
+    let after-lanes-bad : tie.After-lanes-bad = search in
+    then (after-lanes-bad .lanes-bad .ensures) 0 7 _ (after-first .first .ensures)
+    (then (after-length-bad .length-bad .ensures) (after-first .first .result) 8 _ (after-first2 .first2 .ensures)
+    (then (after-buffer-bad .buffer-bad .ensures) (after-first2 .first2 .result) 8 _ (after-first3 .first3 .ensures)
+    (then (rw one-mul at (c .before .before .before .before .before .buffer-bad2 .ensures)) (after-first3 .first3 .result) 8 _ (c .before .before .before .before .first4 .ensures)
     (then (c .before .before .number-bad .ensures) (c .before .before .before .before .first4 .result) 9 _ (c .before .first5 .ensures)
     (c .first-list .ensures)))))
 

@@ -34,13 +34,16 @@ first-requires-4 : tie.Need-first-requires-4
 first-requires-4 c κs = search needs
 
 first-list-requires : tie.Need-first-list-requires
-first-list-requires c κs = (c .before .before .before .before .before .before .before .before .before .before .before .pre, λ e. length-good _ _ (passed (c .before .before .before .buffer-bad .ensures) (c .before .before .before .before .first2 .result) 7 (c .before .before .first3 .ensures) (before (c .before .before .first3 .result) _ (c .first4 .ensures) e)))
+first-list-requires c κs = let start : tie.Start = search in (start .pre, λ e. length-good _ _ (passed (c .before .before .before .buffer-bad .ensures) (c .before .before .before .before .first2 .result) 7 (c .before .before .first3 .ensures) (before (c .before .before .first3 .result) _ (c .first4 .ensures) e)))
 
 returns : tie.Need-returns
 unfolding recoverFault
 returns c =
-    then (c .before .before .before .before .before .before .before .before .before .lanes-bad .ensures) 0 7 _ (c .before .before .before .before .before .before .before .before .first .ensures)
-    (then (c .before .before .before .before .before .before .length-bad .ensures) (c .before .before .before .before .before .before .before .before .first .result) 8 _ (c .before .before .before .before .before .first2 .ensures)
+    let after-length-bad : tie.After-length-bad = search in
+    let after-first : tie.After-first = search in
+    let after-lanes-bad : tie.After-lanes-bad = search in
+    then (after-lanes-bad .lanes-bad .ensures) 0 7 _ (after-first .first .ensures)
+    (then (after-length-bad .length-bad .ensures) (after-first .first .result) 8 _ (c .before .before .before .before .before .first2 .ensures)
     (then (c .before .before .before .before .buffer-bad .ensures) (c .before .before .before .before .before .first2 .result) 8 _ (c .before .before .before .first3 .ensures)
     (then (c .before .before .buffer-bad2 .ensures) (c .before .before .before .first3 .result) 8 _ (c .before .first4 .ensures)
     (c .first-list .ensures))))

@@ -23,13 +23,14 @@ first-requires-2 c κs = search needs
 
 first-shares-requires : tie.Need-first-shares-requires
 first-shares-requires c κs =
-    let start = c .before .before .before .before .before .before .before in
+    let start : tie.Start = search in
     (start .pre .0, λ e. start .pre .1 (before (start .args .number) _ (c .before .first .ensures) (before (c .before .first .result) _ (c .first2 .ensures) e)))
 
 returns-2 : tie.Need-returns-2
 unfolding listFault
 returns-2 c =
-    then (c .before .before .before .before .nodes-bad .ensures) (c .before .before .before .before .before .before .before .before .args .number) 9 _ (c .before .before .first .ensures)
+    let start : tie.Start = search in
+    then (c .before .before .before .before .nodes-bad .ensures) (start .args .number) 9 _ (c .before .before .first .ensures)
     (then (c .before .before .before .twice-bad .ensures) (c .before .before .first .result) 10 _ (c .before .first2 .ensures)
     (c .first-shares .ensures))
 

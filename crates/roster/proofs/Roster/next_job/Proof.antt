@@ -16,7 +16,8 @@ enum-known-h c = search needs
 
 write-job-requires : tie.Need-write-job-requires
 write-job-requires c κs =
-    accepted-sound (c .before .before .before .before .before .before .before .args .rec .now) _ (sym (c .before .before .before .before .read-record .ensures) ∙ c .before .before .h .given .1) .some
+    let start : tie.Start = search in
+    accepted-sound (start .args .rec .now) _ (sym (c .before .before .before .before .read-record .ensures) ∙ c .before .before .h .given .1) .some
 
 enum-known-number : tie.Need-enum-known-number
 enum-known-number c = search needs
@@ -26,13 +27,17 @@ same-length c = search needs
 
 returns : tie.Need-returns
 returns c =
-    let a = c .before .before .before .before .before .before .before .before .before .before .args in
+    let after-read-record : tie.After-read-record = search in
+    let start : tie.Start = search in
+    let a = start .args in
     let done = c .before .before .write-job .ensures in
-    both-read (λ x. jobOf x (a .self) (a .list .now)) (λ x. jobList x (a .self) (a .list .now)) (a .rec .now) (c .before .before .before .before .before .before .before .read-record .ensures) (c .before .before .before .before .before .h .given .1) (job-answer _ _ _ _ _ done) (job-lists _ _ _ _ _ done)
+    both-read (λ x. jobOf x (a .self) (a .list .now)) (λ x. jobList x (a .self) (a .list .now)) (a .rec .now) (after-read-record .read-record .ensures) (c .before .before .before .before .before .h .given .1) (job-answer _ _ _ _ _ done) (job-lists _ _ _ _ _ done)
 
 returns-2 : tie.Need-returns-2
 unfolding jobOf jobList
-returns-2 c = let a = c .before .before .before .before .before .before .args in both-read (λ x. jobOf x (a .self) (a .list .now)) (λ x. jobList x (a .self) (a .list .now)) (a .rec .now) (c .before .before .before .read-record .ensures) (c .before .number .given .1) refl refl
+returns-2 c =
+    let start : tie.Start = search in
+    let a = start .args in both-read (λ x. jobOf x (a .self) (a .list .now)) (λ x. jobList x (a .self) (a .list .now)) (a .rec .now) (c .before .before .before .read-record .ensures) (c .before .number .given .1) refl refl
 
 pub next-job-spec : {M : Type 1} → statement M
 next-job-spec =

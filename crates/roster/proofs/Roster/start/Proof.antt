@@ -22,11 +22,11 @@ first-step-requires-2 c κs = search needs
 
 returns : tie.Need-returns
 unfolding startOf
-returns c = as-read startOf (c .before .before .before .before .before .before .args .rec .now) (c .before .before .before .before .read-record .ensures) (c .before .before .h .given .1) (c .first-step .ensures)
+returns c = let start : tie.Start = search in as-read startOf (start .args .rec .now) (c .before .before .before .before .read-record .ensures) (c .before .before .h .given .1) (c .first-step .ensures)
 
 returns-2 : tie.Need-returns-2
 unfolding startOf
-returns-2 c = as-read startOf (c .before .before .before .before .before .before .args .rec .now) (c .before .before .before .before .read-record .ensures) (c .before .before .number .given .1) (c .first-step2 .ensures)
+returns-2 c = let start : tie.Start = search in as-read startOf (start .args .rec .now) (c .before .before .before .before .read-record .ensures) (c .before .before .number .given .1) (c .first-step2 .ensures)
 
 pub start-spec : {M : Type 1} → statement M
 start-spec =

@@ -21,7 +21,8 @@ enum-known-number c = search needs
 returns : tie.Need-returns
 unfolding stepBy
 returns c =
-    let a = c .before .before .before .before .before .before .args in
+    let start : tie.Start = search in
+    let a = start .args in
     as-read (λ x. stepBy x (a .node) (a .here) (a .roster)) (a .rec .now) (c .before .before .before .before .read-record .ensures) (c .before .before .h .given .1) (c .mark .ensures)
 
 returns-2 : tie.Need-returns-2

@@ -22,10 +22,11 @@ counted c =
 
 -- the first place of the job fits
 first : (c : tie.Else2)
-    → let a = c .before .before .before .before .before .before .args in
+    → let start : tie.Start = search in let a = start .args in
     a .roster .job % c .before .list-present .result .count * a .k ≤ 65025
 first c =
-    let a = c .before .before .before .before .before .before .args in
+    let start : tie.Start = search in
+    let a = start .args in
     let s = c .before .list-present .result .count in
     let some : 0 < s = omega arith in
     let low : a .roster .job % s ≤ 255 = omega (arith, mod-lt (a .roster .job) some, counted (c .before)) in
@@ -45,7 +46,8 @@ list-present-requires c κs = search needs
 returns-2 : tie.Need-returns-2
 unfolding listing listingOf listed after
 returns-2 c =
-    let a = c .before .before .before .before .before .before .args in
+    let start : tie.Start = search in
+    let a = start .args in
     let few : length (presentOf (a .n) (a .roster .marks)) < a .k = omega (arith, counted (c .before)) in
     record { answer = rw (eq-eqb _ _ (c .before .before .before .before .if1 .left), lt-leb _ _ few); roster = refl; written = refl }
 

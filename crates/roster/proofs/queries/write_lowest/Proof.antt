@@ -31,7 +31,8 @@ returns-2 c =
 
 write-nodes-requires : tie.Need-write-nodes-requires
 write-nodes-requires c κs =
-    let a = c .before .before .before .before .before .before .args in
+    let start : tie.Start = search in
+    let a = start .args in
     let most = present-most (a .n) (a .roster .marks) in
     let is = counted (c .before .before) in
     (omega arith, omega arith, omega arith, omega arith)
@@ -42,7 +43,8 @@ same-length c = search needs
 returns-3 : tie.Need-returns-3
 unfolding listing listingOf listed
 returns-3 c =
-    let a = c .before .before .before .before .before .before .before .before .before .args in
+    let start : tie.Start = search in
+    let a = start .args in
     let at = c .before .before .before .before .before in
     let many : a .k ≤ length (presentOf (a .n) (a .roster .marks)) = omega (arith, counted at) in
     let size = at .before .before .if1 .left in (

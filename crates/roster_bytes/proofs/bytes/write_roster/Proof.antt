@@ -19,8 +19,9 @@ same-length c = search needs
 
 returns : tie.Need-returns
 returns c =
-    let a = c .before .before .before .before .before .before .args in
-    ap (λ (l : List ℕ). set l 255 (a .roster .job)) (c .before .before .write-marks .ensures) ∙ put-job (a .roster) (a .bytes .now) (c .before .before .before .before .before .before .pre)
+    let start : tie.Start = search in
+    let a = start .args in
+    ap (λ (l : List ℕ). set l 255 (a .roster .job)) (c .before .before .write-marks .ensures) ∙ put-job (a .roster) (a .bytes .now) (start .pre)
 
 pub write-roster-spec : {M : Type 1} → statement M
 write-roster-spec = tie.close (tie.spec write-marks-requires slice-write-bytes same-length returns)

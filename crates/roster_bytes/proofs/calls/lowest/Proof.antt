@@ -27,10 +27,13 @@ same-length c = search needs
 
 returns-2 : tie.Need-returns-2
 returns-2 c =
-    let a = c .before .before .before .before .before .before .before .before .before .before .before .args in
-    let read = c .before .before .before .before .before .before .read-roster .ensures in
+    let after-read-roster : tie.After-read-roster = search in
+    let else1 : tie.Else1 = search in
+    let start : tie.Start = search in
+    let a = start .args in
+    let read = after-read-roster .read-roster .ensures in
     let done = c .before .before .before .before .lowest .ensures in
-    lowest-done (a .rec .now) (a .bytes .now) (c .before .before .before .before .before .before .before .if1 .left) (a .list .now) (a .enough .now) _ _ _ (done .0 ∙ ap (λ q. lowestOf (recordOf (a .rec .now)) q (a .list .now)) read) (c .tell .ensures .0) (c .tell .ensures .1) _ (done .1 ∙ ap (λ q. lowestList (recordOf (a .rec .now)) q (a .list .now)) read)
+    lowest-done (a .rec .now) (a .bytes .now) (else1 .if1 .left) (a .list .now) (a .enough .now) _ _ _ (done .0 ∙ ap (λ q. lowestOf (recordOf (a .rec .now)) q (a .list .now)) read) (c .tell .ensures .0) (c .tell .ensures .1) _ (done .1 ∙ ap (λ q. lowestList (recordOf (a .rec .now)) q (a .list .now)) read)
 
 pub lowest-spec : {M : Type 1} → statement M
 lowest-spec =

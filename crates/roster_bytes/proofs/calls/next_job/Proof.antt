@@ -35,11 +35,15 @@ same-length-2 c = search needs
 
 returns-2 : tie.Need-returns-2
 returns-2 c =
-    let a = c .before .before .before .before .before .before .before .before .before .before .before .before .before .before .before .before .args in
-    let read = c .before .before .before .before .before .before .before .before .before .before .read-roster .ensures in
-    let done = c .before .before .before .before .before .before .before .before .next-job .ensures in
+    let after-next-job : tie.After-next-job = search in
+    let after-read-roster : tie.After-read-roster = search in
+    let else1 : tie.Else1 = search in
+    let start : tie.Start = search in
+    let a = start .args in
+    let read = after-read-roster .read-roster .ensures in
+    let done = after-next-job .next-job .ensures in
     let is = done .0 ∙ ap (λ q. jobOf (recordOf (a .rec .now)) q (a .list .now)) read in
-    job-done (a .rec .now) (a .bytes .now) (c .before .before .before .before .before .before .before .before .before .before .before .before .if1 .left) (a .list .now) (a .enough .now) _ _ _ (ap (λ (j : Job). j .listing) is ∙ job-listing _ (a .list .now) (recordOf (a .rec .now))) (c .tell .ensures .0) (c .tell .ensures .1) _ _ _ (ap (λ (j : Job). j .roster) is) (c .before .before .before .before .put-job .ensures) (done .1 ∙ ap (λ q. jobList (recordOf (a .rec .now)) q (a .list .now)) read)
+    job-done (a .rec .now) (a .bytes .now) (else1 .if1 .left) (a .list .now) (a .enough .now) _ _ _ (ap (λ (j : Job). j .listing) is ∙ job-listing _ (a .list .now) (recordOf (a .rec .now))) (c .tell .ensures .0) (c .tell .ensures .1) _ _ _ (ap (λ (j : Job). j .roster) is) (c .before .before .before .before .put-job .ensures) (done .1 ∙ ap (λ q. jobList (recordOf (a .rec .now)) q (a .list .now)) read)
 
 pub next-job-spec : {M : Type 1} → statement M
 next-job-spec =

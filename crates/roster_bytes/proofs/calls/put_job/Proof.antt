@@ -14,7 +14,7 @@ same-length : tie.Need-same-length
 same-length c = search needs
 
 returns : tie.Need-returns
-returns c = rw (sym (c .before .before .before .before .before .before .is-written .ensures) ∙ c .before .before .before .before .before .if1 .taken) (c .before .before .write-roster .ensures)
+returns c = let after-is-written : tie.After-is-written = search in rw (sym (after-is-written .is-written .ensures) ∙ c .before .before .before .before .before .if1 .taken) (c .before .before .write-roster .ensures)
 
 returns-2 : tie.Need-returns-2
 returns-2 c = rw (sym (c .before .is-written .ensures) ∙ c .if1 .left)

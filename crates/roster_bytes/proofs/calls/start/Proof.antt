@@ -21,7 +21,7 @@ same-length : tie.Need-same-length
 same-length c = search needs
 
 returns-2 : tie.Need-returns-2
-returns-2 c = start-done _ _ (c .before .before .before .before .before .before .if1 .left) _ _ _ (c .before .before .before .before .before .start .ensures) refl (c .before .before .write-roster .ensures)
+returns-2 c = let else1 : tie.Else1 = search in start-done _ _ (else1 .if1 .left) _ _ _ (c .before .before .before .before .before .start .ensures) refl (c .before .before .write-roster .ensures)
 
 pub start-spec : {M : Type 1} → statement M
 start-spec =

@@ -43,10 +43,10 @@ exponent c =
 
 -- the power that is read, a symbol
 power-is : (c : tie.After-negative Inv-loop μ-loop)
-    → let a = c .before .before .before .before .before .before .before .args in
+    → let start : tie.Start Inv-loop μ-loop = search in let a = start .args in
     (c .negative .result < length (a .powers .now)) × (getD (a .powers .now) (c .negative .result) 0 < size (a .h))
 power-is c =
-    let st = c .before .before .before .before .before .before .before in
+    let st : tie.Start Inv-loop μ-loop = search in
     (rw (st .pre .1) (power-place (st .args .h) _ (c .negative .ensures .1)), rw (st .pre .1, power-at (st .args .h) _ (c .negative .ensures .1)) (power-below _ (st .pre .0 .field) _ (st .pre .0 .root-below)))
 
 -- the symbol
@@ -89,20 +89,20 @@ cast-mul-with-2 c = omega (arith, c .shared-slice-known4 .given (c .before .befo
 
 mul-with-requires : tie.Need-mul-with-requires Inv-loop μ-loop
 mul-with-requires c κs =
-    let st = c .before .before .before .before .before .before .before .before .before in
+    let st : tie.Start Inv-loop μ-loop = search in
     (st .pre .0 .usable-field, symbol (c .before .before .before .before), power-is (c .before .before) .1, st .pre .5)
 
 cast-out : tie.Need-cast-out Inv-loop μ-loop
 cast-out c =
-    let st = c .before .before .before .before .before .before .before .before .before .before in
+    let st : tie.Start Inv-loop μ-loop = search in
     let low : c .mul-with .result < size (st .args .h) = rw (c .mul-with .ensures) (mul-below _ (st .pre .0 .field) (symbol (c .before .before .before .before .before)) (power-is (c .before .before .before) .1)) in
     omega (arith, size-fits _ (st .pre .0 .usable-field))
 
 mul-out : tie.Need-mul-out Inv-loop μ-loop
-mul-out c = omega (arith, c .before .before .before .before .before .before .before .before .before .before .pre .3)
+mul-out c = let start : tie.Start Inv-loop μ-loop = search in omega (arith, start .pre .3)
 
 array-write-out : tie.Need-array-write-out Inv-loop μ-loop
-array-write-out c = omega (arith, c .before .before .before .before .before .before .before .before .before .before .pre .3)
+array-write-out c = let start : tie.Start Inv-loop μ-loop = search in omega (arith, start .pre .3)
 
 add-j : tie.Need-add-j Inv-loop μ-loop
 add-j c = omega arith
@@ -112,7 +112,8 @@ loop-less c = omega arith
 
 loop-again : tie.Need-loop-again Inv-loop μ-loop
 loop-again c =
-    filled-put (c .before .before .before .before .before .before .loop .inv) (c .before .before .before .before .before .loop-test .taken)
+    let at-loop : tie.At-loop Inv-loop μ-loop = search in
+    filled-put (at-loop .loop .inv) (c .before .before .before .before .before .loop-test .taken)
     (c .mul-with .ensures ∙ rw (c .before .before .before .negative .ensures .0))
 
 returns : tie.Need-returns Inv-loop μ-loop

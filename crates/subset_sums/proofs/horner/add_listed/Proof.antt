@@ -27,7 +27,9 @@ cast-add-slice : tie.Need-cast-add-slice Inv-loop μ-loop
 cast-add-slice c = omega (arith, c .shared-slice-known3 .given (c .before .before .loop .i))
 
 add-slice-requires : tie.Need-add-slice-requires Inv-loop μ-loop
-add-slice-requires c κs = let l = c .before .before .before .loop in (l .inv .1, c .before .before .before .before .before .before .pre .1 (l .i) (omega arith))
+add-slice-requires c κs =
+    let start : tie.Start Inv-loop μ-loop = search in
+    let l = c .before .before .before .loop in (l .inv .1, start .pre .1 (l .i) (omega arith))
 
 add-i : tie.Need-add-i Inv-loop μ-loop
 add-i c = omega arith
@@ -37,7 +39,7 @@ loop-less c = omega arith
 
 loop-again : tie.Need-loop-again Inv-loop μ-loop
 loop-again c =
-    let st = c .before .before .before .before .before .before .before in
+    let st : tie.Start Inv-loop μ-loop = search in
     let l = c .before .before .before .before .loop in (
       omega arith,
       ap length (c .add-slice .ensures) ∙ length-lanewise _ (l .acc) ∙ l .inv .1,

@@ -24,7 +24,7 @@ unfolding turnsOf
 loop-holds c = (omega arith, c .slice .ensures)
 
 turn-requires : tie.Need-turn-requires Inv-loop μ-loop
-turn-requires c κs = let st = c .before .before .before .before .before .before .before .before in (st .pre .0, st .pre .1, c .before .loop-test .taken, c .before .before .loop .inv .1)
+turn-requires c κs = let st : tie.Start Inv-loop μ-loop = search in (st .pre .0, st .pre .1, c .before .loop-test .taken, c .before .before .loop .inv .1)
 
 add-b : tie.Need-add-b Inv-loop μ-loop
 add-b c = omega arith
@@ -36,15 +36,22 @@ loop-again : tie.Need-loop-again Inv-loop μ-loop
 loop-again c = (omega arith, c .turn .ensures)
 
 store-requires : tie.Need-store-requires Inv-loop μ-loop
-store-requires c κs = let l = c .before .before .before .loop in (ap length (l .inv .1) ∙ length-turns (l .b) _ _ _ _, c .before .before .before .before .before .before .before .before .before .pre .2)
+store-requires c κs =
+    let start : tie.Start Inv-loop μ-loop = search in
+    let l = c .before .before .before .loop in (ap length (l .inv .1) ∙ length-turns (l .b) _ _ _ _, start .pre .2)
 
 same-length : tie.Need-same-length Inv-loop μ-loop
-same-length c = let l = c .before .before .before .before .before .before .loop in ap length (c .before .before .store .ensures) ∙ ap length (l .inv .1) ∙ length-turns (l .b) _ _ _ _ ∙ sym (c .before .before .before .before .before .before .before .before .before .before .before .before .pre .2)
+same-length c =
+    let at-loop : tie.At-loop Inv-loop μ-loop = search in
+    let start : tie.Start Inv-loop μ-loop = search in
+    let l = at-loop .loop in ap length (c .before .before .store .ensures) ∙ ap length (l .inv .1) ∙ length-turns (l .b) _ _ _ _ ∙ sym (start .pre .2)
 
 returns : tie.Need-returns Inv-loop μ-loop
 returns c =
-    let l = c .before .before .before .before .before .before .loop in
-    let a = c .before .before .before .before .before .before .before .before .before .before .before .before .args in
+    let at-loop : tie.At-loop Inv-loop μ-loop = search in
+    let start : tie.Start Inv-loop μ-loop = search in
+    let l = at-loop .loop in
+    let a = start .args in
     let all : l .b ≡ 8 = omega arith in
     c .before .before .store .ensures ∙ l .inv .1 ∙ ap (λ (n : ℕ). turnsOf n (a .groups) (a .tab .now) (a .list .now) (a .counts .now)) all
 

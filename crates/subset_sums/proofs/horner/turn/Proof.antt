@@ -21,13 +21,13 @@ shared-slice-read-end : tie.Need-shared-slice-read-end
 shared-slice-read-end c = search needs
 
 cast-end : tie.Need-cast-end
-cast-end c = let st = c .before .before .before .before .before .before in omega (arith, c .shared-slice-known4 .given (st .args .b))
+cast-end c = let st : tie.Start = search in omega (arith, c .shared-slice-known4 .given (st .args .b))
 
 add-end : tie.Need-add-end
-add-end c = let st = c .before .before .before .before .before .before in omega (arith, row-inside 8 (st .args .b) (st .args .groups) (st .pre .2), st .pre .1 .few (st .args .b) (st .pre .2))
+add-end c = let st : tie.Start = search in omega (arith, row-inside 8 (st .args .b) (st .args .groups) (st .pre .2), st .pre .1 .few (st .args .b) (st .pre .2))
 
 mul-add-listed : tie.Need-mul-add-listed
-mul-add-listed c = let st = c .before .before .before .before .before .before in omega (arith, row-inside 8 (st .args .b) (st .args .groups) (st .pre .2))
+mul-add-listed c = let st : tie.Start = search in omega (arith, row-inside 8 (st .args .b) (st .args .groups) (st .pre .2))
 
 sub-add-listed : tie.Need-sub-add-listed
 sub-add-listed c = search needs
@@ -36,11 +36,11 @@ part-add-listed-start : tie.Need-part-add-listed-start
 part-add-listed-start c = search needs
 
 part-add-listed-end : tie.Need-part-add-listed-end
-part-add-listed-end c = let st = c .before .before .before .before .before .before in omega (arith, row-inside 8 (st .args .b) (st .args .groups) (st .pre .2), st .pre .1 .few (st .args .b) (st .pre .2), st .pre .1 .long)
+part-add-listed-end c = let st : tie.Start = search in omega (arith, row-inside 8 (st .args .b) (st .args .groups) (st .pre .2), st .pre .1 .few (st .args .b) (st .pre .2), st .pre .1 .long)
 
 add-listed-requires : tie.Need-add-listed-requires
 add-listed-requires c κs =
-    let st = c .before .before .before .before .before .before .before .before in
+    let st : tie.Start = search in
     let pre = st .pre .1 in
     let s = st .args .b * st .args .groups in
     let n = getD (st .args .counts .now) (st .args .b) 0 in
@@ -53,7 +53,7 @@ add-listed-requires c κs =
 
 returns : tie.Need-returns
 returns c =
-    let st = c .before .before .before .before .before .before .before .before .before in
+    let st : tie.Start = search in
     let s = st .args .b * st .args .groups in
     let n = getD (st .args .counts .now) (st .args .b) 0 in
     c .add-listed .ensures

@@ -19,11 +19,11 @@ pack-requires c κs = let st = c .before .before .before .before in (st .pre .0,
 
 returns : tie.Need-returns Inv-loop μ-loop
 returns c =
-    let st = c .before .before .before .before .before .before in
+    let st : tie.Start Inv-loop μ-loop = search in
     streams-skip (st .args .groups) (st .args .w .now) (st .args .g) (st .pre .3) (λ b h. sym (rw (c .if1 .taken, zero-div) at (c .before .pack .ensures b h))) (st .pre .4)
 
 loop-holds : tie.Need-loop-holds Inv-loop μ-loop
-loop-holds c = let st = c .before .before .before .before .before .before in (omega arith, streams-begin (st .args .groups) (st .args .w .now) (st .args .g) (st .pre .3) (st .pre .4))
+loop-holds c = let st : tie.Start Inv-loop μ-loop = search in (omega arith, streams-begin (st .args .groups) (st .args .w .now) (st .args .g) (st .pre .3) (st .pre .4))
 
 mul-v : tie.Need-mul-v Inv-loop μ-loop
 mul-v c = omega arith
@@ -39,42 +39,48 @@ slice-read-count c = omega arith
 
 mul-at : tie.Need-mul-at Inv-loop μ-loop
 mul-at c =
+    let start : tie.Start Inv-loop μ-loop = search in
     let l = c .before .before .loop in
-    let a = c .before .before .before .before .before .before .before .before .before .args in
+    let a = start .args in
     omega (arith, row-inside 8 (l .b) (a .groups) (omega arith))
 
 cast-at : tie.Need-cast-at Inv-loop μ-loop
 cast-at c =
+    let start : tie.Start Inv-loop μ-loop = search in
     let l = c .before .before .loop in
-    let a = c .before .before .before .before .before .before .before .before .before .args in
+    let a = start .args in
     omega (arith, count-low (a .groups) (a .g) (l .b) (a .w .now) (l .list) (l .counts) (l .inv .1) (omega arith))
 
 add-at : tie.Need-add-at Inv-loop μ-loop
 add-at c =
+    let start : tie.Start Inv-loop μ-loop = search in
     let l = c .before .before .loop in
-    let a = c .before .before .before .before .before .before .before .before .before .args in
-    omega (arith, entry-inside (a .groups) (a .g) (l .b) (a .w .now) (l .list) (l .counts) (l .inv .1) (omega arith) (c .before .before .before .before .before .before .before .before .before .pre .3))
+    let a = start .args in
+    omega (arith, entry-inside (a .groups) (a .g) (l .b) (a .w .now) (l .list) (l .counts) (l .inv .1) (omega arith) (start .pre .3))
 
 entry-requires : tie.Need-entry-requires Inv-loop μ-loop
 entry-requires c κs = (omega arith, omega arith)
 
 mul-list : tie.Need-mul-list Inv-loop μ-loop
 mul-list c =
+    let start : tie.Start Inv-loop μ-loop = search in
     let l = c .before .before .before .loop in
-    let a = c .before .before .before .before .before .before .before .before .before .before .args in
-    omega (arith, entry-inside (a .groups) (a .g) (l .b) (a .w .now) (l .list) (l .counts) (l .inv .1) (omega arith) (c .before .before .before .before .before .before .before .before .before .before .pre .3))
+    let a = start .args in
+    omega (arith, entry-inside (a .groups) (a .g) (l .b) (a .w .now) (l .list) (l .counts) (l .inv .1) (omega arith) (start .pre .3))
 
 slice-write-list : tie.Need-slice-write-list Inv-loop μ-loop
 slice-write-list c =
+    let start : tie.Start Inv-loop μ-loop = search in
     let l = c .before .before .before .loop in
-    let a = c .before .before .before .before .before .before .before .before .before .before .args in
-    omega (arith, entry-inside (a .groups) (a .g) (l .b) (a .w .now) (l .list) (l .counts) (l .inv .1) (omega arith) (c .before .before .before .before .before .before .before .before .before .before .pre .3), l .inv .1 .long)
+    let a = start .args in
+    omega (arith, entry-inside (a .groups) (a .g) (l .b) (a .w .now) (l .list) (l .counts) (l .inv .1) (omega arith) (start .pre .3), l .inv .1 .long)
 
 counted-requires : tie.Need-counted-requires Inv-loop μ-loop
 counted-requires c κs =
+    let start : tie.Start Inv-loop μ-loop = search in
     let l = c .before .before .before .loop in
-    let a = c .before .before .before .before .before .before .before .before .before .before .args in
-    omega (arith, count-low (a .groups) (a .g) (l .b) (a .w .now) (l .list) (l .counts) (l .inv .1) (omega arith), c .before .before .before .before .before .before .before .before .before .before .pre .3)
+    let a = start .args in
+    omega (arith, count-low (a .groups) (a .g) (l .b) (a .w .now) (l .list) (l .counts) (l .inv .1) (omega arith), start .pre .3)
 
 slice-write-counts : tie.Need-slice-write-counts Inv-loop μ-loop
 slice-write-counts c = omega arith
@@ -87,20 +93,21 @@ loop-less c = omega arith
 
 loop-again : tie.Need-loop-again Inv-loop μ-loop
 loop-again c =
+    let after-pack : tie.After-pack Inv-loop μ-loop = search in
+    let st : tie.Start Inv-loop μ-loop = search in
     let l = c .before .before .before .before .loop in
-    let st = c .before .before .before .before .before .before .before .before .before .before .before in
-    (omega arith, rw (c .before .entry .ensures, c .counted .ensures) (streams-turn (st .args .groups) (st .args .w .now) (st .args .g) (st .pre .3) (l .b) _ (omega arith) (c .before .before .before .before .before .before .pack .ensures (l .b) (omega arith)) (l .inv .1)))
+    (omega arith, rw (c .before .entry .ensures, c .counted .ensures) (streams-turn (st .args .groups) (st .args .w .now) (st .args .g) (st .pre .3) (l .b) _ (omega arith) (after-pack .pack .ensures (l .b) (omega arith)) (l .inv .1)))
 
 same-length : tie.Need-same-length Inv-loop μ-loop
-same-length c = c .before .loop .inv .1 .long ∙ sym (c .before .before .before .before .before .before .before .before .pre .4 .long)
+same-length c = let start : tie.Start Inv-loop μ-loop = search in c .before .loop .inv .1 .long ∙ sym (start .pre .4 .long)
 
 same-length-2 : tie.Need-same-length-2 Inv-loop μ-loop
-same-length-2 c = c .before .loop .inv .1 .counted ∙ sym (c .before .before .before .before .before .before .before .before .pre .4 .counted)
+same-length-2 c = let start : tie.Start Inv-loop μ-loop = search in c .before .loop .inv .1 .counted ∙ sym (start .pre .4 .counted)
 
 returns-2 : tie.Need-returns-2 Inv-loop μ-loop
 returns-2 c =
+    let st : tie.Start Inv-loop μ-loop = search in
     let l = c .before .loop in
-    let st = c .before .before .before .before .before .before .before .before in
     streams-end (st .args .groups) (st .args .w .now) (st .args .g) (st .pre .3) (l .b) (omega arith) (l .inv .1)
 
 pub list-group-spec : {M : Type 1} → statement M

@@ -18,11 +18,11 @@ clear-requires c κs = search needs
 
 loop-holds : tie.Need-loop-holds Inv-loop μ-loop
 loop-holds c =
-    let st = c .before .before .before .before .before .before .before .before in
+    let st : tie.Start Inv-loop μ-loop = search in
     rw (c .before .before .clear .ensures, st .pre .4) (omega arith, streams-none (st .args .groups) (st .args .w .now) (st .args .list .now) (st .pre .3))
 
 list-group-requires : tie.Need-list-group-requires Inv-loop μ-loop
-list-group-requires c κs = let st = c .before .before .before .before .before .before .before .before .before .before .before .before in (st .pre .0, st .pre .1, st .pre .2, c .before .before .loop-test .taken, c .before .before .before .loop .inv .1)
+list-group-requires c κs = let st : tie.Start Inv-loop μ-loop = search in (st .pre .0, st .pre .1, st .pre .2, c .before .before .loop-test .taken, c .before .before .before .loop .inv .1)
 
 add-g : tie.Need-add-g Inv-loop μ-loop
 add-g c = omega arith
@@ -34,15 +34,16 @@ loop-again : tie.Need-loop-again Inv-loop μ-loop
 loop-again c = (omega arith, c .before .before .before .before .list-group .ensures)
 
 same-length : tie.Need-same-length Inv-loop μ-loop
-same-length c = c .before .loop .inv .1 .long ∙ sym (c .before .before .before .before .before .before .before .before .before .before .pre .3)
+same-length c = let start : tie.Start Inv-loop μ-loop = search in c .before .loop .inv .1 .long ∙ sym (start .pre .3)
 
 same-length-2 : tie.Need-same-length-2 Inv-loop μ-loop
-same-length-2 c = c .before .loop .inv .1 .counted ∙ sym (c .before .before .before .before .before .before .before .before .before .before .pre .4)
+same-length-2 c = let start : tie.Start Inv-loop μ-loop = search in c .before .loop .inv .1 .counted ∙ sym (start .pre .4)
 
 returns : tie.Need-returns Inv-loop μ-loop
 returns c =
+    let start : tie.Start Inv-loop μ-loop = search in
     let l = c .before .loop in
-    let a = c .before .before .before .before .before .before .before .before .before .before .args in
+    let a = start .args in
     streams-all (a .groups) (l .g) (a .w .now) (l .list) (l .counts) (omega arith) (omega arith) (l .inv .1)
 
 pub list-output-spec : {M : Type 1} → statement M

@@ -47,7 +47,8 @@ add-result-3 c = search needs
 
 returns : tie.Need-returns
 returns c =
-    let a = c .before .before .before .before .before .before .args in
+    let start : tie.Start = search in
+    let a = start .args in
     pack-digit (a .w .now) (a .g) _ _ _ _ (c .before .before .before .spread .ensures .0) (c .before .before .spread2 .ensures .0) (c .before .spread3 .ensures .0) (c .spread4 .ensures .0)
 
 pub pack-spec : {M : Type 1} → statement M

@@ -28,7 +28,7 @@ clear-requires c κs = search needs
 
 loop-holds : tie.Need-loop-holds Inv-loop μ-loop
 loop-holds c =
-    let st = c .before .before .before .before .before .before in
+    let st : tie.Start Inv-loop μ-loop = search in
     let tab = st .args .tab .now in
     rw (c .before .before .clear .ensures, length-take-le 64 tab (omega arith)) (omega arith, omega arith, first-long tab (st .pre .1), group-first (st .args .rows .now) tab (st .pre .1))
 
@@ -63,7 +63,7 @@ mul-sum-2 : tie.Need-mul-sum-2 Inv-loop μ-loop
 mul-sum-2 c = omega arith
 
 sum-requires : tie.Need-sum-requires Inv-loop μ-loop
-sum-requires c κs = (part-length (c .before .before .before .highest .result * 64) 64 (c .before .before .before .before .before .before .before .before .before .before .before .before .args .rows .now) (omega arith), omega arith, omega arith)
+sum-requires c κs = let start : tie.Start Inv-loop μ-loop = search in (part-length (c .before .before .before .highest .result * 64) 64 (start .args .rows .now) (omega arith), omega arith, omega arith)
 
 add-v : tie.Need-add-v Inv-loop μ-loop
 add-v c = omega arith
@@ -73,12 +73,17 @@ loop-less c = omega arith
 
 loop-again : tie.Need-loop-again Inv-loop μ-loop
 loop-again c =
-    let l = c .before .before .before .before .before .before .before .before .loop in
-    let h = c .before .before .before .before .before .before .highest in
-    (omega arith, omega arith, l .inv .2, rw (c .before .before .sum .ensures) (group-turn (c .before .before .before .before .before .before .before .before .before .before .before .before .before .before .before .args .rows .now) (l .v) (h .result) _ (l .inv .3) (c .before .before .before .before .before .before .before .before .before .before .before .before .before .before .before .pre .0) (l .inv .2) (omega arith) (h .ensures .0) (h .ensures .1) (h .ensures .2) (c .before .before .before .before .power .ensures)))
+    let after-highest : tie.After-highest Inv-loop μ-loop = search in
+    let at-loop : tie.At-loop Inv-loop μ-loop = search in
+    let start : tie.Start Inv-loop μ-loop = search in
+    let l = at-loop .loop in
+    let h = after-highest .highest in
+    (omega arith, omega arith, l .inv .2, rw (c .before .before .sum .ensures) (group-turn (start .args .rows .now) (l .v) (h .result) _ (l .inv .3) (start .pre .0) (l .inv .2) (omega arith) (h .ensures .0) (h .ensures .1) (h .ensures .2) (c .before .before .before .before .power .ensures)))
 
 same-length : tie.Need-same-length Inv-loop μ-loop
-same-length c = let l = c .before .loop in l .inv .3 .long ∙ l .inv .2 ∙ sym (c .before .before .before .before .before .before .before .before .pre .1)
+same-length c =
+    let start : tie.Start Inv-loop μ-loop = search in
+    let l = c .before .loop in l .inv .3 .long ∙ l .inv .2 ∙ sym (start .pre .1)
 
 returns : tie.Need-returns Inv-loop μ-loop
 unfolding groupOf

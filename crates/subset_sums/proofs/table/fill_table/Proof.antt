@@ -49,8 +49,8 @@ part-fill-group-end-2 c = omega arith
 
 fill-group-requires : tie.Need-fill-group-requires Inv-loop μ-loop
 fill-group-requires c κs =
+    let st : tie.Start Inv-loop μ-loop = search in
     let l = c .before .before .before .loop in
-    let st = c .before .before .before .before .before .before in
     (part-length (l .g * 256) 256 (st .args .rows .now) (omega arith), part-length (l .g * 1024) 1024 (l .tab) (omega arith))
 
 add-g : tie.Need-add-g Inv-loop μ-loop
@@ -61,8 +61,9 @@ loop-less c = omega arith
 
 loop-again : tie.Need-loop-again Inv-loop μ-loop
 loop-again c =
-    let l = c .before .before .before .before .before .before .loop in
-    let st = c .before .before .before .before .before .before .before .before .before in
+    let at-loop : tie.At-loop Inv-loop μ-loop = search in
+    let st : tie.Start Inv-loop μ-loop = search in
+    let l = at-loop .loop in
     let rows = st .args .rows .now in
     let at = l .g * 256 in
     (omega arith, rw (row-after, c .before .before .fill-group .ensures) (valued-part (tableByte rows) (st .args .groups * 1024) (groupOf (take (at + 256 - at) (drop at rows))) 1024 _ (l .inv .1) (omega arith) (omega arith) (part-size (l .g * 1024) 1024) (length-group _) (λ p h. table-group rows (l .g) p h)))

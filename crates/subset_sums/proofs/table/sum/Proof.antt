@@ -56,8 +56,11 @@ same-length c = search needs
 returns : tie.Need-returns
 unfolding summed
 returns c =
-    let a = c .before .before .before .before .before .before .before .before .before .before .before .before .before .before .before .before .args in
-    rw (c .before .before .copy2 .ensures, c .before .before .before .before .before .before .add .ensures, c .before .before .before .before .before .before .before .before .before .copy .ensures, sum-part (a .row .now) (a .tab .now) (a .a) (omega arith))
+    let after-add : tie.After-add = search in
+    let after-copy : tie.After-copy = search in
+    let start : tie.Start = search in
+    let a = start .args in
+    rw (c .before .before .copy2 .ensures, after-add .add .ensures, after-copy .copy .ensures, sum-part (a .row .now) (a .tab .now) (a .a) (omega arith))
 
 pub sum-spec : {M : Type 1} → statement M
 sum-spec =

@@ -18,10 +18,10 @@ abbrev μ-loop : tie.MeasureT-loop
 
 -- the lanes' part lies within the lanes
 fits : (c : tie.After-lanes-of Inv-loop μ-loop)
-    → let a = c .before .before .before .before .before .before .args in
+    → let start : tie.Start Inv-loop μ-loop = search in let a = start .args in
     c .before .before .loop .first * a .rows + c .lanes-of .result * a .rows ≤ length (a .part .now)
 fits c =
-    let st = c .before .before .before .before .before .before in
+    let st : tie.Start Inv-loop μ-loop = search in
     lanes-inside (st .args .rows) (st .args .lanes) (st .args .part .now) (st .pre .2) (c .before .before .loop .first) (c .lanes-of .result) (omega (arith, c .lanes-of .ensures .1))
 
 loop-holds : tie.Need-loop-holds Inv-loop μ-loop
@@ -53,32 +53,37 @@ part-gather-end c = fits c
 
 gather-requires : tie.Need-gather-requires Inv-loop μ-loop
 gather-requires c κs =
-    let st = c .before .before .before .before .before .before .before .before in
+    let st : tie.Start Inv-loop μ-loop = search in
     let l = c .before .before .before .before .loop in
     let n = c .before .before .lanes-of .result in
     (omega arith, c .before .before .lanes-of .ensures .2, part-length (l .first * st .args .rows) (n * st .args .rows) (st .args .part .now) (fits (c .before .before)), rw (l .inv .1) (st .pre .1))
 
 put-rows-requires : tie.Need-put-rows-requires Inv-loop μ-loop
 put-rows-requires c κs =
-    let st = c .before .before .before .before .before .before .before .before .before .before .before .before .before in
-    let l = c .before .before .before .before .before .before .before .before .before .loop in
-    let n = c .before .before .before .before .before .before .before .lanes-of .ensures in
+    let after-lanes-of : tie.After-lanes-of Inv-loop μ-loop = search in
+    let at-loop : tie.At-loop Inv-loop μ-loop = search in
+    let st : tie.Start Inv-loop μ-loop = search in
+    let l = at-loop .loop in
+    let n = after-lanes-of .lanes-of .ensures in
     (omega (arith, c .before .before .before .before .gather .ensures .0, l .inv .1), l .inv .2 ∙ st .pre .3, omega (arith, n .1), n .2)
 
 add-first : tie.Need-add-first Inv-loop μ-loop
-add-first c = omega (arith, c .before .before .before .before .before .before .before .before .before .before .lanes-of .ensures .1)
+add-first c = let after-lanes-of : tie.After-lanes-of Inv-loop μ-loop = search in omega (arith, after-lanes-of .lanes-of .ensures .1)
 
 loop-less : tie.Need-loop-less Inv-loop μ-loop
-loop-less c = omega (arith, c .before .before .before .before .before .before .before .before .before .before .lanes-of .ensures .0, c .before .before .before .before .before .before .before .before .before .before .lanes-of .ensures .1)
+loop-less c = let after-lanes-of : tie.After-lanes-of Inv-loop μ-loop = search in omega (arith, after-lanes-of .lanes-of .ensures .0, after-lanes-of .lanes-of .ensures .1)
 
 loop-again : tie.Need-loop-again Inv-loop μ-loop
 loop-again c =
-    let st = c .before .before .before .before .before .before .before .before .before .before .before .before .before .before .before .before in
-    let l = c .before .before .before .before .before .before .before .before .before .before .before .before .loop in
-    let n = c .before .before .before .before .before .before .before .before .before .before .lanes-of .ensures in
-    let g = c .before .before .before .before .before .before .before .gather .ensures in
+    let after-gather : tie.After-gather Inv-loop μ-loop = search in
+    let after-lanes-of : tie.After-lanes-of Inv-loop μ-loop = search in
+    let at-loop : tie.At-loop Inv-loop μ-loop = search in
+    let st : tie.Start Inv-loop μ-loop = search in
+    let l = at-loop .loop in
+    let n = after-lanes-of .lanes-of .ensures in
+    let g = after-gather .gather .ensures in
     let b = c .before .before .put-rows .ensures in
-    (omega (arith, n .1), g .0 ∙ l .inv .1, b .long ∙ l .inv .2, gathered-more (st .args .rows) (st .args .lanes) (st .args .part .now) (st .pre .2) (l .first) (c .before .before .before .before .before .before .before .before .before .before .lanes-of .result) _ _ _ (omega (arith, n .1)) (g .1) b (l .inv .3))
+    (omega (arith, n .1), g .0 ∙ l .inv .1, b .long ∙ l .inv .2, gathered-more (st .args .rows) (st .args .lanes) (st .args .part .now) (st .pre .2) (l .first) (after-lanes-of .lanes-of .result) _ _ _ (omega (arith, n .1)) (g .1) b (l .inv .3))
 
 same-length : tie.Need-same-length Inv-loop μ-loop
 same-length c = c .before .loop .inv .1

@@ -62,7 +62,9 @@ part-copy-end-2 : tie.Need-part-copy-end-2 Inv-loop μ-loop
 part-copy-end-2 c = omega (arith, fits (c .before))
 
 copy-requires : tie.Need-copy-requires Inv-loop μ-loop
-copy-requires c κs = let st = c .before .before .before .before .before .before in let l = c .before .before .before .loop in part-length (l .r * 64) (st .args .count) (st .args .block .now) (omega arith) ∙ sym (part-length (l .r * st .args .lanes + st .args .first) (st .args .count) (l .tile) (fits (c .before .before)))
+copy-requires c κs =
+    let st : tie.Start Inv-loop μ-loop = search in
+    let l = c .before .before .before .loop in part-length (l .r * 64) (st .args .count) (st .args .block .now) (omega arith) ∙ sym (part-length (l .r * st .args .lanes + st .args .first) (st .args .count) (l .tile) (fits (c .before .before)))
 
 add-r : tie.Need-add-r Inv-loop μ-loop
 add-r c = omega arith
@@ -71,7 +73,10 @@ loop-less : tie.Need-loop-less Inv-loop μ-loop
 loop-less c = omega arith
 
 loop-again : tie.Need-loop-again Inv-loop μ-loop
-loop-again c = let st = c .before .before .before .before .before .before .before .before .before in let l = c .before .before .before .before .before .before .loop in (omega arith, rw (c .before .before .copy .ensures) (beside-row (st .args .rows) (st .args .lanes) (st .args .first) (st .args .count) (l .r) (st .args .block .now) (st .args .tile .now) (l .tile) (st .pre .2) (st .pre .1) (c .before .before .before .before .before .loop-test .taken) (omega arith) (l .inv .1) _ (part-size (l .r * st .args .lanes + st .args .first) (st .args .count))))
+loop-again c =
+    let at-loop : tie.At-loop Inv-loop μ-loop = search in
+    let st : tie.Start Inv-loop μ-loop = search in
+    let l = at-loop .loop in (omega arith, rw (c .before .before .copy .ensures) (beside-row (st .args .rows) (st .args .lanes) (st .args .first) (st .args .count) (l .r) (st .args .block .now) (st .args .tile .now) (l .tile) (st .pre .2) (st .pre .1) (c .before .before .before .before .before .loop-test .taken) (omega arith) (l .inv .1) _ (part-size (l .r * st .args .lanes + st .args .first) (st .args .count))))
 
 same-length : tie.Need-same-length Inv-loop μ-loop
 same-length c = c .before .loop .inv .1 .long

@@ -12,7 +12,9 @@ same-length : tie.Need-same-length
 same-length c = search needs
 
 returns : tie.Need-returns
-returns c = let a = c .before .before .before .before .before .before .before .args in c .before .before .turn .ensures ∙ turned (a .rows) (a .lanes) (a .part .now)
+returns c =
+    let start : tie.Start = search in
+    let a = start .args in c .before .before .turn .ensures ∙ turned (a .rows) (a .lanes) (a .part .now)
 
 small-scratch-requires : tie.Need-small-scratch-requires
 small-scratch-requires c κs = search needs
@@ -51,7 +53,9 @@ same-length-4 : tie.Need-same-length-4
 same-length-4 c = search needs
 
 returns-4 : tie.Need-returns-4
-returns-4 c = let a = c .before .before .before .before .before .before .before .before .before .args in c .before .before .turn2 .ensures ∙ turned (a .rows) (a .lanes) (a .part .now)
+returns-4 c =
+    let start : tie.Start = search in
+    let a = start .args in c .before .before .turn2 .ensures ∙ turned (a .rows) (a .lanes) (a .part .now)
 
 pub gather-spec : {M : Type 1} → statement M
 gather-spec =

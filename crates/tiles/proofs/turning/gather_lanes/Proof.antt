@@ -44,7 +44,7 @@ same-length c = search needs
 
 returns : tie.Need-returns
 returns c =
-    let s = c .before .before .before .before .before .before .before in
+    let s : tie.Start = search in
     let a = s .args in
     c .before .before .gather .ensures ∙ rearranged-part (a .rows) (a .lanes) (a .source .now) (s .pre .0) by-row (a .first) (a .count)
 

@@ -43,8 +43,10 @@ part-rows-to-lanes-end-2 : tie.Need-part-rows-to-lanes-end-2 Inv-loop μ-loop
 part-rows-to-lanes-end-2 c = omega arith
 
 rows-to-lanes-requires : tie.Need-rows-to-lanes-requires Inv-loop μ-loop
-rows-to-lanes-requires c κs = let l = c .before .before .before .loop in
-    let a = c .before .before .before .before .before .before .args in
+rows-to-lanes-requires c κs =
+    let start : tie.Start Inv-loop μ-loop = search in
+    let l = c .before .before .before .loop in
+    let a = start .args in
     (part-length (l .b * 1024) 1024 (a .tile .now) (omega arith), part-length (l .b * 1024) 1024 (l .blocks) (omega arith))
 
 add-b : tie.Need-add-b Inv-loop μ-loop
@@ -54,8 +56,11 @@ loop-less : tie.Need-loop-less Inv-loop μ-loop
 loop-less c = omega arith
 
 loop-again : tie.Need-loop-again Inv-loop μ-loop
-loop-again c = let l = c .before .before .before .before .before .before .loop in
-    let a = c .before .before .before .before .before .before .before .before .before .args in
+loop-again c =
+    let at-loop : tie.At-loop Inv-loop μ-loop = search in
+    let start : tie.Start Inv-loop μ-loop = search in
+    let l = at-loop .loop in
+    let a = start .args in
     let at = l .b * 1024 in
     (omega arith, rw (row-after, c .before .before .rows-to-lanes .ensures) (valued-part (blockByte (a .tile .now)) (a .count * 1024) (asLanes (take (at + 1024 - at) (drop at (a .tile .now)))) 1024 _ (l .inv .1) (omega arith) (omega arith) (part-size at 1024) (length-as-lanes _) (λ p h. block-byte (a .tile .now) (l .b) p h)))
 

@@ -71,8 +71,8 @@ part-move16-end-2 c = full (c .before) .3
 
 move16-requires : tie.Need-move16-requires Inv-loop μ-loop
 move16-requires c κs =
+    let st : tie.Start Inv-loop μ-loop = search in
     let l = c .before .before .before .loop in
-    let st = c .before .before .before .before .before .before in
     let at = l .j * 64 + st .args .t * 16 in
     (part-length at 16 (st .args .blocks .now) (full (c .before .before) .2), part-length (l .j) 16 (l .lane) (full (c .before .before) .3))
 
@@ -84,8 +84,9 @@ loop-less c = omega (arith, c .before .before .before .before .before .loop-test
 
 loop-again : tie.Need-loop-again Inv-loop μ-loop
 loop-again c =
-    let l = c .before .before .before .before .before .before .loop in
-    let st = c .before .before .before .before .before .before .before .before .before in
+    let at-loop : tie.At-loop Inv-loop μ-loop = search in
+    let st : tie.Start Inv-loop μ-loop = search in
+    let l = at-loop .loop in
     let blocks = st .args .blocks .now in
     let at = l .j * 64 + st .args .t * 16 in
     let inside = c .before .before .before .before .before .loop-test .taken in
@@ -123,22 +124,24 @@ part-move-rest-end-2 c = omega (arith, rest (c .before))
 
 move-rest-requires : tie.Need-move-rest-requires Inv-loop μ-loop
 move-rest-requires c κs =
+    let st : tie.Start Inv-loop μ-loop = search in
     let l = c .before .before .before .before .loop in
-    let st = c .before .before .before .before .before .before .before in
     let at = l .j * 64 + st .args .t * 16 in
     (part-length at 16 (st .args .blocks .now) (rest (c .before .before) .2), simp (length-take, length-drop) (omega (arith, rest (c .before .before))))
 
 same-length : tie.Need-same-length Inv-loop μ-loop
 same-length c =
-    let l = c .before .before .before .before .before .before .before .loop in
-    let st = c .before .before .before .before .before .before .before .before .before .before in
+    let at-loop : tie.At-loop Inv-loop μ-loop = search in
+    let st : tie.Start Inv-loop μ-loop = search in
+    let l = at-loop .loop in
     let end = rest (c .before .before .before .before .before) in
     rw (c .before .before .move-rest .ensures) (ap length (lane-rest (st .args .blocks .now) (st .args .t) (length (st .args .lane .now)) (l .j) (l .inv .2) refl (l .inv .1) (end .0) (end .1) (end .2)) ∙ length-lane (st .args .t) _ _)
 
 returns : tie.Need-returns Inv-loop μ-loop
 returns c =
-    let l = c .before .before .before .before .before .before .before .loop in
-    let st = c .before .before .before .before .before .before .before .before .before .before in
+    let at-loop : tie.At-loop Inv-loop μ-loop = search in
+    let st : tie.Start Inv-loop μ-loop = search in
+    let l = at-loop .loop in
     let end = rest (c .before .before .before .before .before) in
     rw (c .before .before .move-rest .ensures) (lane-rest (st .args .blocks .now) (st .args .t) (length (st .args .lane .now)) (l .j) (l .inv .2) refl (l .inv .1) (end .0) (end .1) (end .2))
 

@@ -55,8 +55,9 @@ loop-less c = omega arith
 
 loop-again : tie.Need-loop-again Inv-loop μ-loop
 loop-again c =
+    let start : tie.Start Inv-loop μ-loop = search in
     let l = c .before .before .before .before .before .loop in
-    let a = c .before .before .before .before .before .before .before .before .args in
+    let a = start .args in
     let room = lane-in (c .before .before .before .before) in (
       omega arith,
       rw (row-after, part-size, c .before .before .fill-lane .ensures, part-length (l .t * a .n) (a .n) (l .out) (omega (arith, room, l .inv .1 .long)))

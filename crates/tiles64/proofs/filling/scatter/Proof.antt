@@ -20,8 +20,10 @@ same-length-2 : tie.Need-same-length-2
 same-length-2 c = search needs
 
 returns : tie.Need-returns
-returns c = let st = c .before .before .before .before .before .before .before .before .before .before .before .before in
-    rw (c .before .before .fill-lanes .ensures, c .before .before .before .before .before .before .before .fill-blocks .ensures) (lanes-of-tile (st .args .tile .now) (st .args .n) (st .args .count) (st .pre .1))
+returns c =
+    let after-fill-blocks : tie.After-fill-blocks = search in
+    let st : tie.Start = search in
+    rw (c .before .before .fill-lanes .ensures, after-fill-blocks .fill-blocks .ensures) (lanes-of-tile (st .args .tile .now) (st .args .n) (st .args .count) (st .pre .1))
 
 pub scatter-spec : {M : Type 1} → statement M
 scatter-spec =

@@ -36,7 +36,8 @@ loop-less : tie.Need-loop-less Inv-loop μ-loop
 loop-less c = omega arith
 
 loop-again : tie.Need-loop-again Inv-loop μ-loop
-loop-again c = let st = c .before .before .before .before .before .before .before .before in
+loop-again c =
+    let st : tie.Start Inv-loop μ-loop = search in
     let l = c .before .before .before .before .before .loop in
     (omega arith, block-lane (st .args .rows) (st .args .j) (st .args .count) (l .t) (st .args .part .now) (l .block) _ (st .pre .2) (c .before .before .before .before .loop-test .taken) (l .inv .1) (c .before .before .read16 .ensures))
 

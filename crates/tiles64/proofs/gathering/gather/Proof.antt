@@ -29,8 +29,7 @@ slice-aggregate-fill-block : tie.Need-slice-aggregate-fill-block Inv-loop μ-loo
 slice-aggregate-fill-block c = sym (c .before .before .loop .inv .2)
 
 fill-block-requires : tie.Need-fill-block-requires Inv-loop μ-loop
-fill-block-requires c κs = let st = c .before .before .before .before .before .before in
-    (st .pre .0, st .pre .1, st .pre .2, c .before .loop-test .taken, c .before .before .loop .inv .2)
+fill-block-requires c κs = let st : tie.Start Inv-loop μ-loop = search in (st .pre .0, st .pre .1, st .pre .2, c .before .loop-test .taken, c .before .before .loop .inv .2)
 
 mul-start : tie.Need-mul-start Inv-loop μ-loop
 mul-start c = omega arith
@@ -51,7 +50,9 @@ part-lanes-to-rows-end : tie.Need-part-lanes-to-rows-end Inv-loop μ-loop
 part-lanes-to-rows-end c = omega arith
 
 lanes-to-rows-requires : tie.Need-lanes-to-rows-requires Inv-loop μ-loop
-lanes-to-rows-requires c κs = let l = c .before .before .before .before .before .before .loop in
+lanes-to-rows-requires c κs =
+    let at-loop : tie.At-loop Inv-loop μ-loop = search in
+    let l = at-loop .loop in
     (c .before .before .before .fill-block .ensures .long, part-length (l .j * 64) 1024 (l .tile) (omega arith))
 
 add-j : tie.Need-add-j Inv-loop μ-loop
@@ -61,11 +62,14 @@ loop-less : tie.Need-loop-less Inv-loop μ-loop
 loop-less c = omega arith
 
 loop-again : tie.Need-loop-again Inv-loop μ-loop
-loop-again c = let st = c .before .before .before .before .before .before .before .before .before .before .before .before .before in
+loop-again c =
+    let after-fill-block : tie.After-fill-block Inv-loop μ-loop = search in
+    let at-loop : tie.At-loop Inv-loop μ-loop = search in
+    let st : tie.Start Inv-loop μ-loop = search in
     let a = st .args in
-    let l = c .before .before .before .before .before .before .before .before .before .loop in
-    let made = c .before .before .before .before .before .before .fill-block .ensures in
-    let block = c .before .before .before .before .before .before .fill-block .last .1 .1 .1 .1 .0 in
+    let l = at-loop .loop in
+    let made = after-fill-block .fill-block .ensures in
+    let block = after-fill-block .fill-block .last .1 .1 .1 .1 .0 in
     let fits : l .j * 64 + 1024 ≤ length (l .tile) = omega arith in (
       omega arith,
       omega arith,

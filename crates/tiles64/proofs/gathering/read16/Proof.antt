@@ -43,7 +43,9 @@ same-length : tie.Need-same-length
 same-length c = search needs
 
 returns : tie.Need-returns
-returns c = let a = c .before .before .before .before .before .before .before .before .args in
+returns c =
+    let start : tie.Start = search in
+    let a = start .args in
     let s = a .at in
     rw (c .before .before .move16 .ensures, part-size (a .to) 16) (read-put (a .part .now) (a .block .now) (take (s + 16 - s) (drop s (a .part .now))) s (a .to) 16 (part-length s 16 (a .part .now) (omega arith)) (omega arith) (λ i h. getD-part s 16 (a .part .now) i h) (λ i h inside. h))
 
@@ -75,7 +77,9 @@ same-length-2 : tie.Need-same-length-2
 same-length-2 c = search needs
 
 returns-2 : tie.Need-returns-2
-returns-2 c = let a = c .before .before .before .before .before .before .before .before .args in
+returns-2 c =
+    let start : tie.Start = search in
+    let a = start .args in
     let s = a .at in
     let k = length (a .part .now) - s in
     let whole : s + k ≡ length (a .part .now) = omega arith in

@@ -46,7 +46,10 @@ add-result-3 : tie.Need-add-result-3
 add-result-3 c = search needs
 
 returns : tie.Need-returns
-returns c = read4 (c .before .before .before .before .before .before .before .before .before .args .b .now) _ _ _ _ (c .before .before .before .before .before .before .before .before .before .pre) (c .before .before .before .before .before .before .wide4 .ensures) (c .before .before .before .before .wide42 .ensures) (c .before .before .wide43 .ensures) (c .wide44 .ensures)
+returns c =
+    let after-wide4 : tie.After-wide4 = search in
+    let start : tie.Start = search in
+    read4 (start .args .b .now) _ _ _ _ (start .pre) (after-wide4 .wide4 .ensures) (c .before .before .before .before .wide42 .ensures) (c .before .before .wide43 .ensures) (c .wide44 .ensures)
 
 pub get4-spec : {M : Type 1} → statement M
 get4-spec =

@@ -94,7 +94,14 @@ add-result-7 : tie.Need-add-result-7
 add-result-7 c = search needs
 
 returns : tie.Need-returns
-returns c = read8 (c .before .before .before .before .before .before .before .before .before .before .before .before .before .before .before .before .before .args .b .now) _ _ _ _ _ _ _ _ (c .before .before .before .before .before .before .before .before .before .before .before .before .before .before .before .before .before .pre) (c .before .before .before .before .before .before .before .before .before .before .before .before .before .before .wide .ensures) (c .before .before .before .before .before .before .before .before .before .before .before .before .wide2 .ensures) (c .before .before .before .before .before .before .before .before .before .before .wide3 .ensures) (c .before .before .before .before .before .before .before .before .wide4 .ensures) (c .before .before .before .before .before .before .wide5 .ensures) (c .before .before .before .before .wide6 .ensures) (c .before .before .wide7 .ensures) (c .wide8 .ensures)
+returns c =
+    let after-wide5 : tie.After-wide5 = search in
+    let after-wide4 : tie.After-wide4 = search in
+    let after-wide3 : tie.After-wide3 = search in
+    let after-wide2 : tie.After-wide2 = search in
+    let after-wide : tie.After-wide = search in
+    let start : tie.Start = search in
+    read8 (start .args .b .now) _ _ _ _ _ _ _ _ (start .pre) (after-wide .wide .ensures) (after-wide2 .wide2 .ensures) (after-wide3 .wide3 .ensures) (after-wide4 .wide4 .ensures) (after-wide5 .wide5 .ensures) (c .before .before .before .before .wide6 .ensures) (c .before .before .wide7 .ensures) (c .wide8 .ensures)
 
 pub get8-spec : {M : Type 1} → statement M
 get8-spec =

@@ -18,9 +18,10 @@ same-length c = search needs
 
 returns : tie.Need-returns
 returns c =
-    let st = c .before .before .before .before .before .before .before .before .before .before in
+    let after-move8-at : tie.After-move8-at = search in
+    let st : tie.Start = search in
     let s = st .args .from .now in
-    c .before .before .move8-at2 .ensures ∙ ap (patched 8 8 s) (c .before .before .before .before .before .before .move8-at .ensures) ∙ patched-twice 8 16 s (st .args .to .now) (st .pre .1) (omega arith) (omega arith) (omega arith) ∙ take-all 16 s (omega arith)
+    c .before .before .move8-at2 .ensures ∙ ap (patched 8 8 s) (after-move8-at .move8-at .ensures) ∙ patched-twice 8 16 s (st .args .to .now) (st .pre .1) (omega arith) (omega arith) (omega arith) ∙ take-all 16 s (omega arith)
 
 pub move16-spec : {M : Type 1} → statement M
 move16-spec = tie.close (tie.spec move8-at-requires move8-at-requires-2 same-length returns)

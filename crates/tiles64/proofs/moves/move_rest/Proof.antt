@@ -20,10 +20,11 @@ same-length c = search needs
 
 returns : tie.Need-returns
 returns c =
-    let st = c .before .before .before .before .before .before .before .before .before .before .before in
+    let after-move8-at : tie.After-move8-at = search in
+    let st : tie.Start = search in
     let s = st .args .from .now in
     let n = length (st .args .to .now) in
-    c .before .before .move8-at2 .ensures ∙ ap (patched (n - 8) 8 s) (c .before .before .before .before .before .before .move8-at .ensures) ∙ patched-twice 8 n s (st .args .to .now) refl (omega arith) (omega arith) (omega arith)
+    c .before .before .move8-at2 .ensures ∙ ap (patched (n - 8) 8 s) (after-move8-at .move8-at .ensures) ∙ patched-twice 8 n s (st .args .to .now) refl (omega arith) (omega arith) (omega arith)
 
 move4-at-requires : tie.Need-move4-at-requires
 move4-at-requires c κs = search needs
@@ -36,10 +37,11 @@ same-length-2 c = search needs
 
 returns-2 : tie.Need-returns-2
 returns-2 c =
-    let st = c .before .before .before .before .before .before .before .before .before .before .before .before in
+    let after-move4-at : tie.After-move4-at = search in
+    let st : tie.Start = search in
     let s = st .args .from .now in
     let n = length (st .args .to .now) in
-    c .before .before .move4-at2 .ensures ∙ ap (patched (n - 4) 4 s) (c .before .before .before .before .before .before .move4-at .ensures) ∙ patched-twice 4 n s (st .args .to .now) refl (omega arith) (omega arith) (omega arith)
+    c .before .before .move4-at2 .ensures ∙ ap (patched (n - 4) 4 s) (after-move4-at .move4-at .ensures) ∙ patched-twice 4 n s (st .args .to .now) refl (omega arith) (omega arith) (omega arith)
 
 slice-aggregate-copy : tie.Need-slice-aggregate-copy
 slice-aggregate-copy c = sym (length-take-le _ _ (omega arith))

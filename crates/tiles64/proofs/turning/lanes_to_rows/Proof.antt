@@ -36,8 +36,8 @@ mul-turn-in c = omega arith
 
 turn-in-requires : tie.Need-turn-in-requires Inv-loop μ-loop
 turn-in-requires c κs =
+    let st : tie.Start Inv-loop μ-loop = search in
     let l = c .before .before .before .loop in
-    let st = c .before .before .before .before .before .before in
     (part-length (l .q * 256) 256 (st .args .block .now) (omega arith), omega arith, l .inv .1)
 
 add-q : tie.Need-add-q Inv-loop μ-loop
@@ -48,8 +48,9 @@ loop-less c = omega arith
 
 loop-again : tie.Need-loop-again Inv-loop μ-loop
 loop-again c =
-    let l = c .before .before .before .before .before .before .loop in
-    let st = c .before .before .before .before .before .before .before .before .before in
+    let at-loop : tie.At-loop Inv-loop μ-loop = search in
+    let st : tie.Start Inv-loop μ-loop = search in
+    let l = at-loop .loop in
     (omega arith, c .before .before .turn-in .ensures .long ∙ l .inv .1, rows-more (st .args .block .now) (l .tile) _ (l .q) (l .inv .2) (c .before .before .turn-in .ensures))
 
 same-length : tie.Need-same-length Inv-loop μ-loop

@@ -51,8 +51,8 @@ part-copy-end-2 c = omega arith
 
 copy-requires : tie.Need-copy-requires Inv-loop μ-loop
 copy-requires c κs =
+    let st : tie.Start Inv-loop μ-loop = search in
     let l = c .before .before .before .loop in
-    let st = c .before .before .before .before .before .before in
     part-length (l .i * 16) 16 (st .args .a .now) (omega arith) ∙ sym (part-length (l .i * 64 + st .args .first) 16 (l .tile) (omega arith))
 
 add-i : tie.Need-add-i Inv-loop μ-loop
@@ -63,8 +63,9 @@ loop-less c = omega arith
 
 loop-again : tie.Need-loop-again Inv-loop μ-loop
 loop-again c =
-    let l = c .before .before .before .before .before .before .loop in
-    let st = c .before .before .before .before .before .before .before .before .before in
+    let at-loop : tie.At-loop Inv-loop μ-loop = search in
+    let st : tie.Start Inv-loop μ-loop = search in
+    let l = at-loop .loop in
     (omega arith, rw (c .before .before .copy .ensures) (squared-row (st .args .a .now) (st .args .first) (st .args .tile .now) (st .pre .0) (st .pre .1) (st .pre .2) (l .i) (l .tile) (omega arith) (l .inv .1)))
 
 same-length : tie.Need-same-length Inv-loop μ-loop

@@ -50,8 +50,8 @@ loop-less c = omega arith
 
 loop-again : tie.Need-loop-again Inv-loop μ-loop
 loop-again c =
+    let st : tie.Start Inv-loop μ-loop = search in
     let l = c .before .before .before .before .before .loop in
-    let st = c .before .before .before .before .before .before .before .before in
     let tile = st .args .tile .now in
     (omega arith, rw (row-after, c .before .before .turn-out .ensures) (valued-part (λ p. getD tile (p % 16 * 64 + p / 16) 0) 1024 (turned (squareAt (l .q * 16) tile)) 256 _ (l .inv .1) (omega arith) (omega arith) (part-size (l .q * 256) 256) (length-turned _) (λ p h. turned-square tile (l .q) p (omega arith) h)))
 

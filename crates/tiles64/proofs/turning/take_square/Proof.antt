@@ -53,8 +53,8 @@ part-copy-end-2 c = omega arith
 
 copy-requires : tie.Need-copy-requires Inv-loop μ-loop
 copy-requires c κs =
+    let st : tie.Start Inv-loop μ-loop = search in
     let l = c .before .before .before .loop in
-    let st = c .before .before .before .before .before .before in
     part-length (l .i * 64 + st .args .first) 16 (st .args .tile .now) (omega arith) ∙ sym (part-length (l .i * 16) 16 (l .a) (omega arith))
 
 add-i : tie.Need-add-i Inv-loop μ-loop
@@ -65,8 +65,9 @@ loop-less c = omega arith
 
 loop-again : tie.Need-loop-again Inv-loop μ-loop
 loop-again c =
-    let l = c .before .before .before .before .before .before .loop in
-    let st = c .before .before .before .before .before .before .before .before .before in
+    let at-loop : tie.At-loop Inv-loop μ-loop = search in
+    let st : tie.Start Inv-loop μ-loop = search in
+    let l = at-loop .loop in
     let tile = st .args .tile .now in
     let at = l .i * 64 + st .args .first in
     (omega arith, rw (row-after, c .before .before .copy .ensures) (valued-part (squareByte tile (st .args .first)) 256 (take (at + 16 - at) (drop at tile)) 16 _ (l .inv .1) (omega arith) (omega arith) (part-size (l .i * 16) 16) (part-length at 16 tile (omega arith)) (square-row tile (st .args .first) (l .i))))

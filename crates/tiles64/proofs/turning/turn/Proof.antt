@@ -45,7 +45,11 @@ same-length : tie.Need-same-length
 same-length c = search needs
 
 returns : tie.Need-returns
-returns c = c .before .before .shuffle4 .ensures ∙ ap shuffled (c .before .before .before .before .before .before .shuffle3 .ensures ∙ ap shuffled (c .before .before .before .before .before .before .before .before .before .before .shuffle2 .ensures ∙ ap shuffled (c .before .before .before .before .before .before .before .before .before .before .before .before .before .before .shuffle .ensures))) ∙ turned-shuffled _
+returns c =
+    let after-shuffle3 : tie.After-shuffle3 = search in
+    let after-shuffle2 : tie.After-shuffle2 = search in
+    let after-shuffle : tie.After-shuffle = search in
+    c .before .before .shuffle4 .ensures ∙ ap shuffled (after-shuffle3 .shuffle3 .ensures ∙ ap shuffled (after-shuffle2 .shuffle2 .ensures ∙ ap shuffled (after-shuffle .shuffle .ensures))) ∙ turned-shuffled _
 
 pub turn-spec : {M : Type 1} → statement M
 turn-spec =

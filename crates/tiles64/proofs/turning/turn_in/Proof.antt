@@ -21,7 +21,7 @@ same-length : tie.Need-same-length
 same-length c = search needs
 
 returns : tie.Need-returns
-returns c = rw (c .before .before .before .before .before .before .turn .ensures) at (c .before .before .put-square .ensures)
+returns c = let after-turn : tie.After-turn = search in rw (after-turn .turn .ensures) at (c .before .before .put-square .ensures)
 
 pub turn-in-spec : {M : Type 1} → statement M
 turn-in-spec =

@@ -23,7 +23,7 @@ same-length : tie.Need-same-length
 same-length c = search needs
 
 returns : tie.Need-returns
-returns c = c .before .before .turn .ensures ∙ ap turned (c .before .before .before .before .before .before .take-square .ensures)
+returns c = let after-take-square : tie.After-take-square = search in c .before .before .turn .ensures ∙ ap turned (after-take-square .take-square .ensures)
 
 pub turn-out-spec : {M : Type 1} → statement M
 turn-out-spec =

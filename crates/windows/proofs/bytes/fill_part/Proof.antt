@@ -29,13 +29,15 @@ sub-turn : tie.Need-sub-turn Inv-loop μ-loop
 sub-turn c = omega arith
 
 part-turn-start : tie.Need-part-turn-start Inv-loop μ-loop
-part-turn-start c = omega (arith, c .before .before .before .before .before .before .before .pre .1, c .before .before .before .before .before .before .before .pre .2)
+part-turn-start c = let start : tie.Start Inv-loop μ-loop = search in omega (arith, start .pre .1, start .pre .2)
 
 part-turn-end : tie.Need-part-turn-end Inv-loop μ-loop
 part-turn-end c = omega arith
 
 turn-requires : tie.Need-turn-requires Inv-loop μ-loop
-turn-requires c κs = let st = c .before .before .before .before .before .before .before .before .before in let rest = part-rest (st .args .at) (st .args .tab .now) in (st .pre .0, rw rest (slices-inside _ _ _ _ _ (st .pre .0) (st .pre .2) (st .pre .1) (st .pre .3)), c .before .before .loop-test .taken, rw rest (c .before .before .before .loop .inv .1))
+turn-requires c κs =
+    let st : tie.Start Inv-loop μ-loop = search in
+    let rest = part-rest (st .args .at) (st .args .tab .now) in (st .pre .0, rw rest (slices-inside _ _ _ _ _ (st .pre .0) (st .pre .2) (st .pre .1) (st .pre .3)), c .before .before .loop-test .taken, rw rest (c .before .before .before .loop .inv .1))
 
 add-b : tie.Need-add-b Inv-loop μ-loop
 add-b c = omega arith
@@ -44,19 +46,23 @@ loop-less : tie.Need-loop-less Inv-loop μ-loop
 loop-less c = omega arith
 
 loop-again : tie.Need-loop-again Inv-loop μ-loop
-loop-again c = let st = c .before .before .before .before .before .before .before .before .before .before in (omega arith, c .turn .ensures ∙ rw (part-rest (st .args .at) (st .args .tab .now)))
+loop-again c = let st : tie.Start Inv-loop μ-loop = search in (omega arith, c .turn .ensures ∙ rw (part-rest (st .args .at) (st .args .tab .now)))
 
 slice-aggregate-widen : tie.Need-slice-aggregate-widen Inv-loop μ-loop
 slice-aggregate-widen c = let l = c .before .before .loop in sym (ap length (l .inv .1) ∙ length-turns (l .b) _ _ _ _)
 
 widen-requires : tie.Need-widen-requires Inv-loop μ-loop
-widen-requires c κs = let l = c .before .before .before .loop in omega (arith, ap length (l .inv .1), length-turns (l .b) (c .before .before .before .before .before .before .before .before .before .args .groups) (drop (c .before .before .before .before .before .before .before .before .before .args .at) (c .before .before .before .before .before .before .before .before .before .args .tab .now)) (c .before .before .before .before .before .before .before .before .before .args .list .now) (c .before .before .before .before .before .before .before .before .before .args .counts .now), c .before .before .before .before .before .before .before .before .before .pre .4)
+widen-requires c κs =
+    let start : tie.Start Inv-loop μ-loop = search in
+    let l = c .before .before .before .loop in omega (arith, ap length (l .inv .1), length-turns (l .b) (start .args .groups) (drop (start .args .at) (start .args .tab .now)) (start .args .list .now) (start .args .counts .now), start .pre .4)
 
 same-length : tie.Need-same-length Inv-loop μ-loop
 same-length c = search needs
 
 returns : tie.Need-returns Inv-loop μ-loop
-returns c = let l = c .before .before .before .before .before .before .loop in let all : l .b ≡ 8 = omega arith in c .before .before .widen .ensures ∙ rw (l .inv .1, all)
+returns c =
+    let at-loop : tie.At-loop Inv-loop μ-loop = search in
+    let l = at-loop .loop in let all : l .b ≡ 8 = omega arith in c .before .before .widen .ensures ∙ rw (l .inv .1, all)
 
 pub fill-part-spec : {M : Type 1} → statement M
 fill-part-spec =

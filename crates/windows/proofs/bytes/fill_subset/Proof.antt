@@ -55,7 +55,10 @@ loop-less : tie.Need-loop-less Inv-loop μ-loop
 loop-less c = omega arith
 
 loop-again : tie.Need-loop-again Inv-loop μ-loop
-loop-again c = let l = c .before .before .before .before .before .before .loop in let a = c .before .before .before .before .before .before .before .before .before .args in (omega arith, rw (c .subset-sum .ensures, subset-is (a .row .now) (a .v) (l .t)) (fills-put (rw (from-next (subsetFrom (a .row .now) (a .v)) (length (a .out .now)) (l .t) (omega arith)) at (l .inv .1)) (omega arith)))
+loop-again c =
+    let at-loop : tie.At-loop Inv-loop μ-loop = search in
+    let start : tie.Start Inv-loop μ-loop = search in
+    let l = at-loop .loop in let a = start .args in (omega arith, rw (c .subset-sum .ensures, subset-is (a .row .now) (a .v) (l .t)) (fills-put (rw (from-next (subsetFrom (a .row .now) (a .v)) (length (a .out .now)) (l .t) (omega arith)) at (l .inv .1)) (omega arith)))
 
 same-length : tie.Need-same-length Inv-loop μ-loop
 same-length c = c .before .loop .inv .1 .long

@@ -56,16 +56,19 @@ part-fill-part-end : tie.Need-part-fill-part-end Inv-loop μ-loop
 part-fill-part-end c = omega arith
 
 fill-part-requires : tie.Need-fill-part-requires Inv-loop μ-loop
-fill-part-requires c κs = let st = c .before .before .before .before .before .before .before .before in let l = c .before .before .before .loop in let s = c .before .smaller .ensures in let inside : l .at < length (st .args .sums .now) = omega (arith, l .inv .2 .long) in let turn = l .inv .1 inside in (st .pre .0, st .pre .1, omega (arith, st .pre .3), st .pre .2, rw (part-length (l .at) (c .before .smaller .result) (l .sums) (omega (arith, s .1))) (s .2))
+fill-part-requires c κs =
+    let st : tie.Start Inv-loop μ-loop = search in
+    let l = c .before .before .before .loop in let s = c .before .smaller .ensures in let inside : l .at < length (st .args .sums .now) = omega (arith, l .inv .2 .long) in let turn = l .inv .1 inside in (st .pre .0, st .pre .1, omega (arith, st .pre .3), st .pre .2, rw (part-length (l .at) (c .before .smaller .result) (l .sums) (omega (arith, s .1))) (s .2))
 
 loop-less : tie.Need-loop-less Inv-loop μ-loop
-loop-less c = omega (arith, c .before .before .before .before .smaller .ensures .0, c .before .before .before .before .smaller .ensures .1, c .before .before .before .before .before .before .loop .inv .2 .long)
+loop-less c = let at-loop : tie.At-loop Inv-loop μ-loop = search in omega (arith, c .before .before .before .before .smaller .ensures .0, c .before .before .before .before .smaller .ensures .1, at-loop .loop .inv .2 .long)
 
 loop-again : tie.Need-loop-again Inv-loop μ-loop
 loop-again c =
-    let st = c .before .before .before .before .before .before .before .before .before .before .before in
+    let at-loop : tie.At-loop Inv-loop μ-loop = search in
+    let st : tie.Start Inv-loop μ-loop = search in
     let a = st .args in
-    let l = c .before .before .before .before .before .before .loop in
+    let l = at-loop .loop in
     let r = c .before .before .before .before .smaller .result in
     let s = c .before .before .before .before .smaller .ensures in
     let inside : l .at < length (a .sums .now) = omega (arith, l .inv .2 .long) in

@@ -48,7 +48,8 @@ loop-less c = omega arith
 
 loop-again : tie.Need-loop-again Inv-loop μ-loop
 loop-again c =
-    let a = c .before .before .before .before .before .before .before .before .args in
+    let start : tie.Start Inv-loop μ-loop = search in
+    let a = start .args in
     let l = c .before .before .before .before .before .loop in
     (omega arith, rw (row-after, c .before .before .fill-subset .ensures, part-length (l .v * 512) 512 (l .tab) (omega (arith, l .inv .1 .long))) (valued-part (tableByte (a .row .now)) 8192 (from (subsetFrom (a .row .now) (l .v)) 0 512) 512 _ (l .inv .1) (omega arith) (omega arith) (part-size (l .v * 512) 512) (length-from _ 0 512) (λ p h. table-part (a .row .now) (l .v) p h)))
 

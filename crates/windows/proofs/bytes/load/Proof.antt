@@ -28,16 +28,19 @@ fill-bytes-requires : tie.Need-fill-bytes-requires
 fill-bytes-requires c κs = (c .before .before .before .before .pre .1, part-long (c .before))
 
 slice-aggregate-fill-table : tie.Need-slice-aggregate-fill-table
-slice-aggregate-fill-table c = let st = c .before .before .before .before .before .before .before in sym (ap length (row-in-front _ _ _ (c .before .before .fill-bytes .ensures) (c .before .before .before .before .row .ensures)) ∙ length-padded 576 (st .args .row .now) (omega arith))
+slice-aggregate-fill-table c = let st : tie.Start = search in sym (ap length (row-in-front _ _ _ (c .before .before .fill-bytes .ensures) (c .before .before .before .before .row .ensures)) ∙ length-padded 576 (st .args .row .now) (omega arith))
 
 fill-table-requires : tie.Need-fill-table-requires
-fill-table-requires c κs = let st = c .before .before .before .before .before .before .before .before in (rw (row-in-front _ _ _ (c .before .before .before .fill-bytes .ensures) (c .before .before .before .before .before .row .ensures), length-padded 576 (st .args .row .now) (omega arith)) (omega arith), st .pre .2)
+fill-table-requires c κs = let st : tie.Start = search in (rw (row-in-front _ _ _ (c .before .before .before .fill-bytes .ensures) (c .before .before .before .before .before .row .ensures), length-padded 576 (st .args .row .now) (omega arith)) (omega arith), st .pre .2)
 
 same-length : tie.Need-same-length
 same-length c = search needs
 
 returns : tie.Need-returns
-returns c = c .before .before .fill-table .ensures ∙ ap tableOf (row-in-front _ _ _ (c .before .before .before .before .before .before .fill-bytes .ensures) (c .before .before .before .before .before .before .before .before .row .ensures))
+returns c =
+    let after-fill-bytes : tie.After-fill-bytes = search in
+    let after-row : tie.After-row = search in
+    c .before .before .fill-table .ensures ∙ ap tableOf (row-in-front _ _ _ (after-fill-bytes .fill-bytes .ensures) (after-row .row .ensures))
 
 pub load-spec : {M : Type 1} → statement M
 load-spec =

@@ -12,8 +12,8 @@ use Rattle.windows.proofs.bytes.window_sums.Statement.{statement}
 use Rattle.windows.proofs.bytes.window_sums.Tie as tie
 
 -- the part for the lists has their length
-part-long : (c : tie.After-list2) → let s = 8 * ((length (c .before .before .before .before .before .before .before .args .weights .now) + 3) / 4) in length (take s (c .before .before .before .list .result)) ≡ s
-part-long c = length-take-le _ _ (omega (arith, c .before .before .before .list .ensures, c .before .before .before .before .before .before .before .pre .few))
+part-long : (c : tie.After-list2) → let start : tie.Start = search in let s = 8 * ((length (start .args .weights .now) + 3) / 4) in length (take s (c .before .before .before .list .result)) ≡ s
+part-long c = let start : tie.Start = search in length-take-le _ _ (omega (arith, c .before .before .before .list .ensures, start .pre .few))
 
 add-groups : tie.Need-add-groups
 add-groups c = search needs
@@ -40,7 +40,7 @@ slice-aggregate-prepare-2 : tie.Need-slice-aggregate-prepare-2
 slice-aggregate-prepare-2 c = search needs
 
 prepare-requires : tie.Need-prepare-requires
-prepare-requires c κs = let st = c .before .before .before .before .before .before .before .before in (st .pre .weights, omega (arith, st .pre .few), part-long (c .before), search needs)
+prepare-requires c κs = let st : tie.Start = search in (st .pre .weights, omega (arith, st .pre .few), part-long (c .before), search needs)
 
 slice-aggregate-load : tie.Need-slice-aggregate-load
 slice-aggregate-load c = search needs
@@ -52,23 +52,30 @@ slice-aggregate-fill-sums : tie.Need-slice-aggregate-fill-sums
 slice-aggregate-fill-sums c = search needs
 
 array-share-prefix-list : tie.Need-array-share-prefix-list
-array-share-prefix-list c = simp length-append (omega (arith, length-placed (c .before .before .before .before .before .before .prepare .ensures)))
+array-share-prefix-list c = let after-prepare : tie.After-prepare = search in simp length-append (omega (arith, length-placed (after-prepare .prepare .ensures)))
 
 slice-aggregate-fill-sums-2 : tie.Need-slice-aggregate-fill-sums-2
-slice-aggregate-fill-sums-2 c = sym (ap length (lists-in-front _ (c .before .before .before .before .before .before .before .prepare .ensures)) ∙ length-placed (c .before .before .before .before .before .before .before .prepare .ensures))
+slice-aggregate-fill-sums-2 c = let after-prepare : tie.After-prepare = search in sym (ap length (lists-in-front _ (after-prepare .prepare .ensures)) ∙ length-placed (after-prepare .prepare .ensures))
 
 slice-aggregate-fill-sums-3 : tie.Need-slice-aggregate-fill-sums-3
 slice-aggregate-fill-sums-3 c = search needs
 
 fill-sums-requires : tie.Need-fill-sums-requires
 unfolding tableOf
-fill-sums-requires c κs = let st = c .before .before .before .before .before .before .before .before .before .before .before .before .before .before .before .before .before .before in (omega (arith, st .pre .few), ap length (c .before .before .before .before .before .load .ensures) ∙ length-from _ 0 8192, record { weights = st .args .weights .now; placed = rw (lists-in-front _ (c .before .before .before .before .before .before .before .before .before .prepare .ensures)) (c .before .before .before .before .before .before .before .before .before .prepare .ensures) }, st .pre .places)
+fill-sums-requires c κs =
+    let after-prepare : tie.After-prepare = search in
+    let st : tie.Start = search in
+    (omega (arith, st .pre .few), ap length (c .before .before .before .before .before .load .ensures) ∙ length-from _ 0 8192, record { weights = st .args .weights .now; placed = rw (lists-in-front _ (after-prepare .prepare .ensures)) (after-prepare .prepare .ensures) }, st .pre .places)
 
 same-length : tie.Need-same-length
 same-length c = search needs
 
 returns : tie.Need-returns
-returns c = let st = c .before .before .before .before .before .before .before .before .before .before .before .before .before .before .before .before .before .before .before .before .before in let p = c .before .before .before .before .before .before .before .before .before .before .before .before .prepare .ensures in c .before .before .fill-sums .ensures ∙ rw (lists-in-front _ p, c .before .before .before .before .before .before .before .before .load .ensures) (sums-right _ _ _ _ _ _ (omega (arith, st .pre .few)) (omega arith) (st .pre) p)
+returns c =
+    let after-load : tie.After-load = search in
+    let after-prepare : tie.After-prepare = search in
+    let st : tie.Start = search in
+    let p = after-prepare .prepare .ensures in c .before .before .fill-sums .ensures ∙ rw (lists-in-front _ p, after-load .load .ensures) (sums-right _ _ _ _ _ _ (omega (arith, st .pre .few)) (omega arith) (st .pre) p)
 
 pub window-sums-spec : {M : Type 1} → statement M
 window-sums-spec =

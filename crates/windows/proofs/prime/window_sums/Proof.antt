@@ -36,13 +36,17 @@ part-product-sum-end : tie.Need-part-product-sum-end Inv-loop μ-loop
 part-product-sum-end c = omega arith
 
 product-sum-requires : tie.Need-product-sum-requires Inv-loop μ-loop
-product-sum-requires c κs = let st = c .before .before .before .before .before .before in let l = c .before .before .loop in (st .pre .2 .few, rw (part-rest (l .t) (st .args .row .now), length-drop) (omega (arith, st .pre .2 .room)))
+product-sum-requires c κs =
+    let st : tie.Start Inv-loop μ-loop = search in
+    let l = c .before .before .loop in (st .pre .2 .few, rw (part-rest (l .t) (st .args .row .now), length-drop) (omega (arith, st .pre .2 .room)))
 
 rem-sums : tie.Need-rem-sums Inv-loop μ-loop
-rem-sums c = omega (arith, two≤prime _ (c .before .before .before .before .before .before .before .pre .0))
+rem-sums c = let start : tie.Start Inv-loop μ-loop = search in omega (arith, two≤prime _ (start .pre .0))
 
 cast-sums : tie.Need-cast-sums Inv-loop μ-loop
-cast-sums c = let st = c .before .before .before .before .before .before .before in let some = two≤prime _ (st .pre .0) in let low = mod-lt (c .product-sum .result) {m = st .args .p} (omega arith) in omega (arith, st .pre .1)
+cast-sums c =
+    let st : tie.Start Inv-loop μ-loop = search in
+    let some = two≤prime _ (st .pre .0) in let low = mod-lt (c .product-sum .result) {m = st .args .p} (omega arith) in omega (arith, st .pre .1)
 
 mul-sums : tie.Need-mul-sums Inv-loop μ-loop
 mul-sums c = omega arith
@@ -57,7 +61,9 @@ loop-less : tie.Need-loop-less Inv-loop μ-loop
 loop-less c = omega arith
 
 loop-again : tie.Need-loop-again Inv-loop μ-loop
-loop-again c = let l = c .before .before .before .loop in let st = c .before .before .before .before .before .before .before in let a = st .args in let some = two≤prime _ (st .pre .0) in (omega arith, rw (c .product-sum .ensures, part-rest (l .t) (a .row .now), ← dot-reduced (a .p) (omega arith) (a .weights .now) (drop (l .t) (a .row .now))) (fills-put (rw (from-next (λ t. dot (a .p) (a .weights .now) (drop t (a .row .now))) (length (a .sums .now)) (l .t) (omega arith)) at (l .inv .1)) (omega arith)))
+loop-again c =
+    let st : tie.Start Inv-loop μ-loop = search in
+    let l = c .before .before .before .loop in let a = st .args in let some = two≤prime _ (st .pre .0) in (omega arith, rw (c .product-sum .ensures, part-rest (l .t) (a .row .now), ← dot-reduced (a .p) (omega arith) (a .weights .now) (drop (l .t) (a .row .now))) (fills-put (rw (from-next (λ t. dot (a .p) (a .weights .now) (drop t (a .row .now))) (length (a .sums .now)) (l .t) (omega arith)) at (l .inv .1)) (omega arith)))
 
 same-length : tie.Need-same-length Inv-loop μ-loop
 same-length c = c .before .loop .inv .1 .long

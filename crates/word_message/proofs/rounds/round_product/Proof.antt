@@ -47,7 +47,7 @@ spread-requires : tie.Need-spread-requires
 spread-requires c κs = search needs
 
 returns : tie.Need-returns
-returns c = let st = c .before .before .before .before .before .before .before in c .spread .ensures ∙ ap (padded 256) (rw (c .before .before .product .ensures, part (c .before .before .before .before)) (round-product (st .args .h) (st .pre .0) (st .args .g) (st .pre .1) (st .pre .3)))
+returns c = let st : tie.Start = search in c .spread .ensures ∙ ap (padded 256) (rw (c .before .before .product .ensures, part (c .before .before .before .before)) (round-product (st .args .h) (st .pre .0) (st .args .g) (st .pre .1) (st .pre .3)))
 
 pub round-product-spec : {M : Type 1} → statement M
 round-product-spec =

@@ -32,7 +32,9 @@ returns-3 : tie.Need-returns-3
 returns-3 c = (omega arith, λ some. absurd (omega arith))
 
 mul-if4 : tie.Need-mul-if4
-mul-if4 c = let a = c .before .before .before .before .before .before .args in let around : ℕ = getD (a .shifts .now) (c .before .before .before .before .run .result) 0 in omega (arith, mul-le-mul {n₁ = a .n / around} {m₁ = c .before .before .before .before .run .result} {n₂ = 255} {m₂ = 255} (omega (arith, div-le-self (a .n) around, c .before .before .before .before .before .before .pre .0)) (omega (arith, c .before .before .before .before .run .ensures, c .before .before .before .before .before .before .pre .1)))
+mul-if4 c =
+    let start : tie.Start = search in
+    let a = start .args in let around : ℕ = getD (a .shifts .now) (c .before .before .before .before .run .result) 0 in omega (arith, mul-le-mul {n₁ = a .n / around} {m₁ = c .before .before .before .before .run .result} {n₂ = 255} {m₂ = 255} (omega (arith, div-le-self (a .n) around, start .pre .0)) (omega (arith, c .before .before .before .before .run .ensures, start .pre .1)))
 
 returns-4 : tie.Need-returns-4
 returns-4 c = (omega arith, λ some. absurd (omega arith))
@@ -44,7 +46,10 @@ returns-5 : tie.Need-returns-5
 returns-5 c = (omega arith, λ some. absurd (omega arith))
 
 returns-6 : tie.Need-returns-6
-returns-6 c = let a = c .before .before .before .before .before .before .before .before .before .args in let around : ℕ = getD (a .shifts .now) (c .before .before .before .before .before .before .before .run .result) 0 in (div-le-self (a .n) around, λ some. record { around = around; taken = c .before .before .before .before .before .before .before .run .result; all-nodes = omega arith; all-shifts = omega arith; each = λ i low. c .before .in-rounds .ensures .1 i (omega arith) })
+returns-6 c =
+    let after-run : tie.After-run = search in
+    let start : tie.Start = search in
+    let a = start .args in let around : ℕ = getD (a .shifts .now) (after-run .run .result) 0 in (div-le-self (a .n) around, λ some. record { around = around; taken = after-run .run .result; all-nodes = omega arith; all-shifts = omega arith; each = λ i low. c .before .in-rounds .ensures .1 i (omega arith) })
 
 pub rounds-of-spec : {M : Type 1} → statement M
 rounds-of-spec =

@@ -31,19 +31,21 @@ array-share-prefix-list : tie.Need-array-share-prefix-list
 array-share-prefix-list c = search needs
 
 slice-aggregate-rounds-of : tie.Need-slice-aggregate-rounds-of
-slice-aggregate-rounds-of c = let st = c .before .before .before .before .before .before in sym (ap length (part (c .before .before)) ∙ length-shifts (st .args .h) (st .pre .0))
+slice-aggregate-rounds-of c = let st : tie.Start = search in sym (ap length (part (c .before .before)) ∙ length-shifts (st .args .h) (st .pre .0))
 
 rounds-of-requires : tie.Need-rounds-of-requires
-rounds-of-requires c κs = let st = c .before .before .before .before .before .before in (omega (arith, c .before .struct-known2 .given), rw (part (c .before .before), length-shifts (st .args .h) (st .pre .0)) (few (c .before .before .before)))
+rounds-of-requires c κs = let st : tie.Start = search in (omega (arith, c .before .struct-known2 .given), rw (part (c .before .before), length-shifts (st .args .h) (st .pre .0)) (few (c .before .before .before)))
 
 product-requires : tie.Need-product-requires
-product-requires c κs = let st = c .before .before .before .before .before .before .before .before in (rw (st .pre .2) (row-symbols (st .args .h) (st .pre .0) (few (c .before .before .before .before .before)) .are), st .pre .3)
+product-requires c κs = let st : tie.Start = search in (rw (st .pre .2) (row-symbols (st .args .h) (st .pre .0) (few (c .before .before .before .before .before)) .are), st .pre .3)
 
 returns : tie.Need-returns
-returns c = c .product .ensures ∙ rw (c .before .before .before .before .before .before .before .before .before .pre .2)
+returns c = let start : tie.Start = search in c .product .ensures ∙ rw (start .pre .2)
 
 round-product-requires : tie.Need-round-product-requires
-round-product-requires c κs = let st = c .before .before .before .before .before .before .before .before in let r = c .before .rounds-of .ensures in (st .pre .0, omega arith, omega (arith, r .0, c .before .before .before .struct-known2 .given), rw (part (c .before .before .before .before)) at (r .1 (omega arith)), st .pre .1, st .pre .3)
+round-product-requires c κs =
+    let st : tie.Start = search in
+    let r = c .before .rounds-of .ensures in (st .pre .0, omega arith, omega (arith, r .0, c .before .before .before .struct-known2 .given), rw (part (c .before .before .before .before)) at (r .1 (omega arith)), st .pre .1, st .pre .3)
 
 returns-2 : tie.Need-returns-2
 returns-2 c = search needs

@@ -36,10 +36,10 @@ read c i low = rw (c .pre .1, power-at (c .args .h) i low) (power-below _ (c .pr
 
 -- one step
 next : (c : tie.After-mul-with Inv-loop μ-loop)
-    → let l = c .before .before .before .before .loop in
-    Written (c .before .before .before .before .before .before .before .before .before .before .before .args .h) (l .c - 1) (c .mul-with .result) (set (l .out) (l .c - 1) (c .mul-with .result))
+    → let start : tie.Start Inv-loop μ-loop = search in let l = c .before .before .before .before .loop in
+    Written (start .args .h) (l .c - 1) (c .mul-with .result) (set (l .out) (l .c - 1) (c .mul-with .result))
 next c =
-    let st = c .before .before .before .before .before .before .before .before .before .before .before in
+    let st : tie.Start Inv-loop μ-loop = search in
     let l = c .before .before .before .before .loop in
     let h = st .args .h in
     let s = st .pre .0 in
@@ -77,10 +77,10 @@ mul-scale : tie.Need-mul-scale Inv-loop μ-loop
 mul-scale c = omega (arith, few (c .before .before) .0)
 
 shared-slice-read-scale : tie.Need-shared-slice-read-scale Inv-loop μ-loop
-shared-slice-read-scale c = let st = c .before .before .before .before .before .before in rw (st .pre .1) (power-place (st .args .h) _ (omega (arith, st .pre .0 .some, st .pre .0 .fits)))
+shared-slice-read-scale c = let st : tie.Start Inv-loop μ-loop = search in rw (st .pre .1) (power-place (st .args .h) _ (omega (arith, st .pre .0 .some, st .pre .0 .fits)))
 
 cast-scale : tie.Need-cast-scale Inv-loop μ-loop
-cast-scale c = let st = c .before .before .before .before .before .before in omega (arith, c .shared-slice-known3 .given (st .args .h .k - 1))
+cast-scale c = let st : tie.Start Inv-loop μ-loop = search in omega (arith, c .shared-slice-known3 .given (st .args .h .k - 1))
 
 cast-out : tie.Need-cast-out Inv-loop μ-loop
 cast-out c = omega arith
@@ -89,30 +89,30 @@ mul-out : tie.Need-mul-out Inv-loop μ-loop
 mul-out c = omega (arith, few (c .before .before .before) .0)
 
 array-write-out : tie.Need-array-write-out Inv-loop μ-loop
-array-write-out c = omega (arith, few (c .before .before .before) .0, c .before .before .before .before .before .before .pre .0 .some)
+array-write-out c = let start : tie.Start Inv-loop μ-loop = search in omega (arith, few (c .before .before .before) .0, start .pre .0 .some)
 
 loop-holds : tie.Need-loop-holds Inv-loop μ-loop
 unfolding zeros
-loop-holds c = let st = c .before .before .before .before .before .before in written-first (st .args .h) (st .pre .0) (few (c .before .before .before) .0) _ refl
+loop-holds c = let st : tie.Start Inv-loop μ-loop = search in written-first (st .args .h) (st .pre .0) (few (c .before .before .before) .0) _ refl
 
 mul-step-ratio : tie.Need-mul-step-ratio Inv-loop μ-loop
 mul-step-ratio c = omega (arith, c .before .loop .inv .inside, few (c .before .before .before .before .before) .0)
 
 shared-slice-read-step-ratio : tie.Need-shared-slice-read-step-ratio Inv-loop μ-loop
-shared-slice-read-step-ratio c = let st = c .before .before .before .before .before .before .before .before .before in rw (st .pre .1) (power-place (st .args .h) _ (omega (arith, c .before .before .loop .inv .inside, st .pre .0 .fits)))
+shared-slice-read-step-ratio c = let st : tie.Start Inv-loop μ-loop = search in rw (st .pre .1) (power-place (st .args .h) _ (omega (arith, c .before .before .loop .inv .inside, st .pre .0 .fits)))
 
 cast-step-ratio : tie.Need-cast-step-ratio Inv-loop μ-loop
 cast-step-ratio c = omega (arith, c .shared-slice-known4 .given (c .before .before .loop .c))
 
 step-ratio-requires : tie.Need-step-ratio-requires Inv-loop μ-loop
 step-ratio-requires c κs =
-    let st = c .before .before .before .before .before .before .before .before .before in
+    let st : tie.Start Inv-loop μ-loop = search in
     let h = st .args .h in
     (st .pre .0, read st _ (turn st), read st _ (omega (arith, st .pre .0 .some, st .pre .0 .fits)), read st _ (omega (arith, c .before .before .loop .inv .inside, st .pre .0 .fits)), st .pre .2)
 
 mul-with-requires : tie.Need-mul-with-requires Inv-loop μ-loop
 mul-with-requires c κs =
-    let st = c .before .before .before .before .before .before .before .before .before .before in
+    let st : tie.Start Inv-loop μ-loop = search in
     let l = c .before .before .before .loop in
     (st .pre .0 .usable-field, c .step-ratio .ensures .1, rw (l .inv .value-is) (inverses-below (st .args .h) (st .pre .0) (l .c)), st .pre .2)
 
@@ -120,13 +120,17 @@ sub-c-2 : tie.Need-sub-c-2 Inv-loop μ-loop
 sub-c-2 c = omega arith
 
 cast-out-2 : tie.Need-cast-out-2 Inv-loop μ-loop
-cast-out-2 c = let w = next c in let low = inverses-below (c .before .before .before .before .before .before .before .before .before .before .before .args .h) (c .before .before .before .before .before .before .before .before .before .before .before .pre .0) (c .before .before .before .before .loop .c - 1) in omega (arith, w .value-is, size-fits _ (c .before .before .before .before .before .before .before .before .before .before .before .pre .0 .usable-field))
+cast-out-2 c =
+    let start : tie.Start Inv-loop μ-loop = search in
+    let w = next c in let low = inverses-below (start .args .h) (start .pre .0) (c .before .before .before .before .loop .c - 1) in omega (arith, w .value-is, size-fits _ (start .pre .0 .usable-field))
 
 mul-out-2 : tie.Need-mul-out-2 Inv-loop μ-loop
-mul-out-2 c = omega (arith, few (c .before .before .before .before .before .before .before .before) .0, c .before .before .before .before .loop .inv .inside)
+mul-out-2 c = let after-struct-known2 : tie.After-struct-known2 Inv-loop μ-loop = search in omega (arith, few after-struct-known2 .0, c .before .before .before .before .loop .inv .inside)
 
 array-write-out-2 : tie.Need-array-write-out-2 Inv-loop μ-loop
-array-write-out-2 c = let w = next c in omega (arith, few (c .before .before .before .before .before .before .before .before) .0, c .before .before .before .before .loop .inv .inside)
+array-write-out-2 c =
+    let after-struct-known2 : tie.After-struct-known2 Inv-loop μ-loop = search in
+    let w = next c in omega (arith, few after-struct-known2 .0, c .before .before .before .before .loop .inv .inside)
 
 loop-less : tie.Need-loop-less Inv-loop μ-loop
 loop-less c = omega arith
@@ -135,7 +139,7 @@ loop-again : tie.Need-loop-again Inv-loop μ-loop
 loop-again c = next c
 
 returns : tie.Need-returns Inv-loop μ-loop
-returns c = written-all _ (c .before .before .before .before .before .before .before .before .pre .0) (c .before .loop .inv) (omega arith)
+returns c = let start : tie.Start Inv-loop μ-loop = search in written-all _ (start .pre .0) (c .before .loop .inv) (omega arith)
 
 pub base-inverses-spec : {M : Type 1} → statement M
 base-inverses-spec =

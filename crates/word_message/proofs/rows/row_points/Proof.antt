@@ -29,16 +29,16 @@ few c = (omega (arith, c .struct-known2 .given), omega (arith, c .before .struct
 
 -- where it is read
 inside : (c : tie.In-loop Inv-loop μ-loop)
-    → let a = c .before .before .before .before .before .before .args in
+    → let start : tie.Start Inv-loop μ-loop = search in let a = start .args in
     (getD (c .before .before .fill-shifts .result) (c .before .loop .r) 0 + (a .h .k - 1)) % a .h .n < a .h .n
-inside c = mod-lt _ (omega (arith, c .before .before .before .before .before .before .pre .0 .two))
+inside c = let start : tie.Start Inv-loop μ-loop = search in mod-lt _ (omega (arith, start .pre .0 .two))
 
 -- the shift is below n
 low : (c : tie.In-loop Inv-loop μ-loop)
-    → let a = c .before .before .before .before .before .before .args in
+    → let start : tie.Start Inv-loop μ-loop = search in let a = start .args in
     getD (c .before .before .fill-shifts .result) (c .before .loop .r) 0 < a .h .n
 low c =
-    let st = c .before .before .before .before .before .before in
+    let st : tie.Start Inv-loop μ-loop = search in
     rw (c .before .before .fill-shifts .ensures) (shift-at (st .args .h) (st .pre .0) (c .before .loop .r) (c .loop-test .taken) .1)
 
 cast-n : tie.Need-cast-n Inv-loop μ-loop
@@ -67,14 +67,14 @@ add-e : tie.Need-add-e Inv-loop μ-loop
 add-e c = omega (arith, low c, few (c .before .before .before) .0, few (c .before .before .before) .1)
 
 rem-e : tie.Need-rem-e Inv-loop μ-loop
-rem-e c = omega (arith, c .before .before .before .before .before .before .pre .0 .two)
+rem-e c = let start : tie.Start Inv-loop μ-loop = search in omega (arith, start .pre .0 .two)
 
 mul-out : tie.Need-mul-out Inv-loop μ-loop
 mul-out c = omega (arith, inside c, few (c .before .before .before) .1)
 
 shared-slice-read-out : tie.Need-shared-slice-read-out Inv-loop μ-loop
 shared-slice-read-out c =
-    let st = c .before .before .before .before .before .before .before in
+    let st : tie.Start Inv-loop μ-loop = search in
     rw (st .pre .1) (power-place (st .args .h) _ (inside (c .before)))
 
 mul-out-2 : tie.Need-mul-out-2 Inv-loop μ-loop
@@ -94,7 +94,7 @@ loop-again c = filled-put (c .before .before .loop .inv) (c .before .loop-test .
 
 returns : tie.Need-returns Inv-loop μ-loop
 returns c =
-    let st = c .before .before .before .before .before .before in
+    let st : tie.Start Inv-loop μ-loop = search in
     let h = st .args .h in
     filled-end (c .before .loop .inv) (c .loop-test .left)
     ∙ ap (padded 255)

@@ -35,20 +35,22 @@ slice-aggregate-terms-at-2 : tie.Need-slice-aggregate-terms-at-2
 slice-aggregate-terms-at-2 c = search needs
 
 mul-terms-at : tie.Need-mul-terms-at
-mul-terms-at c = let s = c .before .before .before .before .before .before .pre in omega (arith, s .3, s .0 .fits, s .0 .byte)
+mul-terms-at c =
+    let start : tie.Start = search in
+    let s = start .pre in omega (arith, s .3, s .0 .fits, s .0 .byte)
 
 shared-slice-read-terms-at : tie.Need-shared-slice-read-terms-at
-shared-slice-read-terms-at c = let s = c .before .before .before .before .before .before .before in omega (arith, many s, s .pre .3)
+shared-slice-read-terms-at c = let s : tie.Start = search in omega (arith, many s, s .pre .3)
 
 cast-terms-at : tie.Need-cast-terms-at
-cast-terms-at c = omega (arith, c .shared-slice-known3 .given (c .before .before .before .before .before .before .before .args .r))
+cast-terms-at c = let start : tie.Start = search in omega (arith, c .shared-slice-known3 .given (start .args .r))
 
 terms-at-requires : tie.Need-terms-at-requires
-terms-at-requires c κs = let s = c .before .before .before .before .before .before .before in (s .pre .0, c .before .before .before .before .row-product .ensures, c .before .before .before .base-inverses .ensures, point s, s .pre .4)
+terms-at-requires c κs = let s : tie.Start = search in (s .pre .0, c .before .before .before .before .row-product .ensures, c .before .before .before .base-inverses .ensures, point s, s .pre .4)
 
 returns : tie.Need-returns
 unfolding rowTerms
-returns c = c .terms-at .ensures ∙ rw (c .before .before .before .before .before .before .before .before .pre .2)
+returns c = let start : tie.Start = search in c .terms-at .ensures ∙ rw (start .pre .2)
 
 pub row-terms-spec : {M : Type 1} → statement M
 row-terms-spec = tie.close (tie.spec row-product-requires base-inverses-requires slice-aggregate-terms-at slice-aggregate-terms-at-2 mul-terms-at shared-slice-read-terms-at cast-terms-at terms-at-requires returns)

@@ -57,31 +57,31 @@ sub-requires : tie.Need-sub-requires
 sub-requires c κs = let s = c .before .before .before .before in (s .pre .0 .usable-field, zero-below (arithmetic (modulusOf (s .args .h)) (s .pre .0 .field)), one-below (modulusOf (s .args .h)) (s .pre .0 .field))
 
 slice-aggregate-values : tie.Need-slice-aggregate-values
-slice-aggregate-values c = rw (points-are (c .before .before .before .before .before .before)) (sym (length-points (modulusOf (c .before .before .before .before .before .before .args .h)) (c .before .before .before .before .before .before .args .h .root) 0 (range 0 (c .before .before .before .before .before .before .args .h .k)) ∙ length-range 0 (c .before .before .before .before .before .before .args .h .k)))
+slice-aggregate-values c = let start : tie.Start = search in rw (points-are start) (sym (length-points (modulusOf (start .args .h)) (start .args .h .root) 0 (range 0 (start .args .h .k)) ∙ length-range 0 (start .args .h .k)))
 
 values-requires : tie.Need-values-requires
 values-requires c κs =
-    let s = c .before .before .before .before .before .before in
+    let s : tie.Start = search in
     let h = s .args .h in
     let short : length (range 0 (h .k)) ≤ 255 = omega (arith, length-range 0 (h .k), few h (s .pre .0) 0) in
     rw (points-are s) (points-symbols (h .root) 0 (range 0 (h .k)) (s .pre .0 .usable-field) (s .pre .0 .root-below) short, s .pre .2, power-low s, s .pre .4)
 
 cast-weights : tie.Need-cast-weights
 cast-weights c =
-    let s = c .before .before .before .before .before .before .before in
+    let s : tie.Start = search in
     let p = modulusOf (s .args .h) in
     let v = s .pre .0 .field in
     omega (arith, c .before .before .sub .ensures, sub-below p v (zero-below (arithmetic p v)) (one-below p v), size-fits _ (s .pre .0 .usable-field))
 
 mul-weights : tie.Need-mul-weights
-mul-weights c = omega (arith, node (c .before .before .before .before .before .before .before), c .before .before .before .before .before .before .before .pre .0 .byte)
+mul-weights c = let start : tie.Start = search in omega (arith, node start, start .pre .0 .byte)
 
 array-write-weights : tie.Need-array-write-weights
-array-write-weights c = omega (arith, node (c .before .before .before .before .before .before .before), c .before .before .before .before .before .before .before .pre .0 .byte)
+array-write-weights c = let start : tie.Start = search in omega (arith, node start, start .pre .0 .byte)
 
 returns : tie.Need-returns
 returns c =
-    let s = c .before .before .before .before .before .before .before in
+    let s : tie.Start = search in
     let at = s .args .h .k + s .args .e in
     rw (c .before .before .sub .ensures, c .values .ensures, points-are s, power-is s)
 

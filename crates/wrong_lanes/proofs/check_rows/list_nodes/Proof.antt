@@ -34,7 +34,7 @@ cast-k : tie.Need-cast-k Inv-loop μ-loop
 cast-k c = search needs
 
 sub-checks : tie.Need-sub-checks Inv-loop μ-loop
-sub-checks c = omega (arith, c .before .before .before .before .before .before .pre .0 .fits)
+sub-checks c = let start : tie.Start Inv-loop μ-loop = search in omega (arith, start .pre .0 .fits)
 
 cast-checks : tie.Need-cast-checks Inv-loop μ-loop
 cast-checks c = search needs
@@ -43,60 +43,71 @@ constant-tables-requires : tie.Need-constant-tables-requires Inv-loop μ-loop
 constant-tables-requires c κs = _
 
 powers-requires : tie.Need-powers-requires Inv-loop μ-loop
-powers-requires c κs = c .before .before .before .before .before .before .before .pre .0
+powers-requires c κs = let start : tie.Start Inv-loop μ-loop = search in start .pre .0
 
 -- the points as they are lent
-points-are : (c : tie.After-powers Inv-loop μ-loop) → take (c .before .before .before .before .before .before .before .before .args .h .k) (c .powers .result) ≡ firstPoints (c .before .before .before .before .before .before .before .before .args .h)
-points-are c = rw (c .powers .ensures) (first-points (c .before .before .before .before .before .before .before .before .args .h) (c .before .before .before .before .before .before .before .before .pre .0))
+points-are : (c : tie.After-powers Inv-loop μ-loop) → let start : tie.Start Inv-loop μ-loop = search in take (start .args .h .k) (c .powers .result) ≡ firstPoints (start .args .h)
+points-are c = let start : tie.Start Inv-loop μ-loop = search in rw (c .powers .ensures) (first-points (start .args .h) (start .pre .0))
 
 array-share-prefix-roots : tie.Need-array-share-prefix-roots Inv-loop μ-loop
-array-share-prefix-roots c = let s = c .before .before .before .before .before .before .before .before .before in rw (c .before .powers .ensures) (omega (arith, few (s .args .h) (s .pre .0) 0, length-padded 255 (powersOf (s .args .h)) (omega (arith, length-powers (s .args .h), s .pre .0 .byte))))
+array-share-prefix-roots c = let s : tie.Start Inv-loop μ-loop = search in rw (c .before .powers .ensures) (omega (arith, few (s .args .h) (s .pre .0) 0, length-padded 255 (powersOf (s .args .h)) (omega (arith, length-powers (s .args .h), s .pre .0 .byte))))
 
 slice-aggregate-scales : tie.Need-slice-aggregate-scales Inv-loop μ-loop
-slice-aggregate-scales c = let h = c .before .before .before .before .before .before .before .before .before .before .args .h in rw (points-are (c .before .before)) (sym (length-points (modulusOf h) (h .root) 0 (range 0 (h .k)) ∙ length-range 0 (h .k)))
+slice-aggregate-scales c =
+    let start : tie.Start Inv-loop μ-loop = search in
+    let h = start .args .h in rw (points-are (c .before .before)) (sym (length-points (modulusOf h) (h .root) 0 (range 0 (h .k)) ∙ length-range 0 (h .k)))
 
 scales-requires : tie.Need-scales-requires Inv-loop μ-loop
 scales-requires c κs =
-    let s = c .before .before .before .before .before .before .before .before .before .before in
+    let s : tie.Start Inv-loop μ-loop = search in
     let h = s .args .h in
     (rw (points-are (c .before .before)) (points-symbols (h .root) 0 (range 0 (h .k)) (s .pre .0 .usable-field) (s .pre .0 .root-below) (omega (arith, length-range 0 (h .k), few h (s .pre .0) 0))), c .before .before .before .constant-tables .ensures)
 
 loop-holds : tie.Need-loop-holds Inv-loop μ-loop
-loop-holds c = let s = c .before .before .before .before .before .before .before .before .before .before .before in (omega arith, refl, refl, begun-none _ _ _ _ _ (λ i. length-check-row (s .args .h) (s .pre .0) i))
+loop-holds c = let s : tie.Start Inv-loop μ-loop = search in (omega arith, refl, refl, begun-none _ _ _ _ _ (λ i. length-check-row (s .args .h) (s .pre .0) i))
 
 slice-aggregate-check-weights : tie.Need-slice-aggregate-check-weights Inv-loop μ-loop
 slice-aggregate-check-weights c = search needs
 
 -- the scales as they are lent
-scales-are : (c : tie.In-loop Inv-loop μ-loop) → take (c .before .before .before .before .before .before .before .before .before .before .before .before .before .args .h .k) (c .before .before .scales .result) ≡ scalesOf (modulusOf (c .before .before .before .before .before .before .before .before .before .before .before .before .before .args .h)) (firstPoints (c .before .before .before .before .before .before .before .before .before .before .before .before .before .args .h))
-scales-are c = rw (c .before .before .scales .ensures, points-are (c .before .before .before .before .before)) (take-padded 255 _ _ (length-scales (c .before .before .before .before .before .before .before .before .before .before .before .before .before .args .h)))
+scales-are : (c : tie.In-loop Inv-loop μ-loop) → let start : tie.Start Inv-loop μ-loop = search in take (start .args .h .k) (c .before .before .scales .result) ≡ scalesOf (modulusOf (start .args .h)) (firstPoints (start .args .h))
+scales-are c = let start : tie.Start Inv-loop μ-loop = search in rw (c .before .before .scales .ensures, points-are (c .before .before .before .before .before)) (take-padded 255 _ _ (length-scales (start .args .h)))
 
 array-share-prefix-scales : tie.Need-array-share-prefix-scales Inv-loop μ-loop
-array-share-prefix-scales c = let s = c .before .before .before .before .before .before .before .before .before .before .before .before .before .before .before in rw (c .before .before .before .before .scales .ensures, points-are (c .before .before .before .before .before .before .before)) (omega (arith, few (s .args .h) (s .pre .0) 0, length-padded 255 (scalesOf (modulusOf (s .args .h)) (firstPoints (s .args .h))) (omega (arith, length-scales (s .args .h), few (s .args .h) (s .pre .0) 0))))
+array-share-prefix-scales c =
+    let after-powers : tie.After-powers Inv-loop μ-loop = search in
+    let s : tie.Start Inv-loop μ-loop = search in
+    rw (c .before .before .before .before .scales .ensures, points-are after-powers) (omega (arith, few (s .args .h) (s .pre .0) 0, length-padded 255 (scalesOf (modulusOf (s .args .h)) (firstPoints (s .args .h))) (omega (arith, length-scales (s .args .h), few (s .args .h) (s .pre .0) 0))))
 
 slice-aggregate-check-weights-2 : tie.Need-slice-aggregate-check-weights-2 Inv-loop μ-loop
-slice-aggregate-check-weights-2 c = rw (scales-are (c .before .before .before)) (sym (length-scales (c .before .before .before .before .before .before .before .before .before .before .before .before .before .before .before .before .args .h)))
+slice-aggregate-check-weights-2 c = let start : tie.Start Inv-loop μ-loop = search in rw (scales-are (c .before .before .before)) (sym (length-scales (start .args .h)))
 
 check-weights-requires : tie.Need-check-weights-requires Inv-loop μ-loop
-check-weights-requires c κs = let s = c .before .before .before .before .before .before .before .before .before .before .before .before .before .before .before .before in (s .pre .0, c .before .before .before .before .before .before .before .before .powers .ensures, scales-are (c .before .before .before), c .before .before .before .loop-test .taken, c .before .before .before .before .before .before .before .before .before .constant-tables .ensures)
+check-weights-requires c κs =
+    let after-powers : tie.After-powers Inv-loop μ-loop = search in
+    let after-constant-tables : tie.After-constant-tables Inv-loop μ-loop = search in
+    let s : tie.Start Inv-loop μ-loop = search in
+    (s .pre .0, after-powers .powers .ensures, scales-are (c .before .before .before), c .before .before .before .loop-test .taken, after-constant-tables .constant-tables .ensures)
 
 -- the weights as they are lent
-taken : (c : tie.After-check-weights Inv-loop μ-loop) → take (c .before .before .before .before .before .before .before .before .before .before .before .before .before .before .before .before .before .args .h .n) (c .check-weights .result) ≡ checkRow (c .before .before .before .before .before .before .before .before .before .before .before .before .before .before .before .before .before .args .h) (c .before .before .before .before .before .loop .e)
-taken c = rw (c .check-weights .ensures) (row-taken (c .before .before .before .before .before .before .before .before .before .before .before .before .before .before .before .before .before .args .h) (c .before .before .before .before .before .loop .e))
+taken : (c : tie.After-check-weights Inv-loop μ-loop) → let start : tie.Start Inv-loop μ-loop = search in take (start .args .h .n) (c .check-weights .result) ≡ checkRow (start .args .h) (c .before .before .before .before .before .loop .e)
+taken c = let start : tie.Start Inv-loop μ-loop = search in rw (c .check-weights .ensures) (row-taken (start .args .h) (c .before .before .before .before .before .loop .e))
 
 array-share-prefix-weights : tie.Need-array-share-prefix-weights Inv-loop μ-loop
-array-share-prefix-weights c = let s = c .before .before .before .before .before .before .before .before .before .before .before .before .before .before .before .before .before in rw (c .check-weights .ensures) (omega (arith, s .pre .0 .byte, row-long (s .args .h) (s .pre .0) (c .before .before .before .before .before .loop .e)))
+array-share-prefix-weights c = let s : tie.Start Inv-loop μ-loop = search in rw (c .check-weights .ensures) (omega (arith, s .pre .0 .byte, row-long (s .args .h) (s .pre .0) (c .before .before .before .before .before .loop .e)))
 
 slice-aggregate-prepare : tie.Need-slice-aggregate-prepare Inv-loop μ-loop
-slice-aggregate-prepare c = let s = c .before .before .before .before .before .before .before .before .before .before .before .before .before .before .before .before .before .before in rw (taken (c .before)) (sym (length-check-row (s .args .h) (s .pre .0) (c .before .before .before .before .before .before .loop .e)))
+slice-aggregate-prepare c =
+    let at-loop : tie.At-loop Inv-loop μ-loop = search in
+    let s : tie.Start Inv-loop μ-loop = search in
+    rw (taken (c .before)) (sym (length-check-row (s .args .h) (s .pre .0) (at-loop .loop .e)))
 
 prepare-requires : tie.Need-prepare-requires Inv-loop μ-loop
 prepare-requires c κs =
-    let at = c .before .before .before .before .before .before in
-    let s = c .before .before .before .before .before .before .before .before .before .before .before .before .before .before .before .before .before .before .before .before in
+    let (at, in-loop, at-loop, s) : tie.After-t2 Inv-loop μ-loop × tie.In-loop Inv-loop μ-loop × tie.At-loop Inv-loop μ-loop × tie.Start Inv-loop μ-loop = (search, search, search, search) in
     let h = s .args .h in
-    let l = c .before .before .before .before .before .before .before .before .loop in
-    let low = c .before .before .before .before .before .before .before .loop-test .taken in
+    let l = at-loop .loop in
+    let low = in-loop .loop-test .taken in
     rw (taken (c .before .before .before), length-check-row h (s .pre .0) (l .e)) (
       s .pre .0 .usable-field,
       s .pre .1,
@@ -108,18 +119,21 @@ prepare-requires c κs =
     )
 
 add-e : tie.Need-add-e Inv-loop μ-loop
-add-e c = omega (arith, c .before .before .before .before .before .before .before .before .before .before .before .before .loop-test .taken, c .before .before .before .before .before .before .before .before .before .before .before .before .before .before .before .before .before .before .before .before .before .before .before .before .before .pre .0 .byte)
+add-e c =
+    let in-loop : tie.In-loop Inv-loop μ-loop = search in
+    let start : tie.Start Inv-loop μ-loop = search in
+    omega (arith, in-loop .loop-test .taken, start .pre .0 .byte)
 
 loop-less : tie.Need-loop-less Inv-loop μ-loop
-loop-less c = omega (arith, c .before .before .before .before .before .before .before .before .before .before .before .before .loop-test .taken)
+loop-less c = let in-loop : tie.In-loop Inv-loop μ-loop = search in omega (arith, in-loop .loop-test .taken)
 
 loop-again : tie.Need-loop-again Inv-loop μ-loop
 loop-again c =
-    let s = c .before .before .before .before .before .before .before .before .before .before .before .before .before .before .before .before .before .before .before .before .before .before .before .before .before in
+    let (after-check-weights, in-loop, at-loop, s) : tie.After-check-weights Inv-loop μ-loop × tie.In-loop Inv-loop μ-loop × tie.At-loop Inv-loop μ-loop × tie.Start Inv-loop μ-loop = (search, search, search, search) in
     let h = s .args .h in
-    let l = c .before .before .before .before .before .before .before .before .before .before .before .before .before .loop in
-    let made = rw (taken (c .before .before .before .before .before .before .before .before), length-check-row h (s .pre .0) (l .e)) at (c .before .before .before .before .prepare .ensures) in
-    (omega (arith, c .before .before .before .before .before .before .before .before .before .before .before .before .loop-test .taken), omega (arith, l .inv .1), omega (arith, l .inv .2), made (checkRow h) refl (l .inv .3))
+    let l = at-loop .loop in
+    let made = rw (taken after-check-weights, length-check-row h (s .pre .0) (l .e)) at (c .before .before .before .before .prepare .ensures) in
+    (omega (arith, in-loop .loop-test .taken), omega (arith, l .inv .1), omega (arith, l .inv .2), made (checkRow h) refl (l .inv .3))
 
 same-length : tie.Need-same-length Inv-loop μ-loop
 same-length c = c .before .loop .inv .1
@@ -129,7 +143,7 @@ same-length-2 c = c .before .loop .inv .2
 
 returns : tie.Need-returns Inv-loop μ-loop
 returns c =
-    let s = c .before .before .before .before .before .before .before .before .before .before .before .before .before in
+    let s : tie.Start Inv-loop μ-loop = search in
     let l = c .before .loop in
     let all : l .e ≡ s .args .h .n - s .args .h .k = omega arith in
     record { weights = checkRow (s .args .h); tell = rows-word (s .args .h) (s .pre .0); begun = rw all at (l .inv .3); lists-room = omega (arith, l .inv .1, s .pre .2); counts-room = omega (arith, l .inv .2, s .pre .3) }

@@ -34,7 +34,9 @@ powers-requires : tie.Need-powers-requires Inv-loop μ-loop
 powers-requires c κs = c .before .before .before .before .before .pre .0
 
 loop-holds : tie.Need-loop-holds Inv-loop μ-loop
-loop-holds c = let h = c .before .before .before .before .before .before .args .h in (omega arith, refl, refl, begun-none _ _ _ _ _ (λ i. length-factors h (i + 1)))
+loop-holds c =
+    let start : tie.Start Inv-loop μ-loop = search in
+    let h = start .args .h in (omega arith, refl, refl, begun-none _ _ _ _ _ (λ i. length-factors h (i + 1)))
 
 slice-aggregate-factors : tie.Need-slice-aggregate-factors Inv-loop μ-loop
 slice-aggregate-factors c = search needs
@@ -44,18 +46,18 @@ add-factors c = omega arith
 
 -- a check's number is small
 few : (c : tie.In-loop Inv-loop μ-loop) → c .before .loop .e + 1 ≤ 255
-few c = let s = c .before .before .before .before .before .before .before .before in omega (arith, s .pre .0 .byte, c .loop-test .taken)
+few c = let s : tie.Start Inv-loop μ-loop = search in omega (arith, s .pre .0 .byte, c .loop-test .taken)
 
 factors-requires : tie.Need-factors-requires Inv-loop μ-loop
-factors-requires c κs = (c .before .before .before .before .before .before .before .before .before .pre .0, c .before .before .before .powers .ensures, few (c .before))
+factors-requires c κs = let start : tie.Start Inv-loop μ-loop = search in (start .pre .0, c .before .before .before .powers .ensures, few (c .before))
 
 -- the weights as they are lent
-taken : (c : tie.After-factors Inv-loop μ-loop) → let h = c .before .before .before .before .before .before .before .before .before .before .args .h in take (h .n) (c .factors .result) ≡ factorsOf h (c .before .before .before .loop .e + 1)
+taken : (c : tie.After-factors Inv-loop μ-loop) → let start : tie.Start Inv-loop μ-loop = search in let h = start .args .h in take (h .n) (c .factors .result) ≡ factorsOf h (c .before .before .before .loop .e + 1)
 taken c = rw (c .factors .ensures) (take-padded 255 _ _ (length-factors _ _))
 
 array-share-prefix-weights : tie.Need-array-share-prefix-weights Inv-loop μ-loop
 array-share-prefix-weights c =
-    let s = c .before .before .before .before .before .before .before .before .before .before in
+    let s : tie.Start Inv-loop μ-loop = search in
     let h = s .args .h in
     let e = c .before .before .before .loop .e + 1 in
     rw (c .factors .ensures) (omega (arith, s .pre .0 .byte, length-padded 255 (factorsOf h e) (omega (arith, s .pre .0 .byte, length-factors h e))))
@@ -65,8 +67,8 @@ slice-aggregate-prepare c = rw (taken (c .before)) (sym (length-factors _ _))
 
 prepare-requires : tie.Need-prepare-requires Inv-loop μ-loop
 prepare-requires c κs =
+    let s : tie.Start Inv-loop μ-loop = search in
     let at = c .before .before .before .before .before in
-    let s = at .before .before .before .before .before .before .before .before in
     let h = s .args .h in
     let l = at .before .loop in
     let low = at .loop-test .taken in
@@ -88,10 +90,12 @@ loop-less c = omega arith
 
 loop-again : tie.Need-loop-again Inv-loop μ-loop
 loop-again c =
-    let at = c .before .before .before .before .before .before .before .before .before .before in
-    let h = at .before .before .before .before .before .before .before .before .args .h in
+    let after-factors : tie.After-factors Inv-loop μ-loop = search in
+    let at : tie.In-loop Inv-loop μ-loop = search in
+    let start : tie.Start Inv-loop μ-loop = search in
+    let h = start .args .h in
     let l = at .before .loop in
-    let made = rw (taken (c .before .before .before .before .before .before .before .before), length-factors h (l .e + 1)) at (c .before .before .before .before .prepare .ensures) in
+    let made = rw (taken after-factors, length-factors h (l .e + 1)) at (c .before .before .before .before .prepare .ensures) in
     (omega arith, omega (arith, l .inv .1), omega (arith, l .inv .2), made (λ i. factorsOf h (i + 1)) refl (l .inv .3))
 
 same-length : tie.Need-same-length Inv-loop μ-loop
@@ -102,7 +106,7 @@ same-length-2 c = c .before .loop .inv .2
 
 returns : tie.Need-returns Inv-loop μ-loop
 returns c =
-    let s = c .before .before .before .before .before .before .before .before in
+    let s : tie.Start Inv-loop μ-loop = search in
     let l = c .before .loop in
     let all : l .e ≡ s .args .h .n - s .args .h .k = omega arith in
     record { weights = λ i. factorsOf (s .args .h) (i + 1); tell = λ ws long below. factors-word (s .args .h) ws long; begun = rw all at (l .inv .3); lists-room = omega (arith, l .inv .1, s .pre .2); counts-room = omega (arith, l .inv .2, s .pre .3) }

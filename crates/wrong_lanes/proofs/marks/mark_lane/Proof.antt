@@ -52,14 +52,14 @@ mark-of-requires : tie.Need-mark-of-requires
 mark-of-requires c κs = search needs
 
 slice-write-marks : tie.Need-slice-write-marks
-slice-write-marks c = omega (arith, c .before .before .before .before .before .before .before .pre .1)
+slice-write-marks c = let start : tie.Start = search in omega (arith, start .pre .1)
 
 same-length : tie.Need-same-length
 same-length c = search needs
 
 returns : tie.Need-returns
 returns c =
-    let st = c .before .before .before .before .before .before .before in
+    let st : tie.Start = search in
     let a = st .args in
     let x = c .mark-of .result in
     let told = rw (taken (c .before .before .before)) at (c .before .is-word .ensures) in

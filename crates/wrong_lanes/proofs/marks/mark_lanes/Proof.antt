@@ -26,7 +26,8 @@ same-length c = search needs
 
 returns : tie.Need-returns
 returns c =
-    let a = c .before .before .before .before .before .before .before .before .args in
+    let start : tie.Start = search in
+    let a = start .args in
     rw (share-by-lane, ← c .before .before .before .before .before .width-of .ensures .0, c .before .before .before .before .if1 .taken) (c .before .before .mark-lane .ensures)
 
 mark-several-requires : tie.Need-mark-several-requires

@@ -24,7 +24,11 @@ slice-aggregate-mark-with-3 : tie.Need-slice-aggregate-mark-with-3
 slice-aggregate-mark-with-3 c = search needs
 
 mark-with-requires : tie.Need-mark-with-requires
-mark-with-requires c κs = let s = c .before .before .before .before .before .before .before .before .before .before .before in let r = check-room (s .args .h) 4 16 (c .before .before .before .before .before .before .if1 .taken) (omega arith) in (s .pre .0, s .pre .1, rw (c .before .before .before .before .before .small-lists .ensures) (r .0), rw (c .before .before .before .before .small-counts .ensures) (r .1), c .before .before .before .before .before .before .before .before .codes-of .ensures)
+mark-with-requires c κs =
+    let then1 : tie.Then1 = search in
+    let after-codes-of : tie.After-codes-of = search in
+    let s : tie.Start = search in
+    let r = check-room (s .args .h) 4 16 (then1 .if1 .taken) (omega arith) in (s .pre .0, s .pre .1, rw (c .before .before .before .before .before .small-lists .ensures) (r .0), rw (c .before .before .before .before .small-counts .ensures) (r .1), after-codes-of .codes-of .ensures)
 
 same-length : tie.Need-same-length
 same-length c = search needs
@@ -48,7 +52,11 @@ slice-aggregate-mark-with-6 : tie.Need-slice-aggregate-mark-with-6
 slice-aggregate-mark-with-6 c = search needs
 
 mark-with-requires-2 : tie.Need-mark-with-requires-2
-mark-with-requires-2 c κs = let s = c .before .before .before .before .before .before .before .before .before .before .before .before .before in let r = check-room (s .args .h) 16 64 (c .before .before .before .before .before .before .if2 .taken) (omega arith) in (s .pre .0, s .pre .1, rw (c .before .before .before .before .before .middle-lists .ensures) (r .0), rw (c .before .before .before .before .middle-counts .ensures) (r .1), c .before .before .before .before .before .before .before .before .before .before .codes-of .ensures)
+mark-with-requires-2 c κs =
+    let then2 : tie.Then2 = search in
+    let after-codes-of : tie.After-codes-of = search in
+    let s : tie.Start = search in
+    let r = check-room (s .args .h) 16 64 (then2 .if2 .taken) (omega arith) in (s .pre .0, s .pre .1, rw (c .before .before .before .before .before .middle-lists .ensures) (r .0), rw (c .before .before .before .before .middle-counts .ensures) (r .1), after-codes-of .codes-of .ensures)
 
 same-length-2 : tie.Need-same-length-2
 same-length-2 c = search needs
@@ -72,7 +80,10 @@ slice-aggregate-mark-with-9 : tie.Need-slice-aggregate-mark-with-9
 slice-aggregate-mark-with-9 c = search needs
 
 mark-with-requires-3 : tie.Need-mark-with-requires-3
-mark-with-requires-3 c κs = let s = c .before .before .before .before .before .before .before .before .before .before .before .before .before in let r = check-room (s .args .h) 64 255 (s .pre .0 .symbol-rows .sound .byte) (omega arith) in (s .pre .0, s .pre .1, rw (c .before .before .before .before .before .large-lists .ensures) (r .0), rw (c .before .before .before .before .large-counts .ensures) (r .1), c .before .before .before .before .before .before .before .before .before .before .codes-of .ensures)
+mark-with-requires-3 c κs =
+    let after-codes-of : tie.After-codes-of = search in
+    let s : tie.Start = search in
+    let r = check-room (s .args .h) 64 255 (s .pre .0 .symbol-rows .sound .byte) (omega arith) in (s .pre .0, s .pre .1, rw (c .before .before .before .before .before .large-lists .ensures) (r .0), rw (c .before .before .before .before .large-counts .ensures) (r .1), after-codes-of .codes-of .ensures)
 
 same-length-3 : tie.Need-same-length-3
 same-length-3 c = search needs

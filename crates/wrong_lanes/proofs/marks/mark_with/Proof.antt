@@ -6,13 +6,18 @@ use Rattle.wrong_lanes.proofs.marks.mark_with.Statement.{statement}
 use Rattle.wrong_lanes.proofs.marks.mark_with.Tie as tie
 
 list-checks-requires : tie.Need-list-checks-requires
-list-checks-requires c κs = let p = c .before .before .before .before .before .before .before .pre in (p .0 .symbol-rows .sound, p .4, p .2, p .3)
+list-checks-requires c κs =
+    let start : tie.Start = search in
+    let p = start .pre in (p .0 .symbol-rows .sound, p .4, p .2, p .3)
 
 product-of-requires : tie.Need-product-of-requires
-product-of-requires c κs = c .before .before .before .before .before .before .before .before .before .before .before .before .pre .0 .symbol-rows .sound .fits
+product-of-requires c κs = let start : tie.Start = search in start .pre .0 .symbol-rows .sound .fits
 
 fill-requires : tie.Need-fill-requires
-fill-requires c κs = let p = c .before .before .before .before .before .before .before .before .before .before .before .before .before .before .before .before .pre in rw (c .before .before .before .product-of .ensures) (checks-ready (p .0) (p .1) (c .before .before .before .before .before .before .before .before .list-checks .ensures))
+fill-requires c κs =
+    let after-list-checks : tie.After-list-checks = search in
+    let start : tie.Start = search in
+    let p = start .pre in rw (c .before .before .before .product-of .ensures) (checks-ready (p .0) (p .1) (after-list-checks .list-checks .ensures))
 
 same-length : tie.Need-same-length
 same-length c = search needs
@@ -25,9 +30,11 @@ same-length-3 c = search needs
 
 returns : tie.Need-returns
 returns c =
-    let s = c .before .before .before .before .before .before .before .before .before .before .before .before .before .before .before .before .before .before .before in
-    let m = c .before .before .before .before .before .before .product-of .ensures in
-    let checks = c .before .before .before .before .before .before .before .before .before .before .before .list-checks .ensures in
+    let after-product-of : tie.After-product-of = search in
+    let after-list-checks : tie.After-list-checks = search in
+    let s : tie.Start = search in
+    let m = after-product-of .product-of .ensures in
+    let checks = after-list-checks .list-checks .ensures in
     c .before .before .fill .ensures (checks .weights) (rw m (checks .begun)) ∙ sums-words (s .args .shares .now) (s .args .w) _ (checks .weights) m (checks .tell) (s .pre .0 .symbol-rows)
 
 pub mark-with-spec : {M : Type 1} → statement M

@@ -47,7 +47,8 @@ cast-result c = search needs
 
 returns-3 : tie.Need-returns-3
 returns-3 c =
-    let (t, ha, hb) = c .before .before .before .before .before .before .pre in
+    let start : tie.Start = search in
+    let (t, ha, hb) = start .pre in
     let logs = c .before .before in
     c .power .ensures
     ∙ rw (c .before .reduced .ensures) (reduced-at t _ (few logs))
