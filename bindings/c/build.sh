@@ -78,7 +78,7 @@ compile() { # LEVEL OBJECT
 # a shared library of everything in an archive or an object, with the calls of the header for its only names
 share() { # FROM FOLDER
     mkdir -p "$2"
-    gcc -shared -Wl,-soname,libbalanced.so.1 -Wl,--version-script=bindings/c/exports.map -Wl,-z,defs,-z,now,-z,noexecstack \
+    gcc -shared -nostartfiles -Wl,-soname,libbalanced.so.1 -Wl,--version-script=bindings/c/exports.map -Wl,-z,defs,-z,now,-z,noexecstack \
         -Wl,--whole-archive "$1" -Wl,--no-whole-archive -o "$2/libbalanced.so.1"
 }
 
@@ -95,7 +95,7 @@ for level in v3 v4; do
 done
 install -m 644 target/staticlib/libbalanced_c.a "$lib/libbalanced.a"
 ln -s libbalanced.so.1 "$lib/libbalanced.so"
-gcc -shared -nostdlib -x c /dev/null -x none -Wl,-soname,libbalanced_any.so -Wl,--disable-new-dtags,-rpath,'$ORIGIN' \
+gcc -shared -nostartfiles -x c /dev/null -x none -Wl,-soname,libbalanced_any.so -Wl,--disable-new-dtags,-rpath,'$ORIGIN' \
     -Wl,--no-as-needed -L"$lib" -lbalanced -o "$lib/libbalanced_any.so"
 echo "$sum" >"$lib/made-from"
 # put in place at once: a program that runs keeps the library that it has loaded

@@ -1,8 +1,8 @@
 #!/usr/bin/env bash
-# Proves and compiles the static library, and builds the Rust crate over it. Words are passed to cargo: build.sh --release
+# Makes the libraries (bindings/c/build.sh), and builds the Rust crate over the static one. Words are passed to cargo: build.sh --release
 set -euo pipefail
 cd "$(dirname "$0")/../.."
-rt staticlib balanced_c
-export BALANCED_LIB_DIR="$PWD/target/staticlib"
+bindings/c/build.sh
+export BALANCED_LIB_DIR="$PWD/target/lib"
 cd bindings/rust
 cargo build --offline --locked "$@"
