@@ -12,10 +12,10 @@ proved = @mkdir -p target && { rt check $(1) >target/$(1).log 2>&1 || { cat targ
 help: ## this list
 	@awk -F ':.*## ' '/^[a-z]+:.*## / { printf "make %-8s %s\n", $$1, $$2 }' Makefile
 
-build: ## prove and compile the static library for C and Rust, and build the Rust crate over it
+build: ## prove the calls, make the libraries in target/lib, and build the Rust crate over them
 	bindings/rust/build.sh --release
 
-test: ## the gate: everything proved from nothing, wrong programs refused, outputs compared, C and Rust, documents
+test: ## the gate: everything proved from nothing, wrong programs refused, outputs compared, C, Rust and Python, documents
 	.ci/run
 
 wrong: ## further wrong programs, each of which must be refused
@@ -37,12 +37,13 @@ plans: ## every accepted record of kind 1 with p up to 31, a line `p α n k` for
 	$(call proved,small_plans)
 	@target/bin/small_plans
 
-bench: ## our times beside those of other libraries, in one run, as ratios
+bench: ## our times beside those of other libraries, in one run, as ratios; from Python, one thread and two
 	bench/run.sh
+	bench/python.py
 
 docs: ## draw the pictures anew and check what the documents show and cite
 	rt check sheet compare weights small_plans cases
-	rt staticlib balanced_c
+	bindings/c/build.sh
 	docs/make_pictures.py
 	tests/check_claims.py
 	tests/documents.py

@@ -2,6 +2,7 @@
 import ctypes
 import io
 import mmap
+import tempfile
 import unittest
 from array import array
 
@@ -23,6 +24,14 @@ def mapped(data):
     area = mmap.mmap(-1, len(data))
     area[:] = data
     return area
+
+
+def mapped_file(data):
+    """A file that is mapped, and can be read alone."""
+    with tempfile.TemporaryFile() as file:
+        file.write(data)
+        file.flush()
+        return mmap.mmap(file.fileno(), len(data), access=mmap.ACCESS_READ)
 
 
 def spread(data, step):
@@ -83,6 +92,8 @@ READ_ONLY = {
     "memoryview of bytes": memoryview,
     "part of bytes": lambda data: memoryview(b"\xaa" + data + b"\xaa")[1:-1],
     "every second byte of bytes": lambda data: memoryview(bytes(x for byte in data for x in (byte, 0)))[::2],
+    "mapped file": mapped_file,
+    "every second byte of a mapped file": lambda data: memoryview(mapped_file(spread(data, 2).obj))[::2],
     "read-only view": lambda data: memoryview(bytearray(data)).toreadonly(),
 }
 
@@ -97,6 +108,10 @@ class Sorts(unittest.TestCase):
             for name, make in kind.items():
                 with self.subTest(sort=name):
                     test(make)
+
+    @unittest.skipIf(ndarray is None, "Python has no _testbuffer: no buffers of two dimensions with gaps")
+    def test_two_dimensions(self):
+        self.assertIn("columns", WRITABLE)
 
     def test_sorts_hold_the_bytes(self):
         self.each(lambda make: self.assertEqual(held(make(SHARES)), SHARES), WRITABLE, READ_ONLY)
@@ -172,6 +187,15 @@ class Sorts(unittest.TestCase):
                     lambda: PLAN.encode(1, MESSAGE[:10], bytearray()), lambda: PLAN.correct(1, bytearray()),
                 ):
                     self.assertRaises(LengthError, call)
+
+
+    def test_null(self):
+        """A view of nothing, at a pointer that is null, is lent at one that is not."""
+        view = ctypes.pythonapi.PyMemoryView_FromMemory
+        view.restype, view.argtypes = ctypes.py_object, (ctypes.c_void_p, ctypes.c_ssize_t, ctypes.c_int)
+        with Loans() as loans:
+            start, length = loans.lend("message", view(None, 0, 0x100), False)
+            self.assertEqual((bool(start.address), length), (True, 0))
 
 
 class Overlaps(unittest.TestCase):
