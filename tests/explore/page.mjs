@@ -201,6 +201,17 @@ async function takeWrongRoots() {
   await says("#root-verdict", "broken: Any 15 nodes return the message? No: nodes");
 }
 
+// one symbol, no parity, two nodes: every way to go wrong, and no text that is none
+async function takeExtremes() {
+  for (const record of ["1 7 3 6 1", "1 7 3 6 6", "1 3 2 2 2", "1 251 20 5 2"]) {
+    await useRecord(record);
+    await page.press("#lose-fewer");
+    for (const way of ["wrong way", "twice", "others", "mistyped"]) await takeWay(way);
+    await says("#store-said", `Record ${record}: accepted`);
+    same([record, (await page.text("body")).match(/NaN|undefined|null|Infinity|\[object/)], [record, null]);
+  }
+}
+
 // how many points of the picture have the colour at one of them
 async function coloured(id, x, y) {
   return page.evaluate(`(() => {
@@ -337,7 +348,7 @@ async function changeTheme() {
 try {
   await page.media("screen", "light");
   await page.size(1400, 900);
-  for (const step of [chooseStore, seeLayouts, changeSymbols, countTraffic, loseNodes, goWrongWays, shiftByHand, mistype, takeWrongRoots, seeLarge, doExercises]) await step();
+  for (const step of [chooseStore, seeLayouts, changeSymbols, countTraffic, loseNodes, goWrongWays, shiftByHand, mistype, takeWrongRoots, takeExtremes, seeLarge, doExercises]) await step();
   for (const step of [useKeys, haveNames, changeTheme]) await step();
   for (const width of [1400, 1000, 390]) for (const scheme of ["light", "dark"]) await fits(width, scheme, "1 7 3 6 4");
   await fits(1000, "light", "2 11 15 10");
