@@ -6,7 +6,7 @@ set -euo pipefail
 cd "$(dirname "$0")/.."
 mkdir -p target/bench
 
-bindings/c/build.sh
+tools/build_library.sh
 
 # a build as a shared object, so that two can be loaded
 builds=("$PWD/target/lib/libbalanced.so.1")

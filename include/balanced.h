@@ -97,6 +97,9 @@ enum balanced_finding {
     BALANCED_FIND_NONE = 2
 };
 
+/* The version of this header and of the library that it belongs to. */
+#define BALANCED_VERSION "1.0.0"
+
 /* The largest numbers of lanes and of nodes; the lengths of the buffers of balanced_plan. */
 #define BALANCED_MAX_LANES 4096
 #define BALANCED_MAX_NODES 255

@@ -6,8 +6,8 @@
 
 A block of `sh` is run by bash at the top of the repository, a block of `c` is compiled with the library and run, a block of
 `python` is run over the package; the block of `text` right after one is what it prints. Blocks of `sh` without a block of
-`text` are not run. Needs target/bin and target/lib (`rt check`, `bindings/c/build.sh`). Blocks of `rust` are tested by cargo
-(bindings/rust/src/lib.rs).
+`text` are not run. A block of `antt` or `rattle` that names a file is a part of that file. Needs target/bin and target/lib
+(`make programs library`). Blocks of `rust` are tested by cargo (bindings/rust/src/lib.rs).
 """
 import os
 import re
@@ -17,6 +17,7 @@ import tempfile
 
 TOP = os.path.dirname(os.path.dirname(os.path.abspath(__file__)))
 SHOWN = re.compile(r"^```(sh|c|python)\n(.*?)^```\n(?:```text\n(.*?)^```\n)?", re.M | re.S)
+EXCERPT = re.compile(r"^```(?:antt|rattle) (\S+)\n(.*?)^```\n", re.M | re.S)
 CITED = re.compile(r"((?:`[\w.-]+`,? (?:and )?)+)in `(crates/[\w./-]+)`")
 LINK = re.compile(r"!?\[[^\]]*\]\(([^)#]*)(?:#([^)]*))?\)")
 
@@ -50,6 +51,14 @@ def anchor(heading):
     return re.sub(r"[^\w\- ]", "", heading.strip().lower()).replace(" ", "-")
 
 
+def places(file):
+    """The places that a link into a file can name: the headings of a document, the ids of a page."""
+    text = open(file, encoding="utf-8").read()
+    if file.endswith(".html"):
+        return re.findall(r'\bid="([^"]+)"', text)
+    return [anchor(heading) for heading in re.findall(r"^#+ (.*)$", text, re.M)]
+
+
 def broken_links(path, text):
     for target, place in LINK.findall(re.sub(r"```.*?```", "", text, flags=re.S)):
         if "://" in target:
@@ -57,13 +66,13 @@ def broken_links(path, text):
         file = os.path.normpath(os.path.join(os.path.dirname(path), target)) if target else path
         if not os.path.exists(file):
             yield f"no file {target}"
-        elif place and place not in map(anchor, re.findall(r"^#+ (.*)$", open(file, encoding="utf-8").read(), re.M)):
-            yield f"no heading {place} in {target or 'this file'}"
+        elif place and place not in places(file):
+            yield f"no place {place} in {target or 'this file'}"
 
 
 def missing(text):
     """The paths and names that a document cites and that are not there."""
-    for path in set(re.findall(r"`((?:crates|tests|docs|include|bindings|examples|bench)/[\w./-]+)`", text)):
+    for path in set(re.findall(r"`((?:crates|tests|docs|include|bindings|examples|bench|tools)/[\w./-]+)`", text)):
         if not os.path.exists(os.path.join(TOP, path)):
             yield f"no file {path}"
     for names, path in CITED.findall(text):
@@ -74,10 +83,23 @@ def missing(text):
                 yield f"no {name} in {path}"
 
 
+def lines_of(text):
+    """A text without its indentation."""
+    return "\n".join(line.strip() for line in text.strip().splitlines())
+
+
+def stale_excerpts(text):
+    """The parts of files that a document shows and that are not there."""
+    for path, part in EXCERPT.findall(text):
+        file = os.path.join(TOP, path)
+        if not os.path.isfile(file) or lines_of(part) not in lines_of(open(file, encoding="utf-8").read()):
+            yield f"not in {path}: {part.strip().splitlines()[0]} .."
+
+
 def check(path, write):
     """The faults of one document, and how many blocks were run."""
     text = open(path, encoding="utf-8").read()
-    faults, ran = [*broken_links(path, text), *missing(text)], 0
+    faults, ran = [*broken_links(path, text), *missing(text), *stale_excerpts(text)], 0
 
     def shown(match):
         nonlocal ran

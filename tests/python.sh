@@ -3,7 +3,7 @@
 # sort; rosters; where the library is found; the wheel; the pages' examples. Needs rt, gcc and Python 3.11; no network.
 set -euo pipefail
 cd "$(dirname "$0")/.."
-bindings/c/build.sh
+tools/build_library.sh
 export PYTHONPATH=$PWD/bindings/python PYTHONDONTWRITEBYTECODE=1
 log=$(mktemp)
 trap 'rm -f "$log"' EXIT
