@@ -34,7 +34,7 @@ def number_of(parameter: Number, given: Any) -> int:
         number = index(given)
     except TypeError:
         raise TypeError(f"{parameter.name} is a number, not {type(given).__name__}") from None
-    most = 256 ** sizeof(parameter.kind) - 1
+    most = (1 << 8 * sizeof(parameter.kind)) - 1
     return number if 0 <= number <= most else most
 
 
