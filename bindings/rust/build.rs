@@ -7,8 +7,9 @@ fn main() {
     println!("cargo:rerun-if-env-changed=BALANCED_LIB_DIR");
     let folder = match env::var_os("BALANCED_LIB_DIR") {
         Some(folder) => PathBuf::from(folder),
-        None => PathBuf::from(env::var_os("CARGO_MANIFEST_DIR").expect("cargo sets CARGO_MANIFEST_DIR"))
-            .join("../../target/lib"),
+        None => {
+            PathBuf::from(env::var_os("CARGO_MANIFEST_DIR").expect("cargo sets CARGO_MANIFEST_DIR")).join("../../target/lib")
+        }
     };
     let kinds = [("static", "libbalanced.a"), ("dylib", "libbalanced.so")];
     let Some((kind, file)) = kinds.into_iter().find(|(_, file)| folder.join(file).is_file()) else {
