@@ -28,13 +28,13 @@ plans: ## every accepted record of kind 1 with p up to 31, a line `p α n k` for
 programs: ## prove and compile all programs that the documents use, `cases` among them, to target/bin
 	@tools/prove.py sheet compare weights small_plans cases
 
-library: ## prove and compile the static library for C and Rust, target/staticlib/libbalanced_c.a
+library: ## prove the calls and make the library, static and shared, for every x86-64 and for newer processors, in target/lib
 	@tools/build_library.sh
 
 build: ## the same, and build the Rust crate over it
 	@bindings/rust/build.sh --release
 
-test: ## the gate: everything proved from nothing, wrong programs refused, outputs compared, C and Rust, documents
+test: ## the gate: everything proved from nothing, wrong programs refused, outputs compared, C, Rust and Python, documents
 	.ci/run
 
 wrong: ## further wrong programs, each of which must be refused
@@ -43,8 +43,9 @@ wrong: ## further wrong programs, each of which must be refused
 explore: ## the learners' page in a browser, or its path where there is none
 	@docs/explore/open.sh
 
-bench: ## our times beside those of other libraries, in one run, as ratios; beside an older build, too: make bench LIBRARY=path/to/libbalanced_c.a
+bench: ## our times beside those of other libraries, in one run, as ratios, and threads in Python; beside another build, too: make bench LIBRARY=path/to/libbalanced.a
 	bench/run.sh
+	bench/python.py
 
 docs: programs library ## draw the pictures anew and check what the documents show and cite
 	docs/make_pictures.py
