@@ -10,6 +10,7 @@ import sys
 import time
 from concurrent.futures import ThreadPoolExecutor
 from ctypes import c_uint8
+from functools import partial
 from pathlib import Path
 
 sys.path.insert(0, str(Path(__file__).resolve().parents[1] / "bindings" / "python"))
@@ -23,9 +24,9 @@ SHARES = PLAN.encode(LANES, MESSAGE)
 NODES = list(range(135, 255))
 LEFT = b"".join(SHARES[255 * lane + 135:255 * lane + 255] for lane in range(LANES))
 WORK = {
-    "encode": lambda _: PLAN.encode(LANES, MESSAGE),
-    "recover": lambda _: PLAN.recover(LANES, NODES, LEFT),
-    "belongs": lambda _: PLAN.belongs(LANES, SHARES),
+    "encode": lambda: PLAN.encode(LANES, MESSAGE),
+    "recover": lambda: PLAN.recover(LANES, NODES, LEFT),
+    "belongs": lambda: PLAN.belongs(LANES, SHARES),
 }
 
 
@@ -41,12 +42,17 @@ def best(rounds, ways):
     return [min(column) for column in zip(*times)]
 
 
+def all_blocks(pool, work):
+    """The work for every block, in the threads of a pool; what it gives is dropped."""
+    for _ in pool.map(lambda _: bool(work()), range(BLOCKS)):
+        pass
+
+
 def in_threads(rounds):
     """All blocks in one thread, then in two."""
     with ThreadPoolExecutor(1) as one, ThreadPoolExecutor(2) as two:
         for name, work in WORK.items():
-            ways = [lambda pool=pool: list(pool.map(work, range(BLOCKS))) for pool in (one, two)]
-            alone, shared = best(rounds, ways)
+            alone, shared = best(rounds, [partial(all_blocks, pool, work) for pool in (one, two)])
             print(f"python {name} 255 120 {LANES}, {BLOCKS} blocks: one thread {alone * 1e3:.1f} ms, two {shared * 1e3:.1f} ms, ratio {shared / alone:.2f}")
 
 
