@@ -9,7 +9,7 @@ def encode(plan, lanes, message):
 
 
 def shares_of(plan, layout, batch, data):
-    """For each node the shares of some blocks with their checksums, and the blocks' part of the image's digest."""
+    """For each node the shares of some blocks with their checksums, piece after piece, and the blocks' part of the digest."""
     pieces, total, data, start = [[] for _ in range(plan.n)], 0, memoryview(data), layout.start(batch[0])
     for block in batch:
         at, size, lanes, count = layout.start(block) - start, layout.size(block), layout.lanes_of(block), layout.share_len(block)
@@ -19,7 +19,7 @@ def shares_of(plan, layout, batch, data):
         for node, piece in enumerate(pieces):
             symbols = shares[node * count:(node + 1) * count]
             piece += (symbols, share.checksum(block_seed, symbols))
-    return [b"".join(piece) for piece in pieces], total
+    return pieces, total
 
 
 def listed(plan, lanes, parts):

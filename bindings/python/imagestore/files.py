@@ -6,6 +6,8 @@ them without following links, so nothing outside a folder is reached.
 """
 import os
 
+MAX_PARTS = 512  # buffers that go into one call
+
 
 def open_folder(path):
     return os.open(path, os.O_RDONLY | os.O_DIRECTORY | os.O_CLOEXEC)
@@ -57,11 +59,22 @@ def read(file, place, count):
 
 
 def write(file, place, data):
-    """All of the bytes, from a place on."""
-    data = memoryview(data)
-    while len(data):
-        done = os.pwrite(file, data, place)
-        place, data = place + done, data[done:]
+    """All of the bytes, from a place on: of a buffer, or of a list of them that stand one after the other."""
+    parts = [memoryview(part) for part in (data if isinstance(data, list) else [data])]
+    for at in range(0, len(parts), MAX_PARTS):
+        place = write_parts(file, place, parts[at:at + MAX_PARTS])
+
+
+def write_parts(file, place, parts):
+    """Writes the buffers, and gives the place behind them."""
+    while parts:
+        done = os.pwritev(file, parts, place)
+        place += done
+        while parts and done >= len(parts[0]):
+            done -= len(parts.pop(0))
+        if parts:
+            parts[0] = parts[0][done:]
+    return place
 
 
 def sync(file):

@@ -23,6 +23,7 @@ MAX_ANSWER = 1 + MAX_DATA
 
 
 class Request(NamedTuple):
+    """`data` is bytes, or to write a list of them that stand one after the other."""
     op: int
     name: str = ""
     place: int = 0
@@ -30,9 +31,13 @@ class Request(NamedTuple):
     data: bytes = b""
 
 
+def data_len(request):
+    return sum(map(len, request.data)) if isinstance(request.data, list) else len(request.data)
+
+
 def request_len(request):
     """The bytes of a request on the pipe."""
-    return LENGTH.size + HEAD.size + len(request.name) + NUMBERS.size + len(request.data)
+    return LENGTH.size + HEAD.size + len(request.name) + NUMBERS.size + data_len(request)
 
 
 def answer_len(data):
@@ -43,7 +48,7 @@ def write_request(pipe, request):
     name = request.name.encode("ascii")
     head = LENGTH.pack(request_len(request) - LENGTH.size) + HEAD.pack(request.op, len(name)) + name
     pipe.write(head + NUMBERS.pack(request.place, request.count))
-    pipe.write(request.data)
+    pipe.writelines(request.data if isinstance(request.data, list) else [request.data])
     pipe.flush()
 
 

@@ -20,6 +20,8 @@ class Link:
     `delay` is how long the first answer took, in seconds; a folder of this machine has none.
     """
 
+    pipe = None  # what the answers come from, if it can be waited for
+
     def __init__(self, place):
         self.place, self.turn, self.delay = place, threading.Lock(), 0.0
         self.sent = self.received = self.shares_sent = self.shares_received = 0
@@ -33,7 +35,7 @@ class Link:
             raise
         self.sent += frames.request_len(request)
         if request.op in (frames.WRITE, frames.PATCH):
-            self.shares_sent += len(request.data)
+            self.shares_sent += frames.data_len(request)
         self.request = request
 
     def finish(self):

@@ -5,7 +5,7 @@ from concurrent.futures import ThreadPoolExecutor
 
 from .frames import MAX_DATA
 
-BATCH_BYTES = 1 << 22
+BATCH_BYTES = 1 << 21
 
 
 def workers():
@@ -14,7 +14,7 @@ def workers():
 
 
 def batch_blocks(layout):
-    """How many blocks a batch has: some 4 MB of the image, and no more than a frame holds, also as ranges."""
+    """How many blocks a batch has: some 2 MB of the image, and no more than a frame holds, also as ranges."""
     return max(1, min(BATCH_BYTES // layout.capacity, MAX_DATA // (layout.lanes * layout.plan.symbol_len + 32)))
 
 

@@ -39,6 +39,7 @@ class PipeLink(Link):
         # a session of its own: Ctrl-C reaches this program alone, which then tells the nodes
         self.process = subprocess.Popen(
             command, stdin=subprocess.PIPE, stdout=subprocess.PIPE, start_new_session=True)
+        self.pipe = self.process.stdout
 
     def _send(self, request):
         try:

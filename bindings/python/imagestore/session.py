@@ -4,6 +4,7 @@ A node that fails is down for the rest of the command, and `down` has the senten
 """
 import os
 import random
+import selectors
 import time
 
 from . import frames, lock
@@ -13,6 +14,19 @@ from .link import FolderLink
 from .node import MAKE
 from .remote import PipeLink
 from .settings import is_remote
+
+
+def note_delays(links):
+    """Notes how long each node on another machine takes to answer what it was asked just now."""
+    begun, waiting = time.monotonic(), selectors.DefaultSelector()
+    for link in links:
+        if link.pipe is not None:
+            waiting.register(link.pipe, selectors.EVENT_READ, link)
+    while waiting.get_map():
+        for key, _ in waiting.select():
+            key.data.delay = time.monotonic() - begun
+            waiting.unregister(key.fileobj)
+    waiting.close()
 
 
 class Session:
@@ -25,7 +39,8 @@ class Session:
             except OSError as error:
                 self.down[node] = str(error)
         head = frames.GREETING + frames.PROTOCOL.to_bytes(2, "big")
-        self.try_ask(self.up(), lambda node: Request(frames.HELLO, count=how if node in make else 0, data=head + settings.marker(node)))
+        self.try_ask(self.up(), lambda node: Request(
+            frames.HELLO, count=how if node in make else 0, data=head + settings.marker(node)), timed=True)
 
     def link(self, place):
         if is_remote(place):
@@ -43,7 +58,7 @@ class Session:
             self.past.append((node, link))
             link.close()
 
-    def gather(self, nodes, request):
+    def gather(self, nodes, request, timed=False):
         """Asks the nodes side by side: the answers, and what the others say instead."""
         answers, failures, asked = {}, {}, []
         for node in nodes:
@@ -55,6 +70,8 @@ class Session:
                 asked.append((node, link))
             except Refused as error:
                 failures[node] = error
+        if timed:
+            note_delays([link for _, link in asked])
         for node, link in asked:
             try:
                 answers[node] = link.finish()
@@ -62,9 +79,9 @@ class Session:
                 failures[node] = error
         return answers, failures
 
-    def try_ask(self, nodes, request):
+    def try_ask(self, nodes, request, timed=False):
         """Asks the nodes side by side; one that fails is down."""
-        answers, failures = self.gather(nodes, request)
+        answers, failures = self.gather(nodes, request, timed)
         for node, error in failures.items():
             self.fail(node, str(error))
         return answers
