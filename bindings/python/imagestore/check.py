@@ -98,14 +98,17 @@ def check_name_of(store, session, name, correct, undo):
     if not seen.exists and not found:
         return None
     return {"image": name, "generation": seen.header.generation, "length": seen.header.length, "removed": seen.header.removed,
-            "found": first, "corrected": done, "wrong": found.wrong, "doubts": found.doubts}
+            "digest": seen.header.digest.hex(), "found": first, "corrected": done, "wrong": found.wrong, "doubts": found.doubts}
 
 
 def check(store, names, correct=False, undo=False):
     """Checks images, all where none is named. One that too few nodes hold does not keep the others from being checked."""
     for name in names:
         check_name(name)
-    with store.session(lock.EXCLUSIVE if correct or undo else lock.SHARED, "check") as session:
+    mode = lock.EXCLUSIVE if correct or undo else lock.SHARED
+    with store.session(lock.NONE, "check") as session:
+        session.try_lock(lock.EXCLUSIVE)  # for a moment, if it can be had: what crashes have left is then removed
+        session.lock(mode, store.wait)
         results, lost = [], {}
         listed = image.look_at_all(session)
         for name in names or listed:

@@ -1,5 +1,6 @@
 """The command `imagestore`."""
 import argparse
+import functools
 import json
 import os
 import signal
@@ -34,6 +35,7 @@ def common():
     return parser
 
 
+@functools.cache
 def parser():
     shared = common()
     top = argparse.ArgumentParser(

@@ -6,7 +6,7 @@ import threading
 from concurrent.futures import ThreadPoolExecutor
 
 from . import frames
-from .errors import Busy, Refused
+from .errors import Busy, Refused, StoreError
 from .node import Node
 
 # requests that wait for the disk: on folders of this machine they run side by side
@@ -64,8 +64,10 @@ def answer_of(node, request):
         return frames.DONE, node.answer(request)
     except Busy as error:
         return frames.BUSY, str(error).encode()
-    except (OSError, Refused, ValueError) as error:
-        return frames.REFUSED, (str(error) or type(error).__name__).encode()
+    except (OSError, StoreError) as error:
+        return frames.REFUSED, str(error).encode()
+    except Exception as error:  # whatever a request brings about, it has an answer
+        return frames.REFUSED, f"{type(error).__name__}: {error}".encode()
 
 
 class FolderLink(Link):

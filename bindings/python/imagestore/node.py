@@ -242,7 +242,8 @@ class Node:
         if share.unpack_header(data).write != request.place:
             raise Refused(f"another write of {name} is prepared")
         ranges = redo.is_redo(self.start(name + ".next"))
-        files.remove(self.folder, name + ".redo")  # one that could not be applied must not be applied to the new share
+        if files.remove(self.folder, name + ".redo"):  # one that could not be applied must not be applied to the new share
+            files.sync(self.folder)
         files.rename(self.folder, name + ".next", name + (".redo" if ranges else ".share"))
         files.sync(self.folder)
         if ranges:
@@ -266,8 +267,8 @@ class Node:
                 os.close(shared)
         finally:
             os.close(committed)
+        # not synced: a redo that comes back is applied once more, and every later write syncs the folder before it changes a share
         files.remove(self.folder, name + ".redo")
-        files.sync(self.folder)
 
     def finish(self, name):
         """Applies a redo that a crash has left. One that cannot be applied stays, and its share counts as damaged."""

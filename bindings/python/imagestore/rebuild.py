@@ -63,8 +63,10 @@ def rebuild_image(store, session, seen, target, jobs, wrong=()):
 
 def purge(store, session, seen):
     """Forgets an image that was removed, once every node knows of it."""
-    if seen.header and seen.header.removed and not seen.view.silent and not seen.ruling.wrong:
-        session.try_ask([node for node in session.up() if node in seen.view.current], lambda node: Request(frames.PURGE, seen.name))
+    knowing = [node for node in session.up() if node in seen.view.current]
+    if seen.header and seen.header.removed and not seen.view.silent and not seen.ruling.wrong and knowing:
+        session.lock(lock.EXCLUSIVE, store.wait)
+        session.try_ask(knowing, lambda node: Request(frames.PURGE, seen.name))
 
 
 def rebuild_node(store, session, target, outcome):

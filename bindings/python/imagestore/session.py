@@ -10,6 +10,7 @@ import time
 from . import frames, lock
 from .errors import Busy, NodesFailed, Refused, StoreError, TooFewNodes
 from .frames import Request
+from .interrupts import undisturbed
 from .link import FolderLink
 from .node import MAKE
 from .remote import PipeLink
@@ -59,7 +60,11 @@ class Session:
             link.close()
 
     def gather(self, nodes, request, timed=False):
-        """Asks the nodes side by side: the answers, and what the others say instead."""
+        """Asks the nodes side by side: the answers, and what the others say instead. No request is left without its answer."""
+        with undisturbed():
+            return self.gather_all(nodes, request, timed)
+
+    def gather_all(self, nodes, request, timed):
         answers, failures, asked = {}, {}, []
         for node in nodes:
             link = self.links.get(node)
@@ -94,20 +99,23 @@ class Session:
             raise NodesFailed({node: self.down[node] for node in missing})
         return answers
 
-    def lock(self, mode, wait):
-        """Takes the nodes' locks, all or none; where another command has one, tries again for some seconds."""
-        deadline = time.monotonic() + wait
-        while True:
-            _, failures = self.gather(self.up(), lambda node: Request(frames.LOCK, count=mode))
-            for node, error in failures.items():
-                if not isinstance(error, Busy):
-                    self.fail(node, str(error))
-            busy = sorted(node for node, error in failures.items() if isinstance(error, Busy))
-            if not busy:
-                return
+    def try_lock(self, mode):
+        """Takes the nodes' locks, all or none: None, or the sentence of a node that another command has."""
+        _, failures = self.gather(self.up(), lambda node: Request(frames.LOCK, count=mode))
+        for node, error in failures.items():
+            if not isinstance(error, Busy):
+                self.fail(node, str(error))
+        busy = [f"node {node}: {error}" for node, error in sorted(failures.items()) if isinstance(error, Busy)]
+        if busy:
             self.gather(self.up(), lambda node: Request(frames.LOCK, count=lock.NONE))
+        return busy[0] if busy else None
+
+    def lock(self, mode, wait):
+        """Takes the nodes' locks; where another command has one, tries again for some seconds."""
+        deadline = time.monotonic() + wait
+        while (busy := self.try_lock(mode)) is not None:
             if time.monotonic() >= deadline:
-                raise StoreError(f"node {busy[0]}: {failures[busy[0]]}; nothing was done (--wait SECONDS waits for it)")
+                raise StoreError(f"{busy}; nothing was done (--wait SECONDS waits for it)")
             time.sleep(random.uniform(0.02, 0.2))
 
     def need(self, count, what):

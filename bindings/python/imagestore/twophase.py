@@ -1,37 +1,14 @@
 """The last steps of a write: commit at every node that has prepared it, or drop it at all."""
-import signal
-import threading
 from contextlib import contextmanager
 
 from . import frames
 from .errors import StoreError
 from .frames import Request
-
-
-@contextmanager
-def undisturbed():
-    """Interrupts wait until the steps are done: in the middle of them a command is neither here nor there."""
-    if threading.current_thread() is not threading.main_thread():
-        yield
-        return
-    waiting, kept = [], {}
-    for number in (signal.SIGINT, signal.SIGTERM):
-        kept[number] = signal.signal(number, lambda *_: waiting.append(True))
-    try:
-        yield
-    finally:
-        for number, handler in kept.items():
-            signal.signal(number, handler)
-    if waiting:
-        raise KeyboardInterrupt
+from .interrupts import undisturbed
 
 
 def commit(session, name, writes):
-    """Commits what the nodes have prepared: `writes` has the number of the write for each. A node that fails now commits later.
-
-    An interrupt that comes in between does not undo it.
-    """
-    done = {}
+    """Commits what the nodes have prepared: `writes` has the number of the write for each. A node that fails now commits later."""
     with undisturbed():
         done = session.try_ask(sorted(writes), lambda node: Request(frames.COMMIT, name, place=writes[node]))
     if writes and not done:
