@@ -61,7 +61,7 @@ class StoreCase(unittest.TestCase):
     def make(self, n=5, k=3, lanes=16):
         """A new store of folders."""
         self.n, self.k, self.lanes = n, k, lanes
-        self.places = [self.top / f"n{node:03}" for node in range(n)]
+        self.places = [self.top / self.store.stem / f"n{node:03}" for node in range(n)]
         self.right("init", self.store, "--needed", k, "--lanes", lanes, *self.places)
 
     def bytes(self, count):

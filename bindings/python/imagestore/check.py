@@ -8,15 +8,19 @@ from .reader import Reader
 class Findings:
     """What is wrong: a sentence for each wrong node, and `doubts` where it cannot be told which node is wrong.
 
-    `untold` are the wrong nodes whose checksums are right. `total` is the sum of the blocks' digests, None where a block is
-    unknown.
+    `untold` are the wrong nodes whose checksums are right, and `lost` are blocks that too few nodes have. `total` is the sum of
+    the blocks' digests, None where a block is unknown.
     """
 
     def __init__(self, wrong=()):
-        self.wrong, self.untold, self.doubts, self.total = dict(wrong), set(), [], 0
+        self.wrong, self.untold, self.doubts, self.lost, self.total = dict(wrong), set(), [], [], 0
 
     def doubt(self, sentence):
         self.doubts.append(sentence)
+        self.total = None
+
+    def lose(self, sentence):
+        self.lost.append(sentence)
         self.total = None
 
     def add(self, other):
@@ -24,17 +28,18 @@ class Findings:
             self.wrong.setdefault(node, why)
         self.untold |= other.untold
         self.doubts += other.doubts
+        self.lost += other.lost
         self.total = None if self.total is None or other.total is None else self.total + other.total
 
     def __bool__(self):
-        return bool(self.wrong or self.doubts)
+        return bool(self.wrong or self.doubts or self.lost)
 
 
 def check_block(store, layout, block, held, found):
     """Compares the shares of one block that have a right checksum."""
     plan, lanes = store.plan, layout.lanes_of(block)
     if len(held) < plan.k:
-        return found.doubt(f"block {block} is right at {len(held)} nodes, and {plan.k} are needed")
+        return found.lose(f"block {block} is right at {len(held)} nodes, and {plan.k} are needed")
     nodes = compare.wrong_nodes(plan, lanes, held)
     if nodes is None:
         return found.doubt(f"the shares of block {block} do not agree, and which are wrong cannot be told")
@@ -90,7 +95,7 @@ def check_name_of(store, session, name, correct, undo):
         return None
     found = check_image(store, session, seen) if seen.exists else Findings(seen.faults)
     first, done = dict(found.wrong), []
-    if correct and found.wrong:
+    if correct and found.wrong and not found.lost:
         done = set_right(store, session, seen, found)
         seen = store.look(session, name)
         found = check_image(store, session, seen) if seen.exists else Findings(seen.faults)
@@ -98,7 +103,8 @@ def check_name_of(store, session, name, correct, undo):
     if not seen.exists and not found:
         return None
     return {"image": name, "generation": seen.header.generation, "length": seen.header.length, "removed": seen.header.removed,
-            "digest": seen.header.digest.hex(), "found": first, "corrected": done, "wrong": found.wrong, "doubts": found.doubts}
+            "digest": seen.header.digest.hex(), "found": first, "corrected": done, "wrong": found.wrong, "doubts": found.doubts,
+            "lost": found.lost}
 
 
 def check(store, names, correct=False, undo=False):

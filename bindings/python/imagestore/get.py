@@ -39,10 +39,10 @@ def read_right(store, session, seen, target):
         return wrong
     target.again()
     found = check_image(store, session, seen)
-    if found.untold and not found.doubts:
+    if found.untold and not found.doubts and not found.lost:
         _, right = copy_out(store, session, seen, target.write, found.untold)
     if not right:
-        raise StoreError(f"{seen.name}: the checksums are right, and the image is not" + "".join(f"; {why}" for why in found.doubts))
+        raise StoreError(f"{seen.name}: the checksums are right, and the image is not" + "".join(f"; {why}" for why in found.doubts + found.lost))
     return found.wrong
 
 

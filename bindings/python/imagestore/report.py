@@ -71,18 +71,18 @@ def list_images(result):
 
 
 def check(result):
-    lines, wrong = [], bool(result["absent"])
+    lines, wrong, lost = [], bool(result["absent"]), bool(result["lost"])
     for one in result["images"]:
-        left = one["wrong"] or one["doubts"]
-        wrong = wrong or bool(left)
+        left = one["wrong"] or one["doubts"] or one["lost"]
+        wrong, lost = wrong or bool(left), lost or bool(one["lost"])
         word = "wrong" if left else "right" if not one["corrected"] else "set right"
         what = "removed" if one["removed"] else f"{several(one['length'], 'byte')}, generation {one['generation']}"
         lines.append(f"{one['image']}: {what}: {word}")
         lines += [f"  set right node {node}: {one['found'][node]}" for node in one["corrected"] if node not in one["wrong"]]
-        lines += with_reasons("wrong", one["wrong"]) + [f"  {why}" for why in one["doubts"]]
+        lines += with_reasons("wrong", one["wrong"]) + [f"  {why}" for why in one["doubts"] + one["lost"]]
     lines += [f"{name}: lost: {why}" for name, why in result["lost"].items()]
     lines += with_reasons("absent", result["absent"]) + [moved(result)]
-    return 3 if result["lost"] else int(wrong), lines
+    return 3 if lost else int(wrong), lines
 
 
 def rm(result):

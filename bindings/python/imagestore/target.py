@@ -12,8 +12,8 @@ from .errors import StoreError
 class Stream:
     """Something that takes bytes and cannot give them back."""
 
-    def __init__(self, file):
-        self.file = file
+    def __init__(self, file, own):
+        self.file, self.own = file, own
 
     def write(self, data):
         self.file.write(data)
@@ -25,7 +25,7 @@ class Stream:
         raise StoreError("what was written is wrong: its digest is not that of the image; write to a file, or run `check --correct`")
 
     def close(self):
-        if self.file is not sys.stdout.buffer:
+        if self.own:
             self.file.close()
 
 
@@ -59,9 +59,9 @@ class NewFile:
 def open_target(path):
     try:
         if path == "-":
-            return Stream(sys.stdout.buffer)
+            return Stream(sys.stdout.buffer, False)
         if os.path.exists(path) and not os.path.isfile(path):
-            return Stream(open(path, "wb", buffering=0))
+            return Stream(open(path, "wb"), True)
         return NewFile(path)
     except OSError as error:
         raise StoreError(f"{path}: {error.strerror}") from None
