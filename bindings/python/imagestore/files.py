@@ -20,7 +20,11 @@ def make_folder(path):
         return
     above = os.path.dirname(path)
     make_folder(above)
-    os.mkdir(path)
+    try:
+        os.mkdir(path)
+    except FileExistsError:
+        if not os.path.isdir(path):  # another node may have made it just now
+            raise
     folder = open_folder(above)
     try:
         sync(folder)
