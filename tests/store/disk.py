@@ -13,7 +13,7 @@ import threading
 
 from imagestore import files
 
-STOPPED = 77
+STOPPED, STOPPED_AT_A_WRITE = 77, 78
 REAL = {name: getattr(files, name) for name in ("create", "open_file", "write", "sync", "rename", "remove")}
 
 
@@ -46,7 +46,7 @@ class Disk:
             REAL["write"](file, place, whole[:len(whole) // 2])
         if self.mode == "power":
             self.lose()
-        os._exit(STOPPED)
+        os._exit(STOPPED_AT_A_WRITE if name == "write" else STOPPED)
 
     # what is kept of folders (names) and of files (bytes)
 
