@@ -7,16 +7,20 @@
 import math
 import os
 import sys
+from drawing import INK, MARGIN, OURS, PALE, PLAIN, THEORY, Drawing, text_width
 
 DOCS = os.path.dirname(os.path.abspath(__file__))
 RUN, TABLE, PICTURE = (os.path.join(DOCS, name) for name in ("speed.txt", "SPEED.md", os.path.join("pictures", "speed.svg")))
 START, END = "<!-- made by make_speed.py -->\n", "<!-- end -->\n"
+# what Correct is compared with, and how its rows are named
+CORRECT_PEERS = {"libfec": "to libfec", "belongs": "to Belongs"}
+NAMES = {"correct": "Correct, words", "correct_wrong": "Correct, wrong"}
 SHOWN = [(15, 10, 64), (15, 10, 4096), (51, 34, 64), (51, 34, 4096), (255, 120, 1), (255, 120, 64), (255, 120, 4096), (250, 125, 4096)]
-CALLS = ["encode", "update", "recover", "rebuild", "belongs", "correct", "plan"]
+CALLS = ["encode", "update", "recover", "rebuild", "belongs", "correct", "correct_wrong", "plan"]
 PEERS = ["isal", "isal_turned", "jerasure", "jerasure_turned", "isal_kept", "jerasure_kept"]
 HEADS = ["to ISA-L", "ISA-L turned", "to Jerasure", "Jer. turned", "ISA-L kept", "Jer. kept"]
-COLOURS = {"encode": "#1f6f8b", "recover": "#c9772b", "belongs": "#6b7f3f"}
-INK, PALE = "#222222", "#e4e7ea"
+CODES = [(15, 10), (51, 34), (255, 120)]
+COLOURS = {"encode": OURS, "recover": PLAIN, "belongs": THEORY}
 
 
 def read_run():
@@ -36,11 +40,12 @@ def time_words(us):
 
 
 def ratio_words(ratio):
-    return "" if ratio is None else f"{ratio:.0f}" if ratio >= 20 else f"{ratio:.2f}"
+    return "" if ratio is None else f"{ratio:.0f}" if ratio >= 20 else f"{ratio:.2f}" if ratio >= 0.01 else f"{ratio:.3f}"
 
 
 def table(times, ratios):
-    lines = ["| n, k, lanes | call | time | rate | " + " | ".join(HEADS) + " |", "|---" * (4 + len(HEADS)) + "|"]
+    peers, heads = [*PEERS, *CORRECT_PEERS], [*HEADS, *CORRECT_PEERS.values()]
+    lines = ["| n, k, lanes | call | time | rate | " + " | ".join(heads) + " |", "|---" * (4 + len(heads)) + "|"]
     for n, k, lanes in SHOWN:
         block = f"{n}, {k}, {lanes}"
         for call in CALLS:
@@ -48,39 +53,36 @@ def table(times, ratios):
             if us is None:
                 continue
             rate = "" if call in ("update", "plan") else f"{k * lanes / us:.0f} MB/s"
-            cells = [ratio_words(ratios.get((call, n, k, lanes, peer))) for peer in PEERS]
-            lines.append("| " + " | ".join([block, call.capitalize(), time_words(us), rate, *cells]) + " |")
+            cells = [ratio_words(ratios.get((call, n, k, lanes, peer))) for peer in peers]
+            lines.append("| " + " | ".join([block, NAMES.get(call, call.capitalize()), time_words(us), rate, *cells]) + " |")
             block = ""
     return "\n".join(lines) + "\n"
 
 
-def bar(x, y, width, height, colour, words):
-    top = min(y, y + height)
-    return [f'<rect x="{x:.1f}" y="{top:.1f}" width="{width}" height="{abs(height):.1f}" fill="{colour}"/>',
-            f'<text x="{x + width / 2:.1f}" y="{top - 4:.1f}" text-anchor="middle">{words}</text>']
+def scale(drawing, left, right, middle, unit):
+    """Lines at the powers of two from an eighth to eight."""
+    for step in range(-3, 4):
+        y = middle - step * unit
+        drawing.line(left, y, right, y, INK if step == 0 else PALE)
+        drawing.text(left - 8, y + 4, f"{2.0 ** step:g}", 12, "end")
 
 
 def picture(ratios):
     """For each code a bar per call: our time over ISA-L's at 4,096 lanes, on a scale of powers of two."""
-    left, middle, unit, width = 60, 190, 34, 44
-    codes = [(15, 10), (51, 34), (255, 120)]
-    body = [f'<text x="{left}" y="24" font-size="15">Our time over that of ISA-L, the same work, 4,096 lanes, the field of 256 elements</text>']
-    for step in range(-3, 4):
-        y = middle - step * unit
-        body.append(f'<line x1="{left}" y1="{y}" x2="620" y2="{y}" stroke="{INK if step == 0 else PALE}"/>')
-        body.append(f'<text x="{left - 8}" y="{y + 4}" text-anchor="end">{2.0 ** step:g}</text>')
-    for place, (n, k) in enumerate(codes):
-        x = left + 20 + place * 185
+    left, middle, unit, width, group = MARGIN + text_width("0.125", 12) + 8, 186, 34, 46, 186
+    drawing = Drawing("Our time over that of ISA-L, the same work", "4,096 lanes, the field of 256 elements; below 1 we are faster")
+    scale(drawing, left, left + len(CODES) * group, middle, unit)
+    for place, (n, k) in enumerate(CODES):
+        x = left + place * group + 18
         for number, (call, colour) in enumerate(COLOURS.items()):
             ratio = ratios.get((call, n, k, 4096, "isal"))
             if ratio:
-                body += bar(x + number * (width + 6), middle, width, -unit * math.log2(ratio), colour, f"{ratio:.2f}")
-        body.append(f'<text x="{x + 72}" y="330" text-anchor="middle">n = {n}, k = {k}</text>')
-    for number, (call, colour) in enumerate(COLOURS.items()):
-        body.append(f'<rect x="{left + number * 110}" y="345" width="12" height="12" fill="{colour}"/>')
-        body.append(f'<text x="{left + 18 + number * 110}" y="356">{call.capitalize()}</text>')
-    head = f'<svg xmlns="http://www.w3.org/2000/svg" viewBox="0 0 640 370" font-family="sans-serif" font-size="12" fill="{INK}">'
-    return "\n".join([head, '<rect width="640" height="370" fill="#ffffff"/>', *body, "</svg>"]) + "\n"
+                start, height = x + number * (width + 6), unit * math.log2(ratio)
+                drawing.box(start, middle - max(height, 0), width, abs(height), colour)
+                drawing.text(start + width / 2, middle - max(height, 0) - 5, f"{ratio:.2f}", 12, "middle")
+        drawing.text(x + 1.5 * width + 6, middle + 3 * unit + 26, f"n = {n}, k = {k}", 12, "middle")
+    drawing.legend(left, middle + 3 * unit + 46, [(colour, call.capitalize()) for call, colour in COLOURS.items()])
+    return drawing.done()
 
 
 def main():

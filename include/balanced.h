@@ -2,7 +2,7 @@
  * balanced.h: the interface for C of the balanced image store.
  *
  * The store lays a message over n nodes so that any k of them give it back, a change of one symbol writes n-k+1 nodes,
- * and the symbols that nodes depend on are shared out as evenly as can be. Link with libbalanced_c.a (docs/LINKING.md). The functions are
+ * and the symbols that nodes depend on are shared out as evenly as can be. Link with -lbalanced (docs/LINKING.md). The functions are
  * written in Rattle and proved: crates/balanced_c has the contract of each.
  *
  *
@@ -96,6 +96,9 @@ enum balanced_finding {
     BALANCED_FIND_ADDED = 1,
     BALANCED_FIND_NONE = 2
 };
+
+/* The version of this header and of the library that it belongs to. */
+#define BALANCED_VERSION "1.0.0"
 
 /* The largest numbers of lanes and of nodes; the lengths of the buffers of balanced_plan. */
 #define BALANCED_MAX_LANES 4096

@@ -1,12 +1,13 @@
 #!/usr/bin/env python3
-"""Checks what the documents show: the commands' output, the programs in C, the links, and the files and names they cite.
+"""Checks what the documents show: the commands' output, the programs in C and Python, the links, and the files and names they cite.
 
     tests/documents.py            runs and compares
     tests/documents.py --write    puts the output that was seen into the documents
 
-A block of `sh` is run by bash at the top of the repository, a block of `c` is compiled with the library and run; the block
-of `text` right after one is what it prints. Blocks of `sh` without a block of `text` are not run. Needs target/bin and
-target/staticlib (`rt check`, `rt staticlib balanced_c`). Blocks of `rust` are tested by cargo (bindings/rust/src/lib.rs).
+A block of `sh` is run by bash at the top of the repository, a block of `c` is compiled with the library and run, a block of
+`python` is run over the package; the block of `text` right after one is what it prints. Blocks of `sh` without a block of
+`text` are not run. A block of `antt` or `rattle` that names a file is a part of that file. Needs target/bin and target/lib
+(`make programs library`). Blocks of `rust` are tested by cargo (bindings/rust/src/lib.rs).
 """
 import os
 import re
@@ -15,7 +16,8 @@ import sys
 import tempfile
 
 TOP = os.path.dirname(os.path.dirname(os.path.abspath(__file__)))
-SHOWN = re.compile(r"^```(sh|c)\n(.*?)^```\n(?:```text\n(.*?)^```\n)?", re.M | re.S)
+SHOWN = re.compile(r"^```(sh|c|python)\n(.*?)^```\n(?:```text\n(.*?)^```\n)?", re.M | re.S)
+EXCERPT = re.compile(r"^```(?:antt|rattle) (\S+)\n(.*?)^```\n", re.M | re.S)
 CITED = re.compile(r"((?:`[\w.-]+`,? (?:and )?)+)in `(crates/[\w./-]+)`")
 LINK = re.compile(r"!?\[[^\]]*\]\(([^)#]*)(?:#([^)]*))?\)")
 
@@ -30,14 +32,31 @@ def run_c(code):
         with open(source, "w", encoding="utf-8") as file:
             file.write(code)
         compiled = subprocess.run(
-            ["gcc", "-std=c99", "-pedantic", "-Wall", "-Wextra", "-Werror", "-Iinclude", "-o", program, source, "target/staticlib/libbalanced_c.a"],
+            ["gcc", "-std=c99", "-pedantic", "-Wall", "-Wextra", "-Werror", "-Iinclude", "-o", program, source, "target/lib/libbalanced.a"],
             cwd=TOP, capture_output=True, text=True)
         return compiled if compiled.returncode else subprocess.run([program], capture_output=True, text=True)
+
+
+def run_python(code):
+    package = os.path.join(TOP, "bindings", "python")
+    environment = {**os.environ, "PYTHONPATH": package, "PYTHONDONTWRITEBYTECODE": "1"}
+    return subprocess.run([sys.executable, "-c", code], cwd="/", env=environment, capture_output=True, text=True)
+
+
+RUN = {"sh": run_shell, "c": run_c, "python": run_python}
 
 
 def anchor(heading):
     """The name that a heading gets in a link."""
     return re.sub(r"[^\w\- ]", "", heading.strip().lower()).replace(" ", "-")
+
+
+def places(file):
+    """The places that a link into a file can name: the headings of a document, the ids of a page."""
+    text = open(file, encoding="utf-8").read()
+    if file.endswith(".html"):
+        return re.findall(r'\bid="([^"]+)"', text)
+    return [anchor(heading) for heading in re.findall(r"^#+ (.*)$", text, re.M)]
 
 
 def broken_links(path, text):
@@ -47,13 +66,13 @@ def broken_links(path, text):
         file = os.path.normpath(os.path.join(os.path.dirname(path), target)) if target else path
         if not os.path.exists(file):
             yield f"no file {target}"
-        elif place and place not in map(anchor, re.findall(r"^#+ (.*)$", open(file, encoding="utf-8").read(), re.M)):
-            yield f"no heading {place} in {target or 'this file'}"
+        elif place and place not in places(file):
+            yield f"no place {place} in {target or 'this file'}"
 
 
 def missing(text):
     """The paths and names that a document cites and that are not there."""
-    for path in set(re.findall(r"`((?:crates|tests|docs|include|bindings|examples|bench)/[\w./-]+)`", text)):
+    for path in set(re.findall(r"`((?:crates|tests|docs|include|bindings|examples|bench|tools)/[\w./-]+)`", text)):
         if not os.path.exists(os.path.join(TOP, path)):
             yield f"no file {path}"
     for names, path in CITED.findall(text):
@@ -64,10 +83,23 @@ def missing(text):
                 yield f"no {name} in {path}"
 
 
+def lines_of(text):
+    """A text without its indentation."""
+    return "\n".join(line.strip() for line in text.strip().splitlines())
+
+
+def stale_excerpts(text):
+    """The parts of files that a document shows and that are not there."""
+    for path, part in EXCERPT.findall(text):
+        file = os.path.join(TOP, path)
+        if not os.path.isfile(file) or lines_of(part) not in lines_of(open(file, encoding="utf-8").read()):
+            yield f"not in {path}: {part.strip().splitlines()[0]} .."
+
+
 def check(path, write):
     """The faults of one document, and how many blocks were run."""
     text = open(path, encoding="utf-8").read()
-    faults, ran = [*broken_links(path, text), *missing(text)], 0
+    faults, ran = [*broken_links(path, text), *missing(text), *stale_excerpts(text)], 0
 
     def shown(match):
         nonlocal ran
@@ -75,7 +107,7 @@ def check(path, write):
         if expected is None and language == "sh":
             return match.group(0)
         ran += 1
-        seen = run_shell(code) if language == "sh" else run_c(code)
+        seen = RUN[language](code)
         if seen.returncode:
             faults.append(f"failed: {code.splitlines()[0]} ..\n{seen.stdout}{seen.stderr}")
         elif write and expected is not None:

@@ -55,6 +55,8 @@ from .plan import MAX_LANES, MAX_NODES, Plan
 from .roster import ROSTER_LEN, Roster
 from .symbols import symbols_from_bytes, symbols_to_bytes
 
+__version__ = "1.0.0"
+
 __all__ = [
     "ERRORS", "MAX_LANES", "MAX_NODES", "ROSTER_LEN", "Added", "AlreadyError", "BodyError", "Error", "FarError", "FieldError",
     "Finding", "KindError", "LanesError", "LengthError", "ManyError", "NoSingleUpdate", "Plan", "RangeError", "RootError",

@@ -1,7 +1,7 @@
 """Makes the calls of the table: looks at what is given, lends it, and turns a number into its error."""
 from __future__ import annotations
 
-from ctypes import byref, c_size_t, c_uint8, c_void_p, sizeof
+from ctypes import CDLL, byref, c_size_t, c_uint8, c_void_p, sizeof
 from operator import index
 from typing import Any
 
@@ -18,23 +18,23 @@ def kinds_of(parameter: Parameter) -> list[Any]:
     return [c_void_p, c_size_t] if isinstance(parameter, Buffer) else [c_void_p]
 
 
-def declared(name: str, parameters: tuple[Parameter, ...]) -> Any:
+def declared(library: CDLL, name: str) -> Any:
     function = library[f"balanced_{name}"]
-    function.argtypes = [kind for parameter in parameters for kind in kinds_of(parameter)]
+    function.argtypes = [kind for parameter in CALLS[name] for kind in kinds_of(parameter)]
     function.restype = c_uint8
     return function
 
 
-FUNCTIONS = {name: (declared(name, parameters), parameters) for name, parameters in CALLS.items()}
+FUNCTIONS = {name: declared(library, name) for name in CALLS}
 
 
 def number_of(parameter: Number, given: Any) -> int:
-    """A number for the call. One that its type does not hold becomes the greatest that it holds: no range has either."""
+    """A number for the call. One that its type does not hold becomes the greatest that it holds: neither is in a range."""
     try:
         number = index(given)
     except TypeError:
         raise TypeError(f"{parameter.name} is a number, not {type(given).__name__}") from None
-    most = 256 ** sizeof(parameter.kind) - 1
+    most = (1 << 8 * sizeof(parameter.kind)) - 1
     return number if 0 <= number <= most else most
 
 
@@ -45,12 +45,11 @@ def call(name: str, *given: Any) -> tuple[int, ...]:
     Traceback (most recent call last):
     balanced.errors.RangeError: range (9): a node, symbol or lane number is outside its range
     """
-    function, parameters = FUNCTIONS[name]
     values = iter(given)
     words: list[Any] = []
     results: list[Any] = []
     with Loans() as loans:
-        for parameter in parameters:
+        for parameter in CALLS[name]:
             if isinstance(parameter, Number):
                 words.append(number_of(parameter, next(values)))
             elif isinstance(parameter, Buffer):
@@ -60,7 +59,7 @@ def call(name: str, *given: Any) -> tuple[int, ...]:
                 results.append(parameter.kind())
                 words.append(byref(results[-1]))
         loans.set_apart()
-        number = function(*words)
+        number = FUNCTIONS[name](*words)
         if number:
             raise ERRORS[number]()
         loans.settle()

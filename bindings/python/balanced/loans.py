@@ -40,6 +40,10 @@ class Loan:
 
     __slots__ = ("address", "length", "written", "has_gaps", "_view", "_copy")
 
+    address: int
+    length: int
+    _copy: Any
+
     def __init__(self, name: str, owner: object, written: bool) -> None:
         self._view, self._copy, self.written = View(), None, written
         try:

@@ -5,7 +5,7 @@ from collections.abc import Iterable
 from ctypes import c_uint16, c_uint32
 from dataclasses import dataclass, field
 from operator import index
-from typing import TYPE_CHECKING, TypeVar, Union
+from typing import TYPE_CHECKING, TypeVar
 
 from .calls import call
 from .findings import Finding, finding
@@ -39,7 +39,8 @@ class Plan:
 
     A block has 1 to 4,096 lanes. What a call reads is any buffer, in one piece or with strides. What it writes is a new
     bytearray, or `into`, any buffer that can be written to, and that is given back. Buffers may overlap: what is read is
-    read first. A wrong type or a buffer that is read-only is a TypeError. Whatever is raised, nothing lent was changed.
+    read first (memory that is mapped at two addresses is two buffers). A wrong type or a buffer that is read-only is a
+    TypeError. Whatever is raised, nothing lent was changed.
 
     Other threads run while a call does; none of them may write to what the call was lent.
 
@@ -97,7 +98,8 @@ class Plan:
         """What a call writes so many symbols of each lane to. Nothing is made for lanes with which every call is turned away."""
         if into is not None:
             return into
-        return bytearray(symbols * lanes * self.symbol_len if 0 < index(lanes) <= MAX_LANES else 0)
+        lanes = index(lanes)
+        return bytearray(symbols * lanes * self.symbol_len if 0 < lanes <= MAX_LANES else 0)
 
     def encode(self, lanes: int, message: ReadableBuffer, into: Into | None = None) -> Into | bytearray:
         """Encodes a message: gives the shares of all n nodes, lane after lane.

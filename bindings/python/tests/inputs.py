@@ -1,10 +1,9 @@
 """Random records, symbols and faults. Every test has a seed of its own, so that it is the same at each run."""
 from functools import lru_cache
-from random import Random
 
 from .reference import code
 
-# Fields by the bytes that a record of them begins with, and the numbers of nodes to take from each.
+# Fields, 0 for that of 256 elements: the bytes that a record of one begins with, and some numbers of nodes.
 FIELDS = {
     0: ((2,), (3, 5, 15, 17)),
     3: ((1, 3), (2,)),
@@ -21,9 +20,10 @@ FIELDS = {
 
 @lru_cache(maxsize=None)
 def root_of(p, n):
-    """Some symbol of order n."""
+    """Some symbol of order n: over a prime a power whose order divides n."""
     field = code.field_of(p)
-    return next(a for a in range(2, field.size) if code.order(field, a) == n)
+    tried = (pow(a, (p - 1) // n, p) if p else a for a in range(2, field.size))
+    return next(a for a in tried if code.order(field, a) == n)
 
 
 def record_with(p, n, k):
@@ -31,9 +31,9 @@ def record_with(p, n, k):
     return bytes([*FIELDS[p][0], *([root] if p < 256 else divmod(root, 256)), n, k])
 
 
-def some_record(random, most=255, sizes=None):
-    """A record with at most so many nodes, of one of the fields."""
-    p = random.choice([p for p, (_, nodes) in FIELDS.items() if min(nodes) <= most and (sizes is None or p in sizes)])
+def some_record(random, fields=FIELDS, most=255):
+    """A record of one of the fields with at most so many nodes."""
+    p = random.choice(list(fields))
     n = random.choice([n for n in FIELDS[p][1] if n <= most])
     return record_with(p, n, random.randint(1, n))
 
@@ -49,17 +49,21 @@ def symbols(random, plan, count):
 
 
 def some_lanes(random):
-    return random.choice([1, 1, 2, 3, 7, 16, 64, 65, 130])
+    return random.choice([1, 1, 2, 3, 7, 16, 64, 65])
+
+
+def sometimes(random, other, usual):
+    return other if random.random() < 0.1 else usual
 
 
 def spoilt(random, plan, buffer):
-    """The buffer, or with a chance of one in four one that is turned away: too short, too long, or with a number that is no symbol."""
+    """The buffer, or one in four times one with a fault: too short, too long, or with a number that is no symbol."""
     fault = random.randrange(12)
     if fault == 0:
         return buffer[:-1]
     if fault == 1:
         return buffer + b"\0"
-    if fault == 2 and plan.field.size not in (256, 65536):
+    if fault == 2 and plan.field.size != 256 and buffer:
         at = plan.size(random.randrange(len(buffer) // plan.size(1)))
         return buffer[:at] + plan.bytes([plan.field.size]) + buffer[at + plan.size(1):]
     return buffer
@@ -74,4 +78,6 @@ def altered(random, plan, shares, most):
     return bytes(out)
 
 
-__all__ = ["Random", "altered", "plan_of", "record_with", "some_lanes", "some_record", "spoilt", "symbols"]
+def room(random, length):
+    """A buffer to write to, of so many bytes, or sometimes of one more or fewer."""
+    return bytearray(random.randbytes(max(0, length + sometimes(random, random.choice([-1, 1]), 0))))

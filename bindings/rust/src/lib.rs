@@ -1,7 +1,7 @@
 //! The balanced image store: a message of k symbols per lane is laid over n nodes so that any k of them give it back, a
 //! change of one symbol writes n−k+1 nodes, and the symbols that nodes depend on are shared out as evenly as can be.
 //!
-//! This crate is a safe interface to `libbalanced_c.a`, whose functions are written in Rattle and proved to do what their
+//! This crate is a safe interface to the library `balanced`, whose functions are written in Rattle and proved to do what their
 //! contracts say (`crates/balanced_c`). It has no other dependency.
 //!
 //! # Records
@@ -34,6 +34,54 @@
 //! rearrange them.
 //!
 //! A call that is turned away gives the [`Error`] and has changed nothing that it was lent.
+//!
+//! # Storage and stack
+//!
+//! A block of k·L symbols is stored as n·L. A symbol is a byte in kind 2, and there n is 3, 5, 15, 17, 51, 85 or 255: an image
+//! takes n/k times its size on all nodes together. Kind 3 has every n from 2 to 255; a symbol there is two bytes and carries
+//! one byte, or 15 bits with a prime from 32,768 on, so that an image takes 2·n/k or 16/15·n/k times its size. Putting bits
+//! into symbols is the caller's work.
+//!
+//! No call allocates. A call takes less than 664 KiB of stack ([`Plan::recover`] the most): threads of Rust's standard library,
+//! which have 2 MiB, are large enough; a thread that is made with another size ([`std::thread::Builder::stack_size`]) needs
+//! 1 MiB.
+//!
+//! # Sums
+//!
+//! [`Plan::encode`], [`Plan::recover`] and [`Plan::rebuild`] give sums of what they read, each symbol times a weight, and each
+//! lane by itself. So the encoding of the differences between two messages is what every node has to add; `recover` may be
+//! given just the lanes that are wanted; and a node is rebuilt along a chain if each listed node calls `rebuild` with its own
+//! share and zeros for the others, and adds what it gets to the sum that it was sent:
+//!
+//! ```
+//! use balanced::{Error, Plan};
+//!
+//! let plan = Plan::new(&[2, 11, 15, 10])?;
+//! let (old, new) = ([7; 10], [7, 7, 9, 7, 7, 0, 7, 7, 7, 1]);
+//! let (mut shares, mut added, mut wanted) = ([0; 15], [0; 15], [0; 15]);
+//! plan.encode(1, &old, &mut shares)?;
+//! plan.encode(1, &new, &mut wanted)?;
+//!
+//! // three symbols change, and one call gives what each node adds
+//! let change: Vec<u8> = old.iter().zip(&new).map(|(before, after)| before ^ after).collect();
+//! plan.encode(1, &change, &mut added)?;
+//! for (share, amount) in shares.iter_mut().zip(&added) {
+//!     *share ^= amount;
+//! }
+//! assert_eq!(shares, wanted);
+//!
+//! // node 3 is rebuilt from nodes 4 to 13, each of which knows its own share alone
+//! let nodes: Vec<u8> = (4..14).collect();
+//! let mut sum = 0;
+//! for (place, &node) in nodes.iter().enumerate() {
+//!     let (mut alone, mut part) = ([0; 10], [0]);
+//!     alone[place] = shares[usize::from(node)];
+//!     plan.rebuild(1, &nodes, &alone, 3, &mut part)?;
+//!     sum ^= part[0];
+//! }
+//! assert_eq!(sum, shares[3]);
+//! # Ok::<(), Error>(())
+//! ```
 //!
 //! # Rosters
 //!
