@@ -137,7 +137,7 @@ class Events(StoreCase):
         result = self.right("rebuild", 4)
         reads = [result["traffic"][str(node)]["shares_received"] for node in range(4)]
         self.assertGreater(min(reads), 0)
-        self.assertLessEqual(max(reads) - min(reads), (1 << 20) + 4096, "a batch is 2 MB of the image: 1 MB of a share")
+        self.assertLessEqual(max(reads) - min(reads), (1 << 19) + 4096, "a job is a batch: 1 MB of the image, half of it from each node")
         self.assertEqual(sum(reads), 2 * result["traffic"]["4"]["shares_sent"])
 
 

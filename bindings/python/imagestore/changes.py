@@ -56,7 +56,7 @@ def change_block(store, layout, block, held, place, source):
     old = coding.recover(plan, lanes, held)
     before = bytes(carrier.uncarry(plan, old, size))
     first, end = max(start, place), min(start + size, place + source.length)
-    after = before[:first - start] + source.read(first - place, end - first) + before[end - start:]
+    after = before[:first - start] + source.read(first - place, bytearray(end - first)) + before[end - start:]
     if after == before:
         return Changes()
     new = carrier.carry(plan, lanes, after)

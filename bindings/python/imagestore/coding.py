@@ -1,21 +1,42 @@
 """Blocks through the library's calls: from an image's bytes to shares with checksums, and back. Symbols are moved here, and
 computed by the library alone."""
+import threading
+
 from . import carrier, digest, share
 
 
-def encode(plan, lanes, message):
-    """The shares of a block, node after node."""
-    return memoryview(plan.to_nodes(lanes, plan.encode(lanes, message)))
+class Room(threading.local):
+    """Buffers that a thread uses again, batch after batch: memory that was just used is fast, and new memory is not."""
+
+    def __init__(self):
+        self.buffers = {}
+
+    def buffer(self, name, size):
+        """A buffer of so many bytes. What was in it is gone."""
+        if len(self.buffers.get(name, b"")) != size:
+            self.buffers[name] = memoryview(bytearray(size))
+        return self.buffers[name]
 
 
-def shares_of(plan, layout, batch, data):
-    """For each node the shares of some blocks with their checksums, piece after piece, and the blocks' part of the digest."""
+def encode(plan, lanes, message, room=None, name=None):
+    """The shares of a block, node after node: in a new buffer, or in one of a room."""
+    if room is None:
+        return memoryview(plan.to_nodes(lanes, plan.encode(lanes, message)))
+    size = plan.shares_len(lanes)
+    return plan.to_nodes(lanes, plan.encode(lanes, message, room.buffer("lanes", size)), room.buffer(name, size))
+
+
+def shares_of(plan, layout, batch, data, room):
+    """For each node the shares of some blocks with their checksums, piece after piece, and the blocks' part of the digest.
+
+    The pieces stand in buffers of the room, and are good until the thread's next batch.
+    """
     pieces, total, data, start = [[] for _ in range(plan.n)], 0, memoryview(data), layout.start(batch[0])
     for block in batch:
         at, size, lanes, count = layout.start(block) - start, layout.size(block), layout.lanes_of(block), layout.share_len(block)
         part, block_seed = data[at:at + size], share.seed(block)
         total += digest.of_block(block, part)
-        shares = encode(plan, lanes, carrier.carry(plan, lanes, part))
+        shares = encode(plan, lanes, carrier.carry(plan, lanes, part), room, block - batch[0])
         for node, piece in enumerate(pieces):
             symbols = shares[node * count:(node + 1) * count]
             piece += (symbols, share.checksum(block_seed, symbols))
@@ -44,13 +65,18 @@ def rebuild(plan, lanes, held, target):
     return plan.rebuild(lanes, list(held), listed(plan, lanes, held.values()), target)
 
 
-def blocks_in(layout, batch, data):
+def spans(layout, batch):
+    """For each block of a batch where its share begins and ends in what a node sends of them, and the seed of its checksum."""
+    start = layout.place(batch[0])
+    places = [(block, layout.place(block) - start) for block in batch]
+    return [(block, at, at + layout.share_len(block), share.seed(block)) for block, at in places]
+
+
+def blocks_in(data, cuts):
     """Cuts what a node has sent of some blocks: the symbols of those whose checksums are right."""
-    data, start, right = memoryview(data), layout.place(batch[0]), {}
-    for block in batch:
-        at = layout.place(block) - start
-        end = at + layout.share_len(block)
+    data, right = memoryview(data), {}
+    for block, at, end, block_seed in cuts:
         symbols = data[at:end]
-        if share.checksum(share.seed(block), symbols) == data[end:end + share.CHECKSUM.size]:
+        if share.checksum(block_seed, symbols) == data[end:end + share.CHECKSUM.size]:
             right[block] = symbols
     return right

@@ -64,21 +64,22 @@ def read(file, place, count):
 
 def write(file, place, data):
     """All of the bytes, from a place on: of a buffer, or of a list of them that stand one after the other."""
-    parts = [memoryview(part) for part in (data if isinstance(data, list) else [data])]
+    parts = data if isinstance(data, list) else [data]
     for at in range(0, len(parts), MAX_PARTS):
-        place = write_parts(file, place, parts[at:at + MAX_PARTS])
+        some = parts[at:at + MAX_PARTS]
+        size, done = sum(map(len, some)), 0
+        while done < size:
+            done += os.pwritev(file, behind(some, done) if done else some, place + done)
+        place += size
 
 
-def write_parts(file, place, parts):
-    """Writes the buffers, and gives the place behind them."""
-    while parts:
-        done = os.pwritev(file, parts, place)
-        place += done
-        while parts and done >= len(parts[0]):
-            done -= len(parts.pop(0))
-        if parts:
-            parts[0] = parts[0][done:]
-    return place
+def behind(parts, count):
+    """The buffers without their first bytes, so many of them."""
+    left = []
+    for part in parts:
+        left.append(memoryview(part)[min(count, len(part)):])
+        count -= min(count, len(part))
+    return left
 
 
 def sync(file):

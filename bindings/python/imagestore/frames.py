@@ -35,9 +35,9 @@ def data_len(request):
     return sum(map(len, request.data)) if isinstance(request.data, list) else len(request.data)
 
 
-def request_len(request):
-    """The bytes of a request on the pipe."""
-    return LENGTH.size + HEAD.size + len(request.name) + NUMBERS.size + data_len(request)
+def request_len(request, size):
+    """The bytes of a request on the pipe, so many of them data."""
+    return LENGTH.size + HEAD.size + len(request.name) + NUMBERS.size + size
 
 
 def answer_len(data):
@@ -46,7 +46,7 @@ def answer_len(data):
 
 def write_request(pipe, request):
     name = request.name.encode("ascii")
-    head = LENGTH.pack(request_len(request) - LENGTH.size) + HEAD.pack(request.op, len(name)) + name
+    head = LENGTH.pack(request_len(request, data_len(request)) - LENGTH.size) + HEAD.pack(request.op, len(name)) + name
     pipe.write(head + NUMBERS.pack(request.place, request.count))
     pipe.writelines(request.data if isinstance(request.data, list) else [request.data])
     pipe.flush()

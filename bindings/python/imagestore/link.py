@@ -33,9 +33,10 @@ class Link:
         except BaseException:
             self.turn.release()
             raise
-        self.sent += frames.request_len(request)
+        size = frames.data_len(request)
+        self.sent += frames.request_len(request, size)
         if request.op in (frames.WRITE, frames.PATCH):
-            self.shares_sent += frames.data_len(request)
+            self.shares_sent += size
         self.request = request
 
     def finish(self):

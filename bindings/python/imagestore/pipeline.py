@@ -5,7 +5,7 @@ from concurrent.futures import ThreadPoolExecutor
 
 from .frames import MAX_DATA
 
-BATCH_BYTES = 1 << 21
+BATCH_BYTES, BATCH_BLOCKS = 1 << 20, 8
 
 
 def workers():
@@ -14,8 +14,8 @@ def workers():
 
 
 def batch_blocks(layout):
-    """How many blocks a batch has: some 2 MB of the image, and no more than a frame holds, also as ranges."""
-    return max(1, min(BATCH_BYTES // layout.capacity, MAX_DATA // (layout.lanes * layout.plan.symbol_len + 32)))
+    """How many blocks a batch has: some 1 MB of the image, but 8 blocks at least, and no more than a frame holds, also as ranges."""
+    return min(max(BATCH_BYTES // layout.capacity, BATCH_BLOCKS), MAX_DATA // (layout.lanes * layout.plan.symbol_len + 32))
 
 
 def in_order(function, items, threads):

@@ -23,9 +23,9 @@ class Reader:
         place = self.layout.place(batch[0])
         count = self.layout.place(batch[-1] + 1) - place
         answers = self.session.try_ask(nodes, lambda node: Request(frames.READ, self.layout.name, place, count))
-        held = {block: {} for block in batch}
+        held, cuts = {block: {} for block in batch}, coding.spans(self.layout, batch)
         for node, data in answers.items():
-            right = coding.blocks_in(self.layout, batch, data)
+            right = coding.blocks_in(data, cuts)
             for block in batch:
                 if block in right:
                     held[block][node] = right[block]

@@ -98,8 +98,9 @@ def update(result):
     lines = [
         f"{name}: {several(result['changed'], 'byte')} changed, generation {generation}",
         f"  {several(len(result['nodes']), 'node')} written: {listed(result['nodes'])}",
-        f"  new symbols sent: {several(result['symbols_sent'], 'byte')}; the plain layout is sent "
-        f"{number(result['plain_sent'])} at {several(len(result['plain_nodes']), 'node')}, a whole rewrite {number(result['whole_sent'])}",
+        f"  new symbols sent: {several(result['symbols_sent'], 'byte')}; a whole rewrite sends {number(result['whole_sent'])}",
+        f"  the plain layout is sent {several(result['plain_sent'], 'byte')} at {several(len(result['plain_nodes']), 'node')}, "
+        f"{result['sums']} of which it writes at every change",
         moved(result)]
     if result["told"]:
         lines.append(f"  told of the new generation: {listed(result['told'])}")

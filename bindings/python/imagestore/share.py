@@ -116,7 +116,7 @@ def seed(block):
 
 def checksum(block_seed, symbols):
     """The checksum of a node's share of a block, as it stands behind it."""
-    return CHECKSUM.pack(zlib.crc32(symbols, block_seed))
+    return zlib.crc32(symbols, block_seed).to_bytes(4, "big")
 
 
 def block_place(record, name, lanes, block):

@@ -17,16 +17,15 @@ class Source:
             raise StoreError(f"{path} is no regular file")
         self.length = self.first.st_size
 
-    def read(self, place, count):
-        """Just so many bytes from a place on."""
-        data, at = bytearray(count), 0
-        with memoryview(data) as view:
-            while at < count:
-                done = os.preadv(self.file.fileno(), [view[at:]], place + at)
-                if not done:
-                    raise StoreError(f"{self.path} became shorter while it was read")
-                at += done
-        return data
+    def read(self, place, into):
+        """Fills a buffer with the bytes from a place on, and gives it back."""
+        at, view = 0, memoryview(into)
+        while at < len(view):
+            done = os.preadv(self.file.fileno(), [view[at:]], place + at)
+            if not done:
+                raise StoreError(f"{self.path} became shorter while it was read")
+            at += done
+        return into
 
     def check_unchanged(self):
         now = os.fstat(self.file.fileno())

@@ -102,5 +102,5 @@ def result(store, session, seen, header, done, changes):
     return {
         "image": seen.name, "generation": header.generation, "length": header.length, "digest": header.digest.hex(),
         "changed": changes.bytes, "nodes": written, "told": [node for node in done if node not in changes.patches],
-        "absent": missed, "symbols_sent": changes.symbols, "plain_sent": changes.plain, "plain_nodes": sorted(changes.plain_nodes),
+        "absent": missed, "symbols_sent": changes.symbols, "plain_sent": changes.plain, "plain_nodes": sorted(changes.plain_nodes), "sums": store.plan.n - store.plan.k,
         "whole_sent": store.plan.n * seen.layout.file_len, "traffic": session.traffic()}

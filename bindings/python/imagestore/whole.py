@@ -14,9 +14,12 @@ def fresh_write():
 
 def send(store, session, nodes, layout, source):
     """Encodes the image and sends each node its share; gives the image's digest."""
+    room = coding.Room()
+
     def work(batch):
         start, end = layout.start(batch[0]), layout.start(batch[-1]) + layout.size(batch[-1])
-        shares, part = coding.shares_of(store.plan, layout, batch, source.read(start, end - start))
+        data = source.read(start, room.buffer("image", end - start))
+        shares, part = coding.shares_of(store.plan, layout, batch, data, room)
         session.ask(nodes, lambda node: Request(frames.WRITE, layout.name, layout.place(batch[0]), data=shares[node]))
         return part, end
 
