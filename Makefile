@@ -7,7 +7,7 @@ export RECORD LIBRARY
 # started by make, too, the programs' output is all that stands on standard output
 MAKEFLAGS += --no-print-directory
 
-.PHONY: help build test wrong sheet compare weights plans programs library explore bench docs
+.PHONY: help build test wrong sheet compare weights plans programs library demo explore bench docs
 
 help: ## this list
 	@awk -F ':.*## ' '/^[a-z]+:.*## / { printf "make %-8s %s\n", $$1, $$2 }' Makefile
@@ -28,23 +28,28 @@ plans: ## every accepted record of kind 1 with p up to 31, a line `p α n k` for
 programs: ## prove and compile all programs that the documents use, `cases` among them, to target/bin
 	@tools/prove.py sheet compare weights small_plans cases
 
-library: ## prove and compile the static library for C and Rust, target/staticlib/libbalanced_c.a
+library: ## prove the calls and make the library, static and shared, for every x86-64 and for newer processors, in target/lib
 	@tools/build_library.sh
 
 build: ## the same, and build the Rust crate over it
 	@bindings/rust/build.sh --release
 
-test: ## the gate: everything proved from nothing, wrong programs refused, outputs compared, C and Rust, documents
+test: ## the gate: everything proved from nothing, wrong programs refused, outputs compared, C, Rust and Python, documents
 	.ci/run
 
 wrong: ## further wrong programs, each of which must be refused
 	tests/wrong_programs.sh
 
+demo: library ## the image store at work: 15 nodes, 5 MB, five nodes lost and a sixth wrong, rebuilt, updated, checked
+	@examples/demo.sh
+
 explore: ## the learners' page in a browser, or its path where there is none
 	@docs/explore/open.sh
 
-bench: ## our times beside those of other libraries, in one run, as ratios; beside an older build, too: make bench LIBRARY=path/to/libbalanced_c.a
+bench: ## our times beside those of other libraries, in one run, as ratios, threads in Python, and the store beside zfec and par2; beside another build, too: make bench LIBRARY=path/to/libbalanced.a
 	bench/run.sh
+	bench/python.py
+	bench/store.py
 
 docs: programs library ## draw the pictures anew and check what the documents show and cite
 	docs/make_pictures.py

@@ -2,7 +2,7 @@
  * balanced.h: the interface for C of the balanced image store.
  *
  * The store lays a message over n nodes so that any k of them give it back, a change of one symbol writes n-k+1 nodes,
- * and the symbols that nodes depend on are shared out as evenly as can be. Link with libbalanced_c.a (docs/LINKING.md). The functions are
+ * and the symbols that nodes depend on are shared out as evenly as can be. Link with -lbalanced (docs/LINKING.md). The functions are
  * written in Rattle and proved: crates/balanced_c has the contract of each.
  *
  *

@@ -1,13 +1,13 @@
 #!/usr/bin/env python3
-"""Checks what the documents show: the commands' output, the programs in C, the links, and the files and names they cite.
+"""Checks what the documents show: the commands' output, the programs in C and Python, the links, and the files and names they cite.
 
     tests/documents.py            runs and compares
     tests/documents.py --write    puts the output that was seen into the documents
 
-A block of `sh` is run by bash at the top of the repository, a block of `c` is compiled with the library and run; the block
-of `text` right after one is what it prints. Blocks of `sh` without a block of `text` are not run. A block of `antt` or `rattle`
-that names a file is a part of that file. Needs target/bin and target/staticlib (`make programs library`). Blocks of `rust` are
-tested by cargo (bindings/rust/src/lib.rs).
+A block of `sh` is run by bash at the top of the repository, a block of `c` is compiled with the library and run, a block of
+`python` is run over the package; the block of `text` right after one is what it prints. Blocks of `sh` without a block of
+`text` are not run. A block of `antt` or `rattle` that names a file is a part of that file. Needs target/bin and target/lib
+(`make programs library`). Blocks of `rust` are tested by cargo (bindings/rust/src/lib.rs).
 """
 import os
 import re
@@ -16,7 +16,7 @@ import sys
 import tempfile
 
 TOP = os.path.dirname(os.path.dirname(os.path.abspath(__file__)))
-SHOWN = re.compile(r"^```(sh|c)\n(.*?)^```\n(?:```text\n(.*?)^```\n)?", re.M | re.S)
+SHOWN = re.compile(r"^```(sh|c|python)\n(.*?)^```\n(?:```text\n(.*?)^```\n)?", re.M | re.S)
 EXCERPT = re.compile(r"^```(?:antt|rattle) (\S+)\n(.*?)^```\n", re.M | re.S)
 CITED = re.compile(r"((?:`[\w.-]+`,? (?:and )?)+)in `(crates/[\w./-]+)`")
 LINK = re.compile(r"!?\[[^\]]*\]\(([^)#]*)(?:#([^)]*))?\)")
@@ -32,9 +32,18 @@ def run_c(code):
         with open(source, "w", encoding="utf-8") as file:
             file.write(code)
         compiled = subprocess.run(
-            ["gcc", "-std=c99", "-pedantic", "-Wall", "-Wextra", "-Werror", "-Iinclude", "-o", program, source, "target/staticlib/libbalanced_c.a"],
+            ["gcc", "-std=c99", "-pedantic", "-Wall", "-Wextra", "-Werror", "-Iinclude", "-o", program, source, "target/lib/libbalanced.a"],
             cwd=TOP, capture_output=True, text=True)
         return compiled if compiled.returncode else subprocess.run([program], capture_output=True, text=True)
+
+
+def run_python(code):
+    package = os.path.join(TOP, "bindings", "python")
+    environment = {**os.environ, "PYTHONPATH": package, "PYTHONDONTWRITEBYTECODE": "1"}
+    return subprocess.run([sys.executable, "-c", code], cwd="/", env=environment, capture_output=True, text=True)
+
+
+RUN = {"sh": run_shell, "c": run_c, "python": run_python}
 
 
 def anchor(heading):
@@ -98,7 +107,7 @@ def check(path, write):
         if expected is None and language == "sh":
             return match.group(0)
         ran += 1
-        seen = run_shell(code) if language == "sh" else run_c(code)
+        seen = RUN[language](code)
         if seen.returncode:
             faults.append(f"failed: {code.splitlines()[0]} ..\n{seen.stdout}{seen.stderr}")
         elif write and expected is not None:

@@ -3,7 +3,7 @@
 # What is missing is installed; where it cannot be, a line says what was skipped.
 set -euo pipefail
 cd "$(dirname "$0")/.."
-apt() { timeout 300 apt-get -qq -o Acquire::Retries=0 -o Acquire::http::Timeout=20 "$@" >/dev/null 2>&1; }
+apt() { DEBIAN_FRONTEND=noninteractive timeout 300 apt-get -qq -o Acquire::Retries=0 -o Acquire::http::Timeout=20 "$@" >/dev/null 2>&1; }
 
 # needs COMMAND PACKAGE: whether the command is there, after an attempt to install it
 needs() {

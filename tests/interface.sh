@@ -1,71 +1,138 @@
 #!/usr/bin/env bash
-# The interface for C and Rust. Builds the static library, compiles the header as C99 and as C++, runs the example in C, under
-# valgrind where that is installed, and runs the Rust crate's tests, which compare every call with an independent implementation.
+# The interface for C and Rust. Makes the libraries and looks at their names; compiles the header as C99 and as C++; runs the example in
+# C and the large cases with the static library and with every shared build that the processor runs, under valgrind where that is
+# installed; and runs the Rust crate's tests, which compare every call with an independent implementation, on the shared build for
+# every x86-64 and on the widest, and the programs of its pages with the static library.
 # Needs rt, gcc, make and cargo; no network.
 set -euo pipefail
 cd "$(dirname "$0")/.."
 
-library=target/staticlib/libbalanced_c.a
+lib=$PWD/target/lib
+static=$lib/libbalanced.a
 strict=(-pedantic -Wall -Wextra -Werror -Iinclude)
 checked=()
-if command -v valgrind >/dev/null; then checked=(valgrind --quiet --leak-check=full --errors-for-leak-kinds=all --error-exitcode=1); fi
+if command -v valgrind >/dev/null; then
+    checked=(valgrind --quiet --leak-check=full --errors-for-leak-kinds=all --error-exitcode=1)
+else
+    echo "valgrind is not installed: no program is run under it"
+fi
+
+# the shared builds that this processor runs, as glibc's loader says, the widest last
+builds=("$lib")
+find_builds() {
+    local level
+    for level in x86-64-v3 x86-64-v4; do
+        if /lib64/ld-linux-x86-64.so.2 --help | grep -q "^ *$level (supported"; then
+            builds+=("$lib/glibc-hwcaps/$level")
+        else
+            echo "this processor does not run the build for $level: it is not tested here"
+        fi
+    done
+}
+
+# the libraries have the calls of the header for their names, and nothing else
+names() {
+    local file
+    grep -o '^uint8_t balanced_[a-z_]*' include/balanced.h | sed 's/.* //' | sort >target/examples/names
+    for file in "$lib/libbalanced.so.1" "$lib"/glibc-hwcaps/*/libbalanced.so.1; do
+        nm -D --defined-only "$file" | sed 's/.* //' | sort | diff target/examples/names -
+    done
+    nm -g --defined-only "$static" | sed -n 's/.* T //p' | sort | diff target/examples/names -
+}
 
 # the header alone, as C and as C++
 plain() {
     printf '#include "balanced.h"\nint main(void) { unsigned char b[1] = { 0 }; uint16_t s[1]; return balanced_plan(b, 0, b, 0, b, 0, b, 0, s, 0) != BALANCED_KIND; }\n' >target/examples/plain.c
-    gcc -std=c99 "${strict[@]}" -o target/examples/plain target/examples/plain.c "$library"
+    gcc -std=c99 "${strict[@]}" -o target/examples/plain target/examples/plain.c "$static"
     target/examples/plain
     if command -v g++ >/dev/null; then
-        g++ -std=c++98 "${strict[@]}" -o target/examples/plain -x c++ target/examples/plain.c -x none "$library"
+        g++ -std=c++98 "${strict[@]}" -o target/examples/plain -x c++ target/examples/plain.c -x none "$static"
         target/examples/plain
     fi
 }
 
 # a part of a block, several blocks, whole blocks (5,120 bytes each) and no byte at all
-example() {
-    make -s -C examples/c
-    head -c 5120 "$library" >target/examples/one_block
-    head -c 15360 "$library" >target/examples/three_blocks
+example() { # COMMAND..
+    local file
+    head -c 5120 "$static" >target/examples/one_block
+    head -c 15360 "$static" >target/examples/three_blocks
     : >target/examples/no_byte
     for file in examples/c/Makefile include/balanced.h target/examples/{one_block,three_blocks,no_byte}; do
-        "${checked[@]}" target/examples/store "$file"
+        "$@" "$file"
     done | tee target/examples/store.out
     for blocks in '5120 bytes in 1 ' '15360 bytes in 3 ' '0 bytes in 0 '; do grep -q "^$blocks" target/examples/store.out; done
 }
 
-# blocks of 4,096 lanes on up to 255 nodes, held to another implementation's checksums, in 1 MiB of stack, as the manual has it;
-# the same with three lanes at most, every kind of record among them, for valgrind to see
-large_cases() {
-    gcc -std=c99 -O2 "${strict[@]}" -o target/examples/large_cases tests/large_cases.c "$library"
-    (ulimit -s 1024 && target/examples/large_cases) >target/examples/large_cases.out
+# blocks of 4,096 lanes on up to 255 nodes, held to another implementation's checksums, in 1 MiB of stack, as the manual has it
+large_cases() { # COMMAND..
+    (ulimit -s 1024 && "$@") >target/examples/large_cases.out
     cmp target/examples/large_cases.out tests/reference/large_cases.out
+}
+
+with_static_library() {
+    make -s -C examples/c
+    gcc -std=c99 -O2 "${strict[@]}" -o target/examples/large_cases tests/large_cases.c "$static"
+    example "${checked[@]}" target/examples/store
+    large_cases target/examples/large_cases
+    # the same with three lanes at most, every kind of record among them, for valgrind to see
     if [ ${#checked[@]} -gt 0 ]; then "${checked[@]}" target/examples/large_cases 3 >/dev/null; fi
 }
 
 # every two parameters of one type are told apart: each call held to another implementation's, and made again with them exchanged
 parameters() {
-    gcc -std=c99 -O2 "${strict[@]}" -o target/examples/parameters tests/parameters.c "$library"
+    gcc -std=c99 -O2 "${strict[@]}" -o target/examples/parameters tests/parameters.c "$static"
     "${checked[@]}" target/examples/parameters >target/examples/parameters.out
     cmp target/examples/parameters.out tests/reference/parameters.out
 }
 
+# with each build in the place of the one that glibc would pick
+with_shared_libraries() {
+    local build on
+    gcc -std=c99 -O2 "${strict[@]}" -o target/examples/store_shared examples/c/store.c -L"$lib" -lbalanced
+    gcc -std=c99 -O2 "${strict[@]}" -o target/examples/large_cases_shared tests/large_cases.c -L"$lib" -lbalanced
+    for build in "${builds[@]}"; do
+        on=(env LD_PRELOAD="$build/libbalanced.so.1")
+        example "${on[@]}" target/examples/store_shared
+        large_cases "${on[@]}" target/examples/large_cases_shared
+        if [ ${#checked[@]} -eq 0 ]; then continue; fi
+        case $build in
+            *v4) echo "valgrind has no AVX-512: the build for x86-64-v4 is not run under it" ;;
+            *) "${on[@]}" "${checked[@]}" target/examples/large_cases_shared 3 >/dev/null ;;
+        esac
+    done
+    # left to itself, glibc picks the widest
+    LD_LIBRARY_PATH=$lib LD_TRACE_LOADED_OBJECTS=1 target/examples/large_cases_shared | grep -F "=> ${builds[-1]}/libbalanced.so.1 "
+}
+
 in_c() {
+    names
     plain
-    example
-    large_cases
+    with_static_library
     parameters
+    with_shared_libraries
+}
+
+# the tests with a build in the place of the one that glibc would pick; they are compiled once, over a folder that has the shared library alone
+on_build() { # BUILD WORDS..
+    echo "the Rust tests on ${1#"$PWD/"}/libbalanced.so.1"
+    mkdir -p target/examples/shared
+    ln -sf "$lib/libbalanced.so.1" target/examples/shared/libbalanced.so
+    BALANCED_LIB_DIR=$PWD/target/examples/shared CARGO_TARGET_DIR=$PWD/target/rust \
+        CARGO_TARGET_X86_64_UNKNOWN_LINUX_GNU_RUNNER="env LD_PRELOAD=$1/libbalanced.so.1" \
+        cargo test --manifest-path bindings/rust/Cargo.toml --quiet --offline --locked --test differential -- "${@:2}"
 }
 
 in_rust() {
-    export BALANCED_LIB_DIR=$PWD/target/staticlib
-    cd bindings/rust
-    cargo test --quiet --offline --locked -- --show-output
+    on_build "${builds[0]}" --show-output
+    if [ ${#builds[@]} -gt 1 ]; then on_build "${builds[-1]}"; fi
+    BALANCED_LIB_DIR=$lib cargo test --manifest-path bindings/rust/Cargo.toml --quiet --offline --locked --doc
 }
 
 mkdir -p target/examples
+tools/build_library.sh
+find_builds
 log=$(mktemp)
 trap 'rm -f "$log"' EXIT
-tools/build_library.sh
 # side by side
 (in_c) >"$log" 2>&1 &
 (in_rust)

@@ -2,8 +2,9 @@
 """What stands in crates/*/specs at the top level is what a reader must believe: some public statement leads to each definition there,
 and none leads to a definition of specs/Inner.
 
-Public statements are the contracts of the public functions that callers of the library and of the programs' texts see, and all that
-crates/demands states. A statement leads to the names that it uses, and these to those that their definitions use.
+Public statements are the contracts of the public functions that callers of the library and of the programs' texts see, all that
+crates/demands states, and what docs/CLAIMS.md cites. A statement leads to the names that it uses, and these to those that their
+definitions use.
 """
 import glob
 import os
@@ -16,8 +17,8 @@ from house import declarations, read, short  # noqa: E402
 
 # whose public functions are the library's calls, the calls for C, and the texts of programs
 PUBLIC = "plan encode update rearrange recover belongs correct roster weight_counts find_update mends roster_bytes balanced_c " \
-    "sheet_text compare_text weights_text small_plans_text".split()
-STATED = ("demands", "bad_reads")
+    "sheet_text compare_text weights_text small_plans_text tables".split()
+STATED = ("demands",)
 USE = re.compile(r"(?m)^(?:ghost )?use Rattle·(\w+?)(?:·specs)?\.specs\.([\w.]+?)(?:\.\{([^}]*)\})?(?: as (\w+))?;?$")
 WORD = re.compile(r"[^\s(){}\[\],;.:]+")
 
@@ -71,8 +72,8 @@ class Reader:
 
 
 def contracts(text):
-    """the contracts of a file's public functions"""
-    return re.findall(r"(?m)^\s*pub (?:extern \"C\" )?fn [\s\S]*?^\s*\{$", text)
+    """the contracts of a file's public functions that ask nothing of their callers"""
+    return [found for found in re.findall(r"(?m)^\s*pub (?:extern \"C\" )?fn [\s\S]*?^\s*\{$", text) if "requires" not in found]
 
 
 def main():
@@ -80,13 +81,16 @@ def main():
     for crate in PUBLIC:
         for path in glob.glob(f"{top}/crates/{crate}/src/*.rt"):
             text = read(path)
-            if path.endswith("lib.rt") or re.search(r"(?m)^pub (use|mod) %s\b" % os.path.basename(path)[:-3], read(f"{top}/crates/{crate}/src/lib.rt")):
-                for contract in contracts(text):
-                    reader.follow(contract, imports(text))
+            for contract in contracts(text):
+                reader.follow(contract, imports(text))
     for home, (_, definitions, _) in reader.specs.items():
         if home[0] in STATED:
             for name in definitions:
                 reader.reach(home, name)
+    for crate, path, names in re.findall(r"`(\w+)/specs/([\w/]+)\.antt`((?::|,| and)? `[^`/]+`(?:(?:,| and) `[^`/]+`)*)?", read(f"{top}/docs/CLAIMS.md")):
+        for name in re.findall(r"`([^`.]+)", names):
+            if not path.startswith("Inner"):
+                reader.reach((crate, path.replace("/", ".")), name)
     faults = 0
     for home, (path, definitions, _) in sorted(reader.specs.items()):
         for name in definitions:

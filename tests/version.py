@@ -14,6 +14,7 @@ PLACES = [
     ("include/balanced.h", r'(^#define BALANCED_VERSION ")([^"]*)(")'),
     ("bindings/rust/Cargo.toml", r'(\A\[package\]\nname = "balanced"\nversion = ")([^"]*)(")'),
     ("bindings/rust/Cargo.lock", r'(^name = "balanced"\nversion = ")([^"]*)(")'),
+    ("bindings/python/balanced/__init__.py", r'(^__version__ = ")([^"]*)(")'),
     ("bindings/python/pyproject.toml", r'(^version = ")([^"]*)(")'),
     ("CHANGELOG.md", r"(\A[^#]*# Changelog\n(?:(?!## ).*\n)*## )(\S+)( )"),
 ]

@@ -7,7 +7,8 @@ import os
 import sys
 from itertools import chain, islice
 
-sys.path.append(os.path.join(os.path.dirname(os.path.dirname(os.path.abspath(__file__))), "tests", "reference"))
+# in front: the package for Python is called balanced, too, and may be installed
+sys.path.insert(0, os.path.join(os.path.dirname(os.path.dirname(os.path.abspath(__file__))), "tests", "reference"))
 from balanced import field_of, is_prime, order, pairs  # noqa: E402
 
 FORMS = {1: "1 p α n k", 2: "2 α n k", 3: "3 p p α α n k"}

@@ -183,6 +183,9 @@ function checkCitations() {
 }
 
 for (const check of [checkTables, checkSheets, checkChoices, checkCalls, checkReference, checkSets, checkCitations]) check();
-const kinds = ["tables", "sheets", "lists of records", "accepted records", "plans", "encodings", "updates", "recoveries", "rebuilt shares", "plain generators", "broken generators", "pairs of messages", "numbers of sets", "chances", "random sets", "citations"];
+const kinds = [
+  "tables", "sheets", "lists of records", "accepted records", "plans", "encodings", "updates", "recoveries", "rebuilt shares",
+  "plain generators", "broken generators", "pairs of messages", "numbers of sets", "chances", "random sets", "citations",
+];
 assert.deepEqual(Object.keys(counts).sort(), [...kinds].sort(), "every kind of case was met");
 console.log(`the page's arithmetic: ${kinds.map((kind) => `${counts[kind]} ${kind}`).join(", ")}`);

@@ -150,9 +150,10 @@ export class Page {
 
   // the button with these words
   async pressNamed(selector, words) {
-    await this.evaluate(`document.querySelectorAll("[data-named]").forEach((element) => element.removeAttribute("data-named"))`);
-    await this.evaluate(`[...document.querySelectorAll(${JSON.stringify(selector)})].find((element) => element.innerText.includes(${JSON.stringify(words)}))?.setAttribute("data-named", "")`);
-    await this.press("[data-named]");
+    await this.evaluate(`(() => {
+      for (const element of document.querySelectorAll(${JSON.stringify(selector)})) element.toggleAttribute("data-named", element.innerText.includes(${JSON.stringify(words)}));
+    })()`);
+    await this.press(`${selector}[data-named]`);
   }
 
   async drag(selector, dx) {
@@ -175,7 +176,7 @@ export class Page {
     await this.send("Input.insertText", { text: words });
   }
 
-  // the choice of a list, by keys: its first letters do not do where numbers begin alike
+  // the choice of a list, whose drop-down a headless browser does not draw
   async choose(selector, value) {
     await this.evaluate(`(() => {
       const list = document.querySelector(${JSON.stringify(selector)});

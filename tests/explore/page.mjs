@@ -103,16 +103,18 @@ const lose = (node) => page.press(`[data-key="lose ${node}"]`);
 
 // the two messages that are shown differ, and hold the same exactly at the framed nodes and where a sign says so
 async function readTwins(selector) {
-  const rows = await page.evaluate(`[...document.querySelectorAll(${JSON.stringify(`${selector} .twins tbody tr`)})].map((row) => [...row.cells].map((cell) => ({ text: cell.innerText, seen: cell.classList.contains("seen") })))`);
-  const [first, second, signs] = rows;
+  const [first, second, signs] = await page.evaluate(`[...document.querySelectorAll(${JSON.stringify(`${selector} .twins tbody tr`)})]
+    .map((row) => [...row.cells].map((cell) => ({ text: cell.innerText, seen: cell.classList.contains("seen") })))`);
   same(first[0].text !== second[0].text, true);
   for (const j of first.keys()) if (j > 0) same(signs[j].text, first[j].text === second[j].text ? "=" : "≠");
-  return { messages: [first[0].text, second[0].text], seen: [...signs.keys()].filter((j) => signs[j].seen).map((j) => j - 1), signs: signs.slice(1).map(({ text }) => text) };
+  const nodes = signs.slice(1);
+  return { messages: [first[0].text, second[0].text], seen: [...nodes.keys()].filter((j) => nodes[j].seen), signs: nodes.map(({ text }) => text) };
 }
 
 async function loseNodes() {
   for (const node of [0, 1, 5]) await lose(node);
-  await says("#lose-said", "3 nodes are left, and the message comes back: 1 5 2", "Not one more can be spared", "node 2: 3·m0 + 6·m2 = 1", "node 3: m0 + m2 = 3", "node 4: 6·m1 + 3·m2 = 1", "m1 =");
+  await says("#lose-said", "3 nodes are left, and the message comes back: 1 5 2", "Not one more can be spared", "m1 =");
+  await says("#lose-said", "node 2: 3·m0 + 6·m2 = 1", "node 3: m0 + m2 = 3", "node 4: 6·m1 + 3·m2 = 1");
   await lose(2);
   await says("#lose-said", "2 nodes are left, fewer than k = 3: the message is lost", "7 messages fit", "2 equations for 3 symbols");
   const { messages, seen, signs } = await readTwins("#lose-said");
@@ -147,8 +149,8 @@ async function goWrongWays() {
 }
 
 async function shiftByHand() {
-  const width = await page.evaluate(`document.querySelector('#shifts-grid [data-cell="0 1"]').getBoundingClientRect().left - document.querySelector('#shifts-grid [data-cell="0 0"]').getBoundingClientRect().left`);
-  await page.drag(`#shifts-grid [data-cell="0 2"]`, 2 * width);
+  const [first, second] = [await page.middle(`#shifts-grid [data-cell="0 0"]`), await page.middle(`#shifts-grid [data-cell="0 1"]`)];
+  await page.drag(`#shifts-grid [data-cell="0 2"]`, 2 * (second.x - first.x));
   same(await shiftsShown(), "4 1 3 4");
   await says("#shifts-verdict", "broken: Any 4 nodes return the message?", "none of the 15 sets");
   await page.type(`[data-key="shift 0"]`, "2");
@@ -167,10 +169,11 @@ async function mistype() {
   const { seen, signs } = await readTwins("#shifts-twins");
   same([seen, seen.map((j) => signs[j])], [[0, 2, 4], ["=", "=", "="]]);
   await page.press("#shifts-dozen");
-  await says("#shifts-dozen-said", "12 sets were tried", "Of all 20 sets 1 fails. So many tries miss it with probability 0.4");
+  await says("#shifts-dozen-said", "12 sets were tried", "Of all 20 sets 1 fails. So many tries miss it with probability 0.4.");
   await page.type("#shifts-entry-node", "6");
   await page.key("Enter");
-  await says("#shifts-dozen-said", "a node's below 6");
+  await says("#shifts-entry-said", "a node's from 0 to 5");
+  await says("#shifts .part", "1,861,798,336,361,982,481,901,297,314,514,134,168,782,765,373,754,021,736,877,885,654,270,513,242,525 sets", "one part in 1.6·10^74: no trying helps");
   await useRecord("1 31 3 30 15");
   await says("#shifts-verdict", "There are 155,117,520 sets of 15 nodes; 12 were tried, and none failed", "the theorem shifted-basis covers all of them");
   await takeWay("twice");
@@ -181,7 +184,8 @@ async function mistype() {
 
 async function takeWrongRoots() {
   await useSample("1 7 3 6 3");
-  await says("#root-verdict", "2^6 = 1? Yes", "Order exactly 6? No: 2^3 = 1 already. The record meets number 5", "nodes 0 and 3, 1 and 4, 2 and 5 hold the same symbol", "No: 12 of the 20 sets do not");
+  await says("#root-verdict", "2^6 = 1? Yes", "Order exactly 6? No: 2^3 = 1 already. The record meets number 5");
+  await says("#root-verdict", "nodes 0 and 3, 1 and 4, 2 and 5 hold the same symbol", "No: 12 of the 20 sets do not");
   const { signs, seen } = await readTwins("#root-twins");
   same(seen.every((j) => signs[j] === "="), true);
   same(await page.evaluate(`document.querySelectorAll("#root-ring .chord").length`), 3);
@@ -195,6 +199,17 @@ async function takeWrongRoots() {
   await says("#root-verdict", "broken: Any 15 nodes return the message? No: nodes");
   await page.press("[name=root-rows][value=coefficients]");
   await says("#root-verdict", "broken: Any 15 nodes return the message? No: nodes");
+}
+
+// one symbol, no parity, two nodes: every way to go wrong, and no text that is none
+async function takeExtremes() {
+  for (const record of ["1 7 3 6 1", "1 7 3 6 6", "1 3 2 2 2", "1 251 20 5 2"]) {
+    await useRecord(record);
+    await page.press("#lose-fewer");
+    for (const way of ["wrong way", "twice", "others", "mistyped"]) await takeWay(way);
+    await says("#store-said", `Record ${record}: accepted`);
+    same([record, (await page.text("body")).match(/NaN|undefined|null|Infinity|\[object/)], [record, null]);
+  }
 }
 
 // how many points of the picture have the colour at one of them
@@ -312,8 +327,11 @@ async function fits(width, scheme, record) {
 }
 
 async function print() {
+  await page.size(1000, 900);
+  await useSample("1 7 3 6 4");
   await page.media("print", "dark");
-  same(await page.evaluate(`[getComputedStyle(document.querySelector(".bar-top")).display, getComputedStyle(document.body).backgroundColor, getComputedStyle(document.body).color]`), ["none", "rgb(255, 255, 255)", "rgb(24, 34, 46)"]);
+  const styles = `[getComputedStyle(document.querySelector(".bar-top")).display, getComputedStyle(document.body).backgroundColor, getComputedStyle(document.body).color]`;
+  same(await page.evaluate(styles), ["none", "rgb(255, 255, 255)", "rgb(24, 34, 46)"]);
   const { data } = await page.send("Page.printToPDF", { printBackground: true });
   const pages = Buffer.from(data, "base64").toString("latin1").match(/\/Type \/Page\b/g).length;
   same(pages >= 3 && pages <= 14, true);
@@ -330,7 +348,8 @@ async function changeTheme() {
 try {
   await page.media("screen", "light");
   await page.size(1400, 900);
-  for (const step of [chooseStore, seeLayouts, changeSymbols, countTraffic, loseNodes, goWrongWays, shiftByHand, mistype, takeWrongRoots, seeLarge, doExercises, useKeys, haveNames, changeTheme]) await step();
+  for (const step of [chooseStore, seeLayouts, changeSymbols, countTraffic, loseNodes, goWrongWays, shiftByHand, mistype, takeWrongRoots, takeExtremes, seeLarge, doExercises]) await step();
+  for (const step of [useKeys, haveNames, changeTheme]) await step();
   for (const width of [1400, 1000, 390]) for (const scheme of ["light", "dark"]) await fits(width, scheme, "1 7 3 6 4");
   await fits(1000, "light", "2 11 15 10");
   await fits(390, "light", "1 31 3 30 15");

@@ -1,7 +1,7 @@
 //! The balanced image store: a message of k symbols per lane is laid over n nodes so that any k of them give it back, a
 //! change of one symbol writes n−k+1 nodes, and the symbols that nodes depend on are shared out as evenly as can be.
 //!
-//! This crate is a safe interface to `libbalanced_c.a`, whose functions are written in Rattle and proved to do what their
+//! This crate is a safe interface to the library `balanced`, whose functions are written in Rattle and proved to do what their
 //! contracts say (`crates/balanced_c`). It has no other dependency.
 //!
 //! # Records

@@ -93,11 +93,11 @@ module _ (rec bytes : List ℕ) where
         }
 
     -- the number of the answer to a list, and whether the list is written
-    listing-number : (list : List ℕ) → listFault rec (length bytes) (length list) ≡ listingNumber (lowestOf (recordOf rec) (rosterOf bytes) list)
-    unfolding listFault
+    listing-number : (list : List ℕ) → listingFault rec (length bytes) (length list) ≡ listingNumber (lowestOf (recordOf rec) (rosterOf bytes) list)
+    unfolding listingFault
     listing-number list = rw (eq-eqb (length bytes) 256 long) (sym (lowest-number (rosterOf bytes) list rec))
 
-    pub listing-wrote : (list : List ℕ) → wrote (lowestOf (recordOf rec) (rosterOf bytes) list) ≡ (eqb (listFault rec (length bytes) (length list)) 0 && isEnough rec bytes)
+    pub listing-wrote : (list : List ℕ) → wrote (lowestOf (recordOf rec) (rosterOf bytes) list) ≡ (eqb (listingFault rec (length bytes) (length list)) 0 && isEnough rec bytes)
     unfolding isEnough
     listing-wrote list =
         let a = lowestOf (recordOf rec) (rosterOf bytes) list in
@@ -108,7 +108,7 @@ module _ (rec bytes : List ℕ) where
 
     -- the answer to a list, its number, and what `enough` receives
     module _ (list : List ℕ) (enough enough′ r : ℕ) (a : Listing) (e : a ≡ lowestOf (recordOf rec) (rosterOf bytes) list) (n : r ≡ listingNumber a) (x : enough′ ≡ toldOf a enough) where
-      number-is : r ≡ listFault rec (length bytes) (length list)
+      number-is : r ≡ listingFault rec (length bytes) (length list)
       number-is = n ∙ ap listingNumber e ∙ sym (listing-number list)
 
       -- by the case of the answer

@@ -1,0 +1,88 @@
+"""A node's next share of an image while it is written: a whole share file, or the ranges of one that is there."""
+import os
+import struct
+
+from . import files, redo, share
+from .errors import Refused
+
+BLOCK = struct.Struct(">QI")
+RANGE = struct.Struct(">HH")
+
+
+class WholeDraft:
+    """A share file whose blocks are written in any order, and its header last."""
+
+    def __init__(self, file):
+        self.file = file
+
+    def write(self, place, data):
+        files.write(self.file, place, data)
+
+    def patch(self, data):
+        raise Refused("the draft is of a whole share: it has no ranges")
+
+    def end(self, header):
+        files.write(self.file, 0, header)
+
+    def close(self):
+        os.close(self.file)
+
+
+class PatchDraft:
+    """Ranges of the blocks of a share file that is there, and the checksums that the blocks then have."""
+
+    def __init__(self, file, shared, header):
+        self.file, self.shared, self.header, self.redo = file, shared, header, redo.Draft(file)
+        self.block_len = header.lanes * share.symbol_len(header.record)
+
+    def write(self, place, data):
+        raise Refused("the draft is of ranges: it takes no share")
+
+    def block(self, number):
+        """The place of a block and its symbols, if its checksum is right: a wrong one must not get a right checksum."""
+        place = share.block_place(self.header.record, self.header.name, self.header.lanes, number)
+        size = os.fstat(self.shared).st_size
+        count = min(self.block_len, size - place - share.CHECKSUM.size)
+        if count <= 0:
+            raise Refused(f"the share has no block {number}")
+        held = files.read(self.shared, place, count + share.CHECKSUM.size)
+        symbols = bytearray(held[:count])
+        if share.checksum(share.seed(number), symbols) != held[count:]:
+            raise Refused(f"block {number} is damaged: its checksum is wrong")
+        return place, symbols
+
+    def patch(self, data):
+        """Blocks, for each its number (8), the length of its ranges (4) and these."""
+        at = 0
+        while at < len(data):
+            if len(data) - at < BLOCK.size:
+                raise Refused("a block is cut")
+            number, count = BLOCK.unpack_from(data, at)
+            at += BLOCK.size
+            if len(data) - at < count:
+                raise Refused("a block is cut")
+            self.patch_block(number, data[at:at + count])
+            at += count
+
+    def patch_block(self, number, data):
+        """Ranges of one block: for each its first byte (2), its length (2) and its bytes."""
+        place, symbols = self.block(number)
+        at = 0
+        while at < len(data):
+            if len(data) - at < RANGE.size:
+                raise Refused("a range is cut")
+            first, count = RANGE.unpack_from(data, at)
+            part = bytes(data[at + RANGE.size:at + RANGE.size + count])
+            if len(part) != count or first + count > len(symbols):
+                raise Refused("a range lies outside its block")
+            symbols[first:first + count] = part
+            self.redo.add(place + first, part)
+            at += RANGE.size + count
+        self.redo.add(place + len(symbols), share.checksum(share.seed(number), symbols))
+
+    def end(self, header):
+        self.redo.end(header)
+
+    def close(self):
+        os.close(self.file)
+        os.close(self.shared)

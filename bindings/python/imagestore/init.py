@@ -1,0 +1,46 @@
+"""init and plan: a new store, and what a store of n nodes would cost."""
+import os
+
+import balanced
+
+from . import carrier, settings
+from .errors import StoreError, UsageError
+from .node import FREE, MAKE
+from .session import Session
+
+
+def figures(record):
+    """What a record means for who runs a store by it."""
+    plan = balanced.Plan(record)
+    return {
+        "record": list(plan.record), "nodes": plan.n, "needed": plan.k, "may_be_lost": plan.n - plan.k,
+        "wrong_set_right": (plan.n - plan.k) // 2, "storage": plan.n / plan.k, "nodes_written_by_a_change": plan.d,
+        "symbols_a_node_depends_on": [plan.low_reads, plan.high_reads], "shares_read_by_a_rebuild": plan.k}
+
+
+def plan(n, k):
+    if not (2 <= n <= 255 and 1 <= k <= n):
+        raise UsageError(f"a store has 2 to 255 nodes, and from 1 to all of them are needed; not {n} and {k}")
+    return figures(carrier.choose(n, k))
+
+
+def greet(wanted, how):
+    """What the nodes of a new store say that cannot be, or become, its nodes."""
+    every = range(len(wanted.nodes))
+    with Session(wanted, every, make=every, how=how) as session:
+        return "".join(f"\n  node {node}: {why}" for node, why in sorted(session.down.items()))
+
+
+def init(path, needed, nodes, lanes, ssh=None, program=None):
+    """Makes a new store: every folder must be free, then its file is written, then the folders become its nodes."""
+    if os.path.exists(path):
+        raise StoreError(f"there is a file {path} already")
+    wanted = settings.fresh(path, needed, nodes, lanes, ssh, program)
+    faults = greet(wanted, FREE)
+    if faults:
+        raise StoreError(f"no store was made{faults}")
+    settings.save(wanted)
+    faults = greet(wanted, MAKE)
+    if faults:
+        raise StoreError(f"the store was made without these nodes; `rebuild` adds them{faults}")
+    return {"store": wanted.path, "places": list(wanted.nodes), "lanes": lanes, **figures(wanted.record)}

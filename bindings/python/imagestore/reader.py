@@ -1,0 +1,59 @@
+"""Shares read from nodes, block by block from nodes whose checksums are right: what fails is read elsewhere, and named."""
+from . import coding, frames
+from .errors import TooFewNodes
+from .frames import Request
+
+
+class Reader:
+    """Reads the blocks of one image. `faults` says which nodes failed, with the blocks; more than one thread may read."""
+
+    def __init__(self, store, session, seen, exclude=()):
+        self.store, self.session, self.layout = store, session, seen.layout
+        self.nodes = [node for node in seen.holders() if node not in exclude]
+        self.suspects, self.faults = {node for node in seen.faults}, {}
+
+    def order(self):
+        """The nodes, those that answer fastest first and those with known faults last."""
+        links = self.session.links
+        return sorted((node for node in self.nodes if node in links),
+                      key=lambda node: (node in self.suspects or node in self.faults, round(links[node].delay, 2), node))
+
+    def fetch(self, batch, nodes):
+        """For each block of a batch its share at those of the nodes that have it right."""
+        place = self.layout.place(batch[0])
+        count = self.layout.place(batch[-1] + 1) - place
+        answers = self.session.try_ask(nodes, lambda node: Request(frames.READ, self.layout.name, place, count))
+        held, cuts = {block: {} for block in batch}, coding.spans(self.layout, batch)
+        for node, data in answers.items():
+            right = coding.blocks_in(data, cuts)
+            for block in batch:
+                if block in right:
+                    held[block][node] = right[block]
+                else:
+                    self.faults.setdefault(node, set()).add(block)
+        return held
+
+    def read(self, batch, nodes=None):
+        """For each block of a batch the shares of k nodes: of the nodes that are named, where they hold the image right."""
+        k = self.store.plan.k
+        nodes = [node for node in nodes if node in self.nodes] if nodes else self.order()[:k]
+        held = self.fetch(batch, nodes)
+        for block in batch:
+            tried = set(nodes)
+            while len(held[block]) < k:
+                spare = [node for node in self.order() if node not in tried][:k - len(held[block])]
+                if not spare:
+                    raise TooFewNodes(self.too_few(block, len(held[block])))
+                tried.update(spare)
+                held[block].update(self.fetch([block], spare)[block])
+            yield block, dict(list(held[block].items())[:k])
+
+    def too_few(self, block, count):
+        down = "".join(f"\n  node {node}: {why}" for node, why in sorted(self.session.down.items()))
+        wrong = "".join(f"\n  node {node}: {self.said(node)}" for node in sorted(self.faults))
+        return f"{self.layout.name}: block {block} is right at {count} nodes, and {self.store.plan.k} are needed{down}{wrong}"
+
+    def said(self, node):
+        """What is wrong with a node, in words."""
+        blocks = sorted(self.faults[node])
+        return f"block {blocks[0]} is damaged" if len(blocks) == 1 else f"{len(blocks)} blocks are damaged, from {blocks[0]} on"

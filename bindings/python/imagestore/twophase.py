@@ -1,0 +1,32 @@
+"""The last steps of a write: commit at every node that has prepared it, or drop it at all."""
+from contextlib import contextmanager
+
+from . import frames
+from .errors import StoreError
+from .frames import Request
+from .interrupts import undisturbed
+
+
+def commit(session, name, writes):
+    """Commits what the nodes have prepared: `writes` has the number of the write for each. A node that fails now commits later."""
+    with undisturbed():
+        done = session.try_ask(sorted(writes), lambda node: Request(frames.COMMIT, name, place=writes[node]))
+    if writes and not done:
+        raise StoreError(f"{name}: no node could commit; `check` finishes or undoes the write")
+    return sorted(done)
+
+
+def drop(session, name, nodes):
+    """Gives a write up at the nodes."""
+    with undisturbed():
+        session.try_ask(sorted(nodes), lambda node: Request(frames.DROP, name))
+
+
+@contextmanager
+def dropped_on_failure(session, name, nodes):
+    """If what is done within fails, the write is given up at all these nodes that are still here."""
+    try:
+        yield
+    except BaseException:
+        drop(session, name, [node for node in nodes if node in session.links])
+        raise

@@ -1,0 +1,155 @@
+"""The command line: exit statuses, --json, help, usage, the store that is meant, and interrupts."""
+import json
+import os
+import re
+import signal
+import subprocess
+import time
+import unittest
+
+from support import PROGRAM, TOP, StoreCase, command
+
+from imagestore import cli, init, settings
+from imagestore.errors import UsageError
+
+COMMANDS = ["plan", "init", "put", "get", "list", "check", "rm", "update", "rebuild", "leave", "return", "nodes", "serve"]
+
+
+class CommandLine(StoreCase):
+    def program(self, *words, **more):
+        return subprocess.run([PROGRAM, *map(str, words)], capture_output=True, **more)
+
+    def test_the_program(self):
+        """From another folder, with the store in store.toml, named by IMAGESTORE, and by --store; an image on standard output."""
+        self.make(3, 2, 16)
+        self.put(b"forty-two")
+        self.assertEqual(self.program("get", "image", "-", cwd=self.top).stdout, b"forty-two")
+        named = self.program("get", "image", "-", env={**os.environ, "IMAGESTORE": str(self.store)}, cwd="/")
+        self.assertEqual(named.stdout, b"forty-two")
+        self.assertIn(b"9 bytes", named.stderr)
+        self.assertEqual(self.program("get", "--store", self.store, "image", "-", cwd="/").stdout, b"forty-two")
+        nowhere = self.program("list", cwd="/")
+        self.assertEqual((nowhere.returncode, nowhere.stdout), (2, b""))
+        self.assertIn(b"there is no store store.toml", nowhere.stderr)
+
+    def test_every_command_says_what_it_did_in_json(self):
+        self.make(3, 2, 16)
+        for words in (["plan", "--nodes", 15, "--needed", 10], ["put", "image", self.file(b"x")], ["get", "image", self.top / "got"], ["list"],
+                      ["check"], ["update", "image", "--at", 0, self.file(b"y")], ["rebuild", 0], ["leave", 1], ["return", 1], ["nodes"],
+                      ["rm", "image"]):
+            status, out, err = command("--store", self.store, "--json", *words)
+            self.assertEqual((status, json.loads(out)["status"], err), (0, 0, ""), words)
+            plain = command("--store", self.store, *words[:1], "--help")
+            self.assertIn("usage: imagestore " + words[0], plain[1])
+        status, out, err = command("--store", self.store, "--json", "get", "image", self.top / "got")
+        self.assertEqual((status, json.loads(out)), (1, {"status": 1, "error": "there is no image image"}))
+        self.assertEqual(err, "imagestore: there is no image image\n")
+
+    def test_usage(self):
+        self.make(3, 2, 16)
+        for words in ([], ["nothing"], ["put"], ["put", "a"], ["get", "a"], ["rebuild"], ["rebuild", "x"], ["update", "a", "--at", "x", "f"],
+                      ["plan"], ["leave"], ["put", "a/b", self.file(b"")], ["rebuild", 3], ["rebuild", -1], ["leave", 9], ["--wait", -1, "list"],
+                      ["--threads", 0, "list"], ["plan", "--nodes", 6, "--needed", 5], ["plan", "--nodes", 300, "--needed", 5],
+                      ["plan", "--nodes", 15, "--needed", 0], ["plan", "--nodes", 15, "--needed", 16]):
+            status, out, err = command("--store", self.store, *words)
+            self.assertEqual((status, out), (2, ""), words)
+            self.assertTrue(err, words)
+
+    def test_plan(self):
+        for n in (3, 5, 15, 17, 51, 85, 255):
+            for k in (1, n // 2, n):
+                figures = init.plan(n, k)
+                self.assertEqual((figures["nodes"], figures["needed"], figures["nodes_written_by_a_change"]), (n, k, n - k + 1))
+        _, out, _ = command("plan", "--nodes", 15, "--needed", 10)
+        self.assertIn("record 2 11 15 10\n", out)
+        self.assertIn("a changed byte writes 6 nodes; a node depends on 4 of 10 symbols", out)
+        with self.assertRaisesRegex(UsageError, "on 3, 5, 15, 17, 51, 85 or 255 nodes, not on 6"):
+            init.plan(6, 5)
+
+    def test_init(self):
+        self.make(3, 2, 16)
+        folders = [self.top / f"m{i}" for i in range(3)]
+        for status, words in ((1, [self.store, "--needed", 2, *folders]), (2, [self.top / "s", "--needed", 0, *folders]),
+                              (2, [self.top / "s", "--needed", 4, *folders]), (2, [self.top / "s", "--needed", 2, folders[0], *folders[:2]]),
+                              (1, [self.top / "s", "--needed", 2, *self.places]), (2, [self.top / "s", "--needed", 1, *folders[:2]]),
+                              (2, [self.top / "s", "--needed", 2, "--lanes", 4097, *folders]),
+                              (2, [self.top / "s", "--needed", 2, "-oProxyCommand=x:/y", "a:/b", "c:/d"]),
+                              (2, [self.top / "s", "--needed", 2, "--", "-oProxyCommand=x:/y", "a:/b", "c:/d"]),
+                              (2, [self.top / "s", "--needed", 2, "a:relative", "b:/b", "c:/d"]),
+                              (2, [self.top / "s", "--needed", 2, "a;id:/x", "b:/b", "c:/d"]), (2, [self.top / "s", "--needed", 2, "", "x", "y"])):
+            self.assertEqual(command("init", *words)[0], status, words)
+        self.assertEqual(sorted(os.listdir(self.top)), ["store", "store.toml"])
+
+    def test_settings(self):
+        self.make(3, 2, 16)
+        text = self.store.read_text()
+        kept = settings.load(str(self.store))
+        self.assertEqual(settings.text(kept), text)
+        self.assertEqual(kept.nodes, ("store/n000", "store/n001", "store/n002"))
+        for wrong in ("", "x", text + "more = 1\n", text.replace("lanes = 16", "lanes = 0"), text.replace("lanes = 16", "lanes = 'x'"),
+                      text.replace("record = [2, 214, 3, 2]", "record = [2, 2, 3, 2]"), text.replace("record = [2", "record = [1"),
+                      text.replace("[2, 214, 3, 2]", "[300]"), text.replace('store = "', 'store = "zz'), text.replace('    "store/n001",\n', ""),
+                      text.replace("[2, 214, 3, 2]", "[1, 7, 2, 3, 2]"), "ssh = []\n" + text):
+            self.store.write_text(wrong)
+            self.assertEqual(command("--store", self.store, "list")[0], 2, wrong)
+
+    def test_a_store_can_be_moved(self):
+        """Folders below that of store.toml are relative to it."""
+        self.make(3, 2, 16)
+        self.put(b"moved")
+        (self.top / "elsewhere").mkdir()
+        (self.top / "store").rename(self.top / "elsewhere" / "store")
+        self.store = self.store.rename(self.top / "elsewhere" / "store.toml")
+        self.assertEqual(self.got(), b"moved")
+
+    def test_the_roster_file(self):
+        self.make(3, 2, 16)
+        self.right("leave", 1)
+        path = self.top / "store.roster"
+        self.assertEqual(len(path.read_bytes()), 256)
+        path.write_bytes(b"short")
+        self.assertIn("is no roster", self.refused(1, "list"))
+        path.unlink()
+        self.assertEqual(self.right("nodes")["nodes"][1]["state"], "here")
+
+    def test_the_manual_page_has_every_command(self):
+        text = (TOP / "docs" / "man" / "imagestore.1").read_text()
+        plain = re.sub(r"\\f[BIRP]|\\", "", text)
+        for word in COMMANDS:
+            self.assertRegex(plain, rf"(?m)^(\.B |\.BI |\.BR )?\"?{word}\b")
+        for words in (parser for parser in [cli.parser(), *cli.parser()._subparsers._group_actions[0].choices.values()]):
+            for action in words._actions:
+                for option in action.option_strings:
+                    self.assertIn(option if option != "-h" else "--help", plain)
+
+
+class Interrupts(StoreCase):
+    """Ctrl-C in the middle of a put: nothing is left of it."""
+
+    def test_interrupted_put(self):
+        self.make(3, 2, 4096)
+        path = self.file(bytes(200_000_000), "large")
+        put = subprocess.Popen([PROGRAM, "--store", self.store, "put", "image", path], stdout=subprocess.PIPE, stderr=subprocess.PIPE)
+        while not (self.places[0] / "image.tmp").exists() and put.poll() is None:
+            time.sleep(0.001)
+        put.send_signal(signal.SIGINT)
+        _, err = put.communicate()
+        self.assertEqual(put.returncode, 1)
+        self.assertIn(b"interrupted", err)
+        self.assertEqual(self.left_over(), [])
+        self.assertEqual(self.right("list")["images"], [])
+
+    def test_terminated_get(self):
+        self.make(3, 2, 4096)
+        self.put(bytes(100_000_000))
+        get = subprocess.Popen([PROGRAM, "--store", self.store, "get", "image", self.top / "got"], stderr=subprocess.PIPE)
+        while not any(name.startswith(".got") for name in os.listdir(self.top)) and get.poll() is None:
+            time.sleep(0.001)
+        get.send_signal(signal.SIGTERM)
+        get.communicate()
+        self.assertEqual(get.returncode, 1)
+        self.assertEqual(sorted(os.listdir(self.top)), ["file", "store", "store.toml"])
+
+
+if __name__ == "__main__":
+    unittest.main()

@@ -1,0 +1,86 @@
+"""Images of every length, put and got back, whole and from any k nodes, on folders."""
+import os
+import unittest
+
+from support import StoreCase
+
+
+class Images(StoreCase):
+    def lengths(self):
+        block = self.k * self.lanes
+        return sorted({0, 1, 2, self.k, block - 1, block, block + 1, 2 * block, 5 * block, 5 * block + self.random.randrange(1, block)})
+
+    def test_lengths_on_every_number_of_nodes(self):
+        for n, k, lanes in ((3, 1, 5), (3, 3, 4), (5, 3, 16), (15, 10, 64), (17, 8, 7), (51, 34, 9), (85, 40, 6), (255, 120, 3)):
+            self.store = self.top / f"s{n}-{k}.toml"
+            with self.subTest(n=n, k=k):
+                self.make(n, k, lanes)
+                for length in self.lengths() if n < 20 else self.random.sample(self.lengths(), 3):
+                    data = self.bytes(length)
+                    name = f"image-{length}"
+                    result = self.put(data, name)
+                    self.assertEqual((result["length"], result["nodes"], result["absent"]), (length, list(range(n)), {}))
+                    with self.without(*self.random.sample(range(n), n - k)):
+                        self.assertEqual(self.got(name), data)
+
+    def test_five_megabytes(self):
+        self.make(15, 9, 4096)
+        data = self.bytes(5_000_000)
+        self.put(data)
+        self.assertEqual(self.got(), data)
+        with self.without(*range(6)):
+            self.assertEqual(self.got(), data)
+        self.all_right(data)
+
+    def test_many_images(self):
+        self.make()
+        images = {f"image.{i}": self.bytes(self.random.randrange(300)) for i in range(12)}
+        for name, data in images.items():
+            self.put(data, name)
+        listed = {one["image"]: one["length"] for one in self.right("list")["images"]}
+        self.assertEqual(listed, {name: len(data) for name, data in images.items()})
+        for name, data in images.items():
+            self.assertEqual(self.got(name), data)
+        self.right("rm", "image.3")
+        self.assertNotIn("image.3", [one["image"] for one in self.right("list")["images"]])
+        self.assertIn("there is no image image.3", self.refused(1, "get", "image.3", self.top / "x"))
+        self.put(b"again", "image.3")
+        self.assertEqual(self.got("image.3"), b"again")
+
+    def test_a_name_is_taken_once(self):
+        self.make()
+        self.put(b"one")
+        self.assertIn("already", self.refused(1, "put", "image", self.file(b"two")))
+        self.assertEqual(self.got(), b"one")
+
+    def test_what_is_no_image_file(self):
+        self.make()
+        self.assertIn("No such file", self.refused(1, "put", "image", self.top / "missing"))
+        self.assertIn("no regular file", self.refused(1, "put", "image", "/dev/null"))
+        self.assertIn("Is a directory", self.refused(1, "put", "image", self.top))
+        self.assertEqual(self.right("list")["images"], [])
+
+    def test_get_leaves_what_was_there_until_it_is_done(self):
+        self.make()
+        self.put(b"new bytes")
+        target = self.file(b"old bytes", "target")
+        for node in range(3):
+            self.flip(node, -5)
+        self.refused(3, "get", "image", target)
+        self.assertEqual(target.read_bytes(), b"old bytes")
+        self.assertEqual([name for name in os.listdir(self.top) if name.endswith(".tmp")], [])
+
+    def test_get_through_a_link_and_to_a_device(self):
+        self.make()
+        self.put(b"bytes")
+        target = self.file(b"", "target")
+        (self.top / "link").symlink_to(target)
+        self.right("get", "image", self.top / "link")
+        self.assertEqual(target.read_bytes(), b"bytes")
+        self.assertTrue((self.top / "link").is_symlink())
+        self.right("get", "image", "/dev/null")
+        self.assertTrue(os.path.exists("/dev/null") and not os.path.isfile("/dev/null"))
+
+
+if __name__ == "__main__":
+    unittest.main()

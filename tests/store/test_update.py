@@ -1,0 +1,134 @@
+"""Updates: what is sent to whom, and that the image is what it should be after any number of them."""
+import unittest
+
+from support import StoreCase
+
+import balanced
+import reference
+from imagestore import changes, ranges
+
+
+class Updates(StoreCase):
+    def test_random_updates(self):
+        """Random bytes at random places, with nodes away now and then; the reference reads the image from any k share files."""
+        for n, k, lanes in ((5, 3, 8), (15, 10, 4), (17, 5, 3)):
+            self.store = self.top / f"s{n}.toml"
+            self.make(n, k, lanes)
+            data = bytearray(self.bytes(3 * k * lanes + 7))
+            self.put(data)
+            for turn in range(12):
+                place = self.random.randrange(len(data))
+                part = self.bytes(self.random.choice([1, 2, lanes, self.random.randrange(len(data))]))[:len(data) - place]
+                data[place:place + len(part)] = part
+                with self.without(*self.random.sample(range(n), self.random.choice([0, 0, 1, (n - k) // 2]))):
+                    self.right("update", "image", "--at", place, self.file(part))
+                if turn % 3 == 2:
+                    self.right("check", "--correct")
+                    nodes = self.random.sample(range(n), k)
+                    self.assertEqual(reference.image_of([self.share(node) for node in nodes]), data)
+                self.assertEqual(self.got(), data)
+
+    def test_one_symbol_goes_to_d_nodes(self):
+        """Whichever byte changes, n-k+1 share files change, and the others are as they were, to the last byte."""
+        self.make(15, 10, 8)
+        data = bytearray(self.bytes(100))
+        self.put(data)
+        for place in range(0, 100, 7):
+            before = [self.share(node).read_bytes() for node in range(15)]
+            data[place] ^= 255
+            result = self.right("update", "image", "--at", place, self.file(data[place:place + 1]))
+            changed = [node for node in range(15) if self.share(node).read_bytes() != before[node]]
+            self.assertEqual(changed, result["nodes"])
+            self.assertEqual((len(changed), result["symbols_sent"], result["plain_sent"], result["told"]), (6, 6, 6, []))
+        self.all_right(data)
+
+    def test_every_node_is_written_alike(self):
+        """Over all rows of a block each node is written as often as any other: 4 times of 10 rows."""
+        self.make(15, 10, 8)
+        self.put(bytes(80))
+        written = dict.fromkeys(range(15), 0)
+        for row in range(10):
+            for node in self.right("update", "image", "--at", 8 * row, self.file(b"x"))["nodes"]:
+                written[node] += 1
+        self.assertEqual(set(written.values()), {4})
+
+    def test_a_whole_new_file(self):
+        """Only what differs is sent: a file that differs in two places."""
+        self.make(5, 3, 64)
+        data = bytearray(self.bytes(2000))
+        self.put(data)
+        data[3] ^= 1
+        data[1500] ^= 1
+        result = self.right("update", "image", self.file(data))
+        self.assertEqual((result["changed"], result["symbols_sent"], result["generation"]), (2, 6, 2))
+        self.all_right(data)
+        result = self.right("update", "image", self.file(data))
+        self.assertEqual((result["changed"], result["generation"], result["nodes"]), (0, 2, []))
+        for length in (0, 1, 5000):
+            data = self.bytes(length)
+            result = self.right("update", "image", self.file(data))
+            self.assertIsNone(result["changed"])
+            self.all_right(data)
+
+    def test_what_lies_outside(self):
+        self.make()
+        self.put(b"ten bytes.")
+        for place, part in ((10, b"x"), (9, b"xy"), (-1, b"x"), (2 ** 70, b"x")):
+            self.refused(2, "update", "image", f"--at={place}", self.file(part))
+        self.assertEqual(self.right("update", "image", "--at", 10, self.file(b""))["changed"], 0)
+        self.assertIn("there is no image", self.refused(1, "update", "other", self.file(b"x")))
+        self.all_right(b"ten bytes.")
+
+    def test_a_damaged_block_gets_no_right_checksum(self):
+        """A node whose block is damaged does not take an update of it: the others do, and it is made anew."""
+        self.make(5, 3, 16)
+        data = bytearray(self.bytes(48))
+        self.put(data)
+        node = self.right("update", "image", "--at", 0, self.file(b"a"))["nodes"][0]
+        self.flip(node, -8)
+        data[0:3] = b"new"
+        result = self.right("update", "image", "--at", 0, self.file(b"new"))
+        self.assertIn("damaged", result["absent"][str(node)])
+        self.assertEqual(self.got(), data)
+        self.right("check", "--correct")
+        self.all_right(data)
+
+    def test_the_file_is_not_copied(self):
+        """A small update of a large share writes little: the share file stays the same file."""
+        self.make(3, 2, 4096)
+        self.put(self.bytes(500_000))
+        before = [self.share(node).stat().st_ino for node in range(3)]
+        self.right("update", "image", "--at", 250_000, self.file(b"x"))
+        self.assertEqual([self.share(node).stat().st_ino for node in range(3)], before)
+
+
+class Ranges(StoreCase):
+    def test_ranges(self):
+        for _ in range(300):
+            size = self.random.randrange(1, 400)
+            old = self.bytes(size)
+            new = bytearray(old)
+            for _ in range(self.random.randrange(4)):
+                new[self.random.randrange(size)] ^= self.random.randrange(256)
+            found = ranges.changed(old, new)
+            rebuilt = bytearray(old)
+            for first, end in found:
+                self.assertTrue(new[first] != old[first] and new[end - 1] != old[end - 1])
+                rebuilt[first:end] = new[first:end]
+            self.assertEqual(rebuilt, new)
+            self.assertTrue(all(second[0] - first[1] > ranges.GAP for first, second in zip(found, found[1:])))
+
+    def test_the_plain_layout(self):
+        """A row of one byte changed in two lanes: one data node and n-k sums; two rows in one lane: two data nodes and the sums."""
+        plan = balanced.Plan([2, 11, 15, 10])
+        old = bytes(1000)
+        for places, count, nodes in (([0], 6, 6), ([0, 70], 12, 6), ([0, 100], 7, 7), ([0, 170], 12, 7)):
+            new = bytearray(old)
+            for place in places:
+                new[place] = 1
+            sent, written = changes.in_plain_layout(plan, 100, old, new)
+            self.assertEqual((sent, len(written)), (count, nodes))
+
+
+if __name__ == "__main__":
+    unittest.main()
