@@ -24,7 +24,7 @@ if [ "$(cat target/lib/made-from 2>/dev/null)" = "$sum" ]; then exit 0; fi
 # the crates below the calls are proved side by side, and a line says of each when it is done
 tools/prove.py balanced roster_bytes
 
-work=$(mktemp -d)
+work=$(mktemp -d "$PWD/target/library.XXXXXX")
 log=target/library.log
 # quiet from here on, unless something fails
 trap 'status=$?; rm -rf "$work"; if [ $status -ne 0 ]; then cat "$log" >&3; fi' EXIT

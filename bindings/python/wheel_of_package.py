@@ -1,4 +1,4 @@
-"""Makes the wheel of the package for `pip install .` (PEP 517): the modules, and the shared libraries in balanced/lib.
+"""Makes the wheel for `pip install .` (PEP 517): the packages' modules, and the shared libraries in balanced/lib.
 
 The libraries are those of the folder that BALANCED_LIB_DIR names, or of target/lib of the repository (`make build`).
 """
@@ -10,15 +10,17 @@ import zipfile
 from pathlib import Path
 
 HERE = Path(__file__).resolve().parent
+PACKAGES = ["balanced"]
 LIBRARIES = ["libbalanced.so.1", "libbalanced_any.so", "glibc-hwcaps/x86-64-v3/libbalanced.so.1", "glibc-hwcaps/x86-64-v4/libbalanced.so.1"]
 WHEEL = "Wheel-Version: 1.0\nGenerator: wheel_of_package\nRoot-Is-Purelib: false\nTag: py3-none-linux_x86_64\n"
 
 
 def package_files():
     """Name in the wheel and path of each file of the package."""
-    for path in sorted((HERE / "balanced").glob("*")):
-        if path.suffix in (".py", ".typed"):
-            yield f"balanced/{path.name}", path
+    for package in PACKAGES:
+        for path in sorted((HERE / package).rglob("*")):
+            if path.suffix in (".py", ".typed"):
+                yield path.relative_to(HERE).as_posix(), path
     folder = Path(os.environ.get("BALANCED_LIB_DIR") or HERE.parents[1] / "target" / "lib")
     for name in LIBRARIES:
         path = folder / name
