@@ -143,6 +143,57 @@ class Damage(StoreCase):
         self.assertEqual(result["images"][0]["corrected"], [])
         self.assertEqual(self.command("get", "image", self.top / "x")[0], 1)
 
+    def test_nothing_is_made_from_a_wrong_share(self):
+        """A rebuild and an update find the wrong node out although its checksums are right, and go on without it."""
+        self.forge(3)
+        self.share(4).unlink()
+        self.right("rebuild", 4)
+        self.assertEqual(self.found(3)[0][:7], "block 0")
+        one = self.right("update", "image", "--at", 0, self.file(b"olds"))["nodes"][0]
+        self.forge(one)
+        result = self.right("update", "image", "--at", 0, self.file(b"news"))
+        self.data = b"news" + self.data[4:]
+        self.assertIn("is not that of the others", result["absent"][str(one)])
+        self.found(one)
+
+    def test_too_many_are_wrong_to_make_anything(self):
+        self.forge(1)
+        self.forge(2)
+        before = [self.share(node).read_bytes() for node in range(5)]
+        self.assertIn("do not agree", self.refused(1, "update", "image", "--at", 0, self.file(b"news")))
+        status, result = self.command("rebuild", 0)
+        self.assertEqual((status, list(result["failed"])), (1, ["image"]))
+        self.assertEqual([self.share(node).read_bytes() for node in range(5)], before)
+        self.assertEqual(self.left_over(), [])
+
+    def test_what_is_left_of_a_lost_image(self):
+        """An image that two nodes hold: it is said to be lost, its name is taken, and `rm --force` removes what is left."""
+        for node in range(3):
+            self.share(node).unlink()
+        self.refused(3, "get", "image", self.top / "x")
+        self.refused(3, "put", "image", self.file(b"x"))
+        self.refused(3, "rm", "image")
+        self.assertEqual(list(self.command("check")[1]["lost"]), ["image"])
+        self.assertEqual(self.command("list")[0], 3)
+        self.right("rm", "--force", "image")
+        self.all_right(None)
+        self.put(b"x")
+        self.all_right(b"x")
+
+    def test_a_damaged_preparation(self):
+        """What a node has prepared is damaged: nothing is committed from it, and a check makes the node's share anew."""
+        kept = [self.share(node).read_bytes() for node in range(5)]
+        result = self.right("update", "image", "--at", 0, self.file(b"news"))
+        node = result["nodes"][0]
+        self.share(node).write_bytes(kept[node])
+        for data in (b"BALREDO1", b"BALREDO1" + bytes(20), b"nonsense", b""):
+            (self.places[node] / "image.next").write_bytes(data)
+            self.assertEqual(self.got()[:4], b"news")
+            self.assertEqual(self.command("check")[0], 1)
+        self.data = b"news" + self.data[4:]
+        self.right("check", "--correct")
+        self.all_right(self.data)
+
     def forge(self, node):
         """Changes a symbol of the first block and makes its checksum right."""
         from imagestore import share

@@ -11,8 +11,9 @@ from unittest import mock
 from support import PROGRAM, StoreCase, command
 
 import pipes
-from imagestore import frames, remote, settings, share
+from imagestore import entries, frames, node, remote, settings, share
 from imagestore.frames import Request
+from imagestore.node import Node
 
 
 class PipeCase(StoreCase):
@@ -294,6 +295,33 @@ class Hostile(StoreCase):
             self.assertIn("2", json.loads(out)["absent"])
         (self.top / "p.toml").unlink()
         self.file(b"")
+
+    def test_answers_that_make_no_sense(self):
+        """A node that greets as it should and then lies is left out; nothing that it says reaches the terminal as it is."""
+        packed = entries.pack(entries.Entry("image"))
+        for answer in (b"x", packed[:-1], packed + b"x", packed.replace(b"image", b"../im"), packed.replace(b"image", b"\xff\xff\xff\xff\xff"),
+                       packed.replace(b"image", b"other")):
+            for what in ("list", "stat"):
+                with self.lying(what, answer):
+                    self.assertEqual(self.got(), b"sixteen bytes...")
+                    status, _ = self.command("check")
+                    self.assertIn(status, (0, 1))
+        with self.lying("list", packed):  # without end
+            self.assertEqual(list(self.right("list")["absent"].values()), ["its answer makes no sense"])
+        damaged = entries.pack(entries.Entry("image", damage="\x1b[2J wiped"))
+        with self.lying("stat", damaged):
+            self.assertEqual(self.right("get", "image", self.top / "file")["wrong"], {"1": "?[2J wiped"})
+        (self.top / "got").unlink()
+        self.file(b"")
+
+    def lying(self, what, answer):
+        """Node 1 answers requests of a kind with these bytes."""
+        op, real = {"list": (frames.LIST, Node.list), "stat": (frames.STAT, Node.stat)}[what]
+
+        def lie(one, request):
+            return answer if one.path == str(self.places[1]) else real(one, request)
+
+        return mock.patch.dict(node.ACTS, {op: (lie, node.SHARED)})
 
     def reordered(self, text):
         """Keys stand before the list of nodes."""

@@ -102,6 +102,15 @@ class Updates(StoreCase):
         self.assertEqual([self.share(node).stat().st_ino for node in range(3)], before)
 
 
+    def test_every_node_of_many(self):
+        """A change of every row on 255 nodes: more files are open at once than a process may have where nothing is said."""
+        self.make(255, 120, 3)
+        self.put(bytes(360))
+        data = self.bytes(360)
+        self.assertEqual(len(self.right("update", "image", self.file(data))["nodes"]), 255)
+        self.assertEqual(self.got(), data)
+
+
 class Ranges(StoreCase):
     def test_ranges(self):
         for _ in range(300):

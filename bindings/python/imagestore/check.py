@@ -1,78 +1,8 @@
 """check: every block of every node is read and compared; what is wrong is named and, if so asked, set right."""
-from . import carrier, coding, compare, digest, image, lock, pipeline, rebuild
+from . import image, lock, rebuild
 from .errors import NodesFailed, StoreError, TooFewNodes
+from .examine import Findings, examine
 from .names import check_name
-from .reader import Reader
-
-
-class Findings:
-    """What is wrong: a sentence for each wrong node, and `doubts` where it cannot be told which node is wrong.
-
-    `untold` are the wrong nodes whose checksums are right, and `lost` are blocks that too few nodes have. `total` is the sum of
-    the blocks' digests, None where a block is unknown.
-    """
-
-    def __init__(self, wrong=()):
-        self.wrong, self.untold, self.doubts, self.lost, self.total = dict(wrong), set(), [], [], 0
-
-    def doubt(self, sentence):
-        self.doubts.append(sentence)
-        self.total = None
-
-    def lose(self, sentence):
-        self.lost.append(sentence)
-        self.total = None
-
-    def add(self, other):
-        for node, why in other.wrong.items():
-            self.wrong.setdefault(node, why)
-        self.untold |= other.untold
-        self.doubts += other.doubts
-        self.lost += other.lost
-        self.total = None if self.total is None or other.total is None else self.total + other.total
-
-    def __bool__(self):
-        return bool(self.wrong or self.doubts or self.lost)
-
-
-def check_block(store, layout, block, held, found):
-    """Compares the shares of one block that have a right checksum."""
-    plan, lanes = store.plan, layout.lanes_of(block)
-    if len(held) < plan.k:
-        return found.lose(f"block {block} is right at {len(held)} nodes, and {plan.k} are needed")
-    nodes = compare.wrong_nodes(plan, lanes, held)
-    if nodes is None:
-        return found.doubt(f"the shares of block {block} do not agree, and which are wrong cannot be told")
-    for node in nodes:
-        found.untold.add(node)
-        found.wrong.setdefault(node, f"block {block} is not that of the others, and its checksum is right")
-    if found.total is not None:
-        right = [node for node in held if node not in nodes][:plan.k]
-        message = coding.recover(plan, lanes, {node: held[node] for node in right})
-        found.total += digest.of_block(block, carrier.uncarry(plan, message, layout.size(block)))
-    return None
-
-
-def check_batch(store, reader, batch):
-    found, held = Findings(), reader.fetch(batch, reader.order())
-    for block in batch:
-        check_block(store, reader.layout, block, held[block], found)
-    return found
-
-
-def check_image(store, session, seen):
-    """What is wrong with an image."""
-    reader, found, done = Reader(store, session, seen), Findings(seen.faults), 0
-    batches = list(seen.layout.batches(pipeline.batch_blocks(seen.layout)))
-    for batch, part in zip(batches, pipeline.in_order(lambda batch: check_batch(store, reader, batch), batches, store.threads)):
-        found.add(part)
-        done += len(batch)
-        store.progress(f"check {seen.name}", done, seen.layout.blocks)
-    for node in reader.faults:
-        found.wrong.setdefault(node, reader.said(node))
-    if found.total is not None and digest.to_bytes(found.total) != seen.header.digest:
-        found.doubt("the nodes agree, and the digest is not that of the image")
-    return found
 
 
 def set_right(store, session, seen, found):
@@ -93,12 +23,12 @@ def check_name_of(store, session, name, correct, undo):
     seen = store.look(session, name, undo)
     if seen.header is None:
         return None
-    found = check_image(store, session, seen) if seen.exists else Findings(seen.faults)
+    found = examine(store, session, seen) if seen.exists else Findings(seen.faults)
     first, done = dict(found.wrong), []
     if correct and found.wrong and not found.lost:
         done = set_right(store, session, seen, found)
         seen = store.look(session, name)
-        found = check_image(store, session, seen) if seen.exists else Findings(seen.faults)
+        found = examine(store, session, seen) if seen.exists else Findings(seen.faults)
     rebuild.purge(store, session, seen)
     if not seen.exists and not found:
         return None

@@ -3,6 +3,7 @@ import argparse
 import functools
 import json
 import os
+import resource
 import signal
 import sys
 
@@ -72,9 +73,10 @@ def image_commands(command):
     one = command("check", "read and compare every block of every node; finish or undo an interrupted write")
     one.add_argument("names", nargs="*", metavar="NAME")
     one.add_argument("--correct", action="store_true", help="make wrong shares anew")
-    one.add_argument("--undo", action="store_true", help="give up a write that is in doubt because nodes that know of it are away")
+    one.add_argument("--undo", action="store_true", help="give up a write that too few of the nodes hold that are here")
     one = command("rm", "remove an image")
     one.add_argument("name", metavar="NAME")
+    one.add_argument("--force", action="store_true", help="remove also what is left of an image that too few nodes hold")
     one = command("update", "change an image: some bytes of it with --at, or all; only what differs is sent")
     one.add_argument("name", metavar="NAME")
     one.add_argument("--at", type=int, metavar="OFFSET", help="the file's bytes replace those from OFFSET on")
@@ -117,7 +119,7 @@ def run(options, bar):
         "get": lambda: get.get(store, options.name, options.file),
         "list": lambda: listing.list_images(store),
         "check": lambda: check.check(store, options.names, options.correct, options.undo),
-        "rm": lambda: remove.remove(store, options.name),
+        "rm": lambda: remove.remove(store, options.name, options.force),
         "update": lambda: update.update(store, options.name, options.file, options.at),
         "rebuild": lambda: rebuild.rebuild(store, options.numbers),
         "leave": lambda: events.leave(store, options.number),
@@ -147,12 +149,21 @@ def interrupted(number, frame):
     raise KeyboardInterrupt
 
 
+def allow_files():
+    """Up to four files for each of 255 nodes are open at once, which is more than a process may have where nothing is said."""
+    soft, hard = resource.getrlimit(resource.RLIMIT_NOFILE)
+    wanted = 4096 if hard == resource.RLIM_INFINITY else min(4096, hard)
+    if soft != resource.RLIM_INFINITY and soft < wanted:
+        resource.setrlimit(resource.RLIMIT_NOFILE, (wanted, hard))
+
+
 def main(words=None):
     options = parser().parse_args(words)
     if options.command == "serve":
         from .remote import serve
         return serve(options.folder, sys.stdin.buffer, sys.stdout.buffer)
     signal.signal(signal.SIGTERM, interrupted)
+    allow_files()
     bar = Bar()
     # an image on standard output is not mixed with words
     out = sys.stderr if options.command == "get" and options.file == "-" else sys.stdout

@@ -60,9 +60,10 @@ def recover(plan, lanes, held):
     return plan.recover(lanes, list(held), listed(plan, lanes, held.values()))
 
 
-def rebuild(plan, lanes, held, target):
-    """One node's share from those of k nodes."""
-    return plan.rebuild(lanes, list(held), listed(plan, lanes, held.values()), target)
+def recover_and_rebuild(plan, lanes, held, target):
+    """The message, and one node's share, from those of k nodes."""
+    nodes, by_lane = list(held), listed(plan, lanes, held.values())
+    return plan.recover(lanes, nodes, by_lane), plan.rebuild(lanes, nodes, by_lane, target)
 
 
 def spans(layout, batch):

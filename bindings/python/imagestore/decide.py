@@ -62,7 +62,7 @@ class Ruling:
         return not self.commit and not self.drop
 
 
-def newest(view):
+def newest(view, undo):
     """The newest committed header that k nodes hold, or None. Where a newer one may be held by nodes that are away: refused."""
     found = {header.write: header for header in view.current.values()}
     for generation in sorted({header.generation for header in found.values()}, reverse=True):
@@ -74,7 +74,7 @@ def newest(view):
             return whole[0]
         for header in rivals:
             held = view.holders(header)
-            if len(held) + len(view.silent) >= view.k:
+            if len(held) + len(view.silent) >= view.k and not undo:
                 raise TooFewNodes(
                     f"{header.name}: {len(held)} nodes are here that hold generation {generation}, and {view.k} are needed")
     return None
@@ -100,8 +100,8 @@ def counts(view, header, undo):
 
 
 def decide(view, undo=False):
-    """The ruling on what is seen. With `undo` a write that is in doubt is given up."""
-    counted = newest(view)
+    """The ruling on what is seen. With `undo` what k nodes that are here do not hold is given up."""
+    counted = newest(view, undo)
     for header in undecided(view, counted):
         if counts(view, header, undo):
             counted = header

@@ -2,6 +2,8 @@
 import struct
 from dataclasses import dataclass
 
+from .errors import sentence
+
 HEAD = struct.Struct(">BBQHH")
 SHARE, PENDING, SHARE_BAD, PENDING_BAD = 1, 2, 4, 8
 
@@ -34,7 +36,7 @@ def unpack_one(data, at):
         raise ValueError("an entry is cut")
     return Entry(
         name.decode(), size, one if flags & SHARE else None, two if flags & PENDING else None,
-        one.decode() if flags & SHARE_BAD else None, two.decode() if flags & PENDING_BAD else None,
+        sentence(one) if flags & SHARE_BAD else None, sentence(two) if flags & PENDING_BAD else None,
     ), at + count + first + second
 
 

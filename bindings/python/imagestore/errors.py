@@ -34,3 +34,8 @@ class NodesFailed(StoreError):
     def __init__(self, why):
         super().__init__("; ".join(f"node {node}: {sentence}" for node, sentence in sorted(why.items())))
         self.why = why
+
+
+def sentence(data):
+    """What another side says, as a line that can be printed."""
+    return "".join(letter if letter.isprintable() else "?" for letter in bytes(data).decode("utf-8", "replace"))

@@ -107,6 +107,9 @@ def replace(folder, name, data):
     try:
         write(file, 0, data)
         sync(file)
+    except BaseException:
+        remove(folder, temporary)
+        raise
     finally:
         os.close(file)
     rename(folder, temporary, name)

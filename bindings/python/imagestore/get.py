@@ -1,7 +1,7 @@
 """get: an image from k nodes, those that answer first and whose checksums are right."""
 from . import carrier, coding, digest, lock, pipeline
-from .check import check_image
 from .errors import StoreError
+from .examine import examine
 from .names import check_name
 from .reader import Reader
 from .target import open_target
@@ -38,7 +38,7 @@ def read_right(store, session, seen, target):
     if right:
         return wrong
     target.again()
-    found = check_image(store, session, seen)
+    found = examine(store, session, seen)
     if found.untold and not found.doubts and not found.lost:
         _, right = copy_out(store, session, seen, target.write, found.untold)
     if not right:

@@ -1,10 +1,12 @@
 """What the nodes hold of an image, and which of them have it right as far as headers say."""
+import struct
 from dataclasses import dataclass
 
 from . import entries, frames, share
 from .decide import View, decide
 from .frames import Request
 from .layout import Layout
+from .names import is_name
 
 
 @dataclass
@@ -98,11 +100,28 @@ def described(name, view, ruling, plan, found, faults):
     return Image(name, view, ruling, layout, faults)
 
 
+def page_of(session, node, data, fits):
+    """The entries of a node's answer. One that makes no sense, or whose names do not fit, is the end of the node."""
+    try:
+        page = entries.unpack(bytes(data))
+        if fits([entry.name for entry in page]):
+            return page
+    except (ValueError, struct.error):
+        pass
+    session.fail(node, "its answer makes no sense")
+    return []
+
+
 def look(session, plan, name, undo=False):
     """The image of a name."""
     answers = session.try_ask(session.up(), lambda node: Request(frames.STAT, name))
-    found = {node: entries.unpack(bytes(data))[0] for node, data in answers.items()}
-    return see(session.settings, plan, name, found, undo)
+    pages = {node: page_of(session, node, data, lambda names: names == [name]) for node, data in answers.items()}
+    return see(session.settings, plan, name, {node: page[0] for node, page in pages.items() if page}, undo)
+
+
+def are_next(names, after):
+    """Whether these are names of images, in order, behind a name."""
+    return all(map(is_name, names)) and all(one < two for one, two in zip([after, *names], names))
 
 
 def look_at_all(session):
@@ -111,7 +130,7 @@ def look_at_all(session):
     while after:
         answers = session.try_ask(sorted(after), lambda node: Request(frames.LIST, after[node]))
         for node in list(after):
-            page = entries.unpack(bytes(answers[node])) if node in answers else []
+            page = page_of(session, node, answers.get(node, b""), lambda names: are_next(names, after[node]))
             for entry in page:
                 listed.setdefault(entry.name, {})[node] = entry
             if page:

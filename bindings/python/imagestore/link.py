@@ -6,7 +6,7 @@ import threading
 from concurrent.futures import ThreadPoolExecutor
 
 from . import frames
-from .errors import Busy, Refused, StoreError
+from .errors import Busy, Refused, StoreError, sentence
 from .node import Node
 
 # requests that wait for the disk: on folders of this machine they run side by side
@@ -48,9 +48,9 @@ class Link:
         finally:
             self.turn.release()
         if status == frames.BUSY:
-            raise Busy(bytes(data).decode())
+            raise Busy(sentence(data))
         if status != frames.DONE:
-            raise Refused(bytes(data).decode())
+            raise Refused(sentence(data))
         return data
 
     def close(self):

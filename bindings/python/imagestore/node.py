@@ -141,14 +141,14 @@ class Node:
     # what is there
 
     def header(self, name):
-        """The header of a share file as bytes, and the file's size; None where there is no file."""
+        """The header of a share file or a whole redo as bytes, and the file's size; None where there is no file."""
         try:
             file = files.open_file(self.folder, name)
         except FileNotFoundError:
             return None, 0
         try:
             start = files.read(file, 0, share.MAX_HEADER)
-            data = redo.header_of(file) if redo.is_redo(start) else start[:share.stated_len(start)]
+            data = redo.verified_header(file) if redo.is_redo(start) else start[:share.stated_len(start)]
             share.unpack_header(data)
             return data, os.fstat(file).st_size
         finally:

@@ -1,6 +1,7 @@
 """rebuild: a node's shares made anew from those of others, by the roster's fair jobs."""
-from . import coding, frames, image, lock, pipeline, roster, share, twophase
+from . import carrier, coding, digest, frames, image, lock, pipeline, roster, share, twophase
 from .errors import NodesFailed, StoreError, TooFewNodes, UsageError
+from .examine import examine
 from .frames import Request
 from .reader import Reader
 
@@ -23,17 +24,18 @@ def keep_turn(store, jobs):
 
 
 def share_of(store, reader, batch, nodes, target):
-    """The target's share of some blocks, with checksums, from k nodes."""
-    parts = []
+    """The target's share of some blocks, with checksums, from k nodes, and the blocks' part of the image's digest."""
+    parts, total, layout = [], 0, reader.layout
     for block, held in reader.read(batch, nodes):
-        symbols = coding.rebuild(store.plan, reader.layout.lanes_of(block), held, target)
+        message, symbols = coding.recover_and_rebuild(store.plan, layout.lanes_of(block), held, target)
+        total += digest.of_block(block, carrier.uncarry(store.plan, message, layout.size(block)))
         parts += (symbols, share.checksum(share.seed(block), symbols))
-    return b"".join(parts)
+    return parts, total
 
 
 def send(store, session, reader, target, jobs):
-    """Makes the share of one image and sends it to the target, batch by batch; each batch is a job of its own."""
-    layout = reader.layout
+    """Makes the share of one image and sends it to the target, each batch by a job of its own; gives the image's digest."""
+    layout, total = reader.layout, 0
 
     def batches():
         for batch in layout.batches(pipeline.batch_blocks(layout)):
@@ -41,23 +43,37 @@ def send(store, session, reader, target, jobs):
 
     def work(item):
         batch, nodes = item
-        data = share_of(store, reader, batch, nodes, target)
-        session.ask([target], lambda node: Request(frames.WRITE, layout.name, layout.place(batch[0]), data=data))
-        return batch[-1] + 1
+        parts, part = share_of(store, reader, batch, nodes, target)
+        session.ask([target], lambda node: Request(frames.WRITE, layout.name, layout.place(batch[0]), data=parts))
+        return batch[-1] + 1, part
 
-    for done in pipeline.in_order(work, batches(), store.threads):
+    for done, part in pipeline.in_order(work, batches(), store.threads):
+        total += part
         store.progress(f"node {target}, {layout.name}", done, layout.blocks)
+    return digest.to_bytes(total)
 
 
-def rebuild_image(store, session, seen, target, jobs, wrong=()):
-    """Makes the target's share of an image anew, from nodes that are right; gives the reader."""
+def attempt(store, session, seen, target, jobs, wrong):
+    """Makes the target's share of an image anew, from nodes that are not wrong; gives the reader, None where the image was not right."""
     reader = Reader(store, session, seen, exclude={target, *wrong})
     with twophase.dropped_on_failure(session, seen.name, [target]):
         session.ask([target], lambda node: Request(frames.BEGIN, seen.name))
-        if seen.exists:
-            send(store, session, reader, target, jobs)
+        if seen.exists and send(store, session, reader, target, jobs) != seen.header.digest:
+            twophase.drop(session, seen.name, [target])
+            return None
         session.ask([target], lambda node: Request(frames.SEAL, seen.name, data=share.pack_header(seen.header.of(target))))
     twophase.commit(session, seen.name, {target: seen.header.write})
+    return reader
+
+
+def rebuild_image(store, session, seen, target, jobs, wrong=()):
+    """As `attempt`; where a node's checksums are right and its content is not, once more without the nodes that are found wrong."""
+    reader = attempt(store, session, seen, target, jobs, wrong)
+    if reader is None:
+        found = examine(store, session, seen)
+        reader = attempt(store, session, seen, target, jobs, found.untold) if found.untold and not found.doubts else None
+    if reader is None:
+        raise StoreError(f"{seen.name}: the checksums are right, and the image is not: nothing is made from it")
     return reader
 
 
@@ -81,6 +97,11 @@ def rebuild_node(store, session, target, outcome):
         except TooFewNodes as error:
             outcome["lost"][name] = str(error)
             continue
+        except NodesFailed:
+            raise
+        except StoreError as error:
+            outcome["failed"][name] = str(error)
+            continue
         if seen.header.removed:
             purge(store, session, image.look(session, store.plan, name))
             continue
@@ -95,7 +116,7 @@ def rebuild(store, targets):
         if not 0 <= target < store.plan.n:
             raise UsageError(f"there is no node {target}: the nodes are 0 to {store.plan.n - 1}")
     with store.session(lock.EXCLUSIVE, "rebuild", also=targets, make=targets) as session:
-        outcome = {"rebuilt": [], "lost": {}, "wrong": {}}
+        outcome = {"rebuilt": [], "lost": {}, "failed": {}, "wrong": {}}
         for target in dict.fromkeys(targets):
             if target not in session.links:
                 raise StoreError(f"node {target}: {session.down[target]}")

@@ -51,24 +51,25 @@ def end_of(file):
     raise BadShare("what was prepared is damaged: its end is missing")
 
 
-def header_of(file):
-    """The new header of a redo, as bytes."""
-    place, length, _ = end_of(file)
-    return files.read(file, place, length)
-
-
-def verify(file, size, checksum):
-    total = 0
+def verify(file):
+    """Sees that a redo is whole: where its ranges end, and the length of its header."""
+    end, length, checksum = end_of(file)
+    total, size = 0, end + length + 4
     for place in range(0, size, PIECE):
         total = zlib.crc32(files.read(file, place, min(PIECE, size - place)), total)
     if total != checksum:
         raise BadShare("what was prepared is damaged: its checksum is wrong")
+    return end, length
+
+
+def verified_header(file):
+    """The new header of a whole redo, as bytes."""
+    return files.read(file, *verify(file))
 
 
 def apply(file, shared):
     """Writes the ranges and the header of a whole redo to the share file, and has them kept."""
-    end, length, checksum = end_of(file)
-    verify(file, end + length + 4, checksum)
+    end, length = verify(file)
     at = len(MAGIC)
     while at < end:
         place, count = RANGE.unpack(files.read(file, at, RANGE.size))

@@ -113,8 +113,8 @@ def rebuild(result):
         lines.append(f"node {one['node']}, {one['image']}: a share of {several(one['share'], 'byte')} made anew")
     whole = sum(one["share"] for one in result["rebuilt"]) * result["needed"]
     lines.append(f"  {result['needed']} whole shares for each are {several(whole, 'byte')}")
-    lines += [moved(result), *[f"{name}: lost: {why}" for name, why in result["lost"].items()]]
-    return 3 if result["lost"] else 0, lines + with_reasons("wrong", result["wrong"]) + with_reasons("absent", result["absent"])
+    lines += [moved(result), *[f"{name}: lost: {why}" for name, why in result["lost"].items()], *result["failed"].values()]
+    return 3 if result["lost"] else int(bool(result["failed"])), lines + with_reasons("wrong", result["wrong"]) + with_reasons("absent", result["absent"])
 
 
 def event(result):

@@ -52,7 +52,7 @@ class Store:
             return seen
         session.lock(lock.EXCLUSIVE, self.wait)
         again = image.look(session, self.plan, seen.name, undo)
-        twophase.commit(session, seen.name, again.ruling.commit)
+        twophase.finish(session, seen.name, again.ruling.commit)
         twophase.drop(session, seen.name, again.ruling.drop)
         return image.look(session, self.plan, seen.name, undo)
 

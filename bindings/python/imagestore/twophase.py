@@ -7,13 +7,18 @@ from .frames import Request
 from .interrupts import undisturbed
 
 
-def commit(session, name, writes):
+def finish(session, name, writes):
     """Commits what the nodes have prepared: `writes` has the number of the write for each. A node that fails now commits later."""
     with undisturbed():
-        done = session.try_ask(sorted(writes), lambda node: Request(frames.COMMIT, name, place=writes[node]))
-    if writes and not done:
+        return sorted(session.try_ask(sorted(writes), lambda node: Request(frames.COMMIT, name, place=writes[node])))
+
+
+def commit(session, name, writes):
+    """The last step of a write: as `finish`, and one node at least has to commit."""
+    done = finish(session, name, writes)
+    if not done:
         raise StoreError(f"{name}: no node could commit; `check` finishes or undoes the write")
-    return sorted(done)
+    return done
 
 
 def drop(session, name, nodes):

@@ -3,9 +3,9 @@
 The nodes that are sent something are told of the new generation with it. They are n-k+1 or more, so any k nodes have one of
 them among them; where one of them is away, all others are told.
 """
-from . import digest, frames, lock, pipeline, share, twophase
+from . import compare, digest, frames, lock, pipeline, share, twophase
 from .changes import Changes, change_block
-from .errors import NodesFailed, TooFewNodes, UsageError
+from .errors import NodesFailed, StoreError, TooFewNodes, UsageError
 from .frames import Request
 from .names import check_name
 from .put import absent
@@ -18,6 +18,19 @@ def begin(session, name, nodes):
     session.ask(sorted(nodes), lambda node: Request(frames.BEGIN, name, count=1))
 
 
+def see_agreement(store, session, reader, block, held, able):
+    """Sees that all nodes agree on a block before it is changed: what is made from a wrong share would be wrong at other nodes too."""
+    held = {**held, **reader.fetch([block], [node for node in able if node not in held])[block]}
+    wrong = compare.wrong_nodes(store.plan, reader.layout.lanes_of(block), held)
+    if wrong is None:
+        raise StoreError(f"{reader.layout.name}: the shares of block {block} do not agree, and which are wrong cannot be told")
+    why = {node: f"block {block} is not that of the others, and its checksum is right" for node in wrong}
+    for node, sentence in why.items():
+        session.fail(node, sentence)
+    if why:
+        raise NodesFailed(why)
+
+
 def send_changes(store, session, seen, reader, place, source, able):
     """Finds the changes and sends each node its own; gives them all, and the nodes that a write was begun at."""
     layout, all_changes, begun = seen.layout, Changes(), set()
@@ -28,7 +41,10 @@ def send_changes(store, session, seen, reader, place, source, able):
     def work(batch):
         changes = Changes()
         for block, held in reader.read(batch):
-            changes.add(change_block(store, layout, block, held, place, source))
+            change = change_block(store, layout, block, held, place, source)
+            if change.patches:
+                see_agreement(store, session, reader, block, held, able)
+            changes.add(change)
         return changes
 
     for done, changes in enumerate(pipeline.in_order(work, batches, store.threads), 1):
@@ -102,5 +118,5 @@ def result(store, session, seen, header, done, changes):
     return {
         "image": seen.name, "generation": header.generation, "length": header.length, "digest": header.digest.hex(),
         "changed": changes.bytes, "nodes": written, "told": [node for node in done if node not in changes.patches],
-        "absent": missed, "symbols_sent": changes.symbols, "plain_sent": changes.plain, "plain_nodes": sorted(changes.plain_nodes), "sums": store.plan.n - store.plan.k,
-        "whole_sent": store.plan.n * seen.layout.file_len, "traffic": session.traffic()}
+        "absent": missed, "symbols_sent": changes.symbols, "plain_sent": changes.plain, "plain_nodes": sorted(changes.plain_nodes),
+        "sums": store.plan.n - store.plan.k, "whole_sent": store.plan.n * seen.layout.file_len, "traffic": session.traffic()}

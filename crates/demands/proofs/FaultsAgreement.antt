@@ -16,10 +16,14 @@ use Rattle.layout.specs.Layout.{byRow}
 use Rattle.generator.specs.Records as R
 use Rattle.generator.proofs.Older.{Older, older-width}
 use Rattle.generator.proofs.RecordsAgreement.{headerOf, recordFault, headerOf-agrees, recordFault-agrees}
-use Rattle.refusals.specs.Faults as Ours
+use Rattle.refusals.specs.Faults as Faults
 use Rattle.refusals.specs.Conditions as Conditions
 use Rattle.refusals.proofs.OneByte.{times-width, symbols-test, lane-test}
 use Rattle.blocks.proofs.Agreement.{laneOf, laneOf-agrees}
+use Rattle.encode.specs.Promise as Encode
+use Rattle.update.specs.Promise as Update
+use Rattle.recover.specs.Promise as Recover
+use Rattle.belongs.specs.Promise as Belongs
 
 -- document 03's definitions
 unfoldable pub lanesBad : ℕ → Bool
@@ -63,22 +67,22 @@ not-below : (x m : ℕ) → not (ltb x m) ≡ leb m x
 not-below x m = by-test (ltb x m) (λ e. rw (e, lt-leb m x (ltb-true x m e))) (λ e. rw (e, le-leb m x (ltb-false x m e)))
 
 module _ (rec : List ℕ) (older : Older rec) (l : ℕ) (even : R.headerOf rec .k * R.distance (R.headerOf rec) % R.headerOf rec .n ≡ 0) where
-  pub encodeFault-agrees : (out : ℕ) (s : List ℕ) → encodeFault rec l out s ≡ Ours.faultOf rec (λ h. Ours.encodeFault h l out s)
-  unfolding encodeFault Ours.faultOf Ours.encodeFault Conditions.lengthBad
+  pub encodeFault-agrees : (out : ℕ) (s : List ℕ) → encodeFault rec l out s ≡ Faults.faultOf rec (λ h. Encode.encodeFault h l out s)
+  unfolding encodeFault Faults.faultOf Encode.encodeFault Conditions.lengthBad
   encodeFault-agrees out s = rw (headerOf-agrees rec older, recordFault-agrees rec older even, lanesBad-agrees l, sizeOf-agrees (R.modulusOf (R.headerOf rec)), times-width (R.headerOf rec) (older-width rec older), times-width (R.headerOf rec) (older-width rec older), symbols-test (R.headerOf rec) (older-width rec older), not-and, either)
 
-  pub updateFault-agrees : (r t old new : ℕ) (s : List ℕ) → updateFault rec l r t old new s ≡ Ours.faultOf rec (λ h. Ours.inputFault byRow h l r t old new s)
-  unfolding updateFault Ours.faultOf Ours.inputFault Conditions.lengthBad Conditions.numberBad Conditions.symbolBad
+  pub updateFault-agrees : (r t old new : ℕ) (s : List ℕ) → updateFault rec l r t old new s ≡ Faults.faultOf rec (λ h. Update.inputFault byRow h l r t old new s)
+  unfolding updateFault Faults.faultOf Update.inputFault Conditions.lengthBad Conditions.numberBad Conditions.symbolBad
   updateFault-agrees r t old new s = rw (headerOf-agrees rec older, recordFault-agrees rec older even, lanesBad-agrees l, sizeOf-agrees (R.modulusOf (R.headerOf rec)), times-width (R.headerOf rec) (older-width rec older), lane-test (R.headerOf rec) (older-width rec older), laneOf-agrees (R.headerOf rec .n) l t s, not-and, not-and, not-below, not-below, either, either-last, either-last)
 
-  pub recoverFault-agrees : (nodes s : List ℕ) (out : ℕ) → recoverFault rec l nodes s out ≡ Ours.faultOf rec (λ h. Ours.recoverFault h l nodes s out)
-  unfolding recoverFault Ours.faultOf Ours.recoverFault Ours.listFault Conditions.lengthBad Conditions.nodesBad Conditions.twiceBad
+  pub recoverFault-agrees : (nodes s : List ℕ) (out : ℕ) → recoverFault rec l nodes s out ≡ Faults.faultOf rec (λ h. Recover.recoverFault h l nodes s out)
+  unfolding recoverFault Faults.faultOf Recover.recoverFault Faults.listFault Conditions.lengthBad Conditions.nodesBad Conditions.twiceBad
   recoverFault-agrees nodes s out = rw (headerOf-agrees rec older, recordFault-agrees rec older even, lanesBad-agrees l, sizeOf-agrees (R.modulusOf (R.headerOf rec)), times-width (R.headerOf rec) (older-width rec older), symbols-test (R.headerOf rec) (older-width rec older), not-and, not-and, either, either)
 
-  pub rebuildFault-agrees : (nodes s : List ℕ) (target out : ℕ) → rebuildFault rec l nodes s target out ≡ Ours.faultOf rec (λ h. Ours.rebuildFault h l nodes s target out)
-  unfolding rebuildFault Ours.faultOf Ours.rebuildFault Ours.listFault Conditions.lengthBad Conditions.numberBad Conditions.nodesBad Conditions.twiceBad
+  pub rebuildFault-agrees : (nodes s : List ℕ) (target out : ℕ) → rebuildFault rec l nodes s target out ≡ Faults.faultOf rec (λ h. Recover.rebuildFault h l nodes s target out)
+  unfolding rebuildFault Faults.faultOf Recover.rebuildFault Faults.listFault Conditions.lengthBad Conditions.numberBad Conditions.nodesBad Conditions.twiceBad
   rebuildFault-agrees nodes s target out = rw (headerOf-agrees rec older, recordFault-agrees rec older even, lanesBad-agrees l, sizeOf-agrees (R.modulusOf (R.headerOf rec)), times-width (R.headerOf rec) (older-width rec older), times-width (R.headerOf rec) (older-width rec older), symbols-test (R.headerOf rec) (older-width rec older), not-and, not-and, either, either, or-comm, either)
 
-  pub belongsFault-agrees : (s : List ℕ) → belongsFault rec l s ≡ Ours.faultOf rec (λ h. Ours.belongsFault h l s)
-  unfolding belongsFault Ours.faultOf Ours.belongsFault Conditions.lengthBad
+  pub belongsFault-agrees : (s : List ℕ) → belongsFault rec l s ≡ Faults.faultOf rec (λ h. Belongs.belongsFault h l s)
+  unfolding belongsFault Faults.faultOf Belongs.belongsFault Conditions.lengthBad
   belongsFault-agrees s = rw (headerOf-agrees rec older, recordFault-agrees rec older even, lanesBad-agrees l, sizeOf-agrees (R.modulusOf (R.headerOf rec)), times-width (R.headerOf rec) (older-width rec older), symbols-test (R.headerOf rec) (older-width rec older))

@@ -28,12 +28,12 @@ module _ (rec : List ℕ) (none : recordFault rec ≡ 0) where
   small : kind rec ≡ 1 → getD rec 1 0 ≤ 251
   small one =
       by-test (leb (getD rec 1 0) 251) (leb-true (getD rec 1 0) 251)
-      (λ t. let above : 251 < getD rec 1 0 = leb-false (getD rec 1 0) 251 t in absurd (not-three (inr (inr (inl (refl, inl (one, λ p. omega (arith, p .most))))))))
+      (λ t. let above : 251 < getD rec 1 0 = leb-false (getD rec 1 0) 251 t in absurd (not-three (inr (inr (inl (refl, inl (one, λ p. omega (arith, p .below))))))))
 
   large : kind rec ≡ 3 → 257 ≤ pairAt rec 1
   large three =
       by-test (leb 257 (pairAt rec 1)) (leb-true 257 (pairAt rec 1))
-      (λ t. let below : pairAt rec 1 < 257 = leb-false 257 (pairAt rec 1) t in absurd (not-three (inr (inr (inl (refl, inr (three, λ p. omega (arith, p .least))))))))
+      (λ t. let below : pairAt rec 1 < 257 = leb-false 257 (pairAt rec 1) t in absurd (not-three (inr (inr (inl (refl, inr (three, λ p. omega (arith, p .above))))))))
 
   small-size : (p : ℕ) → p ≤ 256 → sizeOf p ≤ 256
   unfolding sizeOf
