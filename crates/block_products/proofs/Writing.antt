@@ -1,4 +1,4 @@
--- The sums of a tile's lanes where they are resultBytes: the first lanes are done, and more lanes.
+-- The sums of a tile's lanes where they are written: the first lanes are done, and more lanes.
 use mathlib.Core.Path.{_≡_, sym, ap, _∙_}
 use mathlib.Core.List.{List, _++_}
 use mathlib.Core.Logic.{by-cases}

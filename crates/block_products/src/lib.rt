@@ -1,5 +1,5 @@
 // Products of a matrix of weights and the lanes of a block, 64 lanes at a time, over every kind of field: the lanes stand row after row or
-// lane after lane, and the sums are resultBytes so, or told by marks.
+// lane after lane, and the sums are written so, or told by marks.
 ghost use mathlib.Core.Path.{_≡_};
 ghost use mathlib.Core.List.{List};
 ghost use Prim.Native.Nat.{ℕ, _+_, _*_, _≤_, _<_};

@@ -32,7 +32,7 @@ module _ {y : Arrangement} (a : Lawful y) (h : Header) (l r t old new : ℕ) (s 
       ∙ from-ext _ _ 0 (h .n) (λ j low high. ap (λ (w : ℕ). add (modulusOf h) w (mul (modulusOf h) (sub (modulusOf h) new old) (entry h r j))) (sym (getD-lane y (h .n) l t s j (omega arith))))
 
 module _ (h : Header) (s : Sound h) (us : List ℕ) (lane : IsLane h us) (r x : ℕ) (row : r < h .k) (low : x < size h) where
-  -- a lane with a multiple of a row wordAdded is a lane
+  -- a lane with a multiple of a row added is a lane
   added-lane : IsLane h (wordAdded h r x us)
   added-lane =
       let long = length-added h s us lane r x in
@@ -41,7 +41,7 @@ module _ (h : Header) (s : Sound h) (us : List ℕ) (lane : IsLane h us) (r x : 
         symbols = at-below (size h) (wordAdded h r x us) (λ j l. let node : j < h .n = omega arith in rw (getD-added h s us lane r x j node) (add-below (modulusOf h) (s .field) (below-at (size h) us (lane .symbols) j (omega (arith, lane .long))) (mul-below (modulusOf h) (s .field) low (entry-below h s r j))));
       }
 
-  -- what was wordAdded to a symbol is found
+  -- what was added to a symbol is found
   pub finds-again : (x ≡ 0 → ⊥) → findingOf h us (wordAdded h r x us) ≡ Added r x
   finds-again some =
       let apart : us ≡ wordAdded h r x us → ⊥ = λ e. some (one-addition h s us lane r x r 0 row row low (size-pos (modulusOf h) (s .field)) some (sym e ∙ sym (nothing-added h s us lane r)) .1) in

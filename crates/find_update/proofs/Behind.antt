@@ -41,7 +41,7 @@ module _ (h : Header) (s : Sound h) where
   abbrev laws : Arithmetic (size h) (add p) (sub p) (mul p)
   laws = arithmetic p (s .field)
 
-  -- u and what was wordAdded make v
+  -- u and what was added make v
   add-difference : (u v : ℕ) → u < size h → v < size h → add p u (sub p v u) ≡ v
   add-difference u v hu hv = laws .add-comm u (sub p v u) hu (laws .sub-below v u hv hu) ∙ laws .sub-add v u hv hu
 

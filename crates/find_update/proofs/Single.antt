@@ -41,7 +41,7 @@ module _ (h : Header) (s : Sound h) where
   less-zero x low =
       sym (laws .add-zero (sub p x 0) (laws .sub-below x 0 low (zero-below laws))) ∙ laws .sub-add x 0 low (zero-below laws)
 
-  -- what is wordAdded to the same symbol with the same sum is the same
+  -- what is added to the same symbol with the same sum is the same
   same-added : (u a b : ℕ) → u < size h → a < size h → b < size h → add p u a ≡ add p u b → a ≡ b
   same-added u a b hu ha hb e =
       sym (add-back laws a u ha hu)
@@ -96,7 +96,7 @@ module _ (h : Header) (s : Sound h) where
     unfolding wordAdded
     length-added r x = length-from (λ j. add p (getD us j 0) (mul p x (entry h r j))) 0 (h .n)
 
-    -- two additions with the same result are the same, where something is wordAdded
+    -- two additions with the same result are the same, where something is added
     pub one-addition : (r x q y : ℕ) → r < h .k → q < h .k → x < size h → y < size h → (x ≡ 0 → ⊥) → wordAdded h r x us ≡ wordAdded h q y us → (r ≡ q) × (x ≡ y)
     one-addition r x q y hr hq hx hy some e =
         same-multiples r x q y hr hq hx hy some
@@ -104,7 +104,7 @@ module _ (h : Header) (s : Sound h) where
         same-added (getD us j 0) (mul p x (entry h r j)) (mul p y (entry h q j)) (symbol-at j node) (term-below r x j hx) (term-below q y j hy)
         (sym (getD-added r x j node) ∙ ap (λ (l : List ℕ). getD l j 0) e ∙ getD-added q y j node))
 
-    -- nothing wordAdded alters nothing
+    -- nothing added alters nothing
     pub nothing-added : (r : ℕ) → wordAdded h r 0 us ≡ us
     nothing-added r =
         ext-getD 0 (wordAdded h r 0 us) us (length-added r 0 ∙ sym (lane .long))
@@ -112,7 +112,7 @@ module _ (h : Header) (s : Sound h) where
         let node : j < h .n = omega (arith, length-added r 0) in
         getD-added r 0 j node ∙ ap (add p (getD us j 0)) (zero-mul laws (entry h r j) (entry-below h s r j)) ∙ laws .add-zero (getD us j 0) (symbol-at j node))
 
-    -- what was wordAdded is taken away again
+    -- what was added is taken away again
     pub taken-back : (r x : ℕ) → x < size h → takenAway h r x (wordAdded h r x us) ≡ us
     unfolding takenAway
     taken-back r x low =

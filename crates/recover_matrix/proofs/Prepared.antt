@@ -26,7 +26,7 @@ use Rattle.block_products.specs.Inner.Ways.{sideOf, resultBytes, laneSum}
 use Rattle.recover_matrix.specs.Inner.Inverse.{nodePoints, inverseRow, PreparedNodes, preparedRow, preparedSums, scaledColumn, rowProduct}
 use Rattle.recover_matrix.proofs.Rows.{sumsOf, sums-below, columns-rows}
 
--- the sums as they are resultBytes
+-- the sums as they are written
 pub sums-written : (h : Header) (t : Setup) (w : ℕ) → 1 ≤ w → (terms out : List ℕ) (m : Product) → m ≡ rowProduct h (h .k) → terms ≡ bytesOf w (rowsFrom (rowTerms h) 0 (h .k)) → out ≡ resultBytes (m .way) w (m .outputs) (m .lanes) (laneSum m w (λ i. quotientOf (modulusOf h) (getD (take (h .k) (t .nodes .points)) i 0) (take (h .k + 1 - 1) (drop 1 (t .nodes .product)))) terms) → out ≡ bytesOf w (preparedSums h t)
 unfolding resultBytes sideOf preparedSums
 sums-written h t w some terms out m e is o =

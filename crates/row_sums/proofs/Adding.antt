@@ -1,4 +1,4 @@
--- Listed rows of a buffer, rowsAdded to a row one after the other.
+-- Listed rows of a buffer, added to a row one after the other.
 use mathlib.Core.Path.{_≡_, sym, ap, ap₂, _∙_}
 use mathlib.Core.List.{List}
 use Prim.Native.Nat.{ℕ, _+_, _-_, _*_, _/_, _<_}
@@ -32,7 +32,7 @@ module _ (l : ℕ) (s : List ℕ) where
   unfolding rowsAdded xorSum
   added-none js acc i e = rw (e, drop-length) (lanewise-same _ acc (λ t inside. xor-zero-r (getD acc t 0)))
 
-  -- a change c of every lane before, with the first listed rows rowsAdded: one row ..
+  -- a change c of every lane before, with the first listed rows added: one row ..
   module _ (c : ℕ → ℕ) (js acc : List ℕ) (long : length acc ≡ l) (i a : ℕ) (first : i < length js) (a-is : a ≡ getD js i 0 * l) where
     pub added-one : rowsAdded l s (drop (i + 1) js) (lanewise (λ t y. bitXor (c y) (getD (part a) t 0)) acc) ≡ rowsAdded l s (drop i js) (lanewise (λ t y. c y) acc)
     unfolding rowsAdded xorSum

@@ -1,4 +1,4 @@
--- One lane: the sum of the symbols whose weight has a digit, symbol after symbol, and a lane to which it is rowsAdded.
+-- One lane: the sum of the symbols whose weight has a digit, symbol after symbol, and a lane to which it is added.
 use mathlib.Core.Path.{_≡_, refl, sym, ap, ap₂, _∙_}
 use mathlib.Core.List.{List, [], _∷_}
 use Prim.Native.Nat.{ℕ, _+_, _-_, _*_, _/_, _%_, _^_, _≤_, _<_}
@@ -45,7 +45,7 @@ symbol-row : (s : List ℕ) (j : ℕ) → getD s j 0 ≡ rowAt 1 s j 0
 unfolding rowAt
 symbol-row s j = let place : j ≡ j * 1 + 0 = omega arith in ap (λ (i : ℕ). getD s i 0) place ∙ sym (held-by-row (length s / 1) 1 s j 0)
 
--- the sum rowsAdded to the lane
+-- the sum added to the lane
 pub lane-added : (s js acc : List ℕ) → length acc ≡ 1 → set acc 0 (bitXor (getD acc 0 0) (xorSum (λ j. getD s j 0) js)) ≡ rowsAdded 1 s js acc
 unfolding rowsAdded lanewise from
 lane-added s js [] long = absurd (omega arith)

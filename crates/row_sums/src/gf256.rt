@@ -1,5 +1,5 @@
 // Sums over the field of 256 elements, by Horner's rule over the binary digits of the weights: for digit 7 down to 0 the sums are
-// multiplied by x, and the rows whose weight has the digit are rowsAdded.
+// multiplied by x, and the rows whose weight has the digit are added.
 ghost use mathlib.Core.Path.{_≡_};
 ghost use Prim.Native.Nat.{_+_, _-_, _*_, _%_, _≤_, _<_};
 ghost use lib.ListN.{length, getD, take, drop};
@@ -32,7 +32,7 @@ fn start_of(row: u8, lanes: usize, size: usize) -> usize
     row as usize * lanes
 }
 
-// Multiplies acc by x and adds the first one or two listed rows, so that an even number is left; gives how many it rowsAdded.
+// Multiplies acc by x and adds the first one or two listed rows, so that an even number is left; gives how many it added.
 fn multiply_x_first(list: &[u8], lanes: usize, rows: &[u8], acc: &mut [u8]) -> usize
     requires { ⌜ ListedRows lanes (now list) (now rows) (length (now acc)) ⌝ }
     ensures { λ r. ⌜ Started lanes (now (list .entry)) (now (rows .entry)) (now (acc .entry)) (now (acc .exit)) r ⌝ }
@@ -69,7 +69,7 @@ fn add_pairs(list: &[u8], first: usize, lanes: usize, rows: &[u8], acc: &mut [u8
     }
 }
 
-// One step of Horner's rule, by a list of the rows that are rowsAdded.
+// One step of Horner's rule, by a list of the rows that are added.
 fn step_rows(digit: u8, weights: &[u16], lanes: usize, rows: &[u8], list: &mut [u8], acc: &mut [u8])
     requires { ⌜ (digit < 8) × Weighted 256 (length (now list)) lanes (now weights) (now rows) (length (now acc)) ⌝ }
     ensures { λ r. ⌜ now (acc .exit) ≡ rowsAdded lanes (now (rows .entry)) (rowsWith digit (length (now (list .entry))) (now (weights .entry))) (multiplied (now (acc .entry))) ⌝ }

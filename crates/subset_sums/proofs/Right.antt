@@ -175,7 +175,7 @@ module _ (rows groups : ℕ) (ws buffer : List ℕ) (a : Grouped rows groups ws 
       ∙ digits-ext x (digitAt d) small y rows 0 (λ k low high. used-at t lane k (omega arith))
       ∙ sym (passing-digits y (digitAt d) small rows 0)
 
-  -- the slices of digit d rowsAdded to acc are the rows that have it
+  -- the slices of digit d added to acc are the rows that have it
   slices-added : (d : ℕ) (acc : List ℕ) → length acc ≡ 64 → slicesAdded (tableOf groups buffer) (slicesFrom groups 0 (subsetAt ws d)) acc ≡ rowsAdded 64 used (rowsWith d rows ws) acc
   unfolding slicesAdded rowsAdded rowAt held byRow
   slices-added d acc long =

@@ -78,7 +78,7 @@ signed d q w (suc f) j r h e =
     rw (left, ← parity j r h, ← add-one j) (ap (λ c. when (eqb (j % 2) r) (binomial w j * (q ^ suc f - 1)) + c) (signed d q w f (j + 1) r h (omega arith)))
 
 module _ {n k q : ℕ} {word : List ℕ → ℕ → ℕ} (code : Mds n k q word) where
-  -- The differences of powers, the terms that are oddTerms on their side.
+  -- The differences of powers, the terms that are subtracted on their side.
   alternates : (w y : ℕ) → w ≤ y → y ≤ n → prescribed n k q w y + termsFrom (k + y - n) 0 false q w ≡ termsFrom (k + y - n) 0 true q w + atZero w
   unfolding prescribed
   alternates zero y l h =
@@ -93,7 +93,7 @@ module _ {n k q : ℕ} {word : List ℕ → ℕ → ℕ} (code : Mds n k q word)
       (alternates w y (omega arith) h)
       (rw less at (alternates w (y - 1) (omega arith) (omega arith))))
 
-  -- The words with a given support of w + 1 places, and the terms that are oddTerms, are the terms that are evenTerms.
+  -- The words with a given support of w + 1 places, and the terms that are subtracted, are the terms that are added.
   pub support-terms : (w : ℕ) → n - k + 1 ≤ suc w → suc w ≤ n → prescribed n k q (suc w) (suc w) + oddTerms (n - k + 1) q (suc w) ≡ evenTerms (n - k + 1) q (suc w)
   unfolding evenTerms oddTerms
   support-terms w low high =

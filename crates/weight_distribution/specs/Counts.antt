@@ -37,7 +37,7 @@ binomial (suc a) (suc b) = binomial a b + binomial a (suc b)
 unfoldable pub term : ℕ → ℕ → ℕ → ℕ → ℕ
 term d q w j = binomial w j * (q ^ (w - d + 1 - j) - 1)
 
--- of the terms for j from 0 to w − d, the sum of those that are evenTerms, j even, and of those that are oddTerms, j odd
+-- of the terms for j from 0 to w − d, the sum of those that are added, j even, and of those that are subtracted, j odd
 unfoldable pub evenTerms : ℕ → ℕ → ℕ → ℕ
 evenTerms d q w = sumOf (range 0 (w - d + 1)) (λ j. when (eqb (j % 2) 0) (term d q w j))
 

@@ -1,4 +1,4 @@
--- The products of a matrix and the lanes of a block: where the lanes stand, where the sums are resultBytes, and the scratch that it takes.
+-- The products of a matrix and the lanes of a block: where the lanes stand, where the sums are written, and the scratch that it takes.
 use mathlib.Core.Path.{_≡_}
 use mathlib.Core.Bool.{true}
 use mathlib.Core.List.{List}
@@ -25,13 +25,13 @@ sideOf RowsToLanes = byRow
 sideOf LanesToRows = byLane
 sideOf LanesToMarks = byLane
 
--- the bytes that are resultBytes for l lanes of so many sums of w bytes
+-- the bytes that are written for l lanes of so many sums of w bytes
 unfoldable pub outBytes : Way → ℕ → ℕ → ℕ → ℕ
 outBytes RowsToLanes w outputs l = w * outputs * l
 outBytes LanesToRows w outputs l = w * outputs * l
 outBytes LanesToMarks w outputs l = l
 
--- what is resultBytes, f i t being sum i of lane t: the sums lane after lane, or row after row, or a mark for each lane with a sum that is not 0
+-- what is written, f i t being sum i of lane t: the sums lane after lane, or row after row, or a mark for each lane with a sum that is not 0
 unfoldable pub resultBytes : Way → ℕ → ℕ → ℕ → (ℕ → ℕ → ℕ) → List ℕ
 resultBytes RowsToLanes w outputs l f = bytesOf w (buffer byLane outputs l f)
 resultBytes LanesToRows w outputs l f = bytesOf w (buffer byRow outputs l f)
@@ -45,7 +45,7 @@ laneSum m w ws source i t = dot (modulus (m .field)) (laneOf (sideOf (m .way)) (
 abbrev pub Sums : ℕ → ℕ → ℕ → ℕ → (ℕ → ℕ → ℕ) → List ℕ → Type 0
 Sums w outputs first count f words = (q : ℕ) → q < count → laneOf byRow (w * outputs) 64 q words ≡ bytesOf w (from (λ i. f i (first + q)) 0 outputs)
 
--- the first lanes are resultBytes
+-- the first lanes are written
 pub record LanesDone (w outputs l : ℕ) (f : ℕ → ℕ → ℕ) (first : ℕ) (out : List ℕ) : Type 0 where
   pub long : length out ≡ w * outputs * l
   pub holds : (t : ℕ) → t < first → laneOf byLane (w * outputs) l t out ≡ bytesOf w (from (λ i. f i t) 0 outputs)

@@ -23,7 +23,7 @@ xorSum f (j ∷ js) = bitXor (f j) (xorSum f js)
 unfoldable pub rowAt : ℕ → List ℕ → ℕ → ℕ → ℕ
 rowAt l s j t = held byRow (length s / l) l s j t
 
--- acc with the listed rows of a buffer rowsAdded
+-- acc with the listed rows of a buffer added
 unfoldable pub rowsAdded : ℕ → List ℕ → List ℕ → List ℕ → List ℕ
 rowsAdded l s js acc = lanewise (λ t y. bitXor y (xorSum (λ j. rowAt l s j t) js)) acc
 
@@ -36,7 +36,7 @@ pub record ListedRows (l : ℕ) (js s : List ℕ) (out : ℕ) : Type 0 where
   pub within : (i : ℕ) → i < length js → getD js i 0 * l + l ≤ length s
   pub out-long : out ≡ l
 
--- acc was multiplied and the first r listed rows were rowsAdded: with the others, an even number, it makes the multiplied acc with all
+-- acc was multiplied and the first r listed rows were added: with the others, an even number, it makes the multiplied acc with all
 pub record Started (l : ℕ) (js s acc acc′ : List ℕ) (r : ℕ) : Type 0 where
   pub few : r ≤ length js
   pub even : (length js - r) % 2 ≡ 0

@@ -1,4 +1,4 @@
--- `multiply_x_first` meets its contract: none, one or two rows are rowsAdded in the pass that multiplies by x.
+-- `multiply_x_first` meets its contract: none, one or two rows are added in the pass that multiplies by x.
 use mathlib.Core.Path.{ap}
 use native.Mathlib.Omega.{arith}
 use borrow.Author.Needs.{needs}
