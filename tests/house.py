@@ -40,7 +40,7 @@ def declarations(text):
     """(name, the lines that declare it, the modules around it) for each declaration; a record's fields are part of it"""
     found, depth, around = [], None, []
     for line in text.split("\n"):
-        if not line.strip() or line.lstrip().startswith(("--", "use ", "pub mod", "mod ")):
+        if not line.strip() or line.lstrip().startswith(("--", "use ", "open ", "pub mod", "mod ")):
             continue
         indent = len(line) - len(line.lstrip())
         while around and indent <= around[-1][0]:

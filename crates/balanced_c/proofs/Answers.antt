@@ -16,7 +16,8 @@ use Rattle.belongs.specs.Promise.{belongsFault, BelongsSays}
 use Rattle.recover.specs.Promise.{recoverFault, rebuildFault, RecoverSays, RebuildSays}
 use Rattle.update.specs.Promise.{updateFault, UpdateSays}
 use Rattle.encode.specs.Promise.{encodeFault, EncodeSays}
-use Rattle.blocks.specs.Answers.{outcomeOf, outcomeNumber}
+use Rattle.blocks.specs.Answers.{outcomeOf}
+use Rattle.blocks.specs.Inner.Answers.{outcomeNumber}
 use Rattle.blocks.proofs.Answered.{outcome-number, altered-means, refused-means, yes-means, no-means, refusal-means}
 use Rattle.blocks.proofs.Bytes.{altered-symbols}
 use Rattle.blocks.proofs.Refused.{update-refused, refused-value}

@@ -2,7 +2,7 @@
 ghost use mathlib.Core.Path.{_≡_};
 ghost use lib.ListN.{length};
 ghost use Rattle.lists.specs.Choice.{firstOf};
-ghost use Rattle.blocks.specs.Answers.{outcomeNumber};
+ghost use Rattle.blocks.specs.Inner.Answers.{outcomeNumber};
 ghost use Rattle.balanced_c.specs.Calls.{planRoomFault, numbersOf, PlanGives, EncodeGives, UpdateGives, RecoverGives, RebuildGives, BelongsGives, ToLanesGives, ToNodesGives, WeightsGive};
 
 mod correction;

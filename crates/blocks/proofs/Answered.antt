@@ -8,7 +8,8 @@ use Rattle.lists.proofs.Cases.{by-test, never}
 use Rattle.blocks.specs.declared.Outcome.the-variants as O
 use Rattle.blocks.specs.declared.Update.the-variants as U
 use Rattle.blocks.specs.declared.Membership.the-variants as M
-use Rattle.blocks.specs.Answers.{outcomeOf, updateOf, membershipOf, outcomeNumber}
+use Rattle.blocks.specs.Answers.{outcomeOf, updateOf, membershipOf}
+use Rattle.blocks.specs.Inner.Answers.{outcomeNumber}
 
 -- the number of an outcome is the one that it was made of
 pub outcome-number : (f : ℕ) → outcomeNumber (outcomeOf f) ≡ f

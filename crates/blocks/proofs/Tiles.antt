@@ -6,7 +6,8 @@ use Prim.Native.Nat.{ℕ, _+_, _*_, _≤_, _<_}
 use native.Mathlib.Omega.{arith}
 use Rattle.lists.specs.Numbers.{allBelow}
 use Rattle.lists.specs.Rows.{from}
-use Rattle.layout.specs.Layout.{Arrangement, byRow, byLane, rearranged, someLanes}
+use Rattle.layout.specs.Layout.{Arrangement, byRow, byLane, rearranged}
+use Rattle.layout.specs.Inner.Parts.{someLanes}
 use Rattle.layout.specs.Width.{symbolsOf}
 use Rattle.layout.specs.Inner.Tiles.{tileSymbols}
 use Rattle.layout.proofs.TileLanes.{tile-read, tile-lanes}
@@ -16,7 +17,8 @@ use Rattle.layout.proofs.Runs.{length-some, some-below}
 use Rattle.generator.specs.declared.Header.{Header}
 use Rattle.generator.specs.Records.{size}
 use Rattle.generator.proofs.Widths.{width-some}
-use Rattle.refusals.specs.Accepted.{SymbolRows, SymbolBytes, SymbolTile}
+use Rattle.refusals.specs.Accepted.{SymbolRows}
+use Rattle.refusals.specs.Inner.Accepted.{SymbolBytes, SymbolTile}
 use Rattle.blocks.specs.Blocks.{shareAt, sharesOf}
 
 -- shares rearranged are the shares in the other arrangement

@@ -23,8 +23,3 @@ updateOf (suc f) count = U.Refused (suc f)
 unfoldable pub membershipOf : ℕ → ℕ → ℕ → Membership
 membershipOf zero l wrong = pick (eqb wrong l) M.Yes (M.No wrong)
 membershipOf (suc f) l wrong = M.Refused (suc f)
-
--- the number of the table that an answer gives, 0 where the call was accepted
-unfoldable pub outcomeNumber : Outcome → ℕ
-outcomeNumber O.Done = 0
-outcomeNumber (O.Refused f) = f

@@ -2,3 +2,4 @@
 pub mod Blocks
 pub mod Bytes
 pub mod Answers
+pub mod Inner

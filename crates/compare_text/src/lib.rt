@@ -14,7 +14,8 @@ ghost use lib.ListN.{length};
 ghost use Rattle.lists.specs.Padded.{zeros};
 ghost use Rattle.generator.specs.Records.{recordOf, distance, Sound};
 ghost use Rattle.generator.specs.Comparison.{plainGreatest, ComparedRecord};
-ghost use Rattle.text.specs.Writing.{Puts, OnPage};
+ghost use Rattle.text.specs.Writing.{OnPage};
+ghost use Rattle.text.specs.Inner.Writing.{Puts};
 ghost use Rattle.compare_text.specs.Comparison.{costLine, plainLine, balancedLine, boundLine, comparisonFor};
 
 // The greatest reads of a node of the plain layout.

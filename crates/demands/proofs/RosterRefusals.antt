@@ -21,7 +21,8 @@ use Rattle.roster.specs.declared.Roster.{Roster}
 use Rattle.roster.specs.declared.Listing.{Listing}
 use Rattle.roster.specs.declared.Listing.the-variants.{Written, TooFew, Refused}
 use Rattle.roster.specs.Events.{Event, leaves, returns, named, says}
-use Rattle.roster.specs.Rosters.{isPresent, firstStep, startOf, eventFault, stepOf, listingNumber, wrote, lowestOf, lowestList, jobOf, jobList}
+use Rattle.roster.specs.Rosters.{isPresent, firstStep, startOf, eventFault, stepOf, wrote, lowestOf, lowestList, jobOf, jobList}
+use Rattle.roster.specs.Inner.Answers.{listingNumber}
 use Rattle.roster.proofs.Stepping.{start-number, step-number, step-same, turned-away}
 use Rattle.roster.proofs.Lowest.{lowest-number, lowest-kept, lowest-refused}
 use Rattle.roster.proofs.OneJob.{job-listing, job-kept}

@@ -11,7 +11,8 @@ use Rattle.lists.specs.Rows.{from}
 use Rattle.lists.specs.Numbers.{allBelow}
 use Rattle.lists.proofs.Numbers.{below-at, at-below}
 use Rattle.lists.proofs.Rows.{length-from, getD-from, from-ext}
-use Rattle.layout.specs.Layout.{Arrangement, held, laneOf, rowOf, buffer, rearranged}
+use Rattle.layout.specs.Layout.{Arrangement, held, laneOf, buffer, rearranged}
+use Rattle.layout.specs.Inner.Parts.{rowOf}
 use Rattle.layout.proofs.Lawful.{Lawful}
 
 module _ (y : Arrangement) (rows l : ℕ) where

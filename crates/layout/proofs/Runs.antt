@@ -12,7 +12,8 @@ use lib.Seq.{ext-getD, length-take-le, getD-take, getD-drop, getD-append-add}
 use Rattle.lists.specs.Rows.{from}
 use Rattle.lists.specs.Numbers.{allBelow}
 use Rattle.lists.proofs.Rows.{length-from, getD-from, row-inside, part-length, getD-part}
-use Rattle.layout.specs.Layout.{Arrangement, byRow, byLane, held, laneOf, buffer, rearranged, someLanes, withLane}
+use Rattle.layout.specs.Layout.{Arrangement, byRow, byLane, held, laneOf, buffer, rearranged, withLane}
+use Rattle.layout.specs.Inner.Parts.{someLanes}
 use Rattle.layout.proofs.Lawful.{Lawful, by-lane}
 use Rattle.layout.proofs.Buffers.{length-lane, getD-lane, length-buffer, lane-buffer, buffer-ext, held-equal, held-below, buffer-below}
 use Rattle.layout.proofs.OneLane.{length-with-lane, held-changed, held-kept}

@@ -9,7 +9,8 @@ use lib.ListN.{length, take, drop}
 use Rattle.lists.specs.Numbers.{allBelow}
 use Rattle.lists.proofs.Numbers.{below-take, below-drop}
 use Rattle.lists.proofs.Rows.{part-size, part-length}
-use Rattle.layout.specs.Layout.{byRow, byLane, held, rearranged, someLanes}
+use Rattle.layout.specs.Layout.{byRow, byLane, held, rearranged}
+use Rattle.layout.specs.Inner.Parts.{someLanes}
 use Rattle.layout.specs.Width.{symbolsOf, bytesOf}
 use Rattle.layout.specs.Inner.Tiles.{tileSymbols, tileBytes}
 use Rattle.layout.proofs.Lawful.{by-row, by-lane}

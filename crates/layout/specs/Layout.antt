@@ -32,10 +32,6 @@ held y rows l s i t = getD s (y rows l .place i t) 0
 unfoldable pub laneOf : Arrangement → ℕ → ℕ → ℕ → List ℕ → List ℕ
 laneOf y rows l t s = from (λ i. held y rows l s i t) 0 rows
 
--- row i of a buffer
-unfoldable pub rowOf : Arrangement → ℕ → ℕ → ℕ → List ℕ → List ℕ
-rowOf y rows l i s = from (held y rows l s i) 0 l
-
 -- the buffer with f i t in row i of lane t
 unfoldable pub buffer : Arrangement → ℕ → ℕ → (ℕ → ℕ → ℕ) → List ℕ
 buffer y rows l f = from (λ x. f (y rows l .row x) (y rows l .lane x)) 0 (rows * l)
@@ -47,10 +43,6 @@ rearranged y z rows l s = buffer z rows l (held y rows l s)
 -- a buffer with g i in row i of lane t, and its other lanes as they are
 unfoldable pub withLane : Arrangement → ℕ → ℕ → ℕ → (ℕ → ℕ) → List ℕ → List ℕ
 withLane y rows l t g s = buffer y rows l (λ i q. pick (eqb q t) (g i) (held y rows l s i q))
-
--- the c lanes from lane t on of a buffer arranged as y, as a buffer of c lanes arranged as z
-unfoldable pub someLanes : Arrangement → Arrangement → ℕ → ℕ → ℕ → ℕ → List ℕ → List ℕ
-someLanes y z rows l t c s = buffer z rows c (λ i q. held y rows l s i (t + q))
 
 -- how shares stand in a buffer; a message stands row after row
 unfoldable pub shareLayout : Arrangement

@@ -7,11 +7,6 @@ abbrev pub pick : {A : Type 0} → Bool → A → A → A
 pick true a b = a
 pick false a b = b
 
--- the same for two statements
-abbrev pub pickT : Bool → Type 0 → Type 0 → Type 0
-pickT true a b = a
-pickT false a b = b
-
 -- the first of two numbers that is not 0
 abbrev pub firstOf : ℕ → ℕ → ℕ
 firstOf zero b = b

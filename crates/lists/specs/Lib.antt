@@ -15,3 +15,4 @@ pub mod Counting
 pub mod Numbers
 pub mod Search
 pub mod AllLists
+pub mod Inner

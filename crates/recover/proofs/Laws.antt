@@ -6,7 +6,8 @@ use native.Mathlib.Decide.{ℕ-discrete}
 use borrow.Author.Tests.{ne-eqb}
 use lib.Dec.{eqb}
 use lib.ListN.{length}
-use Rattle.lists.specs.Choice.{pick, pickT}
+use Rattle.lists.specs.Choice.{pick}
+use Rattle.lists.specs.Inner.Choice.{pickT}
 use Rattle.layout.specs.Layout.{Arrangement}
 use Rattle.layout.proofs.Lawful.{Lawful}
 use Rattle.generator.specs.Records.{headerOf}

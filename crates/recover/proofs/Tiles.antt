@@ -6,7 +6,8 @@ use native.Mathlib.Nat.{add-zero, mul-comm, mul-le-mul, le-trans}
 use native.Mathlib.Omega.{arith}
 use lib.ListN.{length, take, drop}
 use Rattle.lists.proofs.Rows.{from-ext, from-move, length-from, part-size}
-use Rattle.layout.specs.Layout.{Arrangement, byRow, byLane, laneOf, buffer, someLanes, shareLayout}
+use Rattle.layout.specs.Layout.{Arrangement, byRow, byLane, laneOf, buffer, shareLayout}
+use Rattle.layout.specs.Inner.Parts.{someLanes}
 use Rattle.layout.specs.Width.{symbolsOf, bytesOf}
 use Rattle.layout.proofs.Widths.{length-bytes}
 use Rattle.layout.proofs.LaneParts.{lanes-long, bytes-part}
@@ -18,7 +19,8 @@ use Rattle.field.specs.Inner.Sums.{dot}
 use Rattle.generator.specs.declared.Header.{Header}
 use Rattle.generator.specs.Records.{modulusOf, width, Sound}
 use Rattle.generator.proofs.Widths.{width-range}
-use Rattle.refusals.specs.Accepted.{SymbolBytes, ListedShares}
+use Rattle.refusals.specs.Accepted.{ListedShares}
+use Rattle.refusals.specs.Inner.Accepted.{SymbolBytes}
 use Rattle.blocks.specs.Bytes.{rebuiltBytes}
 use Rattle.blocks.proofs.Recovered.{listed-message}
 use Rattle.row_sums.specs.Inner.Combined.{combined}

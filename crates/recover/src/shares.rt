@@ -4,10 +4,11 @@ ghost use mathlib.Core.Bool.{true};
 ghost use Prim.Native.Nat.{_+_, _*_, _≤_, _<_};
 ghost use lib.ListN.{length};
 ghost use Rattle.lists.specs.Numbers.{allBelow};
-ghost use Rattle.layout.specs.Layout.{byRow, byLane, someLanes};
+ghost use Rattle.layout.specs.Layout.{byRow, byLane};
+ghost use Rattle.layout.specs.Inner.Parts.{someLanes};
 ghost use Rattle.layout.specs.Width.{symbolsOf, bytesOf};
 ghost use Rattle.generator.specs.Records.{modulusOf, size};
-ghost use Rattle.refusals.specs.Accepted.{SymbolBytes};
+ghost use Rattle.refusals.specs.Inner.Accepted.{SymbolBytes};
 ghost use Rattle.row_sums.specs.Inner.Combined.{combined};
 use generator::Header;
 

@@ -12,7 +12,6 @@ use Rattle.generator.specs.Messages.{messageOf}
 use Rattle.generator.specs.Claims.{areNodes}
 use Rattle.layout.specs.Layout.{laneOf, shareLayout}
 use Rattle.layout.specs.Width.{symbolsOf}
-use Rattle.layout.specs.Inner.Tiles.{tileSymbols}
 
 -- rows of symbols in l lanes, over a sound header
 pub record SymbolRows (h : Header) (rows l : ℕ) (s : List ℕ) : Type 0 where
@@ -26,17 +25,6 @@ pub record SymbolRows (h : Header) (rows l : ℕ) (s : List ℕ) : Type 0 where
 pub record SymbolBuffer (h : Header) (rows l : ℕ) (s : List ℕ) : Type 0 where
   pub bytes : length s ≡ rows * l * width h
   pub symbol-rows : SymbolRows h rows l (symbolsOf (width h) s)
-
--- the same where a symbol's bytes are told, and a tile of such rows
-pub record SymbolBytes (h : Header) (w rows l : ℕ) (s : List ℕ) : Type 0 where
-  pub wide : w ≡ width h
-  pub bytes : length s ≡ w * rows * l
-  pub symbol-rows : SymbolRows h rows l (symbolsOf w s)
-
-pub record SymbolTile (h : Header) (w rows l : ℕ) (s : List ℕ) : Type 0 where
-  pub wide : w ≡ width h
-  pub bytes : length s ≡ w * rows * l
-  pub symbol-rows : SymbolRows h rows l (tileSymbols w rows l s)
 
 -- a lane of n symbols
 pub record IsLane (h : Header) (us : List ℕ) : Type 0 where

@@ -3,3 +3,4 @@ pub mod Conditions
 pub mod Faults
 pub mod Accepted
 pub mod Promise
+pub mod Inner

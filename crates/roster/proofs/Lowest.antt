@@ -29,7 +29,8 @@ use Rattle.roster.specs.declared.Roster.{Roster}
 use Rattle.roster.specs.declared.Listing.{Listing}
 use Rattle.roster.specs.declared.Listing.the-variants.{Written, TooFew, Refused}
 use Rattle.roster.specs.declared.present.Present.{Present}
-use Rattle.roster.specs.Rosters.{isPresent, presentOf, present, listingOf, listingNumber, wrote, listing, listed, lowestNodes, lowestOf, lowestList}
+use Rattle.roster.specs.Rosters.{isPresent, presentOf, present, listingOf, wrote, listing, listed, lowestNodes, lowestOf, lowestList}
+use Rattle.roster.specs.Inner.Answers.{listingNumber}
 use Rattle.roster.specs.Claims.{IsIn, presentCount, Lowest}
 use Rattle.roster.proofs.Nodes.{present-rises, present-distinct, present-low, present-marked, present-place, count-is, from-array}
 

@@ -15,7 +15,8 @@ use Rattle.roster.specs.declared.Listing.{Listing}
 use Rattle.roster.specs.declared.Listing.the-variants.{Written, TooFew, Refused}
 use Rattle.roster.specs.declared.Job.{Job}
 use Rattle.roster.specs.declared.present.Present.{Present}
-use Rattle.roster.specs.Rosters.{presentOf, present, listingNumber, listed, nodesAt, jobNodes, movedOn, after, lowestOf, jobOf, jobList, JobSays}
+use Rattle.roster.specs.Rosters.{presentOf, present, listed, nodesAt, jobNodes, movedOn, after, lowestOf, jobOf, jobList}
+use Rattle.roster.specs.Inner.Answers.{listingNumber, JobSays}
 use Rattle.roster.specs.Claims.{presentCount, Jobs}
 use Rattle.roster.proofs.Nodes.{count-is, from-array}
 use Rattle.roster.proofs.Lowest.{around-nodes, around-here, enough-are, same-present}

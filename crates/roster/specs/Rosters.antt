@@ -1,5 +1,4 @@
 -- Rosters: the present nodes, events, the query and the jobs.
-use mathlib.Core.Path.{_≡_}
 use mathlib.Core.Bool.{Bool, Bool·beq, true, false, not}
 use mathlib.Core.List.{List}
 use Prim.Native.Nat.{ℕ, zero, suc, _+_, _*_, _%_}
@@ -72,12 +71,6 @@ listingOf zero true = Written
 listingOf zero false = TooFew
 listingOf (suc f) enough = Refused (suc f)
 
--- the number of an answer, and whether the list was written
-unfoldable pub listingNumber : Listing → ℕ
-listingNumber Written = 0
-listingNumber TooFew = 0
-listingNumber (Refused f) = f
-
 unfoldable pub wrote : Listing → Bool
 wrote Written = true
 wrote TooFew = false
@@ -132,9 +125,3 @@ jobOf (Holds h) r list = record { roster = after (lowestOf (Holds h) r list) (h 
 unfoldable pub jobList : Record → Roster → List ℕ → List ℕ
 jobList (Meets f) r list = list
 jobList (Holds h) r list = listed (lowestOf (Holds h) r list) (jobNodes (h .n) (h .k) r) list
-
--- what a job promises for n and k
-pub record JobSays (n k : ℕ) (r : Roster) (list list′ : List ℕ) (a : Job) : Type 0 where
-  pub answer : a .listing ≡ listing k (length (presentOf n (r .marks))) (length list)
-  pub roster : a .roster ≡ after (a .listing) n r
-  pub written : list′ ≡ listed (a .listing) (jobNodes n k r) list

@@ -1,6 +1,6 @@
 // Jobs: each reads the next k present nodes, going round.
 ghost use Prim.Native.Nat.{_<_};
-ghost use Rattle.roster.specs.Rosters.{JobSays};
+ghost use Rattle.roster.specs.Inner.Answers.{JobSays};
 use crate::Job;
 use crate::Listing;
 use crate::Roster;

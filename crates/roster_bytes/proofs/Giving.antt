@@ -15,12 +15,14 @@ use Rattle.roster.specs.declared.Roster.{Roster}
 use Rattle.roster.specs.declared.Listing.{Listing}
 use Rattle.roster.specs.declared.Listing.the-variants.{Written, TooFew, Refused}
 use Rattle.roster.specs.Events.{Event}
-use Rattle.roster.specs.Rosters.{startOf, stepOf, listingNumber, wrote, lowestOf, lowestList, jobOf, jobList}
+use Rattle.roster.specs.Rosters.{startOf, stepOf, wrote, lowestOf, lowestList, jobOf, jobList}
+use Rattle.roster.specs.Inner.Answers.{listingNumber}
 use Rattle.roster.proofs.Stepping.{start-number, step-number}
 use Rattle.roster.proofs.Lowest.{lowest-number, lowest-wrote, lowest-kept, lowest-refused}
 use Rattle.roster.proofs.OneJob.{job-kept}
 use Rattle.roster_bytes.specs.Bytes.{rosterOf, rosterBytes, bytesFault, eventBytes}
-use Rattle.roster_bytes.specs.Calls.{rosterRoomFault, toldOf, listingFault, isEnough, StartGives, EventGives, LowestGives, JobGives}
+use Rattle.roster_bytes.specs.Calls.{rosterRoomFault, listingFault, isEnough, StartGives, EventGives, LowestGives, JobGives}
+use Rattle.roster_bytes.specs.Inner.Calls.{toldOf}
 
 -- no second number
 first-none : (f : ℕ) → firstOf f 0 ≡ f

@@ -17,7 +17,8 @@ use Rattle.roster.specs.declared.Roster.{Roster}
 use Rattle.roster.specs.Events.{Event}
 use Rattle.roster.specs.Rosters.{stepOf}
 use Rattle.roster.proofs.Stepping.{step-number, step-same, step-length}
-use Rattle.roster_bytes.specs.Bytes.{marksOf, rosterOf, markBytes, rosterBytes, marksIn, bytesFault, eventBytes}
+use Rattle.roster_bytes.specs.Bytes.{marksOf, rosterOf, markBytes, rosterBytes, bytesFault, eventBytes}
+use Rattle.roster_bytes.specs.Inner.Bytes.{marksIn}
 
 pub length-marks : (marks : List Bool) → length (markBytes marks) ≡ 255
 unfolding markBytes

@@ -3,7 +3,7 @@ use mathlib.Core.Bool.{Bool, false, not}
 use mathlib.Core.List.{List, [], _∷_, _++_}
 use Prim.Native.Nat.{ℕ}
 use lib.Dec.{eqb}
-use lib.ListN.{getD, drop}
+use lib.ListN.{getD}
 use Rattle.lists.specs.Choice.{pick, firstOf}
 use Rattle.lists.specs.Rows.{from}
 use Rattle.generator.specs.Records.{headerOf, recordFault, recordOf}
@@ -24,10 +24,6 @@ markBytes marks = from (λ j. pick (getD marks j false) 1 0) 0 255
 
 unfoldable pub rosterBytes : Roster → List ℕ
 rosterBytes r = markBytes (r .marks) ++ (r .job ∷ [])
-
--- the bytes with other marks
-unfoldable pub marksIn : List Bool → List ℕ → List ℕ
-marksIn marks s = markBytes marks ++ drop 255 s
 
 -- the number that an event meets on the roster that bytes hold: the record's, then 9, then 15
 unfoldable pub bytesFault : List ℕ → Event → List ℕ → ℕ

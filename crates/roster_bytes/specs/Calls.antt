@@ -7,8 +7,6 @@ use lib.Dec.{eqb, leb}
 use lib.ListN.{length}
 use Rattle.lists.specs.Choice.{pick, firstOf, when}
 use Rattle.generator.specs.Records.{headerOf, recordFault, recordOf}
-use Rattle.roster.specs.declared.Listing.{Listing}
-use Rattle.roster.specs.declared.Listing.the-variants.{Written, TooFew, Refused}
 use Rattle.roster.specs.Events.{Event, named, says}
 use Rattle.roster.specs.Rosters.{presentOf, startOf, eventFault, lowestList, jobOf, jobList}
 use Rattle.roster_bytes.specs.Bytes.{rosterOf, rosterBytes, eventBytes}
@@ -26,12 +24,6 @@ pub record StartGives (rec bytes bytes′ : List ℕ) (r : ℕ) : Type 0 where
 pub record EventGives (rec bytes : List ℕ) (e : Event) (bytes′ : List ℕ) (r : ℕ) : Type 0 where
   pub number : r ≡ firstOf (recordFault rec) (firstOf (rosterRoomFault (length bytes)) (eventFault (headerOf rec .n) (named e) (says e) (rosterOf bytes .marks)))
   pub bytes-are : bytes′ ≡ pick (eqb (length bytes) 256) (eventBytes rec e bytes) bytes
-
--- what `enough` receives
-unfoldable pub toldOf : Listing → ℕ → ℕ
-toldOf Written enough = 1
-toldOf TooFew enough = 0
-toldOf (Refused f) enough = enough
 
 -- the number of the query and of a job: the record's, then 8 for the roster or the list
 unfoldable pub listingFault : List ℕ → ℕ → ℕ → ℕ

@@ -2,7 +2,8 @@
 ghost use mathlib.Core.Path.{_≡_};
 ghost use lib.ListN.{length};
 ghost use Rattle.lists.specs.Choice.{pick};
-ghost use Rattle.roster_bytes.specs.Bytes.{marksOf, rosterOf, marksIn, rosterBytes};
+ghost use Rattle.roster_bytes.specs.Bytes.{marksOf, rosterOf, rosterBytes};
+ghost use Rattle.roster_bytes.specs.Inner.Bytes.{marksIn};
 use roster::Roster;
 
 // The marks: a byte other than 0 counts as present.

@@ -15,7 +15,8 @@ use Rattle.lists.specs.Counting.{countFrom}
 use Rattle.lists.specs.Numbers.{allBelow, isIn}
 use Rattle.lists.proofs.Count.{count-below, count-not}
 use Rattle.lists.proofs.Numbers.{isIn-below}
-use Rattle.scheme.specs.Messages.{Message, Change, Changed}
+use Rattle.scheme.specs.Messages.{Message, Change}
+use Rattle.scheme.specs.Inner.Messages.{Changed}
 use Rattle.scheme.specs.Schemes.{Scheme, Altered}
 use Rattle.scheme.specs.Costs.{AtLeast, AtMost}
 use Rattle.scheme.proofs.Deciding.{more, at-most, count-at-most, unlike, unlike-true, unlike-false, unlike-self, unlike-triangle}

@@ -4,3 +4,4 @@ pub mod Schemes
 pub mod Sums
 pub mod Costs
 pub mod Layouts
+pub mod Inner

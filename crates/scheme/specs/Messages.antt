@@ -18,7 +18,3 @@ symbols (suc k) m = m (zero, suc-le-suc zero-le) ∷ symbols k (λ i. m (Fin·su
 pub record Change {ℓ} {S : Type ℓ} {k : ℕ} (r : Fin k) (m u : Message S k) : Type ℓ where
   pub there : m r ≢ u r
   pub elsewhere : (i : Fin k) → i ≢ r → m i ≡ u i
-
--- two messages differ at symbol r, whatever they do elsewhere
-abbrev pub Changed {ℓ} : {S : Type ℓ} {k : ℕ} → Message S k → Message S k → Fin k → Type ℓ
-Changed m u r = m r ≢ u r

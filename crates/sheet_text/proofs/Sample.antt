@@ -15,7 +15,8 @@ use Rattle.generator.specs.Shifts.{gcdFrom, gcd, shiftsFrom, evenShifts, negati
 use Rattle.generator.specs.Generator.{baseFrom, baseAt, entryAt, baseWord}
 use Rattle.plan.specs.Plans.{planFor, entryIn}
 use Rattle.text.specs.Text.{ascii, decimal, field, fields, line}
-use Rattle.sheet_text.specs.Sheet.{roundings, numbersLine, headLine, rowLine, sheetOf}
+use Rattle.sheet_text.specs.Sheet.{roundings, numbersLine, rowLine}
+use Rattle.sheet_text.specs.Inner.Sheet.{headLine, sheetOf}
 
 -- a record and the text of its sheet
 pub data Case : Type 0 where

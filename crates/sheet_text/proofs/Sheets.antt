@@ -16,7 +16,8 @@ use Rattle.plan.specs.Plans.{planFor, entryIn}
 use Rattle.plan.proofs.Plans.{shift-in, first-in, entry-in}
 use Rattle.generator.proofs.Accepts.{accepted-sound}
 use Rattle.text.specs.Text.{ascii, line}
-use Rattle.sheet_text.specs.Sheet.{roundings, numbersLine, headLine, rowLine, sheetOf, sheetFor}
+use Rattle.sheet_text.specs.Sheet.{roundings, numbersLine, rowLine, sheetFor}
+use Rattle.sheet_text.specs.Inner.Sheet.{headLine, sheetOf}
 
 -- the line of a row of a sound header
 row-is : (h : Header) → Sound h → (r : ℕ) → r < h .k → rowLine (planFor (Holds h)) r ≡ line (ascii "row") (r ∷ getD (shifts h) r 0 ∷ getD (firsts h) r 0 ∷ from (entry h r) 0 (h .n))

@@ -1,2 +1,3 @@
 -- The text of a plan sheet.
 pub mod Sheet
+pub mod Inner

@@ -22,20 +22,9 @@ roundings low high = pick (eqb low high) (low ∷ []) (low ∷ high ∷ [])
 unfoldable pub numbersLine : Plan → List ℕ
 numbersLine p = line (ascii "plan") (p .n ∷ p .k ∷ p .d ∷ roundings (p .low) (p .high))
 
--- the first line of a plan's sheet: its numbers, or the number that turned the record away
-unfoldable pub headLine : Plan → List ℕ
-headLine p =
-    pick (eqb (p .number) 0)
-    (numbersLine p)
-    (line (ascii "refused") (p .number ∷ []))
-
 -- the line of row r: its number, its shift, its first node, its n entries
 unfoldable pub rowLine : Plan → ℕ → List ℕ
 rowLine p r = line (ascii "row") (r ∷ getD (p .shifts) r 0 ∷ getD (p .firsts) r 0 ∷ from (entryIn p r) 0 (p .n))
-
--- the sheet of a plan: the first line, and the k rows unless the record was turned away
-unfoldable pub sheetOf : Plan → List ℕ
-sheetOf p = headLine p ++ pick (eqb (p .number) 0) (rowsFrom (rowLine p) 0 (p .k)) []
 
 -- the sheet of a record, by the definitions of the generator
 unfoldable pub sheetFor : Record → List ℕ

@@ -15,8 +15,10 @@ ghost use Rattle.lists.specs.Padded.{zeros};
 ghost use Rattle.generator.specs.Records.{recordOf};
 ghost use Rattle.plan.specs.Plans.{entryIn};
 ghost use Rattle.text.specs.Text.{fields};
-ghost use Rattle.text.specs.Writing.{Puts, OnPage};
-ghost use Rattle.sheet_text.specs.Sheet.{numbersLine, headLine, rowLine, sheetOf, sheetFor};
+ghost use Rattle.text.specs.Writing.{OnPage};
+ghost use Rattle.text.specs.Inner.Writing.{Puts};
+ghost use Rattle.sheet_text.specs.Sheet.{numbersLine, rowLine, sheetFor};
+ghost use Rattle.sheet_text.specs.Inner.Sheet.{headLine, sheetOf};
 
 // Each `put_` function puts its text at a place of a buffer that has room for it, and gives the next place.
 

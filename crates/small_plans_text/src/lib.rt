@@ -12,7 +12,8 @@ ghost use Rattle.lists.specs.Padded.{zeros};
 ghost use Rattle.field.specs.Primes.{isPrime};
 ghost use Rattle.field.specs.Fields.{orderOf};
 ghost use Rattle.text.specs.Text.{decimal, line};
-ghost use Rattle.text.specs.Writing.{Puts, OnPage};
+ghost use Rattle.text.specs.Writing.{OnPage};
+ghost use Rattle.text.specs.Inner.Writing.{Puts};
 ghost use Rattle.small_plans_text.specs.SmallPlans.{rootLines, fieldLines, smallPlans};
 
 // Each `put_` function puts its text at a place of a buffer that has room for it, and gives the next place.

@@ -2,7 +2,7 @@
 ghost use mathlib.Core.Path.{_≡_};
 ghost use Prim.Native.Nat.{_+_, _≤_, _<_};
 ghost use lib.ListN.{length};
-ghost use Rattle.text.specs.Writing.{Puts};
+ghost use Rattle.text.specs.Inner.Writing.{Puts};
 ghost use Rattle.tables.specs.Tables.{logarithmOf, logarithmLines};
 use crate::powers::next;
 use crate::powers::put_line;

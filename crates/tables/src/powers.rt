@@ -3,7 +3,7 @@ ghost use mathlib.Core.Path.{_≡_};
 ghost use Prim.Native.Nat.{_+_, _≤_, _<_};
 ghost use lib.ListN.{length};
 ghost use Rattle.field.specs.Bytes.{timesX};
-ghost use Rattle.text.specs.Writing.{Puts};
+ghost use Rattle.text.specs.Inner.Writing.{Puts};
 ghost use Rattle.tables.specs.Tables.{numberLine, powerLines};
 use text::put_byte;
 use text::put_number;

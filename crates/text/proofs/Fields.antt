@@ -7,7 +7,8 @@ use native.Mathlib.Decide.{decLt}
 use native.Mathlib.Omega.{arith}
 use lib.ListN.{length, drop, length-drop}
 use borrow.Author.Tests.{lt-ltb, le-ltb}
-use Rattle.text.specs.Text.{digit, decimal, zerosBefore, field}
+use Rattle.text.specs.Text.{digit, decimal, field}
+use Rattle.text.specs.Inner.Text.{zerosBefore}
 
 -- one, two or three digits
 pub one-digit : (x : ℕ) → x < 10 → field x ≡ 32 ∷ digit x ∷ []

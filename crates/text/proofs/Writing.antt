@@ -6,7 +6,8 @@ use native.Mathlib.Omega.{arith}
 use lib.ListN.{length, take, drop, length-append, take-append-drop}
 use lib.Seq.{length-take-le, take-at, drop-at, drop-drop}
 use Rattle.lists.proofs.Fill.{Fills, fills-part, fills-done}
-use Rattle.text.specs.Writing.{written, Puts, OnPage}
+use Rattle.text.specs.Writing.{OnPage}
+use Rattle.text.specs.Inner.Writing.{written, Puts}
 
 -- two texts one after the other
 pub puts-then : {s t u : List ℕ} {at next last : ℕ} {xs ys : List ℕ} → Puts s t at next xs → Puts t u next last ys → at ≤ length s → Puts s u at last (xs ++ ys)

@@ -27,10 +27,6 @@ decimal x =
     (digit (x / 1000) ∷ digit (x / 100 % 10) ∷ digit (x / 10 % 10) ∷ digit (x % 10) ∷ [])
     (digit (x / 10000) ∷ digit (x / 1000 % 10) ∷ digit (x / 100 % 10) ∷ digit (x / 10 % 10) ∷ digit (x % 10) ∷ []))))
 
--- how many of five digits are zeros in front of the number
-unfoldable pub zerosBefore : ℕ → ℕ
-zerosBefore x = pick (ltb x 10) 4 (pick (ltb x 100) 3 (pick (ltb x 1000) 2 (pick (ltb x 10000) 1 0)))
-
 -- a field: a space and a number
 unfoldable pub field : ℕ → List ℕ
 field x = 32 ∷ decimal x

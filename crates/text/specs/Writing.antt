@@ -4,15 +4,6 @@ use mathlib.Core.List.{List, _++_}
 use Prim.Native.Nat.{ℕ, _+_, _≤_}
 use lib.ListN.{length, take, drop}
 
--- a buffer with a text from a place on
-unfoldable pub written : List ℕ → ℕ → List ℕ → List ℕ
-written s at text = take at s ++ (text ++ drop (length text) (drop at s))
-
--- a text was put at a place: the buffer before and after, the place and the next one
-pub record Puts (before after : List ℕ) (at next : ℕ) (text : List ℕ) : Type 0 where
-  pub place : next ≡ at + length text
-  pub bytes : after ≡ written before at text
-
 -- a text stands at the front of a page, and after it what stood there: the page before and after, and the text's length. The last two follow from the others, and are what a caller needs to lend the part of the page that holds the text
 abbrev pub OnPage : List ℕ → List ℕ → ℕ → List ℕ → Type 0
 OnPage before after size text = (after ≡ text ++ drop size before) × (size ≡ length text) × (size ≤ length after) × (size ≡ length (take size after))

@@ -3,8 +3,9 @@ ghost use mathlib.Core.Path.{_≡_};
 ghost use mathlib.Core.List.{[], _∷_};
 ghost use Prim.Native.Nat.{_+_, _*_, _%_, _≤_, _<_};
 ghost use lib.ListN.{length};
-ghost use Rattle.text.specs.Text.{digit, decimal, zerosBefore, field, fields, line};
-ghost use Rattle.text.specs.Writing.{Puts};
+ghost use Rattle.text.specs.Text.{digit, decimal, field, fields, line};
+ghost use Rattle.text.specs.Inner.Text.{zerosBefore};
+ghost use Rattle.text.specs.Inner.Writing.{Puts};
 
 pub fn put_byte(out: &mut [u8], at: usize, b: u8) -> usize
     requires { ⌜ at < length (now out) ⌝ }

@@ -2,7 +2,8 @@
 ghost use mathlib.Core.Path.{_≡_};
 ghost use Prim.Native.Nat.{_+_, _*_, _≤_, _<_};
 ghost use lib.ListN.{length};
-ghost use Rattle.layout.specs.Layout.{byRow, byLane, laneOf, rearranged, someLanes};
+ghost use Rattle.layout.specs.Layout.{byRow, byLane, laneOf, rearranged};
+ghost use Rattle.layout.specs.Inner.Parts.{someLanes};
 use crate::many_lanes;
 use crate::size;
 

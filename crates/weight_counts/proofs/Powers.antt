@@ -14,7 +14,7 @@ use Rattle.lists.proofs.Rows.{from-ext}
 use Rattle.generator.specs.declared.Header.{Header}
 use Rattle.generator.specs.Records.{size, Sound}
 use Rattle.refusals.proofs.Accepts.{not-met}
-use Rattle.weight_distribution.specs.Counts.{prescribed}
+use Rattle.weight_distribution.specs.Inner.Prescribed.{prescribed}
 use Rattle.weight_counts.specs.Weights.{messagesBad, weightsFault}
 use Rattle.weight_counts.specs.Inner.Counting.{Small, messageCount, differencesOf}
 

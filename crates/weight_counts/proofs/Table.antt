@@ -16,7 +16,8 @@ use Rattle.lists.proofs.Rows.{length-from, getD-from, from-ext}
 use Rattle.generator.specs.declared.Header.{Header}
 use Rattle.generator.specs.Records.{size, Sound}
 use Rattle.generator.specs.Codewords.{nodeOf}
-use Rattle.weight_distribution.specs.Counts.{binomial, prescribed}
+use Rattle.weight_distribution.specs.Counts.{binomial}
+use Rattle.weight_distribution.specs.Inner.Prescribed.{prescribed}
 use Rattle.weight_distribution.proofs.Prescribed.{binomial-zero, prescribed-mono}
 use Rattle.weight_distribution.proofs.Distribution.{count-least, weights-by-support}
 use Rattle.weight_counts.specs.Weights.{weightCountOf, weightCounts}

@@ -13,7 +13,8 @@ use Rattle.lists.specs.Counting.{countFrom}
 use Rattle.lists.specs.Rows.{range}
 use Rattle.lists.proofs.Count.{count-not}
 use Rattle.lists.proofs.Places.{length-range}
-use Rattle.weight_distribution.specs.Counts.{sumOf, messageAt, hammingWeight, weightCount, binomial, evenTerms, oddTerms, textbook, prescribed}
+use Rattle.weight_distribution.specs.Counts.{sumOf, messageAt, hammingWeight, weightCount, binomial, evenTerms, oddTerms, textbook}
+use Rattle.weight_distribution.specs.Inner.Prescribed.{prescribed}
 use Rattle.weight_distribution.proofs.Sums.{sum-count, sum-swap, sum-const}
 use Rattle.weight_distribution.proofs.Messages.{sum-numbered, symbol-once}
 use Rattle.weight_distribution.proofs.Zeros.{Mds, total}

@@ -11,7 +11,8 @@ use Rattle.lists.specs.Choice.{when}
 use Rattle.lists.specs.Counting.{countFrom}
 use Rattle.lists.specs.Rows.{from, range}
 use Rattle.lists.proofs.Places.{Places, Places-range, range-append, length-range}
-use Rattle.weight_distribution.specs.Counts.{hammingWeight, binomial, prescribed}
+use Rattle.weight_distribution.specs.Counts.{hammingWeight, binomial}
+use Rattle.weight_distribution.specs.Inner.Prescribed.{prescribed}
 use Rattle.weight_distribution.proofs.Sums.{allPass, sum-add, sum-zero}
 use Rattle.weight_distribution.proofs.Moves.{Places-front, Places-back, Places-next}
 use Rattle.weight_distribution.proofs.Messages.{messages}

@@ -11,7 +11,8 @@ use lib.Dec.{eqb}
 use borrow.Author.Tests.{eq-eqb, ne-eqb}
 use Rattle.lists.specs.Choice.{when}
 use Rattle.lists.specs.Rows.{from, range}
-use Rattle.weight_distribution.specs.Counts.{sumOf, binomial, term, evenTerms, oddTerms, prescribed}
+use Rattle.weight_distribution.specs.Counts.{sumOf, binomial, term, evenTerms, oddTerms}
+use Rattle.weight_distribution.specs.Inner.Prescribed.{prescribed}
 use Rattle.weight_distribution.proofs.Prescribed.{binomial-zero, prescribed-mono}
 use Rattle.weight_distribution.proofs.Zeros.{Mds}
 

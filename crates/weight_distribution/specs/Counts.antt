@@ -48,9 +48,3 @@ oddTerms d q w = sumOf (range 0 (w - d + 1)) (λ j. when (eqb (j % 2) 1) (term d
 unfoldable pub textbook : ℕ → ℕ → ℕ → ℕ → ℕ
 textbook n d q zero = 1
 textbook n d q (suc w) = pick (ltb (suc w) d) 0 (binomial n (suc w) * (evenTerms d q (suc w) - oddTerms d q (suc w)))
-
--- of all messages, those whose word is zero at n − y given places and not zero at w given others, w at most y: by differences,
--- since a place that is not zero is one that may be anything, less one that is zero
-unfoldable pub prescribed : ℕ → ℕ → ℕ → ℕ → ℕ → ℕ
-prescribed n k q zero y = q ^ (k + y - n)
-prescribed n k q (suc w) y = prescribed n k q w y - prescribed n k q w (y - 1)

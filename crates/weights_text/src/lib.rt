@@ -14,7 +14,8 @@ ghost use lib.ListN.{length};
 ghost use Rattle.lists.specs.Numbers.{allBelow};
 ghost use Rattle.lists.specs.Padded.{zeros};
 ghost use Rattle.generator.specs.Records.{recordOf, Sound};
-ghost use Rattle.text.specs.Writing.{Puts, OnPage};
+ghost use Rattle.text.specs.Writing.{OnPage};
+ghost use Rattle.text.specs.Inner.Writing.{Puts};
 ghost use Rattle.weights_text.specs.Weights.{countLine, countLines, weightsFor};
 
 // The line of one weight: two numbers of at most five digits, a space and a line feed.

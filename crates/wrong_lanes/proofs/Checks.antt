@@ -20,7 +20,8 @@ use Rattle.field.proofs.Bounds.{power-below}
 use Rattle.generator.specs.declared.Header.{Header}
 use Rattle.generator.specs.Records.{modulusOf, size, width, Sound}
 use Rattle.generator.specs.Codewords.{checkFrom, isWord}
-use Rattle.refusals.specs.Accepted.{SymbolRows, SymbolBytes}
+use Rattle.refusals.specs.Accepted.{SymbolRows}
+use Rattle.refusals.specs.Inner.Accepted.{SymbolBytes}
 use Rattle.row_sums.proofs.Columns.{dot-column}
 use Rattle.check_sums.specs.Inner.Powers.{factorsOf}
 use Rattle.tile_products.specs.Inner.Products.{groupsOf}

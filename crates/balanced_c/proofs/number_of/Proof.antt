@@ -1,7 +1,7 @@
 -- `number_of` meets its contract, in each arm of the match.
 use mathlib.Core.Path.{sym, ap}
 use borrow.Author.Needs.{needs}
-use Rattle.blocks.specs.Answers.{outcomeNumber}
+use Rattle.blocks.specs.Inner.Answers.{outcomeNumber}
 use Rattle.balanced_c.proofs.number_of.Statement.{statement}
 use Rattle.balanced_c.proofs.number_of.Tie as tie
 

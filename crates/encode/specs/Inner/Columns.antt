@@ -11,7 +11,7 @@ use Rattle.plan.specs.Plans.{planFor}
 use Rattle.tile_products.specs.Inner.Products.{groupsOf}
 use Rattle.block_products.specs.declared.Product.{Product}
 use Rattle.block_products.specs.declared.Way.the-variants.{RowsToLanes}
-use Rattle.refusals.specs.Accepted.{SymbolBytes}
+use Rattle.refusals.specs.Inner.Accepted.{SymbolBytes}
 
 -- the shifts and the base word of an accepted record's plan
 pub record Planned (h : Header) (shifts base : List ℕ) : Type 0 where

@@ -8,7 +8,8 @@ use lib.ListN.{take}
 use Rattle.lists.specs.Rows.{rowsFrom}
 use Rattle.lists.proofs.Rows.{rows-next, rows-end}
 use Rattle.lists.proofs.Fill.{Fills}
-use Rattle.sheet_text.specs.Sheet.{rowLine, sheetOf}
+use Rattle.sheet_text.specs.Sheet.{rowLine}
+use Rattle.sheet_text.specs.Inner.Sheet.{sheetOf}
 use Rattle.text.proofs.Writing.{puts-none, puts-then, puts-start, puts-next, puts-done}
 use Rattle.sheet_text.proofs.put_sheet.Statement.{statement}
 use Rattle.sheet_text.proofs.put_sheet.Tie as tie

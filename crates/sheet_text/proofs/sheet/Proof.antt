@@ -2,7 +2,8 @@
 use mathlib.Core.Path.{_≡_, ap, _∙_}
 use borrow.Author.Needs.{needs}
 use Rattle.generator.specs.Records.{recordOf}
-use Rattle.sheet_text.specs.Sheet.{sheetOf, sheetFor}
+use Rattle.sheet_text.specs.Sheet.{sheetFor}
+use Rattle.sheet_text.specs.Inner.Sheet.{sheetOf}
 use Rattle.text.proofs.Writing.{puts-front}
 use Rattle.sheet_text.proofs.Sheets.{sheet-is}
 use Rattle.sheet_text.proofs.sheet.Statement.{statement}

@@ -5,7 +5,8 @@ use Prim.Native.Nat.{ℕ, _-_, _/_, _%_, _<_}
 use native.Mathlib.Omega.{arith}
 use lib.ListN.{length, take, drop}
 use Rattle.lists.proofs.Rows.{part-rest}
-use Rattle.text.specs.Text.{digit, decimal, zerosBefore}
+use Rattle.text.specs.Text.{digit, decimal}
+use Rattle.text.specs.Inner.Text.{zerosBefore}
 use Rattle.text.proofs.Fields.{fiveDigits, decimal-drop, decimal-short}
 use borrow.Author.Needs.{needs}
 use Rattle.text.proofs.put_number.Statement.{statement}

@@ -1,7 +1,7 @@
 -- `zeros_before` meets its contract.
 use native.Mathlib.Omega.{arith}
 use borrow.Author.Tests.{lt-ltb, le-ltb}
-use Rattle.text.specs.Text.{zerosBefore}
+use Rattle.text.specs.Inner.Text.{zerosBefore}
 use Rattle.text.proofs.zeros_before.Statement.{statement}
 use Rattle.text.proofs.zeros_before.Tie as tie
 

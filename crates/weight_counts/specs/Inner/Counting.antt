@@ -7,7 +7,8 @@ use Rattle.lists.specs.Choice.{pick, when}
 use Rattle.lists.specs.Rows.{from}
 use Rattle.generator.specs.declared.Header.{Header}
 use Rattle.generator.specs.Records.{size, Sound}
-use Rattle.weight_distribution.specs.Counts.{binomial, prescribed}
+use Rattle.weight_distribution.specs.Counts.{binomial}
+use Rattle.weight_distribution.specs.Inner.Prescribed.{prescribed}
 
 -- an accepted record with at most 65,536 messages
 pub record Small (h : Header) : Type 0 where

@@ -9,7 +9,8 @@ use Rattle.lists.specs.Choice.{pick}
 use Rattle.lists.specs.Rows.{from}
 use Rattle.lists.proofs.Rows.{from-next, from-end}
 use Rattle.lists.proofs.Fill.{Fills, fills-start, fills-put, fills-done}
-use Rattle.roster_bytes.specs.Bytes.{markBytes, marksIn}
+use Rattle.roster_bytes.specs.Bytes.{markBytes}
+use Rattle.roster_bytes.specs.Inner.Bytes.{marksIn}
 use Rattle.roster_bytes.proofs.Reading.{length-marks}
 use Rattle.roster_bytes.proofs.bytes.write_marks.Statement.{statement}
 use Rattle.roster_bytes.proofs.bytes.write_marks.Tie as tie

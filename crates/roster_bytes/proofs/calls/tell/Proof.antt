@@ -1,6 +1,6 @@
 -- `tell` meets its contract, in each arm of the match.
-use Rattle.roster.specs.Rosters.{listingNumber}
-use Rattle.roster_bytes.specs.Calls.{toldOf}
+use Rattle.roster.specs.Inner.Answers.{listingNumber}
+use Rattle.roster_bytes.specs.Inner.Calls.{toldOf}
 use borrow.Author.Needs.{needs}
 use Rattle.roster_bytes.proofs.calls.tell.Statement.{statement}
 use Rattle.roster_bytes.proofs.calls.tell.Tie as tie

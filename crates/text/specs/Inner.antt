@@ -1,0 +1,3 @@
+-- What the functions and proofs behind the promises give and rely on.
+pub mod Text
+pub mod Writing
