@@ -4,6 +4,7 @@ import os
 import re
 import signal
 import subprocess
+import sys
 import time
 import unittest
 
@@ -31,6 +32,16 @@ class CommandLine(StoreCase):
         nowhere = self.program("list", cwd="/")
         self.assertEqual((nowhere.returncode, nowhere.stdout), (2, b""))
         self.assertIn(b"there is no store store.toml", nowhere.stderr)
+
+    def test_installed(self):
+        """`pip install .` has the command, which needs no repository."""
+        if subprocess.run([sys.executable, "-m", "pip", "--version"], capture_output=True).returncode:
+            self.skipTest("there is no pip: the installed command is not tested")
+        words = [sys.executable, "-m", "pip", "install", "--quiet", "--no-index", "--disable-pip-version-check", "--no-cache-dir", "--target"]
+        subprocess.run([*words, self.top / "installed", TOP / "bindings" / "python"], check=True, capture_output=True)
+        seen = subprocess.run([self.top / "installed" / "bin" / "imagestore", "plan", "--nodes", "15", "--needed", "10"], cwd="/",
+                              env={**os.environ, "PYTHONPATH": str(self.top / "installed")}, capture_output=True, text=True, check=True)
+        self.assertIn("record 2 11 15 10\n", seen.stdout)
 
     def test_every_command_says_what_it_did_in_json(self):
         self.make(3, 2, 16)
@@ -101,6 +112,16 @@ class CommandLine(StoreCase):
         (self.top / "store").rename(self.top / "elsewhere" / "store")
         self.store = self.store.rename(self.top / "elsewhere" / "store.toml")
         self.assertEqual(self.got(), b"moved")
+
+    def test_store_toml_written_anew(self):
+        """From what the nodes' folders say of themselves, as docs/STORE.md has it."""
+        self.make(3, 2, 16)
+        self.put(b"kept")
+        self.store.unlink()
+        says = {str(place): json.loads((place / ".imagestore").read_text()) for place in reversed(self.places)}
+        nodes, one = sorted(says, key=lambda place: says[place]["node"]), says[str(self.places[0])]
+        self.store.write_text(f'store = "{one["store"]}"\nrecord = {one["record"]}\nlanes = {one["lanes"]}\nnodes = {json.dumps(nodes)}\n')
+        self.all_right(b"kept")
 
     def test_the_roster_file(self):
         self.make(3, 2, 16)

@@ -1,8 +1,9 @@
 """Images of every length, put and got back, whole and from any k nodes, on folders."""
 import os
+import resource
 import unittest
 
-from support import StoreCase
+from support import StoreCase, command, in_child
 
 
 class Images(StoreCase):
@@ -31,6 +32,26 @@ class Images(StoreCase):
         with self.without(*range(6)):
             self.assertEqual(self.got(), data)
         self.all_right(data)
+
+    def test_memory_is_bounded(self):
+        """An image twenty times as long takes no more memory."""
+        self.make(15, 10, 4096)
+        used = []
+        for name, count in (("short", 5_000_000), ("long", 100_000_000)):
+            path = self.top / name
+            path.write_bytes(bytes(count))
+            used.append(self.peak("put", name, path))
+            used.append(self.peak("get", name, self.top / "got"))
+        self.assertLess(max(used[2:]) - max(used[:2]), 20_000, f"KB at most in put and get of each: {used}")
+
+    def peak(self, *words):
+        """The most memory that a command had, in KB."""
+        def action():
+            self.assertEqual(command("--store", self.store, *words)[0], 0)
+            (self.top / "peak").write_text(str(resource.getrusage(resource.RUSAGE_SELF).ru_maxrss))
+
+        self.assertEqual(in_child(action), 0)
+        return int((self.top / "peak").read_text())
 
     def test_many_images(self):
         self.make()

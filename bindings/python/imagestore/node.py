@@ -1,20 +1,13 @@
-"""One node: a folder of share files. Every write is made so that after a crash the old share is there, or the new one.
+"""One node: its folder, its lock, and what a command asks of it.
 
-For an image NAME the folder has, of these, what there is:
-
-    NAME.share   the share file
-    NAME.tmp     a draft, which a crash leaves behind and which the next writer removes
-    NAME.next    a whole draft that was synced: it is prepared. A share file, or a redo (imagestore.redo)
-    NAME.redo    a redo that is committed: whoever takes the lock next applies it to NAME.share before anything is read
-
-and `.imagestore`, which says which node of which store the folder is, and carries the lock.
+The file `.imagestore` of the folder says which node of which store it is, and carries the lock.
 """
 import json
 import os
 
-from . import entries, files, frames, redo, share
-from .drafts import PatchDraft, WholeDraft
+from . import entries, files, frames, share
 from .errors import Busy, Refused
+from .folder import Folder
 from .lock import EXCLUSIVE, NONE, SHARED, Lock
 from .names import is_name
 
@@ -33,7 +26,7 @@ def which(marker):
 
 
 class Node:
-    """The folder, and what a command asks of it: `answer` takes a request and gives the bytes of the answer."""
+    """`answer` takes a request and gives the bytes of the answer."""
 
     def __init__(self, path):
         self.path, self.folder, self.lock, self.drafts, self.marker = path, None, None, {}, None
@@ -58,11 +51,11 @@ class Node:
         self.forget_drafts()
         if self.lock:
             self.lock.close()
-        if self.folder is not None:
-            os.close(self.folder)
+        if self.folder:
+            self.folder.close()
         self.lock = self.folder = None
 
-    # the folder as a whole
+    # the greeting and the lock
 
     def hello(self, request):
         """Sees that the folder is the node that is meant. A folder that is none yet becomes it with MAKE, and could with FREE."""
@@ -85,7 +78,7 @@ class Node:
                 os.close(folder)
             else:
                 self.see_marker(folder, bytes(request.data[len(head):]), request.count == MAKE)
-                self.folder = folder
+                self.folder = Folder(folder)
         except BaseException:
             os.close(folder)
             raise
@@ -112,26 +105,15 @@ class Node:
         if mode not in (NONE, SHARED, EXCLUSIVE):
             raise Refused(f"there is no lock {mode}")
         self.forget_drafts()
-        left = mode != NONE and self.names("redo")
-        if left and not self.lock.take(EXCLUSIVE):
-            raise Busy("another command writes to this node")
-        for name in self.names("redo") if left else ():
-            self.finish(name)
+        if mode != NONE and self.folder.names("redo"):
+            if not self.lock.take(EXCLUSIVE):
+                raise Busy("another command writes to this node")
+            self.folder.finish_redos()
         if not self.lock.take(mode):
             raise Busy("another command writes to this node" if mode == SHARED else "another command uses this node")
         if mode == EXCLUSIVE:
-            for name in self.names("tmp"):
-                files.remove(self.folder, name + ".tmp")
+            self.folder.remove_drafts()
         return b""
-
-    def names(self, *kinds):
-        """The images of which there are files of these kinds, in order."""
-        found = set()
-        for file in os.listdir(self.folder):
-            name, _, kind = file.rpartition(".")
-            if kind in kinds and is_name(name):
-                found.add(name)
-        return sorted(found)
 
     def forget_drafts(self):
         for draft in self.drafts.values():
@@ -140,72 +122,33 @@ class Node:
 
     # what is there
 
-    def header(self, name):
-        """The header of a share file or a whole redo as bytes, and the file's size; None where there is no file."""
-        try:
-            file = files.open_file(self.folder, name)
-        except FileNotFoundError:
-            return None, 0
-        try:
-            start = files.read(file, 0, share.MAX_HEADER)
-            data = redo.verified_header(file) if redo.is_redo(start) else start[:share.stated_len(start)]
-            share.unpack_header(data)
-            return data, os.fstat(file).st_size
-        finally:
-            os.close(file)
-
-    def entry(self, name):
-        parts = {"name": name}
-        try:
-            if files.exists(self.folder, name + ".redo"):
-                raise share.BadShare("a committed update could not be finished")
-            parts["header"], parts["size"] = self.header(name + ".share")
-        except (share.BadShare, OSError) as error:
-            parts["damage"] = str(error)
-        try:
-            parts["pending"], _ = self.header(name + ".next")
-        except (share.BadShare, OSError) as error:
-            parts["pending_damage"] = str(error)
-        return entries.Entry(**parts)
-
     def list(self, request):
         """The entries of the images after a name, as many as an answer has room for."""
         answer = b""
-        for name in self.names("share", "next", "redo"):
+        for name in self.folder.names("share", "next", "redo"):
             if name > request.name and len(answer) < LIST_BYTES:
-                answer += entries.pack(self.entry(name))
+                answer += entries.pack(self.folder.entry(name))
         return answer
 
     def stat(self, request):
-        return entries.pack(self.entry(request.name))
+        return entries.pack(self.folder.entry(request.name))
 
     def read(self, request):
         if request.count > frames.MAX_DATA:
             raise Refused(f"{request.count} bytes are asked for: at most {frames.MAX_DATA} are sent")
-        try:
-            file = files.open_file(self.folder, request.name + ".share")
-        except FileNotFoundError:
-            raise Refused(f"there is no share of {request.name}") from None
-        try:
-            return files.read(file, request.place, request.count)
-        finally:
-            os.close(file)
+        return self.folder.read(request.name, request.place, request.count)
 
     # a write: begin, write or patch, seal; then commit or drop
 
     def begin(self, request):
         """Begins a draft: of a whole share with count 0, of ranges with count 1."""
-        name = request.name
+        self.forget_draft(request.name)
+        begin = self.folder.patch_draft if request.count else self.folder.whole_draft
+        self.drafts[request.name] = begin(request.name)
+
+    def forget_draft(self, name):
         if name in self.drafts:
             self.drafts.pop(name).close()
-        if not request.count:
-            self.drafts[name] = WholeDraft(files.create(self.folder, name + ".tmp"))
-            return
-        data, _ = self.header(name + ".share")
-        if data is None:
-            raise Refused(f"there is no share of {name}")
-        shared = files.open_file(self.folder, name + ".share")
-        self.drafts[name] = PatchDraft(files.create(self.folder, name + ".tmp"), shared, share.unpack_header(data))
 
     def draft(self, name):
         if name not in self.drafts:
@@ -219,79 +162,21 @@ class Node:
         self.draft(request.name).patch(request.data)
 
     def seal(self, request):
-        """Ends a draft with its header, and prepares it: from now on it survives a crash."""
-        name, header = request.name, share.unpack_header(request.data)
-        if (header.name, header.node, header.store.hex()) != (name, self.marker["node"], self.marker["store"]):
+        """Ends a draft with its header, and prepares it."""
+        header, _ = share.unpack_header(request.data), self.draft(request.name)
+        if (header.name, header.node, header.store.hex()) != (request.name, self.marker["node"], self.marker["store"]):
             raise Refused("the header is of another image, node or store")
-        draft = self.draft(name)
-        draft.end(bytes(request.data))
-        files.sync(draft.file)
-        self.drafts.pop(name).close()
-        files.rename(self.folder, name + ".tmp", name + ".next")
-        files.sync(self.folder)
+        self.folder.prepare(request.name, self.drafts.pop(request.name), bytes(request.data))
 
     def commit(self, request):
-        """What was prepared by the write with the number `place` becomes the share; once it is, nothing more is done."""
-        name = request.name
-        data, _ = self.header(name + ".next")
-        if data is None:
-            held, _ = self.header(name + ".share")
-            if held is None or share.unpack_header(held).write != request.place:
-                raise Refused(f"there is nothing of {name} to commit")
-            return
-        if share.unpack_header(data).write != request.place:
-            raise Refused(f"another write of {name} is prepared")
-        ranges = redo.is_redo(self.start(name + ".next"))
-        if files.remove(self.folder, name + ".redo"):  # one that could not be applied must not be applied to the new share
-            files.sync(self.folder)
-        files.rename(self.folder, name + ".next", name + (".redo" if ranges else ".share"))
-        files.sync(self.folder)
-        if ranges:
-            self.apply(name)
-
-    def start(self, file):
-        opened = files.open_file(self.folder, file)
-        try:
-            return files.read(opened, 0, len(redo.MAGIC))
-        finally:
-            os.close(opened)
-
-    def apply(self, name):
-        """Applies a committed redo to its share file."""
-        committed = files.open_file(self.folder, name + ".redo")
-        try:
-            shared = files.open_file(self.folder, name + ".share", write=True)
-            try:
-                redo.apply(committed, shared)
-            finally:
-                os.close(shared)
-        finally:
-            os.close(committed)
-        # not synced: a redo that comes back is applied once more, and every later write syncs the folder before it changes a share
-        files.remove(self.folder, name + ".redo")
-
-    def finish(self, name):
-        """Applies a redo that a crash has left. One that cannot be applied stays, and its share counts as damaged."""
-        try:
-            self.apply(name)
-        except (share.BadShare, OSError):
-            pass
+        self.folder.commit(request.name, request.place)
 
     def drop(self, request):
-        """Gives up a write that was begun or prepared."""
-        if request.name in self.drafts:
-            self.drafts.pop(request.name).close()
-        if any([files.remove(self.folder, request.name + kind) for kind in (".tmp", ".next")]):
-            files.sync(self.folder)
+        self.forget_draft(request.name)
+        self.folder.drop(request.name)
 
     def purge(self, request):
-        """Forgets an image that was removed."""
-        data, _ = self.header(request.name + ".share")
-        if data is not None:
-            if not share.unpack_header(data).removed:
-                raise Refused(f"{request.name} was not removed")
-            files.remove(self.folder, request.name + ".share")
-            files.sync(self.folder)
+        self.folder.purge(request.name)
 
 
 ACTS = {
