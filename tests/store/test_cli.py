@@ -149,7 +149,7 @@ class Interrupts(StoreCase):
 
     def test_interrupted_put(self):
         self.make(3, 2, 4096)
-        path = self.file(bytes(200_000_000), "large")
+        path = self.file(bytes(80_000_000), "large")
         put = subprocess.Popen([PROGRAM, "--store", self.store, "put", "image", path], stdout=subprocess.PIPE, stderr=subprocess.PIPE)
         while not (self.places[0] / "image.tmp").exists() and put.poll() is None:
             time.sleep(0.001)
@@ -162,7 +162,7 @@ class Interrupts(StoreCase):
 
     def test_terminated_get(self):
         self.make(3, 2, 4096)
-        self.put(bytes(100_000_000))
+        self.put(bytes(50_000_000))
         get = subprocess.Popen([PROGRAM, "--store", self.store, "get", "image", self.top / "got"], stderr=subprocess.PIPE)
         while not any(name.startswith(".got") for name in os.listdir(self.top)) and get.poll() is None:
             time.sleep(0.001)

@@ -10,7 +10,7 @@ from types import SimpleNamespace
 
 import support  # noqa: F401
 from imagestore.decide import View, decide
-from imagestore.errors import TooFewNodes
+from imagestore.errors import StoreError, TooFewNodes
 
 
 def header(node, write, generation, participants, writes, removed=False):
@@ -182,6 +182,22 @@ class Oddities(unittest.TestCase):
         view = View(4, 3, {j: model.current[j] for j in seen}, dict(model.pending), frozenset([2]))
         ruling = decide(view, undo=True)
         self.assertEqual((ruling.header.write, sorted(ruling.drop)), (1, [0, 1]))
+
+    def test_two_halves_that_were_written_apart(self):
+        """Refused, until one half is left out and the other written once more."""
+        model = Model(4, 2)
+        for node in range(4):
+            write = 2 if node < 2 else 3
+            model.current[node] = header(node, write, 2, (0, 1) if node < 2 else (2, 3), [write] * 4)
+        with self.assertRaisesRegex(StoreError, "two writes of generation 2"):
+            model.ruling(range(4))
+        model.last = 3
+        third = model.next_write(model.settle((0, 1)), (0, 1, 2), (0, 1))
+        model.prepare(third, third.participants)
+        for node in third.participants:
+            model.commit(node)
+        ruling = model.ruling(range(4))
+        self.assertEqual((ruling.header.write, ruling.right, ruling.wrong), (third.write, (0, 1), (2, 3)))
 
     def test_a_removed_image_needs_no_shares(self):
         model = Model(3, 2)

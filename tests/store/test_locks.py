@@ -4,11 +4,14 @@ import subprocess
 import threading
 import time
 import unittest
+from dataclasses import replace
+from unittest import mock
 
 from support import PROGRAM, StoreCase, command, in_child
 
-from imagestore import lock
+from imagestore import frames, lock, share
 from imagestore.errors import StoreError
+from imagestore.node import ACTS, Node
 from imagestore.store import Store
 
 
@@ -77,6 +80,42 @@ class Locks(StoreCase):
             thread.start()
             thread.join()
         self.assertEqual(done, [True])
+
+    def test_threads_that_ask_the_same_nodes(self):
+        """Two threads ask the nodes of one session, each in another order: neither waits for the other for ever."""
+        real = Node.read
+
+        def slow(node, request):
+            time.sleep(0.001)
+            return real(node, request)
+
+        with Store(self.store).session(lock.SHARED, "test") as session, mock.patch.dict(ACTS, {frames.READ: (slow, lock.SHARED)}):
+            def ask(nodes):
+                for _ in range(40):
+                    session.ask(nodes, lambda node: frames.Request(frames.READ, "image", count=10))
+
+            threads = [threading.Thread(target=ask, args=(nodes,), daemon=True) for nodes in ([0, 1, 2], [2, 1, 0], [1, 0, 2])]
+            for thread in threads:
+                thread.start()
+            for thread in threads:
+                thread.join(30)
+                self.assertFalse(thread.is_alive(), "the threads wait for each other")
+
+    def test_a_reader_does_not_wait_for_an_interrupted_write(self):
+        """A write was prepared at one node and cut short; while another reads, a reader reads what is there."""
+        def action():
+            with Store(self.store).session(lock.EXCLUSIVE, "test") as session:
+                header = share.unpack_header(self.share(0).read_bytes())
+                session.ask([0], lambda node: frames.Request(frames.BEGIN, "image", count=1))
+                later = share.pack_header(replace(header, generation=2, write=7, writes=(7, 7, 7)))
+                session.ask([0], lambda node: frames.Request(frames.SEAL, "image", data=later))
+                os._exit(0)
+
+        self.assertEqual(in_child(action), 0)
+        self.assertTrue((self.places[0] / "image.next").exists())
+        self.assertEqual(self.while_locked(lock.SHARED, "get", "image", self.top / "got"), 0)
+        self.assertEqual((self.top / "got").read_bytes(), self.data)
+        self.all_right(self.data)
 
     def locked_out(self):
         try:

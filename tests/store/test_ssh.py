@@ -71,6 +71,20 @@ class OverSsh(PipeCase):
         self.right("rebuild", 1)
         self.all_right(data)
 
+    def test_a_key_that_is_bound_to_a_folder(self):
+        """A node over ssh with a forced command beside two folders: it serves its folder whatever it is asked for."""
+        self.n, self.k, self.lanes = 3, 2, 64
+        self.places = [self.top / "store" / f"n{node}" for node in range(3)]
+        public = (self.top / "keys" / "user.pub").read_text()
+        (self.top / "keys" / "user.pub").write_text(f'restrict,command="{PROGRAM} serve {self.places[2]}" {public}')
+        wanted = [*self.places[:2], "127.0.0.1:/anywhere"]
+        self.right("init", self.store, "--needed", 2, "--lanes", 64, "--ssh", " ".join(self.ssh), *wanted)
+        data = self.bytes(1000)
+        self.put(data)
+        self.assertTrue(self.share(2).exists())
+        with self.without(0):
+            self.assertEqual(self.got(), data)
+
     def test_the_connection_drops(self):
         """A connection is cut in the middle of a put: the process that serves one node is ended while a large share is sent."""
         self.make(lanes=4096)

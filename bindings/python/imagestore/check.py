@@ -38,14 +38,14 @@ def check_name_of(store, session, name, correct, undo):
 
 
 def check(store, names, correct=False, undo=False):
-    """Checks images, all where none is named. One that too few nodes hold does not keep the others from being checked."""
+    """Checks images, all where none is named. One that cannot be had does not keep the others from being checked."""
     for name in names:
         check_name(name)
     mode = lock.EXCLUSIVE if correct or undo else lock.SHARED
     with store.session(lock.NONE, "check") as session:
         session.try_lock(lock.EXCLUSIVE)  # for a moment, if it can be had: what crashes have left is then removed
         session.lock(mode, store.wait)
-        results, lost = [], {}
+        results, lost, failed = [], {}, {}
         listed = image.look_at_all(session)
         for name in names or listed:
             try:
@@ -53,8 +53,11 @@ def check(store, names, correct=False, undo=False):
             except TooFewNodes as error:
                 lost[name] = str(error)
                 continue
+            except StoreError as error:
+                failed[name] = str(error)
+                continue
             if result is None and names and name not in listed:
                 raise StoreError(f"there is no image {name}")
             if result:
                 results.append(result)
-        return {"images": results, "lost": lost, "absent": dict(session.down), "traffic": session.traffic()}
+        return {"images": results, "lost": lost, "failed": failed, "absent": dict(session.down), "traffic": session.traffic()}

@@ -42,14 +42,15 @@ def read_right(store, session, seen, target):
     if found.untold and not found.doubts and not found.lost:
         _, right = copy_out(store, session, seen, target.write, found.untold)
     if not right:
-        raise StoreError(f"{seen.name}: the checksums are right, and the image is not" + "".join(f"; {why}" for why in found.doubts + found.lost))
+        reasons = "".join(f"; {why}" for why in found.doubts + found.lost)
+        raise StoreError(f"{seen.name}: the checksums are right, and the image is not{reasons}")
     return found.wrong
 
 
 def get(store, name, path):
     check_name(name)
     with store.session(lock.SHARED, f"get {name}") as session:
-        seen = store.existing(session, name)
+        seen = store.readable(session, name)
         target = open_target(path)
         try:
             wrong = {**seen.faults, **read_right(store, session, seen, target)}

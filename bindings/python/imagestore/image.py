@@ -27,8 +27,8 @@ class Image:
         return self.ruling.exists
 
     def holders(self):
-        """The nodes with the content that counts; blocks of it may still be damaged or cut off."""
-        return list(self.ruling.right)
+        """The nodes that have the content that counts now; blocks of it may still be damaged or cut off."""
+        return [node for node in self.ruling.right if self.view.holds(node, self.header)]
 
     def right(self):
         """The nodes of which nothing wrong is known."""

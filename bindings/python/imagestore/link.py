@@ -54,9 +54,13 @@ class Link:
         return data
 
     def close(self):
-        """Closes the link once no thread has a request under way."""
-        with self.turn:
+        """Closes the link once no thread has a request under way, or after a minute. A request that comes later is refused."""
+        free = self.turn.acquire(timeout=60)
+        try:
             self._close()
+        finally:
+            if free:
+                self.turn.release()
 
 
 def answer_of(node, request):

@@ -71,7 +71,7 @@ def list_images(result):
 
 
 def check(result):
-    lines, wrong, lost = [], bool(result["absent"]), bool(result["lost"])
+    lines, wrong, lost = [], bool(result["absent"] or result["failed"]), bool(result["lost"])
     for one in result["images"]:
         left = one["wrong"] or one["doubts"] or one["lost"]
         wrong, lost = wrong or bool(left), lost or bool(one["lost"])
@@ -80,7 +80,7 @@ def check(result):
         lines.append(f"{one['image']}: {what}: {word}")
         lines += [f"  set right node {node}: {one['found'][node]}" for node in one["corrected"] if node not in one["wrong"]]
         lines += with_reasons("wrong", one["wrong"]) + [f"  {why}" for why in one["doubts"] + one["lost"]]
-    lines += [f"{name}: lost: {why}" for name, why in result["lost"].items()]
+    lines += [f"{name}: lost: {why}" for name, why in result["lost"].items()] + list(result["failed"].values())
     lines += with_reasons("absent", result["absent"]) + [moved(result)]
     return 3 if lost else int(wrong), lines
 
@@ -114,7 +114,8 @@ def rebuild(result):
     whole = sum(one["share"] for one in result["rebuilt"]) * result["needed"]
     lines.append(f"  {result['needed']} whole shares for each are {several(whole, 'byte')}")
     lines += [moved(result), *[f"{name}: lost: {why}" for name, why in result["lost"].items()], *result["failed"].values()]
-    return 3 if result["lost"] else int(bool(result["failed"])), lines + with_reasons("wrong", result["wrong"]) + with_reasons("absent", result["absent"])
+    lines += with_reasons("wrong", result["wrong"]) + with_reasons("absent", result["absent"])
+    return 3 if result["lost"] else int(bool(result["failed"])), lines
 
 
 def event(result):

@@ -66,7 +66,7 @@ class Session:
 
     def gather_all(self, nodes, request, timed):
         answers, failures, asked = {}, {}, []
-        for node in nodes:
+        for node in sorted(nodes):  # in one order in all threads, so that no two wait for each other
             link = self.links.get(node)
             try:
                 if link is None:

@@ -1,6 +1,5 @@
 """A store: its settings, its plan, and sessions with its nodes. The commands are modules of their own over it."""
 import fcntl
-import os
 from contextlib import contextmanager
 
 import balanced
@@ -8,6 +7,7 @@ import balanced
 from . import image, lock, pipeline, roster, settings, twophase
 from .errors import StoreError
 from .session import Session
+from .share import Header
 
 
 class Store:
@@ -57,17 +57,21 @@ class Store:
         return image.look(session, self.plan, seen.name, undo)
 
     def existing(self, session, name):
-        """The image of a name, if there is one."""
-        seen = self.look(session, name)
+        """The image of a name, if there is one, to be written."""
+        return self.see_exists(self.look(session, name))
+
+    def readable(self, session, name):
+        """The image of a name, if there is one, to be read: an interrupted write waits, if k nodes can be read without it."""
+        seen = image.look(session, self.plan, name)
+        if seen.exists and len(seen.holders()) < self.plan.k:
+            seen = self.settle(session, seen)
+        return self.see_exists(seen)
+
+    def see_exists(self, seen):
         if not seen.exists:
-            raise StoreError(f"there is no image {name}")
+            raise StoreError(f"there is no image {seen.name}")
         return seen
 
     def header_of(self, seen, **parts):
         """A header for an image of this store, the node still open."""
-        from .share import Header
         return Header(store=self.settings.store, record=self.settings.record, lanes=self.settings.lanes, name=seen.name, node=0, **parts)
-
-
-def folder_of(path):
-    return os.path.dirname(os.path.abspath(path))
