@@ -1,14 +1,16 @@
 """A disk that stops: every change that the program makes goes through here, and the i-th one is the last.
 
-    stop    the program ends before the change; everything before is kept
-    torn    likewise, but of a write the first half is made
-    power   of what was not synced, some writes and some last changes of names are lost, by chance
+    stop       the program ends before the change; everything before is kept
+    torn       likewise, but of a write the first half is made
+    power      of what was not synced, some writes and some last changes of names are lost, by chance
+    interrupt  the program gets SIGINT, and goes on
 
 Files are followed by what `imagestore.files` is asked to do. A sync of a file keeps its bytes, and a sync of a folder the names in
 it; until then a file's bytes may be the old ones or the new ones, range by range, and of the changes of names a first part is kept.
 """
 import os
 import random
+import signal
 import threading
 
 from imagestore import files
@@ -40,6 +42,8 @@ class Disk:
         return change
 
     def end(self, name, words):
+        if self.mode == "interrupt":
+            return os.kill(os.getpid(), signal.SIGINT)
         if name == "write" and self.mode == "torn":
             file, place, data = words
             whole = b"".join(data) if isinstance(data, list) else bytes(data)

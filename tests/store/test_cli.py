@@ -8,8 +8,9 @@ import sys
 import time
 import unittest
 
-from support import PROGRAM, TOP, StoreCase, command
+from support import PROGRAM, TOP, StoreCase, command, in_child
 
+from disk import Disk
 from imagestore import cli, init, settings
 from imagestore.errors import UsageError
 
@@ -145,31 +146,59 @@ class CommandLine(StoreCase):
 
 
 class Interrupts(StoreCase):
-    """Ctrl-C in the middle of a put: nothing is left of it."""
+    """Ctrl-C and SIGTERM: what was begun is undone, what was done is whole, and nothing is left over."""
 
-    def test_interrupted_put(self):
-        self.make(3, 2, 4096)
-        path = self.file(bytes(80_000_000), "large")
-        put = subprocess.Popen([PROGRAM, "--store", self.store, "put", "image", path], stdout=subprocess.PIPE, stderr=subprocess.PIPE)
-        while not (self.places[0] / "image.tmp").exists() and put.poll() is None:
-            time.sleep(0.001)
-        put.send_signal(signal.SIGINT)
-        _, err = put.communicate()
-        self.assertEqual(put.returncode, 1)
-        self.assertIn(b"interrupted", err)
-        self.assertEqual(self.left_over(), [])
-        self.assertEqual(self.right("list")["images"], [])
+    def setUp(self):
+        super().setUp()
+        self.make(3, 2, 16)
 
-    def test_terminated_get(self):
-        self.make(3, 2, 4096)
-        self.put(bytes(50_000_000))
-        get = subprocess.Popen([PROGRAM, "--store", self.store, "get", "image", self.top / "got"], stderr=subprocess.PIPE)
-        while not any(name.startswith(".got") for name in os.listdir(self.top)) and get.poll() is None:
-            time.sleep(0.001)
-        get.send_signal(signal.SIGTERM)
-        get.communicate()
-        self.assertEqual(get.returncode, 1)
-        self.assertEqual(sorted(os.listdir(self.top)), ["file", "store", "store.toml"])
+    def interrupted(self, stop, *words):
+        """The status of a command that is interrupted at some change of a disk."""
+        def action():
+            Disk(stop, "interrupt").install()
+            return command("--store", self.store, *words)[0]
+
+        return in_child(action)
+
+    def test_put_at_every_change(self):
+        data, ends = self.bytes(200), set()
+        path = self.file(data)
+        for stop in range(1, 40):
+            status = self.interrupted(stop, "put", "image", path)
+            self.all_right(data if status == 0 else None)
+            ends.add(status)
+            if status == 0:
+                self.right("rm", "image")
+        self.assertEqual(ends, {0, 1})
+
+    def test_update_at_every_change(self):
+        data, ends = bytearray(self.bytes(200)), set()
+        self.put(data)
+        for stop in range(1, 40):
+            status = self.interrupted(stop, "update", "image", "--at", 50, self.file(bytes([stop]) * 20))
+            if status == 0:
+                data[50:70] = bytes([stop]) * 20
+            self.all_right(data)
+            ends.add(status)
+        self.assertEqual(ends, {0, 1})
+
+    def test_the_program(self):
+        """A signal from outside, in the middle of a put and of a get, if it comes in time."""
+        path = self.file(bytes(500_000), "large")
+        self.right("put", "kept", path)
+        for number, words, begun in ((signal.SIGINT, ["put", "image", path], "store/n000/image.tmp"),
+                                     (signal.SIGTERM, ["get", "kept", self.top / "got"], ".got.*.tmp")):
+            program = subprocess.Popen([PROGRAM, "--store", self.store, *words], stdout=subprocess.PIPE, stderr=subprocess.PIPE)
+            while not list(self.top.glob(begun)) and program.poll() is None:
+                time.sleep(0.001)
+            program.send_signal(number)
+            _, err = program.communicate()
+            self.assertIn(program.returncode, (0, 1))
+            if program.returncode:
+                self.assertIn(b"interrupted", err)
+                self.assertFalse((self.top / "got").exists())
+            self.assertEqual(self.left_over(), [])
+            self.assertEqual([name for name in os.listdir(self.top) if name.endswith(".tmp")], [])
 
 
 if __name__ == "__main__":

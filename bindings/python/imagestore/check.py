@@ -1,5 +1,5 @@
 """check: every block of every node is read and compared; what is wrong is named and, if so asked, set right."""
-from . import image, lock, rebuild
+from . import image, interrupts, lock, rebuild
 from .errors import NodesFailed, StoreError, TooFewNodes
 from .examine import Findings, examine
 from .names import check_name
@@ -48,6 +48,7 @@ def check(store, names, correct=False, undo=False):
         results, lost, failed = [], {}, {}
         listed = image.look_at_all(session)
         for name in names or listed:
+            interrupts.point()
             try:
                 result = check_name_of(store, session, name, correct, undo)
             except TooFewNodes as error:

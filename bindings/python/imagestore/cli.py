@@ -4,10 +4,9 @@ import functools
 import json
 import os
 import resource
-import signal
 import sys
 
-from . import report
+from . import interrupts, report
 from .errors import StoreError, UsageError
 from .progress import Bar
 
@@ -145,10 +144,6 @@ def say(options, status, sentence):
     return status
 
 
-def interrupted(number, frame):
-    raise KeyboardInterrupt
-
-
 def allow_files():
     """Up to four files for each of 255 nodes are open at once, which is more than a process may have where nothing is said."""
     soft, hard = resource.getrlimit(resource.RLIMIT_NOFILE)
@@ -162,8 +157,13 @@ def main(words=None):
     if options.command == "serve":
         from .remote import serve
         return serve(options.folder, sys.stdin.buffer, sys.stdout.buffer)
-    signal.signal(signal.SIGTERM, interrupted)
     allow_files()
+    with interrupts.noted():
+        return carry_out(options)
+
+
+def carry_out(options):
+    """Runs a command and tells what came of it; gives the exit status."""
     bar = Bar()
     # an image on standard output is not mixed with words
     out = sys.stderr if options.command == "get" and options.file == "-" else sys.stdout

@@ -1,4 +1,4 @@
-"""Interrupts (Ctrl-C, SIGTERM) that wait: in the middle of a round of requests a command is neither here nor there.
+"""Interrupts (Ctrl-C, SIGTERM) take effect at points where no request is under way and no thread is left waiting.
 
 A second interrupt ends the program at once, as a crash would; the next command sees to what is left.
 """
@@ -10,30 +10,31 @@ from contextlib import contextmanager
 SIGNALS = (signal.SIGINT, signal.SIGTERM)
 
 
-class Waiting:
-    """Whether interrupts wait now, and how many there were."""
-    on, count = False, 0
+class Seen:
+    """How many interrupts there were, and whether the command was ended by one."""
+    count, ended = 0, False
 
 
 def note(number, frame):
-    Waiting.count += 1
-    if Waiting.count > 1:
+    Seen.count += 1
+    if Seen.count > 1:
         os._exit(1)
 
 
 @contextmanager
-def undisturbed():
-    """An interrupt that comes within is raised at the end; only the main thread gets any."""
-    if threading.current_thread() is not threading.main_thread() or Waiting.on:
-        yield
-        return
-    Waiting.on, Waiting.count = True, 0
+def noted():
+    """Interrupts that come within are noted, and wait for the next point."""
+    Seen.count, Seen.ended = 0, False
     kept = {number: signal.signal(number, note) for number in SIGNALS}
     try:
         yield
     finally:
         for number, handler in kept.items():
             signal.signal(number, handler)
-        Waiting.on = False
-    if Waiting.count:
+
+
+def point():
+    """Ends the command here if it was interrupted: once, so that what is done then to undo it is not ended too."""
+    if Seen.count and not Seen.ended and threading.current_thread() is threading.main_thread():
+        Seen.ended = True
         raise KeyboardInterrupt

@@ -3,6 +3,7 @@ import os
 from collections import deque
 from concurrent.futures import ThreadPoolExecutor
 
+from . import interrupts
 from .frames import MAX_DATA
 
 BATCH_BYTES, BATCH_BLOCKS = 1 << 20, 8
@@ -19,10 +20,7 @@ def batch_blocks(layout):
 
 
 def in_order(function, items, threads):
-    """The function's results for the items, in their order, some items ahead."""
-    if threads <= 1:
-        yield from map(function, items)
-        return
+    """The function's results for the items, in their order, some items ahead. An interrupt ends it between two results."""
     with ThreadPoolExecutor(max_workers=threads) as pool:
         waiting = deque()
         try:
@@ -30,8 +28,10 @@ def in_order(function, items, threads):
                 waiting.append(pool.submit(function, item))
                 if len(waiting) > threads:
                     yield waiting.popleft().result()
+                    interrupts.point()
             while waiting:
                 yield waiting.popleft().result()
+                interrupts.point()
         finally:
             for left in waiting:
                 left.cancel()

@@ -7,10 +7,9 @@ import random
 import selectors
 import time
 
-from . import frames, lock
+from . import frames, interrupts, lock
 from .errors import Busy, NodesFailed, Refused, StoreError, TooFewNodes
 from .frames import Request
-from .interrupts import undisturbed
 from .link import FolderLink
 from .node import MAKE
 from .remote import PipeLink
@@ -24,7 +23,8 @@ def note_delays(links):
         if link.pipe is not None:
             waiting.register(link.pipe, selectors.EVENT_READ, link)
     while waiting.get_map():
-        for key, _ in waiting.select():
+        interrupts.point()
+        for key, _ in waiting.select(0.5):
             key.data.delay = time.monotonic() - begun
             waiting.unregister(key.fileobj)
     waiting.close()
@@ -60,11 +60,7 @@ class Session:
             link.close()
 
     def gather(self, nodes, request, timed=False):
-        """Asks the nodes side by side: the answers, and what the others say instead. No request is left without its answer."""
-        with undisturbed():
-            return self.gather_all(nodes, request, timed)
-
-    def gather_all(self, nodes, request, timed):
+        """Asks the nodes side by side: the answers, and what the others say instead."""
         answers, failures, asked = {}, {}, []
         for node in sorted(nodes):  # in one order in all threads, so that no two wait for each other
             link = self.links.get(node)
@@ -93,6 +89,7 @@ class Session:
 
     def ask(self, nodes, request):
         """Asks the nodes side by side; if one fails, it is down, and so is what was asked for."""
+        interrupts.point()
         answers = self.try_ask(nodes, request)
         missing = [node for node in nodes if node not in answers]
         if missing:
@@ -114,6 +111,7 @@ class Session:
         """Takes the nodes' locks; where another command has one, tries again for some seconds."""
         deadline = time.monotonic() + wait
         while (busy := self.try_lock(mode)) is not None:
+            interrupts.point()
             if time.monotonic() >= deadline:
                 raise StoreError(f"{busy}; nothing was done (--wait SECONDS waits for it)")
             time.sleep(random.uniform(0.02, 0.2))

@@ -4,13 +4,11 @@ from contextlib import contextmanager
 from . import frames
 from .errors import StoreError
 from .frames import Request
-from .interrupts import undisturbed
 
 
 def finish(session, name, writes):
     """Commits what the nodes have prepared: `writes` has the number of the write for each. A node that fails now commits later."""
-    with undisturbed():
-        return sorted(session.try_ask(sorted(writes), lambda node: Request(frames.COMMIT, name, place=writes[node])))
+    return sorted(session.try_ask(sorted(writes), lambda node: Request(frames.COMMIT, name, place=writes[node])))
 
 
 def commit(session, name, writes):
@@ -23,8 +21,7 @@ def commit(session, name, writes):
 
 def drop(session, name, nodes):
     """Gives a write up at the nodes."""
-    with undisturbed():
-        session.try_ask(sorted(nodes), lambda node: Request(frames.DROP, name))
+    session.try_ask(sorted(nodes), lambda node: Request(frames.DROP, name))
 
 
 @contextmanager
