@@ -10,4 +10,5 @@ mod random;
 mod reference;
 mod refusals;
 mod rosters;
+mod texts;
 mod weights;
