@@ -2,6 +2,7 @@
 mod calls;
 mod compare;
 mod corrections;
+mod damage;
 mod findings;
 mod mends;
 mod notebook;
