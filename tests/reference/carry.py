@@ -1,14 +1,15 @@
 """Bytes carried in the symbols of a record, and back.
 
 A record of kind 2 has bytes as symbols: they are carried as they are. With a prime p from 34,816 on, two bytes are a word of 16
-binary digits. Each group of words goes as a mask, which is a symbol, and the words under it by exclusive or, which are symbols
-too: the first mask of `MASKS` that serves. Any other record carries no bytes (18).
+binary digits, the last of an odd number with a zero behind it. Each group of words goes as a mask, which is a symbol, and the words
+under it by exclusive or, which are symbols too. The mask is found digit by digit, the highest first: of the two halves of the masks
+that are left it is the one in which fewer pairs of a mask and a word give no symbol, and the lower one if they are as many; 0 counts
+as a word, so that the mask is a symbol. Any other record carries no bytes (18).
 """
 from balanced import call, pairs
 
-# 25,425 is odd, so each mask comes once
-MASKS = [i * 25425 % 65536 for i in range(65536)]
 MOST_BYTES = 2**62
+DIGITS = 16
 
 
 def carries(plan):
@@ -28,8 +29,22 @@ def groups(numbers, size):
     return [numbers[at:at + size] for at in range(0, len(numbers), size)]
 
 
+def ruled_out(p, words, first, count):
+    """Pairs of a word and a mask from `first` on, so many masks, a power of two, that give p or more.
+
+    Under these masks a word takes each value of one stretch of so many numbers once.
+    """
+    starts = ((word ^ first) // count * count for word in words)
+    return sum(max(0, start + count - max(p, start)) for start in starts)
+
+
 def mask_of(p, words):
-    return next(mask for mask in MASKS if mask < p and all(word ^ mask < p for word in words))
+    words, first = [0, *words], 0
+    for digit in reversed(range(DIGITS)):
+        half = 2**digit
+        if ruled_out(p, words, first + half, half) < ruled_out(p, words, first, half):
+            first += half
+    return first
 
 
 def closed(p, words):
@@ -47,13 +62,8 @@ def carried_symbols(plan, count):
     """How many symbols so many bytes take."""
     if is_bytes(plan):
         return count
-    words, size = count // 2, group_words(plan.field.size)
+    words, size = (count + 1) // 2, group_words(plan.field.size)
     return words + -(-words // size)
-
-
-def bad_length(plan, count):
-    """Bytes that are no whole words, or too many."""
-    return not is_bytes(plan) and count % 2 != 0 or count > MOST_BYTES
 
 
 def carried_len(record, count):
@@ -61,7 +71,7 @@ def carried_len(record, count):
 
     def faults(plan):
         yield 18, not carries(plan)
-        yield 8, bad_length(plan, count)
+        yield 8, count > MOST_BYTES
 
     return call(record, faults, lambda plan: plan.size(carried_symbols(plan, count)))
 
@@ -71,13 +81,13 @@ def carry_in(record, data, room):
 
     def faults(plan):
         yield 18, not carries(plan)
-        yield 8, bad_length(plan, len(data)) or room != plan.size(carried_symbols(plan, len(data)))
+        yield 8, room != plan.size(carried_symbols(plan, len(data)))
 
     def work(plan):
         if is_bytes(plan):
             return bytes(data)
-        p = plan.field.size
-        return plan.bytes([symbol for words in groups(pairs(data), group_words(p)) for symbol in closed(p, words)])
+        p, padded = plan.field.size, data + bytes(len(data) % 2)
+        return plan.bytes([symbol for words in groups(pairs(padded), group_words(p)) for symbol in closed(p, words)])
 
     return call(record, faults, work)
 
@@ -87,13 +97,13 @@ def carry_out(record, symbols, room):
 
     def faults(plan):
         yield 18, not carries(plan)
-        yield 8, bad_length(plan, room) or len(symbols) != plan.size(carried_symbols(plan, room))
+        yield 8, room > MOST_BYTES or len(symbols) != plan.size(carried_symbols(plan, room))
         yield 11, any(symbol >= plan.field.size for symbol in plan.symbols(symbols))
 
     def work(plan):
         if is_bytes(plan):
             return bytes(symbols)
         size = group_words(plan.field.size) + 1
-        return plan.bytes([word for group in groups(plan.symbols(symbols), size) for word in opened(group)])
+        return plan.bytes([word for group in groups(plan.symbols(symbols), size) for word in opened(group)])[:room]
 
     return call(record, faults, work)

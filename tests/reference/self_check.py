@@ -160,16 +160,17 @@ class Differences(Numbers):
 
 
 class Carry(Numbers):
-    RECORDS = [[3, 255, 241, 65, 33, 3, 2], choose.record_for(253, 100), choose.record_for(6, 5), choose.record_for(11, 3)]
+    RECORDS = [bytes([3, 255, 241, 65, 33, 3, 2]), choose.record_for(253, 100), choose.record_for(6, 5), choose.record_for(11, 3)]
 
     def test_round_trip(self):
-        """Bytes come back, what carries them are symbols, the mask is the first that serves, and no other length is taken."""
+        """Bytes come back, what carries them are symbols, group after group under its mask, and no other length is taken."""
         random = Random(4)
         for record in self.RECORDS:
             p = read(record)[0]
-            for count in (0, 2, 4, 510, 512, 514, 1022, 3000):
+            for count in (0, 1, 2, 3, 4, 509, 510, 511, 512, 1022, 3001):
                 for data in (bytes(count), b"\xff" * count, random.randbytes(count)):
                     self.round_trip(record, p, data)
+        self.met(0, 8)
 
     def round_trip(self, record, p, data):
         length = self.result(carry.carried_len(record, len(data)))
@@ -177,22 +178,28 @@ class Carry(Numbers):
         numbers = [int.from_bytes(symbols[at:at + 2], "big") for at in range(0, len(symbols), 2)]
         self.assertTrue(all(number < p for number in numbers))
         self.assertEqual(self.result(carry.carry_out(record, symbols, len(data))), data)
-        words, size = [int.from_bytes(data[at:at + 2], "big") for at in range(0, len(data), 2)], carry.group_words(p)
+        padded = data + bytes(len(data) % 2)
+        words, size = [int.from_bytes(padded[at:at + 2], "big") for at in range(0, len(padded), 2)], carry.group_words(p)
         at = 0
         for first in range(0, len(words), size):
             group, mask = words[first:first + size], numbers[at]
             self.assertEqual([word ^ mask for word in group], numbers[at + 1:at + 1 + len(group)])
-            # every mask that is tried before rules itself or a word out
-            i = 0
-            while i * 25425 % 65536 != mask:
-                tried = i * 25425 % 65536
-                self.assertTrue(tried >= p or any(word ^ tried >= p for word in group))
-                i += 1
             at += 1 + len(group)
         self.assertEqual(at, len(numbers))
         for number in (-2, -1, 1, 2):
-            if len(data) + number >= 0:
-                self.refused(8, carry.carry_in(record, data, length + number))
+            self.refused(8, carry.carry_in(record, data, length + number))
+
+    def test_masks_by_counting(self):
+        """Each half of the masks is gone through: the mask is in the one with fewer pairs that give no symbol, the lower if as many."""
+        random = Random(9)
+        for p in (65521, 57179, 40009, 34819):
+            for words in ([], [65535], [0, 65535, 40000], [random.randrange(65536) for _ in range(min(6, carry.group_words(p)))]):
+                masks = range(65536)
+                bad = [sum(word ^ mask >= p for word in [0, *words]) for mask in masks]
+                while len(masks) > 1:
+                    lower, upper = masks[:len(masks) // 2], masks[len(masks) // 2:]
+                    masks = lower if sum(bad[m] for m in lower) <= sum(bad[m] for m in upper) else upper
+                self.assertEqual(carry.mask_of(p, words), masks[0])
 
     def test_every_group_size_leaves_a_mask(self):
         """Each word and the mask itself rule out 65,536 - p masks at most, so 4,096 are left."""
@@ -217,8 +224,8 @@ class Carry(Numbers):
             self.refused(18, carry.carry_in(none, b"ab", 4))
             self.refused(18, carry.carry_out(none, bytes(4), 2))
         self.refused(5, carry.carried_len([1, 7, 2, 6, 3], 1))
-        self.refused(8, carry.carried_len(record, 3))
-        self.refused(8, carry.carried_len(record, 2**62 + 2))
+        self.refused(8, carry.carried_len(record, 2**62 + 1))
+        self.refused(8, carry.carried_len([2, 11, 15, 10], 2**62 + 1))
         self.refused(8, carry.carry_out(record, b"\0\0", 0))
         self.refused(8, carry.carry_out(record, b"\xff\xff", 2))
         self.refused(11, carry.carry_out(record, b"\xff\xf1\0\0", 2))
