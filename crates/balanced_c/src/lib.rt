@@ -17,7 +17,7 @@ use blocks::Update;
 use plan::Plan;
 
 // The number that an answer stands for, 0 where the call was accepted.
-pub fn number_of(answer: Outcome) -> u8
+fn number_of(answer: Outcome) -> u8
     ensures { λ r. ⌜ r ≡ outcomeNumber answer ⌝ }
 {
     match answer {
