@@ -102,6 +102,9 @@ enum balanced_finding {
 /* The version of this header and of the library that it belongs to. */
 #define BALANCED_VERSION "1.0.0"
 
+/* The version of the library that a program runs with: 10000 * major + 100 * minor + patch. */
+uint32_t balanced_version(void);
+
 /*
  * What a number that a call returned says, in words: a constant string, the same as beside the number above, without a full stop. A
  * number that no call returns is said to be none. It stands in the header, so it is no name of the library.
@@ -317,6 +320,25 @@ uint8_t balanced_to_nodes(const uint8_t *record, size_t record_len,
                           uint32_t lanes,
                           const uint8_t *by_lane, size_t by_lane_len,
                           uint8_t *by_node, size_t by_node_len);
+
+/*
+ * Rearranges the shares of k listed nodes, as balanced_recover and balanced_rebuild take them: from node after node to lane
+ * after lane, and back. What stands at i * lanes + t of `by_node` stands at t * k + i of `by_lane`, for each place i of the
+ * list and each lane t. The two undo each other. Symbols are moved, not judged.
+ *
+ *   by_node  k * lanes symbols, read by balanced_listed_to_lanes, written by balanced_listed_to_nodes
+ *   by_lane  k * lanes symbols, written by balanced_listed_to_lanes, read by balanced_listed_to_nodes
+ *
+ * Returns 0 or one of 1 to 5, 7, 8.
+ */
+uint8_t balanced_listed_to_lanes(const uint8_t *record, size_t record_len,
+                                 uint32_t lanes,
+                                 const uint8_t *by_node, size_t by_node_len,
+                                 uint8_t *by_lane, size_t by_lane_len);
+uint8_t balanced_listed_to_nodes(const uint8_t *record, size_t record_len,
+                                 uint32_t lanes,
+                                 const uint8_t *by_lane, size_t by_lane_len,
+                                 uint8_t *by_node, size_t by_node_len);
 
 /*
  * Counts the messages by the nodes that hold something other than zero: counts[w] is the number of messages of k symbols

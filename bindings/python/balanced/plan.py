@@ -9,7 +9,8 @@ from typing import TYPE_CHECKING
 
 from .calls import call
 from .findings import Finding, finding
-from .sizes import MAX_NODES, Into, Sizes, node_list
+from .rearranged import Rearranged
+from .sizes import MAX_NODES, Into, node_list
 from .symbols import symbols_from_bytes
 
 if TYPE_CHECKING:
@@ -17,7 +18,7 @@ if TYPE_CHECKING:
 
 
 @dataclass(frozen=True, init=False)
-class Plan(Sizes):
+class Plan(Rearranged):
     """A record that was accepted, the plan that it stands for, and the calls on its blocks.
 
     A record is a buffer of bytes or a list of them; one that is not accepted raises an error from `KindError` to `RootError`.
