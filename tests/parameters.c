@@ -10,8 +10,8 @@
 #include <sys/mman.h>
 #include <unistd.h>
 
-enum { ROOM = 1024, MOST = 10 };
-enum type { BYTES, PAIRS, WORDS, LENGTH, NUMBER };
+enum { ROOM = 1024, MOST = 12 };
+enum type { BYTES, PAIRS, WORDS, SIZES, LENGTH, NUMBER };
 enum { P = 271, ROOT = 268, N = 15, K = 10, LANES = 6, SYMBOL = 4, LANE = 2, TARGET = 12, NEW = 200, WRONG = 77 };
 enum { RECORD_LEN = 7, W = 2, AT = SYMBOL * LANES + LANE, OLD = (17 * AT * AT + 5 * AT + 1) % P };
 
@@ -20,6 +20,7 @@ static struct memory {
     uint8_t record[ROOM], one[ROOM], two[ROOM], three[ROOM];
     uint16_t pairs[ROOM];
     uint32_t first[ROOM], second[ROOM], third[ROOM];
+    size_t size;
 } lent, start, straight;
 
 /* An argument: where a buffer begins, or a number. A name stands with what a call writes. */
@@ -175,6 +176,7 @@ static void prepare(const struct call *c) {
 
 static unsigned long number_at(const struct argument *a, size_t i) {
     if (a->type == BYTES) return ((const uint8_t *)a->at)[i];
+    if (a->type == SIZES) return (unsigned long)((const size_t *)a->at)[i];
     return a->type == PAIRS ? ((const uint16_t *)a->at)[i] : (unsigned long)((const uint32_t *)a->at)[i];
 }
 
@@ -218,7 +220,7 @@ static uint8_t *guarded(size_t size, int at_end) {
 
 /* The bytes of the memory that an argument leads to. */
 static size_t size_of(const struct call *c, size_t i) {
-    static const size_t item[] = { [BYTES] = 1, [PAIRS] = sizeof(uint16_t), [WORDS] = sizeof(uint32_t) };
+    static const size_t item[] = { [BYTES] = 1, [PAIRS] = sizeof(uint16_t), [WORDS] = sizeof(uint32_t), [SIZES] = sizeof(size_t) };
     size_t count = i + 1 < MOST && c->given[i + 1].type == LENGTH ? c->given[i + 1].value : 1;
     return c->given[i].at ? count * item[c->given[i].type] : 0;
 }
