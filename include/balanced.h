@@ -102,9 +102,6 @@ enum balanced_finding {
 /* The version of this header and of the library that it belongs to. */
 #define BALANCED_VERSION "1.0.0"
 
-/* The version of the library that a program runs with: 10000 * major + 100 * minor + patch. */
-uint32_t balanced_version(void);
-
 /*
  * What a number that a call returned says, in words: a constant string, the same as beside the number above, without a full stop. A
  * number that no call returns is said to be none. It stands in the header, so it is no name of the library.
@@ -133,6 +130,12 @@ static inline const char *balanced_text(unsigned number) {
     default: return "no number of this library";
     }
 }
+
+/*
+ * The version of the library that the program runs with: 10000 times the first number of the version, 100 times the second, and the
+ * third, so 10000 for 1.0.0. BALANCED_VERSION is that of the header that it was compiled with.
+ */
+uint32_t balanced_version(void);
 
 /* The largest numbers of lanes and of nodes; the lengths of the buffers of balanced_plan. */
 #define BALANCED_MAX_LANES 4096
@@ -322,9 +325,9 @@ uint8_t balanced_to_nodes(const uint8_t *record, size_t record_len,
                           uint8_t *by_node, size_t by_node_len);
 
 /*
- * Rearranges the shares of k listed nodes, as balanced_recover and balanced_rebuild take them: from node after node to lane
- * after lane, and back. What stands at i * lanes + t of `by_node` stands at t * k + i of `by_lane`, for each place i of the
- * list and each lane t. The two undo each other. Symbols are moved, not judged.
+ * The same for the shares of k listed nodes, as balanced_recover and balanced_rebuild take them: what stands at i * lanes + t of `by_node`
+ * stands at t * k + i of `by_lane`, for each place i of the list and each lane t. So shares that come from k nodes, each by itself, are
+ * laid one after the other in the order of the list and rearranged by one call.
  *
  *   by_node  k * lanes symbols, read by balanced_listed_to_lanes, written by balanced_listed_to_nodes
  *   by_lane  k * lanes symbols, written by balanced_listed_to_lanes, read by balanced_listed_to_nodes

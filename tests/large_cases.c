@@ -53,12 +53,18 @@ static void update(const struct code *c, unsigned symbol, uint32_t lane, unsigne
     else printf("altered %u, sum %llu\n", (unsigned)altered, (unsigned long long)checksum(shares, shares_size(c)));
 }
 
+/* What k nodes hold, as each keeps it by itself, one after the other; then lane after lane, as Recover and Rebuild take it. */
+static void gather(const struct code *c) {
+    size_t part = share_size(c);
+    balanced_to_nodes(c->record, c->length, c->lanes, shares, shares_size(c), before, shares_size(c));
+    for (unsigned i = 0; i < c->k; i++) memcpy(back + i * part, before + nodes[i] * part, part);
+    balanced_listed_to_lanes(c->record, c->length, c->lanes, back, message_size(c), held, message_size(c));
+}
+
 /* The message from k nodes, `first` and every `step` further, and node 0 from them. */
 static void restore(const struct code *c, unsigned first, unsigned step) {
-    for (unsigned i = 0; i < c->k; i++) {
-        nodes[i] = (uint8_t)((first + i * step) % c->n);
-        for (size_t t = 0; t < c->lanes; t++) put_symbol(c, held, t * c->k + i, symbol_at(c, shares, t * c->n + nodes[i]));
-    }
+    for (unsigned i = 0; i < c->k; i++) nodes[i] = (uint8_t)((first + i * step) % c->n);
+    gather(c);
     uint8_t one = balanced_recover(c->record, c->length, c->lanes, nodes, c->k, held, message_size(c), back, message_size(c));
     printf("from node %u by %u: ", first, step);
     if (one != BALANCED_OK) printf("refused %u ", one);

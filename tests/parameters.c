@@ -73,6 +73,12 @@ static uint8_t run_to_lanes(const struct argument *a) {
 static uint8_t run_to_nodes(const struct argument *a) {
     return balanced_to_nodes(a[0].at, a[1].value, u32(a + 2), a[3].at, a[4].value, a[5].at, a[6].value);
 }
+static uint8_t run_listed_to_lanes(const struct argument *a) {
+    return balanced_listed_to_lanes(a[0].at, a[1].value, u32(a + 2), a[3].at, a[4].value, a[5].at, a[6].value);
+}
+static uint8_t run_listed_to_nodes(const struct argument *a) {
+    return balanced_listed_to_nodes(a[0].at, a[1].value, u32(a + 2), a[3].at, a[4].value, a[5].at, a[6].value);
+}
 static uint8_t run_weights(const struct argument *a) { return balanced_weights(a[0].at, a[1].value, a[2].at, a[3].value); }
 static uint8_t run_start(const struct argument *a) { return balanced_roster_start(a[0].at, a[1].value, a[2].at, a[3].value); }
 static uint8_t run_leave(const struct argument *a) { return balanced_roster_leave(a[0].at, a[1].value, a[2].at, a[3].value, u32(a + 4)); }
@@ -146,6 +152,8 @@ static const struct call calls[] = {
     { "mends", run_mends, set_one_damaged, { RECORD, READ(one, W * N), WRITTEN(BYTES, two, N, "nodes"), WRITTEN(BYTES, three, W * N, "symbols"), GIVES(first, "count") } },
     { "to_lanes", run_to_lanes, set_plain, { RECORD, VALUE(LANES), READ(one, W * N * LANES), WRITTEN(BYTES, two, W * N * LANES, "by_lane") } },
     { "to_nodes", run_to_nodes, set_plain, { RECORD, VALUE(LANES), READ(one, W * N * LANES), WRITTEN(BYTES, two, W * N * LANES, "by_node") } },
+    { "listed_to_lanes", run_listed_to_lanes, set_plain, { RECORD, VALUE(LANES), READ(one, W * K * LANES), WRITTEN(BYTES, two, W * K * LANES, "by_lane") } },
+    { "listed_to_nodes", run_listed_to_nodes, set_plain, { RECORD, VALUE(LANES), READ(one, W * K * LANES), WRITTEN(BYTES, two, W * K * LANES, "by_node") } },
     { "weights", run_weights, set_small, { RECORD, WRITTEN(WORDS, first, N + 1, "counts") } },
     { "roster_start", run_start, NULL, { RECORD, WRITTEN(BYTES, one, BALANCED_ROSTER, "roster") } },
     { "roster_leave", run_leave, set_roster, { RECORD, WRITTEN(BYTES, one, BALANCED_ROSTER, "roster"), VALUE(LANE) } },
