@@ -131,6 +131,12 @@ static inline const char *balanced_text(unsigned number) {
     }
 }
 
+/*
+ * The version of the library that the program runs with: 10000 times the first number of the version, 100 times the second, and the
+ * third, so 10000 for 1.0.0. BALANCED_VERSION is that of the header that it was compiled with.
+ */
+uint32_t balanced_version(void);
+
 /* The largest numbers of lanes and of nodes; the lengths of the buffers of balanced_plan. */
 #define BALANCED_MAX_LANES 4096
 #define BALANCED_MAX_NODES 255
@@ -317,6 +323,25 @@ uint8_t balanced_to_nodes(const uint8_t *record, size_t record_len,
                           uint32_t lanes,
                           const uint8_t *by_lane, size_t by_lane_len,
                           uint8_t *by_node, size_t by_node_len);
+
+/*
+ * The same for the shares of k listed nodes, as balanced_recover and balanced_rebuild take them: what stands at i * lanes + t of `by_node`
+ * stands at t * k + i of `by_lane`, for each place i of the list and each lane t. So shares that come from k nodes, each by itself, are
+ * laid one after the other in the order of the list and rearranged by one call.
+ *
+ *   by_node  k * lanes symbols, read by balanced_listed_to_lanes, written by balanced_listed_to_nodes
+ *   by_lane  k * lanes symbols, written by balanced_listed_to_lanes, read by balanced_listed_to_nodes
+ *
+ * Returns 0 or one of 1 to 5, 7, 8.
+ */
+uint8_t balanced_listed_to_lanes(const uint8_t *record, size_t record_len,
+                                 uint32_t lanes,
+                                 const uint8_t *by_node, size_t by_node_len,
+                                 uint8_t *by_lane, size_t by_lane_len);
+uint8_t balanced_listed_to_nodes(const uint8_t *record, size_t record_len,
+                                 uint32_t lanes,
+                                 const uint8_t *by_lane, size_t by_lane_len,
+                                 uint8_t *by_node, size_t by_node_len);
 
 /*
  * Counts the messages by the nodes that hold something other than zero: counts[w] is the number of messages of k symbols

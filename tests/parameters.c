@@ -10,8 +10,8 @@
 #include <sys/mman.h>
 #include <unistd.h>
 
-enum { ROOM = 1024, MOST = 10 };
-enum type { BYTES, PAIRS, WORDS, LENGTH, NUMBER };
+enum { ROOM = 1024, MOST = 12 };
+enum type { BYTES, PAIRS, WORDS, SIZES, LENGTH, NUMBER };
 enum { P = 271, ROOT = 268, N = 15, K = 10, LANES = 6, SYMBOL = 4, LANE = 2, TARGET = 12, NEW = 200, WRONG = 77 };
 enum { RECORD_LEN = 7, W = 2, AT = SYMBOL * LANES + LANE, OLD = (17 * AT * AT + 5 * AT + 1) % P };
 
@@ -20,6 +20,7 @@ static struct memory {
     uint8_t record[ROOM], one[ROOM], two[ROOM], three[ROOM];
     uint16_t pairs[ROOM];
     uint32_t first[ROOM], second[ROOM], third[ROOM];
+    size_t size;
 } lent, start, straight;
 
 /* An argument: where a buffer begins, or a number. A name stands with what a call writes. */
@@ -71,6 +72,12 @@ static uint8_t run_to_lanes(const struct argument *a) {
 }
 static uint8_t run_to_nodes(const struct argument *a) {
     return balanced_to_nodes(a[0].at, a[1].value, u32(a + 2), a[3].at, a[4].value, a[5].at, a[6].value);
+}
+static uint8_t run_listed_to_lanes(const struct argument *a) {
+    return balanced_listed_to_lanes(a[0].at, a[1].value, u32(a + 2), a[3].at, a[4].value, a[5].at, a[6].value);
+}
+static uint8_t run_listed_to_nodes(const struct argument *a) {
+    return balanced_listed_to_nodes(a[0].at, a[1].value, u32(a + 2), a[3].at, a[4].value, a[5].at, a[6].value);
 }
 static uint8_t run_weights(const struct argument *a) { return balanced_weights(a[0].at, a[1].value, a[2].at, a[3].value); }
 static uint8_t run_start(const struct argument *a) { return balanced_roster_start(a[0].at, a[1].value, a[2].at, a[3].value); }
@@ -145,6 +152,8 @@ static const struct call calls[] = {
     { "mends", run_mends, set_one_damaged, { RECORD, READ(one, W * N), WRITTEN(BYTES, two, N, "nodes"), WRITTEN(BYTES, three, W * N, "symbols"), GIVES(first, "count") } },
     { "to_lanes", run_to_lanes, set_plain, { RECORD, VALUE(LANES), READ(one, W * N * LANES), WRITTEN(BYTES, two, W * N * LANES, "by_lane") } },
     { "to_nodes", run_to_nodes, set_plain, { RECORD, VALUE(LANES), READ(one, W * N * LANES), WRITTEN(BYTES, two, W * N * LANES, "by_node") } },
+    { "listed_to_lanes", run_listed_to_lanes, set_plain, { RECORD, VALUE(LANES), READ(one, W * K * LANES), WRITTEN(BYTES, two, W * K * LANES, "by_lane") } },
+    { "listed_to_nodes", run_listed_to_nodes, set_plain, { RECORD, VALUE(LANES), READ(one, W * K * LANES), WRITTEN(BYTES, two, W * K * LANES, "by_node") } },
     { "weights", run_weights, set_small, { RECORD, WRITTEN(WORDS, first, N + 1, "counts") } },
     { "roster_start", run_start, NULL, { RECORD, WRITTEN(BYTES, one, BALANCED_ROSTER, "roster") } },
     { "roster_leave", run_leave, set_roster, { RECORD, WRITTEN(BYTES, one, BALANCED_ROSTER, "roster"), VALUE(LANE) } },
@@ -175,6 +184,7 @@ static void prepare(const struct call *c) {
 
 static unsigned long number_at(const struct argument *a, size_t i) {
     if (a->type == BYTES) return ((const uint8_t *)a->at)[i];
+    if (a->type == SIZES) return (unsigned long)((const size_t *)a->at)[i];
     return a->type == PAIRS ? ((const uint16_t *)a->at)[i] : (unsigned long)((const uint32_t *)a->at)[i];
 }
 
@@ -218,7 +228,7 @@ static uint8_t *guarded(size_t size, int at_end) {
 
 /* The bytes of the memory that an argument leads to. */
 static size_t size_of(const struct call *c, size_t i) {
-    static const size_t item[] = { [BYTES] = 1, [PAIRS] = sizeof(uint16_t), [WORDS] = sizeof(uint32_t) };
+    static const size_t item[] = { [BYTES] = 1, [PAIRS] = sizeof(uint16_t), [WORDS] = sizeof(uint32_t), [SIZES] = sizeof(size_t) };
     size_t count = i + 1 < MOST && c->given[i + 1].type == LENGTH ? c->given[i + 1].value : 1;
     return c->given[i].at ? count * item[c->given[i].type] : 0;
 }

@@ -60,6 +60,8 @@ CALLS: dict[str, tuple[Parameter, ...]] = {
     "mends": (RECORD, read("lane"), written("nodes"), written("symbols"), Result("count")),
     "to_lanes": (RECORD, LANES, read("by_node"), written("by_lane")),
     "to_nodes": (RECORD, LANES, read("by_lane"), written("by_node")),
+    "listed_to_lanes": (RECORD, LANES, read("by_node"), written("by_lane")),
+    "listed_to_nodes": (RECORD, LANES, read("by_lane"), written("by_node")),
     "weights": (RECORD, written("counts", c_uint32)),
     "roster_start": (RECORD, ROSTER),
     "roster_leave": (RECORD, ROSTER, Number("node")),

@@ -19,6 +19,7 @@ EXAMPLES = """examples:
   imagestore get firmware-1.2 copy.bin
   imagestore check --correct
   imagestore leave 3; imagestore rebuild 3; imagestore return 3
+  source <(imagestore completion)
 
 exit status: 0 done; 1 something is wrong or refused, and a sentence says what; 2 usage; 3 fewer nodes than are needed.
 store.toml in this folder is the store, unless --store or the variable IMAGESTORE names another.
@@ -92,6 +93,7 @@ def node_commands(command):
     command("nodes", "list the nodes")
     one = command("serve", "answer for a node's folder on standard input and output, as ssh starts it")
     one.add_argument("folder", metavar="FOLDER")
+    command("completion", "print completion for bash: source <(imagestore completion)")
 
 
 def open_store(options, bar):
@@ -157,6 +159,10 @@ def main(words=None):
     if options.command == "serve":
         from .remote import serve
         return serve(options.folder, sys.stdin.buffer, sys.stdout.buffer)
+    if options.command == "completion":
+        from .completion import script
+        print(script(parser()))
+        return 0
     allow_files()
     with interrupts.noted():
         return carry_out(options)

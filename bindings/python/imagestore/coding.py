@@ -45,14 +45,7 @@ def shares_of(plan, layout, batch, data, room):
 
 def listed(plan, lanes, parts):
     """The shares of k listed nodes lane after lane, as the library takes them."""
-    if hasattr(plan, "listed_to_lanes"):
-        return plan.listed_to_lanes(lanes, b"".join(parts))
-    width, step = plan.symbol_len, plan.k * plan.symbol_len
-    by_lane = bytearray(step * lanes)
-    for i, part in enumerate(parts):
-        for byte in range(width):
-            by_lane[i * width + byte::step] = part[byte::width] if width > 1 else part
-    return by_lane
+    return plan.listed_to_lanes(lanes, b"".join(parts))
 
 
 def recover(plan, lanes, held):

@@ -8,6 +8,7 @@ mod mends;
 mod notebook;
 mod plans;
 mod random;
+mod rearranged;
 mod reference;
 mod refusals;
 mod rosters;
