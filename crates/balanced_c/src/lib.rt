@@ -7,6 +7,7 @@ ghost use Rattle.balanced_c.specs.Calls.{planRoomFault, numbersOf, PlanG
 
 mod correction;
 mod one_lane;
+mod repairs;
 mod rosters;
 
 use blocks::Membership;
