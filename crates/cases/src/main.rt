@@ -13,6 +13,7 @@ use test_words::is_comment;
 use test_words::line_end;
 
 mod block_calls;
+mod repairs;
 
 // The calls that leave the roster, by their numbers in the table below.
 fn make(call: usize, w: Words) {
@@ -40,6 +41,15 @@ fn next_roster(call: usize, w: Words, roster: Roster) -> Roster {
     }
 }
 
+// The calls of a repair.
+fn repair(call: usize, w: Words) {
+    match call {
+        18 => repairs::bits(w),
+        19 => repairs::share(w),
+        _ => repairs::plan(w),
+    }
+}
+
 fn answer(line: &[u8], roster: Roster) -> Roster {
     text(line);
     if is_comment(line) {
@@ -47,11 +57,15 @@ fn answer(line: &[u8], roster: Roster) -> Roster {
     }
     let w = read(
         line,
-        b"encode lanes# message* room~;recover lanes# nodes* shares* room~;rebuild lanes# nodes* shares* target# room~;to_lanes lanes# shares* room~;to_nodes lanes# shares* room~;update lanes# symbol# lane# old# new# shares*;belongs lanes# shares*;correct lanes# shares*;plan;weights room~;find before* after*;mends symbols* room~ room~;roster;leave node#;rejoin node#;lowest room~;job room~",
+        b"encode lanes# message* room~;recover lanes# nodes* shares* room~;rebuild lanes# nodes* shares* target# room~;to_lanes lanes# shares* room~;to_nodes lanes# shares* room~;update lanes# symbol# lane# old# new# shares*;belongs lanes# shares*;correct lanes# shares*;plan;weights room~;find before* after*;mends symbols* room~ room~;roster;leave node#;rejoin node#;lowest room~;job room~;repair_bits lanes# node# target# missing* share* room~;repair_share lanes# target# missing* rows* room~;repair_plan count#",
     );
     let call = w.call;
     if call <= 12 {
         make(call, w);
+        return roster;
+    }
+    if 17 < call {
+        repair(call, w);
         return roster;
     }
     next_roster(call, w, roster)
