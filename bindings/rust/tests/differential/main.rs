@@ -10,6 +10,7 @@ mod plans;
 mod random;
 mod reference;
 mod refusals;
+mod repairs;
 mod rosters;
 mod texts;
 mod weights;
