@@ -1,13 +1,16 @@
 # The commands that people expect. `make help` lists them.
-# The scripts read RECORD and LIBRARY from the environment, as they were typed: neither make nor a shell ever reads their text.
+# The scripts read these variables from the environment, as they were typed: neither make nor a shell ever reads their text.
 RECORD ?= 1 7 3 6 4
 override RECORD := $(value RECORD)
 override LIBRARY := $(value LIBRARY)
-export RECORD LIBRARY
+override PREFIX := $(value PREFIX)
+override LIBDIR := $(value LIBDIR)
+override DESTDIR := $(value DESTDIR)
+export RECORD LIBRARY PREFIX LIBDIR DESTDIR
 # started by make, too, the programs' output is all that stands on standard output
 MAKEFLAGS += --no-print-directory
 
-.PHONY: help build test wrong sheet compare weights plans programs library demo explore bench docs
+.PHONY: help build test wrong sheet compare weights plans programs library install demo explore bench docs
 
 help: ## this list
 	@awk -F ':.*## ' '/^[a-z]+:.*## / { printf "make %-8s %s\n", $$1, $$2 }' Makefile
@@ -33,6 +36,9 @@ library: ## prove the calls and make the library, static and shared, for every x
 
 build: ## the same, and build the Rust crate over it
 	@bindings/rust/build.sh --release
+
+install: ## the library with header, pkg-config file and manual page, for the users of this machine: make install PREFIX=/usr/local DESTDIR=
+	@tools/install.sh
 
 test: ## the gate: everything proved from nothing, wrong programs refused, outputs compared, C, Rust and Python, documents
 	.ci/run
