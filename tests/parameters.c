@@ -55,6 +55,13 @@ static uint8_t run_recover(const struct argument *a) {
 static uint8_t run_rebuild(const struct argument *a) {
     return balanced_rebuild(a[0].at, a[1].value, u32(a + 2), a[3].at, a[4].value, a[5].at, a[6].value, u32(a + 7), a[8].at, a[9].value);
 }
+static uint8_t run_repair_plan(const struct argument *a) { return balanced_repair_plan(a[0].at, a[1].value, u32(a + 2), a[3].at, a[4].at); }
+static uint8_t run_repair_bits(const struct argument *a) {
+    return balanced_repair_bits(a[0].at, a[1].value, u32(a + 2), u32(a + 3), u32(a + 4), a[5].at, a[6].value, a[7].at, a[8].value, a[9].at, a[10].value);
+}
+static uint8_t run_repair_share(const struct argument *a) {
+    return balanced_repair_share(a[0].at, a[1].value, u32(a + 2), u32(a + 3), a[4].at, a[5].value, a[6].at, a[7].value, a[8].at, a[9].value);
+}
 static uint8_t run_belongs(const struct argument *a) {
     return balanced_belongs(a[0].at, a[1].value, u32(a + 2), a[3].at, a[4].value, a[5].at);
 }
@@ -107,6 +114,16 @@ static void set_listed(void) {
     for (unsigned i = 0; i < K; i++) lent.one[i] = (uint8_t)((7 * i + 3) % N);
     set_symbols(lent.two, K * LANES);
 }
+/* 51 nodes over bytes, of which two are missing beside the target: four bits of a symbol, in four planes of three bytes for 20 lanes */
+enum { BYTE_NODES = 51, BYTE_RECORD_LEN = 4, MISSING = 2, BYTE_LANES = 20, BYTE_NODE = 5, SENT = 4 * 3, ROWS = (BYTE_NODES - 1 - MISSING) * SENT };
+static void set_repair(void) {
+    static const uint8_t record[BYTE_RECORD_LEN] = { 2, 32, BYTE_NODES, 18 };
+    memset(lent.record, 0, ROOM);
+    memcpy(lent.record, record, sizeof record);
+    lent.one[0] = 7;
+    lent.one[1] = 44;
+    for (unsigned i = 0; i < ROWS; i++) lent.two[i] = (uint8_t)(13 * i * i + 7 * i + 1);
+}
 /* two lanes that lie one update apart */
 static void set_two_lanes(void) {
     uint32_t altered;
@@ -136,6 +153,7 @@ static void set_job(void) {
 }
 
 #define RECORD { BYTES, lent.record, 0, NULL }, { LENGTH, NULL, RECORD_LEN, NULL }
+#define BYTE_RECORD { BYTES, lent.record, 0, NULL }, { LENGTH, NULL, BYTE_RECORD_LEN, NULL }
 #define READ(buffer, length) { BYTES, lent.buffer, 0, NULL }, { LENGTH, NULL, length, NULL }
 #define WRITTEN(type, buffer, length, name) { type, lent.buffer, 0, name }, { LENGTH, NULL, length, NULL }
 #define VALUE(x) { NUMBER, NULL, x, NULL }
@@ -146,6 +164,9 @@ static const struct call calls[] = {
     { "update", run_update, set_shares, { RECORD, VALUE(LANES), VALUE(SYMBOL), VALUE(LANE), VALUE(OLD), VALUE(NEW), WRITTEN(BYTES, one, W * N * LANES, "shares"), GIVES(first, "altered") } },
     { "recover", run_recover, set_listed, { RECORD, VALUE(LANES), READ(one, K), READ(two, W * K * LANES), WRITTEN(BYTES, three, W * K * LANES, "message") } },
     { "rebuild", run_rebuild, set_listed, { RECORD, VALUE(LANES), READ(one, K), READ(two, W * K * LANES), VALUE(TARGET), WRITTEN(BYTES, three, W * LANES, "share") } },
+    { "repair_plan", run_repair_plan, set_repair, { BYTE_RECORD, VALUE(MISSING), GIVES(first, "bits"), GIVES(second, "spare") } },
+    { "repair_bits", run_repair_bits, set_repair, { BYTE_RECORD, VALUE(BYTE_LANES), VALUE(BYTE_NODE), VALUE(TARGET), READ(one, MISSING), READ(two, BYTE_LANES), WRITTEN(BYTES, three, SENT, "bits") } },
+    { "repair_share", run_repair_share, set_repair, { BYTE_RECORD, VALUE(BYTE_LANES), VALUE(TARGET), READ(one, MISSING), READ(two, ROWS), WRITTEN(BYTES, three, BYTE_LANES, "share") } },
     { "belongs", run_belongs, set_damaged, { RECORD, VALUE(LANES), READ(one, W * N * LANES), GIVES(first, "first_wrong") } },
     { "find_update", run_find_update, set_two_lanes, { RECORD, READ(one, W * N), READ(two, W * N), GIVES(first, "answer"), GIVES(second, "symbol"), GIVES(third, "amount") } },
     { "correct", run_correct, set_damaged, { RECORD, VALUE(LANES), WRITTEN(BYTES, one, W * N * LANES, "shares"), GIVES(first, "altered") } },

@@ -169,6 +169,7 @@ mod calls;
 mod error;
 mod lanes;
 mod plan;
+mod repair;
 mod roster;
 mod symbols;
 pub mod sys;
@@ -179,6 +180,7 @@ pub use calls::{
 pub use error::Error;
 pub use lanes::{find_update, mends, Finding};
 pub use plan::Plan;
+pub use repair::{repair_bits, repair_plan, repair_share, RepairPlan};
 pub use roster::Roster;
 pub use symbols::{symbols_from_bytes, symbols_to_bytes};
 

@@ -11,6 +11,7 @@ mod random;
 mod rearranged;
 mod reference;
 mod refusals;
+mod repairs;
 mod rosters;
 mod texts;
 mod weights;

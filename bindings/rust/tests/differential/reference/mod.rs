@@ -5,12 +5,15 @@ mod code;
 mod field;
 mod lanes;
 mod nearest;
+mod repair;
 mod roster;
 
 pub use code::{bytes_of, width, Code};
 pub use field::{is_prime, Field};
 pub use lanes::{added, find_update, mends};
 pub use roster::{Event, History};
+
+pub use repair::{repair_bits, repair_plan, repair_share};
 
 pub fn encode(record: &[u8], lanes: u32, message: &[u8], out: usize) -> Result<Vec<u8>, u8> {
     let code = Code::of(record)?;
