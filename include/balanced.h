@@ -407,55 +407,6 @@ uint8_t balanced_listed_to_nodes(const uint8_t *record, size_t record_len,
                                  uint8_t *by_node, size_t by_node_len);
 
 /*
- * Repair of one node by traces: every other node sends b bits of each of its symbols, b = 1, 2 or 4. This is for records of kind 2
- * with n - k at least 2 to the power 8 - b, and as much more as nodes are missing beside the target; the least b is taken. Any
- * other meets BALANCED_TRACES. `missing` is a list of nodes, which may be empty; all parts of a repair are told the same.
- */
-
-/*
- * What a repair takes with so many nodes missing beside the target. Nodes that may be missing may as well be left out.
- *
- *   missing  how many
- *   bits     receives b
- *   spare    receives how many nodes more may be missing with the same b
- *
- * Returns 0 or one of 1 to 5, 17.
- */
-uint8_t balanced_repair_plan(const uint8_t *record, size_t record_len,
-                             uint32_t missing, uint32_t *bits, uint32_t *spare);
-
-/*
- * What a node sends for the repair of another.
- *
- *   node     the node that sends, below n; neither the target nor missing
- *   target   the node that is repaired, below n
- *   missing  different nodes below n, without the target
- *   share    lanes symbols, read: the node's
- *   bits     b planes of (lanes + 7) / 8 bytes, written: the lowest bits first, that of lane t in bit t % 8 of byte t / 8
- *
- * Returns 0 or one of 1 to 5, 7 to 10, 17. Where there is no repair, b is 0, and so is the length of `bits`.
- */
-uint8_t balanced_repair_bits(const uint8_t *record, size_t record_len,
-                             uint32_t lanes, uint32_t node, uint32_t target,
-                             const uint8_t *missing, size_t missing_len,
-                             const uint8_t *share, size_t share_len,
-                             uint8_t *bits, size_t bits_len);
-
-/*
- * The target's share from what all others sent that are not missing. From what nodes of one encoding send, it is that encoding's.
- *
- *   rows     what the n - 1 - missing_len nodes sent, in the order of the nodes, read
- *   share    lanes symbols, written
- *
- * Returns 0 or one of 1 to 5, 7 to 10, 17.
- */
-uint8_t balanced_repair_share(const uint8_t *record, size_t record_len,
-                              uint32_t lanes, uint32_t target,
-                              const uint8_t *missing, size_t missing_len,
-                              const uint8_t *rows, size_t rows_len,
-                              uint8_t *share, size_t share_len);
-
-/*
  * Counts the messages by the nodes that hold something other than zero: counts[w] is the number of messages of k symbols
  * whose encoding has just w nodes that are not zero, the Hamming weight w. counts[0] is 1, for the message of zeros,
  * counts[w] is 0 for w from 1 to n-k, and all counts together are q to the power k, where q is the number of symbols.
