@@ -44,25 +44,59 @@ fn write_masked(c: u16, words: &[u16], out: &mut [u8])
     out[count * 2] = ((words[count] ^ c) / 256) as u8;
 }
 
-// One group: its mask, and its words under it.
-fn close_group(p: u32, s: &[u8], words: &mut [u16], out: &mut [u8])
+// All bytes of the words under a mask.
+fn write_all(c: u16, words: &[u16], out: &mut [u8])
+    requires { ⌜ length (now out) ≡ length (now words) * 2 ⌝ }
+    ensures { λ r. ⌜ now (out .exit) ≡ bytesOf 2 (masked c (now (words .entry))) ⌝ }
+{
+    write_masked(c, words, out);
+}
+
+// One group, with room for its words: its mask, and its words under it.
+fn close_words(p: u32, s: &[u8], words: &mut [u16], out: &mut [u8])
     requires { ⌜ (p ≤ 65536) × (length (now words) ≡ wordCount (length (now s))) × (length (now words) ≤ 255) × (length (now out) ≡ length (now words) * 2 + 2) ⌝ }
     ensures { λ r. ⌜ now (out .exit) ≡ bytesOf 2 (closed p (wordsOf (now (s .entry)))) ⌝ }
 {
     load_words(s, words);
     let c = find_mask(p, words);
     symbols::write_symbol(2, c, &mut out[..2]);
-    write_masked(c, words, &mut out[2..]);
+    write_all(c, words, &mut out[2..]);
 }
 
-// As many bytes of one group as there is room for.
-fn open_group(group: &[u8], words: &mut [u16], out: &mut [u8])
+// As many bytes of one group as there is room for, likewise.
+fn open_words(group: &[u8], words: &mut [u16], out: &mut [u8])
     requires { ⌜ (length (now group) ≡ length (now words) * 2 + 2) × (length (now out) ≤ length (now words) * 2) ⌝ }
     ensures { λ r. ⌜ now (out .exit) ≡ take (length (now (out .entry))) (bytesOf 2 (opened (symbolsOf 2 (now (group .entry))))) ⌝ }
 {
     let c = symbols::symbol_at(2, group, 0);
     load_words(&group[2..], words);
     write_masked(c, words, out);
+}
+
+// Room for the words of a group.
+fn word_room() -> [u16; 255]
+    ensures { λ r. ⌜ length r ≡ 255 ⌝ }
+{
+    [0; 255]
+}
+
+// One group of at most 255 words.
+fn close_group(p: u32, s: &[u8], out: &mut [u8])
+    requires { ⌜ (p ≤ 65536) × (wordCount (length (now s)) ≤ 255) × (length (now out) ≡ wordCount (length (now s)) * 2 + 2) ⌝ }
+    ensures { λ r. ⌜ now (out .exit) ≡ bytesOf 2 (closed p (wordsOf (now (s .entry)))) ⌝ }
+{
+    let mut words = word_room();
+    let count = s.len() / 2 + s.len() % 2;
+    close_words(p, s, &mut words[..count], out);
+}
+
+fn open_group(group: &[u8], out: &mut [u8])
+    requires { ⌜ (length (now group) % 2 ≡ 0) × (2 ≤ length (now group)) × (length (now group) ≤ 512) × (length (now out) + 2 ≤ length (now group)) ⌝ }
+    ensures { λ r. ⌜ now (out .exit) ≡ take (length (now (out .entry))) (bytesOf 2 (opened (symbolsOf 2 (now (group .entry))))) ⌝ }
+{
+    let mut words = word_room();
+    let count = group.len() / 2 - 1;
+    open_words(group, &mut words[..count], out);
 }
 
 // The smaller of two numbers.
@@ -78,15 +112,13 @@ pub fn close_groups(p: u32, s: &[u8], out: &mut [u8])
     ensures { λ r. ⌜ now (out .exit) ≡ carriedWords p (now (s .entry)) ⌝ }
 {
     let size = group_words(p) * 2;
-    let mut words: [u16; 255] = [0; 255];
     let mut from = 0;
     let mut to = 0;
     while from < s.len() {
         let part = smaller(size, s.len() - from);
         let end = from + part;
-        let count = part / 2 + part % 2;
-        let next = to + count * 2 + 2;
-        close_group(p, &s[from..end], &mut words[..count], &mut out[to..next]);
+        let next = to + (part / 2 + part % 2) * 2 + 2;
+        close_group(p, &s[from..end], &mut out[to..next]);
         from = end;
         to = next;
     }
@@ -98,15 +130,13 @@ pub fn open_groups(p: u32, s: &[u8], out: &mut [u8])
     ensures { λ r. ⌜ now (out .exit) ≡ wordBytesBack p (length (now (out .entry))) (now (s .entry)) ⌝ }
 {
     let size = group_words(p) * 2 + 2;
-    let mut words: [u16; 255] = [0; 255];
     let mut from = 0;
     let mut to = 0;
     while from < s.len() {
         let part = smaller(size, s.len() - from);
         let end = from + part;
-        let count = part / 2 - 1;
-        let next = to + smaller(count * 2, out.len() - to);
-        open_group(&s[from..end], &mut words[..count], &mut out[to..next]);
+        let next = to + smaller(part - 2, out.len() - to);
+        open_group(&s[from..end], &mut out[to..next]);
         from = end;
         to = next;
     }

@@ -1,0 +1,2 @@
+pub mod Entries  -- every entry of the table by one computed test
+pub mod Accepted  -- what holds of the record for every n and k
