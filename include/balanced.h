@@ -87,7 +87,9 @@ enum balanced_number {
     BALANCED_STALE = 13,  /* the message of that lane holds another symbol than the old one */
     BALANCED_FAR = 14,    /* some lane has no word of the code within (n-k)/2 nodes */
     BALANCED_ALREADY = 15, /* the node already is what the event says: absent, or present */
-    BALANCED_MANY = 16    /* there are more than 65,536 messages */
+    BALANCED_MANY = 16,   /* there are more than 65,536 messages */
+    BALANCED_TRACES = 17, /* the record has no repair by traces with so many nodes missing */
+    BALANCED_CARRY = 18   /* the record's symbols do not carry bytes */
 };
 
 /* What balanced_find_update answers. */
@@ -99,6 +101,35 @@ enum balanced_finding {
 
 /* The version of this header and of the library that it belongs to. */
 #define BALANCED_VERSION "1.0.0"
+
+/*
+ * What a number that a call returned says, in words: a constant string, the same as beside the number above, without a full stop. A
+ * number that no call returns is said to be none. It stands in the header, so it is no name of the library.
+ */
+static inline const char *balanced_text(unsigned number) {
+    switch (number) {
+    case BALANCED_OK: return "the call was accepted";
+    case BALANCED_KIND: return "the record is empty or its first byte is none of 1, 2 and 3";
+    case BALANCED_BODY: return "the record's body has another length than its kind's";
+    case BALANCED_FIELD: return "p is not a prime from 3 to 251 in kind 1, from 257 to 65,521 in kind 3";
+    case BALANCED_SIZE: return "n is below 2, k is 0, or k is above n";
+    case BALANCED_ROOT: return "the root is not a symbol of order exactly n";
+    case BALANCED_UNEVEN: return "reserved: no longer given";
+    case BALANCED_LANES: return "lanes is 0 or above 4,096";
+    case BALANCED_LENGTH: return "a buffer or a list of nodes has another length than stated";
+    case BALANCED_RANGE: return "a node, symbol or lane number is outside its range";
+    case BALANCED_TWICE: return "a node stands twice in a list";
+    case BALANCED_SYMBOL: return "a number that the call reads as a symbol is p or more, in kind 2 above 255";
+    case BALANCED_WORD: return "the lane that an update is to change is no word of the code";
+    case BALANCED_STALE: return "the message of that lane holds another symbol than the old one";
+    case BALANCED_FAR: return "some lane has no word of the code within (n-k)/2 nodes";
+    case BALANCED_ALREADY: return "the node already is what the event says: absent, or present";
+    case BALANCED_MANY: return "there are more than 65,536 messages";
+    case BALANCED_TRACES: return "the record has no repair by traces with so many nodes missing";
+    case BALANCED_CARRY: return "the record's symbols do not carry bytes";
+    default: return "no number of this library";
+    }
+}
 
 /* The largest numbers of lanes and of nodes; the lengths of the buffers of balanced_plan. */
 #define BALANCED_MAX_LANES 4096

@@ -2,7 +2,7 @@
 # The interface for C and Rust. Makes the libraries and looks at their names; compiles the header as C99 and as C++; runs the example in
 # C and the large cases with the static library and with every shared build that the processor runs, under valgrind where that is
 # installed; and runs the Rust crate's tests, which compare every call with an independent implementation, on the shared build for
-# every x86-64 and on the widest, and the programs of its pages with the static library.
+# every x86-64 and on the widest, and the programs of its pages with the static library; and tests/install.sh, which installs and uses it.
 # Needs rt, gcc, make and cargo; no network.
 set -euo pipefail
 cd "$(dirname "$0")/.."
@@ -33,7 +33,7 @@ find_builds() {
 # the libraries have the calls of the header for their names, and nothing else
 names() {
     local file
-    grep -o '^uint8_t balanced_[a-z_]*' include/balanced.h | sed 's/.* //' | sort >target/examples/names
+    grep -o '^uint[0-9]*_t balanced_[a-z_]*' include/balanced.h | sed 's/.* //' | sort >target/examples/names
     for file in "$lib/libbalanced.so.1" "$lib"/glibc-hwcaps/*/libbalanced.so.1; do
         nm -D --defined-only "$file" | sed 's/.* //' | sort | diff target/examples/names -
     done
@@ -49,6 +49,17 @@ plain() {
         g++ -std=c++98 "${strict[@]}" -o target/examples/plain -x c++ target/examples/plain.c -x none "$static"
         target/examples/plain
     fi
+}
+
+# the texts of the numbers are the header's comments, and the version is that of VERSION
+texts() {
+    {
+        sed -n 's|^    BALANCED_[A-Z]* = \([0-9]*\),* */\* \(.*\) \*/$|\1 \2|p' include/balanced.h
+        printf 'no number of this library\n%.0s' 1 2
+        cat VERSION
+    } >target/examples/texts
+    gcc -std=c99 "${strict[@]}" -o target/examples/print_texts tests/texts.c
+    target/examples/print_texts | diff target/examples/texts -
 }
 
 # a part of a block, several blocks, whole blocks (5,120 bytes each) and no byte at all
@@ -107,9 +118,11 @@ with_shared_libraries() {
 in_c() {
     names
     plain
+    texts
     with_static_library
     parameters
     with_shared_libraries
+    tests/install.sh
 }
 
 # the tests with a build in the place of the one that glibc would pick; they are compiled once, over a folder that has the shared library alone

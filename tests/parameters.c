@@ -1,10 +1,14 @@
 /* Tells the parameters of each call apart. Each call of the header is made once on arguments of its own, and what it returns and writes is
    printed; tests/reference/parameters.py prints the same lines by another implementation. Then it is made again with every two arguments
    of one type exchanged: each such call must end otherwise. So a library that takes one parameter for another prints another line. Two
-   lengths that are equal in every accepted call are no such pair: each must be turned away where it is another. */
+   lengths that are equal in every accepted call are no such pair: each must be turned away where it is another. And it is made with every
+   buffer between two pages that may not be touched: a library that reads or writes beside a buffer is stopped there. */
+#define _DEFAULT_SOURCE
 #include "balanced.h"
 #include <stdio.h>
 #include <string.h>
+#include <sys/mman.h>
+#include <unistd.h>
 
 enum { ROOM = 1024, MOST = 10 };
 enum type { BYTES, PAIRS, WORDS, LENGTH, NUMBER };
@@ -204,6 +208,39 @@ static int told_apart(const struct call *c, uint8_t number, size_t i, size_t j) 
     return made(c, a) != number || memcmp(&lent, &straight, sizeof lent);
 }
 
+/* Memory of so many bytes between two pages that may not be touched, that ends at the second or begins at the first. */
+static uint8_t *guarded(size_t size, int at_end) {
+    size_t page = (size_t)sysconf(_SC_PAGESIZE), inside = (size + page - 1) / page * page;
+    uint8_t *at = mmap(NULL, inside + 2 * page, PROT_READ | PROT_WRITE, MAP_PRIVATE | MAP_ANONYMOUS, -1, 0);
+    if (at == MAP_FAILED || mprotect(at, page, PROT_NONE) || mprotect(at + page + inside, page, PROT_NONE)) return NULL;
+    return at_end ? at + page + inside - size : at + page;
+}
+
+/* The bytes of the memory that an argument leads to. */
+static size_t size_of(const struct call *c, size_t i) {
+    static const size_t item[] = { [BYTES] = 1, [PAIRS] = sizeof(uint16_t), [WORDS] = sizeof(uint32_t) };
+    size_t count = i + 1 < MOST && c->given[i + 1].type == LENGTH ? c->given[i + 1].value : 1;
+    return c->given[i].at ? count * item[c->given[i].type] : 0;
+}
+
+/* Whether the call ends as it did where each buffer has a page beside it that may not be touched. */
+static int beside_guards(const struct call *c, uint8_t number, int at_end) {
+    struct argument a[MOST];
+    int same = 1;
+    memcpy(a, c->given, sizeof a);
+    lent = start;
+    for (size_t i = 0; i < count_of(c); i++) {
+        if (!a[i].at) continue;
+        if (!(a[i].at = guarded(size_of(c, i), at_end))) return 0;
+        memcpy(a[i].at, c->given[i].at, size_of(c, i));
+    }
+    if (c->run(a) != number) same = 0;
+    lent = straight;
+    for (size_t i = 0; i < count_of(c); i++)
+        if (a[i].at && memcmp(a[i].at, c->given[i].at, size_of(c, i))) same = 0;
+    return same;
+}
+
 int main(void) {
     unsigned pairs = 0, alike = 0;
     for (const struct call *c = calls; c < calls + sizeof calls / sizeof *calls; c++) {
@@ -219,6 +256,8 @@ int main(void) {
                 alike++;
                 printf("%s: arguments %zu and %zu are not told apart\n", c->name, i, j);
             }
+        for (int at_end = 0; at_end < 2; at_end++)
+            if (!beside_guards(c, number, at_end) && ++alike) printf("%s: ends otherwise beside guard pages\n", c->name);
     }
     printf("%u pairs of one type, %u not told apart\n", pairs, alike);
     return alike != 0;

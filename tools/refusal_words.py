@@ -1,14 +1,18 @@
 """What a number that turned a record away means for this record, in words, and what to do.
 
 The words rest on the reference implementation (tests/reference), and so do the roots and records that they name; the number
-itself is what the proved program gave.
+itself is what the proved program gave. Names and texts of the numbers are those of the package for Python, which a test holds
+to include/balanced.h.
 """
 import os
+import runpy
 import sys
 from itertools import chain, islice
 
+TOP = os.path.dirname(os.path.dirname(os.path.abspath(__file__)))
+ERRORS = runpy.run_path(os.path.join(TOP, "bindings", "python", "balanced", "errors.py"))["ERRORS"]
 # in front: the package for Python is called balanced, too, and may be installed
-sys.path.insert(0, os.path.join(os.path.dirname(os.path.dirname(os.path.abspath(__file__))), "tests", "reference"))
+sys.path.insert(0, os.path.join(TOP, "tests", "reference"))
 from balanced import field_of, is_prime, order, pairs  # noqa: E402
 
 FORMS = {1: "1 p α n k", 2: "2 α n k", 3: "3 p p α α n k"}
@@ -62,13 +66,13 @@ def record_with(n, k):
 
 def kind_words(record):
     if not record:
-        return "kind: the record is empty. It starts with its kind: 1, 2 or 3."
-    return f"kind: the record starts with {record[0]}, and a kind is 1 (a prime up to 251), 2 (bytes) or 3 (a prime from 257 on)."
+        return "the record is empty. It starts with its kind: 1, 2 or 3."
+    return f"the record starts with {record[0]}, and a kind is 1 (a prime up to 251), 2 (bytes) or 3 (a prime from 257 on)."
 
 
 def body_words(record):
     kind = record[0]
-    words = f"body: a record of kind {kind} has {LENGTHS[kind]} bytes, {FORMS[kind]}, and this one has {len(record)}."
+    words = f"a record of kind {kind} has {LENGTHS[kind]} bytes, {FORMS[kind]}, and this one has {len(record)}."
     if kind == 3:
         words += " p and α may stand as one number each where p is above 255: RECORD='3 257 16 4 2'."
     return words
@@ -78,17 +82,17 @@ def field_words(record):
     p = fields(record)[0]
     least, greatest = PRIMES[record[0]]
     if not least <= p <= greatest:
-        return f"field: p = {p} is not from {least} to {greatest:,}, as a record of kind {record[0]} has it."
+        return f"p = {p} is not from {least} to {greatest:,}, as a record of kind {record[0]} has it."
     factor = next(q for q in range(2, p) if p % q == 0)
     near = [next((q for q in way if is_prime(q)), None) for way in (range(p, least - 1, -1), range(p, greatest + 1))]
-    return f"field: p = {p} is {factor} · {p // factor} and no prime. The nearest primes are {' and '.join(str(q) for q in near if q)}."
+    return f"p = {p} is {factor} · {p // factor} and no prime. The nearest primes are {' and '.join(str(q) for q in near if q)}."
 
 
 def size_words(record):
     n, k = fields(record)[2:]
     if n < 2:
-        return f"size: n = {n}, and a store has at least 2 nodes."
-    return "size: k = 0, and a message has at least 1 symbol." if k == 0 else f"size: k = {k} is above n = {n}, and k runs from 1 to n."
+        return f"n = {n}, and a store has at least 2 nodes."
+    return "k = 0, and a message has at least 1 symbol." if k == 0 else f"k = {k} is above n = {n}, and k runs from 1 to n."
 
 
 def order_words(p, root, n):
@@ -110,7 +114,7 @@ def nearest_divisors(whole, n):
 def root_words(record):
     p, root, n, k = fields(record)
     whole = p - 1 if p else 255
-    words = f"root: {order_words(p, root, n)}. "
+    words = f"{order_words(p, root, n)}. "
     if whole % n == 0:
         return words + f"These α have it: {listed(roots(p, n))}."
     which = f"p−1 = {whole}" if p else "255"
@@ -121,7 +125,7 @@ def many_words(record):
     p, _, _, k = fields(record)
     size = p or 256
     most = max(e for e in range(17) if size ** e <= 65536)
-    return f"many: there are {size}^{k} messages, and at most 65,536 are counted: k may be up to {most} over this field."
+    return f"there are {size}^{k} messages, and at most 65,536 are counted: k may be up to {most} over this field."
 
 
 WORDS = {1: kind_words, 2: body_words, 3: field_words, 4: size_words, 5: root_words, 16: many_words}
@@ -129,4 +133,5 @@ WORDS = {1: kind_words, 2: body_words, 3: field_words, 4: size_words, 5: root_wo
 
 def words_for(number, record):
     """A sentence for a number that a program of records gives."""
-    return WORDS[number](record) if number in WORDS else f"number {number}: docs/MANUAL.md has a table of the numbers."
+    error = ERRORS[number]
+    return f"{error.name}: {WORDS[number](record) if number in WORDS else error.text + '.'}"

@@ -8,6 +8,7 @@ from balanced import (
     belongs, build_plan, correct, encode, find_update, rebuild, recover, single_mends, to_lanes, to_nodes, update, weights,
 )
 from data import block, refused
+from rearranged import listed_to_lanes, listed_to_nodes
 from roster import History
 from words import NotRead, is_comment, read_line
 
@@ -29,8 +30,13 @@ CALLS = {
     "weights": ["room"],
     "to_lanes": ["lanes", "shares", "room"],
     "to_nodes": ["lanes", "shares", "room"],
+    "listed_to_lanes": ["lanes", "shares", "room"],
+    "listed_to_nodes": ["lanes", "shares", "room"],
 }
-WRITERS = {"encode": encode, "recover": recover, "rebuild": rebuild, "to_lanes": to_lanes, "to_nodes": to_nodes}
+WRITERS = {
+    "encode": encode, "recover": recover, "rebuild": rebuild, "to_lanes": to_lanes, "to_nodes": to_nodes,
+    "listed_to_lanes": listed_to_lanes, "listed_to_nodes": listed_to_nodes,
+}
 HISTORY = History()  # of the roster that the calls on a roster share
 
 

@@ -1,5 +1,9 @@
 #!/usr/bin/env python3
 """Prints what tests/parameters.c must: each call of the C interface once, on arguments of its own, and that every two arguments of one type are told apart."""
+import os
+import re
+from collections import Counter
+
 from balanced import belongs, build_plan, correct, encode, find_update, rebuild, recover, single_mends, to_lanes, to_nodes, update, weights
 from roster import History
 
@@ -102,8 +106,17 @@ def show_rosters():
     show("roster_job", number, ("roster", roster_bytes(worked)), ("list", nodes), ("enough", [1]))
 
 
+def pairs_of_one_type():
+    """Over all calls of the header."""
+    header = os.path.join(os.path.dirname(os.path.abspath(__file__)), "..", "..", "include", "balanced.h")
+    with open(header, encoding="utf-8") as file:
+        calls = re.findall(r"^uint8_t balanced_\w+\(([^;]*)\);", file.read(), re.M)
+    types = [Counter(re.findall(r"(\w+ \*?)\w+(?:,|$)", words)) for words in calls]
+    return sum(count * (count - 1) // 2 for counts in types for count in counts.values())
+
+
 show_plan()
 show_blocks()
 show_others()
 show_rosters()
-print("115 pairs of one type, 0 not told apart")
+print(pairs_of_one_type(), "pairs of one type, 0 not told apart")

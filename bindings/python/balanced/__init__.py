@@ -33,6 +33,7 @@ from .errors import (
     ERRORS,
     AlreadyError,
     BodyError,
+    CarryError,
     Error,
     FarError,
     FieldError,
@@ -45,6 +46,7 @@ from .errors import (
     SizeError,
     StaleError,
     SymbolError,
+    TracesError,
     TwiceError,
     UnevenError,
     WordError,
@@ -58,8 +60,8 @@ from .symbols import symbols_from_bytes, symbols_to_bytes
 __version__ = "1.0.0"
 
 __all__ = [
-    "ERRORS", "MAX_LANES", "MAX_NODES", "ROSTER_LEN", "Added", "AlreadyError", "BodyError", "Error", "FarError", "FieldError",
-    "Finding", "KindError", "LanesError", "LengthError", "ManyError", "NoSingleUpdate", "Plan", "RangeError", "RootError",
-    "Roster", "SizeError", "StaleError", "SymbolError", "TwiceError", "Unchanged", "UnevenError", "WordError",
+    "ERRORS", "MAX_LANES", "MAX_NODES", "ROSTER_LEN", "Added", "AlreadyError", "BodyError", "CarryError", "Error", "FarError",
+    "FieldError", "Finding", "KindError", "LanesError", "LengthError", "ManyError", "NoSingleUpdate", "Plan", "RangeError", "RootError",
+    "Roster", "SizeError", "StaleError", "SymbolError", "TracesError", "TwiceError", "Unchanged", "UnevenError", "WordError",
     "library_path", "symbols_from_bytes", "symbols_to_bytes",
 ]

@@ -92,4 +92,12 @@ class ManyError(Error):
     number, name, text = 16, "many", "there are more than 65,536 messages"
 
 
+class TracesError(Error):
+    number, name, text = 17, "traces", "the record has no repair by traces with so many nodes missing"
+
+
+class CarryError(Error):
+    number, name, text = 18, "carry", "the record's symbols do not carry bytes"
+
+
 ERRORS: dict[int, type[Error]] = {error.number: error for error in Error.__subclasses__()}

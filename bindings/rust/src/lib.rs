@@ -180,6 +180,9 @@ pub use plan::Plan;
 pub use roster::Roster;
 pub use symbols::{symbols_from_bytes, symbols_to_bytes};
 
+/// The version of this crate and of the library that it belongs to.
+pub const VERSION: &str = env!("CARGO_PKG_VERSION");
+
 /// The largest number of lanes of a block.
 pub const MAX_LANES: u32 = 4096;
 

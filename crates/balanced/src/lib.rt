@@ -8,6 +8,8 @@ pub use find_update::find_update;
 pub use mends::Mending;
 pub use mends::single_mends;
 pub use plan::build_plan;
+pub use rearrange::listed_to_lanes;
+pub use rearrange::listed_to_nodes;
 pub use rearrange::to_lanes;
 pub use rearrange::to_nodes;
 pub use recover::rebuild_share;

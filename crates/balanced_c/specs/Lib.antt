@@ -2,3 +2,4 @@
 pub mod Calls
 pub mod Lanes
 pub mod Corrections
+pub mod Version

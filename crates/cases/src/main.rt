@@ -25,7 +25,8 @@ fn make(call: usize, w: Words) {
         9 => plans::plan(w),
         10 => weights::weights(w),
         11 => lanes::find(w),
-        _ => lanes::mend(w),
+        12 => lanes::mend(w),
+        _ => block_calls::write(w),
     }
 }
 
@@ -47,14 +48,14 @@ fn answer(line: &[u8], roster: Roster) -> Roster {
     }
     let w = read(
         line,
-        b"encode lanes# message* room~;recover lanes# nodes* shares* room~;rebuild lanes# nodes* shares* target# room~;to_lanes lanes# shares* room~;to_nodes lanes# shares* room~;update lanes# symbol# lane# old# new# shares*;belongs lanes# shares*;correct lanes# shares*;plan;weights room~;find before* after*;mends symbols* room~ room~;roster;leave node#;rejoin node#;lowest room~;job room~",
+        b"encode lanes# message* room~;recover lanes# nodes* shares* room~;rebuild lanes# nodes* shares* target# room~;to_lanes lanes# shares* room~;to_nodes lanes# shares* room~;update lanes# symbol# lane# old# new# shares*;belongs lanes# shares*;correct lanes# shares*;plan;weights room~;find before* after*;mends symbols* room~ room~;roster;leave node#;rejoin node#;lowest room~;job room~;listed_to_lanes lanes# shares* room~;listed_to_nodes lanes# shares* room~",
     );
     let call = w.call;
-    if call <= 12 {
-        make(call, w);
-        return roster;
+    if 13 <= call && call <= 17 {
+        return next_roster(call, w, roster);
     }
-    next_roster(call, w, roster)
+    make(call, w);
+    roster
 }
 
 // At first there is a roster with no node.

@@ -93,12 +93,12 @@ module _ (h : Header) (l : ℕ) where
       (λ _. line 7 (lengthBad (h .n * l * width h) (length shares)) refl (length-means _ _)
       (λ _. last 10 (symbolsBad h shares) (symbols-mean h shares)))
 
-  pub rearrange-tells : (source out : ℕ) → Tells (rearrangeNumbers h l source out) (rearrangeFault h l source out)
+  pub rearrange-tells : (rows source out : ℕ) → Tells (rearrangeNumbers h rows l source out) (rearrangeFault h rows l source out)
   unfolding rearrangeFault
-  rearrange-tells source out =
+  rearrange-tells rows source out =
       line 6 (lanesBad l) refl (lanes-means l)
-      (λ _. line 7 (lengthBad (h .n * l * width h) source) refl (length-means _ _)
-      (λ _. last 7 (lengthBad (h .n * l * width h) out) (length-means _ _)))
+      (λ _. line 7 (lengthBad (rows * l * width h) source) refl (length-means _ _)
+      (λ _. last 7 (lengthBad (rows * l * width h) out) (length-means _ _)))
 
   module _ (nodes shares : List ℕ) where
     pub recover-tells : (out : ℕ) → Tells (recoverNumbers h l nodes shares out) (recoverFault h l nodes shares out)

@@ -39,14 +39,14 @@ impl<T: Copy + PartialEq + From<u8>> Lent<T> {
     }
 }
 
-fn number<T>(result: Result<T, Error>) -> (u8, Option<T>) {
+pub fn number<T>(result: Result<T, Error>) -> (u8, Option<T>) {
     match result {
         Ok(value) => (0, Some(value)),
         Err(error) => (error.number(), None),
     }
 }
 
-fn expected<T>(result: Result<T, u8>, before: T) -> (u8, T) {
+pub fn expected<T>(result: Result<T, u8>, before: T) -> (u8, T) {
     match result {
         Ok(value) => (0, value),
         Err(number) => (number, before),

@@ -2,6 +2,7 @@
 mod calls;
 mod compare;
 mod corrections;
+mod damage;
 mod findings;
 mod mends;
 mod notebook;
@@ -10,4 +11,5 @@ mod random;
 mod reference;
 mod refusals;
 mod rosters;
+mod texts;
 mod weights;

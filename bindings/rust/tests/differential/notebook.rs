@@ -128,6 +128,8 @@ fn numbers_and_names() {
         (14, "far"),
         (15, "already"),
         (16, "many"),
+        (17, "traces"),
+        (18, "carry"),
     ];
     assert_eq!(names, expect);
     for error in Error::ALL {

@@ -1,7 +1,7 @@
 //! Damaged input: each number of each call, alone and beside others, and nothing lent is changed.
-use crate::compare;
 use crate::random::{shapes, Random, Shape};
-use crate::reference::{bytes_of, width};
+use crate::reference::bytes_of;
+use crate::{compare, damage};
 
 const ROUNDS: usize = 50_000;
 
@@ -49,94 +49,36 @@ impl Input {
 
     /// One thing made wrong: mostly so that a number is met, and sometimes so that none is.
     fn damage(&mut self, random: &mut Random, shape: &Shape) {
-        let at = |random: &mut Random, len: usize| if len == 0 { None } else { Some(random.below(len)) };
         match random.below(14) {
-            0 => {
-                if let Some(i) = at(random, self.record.len()) {
-                    self.record[i] = random.byte();
-                }
-            }
-            1 => {
-                let len = random.below(9);
-                self.record.resize(len, 1);
-            }
-            2 => {
-                if let Some(i) = at(random, self.record.len()) {
-                    self.record[i] = *random.pick(&[0, 1, 2, 3, 9, 253]);
-                }
-            }
-            3 => self.lanes = *random.pick(&[0, 4097, 65_536, u32::MAX, self.lanes.saturating_add(1)]),
-            4 => {
-                let len = *random.pick(&[0, self.read.len() + 1, self.read.len().saturating_sub(1), 2 * self.read.len()]);
-                self.read.resize(len, 0);
-            }
-            5 => {
-                let len = *random.pick(&[
-                    0,
-                    self.written.len() + 1,
-                    self.written.len().saturating_sub(1),
-                    2 * self.written.len(),
-                ]);
-                self.written.resize(len, 0);
-            }
-            6 => {
-                let len = *random.pick(&[0, self.nodes.len() + 1, self.nodes.len().saturating_sub(1)]);
-                self.nodes.resize(len, 0);
-            }
-            7 => {
-                if let Some(i) = at(random, self.nodes.len()) {
-                    self.nodes[i] = *random.pick(&[shape.n as u8, 255, shape.n as u8 - 1]);
-                }
-            }
-            8 => {
-                if let (Some(i), Some(j)) = (at(random, self.nodes.len()), at(random, self.nodes.len())) {
-                    self.nodes[i] = self.nodes[j];
-                }
-            }
-            9 => {
-                let places = [&mut self.symbol, &mut self.lane, &mut self.target];
-                let limits = [shape.k as u32, self.lanes, shape.n as u32];
-                let which = random.below(3);
-                for (i, place) in places.into_iter().enumerate() {
-                    if i == which {
-                        *place = *random.pick(&[limits[i], limits[i].saturating_add(1), u32::MAX]);
-                    }
-                }
-            }
-            10 => {
-                // also numbers that are symbols if they are cut to one byte or two
-                let bad = *random.pick(&[
-                    shape.size,
-                    255,
-                    65_535,
-                    self.old.wrapping_add(256),
-                    self.new.wrapping_add(65_536),
-                    u32::MAX,
-                ]);
-                match random.below(3) {
-                    0 => self.old = bad,
-                    1 => self.new = bad,
-                    _ => {}
-                }
-            }
+            0..=2 => damage::record(random, &mut self.record),
+            3 => damage::lanes(random, &mut self.lanes),
+            4 => damage::length(random, &mut self.read),
+            5 => damage::length(random, &mut self.written),
+            6 => damage::length(random, &mut self.nodes),
+            7 | 8 => damage::nodes(random, shape, &mut self.nodes),
+            9 => match random.below(3) {
+                0 => damage::range(random, &mut self.symbol, shape.k as u32),
+                1 => damage::range(random, &mut self.lane, self.lanes),
+                _ => damage::range(random, &mut self.target, shape.n as u32),
+            },
+            10 => self.damage_number(random, shape),
             11 => self.old = random.below(shape.size as usize) as u32,
-            12 => {
-                if let Some(i) = at(random, self.read.len()) {
-                    self.read[i] = random.below(shape.size.min(256) as usize) as u8;
-                }
-            }
+            12 => damage::symbol(random, shape, &mut self.read),
             _ => {
-                // the least number that is no symbol, where there is one of so many bytes, or the largest byte
-                let w = width(shape.size);
-                let least = bytes_of(shape.size, &[shape.size as u16]);
-                let bad = random.pick(&[least, vec![255; w]]).clone();
-                if let Some(i) = at(random, self.read.len() / w) {
-                    self.read[i * w..(i + 1) * w].copy_from_slice(&bad);
-                }
-                if let Some(i) = at(random, self.written.len()) {
-                    self.written[i] = bad[0];
-                }
+                damage::no_symbol(random, shape, &mut self.read);
+                damage::no_symbol(random, shape, &mut self.written);
             }
+        }
+    }
+
+    /// A number is no symbol, or is one only if it is cut to one byte or two.
+    fn damage_number(&mut self, random: &mut Random, shape: &Shape) {
+        let cut = [self.old.wrapping_add(256), self.new.wrapping_add(65_536)];
+        let bad = *random.pick(&[shape.size, 255, 65_535, cut[0], cut[1], u32::MAX]);
+        match random.below(3) {
+            0 => self.old = bad,
+            1 => self.new = bad,
+            _ => {}
         }
     }
 }
@@ -153,7 +95,7 @@ fn run(
 ) {
     let mut random = Random::new(seed);
     let shapes = shapes(16);
-    let mut seen = [0; 15];
+    let mut seen = [0; 19];
     for _ in 0..ROUNDS {
         let shape = random.pick(&shapes);
         let mut input = Input::new(&mut random, shape, read(shape), written(shape));
@@ -163,14 +105,7 @@ fn run(
         }
         seen[call(&input) as usize] += 1;
     }
-    println!("{ROUNDS} calls of {name}, by their number: {seen:?}");
-    for (number, &count) in seen.iter().enumerate() {
-        if numbers.contains(&number) {
-            assert!(count >= 100, "{name} gave {number} only {count} times");
-        } else {
-            assert_eq!(count, 0, "{name} gave {number}");
-        }
-    }
+    damage::judge(name, &seen, numbers);
 }
 
 #[test]
