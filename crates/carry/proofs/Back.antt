@@ -18,19 +18,15 @@ use Rattle.blocks.specs.declared.Outcome.{Outcome}
 use Rattle.blocks.specs.declared.Outcome.the-variants.{Done}
 use Rattle.blocks.specs.Answers.{outcomeOf}
 use Rattle.blocks.proofs.Answered.{done-means}
-use Rattle.carrying.specs.Carrying.{carriesNone, carried, bytesBack, carriedLength}
+use Rattle.carrying.specs.Carrying.{carriesNone, carriedBytes, bytesBack, carriedLength}
 use Rattle.carrying.proofs.BothKinds.{bytes-back, length-carried, carried-below}
 use Rattle.carry.specs.Promise.{longBad, carriedLenFault, carryInFault, carryOutFault, CarryInSays, Carries}
 use Rattle.carry.proofs.Accepts.{Carriable, modulus-word, in-accepts}
 
--- lengths that agree
-length-same : (stated long : ℕ) → long ≡ stated → lengthBad stated long ≡ false
-unfolding lengthBad
-length-same stated long e = ap not (eq-eqb long stated e)
-
+-- no number is met
 in-none : (h : Header) (n long : ℕ) → Carriable h n → long ≡ carriedLength (modulusOf h) n → carryInFault h n long ≡ 0
-unfolding carryInFault carriedLenFault longBad
-in-none h n long good fits = rw (good .carries, le-ltb 4611686018427387904 n (good .few), length-same (carriedLength (modulusOf h) n) long fits)
+unfolding carryInFault carriedLenFault longBad lengthBad
+in-none h n long good fits = rw (good .carries, le-ltb 4611686018427387904 n (good .few), eq-eqb long (carriedLength (modulusOf h) n) fits)
 
 -- a record that carries, no more than 2^62 bytes and the room for them: the call is done, whatever the bytes
 pub always-done : (rec bytes out out′ : List ℕ) (answer : Outcome) → recordFault rec ≡ 0 → carriesNone (modulusOf (headerOf rec)) ≡ false → length bytes ≤ 4611686018427387904 → length out ≡ carriedLength (modulusOf (headerOf rec)) (length bytes) → CarryInSays rec bytes out out′ answer → answer ≡ Done
@@ -41,28 +37,28 @@ always-done rec bytes out out′ answer accepted carries few fits says =
 
 -- the symbols that it wrote carry the bytes
 module _ (rec bytes : List ℕ) (sound : Sound (headerOf rec)) (accepted : recordFault rec ≡ 0) (good : Carriable (headerOf rec) (length bytes)) (low : allBelow 256 bytes ≡ true) where
-  symbols-good : symbolsBad (headerOf rec) (carried (modulusOf (headerOf rec)) bytes) ≡ false
+  symbols-good : symbolsBad (headerOf rec) (carriedBytes (modulusOf (headerOf rec)) bytes) ≡ false
   unfolding symbolsBad width
   symbols-good = ap not (carried-below (modulusOf (headerOf rec)) (modulus-word (headerOf rec .field) (sound .usable-field)) (good .carries) bytes low)
 
-  none-met-out : (room : ℕ) → room ≡ length bytes → faultOf rec (λ h. carryOutFault h room (carried (modulusOf (headerOf rec)) bytes)) ≡ 0
+  none-met-out : (room : ℕ) → room ≡ length bytes → faultOf rec (λ h. carryOutFault h room (carriedBytes (modulusOf (headerOf rec)) bytes)) ≡ 0
   unfolding faultOf carryOutFault
   none-met-out room fits =
       let h = headerOf rec in
       let long = length-carried (modulusOf h) (modulus-word (h .field) (sound .usable-field)) (good .carries) bytes in
-      let inside : carryInFault h room (length (carried (modulusOf h) bytes)) ≡ 0 = rw fits (in-none h (length bytes) _ good long) in
+      let inside : carryInFault h room (length (carriedBytes (modulusOf h) bytes)) ≡ 0 = rw fits (in-none h (length bytes) _ good long) in
       rw (accepted, inside, symbols-good)
 
-  carried-carries : Carries rec bytes (carried (modulusOf (headerOf rec)) bytes)
+  carried-carries : Carries rec bytes (carriedBytes (modulusOf (headerOf rec)) bytes)
   unfolding outcomeOf
   carried-carries = record {
     symbols-good = symbols-good;
     back = λ out out′ answer fits says. (
       says .promise .answered ∙ ap outcomeOf (none-met-out (length out) fits),
       says .promise .written
-      ∙ ap (λ (f : ℕ). pick (eqb f 0) (bytesBack (modulusOf (headerOf rec)) (length out) (carried (modulusOf (headerOf rec)) bytes)) out) (none-met-out (length out) fits)
-      ∙ ap (λ (n : ℕ). bytesBack (modulusOf (headerOf rec)) n (carried (modulusOf (headerOf rec)) bytes)) fits
-      ∙ bytes-back (modulusOf (headerOf rec)) (modulus-word (headerOf rec .field) (sound .usable-field)) (good .carries) bytes low,
+          ∙ ap (λ (f : ℕ). pick (eqb f 0) (bytesBack (modulusOf (headerOf rec)) (length out) (carriedBytes (modulusOf (headerOf rec)) bytes)) out) (none-met-out (length out) fits)
+          ∙ ap (λ (n : ℕ). bytesBack (modulusOf (headerOf rec)) n (carriedBytes (modulusOf (headerOf rec)) bytes)) fits
+          ∙ bytes-back (modulusOf (headerOf rec)) (modulus-word (headerOf rec .field) (sound .usable-field)) (good .carries) bytes low,
     );
   }
 
@@ -73,5 +69,5 @@ carries rec bytes out out′ low says =
     let (sound, call) = none-met rec (λ h. carryInFault h (length bytes) (length out)) zero in
     let (good, fits) = in-accepts (headerOf rec) (length bytes) (length out) call in
     let accepted = first-zero (recordFault rec) (carryInFault (headerOf rec) (length bytes) (length out)) zero .0 in
-    let is : out′ ≡ carried (modulusOf (headerOf rec)) bytes = says .promise .written ∙ ap (λ (f : ℕ). pick (eqb f 0) (carried (modulusOf (headerOf rec)) bytes) out) zero in
+    let is : out′ ≡ carriedBytes (modulusOf (headerOf rec)) bytes = says .promise .written ∙ ap (λ (f : ℕ). pick (eqb f 0) (carriedBytes (modulusOf (headerOf rec)) bytes) out) zero in
     rw is (carried-carries rec bytes sound accepted good low)

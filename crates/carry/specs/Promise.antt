@@ -13,7 +13,7 @@ use Rattle.refusals.specs.Promise.{OnRecord}
 use Rattle.blocks.specs.declared.Outcome.{Outcome}
 use Rattle.blocks.specs.declared.Outcome.the-variants.{Done}
 use Rattle.blocks.specs.Answers.{outcomeOf}
-use Rattle.carrying.specs.Carrying.{carriesNone, carried, bytesBack, carriedLength}
+use Rattle.carrying.specs.Carrying.{carriesNone, carriedBytes, bytesBack, carriedLength}
 use Rattle.carry.specs.declared.CarriedLen.{CarriedLen}
 use Rattle.carry.specs.declared.CarriedLen.the-variants as L
 
@@ -44,7 +44,7 @@ pub record CarriedLenPromise (n : ℕ) (answer : CarriedLen) (h : Header) (f : �
 -- the bytes as they are carried; nothing is written beside a number
 pub record CarryInPromise (bytes out out′ : List ℕ) (answer : Outcome) (h : Header) (f : ℕ) : Type 0 where
   pub answered : answer ≡ outcomeOf f
-  pub written : out′ ≡ pick (eqb f 0) (carried (modulusOf h) bytes) out
+  pub written : out′ ≡ pick (eqb f 0) (carriedBytes (modulusOf h) bytes) out
 
 -- the bytes that the symbols carry, as many as there is room for; likewise
 pub record CarryOutPromise (symbols out out′ : List ℕ) (answer : Outcome) (h : Header) (f : ℕ) : Type 0 where

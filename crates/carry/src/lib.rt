@@ -5,7 +5,7 @@ ghost use mathlib.Core.Bool.{false};
 ghost use Prim.Native.Nat.{_≤_, _<_};
 ghost use lib.ListN.{length};
 ghost use Rattle.generator.specs.Records.{Sound};
-ghost use Rattle.carrying.specs.Carrying.{carriesNone, carried, bytesBack, carriedLength};
+ghost use Rattle.carrying.specs.Carrying.{carriesNone, carriedBytes, bytesBack, carriedLength};
 ghost use Rattle.carry.specs.Promise.{carriedLenFault, carryInFault, carryOutFault, CarriedLenPromise, CarryInPromise, CarryOutPromise, CarriedLenSays, CarryInSays, CarryOutSays};
 use blocks::Outcome;
 use generator::Header;
@@ -37,7 +37,7 @@ fn length_accepted(h: Header, n: usize) -> CarriedLen
 // Bytes as they are carried, and read.
 fn write_carried(p: u32, bytes: &[u8], out: &mut [u8])
     requires { ⌜ (p < 65536) × (carriesNone p ≡ false) × (length (now out) ≡ carriedLength p (length (now bytes))) ⌝ }
-    ensures { λ r. ⌜ now (out .exit) ≡ carried p (now (bytes .entry)) ⌝ }
+    ensures { λ r. ⌜ now (out .exit) ≡ carriedBytes p (now (bytes .entry)) ⌝ }
 {
     if p == 0 {
         kernel::copy(bytes, out);

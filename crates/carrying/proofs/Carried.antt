@@ -2,11 +2,11 @@
 use mathlib.Core.Path.{_≡_, refl, sym, ap, ap₂, _∙_}
 use mathlib.Core.Bool.{Bool, true, false, not, _&&_}
 use mathlib.Core.List.{List, [], _∷_, _++_, append-nil}
-use Prim.Native.Nat.{ℕ, zero, suc, _+_, _-_, _*_, _/_, _^_, _≤_, _<_}
+use Prim.Native.Nat.{ℕ, zero, suc, _+_, _-_, _*_, _/_, _≤_, _<_}
 use native.Mathlib.Nat.{div-mul-le-self, mul-le-mul, le-refl, le-div-iff-mul-le, one-mul, suc-mul}
 use native.Mathlib.Omega.{arith}
 use borrow.Author.Tests.{leb-true, leb-false, ltb-false, ne-eqb}
-use lib.Bits.{bitXor, xor-lt}
+use lib.Bits.{bitXor}
 use lib.Dec.{leb, ltb}
 use lib.ListN.{length, take, drop, length-append, length-drop, drop-of-length-le, take-append-drop, length-map}
 use lib.Seq.{take-all, length-take-le, take-at, drop-at}
@@ -14,13 +14,12 @@ use Rattle.lists.specs.Numbers.{allBelow}
 use Rattle.lists.specs.Padded.{zeros}
 use Rattle.lists.proofs.Cases.{by-test}
 use Rattle.lists.proofs.Fill.{length-zeros}
-use Rattle.lists.proofs.Numbers.{below-cons, cons-below}
 use Rattle.field.proofs.Xor.{xor-cancel}
 use Rattle.carrying.specs.Groups.{byGroups, groupCount}
 use Rattle.carrying.specs.Masks.{masked, covered, maskOf, closed, opened}
 use Rattle.carrying.specs.Carrying.{carriesNone, groupWords, carriedSymbols, wordsBack}
 use Rattle.carrying.proofs.Masks.{mask-serves}
-use Rattle.carrying.proofs.Grouping.{groups-none, groups-next, by-groups, count-none, count-next, groups-below, below-none}
+use Rattle.carrying.proofs.Grouping.{groups-none, groups-next, by-groups, count-none, count-next, groups-below}
 
 -- a p that carries
 pub record Carrier (p : ℕ) : Type 0 where
@@ -62,13 +61,6 @@ unfolding masked
 masked-twice c [] = refl
 masked-twice c (w ∷ ws) = ap₂ _∷_ (xor-cancel w c) (masked-twice c ws)
 
-pub masked-below : (k c : ℕ) (ws : List ℕ) → c < 2 ^ k → allBelow (2 ^ k) ws ≡ true → allBelow (2 ^ k) (masked c ws) ≡ true
-unfolding masked
-masked-below k c [] h low = low
-masked-below k c (w ∷ ws) h low =
-    let (here, rest) = below-cons (2 ^ k) w ws low in
-    cons-below (2 ^ k) (bitXor w c) (masked c ws) (xor-lt k w c here h) (masked-below k c ws h rest)
-
 -- one group: read again, whatever its mask; its length, its symbols
 pub opened-covered : (c : ℕ) (ws : List ℕ) → opened (covered c ws) ≡ ws
 unfolding opened covered
@@ -94,19 +86,10 @@ module _ (p : ℕ) (carrier : Carrier p) where
       let more : length ws + 1 ≤ groupWords p + 1 = omega arith in
       mask-serves p ws low (omega (arith, carrier .masks, mul-le-mul more (le-refl (65536 - p))))
 
-  opened-below : (xs : List ℕ) → length xs ≤ groupWords p + 1 → allBelow 65536 xs ≡ true → allBelow 65536 (opened xs) ≡ true
-  unfolding opened
-  opened-below [] h low = low
-  opened-below (c ∷ xs) h low = let (here, rest) = below-cons 65536 c xs low in masked-below 16 c xs here rest
-
-  -- every symbol that carries is below p, and what is read are words
+  -- every symbol that carries is below p
   pub carried-below : (ws : List ℕ) → allBelow 65536 ws ≡ true → allBelow p (carriedSymbols p ws) ≡ true
   unfolding carriedSymbols
   carried-below = groups-below (closed p) (groupWords p) 65536 p (carrier .some) closed-below
-
-  pub back-below : (xs : List ℕ) → allBelow 65536 xs ≡ true → allBelow 65536 (wordsBack p xs) ≡ true
-  unfolding wordsBack
-  back-below = groups-below opened (groupWords p + 1) 65536 65536 (omega arith) opened-below
 
 -- a group and the groups behind it, which are none where it is short
 module _ (p m : ℕ) (some : 1 ≤ m) (ws : List ℕ) (h : 0 < length ws) where
@@ -216,8 +199,3 @@ module _ (p : ℕ) (some : 1 ≤ groupWords p) where
       let same : length (carriedSymbols p (zeros n)) ≡ length xs = these ∙ ap (λ (x : ℕ). x + groupCount (groupWords p) x) (length-zeros n) ∙ sym long in
       let back = length-back (carriedSymbols p (zeros n)) in
       omega (arith, ap length (words-back (zeros n)), length-zeros n, ap (groupCount (groupWords p + 1)) same, length-back xs)
-
--- a larger bound
-pub below-more : (m n : ℕ) (xs : List ℕ) → m ≤ n → allBelow m xs ≡ true → allBelow n xs ≡ true
-below-more m n [] h low = below-none n
-below-more m n (x ∷ xs) h low = let (here, rest) = below-cons m x xs low in cons-below n x xs (omega arith) (below-more m n xs h rest)

@@ -6,16 +6,16 @@ use Rattle.lists.specs.Rows.{from}
 use Rattle.layout.specs.Width.{valueFrom, symbolAt, symbolsOf, symbolBytes, bytesOf}
 use Rattle.carrying.specs.Groups.{groupsFrom, byGroups, groupCount}
 use Rattle.carrying.specs.Masks.{masked, covered, ruledOut, allRuledOut, maskFrom, maskOf, closed, opened}
-use Rattle.carrying.specs.Carrying.{groupWords, wordCount, wordsOf, carriedSymbols, wordsBack, carriedWords, wordBytesBack, wordsLength, carried, bytesBack, carriedLength}
+use Rattle.carrying.specs.Carrying.{groupWords, wordCount, wordsOf, carriedSymbols, wordsBack, carriedWords, wordBytesBack, wordsLength, carriedBytes, bytesBack, carriedLength}
 
 -- over 65,521 the word 255 255 is no symbol; under the mask 64 0 it is one, and so are the mask and the other word
-all-ones : carried 65521 (255 ∷ 255 ∷ 0 ∷ 7 ∷ []) ≡ 64 ∷ 0 ∷ 191 ∷ 255 ∷ 64 ∷ 7 ∷ []
-unfolding carried carriedWords carriedSymbols byGroups groupsFrom closed covered maskOf maskFrom allRuledOut ruledOut masked wordsOf wordCount padded zeros symbolsOf symbolAt valueFrom from symbolBytes bytesOf groupWords
+all-ones : carriedBytes 65521 (255 ∷ 255 ∷ 0 ∷ 7 ∷ []) ≡ 64 ∷ 0 ∷ 191 ∷ 255 ∷ 64 ∷ 7 ∷ []
+unfolding carriedBytes carriedWords carriedSymbols byGroups groupsFrom closed covered maskOf maskFrom allRuledOut ruledOut masked wordsOf wordCount padded zeros symbolsOf symbolAt valueFrom from symbolBytes bytesOf groupWords
 all-ones = refl
 
 -- small words need no mask; an odd byte has a zero behind it
-odd : carried 65521 (1 ∷ 2 ∷ 3 ∷ []) ≡ 0 ∷ 0 ∷ 1 ∷ 2 ∷ 3 ∷ 0 ∷ []
-unfolding carried carriedWords carriedSymbols byGroups groupsFrom closed covered maskOf maskFrom allRuledOut ruledOut masked wordsOf wordCount padded zeros symbolsOf symbolAt valueFrom from symbolBytes bytesOf groupWords
+odd : carriedBytes 65521 (1 ∷ 2 ∷ 3 ∷ []) ≡ 0 ∷ 0 ∷ 1 ∷ 2 ∷ 3 ∷ 0 ∷ []
+unfolding carriedBytes carriedWords carriedSymbols byGroups groupsFrom closed covered maskOf maskFrom allRuledOut ruledOut masked wordsOf wordCount padded zeros symbolsOf symbolAt valueFrom from symbolBytes bytesOf groupWords
 odd = refl
 
 -- read again, four bytes and three

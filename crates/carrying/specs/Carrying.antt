@@ -44,8 +44,8 @@ unfoldable pub wordsLength : ℕ → ℕ → ℕ
 wordsLength p n = (wordCount n + groupCount (groupWords p) (wordCount n)) * 2
 
 -- over either kind of field: bytes that carry s, n bytes that s carries, and how many bytes carry n
-unfoldable pub carried : ℕ → List ℕ → List ℕ
-carried p s = pick (eqb p 0) s (carriedWords p s)
+unfoldable pub carriedBytes : ℕ → List ℕ → List ℕ
+carriedBytes p s = pick (eqb p 0) s (carriedWords p s)
 
 unfoldable pub bytesBack : ℕ → ℕ → List ℕ → List ℕ
 bytesBack p n s = pick (eqb p 0) s (wordBytesBack p n s)

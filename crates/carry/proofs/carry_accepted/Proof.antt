@@ -4,7 +4,7 @@ use Prim.Native.Nat.{ℕ}
 use lib.ListN.{length}
 use Rattle.blocks.specs.Answers.{outcomeOf}
 use Rattle.generator.specs.Records.{modulusOf}
-use Rattle.carrying.specs.Carrying.{carried, carriedLength}
+use Rattle.carrying.specs.Carrying.{carriedBytes, carriedLength}
 use Rattle.carry.specs.Promise.{carryInFault}
 use Rattle.carry.proofs.Accepts.{Carriable, modulus-word, in-accepts, in-refuses}
 use borrow.Author.Needs.{needs}
@@ -28,7 +28,7 @@ modulus-of-requires : tie.Need-modulus-of-requires
 modulus-of-requires c κs = search needs
 
 write-carried-requires : tie.Need-write-carried-requires
-write-carried-requires c κs = 
+write-carried-requires c κs =
     let s : tie.Start = search in
     let else1 : tie.Else1 = search in
     let modulus : tie.After-modulus-of = search in
@@ -40,12 +40,12 @@ same-length c = search needs
 
 returns-2 : tie.Need-returns-2
 unfolding outcomeOf
-returns-2 c = 
+returns-2 c =
     let s : tie.Start = search in
     let else1 : tie.Else1 = search in
     let modulus : tie.After-modulus-of = search in
     let zero = none else1 in
-    record { answered = rw zero; written = rw zero (c .before .before .write-carried .ensures ∙ ap (λ (p : ℕ). carried p (s .args .bytes .now)) (modulus .modulus-of .ensures)) }
+    record { answered = rw zero; written = rw zero (c .before .before .write-carried .ensures ∙ ap (λ (p : ℕ). carriedBytes p (s .args .bytes .now)) (modulus .modulus-of .ensures)) }
 
 pub carry-accepted-spec : {M : Type 1} → statement M
 carry-accepted-spec =

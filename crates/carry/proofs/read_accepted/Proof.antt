@@ -28,7 +28,7 @@ modulus-of-requires : tie.Need-modulus-of-requires
 modulus-of-requires c κs = search needs
 
 write-read-requires : tie.Need-write-read-requires
-write-read-requires c κs = 
+write-read-requires c κs =
     let s : tie.Start = search in
     let else1 : tie.Else1 = search in
     let modulus : tie.After-modulus-of = search in
@@ -40,7 +40,7 @@ same-length c = search needs
 
 returns-2 : tie.Need-returns-2
 unfolding outcomeOf
-returns-2 c = 
+returns-2 c =
     let s : tie.Start = search in
     let else1 : tie.Else1 = search in
     let modulus : tie.After-modulus-of = search in

@@ -11,7 +11,7 @@ use Rattle.carry.proofs.write_read.Tie as tie
 
 copy-requires : tie.Need-copy-requires
 unfolding carriedLength
-copy-requires c κs = 
+copy-requires c κs =
     let s : tie.Start = search in
     let then1 : tie.Then1 = search in
     let long = rw (eq-eqb (s .args .p) 0 (then1 .if1 .taken)) at (s .pre .2) in
@@ -22,14 +22,14 @@ same-length c = search needs
 
 returns : tie.Need-returns
 unfolding bytesBack
-returns c = 
+returns c =
     let s : tie.Start = search in
     let then1 : tie.Then1 = search in
     rw (eq-eqb (s .args .p) 0 (then1 .if1 .taken)) (c .before .before .copy .ensures)
 
 open-groups-requires : tie.Need-open-groups-requires
 unfolding carriedLength
-open-groups-requires c κs = 
+open-groups-requires c κs =
     let s : tie.Start = search in
     let else1 : tie.Else1 = search in
     let good = carrier-good (s .args .p) (s .pre .1) (else1 .if1 .left) (s .pre .0) in
@@ -40,7 +40,7 @@ same-length-2 c = search needs
 
 returns-2 : tie.Need-returns-2
 unfolding bytesBack
-returns-2 c = 
+returns-2 c =
     let s : tie.Start = search in
     let else1 : tie.Else1 = search in
     rw (ne-eqb (s .args .p) 0 (else1 .if1 .left)) (c .before .before .open-groups .ensures)

@@ -24,7 +24,7 @@ first-requires-2 c κs = search needs
 
 returns : tie.Need-returns
 unfolding carriedLenFault
-returns c = 
+returns c =
     let modulus : tie.After-modulus-of = search in
     let none : tie.After-carries-none = search in
     let first : tie.After-first = search in

@@ -22,7 +22,7 @@ modulus-of-requires : tie.Need-modulus-of-requires
 modulus-of-requires c κs = search needs
 
 carried-length-requires : tie.Need-carried-length-requires
-carried-length-requires c κs = 
+carried-length-requires c κs =
     let s : tie.Start = search in
     let after : tie.After-carried-len-fault = search in
     let else1 : tie.Else1 = search in
@@ -37,7 +37,7 @@ first-requires c κs = search needs
 
 returns-2 : tie.Need-returns-2
 unfolding carryInFault
-returns-2 c = 
+returns-2 c =
     let s : tie.Start = search in
     let after : tie.After-carried-len-fault = search in
     let else1 : tie.Else1 = search in

@@ -21,7 +21,7 @@ first-requires c κs = search needs
 
 returns-2 : tie.Need-returns-2
 unfolding carryOutFault
-returns-2 c = 
+returns-2 c =
     let after : tie.After-carry-in-fault = search in
     let else1 : tie.Else1 = search in
     rw (sym (after .carry-in-fault .ensures) ∙ else1 .if1 .left) (last (c .before .symbols-bad .ensures) 0 11 (c .first .ensures))

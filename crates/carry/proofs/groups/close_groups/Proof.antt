@@ -141,14 +141,14 @@ part-close-group-start-2 : tie.Need-part-close-group-start-2 Inv-loop μ-loop
 part-close-group-start-2 c = omega arith
 
 part-close-group-end-2 : tie.Need-part-close-group-end-2 Inv-loop μ-loop
-part-close-group-end-2 c = 
+part-close-group-end-2 c =
     let after : tie.After-smaller Inv-loop μ-loop = search in
     let l : tie.At-loop Inv-loop μ-loop = search in
     omega (arith, room after, l .loop .inv .2 .long)
 
 close-group-requires : tie.Need-close-group-requires Inv-loop μ-loop
 unfolding wordCount
-close-group-requires c κs = 
+close-group-requires c κs =
     let s : tie.Start Inv-loop μ-loop = search in
     let after : tie.After-smaller Inv-loop μ-loop = search in
     let words : tie.After-group-words Inv-loop μ-loop = search in
@@ -160,12 +160,12 @@ close-group-requires c κs =
     (omega arith, omega (arith, read, most, words .group-words .ensures), omega (arith, read, written))
 
 loop-less : tie.Need-loop-less Inv-loop μ-loop
-loop-less c = 
+loop-less c =
     let after : tie.After-smaller Inv-loop μ-loop = search in
     omega (arith, next-some (turn after) (omega arith) (omega arith), next-inside (turn after))
 
 loop-again : tie.Need-loop-again Inv-loop μ-loop
-loop-again c = 
+loop-again c =
     let after : tie.After-smaller Inv-loop μ-loop = search in
     let l : tie.At-loop Inv-loop μ-loop = search in
     let part = after .smaller .result in
@@ -180,7 +180,7 @@ same-length c = c .before .loop .inv .2 .long
 
 returns : tie.Need-returns Inv-loop μ-loop
 unfolding wordCount
-returns c = 
+returns c =
     let s : tie.Start Inv-loop μ-loop = search in
     let bytes = s .args .s .now in
     let end : length (wordsOf bytes) ≤ wordCount (c .before .loop .from) = omega (arith, length-words bytes, c .before .loop .inv .0) in

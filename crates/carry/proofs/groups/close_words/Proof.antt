@@ -48,7 +48,7 @@ same-length-2 c = search needs
 
 returns : tie.Need-returns
 unfolding closed covered bytesOf
-returns c = 
+returns c =
     let s : tie.Start = search in
     let loaded : tie.After-load-words = search in
     let found : tie.After-find-mask = search in

@@ -63,8 +63,8 @@ shared-slice-read-words : tie.Need-shared-slice-read-words Inv-loop μ-loop
 shared-slice-read-words c = omega arith
 
 -- the last byte
-byte : (c : tie.After-shared-slice-known2 Inv-loop μ-loop) → let s = c .before .before .before .before .before .before .args .s .now in getD s (length s / 2 * 2) 0 < 256
-byte c = let s = c .before .before .before .before .before .before .args .s .now in omega (arith, c .shared-slice-known2 .given (length s / 2 * 2))
+byte : (c : tie.After-shared-slice-known2 Inv-loop μ-loop) → let s : tie.Start Inv-loop μ-loop = search in getD (s .args .s .now) (length (s .args .s .now) / 2 * 2) 0 < 256
+byte c = let s : tie.Start Inv-loop μ-loop = search in omega (arith, c .shared-slice-known2 .given (length (s .args .s .now) / 2 * 2))
 
 cast-words : tie.Need-cast-words Inv-loop μ-loop
 cast-words c = omega (arith, byte c)

@@ -141,7 +141,7 @@ part-open-group-start-2 : tie.Need-part-open-group-start-2 Inv-loop μ-loop
 part-open-group-start-2 c = omega arith
 
 part-open-group-end-2 : tie.Need-part-open-group-end-2 Inv-loop μ-loop
-part-open-group-end-2 c = 
+part-open-group-end-2 c =
     let after : tie.After-smaller2 Inv-loop μ-loop = search in
     let l : tie.At-loop Inv-loop μ-loop = search in
     omega (arith, after .smaller2 .ensures .1, l .loop .inv .2 .inside, l .loop .inv .2 .long)
@@ -157,7 +157,7 @@ open-group-requires c κs =
     (omega (arith, read, pair), omega (arith, read, pair), omega (arith, read, most, words .group-words .ensures), omega (arith, read, pair, written-part left, left .smaller2 .ensures .0))
 
 loop-less : tie.Need-loop-less Inv-loop μ-loop
-loop-less c = 
+loop-less c =
     let after : tie.After-smaller Inv-loop μ-loop = search in
     omega (arith, next-some (turn after) (omega arith) (omega arith), next-inside (turn after))
 
@@ -186,7 +186,7 @@ same-length : tie.Need-same-length Inv-loop μ-loop
 same-length c = c .before .loop .inv .2 .long
 
 returns : tie.Need-returns Inv-loop μ-loop
-returns c = 
+returns c =
     let s : tie.Start Inv-loop μ-loop = search in
     let l : tie.At-loop Inv-loop μ-loop = search in
     let none = groups-end opened (groupWords (s .args .p) + 1) (symbolsOf 2 (s .args .s .now)) (l .loop .from / 2) (omega arith) (omega (arith, length-symbols 2 (s .args .s .now))) in

@@ -92,11 +92,11 @@ shared-slice-read-out : tie.Need-shared-slice-read-out Inv-loop μ-loop
 shared-slice-read-out c = omega arith
 
 -- the last word
-word : (c : tie.After-shared-slice-known3 Inv-loop μ-loop) → let a = c .before .before .before .before .before .before .args in bitXor (getD (a .words .now) (length (a .out .now) / 2) 0) (a .c) < 65536
+word : (c : tie.After-shared-slice-known3 Inv-loop μ-loop) → let s : tie.Start Inv-loop μ-loop = search in bitXor (getD (s .args .words .now) (length (s .args .out .now) / 2) 0) (s .args .c) < 65536
 word c =
-    let a = c .before .before .before .before .before .before .args in
-    let at = length (a .out .now) / 2 in
-    xor-lt 16 (getD (a .words .now) at 0) (a .c) (omega (arith, c .shared-slice-known3 .given at)) (omega arith)
+    let s : tie.Start Inv-loop μ-loop = search in
+    let at = length (s .args .out .now) / 2 in
+    xor-lt 16 (getD (s .args .words .now) at 0) (s .args .c) (omega (arith, c .shared-slice-known3 .given at)) (omega arith)
 
 cast-out : tie.Need-cast-out Inv-loop μ-loop
 cast-out c = omega (arith, word c)

@@ -31,7 +31,7 @@ mul-result c = search needs
 
 returns-2 : tie.Need-returns-2
 unfolding carriedLength wordsLength wordCount
-returns-2 c = 
+returns-2 c =
     let s : tie.Start = search in
     let else1 : tie.Else1 = search in
     let after : tie.After-group-words = search in

@@ -47,14 +47,14 @@ sub-total : tie.Need-sub-total Inv-loop μ-loop
 sub-total c = omega arith
 
 mul-total : tie.Need-mul-total Inv-loop μ-loop
-mul-total c = 
+mul-total c =
     let s : tie.Start Inv-loop μ-loop = search in
     let n = length (s .args .words .now) in
     omega (arith, mul-le-mul {n₁ = n + 1} {m₁ = 65536 - s .args .p} {n₂ = 256} {m₂ = 65536} (omega arith) (omega arith))
 
 loop-holds : tie.Need-loop-holds Inv-loop μ-loop
 unfolding maskOf
-loop-holds c = 
+loop-holds c =
     let s : tie.Start Inv-loop μ-loop = search in
     let known : tie.After-shared-slice-known Inv-loop μ-loop = search in
     let words = s .args .words .now in
@@ -66,14 +66,14 @@ shl-result : tie.Need-shl-result Inv-loop μ-loop
 shl-result c = omega arith
 
 cast-result : tie.Need-cast-result Inv-loop μ-loop
-cast-result c = 
+cast-result c =
     let l : tie.At-loop Inv-loop μ-loop = search in
     let less = whole-below (l .loop .a) (l .loop .k) (l .loop .inv .1) in
     let same : l .loop .a * 2 ^ l .loop .k % 4294967296 ≡ l .loop .a * 2 ^ l .loop .k = mod-eq-of-lt (omega arith) in
     omega (arith, same, less)
 
 returns : tie.Need-returns Inv-loop μ-loop
-returns c = 
+returns c =
     let s : tie.Start Inv-loop μ-loop = search in
     let l : tie.At-loop Inv-loop μ-loop = search in
     let less = whole-below (l .loop .a) (l .loop .k) (l .loop .inv .1) in
@@ -102,7 +102,7 @@ loop-less : tie.Need-loop-less Inv-loop μ-loop
 loop-less c = omega arith
 
 loop-again : tie.Need-loop-again Inv-loop μ-loop
-loop-again c = 
+loop-again c =
     let s : tie.Start Inv-loop μ-loop = search in
     let l : tie.At-loop Inv-loop μ-loop = search in
     let all : tie.After-all-ruled-out Inv-loop μ-loop = search in
@@ -119,7 +119,7 @@ cast-result-2 c = omega (arith, digits-below (c .before .loop .a) (c .before .lo
 
 returns-2 : tie.Need-returns-2 Inv-loop μ-loop
 unfolding maskFrom
-returns-2 c = 
+returns-2 c =
     let s : tie.Start Inv-loop μ-loop = search in
     let end : c .before .loop .k ≡ 0 = omega arith in
     sym (c .before .loop .inv .3 ∙ ap (λ (x : ℕ). maskFrom (s .args .p) x (c .before .loop .a) (0 ∷ s .args .words .now)) end)

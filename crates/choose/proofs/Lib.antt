@@ -1,2 +1,0 @@
-pub mod Entries  -- every entry of the table by one computed test
-pub mod Accepted  -- what holds of the record for every n and k
