@@ -86,6 +86,7 @@ def image_commands(command):
 def node_commands(command):
     one = command("rebuild", "make all shares of nodes anew; a new and empty folder becomes the node")
     one.add_argument("numbers", nargs="+", type=int, metavar="NODE-NUMBER")
+    one.add_argument("--whole", action="store_true", help="from k whole shares alone, and see that the images' digests are right")
     one = command("leave", "a node leaves: no command asks it any more")
     one.add_argument("number", type=int, metavar="NODE-NUMBER")
     one = command("return", "a node is back; `rebuild` or `check --correct` brings it up to date")
@@ -122,7 +123,7 @@ def run(options, bar):
         "check": lambda: check.check(store, options.names, options.correct, options.undo),
         "rm": lambda: remove.remove(store, options.name, options.force),
         "update": lambda: update.update(store, options.name, options.file, options.at),
-        "rebuild": lambda: rebuild.rebuild(store, options.numbers),
+        "rebuild": lambda: rebuild.rebuild(store, options.numbers, options.whole),
         "leave": lambda: events.leave(store, options.number),
         "return": lambda: events.rejoin(store, options.number),
         "nodes": lambda: listing.list_nodes(store),
