@@ -8,6 +8,7 @@ from balanced import (
     belongs, build_plan, correct, encode, find_update, rebuild, recover, single_mends, to_lanes, to_nodes, update, weights,
 )
 from data import block, refused
+from differences import add_share, differences
 from rearranged import listed_to_lanes, listed_to_nodes
 from roster import History
 from words import NotRead, is_comment, read_line
@@ -32,10 +33,12 @@ CALLS = {
     "to_nodes": ["lanes", "shares", "room"],
     "listed_to_lanes": ["lanes", "shares", "room"],
     "listed_to_nodes": ["lanes", "shares", "room"],
+    "differences": ["lanes", "symbol", "before", "after", "room"],
+    "add_share": ["lanes", "symbols", "shares"],
 }
 WRITERS = {
     "encode": encode, "recover": recover, "rebuild": rebuild, "to_lanes": to_lanes, "to_nodes": to_nodes,
-    "listed_to_lanes": listed_to_lanes, "listed_to_nodes": listed_to_nodes,
+    "listed_to_lanes": listed_to_lanes, "listed_to_nodes": listed_to_nodes, "differences": differences, "add_share": add_share,
 }
 HISTORY = History()  # of the roster that the calls on a roster share
 

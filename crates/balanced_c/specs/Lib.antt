@@ -2,4 +2,5 @@
 pub mod Calls
 pub mod Lanes
 pub mod Corrections
+pub mod RowChanges
 pub mod Version

@@ -26,7 +26,8 @@ fn make(call: usize, w: Words) {
         10 => weights::weights(w),
         11 => lanes::find(w),
         12 => lanes::mend(w),
-        _ => block_calls::write(w),
+        18..=20 => block_calls::write(w),
+        _ => block_calls::add(w),
     }
 }
 
@@ -48,7 +49,7 @@ fn answer(line: &[u8], roster: Roster) -> Roster {
     }
     let w = read(
         line,
-        b"encode lanes# message* room~;recover lanes# nodes* shares* room~;rebuild lanes# nodes* shares* target# room~;to_lanes lanes# shares* room~;to_nodes lanes# shares* room~;update lanes# symbol# lane# old# new# shares*;belongs lanes# shares*;correct lanes# shares*;plan;weights room~;find before* after*;mends symbols* room~ room~;roster;leave node#;rejoin node#;lowest room~;job room~;listed_to_lanes lanes# shares* room~;listed_to_nodes lanes# shares* room~",
+        b"encode lanes# message* room~;recover lanes# nodes* shares* room~;rebuild lanes# nodes* shares* target# room~;to_lanes lanes# shares* room~;to_nodes lanes# shares* room~;update lanes# symbol# lane# old# new# shares*;belongs lanes# shares*;correct lanes# shares*;plan;weights room~;find before* after*;mends symbols* room~ room~;roster;leave node#;rejoin node#;lowest room~;job room~;listed_to_lanes lanes# shares* room~;listed_to_nodes lanes# shares* room~;differences lanes# symbol# before* after* room~;add_share lanes# symbols* shares*",
     );
     let call = w.call;
     if 13 <= call && call <= 17 {
