@@ -4,3 +4,4 @@ mod Plans
 mod Lanes
 mod Corrections
 mod RowChanges
+mod Repairing

@@ -4,3 +4,4 @@ pub mod Lanes
 pub mod Corrections
 pub mod RowChanges
 pub mod Version
+pub mod Repairs

@@ -9,6 +9,7 @@ mod changes;
 mod correction;
 mod one_lane;
 mod rearranging;
+mod repairs;
 mod rosters;
 mod version;
 

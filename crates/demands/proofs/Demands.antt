@@ -25,6 +25,7 @@ use Rattle.demands.proofs.Differences.{row-changes}
 use Rattle.demands.proofs.Weights.{weights}
 use Rattle.demands.proofs.SmallPlans.{small-plans}
 use Rattle.demands.proofs.Mending.{single-mends}
+use Rattle.demands.proofs.Repairs.{repairs-all}
 
 pub demands : Demands
 unfolding our-scheme
@@ -53,4 +54,5 @@ demands =
       weights = weights;
       small-plans = small-plans;
       mends = single-mends;
+      repairs = repairs-all;
     }
