@@ -440,36 +440,6 @@ uint8_t balanced_listed_to_nodes(const uint8_t *record, size_t record_len,
                                  uint8_t *by_node, size_t by_node_len);
 
 /*
- * What each node has to add where row `symbol` of a message changes from old to new, in all lanes. Added to the shares of an
- * encoding whose message has the old symbols there, the differences give the encoding of the message with the new ones. Nodes
- * outside the row's n-k+1 get zeros: they need not be told.
- *
- *   symbol                    below k
- *   old_symbols, new_symbols  lanes symbols each, read: the row before and after
- *   differences               n * lanes symbols, written: those of node 0, those of node 1, and so on
- *
- * Returns 0 or one of 1 to 5, 7 to 9, 11.
- */
-uint8_t balanced_differences(const uint8_t *record, size_t record_len,
-                             uint32_t lanes, uint32_t symbol,
-                             const uint8_t *old_symbols, size_t old_len,
-                             const uint8_t *new_symbols, size_t new_len,
-                             uint8_t *differences, size_t differences_len);
-
-/*
- * The node's side of it: adds to one node's share what it has to add.
- *
- *   difference  lanes symbols, read
- *   share       lanes symbols, read and written: the node's symbol of lane 0, that of lane 1, and so on
- *
- * Returns 0 or one of 1 to 5, 7, 8, 11.
- */
-uint8_t balanced_add_share(const uint8_t *record, size_t record_len,
-                           uint32_t lanes,
-                           const uint8_t *difference, size_t difference_len,
-                           uint8_t *share, size_t share_len);
-
-/*
  * Counts the messages by the nodes that hold something other than zero: counts[w] is the number of messages of k symbols
  * whose encoding has just w nodes that are not zero, the Hamming weight w. counts[0] is 1, for the message of zeros,
  * counts[w] is 0 for w from 1 to n-k, and all counts together are q to the power k, where q is the number of symbols.
