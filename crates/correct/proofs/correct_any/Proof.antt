@@ -15,7 +15,7 @@ returns c =
     let st : tie.Start = search in
     let at : tie.After-first-nonzero = search in
     let known : tie.After-slice-known = search in
-    clean-says (st .pre) (no-mark _ _ (sym (c .if1 .taken) ∙ at .first-nonzero .ensures)) (at-below 256 _ (λ i h. omega (arith, known .slice-known .given i)))
+    clean-says (st .pre) (no-mark (st .args .lanes) (st .args .marks .now) (sym (c .if1 .taken) ∙ at .first-nonzero .ensures)) (at-below 256 _ (λ i h. omega (arith, known .slice-known .given i)))
 
 correct-wrong-requires : tie.Need-correct-wrong-requires
 correct-wrong-requires c κs = search needs
