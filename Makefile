@@ -10,13 +10,16 @@ export RECORD LIBRARY PREFIX LIBDIR DESTDIR
 # started by make, too, the programs' output is all that stands on standard output
 MAKEFLAGS += --no-print-directory
 
-.PHONY: help build test wrong sheet compare weights plans programs library install demo explore bench docs
+.PHONY: help build test wrong sheet plain compare weights plans programs library install demo explore bench docs
 
 help: ## this list
 	@awk -F ':.*## ' '/^[a-z]+:.*## / { printf "make %-8s %s\n", $$1, $$2 }' Makefile
 
 sheet: ## the plan sheet of a record: make sheet RECORD='1 7 3 6 4'
 	@tools/run_program.py sheet
+
+plain: ## the plain layout of the same code, a line for each node: make plain RECORD='1 7 3 6 4'
+	@tools/run_program.py plain
 
 compare: ## the costs of the plain layout and of ours: make compare RECORD='2 2 255 120'
 	@tools/run_program.py compare
@@ -29,7 +32,7 @@ plans: ## every accepted record of kind 1 with p up to 31, a line `p α n k` for
 	@target/bin/small_plans
 
 programs: ## prove and compile all programs that the documents use, `cases` among them, to target/bin
-	@tools/prove.py sheet compare weights small_plans cases
+	@tools/prove.py sheet plain compare weights small_plans cases
 
 library: ## prove the calls and make the library, static and shared, for every x86-64 and for newer processors, in target/lib
 	@tools/build_library.sh

@@ -1,7 +1,7 @@
 #!/usr/bin/env python3
 """Tests the commands that people type: what they say, their exit statuses, and that no text of theirs reaches a shell.
 
-Needs the programs sheet, compare and weights in target/bin, and rt. What is said of a record is held to the programs: every
+Needs the programs sheet, plain, compare and weights in target/bin, and rt. What is said of a record is held to the programs: every
 root and every record that the words offer must be accepted.
 """
 import os
@@ -85,7 +85,7 @@ def offered(words, record):
 def refusing():
     for text in REFUSED:
         record = bytes_of(text)
-        for name in ("sheet", "compare", "weights"):
+        for name in ("sheet", "plain", "compare", "weights"):
             answer = program(name, record)
             expect(re.fullmatch(r"refused [1-5]\n", answer), f"{name} says to {text!r}: {answer[:40]!r}")
         number = int(answer.split()[1])
@@ -127,7 +127,7 @@ def making():
     with tempfile.NamedTemporaryFile("w", suffix=".mk") as outer:
         outer.write("include Makefile\nouter:\n\t@make $(TARGET)\n")
         outer.flush()
-        for target, text in [("sheet", "1 37 6 4 2"), ("compare", "3 257 16 4 2"), ("weights", "1 7 3 6 3"), ("sheet", "")]:
+        for target, text in [("sheet", "1 37 6 4 2"), ("plain", "1 7 3 6 4"), ("compare", "3 257 16 4 2"), ("weights", "1 7 3 6 3"), ("sheet", "")]:
             want = program(target, bytes_of(text))
             given = f"RECORD={text}"
             for words, variables in [(["make", target, given], {}), (["make", target], {"RECORD": text}), (["make", "-f", outer.name, "outer", f"TARGET={target}", given], {})]:
@@ -150,7 +150,7 @@ def keeping_out():
         file = os.path.join(folder, "made")
         for text in hostile(file):
             for given, variables in [([f"RECORD={text}"], {}), ([], {"RECORD": text})]:
-                for target in ("sheet", "compare", "weights"):
+                for target in ("sheet", "plain", "compare", "weights"):
                     ended = command(["make", target, *given], **variables)
                     expect(ended.returncode and not ended.stdout and "is not a number" in ended.stderr, f"make {target} RECORD={text!r}: {ended}")
                     expect(not os.path.exists(file), f"make {target} ran the text {text!r}")

@@ -1,5 +1,5 @@
 #!/usr/bin/env python3
-"""Proves a program that takes a record, and runs it on one: sheet, compare or weights.
+"""Proves a program that takes a record, and runs it on one: sheet, plain, compare or weights.
 
     tools/run_program.py PROGRAM [NUMBER..]
 
@@ -17,7 +17,7 @@ from prove import prove, say
 from record_text import NoRecord, bytes_of
 from refusal_words import words_for
 
-PROGRAMS = ("sheet", "compare", "weights")
+PROGRAMS = ("sheet", "plain", "compare", "weights")
 
 
 def asked():

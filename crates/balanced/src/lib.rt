@@ -1,5 +1,9 @@
 // The calls of the balanced image store; those of a roster are methods of `Roster`. Every call takes the record itself; none has a precondition.
 pub use belongs::block_belongs;
+pub use carry::CarriedLen;
+pub use carry::carried_len;
+pub use carry::carry_in;
+pub use carry::carry_out;
 pub use correct::Correction;
 pub use correct::correct_block;
 pub use encode::encode_block;
@@ -8,10 +12,16 @@ pub use find_update::find_update;
 pub use mends::Mending;
 pub use mends::single_mends;
 pub use plan::build_plan;
+pub use rearrange::listed_to_lanes;
+pub use rearrange::listed_to_nodes;
 pub use rearrange::to_lanes;
 pub use rearrange::to_nodes;
 pub use recover::rebuild_share;
 pub use recover::recover_block;
+pub use repair::RepairPlan;
+pub use repair::repair_bits;
+pub use repair::repair_plan;
+pub use repair::repair_share;
 pub use roster::Job;
 pub use roster::Listing;
 pub use roster::Roster;

@@ -4,6 +4,7 @@ use mathlib.Core.List.{List}
 use Prim.Native.Nat.{ℕ}
 use lib.ListN.{length}
 use Rattle.layout.specs.Layout.{Arrangement, shareLayout}
+use Rattle.generator.specs.declared.Header.{Header}
 use Rattle.generator.specs.Records.{headerOf}
 use Rattle.blocks.specs.declared.Outcome.{Outcome}
 use Rattle.blocks.specs.declared.Update.{Update}
@@ -26,7 +27,7 @@ use Rattle.weight_counts.specs.Weights.{weightsFault, WeightsSay}
 use Rattle.balanced_c.specs.Calls.{EncodeGives, UpdateGives, RecoverGives, RebuildGives, BelongsGives, RearrangeGives, WeightsGive}
 
 -- an outcome that a call says, by its number
-by-number : (a : Outcome) (r f : ℕ) → r ≡ outcomeNumber a → a ≡ outcomeOf f → r ≡ f
+pub by-number : (a : Outcome) (r f : ℕ) → r ≡ outcomeNumber a → a ≡ outcomeOf f → r ≡ f
 by-number a r f e answer = e ∙ ap outcomeNumber answer ∙ outcome-number f
 
 pub encode-gives : (rec : List ℕ) (l : ℕ) (message shares shares′ : List ℕ) (a : Outcome) (r : ℕ) → r ≡ outcomeNumber a → EncodeSays rec l message shares shares′ a → EncodeGives rec l message shares shares′ r
@@ -44,10 +45,10 @@ rebuild-gives rec l nodes shares target share share′ a r e says =
     let number = by-number a r (faultOf rec (λ h. rebuildFault h l nodes shares target (length share))) e (says .promise .answer) in
     record { number = number; says = record { promise = record { answer = ap outcomeOf number; written = says .promise .written } } }
 
-pub rearrange-gives : (y z : Arrangement) (rec : List ℕ) (l : ℕ) (source out out′ : List ℕ) (a : Outcome) (r : ℕ) → r ≡ outcomeNumber a → RearrangeSays y z rec l source out out′ a → RearrangeGives y z rec l source out out′ r
-rearrange-gives y z rec l source out out′ a r e says =
-    let number = by-number a r (faultOf rec (λ h. rearrangeFault h l (length source) (length out))) e (says .promise .answer) in
-    record { number = number; says = record { promise = record { answer = ap outcomeOf number; written = says .promise .written } } }
+pub rearrange-gives : (y z : Arrangement) (rows : Header → ℕ) (rec : List ℕ) (l : ℕ) (source out out′ : List ℕ) (a : Outcome) (r : ℕ) → r ≡ outcomeNumber a → RearrangeSays y z rows rec l source out out′ a → RearrangeGives y z rows rec l source out out′ r
+rearrange-gives y z rows rec l source out out′ a r e says =
+    let number = by-number a r (faultOf rec (λ h. rearrangeFault h (rows h) l (length source) (length out))) e (says .promise .answered) in
+    record { number = number; says = record { promise = record { answered = ap outcomeOf number; written = says .promise .written } } }
 
 pub weights-give : (rec counts counts′ : List ℕ) (a : Outcome) (r : ℕ) → r ≡ outcomeNumber a → WeightsSay rec counts counts′ a → WeightsGive rec counts counts′ r
 weights-give rec counts counts′ a r e says =

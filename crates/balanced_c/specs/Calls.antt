@@ -9,6 +9,7 @@ use Rattle.lists.specs.Choice.{pick, when}
 use Rattle.lists.specs.Counting.{differ}
 use Rattle.layout.specs.Layout.{Arrangement, byRow, byLane, shareLayout}
 use Rattle.layout.specs.Width.{symbolsOf}
+use Rattle.generator.specs.declared.Header.{Header}
 use Rattle.generator.specs.Records.{headerOf, recordOf, width}
 use Rattle.generator.specs.Claims.{Promised}
 use Rattle.plan.specs.declared.Plan.{Plan}
@@ -66,16 +67,24 @@ pub record BelongsGives (rec : List ℕ) (l : ℕ) (shares : List ℕ) (first fi
   pub number : r ≡ faultOf rec (λ h. belongsFault h l shares)
   pub first-is : first′ ≡ pick (eqb r 0) (wrongLane shareLayout (headerOf rec) l shares) first
 
--- `balanced_to_lanes` and `balanced_to_nodes`: the number, and the source rearranged
-pub record RearrangeGives (y z : Arrangement) (rec : List ℕ) (l : ℕ) (source out out′ : List ℕ) (r : ℕ) : Type 0 where
-  pub number : r ≡ faultOf rec (λ h. rearrangeFault h l (length source) (length out))
-  pub says : RearrangeSays y z rec l source out out′ (outcomeOf r)
+-- the calls that rearrange shares: the number, and the source rearranged; the header says how many rows there are
+pub record RearrangeGives (y z : Arrangement) (rows : Header → ℕ) (rec : List ℕ) (l : ℕ) (source out out′ : List ℕ) (f : ℕ) : Type 0 where
+  pub number : f ≡ faultOf rec (λ h. rearrangeFault h (rows h) l (length source) (length out))
+  pub says : RearrangeSays y z rows rec l source out out′ (outcomeOf f)
 
+-- `balanced_to_lanes` and `balanced_to_nodes`: the shares of all nodes
 abbrev pub ToLanesGives : List ℕ → ℕ → List ℕ → List ℕ → List ℕ → ℕ → Type 0
-ToLanesGives = RearrangeGives byRow byLane
+ToLanesGives = RearrangeGives byRow byLane (λ h. h .n)
 
 abbrev pub ToNodesGives : List ℕ → ℕ → List ℕ → List ℕ → List ℕ → ℕ → Type 0
-ToNodesGives = RearrangeGives byLane byRow
+ToNodesGives = RearrangeGives byLane byRow (λ h. h .n)
+
+-- `balanced_listed_to_lanes` and `balanced_listed_to_nodes`: those of k listed nodes
+abbrev pub ListedToLanesGives : List ℕ → ℕ → List ℕ → List ℕ → List ℕ → ℕ → Type 0
+ListedToLanesGives = RearrangeGives byRow byLane (λ h. h .k)
+
+abbrev pub ListedToNodesGives : List ℕ → ℕ → List ℕ → List ℕ → List ℕ → ℕ → Type 0
+ListedToNodesGives = RearrangeGives byLane byRow (λ h. h .k)
 
 -- `balanced_weights`: the number, and what the call says of the counts
 pub record WeightsGive (rec counts counts′ : List ℕ) (r : ℕ) : Type 0 where

@@ -2,3 +2,5 @@
 pub mod Calls
 pub mod Lanes
 pub mod Corrections
+pub mod Version
+pub mod Repairs

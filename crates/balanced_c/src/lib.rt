@@ -3,11 +3,14 @@ ghost use mathlib.Core.Path.{_≡_};
 ghost use lib.ListN.{length};
 ghost use Rattle.lists.specs.Choice.{firstOf};
 ghost use Rattle.blocks.specs.Inner.Answers.{outcomeNumber};
-ghost use Rattle.balanced_c.specs.Calls.{planRoomFault, numbersOf, PlanGives, EncodeGives, UpdateGives, RecoverGives, RebuildGives, BelongsGives, ToLanesGives, ToNodesGives, WeightsGive};
+ghost use Rattle.balanced_c.specs.Calls.{planRoomFault, numbersOf, PlanGives, EncodeGives, UpdateGives, RecoverGives, RebuildGives, BelongsGives, WeightsGive};
 
 mod correction;
 mod one_lane;
+mod rearranging;
+mod repairs;
 mod rosters;
+mod version;
 
 use blocks::Membership;
 use blocks::Outcome;
@@ -179,32 +182,6 @@ pub extern "C" fn balanced_belongs(
         }
         Membership::Refused(number) => number,
     }
-}
-
-// Shares that stand node after node, written lane after lane.
-#[no_mangle]
-pub extern "C" fn balanced_to_lanes(
-    rec: &[u8],
-    lanes: u32,
-    by_node: &[u8],
-    by_lane: &mut [u8],
-) -> u8
-    ensures { λ r. ⌜ ToLanesGives (now (rec .entry)) lanes (now («by_node» .entry)) (now («by_lane» .entry)) (now («by_lane» .exit)) r ⌝ }
-{
-    number_of(balanced::to_lanes(rec, lanes, by_node, by_lane))
-}
-
-// Shares that stand lane after lane, written node after node.
-#[no_mangle]
-pub extern "C" fn balanced_to_nodes(
-    rec: &[u8],
-    lanes: u32,
-    by_lane: &[u8],
-    by_node: &mut [u8],
-) -> u8
-    ensures { λ r. ⌜ ToNodesGives (now (rec .entry)) lanes (now («by_lane» .entry)) (now («by_node» .entry)) (now («by_node» .exit)) r ⌝ }
-{
-    number_of(balanced::to_nodes(rec, lanes, by_lane, by_node))
 }
 
 // How many messages have a word with w nodes that are not zero, w from 0 to n.

@@ -14,7 +14,7 @@ use test_tools::value;
 use test_words::Words;
 
 // The bytes written, or the number and whether every byte still holds 170.
-fn print(answer: Outcome, out: &[u8]) {
+pub fn print(answer: Outcome, out: &[u8]) {
     match answer {
         Outcome::Done => list(b": done", out),
         Outcome::Refused(number) => refused(number, untouched(170, out)),
@@ -31,7 +31,9 @@ fn write_to(w: Words, rec: &[u8], first: &[u8], second: &[u8], out: &mut [u8]) -
         2 => balanced::recover_block(rec, lanes, first, second, out),
         3 => balanced::rebuild_share(rec, lanes, first, second, numbers[1], out),
         4 => balanced::to_lanes(rec, lanes, first, out),
-        _ => balanced::to_nodes(rec, lanes, first, out),
+        5 => balanced::to_nodes(rec, lanes, first, out),
+        18 => balanced::listed_to_lanes(rec, lanes, first, out),
+        _ => balanced::listed_to_nodes(rec, lanes, first, out),
     }
 }
 

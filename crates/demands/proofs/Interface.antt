@@ -107,9 +107,9 @@ module _ (rec : List ℕ) where
           by-number (g .number) (own-after rec _ (λ h. correctFault shareLayout h l shares) refl (λ none. correct-tells h (faultless-sound rec none) l shares))
           (λ some. (rw (← g .number, ne-eqb r 0 some) at (g .says .promise .written), rw (ne-eqb r 0 some) at (g .altered-is)))
 
-    rearrange : {y z : Arrangement} (source out out′ : List ℕ) (r : ℕ) → RearrangeGives y z rec l source out out′ r → Judged (recordNumbers rec ++ rearrangeNumbers h l (length source) (length out)) (Returns r) (out′ ≡ out)
-    rearrange source out out′ r g =
-        by-number (g .number) (own-after rec _ (λ h. rearrangeFault h l (length source) (length out)) refl (λ none. rearrange-tells h l (length source) (length out)))
+    rearrange : {y z : Arrangement} (rows : Header → ℕ) (source out out′ : List ℕ) (r : ℕ) → RearrangeGives y z rows rec l source out out′ r → Judged (recordNumbers rec ++ rearrangeNumbers h (rows h) l (length source) (length out)) (Returns r) (out′ ≡ out)
+    rearrange rows source out out′ r g =
+        by-number (g .number) (own-after rec _ (λ h. rearrangeFault h (rows h) l (length source) (length out)) refl (λ none. rearrange-tells h l (rows h) (length source) (length out)))
         (λ some. rw (← g .number, ne-eqb r 0 some) at (g .says .promise .written))
 
   find : (before after : List ℕ) (answer symbol amount answer′ symbol′ amount′ r : ℕ) → FindGives rec before after answer symbol amount answer′ symbol′ amount′ r → Judged (recordNumbers rec ++ findNumbers h before after) (Returns r) ((answer′ ≡ answer) × (symbol′ ≡ symbol) × (amount′ ≡ amount))
@@ -145,8 +145,10 @@ interface =
       rebuild = rebuild;
       belongs = belongs;
       correct = correct;
-      to-lanes = λ rec l. rearrange rec l;
-      to-nodes = λ rec l. rearrange rec l;
+      to-lanes = λ rec l. rearrange rec l (λ h. h .n);
+      to-nodes = λ rec l. rearrange rec l (λ h. h .n);
+      listed-to-lanes = λ rec l. rearrange rec l (λ h. h .k);
+      listed-to-nodes = λ rec l. rearrange rec l (λ h. h .k);
       find = find;
       find-done = find-done;
       mends = mends;

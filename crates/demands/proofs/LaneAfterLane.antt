@@ -113,16 +113,25 @@ module _ {y z : Arrangement} (a : Lawful y) (b : Lawful z) (rec : List ℕ) (l :
           is .promise .written ∙ ap₂ (λ (f : ℕ) (m : List ℕ). pick (eqb f 0) m out) same (rebuilt-turned a b h l nodes shares full target) ∙ sym (was .promise .written),
         )
 
-  -- the two calls
-  calls : (s out out′ end end′ : List ℕ) → allBelow 256 s ≡ true → RearrangeSays y z rec l s out out′ Done → RearrangeSays z y rec l out′ end end′ Done → end′ ≡ s
-  calls s out out′ end end′ bytes first second =
-      let none = done-means (faultOf rec (λ h. rearrangeFault h l (length s) (length out))) (first .promise .answer) in
-      let after = done-means (faultOf rec (λ h. rearrangeFault h l (length out′) (length end))) (second .promise .answer) in
-      let (sound, own) = none-met rec (λ h. rearrangeFault h l (length s) (length out)) none in
-      let (long, room) = rearrange-accepts h sound l (length s) (length out) own in
+  -- the two calls, of all nodes or of listed ones
+  calls : (rows : Header → ℕ) (s out out′ end end′ : List ℕ) → allBelow 256 s ≡ true → RearrangeSays y z rows rec l s out out′ Done → RearrangeSays z y rows rec l out′ end end′ Done → end′ ≡ s
+  calls rows s out out′ end end′ bytes first second =
+      let none = done-means (faultOf rec (λ h. rearrangeFault h (rows h) l (length s) (length out))) (first .promise .answered) in
+      let after = done-means (faultOf rec (λ h. rearrangeFault h (rows h) l (length out′) (length end))) (second .promise .answered) in
+      let (sound, own) = none-met rec (λ h. rearrangeFault h (rows h) l (length s) (length out)) none in
+      let (long, room) = rearrange-accepts h sound l (rows h) (length s) (length out) own in
       rw after at (second .promise .written)
-      ∙ ap (rearrangedBytes z y h (h .n) l) (rw none at (first .promise .written))
-      ∙ turned-back a b h (h .n) l s long bytes
+      ∙ ap (rearrangedBytes z y h (rows h) l) (rw none at (first .promise .written))
+      ∙ turned-back a b h (rows h) l s long bytes
+
+  -- Recover of shares that the call rearranged
+  listed-recover : (nodes s moved moved′ out out′ now : List ℕ) (r u : Outcome) → RearrangeSays y z (λ h. h .k) rec l s moved moved′ Done → RecoverSaysIn y rec l nodes s out out′ r → RecoverSaysIn z rec l nodes moved′ out now u → (u ≡ r) × (now ≡ out′)
+  listed-recover nodes s moved moved′ out out′ now r u done was is =
+      let none = done-means (faultOf rec (λ h. rearrangeFault h (h .k) l (length s) (length moved))) (done .promise .answered) in
+      let (sound, own) = none-met rec (λ h. rearrangeFault h (h .k) l (length s) (length moved)) none in
+      let (long, room) = rearrange-accepts h sound l (h .k) (length s) (length moved) own in
+      let turned : moved′ ≡ rearrangedBytes y z h (h .k) l s = rw none at (done .promise .written) in
+      recover nodes s long out out′ now r u was (rw turned at is)
 
 pub lane-after-lane : LaneAfterLane
 unfolding shareLayout
@@ -135,6 +144,9 @@ lane-after-lane =
       belongs = λ rec l s r u full. belongs by-row by-lane rec l s full r u;
       back = turned-back by-row by-lane;
       forth = turned-back by-lane by-row;
-      calls-back = calls by-row by-lane;
-      calls-forth = calls by-lane by-row;
+      calls-back = λ rec l. calls by-row by-lane rec l (λ h. h .n);
+      calls-forth = λ rec l. calls by-lane by-row rec l (λ h. h .n);
+      listed-back = λ rec l. calls by-row by-lane rec l (λ h. h .k);
+      listed-forth = λ rec l. calls by-lane by-row rec l (λ h. h .k);
+      listed-recover = λ rec l. listed-recover by-row by-lane rec l;
     }

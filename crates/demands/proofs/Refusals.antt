@@ -57,7 +57,7 @@ mending-refused zero count some = absurd (some refl)
 mending-refused (suc f) count some = refl
 
 -- a call that answers with an outcome
-by-outcome : {table : Table} {kept : Type 0} {number : ℕ} {r : Outcome} → Tells table number → r ≡ outcomeOf number → ((number ≡ 0 → ⊥) → kept) → Judged table (λ f. r ≡ O.Refused f) kept
+pub by-outcome : {table : Table} {kept : Type 0} {number : ℕ} {r : Outcome} → Tells table number → r ≡ outcomeOf number → ((number ≡ 0 → ⊥) → kept) → Judged table (λ f. r ≡ O.Refused f) kept
 by-outcome {number = number} tells answer kept = call-judged number tells (by-answer O.Refused answer (outcome-means number) (outcome-refused number)) kept
 
 module _ (rec : List ℕ) where
@@ -103,9 +103,9 @@ module _ (rec : List ℕ) where
           (by-answer C.Refused (says .promise .answer) (A.refused-means number _) (A.means-refused number _))
           (λ some. rw (ne-eqb number 0 some) at (says .promise .written))
 
-    rearrange : {y z : Arrangement} (source out out′ : List ℕ) (r : Outcome) → RearrangeSays y z rec l source out out′ r → Judged (recordNumbers rec ++ rearrangeNumbers h l (length source) (length out)) (λ f. r ≡ O.Refused f) (out′ ≡ out)
-    rearrange source out out′ r says =
-        by-outcome (own-after rec _ (λ h. rearrangeFault h l (length source) (length out)) refl (λ none. rearrange-tells h l (length source) (length out))) (says .promise .answer)
+    rearrange : {y z : Arrangement} (rows : Header → ℕ) (source out out′ : List ℕ) (r : Outcome) → RearrangeSays y z rows rec l source out out′ r → Judged (recordNumbers rec ++ rearrangeNumbers h (rows h) l (length source) (length out)) (λ f. r ≡ O.Refused f) (out′ ≡ out)
+    rearrange rows source out out′ r says =
+        by-outcome (own-after rec _ (λ h. rearrangeFault h (rows h) l (length source) (length out)) refl (λ none. rearrange-tells h l (rows h) (length source) (length out))) (says .promise .answered)
         (λ some. rw (ne-eqb _ 0 some) at (says .promise .written))
 
   find : (before after : List ℕ) (r : Finding) → FindSays rec before after r → Judged (recordNumbers rec ++ findNumbers h before after) (λ f. r ≡ F.Refused f) (Unit {0})
@@ -137,8 +137,10 @@ refusals =
       rebuild = rebuild;
       belongs = belongs;
       correct = correct;
-      to-lanes = λ rec l. rearrange rec l;
-      to-nodes = λ rec l. rearrange rec l;
+      to-lanes = λ rec l. rearrange rec l (λ h. h .n);
+      to-nodes = λ rec l. rearrange rec l (λ h. h .n);
+      listed-to-lanes = λ rec l. rearrange rec l (λ h. h .k);
+      listed-to-nodes = λ rec l. rearrange rec l (λ h. h .k);
       find = find;
       mends = mends;
       weights = weights;

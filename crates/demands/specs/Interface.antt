@@ -7,7 +7,7 @@ use lib.ListN.{length}
 use Rattle.generator.specs.Records.{headerOf}
 use Rattle.plan.specs.declared.Plan.{Plan}
 use Rattle.plan.specs.Plans.{PlanSays}
-use Rattle.balanced_c.specs.Calls.{PlanGives, EncodeGives, UpdateGives, RecoverGives, RebuildGives, BelongsGives, ToLanesGives, ToNodesGives, WeightsGive}
+use Rattle.balanced_c.specs.Calls.{PlanGives, EncodeGives, UpdateGives, RecoverGives, RebuildGives, BelongsGives, ToLanesGives, ToNodesGives, ListedToLanesGives, ListedToNodesGives, WeightsGive}
 use Rattle.balanced_c.specs.Corrections.{CorrectGives}
 use Rattle.balanced_c.specs.Lanes.{FindGives, MendsGive}
 use Rattle.demands.specs.Calls.{read}
@@ -53,11 +53,17 @@ pub record Interface : Type 0 where
   pub correct : (rec : List ℕ) (l : ℕ) (shares : List ℕ) (altered : ℕ) (shares′ : List ℕ) (altered′ r : ℕ) → CorrectGives rec l shares altered shares′ altered′ r
       → Judged (recordNumbers rec ++ correctNumbers (headerOf rec) l shares) (Returns r) ((shares′ ≡ shares) × (altered′ ≡ altered))
   -- balanced_to_lanes
-  pub to-lanes : (rec : List ℕ) (l : ℕ) (source out out′ : List ℕ) (r : ℕ) → ToLanesGives rec l source out out′ r
-      → Judged (recordNumbers rec ++ rearrangeNumbers (headerOf rec) l (length source) (length out)) (Returns r) (out′ ≡ out)
+  pub to-lanes : (rec : List ℕ) (l : ℕ) (source out out′ : List ℕ) (f : ℕ) → ToLanesGives rec l source out out′ f
+      → Judged (recordNumbers rec ++ rearrangeNumbers (headerOf rec) (headerOf rec .n) l (length source) (length out)) (Returns f) (out′ ≡ out)
   -- balanced_to_nodes
-  pub to-nodes : (rec : List ℕ) (l : ℕ) (source out out′ : List ℕ) (r : ℕ) → ToNodesGives rec l source out out′ r
-      → Judged (recordNumbers rec ++ rearrangeNumbers (headerOf rec) l (length source) (length out)) (Returns r) (out′ ≡ out)
+  pub to-nodes : (rec : List ℕ) (l : ℕ) (source out out′ : List ℕ) (f : ℕ) → ToNodesGives rec l source out out′ f
+      → Judged (recordNumbers rec ++ rearrangeNumbers (headerOf rec) (headerOf rec .n) l (length source) (length out)) (Returns f) (out′ ≡ out)
+  -- balanced_listed_to_lanes
+  pub listed-to-lanes : (rec : List ℕ) (l : ℕ) (source out out′ : List ℕ) (f : ℕ) → ListedToLanesGives rec l source out out′ f
+      → Judged (recordNumbers rec ++ rearrangeNumbers (headerOf rec) (headerOf rec .k) l (length source) (length out)) (Returns f) (out′ ≡ out)
+  -- balanced_listed_to_nodes
+  pub listed-to-nodes : (rec : List ℕ) (l : ℕ) (source out out′ : List ℕ) (f : ℕ) → ListedToNodesGives rec l source out out′ f
+      → Judged (recordNumbers rec ++ rearrangeNumbers (headerOf rec) (headerOf rec .k) l (length source) (length out)) (Returns f) (out′ ≡ out)
   -- balanced_find_update: all three numbers are left
   pub find : (rec before after : List ℕ) (answer symbol amount answer′ symbol′ amount′ r : ℕ) → FindGives rec before after answer symbol amount answer′ symbol′ amount′ r
       → Judged (recordNumbers rec ++ findNumbers (headerOf rec) before after) (Returns r) ((answer′ ≡ answer) × (symbol′ ≡ symbol) × (amount′ ≡ amount))

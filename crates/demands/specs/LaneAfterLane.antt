@@ -17,7 +17,7 @@ use Rattle.belongs.specs.Promise.{BelongsSaysIn, BelongsSays}
 use Rattle.recover.specs.Promise.{RecoverSaysIn, RecoverSays, RebuildSaysIn, RebuildSays}
 use Rattle.update.specs.Promise.{UpdateSaysIn, UpdateSays}
 use Rattle.encode.specs.Promise.{EncodeSaysIn, EncodeSays}
-use Rattle.rearrange.specs.Promise.{ToLanesSays, ToNodesSays}
+use Rattle.rearrange.specs.Promise.{ToLanesSays, ToNodesSays, ListedToLanesSays, ListedToNodesSays}
 
 -- a buffer of rows and lanes from node after node to lane after lane, and back
 abbrev pub toLanes : Header → ℕ → ℕ → List ℕ → List ℕ
@@ -54,6 +54,13 @@ pub record LaneAfterLane : Type 0 where
   -- the two rearrangements of bytes undo each other
   pub back : (h : Header) (rows l : ℕ) (s : List ℕ) → Full h rows l s → allBelow 256 s ≡ true → toNodes h rows l (toLanes h rows l s) ≡ s
   pub forth : (h : Header) (rows l : ℕ) (s : List ℕ) → Full h rows l s → allBelow 256 s ≡ true → toLanes h rows l (toNodes h rows l s) ≡ s
-  -- so do the two calls
+  -- so do the two calls for all nodes
   pub calls-back : (rec : List ℕ) (l : ℕ) (s out out′ end end′ : List ℕ) → allBelow 256 s ≡ true → ToLanesSays rec l s out out′ Done → ToNodesSays rec l out′ end end′ Done → end′ ≡ s
   pub calls-forth : (rec : List ℕ) (l : ℕ) (s out out′ end end′ : List ℕ) → allBelow 256 s ≡ true → ToNodesSays rec l s out out′ Done → ToLanesSays rec l out′ end end′ Done → end′ ≡ s
+  -- and the two for k listed ones
+  pub listed-back : (rec : List ℕ) (l : ℕ) (s out out′ end end′ : List ℕ) → allBelow 256 s ≡ true → ListedToLanesSays rec l s out out′ Done → ListedToNodesSays rec l out′ end end′ Done → end′ ≡ s
+  pub listed-forth : (rec : List ℕ) (l : ℕ) (s out out′ end end′ : List ℕ) → allBelow 256 s ≡ true → ListedToNodesSays rec l s out out′ Done → ListedToLanesSays rec l out′ end end′ Done → end′ ≡ s
+  -- Recover of listed shares that stood node after node: `listed_to_lanes` first gives the message that Recover of that arrangement would
+  pub listed-recover : (rec : List ℕ) (l : ℕ) (nodes s moved moved′ out out′ now : List ℕ) (answer other : Outcome) → ListedToLanesSays rec l s moved moved′ Done
+      → RecoverSaysIn byRow rec l nodes s out out′ answer → RecoverSays rec l nodes moved′ out now other
+      → (other ≡ answer) × (now ≡ out′)

@@ -114,12 +114,12 @@ correctNumbers h l shares =
     belongsNumbers h l shares
     ++ ((14, (t : ℕ) × (t < l) × ((us : List ℕ) → NearWord h (laneIn h l shares t) us → ⊥)) ∷ [])
 
--- to_lanes and to_nodes; `source` is a length too
-abbrev pub rearrangeNumbers : Header → ℕ → ℕ → ℕ → Table
-rearrangeNumbers h l source out =
+-- rows of shares rearranged: of all n nodes, or of k listed ones; `source` is a length too
+abbrev pub rearrangeNumbers : Header → ℕ → ℕ → ℕ → ℕ → Table
+rearrangeNumbers h rows l source out =
     (7, OtherLanes l)
-    ∷ (8, source ≢ h .n * l * width h)
-    ∷ (8, out ≢ h .n * l * width h)
+    ∷ (8, source ≢ rows * l * width h)
+    ∷ (8, out ≢ rows * l * width h)
     ∷ []
 
 -- find_update

@@ -14,7 +14,7 @@ use Rattle.belongs.specs.Promise.{BelongsSays}
 use Rattle.recover.specs.Promise.{RecoverSays, RebuildSays}
 use Rattle.update.specs.Promise.{UpdateSays}
 use Rattle.encode.specs.Promise.{EncodeSays}
-use Rattle.rearrange.specs.Promise.{ToLanesSays, ToNodesSays}
+use Rattle.rearrange.specs.Promise.{ToLanesSays, ToNodesSays, ListedToLanesSays, ListedToNodesSays}
 use Rattle.correct.specs.declared.Correction.{Correction}
 use Rattle.correct.specs.declared.Correction.the-variants as C
 use Rattle.correct.specs.Promise.{CorrectSays}
@@ -47,11 +47,15 @@ pub record Refusals : Type 0 where
   -- setting right: no lane is touched
   pub correct : (rec : List ℕ) (l : ℕ) (shares shares′ : List ℕ) (r : Correction) → CorrectSays rec l shares shares′ r
       → Judged (recordNumbers rec ++ correctNumbers (headerOf rec) l shares) (λ f. r ≡ C.Refused f) (shares′ ≡ shares)
-  -- to_lanes and to_nodes: no byte is moved
-  pub to-lanes : (rec : List ℕ) (l : ℕ) (source out out′ : List ℕ) (r : Outcome) → ToLanesSays rec l source out out′ r
-      → Judged (recordNumbers rec ++ rearrangeNumbers (headerOf rec) l (length source) (length out)) (λ f. r ≡ O.Refused f) (out′ ≡ out)
-  pub to-nodes : (rec : List ℕ) (l : ℕ) (source out out′ : List ℕ) (r : Outcome) → ToNodesSays rec l source out out′ r
-      → Judged (recordNumbers rec ++ rearrangeNumbers (headerOf rec) l (length source) (length out)) (λ f. r ≡ O.Refused f) (out′ ≡ out)
+  -- to_lanes and to_nodes, of all nodes and of k listed ones: no byte is moved
+  pub to-lanes : (rec : List ℕ) (l : ℕ) (source out out′ : List ℕ) (answer : Outcome) → ToLanesSays rec l source out out′ answer
+      → Judged (recordNumbers rec ++ rearrangeNumbers (headerOf rec) (headerOf rec .n) l (length source) (length out)) (λ f. answer ≡ O.Refused f) (out′ ≡ out)
+  pub to-nodes : (rec : List ℕ) (l : ℕ) (source out out′ : List ℕ) (answer : Outcome) → ToNodesSays rec l source out out′ answer
+      → Judged (recordNumbers rec ++ rearrangeNumbers (headerOf rec) (headerOf rec .n) l (length source) (length out)) (λ f. answer ≡ O.Refused f) (out′ ≡ out)
+  pub listed-to-lanes : (rec : List ℕ) (l : ℕ) (source out out′ : List ℕ) (answer : Outcome) → ListedToLanesSays rec l source out out′ answer
+      → Judged (recordNumbers rec ++ rearrangeNumbers (headerOf rec) (headerOf rec .k) l (length source) (length out)) (λ f. answer ≡ O.Refused f) (out′ ≡ out)
+  pub listed-to-nodes : (rec : List ℕ) (l : ℕ) (source out out′ : List ℕ) (answer : Outcome) → ListedToNodesSays rec l source out out′ answer
+      → Judged (recordNumbers rec ++ rearrangeNumbers (headerOf rec) (headerOf rec .k) l (length source) (length out)) (λ f. answer ≡ O.Refused f) (out′ ≡ out)
   -- find_update only reads
   pub find : (rec before after : List ℕ) (r : Finding) → FindSays rec before after r
       → Judged (recordNumbers rec ++ findNumbers (headerOf rec) before after) (λ f. r ≡ F.Refused f) (Unit {0})

@@ -10,10 +10,10 @@ use Rattle.refusals.proofs.Accepts.{not-met}
 use Rattle.rearrange.specs.Promise.{rearrangeFault}
 
 module _ (h : Header) (sound : Sound h) (l : ℕ) where
-  -- to_lanes and to_nodes: both buffers have a symbol for each node and lane
-  pub rearrange-accepts : (source out : ℕ) → rearrangeFault h l source out ≡ 0 → (source ≡ h .n * l * width h) × (out ≡ h .n * l * width h)
+  -- both buffers have a symbol for each row and lane
+  pub rearrange-accepts : (rows source out : ℕ) → rearrangeFault h rows l source out ≡ 0 → (source ≡ rows * l * width h) × (out ≡ rows * l * width h)
   unfolding rearrangeFault
-  rearrange-accepts source out e =
+  rearrange-accepts rows source out e =
       let (seven, after) = not-met (lanesBad l) 6 _ e in
-      let (read, last) = not-met (lengthBad (h .n * l * width h) source) 7 _ after in
-      (length-good (h .n * l * width h) source read, length-good (h .n * l * width h) out (when-zero (lengthBad (h .n * l * width h) out) 7 last))
+      let (read, last) = not-met (lengthBad (rows * l * width h) source) 7 _ after in
+      (length-good (rows * l * width h) source read, length-good (rows * l * width h) out (when-zero (lengthBad (rows * l * width h) out) 7 last))

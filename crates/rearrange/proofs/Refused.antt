@@ -9,5 +9,5 @@ use Rattle.blocks.proofs.Refused.{outcome-refused, refused-value}
 use Rattle.rearrange.specs.Promise.{RearrangePromise}
 
 -- the number, and nothing is written
-pub rearrange-refuses : {y z : Arrangement} (h : Header) (g : ℕ) → (g ≡ 0 → ⊥) → (l : ℕ) (source out : List ℕ) → RearrangePromise y z l source out out (Refused g) h g
-rearrange-refuses h g some l source out = record { answer = sym (outcome-refused g some); written = sym (refused-value g _ out some) }
+pub rearrange-refuses : {y z : Arrangement} (h : Header) (g : ℕ) → (g ≡ 0 → ⊥) → (rows l : ℕ) (source out : List ℕ) → RearrangePromise y z rows l source out out (Refused g) h g
+rearrange-refuses h g some rows l source out = record { answered = sym (outcome-refused g some); written = sym (refused-value g _ out some) }

@@ -1,2 +1,2 @@
--- What the two rearrangements promise.
+-- What the rearrangements promise.
 pub mod Promise

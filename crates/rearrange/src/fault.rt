@@ -8,12 +8,12 @@ use refusals::buffer_bad;
 use refusals::first;
 use refusals::lanes_bad;
 
-// to_lanes and to_nodes; `source` is the length of the buffer that is read.
-pub fn rearrange_fault(h: Header, lanes: usize, source: usize, size: usize) -> u8
+// So many rows are moved; `source` is the length of the buffer that is read.
+pub fn rearrange_fault(h: Header, rows: u8, lanes: usize, source: usize, size: usize) -> u8
     requires { ⌜ usable (h .field) ≡ true ⌝ }
-    ensures { λ r. ⌜ r ≡ rearrangeFault h lanes source size ⌝ }
+    ensures { λ r. ⌜ r ≡ rearrangeFault h rows lanes source size ⌝ }
 {
     let number = first(0, lanes_bad(lanes), 7);
-    let number = first(number, buffer_bad(h, h.n, lanes, source), 8);
-    first(number, buffer_bad(h, h.n, lanes, size), 8)
+    let number = first(number, buffer_bad(h, rows, lanes, source), 8);
+    first(number, buffer_bad(h, rows, lanes, size), 8)
 }

@@ -1,0 +1,2 @@
+-- The plain layout by the weights of the first k nodes.
+pub mod Entries

@@ -1,0 +1,2 @@
+-- The text of a plain layout.
+pub mod Plain
