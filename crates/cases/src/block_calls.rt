@@ -81,11 +81,8 @@ pub fn belongs(w: Words) {
     let shares = w.first;
     let counts = w.counts;
     let numbers = w.numbers;
-    match balanced::block_belongs(
-        part(&record, counts[0]),
-        numbers[0],
-        part(&shares, counts[1]),
-    ) {
+    let rec = part(&record, counts[0]);
+    match balanced::block_belongs(rec, numbers[0], part(&shares, counts[1])) {
         Membership::Yes => text(b": yes"),
         Membership::No(lane) => value(b": no, lane", lane as u64),
         Membership::Refused(number) => value(b": refused", number as u64),

@@ -6,5 +6,6 @@ pub mod LaneSymbols
 pub mod Answered
 pub mod Answers
 pub mod MarkedBytes
+pub mod Clean
 pub mod Meaning
 pub mod Turned

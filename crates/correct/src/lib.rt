@@ -91,6 +91,17 @@ fn correct_wrong(h: Header, lanes: usize, marks: &[u8], shares: &mut [u8]) -> Co
     correct_marked(h, &rows[..size], lanes, marks, shares)
 }
 
+// The same, but for shares with no lane marked, which stay as they are: nothing is made for them.
+fn correct_any(h: Header, lanes: usize, marks: &[u8], shares: &mut [u8]) -> Correction
+    requires { ⌜ MarkedShares h lanes (now marks) (now shares) ⌝ }
+    ensures { λ r. ⌜ CorrectPromise shareLayout lanes (now (shares .entry)) (now (shares .exit)) r h (when (farBad shareLayout h lanes (now (shares .entry))) 14) ⌝ }
+{
+    if wrong_lanes::first_nonzero(lanes, marks) == lanes {
+        return Correction::Altered(0);
+    }
+    correct_wrong(h, lanes, marks, shares)
+}
+
 // The same for shares of symbols: the lanes that are no word of the code are marked, all at once.
 fn correct_symbols(h: Header, lanes: usize, shares: &mut [u8]) -> Correction
     requires { ⌜ SymbolBuffer h (h .n) lanes (now shares) ⌝ }
@@ -98,7 +109,7 @@ fn correct_symbols(h: Header, lanes: usize, shares: &mut [u8]) -> Correction
 {
     let mut marks = [0u8; 4096];
     wrong_lanes::marks::mark_lanes(h, lanes, shares, &mut marks[..lanes]);
-    correct_wrong(h, lanes, &marks[..lanes], shares)
+    correct_any(h, lanes, &marks[..lanes], shares)
 }
 
 // Sets a block right over an accepted record's header.

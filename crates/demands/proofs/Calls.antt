@@ -132,12 +132,4 @@ module _ (rec : List ℕ) (l : ℕ) where
       }
 
 pub call-demands : CallDemands
-call-demands =
-    record {
-      encode = encode;
-      recover = recover;
-      rebuild = rebuild;
-      passes = passes;
-      names = names;
-      update = update;
-    }
+call-demands = record { encode = encode; recover = recover; rebuild = rebuild; passes = passes; names = names; update = update }

@@ -7,7 +7,7 @@ ghost use Rattle.lists.specs.Choice.{pick};
 ghost use Rattle.lists.specs.Padded.{padded};
 ghost use Rattle.field.specs.Tables.{AreTables};
 ghost use Rattle.generator.specs.Records.{modulusOf, Sound};
-ghost use Rattle.generator.specs.Shifts.{shifts};
+ghost use Rattle.generator.specs.Shifts.{shifts as shiftsFor, shiftsOf};
 ghost use Rattle.interpolation.specs.Inner.Polynomials.{productOf};
 ghost use Rattle.node_weights.specs.Inner.Rows.{rowPoints};
 ghost use Rattle.check_sums.specs.Inner.Powers.{powersOf};
@@ -113,7 +113,7 @@ fn spread(g: usize, l: usize, q: &[u16; 256]) -> [u16; 256]
 
 // The product where the shifts come in g rounds.
 fn round_product(h: Header, tables: &Tables, g: usize, powers: &[u16]) -> [u16; 256]
-    requires { ⌜ Sound h × (0 < g) × (g ≤ 255) × InRounds (h .n) (shifts h) g × (now powers ≡ padded 255 (powersOf h)) × AreTables (now tables) ⌝ }
+    requires { ⌜ Sound h × (0 < g) × (g ≤ 255) × InRounds (h .n) (shiftsFor h) g × (now powers ≡ padded 255 (powersOf h)) × AreTables (now tables) ⌝ }
     ensures { λ r. ⌜ r ≡ padded 256 (productOf (modulusOf h) (rowPoints h)) ⌝ }
 {
     let field = h.field;
@@ -125,14 +125,19 @@ fn round_product(h: Header, tables: &Tables, g: usize, powers: &[u16]) -> [u16; 
 }
 
 // The product over the points of the rows, and zeros after it.
-pub fn row_product(h: Header, tables: &Tables, powers: &[u16], points: &[u16]) -> [u16; 256]
-    requires { ⌜ Sound h × (now powers ≡ padded 255 (powersOf h)) × (now points ≡ rowPoints h) × AreTables (now tables) ⌝ }
+pub fn row_product(
+    h: Header,
+    tables: &Tables,
+    shifts: &[u8],
+    powers: &[u16],
+    points: &[u16],
+) -> [u16; 256]
+    requires { ⌜ Sound h × (now powers ≡ padded 255 (powersOf h)) × (now points ≡ rowPoints h) × AreTables (now tables) × (now shifts ≡ padded 255 (shiftsOf (h .n) (h .k))) ⌝ }
     ensures { λ r. ⌜ r ≡ padded 256 (productOf (modulusOf h) (rowPoints h)) ⌝ }
 {
     let field = h.field;
     let k = h.k as usize;
-    let list = shifts::fill_shifts(h.n, h.k);
-    let rounds = rounds_of(h.n as usize, &list[..k]);
+    let rounds = rounds_of(h.n as usize, &shifts[..k]);
     if rounds == 0 {
         return polynomials::product(field, tables, points);
     }

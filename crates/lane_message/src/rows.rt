@@ -4,26 +4,27 @@ ghost use Prim.Native.Nat.{_<_};
 ghost use Rattle.lists.specs.Padded.{padded};
 ghost use Rattle.field.specs.Tables.{AreTables};
 ghost use Rattle.generator.specs.Records.{modulusOf, size, Sound};
+ghost use Rattle.generator.specs.Shifts.{shiftsOf};
 ghost use Rattle.node_weights.specs.Inner.Rows.{rowPoints, baseInverses, rowTerms};
 ghost use Rattle.check_sums.specs.Inner.Powers.{powersOf};
 ghost use Rattle.lane_message.specs.Inner.Rows.{stepRatio};
 use crate::rounds;
+use check_sums::lane::stepped;
 use field::Field;
 use field::Tables;
 use generator::Header;
 
 // The points root^(shift + k − 1) of the rows, and zeros after them.
-pub fn row_points(h: Header, powers: &[u16]) -> [u16; 255]
-    requires { ⌜ Sound h × (now powers ≡ padded 255 (powersOf h)) ⌝ }
+pub fn row_points(h: Header, shifts: &[u8], powers: &[u16]) -> [u16; 255]
+    requires { ⌜ Sound h × (now powers ≡ padded 255 (powersOf h)) × (now shifts ≡ padded 255 (shiftsOf (h .n) (h .k))) ⌝ }
     ensures { λ r. ⌜ r ≡ padded 255 (rowPoints h) ⌝ }
 {
     let n = h.n as usize;
     let k = h.k as usize;
-    let shifts = shifts::fill_shifts(h.n, h.k);
     let mut out = [0u16; 255];
     let mut r: usize = 0;
     while r < k {
-        let e = (shifts[r] as usize + (k - 1)) % n;
+        let e = stepped(shifts[r] as usize, k - 1, n);
         out[r] = powers[e];
         r += 1;
     }
@@ -63,11 +64,18 @@ fn base_inverses(h: Header, tables: &Tables, powers: &[u16]) -> [u16; 255]
 }
 
 // The terms of row r: the coefficients of the product over the points of the other rows, each over that of the base polynomial; and zeros after them.
-pub fn row_terms(h: Header, tables: &Tables, powers: &[u16], points: &[u16], r: usize) -> [u16; 255]
-    requires { ⌜ Sound h × (now powers ≡ padded 255 (powersOf h)) × (now points ≡ rowPoints h) × (r < h .k) × AreTables (now tables) ⌝ }
+pub fn row_terms(
+    h: Header,
+    tables: &Tables,
+    shifts: &[u8],
+    powers: &[u16],
+    points: &[u16],
+    r: usize,
+) -> [u16; 255]
+    requires { ⌜ Sound h × (now powers ≡ padded 255 (powersOf h)) × (now points ≡ rowPoints h) × (r < h .k) × AreTables (now tables) × (now shifts ≡ padded 255 (shiftsOf (h .n) (h .k))) ⌝ }
     ensures { λ t. ⌜ t ≡ padded 255 (rowTerms h r) ⌝ }
 {
-    let product = rounds::row_product(h, tables, powers, points);
+    let product = rounds::row_product(h, tables, shifts, powers, points);
     let base = base_inverses(h, tables, powers);
     node_weights::terms_at(h, tables, &product, &base, points[r] as u32)
 }

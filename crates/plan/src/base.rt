@@ -38,8 +38,8 @@ fn next_entry(h: Header, tables: &Tables, scale: u32, pole: u32, x: u32, entry: 
     let field = h.field;
     let above = field.sub(field.mul_with(tables, scale, x), pole);
     let below = field.sub(x, pole);
-    let over = field.mul_with(tables, entry, above);
-    field.mul_with(tables, over, field.inverse_with(tables, below))
+    let ratio = field.mul_with(tables, above, field.inverse_with(tables, below));
+    field.mul_with(tables, entry, ratio)
 }
 
 // The n − k + 1 entries that are not 0, each from the one before it, and zeros after them.

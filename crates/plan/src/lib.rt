@@ -11,6 +11,7 @@ use generator::Record;
 mod base;
 mod entries;
 
+pub use base::fill_base;
 pub use entries::entry;
 pub use entries::entry_at;
 

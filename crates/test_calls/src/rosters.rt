@@ -78,10 +78,9 @@ pub fn lowest(w: Words, roster: Roster) -> Roster {
     let record = w.record;
     let counts = w.counts;
     let rooms = w.rooms;
-    let size = rooms[1];
     let mut out = [170u8; 64];
-    let answer = roster.lowest(part(&record, counts[0]), front(&mut out, size));
-    print(answer, part(&out, size));
+    let answer = roster.lowest(part(&record, counts[0]), front(&mut out, rooms[1]));
+    print(answer, part(&out, rooms[1]));
     roster
 }
 

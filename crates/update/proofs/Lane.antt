@@ -17,21 +17,19 @@ use Rattle.layout.proofs.Readings.{count-symbols}
 use Rattle.layout.proofs.LaneParts as Parts
 use Rattle.layout.proofs.Runs as Runs
 use Rattle.generator.specs.declared.Header.{Header}
-use Rattle.generator.specs.declared.Record.the-variants.{Holds}
-use Rattle.generator.specs.Records.{width, Sound}
+use Rattle.generator.specs.Records.{width}
 use Rattle.generator.specs.Generator.{entry}
 use Rattle.generator.proofs.Widths.{width-some, width-range}
-use Rattle.plan.specs.declared.Plan.{Plan}
-use Rattle.plan.specs.Plans.{planFor}
+use Rattle.plan.specs.Inner.Planned.{Planned}
 use Rattle.plan.proofs.Plans as Plans
 use Rattle.refusals.specs.Accepted.{UpdatableLane}
 use Rattle.blocks.specs.Blocks.{rowAdded, wordAdded}
 use Rattle.blocks.proofs.Updates.{added-part, differ-part}
 use Rattle.update.specs.Inner.Words.{UpdatableWord}
 
--- an entry, read from the plan's base word by the shift of its row
-pub entry-read : (h : Header) → Sound h → (p : Plan) → p ≡ planFor (Holds h) → (r j : ℕ) → r < h .k → j < h .n → getD (p .base) ((j + getD (p .shifts) r 0) % h .n) 0 ≡ entry h r j
-entry-read h s p e r j row node = rw e (Plans.entry-read h s r j row node)
+-- an entry, read from the base word by the shift of its row
+pub entry-read : (h : Header) {shifts base : List ℕ} → Planned h shifts base → (r j : ℕ) → r < h .k → j < h .n → getD base ((j + getD shifts r 0) % h .n) 0 ≡ entry h r j
+entry-read h p r j row node = rw (p .base-is, p .shifts-are) (Plans.entry-read h (p .sound) r j row node)
 
 -- one symbol written in its place among the bytes
 pub symbol-written : (w : ℕ) (s : List ℕ) (j v : ℕ) → s ≡ bytesOf w (symbolsOf w s) → j < length (symbolsOf w s) → take (j * w) s ++ (symbolBytes w v ++ drop (j * w + w - j * w) (drop (j * w) s)) ≡ bytesOf w (set (symbolsOf w s) j v)

@@ -6,8 +6,10 @@ ghost use Rattle.layout.specs.Layout.{laneOf, shareLayout};
 ghost use Rattle.layout.specs.Width.{symbolsOf, bytesOf};
 ghost use Rattle.field.specs.Fields.{add, mul};
 ghost use Rattle.field.specs.Tables.{AreTables};
+ghost use Rattle.lists.specs.Padded.{padded};
 ghost use Rattle.generator.specs.Records.{modulusOf, size, width, Sound};
-ghost use Rattle.plan.specs.Plans.{planFor};
+ghost use Rattle.generator.specs.Shifts.{shiftsOf};
+ghost use Rattle.plan.specs.Inner.Planned.{Planned};
 ghost use Rattle.refusals.specs.Faults.{staleFault};
 ghost use Rattle.update.specs.Promise.{updateFault, UpdatePromise, UpdateSays};
 ghost use Rattle.refusals.specs.Accepted.{UpdatableLane};
@@ -17,7 +19,6 @@ use blocks::Update;
 use field::Tables;
 use generator::Header;
 use generator::Record;
-use plan::Plan;
 
 mod fault;
 
@@ -32,24 +33,25 @@ fn renewed(h: Header, tables: &Tables, x: u32, entry: u16, before: u16) -> u16
 }
 
 // Adds x times a row of the generator to a lane: rewrites the nodes whose symbol becomes another one, and counts them.
-fn rewrite(
+fn rewrite<'a>(
     h: Header,
     w: usize,
     tables: &Tables,
-    plan: Plan,
+    shifts: &'a [u8],
+    base: &'a [u16],
     which: u32,
     x: u32,
     lane: &mut [u8],
 ) -> u32
-    requires { ⌜ UpdatableWord h w which (now lane) × (x < size h) × (plan ≡ planFor (Record.Holds h)) × AreTables (now tables) ⌝ }
+    requires { ⌜ UpdatableWord h w which (now lane) × (x < size h) × Planned h (now shifts) (now base) × AreTables (now tables) ⌝ }
     ensures { λ r. ⌜ (now (lane .exit) ≡ bytesOf w (wordAdded h which x (symbolsOf w (now (lane .entry))))) × (r ≡ differ (symbolsOf w (now (lane .entry))) (wordAdded h which x (symbolsOf w (now (lane .entry))))) ⌝ }
 {
     let n = h.n as usize;
-    let shift = plan.shifts[which as usize] as usize;
+    let shift = shifts[which as usize] as usize;
     let mut count: u32 = 0;
     let mut j: usize = 0;
     while j < n {
-        let entry = plan::entry_at(n, shift, &plan.base, j);
+        let entry = plan::entry_at(n, shift, base, j);
         let before = symbols::symbol_at(w, lane, j);
         let after = renewed(h, tables, x, entry, before);
         if after != before {
@@ -64,61 +66,81 @@ fn rewrite(
 }
 
 // The same for one lane of the shares, which is handed on as the part from its start to the next one's.
-fn rewrite_lane(
+pub fn rewrite_lane<'a>(
     h: Header,
     w: usize,
-    tables: &Tables,
-    plan: Plan,
     lanes: usize,
     which: u32,
     lane: usize,
     x: u32,
+    tables: &Tables,
+    shifts: &'a [u8],
+    base: &'a [u16],
     shares: &mut [u8],
 ) -> u32
-    requires { ⌜ UpdatableLane h lanes which lane (now shares) × (w ≡ width h) × (x < size h) × (plan ≡ planFor (Record.Holds h)) × AreTables (now tables) ⌝ }
+    requires { ⌜ UpdatableLane h lanes which lane (now shares) × (w ≡ width h) × (x < size h) × Planned h (now shifts) (now base) × AreTables (now tables) ⌝ }
     ensures { λ r. ⌜ (now (shares .exit) ≡ bytesOf w (rowAdded shareLayout h lanes which lane x (symbolsOf w (now (shares .entry))))) × (r ≡ differ (symbolsOf w (now (shares .entry))) (rowAdded shareLayout h lanes which lane x (symbolsOf w (now (shares .entry))))) ⌝ }
 {
     let size = w * h.n as usize;
     let start = lane * size;
     let end = start + size;
-    rewrite(h, w, tables, plan, which, x, &mut shares[start..end])
+    rewrite(
+        h,
+        w,
+        tables,
+        shifts,
+        base,
+        which,
+        x,
+        &mut shares[start..end],
+    )
 }
 
 // The number that a lane meets: 12 where it is no word of the code, else 13 where its message holds another symbol than `old`, else 0.
-fn judge(h: Header, w: usize, which: u32, old: u32, lane: &[u8]) -> u8
-    requires { ⌜ UpdatableWord h w which (now lane) ⌝ }
+fn judge(
+    h: Header,
+    w: usize,
+    tables: &Tables,
+    shifts: &[u8],
+    which: u32,
+    old: u32,
+    lane: &[u8],
+) -> u8
+    requires { ⌜ UpdatableWord h w which (now lane) × AreTables (now tables) × (now shifts ≡ padded 255 (shiftsOf (h .n) (h .k))) ⌝ }
     ensures { λ f. ⌜ f ≡ staleFault h (symbolsOf w (now (lane .entry))) which old ⌝ }
 {
     let n = h.n as usize;
     let symbols = symbols::read_symbols(w, lane);
-    lane_message::stale_fault(h, &symbols[..n], which as usize, old)
+    lane_message::stale_fault(h, tables, shifts, &symbols[..n], which as usize, old)
 }
 
 // The same for one lane of the shares, which is handed on likewise.
-fn judge_lane(
+pub fn judge_lane(
     h: Header,
     w: usize,
     lanes: usize,
     which: u32,
     lane: usize,
     old: u32,
+    tables: &Tables,
+    shifts: &[u8],
     shares: &[u8],
 ) -> u8
-    requires { ⌜ UpdatableLane h lanes which lane (now shares) × (w ≡ width h) ⌝ }
+    requires { ⌜ UpdatableLane h lanes which lane (now shares) × (w ≡ width h) × AreTables (now tables) × (now shifts ≡ padded 255 (shiftsOf (h .n) (h .k))) ⌝ }
     ensures { λ f. ⌜ f ≡ staleFault h (laneOf shareLayout (h .n) lanes lane (symbolsOf w (now (shares .entry)))) which old ⌝ }
 {
     let size = w * h.n as usize;
     let start = lane * size;
     let end = start + size;
-    judge(h, w, which, old, &shares[start..end])
+    judge(h, w, tables, shifts, which, old, &shares[start..end])
 }
 
 // Updates over an accepted record's header.
 fn update_accepted(
     h: Header,
-    lanes: u32,
+    lanes: usize,
     which: u32,
-    lane: u32,
+    lane: usize,
     old: u32,
     new: u32,
     shares: &mut [u8],
@@ -127,37 +149,20 @@ fn update_accepted(
     ensures { λ a. ⌜ UpdatePromise shareLayout lanes which lane old new (now (shares .entry)) (now (shares .exit)) a h (updateFault shareLayout h lanes which lane old new (now (shares .entry))) ⌝ }
 {
     let field = h.field;
-    let number = fault::input_fault(
-        h,
-        lanes as usize,
-        which as usize,
-        lane as usize,
-        old,
-        new,
-        shares,
-    );
+    let number = fault::input_fault(h, lanes, which as usize, lane, old, new, shares);
     if number != 0 {
         return Update::Refused(number);
     }
     let w = symbols::width_of(h);
-    let stale = judge_lane(h, w, lanes as usize, which, lane as usize, old, shares);
+    let t = field::constant_tables();
+    let shifts = plan::row_shifts(h);
+    let stale = judge_lane(h, w, lanes, which, lane, old, &t, &shifts, shares);
     if stale != 0 {
         return Update::Refused(stale);
     }
     let x = field.sub(new, old);
-    let plan = plan::plan_of(h);
-    let t = field::constant_tables();
-    let count = rewrite_lane(
-        h,
-        w,
-        &t,
-        plan,
-        lanes as usize,
-        which,
-        lane as usize,
-        x,
-        shares,
-    );
+    let base = plan::fill_base(h, &t);
+    let count = rewrite_lane(h, w, lanes, which, lane, x, &t, &shifts, &base, shares);
     Update::Altered(count)
 }
 
@@ -174,7 +179,9 @@ pub fn update_lane(
     ensures { λ a. ⌜ UpdateSays (now (rec .entry)) lanes which lane old new (now (shares .entry)) (now (shares .exit)) a ⌝ }
 {
     match records::read_record(rec) {
-        Record::Holds(h) => update_accepted(h, lanes, which, lane, old, new, shares),
+        Record::Holds(h) => {
+            update_accepted(h, lanes as usize, which, lane as usize, old, new, shares)
+        }
         Record::Meets(number) => Update::Refused(number),
     }
 }

@@ -18,7 +18,7 @@ pub mod marks;
 use marks::mark_lanes;
 
 // The first of so many places whose byte is not 0, or their number.
-fn first_nonzero(lanes: usize, marks: &[u8]) -> usize
+pub fn first_nonzero(lanes: usize, marks: &[u8]) -> usize
     requires { ⌜ lanes ≤ length (now marks) ⌝ }
     ensures { λ r. ⌜ r ≡ firstFalse lanes 0 (λ t. eqb (getD (now (marks .entry)) t 0) 0) ⌝ }
 {

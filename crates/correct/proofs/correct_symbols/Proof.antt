@@ -25,11 +25,11 @@ mark-lanes-requires c κs = let s = c .before .before .before in (s .pre, zeros-
 array-share-prefix-marks : tie.Need-array-share-prefix-marks
 array-share-prefix-marks c = whole-fits _ _ _ _ (c .before .mark-lanes .ensures) (length-marks shareLayout _ _ _)
 
-slice-aggregate-correct-wrong : tie.Need-slice-aggregate-correct-wrong
-slice-aggregate-correct-wrong c = sym (length-whole _ _ _ _ (c .before .before .mark-lanes .ensures) (length-marks shareLayout _ _ _))
+slice-aggregate-correct-any : tie.Need-slice-aggregate-correct-any
+slice-aggregate-correct-any c = sym (length-whole _ _ _ _ (c .before .before .mark-lanes .ensures) (length-marks shareLayout _ _ _))
 
-correct-wrong-requires : tie.Need-correct-wrong-requires
-correct-wrong-requires c κs =
+correct-any-requires : tie.Need-correct-any-requires
+correct-any-requires c κs =
     let s : tie.Start = search in
     marked-shares (s .args .h) (s .args .lanes) _ (s .args .shares .now) (s .pre) (whole-is _ _ _ _ (c .before .before .before .mark-lanes .ensures) (length-marks shareLayout _ _ _))
 
@@ -37,8 +37,8 @@ same-length : tie.Need-same-length
 same-length c = search needs
 
 returns : tie.Need-returns
-returns c = c .before .before .correct-wrong .ensures
+returns c = c .before .before .correct-any .ensures
 
 pub correct-symbols-spec : {M : Type 1} → statement M
 correct-symbols-spec =
-    tie.close (tie.spec array-borrow-prefix-marks slice-aggregate-mark-lanes mark-lanes-requires array-share-prefix-marks slice-aggregate-correct-wrong correct-wrong-requires same-length returns)
+    tie.close (tie.spec array-borrow-prefix-marks slice-aggregate-mark-lanes mark-lanes-requires array-share-prefix-marks slice-aggregate-correct-any correct-any-requires same-length returns)

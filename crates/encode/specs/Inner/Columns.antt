@@ -1,23 +1,13 @@
 -- What the functions behind the call rely on and give.
-use mathlib.Core.Path.{_≡_}
 use mathlib.Core.List.{List}
 use Prim.Native.Nat.{ℕ, _*_, _≤_}
 use Rattle.lists.specs.Rows.{from}
 use Rattle.generator.specs.declared.Header.{Header}
-use Rattle.generator.specs.declared.Record.the-variants.{Holds}
-use Rattle.generator.specs.Records.{Sound}
 use Rattle.generator.specs.Generator.{entry}
-use Rattle.plan.specs.Plans.{planFor}
 use Rattle.tile_products.specs.Inner.Products.{groupsOf}
 use Rattle.block_products.specs.declared.Product.{Product}
 use Rattle.block_products.specs.declared.Way.the-variants.{RowsToLanes}
 use Rattle.refusals.specs.Inner.Accepted.{SymbolBytes}
-
--- the shifts and the base word of an accepted record's plan
-pub record Planned (h : Header) (shifts base : List ℕ) : Type 0 where
-  pub sound : Sound h
-  pub shifts-are : shifts ≡ planFor (Holds h) .shifts
-  pub base-is : base ≡ planFor (Holds h) .base
 
 -- node j's column of the generator: its entry of each row
 unfoldable pub columnOf : Header → ℕ → List ℕ

@@ -1,8 +1,6 @@
 -- `stale_with` meets its contract: the check sums and the coefficients' sums are parts of one spectrum.
 use mathlib.Core.Path.{_≡_, sym, ap, _∙_}
 use mathlib.Core.Bool.{true}
-use Prim.Native.Nat.{_≤_}
-use native.Mathlib.Omega.{arith}
 use borrow.Author.Needs.{needs}
 use lib.ListN.{getD, take}
 use Rattle.lists.specs.Numbers.{allBelow}
@@ -18,22 +16,20 @@ use Rattle.lane_message.proofs.SpectrumParts.{length-spectrum, check-pa
 use Rattle.lane_message.proofs.stale_with.Statement.{statement}
 use Rattle.lane_message.proofs.stale_with.Tie as tie
 
-few : (c : tie.After-struct-known) → c .before .before .before .args .h .n ≤ 255
-few c = omega (arith, c .struct-known .given)
-
 -- the word test
 test : (c : tie.After-all-zero) → let start : tie.Start = search in let a = start .args in c .all-zero .result ≡ isWord (a .h) (a .lane .now)
 test c =
     let st : tie.Start = search in
     let h = st .args .h in
     c .all-zero .ensures
-    ∙ ap (allBelow 1) (rw (c .before .before .before .spectrum-of .ensures) (check-part h (st .args .lane .now) (st .pre .0) (few (c .before .before .before .before .before))))
+    ∙ ap (allBelow 1) (rw (c .before .before .before .spectrum-of .ensures) (check-part h (st .args .lane .now) (st .pre .0) (st .pre .0 .byte)))
     ∙ word-sums h (st .args .lane .now)
 
 -- the spectrum, lent as a part
-part : (c : tie.After-spectrum-of) → let a = c .before .before .before .before .before .args in take (a .h .n) (c .spectrum-of .result) ≡ spectrumOf (a .h) (a .lane .now)
+part : (c : tie.After-spectrum-of) → let start : tie.Start = search in let a = start .args in take (a .h .n) (c .spectrum-of .result) ≡ spectrumOf (a .h) (a .lane .now)
 part c =
-    let a = c .before .before .before .before .before .args in
+    let start : tie.Start = search in
+    let a = start .args in
     rw (c .spectrum-of .ensures) (take-padded 255 _ _ (length-spectrum (a .h) (a .lane .now)))
 
 -- the symbol of a word's message
@@ -86,7 +82,7 @@ symbol-from-requires : tie.Need-symbol-from-requires
 symbol-from-requires c κs =
     let st : tie.Start = search in
     let h = st .args .h in
-    (st .pre .0, st .pre .1, rw (part (c .before .before .before .before)) (length-spectrum h (st .args .lane .now)), rw (part (c .before .before .before .before)) (spectrum-below h (st .pre .0) (st .args .lane .now) (st .pre .3)), st .pre .4, st .pre .5)
+    (st .pre .0, st .pre .1, rw (part (c .before .before .before .before)) (length-spectrum h (st .args .lane .now)), rw (part (c .before .before .before .before)) (spectrum-below h (st .pre .0) (st .args .lane .now) (st .pre .3)), st .pre .4, st .pre .5, st .pre .6)
 
 number-of-requires : tie.Need-number-of-requires
 number-of-requires c κs = search needs

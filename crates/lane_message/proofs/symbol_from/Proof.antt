@@ -24,16 +24,16 @@ use Rattle.lane_message.proofs.Reading.{length-coefficients, coefficien
 use Rattle.lane_message.proofs.symbol_from.Statement.{statement}
 use Rattle.lane_message.proofs.symbol_from.Tie as tie
 
-few : (c : tie.After-struct-known2) → (c .before .before .before .before .args .h .k ≤ 255) × (c .before .before .before .before .args .h .n ≤ 255)
-few c = (omega (arith, c .struct-known2 .given), omega (arith, c .before .struct-known .given))
+few : (c : tie.Start) → c .args .h .k ≤ 255
+few c = omega (arith, c .pre .0 .fits, c .pre .0 .byte)
 
 -- the points of the rows, lent as a part
 points : (c : tie.After-row-points)
-    → let h = c .before .before .before .before .before .args .h in
+    → let start : tie.Start = search in let h = start .args .h in
     (take (h .k) (c .row-points .result) ≡ rowPoints h) × Symbols (h .field) (h .k) (rowPoints h)
 points c =
-    let st = c .before .before .before .before .before in
-    let s = row-symbols (st .args .h) (st .pre .0) (few (c .before) .0) in
+    let st : tie.Start = search in
+    let s = row-symbols (st .args .h) (st .pre .0) (few st) in
     (rw (c .row-points .ensures) (take-padded 255 _ _ (s .size)), s)
 
 -- the terms of the row
@@ -42,7 +42,7 @@ terms : (c : tie.After-row-terms)
     (take (a .h .k) (c .row-terms .result) ≡ rowTerms (a .h) (a .r)) × Symbols (a .h .field) (a .h .k) (rowTerms (a .h) (a .r))
 terms c =
     let st : tie.Start = search in
-    let s = term-symbols (st .args .h) (st .pre .0) (few (c .before .before .before) .0) (st .args .r) (st .pre .4) in
+    let s = term-symbols (st .args .h) (st .pre .0) (few st) (st .args .r) (st .pre .4) in
     (rw (c .row-terms .ensures) (take-padded 255 _ _ (s .size)), s)
 
 -- the coefficients
@@ -94,7 +94,7 @@ slice-aggregate-row-terms c = let q = points (c .before) in rw (q .0) (sym (q .1
 row-terms-requires : tie.Need-row-terms-requires
 row-terms-requires c κs =
     let st : tie.Start = search in
-    (st .pre .0, st .pre .1, points (c .before) .0, st .pre .4, st .pre .5)
+    (st .pre .0, st .pre .1, points (c .before) .0, st .pre .4, st .pre .5, st .pre .6)
 
 coefficients-requires : tie.Need-coefficients-requires
 coefficients-requires c κs = search needs
@@ -110,11 +110,10 @@ slice-aggregate-weighted-sum-2 c = search needs
 
 weighted-sum-requires : tie.Need-weighted-sum-requires
 weighted-sum-requires c κs =
-    let after-struct-known2 : tie.After-struct-known2 = search in
     let st : tie.Start = search in
     let t = terms (c .before .before .before) in
     let k = coefficients (c .before .before) in
-    (st .pre .0 .usable-field, rw (t .0) (t .1 .are .below), rw (k .0) (below-padded _ 255 _ (size-pos _ (st .pre .0 .field)) (k .1)), omega (arith, ap length (t .0), t .1 .size, ap length (k .0), length-padded 255 (coefficientsOf (st .args .h) (st .args .spectrum .now)) (omega (arith, length-coefficients (st .args .h) (st .args .spectrum .now), few after-struct-known2 .0)), few after-struct-known2 .0), st .pre .5)
+    (st .pre .0 .usable-field, rw (t .0) (t .1 .are .below), rw (k .0) (below-padded _ 255 _ (size-pos _ (st .pre .0 .field)) (k .1)), omega (arith, ap length (t .0), t .1 .size, ap length (k .0), length-padded 255 (coefficientsOf (st .args .h) (st .args .spectrum .now)) (omega (arith, length-coefficients (st .args .h) (st .args .spectrum .now), few st)), few st), st .pre .5)
 
 array-share-prefix-points-2 : tie.Need-array-share-prefix-points-2
 array-share-prefix-points-2 c = search needs
@@ -135,7 +134,7 @@ ones-requires : tie.Need-ones-requires
 ones-requires c κs = search needs
 
 inverse-with-requires : tie.Need-inverse-with-requires
-inverse-with-requires c κs = search needs
+inverse-with-requires c κs = let st : tie.Start = search in (st .pre .0 .usable-field, c .ones .ensures .1, st .pre .5)
 
 -- 1 over n
 over : (c : tie.After-inverse-with) → let start : tie.Start = search in c .inverse-with .result < size (start .args .h)

@@ -1,12 +1,12 @@
 -- `answers` is safe and ends.
 use borrow.Author.Needs.{needs}
-use Prim.Native.Nat.{_-_}
+use Prim.Native.Nat.{_-_, _≤_}
 use lib.ListN.{length}
 use Rattle.sheet_cases.proofs.answers.Statement.{statement}
 use Rattle.sheet_cases.proofs.answers.Tie as tie
 
 abbrev Inv-loop : tie.InvT-loop
-Inv-loop input at₀ at = Unit {0}
+Inv-loop input at₀ at = at₀ ≤ at
 
 abbrev μ-loop : tie.MeasureT-loop
 μ-loop input at₀ at = length input - at

@@ -43,7 +43,7 @@ shared-slice-read-terms-at : tie.Need-shared-slice-read-terms-at
 shared-slice-read-terms-at c = let s : tie.Start = search in omega (arith, many s, s .pre .3)
 
 cast-terms-at : tie.Need-cast-terms-at
-cast-terms-at c = let start : tie.Start = search in omega (arith, c .shared-slice-known3 .given (start .args .r))
+cast-terms-at c = let start : tie.Start = search in omega (arith, c .shared-slice-known4 .given (start .args .r))
 
 terms-at-requires : tie.Need-terms-at-requires
 terms-at-requires c κs = let s : tie.Start = search in (s .pre .0, c .before .before .before .before .row-product .ensures, c .before .before .before .base-inverses .ensures, point s, s .pre .4)

@@ -1,7 +1,9 @@
 -- `next_entry` meets its contract, by the recurrence of p.
-use mathlib.Core.Path.{sym, _∙_}
+use mathlib.Core.Path.{sym, ap, _∙_}
 use Prim.Native.Nat.{_<_}
 use native.Mathlib.Omega.{arith}
+use Rattle.field.specs.Fields.{mul}
+use Rattle.field.proofs.BothKinds.{arithmetic}
 use Rattle.field.proofs.Bounds.{sub-below, mul-below, power-below}
 use Rattle.field.proofs.Inverse.{inverse-below}
 use Rattle.generator.specs.Records.{size}
@@ -41,38 +43,38 @@ differences c =
       rw (c .sub2 .ensures) (sub-below _ v (omega arith) (omega arith)),
     )
 
-mul-with-requires-2 : tie.Need-mul-with-requires-2
-mul-with-requires-2 c κs =
-    let t = symbols (c .before .before .before) in
-    let d = differences c in
-    (c .before .before .before .pre .0 .usable-field, omega arith, omega arith, c .before .before .before .pre .6)
-
 inverse-with-requires : tie.Need-inverse-with-requires
-inverse-with-requires c κs = let d = differences (c .before) in (c .before .before .before .before .pre .0 .usable-field, omega arith, c .before .before .before .before .pre .6)
+inverse-with-requires c κs = let st : tie.Start = search in let d = differences c in (st .pre .0 .usable-field, d .1, st .pre .6)
+
+-- the inverse and the ratio are symbols
+inverse : (c : tie.After-inverse-with) → let start : tie.Start = search in c .inverse-with .result < size (start .args .h)
+inverse c =
+    let st : tie.Start = search in
+    rw (c .inverse-with .ensures) (inverse-below _ (st .pre .0 .field) (differences (c .before) .1))
+
+mul-with-requires-2 : tie.Need-mul-with-requires-2
+mul-with-requires-2 c κs = let st : tie.Start = search in (st .pre .0 .usable-field, differences (c .before) .0, inverse c, st .pre .6)
 
 mul-with-requires-3 : tie.Need-mul-with-requires-3
 mul-with-requires-3 c κs =
-    let s = c .before .before .before .before .before .pre .0 in
-    let t = symbols (c .before .before .before .before .before) in
-    let d = differences (c .before .before) in (
-      s .usable-field,
-      rw (c .before .mul-with2 .ensures) (mul-below _ (s .field) (omega arith) (omega arith)),
-      rw (c .inverse-with .ensures) (inverse-below _ (s .field) (omega arith)),
-      c .before .before .before .before .before .pre .6,
-    )
+    let st : tie.Start = search in
+    (st .pre .0 .usable-field, symbols st .3, rw (c .mul-with2 .ensures) (mul-below _ (st .pre .0 .field) (differences (c .before .before) .0) (inverse (c .before))), st .pre .6)
 
 returns : tie.Need-returns
 returns c =
     let start : tie.Start = search in
     let a = start .args in
     let (s, scale, pole, low, apart, entry, tables) = start .pre in
-    rw (
-      c .mul-with3 .ensures,
-      c .before .inverse-with .ensures,
-      c .before .before .mul-with2 .ensures,
-      c .before .before .before .sub2 .ensures,
-      c .before .before .before .before .sub .ensures,
-      c .before .before .before .before .before .mul-with .ensures,
+    let at : tie.After-inverse-with = search in
+    let d = differences (at .before) in
+    c .mul-with3 .ensures
+    ∙ ap (mul _ (a .entry)) (c .before .mul-with2 .ensures)
+    ∙ sym (arithmetic _ (s .field) .mul-assoc (a .entry) _ _ (symbols start .3) (d .0) (inverse at))
+    ∙ rw (
+      at .inverse-with .ensures,
+      at .before .sub2 .ensures,
+      at .before .before .sub .ensures,
+      at .before .before .before .mul-with .ensures,
       scale,
       pole,
       entry,
@@ -80,4 +82,4 @@ returns c =
 
 pub next-entry-spec : {M : Type 1} → statement M
 next-entry-spec =
-    tie.close (tie.spec mul-with-requires sub-requires sub-requires-2 mul-with-requires-2 inverse-with-requires mul-with-requires-3 returns)
+    tie.close (tie.spec mul-with-requires sub-requires sub-requires-2 inverse-with-requires mul-with-requires-2 mul-with-requires-3 returns)

@@ -30,9 +30,7 @@ returns-2 : tie.Need-returns-2
 returns-2 c =
     let else1 : tie.Else1 = search in
     let start : tie.Start = search in
-    let a = start .args in
-    let read = c .before .before .before .before .before .read-roster .ensures in
-    event-done _ _ (else1 .if1 .left) _ _ _ _ (c .before .before .before .before .leave .ensures ∙ ap (stepOf (recordOf (a .rec .now)) (leaves (a .node))) read) (c .before .before .put-step .ensures .0) (c .before .before .put-step .ensures .1)
+    event-done _ _ (else1 .if1 .left) _ _ _ _ (c .before .before .before .before .leave .ensures ∙ ap (stepOf (recordOf (start .args .rec .now)) (leaves (start .args .node))) (c .before .before .before .before .before .read-roster .ensures)) (c .before .before .put-step .ensures .0) (c .before .before .put-step .ensures .1)
 
 pub leave-spec : {M : Type 1} → statement M
 leave-spec =

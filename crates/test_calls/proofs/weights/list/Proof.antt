@@ -1,12 +1,12 @@
 -- `list` is safe and ends.
 use borrow.Author.Needs.{needs}
-use Prim.Native.Nat.{_-_}
+use Prim.Native.Nat.{_-_, _≤_}
 use lib.ListN.{length}
 use Rattle.test_calls.proofs.weights.list.Statement.{statement}
 use Rattle.test_calls.proofs.weights.list.Tie as tie
 
 abbrev Inv-loop : tie.InvT-loop
-Inv-loop counts i₀ i = Unit {0}
+Inv-loop counts i₀ i = i ≤ length counts
 
 abbrev μ-loop : tie.MeasureT-loop
 μ-loop counts i₀ i = length counts - i

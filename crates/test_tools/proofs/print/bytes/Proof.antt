@@ -1,12 +1,12 @@
 -- `bytes` is safe and ends.
 use borrow.Author.Needs.{needs}
-use Prim.Native.Nat.{_-_}
+use Prim.Native.Nat.{_-_, _≤_}
 use lib.ListN.{length}
 use Rattle.test_tools.proofs.print.bytes.Statement.{statement}
 use Rattle.test_tools.proofs.print.bytes.Tie as tie
 
 abbrev Inv-loop : tie.InvT-loop
-Inv-loop s i₀ i = Unit {0}
+Inv-loop s i₀ i = i ≤ length s
 
 abbrev μ-loop : tie.MeasureT-loop
 μ-loop s i₀ i = length s - i

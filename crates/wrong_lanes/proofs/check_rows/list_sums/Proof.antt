@@ -107,9 +107,9 @@ same-length-2 c = c .before .loop .inv .2
 returns : tie.Need-returns Inv-loop μ-loop
 returns c =
     let s : tie.Start Inv-loop μ-loop = search in
-    let l = c .before .loop in
-    let all : l .e ≡ s .args .h .n - s .args .h .k = omega arith in
-    record { weights = λ i. factorsOf (s .args .h) (i + 1); tell = λ ws long below. factors-word (s .args .h) ws long; begun = rw all at (l .inv .3); lists-room = omega (arith, l .inv .1, s .pre .2); counts-room = omega (arith, l .inv .2, s .pre .3) }
+    let all : c .before .loop .e ≡ s .args .h .n - s .args .h .k = omega arith in
+    let inv = c .before .loop .inv in
+    record { weights = λ i. factorsOf (s .args .h) (i + 1); tell = λ ws long below. factors-word (s .args .h) ws long; begun = rw all at (inv .3); lists-room = omega (arith, inv .1, s .pre .2); counts-room = omega (arith, inv .2, s .pre .3) }
 
 pub list-sums-spec : {M : Type 1} → statement M
 list-sums-spec =

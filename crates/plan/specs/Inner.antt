@@ -1,0 +1,2 @@
+-- What functions that need no whole plan rely on.
+pub mod Planned
