@@ -12,11 +12,11 @@ pub record Half (n a b whole : ℕ) : Type 0 where
   pub small : b ≤ 255 * n
 
 -- one number more
-half-more : (n a b whole x : ℕ) → n < 255 → x < 65536 → Half n a b whole → Half (n + 1) ((a + x) % 65536) ((b + x / 256) % 65536) (whole + x)
+pub half-more : (n a b whole x : ℕ) → n < 255 → x < 65536 → Half n a b whole → Half (n + 1) ((a + x) % 65536) ((b + x / 256) % 65536) (whole + x)
 half-more n a b whole x few two h =
     record { rest = omega (arith, h .rest); under = omega (arith, h .under, h .small); near = omega (arith, h .near, h .small); small = omega (arith, h .small) }
 
-half-total : (n a b whole : ℕ) → n ≤ 255 → Half n a b whole → totalOf a b ≡ whole
+pub half-total : (n a b whole : ℕ) → n ≤ 255 → Half n a b whole → totalOf a b ≡ whole
 unfolding totalOf
 half-total n a b whole few h = omega (arith, h .rest, h .under, h .near)
 

@@ -1,9 +1,9 @@
--- Sums of nearly reduced products, row after row.
+-- Sums of products, row after row, each in two sums of 16 binary digits.
 use mathlib.Core.Path.{_≡_, sym, ap, ap₂, _∙_}
 use mathlib.Core.Bool.{true}
 use mathlib.Core.List.{List, [], _∷_}
-use Prim.Native.Nat.{ℕ, _+_, _-_, _*_, _%_, _≤_, _<_}
-use native.Mathlib.Nat.{zero-add, add-zero, mul-zero, zero-mul, zero-mod, zero-div, mod-mod, add-mod-mod, mod-add-mod, mul-le-mul, add-assoc}
+use Prim.Native.Nat.{ℕ, _+_, _-_, _*_, _/_, _%_, _≤_, _<_}
+use native.Mathlib.Nat.{zero-add, add-zero, mul-comm, zero-mod, mod-mod, mod-eq-of-lt, add-mod-mod, mod-add-mod, add-assoc}
 use native.Mathlib.Omega.{arith}
 use lib.ListN.{length, getD, take, drop, drop-of-length-le}
 use Rattle.lists.specs.Rows.{from}
@@ -17,34 +17,54 @@ use Rattle.lists.proofs.Padding.{getD-zeros}
 use Rattle.field.specs.Fields.{mul}
 use Rattle.field.specs.Inner.Sums.{dot}
 use Rattle.field.proofs.Meanings.{add-modulo, mul-modulo}
-use Rattle.kernel.specs.Inner.Lanes.{lanewise}
+use Rattle.field.proofs.Modular.{mod-mul-mod}
+use Rattle.kernel.specs.Inner.Halves.{wrapped, totalOf}
+use Rattle.kernel.proofs.Ratio.{byte-product}
 use Rattle.kernel.proofs.Lanes.{length-lanewise, getD-lanewise, lanewise-same}
 use Rattle.layout.specs.Layout.{byRow, laneOf}
 use Rattle.layout.proofs.Buffers.{length-lane, getD-lane}
 use Rattle.layout.proofs.Places.{held-by-row}
 use Rattle.row_sums.specs.Inner.Combined.{combined}
-use Rattle.tile_products.specs.Inner.Ratios.{ratioOf, nearlyOf, InScale}
-use Rattle.tile_products.proofs.Reduction.{nearly-below, nearly-same}
+use Rattle.row_sums.proofs.Halves.{Half, half-more, half-total}
+use Rattle.tile_products.specs.Inner.Ratios.{InScale}
 
 -- a weight of 0 adds nothing
-nearly-zero : (p x : ℕ) → nearlyOf p 0 x ≡ 0
-unfolding nearlyOf ratioOf
-nearly-zero p x = rw (zero-div p, mul-zero, zero-div, zero-mul)
+pub wrapped-same : (f : ℕ → ℕ) (acc : List ℕ) → length acc ≡ 64 → ((t : ℕ) → t < 64 → getD acc t 0 < 65536) → ((t : ℕ) → f t ≡ 0) → acc ≡ wrapped f acc
+unfolding wrapped
+wrapped-same f acc long low none =
+    sym (lanewise-same _ acc (λ t inside. rw (none t, add-zero) (mod-eq-of-lt (low t (omega (arith, long))))))
 
-pub none-added : (p c : ℕ) (row acc : List ℕ) → c ≡ 0 → acc ≡ lanewise (λ t y. y + nearlyOf p c (getD row t 0)) acc
-none-added p c row acc e =
-    sym (lanewise-same _ acc (λ t inside. rw (e, nearly-zero p (getD row t 0)) (add-zero (getD acc t 0))))
+length-wrapped : (f : ℕ → ℕ) (acc : List ℕ) → length (wrapped f acc) ≡ length acc
+unfolding wrapped
+length-wrapped f acc = length-lanewise _ acc
+
+getD-wrapped : (f : ℕ → ℕ) (acc : List ℕ) (t : ℕ) → t < length acc → getD (wrapped f acc) t 0 ≡ (getD acc t 0 + f t) % 65536
+unfolding wrapped
+getD-wrapped f acc t inside = getD-lanewise (λ t y. (y + f t) % 65536) acc t inside
+
+-- a sum modulo p by its parts
+pub total-parts : (p a r : ℕ) → (a % p * (256 % p) + r % p) % p ≡ (a * 256 + r) % p
+total-parts p a r =
+    add-mod-mod (a % p * (256 % p)) r p
+    ∙ sym (mod-add-mod (a % p * (256 % p)) p r)
+    ∙ ap (λ (n : ℕ). (n + r) % p) (mod-mul-mod a (256 % p) p ∙ ap (λ (n : ℕ). n % p) (mul-comm a (256 % p)) ∙ mod-mul-mod 256 a p ∙ ap (λ (n : ℕ). n % p) (mul-comm 256 a))
+    ∙ mod-add-mod (a * 256) p r
 
 module _ (p rows : ℕ) (ws s : List ℕ) where
   -- lane t of the sum over the rows from i on
   abbrev restAt : ℕ → ℕ → ℕ
   restAt i t = dot p (drop i (laneOf byRow rows 64 t s)) (drop i ws)
 
-  -- acc holds the sums over the rows below i, each product at most p
-  pub record Held (i : ℕ) (acc : List ℕ) : Type 0 where
-    pub long : length acc ≡ 64
-    pub low : (t : ℕ) → t < 64 → getD acc t 0 ≤ i * p
-    pub whole : (t : ℕ) → t < 64 → (getD acc t 0 + restAt i t) % p ≡ dot p (laneOf byRow rows 64 t s) ws
+  -- lane t of the sums over the rows below i: with the rows from i on it makes the whole
+  pub record Lane (i a b t : ℕ) : Type 0 where
+    pub sum : ℕ
+    pub half : Half i a b sum
+    pub whole : (sum + restAt i t) % p ≡ dot p (laneOf byRow rows 64 t s) ws
+
+  pub record Held (i : ℕ) (low up : List ℕ) : Type 0 where
+    pub long : length low ≡ 64
+    pub long-up : length up ≡ 64
+    pub lanes : (t : ℕ) → t < 64 → Lane i (getD low t 0) (getD up t 0) t
 
   module _ (some : 0 < p) where
     dot-cons : (y w : ℕ) (ys vs : List ℕ) → dot p (y ∷ ys) (w ∷ vs) ≡ (y * w % p + dot p ys vs) % p
@@ -58,22 +78,27 @@ module _ (p rows : ℕ) (ws s : List ℕ) where
     dot-reduced (y ∷ ys) (w ∷ vs) =
         ap (λ (n : ℕ). n % p) (dot-cons y w ys vs) ∙ mod-mod (y * w % p + dot p ys vs) p ∙ sym (dot-cons y w ys vs)
 
-    pub held-none : Held 0 (zeros 64)
+    pub held-none : Held 0 (zeros 64) (zeros 64)
     held-none =
         record {
           long = length-zeros 64;
-          low = λ t lane. rw (getD-zeros 64 t) (omega arith);
-          whole = λ t lane. rw (getD-zeros 64 t, zero-add) (dot-reduced (laneOf byRow rows 64 t s) ws);
+          long-up = length-zeros 64;
+          lanes = λ t lane.
+              rw (getD-zeros 64 t)
+              record {
+                sum = 0;
+                half = record { rest = omega arith; under = omega arith; near = omega arith; small = omega arith };
+                whole = rw zero-add (dot-reduced (laneOf byRow rows 64 t s) ws);
+              };
         }
 
-    one-more : (a n r y w : ℕ) → n % p ≡ y * w % p → (a + (y * w % p + r) % p) % p ≡ (a + n + r) % p
-    one-more a n r y w e =
+    one-more : (a r y w : ℕ) → (a + (y * w % p + r) % p) % p ≡ (a + y * w + r) % p
+    one-more a r y w =
         add-mod-mod a (y * w % p + r) p
-        ∙ ap (λ (k : ℕ). (a + (k + r)) % p) (sym e)
-        ∙ sym (add-mod-mod a (n % p + r) p)
-        ∙ ap (λ (k : ℕ). (a + k) % p) (mod-add-mod n p r)
-        ∙ add-mod-mod a (n + r) p
-        ∙ ap (λ (k : ℕ). k % p) (sym (add-assoc a n r))
+        ∙ sym (add-mod-mod a (y * w % p + r) p)
+        ∙ ap (λ (k : ℕ). (a + k) % p) (mod-add-mod (y * w) p r)
+        ∙ add-mod-mod a (y * w + r) p
+        ∙ ap (λ (k : ℕ). k % p) (sym (add-assoc a (y * w) r))
 
     module _ (a : InScale p rows ws) (long : rows * 64 ≤ length s) (bytes : allBelow 256 s ≡ true) (hp : p ≤ 256) (i : ℕ) (row : i < rows) where
       abbrev part : List ℕ
@@ -97,28 +122,41 @@ module _ (p rows : ℕ) (ws s : List ℕ) where
           ∙ dot-cons (getD (laneOf byRow rows 64 t s) i 0) w (drop (i + 1) (laneOf byRow rows 64 t s)) (drop (i + 1) ws)
           ∙ ap (λ (x : ℕ). (x * w % p + restAt (i + 1) t) % p) (sym (symbol-at t lane))
 
-      pub held-row : (acc : List ℕ) → Held i acc → Held (i + 1) (lanewise (λ t y. y + nearlyOf p w (getD part t 0)) acc)
-      held-row acc h =
+      product-fits : (t : ℕ) → t < 64 → getD part t 0 * w < 65536
+      product-fits t lane = byte-product (getD part t 0) w (symbol-byte t lane) (omega (arith, weight-below))
+
+      pub held-row : (low up : List ℕ) → Held i low up → Held (i + 1) (wrapped (λ t. getD part t 0 * w) low) (wrapped (λ t. getD part t 0 * w / 256) up)
+      held-row low up h =
           record {
-            long = length-lanewise _ acc ∙ h .long;
-            low = λ t lane.
-                rw (getD-lanewise (λ t y. y + nearlyOf p w (getD part t 0)) acc t (omega (arith, h .long)), row-after i p)
-                (omega (arith, h .low t lane, nearly-below p w hp weight-below (getD part t 0) (symbol-byte t lane)));
-            whole = λ t lane.
-                rw (getD-lanewise (λ t y. y + nearlyOf p w (getD part t 0)) acc t (omega (arith, h .long)))
-                (sym (one-more (getD acc t 0) (nearlyOf p w (getD part t 0)) (restAt (i + 1) t) (getD part t 0) w (nearly-same p w hp weight-below (getD part t 0) (symbol-byte t lane)))
-                ∙ ap (λ (n : ℕ). (getD acc t 0 + n) % p) (sym (rest-next t lane))
-                ∙ h .whole t lane);
+            long = length-wrapped _ low ∙ h .long;
+            long-up = length-wrapped _ up ∙ h .long-up;
+            lanes = λ t lane.
+                let now = h .lanes t lane in
+                let x : ℕ = getD part t 0 * w in
+                rw (getD-wrapped (λ t. getD part t 0 * w) low t (omega (arith, h .long)), getD-wrapped (λ t. getD part t 0 * w / 256) up t (omega (arith, h .long-up)))
+                record {
+                  sum = now .sum + x;
+                  half = half-more i (getD low t 0) (getD up t 0) (now .sum) x (omega (arith, a .few)) (product-fits t lane) (now .half);
+                  whole =
+                      sym (one-more (now .sum) (restAt (i + 1) t) (getD part t 0) w)
+                      ∙ ap (λ (n : ℕ). (now .sum + n) % p) (sym (rest-next t lane))
+                      ∙ now .whole;
+                };
           }
 
-      -- one product more fits 16 bits
-      pub room : (acc : List ℕ) → Held i acc → (t : ℕ) → t < 64 → getD acc t 0 + p < 65536
-      room acc h t lane = omega (arith, h .low t lane, row-inside rows i p row, mul-le-mul (a .few) hp)
+    -- both sums fit 16 binary digits
+    pub low-fits : (i : ℕ) (low up : List ℕ) → i ≤ 255 → Held i low up → (t : ℕ) → t < 64 → getD low t 0 < 65536
+    low-fits i low up few h t lane = omega (arith, h .lanes t lane .half .rest)
 
-    pub held-all : (i : ℕ) (acc : List ℕ) → i ≡ rows → Held i acc → from (λ t. getD acc t 0 % p) 0 64 ≡ combined byRow p rows 64 ws s
+    pub up-fits : (i : ℕ) (low up : List ℕ) → i ≤ 255 → Held i low up → (t : ℕ) → t < 64 → getD up t 0 < 65536
+    up-fits i low up few h t lane = omega (arith, h .lanes t lane .half .small)
+
+    pub held-all : (i : ℕ) (low up : List ℕ) → i ≡ rows → i ≤ 255 → Held i low up → from (λ t. totalOf (getD low t 0) (getD up t 0) % p) 0 64 ≡ combined byRow p rows 64 ws s
     unfolding combined dot
-    held-all i acc end h =
+    held-all i low up end few h =
         from-ext _ _ 0 64
-        (λ t low high.
+        (λ t least most.
         let lane : t < 64 = omega arith in
-        rw (drop-of-length-le (laneOf byRow rows 64 t s) {i = i} (omega (arith, length-lane byRow rows 64 t s)), add-zero) at (h .whole t lane))
+        let now = h .lanes t lane in
+        ap (λ (n : ℕ). n % p) (half-total i (getD low t 0) (getD up t 0) (now .sum) few (now .half))
+        ∙ rw (drop-of-length-le (laneOf byRow rows 64 t s) {i = i} (omega (arith, length-lane byRow rows 64 t s)), add-zero) at (now .whole))

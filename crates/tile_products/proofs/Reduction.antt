@@ -1,10 +1,9 @@
--- A product less what the ratio gives is the product modulo p, or p; a number of 16 binary digits modulo p.
+-- The ratio of a weight fits 16 binary digits; a number of 16 binary digits modulo p.
 use mathlib.Core.Path.{_≡_, sym, ap, _∙_}
 use Prim.Native.Nat.{ℕ, _+_, _-_, _*_, _/_, _%_, _≤_, _<_}
 use native.Mathlib.Nat.{mul-add, add-mul, mul-assoc, mul-comm, mul-le-mul, le-refl, mod-lt, div-add-mod', div-lt-iff-lt-mul, add-mul-mod-self-right}
 use native.Mathlib.Omega.{arith}
-use Rattle.kernel.proofs.Ratio.{byte-product}
-use Rattle.tile_products.specs.Inner.Ratios.{ratioOf, nearlyOf}
+use Rattle.tile_products.specs.Inner.Ratios.{ratioOf}
 
 -- x·c by the quotient of x·r, where r·p + d is c·65536
 parts : (p c r d x : ℕ) → r * p + d ≡ c * 65536 → x * c * 65536 ≡ x * r / 65536 * p * 65536 + x * r % 65536 * p + x * d
@@ -19,35 +18,6 @@ module _ (p c : ℕ) (hp : p ≤ 256) (hc : c < p) where
   pub ratio-fits : ratioOf p c < 65536
   unfolding ratioOf
   ratio-fits = div-lt-iff-lt-mul {k = p} (omega arith) .1 (omega arith)
-
-  module _ (x : ℕ) (hx : x < 256) where
-    abbrev d : ℕ
-    d = c * 65536 % p
-
-    whole : x * c * 65536 ≡ x * ratioOf p c / 65536 * p * 65536 + x * ratioOf p c % 65536 * p + x * d
-    unfolding ratioOf
-    whole = parts p c (c * 65536 / p) (c * 65536 % p) x (div-add-mod' (c * 65536) p)
-
-    pub nearly-low : x * ratioOf p c / 65536 * p ≤ x * c
-    nearly-low = omega (arith, whole)
-
-    pub nearly-fits : x * c < 65536
-    nearly-fits = byte-product x c hx (omega arith)
-
-    pub nearly-below : nearlyOf p c x ≤ p
-    unfolding nearlyOf
-    nearly-below =
-        let f : x * ratioOf p c % 65536 ≤ 65535 = omega arith in
-        let e : c * 65536 % p ≤ p - 1 = omega (arith, mod-lt (c * 65536) {m = p} (omega arith)) in
-        let b : x ≤ 255 = omega arith in
-        omega (arith, whole, mul-le-mul f (le-refl p), mul-le-mul b e)
-
-    pub nearly-same : nearlyOf p c x % p ≡ x * c % p
-    unfolding nearlyOf
-    nearly-same =
-        let q : ℕ = x * ratioOf p c / 65536 in
-        let all : x * c - q * p + q * p ≡ x * c = omega (arith, nearly-low) in
-        sym (add-mul-mod-self-right (x * c - q * p) q p) ∙ ap (λ (n : ℕ). n % p) all
 
 -- a number of 16 binary digits
 module _ (p x : ℕ) (hp : 2 ≤ p) (hx : x < 65536) where

@@ -1,5 +1,5 @@
-// Sums of rows times weights over a prime field whose symbols are bytes, for tiles of 64 lanes. Each product is reduced up to one p,
-// so that 255 of them fit 16 bits, and each sum is reduced once.
+// Sums of rows times weights over a prime field whose symbols are bytes, for tiles of 64 lanes. A product fits 16 binary digits. Two sums
+// of 16 digits are made of the products, modulo 65536 and of the upper bytes alone, and each sum is reduced once.
 ghost use mathlib.Core.Path.{_≡_};
 ghost use mathlib.Core.Bool.{true};
 ghost use Prim.Native.Nat.{ℕ, _+_, _*_, _/_, _%_, _≤_, _<_};
@@ -8,9 +8,11 @@ ghost use Rattle.lists.specs.Numbers.{allBelow};
 ghost use Rattle.lists.specs.Padded.{zeros};
 ghost use Rattle.lists.specs.Rows.{from};
 ghost use Rattle.layout.specs.Layout.{byRow};
-ghost use Rattle.kernel.specs.Inner.Lanes.{lanewise};
+ghost use Rattle.kernel.specs.Inner.Halves.{wrapped, totalOf};
 ghost use Rattle.row_sums.specs.Inner.Combined.{combined};
-ghost use Rattle.tile_products.specs.Inner.Ratios.{ratioOf, Ratios, nearlyOf, Scaled, InScale};
+ghost use Rattle.tile_products.specs.Inner.Ratios.{Ratios, Scaled, InScale};
+use std::num::wrapping_add_u16;
+use std::num::wrapping_sub_u16;
 
 fn sums() -> [u16; 64]
     ensures { λ r. ⌜ r ≡ zeros 64 ⌝ }
@@ -25,36 +27,29 @@ fn high(a: u16, b: u16) -> u16
     (a as u32 * b as u32 / 65536) as u16
 }
 
-// x·c modulo p, or p.
-fn nearly(p: u16, c: u16, ratio: u16, x: u8) -> u16
-    requires { ⌜ (p ≤ 256) × (c < p) × (ratio ≡ ratioOf p c) ⌝ }
-    ensures { λ r. ⌜ r ≡ nearlyOf p c x ⌝ }
-{
-    let a = x as u16;
-    a * c - high(a, ratio) * p
-}
-
-// A row times c added to the sums.
-fn add_product(p: u16, c: u16, ratio: u16, row: &[u8], acc: &mut [u16; 64])
-    requires { ⌜ (p ≤ 256) × (c < p) × (ratio ≡ ratioOf p c) × (length (now row) ≡ 64) × (length (now acc) ≡ 64) × ((t : ℕ) → t < 64 → getD (now acc) t 0 + p < 65536) ⌝ }
-    ensures { λ r. ⌜ now (acc .exit) ≡ lanewise (λ t y. y + nearlyOf p c (getD (now (row .entry)) t 0)) (now (acc .entry)) ⌝ }
+// A row times c added to the sums: to one modulo 65536, and its upper byte to another.
+fn add_product(c: u16, row: &[u8], low: &mut [u16; 64], up: &mut [u16; 64])
+    requires { ⌜ (c ≤ 256) × (length (now row) ≡ 64) × (length (now low) ≡ 64) × (length (now up) ≡ 64) ⌝ }
+    ensures { λ r. ⌜ (now (low .exit) ≡ wrapped (λ t. getD (now (row .entry)) t 0 * c) (now (low .entry))) × (now (up .exit) ≡ wrapped (λ t. getD (now (row .entry)) t 0 * c / 256) (now (up .entry))) ⌝ }
 {
     let mut t = 0;
     while t < 64 {
-        acc[t] = acc[t] + nearly(p, c, ratio, row[t]);
+        let x = row[t] as u16 * c;
+        low[t] = wrapping_add_u16(low[t], x);
+        up[t] = wrapping_add_u16(up[t], x / 256);
         t += 1;
     }
 }
 
 // The same, where a weight of 0 costs nothing.
-fn add_weighted(p: u16, c: u16, ratio: u16, row: &[u8], acc: &mut [u16; 64])
-    requires { ⌜ (p ≤ 256) × (c < p) × (ratio ≡ ratioOf p c) × (length (now row) ≡ 64) × (length (now acc) ≡ 64) × ((t : ℕ) → t < 64 → getD (now acc) t 0 + p < 65536) ⌝ }
-    ensures { λ r. ⌜ now (acc .exit) ≡ lanewise (λ t y. y + nearlyOf p c (getD (now (row .entry)) t 0)) (now (acc .entry)) ⌝ }
+fn add_weighted(c: u16, row: &[u8], low: &mut [u16; 64], up: &mut [u16; 64])
+    requires { ⌜ (c ≤ 256) × (length (now row) ≡ 64) × (length (now low) ≡ 64) × (length (now up) ≡ 64) × ((t : ℕ) → t < 64 → getD (now low) t 0 < 65536) × ((t : ℕ) → t < 64 → getD (now up) t 0 < 65536) ⌝ }
+    ensures { λ r. ⌜ (now (low .exit) ≡ wrapped (λ t. getD (now (row .entry)) t 0 * c) (now (low .entry))) × (now (up .exit) ≡ wrapped (λ t. getD (now (row .entry)) t 0 * c / 256) (now (up .entry))) ⌝ }
 {
     if c == 0 {
         return;
     }
-    add_product(p, c, ratio, row, acc);
+    add_product(c, row, low, up);
 }
 
 // x modulo p; m is 65536 / p.
@@ -65,13 +60,24 @@ fn rest(p: u16, m: u16, x: u16) -> u8
     kernel::prime::reduced(p, x - high(x, m) * p) as u8
 }
 
-fn store(p: u16, m: u16, acc: &[u16; 64], out: &mut [u8])
-    requires { ⌜ (2 ≤ p) × (p ≤ 256) × (m ≡ 65536 / p) × (length (now acc) ≡ 64) × (length (now out) ≡ 64) ⌝ }
-    ensures { λ r. ⌜ now (out .exit) ≡ from (λ t. getD (now (acc .entry)) t 0 % p) 0 64 ⌝ }
+// The sum of at most 255 products, from its sum modulo 65536 and the sum of their upper bytes, modulo p.
+fn total(p: u16, m: u16, low: u16, up: u16) -> u8
+    requires { ⌜ (2 ≤ p) × (p ≤ 256) × (m ≡ 65536 / p) ⌝ }
+    ensures { λ r. ⌜ r ≡ totalOf low up % p ⌝ }
+{
+    let lower = wrapping_sub_u16(low, up % 256 * 256);
+    let upper = rest(p, m, up) as u16 * (256 % p);
+    let sum = upper + rest(p, m, lower) as u16;
+    rest(p, m, sum)
+}
+
+fn store(p: u16, m: u16, low: &[u16; 64], up: &[u16; 64], out: &mut [u8])
+    requires { ⌜ (2 ≤ p) × (p ≤ 256) × (m ≡ 65536 / p) × (length (now low) ≡ 64) × (length (now up) ≡ 64) × (length (now out) ≡ 64) ⌝ }
+    ensures { λ r. ⌜ now (out .exit) ≡ from (λ t. totalOf (getD (now (low .entry)) t 0) (getD (now (up .entry)) t 0) % p) 0 64 ⌝ }
 {
     let mut t = 0;
     while t < 64 {
-        out[t] = rest(p, m, acc[t]);
+        out[t] = total(p, m, low[t], up[t]);
         t += 1;
     }
 }
@@ -108,14 +114,15 @@ pub fn output(p: u16, rows: usize, list: &[u16], tile: &[u8], out: &mut [u8])
     requires { ⌜ (2 ≤ p) × (p ≤ 256) × InScale p rows (now list) × (rows * 64 ≤ length (now tile)) × (length (now out) ≡ 64) ⌝ }
     ensures { λ r. ⌜ now (out .exit) ≡ combined byRow p rows 64 (now (list .entry)) (now (tile .entry)) ⌝ }
 {
-    let mut acc = sums();
+    let mut low = sums();
+    let mut up = sums();
     let m = (65536 / p as u32) as u16;
     let mut i: usize = 0;
     while i < rows {
         let start = i * 64;
         let end = start + 64;
-        add_weighted(p, list[i], list[rows + i], &tile[start..end], &mut acc);
+        add_weighted(list[i], &tile[start..end], &mut low, &mut up);
         i += 1;
     }
-    store(p, m, &acc, out);
+    store(p, m, &low, &up, out);
 }

@@ -1,4 +1,4 @@
--- Products over a prime field of bytes that are reduced up to one p, and the ratios by which they are.
+-- Weights over a prime field of bytes, and their ratios to the prime.
 use mathlib.Core.Path.{_≡_}
 use mathlib.Core.List.{List}
 use Prim.Native.Nat.{ℕ, _+_, _-_, _*_, _/_, _≤_, _<_}
@@ -7,10 +7,6 @@ use lib.ListN.{length, getD}
 -- 65536 times the quotient of c by p
 unfoldable pub ratioOf : ℕ → ℕ → ℕ
 ratioOf p c = c * 65536 / p
-
--- x·c less the multiple of p that the ratio gives: x·c modulo p, or p
-unfoldable pub nearlyOf : ℕ → ℕ → ℕ → ℕ
-nearlyOf p c x = x * c - x * ratioOf p c / 65536 * p
 
 -- the ratio of each weight at its place
 pub record Ratios (p : ℕ) (codes : List ℕ) : Type 0 where

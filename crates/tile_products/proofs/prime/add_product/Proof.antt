@@ -1,47 +1,80 @@
-use mathlib.Core.Path.{_≡_}
-use Prim.Native.Nat.{ℕ, _-_, _≤_, _<_, _+_}
-use lib.ListN.{length, getD}
-use Rattle.lists.proofs.Fill.{fills-next}
-use Rattle.kernel.proofs.Filling.{Changed, changed-none, changed-lane, changed-all}
-use Rattle.tile_products.specs.Inner.Ratios.{nearlyOf}
-use Rattle.tile_products.proofs.Reduction.{nearly-below}
+-- `add_product` meets its contract. The loop's invariant: the lanes below t hold their sums.
+use mathlib.Core.Path.{_≡_, refl}
+use mathlib.Core.List.{List}
+use Prim.Native.Nat.{ℕ, _+_, _-_, _*_, _/_, _%_, _≤_, _<_}
+use native.Mathlib.Nat.{mul-le-mul}
 use native.Mathlib.Omega.{arith}
+use borrow.Author.Needs.{needs}
+use lib.ListN.{length, getD, set}
+use Rattle.kernel.specs.Inner.Halves.{wrapped}
+use Rattle.kernel.proofs.Filling.{Changed, changed-none, changed-lane, changed-all}
 use Rattle.tile_products.proofs.prime.add_product.Statement.{statement}
 use Rattle.tile_products.proofs.prime.add_product.Tie as tie
 
+-- the lanes below t have their sums
+abbrev Adding : (ℕ → ℕ) → List ℕ → List ℕ → ℕ → Type 0
+Adding f start now t = (length start ≡ 64) × Changed (λ t y. (y + f t) % 65536) start now t
+
 abbrev Inv-loop : tie.InvT-loop
-Inv-loop p c ratio row acc₀ t₀ acc t = (t ≤ 64) × (length acc₀ ≡ 64) × ((t : ℕ) → t < 64 → getD acc₀ t 0 + p < 65536) × Changed (λ t y. y + nearlyOf p c (getD row t 0)) acc₀ acc t
+Inv-loop c row low₀ up₀ t₀ low up t = (t ≤ 64) × Adding (λ t. getD row t 0 * c) low₀ low t × Adding (λ t. getD row t 0 * c / 256) up₀ up t
 
 abbrev μ-loop : tie.MeasureT-loop
-μ-loop p c ratio row acc₀ t₀ acc t = 64 - t
+μ-loop c row low₀ up₀ t₀ low up t = 64 - t
+
+-- one lane more: y is what the lane holds now, x what was added
+added : (f : ℕ → ℕ) (start : List ℕ) {now : List ℕ} {t x y : ℕ} → t < 64 → Adding f start now t → y ≡ (getD now t 0 + x) % 65536 → x ≡ f t → Adding f start (set now t y) (t + 1)
+added f start inside (long, sums) is from = (long, rw (is, from) (changed-lane _ _ sums (rw long inside)))
+
+-- all lanes
+summed : (f : ℕ → ℕ) (start : List ℕ) {now : List ℕ} {t : ℕ} → 64 ≤ t → Adding f start now t → now ≡ wrapped f start
+unfolding wrapped
+summed f start done (long, sums) = changed-all _ _ sums (rw long done)
 
 loop-holds : tie.Need-loop-holds Inv-loop μ-loop
-loop-holds c = (omega arith, c .before .pre .4, c .before .pre .5, changed-none _ _)
+loop-holds c = let st : tie.Start Inv-loop μ-loop = search in (omega arith, (st .pre .2, changed-none _ _), (st .pre .3, changed-none _ _))
 
-mul-acc : tie.Need-mul-acc Inv-loop μ-loop
-mul-acc c = omega arith
+shared-slice-read-x : tie.Need-shared-slice-read-x Inv-loop μ-loop
+shared-slice-read-x c = omega arith
 
-element-copy-out-acc : tie.Need-element-copy-out-acc Inv-loop μ-loop
-element-copy-out-acc c = omega arith
+cast-x : tie.Need-cast-x Inv-loop μ-loop
+cast-x c = let at-loop : tie.At-loop Inv-loop μ-loop = search in omega (arith, c .shared-slice-known2 .given (at-loop .loop .t))
 
-shared-slice-read-nearly : tie.Need-shared-slice-read-nearly Inv-loop μ-loop
-shared-slice-read-nearly c = omega arith
+mul-x : tie.Need-mul-x Inv-loop μ-loop
+mul-x c =
+    let at-loop : tie.At-loop Inv-loop μ-loop = search in
+    let st : tie.Start Inv-loop μ-loop = search in
+    let byte : getD (st .args .row .now) (at-loop .loop .t) 0 ≤ 255 = omega (arith, c .shared-slice-known2 .given (at-loop .loop .t)) in
+    omega (arith, mul-le-mul byte (st .pre .0))
 
-nearly-requires : tie.Need-nearly-requires Inv-loop μ-loop
-nearly-requires c κs = let pre = c .before .before .before .before .before .pre in (pre .0, pre .1, pre .2)
+mul-wrapping-add-u16 : tie.Need-mul-wrapping-add-u16 Inv-loop μ-loop
+mul-wrapping-add-u16 c = omega arith
 
-add-acc : tie.Need-add-acc Inv-loop μ-loop
-add-acc c =
-    let start : tie.Start Inv-loop μ-loop = search in
-    let l = c .before .before .before .before .loop in
-    let a = start .args in
-    omega (arith, c .nearly .ensures, fills-next (l .inv .3) 0, l .inv .2 (l .t) (omega arith), nearly-below (a .p) (a .c) (start .pre .0) (start .pre .1) (getD (a .row .now) (l .t) 0) (omega (arith, c .before .shared-slice-known2 .given (l .t))))
+element-copy-out-wrapping-add-u16 : tie.Need-element-copy-out-wrapping-add-u16 Inv-loop μ-loop
+element-copy-out-wrapping-add-u16 c = omega arith
 
-mul-acc-2 : tie.Need-mul-acc-2 Inv-loop μ-loop
-mul-acc-2 c = omega arith
+wrapping-add-u16-requires : tie.Need-wrapping-add-u16-requires Inv-loop μ-loop
+wrapping-add-u16-requires c κs = search needs
 
-element-write-acc : tie.Need-element-write-acc Inv-loop μ-loop
-element-write-acc c = omega arith
+mul-low : tie.Need-mul-low Inv-loop μ-loop
+mul-low c = omega arith
+
+element-write-low : tie.Need-element-write-low Inv-loop μ-loop
+element-write-low c = omega arith
+
+mul-wrapping-add-u16-2 : tie.Need-mul-wrapping-add-u16-2 Inv-loop μ-loop
+mul-wrapping-add-u16-2 c = omega arith
+
+element-copy-out-wrapping-add-u16-2 : tie.Need-element-copy-out-wrapping-add-u16-2 Inv-loop μ-loop
+element-copy-out-wrapping-add-u16-2 c = omega arith
+
+wrapping-add-u16-requires-2 : tie.Need-wrapping-add-u16-requires-2 Inv-loop μ-loop
+wrapping-add-u16-requires-2 c κs = search needs
+
+mul-up : tie.Need-mul-up Inv-loop μ-loop
+mul-up c = omega arith
+
+element-write-up : tie.Need-element-write-up Inv-loop μ-loop
+element-write-up c = omega arith
 
 add-t : tie.Need-add-t Inv-loop μ-loop
 add-t c = omega arith
@@ -51,12 +84,22 @@ loop-less c = omega arith
 
 loop-again : tie.Need-loop-again Inv-loop μ-loop
 loop-again c =
-    let l = c .before .before .before .before .loop in
-    (omega arith, l .inv .1, l .inv .2, rw (c .nearly .ensures) (changed-lane _ _ (l .inv .3) (omega arith)))
+    let first : tie.After-wrapping-add-u16 Inv-loop μ-loop = search in
+    let at-loop : tie.At-loop Inv-loop μ-loop = search in
+    let in-loop : tie.In-loop Inv-loop μ-loop = search in
+    let inv = at-loop .loop .inv in
+    let inside = in-loop .loop-test .taken in (
+      omega (arith, inside),
+      added _ _ inside (inv .1) (first .wrapping-add-u16 .ensures) refl,
+      added _ _ inside (inv .2) (c .wrapping-add-u162 .ensures) refl,
+    )
 
 returns : tie.Need-returns Inv-loop μ-loop
-returns c = let l = c .before .loop in changed-all _ _ (l .inv .3) (omega arith)
+returns c =
+    let inv = c .before .loop .inv in
+    let done = c .loop-test .left in
+    (summed _ _ done (inv .1), summed _ _ done (inv .2))
 
 pub add-product-spec : {M : Type 1} → statement M
 add-product-spec =
-    tie.close (tie.spec Inv-loop μ-loop loop-holds mul-acc element-copy-out-acc shared-slice-read-nearly nearly-requires add-acc mul-acc-2 element-write-acc add-t loop-less loop-again returns)
+    tie.close (tie.spec Inv-loop μ-loop loop-holds shared-slice-read-x cast-x mul-x mul-wrapping-add-u16 element-copy-out-wrapping-add-u16 wrapping-add-u16-requires mul-low element-write-low mul-wrapping-add-u16-2 element-copy-out-wrapping-add-u16-2 wrapping-add-u16-requires-2 mul-up element-write-up add-t loop-less loop-again returns)

@@ -1,10 +1,15 @@
+use native.Mathlib.Nat.{mul-zero, zero-div}
 use borrow.Author.Needs.{needs}
-use Rattle.tile_products.proofs.Held.{none-added}
+use Rattle.tile_products.proofs.Held.{wrapped-same}
 use Rattle.tile_products.proofs.prime.add_weighted.Statement.{statement}
 use Rattle.tile_products.proofs.prime.add_weighted.Tie as tie
 
 returns : tie.Need-returns
-returns c = let a = c .before .before .args in none-added (a .p) (a .c) (a .row .now) (a .acc .now) (c .if1 .taken)
+returns c =
+    let st : tie.Start = search in (
+      wrapped-same _ _ (st .pre .2) (st .pre .4) (λ t. rw (c .if1 .taken) (mul-zero _)),
+      wrapped-same _ _ (st .pre .3) (st .pre .5) (λ t. rw (c .if1 .taken, mul-zero) (zero-div 256)),
+    )
 
 add-product-requires : tie.Need-add-product-requires
 add-product-requires c κs = search needs
