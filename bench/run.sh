@@ -30,3 +30,6 @@ target/bench/bench "${1:-15}" "${builds[@]}"
 
 gcc -std=gnu11 -O2 -Wall -Wextra -Iinclude -o target/bench/wide bench/wide.c target/lib/libbalanced.a
 target/bench/wide "${1:-15}"
+
+gcc -std=gnu11 -O2 -Wall -Wextra -Iinclude -o target/bench/traces bench/traces.c target/lib/libbalanced.a
+target/bench/traces "${1:-15}"

@@ -131,6 +131,12 @@ static inline const char *balanced_text(unsigned number) {
     }
 }
 
+/*
+ * The version of the library that the program runs with: 10000 times the first number of the version, 100 times the second, and the
+ * third, so 10000 for 1.0.0. BALANCED_VERSION is that of the header that it was compiled with.
+ */
+uint32_t balanced_version(void);
+
 /* The largest numbers of lanes and of nodes; the lengths of the buffers of balanced_plan. */
 #define BALANCED_MAX_LANES 4096
 #define BALANCED_MAX_NODES 255
@@ -230,6 +236,69 @@ uint8_t balanced_rebuild(const uint8_t *record, size_t record_len,
                          uint8_t *share, size_t share_len);
 
 /*
+ * Repair by traces: one node's share from one, two or four bits of each symbol of the other nodes, in place of k whole symbols. Records of kind 2
+ * with n-k of 16 or more have it. The target is the node whose share is wanted. Nodes that are missing besides are listed, and send nothing;
+ * nodes that are there may be listed, too, so that fewer bits move. With m nodes missing a node sends, of each symbol, b bits:
+ *
+ *   b = 1 where n - k - m is 128 or more, 2 where it is 64 or more, 4 where it is 16 or more
+ *
+ * What a node sends is b planes of (lanes + 7) / 8 bytes, the lowest bits first: bit t % 8 of byte t / 8 of a plane is the bit of lane t, and
+ * bits behind the last lane are 0. Every node and the target are told the same target and the same nodes missing, in any order.
+ */
+
+/*
+ * Whether there is a repair by traces, and what it takes.
+ *
+ *   missing  how many nodes are missing beside the target
+ *   bits     receives b, the bits of a symbol that each node sends: 1, 2 or 4
+ *   spare    receives how many further nodes may be missing with no more bits
+ *
+ * Returns 0 or one of 1 to 5, 17: the record is not of kind 2, or n - k - missing is below 16.
+ */
+uint8_t balanced_repair_plan(const uint8_t *record, size_t record_len,
+                             uint32_t missing,
+                             uint32_t *bits, uint32_t *spare);
+
+/*
+ * What a node sends to the target.
+ *
+ *   node     the node that sends, below n; neither the target nor missing
+ *   target   below n
+ *   missing  any number of different nodes below n, not the target; missing_len is 0 where none is
+ *   share    lanes symbols, read: what the node holds
+ *   bits     b * ((lanes + 7) / 8) bytes, written
+ *
+ * Where there is no repair by traces b is 0. So BALANCED_TRACES is met with no byte of room; ask balanced_repair_plan.
+ *
+ * Returns 0 or one of 1 to 5, 7 to 10, 17.
+ */
+uint8_t balanced_repair_bits(const uint8_t *record, size_t record_len,
+                             uint32_t lanes, uint32_t node, uint32_t target,
+                             const uint8_t *missing, size_t missing_len,
+                             const uint8_t *share, size_t share_len,
+                             uint8_t *bits, size_t bits_len);
+
+/*
+ * The target's share from what all other nodes sent.
+ *
+ *   target   below n
+ *   missing  as the nodes were told it
+ *   rows     what the n - 1 - missing_len nodes sent that are neither the target nor missing, one after the other in the order of their
+ *            numbers: b * ((lanes + 7) / 8) bytes each, read
+ *   share    lanes symbols, written
+ *
+ * From what nodes of one encoding sent it is that encoding's share, in every lane. Of bits that no encoding's nodes send nothing is said: where a
+ * node may be wrong, look at the block with balanced_belongs.
+ *
+ * Returns 0 or one of 1 to 5, 7 to 10, 17.
+ */
+uint8_t balanced_repair_share(const uint8_t *record, size_t record_len,
+                              uint32_t lanes, uint32_t target,
+                              const uint8_t *missing, size_t missing_len,
+                              const uint8_t *rows, size_t rows_len,
+                              uint8_t *share, size_t share_len);
+
+/*
  * Tests whether every lane of a block is a word of the code, that is the encoding of some message.
  *
  *   shares       n * lanes symbols, read
@@ -317,6 +386,25 @@ uint8_t balanced_to_nodes(const uint8_t *record, size_t record_len,
                           uint32_t lanes,
                           const uint8_t *by_lane, size_t by_lane_len,
                           uint8_t *by_node, size_t by_node_len);
+
+/*
+ * The same for the shares of k listed nodes, as balanced_recover and balanced_rebuild take them: what stands at i * lanes + t of `by_node`
+ * stands at t * k + i of `by_lane`, for each place i of the list and each lane t. So shares that come from k nodes, each by itself, are
+ * laid one after the other in the order of the list and rearranged by one call.
+ *
+ *   by_node  k * lanes symbols, read by balanced_listed_to_lanes, written by balanced_listed_to_nodes
+ *   by_lane  k * lanes symbols, written by balanced_listed_to_lanes, read by balanced_listed_to_nodes
+ *
+ * Returns 0 or one of 1 to 5, 7, 8.
+ */
+uint8_t balanced_listed_to_lanes(const uint8_t *record, size_t record_len,
+                                 uint32_t lanes,
+                                 const uint8_t *by_node, size_t by_node_len,
+                                 uint8_t *by_lane, size_t by_lane_len);
+uint8_t balanced_listed_to_nodes(const uint8_t *record, size_t record_len,
+                                 uint32_t lanes,
+                                 const uint8_t *by_lane, size_t by_lane_len,
+                                 uint8_t *by_node, size_t by_node_len);
 
 /*
  * Counts the messages by the nodes that hold something other than zero: counts[w] is the number of messages of k symbols

@@ -3,7 +3,7 @@
 # C and the large cases with the static library and with every shared build that the processor runs, under valgrind where that is
 # installed; and runs the Rust crate's tests, which compare every call with an independent implementation, on the shared build for
 # every x86-64 and on the widest, and the programs of its pages with the static library; and tests/install.sh, which installs and uses it.
-# Needs rt, gcc, make and cargo; no network.
+# Needs rt, Python 3, gcc, make and cargo; no network.
 set -euo pipefail
 cd "$(dirname "$0")/.."
 
@@ -75,40 +75,52 @@ example() { # COMMAND..
 }
 
 # blocks of 4,096 lanes on up to 255 nodes, held to another implementation's checksums, in 1 MiB of stack, as the manual has it
-large_cases() { # COMMAND..
-    (ulimit -s 1024 && "$@") >target/examples/large_cases.out
-    cmp target/examples/large_cases.out tests/reference/large_cases.out
+large=$(cd tests && echo large_*.c)
+large=${large//.c/}
+large_cases() { # PROGRAM-SUFFIX COMMAND..
+    local name
+    for name in $large; do
+        (ulimit -s 1024 && "${@:2}" "target/examples/$name$1") >"target/examples/$name.out"
+        cmp "target/examples/$name.out" "tests/reference/$name.out"
+    done
+}
+
+# the same with three lanes at most, every kind of record among them, for valgrind to see
+few_lanes() { # PROGRAM-SUFFIX COMMAND..
+    local name
+    for name in $large; do "${@:2}" "target/examples/$name$1" 3 >/dev/null; done
 }
 
 with_static_library() {
+    local name
     make -s -C examples/c
-    gcc -std=c99 -O2 "${strict[@]}" -o target/examples/large_cases tests/large_cases.c "$static"
+    for name in $large; do gcc -std=c99 -O2 "${strict[@]}" -o "target/examples/$name" "tests/$name.c" "$static"; done
     example "${checked[@]}" target/examples/store
-    large_cases target/examples/large_cases
-    # the same with three lanes at most, every kind of record among them, for valgrind to see
-    if [ ${#checked[@]} -gt 0 ]; then "${checked[@]}" target/examples/large_cases 3 >/dev/null; fi
+    large_cases ""
+    if [ ${#checked[@]} -gt 0 ]; then few_lanes "" "${checked[@]}"; fi
 }
 
 # every two parameters of one type are told apart: each call held to another implementation's, and made again with them exchanged
 parameters() {
     gcc -std=c99 -O2 "${strict[@]}" -o target/examples/parameters tests/parameters.c "$static"
+    python3 tests/reference/parameters.py >target/examples/parameters.expected
     "${checked[@]}" target/examples/parameters >target/examples/parameters.out
-    cmp target/examples/parameters.out tests/reference/parameters.out
+    cmp target/examples/parameters.out target/examples/parameters.expected
 }
 
 # with each build in the place of the one that glibc would pick
 with_shared_libraries() {
-    local build on
+    local build on name
     gcc -std=c99 -O2 "${strict[@]}" -o target/examples/store_shared examples/c/store.c -L"$lib" -lbalanced
-    gcc -std=c99 -O2 "${strict[@]}" -o target/examples/large_cases_shared tests/large_cases.c -L"$lib" -lbalanced
+    for name in $large; do gcc -std=c99 -O2 "${strict[@]}" -o "target/examples/${name}_shared" "tests/$name.c" -L"$lib" -lbalanced; done
     for build in "${builds[@]}"; do
         on=(env LD_PRELOAD="$build/libbalanced.so.1")
         example "${on[@]}" target/examples/store_shared
-        large_cases "${on[@]}" target/examples/large_cases_shared
+        large_cases _shared "${on[@]}"
         if [ ${#checked[@]} -eq 0 ]; then continue; fi
         case $build in
             *v4) echo "valgrind has no AVX-512: the build for x86-64-v4 is not run under it" ;;
-            *) "${on[@]}" "${checked[@]}" target/examples/large_cases_shared 3 >/dev/null ;;
+            *) few_lanes _shared "${on[@]}" "${checked[@]}" ;;
         esac
     done
     # left to itself, glibc picks the widest

@@ -1,51 +1,9 @@
 /* Large blocks through the C interface, by checksums: which k are even with n = 255; blocks with the largest n and the largest number of
    lanes, which are encoded, updated, rearranged, damaged, set right, recovered from k of their nodes and rebuilt; and a block with one lane too many.
    tests/reference/large_cases.py prints the same lines by another implementation. */
-#include "balanced.h"
-#include <stdio.h>
-#include <stdlib.h>
-#include <string.h>
+#include "large.h"
 
-enum { MOST = 2 * BALANCED_MAX_NODES * (BALANCED_MAX_LANES + 1) };
-static uint8_t message[MOST], shares[MOST], before[MOST], held[MOST], back[MOST], nodes[BALANCED_MAX_NODES];
-
-/* A record, the largest symbol of its field, n, k and the number of lanes. */
-struct code {
-    uint8_t record[7];
-    size_t length;
-    unsigned top, n, k;
-    uint32_t lanes;
-};
-
-static uint64_t checksum(const uint8_t *s, size_t size) {
-    uint64_t total = 0;
-    for (size_t i = 0; i < size; i++) total = (total * 257 + s[i] + 1) % 4294967291u;
-    return total;
-}
-
-/* The bytes of a symbol, and of a message, of all shares and of one. */
-static size_t width(const struct code *c) { return c->top < 256 ? 1 : 2; }
-static size_t message_size(const struct code *c) { return (size_t)c->k * c->lanes * width(c); }
-static size_t shares_size(const struct code *c) { return (size_t)c->n * c->lanes * width(c); }
-static size_t share_size(const struct code *c) { return c->lanes * width(c); }
-
-/* Symbol i of a buffer, high byte first. */
-static uint32_t symbol_at(const struct code *c, const uint8_t *s, size_t i) {
-    return width(c) == 1 ? s[i] : s[2 * i] * 256u + s[2 * i + 1];
-}
-static void put_symbol(const struct code *c, uint8_t *s, size_t i, uint32_t x) {
-    if (width(c) == 2) s[2 * i] = (uint8_t)(x / 256);
-    s[width(c) * (i + 1) - 1] = (uint8_t)x;
-}
-
-/* Symbols from a linear congruential generator's states. */
-static void fill(const struct code *c) {
-    uint64_t x = 1, low = width(c) == 1 ? 65536 : 256;
-    for (size_t i = 0; i < (size_t)c->k * c->lanes; i++) {
-        x = (x * 1103515245u + 12345) % 2147483648u;
-        put_symbol(c, message, i, (uint32_t)(x / low % (c->top + 1)));
-    }
-}
+static uint8_t before[MOST], held[MOST], back[MOST], nodes[BALANCED_MAX_NODES];
 
 static void even(void) {
     uint8_t numbers[BALANCED_PLAN_NUMBERS], shifts[BALANCED_PLAN_SHIFTS], firsts[BALANCED_PLAN_FIRSTS];
@@ -66,12 +24,10 @@ static void refused(const struct code *c, uint8_t number) {
 }
 
 static void encode(const struct code *c) {
-    memset(shares, 0, shares_size(c));
+    uint8_t number = encode_block(c);
     memset(before, 0, shares_size(c));
-    printf("block");
-    for (size_t i = 0; i < c->length; i++) printf(" %u", c->record[i]);
-    printf(" lanes %u message sum %llu\nencode: ", (unsigned)c->lanes, (unsigned long long)checksum(message, message_size(c)));
-    uint8_t number = balanced_encode(c->record, c->length, c->lanes, message, message_size(c), shares, shares_size(c));
+    print_code(c);
+    printf("encode: ");
     if (number != BALANCED_OK) refused(c, number);
     else printf("done, sum %llu\n", (unsigned long long)checksum(shares, shares_size(c)));
 }
@@ -97,12 +53,18 @@ static void update(const struct code *c, unsigned symbol, uint32_t lane, unsigne
     else printf("altered %u, sum %llu\n", (unsigned)altered, (unsigned long long)checksum(shares, shares_size(c)));
 }
 
+/* What k nodes hold, as each keeps it by itself, one after the other; then lane after lane, as Recover and Rebuild take it. */
+static void gather(const struct code *c) {
+    size_t part = share_size(c);
+    balanced_to_nodes(c->record, c->length, c->lanes, shares, shares_size(c), before, shares_size(c));
+    for (unsigned i = 0; i < c->k; i++) memcpy(back + i * part, before + nodes[i] * part, part);
+    balanced_listed_to_lanes(c->record, c->length, c->lanes, back, message_size(c), held, message_size(c));
+}
+
 /* The message from k nodes, `first` and every `step` further, and node 0 from them. */
 static void restore(const struct code *c, unsigned first, unsigned step) {
-    for (unsigned i = 0; i < c->k; i++) {
-        nodes[i] = (uint8_t)((first + i * step) % c->n);
-        for (size_t t = 0; t < c->lanes; t++) put_symbol(c, held, t * c->k + i, symbol_at(c, shares, t * c->n + nodes[i]));
-    }
+    for (unsigned i = 0; i < c->k; i++) nodes[i] = (uint8_t)((first + i * step) % c->n);
+    gather(c);
     uint8_t one = balanced_recover(c->record, c->length, c->lanes, nodes, c->k, held, message_size(c), back, message_size(c));
     printf("from node %u by %u: ", first, step);
     if (one != BALANCED_OK) printf("refused %u ", one);
@@ -170,7 +132,6 @@ static void correct_lanes(const struct code *c) {
 }
 
 static void block(const struct code *c) {
-    fill(c);
     encode(c);
     belongs(c);
     update(c, 0, 0, 1);
@@ -188,25 +149,7 @@ static void block(const struct code *c) {
     correct_lanes(c);
 }
 
-/* With an argument: no more lanes than that, as for a slow run under valgrind. */
 int main(int count, char **words) {
-    uint32_t most = count > 1 ? (uint32_t)atoi(words[1]) : BALANCED_MAX_LANES + 1;
-    static const struct code codes[] = {
-        { { 2, 2, 255, 120 }, 4, 255, 255, 120, 4096 },
-        { { 1, 251, 6, 250, 125 }, 5, 250, 250, 125, 4096 },
-        { { 2, 32, 51, 18 }, 4, 255, 51, 18, 1000 },
-        { { 1, 251, 246, 50, 25 }, 5, 250, 50, 25, 1001 },
-        { { 2, 2, 255, 119 }, 4, 255, 255, 119, 1000 },
-        { { 1, 251, 250, 2, 1 }, 5, 250, 2, 1, 4097 },
-        { { 3, 255, 241, 15, 41, 16, 8 }, 7, 65520, 16, 8, 4096 },
-        { { 3, 252, 1, 6, 145, 252, 126 }, 7, 64512, 252, 126, 40 },
-        { { 3, 1, 1, 0, 2, 16, 5 }, 7, 256, 16, 5, 4097 },
-    };
     even();
-    for (size_t i = 0; i < sizeof codes / sizeof *codes; i++) {
-        struct code c = codes[i];
-        if (c.lanes > most) c.lanes = most;
-        block(&c);
-    }
-    return 0;
+    return each_code(count, words, block);
 }

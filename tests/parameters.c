@@ -10,8 +10,8 @@
 #include <sys/mman.h>
 #include <unistd.h>
 
-enum { ROOM = 1024, MOST = 10 };
-enum type { BYTES, PAIRS, WORDS, LENGTH, NUMBER };
+enum { ROOM = 1024, MOST = 12 };
+enum type { BYTES, PAIRS, WORDS, SIZES, LENGTH, NUMBER };
 enum { P = 271, ROOT = 268, N = 15, K = 10, LANES = 6, SYMBOL = 4, LANE = 2, TARGET = 12, NEW = 200, WRONG = 77 };
 enum { RECORD_LEN = 7, W = 2, AT = SYMBOL * LANES + LANE, OLD = (17 * AT * AT + 5 * AT + 1) % P };
 
@@ -20,6 +20,7 @@ static struct memory {
     uint8_t record[ROOM], one[ROOM], two[ROOM], three[ROOM];
     uint16_t pairs[ROOM];
     uint32_t first[ROOM], second[ROOM], third[ROOM];
+    size_t size;
 } lent, start, straight;
 
 /* An argument: where a buffer begins, or a number. A name stands with what a call writes. */
@@ -54,6 +55,13 @@ static uint8_t run_recover(const struct argument *a) {
 static uint8_t run_rebuild(const struct argument *a) {
     return balanced_rebuild(a[0].at, a[1].value, u32(a + 2), a[3].at, a[4].value, a[5].at, a[6].value, u32(a + 7), a[8].at, a[9].value);
 }
+static uint8_t run_repair_plan(const struct argument *a) { return balanced_repair_plan(a[0].at, a[1].value, u32(a + 2), a[3].at, a[4].at); }
+static uint8_t run_repair_bits(const struct argument *a) {
+    return balanced_repair_bits(a[0].at, a[1].value, u32(a + 2), u32(a + 3), u32(a + 4), a[5].at, a[6].value, a[7].at, a[8].value, a[9].at, a[10].value);
+}
+static uint8_t run_repair_share(const struct argument *a) {
+    return balanced_repair_share(a[0].at, a[1].value, u32(a + 2), u32(a + 3), a[4].at, a[5].value, a[6].at, a[7].value, a[8].at, a[9].value);
+}
 static uint8_t run_belongs(const struct argument *a) {
     return balanced_belongs(a[0].at, a[1].value, u32(a + 2), a[3].at, a[4].value, a[5].at);
 }
@@ -71,6 +79,12 @@ static uint8_t run_to_lanes(const struct argument *a) {
 }
 static uint8_t run_to_nodes(const struct argument *a) {
     return balanced_to_nodes(a[0].at, a[1].value, u32(a + 2), a[3].at, a[4].value, a[5].at, a[6].value);
+}
+static uint8_t run_listed_to_lanes(const struct argument *a) {
+    return balanced_listed_to_lanes(a[0].at, a[1].value, u32(a + 2), a[3].at, a[4].value, a[5].at, a[6].value);
+}
+static uint8_t run_listed_to_nodes(const struct argument *a) {
+    return balanced_listed_to_nodes(a[0].at, a[1].value, u32(a + 2), a[3].at, a[4].value, a[5].at, a[6].value);
 }
 static uint8_t run_weights(const struct argument *a) { return balanced_weights(a[0].at, a[1].value, a[2].at, a[3].value); }
 static uint8_t run_start(const struct argument *a) { return balanced_roster_start(a[0].at, a[1].value, a[2].at, a[3].value); }
@@ -99,6 +113,16 @@ static void set_shares(void) {
 static void set_listed(void) {
     for (unsigned i = 0; i < K; i++) lent.one[i] = (uint8_t)((7 * i + 3) % N);
     set_symbols(lent.two, K * LANES);
+}
+/* 51 nodes over bytes, of which two are missing beside the target: four bits of a symbol, in four planes of three bytes for 20 lanes */
+enum { BYTE_NODES = 51, BYTE_RECORD_LEN = 4, MISSING = 2, BYTE_LANES = 20, BYTE_NODE = 5, SENT = 4 * 3, ROWS = (BYTE_NODES - 1 - MISSING) * SENT };
+static void set_repair(void) {
+    static const uint8_t record[BYTE_RECORD_LEN] = { 2, 32, BYTE_NODES, 18 };
+    memset(lent.record, 0, ROOM);
+    memcpy(lent.record, record, sizeof record);
+    lent.one[0] = 7;
+    lent.one[1] = 44;
+    for (unsigned i = 0; i < ROWS; i++) lent.two[i] = (uint8_t)(13 * i * i + 7 * i + 1);
 }
 /* two lanes that lie one update apart */
 static void set_two_lanes(void) {
@@ -129,6 +153,7 @@ static void set_job(void) {
 }
 
 #define RECORD { BYTES, lent.record, 0, NULL }, { LENGTH, NULL, RECORD_LEN, NULL }
+#define BYTE_RECORD { BYTES, lent.record, 0, NULL }, { LENGTH, NULL, BYTE_RECORD_LEN, NULL }
 #define READ(buffer, length) { BYTES, lent.buffer, 0, NULL }, { LENGTH, NULL, length, NULL }
 #define WRITTEN(type, buffer, length, name) { type, lent.buffer, 0, name }, { LENGTH, NULL, length, NULL }
 #define VALUE(x) { NUMBER, NULL, x, NULL }
@@ -139,12 +164,17 @@ static const struct call calls[] = {
     { "update", run_update, set_shares, { RECORD, VALUE(LANES), VALUE(SYMBOL), VALUE(LANE), VALUE(OLD), VALUE(NEW), WRITTEN(BYTES, one, W * N * LANES, "shares"), GIVES(first, "altered") } },
     { "recover", run_recover, set_listed, { RECORD, VALUE(LANES), READ(one, K), READ(two, W * K * LANES), WRITTEN(BYTES, three, W * K * LANES, "message") } },
     { "rebuild", run_rebuild, set_listed, { RECORD, VALUE(LANES), READ(one, K), READ(two, W * K * LANES), VALUE(TARGET), WRITTEN(BYTES, three, W * LANES, "share") } },
+    { "repair_plan", run_repair_plan, set_repair, { BYTE_RECORD, VALUE(MISSING), GIVES(first, "bits"), GIVES(second, "spare") } },
+    { "repair_bits", run_repair_bits, set_repair, { BYTE_RECORD, VALUE(BYTE_LANES), VALUE(BYTE_NODE), VALUE(TARGET), READ(one, MISSING), READ(two, BYTE_LANES), WRITTEN(BYTES, three, SENT, "bits") } },
+    { "repair_share", run_repair_share, set_repair, { BYTE_RECORD, VALUE(BYTE_LANES), VALUE(TARGET), READ(one, MISSING), READ(two, ROWS), WRITTEN(BYTES, three, BYTE_LANES, "share") } },
     { "belongs", run_belongs, set_damaged, { RECORD, VALUE(LANES), READ(one, W * N * LANES), GIVES(first, "first_wrong") } },
     { "find_update", run_find_update, set_two_lanes, { RECORD, READ(one, W * N), READ(two, W * N), GIVES(first, "answer"), GIVES(second, "symbol"), GIVES(third, "amount") } },
     { "correct", run_correct, set_damaged, { RECORD, VALUE(LANES), WRITTEN(BYTES, one, W * N * LANES, "shares"), GIVES(first, "altered") } },
     { "mends", run_mends, set_one_damaged, { RECORD, READ(one, W * N), WRITTEN(BYTES, two, N, "nodes"), WRITTEN(BYTES, three, W * N, "symbols"), GIVES(first, "count") } },
     { "to_lanes", run_to_lanes, set_plain, { RECORD, VALUE(LANES), READ(one, W * N * LANES), WRITTEN(BYTES, two, W * N * LANES, "by_lane") } },
     { "to_nodes", run_to_nodes, set_plain, { RECORD, VALUE(LANES), READ(one, W * N * LANES), WRITTEN(BYTES, two, W * N * LANES, "by_node") } },
+    { "listed_to_lanes", run_listed_to_lanes, set_plain, { RECORD, VALUE(LANES), READ(one, W * K * LANES), WRITTEN(BYTES, two, W * K * LANES, "by_lane") } },
+    { "listed_to_nodes", run_listed_to_nodes, set_plain, { RECORD, VALUE(LANES), READ(one, W * K * LANES), WRITTEN(BYTES, two, W * K * LANES, "by_node") } },
     { "weights", run_weights, set_small, { RECORD, WRITTEN(WORDS, first, N + 1, "counts") } },
     { "roster_start", run_start, NULL, { RECORD, WRITTEN(BYTES, one, BALANCED_ROSTER, "roster") } },
     { "roster_leave", run_leave, set_roster, { RECORD, WRITTEN(BYTES, one, BALANCED_ROSTER, "roster"), VALUE(LANE) } },
@@ -175,6 +205,7 @@ static void prepare(const struct call *c) {
 
 static unsigned long number_at(const struct argument *a, size_t i) {
     if (a->type == BYTES) return ((const uint8_t *)a->at)[i];
+    if (a->type == SIZES) return (unsigned long)((const size_t *)a->at)[i];
     return a->type == PAIRS ? ((const uint16_t *)a->at)[i] : (unsigned long)((const uint32_t *)a->at)[i];
 }
 
@@ -218,7 +249,7 @@ static uint8_t *guarded(size_t size, int at_end) {
 
 /* The bytes of the memory that an argument leads to. */
 static size_t size_of(const struct call *c, size_t i) {
-    static const size_t item[] = { [BYTES] = 1, [PAIRS] = sizeof(uint16_t), [WORDS] = sizeof(uint32_t) };
+    static const size_t item[] = { [BYTES] = 1, [PAIRS] = sizeof(uint16_t), [WORDS] = sizeof(uint32_t), [SIZES] = sizeof(size_t) };
     size_t count = i + 1 < MOST && c->given[i + 1].type == LENGTH ? c->given[i + 1].value : 1;
     return c->given[i].at ? count * item[c->given[i].type] : 0;
 }

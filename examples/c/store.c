@@ -1,7 +1,7 @@
 /*
- * Cuts the bytes of a file into blocks, of which the last is padded with zeros, encodes each, drops n-k shares of it, recovers
- * the message from the k shares that are left, and compares. Then it rebuilds the dropped shares, updates one symbol in
- * place, and puts the shares node after node and back. A file of a whole number of blocks has no padding, and an empty one no block.
+ * Cuts the bytes of a file into blocks, of which the last is padded with zeros, encodes each, and keeps its shares node after node, as n
+ * nodes would. It drops n-k of them, recovers the message from the k that are left, and compares. Then it rebuilds every share,
+ * and updates one symbol in place. A file of a whole number of blocks has no padding, and an empty one no block.
  *
  *     make -C examples/c check
  */
@@ -21,7 +21,9 @@ static void fail(const char *what, unsigned number) {
 }
 
 static void accepted(const char *call, uint8_t number) {
-    if (number != BALANCED_OK) fail(call, number);
+    if (number == BALANCED_OK) return;
+    fprintf(stderr, "store: %s: %s\n", call, balanced_text(number));
+    exit(1);
 }
 
 static void *room(size_t size) {
@@ -44,32 +46,37 @@ static uint8_t *read_file(const char *path, size_t *size) {
     return bytes;
 }
 
-/* One block: the message is encoded, all but k shares are dropped, and everything is got back from those. */
-static void keep(size_t n, size_t k, size_t block, const uint8_t *message) {
-    uint8_t *shares = room(n * LANES), *left = room(k * LANES), *nodes = room(k);
-    uint8_t *got = room(k * LANES), *share = room(LANES);
+/* The shares of a message, node after node: what node j keeps stands at j * LANES. */
+static void lay_out(size_t n, size_t k, const uint8_t *message, uint8_t *kept) {
+    uint8_t *shares = room(n * LANES);
     uint32_t wrong;
-    size_t i, j, t;
-
     accepted("encode", balanced_encode(record, sizeof record, LANES, message, k * LANES, shares, n * LANES));
     accepted("belongs", balanced_belongs(record, sizeof record, LANES, shares, n * LANES, &wrong));
     if (wrong != LANES) fail("an encoded lane is no word", wrong);
+    accepted("to nodes", balanced_to_nodes(record, sizeof record, LANES, shares, n * LANES, kept, n * LANES));
+    free(shares);
+}
+
+/* One block: all but k nodes are dropped, and everything is got back from those. */
+static void keep(size_t n, size_t k, size_t block, const uint8_t *message, const uint8_t *kept) {
+    uint8_t *sent = room(k * LANES), *left = room(k * LANES), *nodes = room(k);
+    uint8_t *got = room(k * LANES), *share = room(LANES);
+    size_t i, j;
 
     /* the k nodes that are left: others in every block, in no order (7 and 15 have no common divisor) */
     for (i = 0; i < k; i++) {
         nodes[i] = (uint8_t)((block + 7 * i) % n);
-        for (t = 0; t < LANES; t++) left[t * k + i] = shares[t * n + nodes[i]];
+        memcpy(sent + i * LANES, kept + nodes[i] * LANES, LANES);
     }
-
+    accepted("listed to lanes", balanced_listed_to_lanes(record, sizeof record, LANES, sent, k * LANES, left, k * LANES));
     accepted("recover", balanced_recover(record, sizeof record, LANES, nodes, k, left, k * LANES, got, k * LANES));
     if (memcmp(got, message, k * LANES) != 0) fail("the recovered message differs", (unsigned)block);
 
     for (j = 0; j < n; j++) {
         accepted("rebuild", balanced_rebuild(record, sizeof record, LANES, nodes, k, left, k * LANES, (uint32_t)j, share, LANES));
-        for (t = 0; t < LANES; t++)
-            if (share[t] != shares[t * n + j]) fail("a rebuilt share differs", (unsigned)j);
+        if (memcmp(share, kept + j * LANES, LANES) != 0) fail("a rebuilt share differs", (unsigned)j);
     }
-    free(shares);
+    free(sent);
     free(left);
     free(nodes);
     free(got);
@@ -77,43 +84,27 @@ static void keep(size_t n, size_t k, size_t block, const uint8_t *message) {
 }
 
 /* A symbol that is changed in place, and one that is changed before encoding, give the same shares. */
-static void change(size_t n, size_t k, size_t d, uint8_t *message) {
+static void change(size_t n, size_t k, size_t d, uint8_t *message, uint8_t *kept) {
     uint8_t *shares = room(n * LANES), *anew = room(n * LANES);
     uint8_t old = message[3 * LANES + 5], new = (uint8_t)(old + 1);
     uint32_t altered;
 
-    accepted("encode", balanced_encode(record, sizeof record, LANES, message, k * LANES, shares, n * LANES));
+    accepted("to lanes", balanced_to_lanes(record, sizeof record, LANES, kept, n * LANES, shares, n * LANES));
     accepted("update", balanced_update(record, sizeof record, LANES, 3, 5, old, new, shares, n * LANES, &altered));
+    accepted("to nodes", balanced_to_nodes(record, sizeof record, LANES, shares, n * LANES, kept, n * LANES));
     message[3 * LANES + 5] = new;
-    accepted("encode", balanced_encode(record, sizeof record, LANES, message, k * LANES, anew, n * LANES));
-    if (memcmp(shares, anew, n * LANES) != 0) fail("the updated shares differ", 0);
+    lay_out(n, k, message, anew);
+    if (memcmp(kept, anew, n * LANES) != 0) fail("the updated shares differ", 0);
     if (altered != d) fail("another number of nodes was altered", altered);
     free(shares);
     free(anew);
-}
-
-/* Shares node after node, as blocks of an older store stand, lane after lane, and back. */
-static void rearrange(size_t n, size_t k, const uint8_t *message) {
-    uint8_t *shares = room(n * LANES), *by_node = room(n * LANES), *by_lane = room(n * LANES);
-    size_t j, t;
-
-    accepted("encode", balanced_encode(record, sizeof record, LANES, message, k * LANES, shares, n * LANES));
-    accepted("to nodes", balanced_to_nodes(record, sizeof record, LANES, shares, n * LANES, by_node, n * LANES));
-    for (j = 0; j < n; j++)
-        for (t = 0; t < LANES; t++)
-            if (by_node[j * LANES + t] != shares[t * n + j]) fail("a share stands elsewhere", (unsigned)j);
-    accepted("to lanes", balanced_to_lanes(record, sizeof record, LANES, by_node, n * LANES, by_lane, n * LANES));
-    if (memcmp(by_lane, shares, n * LANES) != 0) fail("shares rearranged twice differ", 0);
-    free(shares);
-    free(by_node);
-    free(by_lane);
 }
 
 int main(int argc, char **argv) {
     uint8_t numbers[BALANCED_PLAN_NUMBERS], shifts[BALANCED_PLAN_SHIFTS], firsts[BALANCED_PLAN_FIRSTS];
     uint16_t base[BALANCED_PLAN_BASE];
     size_t n, k, d, size, blocks, i;
-    uint8_t *bytes, *message;
+    uint8_t *bytes, *message, *kept;
 
     if (argc != 2) {
         fprintf(stderr, "usage: store FILE\n");
@@ -127,17 +118,19 @@ int main(int argc, char **argv) {
     bytes = read_file(argv[1], &size);
     blocks = (size + k * LANES - 1) / (k * LANES);
     message = room(k * LANES);
+    kept = room(n * LANES);
     for (i = 0; i < blocks; i++) {
         size_t start = i * k * LANES, part = size - start < k * LANES ? size - start : k * LANES;
         memset(message, 0, k * LANES);
         memcpy(message, bytes + start, part);
-        keep(n, k, i, message);
-        change(n, k, d, message);
-        rearrange(n, k, message);
+        lay_out(n, k, message, kept);
+        keep(n, k, i, message, kept);
+        change(n, k, d, message, kept);
     }
     printf("%lu bytes in %lu blocks: %lu of %lu shares dropped, every message and share got back\n", (unsigned long)size,
            (unsigned long)blocks, (unsigned long)(n - k), (unsigned long)n);
     free(bytes);
     free(message);
+    free(kept);
     return 0;
 }

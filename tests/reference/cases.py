@@ -10,6 +10,7 @@ from balanced import (
 from data import block, refused
 from rearranged import listed_to_lanes, listed_to_nodes
 from roster import History
+from traces import repair_bits, repair_plan, repair_share
 from words import NotRead, is_comment, read_line
 
 CALLS = {
@@ -32,10 +33,13 @@ CALLS = {
     "to_nodes": ["lanes", "shares", "room"],
     "listed_to_lanes": ["lanes", "shares", "room"],
     "listed_to_nodes": ["lanes", "shares", "room"],
+    "repair_bits": ["lanes", "node", "target", "missing", "share", "room"],
+    "repair_share": ["lanes", "target", "missing", "rows", "room"],
+    "repair_plan": ["count"],
 }
 WRITERS = {
     "encode": encode, "recover": recover, "rebuild": rebuild, "to_lanes": to_lanes, "to_nodes": to_nodes,
-    "listed_to_lanes": listed_to_lanes, "listed_to_nodes": listed_to_nodes,
+    "listed_to_lanes": listed_to_lanes, "listed_to_nodes": listed_to_nodes, "repair_bits": repair_bits, "repair_share": repair_share,
 }
 HISTORY = History()  # of the roster that the calls on a roster share
 
@@ -85,6 +89,9 @@ def answer(name, record, arguments):
     if name == "mends":
         number, mends = single_mends(record, *arguments)
         return refused(number) if number else listed(mends, *arguments[1:])
+    if name == "repair_plan":
+        number, plan = repair_plan(record, *arguments)
+        return f"refused {number}" if number else f"bits {plan[0]} spare {plan[1]}"
     if name == "weights":
         number, counts = weights(record, *arguments)
         return refused(number) if number else "done" + "".join(f" {count}" for count in counts)

@@ -11,6 +11,7 @@ mkdir -p "$work"/{sheet,compare,weights,sheet_cases,small_plans,cases}
 for file in $(cd "$work" && find . -type f); do
     cmp "$work/$file" "$crates/$file"
 done
-python3 "$here/large_cases.py" | cmp - "$here/large_cases.out"
-python3 "$here/parameters.py" | cmp - "$here/parameters.out"
+for file in "$here"/large_*.py; do
+    python3 "$file" | cmp - "${file%.py}.out"
+done
 echo "every stored output is what the reference makes"

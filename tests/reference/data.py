@@ -1,5 +1,11 @@
 """Test data, checksums and words by the rules that the test programs use."""
 
+# the records and lanes of the programs of large blocks, tests/large.h
+LARGE_BLOCKS = [
+    ([2, 2, 255, 120], 4096), ([1, 251, 6, 250, 125], 4096), ([2, 32, 51, 18], 1000), ([1, 251, 246, 50, 25], 1001), ([2, 2, 255, 119], 1000),
+    ([1, 251, 250, 2, 1], 4097), ([3, 255, 241, 15, 41, 16, 8], 4096), ([3, 252, 1, 6, 145, 252, 126], 40), ([3, 1, 1, 0, 2, 16, 5], 4097),
+]
+
 
 def fill(seed, size, count):
     """Symbols from a linear congruential generator's states after the seed, by their higher digits."""

@@ -1,7 +1,7 @@
 #!/usr/bin/env python3
 """Prints what tests/large_cases.c must: which k are even with n = 255, and large blocks by checksums."""
 from balanced import belongs, build_plan, correct, encode, listed_shares, plan_of, read, rebuild, recover, to_lanes, to_nodes, update
-from data import checksum, fill, refused
+from data import LARGE_BLOCKS, checksum, fill, refused
 
 
 def even():
@@ -101,12 +101,5 @@ def block(record, lanes):
 
 
 even()
-block([2, 2, 255, 120], 4096)
-block([1, 251, 6, 250, 125], 4096)
-block([2, 32, 51, 18], 1000)
-block([1, 251, 246, 50, 25], 1001)
-block([2, 2, 255, 119], 1000)
-block([1, 251, 250, 2, 1], 4097)
-block([3, 255, 241, 15, 41, 16, 8], 4096)
-block([3, 252, 1, 6, 145, 252, 126], 40)
-block([3, 1, 1, 0, 2, 16, 5], 4097)
+for record, lanes in LARGE_BLOCKS:
+    block(record, lanes)

@@ -1,12 +1,12 @@
 """Calls in words, read strictly.
 
 A line is a name and the record's bytes, then words with the numbers that they stand for, in base ten, each after one space. `message`,
-`nodes`, `shares`, `before`, `after` and `symbols` stand for up to 64 bytes, `room`, the length of the buffer that is written, for a number up to
-64, and every other word for a number below 2^32.
+`nodes`, `shares`, `before`, `after`, `symbols`, `missing`, `share` and `rows` stand for up to 64 bytes, `room`, the length of the buffer that is
+written, for a number up to 64, and every other word for a number below 2^32.
 """
 import re
 
-LISTS = {"message", "nodes", "shares", "before", "after", "symbols"}
+LISTS = {"message", "nodes", "shares", "before", "after", "symbols", "missing", "share", "rows"}
 MOST = 64
 
 

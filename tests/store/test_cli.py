@@ -14,7 +14,7 @@ from disk import Disk
 from imagestore import cli, init, settings
 from imagestore.errors import UsageError
 
-COMMANDS = ["plan", "init", "put", "get", "list", "check", "rm", "update", "rebuild", "leave", "return", "nodes", "serve"]
+COMMANDS = ["plan", "init", "put", "get", "list", "check", "rm", "update", "rebuild", "leave", "return", "nodes", "serve", "completion"]
 
 
 class CommandLine(StoreCase):
@@ -133,6 +133,19 @@ class CommandLine(StoreCase):
         self.assertIn("is no roster", self.refused(1, "list"))
         path.unlink()
         self.assertEqual(self.right("nodes")["nodes"][1]["state"], "here")
+
+    def completed(self, *words):
+        """What bash proposes for the last word."""
+        code = f'source <({PROGRAM} completion); COMP_WORDS=("$@"); COMP_CWORD=$(($# - 1)); _imagestore; printf "%s\\n" "${{COMPREPLY[@]}}"'
+        seen = subprocess.run(["bash", "-c", code, "bash", "imagestore", *words], capture_output=True, text=True, check=True)
+        return seen.stdout.split()
+
+    def test_completion(self):
+        self.assertEqual(self.completed("re"), ["rebuild", "return"])
+        self.assertEqual(sorted(self.completed("")), sorted([*COMMANDS, "--help", "--store", "--json", "--wait", "--threads"]))
+        self.assertEqual(self.completed("check", "--c"), ["--correct"])
+        self.assertEqual(self.completed("--json", "rm", "--f"), ["--force"])
+        self.assertEqual(self.completed("put", "image", ""), ["--help", "--store", "--json", "--wait", "--threads"])
 
     def test_the_manual_page_has_every_command(self):
         text = (TOP / "docs" / "man" / "imagestore.1").read_text()

@@ -7,13 +7,11 @@ from support import StoreCase, command, in_child  # first: it finds the program
 from disk import STOPPED, STOPPED_AT_A_WRITE, Disk
 
 
-class Crashes(StoreCase):
-    """Three nodes of which two are needed; the image has two whole blocks and a part of one."""
+class CrashCase(StoreCase):
+    """A store that is put back as it was before each stop."""
 
     def setUp(self):
         super().setUp()
-        self.make(3, 2, 16)
-        self.old, self.new = self.bytes(70), self.bytes(70)
         self.saved = self.top / "saved"
 
     def save(self):
@@ -61,6 +59,19 @@ class Crashes(StoreCase):
         """A check leaves every node right, with the one image or the other, or none where one is None."""
         self.all_right(self.old, self.new)
 
+    def corrected(self):
+        self.right("check", "--correct")
+        self.all_right(self.old)
+
+
+class Crashes(CrashCase):
+    """Three nodes of which two are needed; the image has two whole blocks and a part of one."""
+
+    def setUp(self):
+        super().setUp()
+        self.make(3, 2, 16)
+        self.old, self.new = self.bytes(70), self.bytes(70)
+
     def test_put(self):
         self.old = None
         self.every_stop(self.old_or_new, "put", "image", self.file(self.new, "new"))
@@ -79,10 +90,6 @@ class Crashes(StoreCase):
         self.put(self.old)
         self.new = None
         self.every_stop(self.old_or_new, "rm", "image")
-
-    def corrected(self):
-        self.right("check", "--correct")
-        self.all_right(self.old)
 
     def test_rebuild(self):
         self.put(self.old)
@@ -112,6 +119,17 @@ class Crashes(StoreCase):
         """Whether one node has committed and another has not."""
         kinds = [{path.suffix for path in place.iterdir()} for place in self.places]
         return any(".redo" in found for found in kinds) and any(".next" in found for found in kinds)
+
+
+class OtherRecords(CrashCase):
+    """51 nodes, where a share is made anew by traces."""
+
+    def test_rebuild_by_traces(self):
+        self.make(51, 33, 2)
+        self.old = self.bytes(100)
+        self.put(self.old)
+        self.share(1).unlink()
+        self.every_stop(self.corrected, "rebuild", "1")
 
 
 class CrashesWithLoss(StoreCase):

@@ -15,6 +15,8 @@ from imagestore import entries, frames, node, remote, settings, share
 from imagestore.frames import Request
 from imagestore.node import Node
 
+PROTOCOL = frames.PROTOCOL.to_bytes(2, "big")
+
 
 class PipeCase(StoreCase):
     """A store whose nodes are asked over pipes, at `host:/folder`."""
@@ -129,8 +131,8 @@ class Served(PipeCase):
             self.all_right(data)
 
 
-class Counted(PipeCase):
-    """The bytes on the pipes, counted by what stands in for ssh, are those that the command prints."""
+class CountedCase(PipeCase):
+    """The bytes on the pipes are counted by what stands in for ssh."""
 
     def setUp(self):
         super().setUp()
@@ -149,6 +151,17 @@ class Counted(PipeCase):
         said = {node: {key: one[key] for key in ("sent", "received")} for node, one in result["traffic"].items()}
         self.assertEqual(said, seen)
         return result
+
+    def over_pipes(self):
+        """The nodes of a store of folders are asked over pipes from now on."""
+        nodes = [f"h{node}:{place}" for node, place in enumerate(self.places)]
+        lines = [line for line in self.store.read_text().splitlines() if line.startswith(("store", "record", "lanes"))]
+        lines += [f"ssh = {json.dumps(self.ssh)}", f"program = {json.dumps(self.program)}", f"nodes = {json.dumps(nodes)}"]
+        self.store.write_text("\n".join(lines) + "\n")
+
+
+class Counted(CountedCase):
+    """What is counted is what the command prints."""
 
     def test_traffic(self):
         self.make(5, 3, 64)
@@ -198,7 +211,7 @@ class Hostile(StoreCase):
         return found
 
     def hello(self):
-        return Request(frames.HELLO, data=frames.GREETING + b"\0\1" + self.marker)
+        return Request(frames.HELLO, data=frames.GREETING + PROTOCOL + self.marker)
 
     def opened(self, *requests):
         """The answers to requests after the greeting and the lock."""
@@ -233,10 +246,10 @@ class Hostile(StoreCase):
         self.untouched()
 
     def test_greetings(self):
-        for data in (b"", b"imagestore", b"imagestore\0\2" + self.marker, b"GET / HTTP/1.1\r\n\r\n"):
+        for data in (b"", b"imagestore", b"imagestore\0\0" + self.marker, b"GET / HTTP/1.1\r\n\r\n"):
             self.assertEqual(self.served(Request(frames.HELLO, data=data))[0][0], frames.REFUSED)
         for marker in (b"", b"{}", self.marker.replace(b'"node": 0', b'"node": 1'), b"\xff\xfe"):
-            (status, data), = self.served(Request(frames.HELLO, data=frames.GREETING + b"\0\1" + marker))
+            (status, data), = self.served(Request(frames.HELLO, data=frames.GREETING + PROTOCOL + marker))
             self.assertEqual(status, frames.REFUSED)
         self.assertEqual(self.served(self.hello(), self.hello())[1], (frames.REFUSED, b"a second greeting"))
         self.untouched()
@@ -253,6 +266,9 @@ class Hostile(StoreCase):
         forged = share.pack_header(header.of(1))
         for requests in (
                 [Request(frames.READ, "image", count=frames.MAX_DATA + 1)], [Request(frames.READ, "other", count=1)],
+                [Request(frames.BITS, "image", count=1)], [Request(frames.BITS, "image", data=b"\1")],
+                [Request(frames.BITS, "image", count=2 ** 32 - 1, data=b"\1")], [Request(frames.BITS, "image", count=1, data=b"\0\1\2")],
+                [Request(frames.BITS, "image", count=1, data=b"\1")], [Request(frames.BITS, "other", count=1, data=b"\1")],
                 [Request(frames.WRITE, "image", data=b"x")], [Request(frames.SEAL, "image", data=share.pack_header(header))],
                 [Request(frames.BEGIN, "image"), Request(frames.WRITE, "image", place=2 ** 64 - 1, data=b"x")],
                 [Request(frames.BEGIN, "image"), Request(frames.SEAL, "image", data=forged)],
@@ -274,7 +290,7 @@ class Hostile(StoreCase):
     def test_random_frames(self):
         """Whatever comes, there are answers, and the node is as before."""
         for _ in range(300):
-            requests = [Request(self.random.randrange(14), self.random.choice(["image", "x", "../secret", ""]), self.random.randrange(2 ** 64),
+            requests = [Request(self.random.randrange(frames.PURGE + 2), self.random.choice(["image", "x", "../secret", ""]), self.random.randrange(2 ** 64),
                                 self.random.randrange(2 ** 32), self.random.randbytes(self.random.randrange(60))) for _ in range(4)]
             requests = [one for one in requests if one.op not in (frames.BEGIN, frames.WRITE)]
             for status, _ in self.opened(*requests):

@@ -53,8 +53,9 @@ from .errors import (
 )
 from .findings import Added, Finding, NoSingleUpdate, Unchanged
 from .library import library_path
-from .plan import MAX_LANES, MAX_NODES, Plan
+from .plan import Plan
 from .roster import ROSTER_LEN, Roster
+from .sizes import MAX_LANES, MAX_NODES
 from .symbols import symbols_from_bytes, symbols_to_bytes
 
 __version__ = "1.0.0"

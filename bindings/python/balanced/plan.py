@@ -5,28 +5,21 @@ from collections.abc import Iterable
 from ctypes import c_uint16, c_uint32
 from dataclasses import dataclass, field
 from operator import index
-from typing import TYPE_CHECKING, TypeVar
+from typing import TYPE_CHECKING
 
 from .calls import call
 from .findings import Finding, finding
+from .rearranged import Rearranged
+from .repairs import Repairs
+from .sizes import MAX_NODES, Into, node_list
 from .symbols import symbols_from_bytes
 
 if TYPE_CHECKING:
     from _typeshed import ReadableBuffer, WriteableBuffer
 
-Into = TypeVar("Into", bound="WriteableBuffer")
-
-MAX_LANES = 4096
-MAX_NODES = 255
-
-
-def node_list(nodes: Iterable[int]) -> bytes:
-    """A list of nodes as bytes. A number that no byte holds becomes 255, which is no node either, for n is at most 255."""
-    return bytes(node if 0 <= node <= MAX_NODES else MAX_NODES for node in map(index, nodes))
-
 
 @dataclass(frozen=True, init=False)
-class Plan:
+class Plan(Rearranged, Repairs):
     """A record that was accepted, the plan that it stands for, and the calls on its blocks.
 
     A record is a buffer of bytes or a list of them; one that is not accepted raises an error from `KindError` to `RootError`.
@@ -81,25 +74,6 @@ class Plan:
         if not (0 <= row < self.k and 0 <= node < self.n):
             raise IndexError(f"there is no entry ({row}, {node}): rows are below {self.k}, nodes below {self.n}")
         return self.base_word[(node + self.shifts[row]) % self.n]
-
-    def message_len(self, lanes: int) -> int:
-        """The length of a message of so many lanes, in bytes."""
-        return self.k * lanes * self.symbol_len
-
-    def shares_len(self, lanes: int) -> int:
-        """The length of the shares of a block of so many lanes, in bytes."""
-        return self.n * lanes * self.symbol_len
-
-    def share_len(self, lanes: int) -> int:
-        """The length of one node's share of a block of so many lanes, in bytes."""
-        return lanes * self.symbol_len
-
-    def _room(self, symbols: int, lanes: int, into: Into | None) -> Into | bytearray:
-        """What a call writes so many symbols of each lane to. Nothing is made for lanes with which every call is turned away."""
-        if into is not None:
-            return into
-        lanes = index(lanes)
-        return bytearray(symbols * lanes * self.symbol_len if 0 < lanes <= MAX_LANES else 0)
 
     def encode(self, lanes: int, message: ReadableBuffer, into: Into | None = None) -> Into | bytearray:
         """Encodes a message: gives the shares of all n nodes, lane after lane.

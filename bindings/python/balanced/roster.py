@@ -5,7 +5,8 @@ from collections.abc import Iterable
 from typing import TYPE_CHECKING
 
 from .calls import call
-from .plan import MAX_NODES, Plan
+from .plan import Plan
+from .sizes import MAX_NODES
 
 if TYPE_CHECKING:
     from _typeshed import ReadableBuffer

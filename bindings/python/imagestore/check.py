@@ -11,7 +11,7 @@ def set_right(store, session, seen, found):
     for node in sorted(found.wrong):
         if node in session.links:
             try:
-                rebuild.rebuild_image(store, session, seen, node, jobs, found.untold)
+                rebuild.rebuild_image(store, session, seen, node, jobs, found.untold, whole=bool(found.doubts))
                 done.append(node)
             except NodesFailed:
                 pass  # the node is down, and said to be

@@ -19,6 +19,7 @@ EXAMPLES = """examples:
   imagestore get firmware-1.2 copy.bin
   imagestore check --correct
   imagestore leave 3; imagestore rebuild 3; imagestore return 3
+  source <(imagestore completion)
 
 exit status: 0 done; 1 something is wrong or refused, and a sentence says what; 2 usage; 3 fewer nodes than are needed.
 store.toml in this folder is the store, unless --store or the variable IMAGESTORE names another.
@@ -85,6 +86,7 @@ def image_commands(command):
 def node_commands(command):
     one = command("rebuild", "make all shares of nodes anew; a new and empty folder becomes the node")
     one.add_argument("numbers", nargs="+", type=int, metavar="NODE-NUMBER")
+    one.add_argument("--whole", action="store_true", help="from k whole shares alone, and see that the images' digests are right")
     one = command("leave", "a node leaves: no command asks it any more")
     one.add_argument("number", type=int, metavar="NODE-NUMBER")
     one = command("return", "a node is back; `rebuild` or `check --correct` brings it up to date")
@@ -92,6 +94,7 @@ def node_commands(command):
     command("nodes", "list the nodes")
     one = command("serve", "answer for a node's folder on standard input and output, as ssh starts it")
     one.add_argument("folder", metavar="FOLDER")
+    command("completion", "print completion for bash: source <(imagestore completion)")
 
 
 def open_store(options, bar):
@@ -120,7 +123,7 @@ def run(options, bar):
         "check": lambda: check.check(store, options.names, options.correct, options.undo),
         "rm": lambda: remove.remove(store, options.name, options.force),
         "update": lambda: update.update(store, options.name, options.file, options.at),
-        "rebuild": lambda: rebuild.rebuild(store, options.numbers),
+        "rebuild": lambda: rebuild.rebuild(store, options.numbers, options.whole),
         "leave": lambda: events.leave(store, options.number),
         "return": lambda: events.rejoin(store, options.number),
         "nodes": lambda: listing.list_nodes(store),
@@ -157,6 +160,10 @@ def main(words=None):
     if options.command == "serve":
         from .remote import serve
         return serve(options.folder, sys.stdin.buffer, sys.stdout.buffer)
+    if options.command == "completion":
+        from .completion import script
+        print(script(parser()))
+        return 0
     allow_files()
     with interrupts.noted():
         return carry_out(options)

@@ -45,14 +45,7 @@ def shares_of(plan, layout, batch, data, room):
 
 def listed(plan, lanes, parts):
     """The shares of k listed nodes lane after lane, as the library takes them."""
-    if hasattr(plan, "listed_to_lanes"):
-        return plan.listed_to_lanes(lanes, b"".join(parts))
-    width, step = plan.symbol_len, plan.k * plan.symbol_len
-    by_lane = bytearray(step * lanes)
-    for i, part in enumerate(parts):
-        for byte in range(width):
-            by_lane[i * width + byte::step] = part[byte::width] if width > 1 else part
-    return by_lane
+    return plan.listed_to_lanes(lanes, b"".join(parts))
 
 
 def recover(plan, lanes, held):
@@ -81,3 +74,19 @@ def blocks_in(data, cuts):
         if share.checksum(block_seed, symbols) == data[end:end + share.CHECKSUM.size]:
             right[block] = symbols
     return right
+
+
+def bits_sizes(layout, batch, missing):
+    """For each block of a batch how many bytes a node sends of it for a repair, where so many nodes are missing."""
+    bits, _ = layout.plan.repair_plan(missing)
+    return [bits * ((layout.lanes_of(block) + 7) // 8) for block in batch]
+
+
+def bits_in(data, sizes):
+    """Cuts what a node has sent of some blocks for a repair: the bits of each, None for one that is damaged. None if it cannot be cut."""
+    data, at, found = memoryview(data), 0, []
+    for size in sizes:
+        right = data[at:at + 1] == b"\1"
+        found.append(data[at + 1:at + 1 + size] if right else None)
+        at += 1 + size if right else 1
+    return found if at == len(data) else None

@@ -2,7 +2,7 @@
 import os
 import struct
 
-from . import files, redo, share
+from . import blocks, files, redo, share
 from .errors import Refused
 
 BLOCK = struct.Struct(">QI")
@@ -33,23 +33,16 @@ class PatchDraft:
 
     def __init__(self, file, shared, header):
         self.file, self.shared, self.header, self.redo = file, shared, header, redo.Draft(file)
-        self.block_len = header.lanes * share.symbol_len(header.record)
 
     def write(self, place, data):
         raise Refused("the draft is of ranges: it takes no share")
 
     def block(self, number):
         """The place of a block and its symbols, if its checksum is right: a wrong one must not get a right checksum."""
-        place = share.block_place(self.header.record, self.header.name, self.header.lanes, number)
-        size = os.fstat(self.shared).st_size
-        count = min(self.block_len, size - place - share.CHECKSUM.size)
-        if count <= 0:
-            raise Refused(f"the share has no block {number}")
-        held = files.read(self.shared, place, count + share.CHECKSUM.size)
-        symbols = bytearray(held[:count])
-        if share.checksum(share.seed(number), symbols) != held[count:]:
-            raise Refused(f"block {number} is damaged: its checksum is wrong")
-        return place, symbols
+        place, held = blocks.read(self.shared, self.header, number)
+        if held is None:
+            raise Refused(f"block {number} is damaged: its checksum is wrong, or the share ends before it")
+        return place, bytearray(held)
 
     def patch(self, data):
         """Blocks, for each its number (8), the length of its ranges (4) and these."""

@@ -9,7 +9,7 @@ For an image NAME the folder has, of these, what there is:
 """
 import os
 
-from . import entries, files, redo, share
+from . import arithmetic, blocks, entries, files, redo, share
 from .drafts import PatchDraft, WholeDraft
 from .errors import Refused
 from .names import is_name
@@ -74,6 +74,24 @@ class Folder:
             return files.read(opened, place, count)
         finally:
             os.close(opened)
+
+    def bits(self, name, first, count, target, missing):
+        """What this node sends of some blocks for the repair of another: for each a byte that says whether its checksum is right,
+        and if so the bits."""
+        data, _ = self.header(name + ".share")
+        if data is None:
+            raise Refused(f"there is no share of {name}")
+        header, parts = share.unpack_header(data), []
+        opened = self.open(name + ".share")
+        try:
+            for number in range(first, first + count):
+                _, symbols = blocks.read(opened, header, number)
+                parts.append(bytes([symbols is not None]))
+                if symbols is not None:
+                    parts.append(arithmetic.repair_bits(header.record, header.node, target, missing, symbols))
+        finally:
+            os.close(opened)
+        return b"".join(parts)
 
     # a write
 

@@ -8,11 +8,11 @@ from typing import NamedTuple
 
 from .errors import Broken
 
-PROTOCOL = 1
+PROTOCOL = 2
 GREETING = b"imagestore"
 MAX_DATA = 1 << 22
 
-(HELLO, LOCK, LIST, STAT, READ, BEGIN, WRITE, PATCH, SEAL, COMMIT, DROP, PURGE) = range(1, 13)
+(HELLO, LOCK, LIST, STAT, READ, BITS, BEGIN, WRITE, PATCH, SEAL, COMMIT, DROP, PURGE) = range(1, 14)
 DONE, REFUSED, BUSY, BROKEN = range(4)
 
 LENGTH = struct.Struct(">I")

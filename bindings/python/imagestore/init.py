@@ -3,7 +3,7 @@ import os
 
 import balanced
 
-from . import carrier, settings
+from . import carrier, repair, settings
 from .errors import StoreError, UsageError
 from .node import FREE, MAKE
 from .session import Session
@@ -15,7 +15,16 @@ def figures(record):
     return {
         "record": list(plan.record), "nodes": plan.n, "needed": plan.k, "may_be_lost": plan.n - plan.k,
         "wrong_set_right": (plan.n - plan.k) // 2, "storage": plan.n / plan.k, "nodes_written_by_a_change": plan.d,
-        "symbols_a_node_depends_on": [plan.low_reads, plan.high_reads], "shares_read_by_a_rebuild": plan.k}
+        "symbols_a_node_depends_on": [plan.low_reads, plan.high_reads], **reading(plan)}
+
+
+def reading(plan):
+    """What a rebuild reads: of whole shares, or by traces where that is less."""
+    left_out = repair.spare(plan, balanced.MAX_LANES, 0)
+    if left_out is None:
+        return {"shares_read_by_a_rebuild": plan.k, "bits_read_by_a_rebuild": None, "nodes_read_by_a_rebuild": plan.k}
+    bits, nodes = plan.repair_plan()[0], plan.n - 1 - left_out
+    return {"shares_read_by_a_rebuild": nodes * bits / 8, "bits_read_by_a_rebuild": bits, "nodes_read_by_a_rebuild": nodes}
 
 
 def plan(n, k):

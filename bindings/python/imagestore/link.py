@@ -43,7 +43,7 @@ class Link:
         try:
             status, data = self._receive()
             self.received += frames.answer_len(data)
-            if self.request.op == frames.READ and status == frames.DONE:
+            if self.request.op in (frames.READ, frames.BITS) and status == frames.DONE:
                 self.shares_received += len(data)
         finally:
             self.turn.release()

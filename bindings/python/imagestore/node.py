@@ -14,6 +14,7 @@ from .names import is_name
 MARKER = ".imagestore"
 MAKE, FREE = 1, 2
 LIST_BYTES = 1 << 20
+MAX_BLOCKS = 1024  # whose bits are asked for at once: 2 KB at most for each
 
 
 def which(marker):
@@ -138,6 +139,12 @@ class Node:
             raise Refused(f"{request.count} bytes are asked for: at most {frames.MAX_DATA} are sent")
         return self.folder.read(request.name, request.place, request.count)
 
+    def bits(self, request):
+        """For the repair of the node that the first byte of the data names, without those that the others name."""
+        if not request.data or not 0 < request.count <= MAX_BLOCKS:
+            raise Refused(f"a repair names its target, and at most {MAX_BLOCKS} blocks")
+        return self.folder.bits(request.name, request.place, request.count, request.data[0], bytes(request.data[1:]))
+
     # a write: begin, write or patch, seal; then commit or drop
 
     def begin(self, request):
@@ -181,6 +188,7 @@ class Node:
 
 ACTS = {
     frames.LIST: (Node.list, SHARED), frames.STAT: (Node.stat, SHARED), frames.READ: (Node.read, SHARED),
+    frames.BITS: (Node.bits, SHARED),
     frames.BEGIN: (Node.begin, EXCLUSIVE), frames.WRITE: (Node.write, EXCLUSIVE), frames.PATCH: (Node.patch, EXCLUSIVE),
     frames.SEAL: (Node.seal, EXCLUSIVE), frames.COMMIT: (Node.commit, EXCLUSIVE), frames.DROP: (Node.drop, EXCLUSIVE),
     frames.PURGE: (Node.purge, EXCLUSIVE),

@@ -18,6 +18,11 @@ class Reader:
         return sorted((node for node in self.nodes if node in links),
                       key=lambda node: (node in self.suspects or node in self.faults, round(links[node].delay, 2), node))
 
+    def sound(self, batch):
+        """The nodes of which nothing wrong is known in a batch, in order."""
+        return [node for node in sorted(self.order())
+                if node not in self.suspects and not self.faults.get(node, set()) & set(batch)]
+
     def fetch(self, batch, nodes):
         """For each block of a batch its share at those of the nodes that have it right."""
         place = self.layout.place(batch[0])
@@ -32,6 +37,24 @@ class Reader:
                 else:
                     self.faults.setdefault(node, set()).add(block)
         return held
+
+    def bits(self, batch, nodes, target, missing):
+        """What the nodes send of a batch for the repair of another: for each that has all blocks right its bits of each."""
+        data = bytes([target, *missing])
+        answers = self.session.try_ask(nodes, lambda node: Request(frames.BITS, self.layout.name, batch[0], len(batch), data))
+        sizes = coding.bits_sizes(self.layout, batch, len(missing))
+        found = {}
+        for node, answer in answers.items():
+            rows = coding.bits_in(answer, sizes)
+            if rows is None:
+                self.session.fail(node, "its answer makes no sense")
+                continue
+            damaged = {block for block, row in zip(batch, rows) if row is None}
+            if damaged:
+                self.faults.setdefault(node, set()).update(damaged)
+            else:
+                found[node] = rows
+        return found
 
     def read(self, batch, nodes=None):
         """For each block of a batch the shares of k nodes: of the nodes that are named, where they hold the image right."""

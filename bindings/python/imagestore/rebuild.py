@@ -1,5 +1,5 @@
-"""rebuild: a node's shares made anew from those of others, by the roster's fair jobs."""
-from . import carrier, coding, digest, frames, image, lock, pipeline, roster, share, twophase
+"""rebuild: a node's shares made anew from those of others, by the roster's fair jobs: from k whole shares, or by traces."""
+from . import carrier, coding, digest, frames, image, lock, pipeline, repair, roster, share, twophase
 from .errors import NodesFailed, StoreError, TooFewNodes, UsageError
 from .examine import examine
 from .frames import Request
@@ -33,32 +33,35 @@ def share_of(store, reader, batch, nodes, target):
     return parts, total
 
 
-def send(store, session, reader, target, jobs):
-    """Makes the share of one image and sends it to the target, each batch by a job of its own; gives the image's digest."""
+def send(store, session, reader, target, jobs, whole):
+    """Makes the share of one image and sends it to the target, each batch by a job of its own: by traces where that moves less, or
+    from whole shares. Gives the image's digest, None where it was not seen."""
     layout, total = reader.layout, 0
 
     def batches():
         for batch in layout.batches(pipeline.batch_blocks(layout)):
-            yield batch, jobs.next_job()
+            yield batch, jobs.job, jobs.next_job()
 
     def work(item):
-        batch, nodes = item
-        parts, part = share_of(store, reader, batch, nodes, target)
+        batch, job, nodes = item
+        parts, part = None if whole else repair.share_of(store, reader, batch, target, job), None
+        if parts is None:
+            parts, part = share_of(store, reader, batch, nodes, target)
         session.ask([target], lambda node: Request(frames.WRITE, layout.name, layout.place(batch[0]), data=parts))
         return batch[-1] + 1, part
 
     for done, part in pipeline.in_order(work, batches(), store.threads):
-        total += part
+        total = None if part is None or total is None else total + part
         store.progress(f"node {target}, {layout.name}", done, layout.blocks)
-    return digest.to_bytes(total)
+    return None if total is None else digest.to_bytes(total)
 
 
-def attempt(store, session, seen, target, jobs, wrong):
+def attempt(store, session, seen, target, jobs, wrong, whole):
     """Makes the target's share of an image anew, from nodes that are not wrong; gives the reader, None where the image was not right."""
     reader = Reader(store, session, seen, exclude={target, *wrong})
     with twophase.dropped_on_failure(session, seen.name, [target]):
         session.ask([target], lambda node: Request(frames.BEGIN, seen.name))
-        if seen.exists and send(store, session, reader, target, jobs) != seen.header.digest:
+        if seen.exists and send(store, session, reader, target, jobs, whole) not in (None, seen.header.digest):
             twophase.drop(session, seen.name, [target])
             return None
         session.ask([target], lambda node: Request(frames.SEAL, seen.name, data=share.pack_header(seen.header.of(target))))
@@ -66,12 +69,12 @@ def attempt(store, session, seen, target, jobs, wrong):
     return reader
 
 
-def rebuild_image(store, session, seen, target, jobs, wrong=()):
+def rebuild_image(store, session, seen, target, jobs, wrong=(), whole=False):
     """As `attempt`; where a node's checksums are right and its content is not, once more without the nodes that are found wrong."""
-    reader = attempt(store, session, seen, target, jobs, wrong)
+    reader = attempt(store, session, seen, target, jobs, wrong, whole)
     if reader is None:
         found = examine(store, session, seen)
-        reader = attempt(store, session, seen, target, jobs, found.untold) if found.untold and not found.doubts else None
+        reader = attempt(store, session, seen, target, jobs, found.untold, whole) if found.untold and not found.doubts else None
     if reader is None:
         raise StoreError(f"{seen.name}: the checksums are right, and the image is not: nothing is made from it")
     return reader
@@ -85,7 +88,12 @@ def purge(store, session, seen):
         session.try_ask(knowing, lambda node: Request(frames.PURGE, seen.name))
 
 
-def rebuild_node(store, session, target, outcome):
+def received(session):
+    """The bytes of shares, or of bits of them, that came from nodes so far."""
+    return sum(node["shares_received"] for node in session.traffic().values())
+
+
+def rebuild_node(store, session, target, outcome, whole):
     """Every image at one node."""
     jobs = job_roster(store, {target, *session.down})
     for name in image.look_at_all(session):
@@ -93,7 +101,8 @@ def rebuild_node(store, session, target, outcome):
             seen = store.look(session, name)
             if seen.header is None:
                 continue
-            reader = rebuild_image(store, session, seen, target, jobs)
+            before = received(session)
+            reader = rebuild_image(store, session, seen, target, jobs, whole=whole)
         except TooFewNodes as error:
             outcome["lost"][name] = str(error)
             continue
@@ -105,13 +114,18 @@ def rebuild_node(store, session, target, outcome):
         if seen.header.removed:
             purge(store, session, image.look(session, store.plan, name))
             continue
-        outcome["rebuilt"].append({"node": target, "image": name, "share": seen.layout.file_len})
+        outcome["rebuilt"].append(
+            {"node": target, "image": name, "share": seen.layout.file_len, "read": received(session) - before,
+             "whole": store.plan.k * (seen.layout.file_len - seen.layout.place(0))})
         outcome["wrong"].update({node: f"{name}: {reader.said(node)}" for node in reader.faults})
     keep_turn(store, jobs)
 
 
-def rebuild(store, targets):
-    """Rebuilds nodes one after the other. An image that too few nodes hold does not keep the others from being rebuilt."""
+def rebuild(store, targets, whole=False):
+    """Rebuilds nodes one after the other, with `whole` from whole shares alone, by which the images' digests are seen.
+
+    An image that too few nodes hold does not keep the others from being rebuilt.
+    """
     for target in targets:
         if not 0 <= target < store.plan.n:
             raise UsageError(f"there is no node {target}: the nodes are 0 to {store.plan.n - 1}")
@@ -121,7 +135,7 @@ def rebuild(store, targets):
             if target not in session.links:
                 raise StoreError(f"node {target}: {session.down[target]}")
             try:
-                rebuild_node(store, session, target, outcome)
+                rebuild_node(store, session, target, outcome, whole)
             except NodesFailed as error:
                 raise StoreError(str(error)) from None
         return {**outcome, "needed": store.plan.k, "absent": dict(session.down), "traffic": session.traffic()}

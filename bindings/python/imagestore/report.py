@@ -37,7 +37,15 @@ def plan(result):
         f"wrong symbols that are set right where no checksum tells: {result['wrong_set_right']} in each lane",
         f"storage: {result['storage']:.2f} bytes for each byte",
         f"a changed byte writes {result['nodes_written_by_a_change']} nodes; a node depends on {reads} of {result['needed']} symbols",
-        f"a rebuild reads {result['shares_read_by_a_rebuild']} shares for the one that it makes"]
+        f"a rebuild reads {result['shares_read_by_a_rebuild']:g} shares for the one that it makes" + by_traces(result)]
+
+
+def by_traces(result):
+    """How a rebuild by traces reads."""
+    if not result["bits_read_by_a_rebuild"]:
+        return ""
+    bits, nodes = result["bits_read_by_a_rebuild"], result["nodes_read_by_a_rebuild"]
+    return f": {several(bits, 'bit')} of each symbol of {nodes} nodes, where {result['needed']} whole shares would do"
 
 
 def init(result):
@@ -111,8 +119,7 @@ def rebuild(result):
     lines = []
     for one in result["rebuilt"]:
         lines.append(f"node {one['node']}, {one['image']}: a share of {several(one['share'], 'byte')} made anew")
-    whole = sum(one["share"] for one in result["rebuilt"]) * result["needed"]
-    lines.append(f"  {result['needed']} whole shares for each are {several(whole, 'byte')}")
+        lines.append(f"  {several(one['read'], 'byte')} read; {result['needed']} whole shares are {number(one['whole'])}")
     lines += [moved(result), *[f"{name}: lost: {why}" for name, why in result["lost"].items()], *result["failed"].values()]
     lines += with_reasons("wrong", result["wrong"]) + with_reasons("absent", result["absent"])
     return 3 if result["lost"] else int(bool(result["failed"])), lines

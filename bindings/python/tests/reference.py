@@ -1,4 +1,5 @@
-"""The independent implementation of tests/reference: `code`, the store by its definitions, and `roster`, rosters by their history.
+"""The independent implementation of tests/reference: `code`, the store by its definitions, `roster`, rosters by their history, and
+a module for each group of further calls.
 
 Its first module is called balanced, as the package is: while its modules are loaded, the name is theirs.
 """
@@ -22,5 +23,7 @@ def load(name):
 try:
     code = load("balanced")
     roster = load("roster")
+    rearranged, differences, carry, choose, listed, traces = map(
+        load, ["rearranged", "differences", "carry", "choose", "listed", "traces"])
 finally:
     sys.modules["balanced"] = balanced

@@ -171,6 +171,55 @@ pub fn to_nodes(record: &[u8], lanes: u32, by_lane: &[u8], by_node: &mut [u8]) -
     Error::check(number)
 }
 
+/// Puts the shares of k listed nodes that stand node after node lane after lane, as [`recover`] and [`rebuild`] take them.
+///
+/// Both buffers have k·lanes symbols: what stands at i·lanes + t of `by_node` goes to t·k + i of `by_lane`, for each place i of the
+/// list and each lane t. Symbols are moved, not judged.
+///
+/// ```
+/// use balanced::{Error, Plan};
+///
+/// let plan = Plan::new(&[1, 7, 3, 6, 3])?;
+/// // two lanes of nodes 2, 3 and 4, each as its node sent it
+/// let mut by_lane = [0; 6];
+/// plan.listed_to_lanes(2, &[[1, 1], [3, 3], [6, 1]].concat(), &mut by_lane)?;
+/// assert_eq!(by_lane, [1, 3, 6, 1, 3, 1]);
+/// let mut message = [0; 6];
+/// plan.recover(2, &[2, 3, 4], &by_lane, &mut message)?;
+/// assert_eq!(message, [1, 1, 0, 5, 2, 2]);
+/// # Ok::<(), Error>(())
+/// ```
+pub fn listed_to_lanes(record: &[u8], lanes: u32, by_node: &[u8], by_lane: &mut [u8]) -> Result<(), Error> {
+    let number = unsafe {
+        sys::balanced_listed_to_lanes(
+            record.as_ptr(),
+            record.len(),
+            lanes,
+            by_node.as_ptr(),
+            by_node.len(),
+            by_lane.as_mut_ptr(),
+            by_lane.len(),
+        )
+    };
+    Error::check(number)
+}
+
+/// Puts the shares of k listed nodes that stand lane after lane node after node: undoes [`listed_to_lanes`].
+pub fn listed_to_nodes(record: &[u8], lanes: u32, by_lane: &[u8], by_node: &mut [u8]) -> Result<(), Error> {
+    let number = unsafe {
+        sys::balanced_listed_to_nodes(
+            record.as_ptr(),
+            record.len(),
+            lanes,
+            by_lane.as_ptr(),
+            by_lane.len(),
+            by_node.as_mut_ptr(),
+            by_node.len(),
+        )
+    };
+    Error::check(number)
+}
+
 /// Counts the messages by the nodes that hold something other than zero: `counts[w]` is the number of messages whose
 /// encoding has just w nodes that are not zero, the Hamming weight w.
 ///

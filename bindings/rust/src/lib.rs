@@ -169,19 +169,34 @@ mod calls;
 mod error;
 mod lanes;
 mod plan;
+mod repair;
 mod roster;
 mod symbols;
 pub mod sys;
 
-pub use calls::{belongs, correct, encode, rebuild, recover, to_lanes, to_nodes, update, weights};
+pub use calls::{
+    belongs, correct, encode, listed_to_lanes, listed_to_nodes, rebuild, recover, to_lanes, to_nodes, update, weights,
+};
 pub use error::Error;
 pub use lanes::{find_update, mends, Finding};
 pub use plan::Plan;
+pub use repair::{repair_bits, repair_plan, repair_share, RepairPlan};
 pub use roster::Roster;
 pub use symbols::{symbols_from_bytes, symbols_to_bytes};
 
 /// The version of this crate and of the library that it belongs to.
 pub const VERSION: &str = env!("CARGO_PKG_VERSION");
+
+/// The version of the library that the program runs with: 10,000 times the first number of the version, 100 times the second, and
+/// the third.
+///
+/// ```
+/// let numbers = [balanced::version() / 10_000, balanced::version() / 100 % 100, balanced::version() % 100];
+/// assert_eq!(numbers.map(|x| x.to_string()).join("."), balanced::VERSION);
+/// ```
+pub fn version() -> u32 {
+    unsafe { sys::balanced_version() }
+}
 
 /// The largest number of lanes of a block.
 pub const MAX_LANES: u32 = 4096;

@@ -175,6 +175,16 @@ impl Plan {
         calls::to_nodes(self.record(), lanes, by_lane, by_node)
     }
 
+    /// [`listed_to_lanes`](crate::listed_to_lanes) with this plan's record.
+    pub fn listed_to_lanes(&self, lanes: u32, by_node: &[u8], by_lane: &mut [u8]) -> Result<(), Error> {
+        calls::listed_to_lanes(self.record(), lanes, by_node, by_lane)
+    }
+
+    /// [`listed_to_nodes`](crate::listed_to_nodes) with this plan's record.
+    pub fn listed_to_nodes(&self, lanes: u32, by_lane: &[u8], by_node: &mut [u8]) -> Result<(), Error> {
+        calls::listed_to_nodes(self.record(), lanes, by_lane, by_node)
+    }
+
     /// [`weights`](crate::weights) with this plan's record.
     pub fn weights(&self, counts: &mut [u32]) -> Result<(), Error> {
         calls::weights(self.record(), counts)

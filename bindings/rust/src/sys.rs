@@ -4,6 +4,8 @@
 //! null, and what a call writes overlaps nothing else that is lent to the same call.
 
 extern "C" {
+    pub fn balanced_version() -> u32;
+
     pub fn balanced_plan(
         record: *const u8,
         record_len: usize,
@@ -65,6 +67,35 @@ extern "C" {
         share_len: usize,
     ) -> u8;
 
+    pub fn balanced_repair_plan(record: *const u8, record_len: usize, missing: u32, bits: *mut u32, spare: *mut u32) -> u8;
+
+    pub fn balanced_repair_bits(
+        record: *const u8,
+        record_len: usize,
+        lanes: u32,
+        node: u32,
+        target: u32,
+        missing: *const u8,
+        missing_len: usize,
+        share: *const u8,
+        share_len: usize,
+        bits: *mut u8,
+        bits_len: usize,
+    ) -> u8;
+
+    pub fn balanced_repair_share(
+        record: *const u8,
+        record_len: usize,
+        lanes: u32,
+        target: u32,
+        missing: *const u8,
+        missing_len: usize,
+        rows: *const u8,
+        rows_len: usize,
+        share: *mut u8,
+        share_len: usize,
+    ) -> u8;
+
     pub fn balanced_belongs(
         record: *const u8,
         record_len: usize,
@@ -94,6 +125,26 @@ extern "C" {
     ) -> u8;
 
     pub fn balanced_to_nodes(
+        record: *const u8,
+        record_len: usize,
+        lanes: u32,
+        by_lane: *const u8,
+        by_lane_len: usize,
+        by_node: *mut u8,
+        by_node_len: usize,
+    ) -> u8;
+
+    pub fn balanced_listed_to_lanes(
+        record: *const u8,
+        record_len: usize,
+        lanes: u32,
+        by_node: *const u8,
+        by_node_len: usize,
+        by_lane: *mut u8,
+        by_lane_len: usize,
+    ) -> u8;
+
+    pub fn balanced_listed_to_nodes(
         record: *const u8,
         record_len: usize,
         lanes: u32,

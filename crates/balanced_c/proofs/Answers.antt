@@ -27,7 +27,7 @@ use Rattle.weight_counts.specs.Weights.{weightsFault, WeightsSay}
 use Rattle.balanced_c.specs.Calls.{EncodeGives, UpdateGives, RecoverGives, RebuildGives, BelongsGives, RearrangeGives, WeightsGive}
 
 -- an outcome that a call says, by its number
-by-number : (a : Outcome) (r f : ℕ) → r ≡ outcomeNumber a → a ≡ outcomeOf f → r ≡ f
+pub by-number : (a : Outcome) (r f : ℕ) → r ≡ outcomeNumber a → a ≡ outcomeOf f → r ≡ f
 by-number a r f e answer = e ∙ ap outcomeNumber answer ∙ outcome-number f
 
 pub encode-gives : (rec : List ℕ) (l : ℕ) (message shares shares′ : List ℕ) (a : Outcome) (r : ℕ) → r ≡ outcomeNumber a → EncodeSays rec l message shares shares′ a → EncodeGives rec l message shares shares′ r

@@ -3,3 +3,4 @@ mod Answers
 mod Plans
 mod Lanes
 mod Corrections
+mod Repairing

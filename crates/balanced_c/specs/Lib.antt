@@ -3,3 +3,4 @@ pub mod Calls
 pub mod Lanes
 pub mod Corrections
 pub mod Version
+pub mod Repairs

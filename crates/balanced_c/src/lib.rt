@@ -8,6 +8,7 @@ ghost use Rattle.balanced_c.specs.Calls.{planRoomFault, numbersOf, PlanG
 mod correction;
 mod one_lane;
 mod rearranging;
+mod repairs;
 mod rosters;
 mod version;
 

@@ -14,7 +14,7 @@ use test_tools::value;
 use test_words::Words;
 
 // The bytes written, or the number and whether every byte still holds 170.
-fn print(answer: Outcome, out: &[u8]) {
+pub fn print(answer: Outcome, out: &[u8]) {
     match answer {
         Outcome::Done => list(b": done", out),
         Outcome::Refused(number) => refused(number, untouched(170, out)),

@@ -13,6 +13,7 @@ use test_words::is_comment;
 use test_words::line_end;
 
 mod block_calls;
+mod repairs;
 
 // The calls that leave the roster, by their numbers in the table below.
 fn make(call: usize, w: Words) {
@@ -26,7 +27,10 @@ fn make(call: usize, w: Words) {
         10 => weights::weights(w),
         11 => lanes::find(w),
         12 => lanes::mend(w),
-        _ => block_calls::write(w),
+        13..=19 => block_calls::write(w),
+        20 => repairs::bits(w),
+        21 => repairs::share(w),
+        _ => repairs::plan(w),
     }
 }
 
@@ -48,7 +52,7 @@ fn answer(line: &[u8], roster: Roster) -> Roster {
     }
     let w = read(
         line,
-        b"encode lanes# message* room~;recover lanes# nodes* shares* room~;rebuild lanes# nodes* shares* target# room~;to_lanes lanes# shares* room~;to_nodes lanes# shares* room~;update lanes# symbol# lane# old# new# shares*;belongs lanes# shares*;correct lanes# shares*;plan;weights room~;find before* after*;mends symbols* room~ room~;roster;leave node#;rejoin node#;lowest room~;job room~;listed_to_lanes lanes# shares* room~;listed_to_nodes lanes# shares* room~",
+        b"encode lanes# message* room~;recover lanes# nodes* shares* room~;rebuild lanes# nodes* shares* target# room~;to_lanes lanes# shares* room~;to_nodes lanes# shares* room~;update lanes# symbol# lane# old# new# shares*;belongs lanes# shares*;correct lanes# shares*;plan;weights room~;find before* after*;mends symbols* room~ room~;roster;leave node#;rejoin node#;lowest room~;job room~;listed_to_lanes lanes# shares* room~;listed_to_nodes lanes# shares* room~;repair_bits lanes# node# target# missing* share* room~;repair_share lanes# target# missing* rows* room~;repair_plan count#",
     );
     let call = w.call;
     if 13 <= call && call <= 17 {

@@ -24,6 +24,7 @@ use Rattle.demands.proofs.BadReads.{bad-reads}
 use Rattle.demands.proofs.Weights.{weights}
 use Rattle.demands.proofs.SmallPlans.{small-plans}
 use Rattle.demands.proofs.Mending.{single-mends}
+use Rattle.demands.proofs.Repairs.{repairs-all}
 
 pub demands : Demands
 unfolding our-scheme
@@ -51,4 +52,5 @@ demands =
       weights = weights;
       small-plans = small-plans;
       mends = single-mends;
+      repairs = repairs-all;
     }

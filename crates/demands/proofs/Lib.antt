@@ -27,4 +27,5 @@ pub mod Corrections
 pub mod FaultsAgreement
 pub mod Changes
 pub mod Rebuilding
+pub mod Repairs
 pub mod Examples

@@ -39,24 +39,24 @@ use Rattle.demands.proofs.RecordNumbers.{after-record}
 use Rattle.demands.proofs.Updates.{stale-tells}
 
 -- the tests of the numbers that several calls share
-lanes-means : (l : ℕ) → (lanesBad l ≡ true) ↔ OtherLanes l
+pub lanes-means : (l : ℕ) → (lanesBad l ≡ true) ↔ OtherLanes l
 unfolding lanesBad
 lanes-means l = or-test (eqb l 0) (ltb 4096 l) (equal-test l 0) (less-test 4096 l)
 
-length-means : (stated long : ℕ) → (lengthBad stated long ≡ true) ↔ (long ≢ stated)
+pub length-means : (stated long : ℕ) → (lengthBad stated long ≡ true) ↔ (long ≢ stated)
 unfolding lengthBad
 length-means stated long = other-test long stated
 
-number-means : (end x : ℕ) → (numberBad end x ≡ true) ↔ (end ≤ x)
+pub number-means : (end x : ℕ) → (numberBad end x ≡ true) ↔ (end ≤ x)
 unfolding numberBad
 number-means end x = most-test end x
 
 module _ (h : Header) where
-  nodes-mean : (nodes : List ℕ) → (nodesBad h nodes ≡ true) ↔ SomeFrom (h .n) nodes
+  pub nodes-mean : (nodes : List ℕ) → (nodesBad h nodes ≡ true) ↔ SomeFrom (h .n) nodes
   unfolding nodesBad
   nodes-mean nodes = some-from (h .n) nodes
 
-  twice-means : (nodes : List ℕ) → (twiceBad nodes ≡ true) ↔ SomeTwice nodes
+  pub twice-means : (nodes : List ℕ) → (twiceBad nodes ≡ true) ↔ SomeTwice nodes
   unfolding twiceBad
   twice-means nodes = some-twice nodes
 

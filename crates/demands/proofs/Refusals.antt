@@ -57,7 +57,7 @@ mending-refused zero count some = absurd (some refl)
 mending-refused (suc f) count some = refl
 
 -- a call that answers with an outcome
-by-outcome : {table : Table} {kept : Type 0} {number : ℕ} {r : Outcome} → Tells table number → r ≡ outcomeOf number → ((number ≡ 0 → ⊥) → kept) → Judged table (λ f. r ≡ O.Refused f) kept
+pub by-outcome : {table : Table} {kept : Type 0} {number : ℕ} {r : Outcome} → Tells table number → r ≡ outcomeOf number → ((number ≡ 0 → ⊥) → kept) → Judged table (λ f. r ≡ O.Refused f) kept
 by-outcome {number = number} tells answer kept = call-judged number tells (by-answer O.Refused answer (outcome-means number) (outcome-refused number)) kept
 
 module _ (rec : List ℕ) where

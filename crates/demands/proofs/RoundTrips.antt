@@ -56,13 +56,13 @@ use Rattle.demands.specs.RoundTrips.{cutOf, withSymbol, FewWrong, RoundT
 use Rattle.demands.proofs.Calls.{read-written}
 
 -- what is known of a call of Encode that was done
-record Encoded (h : Header) (l : ℕ) (message shares : List ℕ) : Type 0 where
-  sound : Sound h
-  buffer-is : SymbolBuffer h (h .k) l message
-  written : shares ≡ bytesOf (width h) (sharesOf shareLayout h l (read h message))
-  shares-are : read h shares ≡ sharesOf shareLayout h l (read h message)
+pub record Encoded (h : Header) (l : ℕ) (message shares : List ℕ) : Type 0 where
+  pub sound : Sound h
+  pub buffer-is : SymbolBuffer h (h .k) l message
+  pub written : shares ≡ bytesOf (width h) (sharesOf shareLayout h l (read h message))
+  pub shares-are : read h shares ≡ sharesOf shareLayout h l (read h message)
 
-encoded : (rec : List ℕ) (l : ℕ) (message out shares : List ℕ) → EncodeSays rec l message out shares O.Done → Encoded (headerOf rec) l message shares
+pub encoded : (rec : List ℕ) (l : ℕ) (message out shares : List ℕ) → EncodeSays rec l message out shares O.Done → Encoded (headerOf rec) l message shares
 unfolding encodedBytes
 encoded rec l message out shares says =
     let h = headerOf rec in
@@ -141,7 +141,7 @@ module _ {h : Header} {l : ℕ} {message shares : List ℕ} (e : Encoded h l mes
         ∙ recovered-only h (e .sound) nodes different share-lawful l _ m (gathered-message share-lawful h (e .sound) l nodes different m (rows .long) (rows .symbols))
 
   -- what is cut out at one node is its share
-  cut-share : (target : ℕ) → target < h .n → cutOf h l (target ∷ []) shares ≡ bytesOf (width h) (shareOf h l m target)
+  pub cut-share : (target : ℕ) → target < h .n → cutOf h l (target ∷ []) shares ≡ bytesOf (width h) (shareOf h l m target)
   unfolding cutOf shareOf
   cut-share target node =
       ap (bytesOf (width h))

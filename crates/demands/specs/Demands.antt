@@ -26,6 +26,7 @@ use Rattle.demands.specs.BadReads.{BadReads}
 use Rattle.demands.specs.Weights.{Weights}
 use Rattle.demands.specs.SmallPlans.{SmallPlans}
 use Rattle.demands.specs.Mending.{SingleMends}
+use Rattle.demands.specs.Repairs.{Repairs}
 
 pub record Demands : Type 1 where
   -- demand 1: which number turns a call away, that it then alters nothing, and that every other call is accepted
@@ -72,3 +73,5 @@ pub record Demands : Type 1 where
   pub small-plans : SmallPlans
   -- the single changes that make a lane a word
   pub mends : SingleMends
+  -- one node from a few bits of each other node
+  pub repairs : Repairs

@@ -4,7 +4,7 @@
 --   Numbers         the table of each call: what each number is given for, in plain terms
 --   Refusals, RosterRefusals, Interface    demand 1 of each call, of a roster's calls, and of the interface for C
 --   Coding          demand 2 of the definitions; Updates  demand 3's sentence on updates; Calls  both of the calls themselves; RoundTrips  one call after the other
---   Plans, Widths, Tables, Findings, Rosters, BadReads, Weights, SmallPlans, Mending    a subject each
+--   Plans, Widths, Tables, Findings, Rosters, BadReads, Weights, SmallPlans, Mending, Repairs    a subject each
 pub mod Coding
 pub mod Updates
 pub mod Calls
@@ -28,3 +28,4 @@ pub mod LaneAfterLane
 pub mod Corrections
 pub mod Changes
 pub mod Rebuilding
+pub mod Repairs

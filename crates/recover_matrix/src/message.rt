@@ -46,7 +46,13 @@ fn fill_with(
     block_products::fill(product_of(h, lanes), w, lists, counts, shares, out);
 }
 
-// Room for a square matrix of 64 rows of symbols, and of 255.
+// Room for a square matrix of 16 rows of symbols, of 64, and of 255.
+fn small_square() -> [u8; 512]
+    ensures { λ r. ⌜ length r ≡ 512 ⌝ }
+{
+    [0u8; 512]
+}
+
 fn middle_square() -> [u8; 8192]
     ensures { λ r. ⌜ length r ≡ 8192 ⌝ }
 {
@@ -59,37 +65,55 @@ fn large_square() -> [u8; 130050]
     [0u8; 130050]
 }
 
-// The message of the listed shares, row after row, in the smaller scratch that the nodes fit.
-pub fn fill_message(
-    h: Header,
-    nodes: &[u8],
-    setup: Setup,
-    w: usize,
-    lanes: usize,
-    shares: &[u8],
-    out: &mut [u8],
-)
-    requires { ⌜ Sound h × (w ≡ width h) × (areNodes h (now nodes) ≡ true) × (setup ≡ setupOf h (now nodes)) × (lanes ≤ 4096) × (length (now shares) ≡ w * h .k * lanes) × (length (now out) ≡ w * h .k * lanes) ⌝ }
-    ensures { λ r. ⌜ now (out .exit) ≡ bytesOf w (buffer byRow (h .k) lanes (λ r t. dot (modulusOf h) (laneOf byLane (h .k) lanes t (symbolsOf w (now (shares .entry)))) (inverseRow h (now (nodes .entry)) r))) ⌝ }
+// The message in scratch for at most 16 nodes, for at most 64, and for any. Clearing the larger would take longer than the work of a small code.
+fn fill_small(h: Header, setup: Setup, w: usize, lanes: usize, shares: &[u8], out: &mut [u8])
+    requires { ⌜ Sound h × (w ≡ width h) × PreparedNodes h setup × (h .k ≤ 16) × (lanes ≤ 4096) × (length (now shares) ≡ w * h .k * lanes) × (length (now out) ≡ w * h .k * lanes) ⌝ }
+    ensures { λ r. ⌜ now (out .exit) ≡ bytesOf w (buffer byRow (h .k) lanes (λ r t. dot (modulusOf h) (laneOf byLane (h .k) lanes t (symbolsOf w (now (shares .entry)))) (preparedRow h setup r))) ⌝ }
 {
-    if h.k <= 64 {
-        let mut lists = scratch::middle_lists();
-        let mut counts = scratch::middle_counts();
-        let mut terms = middle_square();
-        let mut sums = middle_square();
-        return fill_with(
-            h,
-            setup,
-            w,
-            lanes,
-            shares,
-            &mut lists,
-            &mut counts,
-            &mut terms,
-            &mut sums,
-            out,
-        );
-    }
+    let mut lists = scratch::small_lists();
+    let mut counts = scratch::small_counts();
+    let mut terms = small_square();
+    let mut sums = small_square();
+    fill_with(
+        h,
+        setup,
+        w,
+        lanes,
+        shares,
+        &mut lists,
+        &mut counts,
+        &mut terms,
+        &mut sums,
+        out,
+    );
+}
+
+fn fill_middle(h: Header, setup: Setup, w: usize, lanes: usize, shares: &[u8], out: &mut [u8])
+    requires { ⌜ Sound h × (w ≡ width h) × PreparedNodes h setup × (h .k ≤ 64) × (lanes ≤ 4096) × (length (now shares) ≡ w * h .k * lanes) × (length (now out) ≡ w * h .k * lanes) ⌝ }
+    ensures { λ r. ⌜ now (out .exit) ≡ bytesOf w (buffer byRow (h .k) lanes (λ r t. dot (modulusOf h) (laneOf byLane (h .k) lanes t (symbolsOf w (now (shares .entry)))) (preparedRow h setup r))) ⌝ }
+{
+    let mut lists = scratch::middle_lists();
+    let mut counts = scratch::middle_counts();
+    let mut terms = middle_square();
+    let mut sums = middle_square();
+    fill_with(
+        h,
+        setup,
+        w,
+        lanes,
+        shares,
+        &mut lists,
+        &mut counts,
+        &mut terms,
+        &mut sums,
+        out,
+    );
+}
+
+fn fill_large(h: Header, setup: Setup, w: usize, lanes: usize, shares: &[u8], out: &mut [u8])
+    requires { ⌜ Sound h × (w ≡ width h) × PreparedNodes h setup × (lanes ≤ 4096) × (length (now shares) ≡ w * h .k * lanes) × (length (now out) ≡ w * h .k * lanes) ⌝ }
+    ensures { λ r. ⌜ now (out .exit) ≡ bytesOf w (buffer byRow (h .k) lanes (λ r t. dot (modulusOf h) (laneOf byLane (h .k) lanes t (symbolsOf w (now (shares .entry)))) (preparedRow h setup r))) ⌝ }
+{
     let mut lists = scratch::large_lists();
     let mut counts = scratch::large_counts();
     let mut terms = large_square();
@@ -106,4 +130,26 @@ pub fn fill_message(
         &mut sums,
         out,
     );
+}
+
+// The message of the listed shares, row after row, in the smallest scratch that the nodes fit.
+pub fn fill_message(
+    h: Header,
+    nodes: &[u8],
+    setup: Setup,
+    w: usize,
+    lanes: usize,
+    shares: &[u8],
+    out: &mut [u8],
+)
+    requires { ⌜ Sound h × (w ≡ width h) × (areNodes h (now nodes) ≡ true) × (setup ≡ setupOf h (now nodes)) × (lanes ≤ 4096) × (length (now shares) ≡ w * h .k * lanes) × (length (now out) ≡ w * h .k * lanes) ⌝ }
+    ensures { λ r. ⌜ now (out .exit) ≡ bytesOf w (buffer byRow (h .k) lanes (λ r t. dot (modulusOf h) (laneOf byLane (h .k) lanes t (symbolsOf w (now (shares .entry)))) (inverseRow h (now (nodes .entry)) r))) ⌝ }
+{
+    if h.k <= 16 {
+        return fill_small(h, setup, w, lanes, shares, out);
+    }
+    if h.k <= 64 {
+        return fill_middle(h, setup, w, lanes, shares, out);
+    }
+    fill_large(h, setup, w, lanes, shares, out);
 }

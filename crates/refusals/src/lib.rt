@@ -14,3 +14,5 @@ pub use field_symbols::first_shares;
 pub use field_symbols::symbol_bad;
 pub use field_symbols::symbols_bad;
 pub use nodes::first_list;
+pub use nodes::nodes_bad;
+pub use nodes::twice_bad;

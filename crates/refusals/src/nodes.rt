@@ -13,7 +13,7 @@ use crate::field_symbols::first_shares;
 use generator::Header;
 
 // Number 9: a list names a node that there is not.
-fn nodes_bad(h: Header, nodes: &[u8]) -> bool
+pub fn nodes_bad(h: Header, nodes: &[u8]) -> bool
     ensures { λ r. ⌜ r ≡ nodesBad h (now (nodes .entry)) ⌝ }
 {
     let n = h.n as u32;
@@ -21,7 +21,7 @@ fn nodes_bad(h: Header, nodes: &[u8]) -> bool
 }
 
 // Number 10: a node stands twice in a list. Each place is compared with those after it, up to the first repeat.
-fn twice_bad(nodes: &[u8]) -> bool
+pub fn twice_bad(nodes: &[u8]) -> bool
     ensures { λ r. ⌜ r ≡ twiceBad (now (nodes .entry)) ⌝ }
 {
     let mut found = false;

@@ -45,17 +45,6 @@ fn add_listed(tab: &[u8], list: &[u16], acc: &mut [u8; 64])
     }
 }
 
-fn store(acc: &[u8; 64], out: &mut [u8])
-    requires { ⌜ (length (now acc) ≡ 64) × (length (now out) ≡ 64) ⌝ }
-    ensures { λ r. ⌜ now (out .exit) ≡ now (acc .entry) ⌝ }
-{
-    let mut t = 0;
-    while t < 64 {
-        out[t] = acc[t];
-        t += 1;
-    }
-}
-
 // One turn of Horner's rule: x times the sum, and the slices of digit 7 − b added. Small enough that the compiler puts it into the loops
 // that call it, where acc stays in registers; a whole loop that is called from two places keeps acc in memory, and takes three times as long.
 pub fn turn(groups: usize, tab: &[u8], list: &[u16], counts: &[u8], b: usize, acc: &mut [u8; 64])
@@ -79,5 +68,5 @@ pub fn output(groups: usize, tab: &[u8], list: &[u16], counts: &[u8], out: &mut 
         turn(groups, tab, list, counts, b, &mut acc);
         b += 1;
     }
-    store(&acc, out);
+    tiles::move64(&acc, out);
 }

@@ -5,7 +5,7 @@ ghost use lib.ListN.{length};
 ghost use Rattle.layout.specs.Layout.{byRow, byLane, laneOf};
 ghost use Rattle.tiles.specs.Inner.Tiles.{Read, BlockOf};
 use crate::moves;
-use crate::squares;
+use crate::turning;
 
 // 16 bytes from place `at` on, or those that there are.
 fn read16(part: &[u8], at: usize, to: usize, block: &mut [u8])
@@ -41,8 +41,19 @@ fn block() -> [u8; 1024]
     [0u8; 1024]
 }
 
-// Lanes that stand side by side, 16 rows at a time.
-pub fn gather64(rows: usize, count: usize, part: &[u8], tile: &mut [u8])
+// Lanes of fewer than 16 rows: 16 bytes are read of each, which go on into the next ones, and of the last one into scratch.
+fn gather_short(rows: usize, count: usize, part: &[u8], tile: &mut [u8])
+    requires { ⌜ (rows < 16) × (16 ≤ count) × (count ≤ 64) × (length (now part) ≡ count * rows) × (1024 ≤ length (now tile)) ⌝ }
+    ensures { λ r. ⌜ (length (now (tile .exit)) ≡ length (now (tile .entry))) × ((t : ℕ) → t < count → laneOf byRow rows 64 t (now (tile .exit)) ≡ laneOf byLane rows count t (now (part .entry))) ⌝ }
+{
+    let mut lanes = block();
+    let size = count * rows;
+    kernel::copy(part, &mut lanes[..size]);
+    turning::turn_all(count, 16, rows, &lanes, 64, tile);
+}
+
+// Fewer lanes than a square has, through scratch, 16 rows at a time.
+fn gather_few(rows: usize, count: usize, part: &[u8], tile: &mut [u8])
     requires { ⌜ (rows ≤ 65535) × (count ≤ 64) × (length (now part) ≡ count * rows) × ((rows + 15) / 16 * 1024 ≤ length (now tile)) ⌝ }
     ensures { λ r. ⌜ (length (now (tile .exit)) ≡ length (now (tile .entry))) × ((t : ℕ) → t < count → laneOf byRow rows 64 t (now (tile .exit)) ≡ laneOf byLane rows count t (now (part .entry))) ⌝ }
 {
@@ -52,7 +63,24 @@ pub fn gather64(rows: usize, count: usize, part: &[u8], tile: &mut [u8])
         fill_block(rows, j, count, part, &mut lanes);
         let start = j * 64;
         let end = start + 1024;
-        squares::lanes_to_rows(&lanes, &mut tile[start..end]);
+        turning::turn_all(64, 16, 16, &lanes, 64, &mut tile[start..end]);
         j += 16;
     }
+}
+
+// Lanes that stand side by side, by squares.
+pub fn gather64(rows: usize, count: usize, part: &[u8], tile: &mut [u8])
+    requires { ⌜ (rows ≤ 65535) × (count ≤ 64) × (length (now part) ≡ count * rows) × ((rows + 15) / 16 * 1024 ≤ length (now tile)) ⌝ }
+    ensures { λ r. ⌜ (length (now (tile .exit)) ≡ length (now (tile .entry))) × ((t : ℕ) → t < count → laneOf byRow rows 64 t (now (tile .exit)) ≡ laneOf byLane rows count t (now (part .entry))) ⌝ }
+{
+    if count < 16 {
+        return gather_few(rows, count, part, tile);
+    }
+    if rows == 0 {
+        return gather_few(rows, count, part, tile);
+    }
+    if rows < 16 {
+        return gather_short(rows, count, part, tile);
+    }
+    turning::turn_all(count, rows, rows, part, 64, tile);
 }

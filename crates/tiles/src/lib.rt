@@ -6,10 +6,12 @@ mod moves;
 mod scattering;
 mod size;
 mod squares;
+mod turning;
 
 pub use columns::gather_lanes;
 pub use columns::scatter;
 pub use gathering::gather64;
+pub use moves::move64;
 pub use scattering::scatter64;
 pub use size::lanes64;
 pub use size::scratch;

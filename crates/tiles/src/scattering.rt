@@ -6,7 +6,7 @@ ghost use Rattle.lists.specs.Rows.{rowsFrom};
 ghost use Rattle.layout.specs.Layout.{byRow, laneOf};
 ghost use Rattle.tiles.specs.Inner.Squares.{laneAt, blocksOf};
 use crate::moves;
-use crate::squares;
+use crate::turning;
 
 // Fills lane t from the blocks: its symbol j stands at j/16·1024 + t·16 + j%16.
 fn fill_lane(blocks: &[u8], t: usize, lane: &mut [u8])
@@ -52,17 +52,44 @@ fn fill_blocks(count: usize, tile: &[u8], blocks: &mut [u8])
     while b < count {
         let start = b * 1024;
         let end = start + 1024;
-        squares::rows_to_lanes(&tile[start..end], &mut blocks[start..end]);
+        turning::turn_all(16, 64, 64, &tile[start..end], 16, &mut blocks[start..end]);
         b += 1;
     }
 }
 
-// The first `count` lanes of a tile of n rows, one lane after the other; `blocks` is scratch as long as the tile.
-pub fn scatter64(n: usize, count: usize, tile: &[u8], blocks: &mut [u8], out: &mut [u8])
+// Lanes of fewer than 16 rows, through scratch: what is written beyond a lane is written over by the next one.
+fn scatter_short(n: usize, count: usize, tile: &[u8], block: &mut [u8], out: &mut [u8])
+    requires { ⌜ (n < 16) × (16 ≤ count) × (count ≤ 64) × (length (now tile) ≡ 1024) × (length (now block) ≡ 1024) × (length (now out) ≡ count * n) ⌝ }
+    ensures { λ r. ⌜ now (out .exit) ≡ rowsFrom (λ t. laneOf byRow n 64 t (now (tile .entry))) 0 count ⌝ }
+{
+    let size = count * n;
+    turning::turn_all(16, count, 64, tile, n, block);
+    kernel::copy(&block[..size], out);
+}
+
+// Fewer lanes than a square has, through blocks.
+fn scatter_few(n: usize, count: usize, tile: &[u8], blocks: &mut [u8], out: &mut [u8])
     requires { ⌜ (n ≤ 512) × (count ≤ 64) × (length (now tile) ≡ (n + 15) / 16 * 1024) × (length (now blocks) ≡ length (now tile)) × (length (now out) ≡ count * n) ⌝ }
     ensures { λ r. ⌜ now (out .exit) ≡ rowsFrom (λ t. laneOf byRow n 64 t (now (tile .entry))) 0 count ⌝ }
 {
     let rows = (n + 15) / 16;
     fill_blocks(rows, tile, blocks);
     fill_lanes(blocks, n, count, out);
+}
+
+// The first `count` lanes of a tile of n rows, one lane after the other, by squares; `blocks` is scratch as long as the tile.
+pub fn scatter64(n: usize, count: usize, tile: &[u8], blocks: &mut [u8], out: &mut [u8])
+    requires { ⌜ (n ≤ 512) × (count ≤ 64) × (length (now tile) ≡ (n + 15) / 16 * 1024) × (length (now blocks) ≡ length (now tile)) × (length (now out) ≡ count * n) ⌝ }
+    ensures { λ r. ⌜ now (out .exit) ≡ rowsFrom (λ t. laneOf byRow n 64 t (now (tile .entry))) 0 count ⌝ }
+{
+    if count < 16 {
+        return scatter_few(n, count, tile, blocks, out);
+    }
+    if n == 0 {
+        return scatter_few(n, count, tile, blocks, out);
+    }
+    if n < 16 {
+        return scatter_short(n, count, tile, blocks, out);
+    }
+    turning::turn_all(n, count, 64, tile, n, out);
 }

@@ -256,6 +256,26 @@ pub fn to_nodes(record: &[u8], lanes: u32, by_lane: &[u8], before: &[u8]) -> u8 
     got
 }
 
+pub fn listed_to_lanes(record: &[u8], lanes: u32, by_node: &[u8], before: &[u8]) -> u8 {
+    let result = reference::listed_to_lanes(record, lanes, by_node, before.len());
+    let (expect, after) = expected(result, before.to_vec());
+    let mut by_lane = Lent::new(before);
+    let (got, _) = number(balanced::listed_to_lanes(record, lanes, by_node, by_lane.slice()));
+    assert_eq!(got, expect, "listed_to_lanes {record:?} {lanes}");
+    assert!(by_lane.holds(&after), "listed_to_lanes {record:?} {lanes}");
+    got
+}
+
+pub fn listed_to_nodes(record: &[u8], lanes: u32, by_lane: &[u8], before: &[u8]) -> u8 {
+    let result = reference::listed_to_nodes(record, lanes, by_lane, before.len());
+    let (expect, after) = expected(result, before.to_vec());
+    let mut by_node = Lent::new(before);
+    let (got, _) = number(balanced::listed_to_nodes(record, lanes, by_lane, by_node.slice()));
+    assert_eq!(got, expect, "listed_to_nodes {record:?} {lanes}");
+    assert!(by_node.holds(&after), "listed_to_nodes {record:?} {lanes}");
+    got
+}
+
 /// The counts, inside a larger list: a write beside them is found.
 pub fn weights(record: &[u8], before: &[u32]) -> u8 {
     const MARK: u32 = 0x5a5a_5a5a;

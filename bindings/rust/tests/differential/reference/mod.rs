@@ -5,12 +5,15 @@ mod code;
 mod field;
 mod lanes;
 mod nearest;
+mod repair;
 mod roster;
 
 pub use code::{bytes_of, width, Code};
 pub use field::{is_prime, Field};
 pub use lanes::{added, find_update, mends};
 pub use roster::{Event, History};
+
+pub use repair::{repair_bits, repair_plan, repair_share};
 
 pub fn encode(record: &[u8], lanes: u32, message: &[u8], out: usize) -> Result<Vec<u8>, u8> {
     let code = Code::of(record)?;
@@ -147,28 +150,44 @@ pub fn correct(record: &[u8], lanes: u32, shares: &[u8]) -> Result<(Vec<u8>, u32
 
 /// Shares from node after node to lane after lane.
 pub fn to_lanes(record: &[u8], lanes: u32, by_node: &[u8], out: usize) -> Result<Vec<u8>, u8> {
-    let (w, n, l) = rearranged_size(record, lanes, by_node, out)?;
-    let symbols: Vec<&[u8]> = by_node.chunks(w).collect();
-    let places = (0..l).flat_map(|t| (0..n).map(move |j| j * l + t));
-    Ok(places.flat_map(|at| symbols[at].to_vec()).collect())
+    lane_after_lane(&Code::of(record)?, |code| code.n, lanes, by_node, out)
 }
 
 /// And back.
 pub fn to_nodes(record: &[u8], lanes: u32, by_lane: &[u8], out: usize) -> Result<Vec<u8>, u8> {
-    let (w, n, l) = rearranged_size(record, lanes, by_lane, out)?;
-    let symbols: Vec<&[u8]> = by_lane.chunks(w).collect();
-    let places = (0..n).flat_map(|j| (0..l).map(move |t| t * n + j));
+    node_after_node(&Code::of(record)?, |code| code.n, lanes, by_lane, out)
+}
+
+/// The same with the shares of k listed nodes.
+pub fn listed_to_lanes(record: &[u8], lanes: u32, by_node: &[u8], out: usize) -> Result<Vec<u8>, u8> {
+    lane_after_lane(&Code::of(record)?, |code| code.k, lanes, by_node, out)
+}
+
+pub fn listed_to_nodes(record: &[u8], lanes: u32, by_lane: &[u8], out: usize) -> Result<Vec<u8>, u8> {
+    node_after_node(&Code::of(record)?, |code| code.k, lanes, by_lane, out)
+}
+
+fn lane_after_lane(code: &Code, rows: fn(&Code) -> usize, lanes: u32, read: &[u8], out: usize) -> Result<Vec<u8>, u8> {
+    let (w, rows, l) = rearranged_size(code, rows(code), lanes, read, out)?;
+    let symbols: Vec<&[u8]> = read.chunks(w).collect();
+    let places = (0..l).flat_map(|t| (0..rows).map(move |j| j * l + t));
     Ok(places.flat_map(|at| symbols[at].to_vec()).collect())
 }
 
-/// The bytes of a symbol, n and the lanes.
-fn rearranged_size(record: &[u8], lanes: u32, read: &[u8], out: usize) -> Result<(usize, usize, usize), u8> {
-    let code = Code::of(record)?;
+fn node_after_node(code: &Code, rows: fn(&Code) -> usize, lanes: u32, read: &[u8], out: usize) -> Result<Vec<u8>, u8> {
+    let (w, rows, l) = rearranged_size(code, rows(code), lanes, read, out)?;
+    let symbols: Vec<&[u8]> = read.chunks(w).collect();
+    let places = (0..rows).flat_map(|j| (0..l).map(move |t| t * rows + j));
+    Ok(places.flat_map(|at| symbols[at].to_vec()).collect())
+}
+
+/// The bytes of a symbol, the rows and the lanes.
+fn rearranged_size(code: &Code, rows: usize, lanes: u32, read: &[u8], out: usize) -> Result<(usize, usize, usize), u8> {
     let l = Code::lanes_fault(lanes)?;
-    if read.len() != code.size(code.n * l) || out != code.size(code.n * l) {
+    if read.len() != code.size(rows * l) || out != code.size(rows * l) {
         return Err(8);
     }
-    Ok((code.size(1), code.n, l))
+    Ok((code.size(1), rows, l))
 }
 
 /// How many messages have an encoding with each number of nodes that are not zero, by going through all messages.

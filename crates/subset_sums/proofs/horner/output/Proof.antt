@@ -35,16 +35,22 @@ loop-less c = omega arith
 loop-again : tie.Need-loop-again Inv-loop μ-loop
 loop-again c = (omega arith, c .turn .ensures)
 
-store-requires : tie.Need-store-requires Inv-loop μ-loop
-store-requires c κs =
+slice-aggregate-move64 : tie.Need-slice-aggregate-move64 Inv-loop μ-loop
+slice-aggregate-move64 c =
+    let at-loop : tie.At-loop Inv-loop μ-loop = search in
+    let l = at-loop .loop in sym (ap length (l .inv .1) ∙ length-turns (l .b) _ _ _ _)
+
+move64-requires : tie.Need-move64-requires Inv-loop μ-loop
+move64-requires c κs =
+    let at-loop : tie.At-loop Inv-loop μ-loop = search in
     let start : tie.Start Inv-loop μ-loop = search in
-    let l = c .before .before .before .loop in (ap length (l .inv .1) ∙ length-turns (l .b) _ _ _ _, start .pre .2)
+    let l = at-loop .loop in (ap length (l .inv .1) ∙ length-turns (l .b) _ _ _ _, start .pre .2)
 
 same-length : tie.Need-same-length Inv-loop μ-loop
 same-length c =
     let at-loop : tie.At-loop Inv-loop μ-loop = search in
     let start : tie.Start Inv-loop μ-loop = search in
-    let l = at-loop .loop in ap length (c .before .before .store .ensures) ∙ ap length (l .inv .1) ∙ length-turns (l .b) _ _ _ _ ∙ sym (start .pre .2)
+    let l = at-loop .loop in ap length (c .before .before .move64 .ensures) ∙ ap length (l .inv .1) ∙ length-turns (l .b) _ _ _ _ ∙ sym (start .pre .2)
 
 returns : tie.Need-returns Inv-loop μ-loop
 returns c =
@@ -53,8 +59,8 @@ returns c =
     let l = at-loop .loop in
     let a = start .args in
     let all : l .b ≡ 8 = omega arith in
-    c .before .before .store .ensures ∙ l .inv .1 ∙ ap (λ (n : ℕ). turnsOf n (a .groups) (a .tab .now) (a .list .now) (a .counts .now)) all
+    c .before .before .move64 .ensures ∙ l .inv .1 ∙ ap (λ (n : ℕ). turnsOf n (a .groups) (a .tab .now) (a .list .now) (a .counts .now)) all
 
 pub output-spec : {M : Type 1} → statement M
 output-spec =
-    tie.close (tie.spec Inv-loop μ-loop slice-requires loop-holds turn-requires add-b loop-less loop-again store-requires same-length returns)
+    tie.close (tie.spec Inv-loop μ-loop slice-requires loop-holds turn-requires add-b loop-less loop-again slice-aggregate-move64 move64-requires same-length returns)

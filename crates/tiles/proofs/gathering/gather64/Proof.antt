@@ -1,90 +1,51 @@
--- `gather64` meets its contract. The loop's invariant: the rows below j are in the tile.
-use Prim.Native.Nat.{_+_, _*_, _-_, _%_, _≤_}
-use mathlib.Core.Path.{_≡_, refl, _∙_, sym}
-use lib.ListN.{length}
-use Rattle.lists.proofs.Rows.{part-length, part-size}
-use Rattle.layout.specs.Layout.{byLane, held, laneOf}
-use Rattle.layout.proofs.Runs.{length-replaced}
-use Rattle.tiles.specs.Inner.Squares.{asRows}
-use Rattle.tiles.specs.Inner.Tiles.{TileOf}
-use Rattle.tiles.proofs.Gathered.{tile-none, tile-more, tile-lane, block-rows, length-rows-of}
-use native.Mathlib.Omega.{arith}
+-- `gather64` meets its contract, by one way or another.
+use mathlib.Core.Path.{refl}
+use Rattle.tiles.proofs.Blocks.{turned-in}
 use borrow.Author.Needs.{needs}
+use native.Mathlib.Omega.{arith}
 use Rattle.tiles.proofs.gathering.gather64.Statement.{statement}
 use Rattle.tiles.proofs.gathering.gather64.Tie as tie
 
-abbrev Inv-loop : tie.InvT-loop
-Inv-loop rows count part tile₀ lanes₀ j₀ tile lanes j = (j ≤ rows + 15) × (j % 16 ≡ 0) × (length lanes ≡ 1024) × (length tile ≡ length tile₀) × TileOf rows j count (λ i t. held byLane rows count part i t) tile
+gather-few-requires : tie.Need-gather-few-requires
+gather-few-requires c κs = search needs
 
-abbrev μ-loop : tie.MeasureT-loop
-μ-loop rows count part tile₀ lanes₀ j₀ tile lanes j = rows + 16 - j
+same-length : tie.Need-same-length
+same-length c = search needs
 
-block-requires : tie.Need-block-requires Inv-loop μ-loop
-block-requires c κs = search needs
+returns : tie.Need-returns
+returns c = let after : tie.After-gather-few = search in after .gather-few .ensures
 
-loop-holds : tie.Need-loop-holds Inv-loop μ-loop
-loop-holds c = (omega arith, omega arith, c .block .ensures, refl, tile-none _ _ _ _)
+gather-few-requires-2 : tie.Need-gather-few-requires-2
+gather-few-requires-2 c κs = search needs
 
-slice-aggregate-fill-block : tie.Need-slice-aggregate-fill-block Inv-loop μ-loop
-slice-aggregate-fill-block c = sym (c .before .before .loop .inv .2)
+same-length-2 : tie.Need-same-length-2
+same-length-2 c = search needs
 
-fill-block-requires : tie.Need-fill-block-requires Inv-loop μ-loop
-fill-block-requires c κs = let st : tie.Start Inv-loop μ-loop = search in (st .pre .0, st .pre .1, st .pre .2, c .before .loop-test .taken, c .before .before .loop .inv .2)
+returns-2 : tie.Need-returns-2
+returns-2 c = let after : tie.After-gather-few2 = search in after .gather-few2 .ensures
 
-mul-start : tie.Need-mul-start Inv-loop μ-loop
-mul-start c = omega arith
+gather-short-requires : tie.Need-gather-short-requires
+gather-short-requires c κs = let then3 : tie.Then3 = search in let st : tie.Start = search in (then3 .if3 .taken, omega arith, st .pre .1, st .pre .2, omega arith)
 
-add-end : tie.Need-add-end Inv-loop μ-loop
-add-end c = omega arith
+same-length-3 : tie.Need-same-length-3
+same-length-3 c = search needs
 
-slice-aggregate-lanes-to-rows : tie.Need-slice-aggregate-lanes-to-rows Inv-loop μ-loop
-slice-aggregate-lanes-to-rows c = sym (c .before .before .fill-block .ensures .long)
+returns-3 : tie.Need-returns-3
+returns-3 c = let after : tie.After-gather-short = search in after .gather-short .ensures
 
-sub-lanes-to-rows : tie.Need-sub-lanes-to-rows Inv-loop μ-loop
-sub-lanes-to-rows c = omega arith
+turn-all-requires : tie.Need-turn-all-requires
+turn-all-requires c κs = let st : tie.Start = search in (omega arith, omega arith, omega (arith, st .pre .2), λ more. st .pre .1, omega arith)
 
-part-lanes-to-rows-start : tie.Need-part-lanes-to-rows-start Inv-loop μ-loop
-part-lanes-to-rows-start c = omega arith
+same-length-4 : tie.Need-same-length-4
+same-length-4 c = let after : tie.After-turn-all = search in after .turn-all .ensures .long
 
-part-lanes-to-rows-end : tie.Need-part-lanes-to-rows-end Inv-loop μ-loop
-part-lanes-to-rows-end c = omega arith
-
-lanes-to-rows-requires : tie.Need-lanes-to-rows-requires Inv-loop μ-loop
-lanes-to-rows-requires c κs =
-    let at-loop : tie.At-loop Inv-loop μ-loop = search in
-    let l = at-loop .loop in
-    (c .before .before .before .fill-block .ensures .long, part-length (l .j * 64) 1024 (l .tile) (omega arith))
-
-add-j : tie.Need-add-j Inv-loop μ-loop
-add-j c = omega arith
-
-loop-less : tie.Need-loop-less Inv-loop μ-loop
-loop-less c = omega arith
-
-loop-again : tie.Need-loop-again Inv-loop μ-loop
-loop-again c =
-    let after-fill-block : tie.After-fill-block Inv-loop μ-loop = search in
-    let at-loop : tie.At-loop Inv-loop μ-loop = search in
-    let st : tie.Start Inv-loop μ-loop = search in
+returns-4 : tie.Need-returns-4
+returns-4 c =
+    let after : tie.After-turn-all = search in
+    let st : tie.Start = search in
     let a = st .args in
-    let l = at-loop .loop in
-    let made = after-fill-block .fill-block .ensures in
-    let block = after-fill-block .fill-block .last .1 .1 .1 .1 .0 in
-    let fits : l .j * 64 + 1024 ≤ length (l .tile) = omega arith in (
-      omega arith,
-      omega arith,
-      made .long,
-      rw (c .before .before .lanes-to-rows .ensures, part-size (l .j * 64) 1024) (length-replaced (l .tile) (asRows block) (l .j * 64) 1024 (length-rows-of block) fits ∙ l .inv .3),
-      rw (c .before .before .lanes-to-rows .ensures, part-size (l .j * 64) 1024) (tile-more (a .rows) (l .j) 16 (a .count) _ (l .tile) (asRows block) 1024 (length-rows-of block) fits (st .pre .1) (l .inv .4) (block-rows (a .rows) (l .j) (a .count) (a .part .now) block (st .pre .1) made)),
-    )
-
-same-length : tie.Need-same-length Inv-loop μ-loop
-same-length c = c .before .loop .inv .3
-
-returns : tie.Need-returns Inv-loop μ-loop
-unfolding laneOf
-returns c = let l = c .before .loop in (l .inv .3, tile-lane _ (l .j) _ _ _ (l .inv .4) (omega arith))
+    (after .turn-all .ensures .long, turned-in (a .rows) (a .count) (a .rows) (a .part .now) (a .part .now) _ _ (omega arith) (st .pre .1) (λ p h. refl) (after .turn-all .ensures))
 
 pub gather64-spec : {M : Type 1} → statement M
 gather64-spec =
-    tie.close (tie.spec Inv-loop μ-loop block-requires loop-holds slice-aggregate-fill-block fill-block-requires mul-start add-end slice-aggregate-lanes-to-rows sub-lanes-to-rows part-lanes-to-rows-start part-lanes-to-rows-end lanes-to-rows-requires add-j loop-less loop-again same-length returns)
+    tie.close (tie.spec gather-few-requires same-length returns gather-few-requires-2 same-length-2 returns-2 gather-short-requires same-length-3 returns-3 turn-all-requires same-length-4 returns-4)

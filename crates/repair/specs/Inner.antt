@@ -1,0 +1,3 @@
+-- What the functions behind the calls give.
+pub mod Rows
+pub mod Sums

@@ -1,0 +1,2 @@
+-- What the tables of a repair hold.
+pub mod Weights

@@ -1,0 +1,2 @@
+-- What inner functions give.
+pub mod Inner
