@@ -8,6 +8,8 @@ pub use choose::Chosen;
 pub use choose::choose_record;
 pub use correct::Correction;
 pub use correct::correct_block;
+pub use differences::add_share;
+pub use differences::differences;
 pub use encode::encode_block;
 pub use find_update::Finding;
 pub use find_update::find_update;
