@@ -4,6 +4,8 @@ pub use carry::CarriedLen;
 pub use carry::carried_len;
 pub use carry::carry_in;
 pub use carry::carry_out;
+pub use choose::Chosen;
+pub use choose::choose_record;
 pub use correct::Correction;
 pub use correct::correct_block;
 pub use differences::add_share;

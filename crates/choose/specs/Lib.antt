@@ -1,0 +1,3 @@
+-- Records that carry bytes, for every number of nodes.
+pub mod Table
+pub mod Promise
