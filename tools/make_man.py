@@ -68,7 +68,7 @@ def numbers(header):
 
 
 def calls(header):
-    """Each comment that calls follow, below their names."""
+    """Each comment, below the names of the calls that follow it."""
     yield ".SH CALLS"
     for match in COMMENT.finditer(header):
         behind = header[match.end():]
@@ -77,8 +77,9 @@ def calls(header):
             names = ", ".join(name for name in DECLARED.findall(following[0]))
             yield f".SS {names}"
             yield from paragraphs(lines_of(match[1]))
-        elif match[1].startswith(" * Rosters"):
-            yield ".SS Rosters"
+        elif match.start() > 0:
+            # what several calls have in common
+            yield f".SS {re.split('[:.]', lines_of(match[1])[0])[0]}"
             yield from paragraphs(lines_of(match[1]))
 
 

@@ -1,5 +1,9 @@
 // The calls of the balanced image store; those of a roster are methods of `Roster`. Every call takes the record itself; none has a precondition.
 pub use belongs::block_belongs;
+pub use carry::CarriedLen;
+pub use carry::carried_len;
+pub use carry::carry_in;
+pub use carry::carry_out;
 pub use correct::Correction;
 pub use correct::correct_block;
 pub use encode::encode_block;

@@ -1,5 +1,5 @@
 -- `sums::sum_planes` meets its contract.
-use Prim.Native.Nat.{_≤_, _+_, _-_, _*_}
+use Prim.Native.Nat.{_≤_, _<_, _+_, _-_, _*_}
 use native.Mathlib.Nat.{zero-mul, mul-le-mul, le-refl}
 use native.Mathlib.Omega.{arith}
 use lib.ListN.{length}
@@ -23,7 +23,7 @@ row-in : (c : tie.In-loop Inv-loop μ-loop)
     c .before .loop .p * a .size + a .size ≤ length (a .acc .now)
 row-in c =
     let s = c .before .before .before .before .before in
-    rw (s .pre .3) (row-inside 8 (c .before .loop .p) (s .args .size) (c .loop-test .taken))
+    rw (s .pre .3) (row-inside 8 (c .before .loop .p) (s .args .size) (omega (arith, c .loop-test .taken)))
 
 loop-holds : tie.Need-loop-holds Inv-loop μ-loop
 unfolding planeSums
@@ -51,7 +51,7 @@ sum-plane-requires : tie.Need-sum-plane-requires Inv-loop μ-loop
 sum-plane-requires c κs =
     let s : tie.Start Inv-loop μ-loop = search in
     let l = c .before .before .loop in
-    (c .before .loop-test .taken, s .pre .0, s .pre .1, part-length (l .p * s .args .size) (s .args .size) (l .acc) (omega (arith, l .inv .1 .long, row-in (c .before))))
+    (omega (arith, c .before .loop-test .taken), s .pre .0, s .pre .1, part-length (l .p * s .args .size) (s .args .size) (l .acc) (omega (arith, l .inv .1 .long, row-in (c .before))))
 
 add-p : tie.Need-add-p Inv-loop μ-loop
 add-p c = omega arith
@@ -64,10 +64,11 @@ loop-again c =
     let s : tie.Start Inv-loop μ-loop = search in
     let at = c .before .before .before .before in
     let l = c .before .before .before .before .before .loop in
-    let a = s .args in (
+    let a = s .args in
+    let low : l .p < 8 = omega (arith, at .loop-test .taken) in (
       omega arith,
       rw (row-after, part-size, c .before .before .sum-plane .ensures)
-          (fills-part (planeSum (a .weights .now) (a .count) (a .size) (a .rows .now) (l .p)) (a .size) (rw (rows-next _ 8 (l .p) (at .loop-test .taken)) at (l .inv .1)) (length-sum _ _ _ _ _) (row-in at)),
+          (fills-part (planeSum (a .weights .now) (a .count) (a .size) (a .rows .now) (l .p)) (a .size) (rw (rows-next _ 8 (l .p) low) at (l .inv .1)) (length-sum _ _ _ _ _) (row-in at)),
     )
 
 same-length : tie.Need-same-length Inv-loop μ-loop

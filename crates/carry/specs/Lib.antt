@@ -1,0 +1,2 @@
+-- What the calls that carry bytes promise.
+pub mod Promise
