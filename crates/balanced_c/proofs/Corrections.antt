@@ -14,18 +14,18 @@ use Rattle.balanced_c.specs.Corrections.{CorrectGives}
 module _ (rec : List ℕ) (l : ℕ) (shares : List ℕ) (altered : ℕ) (shares′ : List ℕ) (a : Correction) (says : CorrectSays rec l shares shares′ a) where
   pub correct-done : (count : ℕ) → a ≡ C.Altered count → CorrectGives rec l shares altered shares′ count 0
   correct-done count e =
-      let (none, same) = altered-means (faultOf rec (λ h. correctFault shareLayout h l shares)) _ count (sym e ∙ says .promise .answer) in
+      let (none, same) = altered-means (faultOf rec (λ h. correctFault shareLayout h l shares)) _ count (sym e ∙ says .promise .answered) in
       record {
         number = sym none;
-        says = record { promise = record { answer = rw (none, same); written = says .promise .written } };
+        says = record { promise = record { answered = rw (none, same); written = says .promise .written } };
         altered-is = counted rec l shares shares′ count (rw e at says);
       }
 
   pub correct-refuses : (g : ℕ) → a ≡ C.Refused g → CorrectGives rec l shares altered shares′ altered g
   correct-refuses g e =
-      let (same, some) = refused-means (faultOf rec (λ h. correctFault shareLayout h l shares)) _ g (sym e ∙ says .promise .answer) in
+      let (same, some) = refused-means (faultOf rec (λ h. correctFault shareLayout h l shares)) _ g (sym e ∙ says .promise .answered) in
       record {
         number = same;
-        says = record { promise = record { answer = means-refused g altered some ∙ sym e ∙ says .promise .answer; written = says .promise .written } };
+        says = record { promise = record { answered = means-refused g altered some ∙ sym e ∙ says .promise .answered; written = says .promise .written } };
         altered-is = sym (refused-value g _ altered some);
       }

@@ -23,7 +23,7 @@ module _ (rec before after : List ℕ) (answer symbol amount : ℕ) (a : Finding
   find-gives : (r : Finding) → a ≡ r → ((g : ℕ) → r ≡ Refused g → ⊥) → FindGives rec before after answer symbol amount (caseOf r) (foundSymbol r) (foundAmount r) 0
   unfolding foundIn
   find-gives r e other =
-      let (none, same) = found-means (faultOf rec (λ h. findFault h before after)) (foundIn rec before after) a (says .found .promise .answer) (λ g q. other g (sym e ∙ q)) in
+      let (none, same) = found-means (faultOf rec (λ h. findFault h before after)) (foundIn rec before after) a (says .found .promise .answered) (λ g q. other g (sym e ∙ q)) in
       record {
         number = sym none;
         answer-is = ap caseOf (sym (same ∙ e));
@@ -47,7 +47,7 @@ module _ (rec before after : List ℕ) (answer symbol amount : ℕ) (a : Finding
   pub find-refuses : (g : ℕ) → a ≡ Refused g → FindGives rec before after answer symbol amount answer symbol amount g
   unfolding foundIn
   find-refuses g e =
-      let (same, some) = refused-means (faultOf rec (λ h. findFault h before after)) (foundIn rec before after) g (not-refused _ _ _) (sym e ∙ says .found .promise .answer) in
+      let (same, some) = refused-means (faultOf rec (λ h. findFault h before after)) (foundIn rec before after) g (not-refused _ _ _) (sym e ∙ says .found .promise .answered) in
       record {
         number = same;
         answer-is = sym (refused-value g _ answer some);
@@ -65,7 +65,7 @@ module _ (rec lane nodes symbols nodes′ symbols′ : List ℕ) (a : Mending) (
   unfolding mendedNodes mendedBytes
   mends-listed c e =
       let promise = says .listed .promise in
-      let (none, same) = listed-count fault (length (mendedNodes rec lane)) c (sym e ∙ promise .answer) in
+      let (none, same) = listed-count fault (length (mendedNodes rec lane)) c (sym e ∙ promise .answered) in
       record {
         number = sym none;
         count-is = same;
@@ -79,7 +79,7 @@ module _ (rec lane nodes symbols nodes′ symbols′ : List ℕ) (a : Mending) (
   unfolding mendedNodes mendedBytes
   mends-refused g e =
       let promise = says .listed .promise in
-      let (same, some) = refused-number fault (length (mendedNodes rec lane)) g (sym e ∙ promise .answer) in
+      let (same, some) = refused-number fault (length (mendedNodes rec lane)) g (sym e ∙ promise .answered) in
       record {
         number = same;
         count-is = sym (refused-value g _ count some);

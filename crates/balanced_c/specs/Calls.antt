@@ -30,42 +30,42 @@ planRoomFault numbers shifts firsts base = when (not (eqb numbers 5 && (eqb shif
 
 -- n, k, d, and k·d / n rounded down and up
 unfoldable pub numbersOf : Plan → List ℕ
-numbersOf p = p .n ∷ p .k ∷ p .d ∷ p .low ∷ p .high ∷ []
+numbersOf plan = plan .n ∷ plan .k ∷ plan .d ∷ plan .low ∷ plan .high ∷ []
 
 -- `balanced_plan`: the plan's parts, and what is claimed of every accepted record
-pub record PlanGives (rec numbers shifts firsts base numbers′ shifts′ firsts′ base′ : List ℕ) (r : ℕ) : Type 0 where
-  pub number : r ≡ faultOf rec (λ h. planRoomFault (length numbers) (length shifts) (length firsts) (length base))
-  pub numbers-are : numbers′ ≡ pick (eqb r 0) (numbersOf (planFor (recordOf rec))) numbers
-  pub shifts-are : shifts′ ≡ pick (eqb r 0) (planFor (recordOf rec) .shifts) shifts
-  pub firsts-are : firsts′ ≡ pick (eqb r 0) (planFor (recordOf rec) .firsts) firsts
-  pub base-is : base′ ≡ pick (eqb r 0) (planFor (recordOf rec) .base) base
+pub record PlanGives (rec numbers shifts firsts base numbers′ shifts′ firsts′ base′ : List ℕ) (f : ℕ) : Type 0 where
+  pub number : f ≡ faultOf rec (λ h. planRoomFault (length numbers) (length shifts) (length firsts) (length base))
+  pub numbers-are : numbers′ ≡ pick (eqb f 0) (numbersOf (planFor (recordOf rec))) numbers
+  pub shifts-are : shifts′ ≡ pick (eqb f 0) (planFor (recordOf rec) .shifts) shifts
+  pub firsts-are : firsts′ ≡ pick (eqb f 0) (planFor (recordOf rec) .firsts) firsts
+  pub base-is : base′ ≡ pick (eqb f 0) (planFor (recordOf rec) .base) base
   pub claims : Promised (recordOf rec)
 
 -- `balanced_encode`: the number, and what Encode says of the shares
-pub record EncodeGives (rec : List ℕ) (l : ℕ) (message shares shares′ : List ℕ) (r : ℕ) : Type 0 where
-  pub number : r ≡ faultOf rec (λ h. encodeFault h l (length shares) message)
-  pub says : EncodeSays rec l message shares shares′ (outcomeOf r)
+pub record EncodeGives (rec : List ℕ) (l : ℕ) (message shares shares′ : List ℕ) (f : ℕ) : Type 0 where
+  pub number : f ≡ faultOf rec (λ h. encodeFault h l (length shares) message)
+  pub says : EncodeSays rec l message shares shares′ (outcomeOf f)
 
 -- `balanced_update`: the number, what Update says of the shares, and how many of their symbols differ afterwards
-pub record UpdateGives (rec : List ℕ) (l symbol lane old new : ℕ) (shares : List ℕ) (altered : ℕ) (shares′ : List ℕ) (altered′ r : ℕ) : Type 0 where
-  pub number : r ≡ faultOf rec (λ h. updateFault shareLayout h l symbol lane old new shares)
-  pub says : UpdateSays rec l symbol lane old new shares shares′ (updateOf r altered′)
-  pub altered-is : altered′ ≡ pick (eqb r 0) (let w = width (headerOf rec) in differ (symbolsOf w shares) (symbolsOf w shares′)) altered
+pub record UpdateGives (rec : List ℕ) (l symbol lane old new : ℕ) (shares : List ℕ) (altered : ℕ) (shares′ : List ℕ) (altered′ f : ℕ) : Type 0 where
+  pub number : f ≡ faultOf rec (λ h. updateFault shareLayout h l symbol lane old new shares)
+  pub says : UpdateSays rec l symbol lane old new shares shares′ (updateOf f altered′)
+  pub altered-is : altered′ ≡ pick (eqb f 0) (let w = width (headerOf rec) in differ (symbolsOf w shares) (symbolsOf w shares′)) altered
 
 -- `balanced_recover`: the number, and what Recover says of the message
-pub record RecoverGives (rec : List ℕ) (l : ℕ) (nodes shares message message′ : List ℕ) (r : ℕ) : Type 0 where
-  pub number : r ≡ faultOf rec (λ h. recoverFault h l nodes shares (length message))
-  pub says : RecoverSays rec l nodes shares message message′ (outcomeOf r)
+pub record RecoverGives (rec : List ℕ) (l : ℕ) (nodes shares message message′ : List ℕ) (f : ℕ) : Type 0 where
+  pub number : f ≡ faultOf rec (λ h. recoverFault h l nodes shares (length message))
+  pub says : RecoverSays rec l nodes shares message message′ (outcomeOf f)
 
 -- `balanced_rebuild`: the number, and what Rebuild says of the target's share
-pub record RebuildGives (rec : List ℕ) (l : ℕ) (nodes shares : List ℕ) (target : ℕ) (share share′ : List ℕ) (r : ℕ) : Type 0 where
-  pub number : r ≡ faultOf rec (λ h. rebuildFault h l nodes shares target (length share))
-  pub says : RebuildSays rec l nodes shares target share share′ (outcomeOf r)
+pub record RebuildGives (rec : List ℕ) (l : ℕ) (nodes shares : List ℕ) (target : ℕ) (share share′ : List ℕ) (f : ℕ) : Type 0 where
+  pub number : f ≡ faultOf rec (λ h. rebuildFault h l nodes shares target (length share))
+  pub says : RebuildSays rec l nodes shares target share share′ (outcomeOf f)
 
 -- `balanced_belongs`: the smallest lane that is no word of the code, or the number of lanes where all are
-pub record BelongsGives (rec : List ℕ) (l : ℕ) (shares : List ℕ) (first first′ r : ℕ) : Type 0 where
-  pub number : r ≡ faultOf rec (λ h. belongsFault h l shares)
-  pub first-is : first′ ≡ pick (eqb r 0) (wrongLane shareLayout (headerOf rec) l shares) first
+pub record BelongsGives (rec : List ℕ) (l : ℕ) (shares : List ℕ) (first first′ f : ℕ) : Type 0 where
+  pub number : f ≡ faultOf rec (λ h. belongsFault h l shares)
+  pub first-is : first′ ≡ pick (eqb f 0) (wrongLane shareLayout (headerOf rec) l shares) first
 
 -- the calls that rearrange shares: the number, and the source rearranged; the header says how many rows there are
 pub record RearrangeGives (y z : Arrangement) (rows : Header → ℕ) (rec : List ℕ) (l : ℕ) (source out out′ : List ℕ) (f : ℕ) : Type 0 where
@@ -87,6 +87,6 @@ abbrev pub ListedToNodesGives : List ℕ → ℕ → List ℕ → List ℕ → L
 ListedToNodesGives = RearrangeGives byLane byRow (λ h. h .k)
 
 -- `balanced_weights`: the number, and what the call says of the counts
-pub record WeightsGive (rec counts counts′ : List ℕ) (r : ℕ) : Type 0 where
-  pub number : r ≡ faultOf rec (λ h. weightsFault h (length counts))
-  pub says : WeightsSay rec counts counts′ (outcomeOf r)
+pub record WeightsGive (rec counts counts′ : List ℕ) (f : ℕ) : Type 0 where
+  pub number : f ≡ faultOf rec (λ h. weightsFault h (length counts))
+  pub says : WeightsSay rec counts counts′ (outcomeOf f)

@@ -26,4 +26,4 @@ module _ (h : Header) (sound : Sound h) (l : ℕ) where
 -- beside a number g: the number, and nothing is written
 module _ {y : Arrangement} (h : Header) (g : ℕ) (some : g ≡ 0 → ⊥) (l : ℕ) where
   pub belongs-refuses : (shares : List ℕ) → BelongsPromise y l shares (M.Refused g) h g
-  belongs-refuses shares = record { answer = sym (membership-refused g l _ some) }
+  belongs-refuses shares = record { answered = sym (membership-refused g l _ some) }

@@ -21,11 +21,11 @@ belongsFault h l shares =
     (when (symbolsBad h shares) 11))
 
 -- Belongs: yes, or the smallest lane that is no word
-pub record BelongsPromise (y : Arrangement) (l : ℕ) (shares : List ℕ) (r : Membership) (h : Header) (f : ℕ) : Type 0 where
-  pub answer : r ≡ membershipOf f l (wrongLane y h l shares)
+pub record BelongsPromise (y : Arrangement) (l : ℕ) (shares : List ℕ) (answer : Membership) (h : Header) (f : ℕ) : Type 0 where
+  pub answered : answer ≡ membershipOf f l (wrongLane y h l shares)
 
 abbrev pub BelongsSaysIn : Arrangement → List ℕ → ℕ → List ℕ → Membership → Type 0
-BelongsSaysIn y rec l shares r = OnRecord rec (λ h. belongsFault h l shares) (BelongsPromise y l shares r)
+BelongsSaysIn y rec l shares answer = OnRecord rec (λ h. belongsFault h l shares) (BelongsPromise y l shares answer)
 
 abbrev pub BelongsSays : List ℕ → ℕ → List ℕ → Membership → Type 0
 BelongsSays = BelongsSaysIn shareLayout

@@ -1,6 +1,6 @@
--- Lanes, shares, updates, the code test and recovered messages as document 03 states them (specs/Blocks.antt and specs/Says.antt), and that ours, with shares row after row, are the same for every sound header whose n divides k·d, as document 03 asks.
--- Its text stands here but for the marks: what it has as `abbrev` is `unfoldable`. Its numbers 7 to 11 are quoted in FaultsAgreement, its records and generator in the crate `generator`, its arithmetic in the crate `field`;
--- its `when` and `allBelow` are those of `lists`, the same recursions.
+-- Lanes, shares, updates, the code test and recovered messages as the first statements have them, and that ours, with shares row after row, are the same for every sound header whose n divides k·d, as they ask.
+-- Their text stands here but for the marks: what they have as `abbrev` is `unfoldable`. Their numbers 7 to 11 are quoted in FaultsAgreement, their records and generator in the crate `generator`, their arithmetic in the crate `field`;
+-- their `when` and `allBelow` are those of `lists`, the same recursions.
 use mathlib.Core.Path.{_≡_, refl, sym, ap, ap₂, _∙_}
 use mathlib.Core.Logic.{_↔_}
 use mathlib.Core.Bool.{true, false, not}
@@ -44,7 +44,7 @@ use Rattle.generator.proofs.Agreement as C
 use Rattle.blocks.specs.Blocks as Ours
 use Rattle.blocks.proofs.Updates.{length-updated}
 
--- document 03's definitions: lanes and shares
+-- the first definitions: lanes and shares
 unfoldable pub laneFrom : ℕ → ℕ → ℕ → List ℕ → List ℕ
 laneFrom zero l t s = []
 laneFrom (suc n) l t s = getD s t 0 ∷ laneFrom n l (t + l) s

@@ -10,6 +10,6 @@ pub mod Bytes
 pub mod Refused
 pub mod Answered
 pub mod Notebook
--- The same definitions as document 03 has them.
+-- The same definitions as the first statements have them.
 pub mod Agreement
 pub mod OursAgreement

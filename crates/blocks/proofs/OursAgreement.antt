@@ -1,5 +1,5 @@
--- What document 03 claims of every accepted plan (specs/Claims.antt, the record `Ours`), proved of its own definitions through the agreements: of every record that document 03 accepts, with updates in any number of lanes.
--- Its text stands here as it is. Its definitions are quoted in Agreement, and in the agreements of the crates `generator` and `field`.
+-- What the first statements claim of every accepted plan, the record `Ours`, proved of their own definitions through the agreements: of every record that they accept, with updates in any number of lanes.
+-- Their text stands here as it is. Their definitions are quoted in Agreement, and in the agreements of the crates `generator` and `field`.
 use mathlib.Core.Path.{_≡_, sym, ap, ap₂, subst, _∙_}
 use mathlib.Core.Logic.{_↔_, ⊎-elim}
 use mathlib.Core.Bool.{Bool, true, false, not}
@@ -34,7 +34,7 @@ use Rattle.blocks.specs.Blocks as Blocks
 use Rattle.blocks.proofs.Agreement.{laneOf, updated, differ, laneOf-agrees, differ-agrees, updated-agrees, altered-agrees}
 use Rattle.blocks.proofs.Updates.{updated-others, updated-encodes, updated-count}
 
--- document 03's claims
+-- the first claims
 abbrev pub someBelow : ℕ → ℕ → ℕ → Bool
 someBelow n d x = ltb (rest x n) d
 
@@ -62,7 +62,7 @@ module _ (h : Own.Header) (s : R.Sound h) (even : h .k * R.distance h % h .n ≡
   abbrev O : Claims.Ours h
   O = ours h s
 
-  -- its sizes, messages and nodes are ours
+  -- the first sizes, messages and nodes are ours
   below : (ys : List ℕ) → allBelow (sizeOf (R.modulusOf h)) ys ≡ true → allBelow (R.size h) ys ≡ true
   below ys b = rw (sizeOf-agrees (R.modulusOf h)) at b
 
@@ -213,7 +213,7 @@ module _ (h : Own.Header) (s : R.Sound h) (even : h .k * R.distance h % h .n ≡
         );
       }
 
--- so its claims hold of every record that it accepts
+-- so the first claims hold of every record that the first statements accept
 pub ours-holds : (rec : List ℕ) → recordFault rec ≡ 0 → Ours (headerOf rec)
 ours-holds rec e =
     let old = accepted-older rec e in

@@ -44,7 +44,7 @@ rowAdded y h l r t x s = withLane y (h .n) l t (addedAt y h l r t x s) s
 
 -- x times row r added to a word by itself
 unfoldable pub wordAdded : Header → ℕ → ℕ → List ℕ → List ℕ
-wordAdded h r x w = from (λ j. add (modulusOf h) (getD w j 0) (mul (modulusOf h) x (entry h r j))) 0 (h .n)
+wordAdded h r x ws = from (λ j. add (modulusOf h) (getD ws j 0) (mul (modulusOf h) x (entry h r j))) 0 (h .n)
 
 -- (new − old) times row r added to lane t
 unfoldable pub updated : Arrangement → Header → ℕ → ℕ → ℕ → ℕ → ℕ → List ℕ → List ℕ

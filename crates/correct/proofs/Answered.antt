@@ -37,7 +37,7 @@ module _ (rec : List ℕ) (l : ℕ) (shares shares′ : List ℕ) (count : ℕ) 
   h = headerOf rec
 
   no-number : faultOf rec (λ h. correctFault shareLayout h l shares) ≡ 0
-  no-number = altered-means _ _ count (says .promise .answer) .0
+  no-number = altered-means _ _ count (says .promise .answered) .0
 
   pub symbols-written : symbolsOf (width h) shares′ ≡ correctedShares shareLayout h l (symbolsOf (width h) shares)
   unfolding correctedBytes
@@ -45,4 +45,4 @@ module _ (rec : List ℕ) (l : ℕ) (shares shares′ : List ℕ) (count : ℕ) 
 
   pub counted : count ≡ differ (symbolsOf (width h) shares) (symbolsOf (width h) shares′)
   unfolding correctedCount
-  counted = altered-means _ _ count (says .promise .answer) .1 ∙ ap (differ (symbolsOf (width h) shares)) (sym symbols-written)
+  counted = altered-means _ _ count (says .promise .answered) .1 ∙ ap (differ (symbolsOf (width h) shares)) (sym symbols-written)

@@ -21,12 +21,12 @@ use Rattle.correct.specs.Promise.{correctFault, correctionOf, CorrectPro
 module _ (y : Arrangement) (h : Header) (l : ℕ) (shares : List ℕ) where
   -- a number turns the call away, and nothing is written
   pub correct-refuses : (g : ℕ) → (g ≡ 0 → ⊥) → CorrectPromise y l shares shares (Refused g) h g
-  correct-refuses g some = record { answer = sym (means-refused g _ some); written = sym (refused-value g _ shares some) }
+  correct-refuses g some = record { answered = sym (means-refused g _ some); written = sym (refused-value g _ shares some) }
 
   -- no number does
   pub correct-done : (count : ℕ) (shares′ : List ℕ) → shares′ ≡ correctedBytes y h l shares → count ≡ correctedCount y h l shares → CorrectPromise y l shares shares′ (Altered count) h 0
   unfolding correctionOf
-  correct-done count shares′ is number = record { answer = ap Altered number; written = is }
+  correct-done count shares′ is number = record { answered = ap Altered number; written = is }
 
   -- a lane is too far from every word, or none is
   pub far-met : (far : ℕ) → far ≡ firstFar y h l (symbolsOf (width h) shares) → far < l → when (farBad y h l shares) 14 ≡ 14

@@ -22,12 +22,12 @@ correctionOf zero count = Altered count
 correctionOf (suc f) count = Refused (suc f)
 
 -- every lane as the word nearest to it, and how many symbols differ afterwards; beside a number nothing is written
-pub record CorrectPromise (y : Arrangement) (l : ℕ) (shares shares′ : List ℕ) (r : Correction) (h : Header) (f : ℕ) : Type 0 where
-  pub answer : r ≡ correctionOf f (correctedCount y h l shares)
+pub record CorrectPromise (y : Arrangement) (l : ℕ) (shares shares′ : List ℕ) (answer : Correction) (h : Header) (f : ℕ) : Type 0 where
+  pub answered : answer ≡ correctionOf f (correctedCount y h l shares)
   pub written : shares′ ≡ pick (eqb f 0) (correctedBytes y h l shares) shares
 
 abbrev pub CorrectSaysIn : Arrangement → List ℕ → ℕ → List ℕ → List ℕ → Correction → Type 0
-CorrectSaysIn y rec l shares shares′ r = OnRecord rec (λ h. correctFault y h l shares) (CorrectPromise y l shares shares′ r)
+CorrectSaysIn y rec l shares shares′ answer = OnRecord rec (λ h. correctFault y h l shares) (CorrectPromise y l shares shares′ answer)
 
 -- with shares as they stand in buffers
 abbrev pub CorrectSays : List ℕ → ℕ → List ℕ → List ℕ → Correction → Type 0

@@ -52,7 +52,7 @@ module _ (rec : List ℕ) (l : ℕ) where
   encode : (message out out′ : List ℕ) → EncodeSays rec l message out out′ O.Done → EncodeDone h l message out′
   unfolding encodedBytes
   encode message out out′ says =
-      let none = done-means (faultOf rec (λ h. encodeFault h l (length out) message)) (says .promise .answer) in
+      let none = done-means (faultOf rec (λ h. encodeFault h l (length out) message)) (says .promise .answered) in
       let (sound, own) = none-met rec (λ h. encodeFault h l (length out) message) none in
       let (rows, long) = encode-accepts h sound l (length out) message own in
       let now : read h out′ ≡ sharesOf shareLayout h l (read h message) = read-written h out′ _ (rw none at (says .promise .written)) in
@@ -66,7 +66,7 @@ module _ (rec : List ℕ) (l : ℕ) where
     recover : (out out′ : List ℕ) → RecoverSays rec l nodes shares out out′ O.Done → RecoverDone h l nodes shares out′
     unfolding RecoveredBytes
     recover out out′ says =
-        let none = done-means (faultOf rec (λ h. recoverFault h l nodes shares (length out))) (says .promise .answer) in
+        let none = done-means (faultOf rec (λ h. recoverFault h l nodes shares (length out))) (says .promise .answered) in
         let (sound, own) = none-met rec (λ h. recoverFault h l nodes shares (length out)) none in
         let (listed, long) = recover-accepts h sound l nodes shares (length out) own in
         let (m, is, written) = rw none at (recover-law share-lawful rec l nodes shares out out′ O.Done says) in
@@ -81,7 +81,7 @@ module _ (rec : List ℕ) (l : ℕ) where
     rebuild : (target : ℕ) (out out′ : List ℕ) → RebuildSays rec l nodes shares target out out′ O.Done → RebuildDone h l nodes shares target out′
     unfolding RebuiltBytes
     rebuild target out out′ says =
-        let none = done-means (faultOf rec (λ h. rebuildFault h l nodes shares target (length out))) (says .promise .answer) in
+        let none = done-means (faultOf rec (λ h. rebuildFault h l nodes shares target (length out))) (says .promise .answered) in
         let (sound, own) = none-met rec (λ h. rebuildFault h l nodes shares target (length out)) none in
         let (listed, node, long) = rebuild-accepts h sound l nodes shares target (length out) own in
         let (m, is, written) = rw none at (rebuild-law share-lawful rec l nodes shares out out′ O.Done target says) in
@@ -99,7 +99,7 @@ module _ (rec : List ℕ) (l : ℕ) where
     passes : BelongsSays rec l shares M.Yes → AllWords h l shares
     unfolding wrongLane
     passes says =
-        let (none, all) = yes-means (faultOf rec (λ h. belongsFault h l shares)) l (wrongLane shareLayout h l shares) (says .promise .answer) in
+        let (none, all) = yes-means (faultOf rec (λ h. belongsFault h l shares)) l (wrongLane shareLayout h l shares) (says .promise .answered) in
         let (sound, own) = none-met rec (λ h. belongsFault h l shares) none in
         let rows = belongs-accepts h sound l shares own in
         λ t inside. code-demands h sound .passes l (read h shares) (rows-are h (h .n) l (read h shares) (rows .symbol-rows)) .0 all t inside
@@ -107,7 +107,7 @@ module _ (rec : List ℕ) (l : ℕ) where
     names : (wrong : ℕ) → BelongsSays rec l shares (M.No wrong) → SmallestWrong h l shares wrong
     unfolding wrongLane
     names wrong says =
-        let (none, at, other) = no-means (faultOf rec (λ h. belongsFault h l shares)) l (wrongLane shareLayout h l shares) wrong (says .promise .answer) in
+        let (none, at, other) = no-means (faultOf rec (λ h. belongsFault h l shares)) l (wrongLane shareLayout h l shares) wrong (says .promise .answered) in
         let (sound, own) = none-met rec (λ h. belongsFault h l shares) none in
         let rows = belongs-accepts h sound l shares own in
         let is : firstWrong shareLayout h l (read h shares) ≡ wrong = at in
@@ -122,7 +122,7 @@ module _ (rec : List ℕ) (l : ℕ) where
   update : (r t old new : ℕ) (shares shares′ : List ℕ) (count : ℕ) → UpdateSays rec l r t old new shares shares′ (U.Altered count) → UpdateDone h shares shares′ l r t old new count
   unfolding updatedBytes
   update r t old new shares shares′ count says =
-      let (none, same) = altered-means (faultOf rec (λ h. updateFault shareLayout h l r t old new shares)) _ count (says .promise .answer) in
+      let (none, same) = altered-means (faultOf rec (λ h. updateFault shareLayout h l r t old new shares)) _ count (says .promise .answered) in
       let (sound, own) = none-met rec (λ h. updateFault shareLayout h l r t old new shares) none in
       let written = rw none at (says .promise .written) in
       let now : read h shares′ ≡ updated shareLayout h l r t old new (read h shares) = read-written h shares′ _ written in

@@ -132,7 +132,7 @@ module _ (rec : List ℕ) (l : ℕ) (shares : List ℕ) where
   -- what is known of a call that was done
   module _ (shares′ : List ℕ) (count : ℕ) (says : CorrectSays rec l shares shares′ (C.Altered count)) where
     no-number : number ≡ 0
-    no-number = altered-means number _ count (says .promise .answer) .0
+    no-number = altered-means number _ count (says .promise .answered) .0
 
     accepted : Sound h × (belongsFault h l shares ≡ 0)
     accepted = own (none-earlier no-number)
@@ -195,7 +195,7 @@ module _ (rec : List ℕ) (l : ℕ) (shares : List ℕ) where
     unfolding faultOf membershipOf
     belongs r promised =
         let (fine, rest) = first-zero (recordFault rec) (belongsFault h l shares) (none-earlier no-number) in
-        promised .promise .answer ∙ rw (fine, belongs-none, no-wrong, eq-eqb l l refl)
+        promised .promise .answered ∙ rw (fine, belongs-none, no-wrong, eq-eqb l l refl)
 
     -- for k = n and k = n − 1 only words pass
     exactly : h .n ≤ h .k + 1 → ((t : ℕ) → t < l → Codeword h (laneIn h l shares t)) × (symbolsOf (width h) shares′ ≡ symbolsOf (width h) shares) × (count ≡ 0)
@@ -211,7 +211,7 @@ module _ (rec : List ℕ) (l : ℕ) (shares : List ℕ) where
   module _ (shares′ : List ℕ) where
     untouched : (g : ℕ) → CorrectSays rec l shares shares′ (C.Refused g) → shares′ ≡ shares
     untouched g says =
-        let (same, some) = refused-means number _ g (says .promise .answer) in
+        let (same, some) = refused-means number _ g (says .promise .answered) in
         says .promise .written ∙ refused-value number _ shares (λ e. some (same ∙ e))
 
     -- no earlier number is 14
@@ -236,7 +236,7 @@ module _ (rec : List ℕ) (l : ℕ) (shares : List ℕ) where
       where
         to : r ≡ C.Refused 14 → (earlier ≡ 0) × ((t : ℕ) × (t < l) × ((us : List ℕ) → NearWord h (laneIn h l shares t) us → ⊥))
         to e =
-            let is : 14 ≡ number = refused-means number _ 14 (sym e ∙ says .promise .answer) .0 in
+            let is : 14 ≡ number = refused-means number _ 14 (sym e ∙ says .promise .answered) .0 in
             let none : earlier ≡ 0 = by-cases (ℕ-discrete earlier 0) (λ z. z) (λ some. absurd (not-earlier (sym (first some) ∙ sym is))) in
             let (sound, fine) = own none in
             let bad : farBad shareLayout h l shares ≡ true = by-test (farBad shareLayout h l shares) (λ b. b) (λ b. absurd (omega (arith, is, later none ∙ ap (λ (x : Bool). when x 14) b))) in
@@ -249,7 +249,7 @@ module _ (rec : List ℕ) (l : ℕ) (shares : List ℕ) where
             let ws = laneIn h l shares t in
             let far : hasNear h ws ≡ false = by-test (hasNear h ws) (λ b. absurd (no-word _ (has-near h sound ws (length-lane shareLayout (h .n) l t (symbolsOf (width h) shares)) b))) (λ b. b) in
             let is : number ≡ 14 = later none ∙ ap (λ (x : Bool). when x 14) (one-bad h sound l shares fine t inside far) in
-            says .promise .answer ∙ ap (λ (f : ℕ). correctionOf f (correctedCount shareLayout h l shares)) is ∙ means-refused 14 _ (λ z. omega arith)
+            says .promise .answered ∙ ap (λ (f : ℕ). correctionOf f (correctedCount shareLayout h l shares)) is ∙ means-refused 14 _ (λ z. omega arith)
 
 -- with shares rearranged
 module _ {y z : Arrangement} (a : Lawful y) (b : Lawful z) (h : Header) (l : ℕ) (shares : List ℕ) (full : length shares ≡ h .n * l * width h) where
@@ -283,7 +283,7 @@ module _ {y z : Arrangement} (a : Lawful y) (b : Lawful z) (h : Header) (l : ℕ
 module _ {y z : Arrangement} (a : Lawful y) (b : Lawful z) (rec : List ℕ) (l : ℕ) (shares : List ℕ) (full : Full (headerOf rec) (headerOf rec .n) l shares) where
   lanes : (shares′ now : List ℕ) (before after : Correction) → CorrectSaysIn y rec l shares shares′ before → CorrectSaysIn z rec l (rearrangedBytes y z (headerOf rec) (headerOf rec .n) l shares) now after → (after ≡ before) × (now ≡ rearrangedBytes y z (headerOf rec) (headerOf rec .n) l shares′)
   lanes shares′ now before after was is = (
-    is .promise .answer ∙ ap₂ correctionOf same (counts-turned a b h′ l shares full) ∙ sym (was .promise .answer),
+    is .promise .answered ∙ ap₂ correctionOf same (counts-turned a b h′ l shares full) ∙ sym (was .promise .answered),
     by-cases (ℕ-discrete given 0)
         (λ none.
         rw (same ∙ none) at (is .promise .written) ∙ bytes-turned a b h′ l shares full ∙ ap (rearrangedBytes y z h′ (h′ .n) l) (sym (rw none at (was .promise .written))))

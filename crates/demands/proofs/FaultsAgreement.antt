@@ -1,6 +1,6 @@
--- Numbers 7 to 11 as document 03 states them (specs/Blocks.antt), and that ours are the same for every record whose n divides k·d and every input, with shares row after row: number 6, which document 03 gives to the others, is no longer given. Of an update these are the numbers of what it is given; 12 and 13 come after them.
--- Its text stands here but for the marks: what it has as `abbrev` is `unfoldable`. Its records are quoted in the crate `generator`, its `sizeOf` in the crate `field`, its lanes in Agreement;
--- its `firstOf`, `when`, `allBelow`, `isIn` and `distinct` are those of `lists`, the same recursions. Its faults take the record itself, ours a header: `faultOf` puts the record's number before them.
+-- Numbers 7 to 11 as the first statements have them, and that ours are the same for every record whose n divides k·d and every input, with shares row after row: number 6, which they give to the others, is no longer given. Of an update these are the numbers of what it is given; 12 and 13 come after them.
+-- Their text stands here but for the marks: what they have as `abbrev` is `unfoldable`. Their records are quoted in the crate `generator`, their `sizeOf` in the crate `field`, their lanes in Agreement;
+-- their `firstOf`, `when`, `allBelow`, `isIn` and `distinct` are those of `lists`, the same recursions. Their faults take the record itself, ours a header: `faultOf` puts the record's number before them.
 use mathlib.Core.Path.{_≡_, refl}
 use mathlib.Core.Bool.{Bool, true, false, _&&_, _||_, not, or-comm}
 use mathlib.Core.List.{List}
@@ -25,7 +25,7 @@ use Rattle.update.specs.Promise as Update
 use Rattle.recover.specs.Promise as Recover
 use Rattle.belongs.specs.Promise as Belongs
 
--- document 03's definitions
+-- the first definitions
 unfoldable pub lanesBad : ℕ → Bool
 lanesBad l = eqb l 0 || ltb 4096 l
 

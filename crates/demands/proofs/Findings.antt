@@ -34,7 +34,7 @@ use Rattle.demands.specs.Findings.{InNumbers, Findings}
 call : (rec before after : List ℕ) (r : Finding) → FindSays rec before after r → ((g : ℕ) → r ≡ Refused g → ⊥) → (r ≡ findingOf (headerOf rec) (read (headerOf rec) before) (read (headerOf rec) after)) × Finds (headerOf rec) (read (headerOf rec) before) (read (headerOf rec) after)
 call rec before after r says never =
     let h = headerOf rec in
-    let (none, same) = found-means (faultOf rec (λ h. findFault h before after)) (findingOf h (read h before) (read h after)) r (says .found .promise .answer) never in
+    let (none, same) = found-means (faultOf rec (λ h. findFault h before after)) (findingOf h (read h before) (read h after)) r (says .found .promise .answered) never in
     let (sound, own) = none-met rec (λ h. findFault h before after) none in
     let lanes = find-accepts h before after own in
     (sym same, finds h sound (read h before) (read h after) (lanes .first) (lanes .second))

@@ -51,10 +51,10 @@ module _ {y z : Arrangement} (a : Lawful y) (b : Lawful z) (rec : List ℕ) (l :
   encode : (message out out′ new new′ : List ℕ) (r u : Outcome) → length new ≡ length out → EncodeSaysIn y rec l message out out′ r → EncodeSaysIn z rec l message new new′ u → (u ≡ r) × (u ≡ Done → new′ ≡ rearrangedBytes y z h (h .n) l out′)
   encode message out out′ new new′ r u size old now =
       let same : faultOf rec (λ h. encodeFault h l (length new) message) ≡ faultOf rec (λ h. encodeFault h l (length out) message) = rw size in
-      let answer : u ≡ r = now .promise .answer ∙ ap outcomeOf same ∙ sym (old .promise .answer) in (
+      let answer : u ≡ r = now .promise .answered ∙ ap outcomeOf same ∙ sym (old .promise .answered) in (
         answer,
         λ done.
-            let none = done-means (faultOf rec (λ h. encodeFault h l (length new) message)) (sym done ∙ now .promise .answer) in
+            let none = done-means (faultOf rec (λ h. encodeFault h l (length new) message)) (sym done ∙ now .promise .answered) in
             let before = sym same ∙ none in
             rw none at (now .promise .written) ∙ encoded-turned a b h l message ∙ ap (rearrangedBytes y z h (h .n) l) (sym (rw before at (old .promise .written))),
       )
@@ -69,16 +69,16 @@ module _ {y z : Arrangement} (a : Lawful y) (b : Lawful z) (rec : List ℕ) (l :
         by-cases (ℕ-discrete number 0)
         (λ none.
         let inside = update-inside y h l r t old new shares (none-met rec (λ h. updateFault y h l r t old new shares) none .1) in (
-          is .promise .answer ∙ ap₂ updateOf same (altered-turned a b h l shares full r t old new inside) ∙ sym (was .promise .answer),
+          is .promise .answered ∙ ap₂ updateOf same (altered-turned a b h l shares full r t old new inside) ∙ sym (was .promise .answered),
           rw (same ∙ none) at (is .promise .written)
               ∙ updated-turned a b h l shares full r t old new inside
               ∙ ap (rearrangedBytes y z h (h .n) l) (sym (rw none at (was .promise .written))),
         ))
         (λ some. (
-          is .promise .answer
+          is .promise .answered
               ∙ ap (λ (f : ℕ). updateOf f (alteredCount z h l r t old new turned)) same
               ∙ update-refused number _ some
-              ∙ sym (was .promise .answer ∙ update-refused number _ some),
+              ∙ sym (was .promise .answered ∙ update-refused number _ some),
           (rw same at (is .promise .written)) ∙ refused-value number _ turned some ∙ ap (rearrangedBytes y z h (h .n) l) (sym (was .promise .written ∙ refused-value number _ shares some)),
         ))
       where
@@ -90,9 +90,9 @@ module _ {y z : Arrangement} (a : Lawful y) (b : Lawful z) (rec : List ℕ) (l :
 
     belongs : (r u : Membership) → BelongsSaysIn y rec l shares r → BelongsSaysIn z rec l turned u → u ≡ r
     belongs r u was is =
-        is .promise .answer
+        is .promise .answered
         ∙ ap₂ (λ (f w : ℕ). membershipOf f l w) (same-number (λ h. belongsFault h l shares) (λ h. belongsFault h l turned) (belongs-turned a b h l shares full)) (wrong-turned a b h l shares full)
-        ∙ sym (was .promise .answer)
+        ∙ sym (was .promise .answered)
 
   module _ (nodes shares : List ℕ) (full : Full h (h .k) l shares) where
     -- the listed shares, rearranged
@@ -102,14 +102,14 @@ module _ {y z : Arrangement} (a : Lawful y) (b : Lawful z) (rec : List ℕ) (l :
     recover : (out out′ now : List ℕ) (r u : Outcome) → RecoverSaysIn y rec l nodes shares out out′ r → RecoverSaysIn z rec l nodes listed out now u → (u ≡ r) × (now ≡ out′)
     recover out out′ now r u was is =
         let same = same-number (λ h. recoverFault h l nodes shares (length out)) (λ h. recoverFault h l nodes listed (length out)) (recover-turned a b h l nodes shares full (length out)) in (
-          is .promise .answer ∙ ap outcomeOf same ∙ sym (was .promise .answer),
+          is .promise .answered ∙ ap outcomeOf same ∙ sym (was .promise .answered),
           is .promise .written ∙ ap₂ (λ (f : ℕ) (m : List ℕ). pick (eqb f 0) m out) same (recovered-turned a b h l nodes shares full) ∙ sym (was .promise .written),
         )
 
     rebuild : (target : ℕ) (out out′ now : List ℕ) (r u : Outcome) → RebuildSaysIn y rec l nodes shares target out out′ r → RebuildSaysIn z rec l nodes listed target out now u → (u ≡ r) × (now ≡ out′)
     rebuild target out out′ now r u was is =
         let same = same-number (λ h. rebuildFault h l nodes shares target (length out)) (λ h. rebuildFault h l nodes listed target (length out)) (rebuild-turned a b h l nodes shares full target (length out)) in (
-          is .promise .answer ∙ ap outcomeOf same ∙ sym (was .promise .answer),
+          is .promise .answered ∙ ap outcomeOf same ∙ sym (was .promise .answered),
           is .promise .written ∙ ap₂ (λ (f : ℕ) (m : List ℕ). pick (eqb f 0) m out) same (rebuilt-turned a b h l nodes shares full target) ∙ sym (was .promise .written),
         )
 

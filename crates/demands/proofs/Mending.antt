@@ -22,9 +22,9 @@ unfolding mendingOf
 call rec lane nodes symbols nodes′ symbols′ r says other =
     let h = headerOf rec in
     let promise = says .listed .promise in
-    let none = listed-means (faultOf rec (λ h. mendsFault h lane (length nodes) (length symbols))) (length (mendNodes h (read h lane))) r (promise .answer) other in
+    let none = listed-means (faultOf rec (λ h. mendsFault h lane (length nodes) (length symbols))) (length (mendNodes h (read h lane))) r (promise .answered) other in
     let (sound, own) = none-met rec (λ h. mendsFault h lane (length nodes) (length symbols)) none in
-    (rw none at (promise .answer), rw none at (promise .nodes-written), rw none at (promise .symbols-written), mends h sound (read h lane) (mends-accepts h lane (length nodes) (length symbols) own .lane-is))
+    (rw none at (promise .answered), rw none at (promise .nodes-written), rw none at (promise .symbols-written), mends h sound (read h lane) (mends-accepts h lane (length nodes) (length symbols) own .lane-is))
 
 pub single-mends : SingleMends
 single-mends =

@@ -93,7 +93,7 @@ module _ (h : Header) (l i t : ℕ) (shares wrong : List ℕ) (off : OneOff h l 
 -- what a call that is done relied on and gave
 done-call : (rec : List ℕ) (l : ℕ) (nodes shares : List ℕ) (target : ℕ) (out out′ : List ℕ) → RebuildSays rec l nodes shares target out out′ Done → Sound (headerOf rec) × (areNodes (headerOf rec) nodes ≡ true) × (target < headerOf rec .n) × RebuiltBytes shareLayout (headerOf rec) l nodes shares target out′
 done-call rec l nodes shares target out out′ says =
-    let none = done-means (faultOf rec (λ h. rebuildFault h l nodes shares target (length out))) (says .promise .answer) in
+    let none = done-means (faultOf rec (λ h. rebuildFault h l nodes shares target (length out))) (says .promise .answered) in
     let (s, own) = none-met rec (λ h. rebuildFault h l nodes shares target (length out)) none in
     let (listed, low, size-is) = rebuild-accepts (headerOf rec) s l nodes shares target (length out) own in
     (s, listed .different, low, rw none at (rebuild-law share-lawful rec l nodes shares out out′ Done target says))

@@ -68,25 +68,25 @@ module _ (rec : List ℕ) where
   module _ (l : ℕ) where
     encode : (message out out′ : List ℕ) (r : Outcome) → EncodeSays rec l message out out′ r → Judged (recordNumbers rec ++ encodeNumbers h l message (length out)) (λ f. r ≡ O.Refused f) (out′ ≡ out)
     encode message out out′ r says =
-        by-outcome (own-after rec _ (λ h. encodeFault h l (length out) message) refl (λ none. encode-tells h l message (length out))) (says .promise .answer)
+        by-outcome (own-after rec _ (λ h. encodeFault h l (length out) message) refl (λ none. encode-tells h l message (length out))) (says .promise .answered)
         (λ some. rw (ne-eqb _ 0 some) at (says .promise .written))
 
     update : (r t old new : ℕ) (shares shares′ : List ℕ) (a : Update) → UpdateSays rec l r t old new shares shares′ a → Judged (recordNumbers rec ++ updateNumbers h l r t old new shares) (λ f. a ≡ U.Refused f) (shares′ ≡ shares)
     update r t old new shares shares′ a says =
         let number = faultOf rec (λ h. updateFault shareLayout h l r t old new shares) in
         call-judged number (own-after rec _ (λ h. updateFault shareLayout h l r t old new shares) refl (λ none. update-tells h (faultless-sound rec none) l r t old new shares))
-        (by-answer U.Refused (says .promise .answer) (refused-means number _) (update-refused number _))
+        (by-answer U.Refused (says .promise .answered) (refused-means number _) (update-refused number _))
         (λ some. rw (ne-eqb number 0 some) at (says .promise .written))
 
     module _ (nodes shares : List ℕ) where
       recover : (out out′ : List ℕ) (r : Outcome) → RecoverSays rec l nodes shares out out′ r → Judged (recordNumbers rec ++ recoverNumbers h l nodes shares (length out)) (λ f. r ≡ O.Refused f) (out′ ≡ out)
       recover out out′ r says =
-          by-outcome (own-after rec _ (λ h. recoverFault h l nodes shares (length out)) refl (λ none. recover-tells h l nodes shares (length out))) (says .promise .answer)
+          by-outcome (own-after rec _ (λ h. recoverFault h l nodes shares (length out)) refl (λ none. recover-tells h l nodes shares (length out))) (says .promise .answered)
           (λ some. rw (ne-eqb _ 0 some) at (says .promise .written))
 
       rebuild : (target : ℕ) (out out′ : List ℕ) (r : Outcome) → RebuildSays rec l nodes shares target out out′ r → Judged (recordNumbers rec ++ rebuildNumbers h l nodes shares target (length out)) (λ f. r ≡ O.Refused f) (out′ ≡ out)
       rebuild target out out′ r says =
-          by-outcome (own-after rec _ (λ h. rebuildFault h l nodes shares target (length out)) refl (λ none. rebuild-tells h l nodes shares target (length out))) (says .promise .answer)
+          by-outcome (own-after rec _ (λ h. rebuildFault h l nodes shares target (length out)) refl (λ none. rebuild-tells h l nodes shares target (length out))) (says .promise .answered)
           (λ some. rw (ne-eqb _ 0 some) at (says .promise .written))
 
     module _ (shares : List ℕ) where
@@ -94,14 +94,14 @@ module _ (rec : List ℕ) where
       belongs r says =
           let number = faultOf rec (λ h. belongsFault h l shares) in
           call-judged number (own-after rec _ (λ h. belongsFault h l shares) refl (λ none. belongs-tells h l shares))
-          (by-answer M.Refused (says .promise .answer) (refusal-means number l _) (membership-refused number l _))
+          (by-answer M.Refused (says .promise .answered) (refusal-means number l _) (membership-refused number l _))
           (λ some. tt)
 
       correct : (shares′ : List ℕ) (r : Correction) → CorrectSays rec l shares shares′ r → Judged (recordNumbers rec ++ correctNumbers h l shares) (λ f. r ≡ C.Refused f) (shares′ ≡ shares)
       correct shares′ r says =
           let number = faultOf rec (λ h. correctFault shareLayout h l shares) in
           call-judged number (own-after rec _ (λ h. correctFault shareLayout h l shares) refl (λ none. correct-tells h (faultless-sound rec none) l shares))
-          (by-answer C.Refused (says .promise .answer) (A.refused-means number _) (A.means-refused number _))
+          (by-answer C.Refused (says .promise .answered) (A.refused-means number _) (A.means-refused number _))
           (λ some. rw (ne-eqb number 0 some) at (says .promise .written))
 
     rearrange : {y z : Arrangement} (rows : Header → ℕ) (source out out′ : List ℕ) (r : Outcome) → RearrangeSays y z rows rec l source out out′ r → Judged (recordNumbers rec ++ rearrangeNumbers h (rows h) l (length source) (length out)) (λ f. r ≡ O.Refused f) (out′ ≡ out)
@@ -123,7 +123,7 @@ module _ (rec : List ℕ) where
   find before after r says =
       let number = faultOf rec (λ h. findFault h before after) in
       call-judged number (own-after rec _ (λ h. findFault h before after) refl (λ none. find-tells h before after))
-      (by-answer F.Refused (says .found .promise .answer) (λ f. FA.refused-means number _ f (not-refused h _ _)) (FA.answer-refused number _))
+      (by-answer F.Refused (says .found .promise .answered) (λ f. FA.refused-means number _ f (not-refused h _ _)) (FA.answer-refused number _))
       (λ some. tt)
 
   mends : (lane nodes symbols nodes′ symbols′ : List ℕ) (r : Mending) → MendsSay rec lane nodes symbols nodes′ symbols′ r → Judged (recordNumbers rec ++ mendsNumbers h lane (length nodes) (length symbols)) (λ f. r ≡ N.Refused f) ((nodes′ ≡ nodes) × (symbols′ ≡ symbols))
@@ -131,12 +131,12 @@ module _ (rec : List ℕ) where
       let number = faultOf rec (λ h. mendsFault h lane (length nodes) (length symbols)) in
       let promise = says .listed .promise in
       call-judged number (own-after rec _ (λ h. mendsFault h lane (length nodes) (length symbols)) refl (λ none. mends-tells h lane (length nodes) (length symbols)))
-      (by-answer N.Refused (promise .answer) (refused-number number _) (mending-refused number _))
+      (by-answer N.Refused (promise .answered) (refused-number number _) (mending-refused number _))
       (λ some. (rw (ne-eqb number 0 some) at (promise .nodes-written), rw (ne-eqb number 0 some) at (promise .symbols-written)))
 
   weights : (counts counts′ : List ℕ) (r : Outcome) → WeightsSay rec counts counts′ r → Judged (recordNumbers rec ++ weightsNumbers h (length counts)) (λ f. r ≡ O.Refused f) (counts′ ≡ counts)
   weights counts counts′ r says =
-      by-outcome (own-after rec _ (λ h. weightsFault h (length counts)) refl (λ none. weights-tells h (length counts))) (says .counted .promise .answer)
+      by-outcome (own-after rec _ (λ h. weightsFault h (length counts)) refl (λ none. weights-tells h (length counts))) (says .counted .promise .answered)
       (λ some. rw (ne-eqb _ 0 some) at (says .counted .promise .written))
 
 pub refusals : Refusals

@@ -110,7 +110,7 @@ module _ (rec : List ℕ) where
     bits-number = own-after rec _ (λ h. repairBitsFault h l j target missing (length share) (length out)) refl (λ none. bits-tells h l j target missing (length share) (length out))
 
     bits-judged : (r : Outcome) → RepairBitsSays rec l j target missing share out out′ r → Judged (recordNumbers rec ++ repairBitsNumbers h l j target missing (length share) (length out)) (λ f. r ≡ O.Refused f) (out′ ≡ out)
-    bits-judged r says = by-outcome bits-number (says .promise .answer) (λ some. rw (ne-eqb _ 0 some) at (says .promise .written))
+    bits-judged r says = by-outcome bits-number (says .promise .answered) (λ some. rw (ne-eqb _ 0 some) at (says .promise .written))
 
     bits-returns : (r : ℕ) → RepairBitsGives rec l j target missing share out out′ r → Judged (recordNumbers rec ++ repairBitsNumbers h l j target missing (length share) (length out)) (Returns r) (out′ ≡ out)
     bits-returns r g = by-number (g .number) bits-number (λ some. rw (← g .number, ne-eqb r 0 some) at (g .says .promise .written))
@@ -120,7 +120,7 @@ module _ (rec : List ℕ) where
     share-number = own-after rec _ (λ h. repairShareFault h l target missing (length rows) (length out)) refl (λ none. share-tells h l target missing (length rows) (length out))
 
     share-judged : (r : Outcome) → RepairShareSays rec l target missing rows out out′ r → Judged (recordNumbers rec ++ repairShareNumbers h l target missing (length rows) (length out)) (λ f. r ≡ O.Refused f) (out′ ≡ out)
-    share-judged r says = by-outcome share-number (says .promise .answer) (λ some. rw (ne-eqb _ 0 some) at (says .promise .written))
+    share-judged r says = by-outcome share-number (says .promise .answered) (λ some. rw (ne-eqb _ 0 some) at (says .promise .written))
 
     share-returns : (r : ℕ) → RepairShareGives rec l target missing rows out out′ r → Judged (recordNumbers rec ++ repairShareNumbers h l target missing (length rows) (length out)) (Returns r) (out′ ≡ out)
     share-returns r g = by-number (g .number) share-number (λ some. rw (← g .number, ne-eqb r 0 some) at (g .says .promise .written))
@@ -132,7 +132,7 @@ module _ (rec : List ℕ) where
     plan-judged : (r : RepairPlan) → RepairPlanSays rec count r → Judged (recordNumbers rec ++ repairPlanNumbers h count) (λ f. r ≡ P.Refused f) (Unit {0})
     plan-judged r says =
         let number = faultOf rec (λ h. repairPlanFault h count) in
-        call-judged number plan-number (by-answer P.Refused (says .promise .answer) (refused-plan number _ _) (plan-refused number _ _)) (λ some. tt)
+        call-judged number plan-number (by-answer P.Refused (says .promise .answered) (refused-plan number _ _) (plan-refused number _ _)) (λ some. tt)
 
     plan-returns : (b more b′ more′ r : ℕ) → RepairPlanGives rec count b more b′ more′ r → Judged (recordNumbers rec ++ repairPlanNumbers h count) (Returns r) ((b′ ≡ b) × (more′ ≡ more))
     plan-returns b more b′ more′ r g = by-number (g .number) plan-number (λ some. (rw (ne-eqb r 0 some) at (g .bits-are), rw (ne-eqb r 0 some) at (g .spare-is)))
@@ -146,7 +146,7 @@ module _ (rec : List ℕ) where
     unfolding spare
     plan-done b more says =
         let fault = faultOf rec (λ h. repairPlanFault h count) in
-        let (none, same, rest) = planned-means fault (bits h count) (spare h count) b more (says .promise .answer) in
+        let (none, same, rest) = planned-means fault (bits h count) (spare h count) b more (says .promise .answered) in
         let some = plan-some (none-met rec (λ h. repairPlanFault h count) none .1) in
         let kind = repairable h count some .kind in
         let (width, fits) = enough h kind count some in
@@ -157,7 +157,7 @@ module _ (rec : List ℕ) where
   sends-done : (l j target : ℕ) (missing share out out′ : List ℕ) → RepairBitsSays rec l j target missing share out out′ O.Done → BitsDone h l j target missing share out′
   unfolding packedSize planeSize
   sends-done l j target missing share out out′ says =
-      let none = done-means (faultOf rec (λ h. repairBitsFault h l j target missing (length share) (length out))) (says .promise .answer) in
+      let none = done-means (faultOf rec (λ h. repairBitsFault h l j target missing (length share) (length out))) (says .promise .answered) in
       let (sound, own) = none-met rec (λ h. repairBitsFault h l j target missing (length share) (length out)) none in
       let is = bits-accepts h l j target missing (length share) (length out) own in
       let written : out′ ≡ sent h target missing j share = rw none at (says .promise .written) in
@@ -182,7 +182,7 @@ module _ (rec : List ℕ) (l : ℕ) (message out shares : List ℕ) (says : Enco
   wrote i _ inside =
       let j : ℕ = getD js i 0 in
       let (o, done) = all i (omega arith) in
-      let none = done-means (faultOf rec (λ h. repairBitsFault h l j target missing (length (cutOf hd l (j ∷ []) shares)) (length o))) (done .promise .answer) in
+      let none = done-means (faultOf rec (λ h. repairBitsFault h l j target missing (length (cutOf hd l (j ∷ []) shares)) (length o))) (done .promise .answered) in
       rw none at (done .promise .written) ∙ ap (sent hd target missing j) (cut-share (encoded rec l message out shares says) j (sender-below hd target missing i (omega arith)))
 
   repairs : (back back′ : List ℕ) → RepairShareSays rec l target missing (inOrder rec target missing by) back back′ O.Done → back′ ≡ cutOf hd l (target ∷ []) shares
@@ -190,7 +190,7 @@ module _ (rec : List ℕ) (l : ℕ) (message out shares : List ℕ) (says : Enco
   repairs back back′ done =
       let rows = inOrder rec target missing by in
       let e = encoded rec l message out shares says in
-      let none = done-means (faultOf rec (λ h. repairShareFault h l target missing (length rows) (length back))) (done .promise .answer) in
+      let none = done-means (faultOf rec (λ h. repairShareFault h l target missing (length rows) (length back))) (done .promise .answered) in
       let (sound, own) = none-met rec (λ h. repairShareFault h l target missing (length rows) (length back)) none in
       let r = share-accepts hd l target missing (length rows) (length back) own .repairing in
       let held = e .buffer-is .symbol-rows in

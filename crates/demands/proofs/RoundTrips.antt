@@ -66,7 +66,7 @@ pub encoded : (rec : List ℕ) (l : ℕ) (message out shares : List ℕ) → Enc
 unfolding encodedBytes
 encoded rec l message out shares says =
     let h = headerOf rec in
-    let none = done-means (faultOf rec (λ h. encodeFault h l (length out) message)) (says .promise .answer) in
+    let none = done-means (faultOf rec (λ h. encodeFault h l (length out) message)) (says .promise .answered) in
     let (sound, own) = none-met rec (λ h. encodeFault h l (length out) message) none in
     let (rows, long) = encode-accepts h sound l (length out) message own in
     let written : shares ≡ bytesOf (width h) (sharesOf shareLayout h l (read h message)) = rw none at (says .promise .written) in
@@ -179,7 +179,7 @@ module _ (rec : List ℕ) (l : ℕ) (message out shares : List ℕ) (says : Enco
   unfolding recoveredBytes
   recover nodes back back′ done =
       let listed = cutOf h l nodes shares in
-      let none = done-means (faultOf rec (λ h. recoverFault h l nodes listed (length back))) (done .promise .answer) in
+      let none = done-means (faultOf rec (λ h. recoverFault h l nodes listed (length back))) (done .promise .answered) in
       let (sound, own) = none-met rec (λ h. recoverFault h l nodes listed (length back)) none in
       let different = recover-accepts h sound l nodes listed (length back) own .0 .different in
       rw none at (done .promise .written) ∙ ap (bytesOf (width h)) (recovered-back e nodes different)
@@ -189,7 +189,7 @@ module _ (rec : List ℕ) (l : ℕ) (message out shares : List ℕ) (says : Enco
   unfolding rebuiltBytes
   rebuild nodes target back back′ done =
       let listed = cutOf h l nodes shares in
-      let none = done-means (faultOf rec (λ h. rebuildFault h l nodes listed target (length back))) (done .promise .answer) in
+      let none = done-means (faultOf rec (λ h. rebuildFault h l nodes listed target (length back))) (done .promise .answered) in
       let (sound, own) = none-met rec (λ h. rebuildFault h l nodes listed target (length back)) none in
       let (is, node, long) = rebuild-accepts h sound l nodes listed target (length back) own in
       (node, rw none at (done .promise .written) ∙ ap (λ (u : List ℕ). bytesOf (width h) (shareOf h l u target)) (recovered-back e nodes (is .different)))
@@ -198,7 +198,7 @@ module _ (rec : List ℕ) (l : ℕ) (message out shares : List ℕ) (says : Enco
   correct : (wrong wrong′ : List ℕ) (count : ℕ) → FewWrong h l shares wrong → CorrectSays rec l wrong wrong′ (C.Altered count) → wrong′ ≡ shares
   unfolding correctedBytes correctedShares
   correct wrong wrong′ count few done =
-      let none = Corrected.altered-means (faultOf rec (λ h. correctFault shareLayout h l wrong)) _ count (done .promise .answer) .0 in
+      let none = Corrected.altered-means (faultOf rec (λ h. correctFault shareLayout h l wrong)) _ count (done .promise .answered) .0 in
       let written = rw none at (done .promise .written) in
       let now = read-written h wrong′ _ written in
       let same : read h wrong′ ≡ read h shares =
@@ -212,7 +212,7 @@ module _ (rec : List ℕ) (l : ℕ) (message out shares : List ℕ) (says : Enco
   update : (r t old new : ℕ) (shares′ : List ℕ) (count : ℕ) → UpdateSays rec l r t old new shares shares′ (U.Altered count) → shares′ ≡ bytesOf (width h) (sharesOf shareLayout h l (set (read h message) (r * l + t) new))
   unfolding updatedBytes
   update r t old new shares′ count done =
-      let none = altered-means (faultOf rec (λ h. updateFault shareLayout h l r t old new shares)) _ count (done .promise .answer) .0 in
+      let none = altered-means (faultOf rec (λ h. updateFault shareLayout h l r t old new shares)) _ count (done .promise .answered) .0 in
       let (sound, own) = none-met rec (λ h. updateFault shareLayout h l r t old new shares) none in
       let (lane, old-symbol, new-symbol, fresh) = update-accepts h sound l r t old new shares own in
       let rows = e .buffer-is .symbol-rows in

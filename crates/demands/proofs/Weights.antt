@@ -23,7 +23,7 @@ unfolding weightCounts
 call rec counts counts′ says =
     let h = headerOf rec in
     let promise = says .counted .promise in
-    let none = done-means (faultOf rec (λ h. weightsFault h (length counts))) (promise .answer) in
+    let none = done-means (faultOf rec (λ h. weightsFault h (length counts))) (promise .answered) in
     let is : counts′ ≡ weightCounts h = rw none at (promise .written) in (
       ap length is ∙ length-from (weightCountOf h) 0 (h .n + 1),
       λ w low. ap (λ (x : List ℕ). getD x w 0) is ∙ getD-from (weightCountOf h) 0 (h .n + 1) w 0 (omega arith) ∙ ap (weightCountOf h) (zero-add w),

@@ -13,7 +13,7 @@ use Rattle.generator.specs.Claims.{isMessage, areNodes, atNodes}
 
 pub record Reaches (h : Header) : Type 0 where
   -- one symbol of those that k listed nodes hold for a message is replaced by another: the message that holds these has another symbol at every node outside the list
-  pub elsewhere : (js ms us : List ℕ) (i x t : ℕ) → areNodes h js ≡ true → isMessage h ms ≡ true → isMessage h us ≡ true → i < h .k → (x ≡ getD (atNodes h ms js) i 0 → ⊥) → atNodes h us js ≡ set (atNodes h ms js) i x → t < h .n → isIn t js ≡ false → nodeOf h us t ≡ nodeOf h ms t → ⊥
+  pub elsewhere : (js ms us : List ℕ) (i x j : ℕ) → areNodes h js ≡ true → isMessage h ms ≡ true → isMessage h us ≡ true → i < h .k → (x ≡ getD (atNodes h ms js) i 0 → ⊥) → atNodes h us js ≡ set (atNodes h ms js) i x → j < h .n → isIn j js ≡ false → nodeOf h us j ≡ nodeOf h ms j → ⊥
   -- one symbol of a message changes, or more: the encoding changes at n − k + 1 nodes or more
   pub least : (ms us : List ℕ) → isMessage h ms ≡ true → isMessage h us ≡ true → 1 ≤ differ ms us → distance h ≤ differ (encoding h ms) (encoding h us)
   -- and at no more than n nodes, or n − k + 1 for each changed symbol

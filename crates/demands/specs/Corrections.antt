@@ -31,15 +31,15 @@ pub record Corrections : Type 0 where
   -- a block that was set right: each lane is that word, the count is of the places where the buffers differ, a word stays
   pub done : (rec : List ℕ) (l : ℕ) (shares shares′ : List ℕ) (count : ℕ) → CorrectSays rec l shares shares′ (C.Altered count) → CorrectDone (headerOf rec) l shares shares′ count
   -- and Belongs says yes
-  pub belongs : (rec : List ℕ) (l : ℕ) (shares shares′ : List ℕ) (count : ℕ) → CorrectSays rec l shares shares′ (C.Altered count) → (r : Membership) → BelongsSays rec l shares′ r → r ≡ M.Yes
+  pub belongs : (rec : List ℕ) (l : ℕ) (shares shares′ : List ℕ) (count : ℕ) → CorrectSays rec l shares shares′ (C.Altered count) → (answer : Membership) → BelongsSays rec l shares′ answer → answer ≡ M.Yes
   -- number 14 is given exactly if no number before it is, and some lane has no word that near
-  pub refused : (rec : List ℕ) (l : ℕ) (shares shares′ : List ℕ) (r : Correction) → CorrectSays rec l shares shares′ r →
-      (r ≡ C.Refused 14) ↔ ((faultOf rec (λ h. belongsFault h l shares) ≡ 0) × ((t : ℕ) × (t < l) × ((us : List ℕ) → NearWord (headerOf rec) (laneIn (headerOf rec) l shares t) us → ⊥)))
+  pub refused : (rec : List ℕ) (l : ℕ) (shares shares′ : List ℕ) (answer : Correction) → CorrectSays rec l shares shares′ answer →
+      (answer ≡ C.Refused 14) ↔ ((faultOf rec (λ h. belongsFault h l shares) ≡ 0) × ((t : ℕ) × (t < l) × ((us : List ℕ) → NearWord (headerOf rec) (laneIn (headerOf rec) l shares t) us → ⊥)))
   -- beside any number no lane is touched
   pub untouched : (rec : List ℕ) (l : ℕ) (shares shares′ : List ℕ) (g : ℕ) → CorrectSays rec l shares shares′ (C.Refused g) → shares′ ≡ shares
   -- for k = n and k = n − 1 only words of the code pass
   pub exact : (rec : List ℕ) (l : ℕ) (shares shares′ : List ℕ) (count : ℕ) → headerOf rec .n ≤ headerOf rec .k + 1 → CorrectSays rec l shares shares′ (C.Altered count) → ((t : ℕ) → t < l → Codeword (headerOf rec) (laneIn (headerOf rec) l shares t)) × (symbolsOf (width (headerOf rec)) shares′ ≡ symbolsOf (width (headerOf rec)) shares) × (count ≡ 0)
   -- lane after lane beside node after node: the same answer with its count, and the old shares rearranged
-  pub lanes : (rec : List ℕ) (l : ℕ) (s s′ now : List ℕ) (a b : Correction) → Full (headerOf rec) (headerOf rec .n) l s
-      → CorrectSaysIn byRow rec l s s′ a → CorrectSays rec l (toLanes (headerOf rec) (headerOf rec .n) l s) now b
-      → (b ≡ a) × (now ≡ toLanes (headerOf rec) (headerOf rec .n) l s′)
+  pub lanes : (rec : List ℕ) (l : ℕ) (s s′ now : List ℕ) (answer other : Correction) → Full (headerOf rec) (headerOf rec .n) l s
+      → CorrectSaysIn byRow rec l s s′ answer → CorrectSays rec l (toLanes (headerOf rec) (headerOf rec .n) l s) now other
+      → (other ≡ answer) × (now ≡ toLanes (headerOf rec) (headerOf rec .n) l s′)

@@ -38,14 +38,14 @@ pub record Demands : Type 1 where
   pub interface : Interface
   -- demand 2
   pub code : (rec : List ℕ) → recordFault rec ≡ 0 → CodeDemands (headerOf rec)
-  -- what the documents fix of records and rows
+  -- what is fixed of records and rows, in words of its own
   pub pins : Pinned
   -- demand 3: the least writes and reads of any scheme
-  pub price : (k n : ℕ) (S : Type 0) (C : Fin n → Type 0) (s : Scheme k n S C) → 1 ≤ k → k ≤ n → Price s
+  pub price : (k n : ℕ) (S : Type 0) (C : Fin n → Type 0) (scheme : Scheme k n S C) → 1 ≤ k → k ≤ n → Price scheme
   -- every accepted plan is a scheme at that price ..
   pub ours : (rec : List ℕ) → recordFault rec ≡ 0 → Accepted (headerOf rec)
   -- .. and every other scheme for the same k and n costs at least as much
-  pub least : (rec : List ℕ) (accepted : recordFault rec ≡ 0) (S : Type 0) (C : Fin (headerOf rec .n) → Type 0) (s : Scheme (headerOf rec .k) (headerOf rec .n) S C) (x y : S) → x ≢ y → CostsAtLeast s (ours rec accepted .scheme .scheme)
+  pub least : (rec : List ℕ) (accepted : recordFault rec ≡ 0) (S : Type 0) (C : Fin (headerOf rec .n) → Type 0) (scheme : Scheme (headerOf rec .k) (headerOf rec .n) S C) (x y : S) → x ≢ y → CostsAtLeast scheme (ours rec accepted .scheme .scheme)
   -- demand 3: updates
   pub updating : (rec : List ℕ) → recordFault rec ≡ 0 → UpdateDemands (headerOf rec)
   -- both of the calls themselves

@@ -34,9 +34,9 @@ pub record Findings : Type 0 where
       let found = findingOf (headerOf rec) us vs in
       InNumbers (headerOf rec) us vs (caseOf found) (foundSymbol found) (foundAmount found)
   -- of the two lanes of a call that no number turned away
-  pub call : (rec before after : List ℕ) (r : Finding) → FindSays rec before after r → ((g : ℕ) → r ≡ Refused g → ⊥) →
+  pub call : (rec before after : List ℕ) (answer : Finding) → FindSays rec before after answer → ((g : ℕ) → answer ≡ Refused g → ⊥) →
       let h = headerOf rec in
-      (r ≡ findingOf h (read h before) (read h after)) × Finds h (read h before) (read h after)
+      (answer ≡ findingOf h (read h before) (read h after)) × Finds h (read h before) (read h after)
   -- an update of a lane of symbols to another symbol is found again
   pub again : (rec : List ℕ) → recordFault rec ≡ 0 → (l r t old new : ℕ) (s : List ℕ) →
       let h = headerOf rec in

@@ -24,4 +24,4 @@ pub record Judged (table : Table) (gives : ℕ → Type 0) (kept : Type 0) : Typ
 
 -- a number that is returned; 0 is none
 abbrev pub Returns : ℕ → ℕ → Type 0
-Returns r f = (r ≡ f) × (f ≢ 0)
+Returns answer f = (answer ≡ f) × (f ≢ 0)

@@ -32,25 +32,25 @@ Full h rows l s = length s ≡ rows * l * width h
 
 pub record LaneAfterLane : Type 0 where
   -- Encode into two buffers of one length, whatever they held
-  pub encode : (rec : List ℕ) (l : ℕ) (message out out′ new new′ : List ℕ) (r u : Outcome) → length new ≡ length out
-      → EncodeSaysIn byRow rec l message out out′ r → EncodeSays rec l message new new′ u
-      → (u ≡ r) × (u ≡ Done → new′ ≡ toLanes (headerOf rec) (headerOf rec .n) l out′)
+  pub encode : (rec : List ℕ) (l : ℕ) (message out out′ new new′ : List ℕ) (answer other : Outcome) → length new ≡ length out
+      → EncodeSaysIn byRow rec l message out out′ answer → EncodeSays rec l message new new′ other
+      → (other ≡ answer) × (other ≡ Done → new′ ≡ toLanes (headerOf rec) (headerOf rec .n) l out′)
   -- Update: the answer with its count, and the shares
-  pub update : (rec : List ℕ) (l r t old new : ℕ) (s s′ now : List ℕ) (a b : Update) → Full (headerOf rec) (headerOf rec .n) l s
-      → UpdateSaysIn byRow rec l r t old new s s′ a → UpdateSays rec l r t old new (toLanes (headerOf rec) (headerOf rec .n) l s) now b
-      → (b ≡ a) × (now ≡ toLanes (headerOf rec) (headerOf rec .n) l s′)
+  pub update : (rec : List ℕ) (l r t old new : ℕ) (s s′ now : List ℕ) (answer other : Update) → Full (headerOf rec) (headerOf rec .n) l s
+      → UpdateSaysIn byRow rec l r t old new s s′ answer → UpdateSays rec l r t old new (toLanes (headerOf rec) (headerOf rec .n) l s) now other
+      → (other ≡ answer) × (now ≡ toLanes (headerOf rec) (headerOf rec .n) l s′)
   -- Recover: the answer and the message
-  pub recover : (rec : List ℕ) (l : ℕ) (nodes s out out′ now : List ℕ) (r u : Outcome) → Full (headerOf rec) (headerOf rec .k) l s
-      → RecoverSaysIn byRow rec l nodes s out out′ r → RecoverSays rec l nodes (toLanes (headerOf rec) (headerOf rec .k) l s) out now u
-      → (u ≡ r) × (now ≡ out′)
+  pub recover : (rec : List ℕ) (l : ℕ) (nodes s out out′ now : List ℕ) (answer other : Outcome) → Full (headerOf rec) (headerOf rec .k) l s
+      → RecoverSaysIn byRow rec l nodes s out out′ answer → RecoverSays rec l nodes (toLanes (headerOf rec) (headerOf rec .k) l s) out now other
+      → (other ≡ answer) × (now ≡ out′)
   -- Rebuild: the answer and the share
-  pub rebuild : (rec : List ℕ) (l : ℕ) (nodes s : List ℕ) (target : ℕ) (out out′ now : List ℕ) (r u : Outcome) → Full (headerOf rec) (headerOf rec .k) l s
-      → RebuildSaysIn byRow rec l nodes s target out out′ r → RebuildSays rec l nodes (toLanes (headerOf rec) (headerOf rec .k) l s) target out now u
-      → (u ≡ r) × (now ≡ out′)
+  pub rebuild : (rec : List ℕ) (l : ℕ) (nodes s : List ℕ) (target : ℕ) (out out′ now : List ℕ) (answer other : Outcome) → Full (headerOf rec) (headerOf rec .k) l s
+      → RebuildSaysIn byRow rec l nodes s target out out′ answer → RebuildSays rec l nodes (toLanes (headerOf rec) (headerOf rec .k) l s) target out now other
+      → (other ≡ answer) × (now ≡ out′)
   -- Belongs: yes, the smallest wrong lane, or the number
-  pub belongs : (rec : List ℕ) (l : ℕ) (s : List ℕ) (r u : Membership) → Full (headerOf rec) (headerOf rec .n) l s
-      → BelongsSaysIn byRow rec l s r → BelongsSays rec l (toLanes (headerOf rec) (headerOf rec .n) l s) u
-      → u ≡ r
+  pub belongs : (rec : List ℕ) (l : ℕ) (s : List ℕ) (answer other : Membership) → Full (headerOf rec) (headerOf rec .n) l s
+      → BelongsSaysIn byRow rec l s answer → BelongsSays rec l (toLanes (headerOf rec) (headerOf rec .n) l s) other
+      → other ≡ answer
   -- the two rearrangements of bytes undo each other
   pub back : (h : Header) (rows l : ℕ) (s : List ℕ) → Full h rows l s → allBelow 256 s ≡ true → toNodes h rows l (toLanes h rows l s) ≡ s
   pub forth : (h : Header) (rows l : ℕ) (s : List ℕ) → Full h rows l s → allBelow 256 s ≡ true → toLanes h rows l (toNodes h rows l s) ≡ s

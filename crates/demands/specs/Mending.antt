@@ -16,10 +16,10 @@ pub record SingleMends : Type 0 where
   -- of every lane of an accepted record
   pub accepted : (rec : List ℕ) → recordFault rec ≡ 0 → (ws : List ℕ) → IsLane (headerOf rec) ws → Mends (headerOf rec) ws
   -- of the lane of a call that no number turned away: how many entries, both buffers afterwards, and what the list means
-  pub call : (rec lane nodes symbols nodes′ symbols′ : List ℕ) (r : Mending) → MendsSay rec lane nodes symbols nodes′ symbols′ r → ((g : ℕ) → r ≡ Refused g → ⊥) →
+  pub call : (rec lane nodes symbols nodes′ symbols′ : List ℕ) (answer : Mending) → MendsSay rec lane nodes symbols nodes′ symbols′ answer → ((g : ℕ) → answer ≡ Refused g → ⊥) →
       let h = headerOf rec in
       let ws = read h lane in
-      (r ≡ Listed (length (mendNodes h ws)))
+      (answer ≡ Listed (length (mendNodes h ws)))
       × (nodes′ ≡ inFront (mendNodes h ws) nodes)
       × (symbols′ ≡ inFront (bytesOf (width h) (mendSymbols h ws)) symbols)
       × Mends h ws

@@ -15,32 +15,32 @@ use Rattle.demands.specs.Judging.{Judged, Returns}
 use Rattle.demands.specs.Numbers.{recordNumbers}
 
 -- the plan of a header: places beyond the k shifts, the k first nodes and the n entries hold 0
-pub record PlanHolds (h : Header) (p : Plan) : Type 0 where
-  pub n : p .n ≡ h .n
-  pub k : p .k ≡ h .k
-  pub d : p .d ≡ h .n - h .k + 1
+pub record PlanHolds (h : Header) (plan : Plan) : Type 0 where
+  pub n : plan .n ≡ h .n
+  pub k : plan .k ≡ h .k
+  pub d : plan .d ≡ h .n - h .k + 1
   -- k·d / n rounded down and up
-  pub low : p .low ≡ h .k * (h .n - h .k + 1) / h .n
-  pub high : p .high ≡ (h .k * (h .n - h .k + 1) + (h .n - 1)) / h .n
-  pub places : (length (p .shifts) ≡ 255) × (length (p .firsts) ≡ 255) × (length (p .base) ≡ 255)
+  pub low : plan .low ≡ h .k * (h .n - h .k + 1) / h .n
+  pub high : plan .high ≡ (h .k * (h .n - h .k + 1) + (h .n - 1)) / h .n
+  pub places : (length (plan .shifts) ≡ 255) × (length (plan .firsts) ≡ 255) × (length (plan .base) ≡ 255)
   -- a row's shift, and its first node, (−shift) mod n
-  pub shift : (r : ℕ) → r < h .k → getD (p .shifts) r 0 ≡ getD (shifts h) r 0
-  pub first : (r : ℕ) → r < h .k → getD (p .firsts) r 0 ≡ (h .n - getD (p .shifts) r 0) % h .n
+  pub shift : (r : ℕ) → r < h .k → getD (plan .shifts) r 0 ≡ getD (shifts h) r 0
+  pub first : (r : ℕ) → r < h .k → getD (plan .firsts) r 0 ≡ (h .n - getD (plan .shifts) r 0) % h .n
   -- entry (r, j) is the base word at (j + shift) mod n
-  pub entries : (r j : ℕ) → r < h .k → j < h .n → entry h r j ≡ getD (p .base) ((j + getD (p .shifts) r 0) % h .n) 0
-  pub beyond : (i : ℕ) → (h .k ≤ i → (getD (p .shifts) i 0 ≡ 0) × (getD (p .firsts) i 0 ≡ 0)) × (h .n ≤ i → getD (p .base) i 0 ≡ 0)
+  pub entries : (r j : ℕ) → r < h .k → j < h .n → entry h r j ≡ getD (plan .base) ((j + getD (plan .shifts) r 0) % h .n) 0
+  pub beyond : (i : ℕ) → (h .k ≤ i → (getD (plan .shifts) i 0 ≡ 0) × (getD (plan .firsts) i 0 ≡ 0)) × (h .n ≤ i → getD (plan .base) i 0 ≡ 0)
 
 -- a plan beside a number: all its places hold 0
-pub record EmptyPlan (p : Plan) : Type 0 where
-  pub numbers : (p .n ≡ 0) × (p .k ≡ 0) × (p .d ≡ 0) × (p .low ≡ 0) × (p .high ≡ 0)
-  pub places : (i : ℕ) → (getD (p .shifts) i 0 ≡ 0) × (getD (p .firsts) i 0 ≡ 0) × (getD (p .base) i 0 ≡ 0)
+pub record EmptyPlan (plan : Plan) : Type 0 where
+  pub numbers : (plan .n ≡ 0) × (plan .k ≡ 0) × (plan .d ≡ 0) × (plan .low ≡ 0) × (plan .high ≡ 0)
+  pub places : (i : ℕ) → (getD (plan .shifts) i 0 ≡ 0) × (getD (plan .firsts) i 0 ≡ 0) × (getD (plan .base) i 0 ≡ 0)
 
 pub record Plans : Type 0 where
   -- what a record of each kind holds; in kind 3 two bytes make a number, the high one first
   pub kind-1 : (p root n k : ℕ) → headerOf (1 ∷ p ∷ root ∷ n ∷ k ∷ []) ≡ record { field = Prime (primeOf p); root = root; n = n; k = k }
   pub kind-2 : (root n k : ℕ) → headerOf (2 ∷ root ∷ n ∷ k ∷ []) ≡ record { field = Binary gf256; root = root; n = n; k = k }
-  pub kind-3 : (p q root a n k : ℕ) → headerOf (3 ∷ p ∷ q ∷ root ∷ a ∷ n ∷ k ∷ []) ≡ record { field = Prime (primeOf (256 * p + q)); root = 256 * root + a; n = n; k = k }
+  pub kind-3 : (p-high p-low root-high root-low n k : ℕ) → headerOf (3 ∷ p-high ∷ p-low ∷ root-high ∷ root-low ∷ n ∷ k ∷ []) ≡ record { field = Prime (primeOf (256 * p-high + p-low)); root = 256 * root-high + root-low; n = n; k = k }
   -- the plan of an accepted record
-  pub accepted : (rec : List ℕ) (p : Plan) → PlanSays rec p → recordFault rec ≡ 0 → PlanHolds (headerOf rec) p
+  pub accepted : (rec : List ℕ) (plan : Plan) → PlanSays rec plan → recordFault rec ≡ 0 → PlanHolds (headerOf rec) plan
   -- which number a record meets
-  pub number : (rec : List ℕ) (p : Plan) → PlanSays rec p → Judged (recordNumbers rec) (Returns (p .number)) (EmptyPlan p)
+  pub number : (rec : List ℕ) (plan : Plan) → PlanSays rec plan → Judged (recordNumbers rec) (Returns (plan .number)) (EmptyPlan plan)

@@ -21,16 +21,16 @@ pub record OneOff (h : Header) (l i t : ℕ) (shares wrong : List ℕ) : Type 0 
   pub place : i < h .k
   pub lane : t < l
   pub there : readAt h l wrong i t ≡ readAt h l shares i t → ⊥
-  pub elsewhere : (e q : ℕ) → e < h .k → q < l → ((e ≡ i) × (q ≡ t) → ⊥) → readAt h l wrong e q ≡ readAt h l shares e q
+  pub elsewhere : (listed other : ℕ) → listed < h .k → other < l → ((listed ≡ i) × (other ≡ t) → ⊥) → readAt h l wrong listed other ≡ readAt h l shares listed other
 
--- what two rebuilt shares have in lane q
+-- what a rebuilt share has in a lane
 unfoldable pub rebuiltAt : Header → List ℕ → ℕ → ℕ
-rebuiltAt h out q = getD (symbolsOf (width h) out) q 0
+rebuiltAt h out lane = getD (symbolsOf (width h) out) lane 0
 
 -- the rebuilt share of a node outside the list has another symbol in that lane, and the same symbol in every other lane
 pub record OneLaneOff (h : Header) (l t : ℕ) (out wrong : List ℕ) : Type 0 where
   pub there : rebuiltAt h wrong t ≡ rebuiltAt h out t → ⊥
-  pub elsewhere : (q : ℕ) → q < l → (q ≡ t → ⊥) → rebuiltAt h wrong q ≡ rebuiltAt h out q
+  pub elsewhere : (other : ℕ) → other < l → (other ≡ t → ⊥) → rebuiltAt h wrong other ≡ rebuiltAt h out other
 
 -- of two calls of Rebuild that are done
 abbrev pub BadRead : Type 0

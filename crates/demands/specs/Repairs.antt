@@ -89,19 +89,19 @@ inOrder rec target missing by = rowsFrom by 0 (length (senders (headerOf rec) ta
 
 pub record Repairs : Type 0 where
   -- which number turns each call away; no byte is written then
-  pub bits-judged : (rec : List ℕ) (l j target : ℕ) (missing share out out′ : List ℕ) (r : Outcome) → RepairBitsSays rec l j target missing share out out′ r
-      → Judged (recordNumbers rec ++ repairBitsNumbers (headerOf rec) l j target missing (length share) (length out)) (λ f. r ≡ O.Refused f) (out′ ≡ out)
-  pub share-judged : (rec : List ℕ) (l target : ℕ) (missing rows out out′ : List ℕ) (r : Outcome) → RepairShareSays rec l target missing rows out out′ r
-      → Judged (recordNumbers rec ++ repairShareNumbers (headerOf rec) l target missing (length rows) (length out)) (λ f. r ≡ O.Refused f) (out′ ≡ out)
-  pub plan-judged : (rec : List ℕ) (count : ℕ) (r : RepairPlan) → RepairPlanSays rec count r
-      → Judged (recordNumbers rec ++ repairPlanNumbers (headerOf rec) count) (λ f. r ≡ P.Refused f) (Unit {0})
+  pub bits-judged : (rec : List ℕ) (l j target : ℕ) (missing share out out′ : List ℕ) (answer : Outcome) → RepairBitsSays rec l j target missing share out out′ answer
+      → Judged (recordNumbers rec ++ repairBitsNumbers (headerOf rec) l j target missing (length share) (length out)) (λ f. answer ≡ O.Refused f) (out′ ≡ out)
+  pub share-judged : (rec : List ℕ) (l target : ℕ) (missing rows out out′ : List ℕ) (answer : Outcome) → RepairShareSays rec l target missing rows out out′ answer
+      → Judged (recordNumbers rec ++ repairShareNumbers (headerOf rec) l target missing (length rows) (length out)) (λ f. answer ≡ O.Refused f) (out′ ≡ out)
+  pub plan-judged : (rec : List ℕ) (count : ℕ) (answer : RepairPlan) → RepairPlanSays rec count answer
+      → Judged (recordNumbers rec ++ repairPlanNumbers (headerOf rec) count) (λ f. answer ≡ P.Refused f) (Unit {0})
   -- the same of the functions for C; no lent number is altered either
-  pub bits-returns : (rec : List ℕ) (l j target : ℕ) (missing share out out′ : List ℕ) (r : ℕ) → RepairBitsGives rec l j target missing share out out′ r
-      → Judged (recordNumbers rec ++ repairBitsNumbers (headerOf rec) l j target missing (length share) (length out)) (Returns r) (out′ ≡ out)
-  pub share-returns : (rec : List ℕ) (l target : ℕ) (missing rows share share′ : List ℕ) (r : ℕ) → RepairShareGives rec l target missing rows share share′ r
-      → Judged (recordNumbers rec ++ repairShareNumbers (headerOf rec) l target missing (length rows) (length share)) (Returns r) (share′ ≡ share)
-  pub plan-returns : (rec : List ℕ) (count b more b′ more′ r : ℕ) → RepairPlanGives rec count b more b′ more′ r
-      → Judged (recordNumbers rec ++ repairPlanNumbers (headerOf rec) count) (Returns r) ((b′ ≡ b) × (more′ ≡ more))
+  pub bits-returns : (rec : List ℕ) (l j target : ℕ) (missing share out out′ : List ℕ) (f : ℕ) → RepairBitsGives rec l j target missing share out out′ f
+      → Judged (recordNumbers rec ++ repairBitsNumbers (headerOf rec) l j target missing (length share) (length out)) (Returns f) (out′ ≡ out)
+  pub share-returns : (rec : List ℕ) (l target : ℕ) (missing rows share share′ : List ℕ) (f : ℕ) → RepairShareGives rec l target missing rows share share′ f
+      → Judged (recordNumbers rec ++ repairShareNumbers (headerOf rec) l target missing (length rows) (length share)) (Returns f) (share′ ≡ share)
+  pub plan-returns : (rec : List ℕ) (count b more b′ more′ f : ℕ) → RepairPlanGives rec count b more b′ more′ f
+      → Judged (recordNumbers rec ++ repairPlanNumbers (headerOf rec) count) (Returns f) ((b′ ≡ b) × (more′ ≡ more))
   -- the plan
   pub plan : (rec : List ℕ) (count b more : ℕ) → RepairPlanSays rec count (P.Sends b more) → PlanDone (headerOf rec) count b more
   -- what a node sends

@@ -17,7 +17,7 @@ use Rattle.demands.specs.Numbers.{recordNumbers}
 
 -- an event: its node is none of the n, or already is what the event says
 abbrev pub eventNumbers : Header → Event → Roster → Table
-eventNumbers h e r = (9, h .n ≤ named e) ∷ (15, isPresent (r .marks) (named e) ≡ says e) ∷ []
+eventNumbers h e roster = (9, h .n ≤ named e) ∷ (15, isPresent (roster .marks) (named e) ≡ says e) ∷ []
 
 -- the query and a job: a list of another length than k
 abbrev pub listNumbers : Header → List ℕ → Table
@@ -48,16 +48,16 @@ pub record RosterRefusals : Type 0 where
   -- a start that is turned away gives a roster with no node present
   pub start : (rec : List ℕ) → Judged (recordNumbers rec) (Returns (startOf (recordOf rec) .number)) ((j : ℕ) → isPresent (startOf (recordOf rec) .roster .marks) j ≡ false)
   -- an event that is turned away leaves the roster equal
-  pub event : (rec : List ℕ) (e : Event) (r : Roster) → Judged (recordNumbers rec ++ eventNumbers (headerOf rec) e r) (Returns (stepOf (recordOf rec) e r .number)) (stepOf (recordOf rec) e r .roster ≡ r)
+  pub event : (rec : List ℕ) (e : Event) (roster : Roster) → Judged (recordNumbers rec ++ eventNumbers (headerOf rec) e roster) (Returns (stepOf (recordOf rec) e roster .number)) (stepOf (recordOf rec) e roster .roster ≡ roster)
   -- a query that is turned away leaves the list
-  pub query : (rec : List ℕ) (r : Roster) (list : List ℕ) → Judged (recordNumbers rec ++ listNumbers (headerOf rec) list) (λ f. lowestOf (recordOf rec) r list ≡ Refused f) (lowestList (recordOf rec) r list ≡ list)
+  pub query : (rec : List ℕ) (roster : Roster) (list : List ℕ) → Judged (recordNumbers rec ++ listNumbers (headerOf rec) list) (λ f. lowestOf (recordOf rec) roster list ≡ Refused f) (lowestList (recordOf rec) roster list ≡ list)
   -- and so does a job, which leaves the roster too
-  pub job : (rec : List ℕ) (r : Roster) (list : List ℕ) → Judged (recordNumbers rec ++ listNumbers (headerOf rec) list) (λ f. jobOf (recordOf rec) r list .listing ≡ Refused f) ((jobOf (recordOf rec) r list .roster ≡ r) × (jobList (recordOf rec) r list ≡ list))
+  pub job : (rec : List ℕ) (roster : Roster) (list : List ℕ) → Judged (recordNumbers rec ++ listNumbers (headerOf rec) list) (λ f. jobOf (recordOf rec) roster list .listing ≡ Refused f) ((jobOf (recordOf rec) roster list .roster ≡ roster) × (jobList (recordOf rec) roster list ≡ list))
   -- the same on lent bytes: a start writes zeros
-  pub start-bytes : (rec bytes bytes′ : List ℕ) (r : ℕ) → StartGives rec bytes bytes′ r → Judged (recordNumbers rec ++ bytesNumbers bytes) (Returns r) (NoNode bytes bytes′)
+  pub start-bytes : (rec bytes bytes′ : List ℕ) (f : ℕ) → StartGives rec bytes bytes′ f → Judged (recordNumbers rec ++ bytesNumbers bytes) (Returns f) (NoNode bytes bytes′)
   -- an event leaves the bytes
-  pub event-bytes : (rec bytes : List ℕ) (e : Event) (bytes′ : List ℕ) (r : ℕ) → EventGives rec bytes e bytes′ r → Judged (recordNumbers rec ++ eventBytesNumbers (headerOf rec) e bytes) (Returns r) (bytes′ ≡ bytes)
+  pub event-bytes : (rec bytes : List ℕ) (e : Event) (bytes′ : List ℕ) (f : ℕ) → EventGives rec bytes e bytes′ f → Judged (recordNumbers rec ++ eventBytesNumbers (headerOf rec) e bytes) (Returns f) (bytes′ ≡ bytes)
   -- a query leaves the list and `enough`
-  pub query-bytes : (rec bytes list : List ℕ) (enough : ℕ) (list′ : List ℕ) (enough′ r : ℕ) → LowestGives rec bytes list enough list′ enough′ r → Judged (recordNumbers rec ++ listBytesNumbers (headerOf rec) bytes list) (Returns r) ((list′ ≡ list) × (enough′ ≡ enough))
+  pub query-bytes : (rec bytes list : List ℕ) (enough : ℕ) (list′ : List ℕ) (enough′ f : ℕ) → LowestGives rec bytes list enough list′ enough′ f → Judged (recordNumbers rec ++ listBytesNumbers (headerOf rec) bytes list) (Returns f) ((list′ ≡ list) × (enough′ ≡ enough))
   -- a job leaves all three
-  pub job-bytes : (rec bytes list : List ℕ) (enough : ℕ) (bytes′ list′ : List ℕ) (enough′ r : ℕ) → JobGives rec bytes list enough bytes′ list′ enough′ r → Judged (recordNumbers rec ++ listBytesNumbers (headerOf rec) bytes list) (Returns r) ((bytes′ ≡ bytes) × (list′ ≡ list) × (enough′ ≡ enough))
+  pub job-bytes : (rec bytes list : List ℕ) (enough : ℕ) (bytes′ list′ : List ℕ) (enough′ f : ℕ) → JobGives rec bytes list enough bytes′ list′ enough′ f → Judged (recordNumbers rec ++ listBytesNumbers (headerOf rec) bytes list) (Returns f) ((bytes′ ≡ bytes) × (list′ ≡ list) × (enough′ ≡ enough))

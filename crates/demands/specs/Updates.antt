@@ -28,7 +28,7 @@ pub record Afterwards (h : Header) (ms s s′ : List ℕ) (l r t new : ℕ) : Ty
   -- n − k + 1, or none where old and new are equal
   pub count : differ s s′ ≡ pick (eqb new (getD ms r 0)) 0 (distance h)
   -- no other lane is altered
-  pub others : (q : ℕ) → q < l → (q ≡ t → ⊥) → laneOf shareLayout (h .n) l q s′ ≡ laneOf shareLayout (h .n) l q s
+  pub others : (other : ℕ) → other < l → (other ≡ t → ⊥) → laneOf shareLayout (h .n) l other s′ ≡ laneOf shareLayout (h .n) l other s
 
 -- an update that was accepted, with nothing asked beside that
 pub record Updated (h : Header) (s s′ : List ℕ) (l r t old new : ℕ) : Type 0 where

@@ -28,4 +28,4 @@ module _ (h : Header) (sound : Sound h) (l : ℕ) where
 -- beside a number g: the number, and nothing is written
 module _ {y : Arrangement} (h : Header) (g : ℕ) (some : g ≡ 0 → ⊥) (l : ℕ) where
   pub encode-refuses : (message out : List ℕ) → EncodePromise y l message out out (O.Refused g) h g
-  encode-refuses message out = record { answer = sym (outcome-refused g some); written = sym (refused-value g _ out some) }
+  encode-refuses message out = record { answered = sym (outcome-refused g some); written = sym (refused-value g _ out some) }

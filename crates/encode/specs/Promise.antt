@@ -23,13 +23,13 @@ encodeFault h l out message =
     (when (symbolsBad h message) 11)))
 
 -- Encode: in each lane the encoding of the message
-pub record EncodePromise (y : Arrangement) (l : ℕ) (message out out′ : List ℕ) (r : Outcome) (h : Header) (f : ℕ) : Type 0 where
-  pub answer : r ≡ outcomeOf f
+pub record EncodePromise (y : Arrangement) (l : ℕ) (message out out′ : List ℕ) (answer : Outcome) (h : Header) (f : ℕ) : Type 0 where
+  pub answered : answer ≡ outcomeOf f
   pub written : out′ ≡ pick (eqb f 0) (encodedBytes y h l message) out
 
 -- over the record as it is read, with shares arranged as y says
 abbrev pub EncodeSaysIn : Arrangement → List ℕ → ℕ → List ℕ → List ℕ → List ℕ → Outcome → Type 0
-EncodeSaysIn y rec l message out out′ r = OnRecord rec (λ h. encodeFault h l (length out) message) (EncodePromise y l message out out′ r)
+EncodeSaysIn y rec l message out out′ answer = OnRecord rec (λ h. encodeFault h l (length out) message) (EncodePromise y l message out out′ answer)
 
 -- with shares as they stand in buffers
 abbrev pub EncodeSays : List ℕ → ℕ → List ℕ → List ℕ → List ℕ → Outcome → Type 0

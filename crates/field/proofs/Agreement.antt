@@ -1,4 +1,4 @@
--- The arithmetic of document 03 (specs/Fields.antt), as it stands there but shut, and that ours is the same on symbols.
+-- The arithmetic of the first statements, as it stood there but shut, and that ours is the same on symbols.
 use mathlib.Core.Path.{_≡_, refl, sym, ap, ap₂, _∙_}
 use mathlib.Core.Bool.{Bool, true, false, _&&_, _||_, not}
 use Prim.Native.Nat.{ℕ, zero, suc, _+_, _-_, _*_, _/_, _%_, _^_, _≤_, _<_}

@@ -43,7 +43,7 @@ answer-refused zero found some = absurd (some refl)
 answer-refused (suc g) found some = refl
 
 pub find-refuses : (h : Header) (g : ℕ) → (g ≡ 0 → ⊥) → (before after : List ℕ) → FindPromise before after (Refused g) h g
-find-refuses h g some before after = record { answer = sym (answer-refused g _ some) }
+find-refuses h g some before after = record { answered = sym (answer-refused g _ some) }
 
 -- an answer that is no refusal met no number, and is what was found
 pub found-means : (f : ℕ) (found r : Finding) → r ≡ answerOf f found → ((g : ℕ) → r ≡ Refused g → ⊥) → (f ≡ 0) × (found ≡ r)

@@ -46,4 +46,4 @@ pub record Finds (h : Header) (us vs : List ℕ) : Type 0 where
   -- the amount leads from the first to the second and back, and no other symbol and amount do
   pub there : (r x : ℕ) → findingOf h us vs ≡ Added r x → (r < h .k) × (x < size h) × (wordAdded h r x us ≡ vs)
   pub back : (r x : ℕ) → findingOf h us vs ≡ Added r x → takenAway h r x vs ≡ us
-  pub only : (r x q y : ℕ) → findingOf h us vs ≡ Added r x → q < h .k → y < size h → wordAdded h q y us ≡ vs → (q ≡ r) × (y ≡ x)
+  pub only : (r x other amount : ℕ) → findingOf h us vs ≡ Added r x → other < h .k → amount < size h → wordAdded h other amount us ≡ vs → (other ≡ r) × (amount ≡ x)

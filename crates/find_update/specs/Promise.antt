@@ -35,10 +35,10 @@ Found (Holds h) = (us vs : List ℕ) → IsLane h us → IsLane h vs → Finds h
 Found (Meets f) = Unit {0}
 
 -- over a header and the number that turns the call away, 0 where none does
-pub record FindPromise (before after : List ℕ) (r : Finding) (h : Header) (f : ℕ) : Type 0 where
-  pub answer : r ≡ answerOf f (findingOf h (symbolsOf (width h) before) (symbolsOf (width h) after))
+pub record FindPromise (before after : List ℕ) (answer : Finding) (h : Header) (f : ℕ) : Type 0 where
+  pub answered : answer ≡ answerOf f (findingOf h (symbolsOf (width h) before) (symbolsOf (width h) after))
 
 -- what `find_update` promises over the record as it is read, and what the answer means
-pub record FindSays (rec before after : List ℕ) (r : Finding) : Type 0 where
-  pub found : OnRecord rec (λ h. findFault h before after) (FindPromise before after r)
+pub record FindSays (rec before after : List ℕ) (answer : Finding) : Type 0 where
+  pub found : OnRecord rec (λ h. findFault h before after) (FindPromise before after answer)
   pub claims : Found (recordOf rec)

@@ -1,4 +1,4 @@
--- A list of numbers that document 03 accepts as a record is a list of bytes, and no record of kind 3: its n is the order of a symbol, and so a byte.
+-- A list of numbers that the first statements accept as a record is a list of bytes, and no record of kind 3: its n is the order of a symbol, and so a byte.
 use mathlib.Core.Path.{_≡_, sym, _∙_}
 use mathlib.Core.Bool.{true, false, _&&_, _||_, not, or-true, true≢false}
 use mathlib.Core.List.{List}

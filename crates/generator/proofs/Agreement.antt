@@ -1,6 +1,6 @@
--- The generator, encodings, words, messages and nodes as document 03 states them (specs/Plans.antt and specs/Claims.antt), and that ours are the same for every sound header whose n divides k·d, as document 03 asks.
--- Its text stands here but for the marks: what it has as `abbrev` is `unfoldable`. Its records and shifts are quoted in RecordsAgreement and ShiftsAgreement, its arithmetic in the crate `field`;
--- its `when`, `allBelow`, `isIn` and `distinct` are those of `lists`, the same recursions.
+-- The generator, encodings, words, messages and nodes as the first statements have them, and that ours are the same for every sound header whose n divides k·d, as they ask.
+-- Their text stands here but for the marks: what they have as `abbrev` is `unfoldable`. Their records and shifts are quoted in RecordsAgreement and ShiftsAgreement, their arithmetic in the crate `field`;
+-- their `when`, `allBelow`, `isIn` and `distinct` are those of `lists`, the same recursions.
 use mathlib.Core.Path.{_≡_, refl, ap, ap₂, _∙_}
 use mathlib.Core.Bool.{Bool, true, _&&_, not}
 use mathlib.Core.List.{List, [], _∷_}
@@ -26,7 +26,7 @@ use Rattle.generator.proofs.Bounds.{entry-below, nodeFrom-below, polyAt
 use Rattle.generator.proofs.RecordsAgreement.{Header, given, weight, weight-agrees}
 use Rattle.generator.proofs.ShiftsAgreement.{shifts, shifts-agrees}
 
--- document 03's definitions: the generator
+-- the first definitions: the generator
 unfoldable pub valueFrom : ℕ → Header → ℕ → ℕ
 valueFrom zero h x = 1
 valueFrom (suc i) h x = mul (h .p) (sub (h .p) x (power (h .p) (h .root) i)) (valueFrom i h x)

@@ -77,7 +77,7 @@ unfolding gcdFrom
 gcd-end zero a b g z e = e
 gcd-end (suc f) a b g z e = rw (eq-eqb b 0 z) at e
 
--- the sample with n = 6, k = 4, where document 001 misprints 3
+-- the sample with n = 6, k = 4
 pub gcd-sample : gcd 4 6 ≡ 2
 unfolding gcd gcdFrom
 gcd-sample = refl

@@ -24,11 +24,11 @@ pub mod Accepts
 pub mod Claims
 pub mod Comparison
 pub mod EvenSizes
--- What the documents fix of records and rows.
+-- What is fixed of records and rows, each in words of its own.
 pub mod PinnedRecords
 pub mod PinnedRows
 pub mod Pinned
--- The same definitions as document 03 has them.
+-- The same definitions as the first statements have them.
 pub mod RecordsAgreement
 pub mod AcceptedBytes
 pub mod ShiftsAgreement

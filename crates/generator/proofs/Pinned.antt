@@ -1,4 +1,4 @@
--- What the documents fix of records and rows, with worked examples.
+-- What is fixed of records and rows, with worked examples.
 use mathlib.Core.Path.{refl}
 use Rattle.lists.specs.Counting.{countFrom}
 use Rattle.lists.specs.Rows.{from}

@@ -1,4 +1,4 @@
--- What the documents fix of records: the primes that number 3 passes, the numbers of two bytes, and the roots that number 5 passes.
+-- What is fixed of records: the primes that number 3 passes, the numbers of two bytes, and the roots that number 5 passes.
 use mathlib.Core.Path.{_≡_, refl, sym, ap, _∙_}
 use mathlib.Core.Logic.{_↔_}
 use mathlib.Core.Bool.{true, false, _&&_, not, true≢false}

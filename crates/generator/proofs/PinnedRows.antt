@@ -1,4 +1,4 @@
--- What the documents fix of the rows: Lemma 2's shifts, and the nodes at which rows begin that are laid end to end.
+-- What is fixed of the rows: Lemma 2's shifts, and the nodes at which rows begin that are laid end to end.
 use mathlib.Core.Path.{_≡_, sym, ap, _∙_}
 use mathlib.Core.Bool.{Bool, true, false, true≢false}
 use mathlib.Core.List.{List}

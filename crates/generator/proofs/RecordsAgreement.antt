@@ -1,5 +1,5 @@
--- Records as document 03 states them (specs/Fields.antt), and that ours of kinds 1 and 2 are the same but for number 6: it turned a record away whose store does not share out evenly, which ticket 4 makes a plan.
--- Its text stands here but for the marks: what it has as `abbrev` is `unfoldable`. Its arithmetic is quoted in the crate `field`; its `pick`, `firstOf` and `when` are those of `lists`.
+-- Records as the first statements have them, and that ours of kinds 1 and 2 are the same but for number 6: it turned a record away whose store does not share out evenly, which now is a plan.
+-- Their text stands here but for the marks: what they have as `abbrev` is `unfoldable`. Their arithmetic is quoted in the crate `field`; their `pick`, `firstOf` and `when` are those of `lists`.
 use mathlib.Core.Path.{_≡_, refl, sym, ap, _∙_}
 use mathlib.Core.Bool.{Bool, _&&_, _||_, not, or-false}
 use mathlib.Core.List.{List}
@@ -16,7 +16,7 @@ use Rattle.generator.specs.Records as Ours
 use Rattle.generator.proofs.Accepts.{faultless-sound}
 use Rattle.generator.proofs.Older.{Older, older-nodes}
 
--- document 03's definitions
+-- the first definitions
 pub record Header : Type 0 where
   pub p : ℕ
   pub root : ℕ
@@ -32,7 +32,7 @@ weight h = h .n - h .k + 1
 unfoldable pub recordFault : List ℕ → ℕ
 recordFault s = let b = getD s 0 0 in let h = headerOf s in firstOf (when (eqb (length s) 0 || not (eqb b 1 || eqb b 2)) 1) (firstOf (when (not (eqb (length s) (pick (eqb b 1) 5 4))) 2) (firstOf (when (eqb b 1 && not (leb 3 (h .p) && (leb (h .p) 251 && isPrime (h .p)))) 3) (firstOf (when (ltb (h .n) 2 || (eqb (h .k) 0 || ltb (h .n) (h .k))) 4) (firstOf (when (not (ltb (h .root) (sizeOf (h .p)) && eqb (orderOf (h .p) (h .root)) (h .n))) 5) (when (not (eqb (rest (h .k * weight h) (h .n)) 0)) 6)))))
 
--- its header made from ours
+-- the first header made from ours
 abbrev pub given : Own.Header → Header
 given h = record { p = Ours.modulusOf h; root = h .root; n = h .n; k = h .k }
 
@@ -96,7 +96,7 @@ recordFault-six s old = rw (headerOf-agrees s old, kind-agrees s old, body-agree
 pub recordFault-agrees : (s : List ℕ) → Older s → Ours.headerOf s .k * Ours.distance (Ours.headerOf s) % Ours.headerOf s .n ≡ 0 → recordFault s ≡ Ours.recordFault s
 recordFault-agrees s old even = recordFault-six s old ∙ rw even (first-none (Ours.recordFault s))
 
--- its domain: what it accepts has a sound header, and n divides k·d
+-- its domain: what the first statements accept has a sound header, and n divides k·d
 pub given-sound : (s : List ℕ) → Older s → recordFault s ≡ 0 → Ours.Sound (Ours.headerOf s) × (Ours.headerOf s .k * Ours.distance (Ours.headerOf s) % Ours.headerOf s .n ≡ 0)
 given-sound s old e =
     let (none, six) = first-zero (Ours.recordFault s) (when (uneven (Ours.headerOf s)) 6) (sym (recordFault-six s old) ∙ e) in

@@ -1,5 +1,5 @@
--- The shifts as document 03 states them (specs/Plans.antt), and that ours are the same for every header whose n divides k·d.
--- Its text stands here but for one mark: `shifts` is `unfoldable`. Its `rest` is quoted in the crate `field`; its `pick` is that of `lists`.
+-- The shifts as the first statements have them, and that ours are the same for every header whose n divides k·d.
+-- Their text stands here but for one mark: `shifts` is `unfoldable`. Their `rest` is quoted in the crate `field`; their `pick` is that of `lists`.
 use mathlib.Core.Path.{_≡_, refl, sym, ap, _∙_}
 use mathlib.Core.Bool.{Bool, true, false}
 use mathlib.Core.List.{List, [], _∷_, _++_}
@@ -15,7 +15,7 @@ use Rattle.generator.specs.Records as Records
 use Rattle.generator.specs.Shifts as Ours
 use Rattle.generator.proofs.RecordsAgreement.{Header, given, weight, weight-agrees}
 
--- document 03's definitions
+-- the first definitions
 abbrev pub gcdFrom : ℕ → ℕ → ℕ → ℕ
 gcdFrom zero a b = a
 gcdFrom (suc f) a b = elim (eqb b 0) [ true ↦ a | false ↦ gcdFrom f b (rest a b) ]
@@ -34,7 +34,7 @@ shiftsFrom (suc f) i t s at-place = pick (ltb at-place t) (i ∷ []) [] ++ shift
 unfoldable pub shifts : Header → List ℕ
 shifts h = let g = gcd (h .k) (h .n) in shiftsFrom (h .n) 0 (divided (h .k) g) (divided (weight h - 1) g) 0
 
--- its quotient is that of division
+-- the first quotient is that of division
 pub divided-agrees : (a b : ℕ) → divided a b ≡ a / b
 divided-agrees a zero = sym (div-zero a)
 divided-agrees a (suc b) = refl

@@ -86,7 +86,7 @@ pub record OurScheme (h : Header) : Type 0 where
   -- each change alters exactly d nodes, each node depends on exactly k·d / n symbols, rounded down or up
   pub tight : Tight scheme
   -- every scheme of numbers for the same k and n costs at least as much
-  pub least : (s : Scheme (h .k) (h .n) ℕ (λ j. ℕ)) → CostsAtLeast s scheme
+  pub least : (other : Scheme (h .k) (h .n) ℕ (λ j. ℕ)) → CostsAtLeast other scheme
 
 -- what is promised of a record that was read
 pub record Accepted (h : Header) : Type 0 where

@@ -34,7 +34,7 @@ valuesOf h cs = from (λ j. polyAt (modulusOf h) cs (power (modulusOf h) (h .roo
 -- check sum e of the symbols, the first being that of node j: each times root^(j·e)
 unfoldable pub checkFrom : Header → ℕ → ℕ → List ℕ → ℕ
 checkFrom h e j [] = 0
-checkFrom h e j (w ∷ ws) = add (modulusOf h) (mul (modulusOf h) w (power (modulusOf h) (h .root) (j * e % h .n))) (checkFrom h e (j + 1) ws)
+checkFrom h e j (x ∷ ws) = add (modulusOf h) (mul (modulusOf h) x (power (modulusOf h) (h .root) (j * e % h .n))) (checkFrom h e (j + 1) ws)
 
 -- the check sums from e down to 1 are zero
 unfoldable pub checksFrom : ℕ → Header → List ℕ → Bool

@@ -35,9 +35,9 @@ pub record Compared (h : Header) : Type 0 where
   pub plain : PlainScheme h
   pub plain-figures : HasFigures (plain .scheme) (distance h) 1 (plainGreatest h)
   -- every plain layout of numbers has these figures
-  pub every-plain : (s : Scheme (h .k) (h .n) ℕ (λ j. ℕ)) → Plain s → HasFigures s (distance h) 1 (plainGreatest h)
+  pub every-plain : (other : Scheme (h .k) (h .n) ℕ (λ j. ℕ)) → Plain other → HasFigures other (distance h) 1 (plainGreatest h)
   -- no scheme of numbers alters fewer nodes, or has a lesser greatest number of symbols
-  pub bound : (s : Scheme (h .k) (h .n) ℕ (λ j. ℕ)) (w l g : ℕ) → HasFigures s w l g → (distance h ≤ w) × (highReads h ≤ g)
+  pub bound : (other : Scheme (h .k) (h .n) ℕ (λ j. ℕ)) (writes least greatest : ℕ) → HasFigures other writes least greatest → (distance h ≤ writes) × (highReads h ≤ greatest)
 
 -- the same of a record that was read
 unfoldable pub ComparedRecord : Record → Type 0

@@ -17,9 +17,9 @@ baseFrom (suc i) h x = mul (modulusOf h) (sub (modulusOf h) x (power (modulusOf 
 unfoldable pub baseAt : Header → ℕ → ℕ
 baseAt h x = baseFrom (h .k - 1) h x
 
--- p(root^(j + s − d)), the exponent modulo n: the entry at node j of a row with the shift s
+-- p(root^(j + shift − d)), the exponent modulo n: the entry at node j of a row with that shift
 unfoldable pub entryAt : Header → ℕ → ℕ → ℕ
-entryAt h s j = baseAt h (power (modulusOf h) (h .root) ((j + s + (h .n - distance h)) % h .n))
+entryAt h shift j = baseAt h (power (modulusOf h) (h .root) ((j + shift + (h .n - distance h)) % h .n))
 
 -- entry (r, j) of the generator
 unfoldable pub entry : Header → ℕ → ℕ → ℕ

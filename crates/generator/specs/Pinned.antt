@@ -1,4 +1,4 @@
--- What the documents fix of records and rows, each in words of its own: definitions that fit each other and say something else are ruled out here.
+-- What is fixed of records and rows, each in words of its own: definitions that fit each other and say something else are ruled out here.
 use mathlib.Core.Path.{_≡_}
 use mathlib.Core.Logic.{_↔_}
 use mathlib.Core.Bool.{true, false}
@@ -37,8 +37,8 @@ pub record GreatestDivisor (a b g : ℕ) : Type 0 where
 
 -- the rows of an accepted plan
 pub record PinnedRows (h : Header) : Type 0 where
-  -- Lemma 2, where n divides k·d: with g = gcd(k, n), k = t·g and n = c·g, of each c numbers the first t are shifts, rising
-  pub taken : h .k * (h .n - h .k + 1) % h .n ≡ 0 → (g c t : ℕ) → GreatestDivisor (h .k) (h .n) g → c * g ≡ h .n → t * g ≡ h .k → (i : ℕ) → i < h .n → isIn i (shifts h) ≡ ltb (i % c) t
+  -- Lemma 2, where n divides k·d: with g = gcd(k, n), k = m·g and n = c·g, of each c numbers the first m are shifts, rising
+  pub taken : h .k * (h .n - h .k + 1) % h .n ≡ 0 → (g c m : ℕ) → GreatestDivisor (h .k) (h .n) g → c * g ≡ h .n → m * g ≡ h .k → (i : ℕ) → i < h .n → isIn i (shifts h) ≡ ltb (i % c) m
   pub rising : h .k * (h .n - h .k + 1) % h .n ≡ 0 → (r : ℕ) → r + 1 < h .k → getD (shifts h) r 0 < getD (shifts h) (r + 1) 0
   -- rows laid end to end, where it does not: with g = gcd(n, d) and n = m·g, row c·m + i begins at node (c + i·d) mod n, and its shift is that node's negative
   pub laid : (h .k * (h .n - h .k + 1) % h .n ≡ 0 → ⊥) → (g m : ℕ) → GreatestDivisor (h .n) (h .n - h .k + 1) g → m * g ≡ h .n → (c i : ℕ) → i < m → c * m + i < h .k →

@@ -18,16 +18,16 @@ use Rattle.generator.specs.declared.Record.the-variants.{Holds, Meets}
 
 -- a number of two bytes, high byte first
 abbrev pub pairAt : List ℕ → ℕ → ℕ
-pairAt s i = getD s i 0 * 256 + getD s (i + 1) 0
+pairAt rec i = getD rec i 0 * 256 + getD rec (i + 1) 0
 
 -- kind 1: p, root, n, k; kind 2: root, n, k; kind 3: p and root in two bytes each, n, k
 unfoldable pub headerOf : List ℕ → Header
-headerOf s =
-    pick (eqb (getD s 0 0) 1)
-    (record { field = Prime (primeOf (getD s 1 0)); root = getD s 2 0; n = getD s 3 0; k = getD s 4 0 })
-    (pick (eqb (getD s 0 0) 3)
-    (record { field = Prime (primeOf (pairAt s 1)); root = pairAt s 3; n = getD s 5 0; k = getD s 6 0 })
-    (record { field = Binary gf256; root = getD s 1 0; n = getD s 2 0; k = getD s 3 0 }))
+headerOf rec =
+    pick (eqb (getD rec 0 0) 1)
+    (record { field = Prime (primeOf (getD rec 1 0)); root = getD rec 2 0; n = getD rec 3 0; k = getD rec 4 0 })
+    (pick (eqb (getD rec 0 0) 3)
+    (record { field = Prime (primeOf (pairAt rec 1)); root = pairAt rec 3; n = getD rec 5 0; k = getD rec 6 0 })
+    (record { field = Binary gf256; root = getD rec 1 0; n = getD rec 2 0; k = getD rec 3 0 }))
 
 -- the prime of the record's field, or 0 for the field of 256 elements
 abbrev pub modulusOf : Header → ℕ
@@ -54,11 +54,11 @@ highReads h = ceil (h .k * distance h) (h .n)
 
 -- number 1: empty, or of none of the three kinds
 unfoldable pub kindBad : List ℕ → Bool
-kindBad s = eqb (length s) 0 || not (eqb (getD s 0 0) 1 || (eqb (getD s 0 0) 2 || eqb (getD s 0 0) 3))
+kindBad rec = eqb (length rec) 0 || not (eqb (getD rec 0 0) 1 || (eqb (getD rec 0 0) 2 || eqb (getD rec 0 0) 3))
 
 -- number 2: a body of another length than the kind's
 unfoldable pub bodyBad : List ℕ → Bool
-bodyBad s = not (eqb (length s) (pick (eqb (getD s 0 0) 1) 5 (pick (eqb (getD s 0 0) 3) 7 4)))
+bodyBad rec = not (eqb (length rec) (pick (eqb (getD rec 0 0) 1) 5 (pick (eqb (getD rec 0 0) 3) 7 4)))
 
 -- p is a prime from `low` to `high`
 unfoldable pub primeIn : ℕ → ℕ → ℕ → Bool
@@ -66,9 +66,9 @@ primeIn low high p = leb low p && (leb p high && isPrime p)
 
 -- number 3: kind 1, and p is no prime from 3 to 251, or kind 3, and p is none from 257 to 65,521
 unfoldable pub fieldBad : List ℕ → Bool
-fieldBad s =
-    pick (eqb (getD s 0 0) 1) (not (primeIn 3 251 (getD s 1 0)))
-    (pick (eqb (getD s 0 0) 3) (not (primeIn 257 65521 (pairAt s 1))) false)
+fieldBad rec =
+    pick (eqb (getD rec 0 0) 1) (not (primeIn 3 251 (getD rec 1 0)))
+    (pick (eqb (getD rec 0 0) 3) (not (primeIn 257 65521 (pairAt rec 1))) false)
 
 -- number 4: n below 2 or no byte, k zero, or k above n
 unfoldable pub sizeBad : Header → Bool
@@ -84,10 +84,10 @@ headerFault h = firstOf (when (sizeBad h) 4) (when (rootBad h) 5)
 
 -- the lowest number that holds, or 0
 unfoldable pub recordFault : List ℕ → ℕ
-recordFault s =
-    firstOf (when (kindBad s) 1)
-    (firstOf (when (bodyBad s) 2)
-    (firstOf (when (fieldBad s) 3) (headerFault (headerOf s))))
+recordFault rec =
+    firstOf (when (kindBad rec) 1)
+    (firstOf (when (bodyBad rec) 2)
+    (firstOf (when (fieldBad rec) 3) (headerFault (headerOf rec))))
 
 -- a header where the number is 0, else the number
 unfoldable pub judged : ℕ → Header → Record
@@ -96,7 +96,7 @@ judged (suc f) h = Meets (suc f)
 
 -- a record as it is read
 unfoldable pub recordOf : List ℕ → Record
-recordOf s = judged (recordFault s) (headerOf s)
+recordOf rec = judged (recordFault rec) (headerOf rec)
 
 -- what is known of a header that numbers 3 to 5 pass
 pub record Sound (h : Header) : Type 0 where

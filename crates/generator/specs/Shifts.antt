@@ -20,10 +20,10 @@ gcd a b = gcdFrom (suc b) a b
 abbrev pub nextPlace : ℕ → ℕ → ℕ
 nextPlace round place = pick (eqb (place + 1) round) 0 (place + 1)
 
--- of the f numbers from i on, going round: t are taken, s skipped, and so again; `place` is the place in the round
+-- of the f numbers from i on, going round: so many are taken, so many skipped, and so again; `place` is the place in the round
 unfoldable pub shiftsFrom : ℕ → ℕ → ℕ → ℕ → ℕ → List ℕ
-shiftsFrom zero i t s place = []
-shiftsFrom (suc f) i t s place = pick (ltb place t) (i ∷ []) [] ++ shiftsFrom f (i + 1) t s (nextPlace (t + s) place)
+shiftsFrom zero i taken skipped place = []
+shiftsFrom (suc f) i taken skipped place = pick (ltb place taken) (i ∷ []) [] ++ shiftsFrom f (i + 1) taken skipped (nextPlace (taken + skipped) place)
 
 -- the rule of Lemma 2, with g = gcd(k, n) and d − 1 = n − k: k / g taken, (d − 1) / g skipped
 unfoldable pub evenShifts : ℕ → ℕ → List ℕ

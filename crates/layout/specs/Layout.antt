@@ -42,7 +42,7 @@ rearranged y z rows l s = buffer z rows l (held y rows l s)
 
 -- a buffer with g i in row i of lane t, and its other lanes as they are
 unfoldable pub withLane : Arrangement → ℕ → ℕ → ℕ → (ℕ → ℕ) → List ℕ → List ℕ
-withLane y rows l t g s = buffer y rows l (λ i q. pick (eqb q t) (g i) (held y rows l s i q))
+withLane y rows l t g s = buffer y rows l (λ i other. pick (eqb other t) (g i) (held y rows l s i other))
 
 -- how shares stand in a buffer; a message stands row after row
 unfoldable pub shareLayout : Arrangement

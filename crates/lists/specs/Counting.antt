@@ -16,9 +16,9 @@ unfoldable pub passingFrom : ℕ → ℕ → (ℕ → Bool) → List ℕ
 passingFrom zero i p = []
 passingFrom (suc f) i p = pick (p i) (i ∷ []) [] ++ passingFrom f (i + 1) p
 
--- the places of s at which t holds another number
+-- the places at which the second list holds another number than the first
 unfoldable pub differ : List ℕ → List ℕ → ℕ
-differ s t = countFrom (length s) 0 (λ i. not (eqb (getD s i 0) (getD t i 0)))
+differ xs ys = countFrom (length xs) 0 (λ i. not (eqb (getD xs i 0) (getD ys i 0)))
 
 -- how often a number stands in a list
 unfoldable pub occurrences : ℕ → List ℕ → ℕ

@@ -3,7 +3,7 @@ use mathlib.Core.Bool.{Bool}
 use Prim.Native.Nat.{ℕ, zero, suc, _+_}
 use Rattle.lists.specs.Choice.{pick}
 
--- of the f numbers from t on the first that fails, or t + f
+-- of the f numbers from i on the first that fails, or i + f
 unfoldable pub firstFalse : ℕ → ℕ → (ℕ → Bool) → ℕ
-firstFalse zero t p = t
-firstFalse (suc f) t p = pick (p t) (firstFalse f (t + 1) p) t
+firstFalse zero i p = i
+firstFalse (suc f) i p = pick (p i) (firstFalse f (i + 1) p) i

@@ -41,7 +41,7 @@ mends-accepts h lane nodes symbols e =
 pub mends-refuses : (h : Header) (g : ℕ) → (g ≡ 0 → ⊥) → (lane nodes symbols : List ℕ) → MendsPromise lane nodes symbols nodes symbols (Refused g) h g
 unfolding mendingOf
 mends-refuses h zero some lane nodes symbols = absurd (some refl)
-mends-refuses h (suc g) some lane nodes symbols = let other = ne-eqb (suc g) 0 some in record { answer = refl; nodes-written = rw other; symbols-written = rw other }
+mends-refuses h (suc g) some lane nodes symbols = let other = ne-eqb (suc g) 0 some in record { answered = refl; nodes-written = rw other; symbols-written = rw other }
 
 -- what holds of every lane of a record
 pub mended-lanes : (rec : List ℕ) (r : Record) → recordOf rec ≡ r → Mended r

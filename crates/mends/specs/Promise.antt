@@ -40,12 +40,12 @@ Mended (Holds h) = (ws : List ℕ) → IsLane h ws → Mends h ws
 Mended (Meets f) = Unit {0}
 
 -- over a header and the number that turns the call away, 0 where none does: the answer, and both buffers afterwards
-pub record MendsPromise (lane nodes symbols nodes′ symbols′ : List ℕ) (r : Mending) (h : Header) (f : ℕ) : Type 0 where
-  pub answer : r ≡ mendingOf f (length (mendNodes h (symbolsOf (width h) lane)))
+pub record MendsPromise (lane nodes symbols nodes′ symbols′ : List ℕ) (answer : Mending) (h : Header) (f : ℕ) : Type 0 where
+  pub answered : answer ≡ mendingOf f (length (mendNodes h (symbolsOf (width h) lane)))
   pub nodes-written : nodes′ ≡ pick (eqb f 0) (inFront (mendNodes h (symbolsOf (width h) lane)) nodes) nodes
   pub symbols-written : symbols′ ≡ pick (eqb f 0) (inFront (bytesOf (width h) (mendSymbols h (symbolsOf (width h) lane))) symbols) symbols
 
 -- what `single_mends` promises over the record as it is read, and what the list means
-pub record MendsSay (rec lane nodes symbols nodes′ symbols′ : List ℕ) (r : Mending) : Type 0 where
-  pub listed : OnRecord rec (λ h. mendsFault h lane (length nodes) (length symbols)) (MendsPromise lane nodes symbols nodes′ symbols′ r)
+pub record MendsSay (rec lane nodes symbols nodes′ symbols′ : List ℕ) (answer : Mending) : Type 0 where
+  pub listed : OnRecord rec (λ h. mendsFault h lane (length nodes) (length symbols)) (MendsPromise lane nodes symbols nodes′ symbols′ answer)
   pub claims : Mended (recordOf rec)

@@ -33,9 +33,9 @@ planFor (Holds h) =
 
 -- entry (r, j) of a plan, read from its base word by the shift of row r; 0 where r is not below k or j not below n
 unfoldable pub entryIn : Plan → ℕ → ℕ → ℕ
-entryIn p r j = pick (ltb r (p .k) && ltb j (p .n)) (getD (p .base) ((j + getD (p .shifts) r 0) % p .n) 0) 0
+entryIn plan r j = pick (ltb r (plan .k) && ltb j (plan .n)) (getD (plan .base) ((j + getD (plan .shifts) r 0) % plan .n) 0) 0
 
 -- what `build_plan` promises: the plan of the record, and everything claimed of an accepted one
-pub record PlanSays (rec : List ℕ) (r : Plan) : Type 0 where
-  pub plan : r ≡ planFor (recordOf rec)
+pub record PlanSays (rec : List ℕ) (answer : Plan) : Type 0 where
+  pub plan : answer ≡ planFor (recordOf rec)
   pub claims : Promised (recordOf rec)

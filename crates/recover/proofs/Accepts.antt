@@ -39,7 +39,7 @@ module _ (h : Header) (sound : Sound h) (l : ℕ) (nodes shares : List ℕ) wher
 -- beside a number g: the number, and nothing is written
 module _ {y : Arrangement} (h : Header) (g : ℕ) (some : g ≡ 0 → ⊥) (l : ℕ) where
   pub recover-refuses : (nodes shares out : List ℕ) → RecoverPromise y l nodes shares out out (O.Refused g) h g
-  recover-refuses nodes shares out = record { answer = sym (outcome-refused g some); written = sym (refused-value g _ out some) }
+  recover-refuses nodes shares out = record { answered = sym (outcome-refused g some); written = sym (refused-value g _ out some) }
 
   pub rebuild-refuses : (nodes shares : List ℕ) (target : ℕ) (out : List ℕ) → RebuildPromise y l nodes shares target out out (O.Refused g) h g
-  rebuild-refuses nodes shares target out = record { answer = sym (outcome-refused g some); written = sym (refused-value g _ out some) }
+  rebuild-refuses nodes shares target out = record { answered = sym (outcome-refused g some); written = sym (refused-value g _ out some) }

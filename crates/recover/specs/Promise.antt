@@ -35,20 +35,20 @@ rebuildFault h l nodes shares target out =
     (listFault h nodes shares)))))
 
 -- Recover: the message of the listed shares
-pub record RecoverPromise (y : Arrangement) (l : ℕ) (nodes shares out out′ : List ℕ) (r : Outcome) (h : Header) (f : ℕ) : Type 0 where
-  pub answer : r ≡ outcomeOf f
+pub record RecoverPromise (y : Arrangement) (l : ℕ) (nodes shares out out′ : List ℕ) (answer : Outcome) (h : Header) (f : ℕ) : Type 0 where
+  pub answered : answer ≡ outcomeOf f
   pub written : out′ ≡ pick (eqb f 0) (recoveredBytes y h l nodes shares) out
 
 -- Rebuild: the target's share of the encoding of that message
-pub record RebuildPromise (y : Arrangement) (l : ℕ) (nodes shares : List ℕ) (target : ℕ) (out out′ : List ℕ) (r : Outcome) (h : Header) (f : ℕ) : Type 0 where
-  pub answer : r ≡ outcomeOf f
+pub record RebuildPromise (y : Arrangement) (l : ℕ) (nodes shares : List ℕ) (target : ℕ) (out out′ : List ℕ) (answer : Outcome) (h : Header) (f : ℕ) : Type 0 where
+  pub answered : answer ≡ outcomeOf f
   pub written : out′ ≡ pick (eqb f 0) (rebuiltBytes y h l nodes shares target) out
 
 abbrev pub RecoverSaysIn : Arrangement → List ℕ → ℕ → List ℕ → List ℕ → List ℕ → List ℕ → Outcome → Type 0
-RecoverSaysIn y rec l nodes shares out out′ r = OnRecord rec (λ h. recoverFault h l nodes shares (length out)) (RecoverPromise y l nodes shares out out′ r)
+RecoverSaysIn y rec l nodes shares out out′ answer = OnRecord rec (λ h. recoverFault h l nodes shares (length out)) (RecoverPromise y l nodes shares out out′ answer)
 
 abbrev pub RebuildSaysIn : Arrangement → List ℕ → ℕ → List ℕ → List ℕ → ℕ → List ℕ → List ℕ → Outcome → Type 0
-RebuildSaysIn y rec l nodes shares target out out′ r = OnRecord rec (λ h. rebuildFault h l nodes shares target (length out)) (RebuildPromise y l nodes shares target out out′ r)
+RebuildSaysIn y rec l nodes shares target out out′ answer = OnRecord rec (λ h. rebuildFault h l nodes shares target (length out)) (RebuildPromise y l nodes shares target out out′ answer)
 
 abbrev pub RecoverSays : List ℕ → ℕ → List ℕ → List ℕ → List ℕ → List ℕ → Outcome → Type 0
 RecoverSays = RecoverSaysIn shareLayout

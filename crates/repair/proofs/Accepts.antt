@@ -94,19 +94,19 @@ module _ (h : Header) where
   -- beside a number
   module _ (g : ℕ) (some : g ≡ 0 → ⊥) where
     pub bits-refuses : (j t : ℕ) (missing share out : List ℕ) → RepairBitsPromise j t missing share out out (Refused g) h g
-    bits-refuses j t missing share out = record { answer = sym (outcome-refused g some); written = sym (refused-value g _ out some) }
+    bits-refuses j t missing share out = record { answered = sym (outcome-refused g some); written = sym (refused-value g _ out some) }
 
     pub share-refuses : (l t : ℕ) (missing rows out : List ℕ) → RepairSharePromise l t missing rows out out (Refused g) h g
-    share-refuses l t missing rows out = record { answer = sym (outcome-refused g some); written = sym (refused-value g _ out some) }
+    share-refuses l t missing rows out = record { answered = sym (outcome-refused g some); written = sym (refused-value g _ out some) }
 
   -- where none is met
   pub bits-done : (f : ℕ) → f ≡ 0 → (j t : ℕ) (missing share out out′ : List ℕ) → out′ ≡ sent h t missing j share → RepairBitsPromise j t missing share out out′ Done h f
   unfolding outcomeOf
-  bits-done f none j t missing share out out′ e = record { answer = rw none; written = rw none e }
+  bits-done f none j t missing share out out′ e = record { answered = rw none; written = rw none e }
 
   pub share-done : (f : ℕ) → f ≡ 0 → (l t : ℕ) (missing rows out out′ : List ℕ) → out′ ≡ repairedShare h l t missing rows → RepairSharePromise l t missing rows out out′ Done h f
   unfolding outcomeOf
-  share-done f none l t missing rows out out′ e = record { answer = rw none; written = rw none e }
+  share-done f none l t missing rows out out′ e = record { answered = rw none; written = rw none e }
 
 -- the plan's answer, by its number
 pub planned-means : (f b more x y : ℕ) → P.Sends x y ≡ repairPlanOf f b more → (f ≡ 0) × (x ≡ b) × (y ≡ more)
@@ -129,4 +129,4 @@ plan-refused (suc f) b more some = refl
 
 -- beside a number the plan gives that number
 pub plan-refuses : (h : Header) (f : ℕ) → (f ≡ 0 → ⊥) → (count : ℕ) → RepairPlanPromise count (P.Refused f) h f
-plan-refuses h f some count = record { answer = sym (plan-refused f _ _ some) }
+plan-refuses h f some count = record { answered = sym (plan-refused f _ _ some) }

@@ -60,24 +60,24 @@ repairPlanOf zero b more = P.Sends b more
 repairPlanOf (suc f) b more = P.Refused (suc f)
 
 -- what a node sends of its share: a digit of b bits for each lane, as b planes
-pub record RepairBitsPromise (j target : ℕ) (missing share out out′ : List ℕ) (r : Outcome) (h : Header) (f : ℕ) : Type 0 where
-  pub answer : r ≡ outcomeOf f
+pub record RepairBitsPromise (j target : ℕ) (missing share out out′ : List ℕ) (answer : Outcome) (h : Header) (f : ℕ) : Type 0 where
+  pub answered : answer ≡ outcomeOf f
   pub written : out′ ≡ pick (eqb f 0) (sent h target missing j share) out
 
 -- the target's share: in every lane the sum of the parts of what came
-pub record RepairSharePromise (l target : ℕ) (missing rows out out′ : List ℕ) (r : Outcome) (h : Header) (f : ℕ) : Type 0 where
-  pub answer : r ≡ outcomeOf f
+pub record RepairSharePromise (l target : ℕ) (missing rows out out′ : List ℕ) (answer : Outcome) (h : Header) (f : ℕ) : Type 0 where
+  pub answered : answer ≡ outcomeOf f
   pub written : out′ ≡ pick (eqb f 0) (repairedShare h l target missing rows) out
 
 -- the plan of a repair
-pub record RepairPlanPromise (count : ℕ) (r : RepairPlan) (h : Header) (f : ℕ) : Type 0 where
-  pub answer : r ≡ repairPlanOf f (bits h count) (spare h count)
+pub record RepairPlanPromise (count : ℕ) (answer : RepairPlan) (h : Header) (f : ℕ) : Type 0 where
+  pub answered : answer ≡ repairPlanOf f (bits h count) (spare h count)
 
 abbrev pub RepairBitsSays : List ℕ → ℕ → ℕ → ℕ → List ℕ → List ℕ → List ℕ → List ℕ → Outcome → Type 0
-RepairBitsSays rec l j target missing share out out′ r = OnRecord rec (λ h. repairBitsFault h l j target missing (length share) (length out)) (RepairBitsPromise j target missing share out out′ r)
+RepairBitsSays rec l j target missing share out out′ answer = OnRecord rec (λ h. repairBitsFault h l j target missing (length share) (length out)) (RepairBitsPromise j target missing share out out′ answer)
 
 abbrev pub RepairShareSays : List ℕ → ℕ → ℕ → List ℕ → List ℕ → List ℕ → List ℕ → Outcome → Type 0
-RepairShareSays rec l target missing rows out out′ r = OnRecord rec (λ h. repairShareFault h l target missing (length rows) (length out)) (RepairSharePromise l target missing rows out out′ r)
+RepairShareSays rec l target missing rows out out′ answer = OnRecord rec (λ h. repairShareFault h l target missing (length rows) (length out)) (RepairSharePromise l target missing rows out out′ answer)
 
 abbrev pub RepairPlanSays : List ℕ → ℕ → RepairPlan → Type 0
-RepairPlanSays rec count r = OnRecord rec (λ h. repairPlanFault h count) (RepairPlanPromise count r)
+RepairPlanSays rec count answer = OnRecord rec (λ h. repairPlanFault h count) (RepairPlanPromise count answer)

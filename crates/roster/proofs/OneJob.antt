@@ -33,11 +33,11 @@ made r l = record { roster = r; listing = l }
 
 pub job-answer : (h : Header) (r : Roster) (list list′ : List ℕ) (a : Job) → JobSays (h .n) (h .k) r list list′ a → a ≡ jobOf (Holds h) r list
 unfolding jobOf lowestOf
-job-answer h r list list′ a s = ap₂ made (s .roster ∙ ap (λ l. after l (h .n) r) (s .answer)) (s .answer)
+job-answer h r list list′ a s = ap₂ made (s .roster ∙ ap (λ l. after l (h .n) r) (s .answered)) (s .answered)
 
 pub job-lists : (h : Header) (r : Roster) (list list′ : List ℕ) (a : Job) → JobSays (h .n) (h .k) r list list′ a → list′ ≡ jobList (Holds h) r list
 unfolding jobList lowestOf
-job-lists h r list list′ a s = s .written ∙ ap (λ l. listed l (jobNodes (h .n) (h .k) r) list) (s .answer)
+job-lists h r list list′ a s = s .written ∙ ap (λ l. listed l (jobNodes (h .n) (h .k) r) list) (s .answered)
 
 -- the roster after a job, by what became of the list
 module _ (n : ℕ) (r : Roster) where

@@ -27,11 +27,11 @@ reached h es = afterEvents (Holds h) es (startOf (Holds h) .roster)
 
 -- node j is among the n and marked as present
 abbrev pub IsIn : Header → Roster → ℕ → Type 0
-IsIn h r j = (j < h .n) × (isPresent (r .marks) j ≡ true)
+IsIn h roster j = (j < h .n) × (isPresent (roster .marks) j ≡ true)
 
 -- how many nodes are present
 abbrev pub presentCount : Header → Roster → ℕ
-presentCount h r = length (presentOf (h .n) (r .marks))
+presentCount h roster = length (presentOf (h .n) (roster .marks))
 
 -- the roster is that of the history of events
 pub record Kept (h : Header) : Type 0 where
@@ -47,59 +47,59 @@ pub record Kept (h : Header) : Type 0 where
   pub last : (j : ℕ) (before : List Event) (e : Event) (later : List Event) → named e ≡ j → NoneNames j later → lastSays j (before ++ (e ∷ later)) true ≡ says e
   pub none : (j : ℕ) (es : List Event) → NoneNames j es → lastSays j es true ≡ true
   -- jobs between the events play no part
-  pub between : (cs : List Call) (r : Roster) → afterCalls (Holds h) cs r .marks ≡ afterEvents (Holds h) (eventsIn cs) r .marks
+  pub between : (calls : List Call) (roster : Roster) → afterCalls (Holds h) calls roster .marks ≡ afterEvents (Holds h) (eventsIn calls) roster .marks
   -- after any events and jobs there are 255 marks, and those at n and above are absent
-  pub many : (cs : List Call) → length (afterCalls (Holds h) cs (startOf (Holds h) .roster) .marks) ≡ 255
-  pub above : (cs : List Call) (j : ℕ) → h .n ≤ j → isPresent (afterCalls (Holds h) cs (startOf (Holds h) .roster) .marks) j ≡ false
+  pub many : (calls : List Call) → length (afterCalls (Holds h) calls (startOf (Holds h) .roster) .marks) ≡ 255
+  pub above : (calls : List Call) (j : ℕ) → h .n ≤ j → isPresent (afterCalls (Holds h) calls (startOf (Holds h) .roster) .marks) j ≡ false
 
 -- one event, on any roster
 pub record Stepping (h : Header) : Type 0 where
   -- a refused event leaves the roster equal
-  pub refused : (r : Roster) (e : Event) → (stepOf (Holds h) e r .number ≡ 0 → ⊥) → stepOf (Holds h) e r .roster ≡ r
+  pub refused : (roster : Roster) (e : Event) → (stepOf (Holds h) e roster .number ≡ 0 → ⊥) → stepOf (Holds h) e roster .roster ≡ roster
   -- an accepted one names a node below n that was not what the event says, and the jobs are counted from 0
-  pub accepted : (r : Roster) (e : Event) → stepOf (Holds h) e r .number ≡ 0 → (stepOf (Holds h) e r .roster .job ≡ 0) × (named e < h .n) × (isPresent (r .marks) (named e) ≡ says e → ⊥)
+  pub accepted : (roster : Roster) (e : Event) → stepOf (Holds h) e roster .number ≡ 0 → (stepOf (Holds h) e roster .roster .job ≡ 0) × (named e < h .n) × (isPresent (roster .marks) (named e) ≡ says e → ⊥)
   -- marks at n and above stay as they are
-  pub above : (r : Roster) (e : Event) (j : ℕ) → h .n ≤ j → isPresent (stepOf (Holds h) e r .roster .marks) j ≡ isPresent (r .marks) j
+  pub above : (roster : Roster) (e : Event) (j : ℕ) → h .n ≤ j → isPresent (stepOf (Holds h) e roster .roster .marks) j ≡ isPresent (roster .marks) j
 
 -- the query, on any roster
 pub record Lowest (h : Header) : Type 0 where
   -- with a list of k bytes, too few exactly if fewer than k are present
-  pub few : (r : Roster) (list : List ℕ) → length list ≡ h .k → (lowestOf (Holds h) r list ≡ TooFew) ↔ (presentCount h r < h .k)
+  pub few : (roster : Roster) (list : List ℕ) → length list ≡ h .k → (lowestOf (Holds h) roster list ≡ TooFew) ↔ (presentCount h roster < h .k)
   -- what is written are k different nodes, which Recover and Rebuild take as a list of nodes, all present
-  pub nodes : (r : Roster) (list : List ℕ) → lowestOf (Holds h) r list ≡ Written → areNodes h (lowestList (Holds h) r list) ≡ true
-  pub here : (r : Roster) (list : List ℕ) → lowestOf (Holds h) r list ≡ Written → (j : ℕ) → isIn j (lowestList (Holds h) r list) ≡ true → isPresent (r .marks) j ≡ true
+  pub nodes : (roster : Roster) (list : List ℕ) → lowestOf (Holds h) roster list ≡ Written → areNodes h (lowestList (Holds h) roster list) ≡ true
+  pub here : (roster : Roster) (list : List ℕ) → lowestOf (Holds h) roster list ≡ Written → (j : ℕ) → isIn j (lowestList (Holds h) roster list) ≡ true → isPresent (roster .marks) j ≡ true
   -- they rise, and every other present node is above them
-  pub rises : (r : Roster) (list : List ℕ) → lowestOf (Holds h) r list ≡ Written → (i j : ℕ) → i < j → j < h .k → getD (lowestList (Holds h) r list) i 0 < getD (lowestList (Holds h) r list) j 0
-  pub least : (r : Roster) (list : List ℕ) → lowestOf (Holds h) r list ≡ Written → (i j : ℕ) → isIn i (lowestList (Holds h) r list) ≡ true → IsIn h r j → isIn j (lowestList (Holds h) r list) ≡ false → i < j
+  pub rises : (roster : Roster) (list : List ℕ) → lowestOf (Holds h) roster list ≡ Written → (i j : ℕ) → i < j → j < h .k → getD (lowestList (Holds h) roster list) i 0 < getD (lowestList (Holds h) roster list) j 0
+  pub least : (roster : Roster) (list : List ℕ) → lowestOf (Holds h) roster list ≡ Written → (i j : ℕ) → isIn i (lowestList (Holds h) roster list) ≡ true → IsIn h roster j → isIn j (lowestList (Holds h) roster list) ≡ false → i < j
   -- marks at n and above play no part
-  pub beyond : (r q : Roster) (list : List ℕ) → ((j : ℕ) → j < h .n → isPresent (r .marks) j ≡ isPresent (q .marks) j) → (lowestOf (Holds h) r list ≡ lowestOf (Holds h) q list) × (lowestList (Holds h) r list ≡ lowestList (Holds h) q list)
+  pub beyond : (roster other : Roster) (list : List ℕ) → ((j : ℕ) → j < h .n → isPresent (roster .marks) j ≡ isPresent (other .marks) j) → (lowestOf (Holds h) roster list ≡ lowestOf (Holds h) other list) × (lowestList (Holds h) roster list ≡ lowestList (Holds h) other list)
 
 -- one job, on any roster with any job number
 pub record Jobs (h : Header) : Type 0 where
   -- it answers as the query does
-  pub answer : (r : Roster) (list : List ℕ) → jobOf (Holds h) r list .listing ≡ lowestOf (Holds h) r list
+  pub answer : (roster : Roster) (list : List ℕ) → jobOf (Holds h) roster list .listing ≡ lowestOf (Holds h) roster list
   -- what is written are k different nodes, which Rebuild takes as a list of nodes, all present
-  pub nodes : (r : Roster) (list : List ℕ) → jobOf (Holds h) r list .listing ≡ Written → areNodes h (jobList (Holds h) r list) ≡ true
-  pub here : (r : Roster) (list : List ℕ) → jobOf (Holds h) r list .listing ≡ Written → (j : ℕ) → isIn j (jobList (Holds h) r list) ≡ true → isPresent (r .marks) j ≡ true
+  pub nodes : (roster : Roster) (list : List ℕ) → jobOf (Holds h) roster list .listing ≡ Written → areNodes h (jobList (Holds h) roster list) ≡ true
+  pub here : (roster : Roster) (list : List ℕ) → jobOf (Holds h) roster list .listing ≡ Written → (j : ℕ) → isIn j (jobList (Holds h) roster list) ≡ true → isPresent (roster .marks) j ≡ true
   -- a job that writes nothing leaves roster and list equal
-  pub idle : (r : Roster) (list : List ℕ) → (jobOf (Holds h) r list .listing ≡ Written → ⊥) → (jobOf (Holds h) r list .roster ≡ r) × (jobList (Holds h) r list ≡ list)
+  pub idle : (roster : Roster) (list : List ℕ) → (jobOf (Holds h) roster list .listing ≡ Written → ⊥) → (jobOf (Holds h) roster list .roster ≡ roster) × (jobList (Holds h) roster list ≡ list)
   -- a job leaves the marks
-  pub marks : (r : Roster) (list : List ℕ) → jobOf (Holds h) r list .roster .marks ≡ r .marks
+  pub marks : (roster : Roster) (list : List ℕ) → jobOf (Holds h) roster list .roster .marks ≡ roster .marks
   -- one that writes moves the job number on by one, modulo the number of present nodes
-  pub moves : (r : Roster) (list : List ℕ) → jobOf (Holds h) r list .listing ≡ Written → (jobOf (Holds h) r list .roster .job ≡ (r .job + 1) % presentCount h r) × (jobOf (Holds h) r list .roster .job < presentCount h r)
+  pub moves : (roster : Roster) (list : List ℕ) → jobOf (Holds h) roster list .listing ≡ Written → (jobOf (Holds h) roster list .roster .job ≡ (roster .job + 1) % presentCount h roster) × (jobOf (Holds h) roster list .roster .job < presentCount h roster)
   -- marks at n and above play no part, and the job number counts modulo the number of present nodes
-  pub beyond : (r q : Roster) (list : List ℕ) → ((j : ℕ) → j < h .n → isPresent (r .marks) j ≡ isPresent (q .marks) j) → r .job % presentCount h r ≡ q .job % presentCount h r → jobList (Holds h) r list ≡ jobList (Holds h) q list
+  pub beyond : (roster other : Roster) (list : List ℕ) → ((j : ℕ) → j < h .n → isPresent (roster .marks) j ≡ isPresent (other .marks) j) → roster .job % presentCount h roster ≡ other .job % presentCount h roster → jobList (Holds h) roster list ≡ jobList (Holds h) other list
 
 -- runs of jobs, whatever is refused between them, on any roster with any job number
 pub record Turns (h : Header) : Type 0 where
   -- job after job, k places each, the present nodes are read in succession, going round
-  pub reads : (r : Roster) (cs : List Call) → Quiet (Holds h) cs r → readsOf (Holds h) cs r ≡ from (around (presentOf (h .n) (r .marks))) (r .job * h .k) (jobsIn (Holds h) cs r * h .k)
+  pub reads : (roster : Roster) (calls : List Call) → Quiet (Holds h) calls roster → readsOf (Holds h) calls roster ≡ from (around (presentOf (h .n) (roster .marks))) (roster .job * h .k) (jobsIn (Holds h) calls roster * h .k)
   -- the marks stay
-  pub stays : (r : Roster) (cs : List Call) → Quiet (Holds h) cs r → afterCalls (Holds h) cs r .marks ≡ r .marks
+  pub stays : (roster : Roster) (calls : List Call) → Quiet (Holds h) calls roster → afterCalls (Holds h) calls roster .marks ≡ roster .marks
   -- no present node is read more than once oftener than another
-  pub fair : (r : Roster) (cs : List Call) → Quiet (Holds h) cs r → (i j : ℕ) → IsIn h r i → IsIn h r j → occurrences i (readsOf (Holds h) cs r) ≤ occurrences j (readsOf (Holds h) cs r) + 1
-  -- in s / k jobs of the run, rounded up, wherever they begin in it, every present node is read
-  pub waits : (r : Roster) (before cs : List Call) → Quiet (Holds h) (before ++ cs) r → (j : ℕ) → IsIn h r j → (presentCount h r + h .k - 1) / h .k ≤ jobsIn (Holds h) cs (afterCalls (Holds h) before r) → 0 < occurrences j (readsOf (Holds h) cs (afterCalls (Holds h) before r))
+  pub fair : (roster : Roster) (calls : List Call) → Quiet (Holds h) calls roster → (i j : ℕ) → IsIn h roster i → IsIn h roster j → occurrences i (readsOf (Holds h) calls roster) ≤ occurrences j (readsOf (Holds h) calls roster) + 1
+  -- in as many jobs of the run as the number of present nodes divided by k, rounded up, wherever they begin in it, every present node is read
+  pub waits : (roster : Roster) (before calls : List Call) → Quiet (Holds h) (before ++ calls) roster → (j : ℕ) → IsIn h roster j → (presentCount h roster + h .k - 1) / h .k ≤ jobsIn (Holds h) calls (afterCalls (Holds h) before roster) → 0 < occurrences j (readsOf (Holds h) calls (afterCalls (Holds h) before roster))
 
 -- the rosters of an accepted record
 pub record RosterSays (h : Header) : Type 0 where
@@ -112,9 +112,9 @@ pub record RosterSays (h : Header) : Type 0 where
 -- beside a number no node is present at first, and no call changes anything
 pub record RosterRefused (f : ℕ) : Type 0 where
   pub empty : (j : ℕ) → isPresent (startOf (Meets f) .roster .marks) j ≡ false
-  pub event : (r : Roster) (e : Event) → stepOf (Meets f) e r .roster ≡ r
-  pub query : (r : Roster) (list : List ℕ) → lowestList (Meets f) r list ≡ list
-  pub job : (r : Roster) (list : List ℕ) → (jobOf (Meets f) r list .roster ≡ r) × (jobList (Meets f) r list ≡ list)
+  pub event : (roster : Roster) (e : Event) → stepOf (Meets f) e roster .roster ≡ roster
+  pub query : (roster : Roster) (list : List ℕ) → lowestList (Meets f) roster list ≡ list
+  pub job : (roster : Roster) (list : List ℕ) → (jobOf (Meets f) roster list .roster ≡ roster) × (jobList (Meets f) roster list ≡ list)
 
 -- what is promised of a record
 unfoldable pub RosterPromised : Record → Type 0

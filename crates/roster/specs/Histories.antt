@@ -13,8 +13,8 @@ use Rattle.roster.specs.Rosters.{stepOf}
 
 -- the roster after events one after the other, accepted or refused
 unfoldable pub afterEvents : Record → List Event → Roster → Roster
-afterEvents rec [] r = r
-afterEvents rec (e ∷ es) r = afterEvents rec es (stepOf rec e r .roster)
+afterEvents rec [] roster = roster
+afterEvents rec (e ∷ es) roster = afterEvents rec es (stepOf rec e roster .roster)
 
 -- from the events alone: whether the last event that names node j says that it is present; `first` where none names it
 unfoldable pub lastSays : ℕ → List Event → Bool → Bool

@@ -50,20 +50,20 @@ eventFault n node here marks = firstOf (when (leb n node) 9) (when (Bool·beq (i
 
 -- the roster with a node marked and the jobs counted from 0 where the number is 0, else the roster as it was
 unfoldable pub marked : ℕ → ℕ → Bool → Roster → Step
-marked zero node here r = record { roster = record { marks = set (r .marks) node here; job = 0 }; number = 0 }
-marked (suc f) node here r = record { roster = r; number = suc f }
+marked zero node here roster = record { roster = record { marks = set (roster .marks) node here; job = 0 }; number = 0 }
+marked (suc f) node here roster = record { roster = roster; number = suc f }
 
 unfoldable pub stepWith : ℕ → ℕ → Bool → Roster → Step
-stepWith n node here r = marked (eventFault n node here (r .marks)) node here r
+stepWith n node here roster = marked (eventFault n node here (roster .marks)) node here roster
 
 -- the same for a record
 unfoldable pub stepBy : Record → ℕ → Bool → Roster → Step
-stepBy (Meets f) node here r = record { roster = r; number = f }
-stepBy (Holds h) node here r = stepWith (h .n) node here r
+stepBy (Meets f) node here roster = record { roster = roster; number = f }
+stepBy (Holds h) node here roster = stepWith (h .n) node here roster
 
 -- an event
 abbrev pub stepOf : Record → Event → Roster → Step
-stepOf rec e r = stepBy rec (named e) (says e) r
+stepOf rec e roster = stepBy rec (named e) (says e) roster
 
 -- the answer by its number, 0 where the call was accepted, and whether enough nodes are present
 unfoldable pub listingOf : ℕ → Bool → Listing
@@ -76,9 +76,9 @@ wrote Written = true
 wrote TooFew = false
 wrote (Refused f) = false
 
--- what becomes of a list of l bytes where s nodes are present: number 8 for another length than k, too few for s below k
+-- what becomes of a list of so many bytes where `count` nodes are present: number 8 for another length than k, too few for fewer nodes than k
 unfoldable pub listing : ℕ → ℕ → ℕ → Listing
-listing k s l = listingOf (when (not (eqb l k)) 8) (leb k s)
+listing k count bytes = listingOf (when (not (eqb bytes k)) 8) (leb k count)
 
 -- the list afterwards: the nodes where they are written, else the list as it was
 unfoldable pub listed : Listing → List ℕ → List ℕ → List ℕ
@@ -92,36 +92,36 @@ lowestNodes n k marks = take k (presentOf n marks)
 
 -- what the query answers, and the list afterwards
 unfoldable pub lowestOf : Record → Roster → List ℕ → Listing
-lowestOf (Meets f) r list = Refused f
-lowestOf (Holds h) r list = listing (h .k) (length (presentOf (h .n) (r .marks))) (length list)
+lowestOf (Meets f) roster list = Refused f
+lowestOf (Holds h) roster list = listing (h .k) (length (presentOf (h .n) (roster .marks))) (length list)
 
 unfoldable pub lowestList : Record → Roster → List ℕ → List ℕ
-lowestList (Meets f) r list = list
-lowestList (Holds h) r list = listed (lowestOf (Holds h) r list) (lowestNodes (h .n) (h .k) (r .marks)) list
+lowestList (Meets f) roster list = list
+lowestList (Holds h) roster list = listed (lowestOf (Holds h) roster list) (lowestNodes (h .n) (h .k) (roster .marks)) list
 
--- the nodes that job i reads: the present nodes at places i·k + t, going round, for t from 0 to k − 1
+-- the nodes that job i reads: the present nodes at the k places from i·k on, going round
 unfoldable pub nodesAt : List ℕ → ℕ → ℕ → List ℕ
 nodesAt ps k i = from (around ps) (i * k) k
 
 -- the job number is held modulo the number of present nodes
 unfoldable pub jobNodes : ℕ → ℕ → Roster → List ℕ
-jobNodes n k r = nodesAt (presentOf n (r .marks)) k (r .job % length (presentOf n (r .marks)))
+jobNodes n k roster = nodesAt (presentOf n (roster .marks)) k (roster .job % length (presentOf n (roster .marks)))
 
 -- a job that writes moves the job number on by one
 unfoldable pub movedOn : ℕ → Roster → Roster
-movedOn n r = record { marks = r .marks; job = (r .job + 1) % length (presentOf n (r .marks)) }
+movedOn n roster = record { marks = roster .marks; job = (roster .job + 1) % length (presentOf n (roster .marks)) }
 
 -- the roster after a job
 unfoldable pub after : Listing → ℕ → Roster → Roster
-after Written n r = movedOn n r
-after TooFew n r = r
-after (Refused f) n r = r
+after Written n roster = movedOn n roster
+after TooFew n roster = roster
+after (Refused f) n roster = roster
 
 -- what a job answers, which is what the query would, with the roster after it; and the list afterwards
 unfoldable pub jobOf : Record → Roster → List ℕ → Job
-jobOf (Meets f) r list = record { roster = r; listing = Refused f }
-jobOf (Holds h) r list = record { roster = after (lowestOf (Holds h) r list) (h .n) r; listing = lowestOf (Holds h) r list }
+jobOf (Meets f) roster list = record { roster = roster; listing = Refused f }
+jobOf (Holds h) roster list = record { roster = after (lowestOf (Holds h) roster list) (h .n) roster; listing = lowestOf (Holds h) roster list }
 
 unfoldable pub jobList : Record → Roster → List ℕ → List ℕ
-jobList (Meets f) r list = list
-jobList (Holds h) r list = listed (lowestOf (Holds h) r list) (jobNodes (h .n) (h .k) r) list
+jobList (Meets f) roster list = list
+jobList (Holds h) roster list = listed (lowestOf (Holds h) roster list) (jobNodes (h .n) (h .k) roster) list

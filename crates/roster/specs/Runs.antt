@@ -17,41 +17,41 @@ pub data Call : Type 0 where
 -- the events alone
 unfoldable pub eventsIn : List Call → List Event
 eventsIn [] = []
-eventsIn (event e ∷ cs) = e ∷ eventsIn cs
-eventsIn (job list ∷ cs) = eventsIn cs
+eventsIn (event e ∷ calls) = e ∷ eventsIn calls
+eventsIn (job list ∷ calls) = eventsIn calls
 
 -- the roster after a call
 unfoldable pub next : Record → Call → Roster → Roster
-next rec (event e) r = stepOf rec e r .roster
-next rec (job list) r = jobOf rec r list .roster
+next rec (event e) roster = stepOf rec e roster .roster
+next rec (job list) roster = jobOf rec roster list .roster
 
 -- the roster after calls one after the other, accepted or refused
 unfoldable pub afterCalls : Record → List Call → Roster → Roster
-afterCalls rec [] r = r
-afterCalls rec (c ∷ cs) r = afterCalls rec cs (next rec c r)
+afterCalls rec [] roster = roster
+afterCalls rec (call ∷ calls) roster = afterCalls rec calls (next rec call roster)
 
 -- whether a call is a job that writes
 unfoldable pub isRead : Record → Call → Roster → Bool
-isRead rec (event e) r = false
-isRead rec (job list) r = wrote (jobOf rec r list .listing)
+isRead rec (event e) roster = false
+isRead rec (job list) roster = wrote (jobOf rec roster list .listing)
 
 -- the nodes that a call reads: those that a job writes
 unfoldable pub readBy : Record → Call → Roster → List ℕ
-readBy rec (event e) r = []
-readBy rec (job list) r = pick (isRead rec (job list) r) (jobList rec r list) []
+readBy rec (event e) roster = []
+readBy rec (job list) roster = pick (isRead rec (job list) roster) (jobList rec roster list) []
 
 -- the nodes that calls one after the other read
 unfoldable pub readsOf : Record → List Call → Roster → List ℕ
-readsOf rec [] r = []
-readsOf rec (c ∷ cs) r = readBy rec c r ++ readsOf rec cs (next rec c r)
+readsOf rec [] roster = []
+readsOf rec (call ∷ calls) roster = readBy rec call roster ++ readsOf rec calls (next rec call roster)
 
 -- how many of the calls are jobs that write
 unfoldable pub jobsIn : Record → List Call → Roster → ℕ
-jobsIn rec [] r = 0
-jobsIn rec (c ∷ cs) r = when (isRead rec c r) 1 + jobsIn rec cs (next rec c r)
+jobsIn rec [] roster = 0
+jobsIn rec (call ∷ calls) roster = when (isRead rec call roster) 1 + jobsIn rec calls (next rec call roster)
 
 -- no event among the calls is accepted
 unfoldable pub Quiet : Record → List Call → Roster → Type 0
-Quiet rec [] r = Unit {0}
-Quiet rec (event e ∷ cs) r = (stepOf rec e r .number ≡ 0 → ⊥) × Quiet rec cs (next rec (event e) r)
-Quiet rec (job list ∷ cs) r = Quiet rec cs (next rec (job list) r)
+Quiet rec [] roster = Unit {0}
+Quiet rec (event e ∷ calls) roster = (stepOf rec e roster .number ≡ 0 → ⊥) × Quiet rec calls (next rec (event e) roster)
+Quiet rec (job list ∷ calls) roster = Quiet rec calls (next rec (job list) roster)

@@ -13,22 +13,22 @@ use Rattle.roster.specs.Rosters.{eventFault, stepOf}
 
 -- the roster that bytes hold: a mark other than 0 counts as present
 unfoldable pub marksOf : List ℕ → List Bool
-marksOf s = from (λ j. not (eqb (getD s j 0) 0)) 0 255
+marksOf bytes = from (λ j. not (eqb (getD bytes j 0) 0)) 0 255
 
 unfoldable pub rosterOf : List ℕ → Roster
-rosterOf s = record { marks = marksOf s; job = getD s 255 0 }
+rosterOf bytes = record { marks = marksOf bytes; job = getD bytes 255 0 }
 
 -- the bytes of a roster: marks are 0 or 1
 unfoldable pub markBytes : List Bool → List ℕ
 markBytes marks = from (λ j. pick (getD marks j false) 1 0) 0 255
 
 unfoldable pub rosterBytes : Roster → List ℕ
-rosterBytes r = markBytes (r .marks) ++ (r .job ∷ [])
+rosterBytes roster = markBytes (roster .marks) ++ (roster .job ∷ [])
 
 -- the number that an event meets on the roster that bytes hold: the record's, then 9, then 15
 unfoldable pub bytesFault : List ℕ → Event → List ℕ → ℕ
-bytesFault rec e s = firstOf (recordFault rec) (eventFault (headerOf rec .n) (named e) (says e) (rosterOf s .marks))
+bytesFault rec e bytes = firstOf (recordFault rec) (eventFault (headerOf rec .n) (named e) (says e) (rosterOf bytes .marks))
 
 -- the bytes after an event: those of the next roster, or the same beside a number
 unfoldable pub eventBytes : List ℕ → Event → List ℕ → List ℕ
-eventBytes rec e s = pick (eqb (bytesFault rec e s) 0) (rosterBytes (stepOf (recordOf rec) e (rosterOf s) .roster)) s
+eventBytes rec e bytes = pick (eqb (bytesFault rec e bytes) 0) (rosterBytes (stepOf (recordOf rec) e (rosterOf bytes) .roster)) bytes

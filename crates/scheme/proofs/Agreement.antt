@@ -1,4 +1,4 @@
--- Schemes and the price line as document 03 states them (Claims), and its price line proved for every such scheme.
+-- Schemes and the price line as the first statements have them, and their price line proved for every such scheme.
 use mathlib.Core.Path.{_≡_, refl, sym, ap, _∙_}
 use mathlib.Core.Logic.{_≢_, _↔_}
 use mathlib.Core.Bool.{Bool, true, false, _&&_, _||_, not, true≢false}
@@ -20,7 +20,7 @@ use Rattle.scheme.proofs.Messages.{length-symbols, message, symbols-cha
 use Rattle.scheme.proofs.Deciding.{at-most, least-most}
 use Rattle.scheme.proofs.Bounds.{distance, price}
 
--- document 03's definitions; `allBelow`, `distinct` and `when` are those of `lists`
+-- the first definitions; `allBelow`, `distinct` and `when` are those of `lists`
 abbrev pub countS : {S : Type 0} → List S → ℕ
 countS [] = 0
 countS (x ∷ xs) = suc (countS xs)
@@ -57,7 +57,7 @@ pub record Price (S C : Type 0) (k n : ℕ) (s : Scheme S C k n) : Type 0 where
   pub alters-most : (ms : List S) (r : ℕ) (x : S) → countS ms ≡ k → ltb r k ≡ true → sameAll (s .sameS) ms (putS ms r x) ≡ false → n - k + 1 ≤ alteredFrom n s ms (putS ms r x)
   pub depends-most : (x y : S) → s .sameS x y ≡ false → (j : ℕ) × (rs : List ℕ) × (ltb j n ≡ true) × (allBelow k rs ≡ true) × (distinct rs ≡ true) × (k * (n - k + 1) ≤ n * length rs) × ((r : ℕ) → isOne r rs ≡ true → (ms : List S) × (z : S) × (countS ms ≡ k) × (s .sameC (s .enc ms j) (s .enc (putS ms r z) j) ≡ false))
 
--- the names that document 03 has beside those of the libraries
+-- the names that the first statements have beside those of the libraries
 isOne-isIn : (i : ℕ) (is : List ℕ) → isOne i is ≡ isIn i is
 unfolding isIn
 isOne-isIn i [] = refl
@@ -87,7 +87,7 @@ module _ {S C : Type 0} {k n : ℕ} (s : Scheme S C k n) where
   decided : (c e : C) → Dec (c ≡ e)
   decided c e = by-test (s .sameC c e) (λ t. yes (s .sameC-is c e .0 t)) (λ f. no (λ q. true≢false (sym (s .sameC-is c e .1 q) ∙ f)))
 
-  -- a scheme of document 03 is a scheme
+  -- a scheme of the first statements is a scheme
   own : Own.Scheme k n S (λ j. C)
   own =
       list-scheme k n (s .enc) decided
@@ -107,14 +107,14 @@ module _ {S C : Type 0} {k n : ℕ} (s : Scheme S C k n) where
       rw (altered-count (symbols k m) (symbols k u) n)
       (least-most (distance own l m u ne) (at-most n (λ j. not (s .sameC (s .enc (symbols k m) j) (s .enc (symbols k u) j))) (Own.Altered own m u) (λ j d. ap not (differing _ _ d))))
 
-  -- a node that depends on symbol r does so by document 03's words
+  -- a node that depends on symbol r does so by the first words
   depends : (j : Fin n) (r : Fin k) → Own.DependsOn own j r → (ms : List S) × (z : S) × (countS ms ≡ k) × (s .sameC (s .enc ms (j .0)) (s .enc (putS ms (r .0) z) (j .0)) ≡ false)
   unfolding own list-scheme
   depends j r d =
       let ms = symbols k (d .0) in
       (ms, d .1 r, countS-length ms ∙ length-symbols k (d .0), rw (putS-set ms (r .0) (d .1 r), ← symbols-change k r (d .0) (d .1) (d .2)) (differing _ _ (d .3)))
 
--- the price line, as document 03 demands it
+-- the price line, as the first statements demand it
 pub given-price : (S C : Type 0) (k n : ℕ) (s : Scheme S C k n) → 1 ≤ k → k ≤ n → Price S C k n s
 given-price S C k n s some small = record {
   alters-most = λ ms r x size l diff.

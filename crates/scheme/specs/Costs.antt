@@ -35,35 +35,35 @@ ceil a n = (a + (n - 1)) / n
 abbrev pub Rounded : ℕ → ℕ → ℕ → Type 0
 Rounded a n c = (c ≡ floor a n) ⊎ (c ≡ ceil a n)
 
-module _ {ℓ κ} {k n : ℕ} {S : Type ℓ} {C : Fin n → Type κ} (s : Scheme k n S C) where
+module _ {ℓ κ} {k n : ℕ} {S : Type ℓ} {C : Fin n → Type κ} (scheme : Scheme k n S C) where
   -- what no scheme can spare
   pub record Price : Type (ℓ ⊔ κ) where
     -- each change of one symbol alters at least d nodes
-    pub writes : (r : Fin k) (m u : Message S k) → Change r m u → AtLeast (n - k + 1) n (Altered s m u)
+    pub writes : (r : Fin k) (m u : Message S k) → Change r m u → AtLeast (n - k + 1) n (Altered scheme m u)
     -- some node depends on at least k · d / n symbols, if the alphabet has two
-    pub reads : (x y : S) → x ≢ y → (j : Fin n) × (b : ℕ) × (k * (n - k + 1) ≤ n * b) × AtLeast b k (DependsOn s j)
+    pub reads : (x y : S) → x ≢ y → (j : Fin n) × (b : ℕ) × (k * (n - k + 1) ≤ n * b) × AtLeast b k (DependsOn scheme j)
     -- so, a count being whole, on at least k · d / n rounded up
-    pub reads-up : (x y : S) → x ≢ y → (j : Fin n) × AtLeast (ceil (k * (n - k + 1)) n) k (DependsOn s j)
+    pub reads-up : (x y : S) → x ≢ y → (j : Fin n) × AtLeast (ceil (k * (n - k + 1)) n) k (DependsOn scheme j)
 
   -- a scheme at the least price, shared out as evenly as whole numbers allow
   pub record Tight : Type (ℓ ⊔ κ) where
     -- each change of one symbol alters exactly d nodes
-    pub writes : (r : Fin k) (m u : Message S k) → Change r m u → Exactly (n - k + 1) n (Altered s m u)
+    pub writes : (r : Fin k) (m u : Message S k) → Change r m u → Exactly (n - k + 1) n (Altered scheme m u)
     -- each node depends on exactly k · d / n symbols, rounded down or up
-    pub reads : (j : Fin n) → Exactly (floor (k * (n - k + 1)) n) k (DependsOn s j) ⊎ Exactly (ceil (k * (n - k + 1)) n) k (DependsOn s j)
+    pub reads : (j : Fin n) → Exactly (floor (k * (n - k + 1)) n) k (DependsOn scheme j) ⊎ Exactly (ceil (k * (n - k + 1)) n) k (DependsOn scheme j)
     -- some node has the lower number, and some node the upper
-    pub lower-node : (j : Fin n) × Exactly (floor (k * (n - k + 1)) n) k (DependsOn s j)
-    pub upper-node : (j : Fin n) × Exactly (ceil (k * (n - k + 1)) n) k (DependsOn s j)
+    pub lower-node : (j : Fin n) × Exactly (floor (k * (n - k + 1)) n) k (DependsOn scheme j)
+    pub upper-node : (j : Fin n) × Exactly (ceil (k * (n - k + 1)) n) k (DependsOn scheme j)
 
   -- a scheme that costs no more than the least price
   pub record Frugal : Type (ℓ ⊔ κ) where
     -- each change of one symbol alters at most d nodes
-    pub writes : (r : Fin k) (m u : Message S k) → Change r m u → AtMost (n - k + 1) n (Altered s m u)
+    pub writes : (r : Fin k) (m u : Message S k) → Change r m u → AtMost (n - k + 1) n (Altered scheme m u)
     -- each node depends on at most k · d / n symbols, rounded up
-    pub reads : (j : Fin n) → AtMost (ceil (k * (n - k + 1)) n) k (DependsOn s j)
+    pub reads : (j : Fin n) → AtMost (ceil (k * (n - k + 1)) n) k (DependsOn scheme j)
 
--- s costs at least as much as t: each change of s alters at least as many nodes as any change of t does,
--- and some node of s depends on at least as many symbols as any node of t does
-pub record CostsAtLeast {ℓ κ ℓ′ κ′} {k n : ℕ} {S : Type ℓ} {C : Fin n → Type κ} {S′ : Type ℓ′} {C′ : Fin n → Type κ′} (s : Scheme k n S C) (t : Scheme k n S′ C′) : Type (ℓ ⊔ κ ⊔ ℓ′ ⊔ κ′) where
-  pub writes : (r i : Fin k) (m u : Message S k) (m′ u′ : Message S′ k) → Change r m u → Change i m′ u′ → (c : ℕ) → AtLeast c n (Altered t m′ u′) → AtLeast c n (Altered s m u)
-  pub reads : (j : Fin n) × ((i : Fin n) (c : ℕ) → AtLeast c k (DependsOn t i) → AtLeast c k (DependsOn s j))
+-- a scheme costs at least as much as another: each change of it alters at least as many nodes as any change of the other does,
+-- and some node of it depends on at least as many symbols as any node of the other does
+pub record CostsAtLeast {ℓ κ ℓ′ κ′} {k n : ℕ} {S : Type ℓ} {C : Fin n → Type κ} {S′ : Type ℓ′} {C′ : Fin n → Type κ′} (scheme : Scheme k n S C) (other : Scheme k n S′ C′) : Type (ℓ ⊔ κ ⊔ ℓ′ ⊔ κ′) where
+  pub writes : (r i : Fin k) (m u : Message S k) (m′ u′ : Message S′ k) → Change r m u → Change i m′ u′ → (c : ℕ) → AtLeast c n (Altered other m′ u′) → AtLeast c n (Altered scheme m u)
+  pub reads : (j : Fin n) × ((i : Fin n) (c : ℕ) → AtLeast c k (DependsOn other i) → AtLeast c k (DependsOn scheme j))

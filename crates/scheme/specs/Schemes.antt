@@ -17,10 +17,10 @@ pub record Scheme {ℓ κ} (k n : ℕ) (S : Type ℓ) (C : Fin n → Type κ) : 
   -- any k nodes fix the message: if each of some k different nodes holds the same for two messages, the two are equal
   pub fixes : (m u : Message S k) (js : List ℕ) → length js ≡ k → allBelow n js ≡ true → distinct js ≡ true → ((j : Fin n) → isIn (j .0) js ≡ true → holds m j ≡ holds u j) → m ≡ u
 
-module _ {ℓ κ} {k n : ℕ} {S : Type ℓ} {C : Fin n → Type κ} (s : Scheme k n S C) where
+module _ {ℓ κ} {k n : ℕ} {S : Type ℓ} {C : Fin n → Type κ} (scheme : Scheme k n S C) where
   -- two messages alter node j: it holds different things for the two
   abbrev pub Altered : Message S k → Message S k → Fin n → Type κ
-  Altered m u j = s .holds m j ≢ s .holds u j
+  Altered m u j = scheme .holds m j ≢ scheme .holds u j
 
   -- node j depends on symbol r: for some message, changing that symbol alone changes what the node holds
   abbrev pub DependsOn : Fin n → Fin k → Type (ℓ ⊔ κ)

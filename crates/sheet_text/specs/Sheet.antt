@@ -20,11 +20,11 @@ roundings low high = pick (eqb low high) (low ∷ []) (low ∷ high ∷ [])
 
 -- the line of a plan's numbers
 unfoldable pub numbersLine : Plan → List ℕ
-numbersLine p = line (ascii "plan") (p .n ∷ p .k ∷ p .d ∷ roundings (p .low) (p .high))
+numbersLine plan = line (ascii "plan") (plan .n ∷ plan .k ∷ plan .d ∷ roundings (plan .low) (plan .high))
 
 -- the line of row r: its number, its shift, its first node, its n entries
 unfoldable pub rowLine : Plan → ℕ → List ℕ
-rowLine p r = line (ascii "row") (r ∷ getD (p .shifts) r 0 ∷ getD (p .firsts) r 0 ∷ from (entryIn p r) 0 (p .n))
+rowLine plan r = line (ascii "row") (r ∷ getD (plan .shifts) r 0 ∷ getD (plan .firsts) r 0 ∷ from (entryIn plan r) 0 (plan .n))
 
 -- the sheet of a record, by the definitions of the generator
 unfoldable pub sheetFor : Record → List ℕ

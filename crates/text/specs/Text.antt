@@ -9,7 +9,7 @@ use Rattle.lists.specs.Choice.{pick}
 -- the codes of a text's characters
 unfoldable pub ascii : String → List ℕ
 ascii [] = []
-ascii (c ∷ s) = code c ∷ ascii s
+ascii (c ∷ rest) = code c ∷ ascii rest
 
 abbrev pub digit : ℕ → ℕ
 digit d = 48 + d

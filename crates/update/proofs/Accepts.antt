@@ -59,4 +59,4 @@ module _ (h : Header) (sound : Sound h) (l : ℕ) where
 -- beside a number g: the number, and nothing is written
 module _ {y : Arrangement} (h : Header) (g : ℕ) (some : g ≡ 0 → ⊥) (l : ℕ) where
   pub update-refuses : (r t old new : ℕ) (shares : List ℕ) → UpdatePromise y l r t old new shares shares (U.Refused g) h g
-  update-refuses r t old new shares = record { answer = sym (update-refused g _ some); written = sym (refused-value g _ shares some) }
+  update-refuses r t old new shares = record { answered = sym (update-refused g _ some); written = sym (refused-value g _ shares some) }

@@ -15,4 +15,4 @@ use Rattle.update.specs.Promise.{UpdatePromise}
 
 pub altered-says : (h : Header) (w l r t old new : ℕ) (s s′ : List ℕ) (f count : ℕ) → w ≡ width h → f ≡ 0 → s′ ≡ bytesOf w (updated shareLayout h l r t old new (symbolsOf w s)) → count ≡ differ (symbolsOf w s) (updated shareLayout h l r t old new (symbolsOf w s)) → UpdatePromise shareLayout l r t old new s s′ (Altered count) h f
 unfolding updateOf updatedBytes alteredCount
-altered-says h w l r t old new s s′ f count wide none done counted = record { answer = rw (none, ← wide, counted); written = rw (none, ← wide, done) }
+altered-says h w l r t old new s s′ f count wide none done counted = record { answered = rw (none, ← wide, counted); written = rw (none, ← wide, done) }

@@ -32,12 +32,12 @@ unfoldable pub updateFault : Arrangement → Header → ℕ → ℕ → ℕ → 
 updateFault y h l r t old new shares = firstOf (inputFault y h l r t old new shares) (staleFault h (laneOf y (h .n) l t (symbolsOf (width h) shares)) r old)
 
 -- Update: the row added to the lane, and how many symbols differ afterwards
-pub record UpdatePromise (y : Arrangement) (l r t old new : ℕ) (shares shares′ : List ℕ) (a : Update) (h : Header) (f : ℕ) : Type 0 where
-  pub answer : a ≡ updateOf f (alteredCount y h l r t old new shares)
+pub record UpdatePromise (y : Arrangement) (l r t old new : ℕ) (shares shares′ : List ℕ) (answer : Update) (h : Header) (f : ℕ) : Type 0 where
+  pub answered : answer ≡ updateOf f (alteredCount y h l r t old new shares)
   pub written : shares′ ≡ pick (eqb f 0) (updatedBytes y h l r t old new shares) shares
 
 abbrev pub UpdateSaysIn : Arrangement → List ℕ → ℕ → ℕ → ℕ → ℕ → ℕ → List ℕ → List ℕ → Update → Type 0
-UpdateSaysIn y rec l r t old new shares shares′ a = OnRecord rec (λ h. updateFault y h l r t old new shares) (UpdatePromise y l r t old new shares shares′ a)
+UpdateSaysIn y rec l r t old new shares shares′ answer = OnRecord rec (λ h. updateFault y h l r t old new shares) (UpdatePromise y l r t old new shares shares′ answer)
 
 abbrev pub UpdateSays : List ℕ → ℕ → ℕ → ℕ → ℕ → ℕ → List ℕ → List ℕ → Update → Type 0
 UpdateSays = UpdateSaysIn shareLayout

@@ -8,4 +8,4 @@ use Rattle.blocks.proofs.Refused.{outcome-refused, refused-value}
 use Rattle.weight_counts.specs.Weights.{WeightsPromise}
 
 pub weights-refuses : (h : Header) (g : ℕ) → (g ≡ 0 → ⊥) → (counts : List ℕ) → WeightsPromise counts counts (Refused g) h g
-weights-refuses h g some counts = record { answer = sym (outcome-refused g some); written = sym (refused-value g _ counts some) }
+weights-refuses h g some counts = record { answered = sym (outcome-refused g some); written = sym (refused-value g _ counts some) }

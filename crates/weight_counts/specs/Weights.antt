@@ -52,11 +52,11 @@ Distributed (Holds h) = Distribution h
 Distributed (Meets f) = Unit {0}
 
 -- over a header and the number that turns the call away, 0 where none does: the answer, and the counts afterwards
-pub record WeightsPromise (counts counts′ : List ℕ) (r : Outcome) (h : Header) (f : ℕ) : Type 0 where
-  pub answer : r ≡ outcomeOf f
+pub record WeightsPromise (counts counts′ : List ℕ) (answer : Outcome) (h : Header) (f : ℕ) : Type 0 where
+  pub answered : answer ≡ outcomeOf f
   pub written : counts′ ≡ pick (eqb f 0) (weightCounts h) counts
 
 -- what `weight_counts` promises over the record as it is read, and what holds of the counts
-pub record WeightsSay (rec counts counts′ : List ℕ) (r : Outcome) : Type 0 where
-  pub counted : OnRecord rec (λ h. weightsFault h (length counts)) (WeightsPromise counts counts′ r)
+pub record WeightsSay (rec counts counts′ : List ℕ) (answer : Outcome) : Type 0 where
+  pub counted : OnRecord rec (λ h. weightsFault h (length counts)) (WeightsPromise counts counts′ answer)
   pub claims : Distributed (recordOf rec)

@@ -35,7 +35,7 @@ few h e = ltb-false 65536 (size h ^ h .k) e
 
 module _ (h : Header) (counts counts′ : List ℕ) (r : Outcome) (long : length counts ≡ h .n + 1) (made : WeightsPromise counts counts′ r h (weightsFault h (length counts))) where
   answer : (t : Bool) → messagesBad h ≡ t → r ≡ outcomeOf (when t 16)
-  answer t e = made .answer ∙ ap outcomeOf (by-messages h counts long ∙ ap (λ b. when b 16) e)
+  answer t e = made .answered ∙ ap outcomeOf (by-messages h counts long ∙ ap (λ b. when b 16) e)
 
   pub done-text : r ≡ O.Done → (weightsFor (Holds h) ≡ countLines counts′) × (counts′ ≡ weightCounts h) × (size h ^ h .k ≤ 65536)
   unfolding outcomeOf weightsFor

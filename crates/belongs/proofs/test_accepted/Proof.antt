@@ -24,12 +24,12 @@ module _ (h : Header) (l : ℕ) (s : List ℕ) (number : ℕ) (none : number ≡
   -- no number is met, and no lane is wrong
   passed : lane ≡ l → BelongsPromise shareLayout l s Yes h number
   unfolding membershipOf wrongLane
-  passed end = record { answer = rw (none, ← lane-is, eq-eqb lane l end) }
+  passed end = record { answered = rw (none, ← lane-is, eq-eqb lane l end) }
 
   -- none is met, and this lane is the first wrong one
   failed : (lane ≡ l → ⊥) → BelongsPromise shareLayout l s (No lane) h number
   unfolding membershipOf wrongLane
-  failed inside = record { answer = rw (none, ← lane-is, ne-eqb lane l inside) }
+  failed inside = record { answered = rw (none, ← lane-is, ne-eqb lane l inside) }
 
 -- no number is met
 none-met : (c : tie.Else1) → let a = c .before .before .before .args in belongsFault (a .h) (a .lanes) (a .shares .now) ≡ 0

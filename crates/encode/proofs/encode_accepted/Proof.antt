@@ -54,7 +54,7 @@ returns-2 c =
     let measured : tie.After-width-of = search in
     let none = sym (measured .before .before .encode-fault .ensures) ∙ measured .before .if1 .left in
     let wide = measured .width-of .ensures .0 in
-    record { answer = rw none; written = rw none (rw wide at (c .before .before .encode-lanes .ensures) ∙ sym (encoded-lanes _ _ _ _ refl)) }
+    record { answered = rw none; written = rw none (rw wide at (c .before .before .encode-lanes .ensures) ∙ sym (encoded-lanes _ _ _ _ refl)) }
 
 pub encode-accepted-spec : {M : Type 1} → statement M
 encode-accepted-spec =

@@ -78,7 +78,7 @@ unfolding answerOf
 returns-2 c =
     let at : tie.Else1 = search in
     let none = sym (at .before .find-fault .ensures) ∙ at .if1 .left in
-    record { answer = rw none (c .find .ensures ∙ ap₂ (findingOf _) (first (c .before .before .before .before)) (second (c .before .before .before))) }
+    record { answered = rw none (c .find .ensures ∙ ap₂ (findingOf _) (first (c .before .before .before .before)) (second (c .before .before .before))) }
 
 pub find-accepted-spec : {M : Type 1} → statement M
 find-accepted-spec =

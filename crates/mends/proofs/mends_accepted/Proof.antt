@@ -77,7 +77,7 @@ returns-2 c =
     let after-mends-fault : tie.After-mends-fault = search in
     let none = sym (after-mends-fault .mends-fault .ensures) ∙ else1 .if1 .left in
     let e = rw (part after-read-symbols) at (c .before .before .before .before .list-mends .ensures) in
-    record { answer = rw none (ap Listed (e .0)); nodes-written = rw none (e .1); symbols-written = rw none (e .2) }
+    record { answered = rw none (ap Listed (e .0)); nodes-written = rw none (e .1); symbols-written = rw none (e .2) }
 
 pub mends-accepted-spec : {M : Type 1} → statement M
 mends-accepted-spec =

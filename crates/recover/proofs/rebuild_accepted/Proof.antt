@@ -62,7 +62,7 @@ returns-2 c =
     let a = at .before .before .before .before .before .args in
     let none = sym (at .before .rebuild-fault .ensures) ∙ at .if1 .left in
     record {
-      answer = rw none refl;
+      answered = rw none refl;
       written = rw none (rebuilt-lanes (accepted at .0) (a .target) _ (c .before .before .before .before .before .rebuild-weights .ensures) (rw wide at (c .before .before .rebuild-lanes .ensures)));
     }
 

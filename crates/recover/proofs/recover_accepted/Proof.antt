@@ -97,7 +97,7 @@ returns-2 c =
     let wide = c .before .before .before .before .width-of .ensures .0 in
     let none = sym (at .before .before .recover-fault .ensures) ∙ at .before .if1 .left in
     record {
-      answer = rw none refl;
+      answered = rw none refl;
       written = rw none (recovered-lanes (accepted at .0) (rw wide at (c .before .before .fill-message .ensures)));
     }
 

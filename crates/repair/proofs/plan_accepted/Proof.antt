@@ -14,7 +14,7 @@ traces-bad-requires c κs = search needs
 
 returns : tie.Need-returns
 unfolding repairPlanFault repairPlanOf
-returns c = record { answer = rw (sym (c .before .traces-bad .ensures) ∙ c .if1 .taken) }
+returns c = record { answered = rw (sym (c .before .traces-bad .ensures) ∙ c .if1 .taken) }
 
 bits-requires : tie.Need-bits-requires
 bits-requires c κs = search needs
@@ -29,7 +29,7 @@ spare-requires c κs = (c .before .before .before .pre, repairable _ _ (eqb-fals
 
 returns-2 : tie.Need-returns-2
 unfolding repairPlanFault repairPlanOf
-returns-2 c = record { answer = rw (passed (c .before .before)) (ap₂ P.Sends (c .before .bits .ensures) (c .spare .ensures)) }
+returns-2 c = record { answered = rw (passed (c .before .before)) (ap₂ P.Sends (c .before .bits .ensures) (c .spare .ensures)) }
 
 pub plan-accepted-spec : {M : Type 1} → statement M
 plan-accepted-spec = tie.close (tie.spec traces-bad-requires returns bits-requires spare-requires returns-2)

@@ -16,7 +16,7 @@ listingNumber TooFew = 0
 listingNumber (Refused f) = f
 
 -- what a job promises for n and k
-pub record JobSays (n k : ℕ) (r : Roster) (list list′ : List ℕ) (a : Job) : Type 0 where
-  pub answer : a .listing ≡ listing k (length (presentOf n (r .marks))) (length list)
-  pub roster : a .roster ≡ after (a .listing) n r
-  pub written : list′ ≡ listed (a .listing) (jobNodes n k r) list
+pub record JobSays (n k : ℕ) (before : Roster) (list list′ : List ℕ) (answer : Job) : Type 0 where
+  pub answered : answer .listing ≡ listing k (length (presentOf n (before .marks))) (length list)
+  pub roster : answer .roster ≡ after (answer .listing) n before
+  pub written : list′ ≡ listed (answer .listing) (jobNodes n k before) list

@@ -7,4 +7,4 @@ use Rattle.roster_bytes.specs.Bytes.{markBytes}
 
 -- the bytes with other marks
 unfoldable pub marksIn : List Bool → List ℕ → List ℕ
-marksIn marks s = markBytes marks ++ drop 255 s
+marksIn marks bytes = markBytes marks ++ drop 255 bytes

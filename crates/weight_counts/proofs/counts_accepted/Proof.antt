@@ -26,7 +26,7 @@ returns-2 : tie.Need-returns-2
 unfolding outcomeOf
 returns-2 c =
     let none = sym (c .before .before .before .before .before .weights-fault .ensures) ∙ c .before .before .before .before .if1 .left in
-    record { answer = rw none; written = rw none (c .before .before .fill-counts .ensures) }
+    record { answered = rw none; written = rw none (c .before .before .fill-counts .ensures) }
 
 pub counts-accepted-spec : {M : Type 1} → statement M
 counts-accepted-spec =

@@ -35,7 +35,7 @@ first c =
 
 returns : tie.Need-returns
 unfolding listing listingOf listed after
-returns c = record { answer = rw (ne-eqb _ _ (c .if1 .taken)); roster = refl; written = refl }
+returns c = record { answered = rw (ne-eqb _ _ (c .if1 .taken)); roster = refl; written = refl }
 
 cast-job : tie.Need-cast-job
 cast-job c = omega arith
@@ -49,7 +49,7 @@ returns-2 c =
     let start : tie.Start = search in
     let a = start .args in
     let few : length (presentOf (a .n) (a .roster .marks)) < a .k = omega (arith, counted (c .before)) in
-    record { answer = rw (eq-eqb _ _ (c .before .before .before .before .if1 .left), lt-leb _ _ few); roster = refl; written = refl }
+    record { answered = rw (eq-eqb _ _ (c .before .before .before .before .if1 .left), lt-leb _ _ few); roster = refl; written = refl }
 
 rem-write-nodes : tie.Need-rem-write-nodes
 rem-write-nodes c = omega arith
@@ -88,7 +88,7 @@ returns-3 c =
     let many : a .k ≤ length (presentOf (a .n) (a .roster .marks)) = omega arith in
     let size = at .before .before .before .if1 .left in
     record {
-      answer = rw (eq-eqb _ _ size, le-leb _ _ many);
+      answered = rw (eq-eqb _ _ size, le-leb _ _ many);
       roster = rw (is .0);
       written = c .before .before .write-nodes .ensures ∙ job-written (a .n) (a .k) (a .roster) _ _ (at .list-present .ensures) size (omega arith) (omega arith);
     }
