@@ -30,13 +30,14 @@ use Rattle.decode.specs.Inner.Locating.{Below}
 use Rattle.decode.specs.Inner.Errors.{rootsOf, errorsOf, removed}
 use Rattle.decode.specs.Inner.Candidates.{SoundLane, WrongNodes, Candidate}
 use Rattle.decode.proofs.Arrays.{below-everywhere}
-use Rattle.decode.proofs.RootNodes.{few-roots, roots-low}
+use Rattle.decode.proofs.RootNodes.{few-roots, roots-low, roots-distinct}
 use Rattle.decode.proofs.ErrorSymbols.{errorsFrom-below}
 use Rattle.decode.proofs.Removing.{length-removed, removed-below}
-use Rattle.decode.proofs.Found.{length-es, found-word}
+use Rattle.decode.proofs.Found.{js-room, found-word}
+use Rattle.decode.proofs.Repaired.{length-es}
 
 -- check sums are symbols
-sums-below : (h : Header) (s : Sound h) (ws : List ℕ) → allBelow (size h) ws ≡ true → allBelow (size h) (checkSums h ws) ≡ true
+pub sums-below : (h : Header) (s : Sound h) (ws : List ℕ) → allBelow (size h) ws ≡ true → allBelow (size h) (checkSums h ws) ≡ true
 unfolding checkSums
 sums-below h s ws b =
     let f : ℕ → ℕ = λ e. checkFrom h e 0 ws in
@@ -105,7 +106,7 @@ module _ (h : Header) (ws : List ℕ) (lane : SoundLane h ws) (sums : List ℕ) 
     basis = parts (h .field) (length roots) points _ (record { are = points-are; size = length-points p (h .root) 0 roots }) refl
 
     long-errors : length errors ≡ length roots
-    long-errors = length-es h (lane .sound) ws (lane .long) (lane .below) sums (w .locator) (w .few) sums-are long-sums sums-symbols (w .locates)
+    long-errors = length-es h (lane .sound) ws (lane .long) (lane .below) sums (w .few) sums-are long-sums sums-symbols roots (roots-low p (h .root) (h .n) front) (roots-distinct p (h .root) (h .n) front) (js-room h (lane .sound) ws (lane .long) (lane .below) sums (w .locator) (w .few) sums-are long-sums sums-symbols (w .locates))
 
     errors-below : allBelow (size h) errors ≡ true
     unfolding errorsOf

@@ -6,6 +6,8 @@ pub mod Values
 pub mod Removing
 pub mod RootNodes
 pub mod ErrorSymbols
+pub mod Locators
+pub mod Repaired
 pub mod Found
 pub mod CandidateParts
 pub mod Verdict

@@ -18,7 +18,7 @@ use Rattle.field.proofs.FieldOf.{size-pos}
 use Rattle.decode.specs.Inner.Errors.{removed}
 
 -- a place of a list that is padded, set
-set-padded : (n : ℕ) (ws : List ℕ) (j x : ℕ) → j < length ws → set (padded n ws) j x ≡ padded n (set ws j x)
+pub set-padded : (n : ℕ) (ws : List ℕ) (j x : ℕ) → j < length ws → set (padded n ws) j x ≡ padded n (set ws j x)
 unfolding padded
 set-padded n ws j x low = rw (length-set ws j x) (set-append-left ws (zeros _) j x low)
 

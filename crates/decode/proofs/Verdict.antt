@@ -19,7 +19,7 @@ use Rattle.decode.specs.Inner.Candidates.{SoundLane, Candidate}
 abbrev Says : Header → List ℕ → List ℕ → ℕ → Bool → Type 0
 Says h ws array altered near = (near ≡ hasNear h ws) × (array ≡ padded 255 (corrected h ws)) × (altered ≡ differ ws (corrected h ws))
 
-and-false : (b : Bool) → (b && false) ≡ false
+pub and-false : (b : Bool) → (b && false) ≡ false
 and-false true = refl
 and-false false = refl
 

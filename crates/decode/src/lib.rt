@@ -14,11 +14,11 @@ ghost use Rattle.decode.specs.Inner.Candidates.{SoundLane, WrongNodes, C
 use field::Tables;
 use generator::Header;
 
-mod errors;
-mod field_symbols;
-mod lanes;
-mod locator;
-mod roots;
+pub mod errors;
+pub mod field_symbols;
+pub mod lanes;
+pub mod locator;
+pub mod roots;
 
 use errors::errors;
 use lanes::copied;
@@ -64,7 +64,7 @@ fn wrong_nodes(h: Header, tables: &Tables, sums: &[u16; 255]) -> Roots
 }
 
 // The lane as it was: no word is near enough.
-fn kept(lane: &[u16]) -> Corrected
+pub fn kept(lane: &[u16]) -> Corrected
     requires { ⌜ length (now lane) ≤ 255 ⌝ }
     ensures { λ r. ⌜ (r .lane ≡ padded 255 (now (lane .entry))) × (r .altered ≡ 0) × (r .near ≡ false) ⌝ }
 {

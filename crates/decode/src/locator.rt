@@ -23,7 +23,7 @@ fn entry(c: &[u16; 255], i: usize) -> u32
 }
 
 // The sum of v[i]·s[e + i] over i < m.
-fn discrepancy(
+pub fn discrepancy(
     field: Field,
     tables: &Tables,
     v: &[u16; 255],

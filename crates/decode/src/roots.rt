@@ -14,7 +14,7 @@ use field::Field;
 use field::Tables;
 
 // The value at x, by Horner's rule.
-fn value(field: Field, tables: &Tables, coefficients: &[u16], x: u32) -> u32
+pub fn value(field: Field, tables: &Tables, coefficients: &[u16], x: u32) -> u32
     requires { ⌜ SymbolList field (now coefficients) × (x < sizeOf (modulus field)) × AreTables (now tables) ⌝ }
     ensures { λ r. ⌜ r ≡ polyAt (modulus field) (now (coefficients .entry)) x ⌝ }
 {

@@ -1,6 +1,6 @@
 -- At most one word of the code differs from a lane at no more than (n − k)/2 nodes.
 use mathlib.Core.Path.{_≡_, refl, sym, ap, ap₂, _∙_}
-use mathlib.Core.Bool.{true, false, not, true≢false}
+use mathlib.Core.Bool.{true, not}
 use mathlib.Core.List.{List, map}
 use Prim.Native.Nat.{ℕ, zero, suc, _+_, _≤_, _<_}
 use native.Mathlib.Nat as Nat
@@ -12,11 +12,11 @@ use Rattle.lists.specs.Choice.{when}
 use Rattle.lists.specs.Rows.{from, range}
 use Rattle.lists.specs.Counting.{countFrom, differ}
 use Rattle.lists.specs.Numbers.{allBelow}
-use Rattle.lists.proofs.All.{All-map}
-use Rattle.lists.proofs.Cases.{by-test, and-left, and-right}
+use Rattle.lists.proofs.All.{All, All-map}
+use Rattle.lists.proofs.Cases.{and-left, and-right}
 use Rattle.lists.proofs.Differ.{differ-by}
 use Rattle.lists.proofs.Numbers.{below-at}
-use Rattle.lists.proofs.Count.{count-ext}
+use Rattle.lists.proofs.Count.{count-ext, count-not}
 use Rattle.lists.proofs.Rows.{getD-from}
 use Rattle.lists.proofs.Places.{Places-range, length-range, map-range}
 use Rattle.algebra.specs.Field.{Field}
@@ -35,7 +35,8 @@ use Rattle.generator.proofs.Recovery.{lifted, lifted-numbers, length-lifted}
 use Rattle.generator.proofs.Words.{words-poly}
 use Rattle.nearest_word.specs.Nearest.{radius, isNear, hasNear, nearest}
 use Rattle.nearest_word.proofs.Selection.{dec-not, cons-if, keep, All-keep, length-keep, Places-keep}
-use Rattle.nearest_word.proofs.Errors.{value, faults}
+use Rattle.nearest_word.proofs.Errors.{value, faults, length-free}
+use Rattle.nearest_word.proofs.Searches.{only-one}
 use Rattle.lists.proofs.AllLists.{Passes, any-list, first-list}
 
 -- polynomials of length k whose words agree at k places are equal
@@ -72,7 +73,7 @@ module _ (h : Header) (s : Sound h) where
   radius-fits = omega (arith, s .fits)
 
   -- the places at which symbols differ, as numbers
-  faults-count : (y u : ℕ → Symbol (size h)) (i n : ℕ) → length (faults F y u (range i n)) ≡ countFrom n i (λ j. not (eqb (y j .0) (u j .0)))
+  pub faults-count : (y u : ℕ → Symbol (size h)) (i n : ℕ) → length (faults F y u (range i n)) ≡ countFrom n i (λ j. not (eqb (y j .0) (u j .0)))
   unfolding from countFrom
   faults-count y u i zero = refl
   faults-count y u i (suc n) = step i (faults F y u (range (i + 1) n)) (faults-count y u (i + 1) n) (F .decide (y i) (u i))
@@ -80,6 +81,11 @@ module _ (h : Header) (s : Sound h) where
       step : (j : ℕ) (l : List ℕ) {m : ℕ} → length l ≡ m → (d : Dec (y j ≡ u j)) → length (cons-if (dec-not d) j l) ≡ when (not (eqb (y j .0) (u j .0))) 1 + m
       step j l {m} e (yes q) = rw (eq-eqb (y j .0) (u j .0) (ap (λ (x : Symbol (size h)). x .0) q)) (e ∙ sym (Nat.zero-add m))
       step j l {m} e (no q) = rw (ne-eqb (y j .0) (u j .0) (λ z. q (symbol-path (size h) z))) (omega (arith, e))
+
+  -- a polynomial that is not zero, of length at most t + 1, vanishes at no more than t nodes
+  pub count-roots : (t : ℕ) (v : List (Symbol (size h))) → length v ≤ suc t → (All (λ c. c ≡ F .0f) v → ⊥) → countFrom (h .n) 0 (λ j. eqb (value F a v j .0) 0) ≤ t
+  count-roots t v l z =
+      omega (arith, length-free F a (h .n) o t v l z, faults-count (value F a v) (λ j. F .0f) 0 (h .n), count-not (h .n) 0 (λ j. eqb (value F a v j .0) 0))
 
   -- the values of a polynomial as numbers
   pub numbers-values : (f : List (Symbol (size h))) (j : ℕ) → j < h .n → getD (numbers (size h) (values F a f (range 0 (h .n)))) j 0 ≡ value F a f j .0
@@ -151,16 +157,8 @@ module _ (h : Header) (s : Sound h) where
 
     -- symbols that every word that near must be: whether there is one is whether they are one
     pub judged : (us : List ℕ) → length us ≡ h .n → allBelow (size h) us ≡ true → ((vs : List ℕ) → Near ws vs → vs ≡ us) → (hasNear h ws ≡ isNear h ws us) × (isNear h ws us ≡ true → nearest h ws ≡ us)
-    judged us l b only = (by-test (hasNear h ws) found-one none, λ t. nearest-is us (record { long = l; below = b; passes = t }) .1)
-      where
-        found-one : hasNear h ws ≡ true → hasNear h ws ≡ isNear h ws us
-        found-one t = t ∙ sym (sym (ap (isNear h ws) (only (nearest h ws) (nearest-near t))) ∙ nearest-near t .passes)
-
-        none : hasNear h ws ≡ false → hasNear h ws ≡ isNear h ws us
-        none t =
-            by-test (isNear h ws us)
-            (λ e. absurd (true≢false (sym (nearest-is us (record { long = l; below = b; passes = e }) .0) ∙ t)))
-            (λ e. t ∙ sym e)
+    unfolding hasNear nearest
+    judged us l b only = only-one (size h) (h .n) (isNear h ws) us l b only
 
     module _ (below : allBelow (size h) ws ≡ true) where
       at-term : (j : ℕ) → j < h .n → term ws j .0 ≡ getD ws j 0
