@@ -1,0 +1,2 @@
+-- What the functions return: the nodes that may be wrong, and the candidate.
+pub mod Suspects
