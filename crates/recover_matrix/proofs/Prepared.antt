@@ -24,7 +24,7 @@ use Rattle.tile_products.specs.Inner.Matrices.{Begun}
 use Rattle.block_products.specs.declared.Product.{Product}
 use Rattle.block_products.specs.Inner.Ways.{sideOf, resultBytes, laneSum}
 use Rattle.recover_matrix.specs.Inner.Inverse.{nodePoints, inverseRow, PreparedNodes, preparedRow, preparedSums, scaledColumn, rowProduct}
-use Rattle.recover_matrix.proofs.Rows.{sumsOf, sums-below, columns-rows}
+use Rattle.recover_matrix.proofs.Rows.{sumsOf, sums-below, column-row, columns-rows}
 
 -- the sums as they are written
 pub sums-written : (h : Header) (t : Setup) (w : ℕ) → 1 ≤ w → (terms out : List ℕ) (m : Product) → m ≡ rowProduct h (h .k) → terms ≡ bytesOf w (rowsFrom (rowTerms h) 0 (h .k)) → out ≡ resultBytes (m .way) w (m .outputs) (m .lanes) (laneSum m w (λ i. quotientOf (modulusOf h) (getD (take (h .k) (t .nodes .points)) i 0) (take (h .k + 1 - 1) (drop 1 (t .nodes .product)))) terms) → out ≡ bytesOf w (preparedSums h t)
@@ -79,6 +79,10 @@ module _ {h : Header} {t : Setup} (s : Sound h) (p : PreparedNodes h t) where
   length-prepared : (r : ℕ) → length (preparedRow h t r) ≡ h .k
   unfolding preparedRow
   length-prepared r = length-weightsOf (modulusOf h) _ _ _ (take (h .k) (t .nodes .points)) _ ∙ own-points .size
+
+  -- a column of the sums, with scales, is a row
+  pub column-inverse : (r : ℕ) → r < h .k → scaledColumn (modulusOf h) (getD (take (h .k) (t .shifts .scales)) r 0) (take (h .k) (t .nodes .scales)) r (preparedSums h t) ≡ inverseRow h (p .nodes) r
+  column-inverse r row = rw (row-parts .scales, own-parts .scales, sums-same) (column-row h s few (p .nodes) (p .are-nodes) (own-parts .some-scales .size) r row)
 
   -- so the lists of the sums' columns, with scales, are those of the rows
   pub columns-prepared : {lists counts : List ℕ} → Begun (modulusOf h) (h .k) (λ r. scaledColumn (modulusOf h) (getD (take (h .k) (t .shifts .scales)) r 0) (take (h .k) (t .nodes .scales)) r (preparedSums h t)) (h .k) lists counts → Begun (modulusOf h) (h .k) (preparedRow h t) (h .k) lists counts

@@ -25,6 +25,8 @@ use field::Tables;
 use generator::Header;
 use interpolation::division;
 pub use message::fill_message;
+pub use message::large_square;
+pub use message::middle_square;
 use node_weights::Basis;
 use node_weights::Setup;
 
@@ -69,7 +71,7 @@ fn list_quotients(
 }
 
 // Column r of the sums, each times the scale and its own scale, and zeros after it.
-fn scaled_column(
+pub fn scaled_column(
     field: Field,
     tables: &Tables,
     scale: u32,
@@ -133,7 +135,7 @@ fn product_of(h: Header, lanes: usize) -> Product
 }
 
 // The sums of all rows' terms with all quotients; the rest of what is lent is scratch.
-fn fill_sums(
+pub fn fill_sums(
     h: Header,
     setup: Setup,
     w: usize,

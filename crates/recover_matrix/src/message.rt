@@ -53,13 +53,13 @@ fn small_square() -> [u8; 512]
     [0u8; 512]
 }
 
-fn middle_square() -> [u8; 8192]
+pub fn middle_square() -> [u8; 8192]
     ensures { λ r. ⌜ length r ≡ 8192 ⌝ }
 {
     [0u8; 8192]
 }
 
-fn large_square() -> [u8; 130050]
+pub fn large_square() -> [u8; 130050]
     ensures { λ r. ⌜ length r ≡ 130050 ⌝ }
 {
     [0u8; 130050]

@@ -5,43 +5,44 @@ use mathlib.Core.Bool.{true}
 use mathlib.Core.List.{List, [], _∷_, _++_}
 use Prim.Native.Nat.{ℕ, zero, suc, _+_, _-_, _≤_, _<_}
 use native.Mathlib.Decide.{ℕ-discrete}
+use native.Mathlib.Nat.{zero-add}
 use native.Mathlib.Omega.{arith}
 use borrow.Author.Tests.{eqb-true, eq-eqb}
 use lib.Dec.{eqb}
-use lib.ListN.{length, getD, take, set, length-set}
-use lib.Seq.{ext-getD, getD-drop, getD-take, length-take-le}
+use lib.ListN.{length, getD, take, set, length-set, length-take}
+use lib.Seq.{ext-getD, getD-take, length-take-le}
 use Rattle.lists.specs.Numbers.{allBelow}
 use Rattle.lists.specs.Padded.{zeros, padded}
 use Rattle.lists.specs.Rows.{from, range}
 use Rattle.lists.proofs.Cases.{and-left, and-right, both-true, same-test}
-use Rattle.lists.proofs.Numbers.{below-cons, below-take, below-set, below-at}
-use Rattle.lists.proofs.Padding.{length-padded}
-use Rattle.lists.proofs.Places.{length-range, map-range}
+use Rattle.lists.proofs.Numbers.{below-cons, below-take, below-set, below-at, below-getD, at-below}
+use Rattle.lists.proofs.Padding.{length-padded, below-padded, padded-past}
+use Rattle.lists.proofs.Places.{map-range}
 use Rattle.lists.proofs.Rows.{length-from, getD-from}
 use Rattle.field.specs.Fields.{isField, sizeOf, add, sub, mul, power}
 use Rattle.field.specs.Inner.Sums.{dot}
 use Rattle.field.proofs.Arithmetic.{zero-below, add-neg, add-back, mul-zero}
 use Rattle.field.proofs.BothKinds.{arithmetic}
-use Rattle.field.proofs.Bounds.{one-below, sub-below, mul-below}
+use Rattle.field.proofs.Bounds.{one-below, sub-below, mul-below, power-below}
+use Rattle.field.proofs.FieldOf.{size-pos}
 use Rattle.field.proofs.Sums.{dot-below}
 use Rattle.generator.specs.declared.Header.{Header}
 use Rattle.generator.specs.Records.{modulusOf, size, Sound}
 use Rattle.generator.specs.Codewords.{isWord}
 use Rattle.generator.proofs.PlainLayout.{first-nodes}
 use Rattle.interpolation.specs.Inner.Points.{pointsOf}
-use Rattle.interpolation.specs.Inner.Lagrange.{scaleAt, basisAt, basisValues, scalesOf}
-use Rattle.interpolation.proofs.Points.{length-points}
+use Rattle.interpolation.specs.Inner.Lagrange.{basisValues}
+use Rattle.interpolation.proofs.Values.{length-values, getD-values, basisAt-below}
 use Rattle.node_weights.specs.Inner.Weights.{Rebuilds}
 use Rattle.node_weights.proofs.Rebuilding.{rebuilds}
-use Rattle.row_sums.proofs.Combined.{getD-zeros}
 use Rattle.check_sums.specs.Inner.Powers.{powersOf}
-use Rattle.check_sums.proofs.Sums.{length-powers, power-at}
+use Rattle.check_sums.proofs.Sums.{length-powers}
 use Rattle.block_products.specs.Inner.Marks.{allZero}
-use Rattle.wrong_lanes.specs.Inner.Checks.{firstPoints, firstWeights, checkRow}
+use Rattle.wrong_lanes.specs.Inner.Checks.{checkRow}
 use Rattle.wrong_lanes.proofs.FirstNodes.{words-rebuilt}
 
 -- what comes after the shorter list plays no part
-dot-take : (p n : ℕ) (xs ws : List ℕ) → length xs ≤ n → dot p xs (take n ws) ≡ dot p xs ws
+pub dot-take : (p n : ℕ) (xs ws : List ℕ) → length xs ≤ n → dot p xs (take n ws) ≡ dot p xs ws
 unfolding dot
 dot-take p n [] ws fits = refl
 dot-take p zero (x ∷ xs) ws fits = absurd (omega arith)
@@ -59,7 +60,7 @@ module _ (p : ℕ) (v : isField p ≡ true) where
       ap₂ (add p) (mul-zero (arithmetic p v) x (parts .0)) (dot-zeros xs (parts .1) n) ∙ arithmetic p v .add-zero 0 (zero-below (arithmetic p v))
 
   -- with k weights and zeros after them
-  dot-first : (k : ℕ) (xs ws : List ℕ) → length ws ≡ k → allBelow (sizeOf p) xs ≡ true → (n : ℕ) → dot p xs (ws ++ zeros n) ≡ dot p (take k xs) (ws ++ zeros n)
+  pub dot-first : (k : ℕ) (xs ws : List ℕ) → length ws ≡ k → allBelow (sizeOf p) xs ≡ true → (n : ℕ) → dot p xs (ws ++ zeros n) ≡ dot p (take k xs) (ws ++ zeros n)
   unfolding dot
   dot-first zero xs [] e below n = dot-zeros xs below n
   dot-first zero xs (w ∷ ws) e below n = absurd (omega arith)
@@ -68,7 +69,7 @@ module _ (p : ℕ) (v : isField p ≡ true) where
   dot-first (suc k) (x ∷ xs) (w ∷ ws) e below n = ap (add p (mul p x w)) (dot-first k xs ws (omega arith) (below-cons (sizeOf p) x xs below .1) n)
 
   -- with one weight more, where it was 0
-  dot-set : (xs ws : List ℕ) (j m : ℕ) → allBelow (sizeOf p) xs ≡ true → allBelow (sizeOf p) ws ≡ true → m < sizeOf p → j < length xs → j < length ws → getD ws j 0 ≡ 0 → dot p xs (set ws j m) ≡ add p (dot p xs ws) (mul p (getD xs j 0) m)
+  pub dot-set : (xs ws : List ℕ) (j m : ℕ) → allBelow (sizeOf p) xs ≡ true → allBelow (sizeOf p) ws ≡ true → m < sizeOf p → j < length xs → j < length ws → getD ws j 0 ≡ 0 → dot p xs (set ws j m) ≡ add p (dot p xs ws) (mul p (getD xs j 0) m)
   unfolding dot
   dot-set [] ws j m bx bw low a b none = absurd (omega arith)
   dot-set (x ∷ xs) [] j m bx bw low a b none = absurd (omega arith)
@@ -87,7 +88,7 @@ module _ (p : ℕ) (v : isField p ≡ true) where
       ∙ sym (arithmetic p v .add-assoc (mul p x w) (dot p xs ws) (mul p (getD xs j 0) m) (mul-below p v (px .0) (pw .0)) (dot-below p v xs ws (px .1) (pw .1)) (mul-below p v (below-at (sizeOf p) xs (px .1) j inside) low))
 
   -- d − x is 0 where x is d
-  balance : (d x : ℕ) → d < sizeOf p → x < sizeOf p → (add p d (mul p x (sub p 0 1)) ≡ 0) ↔ (x ≡ d)
+  pub balance : (d x : ℕ) → d < sizeOf p → x < sizeOf p → (add p d (mul p x (sub p 0 1)) ≡ 0) ↔ (x ≡ d)
   balance d x dl xl =
       let A = arithmetic p v in
       let m = sub p 0 1 in
@@ -98,7 +99,7 @@ module _ (p : ℕ) (v : isField p ≡ true) where
       (λ e. sym (add-back A x y xl yl) ∙ ap (λ (u : ℕ). add p u (sub p 0 y)) (none ∙ sym e) ∙ add-back A d y dl yl, λ e. ap (λ (u : ℕ). add p u y) (sym e) ∙ none)
 
 -- all sums are 0
-zero-each : (m : ℕ) (f : ℕ → ℕ) → allZero m f ≡ true → (i : ℕ) → i < m → f i ≡ 0
+pub zero-each : (m : ℕ) (f : ℕ → ℕ) → allZero m f ≡ true → (i : ℕ) → i < m → f i ≡ 0
 unfolding allZero
 zero-each zero f t i low = absurd (omega arith)
 zero-each (suc m) f t i low =
@@ -111,74 +112,90 @@ unfolding allZero
 each-zero zero f z = refl
 each-zero (suc m) f z = both-true (eq-eqb _ 0 (z m (omega arith))) (each-zero m f (λ i l. z i (omega arith)))
 
-pub length-first : (h : Header) (i : ℕ) → length (firstWeights h i) ≡ h .k
-unfolding basisValues
-length-first h i = length-from (λ j. basisAt (modulusOf h) (firstPoints h) j (power (modulusOf h) (h .root) (h .k + i))) 0 (length (firstPoints h)) ∙ length-points (modulusOf h) (h .root) 0 (range 0 (h .k)) ∙ length-range 0 (h .k)
+-- the checks of nodes with the points xs
+module _ (p : ℕ) (v : isField p ≡ true) (k : ℕ) (xs : List ℕ) (points : allBelow (sizeOf p) xs ≡ true) (short : length xs ≤ 255) (i : ℕ) where
+  -- the weights by which the first k points give point k + i
+  abbrev pub values : List ℕ
+  values = basisValues p (take k xs) (getD xs (k + i) 0)
 
-module _ (h : Header) (s : Sound h) (i : ℕ) where
-  pub few : h .k ≤ 255
-  few = omega (arith, s .fits, s .byte)
+  values-long : length values ≡ length (take k xs)
+  values-long = length-values p (take k xs) (getD xs (k + i) 0)
 
-  weights : Rebuilds h (range 0 (h .k)) (h .k + i) (padded 255 (firstWeights h i))
-  weights = rebuilds h s (range 0 (h .k)) (first-nodes h s) (h .k + i) few
+  values-below : allBelow (sizeOf p) (padded 255 values) ≡ true
+  values-below =
+      below-padded (sizeOf p) 255 values (size-pos p v)
+      (at-below (sizeOf p) values
+      (λ j inside.
+      let low : j < length (take k xs) = omega (arith, values-long) in
+      rw (getD-values p (take k xs) (getD xs (k + i) 0) j low) (basisAt-below p v (take k xs) j (getD xs (k + i) 0) (below-take (sizeOf p) k xs points) low (below-getD (sizeOf p) xs (size-pos p v) points (k + i)))))
 
-  array-long : length (padded 255 (firstWeights h i)) ≡ 255
-  array-long = length-padded 255 (firstWeights h i) (omega (arith, few, length-first h i))
+  array-long : length (padded 255 values) ≡ 255
+  array-long = length-padded 255 values (omega (arith, values-long, length-take k xs))
 
-  minus-low : sub (modulusOf h) 0 1 < size h
-  minus-low = sub-below (modulusOf h) (s .field) (zero-below (arithmetic (modulusOf h) (s .field))) (one-below (modulusOf h) (s .field))
+  minus-low : sub p 0 1 < sizeOf p
+  minus-low = sub-below p v (zero-below (arithmetic p v)) (one-below p v)
 
-  pub row-long : length (set (padded 255 (firstWeights h i)) (h .k + i) (sub (modulusOf h) 0 1)) ≡ 255
+  pub row-long : length (set (padded 255 values) (k + i) (sub p 0 1)) ≡ 255
   row-long = simp length-set array-long
 
-  pub length-check-row : length (checkRow h i) ≡ h .n
+  pub length-check-row : length (checkRow p k xs i) ≡ length xs
   unfolding checkRow
-  length-check-row = length-take-le (h .n) _ (omega (arith, row-long, s .byte))
+  length-check-row = length-take-le (length xs) _ (omega (arith, row-long))
 
-  pub check-row-below : allBelow (size h) (checkRow h i) ≡ true
+  pub check-row-below : allBelow (sizeOf p) (checkRow p k xs i) ≡ true
   unfolding checkRow
-  check-row-below = below-take (size h) (h .n) _ (below-set (size h) (padded 255 (firstWeights h i)) (h .k + i) (sub (modulusOf h) 0 1) minus-low (weights .symbols))
+  check-row-below = below-take (sizeOf p) (length xs) _ (below-set (sizeOf p) (padded 255 values) (k + i) (sub p 0 1) minus-low values-below)
 
-  module _ (ws : List ℕ) (long : length ws ≡ h .n) (below : allBelow (size h) ws ≡ true) (other : i < h .n - h .k) where
-    none-there : getD (padded 255 (firstWeights h i)) (h .k + i) 0 ≡ 0
-    none-there = sym (getD-drop (h .k) (padded 255 (firstWeights h i)) i 0) ∙ ap (λ (xs : List ℕ). getD xs i 0) (weights .rest) ∙ getD-zeros (255 - h .k) i (omega (arith, s .byte))
+  -- a sum is 0 where the node holds what the first k give
+  module _ (ys : List ℕ) (long : length ys ≡ length xs) (below : allBelow (sizeOf p) ys ≡ true) (other : k + i < length xs) where
+    exact : length values ≡ k
+    exact = values-long ∙ length-take-le k xs (omega arith)
 
-    check-sum : dot (modulusOf h) ws (checkRow h i) ≡ add (modulusOf h) (dot (modulusOf h) (take (h .k) ws) (padded 255 (firstWeights h i))) (mul (modulusOf h) (getD ws (h .k + i) 0) (sub (modulusOf h) 0 1))
+    check-sum : dot p ys (checkRow p k xs i) ≡ add p (dot p (take k ys) (padded 255 values)) (mul p (getD ys (k + i) 0) (sub p 0 1))
     unfolding padded checkRow
     check-sum =
-        dot-take (modulusOf h) (h .n) ws _ (omega arith)
-        ∙ dot-set (modulusOf h) (s .field) ws (padded 255 (firstWeights h i)) (h .k + i) (sub (modulusOf h) 0 1) below (weights .symbols) minus-low (omega arith) (omega (arith, array-long, s .byte)) none-there
-        ∙ ap (λ (d : ℕ). add (modulusOf h) d (mul (modulusOf h) (getD ws (h .k + i) 0) (sub (modulusOf h) 0 1))) (dot-first (modulusOf h) (s .field) (h .k) ws (firstWeights h i) (length-first h i) below (255 - length (firstWeights h i)))
+        dot-take p (length xs) ys _ (omega arith)
+        ∙ dot-set p v ys (padded 255 values) (k + i) (sub p 0 1) below values-below minus-low (omega arith) (omega (arith, array-long)) (padded-past 255 values (k + i) (omega (arith, exact)))
+        ∙ ap (λ (d : ℕ). add p d (mul p (getD ys (k + i) 0) (sub p 0 1))) (dot-first p v k ys values exact below (255 - length values))
 
-    check-zero : (dot (modulusOf h) ws (checkRow h i) ≡ 0) ↔ (getD ws (h .k + i) 0 ≡ dot (modulusOf h) (take (h .k) ws) (padded 255 (firstWeights h i)))
-    check-zero = rw check-sum (balance (modulusOf h) (s .field) _ _ (dot-below (modulusOf h) (s .field) (take (h .k) ws) (padded 255 (firstWeights h i)) (below-take (size h) (h .k) ws below) (weights .symbols)) (below-at (size h) ws below (h .k + i) (omega arith)))
+    pub check-zero : (dot p ys (checkRow p k xs i) ≡ 0) ↔ (getD ys (k + i) 0 ≡ dot p (take k ys) (padded 255 values))
+    check-zero = rw check-sum (balance p v _ _ (dot-below p v (take k ys) (padded 255 values) (below-take (sizeOf p) k ys below) values-below) (below-at (sizeOf p) ys below (k + i) (omega arith)))
 
-pub rows-word : (h : Header) (s : Sound h) (ws : List ℕ) → length ws ≡ h .n → allBelow (size h) ws ≡ true → allZero (h .n - h .k) (λ i. dot (modulusOf h) ws (checkRow h i)) ≡ isWord h ws
-rows-word h s ws long below =
-    let both = words-rebuilt h s (λ i. padded 255 (firstWeights h i)) (λ i low. weights h s i) ws long below in
-    same-test _ _
-    (λ t. both .1 (λ i low. check-zero h s i ws long below low .0 (zero-each (h .n - h .k) _ t i low)))
-    (λ t. each-zero (h .n - h .k) _ (λ i low. check-zero h s i ws long below low .1 (both .0 t i low)))
+-- the points of all nodes
+power-is : (h : Header) (j : ℕ) → j < h .n → getD (powersOf h) j 0 ≡ power (modulusOf h) (h .root) j
+unfolding powersOf
+power-is h j low = rw zero-add at (getD-from (power (modulusOf h) (h .root)) 0 (h .n) j 0 low)
 
--- the points of the first k nodes, as they are lent
-pub first-points : (h : Header) → Sound h → take (h .k) (padded 255 (powersOf h)) ≡ firstPoints h
+pub powers-below : (h : Header) → Sound h → allBelow (size h) (powersOf h) ≡ true
+powers-below h s = at-below (size h) (powersOf h) (λ j inside. rw (power-is h j (omega (arith, length-powers h))) (power-below (modulusOf h) (s .field) j (s .root-below)))
+
+-- those of the first k
+first-points : (h : Header) → Sound h → take (h .k) (powersOf h) ≡ pointsOf (modulusOf h) (h .root) 0 (range 0 (h .k))
 unfolding pointsOf
 first-points h s =
     let f : ℕ → ℕ = λ j. power (modulusOf h) (h .root) (j + 0) in
-    let full : length (padded 255 (powersOf h)) ≡ 255 = length-padded 255 (powersOf h) (omega (arith, length-powers h, s .byte)) in
-    let long : length (take (h .k) (padded 255 (powersOf h))) ≡ h .k = length-take-le (h .k) _ (omega (arith, few h s 0, full)) in
+    let long : length (take (h .k) (powersOf h)) ≡ h .k = length-take-le (h .k) _ (omega (arith, length-powers h, s .fits)) in
     ext-getD 0 _ (from f 0 (h .k)) (long ∙ sym (length-from f 0 (h .k)))
     (λ j inside.
     let low : j < h .k = omega (arith, long) in
     let place : 0 + j + 0 ≡ j = omega arith in
-    getD-take (h .k) _ j 0 low ∙ power-at h j (omega (arith, s .fits)) ∙ sym (getD-from f 0 (h .k) j 0 low ∙ ap (power (modulusOf h) (h .root)) place))
+    getD-take (h .k) _ j 0 low ∙ power-is h j (omega (arith, s .fits)) ∙ sym (getD-from f 0 (h .k) j 0 low ∙ ap (power (modulusOf h) (h .root)) place))
     ∙ sym (map-range f 0 (h .k))
 
-pub length-scales : (h : Header) → length (scalesOf (modulusOf h) (firstPoints h)) ≡ h .k
-unfolding scalesOf
-length-scales h = length-from (scaleAt (modulusOf h) (firstPoints h)) 0 (length (firstPoints h)) ∙ length-points (modulusOf h) (h .root) 0 (range 0 (h .k)) ∙ length-range 0 (h .k)
-
--- the weights of a check, as they are lent
-pub row-taken : (h : Header) (i : ℕ) → take (h .n) (set (padded 255 (firstWeights h i)) (h .k + i) (sub (modulusOf h) 0 1)) ≡ checkRow h i
-unfolding checkRow
-row-taken h i = refl
+-- so all sums are 0 where the lane is a word
+pub rows-word : (h : Header) (s : Sound h) (ws : List ℕ) → length ws ≡ h .n → allBelow (size h) ws ≡ true → allZero (h .n - h .k) (λ i. dot (modulusOf h) ws (checkRow (modulusOf h) (h .k) (powersOf h) i)) ≡ isWord h ws
+rows-word h s ws long below =
+    let p = modulusOf h in
+    let xs = powersOf h in
+    let points = powers-below h s in
+    let short : length xs ≤ 255 = omega (arith, length-powers h, s .byte) in
+    let few : h .k ≤ 255 = omega (arith, s .fits, s .byte) in
+    let same : length ws ≡ length xs = long ∙ sym (length-powers h) in
+    let gives : (i : ℕ) → i < h .n - h .k → Rebuilds h (range 0 (h .k)) (h .k + i) (padded 255 (values p (s .field) (h .k) xs points short i)) =
+    λ i low. rw (first-points h s, power-is h (h .k + i) (omega arith)) (rebuilds h s (range 0 (h .k)) (first-nodes h s) (h .k + i) few) in
+    let both = words-rebuilt h s (λ i. padded 255 (values p (s .field) (h .k) xs points short i)) gives ws long below in
+    let zero : (i : ℕ) → i < h .n - h .k → (dot p ws (checkRow p (h .k) xs i) ≡ 0) ↔ (getD ws (h .k + i) 0 ≡ dot p (take (h .k) ws) (padded 255 (values p (s .field) (h .k) xs points short i))) =
+    λ i low. check-zero p (s .field) (h .k) xs points short i ws same below (omega (arith, length-powers h)) in
+    same-test _ _
+    (λ t. both .1 (λ i low. zero i low .0 (zero-each (h .n - h .k) _ t i low)))
+    (λ t. each-zero (h .n - h .k) _ (λ i low. zero i low .1 (both .0 t i low)))

@@ -12,7 +12,7 @@ ghost use Rattle.refusals.specs.Accepted.{SymbolBuffer};
 ghost use Rattle.blocks.specs.Blocks.{firstWrong};
 use generator::Header;
 
-mod check_rows;
+pub mod check_rows;
 pub mod marks;
 
 use marks::mark_lanes;

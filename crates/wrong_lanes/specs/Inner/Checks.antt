@@ -3,16 +3,14 @@ use mathlib.Core.Path.{_≡_}
 use mathlib.Core.Bool.{true}
 use mathlib.Core.List.{List}
 use Prim.Native.Nat.{ℕ, _+_, _-_, _*_, _≤_}
-use lib.ListN.{length, take, set}
+use lib.ListN.{length, getD, take, set}
 use Rattle.lists.specs.Numbers.{allBelow}
 use Rattle.lists.specs.Padded.{padded}
-use Rattle.lists.specs.Rows.{range}
-use Rattle.field.specs.Fields.{sub, power}
+use Rattle.field.specs.Fields.{sub}
 use Rattle.field.specs.Inner.Sums.{dot}
 use Rattle.generator.specs.declared.Header.{Header}
 use Rattle.generator.specs.Records.{modulusOf, size}
 use Rattle.generator.specs.Codewords.{isWord}
-use Rattle.interpolation.specs.Inner.Points.{pointsOf}
 use Rattle.interpolation.specs.Inner.Lagrange.{basisValues}
 use Rattle.tile_products.specs.Inner.Products.{groupsOf}
 use Rattle.tile_products.specs.Inner.Matrices.{Begun}
@@ -20,17 +18,15 @@ use Rattle.block_products.specs.declared.Product.{Product}
 use Rattle.block_products.specs.declared.Way.the-variants.{LanesToMarks}
 use Rattle.block_products.specs.Inner.Marks.{allZero}
 
--- the points of the first k nodes
-abbrev pub firstPoints : Header → List ℕ
-firstPoints h = pointsOf (modulusOf h) (h .root) 0 (range 0 (h .k))
+-- the weights of check i of nodes with the points xs: those by which the first k of them give node number k + i, −1 there, and 0 at the others
+unfoldable pub checkRow : ℕ → ℕ → List ℕ → ℕ → List ℕ
+checkRow p k xs i = take (length xs) (set (padded 255 (basisValues p (take k xs) (getD xs (k + i) 0))) (k + i) (sub p 0 1))
 
--- the weights by which they give what node k + i holds
-abbrev pub firstWeights : Header → ℕ → List ℕ
-firstWeights h i = basisValues (modulusOf h) (firstPoints h) (power (modulusOf h) (h .root) (h .k + i))
-
--- the weights of check i: those, −1 at node k + i, and 0 at the others
-unfoldable pub checkRow : Header → ℕ → List ℕ
-checkRow h i = take (h .n) (set (padded 255 (firstWeights h i)) (h .k + i) (sub (modulusOf h) 0 1))
+-- the checks of all but the first k of nodes with the points xs have their lists
+pub record OtherChecks (p k : ℕ) (xs lists counts : List ℕ) : Type 0 where
+  pub begun : Begun p (length xs) (checkRow p k xs) (length xs - k) lists counts
+  pub lists-room : (length xs - k) * (8 * groupsOf (length xs)) ≤ length lists
+  pub counts-room : (length xs - k) * 8 ≤ length counts
 
 -- n − k checks have their lists, whose sums are all 0 where the lane is a word
 pub record CheckLists (h : Header) (lists counts : List ℕ) : Type 0 where

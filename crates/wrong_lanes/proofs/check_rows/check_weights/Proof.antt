@@ -4,87 +4,66 @@ use Prim.Native.Nat.{_+_, _≤_, _<_}
 use native.Mathlib.Omega.{arith}
 use borrow.Author.Needs.{needs}
 use lib.ListN.{length, getD, take}
-use Rattle.lists.specs.Rows.{range}
-use Rattle.lists.proofs.Padding.{length-padded}
-use Rattle.lists.proofs.Places.{length-range}
-use Rattle.field.specs.Fields.{power}
+use lib.Seq.{length-take-le}
+use Rattle.lists.proofs.Numbers.{below-at}
+use Rattle.field.specs.Fields.{sizeOf}
+use Rattle.field.specs.Kinds.{modulus}
 use Rattle.field.proofs.Arithmetic.{zero-below}
 use Rattle.field.proofs.BothKinds.{arithmetic}
-use Rattle.field.proofs.Bounds.{one-below, sub-below, power-below}
-use Rattle.field.proofs.KindLaws.{size-fits}
-use Rattle.generator.specs.Records.{modulusOf, size}
-use Rattle.interpolation.proofs.Points.{length-points, points-symbols}
-use Rattle.check_sums.specs.Inner.Powers.{powersOf}
-use Rattle.check_sums.proofs.Sums.{length-powers, power-at}
-use Rattle.wrong_lanes.specs.Inner.Checks.{firstPoints}
-use Rattle.wrong_lanes.proofs.CheckRows.{few, first-points}
+use Rattle.field.proofs.Bounds.{one-below, sub-below}
+use Rattle.field.proofs.KindLaws.{usable-field, size-fits}
+use Rattle.interpolation.proofs.Points.{symbols-take}
 use Rattle.wrong_lanes.proofs.check_rows.check_weights.Statement.{statement}
 use Rattle.wrong_lanes.proofs.check_rows.check_weights.Tie as tie
 
--- the node is one of the others
-node : (c : tie.Start) → c .args .h .k + c .args .e < c .args .h .n
-node c = omega (arith, c .pre .3)
+-- the points lent are the first k
+part-long : (c : tie.Start) → length (take (c .args .k) (c .args .points .now)) ≡ c .args .k
+part-long c = length-take-le (c .args .k) (c .args .points .now) (omega (arith, c .pre .2))
 
-roots-long : (c : tie.Start) → length (c .args .roots .now) ≡ 255
-roots-long c = rw (c .pre .1) (length-padded 255 (powersOf (c .args .h)) (omega (arith, length-powers (c .args .h), c .pre .0 .byte)))
-
--- its power of the root, and the points of the first nodes
-power-is : (c : tie.Start) → getD (c .args .roots .now) (c .args .h .k + c .args .e) 0 ≡ power (modulusOf (c .args .h)) (c .args .h .root) (c .args .h .k + c .args .e)
-power-is c = rw (c .pre .1) (power-at (c .args .h) (c .args .h .k + c .args .e) (node c))
-
-power-low : (c : tie.Start) → getD (c .args .roots .now) (c .args .h .k + c .args .e) 0 < size (c .args .h)
-power-low c = rw (power-is c) (power-below (modulusOf (c .args .h)) (c .pre .0 .field) (c .args .h .k + c .args .e) (c .pre .0 .root-below))
-
-points-are : (c : tie.Start) → take (c .args .h .k) (c .args .roots .now) ≡ firstPoints (c .args .h)
-points-are c = rw (c .pre .1) (first-points (c .args .h) (c .pre .0))
-
-cast-k : tie.Need-cast-k
-cast-k c = search needs
+point-low : (c : tie.Start) → getD (c .args .points .now) (c .args .k + c .args .e) 0 < sizeOf (modulus (c .args .field))
+point-low c = below-at (sizeOf (modulus (c .args .field))) (c .args .points .now) (c .pre .0 .below) (c .args .k + c .args .e) (c .pre .2)
 
 add-at : tie.Need-add-at
-add-at c = omega (arith, node (c .before .before .before), c .before .before .before .pre .0 .byte)
+add-at c = let s : tie.Start = search in omega (arith, s .pre .2, s .pre .0 .short)
 
 mul-z : tie.Need-mul-z
-mul-z c = omega (arith, node (c .before .before .before), c .before .before .before .pre .0 .byte)
+mul-z c = let s : tie.Start = search in omega (arith, s .pre .2, s .pre .0 .short)
 
 shared-slice-read-z : tie.Need-shared-slice-read-z
-shared-slice-read-z c = omega (arith, node (c .before .before .before .before), roots-long (c .before .before .before .before), c .before .before .before .before .pre .0 .byte)
+shared-slice-read-z c = let s : tie.Start = search in omega (arith, s .pre .2, s .pre .0 .short)
 
 cast-z : tie.Need-cast-z
-cast-z c = omega (arith, power-low (c .before .before .before .before), size-fits _ (c .before .before .before .before .pre .0 .usable-field))
+cast-z c = let s : tie.Start = search in omega (arith, point-low s, size-fits (s .args .field) (s .pre .0 .usable-field))
 
 sub-requires : tie.Need-sub-requires
-sub-requires c κs = let s = c .before .before .before .before in (s .pre .0 .usable-field, zero-below (arithmetic (modulusOf (s .args .h)) (s .pre .0 .field)), one-below (modulusOf (s .args .h)) (s .pre .0 .field))
+sub-requires c κs =
+    let s : tie.Start = search in
+    let v = usable-field (s .args .field) (s .pre .0 .usable-field) in
+    (s .pre .0 .usable-field, zero-below (arithmetic (modulus (s .args .field)) v), one-below (modulus (s .args .field)) v)
 
 slice-aggregate-values : tie.Need-slice-aggregate-values
-slice-aggregate-values c = let start : tie.Start = search in rw (points-are start) (sym (length-points (modulusOf (start .args .h)) (start .args .h .root) 0 (range 0 (start .args .h .k)) ∙ length-range 0 (start .args .h .k)))
+slice-aggregate-values c = let s : tie.Start = search in sym (part-long s)
 
 values-requires : tie.Need-values-requires
 values-requires c κs =
     let s : tie.Start = search in
-    let h = s .args .h in
-    let short : length (range 0 (h .k)) ≤ 255 = omega (arith, length-range 0 (h .k), few h (s .pre .0) 0) in
-    rw (points-are s) (points-symbols (h .root) 0 (range 0 (h .k)) (s .pre .0 .usable-field) (s .pre .0 .root-below) short, s .pre .2, power-low s, s .pre .4)
+    (symbols-take (s .pre .0) (s .args .k), s .pre .1, point-low s, s .pre .3)
 
 cast-weights : tie.Need-cast-weights
 cast-weights c =
     let s : tie.Start = search in
-    let p = modulusOf (s .args .h) in
-    let v = s .pre .0 .field in
-    omega (arith, c .before .before .sub .ensures, sub-below p v (zero-below (arithmetic p v)) (one-below p v), size-fits _ (s .pre .0 .usable-field))
+    let p = modulus (s .args .field) in
+    let v = usable-field (s .args .field) (s .pre .0 .usable-field) in
+    omega (arith, c .before .before .sub .ensures, sub-below p v (zero-below (arithmetic p v)) (one-below p v), size-fits (s .args .field) (s .pre .0 .usable-field))
 
 mul-weights : tie.Need-mul-weights
-mul-weights c = let start : tie.Start = search in omega (arith, node start, start .pre .0 .byte)
+mul-weights c = let s : tie.Start = search in omega (arith, s .pre .2, s .pre .0 .short)
 
 array-write-weights : tie.Need-array-write-weights
-array-write-weights c = let start : tie.Start = search in omega (arith, node start, start .pre .0 .byte)
+array-write-weights c = let s : tie.Start = search in omega (arith, s .pre .2, s .pre .0 .short)
 
 returns : tie.Need-returns
-returns c =
-    let s : tie.Start = search in
-    let at = s .args .h .k + s .args .e in
-    rw (c .before .before .sub .ensures, c .values .ensures, points-are s, power-is s)
+returns c = rw (c .before .before .sub .ensures, c .values .ensures)
 
 pub check-weights-spec : {M : Type 1} → statement M
-check-weights-spec =
-    tie.close (tie.spec cast-k add-at mul-z shared-slice-read-z cast-z sub-requires slice-aggregate-values values-requires cast-weights mul-weights array-write-weights returns)
+check-weights-spec = tie.close (tie.spec add-at mul-z shared-slice-read-z cast-z sub-requires slice-aggregate-values values-requires cast-weights mul-weights array-write-weights returns)
