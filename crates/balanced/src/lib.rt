@@ -6,6 +6,7 @@ pub use carry::carry_in;
 pub use carry::carry_out;
 pub use correct::Correction;
 pub use correct::correct_block;
+pub use correct_listed::correct_listed;
 pub use encode::encode_block;
 pub use find_update::Finding;
 pub use find_update::find_update;

@@ -3,4 +3,5 @@ mod Answers
 mod Plans
 mod Lanes
 mod Corrections
+mod CorrectListed
 mod Repairing

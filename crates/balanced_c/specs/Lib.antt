@@ -2,5 +2,6 @@
 pub mod Calls
 pub mod Lanes
 pub mod Corrections
+pub mod CorrectListed
 pub mod Version
 pub mod Repairs

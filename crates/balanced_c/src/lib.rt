@@ -6,6 +6,7 @@ ghost use Rattle.blocks.specs.Inner.Answers.{outcomeNumber};
 ghost use Rattle.balanced_c.specs.Calls.{planRoomFault, numbersOf, PlanGives, EncodeGives, UpdateGives, RecoverGives, RebuildGives, BelongsGives, WeightsGive};
 
 mod correction;
+mod listed;
 mod one_lane;
 mod rearranging;
 mod repairs;
