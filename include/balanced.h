@@ -201,6 +201,39 @@ uint8_t balanced_update(const uint8_t *record, size_t record_len,
                         uint32_t *altered);
 
 /*
+ * What each node has to add where one symbol changes in every lane of a block: for shares that stand apart, each with its node.
+ *
+ *   symbol       below k
+ *   old_symbols  lanes symbols, read: what the messages hold there
+ *   new_symbols  lanes symbols, read: what they are to hold
+ *   differences  n * lanes symbols, written, node after node: what node j adds in lane t stands at j * lanes + t
+ *
+ * Node j adds (new - old) times entry (symbol, j) of the generator. So the n-k+1 nodes that the symbol's row begins at and runs over get
+ * what changes, in a lane whose two symbols are equal 0, and every other node gets zeros and need not be told. Where each node has added its
+ * part (balanced_add_share), shares that encoded messages with the old symbols there encode them with the new ones.
+ *
+ * Returns 0 or one of 1 to 5, 7 to 9, 11.
+ */
+uint8_t balanced_differences(const uint8_t *record, size_t record_len,
+                             uint32_t lanes, uint32_t symbol,
+                             const uint8_t *old_symbols, size_t old_len,
+                             const uint8_t *new_symbols, size_t new_len,
+                             uint8_t *differences, size_t differences_len);
+
+/*
+ * The node's side of it: adds a difference to a share, symbol by symbol.
+ *
+ *   difference  lanes symbols, read: the node's part of what balanced_differences wrote
+ *   share       lanes symbols, read and written: what the node holds of lane t stands at t
+ *
+ * Returns 0 or one of 1 to 5, 7, 8, 11.
+ */
+uint8_t balanced_add_share(const uint8_t *record, size_t record_len,
+                           uint32_t lanes,
+                           const uint8_t *difference, size_t difference_len,
+                           uint8_t *share, size_t share_len);
+
+/*
  * Recovers a message from the shares of any k nodes.
  *
  *   nodes    k bytes, read: k different node numbers below n, in any order

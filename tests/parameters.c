@@ -86,6 +86,12 @@ static uint8_t run_listed_to_lanes(const struct argument *a) {
 static uint8_t run_listed_to_nodes(const struct argument *a) {
     return balanced_listed_to_nodes(a[0].at, a[1].value, u32(a + 2), a[3].at, a[4].value, a[5].at, a[6].value);
 }
+static uint8_t run_differences(const struct argument *a) {
+    return balanced_differences(a[0].at, a[1].value, u32(a + 2), u32(a + 3), a[4].at, a[5].value, a[6].at, a[7].value, a[8].at, a[9].value);
+}
+static uint8_t run_add_share(const struct argument *a) {
+    return balanced_add_share(a[0].at, a[1].value, u32(a + 2), a[3].at, a[4].value, a[5].at, a[6].value);
+}
 static uint8_t run_weights(const struct argument *a) { return balanced_weights(a[0].at, a[1].value, a[2].at, a[3].value); }
 static uint8_t run_start(const struct argument *a) { return balanced_roster_start(a[0].at, a[1].value, a[2].at, a[3].value); }
 static uint8_t run_leave(const struct argument *a) { return balanced_roster_leave(a[0].at, a[1].value, a[2].at, a[3].value, u32(a + 4)); }
@@ -110,6 +116,15 @@ static void set_shares(void) {
     set_symbols(lent.two, K * LANES);
     balanced_encode(lent.record, RECORD_LEN, LANES, lent.two, W * K * LANES, lent.one, W * N * LANES);
 }
+/* a row of the message, old and new, from a lane on, beside the shares */
+static void set_row(unsigned lane) {
+    uint8_t message[ROOM];
+    set_symbols(message, K * LANES);
+    balanced_encode(lent.record, RECORD_LEN, LANES, message, W * K * LANES, lent.three, W * N * LANES);
+    memcpy(lent.one, message + W * (SYMBOL * LANES + lane), W * (LANES - lane));
+    memcpy(lent.two, message, W * (LANES - lane));
+}
+static void set_change(void) { set_row(0); }
 static void set_listed(void) {
     for (unsigned i = 0; i < K; i++) lent.one[i] = (uint8_t)((7 * i + 3) % N);
     set_symbols(lent.two, K * LANES);
@@ -175,6 +190,8 @@ static const struct call calls[] = {
     { "to_nodes", run_to_nodes, set_plain, { RECORD, VALUE(LANES), READ(one, W * N * LANES), WRITTEN(BYTES, two, W * N * LANES, "by_node") } },
     { "listed_to_lanes", run_listed_to_lanes, set_plain, { RECORD, VALUE(LANES), READ(one, W * K * LANES), WRITTEN(BYTES, two, W * K * LANES, "by_lane") } },
     { "listed_to_nodes", run_listed_to_nodes, set_plain, { RECORD, VALUE(LANES), READ(one, W * K * LANES), WRITTEN(BYTES, two, W * K * LANES, "by_node") } },
+    { "differences", run_differences, set_change, { RECORD, VALUE(LANES), VALUE(SYMBOL), READ(one, W * LANES), READ(two, W * LANES), WRITTEN(BYTES, three, W * N * LANES, "differences") } },
+    { "add_share", run_add_share, set_change, { RECORD, VALUE(LANES), READ(one, W * LANES), WRITTEN(BYTES, two, W * LANES, "share") } },
     { "weights", run_weights, set_small, { RECORD, WRITTEN(WORDS, first, N + 1, "counts") } },
     { "roster_start", run_start, NULL, { RECORD, WRITTEN(BYTES, one, BALANCED_ROSTER, "roster") } },
     { "roster_leave", run_leave, set_roster, { RECORD, WRITTEN(BYTES, one, BALANCED_ROSTER, "roster"), VALUE(LANE) } },

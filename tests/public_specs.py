@@ -16,7 +16,7 @@ sys.path.append(os.path.join(top, "tests"))
 from house import declarations, read, short  # noqa: E402
 
 # whose public functions are the library's calls, the calls for C, and the texts of programs
-PUBLIC = "plan encode update rearrange recover repair belongs correct roster weight_counts find_update mends roster_bytes balanced_c " \
+PUBLIC = "plan encode update differences rearrange recover repair belongs correct roster weight_counts find_update mends roster_bytes balanced_c " \
     "sheet_text plain_text compare_text weights_text small_plans_text tables".split()
 STATED = ("demands",)
 USE = re.compile(r"(?m)^(?:ghost )?use Rattle·(\w+?)(?:·specs)?\.specs\.([\w.]+?)(?:\.\{([^}]*)\})?(?: as (\w+))?;?$")

@@ -1,7 +1,8 @@
 /*
  * Cuts the bytes of a file into blocks, of which the last is padded with zeros, encodes each, and keeps its shares node after node, as n
  * nodes would. It drops n-k of them, recovers the message from the k that are left, and compares. Then it rebuilds every share,
- * and updates one symbol in place. A file of a whole number of blocks has no padding, and an empty one no block.
+ * and changes a symbol in all lanes by what each node has to add. A file of a whole number of blocks has no padding, and an empty one no
+ * block.
  *
  *     make -C examples/c check
  */
@@ -83,20 +84,23 @@ static void keep(size_t n, size_t k, size_t block, const uint8_t *message, const
     free(share);
 }
 
-/* A symbol that is changed in place, and one that is changed before encoding, give the same shares. */
+/* Symbol 3 of the message changes in every lane. Each node adds what it is told; d nodes are told something. */
 static void change(size_t n, size_t k, size_t d, uint8_t *message, uint8_t *kept) {
-    uint8_t *shares = room(n * LANES), *anew = room(n * LANES);
-    uint8_t old = message[3 * LANES + 5], new = (uint8_t)(old + 1);
-    uint32_t altered;
+    uint8_t *added = room(n * LANES), *anew = room(n * LANES), row[LANES], nothing[LANES] = { 0 };
+    size_t j, t, told = 0;
 
-    accepted("to lanes", balanced_to_lanes(record, sizeof record, LANES, kept, n * LANES, shares, n * LANES));
-    accepted("update", balanced_update(record, sizeof record, LANES, 3, 5, old, new, shares, n * LANES, &altered));
-    accepted("to nodes", balanced_to_nodes(record, sizeof record, LANES, shares, n * LANES, kept, n * LANES));
-    message[3 * LANES + 5] = new;
+    for (t = 0; t < LANES; t++) row[t] = (uint8_t)(message[3 * LANES + t] + 1);
+    accepted("differences", balanced_differences(record, sizeof record, LANES, 3, message + 3 * LANES, LANES, row, LANES, added, n * LANES));
+    for (j = 0; j < n; j++) {
+        if (memcmp(added + j * LANES, nothing, LANES) == 0) continue;
+        accepted("add share", balanced_add_share(record, sizeof record, LANES, added + j * LANES, LANES, kept + j * LANES, LANES));
+        told++;
+    }
+    memcpy(message + 3 * LANES, row, LANES);
     lay_out(n, k, message, anew);
-    if (memcmp(kept, anew, n * LANES) != 0) fail("the updated shares differ", 0);
-    if (altered != d) fail("another number of nodes was altered", altered);
-    free(shares);
+    if (memcmp(kept, anew, n * LANES) != 0) fail("the changed shares differ", 0);
+    if (told != d) fail("another number of nodes was told", (unsigned)told);
+    free(added);
     free(anew);
 }
 

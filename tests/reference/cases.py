@@ -8,6 +8,7 @@ from balanced import (
     belongs, build_plan, correct, encode, find_update, rebuild, recover, single_mends, to_lanes, to_nodes, update, weights,
 )
 from data import block, refused
+from differences import add_share, differences
 from rearranged import listed_to_lanes, listed_to_nodes
 from roster import History
 from traces import repair_bits, repair_plan, repair_share
@@ -36,10 +37,13 @@ CALLS = {
     "repair_bits": ["lanes", "node", "target", "missing", "share", "room"],
     "repair_share": ["lanes", "target", "missing", "rows", "room"],
     "repair_plan": ["count"],
+    "differences": ["lanes", "symbol", "before", "after", "room"],
+    "add_share": ["lanes", "symbols", "shares"],
 }
 WRITERS = {
     "encode": encode, "recover": recover, "rebuild": rebuild, "to_lanes": to_lanes, "to_nodes": to_nodes,
     "listed_to_lanes": listed_to_lanes, "listed_to_nodes": listed_to_nodes, "repair_bits": repair_bits, "repair_share": repair_share,
+    "differences": differences, "add_share": add_share,
 }
 HISTORY = History()  # of the roster that the calls on a roster share
 

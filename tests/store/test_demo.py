@@ -14,7 +14,7 @@ class Demonstration(unittest.TestCase):
                      "firmware: 100 bytes changed, generation 2", "  7 nodes written: 0 1 2 3 4 13 14",
                      "firmware: 5,000,000 bytes, generation 2: right"):
             self.assertIn(line + "\n", seen.stdout)
-        self.assertRegex(seen.stdout, r"new symbols sent: 700 bytes; a whole rewrite sends 8,345,415\n")
+        self.assertRegex(seen.stdout, r"  symbols sent: 700 bytes; a whole rewrite sends 8,345,415\n")
         self.assertRegex(seen.stdout, r"the plain layout is sent 700 bytes at 7 nodes, 6 of which it writes at every change\n")
         self.assertEqual(seen.stdout.count("copy.bin is firmware.bin, byte for byte\n"), 2)
 

@@ -170,7 +170,7 @@ class Counted(CountedCase):
         self.assertEqual({one["shares_sent"] for one in result["traffic"].values()}, {5 * 64 + 14 + 6 * 4})
         self.counted("get", "image", self.top / "got")
         self.assertEqual((self.top / "got").read_bytes(), data)
-        # one byte: its symbol goes to d = 3 nodes, and no share goes anywhere else
+        # one byte: what is to be added goes to d = 3 nodes, and no share goes anywhere else
         result = self.counted("update", "image", "--at", 500, self.file(bytes([data[500] ^ 1])))
         self.assertEqual((len(result["nodes"]), result["symbols_sent"], result["told"]), (3, 3, []))
         sent = {int(node): one["shares_sent"] for node, one in result["traffic"].items()}
@@ -279,6 +279,9 @@ class Hostile(StoreCase):
                 [Request(frames.BEGIN, "image", count=1), Request(frames.PATCH, "image", data=struct.pack(">QI", 2 ** 63, 0))],
                 [Request(frames.BEGIN, "image", count=1), Request(frames.PATCH, "image", data=struct.pack(">QIHH", 0, 5, 8, 1) + b"x")],
                 [Request(frames.BEGIN, "image", count=1), Request(frames.PATCH, "image", data=struct.pack(">QIHH", 0, 5, 0, 9) + b"x")],
+                [Request(frames.BEGIN, "image", count=1), Request(frames.ADD, "image", data=struct.pack(">QIHH", 0, 5, 8, 1) + b"x")],
+                [Request(frames.BEGIN, "image", count=1), Request(frames.ADD, "image", data=struct.pack(">QIHH", 0, 4, 0, 0))],
+                [Request(frames.BEGIN, "image"), Request(frames.ADD, "image", data=struct.pack(">QIHH", 0, 5, 0, 1) + b"x")],
                 [Request(frames.BEGIN, "image", count=1), Request(frames.WRITE, "image", data=b"x")],
                 [Request(frames.BEGIN, "image"), Request(frames.PATCH, "image", data=b"x")],
                 [Request(frames.BEGIN, "other", count=1)], [Request(frames.COMMIT, "image", place=5)], [Request(frames.COMMIT, "other")],

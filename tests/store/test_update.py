@@ -1,11 +1,14 @@
 """Updates: what is sent to whom, and that the image is what it should be after any number of them."""
+import struct
 import unittest
+from unittest import mock
 
 from support import StoreCase
 
 import balanced
 import reference
-from imagestore import changes, ranges
+from imagestore import changes, frames, ranges
+from imagestore.node import ACTS, EXCLUSIVE, Node
 
 
 class Updates(StoreCase):
@@ -41,6 +44,41 @@ class Updates(StoreCase):
             self.assertEqual(changed, result["nodes"])
             self.assertEqual((len(changed), result["symbols_sent"], result["plain_sent"], result["told"]), (6, 6, 6, []))
         self.all_right(data)
+
+    def test_what_is_sent_is_added(self):
+        """The nodes of the row are sent what they have to add, and no other node is sent anything; the library says what that is."""
+        self.make(15, 10, 8)
+        data = bytearray(self.bytes(80))
+        self.put(data)
+        plan, seen = balanced.Plan([2, 11, 15, 10]), []
+        real = Node.patch
+
+        def noted(node, request):
+            seen.append((request.op, int(node.path[-3:]), bytes(request.data)))
+            return real(node, request)
+
+        with mock.patch.dict(ACTS, {op: (noted, EXCLUSIVE) for op in (frames.PATCH, frames.ADD)}):
+            for row, lane in ((0, 0), (3, 5), (9, 7)):
+                seen.clear()
+                place = row * 8 + lane
+                part = plan.differences(1, row, data[place:place + 1], b"%c" % (data[place] ^ 99))
+                data[place] ^= 99
+                self.right("update", "image", "--at", place, self.file(data[place:place + 1]))
+                wanted = [(frames.ADD, node, struct.pack(">QIHH", 0, 5, lane, 1) + part[node:node + 1]) for node in range(15) if part[node]]
+                self.assertEqual((sorted(seen, key=lambda one: one[1]), len(wanted)), (wanted, plan.d))
+        self.all_right(data)
+
+    def test_few_rows_and_many(self):
+        """One row of a block, some, and all of them: what is added, and where many rows change the new symbols."""
+        self.make(51, 34, 5)
+        data = bytearray(self.bytes(34 * 5 * 3))
+        self.put(data)
+        for first, count in ((3, 1), (0, 5), (170, 16 * 5), (170, 17 * 5), (1, 509), (100, 140)):
+            part = self.bytes(count)
+            data[first:first + count] = part
+            self.right("update", "image", "--at", first, self.file(part))
+            self.all_right(data)
+        self.assertEqual(reference.image_of([self.share(node) for node in range(17, 51)]), data)
 
     def test_every_node_is_written_alike(self):
         """Over all rows of a block each node is written as often as any other: 4 times of 10 rows."""
@@ -126,6 +164,12 @@ class Ranges(StoreCase):
                 rebuilt[first:end] = new[first:end]
             self.assertEqual(rebuilt, new)
             self.assertTrue(all(second[0] - first[1] > ranges.GAP for first, second in zip(found, found[1:])))
+
+    def test_whole_symbols(self):
+        """Symbols of two bytes are sent whole."""
+        old, new = bytes(200), bytes([0, 0, 0, 1, *bytes(146), 1, *bytes(49)])
+        self.assertEqual(ranges.changed(old, new, 2), [(2, 4), (150, 152)])
+        self.assertEqual(ranges.changed(old, new), [(3, 4), (150, 151)])
 
     def test_the_plain_layout(self):
         """A row of one byte changed in two lanes: one data node and n-k sums; two rows in one lane: two data nodes and the sums."""

@@ -62,6 +62,8 @@ CALLS: dict[str, tuple[Parameter, ...]] = {
     "to_nodes": (RECORD, LANES, read("by_lane"), written("by_node")),
     "listed_to_lanes": (RECORD, LANES, read("by_node"), written("by_lane")),
     "listed_to_nodes": (RECORD, LANES, read("by_lane"), written("by_node")),
+    "differences": (RECORD, LANES, Number("symbol"), read("old_symbols"), read("new_symbols"), written("differences")),
+    "add_share": (RECORD, LANES, read("difference"), written("share")),
     "weights": (RECORD, written("counts", c_uint32)),
     "repair_plan": (RECORD, Number("missing"), Result("bits"), Result("spare")),
     "repair_bits": (RECORD, LANES, Number("node"), Number("target"), read("missing"), read("share"), written("bits")),

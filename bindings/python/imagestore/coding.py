@@ -2,6 +2,8 @@
 computed by the library alone."""
 import threading
 
+from balanced import MAX_LANES
+
 from . import carrier, digest, share
 
 
@@ -46,6 +48,14 @@ def shares_of(plan, layout, batch, data, room):
 def listed(plan, lanes, parts):
     """The shares of k listed nodes lane after lane, as the library takes them."""
     return plan.listed_to_lanes(lanes, b"".join(parts))
+
+
+def add(plan, difference, symbols):
+    """Adds symbols to others, in place: as many as there are, 4,096 at a time."""
+    difference, step = memoryview(difference), MAX_LANES * plan.symbol_len
+    for at in range(0, len(symbols), step):
+        part = symbols[at:at + step]
+        plan.add_share(len(part) // plan.symbol_len, difference[at:at + step], part)
 
 
 def recover(plan, lanes, held):

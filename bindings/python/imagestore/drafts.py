@@ -2,7 +2,7 @@
 import os
 import struct
 
-from . import blocks, files, redo, share
+from . import arithmetic, blocks, files, redo, share
 from .errors import Refused
 
 BLOCK = struct.Struct(">QI")
@@ -18,7 +18,7 @@ class WholeDraft:
     def write(self, place, data):
         files.write(self.file, place, data)
 
-    def patch(self, data):
+    def patch(self, data, adding):
         raise Refused("the draft is of a whole share: it has no ranges")
 
     def end(self, header):
@@ -44,7 +44,7 @@ class PatchDraft:
             raise Refused(f"block {number} is damaged: its checksum is wrong, or the share ends before it")
         return place, bytearray(held)
 
-    def patch(self, data):
+    def patch(self, data, adding):
         """Blocks, for each its number (8), the length of its ranges (4) and these."""
         at = 0
         while at < len(data):
@@ -54,11 +54,11 @@ class PatchDraft:
             at += BLOCK.size
             if len(data) - at < count:
                 raise Refused("a block is cut")
-            self.patch_block(number, data[at:at + count])
+            self.patch_block(number, data[at:at + count], adding)
             at += count
 
-    def patch_block(self, number, data):
-        """Ranges of one block: for each its first byte (2), its length (2) and its bytes."""
+    def patch_block(self, number, data, adding):
+        """Ranges of one block: for each its first byte (2), its length (2) and its bytes, which are the new ones, or are to be added."""
         place, symbols = self.block(number)
         at = 0
         while at < len(data):
@@ -66,10 +66,13 @@ class PatchDraft:
                 raise Refused("a range is cut")
             first, count = RANGE.unpack_from(data, at)
             part = bytes(data[at + RANGE.size:at + RANGE.size + count])
-            if len(part) != count or first + count > len(symbols):
-                raise Refused("a range lies outside its block")
-            symbols[first:first + count] = part
-            self.redo.add(place + first, part)
+            if len(part) != count or first + count > len(symbols) or first % share.symbol_len(self.header.record):
+                raise Refused("a range lies outside its block, or between its symbols")
+            if adding:
+                arithmetic.add(self.header.record, part, memoryview(symbols)[first:first + count])
+            else:
+                symbols[first:first + count] = part
+            self.redo.add(place + first, symbols[first:first + count])
             at += RANGE.size + count
         self.redo.add(place + len(symbols), share.checksum(share.seed(number), symbols))
 

@@ -35,7 +35,7 @@ class Link:
             raise
         size = frames.data_len(request)
         self.sent += frames.request_len(request, size)
-        if request.op in (frames.WRITE, frames.PATCH):
+        if request.op in (frames.WRITE, frames.PATCH, frames.ADD):
             self.shares_sent += size
         self.request = request
 

@@ -145,7 +145,7 @@ class Node:
             raise Refused(f"a repair names its target, and at most {MAX_BLOCKS} blocks")
         return self.folder.bits(request.name, request.place, request.count, request.data[0], bytes(request.data[1:]))
 
-    # a write: begin, write or patch, seal; then commit or drop
+    # a write: begin, write, patch or add, seal; then commit or drop
 
     def begin(self, request):
         """Begins a draft: of a whole share with count 0, of ranges with count 1."""
@@ -166,7 +166,7 @@ class Node:
         self.draft(request.name).write(request.place, request.data)
 
     def patch(self, request):
-        self.draft(request.name).patch(request.data)
+        self.draft(request.name).patch(request.data, request.op == frames.ADD)
 
     def seal(self, request):
         """Ends a draft with its header, and prepares it."""
@@ -190,6 +190,7 @@ ACTS = {
     frames.LIST: (Node.list, SHARED), frames.STAT: (Node.stat, SHARED), frames.READ: (Node.read, SHARED),
     frames.BITS: (Node.bits, SHARED),
     frames.BEGIN: (Node.begin, EXCLUSIVE), frames.WRITE: (Node.write, EXCLUSIVE), frames.PATCH: (Node.patch, EXCLUSIVE),
+    frames.ADD: (Node.patch, EXCLUSIVE),
     frames.SEAL: (Node.seal, EXCLUSIVE), frames.COMMIT: (Node.commit, EXCLUSIVE), frames.DROP: (Node.drop, EXCLUSIVE),
     frames.PURGE: (Node.purge, EXCLUSIVE),
 }

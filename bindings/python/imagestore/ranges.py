@@ -15,15 +15,16 @@ def joined(ranges):
     return found
 
 
-def changed(old, new):
-    """The ranges in which `new` differs from `old`; the two have one length."""
+def changed(old, new, width=1):
+    """The ranges in which `new` differs from `old`, in whole symbols of so many bytes; the two have one length."""
     found = []
     for start in range(0, len(new), STEP):
         before, after = old[start:start + STEP], new[start:start + STEP]
         if before != after:
             other = int.from_bytes(before, "little") ^ int.from_bytes(after, "little")
             first = ((other & -other).bit_length() - 1) // 8
-            found.append((start + first, start + (other.bit_length() + 7) // 8))
+            end = (other.bit_length() + 7) // 8
+            found.append((start + first // width * width, start + -(-end // width) * width))
     return joined(found)
 
 

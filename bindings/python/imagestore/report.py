@@ -106,7 +106,7 @@ def update(result):
     lines = [
         f"{name}: {several(result['changed'], 'byte')} changed, generation {generation}",
         f"  {several(len(result['nodes']), 'node')} written: {listed(result['nodes'])}",
-        f"  new symbols sent: {several(result['symbols_sent'], 'byte')}; a whole rewrite sends {number(result['whole_sent'])}",
+        f"  symbols sent: {several(result['symbols_sent'], 'byte')}; a whole rewrite sends {number(result['whole_sent'])}",
         f"  the plain layout is sent {several(result['plain_sent'], 'byte')} at {several(len(result['plain_nodes']), 'node')}, "
         f"{result['sums']} of which it writes at every change",
         moved(result)]

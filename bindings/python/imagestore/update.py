@@ -1,4 +1,4 @@
-"""update: bytes of an image are changed, and new symbols go to the nodes that hold other ones then, and nowhere else.
+"""update: bytes of an image are changed, and the nodes that hold other symbols then are sent what they have to add, and no others.
 
 The nodes that are sent something are told of the new generation with it. They are n-k+1 or more, so any k nodes have one of
 them among them; where one of them is away, all others are told.
@@ -42,18 +42,19 @@ def send_changes(store, session, seen, reader, place, source, able):
         changes = Changes()
         for block, held in reader.read(batch):
             change = change_block(store, layout, block, held, place, source)
-            if change.patches:
+            if change.nodes:
                 see_agreement(store, session, reader, block, held, able)
             changes.add(change)
         return changes
 
     for done, changes in enumerate(pipeline.in_order(work, batches, store.threads), 1):
-        patches = {node: data for node, data in changes.patches.items() if node in able}
-        begin(session, seen.name, set(patches) - begun)
-        begun |= set(patches)
-        session.ask(sorted(patches), lambda node: Request(frames.PATCH, seen.name, data=patches[node]))
+        concerned = changes.nodes & set(able)
+        begin(session, seen.name, concerned - begun)
+        begun |= concerned
+        for op, patches in changes.patches.items():
+            session.ask(sorted(concerned & set(patches)), lambda node: Request(op, seen.name, data=patches[node]))
+        changes.patches = {}  # who was changed is kept, and not what was sent
         all_changes.add(changes)
-        all_changes.patches = dict.fromkeys(all_changes.patches, b"")  # who was changed is kept, and not what was sent
         store.progress("changed", done, len(batches))
     return all_changes, begun
 
@@ -67,7 +68,7 @@ def attempt(store, session, seen, place, source):
     with twophase.dropped_on_failure(session, seen.name, able):
         changes, begun = send_changes(store, session, seen, reader, place, source, able)
         source.check_unchanged()
-        changed = set(changes.patches)
+        changed = changes.nodes
         if not changed:
             return None, changes
         if not changed <= set(able):
@@ -105,7 +106,7 @@ def update(store, name, path, place=None):
             raise UsageError(f"{name} has {length} bytes: {source.length} bytes from {place} on are not within it")
         if place is None and source.length != length:
             header, done = write_whole(store, session, seen, source)
-            changes = Changes(dict.fromkeys(range(store.plan.n)), bytes=None)
+            changes = Changes(nodes=set(range(store.plan.n)), bytes=None)
         else:
             header, done, changes = change(store, session, seen, place or 0, source)
         return result(store, session, seen, header, done, changes)
@@ -113,10 +114,10 @@ def update(store, name, path, place=None):
 
 def result(store, session, seen, header, done, changes):
     """What the command says. With `bytes` None the image was written anew, for its length is another."""
-    written = [node for node in done if node in changes.patches]
-    missed = {node: why for node, why in absent(store, session, done).items() if node in changes.patches}
+    written = [node for node in done if node in changes.nodes]
+    missed = {node: why for node, why in absent(store, session, done).items() if node in changes.nodes}
     return {
         "image": seen.name, "generation": header.generation, "length": header.length, "digest": header.digest.hex(),
-        "changed": changes.bytes, "nodes": written, "told": [node for node in done if node not in changes.patches],
+        "changed": changes.bytes, "nodes": written, "told": [node for node in done if node not in changes.nodes],
         "absent": missed, "symbols_sent": changes.symbols, "plain_sent": changes.plain, "plain_nodes": sorted(changes.plain_nodes),
         "sums": store.plan.n - store.plan.k, "whole_sent": store.plan.n * seen.layout.file_len, "traffic": session.traffic()}

@@ -166,6 +166,7 @@
 //! ```
 
 mod calls;
+mod differences;
 mod error;
 mod lanes;
 mod plan;
@@ -177,6 +178,7 @@ pub mod sys;
 pub use calls::{
     belongs, correct, encode, listed_to_lanes, listed_to_nodes, rebuild, recover, to_lanes, to_nodes, update, weights,
 };
+pub use differences::{add_share, differences};
 pub use error::Error;
 pub use lanes::{find_update, mends, Finding};
 pub use plan::Plan;

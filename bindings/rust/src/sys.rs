@@ -42,6 +42,29 @@ extern "C" {
         altered: *mut u32,
     ) -> u8;
 
+    pub fn balanced_differences(
+        record: *const u8,
+        record_len: usize,
+        lanes: u32,
+        symbol: u32,
+        old_symbols: *const u8,
+        old_len: usize,
+        new_symbols: *const u8,
+        new_len: usize,
+        differences: *mut u8,
+        differences_len: usize,
+    ) -> u8;
+
+    pub fn balanced_add_share(
+        record: *const u8,
+        record_len: usize,
+        lanes: u32,
+        difference: *const u8,
+        difference_len: usize,
+        share: *mut u8,
+        share_len: usize,
+    ) -> u8;
+
     pub fn balanced_recover(
         record: *const u8,
         record_len: usize,

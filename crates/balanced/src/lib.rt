@@ -7,6 +7,8 @@ pub use carry::carry_out;
 pub use correct::Correction;
 pub use correct::correct_block;
 pub use correct_listed::correct_listed;
+pub use differences::add_share;
+pub use differences::differences;
 pub use encode::encode_block;
 pub use find_update::Finding;
 pub use find_update::find_update;

@@ -4,4 +4,5 @@ mod Plans
 mod Lanes
 mod Corrections
 mod CorrectListed
+mod RowChanges
 mod Repairing

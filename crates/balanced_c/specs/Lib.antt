@@ -3,5 +3,6 @@ pub mod Calls
 pub mod Lanes
 pub mod Corrections
 pub mod CorrectListed
+pub mod RowChanges
 pub mod Version
 pub mod Repairs

@@ -33,7 +33,8 @@ fn write_to(w: Words, rec: &[u8], first: &[u8], second: &[u8], out: &mut [u8]) -
         4 => balanced::to_lanes(rec, lanes, first, out),
         5 => balanced::to_nodes(rec, lanes, first, out),
         18 => balanced::listed_to_lanes(rec, lanes, first, out),
-        _ => balanced::listed_to_nodes(rec, lanes, first, out),
+        19 => balanced::listed_to_nodes(rec, lanes, first, out),
+        _ => balanced::differences(rec, lanes, numbers[1], first, second, out),
     }
 }
 
@@ -52,6 +53,26 @@ pub fn write(w: Words) {
         front(&mut out, rooms[1]),
     );
     print(answer, part(&out, rooms[1]));
+}
+
+// The share afterwards, or the number and whether it is as it was.
+pub fn add(w: Words) {
+    let record = w.record;
+    let difference = w.first;
+    let before = w.second;
+    let counts = w.counts;
+    let numbers = w.numbers;
+    let mut after = before;
+    let answer = balanced::add_share(
+        part(&record, counts[0]),
+        numbers[0],
+        part(&difference, counts[1]),
+        front(&mut after, counts[2]),
+    );
+    match answer {
+        Outcome::Done => list(b": done", part(&after, counts[2])),
+        Outcome::Refused(number) => refused(number, check::same(&before, &after)),
+    }
 }
 
 // Yes, the smallest lane that is no word, or the number.

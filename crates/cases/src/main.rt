@@ -30,7 +30,9 @@ fn make(call: usize, w: Words) {
         13..=19 => block_calls::write(w),
         20 => repairs::bits(w),
         21 => repairs::share(w),
-        _ => repairs::plan(w),
+        22 => repairs::plan(w),
+        23 => block_calls::write(w),
+        _ => block_calls::add(w),
     }
 }
 
@@ -52,7 +54,7 @@ fn answer(line: &[u8], roster: Roster) -> Roster {
     }
     let w = read(
         line,
-        b"encode lanes# message* room~;recover lanes# nodes* shares* room~;rebuild lanes# nodes* shares* target# room~;to_lanes lanes# shares* room~;to_nodes lanes# shares* room~;update lanes# symbol# lane# old# new# shares*;belongs lanes# shares*;correct lanes# shares*;plan;weights room~;find before* after*;mends symbols* room~ room~;roster;leave node#;rejoin node#;lowest room~;job room~;listed_to_lanes lanes# shares* room~;listed_to_nodes lanes# shares* room~;repair_bits lanes# node# target# missing* share* room~;repair_share lanes# target# missing* rows* room~;repair_plan count#",
+        b"encode lanes# message* room~;recover lanes# nodes* shares* room~;rebuild lanes# nodes* shares* target# room~;to_lanes lanes# shares* room~;to_nodes lanes# shares* room~;update lanes# symbol# lane# old# new# shares*;belongs lanes# shares*;correct lanes# shares*;plan;weights room~;find before* after*;mends symbols* room~ room~;roster;leave node#;rejoin node#;lowest room~;job room~;listed_to_lanes lanes# shares* room~;listed_to_nodes lanes# shares* room~;repair_bits lanes# node# target# missing* share* room~;repair_share lanes# target# missing* rows* room~;repair_plan count#;differences lanes# symbol# before* after* room~;add_share lanes# symbols* shares*",
     );
     let call = w.call;
     if 13 <= call && call <= 17 {

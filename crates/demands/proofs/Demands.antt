@@ -21,6 +21,7 @@ use Rattle.demands.proofs.Tables.{tables}
 use Rattle.demands.proofs.Findings.{findings}
 use Rattle.demands.proofs.Rosters.{rosters}
 use Rattle.demands.proofs.BadReads.{bad-reads}
+use Rattle.demands.proofs.Differences.{row-changes}
 use Rattle.demands.proofs.Weights.{weights}
 use Rattle.demands.proofs.SmallPlans.{small-plans}
 use Rattle.demands.proofs.Mending.{single-mends}
@@ -49,6 +50,7 @@ demands =
       rosters = rosters;
       lanes = lane-after-lane;
       bad-reads = bad-reads;
+      row-changes = row-changes;
       weights = weights;
       small-plans = small-plans;
       mends = single-mends;

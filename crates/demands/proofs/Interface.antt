@@ -12,6 +12,7 @@ use Rattle.generator.specs.declared.Header.{Header}
 use Rattle.generator.specs.Records.{headerOf, recordOf}
 use Rattle.generator.proofs.Accepts.{faultless-sound}
 use Rattle.rearrange.specs.Promise.{rearrangeFault}
+use Rattle.differences.specs.Promise.{differencesFault, addFault}
 use Rattle.belongs.specs.Promise.{belongsFault}
 use Rattle.recover.specs.Promise.{recoverFault, rebuildFault}
 use Rattle.update.specs.Promise.{updateFault}
@@ -26,16 +27,17 @@ use Rattle.mends.specs.Promise.{mendsFault}
 use Rattle.weight_counts.specs.Weights.{weightsFault}
 use Rattle.balanced_c.specs.Calls.{planRoomFault, numbersOf, PlanGives, EncodeGives, UpdateGives, RecoverGives, RebuildGives, BelongsGives, RearrangeGives, WeightsGive}
 use Rattle.balanced_c.specs.Corrections.{CorrectGives}
+use Rattle.balanced_c.specs.RowChanges.{DifferencesGives, AddGives}
 use Rattle.balanced_c.specs.Lanes.{foundIn, FindGives, MendsGive}
 use Rattle.demands.specs.Calls.{read}
 use Rattle.demands.specs.Findings.{InNumbers}
 use Rattle.demands.specs.Judging.{Judged, Returns}
-use Rattle.demands.specs.Numbers.{recordNumbers, encodeNumbers, updateNumbers, recoverNumbers, rebuildNumbers, belongsNumbers, correctNumbers, rearrangeNumbers, findNumbers, mendsNumbers, weightsNumbers}
+use Rattle.demands.specs.Numbers.{recordNumbers, encodeNumbers, updateNumbers, recoverNumbers, rebuildNumbers, belongsNumbers, correctNumbers, rearrangeNumbers, differencesNumbers, addNumbers, findNumbers, mendsNumbers, weightsNumbers}
 use Rattle.demands.specs.Interface.{planNumbers, PlanWritten, Interface}
 use Rattle.demands.proofs.Judging.{Tells, line, last, by-number}
 use Rattle.demands.proofs.Conditions.{other-test}
 use Rattle.demands.proofs.Findings.{in-numbers}
-use Rattle.demands.proofs.Numbers.{own-after, encode-tells, update-tells, recover-tells, rebuild-tells, belongs-tells, correct-tells, rearrange-tells, find-tells, mends-tells, weights-tells}
+use Rattle.demands.proofs.Numbers.{own-after, encode-tells, update-tells, recover-tells, rebuild-tells, belongs-tells, correct-tells, rearrange-tells, differences-tells, add-tells, find-tells, mends-tells, weights-tells}
 
 -- four lengths under one number
 four-lengths : (a b c d : Bool) → when (not (a && (b && (c && d)))) 8 ≡ firstOf (when (not a) 8) (firstOf (when (not b) 8) (firstOf (when (not c) 8) (when (not d) 8)))
@@ -112,6 +114,16 @@ module _ (rec : List ℕ) where
         by-number (g .number) (own-after rec _ (λ h. rearrangeFault h (rows h) l (length source) (length out)) refl (λ none. rearrange-tells h l (rows h) (length source) (length out)))
         (λ some. rw (← g .number, ne-eqb r 0 some) at (g .says .promise .written))
 
+    differences : (symbol : ℕ) (old new out out′ : List ℕ) (r : ℕ) → DifferencesGives rec l symbol old new out out′ r → Judged (recordNumbers rec ++ differencesNumbers h l symbol old new (length out)) (Returns r) (out′ ≡ out)
+    differences symbol old new out out′ r g =
+        by-number (g .number) (own-after rec _ (λ h. differencesFault h l symbol old new (length out)) refl (λ none. differences-tells h l symbol old new (length out)))
+        (λ some. rw (← g .number, ne-eqb r 0 some) at (g .says .promise .written))
+
+    add-share : (difference share share′ : List ℕ) (r : ℕ) → AddGives rec l difference share share′ r → Judged (recordNumbers rec ++ addNumbers h l difference share) (Returns r) (share′ ≡ share)
+    add-share difference share share′ r g =
+        by-number (g .number) (own-after rec _ (λ h. addFault h l difference share) refl (λ none. add-tells h l difference share))
+        (λ some. rw (← g .number, ne-eqb r 0 some) at (g .says .promise .written))
+
   find : (before after : List ℕ) (answer symbol amount answer′ symbol′ amount′ r : ℕ) → FindGives rec before after answer symbol amount answer′ symbol′ amount′ r → Judged (recordNumbers rec ++ findNumbers h before after) (Returns r) ((answer′ ≡ answer) × (symbol′ ≡ symbol) × (amount′ ≡ amount))
   find before after answer symbol amount answer′ symbol′ amount′ r g =
       by-number (g .number) (own-after rec _ (λ h. findFault h before after) refl (λ none. find-tells h before after))
@@ -149,6 +161,8 @@ interface =
       to-nodes = λ rec l. rearrange rec l (λ h. h .n);
       listed-to-lanes = λ rec l. rearrange rec l (λ h. h .k);
       listed-to-nodes = λ rec l. rearrange rec l (λ h. h .k);
+      differences = differences;
+      add-share = add-share;
       find = find;
       find-done = find-done;
       mends = mends;

@@ -15,6 +15,7 @@ pub mod Tables
 pub mod Findings
 pub mod Rosters
 pub mod BadReads
+pub mod Differences
 pub mod Weights
 pub mod SmallPlans
 pub mod Mending

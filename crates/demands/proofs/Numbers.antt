@@ -17,6 +17,7 @@ use Rattle.generator.specs.Records.{headerOf, recordFault, size, width, Sound}
 use Rattle.refusals.specs.Conditions.{lanesBad, lengthBad, numberBad, nodesBad, twiceBad, symbolBad, symbolsBad, laneBad}
 use Rattle.refusals.specs.Faults.{staleFault, listFault, faultOf}
 use Rattle.rearrange.specs.Promise.{rearrangeFault}
+use Rattle.differences.specs.Promise.{differencesFault, addFault}
 use Rattle.belongs.specs.Promise.{belongsFault}
 use Rattle.recover.specs.Promise.{recoverFault, rebuildFault}
 use Rattle.update.specs.Promise.{inputFault, updateFault}
@@ -32,7 +33,7 @@ use Rattle.find_update.specs.Promise.{findFault}
 use Rattle.mends.specs.Promise.{mendsFault}
 use Rattle.weight_counts.specs.Weights.{messagesBad, weightsFault}
 use Rattle.demands.specs.Judging.{Table}
-use Rattle.demands.specs.Numbers.{SomeFrom, SomeTwice, recordNumbers, OtherLanes, OtherSymbols, encodeNumbers, givenNumbers, staleNumbers, updateNumbers, recoverNumbers, rebuildNumbers, belongsNumbers, correctNumbers, rearrangeNumbers, findNumbers, mendsNumbers, weightsNumbers}
+use Rattle.demands.specs.Numbers.{SomeFrom, SomeTwice, recordNumbers, OtherLanes, OtherSymbols, encodeNumbers, givenNumbers, staleNumbers, updateNumbers, recoverNumbers, rebuildNumbers, belongsNumbers, correctNumbers, rearrangeNumbers, differencesNumbers, addNumbers, findNumbers, mendsNumbers, weightsNumbers}
 use Rattle.demands.proofs.Judging.{Tells, allFrom, line, last, then}
 use Rattle.demands.proofs.Conditions.{equal-test, other-test, less-test, most-test, or-test, some-from, some-twice}
 use Rattle.demands.proofs.RecordNumbers.{after-record}
@@ -99,6 +100,26 @@ module _ (h : Header) (l : ℕ) where
       line 6 (lanesBad l) refl (lanes-means l)
       (λ _. line 7 (lengthBad (rows * l * width h) source) refl (length-means _ _)
       (λ _. last 7 (lengthBad (rows * l * width h) out) (length-means _ _)))
+
+  pub differences-tells : (r : ℕ) (old new : List ℕ) (out : ℕ) → Tells (differencesNumbers h l r old new out) (differencesFault h l r old new out)
+  unfolding differencesFault
+  differences-tells r old new out =
+      line 6 (lanesBad l) refl (lanes-means l)
+      (λ _. line 7 (lengthBad (l * width h) (length old)) refl (length-means _ _)
+      (λ _. line 7 (lengthBad (l * width h) (length new)) refl (length-means _ _)
+      (λ _. line 7 (lengthBad (h .n * l * width h) out) refl (length-means _ _)
+      (λ _. line 8 (numberBad (h .k) r) refl (number-means _ _)
+      (λ _. line 10 (symbolsBad h old) refl (symbols-mean h old)
+      (λ _. last 10 (symbolsBad h new) (symbols-mean h new)))))))
+
+  pub add-tells : (difference share : List ℕ) → Tells (addNumbers h l difference share) (addFault h l difference share)
+  unfolding addFault
+  add-tells difference share =
+      line 6 (lanesBad l) refl (lanes-means l)
+      (λ _. line 7 (lengthBad (l * width h) (length difference)) refl (length-means _ _)
+      (λ _. line 7 (lengthBad (l * width h) (length share)) refl (length-means _ _)
+      (λ _. line 10 (symbolsBad h difference) refl (symbols-mean h difference)
+      (λ _. last 10 (symbolsBad h share) (symbols-mean h share)))))
 
   module _ (nodes shares : List ℕ) where
     pub recover-tells : (out : ℕ) → Tells (recoverNumbers h l nodes shares out) (recoverFault h l nodes shares out)

@@ -25,6 +25,7 @@ use Rattle.blocks.specs.Answers.{outcomeOf}
 use Rattle.blocks.proofs.Answered.{refused-means, refusal-means}
 use Rattle.blocks.proofs.Refused.{outcome-refused, update-refused, membership-refused}
 use Rattle.rearrange.specs.Promise.{RearrangeSays, rearrangeFault}
+use Rattle.differences.specs.Promise.{differencesFault, addFault, DifferencesSays, AddSays}
 use Rattle.correct.specs.declared.Correction.{Correction}
 use Rattle.correct.specs.declared.Correction.the-variants as C
 use Rattle.correct.specs.Promise.{correctFault, CorrectSays}
@@ -40,10 +41,10 @@ use Rattle.mends.specs.Promise.{mendsFault, mendingOf, MendsSay}
 use Rattle.mends.proofs.Accepts.{refused-number}
 use Rattle.weight_counts.specs.Weights.{weightsFault, WeightsSay}
 use Rattle.demands.specs.Judging.{Table, Judged}
-use Rattle.demands.specs.Numbers.{recordNumbers, encodeNumbers, updateNumbers, recoverNumbers, rebuildNumbers, belongsNumbers, correctNumbers, rearrangeNumbers, findNumbers, mendsNumbers, weightsNumbers}
+use Rattle.demands.specs.Numbers.{recordNumbers, encodeNumbers, updateNumbers, recoverNumbers, rebuildNumbers, belongsNumbers, correctNumbers, rearrangeNumbers, differencesNumbers, addNumbers, findNumbers, mendsNumbers, weightsNumbers}
 use Rattle.demands.specs.Refusals.{Refusals}
 use Rattle.demands.proofs.Judging.{Tells, call-judged, by-answer}
-use Rattle.demands.proofs.Numbers.{own-after, encode-tells, update-tells, recover-tells, rebuild-tells, belongs-tells, correct-tells, rearrange-tells, find-tells, mends-tells, weights-tells}
+use Rattle.demands.proofs.Numbers.{own-after, encode-tells, update-tells, recover-tells, rebuild-tells, belongs-tells, correct-tells, rearrange-tells, differences-tells, add-tells, find-tells, mends-tells, weights-tells}
 
 -- the number of each kind of answer
 outcome-means : (f g : ℕ) → O.Refused g ≡ outcomeOf f → (g ≡ f) × (g ≡ 0 → ⊥)
@@ -108,6 +109,16 @@ module _ (rec : List ℕ) where
         by-outcome (own-after rec _ (λ h. rearrangeFault h (rows h) l (length source) (length out)) refl (λ none. rearrange-tells h l (rows h) (length source) (length out))) (says .promise .answered)
         (λ some. rw (ne-eqb _ 0 some) at (says .promise .written))
 
+    differences : (symbol : ℕ) (old new out out′ : List ℕ) (r : Outcome) → DifferencesSays rec l symbol old new out out′ r → Judged (recordNumbers rec ++ differencesNumbers h l symbol old new (length out)) (λ f. r ≡ O.Refused f) (out′ ≡ out)
+    differences symbol old new out out′ r says =
+        by-outcome (own-after rec _ (λ h. differencesFault h l symbol old new (length out)) refl (λ none. differences-tells h l symbol old new (length out))) (says .promise .answered)
+        (λ some. rw (ne-eqb _ 0 some) at (says .promise .written))
+
+    add-share : (difference share share′ : List ℕ) (r : Outcome) → AddSays rec l difference share share′ r → Judged (recordNumbers rec ++ addNumbers h l difference share) (λ f. r ≡ O.Refused f) (share′ ≡ share)
+    add-share difference share share′ r says =
+        by-outcome (own-after rec _ (λ h. addFault h l difference share) refl (λ none. add-tells h l difference share)) (says .promise .answered)
+        (λ some. rw (ne-eqb _ 0 some) at (says .promise .written))
+
   find : (before after : List ℕ) (r : Finding) → FindSays rec before after r → Judged (recordNumbers rec ++ findNumbers h before after) (λ f. r ≡ F.Refused f) (Unit {0})
   find before after r says =
       let number = faultOf rec (λ h. findFault h before after) in
@@ -141,6 +152,8 @@ refusals =
       to-nodes = λ rec l. rearrange rec l (λ h. h .n);
       listed-to-lanes = λ rec l. rearrange rec l (λ h. h .k);
       listed-to-nodes = λ rec l. rearrange rec l (λ h. h .k);
+      differences = differences;
+      add-share = add-share;
       find = find;
       mends = mends;
       weights = weights;

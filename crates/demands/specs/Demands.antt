@@ -23,6 +23,7 @@ use Rattle.demands.specs.Tables.{Tables}
 use Rattle.demands.specs.Findings.{Findings}
 use Rattle.demands.specs.Rosters.{Rosters}
 use Rattle.demands.specs.BadReads.{BadReads}
+use Rattle.demands.specs.Differences.{RowChanges}
 use Rattle.demands.specs.Weights.{Weights}
 use Rattle.demands.specs.SmallPlans.{SmallPlans}
 use Rattle.demands.specs.Mending.{SingleMends}
@@ -67,6 +68,8 @@ pub record Demands : Type 1 where
   pub lanes : LaneAfterLane
   -- what one bad read does
   pub bad-reads : BadReads
+  -- what each node adds where a row of the message changes
+  pub row-changes : RowChanges
   -- how many messages light how many nodes
   pub weights : Weights
   -- every small plan

@@ -9,11 +9,12 @@ use Rattle.plan.specs.declared.Plan.{Plan}
 use Rattle.plan.specs.Plans.{PlanSays}
 use Rattle.balanced_c.specs.Calls.{PlanGives, EncodeGives, UpdateGives, RecoverGives, RebuildGives, BelongsGives, ToLanesGives, ToNodesGives, ListedToLanesGives, ListedToNodesGives, WeightsGive}
 use Rattle.balanced_c.specs.Corrections.{CorrectGives}
+use Rattle.balanced_c.specs.RowChanges.{DifferencesGives, AddGives}
 use Rattle.balanced_c.specs.Lanes.{FindGives, MendsGive}
 use Rattle.demands.specs.Calls.{read}
 use Rattle.demands.specs.Findings.{InNumbers}
 use Rattle.demands.specs.Judging.{Table, Judged, Returns}
-use Rattle.demands.specs.Numbers.{recordNumbers, encodeNumbers, updateNumbers, recoverNumbers, rebuildNumbers, belongsNumbers, correctNumbers, rearrangeNumbers, findNumbers, mendsNumbers, weightsNumbers}
+use Rattle.demands.specs.Numbers.{recordNumbers, encodeNumbers, updateNumbers, recoverNumbers, rebuildNumbers, belongsNumbers, correctNumbers, rearrangeNumbers, differencesNumbers, addNumbers, findNumbers, mendsNumbers, weightsNumbers}
 
 -- `balanced_plan`: the lengths of its four buffers
 abbrev pub planNumbers : ℕ → ℕ → ℕ → ℕ → Table
@@ -64,6 +65,12 @@ pub record Interface : Type 0 where
   -- balanced_listed_to_nodes
   pub listed-to-nodes : (rec : List ℕ) (l : ℕ) (source out out′ : List ℕ) (f : ℕ) → ListedToNodesGives rec l source out out′ f
       → Judged (recordNumbers rec ++ rearrangeNumbers (headerOf rec) (headerOf rec .k) l (length source) (length out)) (Returns f) (out′ ≡ out)
+  -- balanced_differences
+  pub differences : (rec : List ℕ) (l r : ℕ) (old new out out′ : List ℕ) (f : ℕ) → DifferencesGives rec l r old new out out′ f
+      → Judged (recordNumbers rec ++ differencesNumbers (headerOf rec) l r old new (length out)) (Returns f) (out′ ≡ out)
+  -- balanced_add_share
+  pub add-share : (rec : List ℕ) (l : ℕ) (difference share share′ : List ℕ) (f : ℕ) → AddGives rec l difference share share′ f
+      → Judged (recordNumbers rec ++ addNumbers (headerOf rec) l difference share) (Returns f) (share′ ≡ share)
   -- balanced_find_update: all three numbers are left
   pub find : (rec before after : List ℕ) (answer symbol amount answer′ symbol′ amount′ r : ℕ) → FindGives rec before after answer symbol amount answer′ symbol′ amount′ r
       → Judged (recordNumbers rec ++ findNumbers (headerOf rec) before after) (Returns r) ((answer′ ≡ answer) × (symbol′ ≡ symbol) × (amount′ ≡ amount))

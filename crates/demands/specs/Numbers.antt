@@ -122,6 +122,28 @@ rearrangeNumbers h rows l source out =
     ∷ (8, out ≢ rows * l * width h)
     ∷ []
 
+-- differences: rows of symbols of one symbol number
+abbrev pub differencesNumbers : Header → ℕ → ℕ → List ℕ → List ℕ → ℕ → Table
+differencesNumbers h l r old new out =
+    (7, OtherLanes l)
+    ∷ (8, length old ≢ l * width h)
+    ∷ (8, length new ≢ l * width h)
+    ∷ (8, out ≢ h .n * l * width h)
+    ∷ (9, h .k ≤ r)
+    ∷ (11, OtherSymbols h old)
+    ∷ (11, OtherSymbols h new)
+    ∷ []
+
+-- add_share
+abbrev pub addNumbers : Header → ℕ → List ℕ → List ℕ → Table
+addNumbers h l difference share =
+    (7, OtherLanes l)
+    ∷ (8, length difference ≢ l * width h)
+    ∷ (8, length share ≢ l * width h)
+    ∷ (11, OtherSymbols h difference)
+    ∷ (11, OtherSymbols h share)
+    ∷ []
+
 -- find_update
 abbrev pub findNumbers : Header → List ℕ → List ℕ → Table
 findNumbers h before after =

@@ -15,6 +15,7 @@ use Rattle.recover.specs.Promise.{RecoverSays, RebuildSays}
 use Rattle.update.specs.Promise.{UpdateSays}
 use Rattle.encode.specs.Promise.{EncodeSays}
 use Rattle.rearrange.specs.Promise.{ToLanesSays, ToNodesSays, ListedToLanesSays, ListedToNodesSays}
+use Rattle.differences.specs.Promise.{DifferencesSays, AddSays}
 use Rattle.correct.specs.declared.Correction.{Correction}
 use Rattle.correct.specs.declared.Correction.the-variants as C
 use Rattle.correct.specs.Promise.{CorrectSays}
@@ -26,7 +27,7 @@ use Rattle.mends.specs.declared.Mending.the-variants as N
 use Rattle.mends.specs.Promise.{MendsSay}
 use Rattle.weight_counts.specs.Weights.{WeightsSay}
 use Rattle.demands.specs.Judging.{Judged}
-use Rattle.demands.specs.Numbers.{recordNumbers, encodeNumbers, updateNumbers, recoverNumbers, rebuildNumbers, belongsNumbers, correctNumbers, rearrangeNumbers, findNumbers, mendsNumbers, weightsNumbers}
+use Rattle.demands.specs.Numbers.{recordNumbers, encodeNumbers, updateNumbers, recoverNumbers, rebuildNumbers, belongsNumbers, correctNumbers, rearrangeNumbers, differencesNumbers, addNumbers, findNumbers, mendsNumbers, weightsNumbers}
 
 pub record Refusals : Type 0 where
   -- Encode: no byte of the shares is written
@@ -56,6 +57,12 @@ pub record Refusals : Type 0 where
       → Judged (recordNumbers rec ++ rearrangeNumbers (headerOf rec) (headerOf rec .k) l (length source) (length out)) (λ f. answer ≡ O.Refused f) (out′ ≡ out)
   pub listed-to-nodes : (rec : List ℕ) (l : ℕ) (source out out′ : List ℕ) (answer : Outcome) → ListedToNodesSays rec l source out out′ answer
       → Judged (recordNumbers rec ++ rearrangeNumbers (headerOf rec) (headerOf rec .k) l (length source) (length out)) (λ f. answer ≡ O.Refused f) (out′ ≡ out)
+  -- differences: no byte is written
+  pub differences : (rec : List ℕ) (l r : ℕ) (old new out out′ : List ℕ) (answer : Outcome) → DifferencesSays rec l r old new out out′ answer
+      → Judged (recordNumbers rec ++ differencesNumbers (headerOf rec) l r old new (length out)) (λ f. answer ≡ O.Refused f) (out′ ≡ out)
+  -- add_share: the share is as it was
+  pub add-share : (rec : List ℕ) (l : ℕ) (difference share share′ : List ℕ) (answer : Outcome) → AddSays rec l difference share share′ answer
+      → Judged (recordNumbers rec ++ addNumbers (headerOf rec) l difference share) (λ f. answer ≡ O.Refused f) (share′ ≡ share)
   -- find_update only reads
   pub find : (rec before after : List ℕ) (r : Finding) → FindSays rec before after r
       → Judged (recordNumbers rec ++ findNumbers (headerOf rec) before after) (λ f. r ≡ F.Refused f) (Unit {0})

@@ -3,5 +3,6 @@ pub mod Rebuilding
 pub mod Recovering
 pub mod Tiles
 pub mod Products
+pub mod OneRow
 pub mod Accepts
 pub mod Laws

@@ -8,6 +8,7 @@ use generator::Header;
 use generator::Record;
 
 mod fault;
+mod one_row;
 mod shares;
 
 // Recovers over an accepted record's header.

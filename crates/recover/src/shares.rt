@@ -10,7 +10,9 @@ ghost use Rattle.layout.specs.Width.{symbolsOf, bytesOf};
 ghost use Rattle.generator.specs.Records.{modulusOf, size};
 ghost use Rattle.refusals.specs.Inner.Accepted.{SymbolBytes};
 ghost use Rattle.row_sums.specs.Inner.Combined.{combined};
+use crate::one_row;
 use generator::Header;
+use tile_products::scratch;
 
 // Sums of `count` lanes of the listed shares times the weights, from lane `first` on.
 fn fill_tile(
@@ -68,6 +70,9 @@ fn fill_share(
     }
 }
 
+// No fewer lanes go by lists, as a product of one row: making the lists takes longer than the work of fewer.
+const MANY: usize = 128;
+
 // The same in scratch of this call, little where the block is small.
 pub fn rebuild_lanes(
     h: Header,
@@ -80,11 +85,15 @@ pub fn rebuild_lanes(
     requires { ⌜ SymbolBytes h w (h .k) lanes (now shares) × (length (now weights) ≡ 255) × (allBelow (size h) (now weights) ≡ true) × (length (now out) ≡ w * lanes) ⌝ }
     ensures { λ r. ⌜ now (out .exit) ≡ bytesOf w (combined byLane (modulusOf h) (h .k) lanes (now (weights .entry)) (symbolsOf w (now (shares .entry)))) ⌝ }
 {
+    if MANY <= lanes {
+        let k = h.k as usize;
+        return one_row::fill_row(h, w, lanes, &weights[..k], shares, out);
+    }
     if shares.len() <= 4096 {
         let mut tile = tiles::small_scratch();
         fill_share(h, w, lanes, weights, shares, &mut tile, out);
         return;
     }
-    let mut tile = tiles::scratch();
+    let mut tile = scratch::large_rows();
     fill_share(h, w, lanes, weights, shares, &mut tile, out);
 }

@@ -14,6 +14,5 @@ pub use gathering::gather64;
 pub use moves::move64;
 pub use scattering::scatter64;
 pub use size::lanes64;
-pub use size::scratch;
 pub use size::small_scratch;
 pub use size::tile_lanes;

@@ -6,14 +6,7 @@ ghost use lib.ListN.{length};
 // No more lanes than these are in a tile, so that a column's bytes do not fall on the same places of the cache.
 const MOST: usize = 1040;
 
-// Scratch for a tile of many lanes: 528 lanes of 255 rows.
-pub fn scratch() -> [u8; 134640]
-    ensures { λ r. ⌜ length r ≡ 134640 ⌝ }
-{
-    [0u8; 134640]
-}
-
-// Scratch for a tile where the rows and lanes are few: clearing the other would take longer than the work.
+// Scratch for a tile where the rows and lanes are few: clearing more would take longer than the work.
 pub fn small_scratch() -> [u8; 4096]
     ensures { λ r. ⌜ length r ≡ 4096 ⌝ }
 {

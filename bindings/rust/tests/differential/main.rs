@@ -3,6 +3,7 @@ mod calls;
 mod compare;
 mod corrections;
 mod damage;
+mod differences;
 mod findings;
 mod mends;
 mod notebook;

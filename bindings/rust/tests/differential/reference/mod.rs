@@ -2,6 +2,7 @@
 //! logarithms for the field of 256 elements, every entry of the generator as a product, messages by elimination, words by
 //! interpolation, near words by Euclid's algorithm. Nothing here is shared with the library.
 mod code;
+mod differences;
 mod field;
 mod lanes;
 mod nearest;
@@ -9,6 +10,7 @@ mod repair;
 mod roster;
 
 pub use code::{bytes_of, width, Code};
+pub use differences::{add_share, differences};
 pub use field::{is_prime, Field};
 pub use lanes::{added, find_update, mends};
 pub use roster::{Event, History};
