@@ -5,6 +5,7 @@ ghost use Rattle.lists.specs.Choice.{firstOf};
 ghost use Rattle.blocks.specs.Inner.Answers.{outcomeNumber};
 ghost use Rattle.balanced_c.specs.Calls.{planRoomFault, numbersOf, PlanGives, EncodeGives, UpdateGives, RecoverGives, RebuildGives, BelongsGives, WeightsGive};
 
+mod bytes_carried;
 mod changes;
 mod correction;
 mod one_lane;
