@@ -50,12 +50,24 @@ function sheet(record) {
 const ends = ({ least, greatest }) => (least === greatest ? `${least}` : `${least}..${greatest}`);
 const costs = (name, { writes, reads }) => `${name} writes ${ends(writes)} reads ${reads.least} ${reads.greatest}`;
 
+// the bits that are moved for a symbol of a lost node, where there is a repair by traces: b of each other node, and the fewest that are worth 255·k
+function rebuild({ n, k }, bytes) {
+  const b = bytes ? [1, 2, 4].find((b) => n - k >= 2 ** (8 - b)) : undefined;
+  if (!b) return [];
+  let owed = 255 * k, least = 0;
+  for (let worth = 128; worth >= 1; worth /= 2) {
+    const taken = Math.min(n - 1, Math.max(0, Math.ceil(owed / worth)));
+    owed -= taken * worth, least += taken;
+  }
+  return [`rebuild bits ${8 * k} traces ${b * (n - 1)} least ${least}`];
+}
+
 function comparison(record) {
   const header = A.readRecord(record);
   if (header.number) return [`refused ${header.number}`];
   const plan = A.planOf(header), { writes, reads } = A.bound(plan.n, plan.k);
   const plain = A.figures(A.plainRows(plan)), ours = A.figures(plan.rows);
-  return [`compare ${plan.n} ${plan.k}`, costs("plain", plain), costs("balanced", ours), `bound writes ${writes} reads ${reads}`];
+  return [`compare ${plan.n} ${plan.k}`, costs("plain", plain), costs("balanced", ours), `bound writes ${writes} reads ${reads}`, ...rebuild(plan, record[0] === 2)];
 }
 
 function checkSheets() {

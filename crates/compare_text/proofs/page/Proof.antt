@@ -8,7 +8,7 @@ use Rattle.compare_text.proofs.page.Tie as tie
 
 returns : tie.Need-returns
 unfolding zeros
-returns c = (refl, sym (length-replicate {A = ℕ} 108 0))
+returns c = (refl, sym (length-replicate {A = ℕ} 152 0))
 
 pub page-spec : {M : Type 1} → statement M
 page-spec = tie.close (tie.spec returns)
