@@ -177,7 +177,7 @@ pub mod sys;
 pub use calls::{
     belongs, correct, encode, listed_to_lanes, listed_to_nodes, rebuild, recover, to_lanes, to_nodes, update, weights,
 };
-pub use differences::{add_share, differences};
+pub use differences::{add_share, differences, update_lanes};
 pub use error::Error;
 pub use lanes::{find_update, mends, Finding};
 pub use plan::Plan;

@@ -9,7 +9,7 @@ mod nearest;
 mod roster;
 
 pub use code::{bytes_of, width, Code};
-pub use differences::{add_share, differences};
+pub use differences::{add_share, differences, update_lanes};
 pub use field::{is_prime, Field};
 pub use lanes::{added, find_update, mends};
 pub use roster::{Event, History};
