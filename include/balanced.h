@@ -332,6 +332,59 @@ uint8_t balanced_weights(const uint8_t *record, size_t record_len,
                          uint32_t *counts, size_t counts_len);
 
 /*
+ * Bytes over any number of nodes.
+ *
+ * A record of kind 2 has bytes for symbols, and there n is 3, 5, 15, 17, 51, 85 or 255. Every n from 2 to 255 can be had with symbols of
+ * two bytes, which are the numbers below a prime. These calls carry any bytes in such symbols, in little more room: at most
+ * 1/255 more with a prime from 65,296 on. Bytes are taken two by two as words of 16 bits, the last of an odd number with a zero behind
+ * it; of each group of up to 255 words, with lesser primes fewer, the symbols are a mask, and then the words, each the exclusive or of the
+ * word and the mask. So what is carried is a list of symbols, which balanced_encode and every other call take. It is filled up with zeros where it
+ * does not fill the k * lanes symbols of a block.
+ *
+ * Records of kind 2 carry bytes as they are. Records of kind 3 with a prime below 34,816 and records of kind 1 carry none: BALANCED_CARRY,
+ * which is tested right after 1 to 5, for the lengths depend on it.
+ */
+
+/*
+ * How many bytes the symbols take that carry so many bytes.
+ *
+ *   bytes_len    how many bytes are to be carried; up to 2 to the power 62
+ *   carried_len  receives how many bytes the symbols take
+ *
+ * Returns 0 or one of 1 to 5, 8, 18.
+ */
+uint8_t balanced_carried_len(const uint8_t *record, size_t record_len,
+                             size_t bytes_len,
+                             size_t *carried_len);
+
+/*
+ * Carries bytes in symbols.
+ *
+ *   bytes    any bytes, read
+ *   symbols  written; symbols_len is what balanced_carried_len says for bytes_len
+ *
+ * Returns 0 or one of 1 to 5, 8, 18.
+ */
+uint8_t balanced_carry_in(const uint8_t *record, size_t record_len,
+                          const uint8_t *bytes, size_t bytes_len,
+                          uint8_t *symbols, size_t symbols_len);
+
+/*
+ * Reads the bytes that symbols carry.
+ *
+ *   symbols  read; symbols_len is what balanced_carried_len says for bytes_len
+ *   bytes    written: of symbols that balanced_carry_in wrote, the bytes that it read
+ *
+ * A group is read under whatever mask stands before it: a program may change one word of a group, as one symbol, where the new word under the mask
+ * is a symbol.
+ *
+ * Returns 0 or one of 1 to 5, 8, 11, 18.
+ */
+uint8_t balanced_carry_out(const uint8_t *record, size_t record_len,
+                           const uint8_t *symbols, size_t symbols_len,
+                           uint8_t *bytes, size_t bytes_len);
+
+/*
  * Rosters: which nodes are present.
  *
  * A roster is 256 bytes that the caller keeps. Byte j, for j from 0 to 254, is the mark of node j: 0 for an absent node,

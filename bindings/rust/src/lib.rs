@@ -38,9 +38,8 @@
 //! # Storage and stack
 //!
 //! A block of k·L symbols is stored as n·L. A symbol is a byte in kind 2, and there n is 3, 5, 15, 17, 51, 85 or 255: an image
-//! takes n/k times its size on all nodes together. Kind 3 has every n from 2 to 255; a symbol there is two bytes and carries
-//! one byte, or 15 bits with a prime from 32,768 on, so that an image takes 2·n/k or 16/15·n/k times its size. Putting bits
-//! into symbols is the caller's work.
+//! takes n/k times its size on all nodes together. Kind 3 has every n from 2 to 255; a symbol there is two bytes, and [`carry_in`]
+//! carries any bytes in such symbols, at 1/255 more room where the prime is 65,296 or above.
 //!
 //! No call allocates. A call takes less than 664 KiB of stack ([`Plan::recover`] the most): threads of Rust's standard library,
 //! which have 2 MiB, are large enough; a thread that is made with another size ([`std::thread::Builder::stack_size`]) needs
@@ -179,6 +178,10 @@ pub use lanes::{find_update, mends, Finding};
 pub use plan::Plan;
 pub use roster::Roster;
 pub use symbols::{symbols_from_bytes, symbols_to_bytes};
+
+// bytes over any number of nodes
+mod carry;
+pub use carry::{carried_len, carry_in, carry_out};
 
 /// The version of this crate and of the library that it belongs to.
 pub const VERSION: &str = env!("CARGO_PKG_VERSION");

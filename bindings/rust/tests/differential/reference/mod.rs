@@ -1,12 +1,14 @@
 //! The calls of the store once more, written from the description of the product alone, as plainly as possible: powers and
 //! logarithms for the field of 256 elements, every entry of the generator as a product, messages by elimination, words by
 //! interpolation, near words by Euclid's algorithm. Nothing here is shared with the library.
+mod carry;
 mod code;
 mod field;
 mod lanes;
 mod nearest;
 mod roster;
 
+pub use carry::{carried_len, carry_in, carry_out, mask_of};
 pub use code::{bytes_of, width, Code};
 pub use field::{is_prime, Field};
 pub use lanes::{added, find_update, mends};
