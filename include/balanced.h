@@ -384,6 +384,23 @@ uint8_t balanced_carry_out(const uint8_t *record, size_t record_len,
                            const uint8_t *symbols, size_t symbols_len,
                            uint8_t *bytes, size_t bytes_len);
 
+/* The length of the longest record. */
+#define BALANCED_RECORD 7
+
+/*
+ * A record with n nodes, any k of which give a message back, that carries bytes: kind 2 where n divides 255, else kind 3 with the prime
+ * that carries most. Every n from 2 to 255 and every k from 1 to n has one.
+ *
+ *   record      room for BALANCED_RECORD bytes: the first *record_len are written, the others are left as they are
+ *   room        BALANCED_RECORD, which is 7
+ *   record_len  receives the length of the record, 4 or 7
+ *
+ * Returns 0 or one of 4, 8.
+ */
+uint8_t balanced_choose(uint32_t n, uint32_t k,
+                        uint8_t *record, size_t room,
+                        uint32_t *record_len);
+
 /*
  * Rosters: which nodes are present.
  *

@@ -77,6 +77,7 @@ static uint8_t run_weights(const struct argument *a) { return balanced_weights(a
 static uint8_t run_carried_len(const struct argument *a) { return balanced_carried_len(a[0].at, a[1].value, a[2].value, a[3].at); }
 static uint8_t run_carry_in(const struct argument *a) { return balanced_carry_in(a[0].at, a[1].value, a[2].at, a[3].value, a[4].at, a[5].value); }
 static uint8_t run_carry_out(const struct argument *a) { return balanced_carry_out(a[0].at, a[1].value, a[2].at, a[3].value, a[4].at, a[5].value); }
+static uint8_t run_choose(const struct argument *a) { return balanced_choose(u32(a), u32(a + 1), a[2].at, a[3].value, a[4].at); }
 static uint8_t run_start(const struct argument *a) { return balanced_roster_start(a[0].at, a[1].value, a[2].at, a[3].value); }
 static uint8_t run_leave(const struct argument *a) { return balanced_roster_leave(a[0].at, a[1].value, a[2].at, a[3].value, u32(a + 4)); }
 static uint8_t run_rejoin(const struct argument *a) { return balanced_roster_rejoin(a[0].at, a[1].value, a[2].at, a[3].value, u32(a + 4)); }
@@ -165,6 +166,7 @@ static const struct call calls[] = {
     { "carried_len", run_carried_len, set_carried_bytes, { RECORD, { LENGTH, NULL, CARRIED, NULL }, { SIZES, &lent.size, 0, "carried_len" } } },
     { "carry_in", run_carry_in, set_carried_bytes, { RECORD, READ(one, CARRIED), WRITTEN(BYTES, two, CARRYING, "symbols") } },
     { "carry_out", run_carry_out, set_carrying_symbols, { RECORD, READ(two, CARRYING), WRITTEN(BYTES, one, CARRIED, "bytes") } },
+    { "choose", run_choose, NULL, { VALUE(N + 1), VALUE(K), WRITTEN(BYTES, one, BALANCED_RECORD, "record"), GIVES(first, "record_len") } },
     { "roster_start", run_start, NULL, { RECORD, WRITTEN(BYTES, one, BALANCED_ROSTER, "roster") } },
     { "roster_leave", run_leave, set_roster, { RECORD, WRITTEN(BYTES, one, BALANCED_ROSTER, "roster"), VALUE(LANE) } },
     { "roster_rejoin", run_rejoin, set_roster, { RECORD, WRITTEN(BYTES, one, BALANCED_ROSTER, "roster"), VALUE(TARGET) } },

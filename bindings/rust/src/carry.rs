@@ -1,4 +1,4 @@
-//! Any bytes over any number of nodes: bytes carried in symbols of two bytes.
+//! Any bytes over any number of nodes: bytes carried in symbols of two bytes, and a record for n and k that carries them.
 use crate::{sys, Error, Plan};
 
 // Each call lends slices and a local, which are not null, have the length beside them and do not overlap.
@@ -19,7 +19,7 @@ pub fn carried_len(record: &[u8], bytes: usize) -> Result<usize, Error> {
 /// use balanced::{Error, Plan};
 ///
 /// // six nodes, any five of which give the bytes back
-/// let plan = Plan::new(&[3, 255, 241, 65, 34, 6, 5])?;
+/// let plan = Plan::choose(6, 5)?;
 /// assert_eq!((plan.n(), plan.k(), plan.symbol_len()), (6, 5, 2));
 /// let image = b"any bytes at all, an odd number of them: \xff\xff\xff\xff";
 /// let mut symbols = vec![0; plan.carried_len(image.len())?];
@@ -67,7 +67,22 @@ pub fn carry_out(record: &[u8], symbols: &[u8], bytes: &mut [u8]) -> Result<(), 
     Error::check(number)
 }
 
+/// Writes a record with n nodes, any k of which give a message back, that carries bytes, and gives its length. `record` has seven bytes; those
+/// behind the record are left as they are. Every n from 2 to 255 and k from 1 to n has one; others meet [`Error::Size`].
+pub fn choose(n: u32, k: u32, record: &mut [u8]) -> Result<usize, Error> {
+    let mut len = 0;
+    let number = unsafe { sys::balanced_choose(n, k, record.as_mut_ptr(), record.len(), &mut len) };
+    Error::check(number).map(|()| len as usize)
+}
+
 impl Plan {
+    /// The plan of the record that [`choose`](crate::choose) gives.
+    pub fn choose(n: u32, k: u32) -> Result<Plan, Error> {
+        let mut record = [0; 7];
+        let len = choose(n, k, &mut record)?;
+        Plan::new(&record[..len])
+    }
+
     /// [`carried_len`](crate::carried_len) with this plan's record.
     pub fn carried_len(&self, bytes: usize) -> Result<usize, Error> {
         carried_len(self.record(), bytes)

@@ -39,7 +39,8 @@
 //!
 //! A block of k·L symbols is stored as n·L. A symbol is a byte in kind 2, and there n is 3, 5, 15, 17, 51, 85 or 255: an image
 //! takes n/k times its size on all nodes together. Kind 3 has every n from 2 to 255; a symbol there is two bytes, and [`carry_in`]
-//! carries any bytes in such symbols, at 1/255 more room where the prime is 65,296 or above.
+//! carries any bytes in such symbols, at 1/255 more room where the prime is 65,296 or above. [`Plan::choose`] gives a plan that carries
+//! bytes for any n and k.
 //!
 //! No call allocates. A call takes less than 664 KiB of stack ([`Plan::recover`] the most): threads of Rust's standard library,
 //! which have 2 MiB, are large enough; a thread that is made with another size ([`std::thread::Builder::stack_size`]) needs
@@ -181,7 +182,7 @@ pub use symbols::{symbols_from_bytes, symbols_to_bytes};
 
 // bytes over any number of nodes
 mod carry;
-pub use carry::{carried_len, carry_in, carry_out};
+pub use carry::{carried_len, carry_in, carry_out, choose};
 
 /// The version of this crate and of the library that it belongs to.
 pub const VERSION: &str = env!("CARGO_PKG_VERSION");

@@ -4,7 +4,7 @@ use crate::compare::{expected, number, Lent};
 use crate::damage;
 use crate::random::{shapes, Random};
 use crate::reference::{self, is_prime, Code, Field};
-use balanced::{sys, Plan};
+use balanced::{sys, Error, Plan};
 
 /// The length through the safe interface and through the C function, whose number is lent.
 fn carried_len(record: &[u8], bytes: usize) -> u8 {
@@ -199,6 +199,59 @@ fn long_lists() {
             assert!(back == bytes);
         }
     }
+}
+
+/// Every n and k has a record, of these n and k, that carries bytes; others have none.
+#[test]
+fn chosen() {
+    for n in 2..=255 {
+        for k in 1..=n {
+            let mut record = Lent::new(&[0xee; 7]);
+            let len = balanced::choose(n as u32, k as u32, record.slice()).unwrap();
+            let written = record.slice()[..len].to_vec();
+            let mut after = [&written[..], &[0xee; 7]].concat();
+            after.truncate(7);
+            assert!(record.holds(&after));
+            assert_eq!(&written[len - 2..], [n as u8, k as u8]);
+            if k == 1 || k % 50 == 0 || k == n {
+                let code = Code::of(&written).unwrap();
+                assert_eq!((code.n, code.k), (n, k));
+                match code.field {
+                    Field::Bytes { .. } => assert_eq!((255 % n, len), (0, 4)),
+                    Field::Prime(p) => assert_eq!((255 % n == 0, len, p), (false, 7, best_prime(n))),
+                }
+            }
+        }
+    }
+    let mut random = Random::new(94);
+    let mut seen = [0; 19];
+    for _ in 0..20_000 {
+        let (n, k) = (random.below(258) as u32, random.below(258) as u32);
+        let huge = [n, k, n + 256, k + 65_536, u32::MAX];
+        let [n, k] = [
+            *random.pick(&[n, n, n, huge[0], huge[2], huge[4]]),
+            *random.pick(&[k, k, k, k % 3, huge[3], huge[4]]),
+        ];
+        let before = vec![0xee; *random.pick(&[7, 7, 7, 7, 0, 4, 6, 8])];
+        let expect = if !(2..=255).contains(&n) || k == 0 || k > n {
+            4
+        } else if before.len() != 7 {
+            8
+        } else {
+            0
+        };
+        let (mut record, mut len) = (Lent::new(&before), 0x5a5a_5a5a);
+        let got = unsafe { sys::balanced_choose(n, k, record.slice().as_mut_ptr(), before.len(), &mut len) };
+        assert_eq!(got, expect, "choose {n} {k} {}", before.len());
+        assert!(
+            got == 0 || len == 0x5a5a_5a5a && record.holds(&before),
+            "choose {n} {k} {}",
+            before.len()
+        );
+        seen[got as usize] += 1;
+    }
+    damage::judge("choose", &seen, &[0, 4, 8]);
+    assert_eq!(Plan::choose(256, 1), Err(Error::Size));
 }
 
 #[test]
