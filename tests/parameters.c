@@ -64,6 +64,9 @@ static uint8_t run_find_update(const struct argument *a) {
 static uint8_t run_correct(const struct argument *a) {
     return balanced_correct(a[0].at, a[1].value, u32(a + 2), a[3].at, a[4].value, a[5].at);
 }
+static uint8_t run_correct_listed(const struct argument *a) {
+    return balanced_correct_listed(a[0].at, a[1].value, u32(a + 2), a[3].at, a[4].value, a[5].at, a[6].value, a[7].at, a[8].value, a[9].at, a[10].value, a[11].at);
+}
 static uint8_t run_mends(const struct argument *a) {
     return balanced_mends(a[0].at, a[1].value, a[2].at, a[3].value, a[4].at, a[5].value, a[6].at, a[7].value, a[8].at);
 }
@@ -117,6 +120,18 @@ static void damage(size_t place) {
 }
 static void set_damaged(void) { damage(LANE * N + 3); }
 static void set_one_damaged(void) { damage(3); }
+/* two nodes more than are needed, one of which is wrong in half of the lanes and another in one lane */
+enum { LISTED = K + 2 };
+static void set_some_wrong(void) {
+    set_shares();
+    memcpy(lent.three, lent.one, ROOM);
+    for (unsigned i = 0; i < LISTED; i++) lent.one[i] = (uint8_t)((7 * i + 3) % N);
+    for (unsigned t = 0; t < LANES; t++)
+        for (unsigned i = 0; i < LISTED; i++) memcpy(lent.two + W * (t * LISTED + i), lent.three + W * (t * N + lent.one[i]), W);
+    for (unsigned t = 0; t < LANES; t += 2) lent.two[W * (t * LISTED + 5) + 1] ^= 1;
+    lent.two[W * (LISTED + 8) + 1] ^= 1;
+    memset(lent.three, 0, ROOM);
+}
 /* a message of one symbol: few enough messages to count */
 static void set_small(void) { lent.record[RECORD_LEN - 1] = 1; }
 static void set_roster(void) {
@@ -143,6 +158,7 @@ static const struct call calls[] = {
     { "belongs", run_belongs, set_damaged, { RECORD, VALUE(LANES), READ(one, W * N * LANES), GIVES(first, "first_wrong") } },
     { "find_update", run_find_update, set_two_lanes, { RECORD, READ(one, W * N), READ(two, W * N), GIVES(first, "answer"), GIVES(second, "symbol"), GIVES(third, "amount") } },
     { "correct", run_correct, set_damaged, { RECORD, VALUE(LANES), WRITTEN(BYTES, one, W * N * LANES, "shares"), GIVES(first, "altered") } },
+    { "correct_listed", run_correct_listed, set_some_wrong, { RECORD, VALUE(LANES), READ(one, LISTED), READ(two, W * LISTED * LANES), WRITTEN(BYTES, three, W * K * LANES, "message"), WRITTEN(WORDS, first, LISTED, "wrong"), GIVES(second, "altered") } },
     { "mends", run_mends, set_one_damaged, { RECORD, READ(one, W * N), WRITTEN(BYTES, two, N, "nodes"), WRITTEN(BYTES, three, W * N, "symbols"), GIVES(first, "count") } },
     { "to_lanes", run_to_lanes, set_plain, { RECORD, VALUE(LANES), READ(one, W * N * LANES), WRITTEN(BYTES, two, W * N * LANES, "by_lane") } },
     { "to_nodes", run_to_nodes, set_plain, { RECORD, VALUE(LANES), READ(one, W * N * LANES), WRITTEN(BYTES, two, W * N * LANES, "by_node") } },

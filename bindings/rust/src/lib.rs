@@ -168,6 +168,7 @@
 mod calls;
 mod error;
 mod lanes;
+mod listed;
 mod plan;
 mod roster;
 mod symbols;
@@ -176,6 +177,7 @@ pub mod sys;
 pub use calls::{belongs, correct, encode, rebuild, recover, to_lanes, to_nodes, update, weights};
 pub use error::Error;
 pub use lanes::{find_update, mends, Finding};
+pub use listed::correct_listed;
 pub use plan::Plan;
 pub use roster::Roster;
 pub use symbols::{symbols_from_bytes, symbols_to_bytes};

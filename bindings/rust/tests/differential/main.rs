@@ -4,6 +4,7 @@ mod compare;
 mod corrections;
 mod damage;
 mod findings;
+mod listed;
 mod mends;
 mod notebook;
 mod plans;

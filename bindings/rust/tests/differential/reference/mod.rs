@@ -4,12 +4,14 @@
 mod code;
 mod field;
 mod lanes;
+mod listed;
 mod nearest;
 mod roster;
 
 pub use code::{bytes_of, width, Code};
 pub use field::{is_prime, Field};
 pub use lanes::{added, find_update, mends};
+pub use listed::correct_listed;
 pub use roster::{Event, History};
 
 pub fn encode(record: &[u8], lanes: u32, message: &[u8], out: usize) -> Result<Vec<u8>, u8> {
