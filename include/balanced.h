@@ -440,6 +440,33 @@ uint8_t balanced_listed_to_nodes(const uint8_t *record, size_t record_len,
                                  uint8_t *by_node, size_t by_node_len);
 
 /*
+ * Recovers a message from the shares of s listed nodes, any s from k to n, of which some may be wrong: lost and wrong together. In each lane
+ * it is the one message whose encoding differs from the listed symbols at no more than (s-k)/2 of them, rounded down. There is at most
+ * one such message.
+ *
+ *   nodes      s bytes, read: s different node numbers below n, in any order; nodes_len is s
+ *   shares     s * lanes symbols, read: in each lane what those nodes hold, in the order of the list: node i of the list of lane t at
+ *              t * s + i
+ *   message    k * lanes symbols, written
+ *   wrong      s numbers, written: for each place of the list in how many lanes it held another symbol than the message's encoding does
+ *   wrong_len  s: the number of numbers, not of bytes
+ *   altered    receives the sum of these numbers
+ *
+ * If some lane has no message that near, the call returns BALANCED_FAR and nothing is written. With k nodes there always is one, and it is what
+ * balanced_recover gives; with k+1 nodes every lane must be right. With all n nodes it is the message of what balanced_correct makes of the
+ * block. A lane with more than (s-k)/2 wrong symbols may be near to another message, which then is given.
+ *
+ * Returns 0 or one of 1 to 5, 7 to 11, 14.
+ */
+uint8_t balanced_correct_listed(const uint8_t *record, size_t record_len,
+                                uint32_t lanes,
+                                const uint8_t *nodes, size_t nodes_len,
+                                const uint8_t *shares, size_t shares_len,
+                                uint8_t *message, size_t message_len,
+                                uint32_t *wrong, size_t wrong_len,
+                                uint32_t *altered);
+
+/*
  * Counts the messages by the nodes that hold something other than zero: counts[w] is the number of messages of k symbols
  * whose encoding has just w nodes that are not zero, the Hamming weight w. counts[0] is 1, for the message of zeros,
  * counts[w] is 0 for w from 1 to n-k, and all counts together are q to the power k, where q is the number of symbols.

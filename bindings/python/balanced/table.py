@@ -65,6 +65,9 @@ CALLS: dict[str, tuple[Parameter, ...]] = {
     "differences": (RECORD, LANES, Number("symbol"), read("old_symbols"), read("new_symbols"), written("differences")),
     "add_share": (RECORD, LANES, read("difference"), written("share")),
     "weights": (RECORD, written("counts", c_uint32)),
+    "correct_listed": (
+        RECORD, LANES, NODES, read("shares"), written("message"), written("wrong", c_uint32), Result("altered"),
+    ),
     "repair_plan": (RECORD, Number("missing"), Result("bits"), Result("spare")),
     "repair_bits": (RECORD, LANES, Number("node"), Number("target"), read("missing"), read("share"), written("bits")),
     "repair_share": (RECORD, LANES, Number("target"), read("missing"), read("rows"), written("share")),
