@@ -46,8 +46,18 @@ def shares_of(plan, layout, batch, data, room):
 
 
 def listed(plan, lanes, parts):
-    """The shares of k listed nodes lane after lane, as the library takes them."""
-    return plan.listed_to_lanes(lanes, b"".join(parts))
+    """The shares of listed nodes lane after lane, as the library takes them: its calls move k of them, or all n."""
+    count = len(parts)
+    if count == plan.k:
+        return plan.listed_to_lanes(lanes, b"".join(parts))
+    if count == plan.n:
+        return plan.to_lanes(lanes, b"".join(parts))
+    width, step = plan.symbol_len, count * plan.symbol_len
+    by_lane = bytearray(step * lanes)
+    for i, part in enumerate(parts):
+        for byte in range(width):
+            by_lane[i * width + byte::step] = part[byte::width] if width > 1 else part
+    return by_lane
 
 
 def add(plan, difference, symbols):

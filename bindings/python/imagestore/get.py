@@ -18,9 +18,9 @@ def blocks_of(store, reader, batch):
     return parts, total
 
 
-def copy_out(store, session, seen, write, exclude=()):
+def copy_out(store, session, seen, write, untold=None):
     """Hands the image to `write`, part after part; gives the reader, and whether the digest is that of the header."""
-    reader, total, done = Reader(store, session, seen, exclude), 0, 0
+    reader, total, done = Reader(store, session, seen, untold=untold), 0, 0
     batches = seen.layout.batches(pipeline.batch_blocks(seen.layout))
     for parts, part in pipeline.in_order(lambda batch: blocks_of(store, reader, batch), batches, store.threads):
         total += part
@@ -32,7 +32,7 @@ def copy_out(store, session, seen, write, exclude=()):
 
 
 def read_right(store, session, seen, target):
-    """Reads the image; where every checksum is right and the image is not, once more without the nodes that are found wrong."""
+    """Reads the image; where every checksum is right and the image is not, once more without the blocks that are found wrong."""
     reader, right = copy_out(store, session, seen, target.write)
     wrong = {node: reader.said(node) for node in reader.faults}
     if right:

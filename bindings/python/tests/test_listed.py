@@ -1,7 +1,7 @@
 """Lost and wrong together, on every build, against tests/reference: every number of listed nodes, damage up to the bound and beyond."""
 from balanced import ERRORS, Plan
 
-from .calling import CallCase, block, rounds
+from .calling import CallCase, rounds
 from .inputs import sometimes, spoilt, symbols
 from .reference import code, listed
 
@@ -21,8 +21,8 @@ class Listed(CallCase):
 
     def test_correct_listed(self):
         for random, record, plan, known in rounds(41, 300, most=17):
-            lanes, shares = block(random, record, plan, known)
-            s = random.randint(plan.k, plan.n)
+            lanes, s = random.randint(1, 4), random.randint(plan.k, plan.n)
+            shares = code.encode(record, lanes, symbols(random, known, plan.k * lanes), plan.shares_len(lanes))[1]
             nodes = random.sample(range(plan.n), s)
             held = self.damaged(random, plan, known, code.listed_shares(known, shares, nodes), s)
             held = spoilt(random, known, sometimes(random, symbols(random, known, s * lanes), held))
