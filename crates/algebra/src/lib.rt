@@ -1,1 +1,2 @@
 // Theory only: linear algebra and polynomials over every field.
+#![tactic(auto)]

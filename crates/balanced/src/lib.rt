@@ -1,4 +1,6 @@
 // The calls of the balanced image store; those of a roster are methods of `Roster`. Every call takes the record itself; none has a precondition.
+#![tactic(auto)]
+
 pub use belongs::block_belongs;
 pub use carry::{CarriedLen, carried_len, carry_in, carry_out};
 pub use choose::{Chosen, choose_record};

@@ -4,8 +4,7 @@ ghost use Rattle.balanced_c.specs.RowChanges.{DifferencesGives, AddGives};
 use crate::number_of;
 
 // What each node adds, node after node, where the row of a symbol changes from old to new in every lane.
-#[unsafe(no_mangle)]
-pub extern "C" fn balanced_differences(
+pub fn balanced_differences(
     rec: &[u8],
     lanes: u32,
     symbol: u32,
@@ -19,13 +18,7 @@ pub extern "C" fn balanced_differences(
 }
 
 // A node's share with its difference added.
-#[unsafe(no_mangle)]
-pub extern "C" fn balanced_add_share(
-    rec: &[u8],
-    lanes: u32,
-    difference: &[u8],
-    share: &mut [u8],
-) -> u8
+pub fn balanced_add_share(rec: &[u8], lanes: u32, difference: &[u8], share: &mut [u8]) -> u8
     ensures { AddGives rec.now lanes difference.now share.old share.new result }
 {
     number_of(balanced::add_share(rec, lanes, difference, share))

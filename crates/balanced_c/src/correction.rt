@@ -4,13 +4,7 @@ ghost use Rattle.balanced_c.specs.Corrections.{CorrectGives};
 use correct::Correction;
 
 // Each lane becomes the word of the code nearest to it; `altered` receives how many symbols were altered.
-#[unsafe(no_mangle)]
-pub extern "C" fn balanced_correct(
-    rec: &[u8],
-    lanes: u32,
-    shares: &mut [u8],
-    altered: &mut u32,
-) -> u8
+pub fn balanced_correct(rec: &[u8], lanes: u32, shares: &mut [u8], altered: &mut u32) -> u8
     ensures { CorrectGives rec.now lanes shares.old altered.old shares.new altered.new result }
 {
     match balanced::correct_block(rec, lanes, shares) {

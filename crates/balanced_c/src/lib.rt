@@ -1,4 +1,6 @@
 // The interface for C: each call of the store under a plain name. A call returns 0 or the number that turned it away, and hands its other values over through what it is lent.
+#![tactic(auto)]
+
 ghost use Rattle.std.specs.Prelude.{◌≡◌, length};
 ghost use Rattle.lists.specs.Choice.{first_of};
 ghost use Rattle.blocks.specs.Inner.Answers.{outcome_number};
@@ -13,7 +15,19 @@ mod rosters;
 mod version;
 
 use blocks::{Membership, Outcome, Update};
+pub use changes::{balanced_add_share, balanced_differences};
+pub use correction::balanced_correct;
+pub use one_lane::{balanced_find_update, balanced_mends};
 use plan::Plan;
+pub use rearranging::{
+    balanced_listed_to_lanes, balanced_listed_to_nodes, balanced_to_lanes, balanced_to_nodes,
+};
+pub use repairs::{balanced_repair_bits, balanced_repair_plan, balanced_repair_share};
+pub use rosters::{
+    balanced_roster_job, balanced_roster_leave, balanced_roster_lowest, balanced_roster_rejoin,
+    balanced_roster_start,
+};
+pub use version::balanced_version;
 
 // The number that an answer stands for, 0 where the call was accepted.
 fn number_of(answer: Outcome) -> u8
@@ -72,8 +86,7 @@ fn put_base(plan: Plan, base: &mut [u16])
 }
 
 // The plan of a record: n, k, d, k·d / n rounded down and up; the shifts; the first nodes; the base word.
-#[unsafe(no_mangle)]
-pub extern "C" fn balanced_plan(
+pub fn balanced_plan(
     rec: &[u8],
     numbers: &mut [u8],
     shifts: &mut [u8],
@@ -100,16 +113,14 @@ pub extern "C" fn balanced_plan(
 }
 
 // Encode: the shares of all nodes.
-#[unsafe(no_mangle)]
-pub extern "C" fn balanced_encode(rec: &[u8], lanes: u32, message: &[u8], shares: &mut [u8]) -> u8
+pub fn balanced_encode(rec: &[u8], lanes: u32, message: &[u8], shares: &mut [u8]) -> u8
     ensures { EncodeGives rec.now lanes message.now shares.old shares.new result }
 {
     number_of(balanced::encode_block(rec, lanes, message, shares))
 }
 
 // Update: one symbol of one lane; `altered` receives how many nodes were altered.
-#[unsafe(no_mangle)]
-pub extern "C" fn balanced_update(
+pub fn balanced_update(
     rec: &[u8],
     lanes: u32,
     symbol: u32,
@@ -131,8 +142,7 @@ pub extern "C" fn balanced_update(
 }
 
 // Recover: the message, from the shares of the listed nodes.
-#[unsafe(no_mangle)]
-pub extern "C" fn balanced_recover(
+pub fn balanced_recover(
     rec: &[u8],
     lanes: u32,
     nodes: &[u8],
@@ -145,8 +155,7 @@ pub extern "C" fn balanced_recover(
 }
 
 // Rebuild: the target's share, from the shares of the listed nodes.
-#[unsafe(no_mangle)]
-pub extern "C" fn balanced_rebuild(
+pub fn balanced_rebuild(
     rec: &[u8],
     lanes: u32,
     nodes: &[u8],
@@ -160,13 +169,7 @@ pub extern "C" fn balanced_rebuild(
 }
 
 // Belongs: `first_wrong` receives the smallest lane that is no word of the code, or the number of lanes.
-#[unsafe(no_mangle)]
-pub extern "C" fn balanced_belongs(
-    rec: &[u8],
-    lanes: u32,
-    shares: &[u8],
-    first_wrong: &mut u32,
-) -> u8
+pub fn balanced_belongs(rec: &[u8], lanes: u32, shares: &[u8], first_wrong: &mut u32) -> u8
     ensures { BelongsGives rec.now lanes shares.now first_wrong.old first_wrong.new result }
 {
     match balanced::block_belongs(rec, lanes, shares) {
@@ -183,8 +186,7 @@ pub extern "C" fn balanced_belongs(
 }
 
 // How many messages have a word with w nodes that are not zero, w from 0 to n.
-#[unsafe(no_mangle)]
-pub extern "C" fn balanced_weights(rec: &[u8], counts: &mut [u32]) -> u8
+pub fn balanced_weights(rec: &[u8], counts: &mut [u32]) -> u8
     ensures { WeightsGive rec.now counts.old counts.new result }
 {
     number_of(balanced::weight_counts(rec, counts))

@@ -4,8 +4,7 @@ ghost use Rattle.balanced_c.specs.Lanes.{FindGives, MendsGive};
 use balanced::{Finding, Mending};
 
 // Which update it was: `answer` receives 0 where the lanes are equal, 1 where an update was found and 2 where there is none; `symbol` and `amount` receive what was found, and 0 otherwise.
-#[unsafe(no_mangle)]
-pub extern "C" fn balanced_find_update(
+pub fn balanced_find_update(
     rec: &[u8],
     before: &[u8],
     after: &[u8],
@@ -39,8 +38,7 @@ pub extern "C" fn balanced_find_update(
 }
 
 // Every node and new symbol whose single change makes the lane a word, lowest node first: `count` receives how many; places past them hold what they held.
-#[unsafe(no_mangle)]
-pub extern "C" fn balanced_mends(
+pub fn balanced_mends(
     rec: &[u8],
     lane: &[u8],
     nodes: &mut [u8],

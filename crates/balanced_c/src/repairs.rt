@@ -5,13 +5,7 @@ use crate::number_of;
 use balanced::RepairPlan;
 
 // The plan of a repair with so many nodes missing beside the target: `bits` receives how many bits of a symbol each node sends, `spare` how many further nodes may be missing.
-#[unsafe(no_mangle)]
-pub extern "C" fn balanced_repair_plan(
-    rec: &[u8],
-    missing: u32,
-    bits: &mut u32,
-    spare: &mut u32,
-) -> u8
+pub fn balanced_repair_plan(rec: &[u8], missing: u32, bits: &mut u32, spare: &mut u32) -> u8
     ensures { RepairPlanGives rec.now missing bits.old spare.old bits.new spare.new result }
 {
     match balanced::repair_plan(rec, missing) {
@@ -25,8 +19,7 @@ pub extern "C" fn balanced_repair_plan(
 }
 
 // What a node sends of its share to the target.
-#[unsafe(no_mangle)]
-pub extern "C" fn balanced_repair_bits(
+pub fn balanced_repair_bits(
     rec: &[u8],
     lanes: u32,
     node: u32,
@@ -41,8 +34,7 @@ pub extern "C" fn balanced_repair_bits(
 }
 
 // The target's share, from what the other nodes sent.
-#[unsafe(no_mangle)]
-pub extern "C" fn balanced_repair_share(
+pub fn balanced_repair_share(
     rec: &[u8],
     lanes: u32,
     target: u32,

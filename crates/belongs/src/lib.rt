@@ -1,4 +1,6 @@
 // Belongs: whether every lane of a block is a word of the code.
+#![tactic(auto)]
+
 ghost use Rattle.generator.specs.Records.{Sound};
 ghost use Rattle.layout.specs.Layout.{share_layout};
 ghost use Rattle.belongs.specs.Promise.{belongs_fault, BelongsPromise, BelongsSays};

@@ -1,5 +1,7 @@
 // Products of a matrix of weights and the lanes of a block, 64 lanes at a time, over every kind of field: the lanes stand row after row or
 // lane after lane, and the sums are written so, or told by marks.
+#![tactic(auto)]
+
 ghost use Rattle.std.specs.Prelude.{◌≡◌, List, ℕ, ◌+◌, ◌*◌, ◌≤◌, ◌<◌, length};
 ghost use Rattle.field.specs.Kinds.{modulus};
 ghost use Rattle.tile_products.specs.Inner.Matrices.{Begun};
@@ -13,7 +15,7 @@ mod marking;
 mod storing;
 
 // From rows of symbols to lanes of sums, from lanes to rows, or from lanes to a mark for each lane with a sum that is not 0.
-#[derive(Drop)]
+#[derive(Clone, Copy)]
 pub enum Way {
     RowsToLanes,
     LanesToRows,
@@ -21,7 +23,7 @@ pub enum Way {
 }
 
 // So many sums of the symbols in so many rows of each lane.
-#[derive(Drop)]
+#[derive(Clone, Copy)]
 pub struct Product {
     pub way: Way,
     pub field: Field,

@@ -1,5 +1,7 @@
 // Any bytes carried in the symbols of a record, and read again. Symbols of the field of 256 elements are bytes. In symbols of two bytes
 // below p words of 16 binary digits go in groups, each group behind a mask under which all of them are symbols.
+#![tactic(auto)]
+
 ghost use Rattle.std.specs.Prelude.{◌≡◌, false, ◌≤◌, ◌<◌, length};
 ghost use Rattle.generator.specs.Records.{Sound};
 ghost use Rattle.carrying.specs.Carrying.{carries_none, carried_bytes, bytes_back, carried_length};
@@ -14,7 +16,7 @@ mod lengths;
 mod masks;
 
 // The answer of `carried_len`: so many bytes, or the number that turned it away.
-#[derive(Drop)]
+#[derive(Clone, Copy)]
 pub enum CarriedLen {
     Bytes(usize),
     Refused(u8),

@@ -1,4 +1,6 @@
 // A record for any number of nodes from 2 to 255 that carries bytes: bytes as symbols where n divides 255, else the largest prime that fits.
+#![tactic(auto)]
+
 ghost use Rattle.std.specs.Prelude.{◌≡◌, [], ◌∷◌, ◌++◌, ◌/◌, ◌%◌, ◌≤◌, length, drop};
 ghost use Rattle.choose.specs.Promise.{chosen_record, asked_bad, choose_fault, ChooseSays};
 
@@ -7,7 +9,7 @@ use refusals::{first, length_bad};
 mod table;
 
 // The answer of `choose_record`: how many bytes the record has, or the number that turned the call away.
-#[derive(Drop)]
+#[derive(Clone, Copy)]
 pub enum Chosen {
     Bytes(u8),
     Refused(u8),

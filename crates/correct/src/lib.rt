@@ -1,4 +1,6 @@
 // Setting a block right: each lane becomes the word of the code that differs from it at no more than (n - k) / 2 nodes.
+#![tactic(auto)]
+
 ghost use Rattle.std.specs.Prelude.{◌≡◌};
 ghost use Rattle.lists.specs.Choice.{when};
 ghost use Rattle.layout.specs.Layout.{share_layout};
@@ -17,7 +19,7 @@ mod lane;
 use lane::{is_near, write_nearest};
 
 // How many symbols were altered, or the number that turns the call away.
-#[derive(Drop)]
+#[derive(Clone, Copy)]
 pub enum Correction {
     Altered(u32),
     Refused(u8),

@@ -1,4 +1,6 @@
 // One lane set right: the word of the code that differs from it at no more than (n - k) / 2 nodes.
+#![tactic(auto)]
+
 ghost use Rattle.std.specs.Prelude.{◌≡◌, false, ◌<◌, ◌≤◌, length};
 ghost use Rattle.lists.specs.Counting.{differ};
 ghost use Rattle.lists.specs.Padded.{padded};
@@ -24,7 +26,7 @@ use locator::locate;
 use roots::{Roots, find_roots};
 
 // A lane set right and zeros after it, the number of symbols altered, and whether a word is near enough; if not, the lane as it was and 0.
-#[derive(Drop)]
+#[derive(Clone, Copy)]
 pub struct Corrected {
     pub lane: [u16; 255],
     pub altered: usize,

@@ -27,7 +27,7 @@ fn value(field: Field, tables: &Tables, coefficients: &[u16], x: u32) -> u32
 }
 
 // Listed nodes, rising, with zeros after them, and how many they are.
-#[derive(Drop)]
+#[derive(Clone, Copy)]
 pub struct Roots {
     pub nodes: [u8; 255],
     pub count: usize,

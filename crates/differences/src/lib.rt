@@ -1,4 +1,6 @@
 // Where one row of a message changes in every lane: what each node has to add to its share, and a node's share with that added.
+#![tactic(auto)]
+
 ghost use Rattle.std.specs.Prelude.{◌≡◌, ◌*◌, ◌≤◌, length};
 ghost use Rattle.generator.specs.Records.{Sound};
 ghost use Rattle.differences.specs.Promise.{differences_fault, add_fault, DifferencesPromise, AddPromise, DifferencesSays, AddSays};

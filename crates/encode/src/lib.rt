@@ -1,4 +1,6 @@
 // Encode: the shares of all nodes, each lane encoded by itself. Lanes are encoded 64 at a time, as rows of a tile.
+#![tactic(auto)]
+
 ghost use Rattle.std.specs.Prelude.{◌≡◌, ◌+◌, ◌*◌, ◌%◌, ◌≤◌, ◌<◌, length, get_or};
 ghost use Rattle.layout.specs.Layout.{lane_after_lane, share_layout};
 ghost use Rattle.layout.specs.Width.{symbols_of, bytes_of};

@@ -6,7 +6,7 @@ ghost use Rattle.field.specs.Tables.{powers_in, logarithms_in, AreTables};
 
 use crate::tables::{Tables, constant_tables};
 
-#[derive(Drop)]
+#[derive(Clone, Copy)]
 pub struct Gf256 {}
 
 impl Gf256 {

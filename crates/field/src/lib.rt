@@ -1,4 +1,6 @@
 // The two kinds of field, and the type that is one or the other. Symbols are numbers below the field's size.
+#![tactic(auto)]
+
 ghost use Rattle.std.specs.Prelude.{◌≡◌, true, ◌&&◌, ◌≤◌, ◌<◌, eqb, leb};
 ghost use Rattle.field.specs.Fields.{is_field, size_of, add, sub, mul, power, inverse, order_of};
 ghost use Rattle.field.specs.Kinds.{modulus, usable};
@@ -13,7 +15,7 @@ pub use gf256::Gf256;
 pub use prime::{PrimeField, is_prime};
 pub use tables::{Tables, constant_tables};
 
-#[derive(Drop)]
+#[derive(Clone, Copy)]
 pub enum Field {
     Prime(PrimeField),
     Binary(Gf256),

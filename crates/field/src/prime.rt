@@ -4,7 +4,7 @@ ghost use Rattle.field.specs.Primes.{is_prime};
 ghost use Rattle.field.specs.Fields.{add, sub, mul, inverse, order_of};
 ghost use Rattle.field.specs.Kinds.{prime_of};
 
-#[derive(Drop)]
+#[derive(Clone, Copy)]
 pub struct PrimeField {
     pub p: u32,
 }

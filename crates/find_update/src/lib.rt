@@ -1,4 +1,6 @@
 // Which update was it: the symbol and the amount that lead from one lane to another.
+#![tactic(auto)]
+
 ghost use Rattle.std.specs.Prelude.{◌≡◌, true, ◌<◌};
 ghost use Rattle.field.specs.Kinds.{usable};
 ghost use Rattle.field.specs.Tables.{AreTables};
@@ -18,7 +20,7 @@ mod compare;
 mod rows;
 
 // The answer: the lanes are equal, the symbol and the amount that was added to it, no single update, or the number that turned the call away.
-#[derive(Drop)]
+#[derive(Clone, Copy)]
 pub enum Finding {
     Unchanged,
     Added(u32, u32),

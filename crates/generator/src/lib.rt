@@ -1,7 +1,9 @@
 // What a record holds. Everything else here is theory: the generator, its codewords, and what holds of every accepted record.
+#![tactic(auto)]
+
 use field::Field;
 
-#[derive(Drop)]
+#[derive(Clone, Copy)]
 pub struct Header {
     pub field: Field,
     pub root: u32,
@@ -10,7 +12,7 @@ pub struct Header {
 }
 
 // A record that was read: what it holds, or the number that turned it away.
-#[derive(Drop)]
+#[derive(Clone, Copy)]
 pub enum Record {
     Holds(Header),
     Meets(u8),

@@ -1,4 +1,6 @@
 // Operations over the lanes of slices: loops with no table, which the compiler turns into vector instructions.
+#![tactic(auto)]
+
 ghost use Rattle.std.specs.Prelude.{◌≡◌, ℕ, ◌<◌, ◌&&◌, length, nat_lt};
 ghost use Rattle.lists.specs.Numbers.{all_below};
 ghost use Rattle.lists.specs.Padded.{zeros};

@@ -1,4 +1,6 @@
 // Whether a lane is stale for an update: whether it is a word of the code whose message holds the old symbol.
+#![tactic(auto)]
+
 ghost use Rattle.std.specs.Prelude.{◌≡◌, true, not, ◌<◌, length};
 ghost use Rattle.lists.specs.Choice.{first_of, when};
 ghost use Rattle.lists.specs.Numbers.{all_below};

@@ -1,1 +1,2 @@
 // Theory only: definitions and laws of lists and counts.
+#![tactic(auto)]

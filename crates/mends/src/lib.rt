@@ -1,4 +1,6 @@
 // The single changes that make a lane a word of the code.
+#![tactic(auto)]
+
 ghost use Rattle.std.specs.Prelude.{◌≡◌, true, ◌*◌, length};
 ghost use Rattle.field.specs.Kinds.{usable};
 ghost use Rattle.generator.specs.Records.{width, Sound};
@@ -13,7 +15,7 @@ use refusals::{first, lane_length_bad, length_bad, symbols_bad};
 mod changes;
 
 // The answer: how many changes are listed, or the number that turned the call away.
-#[derive(Drop)]
+#[derive(Clone, Copy)]
 pub enum Mending {
     Listed(u32),
     Refused(u8),

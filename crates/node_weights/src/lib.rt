@@ -1,4 +1,6 @@
 // The weights by which listed nodes give back a symbol of the message or another node.
+#![tactic(auto)]
+
 ghost use Rattle.std.specs.Prelude.{◌≡◌, true, ◌<◌, ◌≤◌, length};
 ghost use Rattle.field.specs.Fields.{size_of};
 ghost use Rattle.field.specs.Kinds.{modulus, usable};
@@ -17,7 +19,7 @@ use generator::Header;
 use interpolation::{division, lagrange, polynomials, powers};
 
 // Lagrange's basis of listed points: the points, the scales of the basis polynomials, and the coefficients of the product polynomial; zeros after each list.
-#[derive(Drop)]
+#[derive(Clone, Copy)]
 pub struct Basis {
     pub points: [u16; 255],
     pub scales: [u16; 255],
@@ -25,7 +27,7 @@ pub struct Basis {
 }
 
 // What is computed once for a list of nodes: the basis of the nodes' points, that of the rows' points, and 1 over the coefficients of the base polynomial.
-#[derive(Drop)]
+#[derive(Clone, Copy)]
 pub struct Setup {
     pub nodes: Basis,
     pub shifts: Basis,

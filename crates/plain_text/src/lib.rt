@@ -1,4 +1,6 @@
 // The plain layout of a record's code as text: what each node multiplies the symbols of the message by.
+#![tactic(auto)]
+
 ghost use Rattle.std.specs.Prelude.{◌≡◌, ◌+◌, ◌*◌, ◌≤◌, ◌<◌, length};
 ghost use Rattle.lists.specs.Rows.{range};
 ghost use Rattle.lists.specs.Padded.{zeros, padded};

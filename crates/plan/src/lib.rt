@@ -1,4 +1,6 @@
 // Plans: the numbers, the shifts, the first nodes and the base word that a record stands for.
+#![tactic(auto)]
+
 ghost use Rattle.std.specs.Prelude.{◌≡◌};
 ghost use Rattle.lists.specs.Padded.{padded};
 ghost use Rattle.generator.specs.Records.{Sound};
@@ -15,7 +17,7 @@ pub use base::fill_base;
 pub use entries::{entry, entry_at};
 
 // A plan; all places hold 0 beside a number. `low` and `high` are k·d / n rounded down and up.
-#[derive(Drop)]
+#[derive(Clone, Copy)]
 pub struct Plan {
     pub number: u8,
     pub n: u8,

@@ -1,4 +1,6 @@
 // Shares that stand node after node, put lane after lane, and back: those of all nodes, or of k listed ones. Symbols are moved, not judged.
+#![tactic(auto)]
+
 ghost use Rattle.std.specs.Prelude.{◌≡◌, length};
 ghost use Rattle.lists.specs.Choice.{pick};
 ghost use Rattle.layout.specs.Layout.{row_after_row, lane_after_lane};

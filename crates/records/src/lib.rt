@@ -1,4 +1,6 @@
 // Records as they are read: what one holds, or the lowest number that turns it away.
+#![tactic(auto)]
+
 ghost use Rattle.std.specs.Prelude.{◌≡◌, true, ◌+◌, ◌*◌, ◌≤◌, ◌<◌, length, get_or};
 ghost use Rattle.field.specs.Kinds.{usable};
 ghost use Rattle.generator.specs.Records.{prime_in, size_bad, root_bad, header_fault, judged, record_of};

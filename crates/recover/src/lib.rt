@@ -1,4 +1,6 @@
 // Recover and Rebuild: the message, or what one node holds, from the shares of any k nodes.
+#![tactic(auto)]
+
 ghost use Rattle.std.specs.Prelude.{length};
 ghost use Rattle.layout.specs.Layout.{share_layout};
 ghost use Rattle.generator.specs.Records.{Sound};

@@ -1,4 +1,6 @@
 // The inverse of the encoding at listed nodes, as lists of weights, and the message by it. Each entry is a sum over the terms of a row and the quotient of the nodes' product polynomial by a linear factor: all sums together are the product of two matrices.
+#![tactic(auto)]
+
 ghost use Rattle.std.specs.Prelude.{◌≡◌, ◌*◌, ◌<◌, length, get_or};
 ghost use Rattle.lists.specs.Rows.{rows_from};
 ghost use Rattle.lists.specs.Padded.{padded};
@@ -99,7 +101,7 @@ fn list_columns(
     counts: &mut [u8],
 )
     requires { SymbolList field factors.now × SymbolList field scales.now × (length factors.now ≡ length scales.now) × SumBytes field w (length scales.now) sums.now × Codes (modulus field) codes.now × ListRoom (length scales.now) (length lists.old) (length counts.old) }
-    ensures* { λ r. ⌜ Begun (modulus field) (length scales.now) (λ r. scaled_column (modulus field) (get_or factors.now r 0) scales.now r (symbols_of w sums.now)) (length scales.now) lists.new counts.new ⌝ }
+    ensures { Begun (modulus field) (length scales.now) (λ r. scaled_column (modulus field) (get_or factors.now r 0) scales.now r (symbols_of w sums.now)) (length scales.now) lists.new counts.new }
 {
     let t = field::constant_tables();
     let mut r = 0;

@@ -27,7 +27,7 @@ fn fill_with(
     out: &mut [u8],
 )
     requires { Sound h × (w ≡ width h) × PreparedNodes h setup × (lanes ≤ 4096) × (length shares.now ≡ w * h.k * lanes) × (length out.old ≡ w * h.k * lanes) × ListRoom h.k (length lists.old) (length counts.old) × (w * h.k * h.k ≤ length terms.old) × (w * h.k * h.k ≤ length sums.old) }
-    ensures* { λ r. ⌜ out.new ≡ bytes_of w (buffer row_after_row h.k lanes (λ r t. dot (modulus_of h) (lane_of lane_after_lane h.k lanes t (symbols_of w shares.now)) (prepared_row h setup r))) ⌝ }
+    ensures { out.new ≡ bytes_of w (buffer row_after_row h.k lanes (λ r t. dot (modulus_of h) (lane_of lane_after_lane h.k lanes t (symbols_of w shares.now)) (prepared_row h setup r))) }
 {
     let k = h.k as usize;
     let square = w * k * k;
@@ -65,7 +65,7 @@ fn large_square() -> [u8; 130050]
 // The message in scratch for at most 16 nodes, for at most 64, and for any. Clearing the larger would take longer than the work of a small code.
 fn fill_small(h: Header, setup: Setup, w: usize, lanes: usize, shares: &[u8], out: &mut [u8])
     requires { Sound h × (w ≡ width h) × PreparedNodes h setup × (h.k ≤ 16) × (lanes ≤ 4096) × (length shares.now ≡ w * h.k * lanes) × (length out.old ≡ w * h.k * lanes) }
-    ensures* { λ r. ⌜ out.new ≡ bytes_of w (buffer row_after_row h.k lanes (λ r t. dot (modulus_of h) (lane_of lane_after_lane h.k lanes t (symbols_of w shares.now)) (prepared_row h setup r))) ⌝ }
+    ensures { out.new ≡ bytes_of w (buffer row_after_row h.k lanes (λ r t. dot (modulus_of h) (lane_of lane_after_lane h.k lanes t (symbols_of w shares.now)) (prepared_row h setup r))) }
 {
     let mut lists = scratch::small_lists();
     let mut counts = scratch::small_counts();
@@ -87,7 +87,7 @@ fn fill_small(h: Header, setup: Setup, w: usize, lanes: usize, shares: &[u8], ou
 
 fn fill_middle(h: Header, setup: Setup, w: usize, lanes: usize, shares: &[u8], out: &mut [u8])
     requires { Sound h × (w ≡ width h) × PreparedNodes h setup × (h.k ≤ 64) × (lanes ≤ 4096) × (length shares.now ≡ w * h.k * lanes) × (length out.old ≡ w * h.k * lanes) }
-    ensures* { λ r. ⌜ out.new ≡ bytes_of w (buffer row_after_row h.k lanes (λ r t. dot (modulus_of h) (lane_of lane_after_lane h.k lanes t (symbols_of w shares.now)) (prepared_row h setup r))) ⌝ }
+    ensures { out.new ≡ bytes_of w (buffer row_after_row h.k lanes (λ r t. dot (modulus_of h) (lane_of lane_after_lane h.k lanes t (symbols_of w shares.now)) (prepared_row h setup r))) }
 {
     let mut lists = scratch::middle_lists();
     let mut counts = scratch::middle_counts();
@@ -109,7 +109,7 @@ fn fill_middle(h: Header, setup: Setup, w: usize, lanes: usize, shares: &[u8], o
 
 fn fill_large(h: Header, setup: Setup, w: usize, lanes: usize, shares: &[u8], out: &mut [u8])
     requires { Sound h × (w ≡ width h) × PreparedNodes h setup × (lanes ≤ 4096) × (length shares.now ≡ w * h.k * lanes) × (length out.old ≡ w * h.k * lanes) }
-    ensures* { λ r. ⌜ out.new ≡ bytes_of w (buffer row_after_row h.k lanes (λ r t. dot (modulus_of h) (lane_of lane_after_lane h.k lanes t (symbols_of w shares.now)) (prepared_row h setup r))) ⌝ }
+    ensures { out.new ≡ bytes_of w (buffer row_after_row h.k lanes (λ r t. dot (modulus_of h) (lane_of lane_after_lane h.k lanes t (symbols_of w shares.now)) (prepared_row h setup r))) }
 {
     let mut lists = scratch::large_lists();
     let mut counts = scratch::large_counts();
@@ -140,7 +140,7 @@ pub fn fill_message(
     out: &mut [u8],
 )
     requires { Sound h × (w ≡ width h) × (are_nodes h nodes.now ≡ true) × (setup ≡ setup_of h nodes.now) × (lanes ≤ 4096) × (length shares.now ≡ w * h.k * lanes) × (length out.old ≡ w * h.k * lanes) }
-    ensures* { λ r. ⌜ out.new ≡ bytes_of w (buffer row_after_row h.k lanes (λ r t. dot (modulus_of h) (lane_of lane_after_lane h.k lanes t (symbols_of w shares.now)) (inverse_row h nodes.now r))) ⌝ }
+    ensures { out.new ≡ bytes_of w (buffer row_after_row h.k lanes (λ r t. dot (modulus_of h) (lane_of lane_after_lane h.k lanes t (symbols_of w shares.now)) (inverse_row h nodes.now r))) }
 {
     if h.k <= 16 {
         return fill_small(h, setup, w, lanes, shares, out);

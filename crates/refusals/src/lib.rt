@@ -1,4 +1,6 @@
 // What turns a call away: the condition of each number. Each call puts its own together.
+#![tactic(auto)]
+
 mod conditions;
 mod field_symbols;
 mod nodes;

@@ -1,4 +1,6 @@
 // Repair by traces: a node sends b bits of each symbol of its share, and the target makes its own share of what the other nodes sent. Further nodes may be missing.
+#![tactic(auto)]
+
 ghost use Rattle.std.specs.Prelude.{◌≡◌, true, ◌-◌, ◌*◌, ◌≤◌, length};
 ghost use Rattle.lists.specs.Numbers.{distinct};
 ghost use Rattle.generator.specs.Records.{Sound};
@@ -16,7 +18,7 @@ mod packing;
 mod sums;
 
 // The plan of a repair: how many bits of a symbol each node sends and how many further nodes may be missing, or the number.
-#[derive(Drop)]
+#[derive(Clone, Copy)]
 pub enum RepairPlan {
     Sends(u32, u32),
     Refused(u8),

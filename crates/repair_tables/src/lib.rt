@@ -1,4 +1,6 @@
 // Repair by traces, for one target and the nodes that are missing beside it: the nodes that send, the digit that a node sends for each symbol, and the weight of each bit that is sent.
+#![tactic(auto)]
+
 mod nodes;
 mod senders;
 mod subfields;

@@ -6,7 +6,7 @@ ghost use Rattle.lists.specs.Padded.{padded};
 ghost use Rattle.traces.specs.Repairs.{sends};
 
 // The nodes, rising, with zeros after them, and how many they are.
-#[derive(Drop)]
+#[derive(Clone, Copy)]
 pub struct Senders {
     pub nodes: [u8; 255],
     pub count: usize,

@@ -1,4 +1,6 @@
 // Rosters: which nodes are present, as nodes leave and return, the lowest of them, and the nodes that rebuild jobs read in turn.
+#![tactic(auto)]
+
 ghost use Rattle.std.specs.Prelude.{◌≡◌};
 ghost use Rattle.generator.specs.Records.{record_of};
 ghost use Rattle.roster.specs.Events.{leaves, returns};
@@ -12,21 +14,21 @@ mod present;
 mod queries;
 
 // The marks of the nodes 0 to 254, true for a present one, and the number of the next job.
-#[derive(Drop)]
+#[derive(Clone, Copy)]
 pub struct Roster {
     pub marks: [bool; 255],
     pub job: u8,
 }
 
 // The roster after a start or an event, and the number that turned it away, or 0.
-#[derive(Drop)]
+#[derive(Clone, Copy)]
 pub struct Step {
     pub roster: Roster,
     pub number: u8,
 }
 
 // What became of a lent list.
-#[derive(Drop)]
+#[derive(Clone, Copy)]
 pub enum Listing {
     Written,
     TooFew,
@@ -34,7 +36,7 @@ pub enum Listing {
 }
 
 // The roster after a job, and what became of the list.
-#[derive(Drop)]
+#[derive(Clone, Copy)]
 pub struct Job {
     pub roster: Roster,
     pub listing: Listing,

@@ -4,7 +4,7 @@ ghost use Rattle.lists.specs.Rows.{from};
 ghost use Rattle.roster.specs.Rosters.{first_marks, present};
 
 // The present nodes, rising, with zeros after them, and how many they are.
-#[derive(Drop)]
+#[derive(Clone, Copy)]
 pub struct Present {
     pub nodes: [u8; 255],
     pub count: usize,

@@ -1,4 +1,6 @@
 // Rosters as 256 bytes that a caller lends: the marks of the nodes 0 to 254, then the number of the next job.
+#![tactic(auto)]
+
 mod bytes;
 mod calls;
 

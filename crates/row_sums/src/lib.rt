@@ -1,4 +1,6 @@
 // Sums of rows times weights, in every lane: the work of Encode, Recover, Rebuild and Belongs. Rows are those of a tile.
+#![tactic(auto)]
+
 ghost use Rattle.std.specs.Prelude.{◌≡◌, true, ◌*◌, ◌≤◌, length};
 ghost use Rattle.field.specs.Kinds.{modulus};
 ghost use Rattle.field.specs.Primes.{is_prime};

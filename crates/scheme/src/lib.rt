@@ -1,1 +1,2 @@
 // Theory only: what a scheme is, the least writes and reads of any scheme, and what every plain layout costs.
+#![tactic(auto)]

@@ -1,4 +1,6 @@
 // The shifts of the generator's rows, and the nodes at which the rows begin. The shifts are by the rule of Lemma 2 where n divides k·d, and else those of rows laid end to end.
+#![tactic(auto)]
+
 ghost use Rattle.std.specs.Prelude.{◌≡◌, ◌≤◌, ◌<◌};
 ghost use Rattle.lists.specs.Padded.{padded};
 ghost use Rattle.generator.specs.Shifts.{gcd as gcdOf, negative as negativeOf, is_even, shifts_of, firsts_of};
@@ -7,7 +9,7 @@ mod even;
 mod laid;
 
 // Where the rows stand: for each its shift and its first node.
-#[derive(Drop)]
+#[derive(Clone, Copy)]
 pub struct Rows {
     pub shifts: [u8; 255],
     pub firsts: [u8; 255],

@@ -1,4 +1,6 @@
 // Sums of weights times the symbols of a row, from each of its first places on, over every kind of field.
+#![tactic(auto)]
+
 ghost use Rattle.std.specs.Prelude.{◌≡◌, true, length};
 ghost use Rattle.field.specs.Fields.{size_of};
 ghost use Rattle.field.specs.Kinds.{modulus, usable};

@@ -1,4 +1,6 @@
 // Every accepted record of kind 1 with p up to 31, as text.
+#![tactic(auto)]
+
 ghost use Rattle.std.specs.Prelude.{◌≡◌, true, [], ◌∷◌, ◌+◌, ◌≤◌, ◌<◌, length};
 ghost use Rattle.lists.specs.Padded.{zeros};
 ghost use Rattle.field.specs.Primes.{is_prime};

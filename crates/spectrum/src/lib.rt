@@ -1,4 +1,6 @@
 // The spectrum of a lane: for each e below n the sum of its symbols times root^(j·e).
+#![tactic(auto)]
+
 ghost use Rattle.std.specs.Prelude.{◌≡◌, true, length};
 ghost use Rattle.lists.specs.Numbers.{all_below};
 ghost use Rattle.lists.specs.Padded.{zeros, padded};

@@ -1,4 +1,6 @@
 // Texts put into a buffer. Each function puts its text at a place of a buffer that has room for it, and gives the next place.
+#![tactic(auto)]
+
 ghost use Rattle.std.specs.Prelude.{◌≡◌, [], ◌∷◌, ◌+◌, ◌*◌, ◌%◌, ◌≤◌, ◌<◌, length};
 ghost use Rattle.text.specs.Text.{digit, decimal, field, fields, line};
 ghost use Rattle.text.specs.Inner.Text.{zeros_before};

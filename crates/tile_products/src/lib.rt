@@ -1,5 +1,7 @@
 // Products of a matrix of weights and a tile of rows of 64 lanes, over every kind of field. Each output's weights are turned into a list
 // once, and the lists are used for tile after tile.
+#![tactic(auto)]
+
 ghost use Rattle.std.specs.Prelude.{◌≡◌, ℕ, ◌*◌, ◌≤◌, true, List, length};
 ghost use Rattle.lists.specs.Numbers.{all_below};
 ghost use Rattle.field.specs.Fields.{size_of};
@@ -17,7 +19,7 @@ pub mod scratch;
 pub use matrix::{apply, prepare};
 
 // The shape of a matrix: so many sums of the symbols in so many rows.
-#[derive(Drop)]
+#[derive(Clone, Copy)]
 pub struct Shape {
     pub field: Field,
     pub outputs: usize,

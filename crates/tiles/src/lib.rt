@@ -1,4 +1,6 @@
 // Tiles: some lanes of a buffer as rows of their own, so that each row is worked on as a whole; 64 lanes, or any number of them.
+#![tactic(auto)]
+
 mod columns;
 mod gathering;
 mod many_lanes;

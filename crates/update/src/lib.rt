@@ -1,4 +1,6 @@
 // Update: one symbol of one lane changes, and with it the lane's symbol at the nodes that depend on it.
+#![tactic(auto)]
+
 ghost use Rattle.std.specs.Prelude.{◌≡◌, ◌<◌};
 ghost use Rattle.lists.specs.Counting.{differ};
 ghost use Rattle.layout.specs.Layout.{lane_of, share_layout};

@@ -1,4 +1,6 @@
 // Which lanes of a block are no words of the code: the smallest of them, by the marks of all lanes.
+#![tactic(auto)]
+
 ghost use Rattle.std.specs.Prelude.{◌≡◌, ◌≤◌, ◌<◌, eqb, length, get_or};
 ghost use Rattle.lists.specs.Padded.{zeros};
 ghost use Rattle.lists.specs.Search.{first_false};
