@@ -28,9 +28,11 @@ tools/prove.py balanced_c
 
 mkdir -p target
 work=$(mktemp -d "$PWD/target/library.XXXXXX")
+# outside the repository, where rt ci refuses links
+links=$(mktemp -d)
 log=target/library.log
 # quiet from here on, unless something fails
-trap 'status=$?; rm -rf "$work"; if [ $status -ne 0 ]; then cat "$log" >&3; fi' EXIT
+trap 'status=$?; rm -rf "$work" "$links"; if [ $status -ne 0 ]; then cat "$log" >&3; fi' EXIT
 exec 3>&1 >"$log" 2>&1
 
 kit=$(cd "$(dirname "$(rt doc)")" && pwd -P)
@@ -39,7 +41,7 @@ lib=$work/lib
 archive=crates/balanced_c_c/out/libbalanced_c_c.a
 
 # links to what a folder has, but for some names
-links() { # FROM TO NAME..
+link_all() { # FROM TO NAME..
     local path
     for path in "$1"/*; do
         case " ${*:3} " in *" ${path##*/} "*) ;; *) ln -s "$path" "$2/" ;; esac
@@ -49,12 +51,12 @@ links() { # FROM TO NAME..
 # the kit as a folder of links, but for rtlib.py, which takes the folder that it stands in for the kit, and for the clang, which keeps
 # its words and the module before it compiles
 keeping_kit() {
-    local at=$work/kit
+    local at=$links
     mkdir -p "$at/bin" "$at/toolchain/bin"
-    links "$kit" "$at" bin toolchain
-    links "$kit/bin" "$at/bin" rtlib.py
-    links "$kit/toolchain" "$at/toolchain" bin
-    links "$kit/toolchain/bin" "$at/toolchain/bin" clang
+    link_all "$kit" "$at" bin toolchain
+    link_all "$kit/bin" "$at/bin" rtlib.py
+    link_all "$kit/toolchain" "$at/toolchain" bin
+    link_all "$kit/toolchain/bin" "$at/toolchain/bin" clang
     cp "$kit/bin/rtlib.py" "$at/bin/"
     cat >"$at/toolchain/bin/clang" <<END
 #!/bin/sh
@@ -96,7 +98,7 @@ share() { # FROM FOLDER
 }
 
 keeping_kit
-tools/static_library.py "$work/kit" balanced_c_c
+tools/static_library.py "$links" balanced_c_c
 # it is proved, and rests on no function of C: its verdict has no word axioms=
 if ! awk '/^logic=proved /{ proved = 1; if (/ axioms=/) axioms = 1 } END { exit !proved || axioms }' "$log"; then
     echo "the library is not proved, or rests on functions of C" >&2
@@ -109,7 +111,7 @@ for level in v3 v4; do
     share "$work/$level.o" "$lib/glibc-hwcaps/x86-64-$level"
 done
 install -m 644 "$archive" "$lib/libbalanced.a"
-ln -s libbalanced.so.1 "$lib/libbalanced.so"
+cp "$lib/libbalanced.so.1" "$lib/libbalanced.so"
 gcc -shared -nostartfiles -x c /dev/null -x none -Wl,-soname,libbalanced_any.so -Wl,--disable-new-dtags,-rpath,'$ORIGIN' \
     -Wl,--no-as-needed -L"$lib" -lbalanced -o "$lib/libbalanced_any.so"
 echo "$sum" >"$lib/made-from"
