@@ -1,0 +1,14 @@
+-- `gcd` meets its contract. Invariant: so far as Euclid's algorithm has come, with fuel, the answer is still that of x and y.
+use Prim.Native.Nat.{ℕ, suc, ◌<◌}
+use mathlib.Core.Path.{◌≡◌, refl}
+use native.Mathlib.Nat.{mod-lt}
+use native.Mathlib.Omega.{arith}
+use Rattle.generator.specs.Shifts.{gcd, gcd_from}
+use Rattle.generator.proofs.Gcd.{gcd_next, gcd_end}
+use Rattle.shifts.proofs.gcd.Given as goal
+
+abbrev pub invariant-loop-b : goal.invariant-loop-b
+invariant-loop-b l = (f : ℕ) × (l.b < f) × (gcd_from f l.a l.b ≡ gcd l.x l.y)
+
+abbrev pub decreases-loop-b : goal.decreases-loop-b
+decreases-loop-b l = l.b

@@ -1,0 +1,14 @@
+-- `fill_laid` meets its contract. Invariant: the shifts of the first r rows are written.
+use Prim.Native.Nat.{◌+◌, ◌-◌}
+use mathlib.Core.Path.{ap, ◌∙◌}
+use native.Mathlib.Omega.{arith}
+use Rattle.lists.specs.Padded.{zeros}
+use Rattle.lists.proofs.Fill.{Filled, filled_start, filled_put, filled_end}
+use Rattle.generator.specs.Shifts.{negative, laid_at, laid_shifts}
+use Rattle.shifts.proofs.laid.fill_laid.Given as goal
+
+abbrev pub invariant-loop-r : goal.invariant-loop-r
+invariant-loop-r l = Filled 255 l.k (λ i. negative l.n (laid_at l.n (l.n - l.k + 1) i)) l.r l.out
+
+abbrev pub decreases-loop-r : goal.decreases-loop-r
+decreases-loop-r l = l.k - l.r
