@@ -1,0 +1,16 @@
+-- `fill_blocks` meets its contract. The loop's invariant: the first b blocks are filled.
+use Prim.Native.Nat.{◌+◌, ◌*◌, ◌-◌, ◌≤◌}
+use lib.ListN.{take, drop}
+use Rattle.lists.proofs.Rows.{row_after, part_length, part_size}
+use Rattle.lists.proofs.Parts.{Valued, valued_start, valued_part, valued_all}
+use Rattle.tiles.specs.Inner.Squares.{as_lanes, blocks_of, placed}
+use Rattle.tiles.proofs.Blocks.{lanes_turned}
+use Rattle.tiles.proofs.Scattered.{block_byte, block_byte_lem, length_as_lanes}
+use native.Mathlib.Omega.{arith}
+use Rattle.tiles.proofs.scattering.fill_blocks.Given as goal
+
+abbrev pub invariant-loop-b : goal.invariant-loop-b
+invariant-loop-b l = (l.b ≤ l.count) × Valued (block_byte l.tile) (l.count * 1024) l.initial.blocks l.blocks (l.b * 1024)
+
+abbrev pub decreases-loop-b : goal.decreases-loop-b
+decreases-loop-b l = l.count - l.b

@@ -1,0 +1,15 @@
+
+use mathlib.Core.Path.{◌≡◌}
+use Prim.Native.Nat.{◌*◌, ◌-◌, ◌≤◌, ◌+◌}
+use lib.ListN.{length}
+use Rattle.lists.proofs.Rows.{part_length}
+use Rattle.tiles.specs.Inner.Squares.{Squared}
+use Rattle.tiles.proofs.Blocks.{squared_none, squared_row, row_fits}
+use native.Mathlib.Omega.{arith}
+use Rattle.tiles.proofs.squares.put_square.Given as goal
+
+abbrev pub invariant-loop-i : goal.invariant-loop-i
+invariant-loop-i l = (l.i ≤ 16) × Squared l.width l.i l.a l.first l.initial.rows l.rows
+
+abbrev pub decreases-loop-i : goal.decreases-loop-i
+decreases-loop-i l = 16 - l.i
