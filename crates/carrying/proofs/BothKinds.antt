@@ -31,7 +31,7 @@ module _ (p : ℕ) (word : p < 65536) (good : carries_none p ≡ false) where
   -- how many bytes carry, and how many are read
   pub length_carried : (s : List ℕ) → length (carried_bytes p s) ≡ carried_length p (length s)
   unfolding carried_bytes carried_length
-  length_carried s = by_kind (λ e. rw e) (λ e carrier. rw e (words.length-carried p carrier s))
+  length_carried s = by_kind (λ e. rw e) (λ e carrier. rw e (words.length_carried p carrier s))
 
   pub length_back : (n : ℕ) (s : List ℕ) → length s ≡ carried_length p n → length (bytes_back p n s) ≡ n
   unfolding bytes_back carried_length
@@ -46,4 +46,4 @@ module _ (p : ℕ) (word : p < 65536) (good : carries_none p ≡ false) where
   carried_below s low =
       by_kind
       (λ e. rw (e, symbols_one s) low)
-      (λ e carrier. rw (e, lt-leb p 256 (omega (arith, carrier.large))) (words.words-carried-below p carrier s low))
+      (λ e carrier. rw (e, lt-leb p 256 (omega (arith, carrier.large))) (words.words_carried_below p carrier s low))
