@@ -1,5 +1,4 @@
 -- `Field::inverse_with` meets its contract: each arm calls the method of its kind.
-use borrow.Author.Rules.{rules}
 use Rattle.field.specs.Kinds.{modulus}
 use Rattle.field.proofs.KindLaws.{usable_prime, prime_symbol, byte_symbol}
 use Rattle.field.proofs.Field.inverse_with.Goals as goal

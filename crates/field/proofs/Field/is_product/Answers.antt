@@ -1,7 +1,6 @@
 -- `Field::is_product` meets its contract.
 use mathlib.Core.Path.{ap}
 use lib.Dec.{eqb}
-use borrow.Author.Rules.{rules}
 use Rattle.field.proofs.Field.is_product.Goals as goal
 
 pub returns : goal.returns

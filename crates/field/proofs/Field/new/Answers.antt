@@ -1,6 +1,5 @@
 -- `Field::new` meets its contract: the two kinds by whether p is 0.
 use mathlib.Core.Path.{refl, sym}
-use borrow.Author.Rules.{rules}
 use borrow.Author.Tests.{ne_eqb}
 use Rattle.field.specs.Fields.{is_field}
 use Rattle.field.specs.Kinds.{modulus, usable}

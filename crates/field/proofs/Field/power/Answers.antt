@@ -1,9 +1,7 @@
 -- `Field::power` meets its contract. The loop's invariant: r·base^k is a^e.
 use mathlib.Core.Path.{◌≡◌, sym, ◌∙◌}
-use mathlib.Core.Logic.{⊎_elim}
 use Prim.Native.Nat.{◌/◌, ◌<◌}
 use native.Mathlib.Omega.{arith}
-use borrow.Author.Rules.{rules}
 use Rattle.field.specs.Fields.{size_of, mul, power}
 use Rattle.field.specs.Kinds.{modulus}
 use Rattle.field.proofs.Bounds.{one_below, mul_below}

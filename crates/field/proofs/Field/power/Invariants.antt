@@ -1,14 +1,8 @@
 -- `Field::power` meets its contract. The loop's invariant: r·base^k is a^e.
-use mathlib.Core.Path.{◌≡◌, sym, ◌∙◌}
-use mathlib.Core.Logic.{⊎_elim}
-use Prim.Native.Nat.{◌/◌, ◌<◌}
-use native.Mathlib.Omega.{arith}
-use borrow.Author.Rules.{rules}
+use mathlib.Core.Path.{◌≡◌}
+use Prim.Native.Nat.{◌<◌}
 use Rattle.field.specs.Fields.{size_of, mul, power}
 use Rattle.field.specs.Kinds.{modulus}
-use Rattle.field.proofs.Bounds.{one_below, mul_below}
-use Rattle.field.proofs.Powers.{power_start, power_even, power_odd, power_end}
-use Rattle.field.proofs.KindLaws.{usable_field}
 use Rattle.field.proofs.Field.power.Given as goal
 
 abbrev pub invariant-loop-k : goal.invariant-loop-k

@@ -1,6 +1,5 @@
 -- `Field::size` meets its contract: the prime, or 256.
 use mathlib.Core.Path.{refl, sym}
-use borrow.Author.Rules.{rules}
 use Rattle.field.specs.Fields.{size_of}
 use Rattle.field.specs.Kinds.{modulus}
 use Rattle.field.proofs.KindLaws.{usable_prime}

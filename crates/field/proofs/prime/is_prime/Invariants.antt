@@ -1,10 +1,6 @@
 -- `is_prime` meets its contract. The loop's invariant: no number from 2 on below `d` divides `p`.
-use mathlib.Core.Path.{◌≡◌, sym}
+use mathlib.Core.Path.{◌≡◌}
 use Prim.Native.Nat.{ℕ, ◌-◌, ◌%◌, ◌≤◌, ◌<◌}
-use native.Mathlib.Omega.{arith}
-use borrow.Author.Rules.{rules}
-use borrow.Author.Count.{below_more}
-use Rattle.field.proofs.Primes.{trial, composite, small_divisor, below_two}
 use Rattle.field.proofs.prime.is_prime.Given as goal
 
 abbrev pub invariant-loop-d : goal.invariant-loop-d

@@ -1,12 +1,8 @@
 -- `Gf256::has_order` meets its contract. The loop's invariant: 2 to the exponent s is the power at which the search stands.
-use mathlib.Core.Path.{◌≡◌, ◌∙◌}
+use mathlib.Core.Path.{◌≡◌}
 use Prim.Native.Nat.{◌-◌, ◌<◌}
-use native.Mathlib.Nat.{mod-lt}
-use native.Mathlib.Omega.{arith}
-use borrow.Author.Rules.{rules}
 use Rattle.field.specs.Fields.{power}
-use Rattle.field.proofs.Orders.{Searched, searched_start, searched_step, searched_stop, searched_end}
-use Rattle.field.proofs.TableLaws.{zero_order, log_power, log_step, power_zero, one_power, one_test}
+use Rattle.field.proofs.Orders.{Searched}
 use Rattle.field.proofs.gf256.Gf256.has_order.Given as goal
 
 abbrev pub invariant-loop-e : goal.invariant-loop-e

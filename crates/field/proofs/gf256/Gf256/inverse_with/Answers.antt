@@ -2,7 +2,6 @@
 use mathlib.Core.Path.{◌≡◌, sym, ap, ◌∙◌}
 use Prim.Native.Nat.{ℕ, ◌-◌}
 use native.Mathlib.Omega.{arith}
-use borrow.Author.Rules.{rules}
 use Rattle.field.specs.Fields.{power, inverse}
 use Rattle.field.proofs.Inverse.{inverse_zero}
 use Rattle.field.proofs.Meanings.{byte_field}

@@ -3,7 +3,6 @@ use mathlib.Core.Path.{ap₂, ◌∙◌}
 use Prim.Native.Nat.{ℕ, ◌+◌, ◌<◌}
 use native.Mathlib.Nat.{mod-lt}
 use native.Mathlib.Omega.{arith}
-use borrow.Author.Rules.{rules}
 use Rattle.field.specs.Fields.{power}
 use Rattle.field.proofs.TableLaws.{zero_times, times_zero, reduced_at, logs_add}
 use Rattle.field.proofs.gf256.Gf256.mul_with.Goals as goal

@@ -1,7 +1,6 @@
 -- `PrimeField::add` meets its contract: one subtraction reduces.
 use mathlib.Core.Path.{sym, ◌∙◌}
 use native.Mathlib.Omega.{arith}
-use borrow.Author.Rules.{rules}
 use Rattle.field.proofs.Modular.{mod_none, mod_once}
 use Rattle.field.proofs.Meanings.{add_modulo}
 use Rattle.field.proofs.prime.PrimeField.add.Goals as goal

@@ -1,9 +1,6 @@
 -- `PrimeField::has_order` meets its contract. The loop's invariant: x is the power at which the search stands.
 use Prim.Native.Nat.{◌-◌, ◌<◌}
-use native.Mathlib.Omega.{arith}
-use borrow.Author.Rules.{rules}
-use Rattle.field.proofs.Meanings.{mul_under}
-use Rattle.field.proofs.Orders.{Searched, searched_start, searched_step, searched_stop, searched_end}
+use Rattle.field.proofs.Orders.{Searched}
 use Rattle.field.proofs.prime.PrimeField.has_order.Given as goal
 
 abbrev pub invariant-loop-e : goal.invariant-loop-e

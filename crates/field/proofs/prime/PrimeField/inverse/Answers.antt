@@ -1,9 +1,8 @@
 -- `PrimeField::inverse` meets its contract. The loop's invariant: t·a is x modulo p.
-use mathlib.Core.Path.{◌≡◌, sym, ap, ◌∙◌}
+use mathlib.Core.Path.{sym, ap, ◌∙◌}
 use Prim.Native.Nat.{◌+◌, ◌/◌, ◌%◌, ◌<◌}
 use native.Mathlib.Omega.{arith}
-use borrow.Author.Rules.{rules}
-use Rattle.field.specs.Fields.{mul, inverse}
+use Rattle.field.specs.Fields.{inverse}
 use Rattle.field.proofs.Primes.{two≤prime}
 use Rattle.field.proofs.Meanings.{mul_under, sub_under, prime_field}
 use Rattle.field.proofs.PrimeInverse.{step_bounds, turn_down, turn_up, turn_start}

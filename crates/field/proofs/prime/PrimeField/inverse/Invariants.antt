@@ -1,13 +1,7 @@
 -- `PrimeField::inverse` meets its contract. The loop's invariant: t·a is x modulo p.
-use mathlib.Core.Path.{◌≡◌, sym, ap, ◌∙◌}
-use Prim.Native.Nat.{◌+◌, ◌/◌, ◌%◌, ◌<◌}
-use native.Mathlib.Omega.{arith}
-use borrow.Author.Rules.{rules}
-use Rattle.field.specs.Fields.{mul, inverse}
-use Rattle.field.proofs.Primes.{two≤prime}
-use Rattle.field.proofs.Meanings.{mul_under, sub_under, prime_field}
-use Rattle.field.proofs.PrimeInverse.{step_bounds, turn_down, turn_up, turn_start}
-use Rattle.field.proofs.Inverse.{inverse_zero, prime_inverse}
+use mathlib.Core.Path.{◌≡◌}
+use Prim.Native.Nat.{◌<◌}
+use Rattle.field.specs.Fields.{mul}
 use Rattle.field.proofs.prime.PrimeField.inverse.Given as goal
 
 abbrev pub invariant-loop-x : goal.invariant-loop-x

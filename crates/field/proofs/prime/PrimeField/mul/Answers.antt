@@ -1,7 +1,6 @@
 -- `PrimeField::mul` meets its contract: the product fits.
 use mathlib.Core.Path.{sym}
 use native.Mathlib.Omega.{arith}
-use borrow.Author.Rules.{rules}
 use Rattle.field.proofs.Modular.{product_fits}
 use Rattle.field.proofs.Meanings.{mul_modulo}
 use Rattle.field.proofs.prime.PrimeField.mul.Goals as goal

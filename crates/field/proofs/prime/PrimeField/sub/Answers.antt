@@ -1,7 +1,6 @@
 -- `PrimeField::sub` meets its contract: one subtraction reduces.
 use mathlib.Core.Path.{sym, ◌∙◌}
 use native.Mathlib.Omega.{arith}
-use borrow.Author.Rules.{rules}
 use Rattle.field.proofs.Modular.{mod_none, mod_once}
 use Rattle.field.proofs.Meanings.{sub_modulo}
 use Rattle.field.proofs.prime.PrimeField.sub.Goals as goal
