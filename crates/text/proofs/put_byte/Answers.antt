@@ -1,6 +1,5 @@
 -- `put_byte` meets its contract.
 use native.Mathlib.Omega.{arith}
-use borrow.Author.Rules.{rules}
 use mathlib.Core.List.{[], ◌∷◌}
 use Rattle.lists.proofs.Fill.{fills_put}
 use Rattle.text.proofs.Writing.{puts_start, puts_done}

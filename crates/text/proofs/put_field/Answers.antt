@@ -1,6 +1,5 @@
 -- `put_field` meets its contract: a space, and one, two or three digits.
 use native.Mathlib.Omega.{arith}
-use borrow.Author.Rules.{rules}
 use Rattle.text.proofs.Fields.{one_digit, two_digits, three_digits}
 use Rattle.text.proofs.put_field.Goals as goal
 

@@ -1,12 +1,9 @@
 -- `put_fields` meets its contract. Invariant: i fields are put; the others and the line feed are to come.
 use mathlib.Core.List.{◌++◌}
-use Prim.Native.Nat.{ℕ, ◌≤◌, ◌+◌, ◌*◌, ◌-◌}
-use native.Mathlib.Omega.{arith}
-use lib.ListN.{length, take, drop, drop_of_length-le}
-use Rattle.lists.proofs.Front.{drop_next}
+use Prim.Native.Nat.{◌≤◌, ◌+◌, ◌*◌, ◌-◌}
+use lib.ListN.{length, take, drop}
 use Rattle.lists.proofs.Fill.{Fills}
 use Rattle.text.specs.Text.{fields}
-use Rattle.text.proofs.Writing.{puts_start, puts_next, puts_done}
 use Rattle.text.proofs.put_fields.Given as goal
 
 abbrev pub invariant-loop-i : goal.invariant-loop-i

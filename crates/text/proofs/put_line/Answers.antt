@@ -1,6 +1,5 @@
 -- `put_line` meets its contract: a word, and the fields after it.
 use native.Mathlib.Omega.{arith}
-use borrow.Author.Rules.{rules}
 use Rattle.text.specs.Text.{line}
 use Rattle.text.proofs.Writing.{puts_then}
 use Rattle.text.proofs.put_line.Goals as goal

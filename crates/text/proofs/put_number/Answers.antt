@@ -8,7 +8,6 @@ use Rattle.lists.proofs.Rows.{part_rest}
 use Rattle.text.specs.Text.{digit, decimal}
 use Rattle.text.specs.Inner.Text.{zeros_before}
 use Rattle.text.proofs.Fields.{five_digits, decimal_drop, decimal_short}
-use borrow.Author.Rules.{rules}
 use Rattle.text.proofs.put_number.Goals as goal
 
 -- the five digits, from the first that is no zero in front

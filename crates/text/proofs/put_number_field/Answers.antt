@@ -1,6 +1,5 @@
 -- `put_number_field` meets its contract: a space and the number, one after the other.
 use native.Mathlib.Omega.{arith}
-use borrow.Author.Rules.{rules}
 use Rattle.text.specs.Text.{field}
 use Rattle.text.proofs.Writing.{puts_then}
 use Rattle.text.proofs.put_number_field.Goals as goal

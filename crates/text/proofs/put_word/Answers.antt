@@ -1,11 +1,9 @@
 -- `put_word` meets its contract. Invariant: i bytes of the word are put, and the others are to come.
-use mathlib.Core.Path.{◌≡◌}
-use mathlib.Core.List.{◌++◌}
-use Prim.Native.Nat.{ℕ, ◌≤◌, ◌+◌, ◌-◌}
+use Prim.Native.Nat.{ℕ}
 use native.Mathlib.Omega.{arith}
-use lib.ListN.{length, take, drop, drop_of_length-le}
+use lib.ListN.{drop_of_length-le}
 use Rattle.lists.proofs.Front.{drop_next}
-use Rattle.lists.proofs.Fill.{Fills, fills_put}
+use Rattle.lists.proofs.Fill.{fills_put}
 use Rattle.text.proofs.Writing.{puts_start, puts_done}
 use Rattle.text.proofs.put_word.Goals as goal
 
