@@ -1,5 +1,5 @@
 -- `all_below` meets its contract: no byte is 256 or more, and all are below the size where the largest is.
-use Rattle.std.proofs.Common.{sym, arith, rules}
+use Rattle.std.proofs.Common.{sym, arith}
 use Rattle.lists.proofs.Numbers.{at_below}
 use Rattle.kernel.proofs.all_below.Goals as goal
 

@@ -1,8 +1,7 @@
 -- `clear` meets its contract. The loop's invariant: the lanes below t are 0, and zeros are to come.
-use Rattle.std.proofs.Common.{◌-◌, ◌<◌, ◌≤◌, length, arith, rules}
-use native.Mathlib.Nat.{sub-zero}
+use Rattle.std.proofs.Common.{◌-◌, ◌≤◌, length}
 use Rattle.lists.specs.Padded.{zeros}
-use Rattle.lists.proofs.Fill.{Fills, fills_start, fills_put, fills_all, zeros_next, zeros_end}
+use Rattle.lists.proofs.Fill.{Fills}
 use Rattle.kernel.proofs.clear.Given as goal
 
 abbrev pub invariant-loop-t : goal.invariant-loop-t

@@ -1,6 +1,6 @@
 -- `copy` meets its contract. The loop's invariant: the lanes below t are those of the row, and the others of the row are to come.
-use Rattle.std.proofs.Common.{◌-◌, ◌≤◌, length, drop, arith}
-use Rattle.lists.proofs.Fill.{Fills, fills_start, fills_copy, fills_copied}
+use Rattle.std.proofs.Common.{◌-◌, ◌≤◌, length, drop}
+use Rattle.lists.proofs.Fill.{Fills}
 use Rattle.kernel.proofs.copy.Given as goal
 
 abbrev pub invariant-loop-t : goal.invariant-loop-t

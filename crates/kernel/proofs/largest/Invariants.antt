@@ -1,7 +1,6 @@
 -- `largest` meets its contract. The loop's invariant: all are below m where the largest so far and those from t on are.
-use Rattle.std.proofs.Common.{◌≡◌, ℕ, ◌-◌, ◌≤◌, ◌&&◌, ltb, length, drop, ◌∙◌, arith, rules}
+use Rattle.std.proofs.Common.{◌≡◌, ℕ, ◌-◌, ◌≤◌, ◌&&◌, ltb, length, drop}
 use Rattle.lists.specs.Numbers.{all_below}
-use Rattle.kernel.proofs.Maximum.{below_next, below_more, below_end}
 use Rattle.kernel.proofs.largest.Given as goal
 
 abbrev pub invariant-loop-t : goal.invariant-loop-t

@@ -1,7 +1,6 @@
 -- `gf256::add_two` meets its contract. The loop's invariant: the lanes below t hold the sum.
-use Rattle.std.proofs.Common.{◌-◌, ◌≤◌, length, get_or, arith, rules}
-use lib.Bits.{bit_xor}
-use Rattle.kernel.proofs.Filling.{Changed, changed_none, changed_lane, changed_all}
+use Rattle.std.proofs.Common.{arith, rules}
+use Rattle.kernel.proofs.Filling.{changed_none, changed_lane, changed_all}
 use Rattle.kernel.proofs.gf256.add_two.Goals as goal
 
 pub loop-t-init : goal.loop-t-init

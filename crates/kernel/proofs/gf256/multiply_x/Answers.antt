@@ -1,7 +1,6 @@
 -- `gf256::multiply_x` meets its contract. The loop's invariant: the lanes below t are multiplied.
-use Rattle.std.proofs.Common.{◌-◌, ◌≤◌, length, arith, rules}
-use Rattle.field.specs.Bytes.{times_x}
-use Rattle.kernel.proofs.Filling.{Changed, changed_none, changed_lane, changed_all}
+use Rattle.std.proofs.Common.{arith, rules}
+use Rattle.kernel.proofs.Filling.{changed_none, changed_lane, changed_all}
 use Rattle.kernel.proofs.gf256.multiply_x.Goals as goal
 
 pub loop-t-init : goal.loop-t-init

@@ -1,7 +1,7 @@
 -- `gf256::multiply_x` meets its contract. The loop's invariant: the lanes below t are multiplied.
-use Rattle.std.proofs.Common.{◌-◌, ◌≤◌, length, arith, rules}
+use Rattle.std.proofs.Common.{◌-◌, ◌≤◌, length}
 use Rattle.field.specs.Bytes.{times_x}
-use Rattle.kernel.proofs.Filling.{Changed, changed_none, changed_lane, changed_all}
+use Rattle.kernel.proofs.Filling.{Changed}
 use Rattle.kernel.proofs.gf256.multiply_x.Given as goal
 
 abbrev pub invariant-loop-t : goal.invariant-loop-t

@@ -1,8 +1,8 @@
 -- `gf256::multiply_x_add_two` meets its contract. The loop's invariant: the lanes below t hold the sum.
-use Rattle.std.proofs.Common.{◌-◌, ◌≤◌, length, get_or, arith, rules}
+use Rattle.std.proofs.Common.{◌-◌, ◌≤◌, length, get_or}
 use lib.Bits.{bit_xor}
 use Rattle.field.specs.Bytes.{times_x}
-use Rattle.kernel.proofs.Filling.{Changed, changed_none, changed_lane, changed_all}
+use Rattle.kernel.proofs.Filling.{Changed}
 use Rattle.kernel.proofs.gf256.multiply_x_add_two.Given as goal
 
 abbrev pub invariant-loop-t : goal.invariant-loop-t

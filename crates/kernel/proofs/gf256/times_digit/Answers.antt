@@ -1,5 +1,5 @@
 -- `times_digit` meets its contract: 0 less the digit is a mask.
-use Rattle.std.proofs.Common.{arith, rules}
+use Rattle.std.proofs.Common.{arith}
 use Rattle.kernel.proofs.Digits.{masked}
 use Rattle.kernel.proofs.gf256.times_digit.Goals as goal
 

@@ -1,5 +1,5 @@
 -- `times_x` meets its contract: a computed test of each byte.
-use Rattle.std.proofs.Common.{arith, rules}
+use Rattle.std.proofs.Common.{arith}
 use Rattle.kernel.proofs.Digits.{times_x_masked}
 use Rattle.kernel.proofs.gf256.times_x.Goals as goal
 

@@ -1,10 +1,9 @@
 -- `prime::add_scaled` meets its contract: nothing is added for the coefficient 0. The loop's invariant: the lanes below t hold the sum.
-use Rattle.std.proofs.Common.{◌-◌, ◌≤◌, length, get_or, sym, refl, arith, rules}
+use Rattle.std.proofs.Common.{sym, refl, arith, rules}
 use Rattle.lists.proofs.Numbers.{below_at}
 use Rattle.lists.proofs.Fill.{fills_next}
-use Rattle.field.specs.Fields.{add, mul}
 use Rattle.kernel.specs.Inner.Lanes.{add_scaled}
-use Rattle.kernel.proofs.Filling.{Changed, changed_none, changed_lane, changed_all}
+use Rattle.kernel.proofs.Filling.{changed_none, changed_lane, changed_all}
 use Rattle.kernel.proofs.Lanes.{none_added}
 use Rattle.kernel.proofs.prime.add_scaled.Goals as goal
 

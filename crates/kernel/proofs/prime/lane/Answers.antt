@@ -1,5 +1,5 @@
 -- `lane` meets its contract: the sum of two numbers below p is below 2·p.
-use Rattle.std.proofs.Common.{◌*◌, ◌<◌, mod-lt, arith, rules}
+use Rattle.std.proofs.Common.{◌*◌, ◌<◌, mod-lt, arith}
 use Rattle.field.proofs.Meanings.{add_modulo, mul_modulo}
 use Rattle.kernel.proofs.prime.lane.Goals as goal
 use Rattle.kernel.proofs.prime.lane.Goals.{After-times}

@@ -1,7 +1,7 @@
 -- `wide::add_products` meets its contract: nothing is added for the weight 0. The loop's invariant: the lanes below t hold their sums.
-use Rattle.std.proofs.Common.{◌≡◌, ℕ, ◌+◌, ◌-◌, ◌*◌, ◌/◌, ◌%◌, ◌<◌, ◌≤◌, List, length, get_or, set, sym, ap, ◌∙◌, mul-zero, arith, rules}
+use Rattle.std.proofs.Common.{◌≡◌, ℕ, ◌+◌, ◌*◌, ◌/◌, ◌%◌, ◌<◌, ◌≤◌, List, get_or, set, sym, ap, ◌∙◌, mul-zero, arith}
 use Rattle.kernel.specs.Inner.Halves.{pair_product, wrapped}
-use Rattle.kernel.proofs.Filling.{Changed, changed_none, changed_lane, changed_all}
+use Rattle.kernel.proofs.Filling.{changed_none, changed_lane, changed_all}
 use Rattle.kernel.proofs.Halves.{wrapped_none}
 use Rattle.kernel.proofs.wide.add_products.Invariants.{Adding}
 use Rattle.kernel.proofs.wide.add_products.Goals as goal

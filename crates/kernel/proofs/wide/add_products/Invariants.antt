@@ -1,8 +1,7 @@
 -- `wide::add_products` meets its contract: nothing is added for the weight 0. The loop's invariant: the lanes below t hold their sums.
-use Rattle.std.proofs.Common.{◌≡◌, ℕ, ◌+◌, ◌-◌, ◌*◌, ◌/◌, ◌%◌, ◌<◌, ◌≤◌, List, length, get_or, set, sym, ap, ◌∙◌, mul-zero, arith, rules}
-use Rattle.kernel.specs.Inner.Halves.{pair_product, wrapped}
-use Rattle.kernel.proofs.Filling.{Changed, changed_none, changed_lane, changed_all}
-use Rattle.kernel.proofs.Halves.{wrapped_none}
+use Rattle.std.proofs.Common.{◌≡◌, ℕ, ◌+◌, ◌-◌, ◌/◌, ◌%◌, ◌≤◌, List, length}
+use Rattle.kernel.specs.Inner.Halves.{pair_product}
+use Rattle.kernel.proofs.Filling.{Changed}
 use Rattle.kernel.proofs.wide.add_products.Given as goal
 
 -- the lanes below t have their sums

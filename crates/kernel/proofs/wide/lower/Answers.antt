@@ -1,5 +1,5 @@
 -- `wide::lower` meets its contract.
-use Rattle.std.proofs.Common.{arith, rules}
+use Rattle.std.proofs.Common.{arith}
 use Rattle.kernel.proofs.Halves.{product16}
 use Rattle.kernel.proofs.wide.lower.Goals as goal
 

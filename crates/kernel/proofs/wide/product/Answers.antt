@@ -1,5 +1,5 @@
 -- `wide::product` meets its contract.
-use Rattle.std.proofs.Common.{ℕ, ◌*◌, ◌≤◌, ap, arith, rules}
+use Rattle.std.proofs.Common.{ℕ, ◌*◌, ◌≤◌, ap, arith}
 use Rattle.kernel.proofs.Halves.{product16}
 use Rattle.kernel.proofs.wide.product.Goals as goal
 use Rattle.kernel.proofs.wide.product.Goals.{After-symbol}

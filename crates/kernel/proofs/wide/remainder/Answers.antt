@@ -1,5 +1,5 @@
 -- `wide::remainder` meets its contract.
-use Rattle.std.proofs.Common.{ℕ, ◌+◌, ◌*◌, ◌%◌, ap₂, mod-lt, arith, rules}
+use Rattle.std.proofs.Common.{ℕ, ◌+◌, ◌*◌, ◌%◌, ap₂, mod-lt, arith}
 use Rattle.kernel.specs.Inner.Halves.{rest_of}
 use Rattle.kernel.proofs.wide.remainder.Goals as goal
 

@@ -1,9 +1,8 @@
 -- `wide::remainders` meets its contract. The loop's invariant: the lanes below t are written.
-use Rattle.std.proofs.Common.{◌-◌, get_or, arith}
+use Rattle.std.proofs.Common.{arith}
 use Rattle.lists.specs.Rows.{from}
 use Rattle.lists.specs.Padded.{zeros, padded}
-use Rattle.lists.proofs.Fill.{Filled, filled_start, filled_put, filled_end}
-use Rattle.kernel.specs.Inner.Halves.{rest_of}
+use Rattle.lists.proofs.Fill.{filled_start, filled_put, filled_end}
 use Rattle.kernel.proofs.wide.remainders.Goals as goal
 
 pub loop-t-init : goal.loop-t-init

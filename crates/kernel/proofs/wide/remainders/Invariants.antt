@@ -1,8 +1,6 @@
 -- `wide::remainders` meets its contract. The loop's invariant: the lanes below t are written.
-use Rattle.std.proofs.Common.{◌-◌, get_or, arith}
-use Rattle.lists.specs.Rows.{from}
-use Rattle.lists.specs.Padded.{zeros, padded}
-use Rattle.lists.proofs.Fill.{Filled, filled_start, filled_put, filled_end}
+use Rattle.std.proofs.Common.{◌-◌, get_or}
+use Rattle.lists.proofs.Fill.{Filled}
 use Rattle.kernel.specs.Inner.Halves.{rest_of}
 use Rattle.kernel.proofs.wide.remainders.Given as goal
 

@@ -1,5 +1,5 @@
 -- `wide::total` meets its contract.
-use Rattle.std.proofs.Common.{arith, rules}
+use Rattle.std.proofs.Common.{arith}
 use Rattle.kernel.specs.Inner.Halves.{total_of}
 use Rattle.kernel.proofs.wide.total.Goals as goal
 
