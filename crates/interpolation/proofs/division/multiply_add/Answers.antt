@@ -1,6 +1,5 @@
 -- `multiply_add` meets its contract.
 use mathlib.Core.Path.{◌∙◌}
-use borrow.Author.Rules.{rules}
 use Rattle.field.proofs.Bounds.{mul_below}
 use Rattle.field.proofs.KindLaws.{usable_field}
 use Rattle.interpolation.proofs.division.multiply_add.Goals as goal

@@ -1,9 +1,8 @@
 -- `quotient` meets its contract. Invariant: q is coefficient i of the quotient, and the coefficients from i on are written.
 use mathlib.Core.Path.{◌≡◌, refl, ◌∙◌}
-use mathlib.Core.List.{◌++◌}
 use Prim.Native.Nat.{◌-◌, ◌<◌}
 use native.Mathlib.Omega.{arith}
-use lib.ListN.{length, get_or, drop}
+use lib.ListN.{length, get_or}
 use Rattle.lists.specs.Padded.{zeros}
 use Rattle.lists.proofs.Fill.{back_start, back_put, back_done}
 use Rattle.lists.proofs.Numbers.{below_at}

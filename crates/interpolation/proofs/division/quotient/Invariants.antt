@@ -1,17 +1,12 @@
 -- `quotient` meets its contract. Invariant: q is coefficient i of the quotient, and the coefficients from i on are written.
-use mathlib.Core.Path.{◌≡◌, refl, ◌∙◌}
+use mathlib.Core.Path.{◌≡◌}
 use mathlib.Core.List.{◌++◌}
-use Prim.Native.Nat.{◌-◌, ◌<◌}
-use native.Mathlib.Omega.{arith}
-use lib.ListN.{length, get_or, drop}
+use Prim.Native.Nat.{◌-◌}
+use lib.ListN.{length, drop}
 use Rattle.lists.specs.Padded.{zeros}
-use Rattle.lists.proofs.Fill.{back_start, back_put, back_done}
-use Rattle.lists.proofs.Numbers.{below_at}
-use Rattle.field.specs.Fields.{size_of}
 use Rattle.field.specs.Kinds.{modulus}
-use Rattle.field.proofs.KindLaws.{usable_field, size_fits}
 use Rattle.interpolation.specs.Inner.Polynomials.{quotient_of}
-use Rattle.interpolation.proofs.Coefficients.{Dividing, dividing_start, dividing_next, dividing_below, length_quotient_of, quotient_of_next, quotient_of_end}
+use Rattle.interpolation.proofs.Coefficients.{Dividing}
 use Rattle.interpolation.proofs.division.quotient.Given as goal
 
 abbrev pub invariant-loop-i : goal.invariant-loop-i

@@ -1,7 +1,6 @@
 -- `quotient_sum` meets its contract: the terms times the quotient, after which zeros follow.
 use mathlib.Core.Path.{sym, ◌∙◌}
 use native.Mathlib.Omega.{arith}
-use borrow.Author.Rules.{rules}
 use Rattle.lists.proofs.Padding.{length_padded, below_padded}
 use Rattle.field.specs.Kinds.{modulus}
 use Rattle.field.proofs.FieldOf.{size_pos}

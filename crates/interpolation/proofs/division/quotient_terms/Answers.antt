@@ -1,6 +1,5 @@
 -- `quotient_terms` meets its contract: the quotient, lent as a part, times the factors.
 use mathlib.Core.Path.{◌≡◌, sym, ◌∙◌}
-use borrow.Author.Rules.{rules}
 use lib.ListN.{length, take}
 use Rattle.lists.proofs.Padding.{take_padded}
 use Rattle.field.specs.Kinds.{modulus}

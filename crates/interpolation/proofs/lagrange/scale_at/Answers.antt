@@ -1,7 +1,6 @@
 -- `scale_at` meets its contract.
 use mathlib.Core.Path.{◌∙◌}
 use native.Mathlib.Omega.{arith}
-use borrow.Author.Rules.{rules}
 use Rattle.lists.proofs.Numbers.{below_at}
 use Rattle.field.proofs.KindLaws.{usable_field}
 use Rattle.interpolation.specs.Inner.Lagrange.{scale_at}

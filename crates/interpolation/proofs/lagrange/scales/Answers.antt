@@ -1,12 +1,9 @@
 -- `scales` meets its contract. Invariant: the first i scales are written.
-use Prim.Native.Nat.{◌-◌}
 use native.Mathlib.Omega.{arith}
-use lib.ListN.{length}
 use Rattle.lists.specs.Padded.{zeros}
-use Rattle.lists.proofs.Fill.{Filled, filled_start, filled_put, filled_end}
-use Rattle.field.specs.Kinds.{modulus}
+use Rattle.lists.proofs.Fill.{filled_start, filled_put, filled_end}
 use Rattle.field.proofs.KindLaws.{usable_field, size_fits}
-use Rattle.interpolation.specs.Inner.Lagrange.{scale_at, scales_of}
+use Rattle.interpolation.specs.Inner.Lagrange.{scales_of}
 use Rattle.interpolation.proofs.Values.{scale_at_below}
 use Rattle.interpolation.proofs.lagrange.scales.Goals as goal
 

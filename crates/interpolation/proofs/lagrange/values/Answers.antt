@@ -2,9 +2,9 @@
 use mathlib.Core.Path.{◌≡◌, sym, ◌∙◌}
 use Prim.Native.Nat.{◌+◌, ◌-◌, ◌<◌}
 use native.Mathlib.Omega.{arith}
-use lib.ListN.{length, get_or, take, drop}
+use lib.ListN.{length, get_or, drop}
 use Rattle.lists.specs.Padded.{zeros}
-use Rattle.lists.proofs.Fill.{Filled, filled_start, filled_put, filled_end}
+use Rattle.lists.proofs.Fill.{filled_start, filled_put, filled_end}
 use Rattle.lists.proofs.Numbers.{below_at, below_take, below_drop}
 use Rattle.field.specs.Fields.{size_of}
 use Rattle.field.specs.Kinds.{modulus}

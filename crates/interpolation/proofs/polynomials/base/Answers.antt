@@ -1,8 +1,7 @@
 -- `base` meets its contract. Invariant: y is root^i, and the product has the factors below i.
 use mathlib.Core.Path.{◌≡◌, refl, sym, ap, ◌∙◌}
-use Prim.Native.Nat.{◌+◌, ◌-◌, ◌≤◌, ◌<◌}
+use Prim.Native.Nat.{◌+◌, ◌<◌}
 use native.Mathlib.Omega.{arith}
-use borrow.Author.Rules.{rules}
 use lib.ListN.{length}
 use Rattle.lists.specs.Padded.{zeros, padded}
 use Rattle.field.specs.Fields.{size_of, power}

@@ -1,17 +1,9 @@
 -- `inverses` meets its contract. Invariant: the first i inverses are written.
-use mathlib.Core.Path.{sym, ap, ◌∙◌}
-use Prim.Native.Nat.{◌-◌, ◌<◌}
-use native.Mathlib.Omega.{arith}
+use Prim.Native.Nat.{◌-◌}
 use lib.ListN.{length, get_or}
-use Rattle.lists.specs.Padded.{zeros, padded}
-use Rattle.lists.proofs.Fill.{Filled, filled_start, filled_put, filled_end}
-use Rattle.lists.proofs.Numbers.{below_at}
-use Rattle.lists.proofs.Places.{map_from}
-use Rattle.field.specs.Fields.{size_of, inverse}
+use Rattle.lists.proofs.Fill.{Filled}
+use Rattle.field.specs.Fields.{inverse}
 use Rattle.field.specs.Kinds.{modulus}
-use Rattle.field.proofs.Inverse.{inverse_below}
-use Rattle.field.proofs.KindLaws.{usable_field, size_fits}
-use Rattle.interpolation.specs.Inner.Polynomials.{inverses_of}
 use Rattle.interpolation.proofs.polynomials.inverses.Given as goal
 
 abbrev pub invariant-loop-i : goal.invariant-loop-i

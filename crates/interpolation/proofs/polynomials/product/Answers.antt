@@ -1,8 +1,7 @@
 -- `product` meets its contract. Invariant: the product over the points from i on, of as many coefficients as `size` says.
 use mathlib.Core.Path.{◌≡◌, sym, ap, ◌∙◌}
-use Prim.Native.Nat.{◌+◌, ◌-◌, ◌≤◌}
+use Prim.Native.Nat.{◌-◌}
 use native.Mathlib.Omega.{arith}
-use borrow.Author.Rules.{rules}
 use lib.ListN.{length, get_or, drop, length-drop}
 use Rattle.lists.specs.Padded.{zeros, padded}
 use Rattle.lists.proofs.Numbers.{below_at, below_drop}

@@ -1,16 +1,15 @@
 -- `times_linear` meets its contract. Invariant: the first i coefficients are written, and `last` is carried over to the next.
 use mathlib.Core.Path.{◌≡◌}
-use Prim.Native.Nat.{◌-◌, ◌≤◌, ◌<◌}
+use Prim.Native.Nat.{◌≤◌, ◌<◌}
 use native.Mathlib.Omega.{arith}
-use lib.ListN.{length, get_or, drop}
-use Rattle.lists.proofs.Fill.{Fills, fills_start, fills_next, fills_put, fills_all}
+use lib.ListN.{length, get_or}
+use Rattle.lists.proofs.Fill.{fills_start, fills_next, fills_put, fills_all}
 use Rattle.lists.proofs.Numbers.{below_at}
 use Rattle.field.specs.Fields.{size_of}
 use Rattle.field.specs.Kinds.{modulus}
 use Rattle.field.proofs.Bounds.{sub_below, mul_below}
 use Rattle.field.proofs.FieldOf.{size_pos}
 use Rattle.field.proofs.KindLaws.{usable_field, size_fits}
-use Rattle.interpolation.specs.Inner.Polynomials.{carried}
 use Rattle.interpolation.proofs.Coefficients.{carried_next, carried_end}
 use Rattle.interpolation.proofs.polynomials.times_linear.Goals as goal
 use Rattle.interpolation.proofs.polynomials.times_linear.Goals.{After-mul_with-term, In-loop-i}

@@ -1,12 +1,12 @@
 -- `products` meets its contract. Invariant: the first i products are written.
 use mathlib.Core.Path.{ap, ◌∙◌}
-use Prim.Native.Nat.{◌-◌, ◌<◌}
+use Prim.Native.Nat.{◌<◌}
 use native.Mathlib.Omega.{arith}
-use lib.ListN.{length, get_or}
+use lib.ListN.{get_or}
 use Rattle.lists.specs.Padded.{zeros, padded}
-use Rattle.lists.proofs.Fill.{Filled, filled_start, filled_put, filled_end}
+use Rattle.lists.proofs.Fill.{filled_start, filled_put, filled_end}
 use Rattle.lists.proofs.Numbers.{below_at}
-use Rattle.field.specs.Fields.{size_of, mul}
+use Rattle.field.specs.Fields.{size_of}
 use Rattle.field.specs.Kinds.{modulus}
 use Rattle.field.proofs.Bounds.{mul_below}
 use Rattle.field.proofs.KindLaws.{usable_field, size_fits}

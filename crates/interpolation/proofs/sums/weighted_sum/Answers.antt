@@ -1,12 +1,11 @@
 -- `weighted_sum` meets its contract. Invariant: the sum has the terms from i on.
 use mathlib.Core.Path.{◌≡◌, sym}
-use Prim.Native.Nat.{◌-◌, ◌≤◌, ◌<◌}
+use Prim.Native.Nat.{◌-◌, ◌<◌}
 use native.Mathlib.Omega.{arith}
-use lib.ListN.{length, get_or, drop}
+use lib.ListN.{get_or}
 use Rattle.lists.proofs.Numbers.{below_at, below_drop}
 use Rattle.field.specs.Fields.{size_of}
 use Rattle.field.specs.Kinds.{modulus}
-use Rattle.field.specs.Inner.Sums.{dot}
 use Rattle.field.proofs.Bounds.{mul_below}
 use Rattle.field.proofs.KindLaws.{usable_field}
 use Rattle.field.proofs.Sums.{dot_below}

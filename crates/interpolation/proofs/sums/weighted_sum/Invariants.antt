@@ -1,16 +1,9 @@
 -- `weighted_sum` meets its contract. Invariant: the sum has the terms from i on.
-use mathlib.Core.Path.{◌≡◌, sym}
-use Prim.Native.Nat.{◌-◌, ◌≤◌, ◌<◌}
-use native.Mathlib.Omega.{arith}
-use lib.ListN.{length, get_or, drop}
-use Rattle.lists.proofs.Numbers.{below_at, below_drop}
-use Rattle.field.specs.Fields.{size_of}
+use mathlib.Core.Path.{◌≡◌}
+use Prim.Native.Nat.{◌≤◌}
+use lib.ListN.{length, drop}
 use Rattle.field.specs.Kinds.{modulus}
 use Rattle.field.specs.Inner.Sums.{dot}
-use Rattle.field.proofs.Bounds.{mul_below}
-use Rattle.field.proofs.KindLaws.{usable_field}
-use Rattle.field.proofs.Sums.{dot_below}
-use Rattle.interpolation.proofs.Dots.{dot_before, dot_none}
 use Rattle.interpolation.proofs.sums.weighted_sum.Given as goal
 
 abbrev pub invariant-loop-i : goal.invariant-loop-i
