@@ -1,13 +1,9 @@
 -- `fill_lane` meets its contract. Invariant: the first i symbols of the lane are written.
-use Prim.Native.Nat.{◌+◌, ◌-◌, ◌*◌, ◌≤◌, ◌<◌}
-use native.Mathlib.Nat.{sub-zero}
-use native.Mathlib.Omega.{arith}
+use Prim.Native.Nat.{◌-◌}
 use lib.ListN.{length}
 use Rattle.lists.specs.Rows.{from}
-use Rattle.lists.proofs.Fill.{Fills, fills_start, fills_put, fills_all}
-use Rattle.lists.proofs.Rows.{from_next, from_end, row_inside}
+use Rattle.lists.proofs.Fill.{Fills}
 use Rattle.layout.specs.Layout.{row_after_row, held, lane_of}
-use Rattle.layout.proofs.Places.{held_by_row}
 use Rattle.tiles.proofs.columns.fill_lane.Given as goal
 
 abbrev pub invariant-loop-i : goal.invariant-loop-i

@@ -1,6 +1,5 @@
 -- `gather` meets its contract: the lanes as a table, turned, or 64 lanes at a time.
 use mathlib.Core.Path.{◌∙◌}
-use borrow.Author.Rules.{rules}
 use Rattle.layout.proofs.Runs.{turned}
 use Rattle.tiles.proofs.columns.gather.Goals as goal
 

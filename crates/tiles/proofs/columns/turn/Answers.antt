@@ -1,12 +1,11 @@
 -- `turn` meets its contract. Invariant: the lanes below t are written, and the others are to come.
 use mathlib.Core.Path.{sym, ◌∙◌}
-use Prim.Native.Nat.{◌+◌, ◌-◌, ◌*◌, ◌≤◌}
+use Prim.Native.Nat.{◌+◌, ◌*◌, ◌≤◌}
 use native.Mathlib.Nat.{sub-zero, zero-mul, mul_comm, mul-le-mul, le_refl}
 use native.Mathlib.Omega.{arith}
 use lib.ListN.{length}
-use Rattle.lists.specs.Rows.{rows_from}
 use Rattle.lists.proofs.Rows.{rows_next, rows_end, row_after, row_inside, part_size, part_length}
-use Rattle.lists.proofs.Fill.{Fills, fills_start, fills_part, fills_all}
+use Rattle.lists.proofs.Fill.{fills_start, fills_part, fills_all}
 use Rattle.layout.specs.Layout.{row_after_row, held, lane_of, rearranged}
 use Rattle.layout.proofs.Buffers.{length_lane}
 use Rattle.layout.proofs.Places.{buffer_by_lane}

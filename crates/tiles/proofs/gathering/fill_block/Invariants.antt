@@ -1,10 +1,6 @@
 -- `fill_block` meets its contract. The loop's invariant: the block holds the lanes below t.
 use Prim.Native.Nat.{◌-◌, ◌≤◌}
-use mathlib.Core.Path.{◌≡◌, ◌∙◌, sym}
-use Rattle.lists.proofs.Rows.{row_inside}
 use Rattle.tiles.specs.Inner.Tiles.{BlockOf}
-use Rattle.tiles.proofs.Gathered.{block_none, block_lane}
-use native.Mathlib.Omega.{arith}
 use Rattle.tiles.proofs.gathering.fill_block.Given as goal
 
 abbrev pub invariant-loop-t : goal.invariant-loop-t

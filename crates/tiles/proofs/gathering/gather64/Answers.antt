@@ -1,7 +1,6 @@
 -- `gather64` meets its contract, by one way or another.
 use mathlib.Core.Path.{refl}
 use Rattle.tiles.proofs.Blocks.{turned_in}
-use borrow.Author.Rules.{rules}
 use native.Mathlib.Omega.{arith}
 use Rattle.tiles.proofs.gathering.gather64.Goals as goal
 

@@ -1,16 +1,9 @@
 -- `gather_few` meets its contract. The loop's invariant: the rows below j are in the tile.
-use Prim.Native.Nat.{◌+◌, ◌*◌, ◌-◌, ◌%◌, ◌≤◌}
-use mathlib.Core.Path.{◌≡◌, refl, ◌∙◌, sym}
+use Prim.Native.Nat.{◌+◌, ◌-◌, ◌%◌, ◌≤◌}
+use mathlib.Core.Path.{◌≡◌}
 use lib.ListN.{length}
-use Rattle.lists.proofs.Rows.{part_length, part_size}
-use Rattle.layout.specs.Layout.{lane_after_lane, held, lane_of}
-use Rattle.layout.proofs.Runs.{length_replaced}
-use Rattle.tiles.specs.Inner.Squares.{as_rows}
+use Rattle.layout.specs.Layout.{lane_after_lane, held}
 use Rattle.tiles.specs.Inner.Tiles.{TileOf}
-use Rattle.tiles.proofs.Blocks.{rows_turned}
-use Rattle.tiles.proofs.Gathered.{tile_none, tile_more, tile_lane, block_rows, length_rows_of}
-use native.Mathlib.Omega.{arith}
-use borrow.Author.Rules.{rules}
 use Rattle.tiles.proofs.gathering.gather_few.Given as goal
 
 abbrev pub invariant-loop-j : goal.invariant-loop-j

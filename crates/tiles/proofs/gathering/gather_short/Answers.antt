@@ -6,7 +6,6 @@ use native.Mathlib.Nat.{mul-le-mul}
 use lib.ListN.{length, drop, get_or-append, length-append, length-drop}
 use lib.Seq.{length-take-le}
 use Rattle.tiles.proofs.Blocks.{turned_in}
-use borrow.Author.Rules.{rules}
 use native.Mathlib.Omega.{arith}
 use Rattle.tiles.proofs.gathering.gather_short.Goals as goal
 use Rattle.tiles.proofs.gathering.gather_short.Goals.{After-block-lanes, After-copy, Start}

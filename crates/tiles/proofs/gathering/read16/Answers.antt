@@ -5,7 +5,6 @@ use lib.ListN.{length, take, drop}
 use Rattle.lists.proofs.Rows.{part_length, part_size, get_d_part}
 use Rattle.tiles.proofs.Gathered.{read_put}
 use native.Mathlib.Omega.{arith}
-use borrow.Author.Rules.{rules}
 use Rattle.tiles.proofs.gathering.read16.Goals as goal
 
 pub returns-then-left-ge16 : goal.returns-then-left-ge16

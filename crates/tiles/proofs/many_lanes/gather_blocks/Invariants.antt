@@ -1,11 +1,8 @@
 -- `gather_blocks` meets its contract. The loop's invariant: the lanes before `first` are gathered.
-use mathlib.Core.Path.{◌≡◌, refl, ◌∙◌}
-use Prim.Native.Nat.{◌+◌, ◌-◌, ◌*◌, ◌≤◌}
-use native.Mathlib.Omega.{arith}
+use mathlib.Core.Path.{◌≡◌}
+use Prim.Native.Nat.{◌-◌, ◌≤◌}
 use lib.ListN.{length}
-use Rattle.lists.proofs.Rows.{part_length}
-use Rattle.layout.proofs.Runs.{lanes_inside}
-use Rattle.tiles.proofs.Beside.{Gathered, gathered_none, gathered_more, gathered_all}
+use Rattle.tiles.proofs.Beside.{Gathered}
 use Rattle.tiles.proofs.many_lanes.gather_blocks.Given as goal
 
 abbrev pub invariant-loop-first : goal.invariant-loop-first

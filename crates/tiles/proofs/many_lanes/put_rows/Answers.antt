@@ -1,10 +1,9 @@
 -- `put_rows` meets its contract. The loop's invariant: the rows below r have their lanes.
 use mathlib.Core.Path.{◌≡◌, sym, ◌∙◌}
-use Prim.Native.Nat.{◌+◌, ◌-◌, ◌*◌, ◌≤◌}
+use Prim.Native.Nat.{◌+◌, ◌*◌, ◌≤◌}
 use native.Mathlib.Omega.{arith}
 use lib.ListN.{length}
 use Rattle.lists.proofs.Rows.{row_inside, part_length, part_size}
-use Rattle.tiles.specs.Inner.Beside.{Beside}
 use Rattle.tiles.proofs.Beside.{beside_none, beside_row}
 use Rattle.tiles.proofs.many_lanes.put_rows.Goals as goal
 use Rattle.tiles.proofs.many_lanes.put_rows.Goals.{In-loop-r}

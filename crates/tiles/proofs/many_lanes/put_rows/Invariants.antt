@@ -1,11 +1,6 @@
 -- `put_rows` meets its contract. The loop's invariant: the rows below r have their lanes.
-use mathlib.Core.Path.{◌≡◌, sym, ◌∙◌}
-use Prim.Native.Nat.{◌+◌, ◌-◌, ◌*◌, ◌≤◌}
-use native.Mathlib.Omega.{arith}
-use lib.ListN.{length}
-use Rattle.lists.proofs.Rows.{row_inside, part_length, part_size}
+use Prim.Native.Nat.{◌-◌, ◌≤◌}
 use Rattle.tiles.specs.Inner.Beside.{Beside}
-use Rattle.tiles.proofs.Beside.{beside_none, beside_row}
 use Rattle.tiles.proofs.many_lanes.put_rows.Given as goal
 
 abbrev pub invariant-loop-r : goal.invariant-loop-r

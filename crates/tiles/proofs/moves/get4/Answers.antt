@@ -1,6 +1,4 @@
-
 use Rattle.tiles.proofs.Bytes.{read4}
-use borrow.Author.Rules.{rules}
 use Rattle.tiles.proofs.moves.get4.Goals as goal
 
 pub returns : goal.returns

@@ -1,6 +1,4 @@
-
 use Rattle.tiles.proofs.Bytes.{read8}
-use borrow.Author.Rules.{rules}
 use Rattle.tiles.proofs.moves.get8.Goals as goal
 
 pub returns : goal.returns

@@ -1,9 +1,7 @@
-
 use mathlib.Core.Path.{ap, ◌∙◌}
 use lib.Seq.{take_all}
 use Rattle.tiles.specs.Inner.Words.{patched}
 use Rattle.tiles.proofs.Rests.{patched_twice}
-use borrow.Author.Rules.{rules}
 use native.Mathlib.Omega.{arith}
 use Rattle.tiles.proofs.moves.move16.Goals as goal
 

@@ -1,6 +1,4 @@
-
 use Rattle.tiles.specs.Inner.Words.{patched}
-use borrow.Author.Rules.{rules}
 use Rattle.tiles.proofs.moves.move4_at.Goals as goal
 
 pub returns : goal.returns

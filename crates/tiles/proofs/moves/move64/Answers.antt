@@ -1,9 +1,7 @@
 -- `move64` meets its contract. The loop's invariant: the bytes before a are those of the source.
-use Prim.Native.Nat.{◌+◌, ◌-◌, ◌≤◌, ◌%◌}
-use mathlib.Core.Path.{◌≡◌, refl, sym, ◌∙◌}
-use lib.ListN.{length, drop}
+use mathlib.Core.Path.{refl, sym, ◌∙◌}
 use Rattle.lists.proofs.Rows.{part_length}
-use Rattle.lists.proofs.Fill.{Fills, fills_start}
+use Rattle.lists.proofs.Fill.{fills_start}
 use Rattle.tiles.proofs.Parts.{fills_stretch, fills_whole}
 use native.Mathlib.Omega.{arith}
 use Rattle.tiles.proofs.moves.move64.Goals as goal

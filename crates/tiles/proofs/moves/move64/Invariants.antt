@@ -1,11 +1,8 @@
 -- `move64` meets its contract. The loop's invariant: the bytes before a are those of the source.
-use Prim.Native.Nat.{◌+◌, ◌-◌, ◌≤◌, ◌%◌}
-use mathlib.Core.Path.{◌≡◌, refl, sym, ◌∙◌}
-use lib.ListN.{length, drop}
-use Rattle.lists.proofs.Rows.{part_length}
-use Rattle.lists.proofs.Fill.{Fills, fills_start}
-use Rattle.tiles.proofs.Parts.{fills_stretch, fills_whole}
-use native.Mathlib.Omega.{arith}
+use Prim.Native.Nat.{◌-◌, ◌≤◌, ◌%◌}
+use mathlib.Core.Path.{◌≡◌}
+use lib.ListN.{drop}
+use Rattle.lists.proofs.Fill.{Fills}
 use Rattle.tiles.proofs.moves.move64.Given as goal
 
 abbrev pub invariant-loop-a : goal.invariant-loop-a

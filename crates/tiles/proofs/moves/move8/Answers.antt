@@ -1,6 +1,4 @@
-
 use mathlib.Core.Path.{◌∙◌}
-use borrow.Author.Rules.{rules}
 use Rattle.tiles.proofs.moves.move8.Goals as goal
 
 pub returns : goal.returns

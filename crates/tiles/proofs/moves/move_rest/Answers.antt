@@ -1,11 +1,9 @@
-
 use mathlib.Core.Path.{refl, sym, ap, ◌∙◌}
 use Prim.Native.Nat.{◌-◌}
 use lib.ListN.{length}
 use lib.Seq.{length-take-le}
 use Rattle.tiles.specs.Inner.Words.{patched}
 use Rattle.tiles.proofs.Rests.{patched_twice}
-use borrow.Author.Rules.{rules}
 use native.Mathlib.Omega.{arith}
 use Rattle.tiles.proofs.moves.move_rest.Goals as goal
 

@@ -1,7 +1,5 @@
-
 use Rattle.tiles.specs.Inner.Words.{bytes4}
 use Rattle.tiles.proofs.Bytes.{put_quad}
-use borrow.Author.Rules.{rules}
 use Rattle.tiles.proofs.moves.put4.Goals as goal
 
 pub returns : goal.returns

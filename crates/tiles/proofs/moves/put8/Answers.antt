@@ -1,8 +1,6 @@
-
 use lib.ListN.{length-set}
 use Rattle.tiles.specs.Inner.Words.{bytes8}
 use Rattle.tiles.proofs.Bytes.{put_eight}
-use borrow.Author.Rules.{rules}
 use native.Mathlib.Omega.{arith}
 use Rattle.tiles.proofs.moves.put8.Goals as goal
 

@@ -1,8 +1,8 @@
 -- `fill_blocks` meets its contract. The loop's invariant: the first b blocks are filled.
-use Prim.Native.Nat.{◌+◌, ◌*◌, ◌-◌, ◌≤◌}
+use Prim.Native.Nat.{◌+◌, ◌*◌, ◌-◌}
 use lib.ListN.{take, drop}
 use Rattle.lists.proofs.Rows.{row_after, part_length, part_size}
-use Rattle.lists.proofs.Parts.{Valued, valued_start, valued_part, valued_all}
+use Rattle.lists.proofs.Parts.{valued_start, valued_part, valued_all}
 use Rattle.tiles.specs.Inner.Squares.{as_lanes, blocks_of, placed}
 use Rattle.tiles.proofs.Blocks.{lanes_turned}
 use Rattle.tiles.proofs.Scattered.{block_byte, block_byte_lem, length_as_lanes}

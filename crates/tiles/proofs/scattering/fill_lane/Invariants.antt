@@ -1,13 +1,8 @@
-
-use mathlib.Core.Path.{◌≡◌, refl, ap, ◌∙◌}
-use Prim.Native.Nat.{◌+◌, ◌*◌, ◌-◌, ◌%◌, ◌≤◌, ◌<◌}
-use native.Mathlib.Nat.{le_refl}
-use lib.ListN.{length, take, drop, length-take, length-drop}
-use Rattle.lists.proofs.Rows.{part_length, part_size}
-use Rattle.tiles.specs.Inner.Squares.{placed, lane_at}
-use Rattle.lists.proofs.Parts.{Valued, valued_start, valued_part, valued_all}
-use Rattle.tiles.proofs.Rests.{lane_byte, lane_row, lane_rest, length_lane}
-use native.Mathlib.Omega.{arith}
+use mathlib.Core.Path.{◌≡◌}
+use Prim.Native.Nat.{◌-◌, ◌%◌, ◌≤◌}
+use lib.ListN.{length}
+use Rattle.lists.proofs.Parts.{Valued}
+use Rattle.tiles.proofs.Rests.{lane_byte}
 use Rattle.tiles.proofs.scattering.fill_lane.Given as goal
 
 abbrev pub invariant-loop-j : goal.invariant-loop-j

@@ -1,13 +1,7 @@
-
-use Prim.Native.Nat.{◌*◌, ◌-◌, ◌≤◌, ◌+◌}
-use native.Mathlib.Nat.{sub-zero, zero-mul, mul-le-mul, le_refl}
-use lib.ListN.{length}
+use Prim.Native.Nat.{◌*◌, ◌-◌, ◌≤◌}
 use Rattle.lists.specs.Rows.{rows_from}
-use Rattle.lists.proofs.Rows.{rows_next, rows_end, row_after, row_inside, part_size, part_length}
-use Rattle.lists.proofs.Fill.{Fills, fills_start, fills_part, fills_all}
+use Rattle.lists.proofs.Fill.{Fills}
 use Rattle.tiles.specs.Inner.Squares.{lane_at}
-use Rattle.tiles.proofs.Rests.{length_lane}
-use native.Mathlib.Omega.{arith}
 use Rattle.tiles.proofs.scattering.fill_lanes.Given as goal
 
 abbrev pub invariant-loop-t : goal.invariant-loop-t

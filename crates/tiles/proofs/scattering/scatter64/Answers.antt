@@ -1,7 +1,6 @@
 -- `scatter64` meets its contract, by one way or another.
 use mathlib.Core.Path.{◌∙◌}
 use Rattle.tiles.proofs.Blocks.{turned_out}
-use borrow.Author.Rules.{rules}
 use native.Mathlib.Omega.{arith}
 use Rattle.tiles.proofs.scattering.scatter64.Goals as goal
 

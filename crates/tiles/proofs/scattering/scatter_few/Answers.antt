@@ -1,6 +1,5 @@
 -- `scatter_few` meets its contract: the rows become blocks, and the blocks lanes.
 use Rattle.tiles.proofs.Scattered.{lanes_of_tile}
-use borrow.Author.Rules.{rules}
 use Rattle.tiles.proofs.scattering.scatter_few.Goals as goal
 
 pub returns : goal.returns

@@ -1,12 +1,11 @@
 -- `scatter_short` meets its contract: the scratch begins with the lanes.
-use Prim.Native.Nat.{◌*◌, ◌≤◌, ◌+◌, ◌<◌}
-use mathlib.Core.Path.{◌≡◌, sym, ◌∙◌}
+use Prim.Native.Nat.{◌*◌, ◌≤◌, ◌+◌}
+use mathlib.Core.Path.{sym, ◌∙◌}
 use native.Mathlib.Nat.{mul-le-mul}
 use lib.ListN.{length, take}
 use lib.Seq.{length-take-le, get_or-take}
 use Rattle.lists.proofs.Rows.{row_inside}
 use Rattle.tiles.proofs.Blocks.{turned_out}
-use borrow.Author.Rules.{rules}
 use native.Mathlib.Omega.{arith}
 use Rattle.tiles.proofs.scattering.scatter_short.Goals as goal
 use Rattle.tiles.proofs.scattering.scatter_short.Goals.{After-turn_all, Start}

@@ -2,7 +2,6 @@
 use Prim.Native.Nat.{ℕ, ◌*◌, ◌/◌, ◌≤◌}
 use native.Mathlib.Nat.{le-div_iff_mul-le, mul-div-le, mul-le-mul, le_refl, le_trans, one-mul}
 use native.Mathlib.Omega.{arith}
-use borrow.Author.Rules.{rules}
 use Rattle.tiles.proofs.size.tile_lanes.Goals as goal
 use Rattle.tiles.proofs.size.tile_lanes.Goals.{After-smaller-fitting}
 

@@ -1,9 +1,7 @@
-
 use mathlib.Core.Path.{◌≡◌}
-use Prim.Native.Nat.{◌*◌, ◌-◌, ◌≤◌, ◌+◌}
+use Prim.Native.Nat.{◌*◌, ◌≤◌, ◌+◌}
 use lib.ListN.{length}
 use Rattle.lists.proofs.Rows.{part_length}
-use Rattle.tiles.specs.Inner.Squares.{Squared}
 use Rattle.tiles.proofs.Blocks.{squared_none, squared_row, row_fits}
 use native.Mathlib.Omega.{arith}
 use Rattle.tiles.proofs.squares.put_square.Goals as goal
@@ -11,11 +9,10 @@ use Rattle.tiles.proofs.squares.put_square.Goals.{In-loop-i}
 
 -- row i has the square's bytes
 inside : (c : In-loop-i) → let l = c.loop-i in (l.i * c.args.width + c.args.first + 16 ≤ length c.args.rows.now) × (length l.rows ≡ length c.args.rows.now)
-inside c =
-    (
-      row_fits c.args.width c.args.first c.loop-i.i (length c.args.rows.now) c.loop-i-test.true c.requires.1,
-      c.loop-i.invariant.1.long,
-    )
+inside c = (
+  row_fits c.args.width c.args.first c.loop-i.i (length c.args.rows.now) c.loop-i-test.true c.requires.1,
+  c.loop-i.invariant.1.long,
+)
 
 pub loop-i-init : goal.loop-i-init
 loop-i-init c = (omega arith, squared_none c.args.a.now c.args.width c.args.first c.args.rows.now c.requires.0 c.requires.1)

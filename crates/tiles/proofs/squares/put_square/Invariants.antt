@@ -1,11 +1,5 @@
-
-use mathlib.Core.Path.{◌≡◌}
-use Prim.Native.Nat.{◌*◌, ◌-◌, ◌≤◌, ◌+◌}
-use lib.ListN.{length}
-use Rattle.lists.proofs.Rows.{part_length}
+use Prim.Native.Nat.{◌-◌, ◌≤◌}
 use Rattle.tiles.specs.Inner.Squares.{Squared}
-use Rattle.tiles.proofs.Blocks.{squared_none, squared_row, row_fits}
-use native.Mathlib.Omega.{arith}
 use Rattle.tiles.proofs.squares.put_square.Given as goal
 
 abbrev pub invariant-loop-i : goal.invariant-loop-i

@@ -1,9 +1,7 @@
-
-use Prim.Native.Nat.{◌*◌, ◌-◌, ◌≤◌}
 use lib.ListN.{length-set}
 use Rattle.tiles.specs.Inner.Squares.{placed, shuffled}
-use Rattle.lists.proofs.Parts.{Valued, valued_start, valued_all}
-use Rattle.tiles.proofs.Shuffles.{shuffled_at, shuffle_turn}
+use Rattle.lists.proofs.Parts.{valued_start, valued_all}
+use Rattle.tiles.proofs.Shuffles.{shuffle_turn}
 use native.Mathlib.Omega.{arith}
 use Rattle.tiles.proofs.squares.shuffle.Goals as goal
 

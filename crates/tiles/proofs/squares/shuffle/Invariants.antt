@@ -1,10 +1,6 @@
-
 use Prim.Native.Nat.{◌*◌, ◌-◌, ◌≤◌}
-use lib.ListN.{length-set}
-use Rattle.tiles.specs.Inner.Squares.{placed, shuffled}
-use Rattle.lists.proofs.Parts.{Valued, valued_start, valued_all}
-use Rattle.tiles.proofs.Shuffles.{shuffled_at, shuffle_turn}
-use native.Mathlib.Omega.{arith}
+use Rattle.lists.proofs.Parts.{Valued}
+use Rattle.tiles.proofs.Shuffles.{shuffled_at}
 use Rattle.tiles.proofs.squares.shuffle.Given as goal
 
 abbrev pub invariant-loop-i : goal.invariant-loop-i

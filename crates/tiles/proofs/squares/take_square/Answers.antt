@@ -1,9 +1,8 @@
-
 use Prim.Native.Nat.{◌*◌, ◌-◌, ◌≤◌, ◌+◌}
 use lib.ListN.{length, take, drop}
 use Rattle.lists.proofs.Rows.{row_after, part_length, part_size}
 use Rattle.tiles.specs.Inner.Squares.{square_at, placed}
-use Rattle.lists.proofs.Parts.{Valued, valued_start, valued_part, valued_all}
+use Rattle.lists.proofs.Parts.{valued_start, valued_part, valued_all}
 use Rattle.tiles.proofs.Blocks.{square_byte, square_row, row_fits}
 use native.Mathlib.Omega.{arith}
 use Rattle.tiles.proofs.squares.take_square.Goals as goal

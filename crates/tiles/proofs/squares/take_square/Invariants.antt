@@ -1,11 +1,6 @@
-
-use Prim.Native.Nat.{◌*◌, ◌-◌, ◌≤◌, ◌+◌}
-use lib.ListN.{length, take, drop}
-use Rattle.lists.proofs.Rows.{row_after, part_length, part_size}
-use Rattle.tiles.specs.Inner.Squares.{square_at, placed}
-use Rattle.lists.proofs.Parts.{Valued, valued_start, valued_part, valued_all}
-use Rattle.tiles.proofs.Blocks.{square_byte, square_row, row_fits}
-use native.Mathlib.Omega.{arith}
+use Prim.Native.Nat.{◌*◌, ◌-◌, ◌≤◌}
+use Rattle.lists.proofs.Parts.{Valued}
+use Rattle.tiles.proofs.Blocks.{square_byte}
 use Rattle.tiles.proofs.squares.take_square.Given as goal
 
 abbrev pub invariant-loop-i : goal.invariant-loop-i

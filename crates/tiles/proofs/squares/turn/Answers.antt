@@ -1,8 +1,6 @@
-
 use mathlib.Core.Path.{ap, ◌∙◌}
 use Rattle.tiles.specs.Inner.Squares.{shuffled}
 use Rattle.tiles.proofs.Shuffles.{turned_shuffled}
-use borrow.Author.Rules.{rules}
 use Rattle.tiles.proofs.squares.turn.Goals as goal
 
 pub returns : goal.returns

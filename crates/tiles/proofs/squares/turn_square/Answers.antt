@@ -1,7 +1,5 @@
-
 use mathlib.Core.Path.{ap, ◌∙◌}
 use Rattle.tiles.specs.Inner.Squares.{turned}
-use borrow.Author.Rules.{rules}
 use Rattle.tiles.proofs.squares.turn_square.Goals as goal
 
 pub returns : goal.returns

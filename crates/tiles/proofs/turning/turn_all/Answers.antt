@@ -1,13 +1,10 @@
 -- `turn_all` meets its contract. The loop's invariant: the columns that are done are turned.
-use Prim.Native.Nat.{◌+◌, ◌*◌, ◌-◌, ◌≤◌, ◌<◌}
-use mathlib.Core.Path.{◌≡◌, sym, ◌∙◌}
-use native.Mathlib.Nat.{add-mul}
-use lib.ListN.{length, take, drop, length-drop}
-use Rattle.lists.proofs.Rows.{row_inside, part_rest}
-use Rattle.tiles.specs.Inner.Squares.{TurnedTo}
+use Prim.Native.Nat.{◌+◌, ◌*◌, ◌≤◌}
+use mathlib.Core.Path.{◌≡◌}
+use lib.ListN.{length, length-drop}
+use Rattle.lists.proofs.Rows.{part_rest}
 use Rattle.tiles.proofs.Blocks.{columns_none, columns_more, columns_left}
 use native.Mathlib.Omega.{arith}
-use borrow.Author.Rules.{rules}
 use Rattle.tiles.proofs.turning.turn_all.Goals as goal
 use Rattle.tiles.proofs.turning.turn_all.Goals.{After-square_start-first}
 
@@ -32,13 +29,12 @@ pub slice_bounds-turn_sixteen-start : goal.slice_bounds-turn_sixteen-start
 slice_bounds-turn_sixteen-start c = omega (arith, (inside c).1)
 
 pub turn_sixteen-requires : goal.turn_sixteen-requires
-turn_sixteen-requires c =
-    (
-      c.requires.0,
-      omega (arith, c.square_start-first.ensures.2, c.requires.2),
-      c.requires.3,
-      rw part_rest (omega (arith, (inside (goal.at.turn_sixteen-requires c).After-square_start-first).1, length-drop (c.square_start-first.result * c.args.to) c.loop-done.out)),
-    )
+turn_sixteen-requires c = (
+  c.requires.0,
+  omega (arith, c.square_start-first.ensures.2, c.requires.2),
+  c.requires.3,
+  rw part_rest (omega (arith, (inside (goal.at.turn_sixteen-requires c).After-square_start-first).1, length-drop (c.square_start-first.result * c.args.to) c.loop-done.out)),
+)
 
 pub overflow_add-done : goal.overflow_add-done
 overflow_add-done c = omega (arith, c.square_start-first.ensures.2, (inside (goal.at.overflow_add-done c).After-square_start-first).1)

@@ -1,13 +1,10 @@
 -- `turn_sixteen` meets its contract. The loop's invariant: the rows that are done are turned.
-use Prim.Native.Nat.{◌+◌, ◌*◌, ◌-◌, ◌≤◌, ◌<◌}
-use mathlib.Core.Path.{◌≡◌, sym, ◌∙◌}
-use native.Mathlib.Nat.{add-mul}
-use lib.ListN.{length, take, drop, length-drop}
-use Rattle.lists.proofs.Rows.{row_inside, part_rest}
-use Rattle.tiles.specs.Inner.Squares.{TurnedTo}
+use Prim.Native.Nat.{◌+◌, ◌*◌, ◌≤◌}
+use mathlib.Core.Path.{◌≡◌}
+use lib.ListN.{length, length-drop}
+use Rattle.lists.proofs.Rows.{part_rest}
 use Rattle.tiles.proofs.Blocks.{turned_none, turned_more, rows_left}
 use native.Mathlib.Omega.{arith}
-use borrow.Author.Rules.{rules}
 use Rattle.tiles.proofs.turning.turn_sixteen.Goals as goal
 use Rattle.tiles.proofs.turning.turn_sixteen.Goals.{After-square_start-at}
 

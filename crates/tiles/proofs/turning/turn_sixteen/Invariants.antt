@@ -1,13 +1,6 @@
 -- `turn_sixteen` meets its contract. The loop's invariant: the rows that are done are turned.
-use Prim.Native.Nat.{◌+◌, ◌*◌, ◌-◌, ◌≤◌, ◌<◌}
-use mathlib.Core.Path.{◌≡◌, sym, ◌∙◌}
-use native.Mathlib.Nat.{add-mul}
-use lib.ListN.{length, take, drop, length-drop}
-use Rattle.lists.proofs.Rows.{row_inside, part_rest}
+use Prim.Native.Nat.{◌-◌, ◌≤◌}
 use Rattle.tiles.specs.Inner.Squares.{TurnedTo}
-use Rattle.tiles.proofs.Blocks.{turned_none, turned_more, rows_left}
-use native.Mathlib.Omega.{arith}
-use borrow.Author.Rules.{rules}
 use Rattle.tiles.proofs.turning.turn_sixteen.Given as goal
 
 abbrev pub invariant-loop-done : goal.invariant-loop-done
