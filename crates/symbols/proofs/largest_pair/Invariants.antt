@@ -1,16 +1,11 @@
 -- `largest_pair` meets its contract. The loop's invariant: all are below m where the largest so far and those from i on are.
-use mathlib.Core.Path.{◌≡◌, ◌∙◌}
+use mathlib.Core.Path.{◌≡◌}
 use mathlib.Core.Bool.{◌&&◌}
 use Prim.Native.Nat.{ℕ, ◌-◌, ◌≤◌, ◌<◌}
-use native.Mathlib.Nat.{sub-zero}
-use native.Mathlib.Omega.{arith}
-use borrow.Author.Rules.{rules}
-use borrow.Author.Tests.{lt-ltb}
 use lib.Dec.{ltb}
 use Rattle.lists.specs.Numbers.{all_below}
 use Rattle.lists.specs.Rows.{from}
 use Rattle.layout.specs.Width.{symbol_at, symbols_of}
-use Rattle.symbols.proofs.Below.{below_larger, below_largest}
 use Rattle.symbols.proofs.largest_pair.Given as goal
 
 abbrev pub invariant-loop-i : goal.invariant-loop-i

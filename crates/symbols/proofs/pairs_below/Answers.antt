@@ -1,6 +1,5 @@
 -- `pairs_below` meets its contract.
 use mathlib.Core.Path.{sym}
-use borrow.Author.Rules.{rules}
 use Rattle.symbols.proofs.pairs_below.Goals as goal
 
 pub returns : goal.returns

@@ -1,10 +1,7 @@
 -- `read_symbols` meets its contract. The loop's invariant: the symbols below i are read.
-use Prim.Native.Nat.{◌-◌, ◌/◌}
-use native.Mathlib.Omega.{arith}
-use lib.ListN.{length}
 use Rattle.lists.specs.Padded.{zeros}
-use Rattle.lists.proofs.Fill.{Filled, filled_start, filled_put, filled_end}
-use Rattle.layout.specs.Width.{symbol_at, symbols_of}
+use Rattle.lists.proofs.Fill.{filled_start, filled_put, filled_end}
+use Rattle.layout.specs.Width.{symbols_of}
 use Rattle.symbols.proofs.Sizes.{few_symbols}
 use Rattle.symbols.proofs.read_symbols.Goals as goal
 

@@ -1,12 +1,9 @@
 -- `symbols_below` meets its contract. The loop's invariant: all are below the size where those from i on are.
-use mathlib.Core.Path.{◌≡◌, sym, ◌∙◌}
-use Prim.Native.Nat.{◌-◌, ◌≤◌}
+use mathlib.Core.Path.{sym, ◌∙◌}
 use native.Mathlib.Nat.{sub-zero, div-le_self}
 use native.Mathlib.Omega.{arith}
 use lib.ListN.{length}
-use Rattle.lists.specs.Numbers.{all_below}
-use Rattle.lists.specs.Rows.{from}
-use Rattle.layout.specs.Width.{symbol_at, symbols_of}
+use Rattle.layout.specs.Width.{symbols_of}
 use Rattle.symbols.proofs.Below.{below_step, below_stop, below_none}
 use Rattle.symbols.proofs.symbols_below.Goals as goal
 

@@ -1,5 +1,4 @@
 -- `width_of` meets its contract.
-use borrow.Author.Rules.{rules}
 use Rattle.field.proofs.Widths.{bytes_range}
 use Rattle.generator.specs.Records.{modulus_of, width}
 use Rattle.symbols.proofs.width_of.Goals as goal

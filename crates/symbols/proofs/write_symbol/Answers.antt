@@ -1,7 +1,6 @@
 -- `write_symbol` meets its contract: one byte, or the high and the low byte.
 use mathlib.Core.Path.{◌≡◌}
 use native.Mathlib.Omega.{arith}
-use borrow.Author.Rules.{rules}
 use lib.ListN.{length-set}
 use Rattle.symbols.proofs.Sizes.{is_two}
 use Rattle.symbols.proofs.Written.{one_written, two_written, byte_fits}

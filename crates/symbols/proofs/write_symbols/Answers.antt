@@ -1,12 +1,12 @@
 -- `write_symbols` meets its contract. The loop's invariant: the bytes of the symbols below i are written.
-use Prim.Native.Nat.{◌+◌, ◌-◌, ◌*◌, ◌≤◌}
+use Prim.Native.Nat.{◌+◌, ◌*◌, ◌≤◌}
 use native.Mathlib.Nat.{zero-mul, mul-le-mul, le_refl}
 use native.Mathlib.Omega.{arith}
-use lib.ListN.{length, get_or, drop}
-use Rattle.lists.proofs.Fill.{Fills, fills_start, fills_part, fills_all}
+use lib.ListN.{length, get_or}
+use Rattle.lists.proofs.Fill.{fills_start, fills_part, fills_all}
 use Rattle.lists.proofs.Numbers.{below_at}
 use Rattle.lists.proofs.Rows.{row_after, row_inside, part_size, part_length}
-use Rattle.layout.specs.Width.{symbol_bytes, bytes_of}
+use Rattle.layout.specs.Width.{symbol_bytes}
 use Rattle.layout.proofs.Widths.{length_symbol}
 use Rattle.symbols.proofs.Written.{bytes_next, bytes_none}
 use Rattle.symbols.proofs.write_symbols.Goals as goal
