@@ -1,6 +1,5 @@
 -- `lagrange_basis` meets its contract: each part of the basis is made of the points.
 use mathlib.Core.Path.{◌≡◌, sym}
-use borrow.Author.Rules.{rules}
 use lib.ListN.{length, take}
 use Rattle.lists.proofs.Padding.{take_padded}
 use Rattle.field.specs.Kinds.{modulus}

@@ -2,11 +2,10 @@
 use mathlib.Core.Path.{◌≡◌, sym, ◌∙◌}
 use Prim.Native.Nat.{◌≤◌}
 use native.Mathlib.Omega.{arith}
-use borrow.Author.Rules.{rules}
 use lib.ListN.{length, take}
 use Rattle.lists.proofs.Padding.{take_padded}
 use Rattle.field.proofs.Bounds.{power_below}
-use Rattle.generator.specs.Records.{modulus_of, size}
+use Rattle.generator.specs.Records.{modulus_of}
 use Rattle.generator.proofs.Recovery.{nodes_places}
 use Rattle.interpolation.specs.Inner.Points.{SymbolList, points_of}
 use Rattle.interpolation.specs.Inner.Lagrange.{scales_of}
