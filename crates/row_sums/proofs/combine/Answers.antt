@@ -16,8 +16,7 @@ use Rattle.field.proofs.KindLaws.{usable_prime}
 use Rattle.field.proofs.Widths.{one_byte}
 use Rattle.row_sums.specs.Inner.Combined.{TileRows, WeightedRows}
 use Rattle.row_sums.proofs.TileSums.{narrow_rows, narrow_sums}
-use Rattle.row_sums.proofs.combine.Statement.{statement}
-use Rattle.row_sums.proofs.combine.Tie as tie
+use Rattle.row_sums.proofs.combine.Goals as goal
 
 module _ {count l : ℕ} {ws s : List ℕ} {out : ℕ} where
   -- what is known over a prime field
@@ -34,33 +33,17 @@ one : bytes_for 0 ≡ 1
 unfolding size_of
 one = one_byte 0 (le_refl 256)
 
-enum-known-field : tie.Need-enum-known-field
-enum-known-field c = search rules
+pub combine_prime-requires : goal.combine_prime-requires
+combine_prime-requires c = prime_rows _ (rw c.in-Prime.is at c.requires)
 
-combine-prime-requires : tie.Need-combine-prime-requires
-combine-prime-requires c κs = let start : tie.Start = search in prime_rows _ (rw c.before.before.field.given.1 at start.pre)
-
-enum_told : tie.Need-enum-told
-enum_told c = search rules
-
-combine-requires : tie.Need-combine-requires
+pub combine-requires : goal.combine-requires
 unfolding size_of
-combine-requires c κs = let start : tie.Start = search in narrow_rows _ _ _ _ _ _ (byte_rows _ (rw c.before.enum_told.given.1 at start.pre)) one
+combine-requires c = narrow_rows _ _ _ _ _ _ (byte_rows _ (rw c.in-Binary.is at c.requires)) one
 
-same_length : tie.Need-same-length
-same_length c = search rules
-
-returns : tie.Need-returns
+pub returns-in-Prime : goal.returns-in-Prime
 unfolding modulus
-returns c = rw c.before.before.before.before.before.field.given.1 c.before.before.combine-prime.ensures
+returns-in-Prime c = rw c.in-Prime.is c.combine_prime.ensures
 
-same-length-2 : tie.Need-same-length-2
-same-length-2 c = search rules
-
-returns-2 : tie.Need-returns-2
+pub returns-in-Binary : goal.returns-in-Binary
 unfolding modulus
-returns-2 c = let start : tie.Start = search in rw c.before.before.before.before.enum_told.given.1 (c.before.before.combine.ensures ∙ narrow_sums _ _ _ _ _ _ (byte_rows _ (rw c.before.before.before.before.enum_told.given.1 at start.pre)) one)
-
-pub combine-spec : {M : Type 1} → statement M
-combine-spec =
-    tie.close (tie.spec enum-known-field combine-prime-requires enum_told combine-requires same_length returns same-length-2 returns-2)
+returns-in-Binary c = rw c.in-Binary.is (c.combine.ensures ∙ narrow_sums _ _ _ _ _ _ (byte_rows _ (rw c.in-Binary.is at c.requires)) one)
