@@ -1,5 +1,4 @@
 -- `first` meets its contract.
-use borrow.Author.Rules.{rules}
 use mathlib.Core.Path.{sym}
 use Rattle.refusals.proofs.Order.{first_given}
 use Rattle.refusals.proofs.conditions.first.Goals as goal

@@ -1,6 +1,5 @@
 -- `lane_length_bad` meets its contract.
 use native.Mathlib.Nat.{mul-one}
-use borrow.Author.Rules.{rules}
 use Rattle.refusals.proofs.conditions.lane_length_bad.Goals as goal
 
 pub returns : goal.returns

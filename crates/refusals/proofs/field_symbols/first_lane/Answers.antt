@@ -1,5 +1,4 @@
 -- `first_lane` meets its contract.
-use borrow.Author.Rules.{rules}
 use mathlib.Core.Path.{sym}
 use Rattle.refusals.proofs.Order.{first_given}
 use Rattle.refusals.proofs.field_symbols.first_lane.Goals as goal

@@ -1,5 +1,4 @@
 -- `first_shares` meets its contract.
-use borrow.Author.Rules.{rules}
 use mathlib.Core.Path.{sym}
 use native.Mathlib.Omega.{arith}
 use Rattle.refusals.proofs.Order.{first_given}

@@ -1,13 +1,11 @@
 -- `shares_bad` meets its contract. Invariant: the answer for the buffer is the answer for the lanes from `lane` on.
-use Prim.Native.Nat.{ℕ, ◌+◌, ◌-◌, ◌*◌, ◌≤◌}
+use Prim.Native.Nat.{ℕ, ◌+◌, ◌*◌, ◌≤◌}
 use mathlib.Core.Path.{◌≡◌, sym, ap, ◌∙◌}
 use native.Mathlib.Nat.{zero-mul, mul_comm, mul_assoc, mul-le-mul, le_refl}
 use native.Mathlib.Omega.{arith}
-use borrow.Author.Rules.{rules}
-use lib.ListN.{length, drop}
+use lib.ListN.{length}
 use Rattle.lists.proofs.Rows.{row_after, row_inside}
 use Rattle.generator.specs.Records.{width}
-use Rattle.refusals.specs.Conditions.{symbols_bad}
 use Rattle.refusals.proofs.Walks.{part_good, part_bad, parts_end}
 use Rattle.refusals.proofs.field_symbols.shares_bad.Goals as goal
 use Rattle.refusals.proofs.field_symbols.shares_bad.Goals.{After-width_of-w, In-loop-lane}

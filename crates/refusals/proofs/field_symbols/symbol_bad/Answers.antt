@@ -1,5 +1,4 @@
 -- `symbol_bad` meets its contract.
-use borrow.Author.Rules.{rules}
 use Rattle.refusals.specs.Conditions.{symbol_bad}
 use Rattle.refusals.proofs.field_symbols.symbol_bad.Goals as goal
 

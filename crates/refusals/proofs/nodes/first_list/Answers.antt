@@ -1,6 +1,5 @@
 -- `first_list` meets its contract: the range is tested before repeats, and the symbols last.
 use mathlib.Core.Path.{sym}
-use borrow.Author.Rules.{rules}
 use Rattle.refusals.specs.Faults.{list_fault}
 use Rattle.refusals.proofs.Order.{first_given, then, before}
 use Rattle.refusals.proofs.nodes.first_list.Goals as goal

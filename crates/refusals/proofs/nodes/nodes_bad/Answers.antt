@@ -1,7 +1,6 @@
 -- `nodes_bad` meets its contract.
 use mathlib.Core.Path.{ap}
 use mathlib.Core.Bool.{not}
-use borrow.Author.Rules.{rules}
 use Rattle.refusals.specs.Conditions.{nodes_bad}
 use Rattle.refusals.proofs.nodes.nodes_bad.Goals as goal
 

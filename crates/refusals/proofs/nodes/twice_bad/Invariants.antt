@@ -1,15 +1,10 @@
 -- `twice_bad` meets its contract. Invariants: the answer for the whole list is the answer for what is left of it; in the inner
 -- loop the node at i is compared with what is left from j on; after a repeat the answer is no.
-use Prim.Native.Nat.{ℕ, ◌≤◌, ◌<◌, ◌+◌, ◌-◌}
+use Prim.Native.Nat.{◌≤◌, ◌<◌, ◌+◌, ◌-◌}
 use mathlib.Core.Bool.{false, ◌&&◌, not}
-use mathlib.Core.Path.{◌≡◌, ◌∙◌}
-use native.Mathlib.Omega.{arith}
-use borrow.Author.Rules.{rules}
-use borrow.Author.Tests.{eq-eqb, ne_eqb}
-use lib.ListN.{length, drop, get_or, drop_of_length-le}
+use mathlib.Core.Path.{◌≡◌}
+use lib.ListN.{length, drop, get_or}
 use Rattle.lists.specs.Numbers.{is_in, distinct}
-use Rattle.lists.proofs.Front.{drop_next}
-use Rattle.refusals.specs.Conditions.{twice_bad}
 use Rattle.refusals.proofs.nodes.twice_bad.Given as goal
 
 abbrev pub invariant-loop-j : goal.invariant-loop-j
