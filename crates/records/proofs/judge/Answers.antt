@@ -1,6 +1,5 @@
 -- `judge` meets its contract.
 use mathlib.Core.Path.{sym, ◌∙◌}
-use borrow.Author.Rules.{rules}
 use Rattle.generator.proofs.Faults.{meets_four, meets_five, meets_none, sizes}
 use Rattle.records.proofs.judge.Goals as goal
 

@@ -13,6 +13,6 @@ pub returns-else-p-high : goal.returns-else-p-high
 unfolding prime_in
 returns-else-p-high c =
     elim c.if-low-p.branch [
-      then-low-p w ↦ let over : c.args.high < c.args.p = omega arith in rw (w.t-5-is, le-leb c.args.low c.args.p w.if-low-p.true, lt-leb c.args.p c.args.high over)
+      | then-low-p w ↦ let over : c.args.high < c.args.p = omega arith in rw (w.t-5-is, le-leb c.args.low c.args.p w.if-low-p.true, lt-leb c.args.p c.args.high over)
       | else-low-p w ↦ rw (w.t-5-is, lt-leb c.args.low c.args.p w.if-low-p.false)
     ]

@@ -1,7 +1,6 @@
 -- `read_binary` meets its contract.
 use mathlib.Core.Path.{refl, ◌∙◌}
 use native.Mathlib.Omega.{arith}
-use borrow.Author.Rules.{rules}
 use Rattle.field.specs.Kinds.{usable}
 use Rattle.records.proofs.Reading.{binary_body, binary_judged}
 use Rattle.records.proofs.read_binary.Goals as goal

@@ -1,8 +1,6 @@
 -- `read_prime` meets its contract.
 use mathlib.Core.Path.{sym, ◌∙◌}
 use native.Mathlib.Omega.{arith}
-use borrow.Author.Rules.{rules}
-use borrow.Author.Tests.{not-true, not-false}
 use Rattle.generator.proofs.Accepts.{usable_in}
 use Rattle.records.proofs.Reading.{prime_body, prime_field, prime_judged}
 use Rattle.records.proofs.read_prime.Goals as goal

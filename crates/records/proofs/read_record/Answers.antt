@@ -1,6 +1,5 @@
 -- `read_record` meets its contract.
 use native.Mathlib.Omega.{arith}
-use borrow.Author.Rules.{rules}
 use Rattle.records.proofs.Reading.{none_read, kind_unread}
 use Rattle.records.proofs.read_record.Goals as goal
 

@@ -1,8 +1,6 @@
 -- `read_wide` meets its contract.
 use mathlib.Core.Path.{sym, ◌∙◌}
 use native.Mathlib.Omega.{arith}
-use borrow.Author.Rules.{rules}
-use borrow.Author.Tests.{not-true, not-false}
 use Rattle.generator.proofs.Accepts.{usable_in}
 use Rattle.records.proofs.Reading.{wide_body, wide_field, wide_judged}
 use Rattle.records.proofs.read_wide.Goals as goal

@@ -1,7 +1,6 @@
 -- `root_bad` meets its contract.
 use Prim.Native.Nat.{◌≤◌, ◌<◌}
 use native.Mathlib.Omega.{arith}
-use borrow.Author.Rules.{rules}
 use borrow.Author.Tests.{lt-ltb, le-ltb, le-leb}
 use Rattle.generator.specs.Records.{size, root_bad}
 use Rattle.records.proofs.root_bad.Goals as goal

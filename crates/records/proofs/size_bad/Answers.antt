@@ -9,11 +9,11 @@ pub returns-then-k-eq0 : goal.returns-then-k-eq0
 unfolding size_bad
 returns-then-k-eq0 c =
     elim c.if-n-lt2.branch [
-      then-n-lt2 w ↦ rw (w.t-5-is, lt-ltb c.args.h.n 2 w.if-n-lt2.true)
+      | then-n-lt2 w ↦ rw (w.t-5-is, lt-ltb c.args.h.n 2 w.if-n-lt2.true)
       | else-n-lt2 w ↦
-        let byte : ltb 255 c.args.h.n ≡ false = le-ltb 255 c.args.h.n (omega (arith, c.well_formed)) in
-        let none : c.args.h.k ≡ 0 = omega arith in
-        rw (w.t-5-is, le-ltb c.args.h.n 2 w.if-n-lt2.false, byte, eq-eqb c.args.h.k 0 none)
+          let byte : ltb 255 c.args.h.n ≡ false = le-ltb 255 c.args.h.n (omega (arith, c.well_formed)) in
+          let none : c.args.h.k ≡ 0 = omega arith in
+          rw (w.t-5-is, le-ltb c.args.h.n 2 w.if-n-lt2.false, byte, eq-eqb c.args.h.k 0 none)
     ]
 
 pub returns-else-k-eq0 : goal.returns-else-k-eq0

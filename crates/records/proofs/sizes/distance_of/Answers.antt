@@ -1,6 +1,5 @@
 -- `distance_of` meets its contract.
 use mathlib.Core.Path.{refl}
-use borrow.Author.Rules.{rules}
 use Rattle.generator.specs.Records.{distance}
 use Rattle.records.proofs.sizes.distance_of.Goals as goal
 

@@ -1,5 +1,4 @@
 -- `high_reads` meets its contract.
-use borrow.Author.Rules.{rules}
 use Rattle.generator.specs.Records.{high_reads}
 use Rattle.records.proofs.sizes.high_reads.Goals as goal
 

@@ -1,5 +1,4 @@
 -- `low_reads` meets its contract.
-use borrow.Author.Rules.{rules}
 use Rattle.generator.specs.Records.{low_reads}
 use Rattle.records.proofs.sizes.low_reads.Goals as goal
 

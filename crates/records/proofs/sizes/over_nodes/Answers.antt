@@ -1,7 +1,6 @@
 -- `over_nodes` meets its contract.
 use native.Mathlib.Nat.{div-lt_iff_lt-mul}
 use native.Mathlib.Omega.{arith}
-use borrow.Author.Rules.{rules}
 use Rattle.records.proofs.sizes.over_nodes.Goals as goal
 
 pub overflow_cast-result-2 : goal.overflow_cast-result-2
