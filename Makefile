@@ -29,9 +29,9 @@ weights: ## a record's messages by their nodes that are not zero: make weights R
 
 plans: ## every accepted record of kind 1 with p up to 31, a line `p α n k` for each
 	@tools/prove.py small_plans
-	@target/bin/small_plans
+	@crates/small_plans/out/small_plans
 
-programs: ## prove and compile all programs that the documents use, `cases` among them, to target/bin
+programs: ## prove and compile all programs that the documents use, `cases` among them: crates/NAME/out/NAME
 	@tools/prove.py sheet plain compare weights small_plans cases
 
 library: ## prove the calls and make the library, static and shared, for every x86-64 and for newer processors, in target/lib
@@ -43,7 +43,7 @@ build: ## the same, and build the Rust crate over it
 install: ## the library with header, pkg-config file and manual page, for the users of this machine: make install PREFIX=/usr/local DESTDIR=
 	@tools/install.sh
 
-test: ## the gate: everything proved from nothing, wrong programs refused, outputs compared, C, Rust and Python, documents
+test: ## the gate: everything proved, wrong programs refused, outputs compared, C, Rust and Python, documents
 	.ci/run
 
 wrong: ## further wrong programs, each of which must be refused

@@ -4,7 +4,7 @@
     docs/make_pictures.py            writes the pictures
     docs/make_pictures.py --check    says which stored picture is not the one that would be written
 
-The programs are those of target/bin (`rt check sheet compare weights cases` makes them).
+The programs are those that `make programs` proves and compiles, as `rt ci` does: crates/NAME/out/NAME.
 """
 import os
 import subprocess
@@ -12,14 +12,16 @@ import sys
 from drawing import INK, MARGIN, OURS, PALE, PLAIN, Drawing, text_width
 
 TOP = os.path.dirname(os.path.dirname(os.path.abspath(__file__)))
+sys.path.append(os.path.join(TOP, "tools"))
+from crates import program as program_file  # noqa: E402
+
 FOLDER = os.path.join(TOP, "docs", "pictures")
 
 
 # ---------------------------------------------------------------- what the programs say
 
 def run(program, record):
-    path = os.path.join(TOP, "target", "bin", program)
-    output = subprocess.run([path], input=bytes(record), capture_output=True, check=True).stdout
+    output = subprocess.run([program_file(program)], input=bytes(record), capture_output=True, check=True).stdout
     return [line.split() for line in output.decode("ascii").splitlines()]
 
 
@@ -43,8 +45,7 @@ def weights(record):
 
 def answers(lines):
     """What the program `cases` says to each of the lines."""
-    path = os.path.join(TOP, "target", "bin", "cases")
-    output = subprocess.run([path], input="".join(line + "\n" for line in lines), capture_output=True, check=True, text=True).stdout
+    output = subprocess.run([program_file("cases")], input="".join(line + "\n" for line in lines), capture_output=True, check=True, text=True).stdout
     return [line.split(": ", 1)[1] for line in output.splitlines()]
 
 

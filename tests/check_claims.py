@@ -2,7 +2,7 @@
 """Holds docs/CLAIMS.md to what is there: every file and every name that it cites, and every public call.
 
 A citation is a path in code type, from crates/ or from the top, and after a colon the names in it, each in code type:
-`scheme/proofs/Bounds.antt`: `price`, `reads-up`. A name must be defined in that file; that the word occurs there does not do:
+`scheme/proofs/Bounds.antt`: `price`, `reads_up`. A name must be defined in that file; that the word occurs there does not do:
 
     .antt       a definition or theorem, a record, a data type; a member is Record.field
     .rt .rs     a function, a struct, an enum, a constant; a member is Struct.field, Enum.Case, Type.method,
@@ -10,7 +10,8 @@ A citation is a path in code type, from crates/ or from the top, and after a col
     .py .c .h   a function, a class, a constant
 
 A name in code type without a path, if it looks like one of these, stands with its path elsewhere in the document.
-Each call of crates/balanced and each function for C has no `requires` and is named under the heading "Index by call".
+Each call of crates/balanced and each function that crates/balanced_c_c exports for C has no `requires` and is named under the heading
+"Index by call".
 """
 import os
 import re
@@ -157,23 +158,31 @@ def cited_faults(lines):
     return faults, count
 
 
-def public_calls():
-    """The calls of the store and the functions for C, each with its file."""
+def exports():
+    """(crate, name) for each name that the store passes on; of the interface for C all that it exports, with no name."""
     with open(find("balanced/src/lib.rt"), encoding="utf-8") as store:
-        exported = re.findall(r"^pub use (\w+)::(\w+);", store.read(), re.M)
-    for crate, name in [*exported, ("balanced_c", None)]:
-        folder = find(f"{crate}/src")
-        for file in sorted(os.listdir(folder)):
+        lists = re.findall(r"^pub use (\w+)::(\w+|\{[\w,\s]+\});", store.read(), re.M)
+    return [*((crate, name) for crate, names in lists for name in re.findall(r"\w+", names)), ("balanced_c_c", None)]
+
+
+def public_calls():
+    """The calls of the store and the functions for C, each with its file; None for the calls where an export has none."""
+    for crate, name in exports():
+        folder, found = find(f"{crate}/src"), False
+        for file in sorted(os.listdir(folder)) if folder else []:
             text = open(os.path.join(folder, file), encoding="utf-8").read()
             if name is None:
-                called = re.findall(r"#\[no_mangle\]\s*pub extern \"C\" fn (\w+)", text)
+                called = re.findall(r"#\[unsafe\(no_mangle\)\]\s*pub extern \"C\" fn (\w+)", text)
             elif name[0].isupper():
                 block = re.search(rf"^impl {name} \{{\n(.*?)^\}}", text, re.M | re.S)
                 called = re.findall(r"^\s*pub fn (\w+)", block.group(1), re.M) if block else []
             else:
                 called = re.findall(rf"^pub fn ({name})\b", text, re.M)
             for call in called:
+                found = True
                 yield call, os.path.join(folder, file), text
+        if not found and not (name and name[0].isupper()):
+            yield None, f"crates/{crate}", name
 
 
 def call_faults(document):
@@ -182,7 +191,8 @@ def call_faults(document):
     section = index[1].split("\n## ")[0] if len(index) == 2 else ""
     named = set(SPAN.findall(section))
     calls = list(public_calls())
-    faults = [] if calls else ["no public call was found"]
+    faults = [f"{file} has no public call {name or ''}".rstrip() for call, file, name in calls if call is None]
+    calls = [found for found in calls if found[0] is not None]
     for call, file, text in calls:
         head = re.search(rf"\bfn {call}\b.*?\n\s*\{{\n", text, re.S).group(0)
         if re.search(r"^\s*requires\b", head, re.M):

@@ -1,7 +1,7 @@
 #!/usr/bin/env python3
 """Tests the commands that people type: what they say, their exit statuses, and that no text of theirs reaches a shell.
 
-Needs the programs sheet, plain, compare and weights in target/bin, and rt. What is said of a record is held to the programs: every
+Needs the proved programs sheet, plain, compare and weights, and rt. What is said of a record is held to the programs: every
 root and every record that the words offer must be accepted.
 """
 import os
@@ -12,7 +12,7 @@ import tempfile
 
 TOP = os.path.dirname(os.path.dirname(os.path.abspath(__file__)))
 sys.path.append(os.path.join(TOP, "tools"))
-from crates import needed  # noqa: E402
+from crates import in_order, program as program_file  # noqa: E402
 from record_text import NoRecord, bytes_of  # noqa: E402
 from refusal_words import words_for  # noqa: E402
 
@@ -29,7 +29,7 @@ def expect(holds, words):
 
 def program(name, record):
     """What a proved program says to the bytes of a record."""
-    return subprocess.run([os.path.join(TOP, "target", "bin", name)], input=record, capture_output=True, check=True).stdout.decode()
+    return subprocess.run([program_file(name)], input=record, capture_output=True, check=True).stdout.decode()
 
 
 def command(words, **variables):
@@ -161,14 +161,18 @@ def keeping_out():
 # ---------------------------------------------------------------- waiting
 
 FAKE = """#!/bin/sh
-echo "$@" >"$0.words"
+if [ "$1" = version ]; then echo "kit of test $$"; exit; fi
+echo "$PWD $@" >"$0.words"
+echo 'only=0 proved=0'
+echo 'rt: chose --jobs 2 for lists'
 echo 'fn lists::f: proved'
-echo 'rt: lists proved (2 s)'
-echo 'rt: text proved (unchanged since it was last proved)'
-echo 'rt: algebra proved (11 s)'
-[ -e "$0.fails" ] || exit 0
-echo 'rt: field NOT PROVED (exit 1, 3 s)'
-exit 1
+echo 'logic=proved functions=1 sum=0'
+sleep 1
+echo 'rt: chose --jobs 2 for field'
+[ -e "$0.fails" ] || { echo 'logic=proved functions=2 sum=0'; exit 0; }
+echo 'field: what is wrong'
+echo 'logic=not-proved'
+exit 3
 """
 
 
@@ -179,14 +183,16 @@ def waiting():
         with open(rt, "w", encoding="utf-8") as file:
             file.write(FAKE)
         os.chmod(rt, 0o755)
-        path, total = {"PATH": folder + os.pathsep + os.environ["PATH"]}, len(needed(["field"]))
+        path, order = {"PATH": folder + os.pathsep + os.environ["PATH"]}, in_order("field")
         ended = command(["tools/prove.py", "field"], **path)
-        expect(open(rt + ".words", encoding="utf-8").read() == "check field\n", "prove.py calls rt with other words")
+        expect(open(rt + ".words", encoding="utf-8").read() == f"{TOP}/crates/field lib\n", "prove.py calls rt with other words, or elsewhere")
+        said = [rf"{order.index(name) + 1} of {len(order)} proved: {name} \([0-9]+ s\)" for name in ("lists", "field")]
+        lines = re.findall(r"\d+ of \d+ proved: .*", ended.stderr)
         expect(ended.returncode == 0 and not ended.stdout, f"prove.py: {ended}")
-        expect(re.findall(r"\d+ of \d+ proved: .*", ended.stderr) == [f"1 of {total} proved: lists (2 s)", f"3 of {total} proved: algebra (11 s)"], f"prove.py: {ended}")
+        expect(len(lines) == 2 and all(map(re.fullmatch, said, lines)), f"prove.py: {ended}")
         open(rt + ".fails", "w", encoding="utf-8").close()
         ended = command(["tools/prove.py", "field"], **path)
-        expect(ended.returncode == 1 and "rt: field NOT PROVED (exit 1, 3 s)" in ended.stderr, f"prove.py: {ended}")
+        expect(ended.returncode == 3 and "field: what is wrong" in ended.stderr and ended.stderr.count("proved: ") == 1, f"prove.py: {ended}")
         ended = command([sys.executable, "tools/prove.py", "field"], PATH=os.path.join(folder, "nowhere"))
         expect(ended.returncode == 2 and "rt is not on the path" in ended.stderr, f"prove.py without rt: {ended}")
 

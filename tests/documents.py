@@ -6,7 +6,7 @@
 
 A block of `sh` is run by bash at the top of the repository, a block of `c` is compiled with the library and run, a block of
 `python` is run over the package; the block of `text` right after one is what it prints. Blocks of `sh` without a block of
-`text` are not run. A block of `antt` or `rattle` that names a file is a part of that file. Needs target/bin and target/lib
+`text` are not run. A block of `antt` or `rattle` that names a file is a part of that file. Needs the programs and the library
 (`make programs library`). Blocks of `rust` are tested by cargo (bindings/rust/src/lib.rs).
 """
 import os

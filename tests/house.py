@@ -3,8 +3,8 @@
 and none stands that nobody cites.
 
 A law is a declaration of a proofs/ file that is no function's own proof. It is cited by another declaration or by docs/CLAIMS.md; a law
-`..-agrees` says that two definitions are the same, and is a statement by itself. Two laws are the same if their statements are, but
-for the names of variables.
+`.._agrees` or `..-agrees` says that two definitions are the same, and is a statement by itself. Two laws are the same if their
+statements are, but for the names of variables.
 """
 import collections
 import glob
@@ -14,7 +14,10 @@ import sys
 
 top = os.path.dirname(os.path.dirname(os.path.abspath(__file__)))
 MOST_STEPS = 5
+# a function's own proof stands in a folder of its own
+OWN = ("Answers.antt", "Invariants.antt")
 WORD = re.compile(r"[^\s(){}\[\],;.]+")
+IMPORT = re.compile(r"(?m)^(?:pub |ghost |unfoldable )*use [^{;\n]*(?:\{[^}]*\})?.*$")
 HEAD = re.compile(r"(?:abbrev |unfoldable )*(?:pub )?(?:record |data )?([^\s(){}]+)")
 faults = []
 
@@ -79,7 +82,7 @@ def names_once():
 def steps():
     for path in proofs():
         for number, line in enumerate(read(path).split("\n"), 1):
-            if re.search(r"(\.before\s+){%d}\.before" % MOST_STEPS, line):
+            if re.search(r"(\.before\s*){%d}\.before" % MOST_STEPS, line):
                 faults.append(f"{short(path)}:{number}: more than {MOST_STEPS} steps back")
 
 
@@ -100,7 +103,8 @@ def statement(around, lines):
 def laws():
     """(path, name, statement, the lines that declare it) of every law"""
     for path in proofs():
-        if os.path.basename(path) in ("Proof.antt", "Lib.antt"):
+        folder, file = os.path.split(path)
+        if file in ("Proof.antt", "Lib.antt") or file in OWN and os.path.basename(folder) != "proofs":
             continue
         for name, lines, around in declarations(read(path)):
             typed = [line.strip() for line in lines if re.match(r"\s*(pub )?%s : " % re.escape(name), line)]
@@ -121,12 +125,12 @@ def said_once():
 def cited():
     uses = collections.Counter()
     for path in specs() + proofs() + glob.glob(f"{top}/crates/*/src/*.rt"):
-        text = "\n".join(line for line in read(path).split("\n") if not line.startswith(("use ", "--", "ghost use")))
+        text = "\n".join(line for line in IMPORT.sub("", read(path)).split("\n") if not line.startswith("--"))
         uses.update(WORD.findall(text))
     told = set(re.findall(r"`([^`]+)`", read(f"{top}/docs/CLAIMS.md")))
     told |= {name.split(".")[-1] for name in told}
     for path, name, _, lines in laws():
-        if uses[name] <= WORD.findall("\n".join(lines)).count(name) and name not in told and not name.endswith("-agrees"):
+        if uses[name] <= WORD.findall("\n".join(lines)).count(name) and name not in told and not name.endswith(("_agrees", "-agrees")):
             faults.append(f"{short(path)}: nobody cites {name}")
 
 

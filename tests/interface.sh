@@ -141,7 +141,7 @@ in_c() {
 on_build() { # BUILD WORDS..
     echo "the Rust tests on ${1#"$PWD/"}/libbalanced.so.1"
     mkdir -p target/examples/shared
-    ln -sf "$lib/libbalanced.so.1" target/examples/shared/libbalanced.so
+    cp -f "$lib/libbalanced.so.1" target/examples/shared/libbalanced.so
     BALANCED_LIB_DIR=$PWD/target/examples/shared CARGO_TARGET_DIR=$PWD/target/rust \
         CARGO_TARGET_X86_64_UNKNOWN_LINUX_GNU_RUNNER="env LD_PRELOAD=$1/libbalanced.so.1" \
         cargo test --manifest-path bindings/rust/Cargo.toml --quiet --offline --locked --test differential -- "${@:2}"

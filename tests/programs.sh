@@ -1,7 +1,7 @@
 #!/usr/bin/env bash
 # The programs that read a record take eight bytes of it: `sheet`, `plain`, `compare` and `weights` on records of every kind and length, held to what
 # the Python reference prints. A record of kind 3 has seven bytes; longer ones, and those of kind 1 that are too long, meet number 2.
-# Needs target/bin (`rt check`) and Python.
+# Needs the proved programs (`make programs`, or `rt ci`) and Python.
 set -euo pipefail
 cd "$(dirname "$0")/.."
 records=(
@@ -13,7 +13,7 @@ records=(
 bytes() { local byte; for byte in $1; do printf "\\$(printf %03o "$byte")"; done; }
 for program in sheet plain compare weights; do
     for record in "${records[@]}"; do
-        diff <(bytes "$record" | "target/bin/$program") <(python3 "tests/reference/$program.py" "$record") || { echo "$program of the record '$record' differs"; exit 1; }
+        diff <(bytes "$record" | "crates/$program/out/$program") <(python3 "tests/reference/$program.py" "$record") || { echo "$program of the record '$record' differs"; exit 1; }
     done
 done
 echo "${#records[@]} records by four programs: as the reference prints them"

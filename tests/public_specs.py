@@ -15,11 +15,11 @@ top = os.path.dirname(os.path.dirname(os.path.abspath(__file__)))
 sys.path.append(os.path.join(top, "tests"))
 from house import declarations, read, short  # noqa: E402
 
-# whose public functions are the library's calls, the calls for C, and the texts of programs
-PUBLIC = "plan encode update differences rearrange recover repair belongs correct roster weight_counts find_update mends roster_bytes balanced_c " \
+# whose public functions are the library's calls, the calls for C, their exports, and the texts of programs
+PUBLIC = "plan encode update differences rearrange recover repair belongs correct roster weight_counts find_update mends roster_bytes balanced_c balanced_c_c " \
     "sheet_text plain_text compare_text weights_text small_plans_text tables".split()
 STATED = ("demands",)
-USE = re.compile(r"(?m)^(?:ghost )?use Rattle·(\w+?)(?:·specs)?\.specs\.([\w.]+?)(?:\.\{([^}]*)\})?(?: as (\w+))?;?$")
+USE = re.compile(r"(?m)^(?:pub |ghost )*use Rattle\.(\w+)\.specs\.([\w.]+?)(?:\.\{([^}]*)\})?(?: as (\w+))?;?$")
 WORD = re.compile(r"[^\s(){}\[\],;.:]+")
 
 

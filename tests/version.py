@@ -20,7 +20,7 @@ PLACES = [
     ("bindings/python/balanced/__init__.py", r'(^__version__ = ")([^"]*)(")'),
     ("bindings/python/pyproject.toml", r'(^version = ")([^"]*)(")'),
     ("crates/balanced_c/src/version.rt", r"(^    )(10000 .*)($)", NUMBER),
-    ("crates/balanced_c/specs/Version.antt", r"(^versionNumber = )(.*)($)", NUMBER),
+    ("crates/balanced_c/specs/Version.antt", r"(^version_number = )(.*)($)", NUMBER),
     ("CHANGELOG.md", r"(\A[^#]*# Changelog\n(?:(?!## ).*\n)*## )(\S+)( )"),
 ]
 

@@ -6,9 +6,8 @@ cd "$(dirname "$0")/.."
 tests/check_edits.sh
 work=$(mktemp -d)
 trap 'rm -rf "$work"' EXIT
-cp -r crates crates.txt "$work"
-if [ -d target ]; then cp -r target "$work"; fi
-rm -rf "$work"/crates/*/must-fail
+# rt begins with what its checks kept here
+tar -c --exclude='crates/*/out' --exclude='crates/*/must-fail' crates crates.txt | tar -x -C "$work"
 if [ $# -eq 0 ]; then set -- $(ls tests/wrong_programs); fi
 for crate in "$@"; do
     cp -r "tests/wrong_programs/$crate" "$work/crates/$crate/must-fail"

@@ -12,7 +12,7 @@ import os
 import re
 import subprocess
 import sys
-from crates import TOP
+from crates import program as program_file
 from prove import prove, say
 from record_text import NoRecord, bytes_of
 from refusal_words import words_for
@@ -31,8 +31,7 @@ def asked():
 
 
 def run(program, record):
-    path = os.path.join(TOP, "target", "bin", program)
-    return subprocess.run([path], input=record, stdout=subprocess.PIPE, check=True).stdout
+    return subprocess.run([program_file(program)], input=record, stdout=subprocess.PIPE, check=True).stdout
 
 
 def hand_on(output):
