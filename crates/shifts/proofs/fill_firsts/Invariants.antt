@@ -1,14 +1,8 @@
 -- `fill_firsts` meets its contract. Invariant: the first nodes of the first r rows are written.
-use Prim.Native.Nat.{ℕ, ◌≤◌, ◌<◌, ◌-◌}
-use mathlib.Core.Path.{◌≡◌, refl, ap, ◌∙◌}
-use mathlib.Core.List.{List}
-use native.Mathlib.Omega.{arith}
-use lib.ListN.{length, get_or}
-use Rattle.lists.specs.Padded.{zeros, padded}
-use Rattle.lists.proofs.Fill.{Filled, filled_start, filled_put, filled_end}
-use Rattle.lists.proofs.Padding.{get_or_padded}
-use Rattle.generator.specs.Shifts.{negative, shifts_of, firsts_of}
-use Rattle.generator.proofs.Shifts.{shifts_length, shifts_below}
+use Prim.Native.Nat.{◌-◌}
+use lib.ListN.{get_or}
+use Rattle.lists.proofs.Fill.{Filled}
+use Rattle.generator.specs.Shifts.{negative, shifts_of}
 use Rattle.shifts.proofs.fill_firsts.Given as goal
 
 abbrev pub invariant-loop-r : goal.invariant-loop-r

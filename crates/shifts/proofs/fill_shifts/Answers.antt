@@ -1,5 +1,4 @@
 -- `fill_shifts` meets its contract: the rule is that of `shifts_of`.
-use borrow.Author.Rules.{rules}
 use Rattle.generator.specs.Shifts.{shifts_of}
 use Rattle.shifts.proofs.fill_shifts.Goals as goal
 

@@ -1,9 +1,9 @@
 -- `gcd` meets its contract. Invariant: so far as Euclid's algorithm has come, with fuel, the answer is still that of x and y.
-use Prim.Native.Nat.{ℕ, suc, ◌<◌}
-use mathlib.Core.Path.{◌≡◌, refl}
+use Prim.Native.Nat.{suc}
+use mathlib.Core.Path.{refl}
 use native.Mathlib.Nat.{mod-lt}
 use native.Mathlib.Omega.{arith}
-use Rattle.generator.specs.Shifts.{gcd, gcd_from}
+use Rattle.generator.specs.Shifts.{gcd}
 use Rattle.generator.proofs.Gcd.{gcd_next, gcd_end}
 use Rattle.shifts.proofs.gcd.Goals as goal
 

@@ -1,10 +1,7 @@
 -- `gcd` meets its contract. Invariant: so far as Euclid's algorithm has come, with fuel, the answer is still that of x and y.
-use Prim.Native.Nat.{ℕ, suc, ◌<◌}
-use mathlib.Core.Path.{◌≡◌, refl}
-use native.Mathlib.Nat.{mod-lt}
-use native.Mathlib.Omega.{arith}
+use Prim.Native.Nat.{ℕ, ◌<◌}
+use mathlib.Core.Path.{◌≡◌}
 use Rattle.generator.specs.Shifts.{gcd, gcd_from}
-use Rattle.generator.proofs.Gcd.{gcd_next, gcd_end}
 use Rattle.shifts.proofs.gcd.Given as goal
 
 abbrev pub invariant-loop-b : goal.invariant-loop-b

@@ -1,7 +1,6 @@
 -- `fill_even` meets its contract: one round takes k / g places and skips (n − k) / g.
 use mathlib.Core.Path.{◌∙◌}
 use native.Mathlib.Omega.{arith}
-use borrow.Author.Rules.{rules}
 use Rattle.generator.specs.Shifts.{even_shifts}
 use Rattle.generator.proofs.Gcd.{gcd_pos}
 use Rattle.generator.proofs.EvenShifts.{pos_around, around_within}

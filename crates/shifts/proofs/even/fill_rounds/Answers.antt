@@ -1,12 +1,9 @@
 -- `fill_rounds` meets its contract. Invariant: the first `count` places are written, and the numbers from i on are to come.
-use Prim.Native.Nat.{◌≤◌, ◌<◌, ◌+◌, ◌-◌}
-use mathlib.Core.Logic.{⊎_elim}
 use native.Mathlib.Nat.{sub-zero}
 use native.Mathlib.Omega.{arith}
 use borrow.Author.Tests.{lt-ltb, le-ltb}
 use Rattle.lists.specs.Padded.{zeros}
-use Rattle.lists.proofs.Fill.{Fills, fills_start, fills_put, fills_padded, length_zeros}
-use Rattle.generator.specs.Shifts.{shifts_from}
+use Rattle.lists.proofs.Fill.{fills_start, fills_put, fills_padded, length_zeros}
 use Rattle.generator.proofs.EvenShifts.{shifts_next, shifts_end}
 use Rattle.shifts.proofs.even.fill_rounds.Goals as goal
 use Rattle.shifts.proofs.even.fill_rounds.Goals.{else-place-taken, then-place-taken}
@@ -20,8 +17,7 @@ loop-i-preserved c =
     let a = c.args in
     let l = c.loop-i in
     let todo = rw (shifts_next _ _ _ _ _ c.loop-i-test.true) at l.invariant.3 in
-    let next = c.next_place-place.ensures in
-     (
+    let next = c.next_place-place.ensures in (
       elim c.if-place-taken.branch [ then-place-taken w ↦ omega arith | else-place-taken w ↦ omega arith ],
       omega arith,
       next.1,

@@ -1,13 +1,8 @@
 -- `fill_rounds` meets its contract. Invariant: the first `count` places are written, and the numbers from i on are to come.
 use Prim.Native.Nat.{◌≤◌, ◌<◌, ◌+◌, ◌-◌}
-use mathlib.Core.Logic.{⊎_elim}
-use native.Mathlib.Nat.{sub-zero}
-use native.Mathlib.Omega.{arith}
-use borrow.Author.Tests.{lt-ltb, le-ltb}
 use Rattle.lists.specs.Padded.{zeros}
-use Rattle.lists.proofs.Fill.{Fills, fills_start, fills_put, fills_padded, length_zeros}
+use Rattle.lists.proofs.Fill.{Fills}
 use Rattle.generator.specs.Shifts.{shifts_from}
-use Rattle.generator.proofs.EvenShifts.{shifts_next, shifts_end}
 use Rattle.shifts.proofs.even.fill_rounds.Given as goal
 
 abbrev pub invariant-loop-i : goal.invariant-loop-i

@@ -1,6 +1,5 @@
 -- `next_place` meets its contract.
 use native.Mathlib.Omega.{arith}
-use borrow.Author.Rules.{rules}
 use borrow.Author.Tests.{eq-eqb, ne_eqb}
 use Rattle.shifts.proofs.even.next_place.Goals as goal
 

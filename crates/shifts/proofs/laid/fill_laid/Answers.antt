@@ -1,10 +1,9 @@
 -- `fill_laid` meets its contract. Invariant: the shifts of the first r rows are written.
-use Prim.Native.Nat.{◌+◌, ◌-◌}
 use mathlib.Core.Path.{ap, ◌∙◌}
 use native.Mathlib.Omega.{arith}
 use Rattle.lists.specs.Padded.{zeros}
-use Rattle.lists.proofs.Fill.{Filled, filled_start, filled_put, filled_end}
-use Rattle.generator.specs.Shifts.{negative, laid_at, laid_shifts}
+use Rattle.lists.proofs.Fill.{filled_start, filled_put, filled_end}
+use Rattle.generator.specs.Shifts.{negative, laid_shifts}
 use Rattle.shifts.proofs.laid.fill_laid.Goals as goal
 
 pub loop-r-init : goal.loop-r-init

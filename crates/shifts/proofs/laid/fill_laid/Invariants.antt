@@ -1,10 +1,7 @@
 -- `fill_laid` meets its contract. Invariant: the shifts of the first r rows are written.
 use Prim.Native.Nat.{◌+◌, ◌-◌}
-use mathlib.Core.Path.{ap, ◌∙◌}
-use native.Mathlib.Omega.{arith}
-use Rattle.lists.specs.Padded.{zeros}
-use Rattle.lists.proofs.Fill.{Filled, filled_start, filled_put, filled_end}
-use Rattle.generator.specs.Shifts.{negative, laid_at, laid_shifts}
+use Rattle.lists.proofs.Fill.{Filled}
+use Rattle.generator.specs.Shifts.{negative, laid_at}
 use Rattle.shifts.proofs.laid.fill_laid.Given as goal
 
 abbrev pub invariant-loop-r : goal.invariant-loop-r

@@ -1,6 +1,5 @@
 -- `period` meets its contract.
 use mathlib.Core.Path.{refl}
-use borrow.Author.Rules.{rules}
 use Rattle.generator.specs.Shifts.{period}
 use Rattle.generator.proofs.Gcd.{gcd_pos}
 use Rattle.generator.proofs.LaidShifts.{pos_period}
