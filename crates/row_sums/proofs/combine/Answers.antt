@@ -4,7 +4,6 @@ use mathlib.Core.Bool.{true}
 use mathlib.Core.List.{List}
 use Prim.Native.Nat.{ℕ, ◌≤◌}
 use native.Mathlib.Nat.{le_refl}
-use borrow.Author.Rules.{rules}
 use Rattle.field.specs.declared.prime.PrimeField.{PrimeField}
 use Rattle.field.specs.declared.gf256.Gf256.{Gf256}
 use Rattle.field.specs.declared.Field.TheVariants.{Prime, Binary}

@@ -2,7 +2,6 @@
 use mathlib.Core.Path.{◌≡◌, ◌∙◌}
 use Prim.Native.Nat.{◌≤◌, ◌<◌}
 use native.Mathlib.Omega.{arith}
-use borrow.Author.Rules.{rules}
 use Rattle.field.specs.Fields.{size_of}
 use Rattle.field.specs.Widths.{bytes_for}
 use Rattle.field.proofs.Meanings.{prime_size}

@@ -1,7 +1,6 @@
 -- `combine_symbols` meets its contract, by the width of a symbol.
 use mathlib.Core.Path.{sym, ◌∙◌}
 use native.Mathlib.Omega.{arith}
-use borrow.Author.Rules.{rules}
 use Rattle.field.specs.Kinds.{modulus}
 use Rattle.field.proofs.Widths.{bytes_range}
 use Rattle.row_sums.proofs.TileSums.{one_after}

@@ -1,7 +1,6 @@
 -- `combine_turned` meets its contract: the rows of the sums, turned, are the symbols.
 use mathlib.Core.Path.{◌≡◌, sym, ap, ◌∙◌}
 use Prim.Native.Nat.{ℕ, ◌*◌}
-use borrow.Author.Rules.{rules}
 use lib.ListN.{length}
 use Rattle.layout.specs.Layout.{row_after_row, lane_after_lane, rearranged}
 use Rattle.field.specs.Kinds.{modulus}

@@ -1,11 +1,8 @@
 -- `add_pairs` meets its contract. The loop's invariant: with the rows listed from i on, an even number, acc makes the sum.
-use mathlib.Core.Path.{◌≡◌, refl, sym, ap, ◌∙◌}
-use Prim.Native.Nat.{◌-◌, ◌%◌, ◌≤◌}
+use mathlib.Core.Path.{refl, sym, ap, ◌∙◌}
 use native.Mathlib.Omega.{arith}
-use borrow.Author.Rules.{rules}
-use lib.ListN.{length, drop}
+use lib.ListN.{length}
 use Rattle.kernel.proofs.Lanes.{length_lanewise}
-use Rattle.row_sums.specs.Inner.Digits.{rows_added}
 use Rattle.row_sums.proofs.Adding.{added_none, added_pair}
 use Rattle.row_sums.proofs.gf256.add_pairs.Goals as goal
 
@@ -26,7 +23,7 @@ loop-i-preserved c =
       omega arith,
       ap length c.add_two.ensures ∙ length_lanewise _ _ ∙ long,
       rw c.add_two.ensures
-          (added_pair c.args.lanes c.args.rows.now (λ y. y) c.args.list.now l.acc long l.i _ (omega arith) c.start_of_lem.ensures.0 _ (omega arith) c.start_of-b.ensures.0 (λ y. refl))
+          (added_pair c.args.lanes c.args.rows.now (λ y. y) c.args.list.now l.acc long l.i _ (omega arith) c.start_of-a.ensures.0 _ (omega arith) c.start_of-b.ensures.0 (λ y. refl))
           ∙ l.invariant.3,
     )
 

@@ -1,12 +1,8 @@
 -- `add_pairs` meets its contract. The loop's invariant: with the rows listed from i on, an even number, acc makes the sum.
-use mathlib.Core.Path.{◌≡◌, refl, sym, ap, ◌∙◌}
+use mathlib.Core.Path.{◌≡◌}
 use Prim.Native.Nat.{◌-◌, ◌%◌, ◌≤◌}
-use native.Mathlib.Omega.{arith}
-use borrow.Author.Rules.{rules}
 use lib.ListN.{length, drop}
-use Rattle.kernel.proofs.Lanes.{length_lanewise}
 use Rattle.row_sums.specs.Inner.Digits.{rows_added}
-use Rattle.row_sums.proofs.Adding.{added_none, added_pair}
 use Rattle.row_sums.proofs.gf256.add_pairs.Given as goal
 
 abbrev pub invariant-loop-i : goal.invariant-loop-i

@@ -1,13 +1,8 @@
 -- `gf256::combine` meets its contract. The loop's invariant: acc holds the sums with the weights without their first `digit` digits.
-use mathlib.Core.Path.{◌≡◌, refl, sym, ap, ◌∙◌}
-use Prim.Native.Nat.{◌+◌, ◌-◌, ◌≤◌}
-use native.Mathlib.Omega.{arith}
-use borrow.Author.Rules.{rules}
-use lib.ListN.{length, length-append, length-drop}
-use lib.Seq.{length-take-le}
-use Rattle.lists.specs.Padded.{zeros}
-use Rattle.row_sums.proofs.Combined.{other_row}
-use Rattle.row_sums.proofs.Turns.{sums_of, length_sums, sums_start, sums_turn, sums_end}
+use mathlib.Core.Path.{◌≡◌}
+use Prim.Native.Nat.{◌≤◌}
+use lib.ListN.{length}
+use Rattle.row_sums.proofs.Turns.{sums_of}
 use Rattle.row_sums.proofs.gf256.combine.Given as goal
 
 abbrev pub invariant-loop-digit : goal.invariant-loop-digit

@@ -1,9 +1,9 @@
 -- `digit_sum` meets its contract. The loop's invariant: the symbols below i whose weight has the digit are added.
-use Prim.Native.Nat.{◌-◌, ◌/◌, ◌%◌, ◌^◌, ◌≤◌}
+use Prim.Native.Nat.{◌/◌, ◌%◌, ◌^◌}
 use native.Mathlib.Omega.{arith}
-use lib.ListN.{length, get_or}
+use lib.ListN.{get_or}
 use Rattle.field.proofs.Product.{times_digit}
-use Rattle.row_sums.proofs.OneLane.{SummedBelow, summed_none, summed_row, summed_all}
+use Rattle.row_sums.proofs.OneLane.{summed_none, summed_row, summed_all}
 use Rattle.row_sums.proofs.gf256.digit_sum.Goals as goal
 
 pub loop-i-init : goal.loop-i-init

@@ -1,9 +1,7 @@
 -- `digit_sum` meets its contract. The loop's invariant: the symbols below i whose weight has the digit are added.
-use Prim.Native.Nat.{◌-◌, ◌/◌, ◌%◌, ◌^◌, ◌≤◌}
-use native.Mathlib.Omega.{arith}
+use Prim.Native.Nat.{◌-◌, ◌≤◌}
 use lib.ListN.{length, get_or}
-use Rattle.field.proofs.Product.{times_digit}
-use Rattle.row_sums.proofs.OneLane.{SummedBelow, summed_none, summed_row, summed_all}
+use Rattle.row_sums.proofs.OneLane.{SummedBelow}
 use Rattle.row_sums.proofs.gf256.digit_sum.Given as goal
 
 abbrev pub invariant-loop-i : goal.invariant-loop-i

@@ -1,10 +1,8 @@
 -- `list_rows` meets its contract. The loop's invariant: the rows below i whose weight has the digit are listed.
 use mathlib.Core.Path.{◌≡◌}
 use Prim.Native.Nat.{◌-◌, ◌≤◌}
-use native.Mathlib.Omega.{arith}
-use borrow.Author.Rules.{rules}
-use lib.ListN.{length, length-set}
-use Rattle.row_sums.proofs.Listing.{ListedBelow, listed_none, listed_row, listed_all}
+use lib.ListN.{length}
+use Rattle.row_sums.proofs.Listing.{ListedBelow}
 use Rattle.row_sums.proofs.gf256.list_rows.Given as goal
 
 abbrev pub invariant-loop-i : goal.invariant-loop-i

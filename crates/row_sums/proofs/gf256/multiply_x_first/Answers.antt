@@ -1,7 +1,6 @@
 -- `multiply_x_first` meets its contract: none, one or two rows are added in the pass that multiplies by x.
 use mathlib.Core.Path.{ap}
 use native.Mathlib.Omega.{arith}
-use borrow.Author.Rules.{rules}
 use Rattle.field.specs.Bytes.{times_x}
 use Rattle.row_sums.specs.Inner.Digits.{rows_added, multiplied}
 use Rattle.row_sums.proofs.Adding.{added_one, added_two}
@@ -22,7 +21,7 @@ returns-then-list-eq1 c =
       few = omega arith;
       even = omega arith;
       rest = rw c.multiply_x_add.ensures
-          (added_one c.args.lanes c.args.rows.now times_x c.args.list.now c.args.acc.now c.requires.out_long 0 _ (omega arith) c.start_of_lem.ensures.0);
+          (added_one c.args.lanes c.args.rows.now times_x c.args.list.now c.args.acc.now c.requires.out_long 0 _ (omega arith) c.start_of-start.ensures.0);
     }
 
 pub start_of-next-requires : goal.start_of-next-requires
@@ -35,5 +34,5 @@ returns c =
       few = omega arith;
       even = omega arith;
       rest = rw c.multiply_x_add_two.ensures
-          (added_two c.args.lanes c.args.rows.now times_x c.args.list.now c.args.acc.now c.requires.out_long 0 _ (omega arith) c.start_of_lem.ensures.0 _ (omega arith) c.start_of-next.ensures.0);
+          (added_two c.args.lanes c.args.rows.now times_x c.args.list.now c.args.acc.now c.requires.out_long 0 _ (omega arith) c.start_of-start.ensures.0 _ (omega arith) c.start_of-next.ensures.0);
     }

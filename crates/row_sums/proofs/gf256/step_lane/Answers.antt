@@ -1,6 +1,5 @@
 -- `step_lane` meets its contract: the sum of the digit is added to x times the lane.
 use mathlib.Core.Path.{◌∙◌}
-use borrow.Author.Rules.{rules}
 use Rattle.kernel.proofs.Lanes.{length_lanewise}
 use Rattle.row_sums.specs.Inner.Digits.{multiplied}
 use Rattle.row_sums.proofs.OneLane.{lane_added}

@@ -1,11 +1,10 @@
 -- `wide::block_sums` meets its contract. The loop's invariant: a, b, c and d hold the sums over the rows below i.
-use Prim.{tt}
 use mathlib.Core.Path.{◌∙◌}
-use Prim.Native.Nat.{◌+◌, ◌-◌, ◌*◌, ◌^◌, ◌≤◌, ◌<◌}
+use Prim.Native.Nat.{◌+◌, ◌*◌, ◌^◌, ◌≤◌, ◌<◌}
 use native.Mathlib.Omega.{arith}
 use lib.ListN.{length}
 use Rattle.lists.proofs.Rows.{part_length}
-use Rattle.row_sums.proofs.WideSums.{inside, Held, held_none, held_row, held_all}
+use Rattle.row_sums.proofs.WideSums.{inside, held_none, held_row, held_all}
 use Rattle.row_sums.proofs.wide.block_sums.Goals as goal
 use Rattle.row_sums.proofs.wide.block_sums.Goals.{In-loop-i}
 
@@ -13,7 +12,7 @@ use Rattle.row_sums.proofs.wide.block_sums.Goals.{In-loop-i}
 within : (c : In-loop-i) → let a = c.args in let i = c.loop-i.i in (i * 2 * a.lanes + a.lanes + a.lanes ≤ length a.rows.now) × (a.at + 16 ≤ a.lanes) × (length a.rows.now < 2 ^ 64) × (i < 255)
 within c =
     let row = inside _ _ _ _ c.requires.1 c.loop-i.i c.loop-i-test.true in
-    omega (arith, row, c.requires.2, c.good, c.requires.1.few, c.loop-i-test.true)
+    omega (arith, row, c.requires.2, c.well_formed, c.requires.1.few, c.loop-i-test.true)
 
 pub loop-i-init : goal.loop-i-init
 loop-i-init c = (omega arith, rw (c.sums-a.ensures, c.sums-b.ensures, c.sums-c.ensures, c.sums-d.ensures) (held_none _ _ _ _ _))

@@ -1,13 +1,13 @@
 -- `wide::combine_blocks` meets its contract. The loop's invariant: the lanes that are done are written.
 use mathlib.Core.Path.{◌≡◌, sym, ap, ◌∙◌}
-use Prim.Native.Nat.{◌+◌, ◌-◌, ◌≤◌, ◌<◌}
+use Prim.Native.Nat.{◌+◌, ◌<◌}
 use native.Mathlib.Nat.{zero-add}
 use native.Mathlib.Omega.{arith}
 use lib.ListN.{length, get_or}
 use Rattle.lists.proofs.Rows.{length_from, get_or_from}
 use Rattle.row_sums.specs.Inner.Combined.{combined}
 use Rattle.row_sums.specs.Inner.WideSums.{wide_sum}
-use Rattle.row_sums.proofs.Pairs.{Written, written_none, written_less, written_pairs, written_all}
+use Rattle.row_sums.proofs.Pairs.{written_none, written_less, written_pairs, written_all}
 use Rattle.row_sums.proofs.wide.combine_blocks.Goals as goal
 use Rattle.row_sums.proofs.wide.combine_blocks.Goals.{After-block_sums-symbols}
 

@@ -1,11 +1,7 @@
 -- `wide::combine_lanes` meets its contract. The loop's invariant: the lanes below t are written.
-use mathlib.Core.Path.{sym, ◌∙◌}
 use Prim.Native.Nat.{◌-◌, ◌≤◌}
-use native.Mathlib.Omega.{arith}
-use borrow.Author.Rules.{rules}
-use Rattle.row_sums.specs.Inner.Combined.{combined}
 use Rattle.row_sums.specs.Inner.WideSums.{wide_sum}
-use Rattle.row_sums.proofs.Pairs.{Written, written_none, written_one, written_all}
+use Rattle.row_sums.proofs.Pairs.{Written}
 use Rattle.row_sums.proofs.wide.combine_lanes.Given as goal
 
 abbrev pub invariant-loop-t : goal.invariant-loop-t

@@ -1,10 +1,8 @@
 -- `wide::lane_sum` meets its contract. The loop's invariant: sum, with the sum over the rows from i on, is that over all.
 use mathlib.Core.Path.{◌≡◌, sym, ap, ◌∙◌}
-use mathlib.Core.Logic.{⊎_elim}
-use Prim.Native.Nat.{ℕ, ◌+◌, ◌-◌, ◌*◌, ◌≤◌}
+use Prim.Native.Nat.{ℕ, ◌+◌, ◌*◌, ◌≤◌}
 use native.Mathlib.Nat.{mod-lt, zero-add, mul-zero}
 use native.Mathlib.Omega.{arith}
-use borrow.Author.Rules.{rules}
 use lib.ListN.{length}
 use Rattle.row_sums.proofs.WideSums.{whole_at, rest_at, inside, product_of, rest_next, sum_end}
 use Rattle.row_sums.proofs.wide.lane_sum.Goals as goal
@@ -61,9 +59,12 @@ more c =
     let l = c.loop-i in
     let rest : ℕ = rest_at a.count a.lanes a.weights.now a.rows.now (l.i + 1) a.t in
     let next = rest_next _ _ _ _ c.requires.1 l.i c.loop-i-test.true a.t c.requires.2 in
-    elim c.if-weight-ne0.branch [ then-weight-ne0 w ↦ let is : rest_at a.count a.lanes a.weights.now a.rows.now l.i a.t ≡ w.product.result + rest = next ∙ ap (λ (x : ℕ). x + rest) (sym w.product.ensures.0) in
-    (omega (arith, w.sum-is, w.product.ensures.1, l.invariant.1), omega (arith, w.sum-is, is, l.invariant.2)) | else-weight-ne0 w ↦ let is : rest_at a.count a.lanes a.weights.now a.rows.now l.i a.t ≡ 0 + rest = next ∙ ap (λ (x : ℕ). x + rest) (rw w.if-weight-ne0.false (mul-zero _)) in
-    (omega (arith, w.sum-is, l.invariant.1), omega (arith, w.sum-is, is, l.invariant.2)) ]
+    elim c.if-weight-ne0.branch [
+      | then-weight-ne0 w ↦ let is : rest_at a.count a.lanes a.weights.now a.rows.now l.i a.t ≡ w.product.result + rest = next ∙ ap (λ (x : ℕ). x + rest) (sym w.product.ensures.0) in
+          (omega (arith, w.sum-is, w.product.ensures.1, l.invariant.1), omega (arith, w.sum-is, is, l.invariant.2))
+      | else-weight-ne0 w ↦ let is : rest_at a.count a.lanes a.weights.now a.rows.now l.i a.t ≡ 0 + rest = next ∙ ap (λ (x : ℕ). x + rest) (rw w.if-weight-ne0.false (mul-zero _)) in
+          (omega (arith, w.sum-is, l.invariant.1), omega (arith, w.sum-is, is, l.invariant.2))
+    ]
 
 pub loop-i-preserved : goal.loop-i-preserved
 loop-i-preserved c = (omega arith, (more c).0, (more c).1)

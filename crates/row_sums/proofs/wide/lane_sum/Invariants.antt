@@ -1,12 +1,7 @@
 -- `wide::lane_sum` meets its contract. The loop's invariant: sum, with the sum over the rows from i on, is that over all.
-use mathlib.Core.Path.{◌≡◌, sym, ap, ◌∙◌}
-use mathlib.Core.Logic.{⊎_elim}
-use Prim.Native.Nat.{ℕ, ◌+◌, ◌-◌, ◌*◌, ◌≤◌}
-use native.Mathlib.Nat.{mod-lt, zero-add, mul-zero}
-use native.Mathlib.Omega.{arith}
-use borrow.Author.Rules.{rules}
-use lib.ListN.{length}
-use Rattle.row_sums.proofs.WideSums.{whole_at, rest_at, inside, product_of, rest_next, sum_end}
+use mathlib.Core.Path.{◌≡◌}
+use Prim.Native.Nat.{◌+◌, ◌-◌, ◌*◌, ◌≤◌}
+use Rattle.row_sums.proofs.WideSums.{whole_at, rest_at}
 use Rattle.row_sums.proofs.wide.lane_sum.Given as goal
 
 abbrev pub invariant-loop-i : goal.invariant-loop-i

@@ -1,10 +1,7 @@
 -- `wide::put` meets its contract. The loop's invariant: the symbols from t on make of acc what all make of it.
 use mathlib.Core.Path.{◌≡◌}
-use Prim.Native.Nat.{◌+◌, ◌-◌, ◌*◌, ◌≤◌, ◌<◌}
-use native.Mathlib.Nat.{add-zero, add_assoc}
-use native.Mathlib.Omega.{arith}
-use lib.ListN.{length, drop, length-set, drop_of_length-le}
-use Rattle.lists.proofs.Front.{drop_next}
+use Prim.Native.Nat.{◌+◌, ◌-◌, ◌*◌, ◌≤◌}
+use lib.ListN.{length, drop}
 use Rattle.row_sums.specs.Inner.WideSums.{pairs_put}
 use Rattle.row_sums.proofs.wide.put.Given as goal
 
