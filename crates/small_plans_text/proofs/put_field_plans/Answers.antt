@@ -2,7 +2,6 @@
 use mathlib.Core.Path.{sym, ◌∙◌}
 use mathlib.Core.Bool.{true≢false}
 use native.Mathlib.Omega.{arith}
-use borrow.Author.Rules.{rules}
 use Rattle.text.proofs.Writing.{puts_none}
 use Rattle.small_plans_text.proofs.Lines.{field_none}
 use Rattle.small_plans_text.proofs.put_field_plans.Goals as goal

@@ -1,6 +1,5 @@
 -- `put_plan` meets its contract: p, and the fields after it.
 use native.Mathlib.Omega.{arith}
-use borrow.Author.Rules.{rules}
 use Rattle.text.specs.Text.{line}
 use Rattle.text.proofs.Writing.{puts_then}
 use Rattle.small_plans_text.proofs.put_plan.Goals as goal

@@ -1,10 +1,5 @@
 -- `put_plans` meets its contract. Invariant: the lines from p on are to come.
-use mathlib.Core.List.{◌++◌}
-use Prim.Native.Nat.{◌+◌, ◌*◌, ◌-◌, ◌≤◌}
 use native.Mathlib.Omega.{arith}
-use lib.ListN.{take}
-use Rattle.lists.specs.Rows.{rows_from}
-use Rattle.lists.proofs.Fill.{Fills}
 use Rattle.lists.proofs.Rows.{rows_next, rows_end}
 use Rattle.text.proofs.Writing.{puts_start, puts_next, puts_done}
 use Rattle.small_plans_text.specs.SmallPlans.{field_lines}

@@ -1,11 +1,7 @@
 -- `put_root` meets its contract. Invariant: the lines from k on are to come.
 use mathlib.Core.Path.{sym}
-use mathlib.Core.List.{◌++◌}
-use Prim.Native.Nat.{◌+◌, ◌*◌, ◌-◌, ◌≤◌}
+use Prim.Native.Nat.{◌+◌}
 use native.Mathlib.Omega.{arith}
-use lib.ListN.{take}
-use Rattle.lists.specs.Rows.{rows_from}
-use Rattle.lists.proofs.Fill.{Fills}
 use Rattle.lists.proofs.Rows.{rows_next, rows_end}
 use Rattle.text.proofs.Writing.{puts_none, puts_start, puts_next, puts_done}
 use Rattle.small_plans_text.proofs.Lines.{line_with, root_none, root_lines_lem}

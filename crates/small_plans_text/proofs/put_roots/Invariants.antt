@@ -1,14 +1,10 @@
 -- `put_roots` meets its contract. Invariant: the lines of the roots from `root` on are to come.
 use mathlib.Core.List.{◌++◌}
 use Prim.Native.Nat.{◌+◌, ◌*◌, ◌-◌, ◌≤◌}
-use native.Mathlib.Omega.{arith}
 use lib.ListN.{take}
 use Rattle.lists.specs.Rows.{rows_from}
 use Rattle.lists.proofs.Fill.{Fills}
-use Rattle.lists.proofs.Rows.{rows_next, rows_end}
-use Rattle.text.proofs.Writing.{puts_start, puts_next, puts_done}
 use Rattle.small_plans_text.specs.SmallPlans.{root_lines}
-use Rattle.small_plans_text.proofs.Lines.{field_lines_lem}
 use Rattle.small_plans_text.proofs.put_roots.Given as goal
 
 abbrev pub invariant-loop-root : goal.invariant-loop-root

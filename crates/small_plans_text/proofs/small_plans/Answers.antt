@@ -1,5 +1,4 @@
 -- `small_plans` meets its contract.
-use borrow.Author.Rules.{rules}
 use Rattle.text.proofs.Writing.{puts_front}
 use Rattle.small_plans_text.proofs.small_plans.Goals as goal
 
