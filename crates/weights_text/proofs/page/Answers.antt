@@ -3,12 +3,8 @@ use mathlib.Core.Path.{refl, sym}
 use Prim.Native.Nat.{ℕ}
 use lib.ListN.{length-replicate}
 use Rattle.lists.specs.Padded.{zeros}
-use Rattle.weights_text.proofs.page.Statement.{statement}
-use Rattle.weights_text.proofs.page.Tie as tie
+use Rattle.weights_text.proofs.page.Goals as goal
 
-returns : tie.Need-returns
+pub returns : goal.returns
 unfolding zeros
 returns c = (refl, sym (length-replicate {A = ℕ} 3072 0))
-
-pub page-spec : {M : Type 1} → statement M
-page-spec = tie.close (tie.spec returns)
