@@ -41,7 +41,7 @@ lane_is n l t s xs long same = from_ext _ (λ r. get_or xs r 0) 0 n (λ r low hi
 -- lane q of the part from lane t on
 pub lane_of_part : (rows l : ℕ) (s : List ℕ) → length s ≡ rows * l → (t c q : ℕ) → q < c → lane_of lane_after_lane rows c q (take (t * rows + c * rows - t * rows) (drop (t * rows) s)) ≡ lane_of lane_after_lane rows l (t + q) s
 unfolding lane_of
-lane_of_part rows l s long t c q inside = from_ext _ _ 0 rows (λ i low high. runs.held-part rows l s long t c i q (omega arith) inside)
+lane_of_part rows l s long t c q inside = from_ext _ _ 0 rows (λ i low high. runs.held_part rows l s long t c i q (omega arith) inside)
 
 module _ (w rows l : ℕ) (s : List ℕ) (some : 1 ≤ w) (long : length s ≡ w * rows * l) where
   -- byte v of row r in lane t
@@ -57,7 +57,7 @@ module _ (w rows l : ℕ) (s : List ℕ) (some : 1 ≤ w) (long : length s ≡ w
 
   -- the symbols of a lane's bytes
   pub lane_read : (t : ℕ) → t < l → symbols_of w (lane_of lane_after_lane (w * rows) l t s) ≡ lane_of lane_after_lane rows l t (symbols_of w s)
-  lane_read t lane = ap (symbols_of w) (sym (runs.lane-part (w * rows) l s long t lane)) ∙ lane_part w rows l t s long lane some
+  lane_read t lane = ap (symbols_of w) (sym (runs.lane_part (w * rows) l s long t lane)) ∙ lane_part w rows l t s long lane some
 
   -- the part of row r that is loaded lies in the buffer
   pub row_part : (r t c : ℕ) → r < rows → t + c ≤ l → (r * l + t) * w + c * w ≤ length s

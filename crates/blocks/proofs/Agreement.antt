@@ -84,7 +84,7 @@ wrong_from (suc f) t h l s = elim (is_word h (lane_of h.n l t s)) [ true ↦ wro
 -- recovered messages and rebuilt shares
 unfoldable pub LanesAre : ℕ → Header → ℕ → List ℕ → List ℕ → List ℕ → Type 0
 LanesAre zero h l js s m = zero ≡ zero
-LanesAre (suc t) h l js s m = (C.at-nodes h (lane_of h.k l t m) js ≡ lane_of h.k l t s) × LanesAre t h l js s m
+LanesAre (suc t) h l js s m = (C.at_nodes_lem h (lane_of h.k l t m) js ≡ lane_of h.k l t s) × LanesAre t h l js s m
 
 unfoldable pub IsMessageFor : Header → ℕ → List ℕ → List ℕ → List ℕ → Type 0
 IsMessageFor h l js s m = (length m ≡ h.k * l) × (all_below (size_of h.p) m ≡ true) × LanesAre l h l js s m
@@ -221,7 +221,7 @@ module _ (h : Own.Header) (sound : R.Sound h) (even : h.k * R.distance h % h.n �
     Recovered t = at_nodes h (Layout.lane_of row_after_row h.k l t m) js ≡ Layout.lane_of row_after_row h.k l t s
 
     module _ (long : length m ≡ h.k * l) (symbols : all_below (R.size h) m ≡ true) where
-      lane_agrees : (t : ℕ) → t < l → C.at-nodes (given h) (lane_of h.k l t m) js ≡ at_nodes h (Layout.lane_of row_after_row h.k l t m) js
+      lane_agrees : (t : ℕ) → t < l → C.at_nodes_lem (given h) (lane_of h.k l t m) js ≡ at_nodes h (Layout.lane_of row_after_row h.k l t m) js
       lane_agrees t inside = rw (lane_of_agrees h.k l t m) (at_nodes_agrees h sound even (Layout.lane_of row_after_row h.k l t m) js (lane_symbols by_row h.k l (R.size h) t m inside long symbols))
 
       lanes_are_all : (f : ℕ) → f ≤ l → LanesAre f (given h) l js s m → All Recovered (below f)

@@ -5,7 +5,6 @@ use mathlib.Core.List.{List}
 use Prim.Native.Nat.{ℕ, ◌+◌, ◌*◌, ◌≤◌, ◌<◌}
 use native.Mathlib.Omega.{arith}
 use Rattle.lists.specs.Numbers.{all_below}
-use Rattle.lists.specs.Rows.{from}
 use Rattle.layout.specs.Layout.{Arrangement, row_after_row, lane_after_lane, rearranged}
 use Rattle.layout.specs.Inner.Parts.{some_lanes}
 use Rattle.layout.specs.Width.{symbols_of}

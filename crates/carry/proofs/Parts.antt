@@ -1,5 +1,5 @@
 -- One group of a buffer after the other, as code goes through them.
-use mathlib.Core.Path.{◌≡◌, refl, sym, ap, ap₂, ◌∙◌}
+use mathlib.Core.Path.{◌≡◌, sym, ap, ap₂, ◌∙◌}
 use mathlib.Core.Bool.{true}
 use mathlib.Core.List.{List, [], ◌++◌, append-nil}
 use Prim.Native.Nat.{ℕ, ◌+◌, ◌-◌, ◌*◌, ◌/◌, ◌%◌, ◌≤◌, ◌<◌}
@@ -7,7 +7,7 @@ use native.Mathlib.Omega.{arith}
 use borrow.Author.Tests.{leb-true, leb-false}
 use lib.Dec.{leb}
 use lib.ListN.{length, take, drop, length-append, length-drop, drop_of_length-le}
-use lib.Seq.{take_all, take_at, drop-drop, length-take-le, take-append-le, drop-append-le, take-append-add}
+use lib.Seq.{take_all, drop-drop, length-take-le, take-append-le, drop-append-le, take-append-add}
 use Rattle.lists.specs.Numbers.{all_below}
 use Rattle.lists.specs.Padded.{zeros, padded}
 use Rattle.lists.proofs.Cases.{by_test}

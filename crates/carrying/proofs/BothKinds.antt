@@ -1,20 +1,19 @@
 -- Bytes over either kind of field: read again, in symbols, and how many.
-use mathlib.Core.Path.{◌≡◌, ap, ◌∙◌}
-use mathlib.Core.Bool.{Bool, true, false}
+use mathlib.Core.Path.{◌≡◌}
+use mathlib.Core.Bool.{true, false}
 use mathlib.Core.List.{List}
 use Prim.Native.Nat.{ℕ, ◌<◌}
 use native.Mathlib.Omega.{arith}
-use borrow.Author.Tests.{eqb-true, eqb-false, lt-leb}
-use lib.Dec.{eqb, leb}
+use borrow.Author.Tests.{eqb-false, lt-leb}
+use lib.Dec.{eqb}
 use lib.ListN.{length}
-use Rattle.lists.specs.Choice.{pick}
 use Rattle.lists.specs.Numbers.{all_below}
 use Rattle.lists.proofs.Cases.{by_test}
 use Rattle.layout.specs.Width.{symbols_of}
 use Rattle.layout.proofs.Widths.{symbols_one}
 use Rattle.field.specs.Fields.{size_of}
 use Rattle.field.specs.Widths.{bytes_for}
-use Rattle.carrying.specs.Carrying.{carries_none, carried_words, word_bytes_back, words_length, carried_bytes, bytes_back, carried_length}
+use Rattle.carrying.specs.Carrying.{carries_none, words_length, carried_bytes, bytes_back, carried_length}
 use Rattle.carrying.proofs.Carried.{Carrier, carrier_good}
 use Rattle.carrying.proofs.Bytes as words
 
@@ -31,7 +30,7 @@ module _ (p : ℕ) (word : p < 65536) (good : carries_none p ≡ false) where
   -- how many bytes carry, and how many are read
   pub length_carried : (s : List ℕ) → length (carried_bytes p s) ≡ carried_length p (length s)
   unfolding carried_bytes carried_length
-  length_carried s = by_kind (λ e. rw e) (λ e carrier. rw e (words.length-carried p carrier s))
+  length_carried s = by_kind (λ e. rw e) (λ e carrier. rw e (words.length_carried p carrier s))
 
   pub length_back : (n : ℕ) (s : List ℕ) → length s ≡ carried_length p n → length (bytes_back p n s) ≡ n
   unfolding bytes_back carried_length
@@ -46,4 +45,4 @@ module _ (p : ℕ) (word : p < 65536) (good : carries_none p ≡ false) where
   carried_below s low =
       by_kind
       (λ e. rw (e, symbols_one s) low)
-      (λ e carrier. rw (e, lt-leb p 256 (omega (arith, carrier.large))) (words.words-carried-below p carrier s low))
+      (λ e carrier. rw (e, lt-leb p 256 (omega (arith, carrier.large))) (words.words_carried_below p carrier s low))

@@ -2,7 +2,7 @@
 use mathlib.Core.Path.{◌≡◌, refl, ap, ◌∙◌}
 use mathlib.Core.Bool.{true}
 use mathlib.Core.List.{List}
-use Prim.Native.Nat.{ℕ, ◌+◌, ◌*◌, ◌/◌, ◌%◌, ◌≤◌}
+use Prim.Native.Nat.{ℕ, ◌+◌, ◌*◌, ◌%◌, ◌≤◌}
 use native.Mathlib.Omega.{arith}
 use lib.ListN.{length, take}
 use lib.Seq.{length-take-le}
@@ -68,21 +68,21 @@ module _ (p : ℕ) (carrier : Carrier p) where
 
   -- every symbol that carries is below p
   pub words_carried_below : (s : List ℕ) → all_below 256 s ≡ true → all_below p (symbols_of 2 (carried_words p s)) ≡ true
-  words_carried_below s low = rw (carried_symbols_lem p s) (symbols.carried-below p carrier (words_of s) (words_below s low))
+  words_carried_below s low = rw (carried_symbols_lem p s) (symbols.carried_below p carrier (words_of s) (words_below s low))
 
   -- how many bytes carry
   pub length_carried : (s : List ℕ) → length (carried_words p s) ≡ words_length p (length s)
   unfolding carried_words words_length
   length_carried s =
       length_bytes 2 (carried_symbols p (words_of s))
-      ∙ ap (λ (n : ℕ). n * 2) (symbols.length-carried p carrier.some (words_of s) ∙ ap (λ (n : ℕ). n + group_count (group_words p) n) (length_words s))
+      ∙ ap (λ (n : ℕ). n * 2) (symbols.length_carried p carrier.some (words_of s) ∙ ap (λ (n : ℕ). n + group_count (group_words p) n) (length_words s))
 
   -- and so many are read again
   pub length_read : (n : ℕ) (s : List ℕ) → length s ≡ words_length p n → length (bytes_of 2 (words_back p (symbols_of 2 s))) ≡ word_count n * 2
   unfolding words_length
   length_read n s long =
       length_bytes 2 (words_back p (symbols_of 2 s))
-      ∙ ap (λ (x : ℕ). x * 2) (symbols.length-again p carrier.some (word_count n) (symbols_of 2 s) (count_symbols 2 _ s (omega arith) long))
+      ∙ ap (λ (x : ℕ). x * 2) (symbols.length_again p carrier.some (word_count n) (symbols_of 2 s) (count_symbols 2 _ s (omega arith) long))
 
   pub length_back : (n : ℕ) (s : List ℕ) → length s ≡ words_length p n → length (word_bytes_back p n s) ≡ n
   unfolding word_bytes_back

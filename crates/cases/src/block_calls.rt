@@ -2,14 +2,15 @@
 // holds 170 before the call.
 use blocks::{Membership, Outcome, Update};
 use correct::Correction;
+use std::io;
 use test_tools::{front, list, part, refused, text, untouched, value};
 use test_words::Words;
 
 // The bytes written, or the number and whether every byte still holds 170.
-pub fn print(answer: Outcome, out: &[u8]) {
+pub fn print(rt: &impl Print, answer: Outcome, out: &[u8]) -> io::Result<()> {
     match answer {
-        Outcome::Done => list(b": done", out),
-        Outcome::Refused(number) => refused(number, untouched(170, out)),
+        Outcome::Done => list(rt, b": done", out),
+        Outcome::Refused(number) => refused(rt, number, untouched(170, out)),
     }
 }
 
@@ -30,7 +31,7 @@ fn write_to(w: Words, rec: &[u8], first: &[u8], second: &[u8], out: &mut [u8]) -
     }
 }
 
-pub fn write(w: Words) {
+pub fn write(rt: &impl Print, w: Words) -> io::Result<()> {
     let record = w.record;
     let first = w.first;
     let second = w.second;
@@ -44,11 +45,11 @@ pub fn write(w: Words) {
         part(&second, counts[2]),
         front(&mut out, rooms[1]),
     );
-    print(answer, part(&out, rooms[1]));
+    print(rt, answer, part(&out, rooms[1]))
 }
 
 // The share afterwards, or the number and whether it is as it was.
-pub fn add(w: Words) {
+pub fn add(rt: &impl Print, w: Words) -> io::Result<()> {
     let record = w.record;
     let difference = w.first;
     let before = w.second;
@@ -62,32 +63,32 @@ pub fn add(w: Words) {
         front(&mut after, counts[2]),
     );
     match answer {
-        Outcome::Done => list(b": done", part(&after, counts[2])),
-        Outcome::Refused(number) => refused(number, check::same(&before, &after)),
+        Outcome::Done => list(rt, b": done", part(&after, counts[2])),
+        Outcome::Refused(number) => refused(rt, number, check::same(&before, &after)),
     }
 }
 
 // Yes, the smallest lane that is no word, or the number.
-pub fn belongs(w: Words) {
+pub fn belongs(rt: &impl Print, w: Words) -> io::Result<()> {
     let record = w.record;
     let shares = w.first;
     let counts = w.counts;
     let numbers = w.numbers;
     let rec = part(&record, counts[0]);
     match balanced::block_belongs(rec, numbers[0], part(&shares, counts[1])) {
-        Membership::Yes => text(b": yes"),
-        Membership::No(lane) => value(b": no, lane", lane as u64),
-        Membership::Refused(number) => value(b": refused", number as u64),
+        Membership::Yes => text(rt, b": yes"),
+        Membership::No(lane) => value(rt, b": no, lane", lane as u64),
+        Membership::Refused(number) => value(rt, b": refused", number as u64),
     }
 }
 
 // How many nodes or symbols were altered, and the shares afterwards.
-fn altered(count: u32, shares: &[u8]) {
-    value(b": altered", count as u64);
-    list(b" shares", shares);
+fn altered(rt: &impl Print, count: u32, shares: &[u8]) -> io::Result<()> {
+    value(rt, b": altered", count as u64)?;
+    list(rt, b" shares", shares)
 }
 
-pub fn update(w: Words) {
+pub fn update(rt: &impl Print, w: Words) -> io::Result<()> {
     let record = w.record;
     let before = w.first;
     let counts = w.counts;
@@ -103,12 +104,12 @@ pub fn update(w: Words) {
         front(&mut after, counts[1]),
     );
     match answer {
-        Update::Altered(count) => altered(count, part(&after, counts[1])),
-        Update::Refused(number) => refused(number, check::same(&before, &after)),
+        Update::Altered(count) => altered(rt, count, part(&after, counts[1])),
+        Update::Refused(number) => refused(rt, number, check::same(&before, &after)),
     }
 }
 
-pub fn correct(w: Words) {
+pub fn correct(rt: &impl Print, w: Words) -> io::Result<()> {
     let record = w.record;
     let before = w.first;
     let counts = w.counts;
@@ -120,7 +121,7 @@ pub fn correct(w: Words) {
         front(&mut after, counts[1]),
     );
     match answer {
-        Correction::Altered(count) => altered(count, part(&after, counts[1])),
-        Correction::Refused(number) => refused(number, check::same(&before, &after)),
+        Correction::Altered(count) => altered(rt, count, part(&after, counts[1])),
+        Correction::Refused(number) => refused(rt, number, check::same(&before, &after)),
     }
 }

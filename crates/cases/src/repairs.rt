@@ -1,11 +1,12 @@
 // Calls of a repair by traces.
 use crate::block_calls::print;
 use balanced::RepairPlan;
+use std::io;
 use test_tools::{front, part, value};
 use test_words::Words;
 
 // What a node sends.
-pub fn bits(w: Words) {
+pub fn bits(rt: &impl Print, w: Words) -> io::Result<()> {
     let record = w.record;
     let missing = w.first;
     let share = w.second;
@@ -22,11 +23,11 @@ pub fn bits(w: Words) {
         part(&share, counts[2]),
         front(&mut out, rooms[1]),
     );
-    print(answer, part(&out, rooms[1]));
+    print(rt, answer, part(&out, rooms[1]))
 }
 
 // The target's share.
-pub fn share(w: Words) {
+pub fn share(rt: &impl Print, w: Words) -> io::Result<()> {
     let record = w.record;
     let missing = w.first;
     let rows = w.second;
@@ -42,19 +43,19 @@ pub fn share(w: Words) {
         part(&rows, counts[2]),
         front(&mut out, rooms[1]),
     );
-    print(answer, part(&out, rooms[1]));
+    print(rt, answer, part(&out, rooms[1]))
 }
 
 // How many bits each node sends and how many further nodes may be missing, or the number.
-pub fn plan(w: Words) {
+pub fn plan(rt: &impl Print, w: Words) -> io::Result<()> {
     let record = w.record;
     let counts = w.counts;
     let numbers = w.numbers;
     match balanced::repair_plan(part(&record, counts[0]), numbers[0]) {
         RepairPlan::Sends(bits, spare) => {
-            value(b": bits", bits as u64);
-            value(b" spare", spare as u64);
+            value(rt, b": bits", bits as u64)?;
+            value(rt, b" spare", spare as u64)
         }
-        RepairPlan::Refused(number) => value(b": refused", number as u64),
+        RepairPlan::Refused(number) => value(rt, b": refused", number as u64),
     }
 }

@@ -1,16 +1,13 @@
 -- For every n from 2 to 255 and k from 1 to n the record is accepted, has this n and this k, and carries bytes.
-use mathlib.Core.Path.{◌≡◌, refl, sym, ap, ap₂, ◌∙◌}
-use mathlib.Core.Bool.{Bool, true, false, not, ◌&&◌}
-use mathlib.Core.List.{List, [], ◌∷◌}
-use Prim.Native.Nat.{ℕ, ◌*◌, ◌+◌, ◌/◌, ◌%◌, ◌≤◌, ◌<◌}
+use mathlib.Core.Path.{◌≡◌, refl, ap, ap₂, ◌∙◌}
+use mathlib.Core.Bool.{Bool, false, not, ◌&&◌}
+use mathlib.Core.List.{[], ◌∷◌}
+use Prim.Native.Nat.{ℕ, ◌/◌, ◌%◌, ◌≤◌, ◌<◌}
 use native.Mathlib.Nat.{div-add-mod'}
 use native.Mathlib.Omega.{arith}
-use borrow.Author.Tests.{eqb-true, eq-eqb, ne_eqb, lt-ltb, le-ltb, le-leb}
-use lib.Dec.{eqb, ltb}
-use Rattle.lists.specs.Choice.{pick}
+use borrow.Author.Tests.{eq-eqb, ne_eqb, lt-ltb, le-ltb, le-leb}
 use Rattle.lists.proofs.Cases.{both_true}
 use Rattle.field.specs.declared.Field.TheVariants.{Prime, Binary}
-use Rattle.field.specs.Primes.{is_prime}
 use Rattle.field.specs.Fields.{size_of, order_of}
 use Rattle.field.specs.Kinds.{prime_of, gf256, modulus}
 use Rattle.generator.specs.declared.Header.{Header}

@@ -15,7 +15,7 @@ use Rattle.layout.proofs.Widths.{length_bytes, symbols_bytes}
 use Rattle.layout.proofs.Readings.{count_symbols, bytes_symbols, bytes_below}
 use Rattle.layout.proofs.LaneParts.{lanes_long, lane_inside, lane_part}
 use Rattle.generator.specs.declared.Header.{Header}
-use Rattle.generator.specs.Records.{size, width}
+use Rattle.generator.specs.Records.{width}
 use Rattle.symbols.proofs.Fits.{symbols_fit}
 use Rattle.nearest_word.specs.Nearest.{corrected}
 use Rattle.correct.specs.Blocks.{corrected_shares, corrected_bytes}

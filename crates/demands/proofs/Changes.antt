@@ -22,7 +22,7 @@ use Rattle.lists.proofs.Differ.{differ_same}
 use Rattle.lists.proofs.Numbers.{all_below_lem, below_set, all_distinct}
 use Rattle.lists.proofs.Rows.{length_from, get_or_from}
 use Rattle.generator.specs.declared.Header.{Header}
-use Rattle.generator.specs.Records.{header_of, record_fault, size, distance, Sound}
+use Rattle.generator.specs.Records.{header_of, record_fault, distance, Sound}
 use Rattle.generator.specs.Codewords.{node_of, encoding}
 use Rattle.generator.specs.Claims.{is_message, are_nodes, at_nodes}
 use Rattle.demands.specs.Changes.{Reaches}

@@ -1,7 +1,7 @@
 -- Records and plans: the sentences, proved.
 use mathlib.Core.Path.{◌≡◌, refl, sym, ap, ap₂, ◌∙◌}
 use mathlib.Core.List.{List}
-use Prim.Native.Nat.{ℕ, zero, suc, ◌+◌, ◌-◌, ◌*◌}
+use Prim.Native.Nat.{ℕ, zero, suc, ◌+◌, ◌*◌}
 use native.Mathlib.Omega.{arith}
 use Rattle.lists.proofs.Padding.{length_padded, padded_past, get_or_zeros}
 use Rattle.field.specs.declared.Field.TheVariants.{Prime}

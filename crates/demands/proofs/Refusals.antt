@@ -101,7 +101,7 @@ module _ (rec : List ℕ) where
       correct shares' r says =
           let number = fault_of rec (λ h. correct_fault share_layout h l shares) in
           call_judged number (own_after rec _ (λ h. correct_fault share_layout h l shares) refl (λ none. correct_tells h (faultless_sound rec none) l shares))
-          (by_answer C.Refused says.promise.answer (A.refused-means number _) (A.means-refused number _))
+          (by_answer C.Refused says.promise.answer (A.refused_means number _) (A.means_refused number _))
           (λ some. rw (ne_eqb number 0 some) at says.promise.written)
 
     rearrange : {y z : Arrangement} (rows : Header → ℕ) (source out out' : List ℕ) (r : Outcome) → RearrangeSays y z rows rec l source out out' r → Judged (record_numbers rec ++ rearrange_numbers h (rows h) l (length source) (length out)) (λ f. r ≡ O.Refused f) (out' ≡ out)
@@ -123,7 +123,7 @@ module _ (rec : List ℕ) where
   find before after r says =
       let number = fault_of rec (λ h. find_fault h before after) in
       call_judged number (own_after rec _ (λ h. find_fault h before after) refl (λ none. find_tells h before after))
-      (by_answer F.Refused says.found.promise.answer (λ f. FA.refused-means number _ f (not_refused h _ _)) (FA.answer-refused number _))
+      (by_answer F.Refused says.found.promise.answer (λ f. FA.refused_means number _ f (not_refused h _ _)) (FA.answer_refused number _))
       (λ some. tt)
 
   mends : (lane nodes symbols nodes' symbols' : List ℕ) (r : Mending) → MendsSay rec lane nodes symbols nodes' symbols' r → Judged (record_numbers rec ++ mends_numbers h lane (length nodes) (length symbols)) (λ f. r ≡ N.Refused f) ((nodes' ≡ nodes) × (symbols' ≡ symbols))

@@ -3,7 +3,7 @@ use mathlib.Core.Path.{◌≡◌, refl, sym, ap, subst, ◌∙◌}
 use mathlib.Core.Logic.{◌↔◌, ◌⊎◌}
 use mathlib.Core.Bool.{Bool, true, false, ◌||◌, not}
 use mathlib.Core.List.{List, [], ◌∷◌, ◌++◌}
-use Prim.Native.Nat.{ℕ, zero, suc, ◌+◌, ◌-◌, ◌*◌, ◌/◌, ◌%◌, ◌^◌, ◌≤◌, ◌<◌}
+use Prim.Native.Nat.{ℕ, ◌+◌, ◌-◌, ◌*◌, ◌/◌, ◌%◌, ◌^◌, ◌≤◌, ◌<◌}
 use native.Mathlib.Omega.{arith}
 use borrow.Author.Tests.{ne_eqb, eqb-false, ltb-true, lt-ltb}
 use lib.Dec.{eqb, ltb}
@@ -14,7 +14,7 @@ use Rattle.lists.proofs.Numbers.{is_in_place, place_is_in}
 use Rattle.lists.proofs.Rows.{rows_ext}
 use Rattle.layout.specs.Width.{bytes_of}
 use Rattle.generator.specs.declared.Header.{Header}
-use Rattle.generator.specs.Records.{header_of, modulus_of, record_fault, width, Sound}
+use Rattle.generator.specs.Records.{header_of, modulus_of, width}
 use Rattle.refusals.specs.Conditions.{lanes_bad, length_bad, number_bad, nodes_bad, twice_bad}
 use Rattle.refusals.specs.Faults.{fault_of}
 use Rattle.refusals.proofs.OnRecord.{none_met}
@@ -23,8 +23,7 @@ use Rattle.blocks.specs.declared.Outcome.TheVariants as O
 use Rattle.blocks.specs.Blocks.{share_of}
 use Rattle.blocks.proofs.Answered.{done_means}
 use Rattle.encode.specs.Promise.{EncodeSays}
-use Rattle.traces.specs.Traces.{TraceBits}
-use Rattle.traces.specs.Repairs.{bits, spare, sends, senders, sent_digit}
+use Rattle.traces.specs.Repairs.{bits, spare, sends, senders}
 use Rattle.traces.proofs.Claims.{repairable, no_repair, enough, least, sender_below, bytes_repair, trace_laws}
 use Rattle.repair_bound.proofs.Bound.{repair_bound}
 use Rattle.repair_bound.proofs.Prices.{trace_price}
@@ -37,7 +36,7 @@ use Rattle.repair.specs.Promise.{traces_bad, target_fault, repair_bits_fault, re
 use Rattle.repair.proofs.Accepts.{bits_accepts, share_accepts, planned_means, refused_plan, plan_refused}
 use Rattle.repair.proofs.Sending.{length_sent, sent_bit, repaired_sent}
 use Rattle.balanced_c.specs.Repairs.{RepairPlanGives, RepairBitsGives, RepairShareGives}
-use Rattle.demands.specs.Judging.{Table, Judged, Returns}
+use Rattle.demands.specs.Judging.{Judged, Returns}
 use Rattle.demands.specs.Numbers.{record_numbers}
 use Rattle.demands.specs.Calls.{read}
 use Rattle.demands.specs.RoundTrips.{cut_of}
@@ -46,7 +45,7 @@ use Rattle.demands.proofs.Judging.{Tells, line, last, call_judged, by_answer, by
 use Rattle.demands.proofs.Conditions.{equal_test, other_test, or_test}
 use Rattle.demands.proofs.Numbers.{lanes_means, length_means, number_means, nodes_mean, twice_means, own_after}
 use Rattle.demands.proofs.Refusals.{by_outcome}
-use Rattle.demands.proofs.RoundTrips.{Encoded, encoded, cut_share, round_trips}
+use Rattle.demands.proofs.RoundTrips.{encoded, cut_share, round_trips}
 
 -- a number in a list
 listed_means : (x : ℕ) (s : List ℕ) → (is_in x s ≡ true) ↔ Listed x s

@@ -198,7 +198,7 @@ module _ (rec : List ℕ) (l : ℕ) (message out shares : List ℕ) (says : Enco
   correct : (wrong wrong' : List ℕ) (count : ℕ) → FewWrong h l shares wrong → CorrectSays rec l wrong wrong' (C.Altered count) → wrong' ≡ shares
   unfolding corrected_bytes corrected_shares
   correct wrong wrong' count few done =
-      let none = (Corrected.altered-means (fault_of rec (λ h. correct_fault share_layout h l wrong)) _ count done.promise.answer).0 in
+      let none = (Corrected.altered_means (fault_of rec (λ h. correct_fault share_layout h l wrong)) _ count done.promise.answer).0 in
       let written = rw none at done.promise.written in
       let now = read_written h wrong' _ written in
       let same : read h wrong' ≡ read h shares =

@@ -2,7 +2,7 @@
 use mathlib.Core.Path.{◌≡◌, refl, sym, ap, ◌∙◌}
 use mathlib.Core.Bool.{true, not}
 use mathlib.Core.List.{List, [], ◌∷◌}
-use Prim.Native.Nat.{ℕ, zero, suc, ◌+◌, ◌-◌, ◌%◌, ◌≤◌, ◌<◌}
+use Prim.Native.Nat.{ℕ, zero, suc, ◌+◌, ◌-◌, ◌%◌, ◌<◌}
 use native.Mathlib.Nat.{mod-lt, mod_self, mod-eq_of_lt, add-mod_left, add_comm, sub-zero, zero-add, add-zero}
 use native.Mathlib.Omega.{arith}
 use borrow.Author.Tests.{eqb-true, ltb-true, ltb-false}
@@ -11,7 +11,6 @@ use lib.ListN.{length, get_or, take, drop, set, length-set}
 use lib.Seq.{get_or-take, length-take-le}
 use Rattle.lists.specs.Numbers.{all_below}
 use Rattle.lists.specs.Padded.{zeros}
-use Rattle.lists.specs.Rows.{from}
 use Rattle.lists.proofs.All.{Distinct-at}
 use Rattle.lists.proofs.Cases.{by_test}
 use Rattle.lists.proofs.Fill.{length_zeros, drop_zeros}

@@ -1,6 +1,8 @@
 // Prints the inverses of the field of 256 elements, and each byte's products with all bytes, two hexadecimal digits each.
+#![tactic(auto)]
+
 use field::{Field, Gf256};
-use libc::STDOUT_FILENO;
+use std::io;
 use test_tools::{number, text, value};
 
 fn inverse(a: u8) -> u32 {
@@ -13,33 +15,37 @@ fn product(a: u8, b: u8) -> u32 {
     field.mul(a as u32, b as u32)
 }
 
-fn inverses() {
-    text(b"inverses");
+fn inverses(rt: &impl Print) -> io::Result<()> {
+    text(rt, b"inverses")?;
     for a in 1..=255 {
-        number(inverse(a) as u64);
+        number(rt, inverse(a) as u64)?;
     }
+    Ok(())
 }
 
-fn print_product(a: u8, b: u8) {
-    io::print_hex(STDOUT_FILENO, product(a, b) as u64, 2);
+fn print_product(rt: &impl Print, a: u8, b: u8) -> io::Result<()> {
+    let x = product(a, b);
+    print!(rt; "{x:02x}")
 }
 
-fn row(a: u8) {
-    value(b"\ntimes", a as u64);
-    text(b" ");
+fn row(rt: &impl Print, a: u8) -> io::Result<()> {
+    value(rt, b"\ntimes", a as u64)?;
+    text(rt, b" ")?;
     for b in 0..=255 {
-        print_product(a, b);
+        print_product(rt, a, b)?;
     }
+    Ok(())
 }
 
-fn rows() {
+fn rows(rt: &impl Print) -> io::Result<()> {
     for a in 0..=255 {
-        row(a);
+        row(rt, a)?;
     }
+    Ok(())
 }
 
-fn main() {
-    inverses();
-    rows();
-    text(b"\n");
+fn main(rt: HostRuntime) -> io::Result<()> {
+    inverses(&rt)?;
+    rows(&rt)?;
+    text(&rt, b"\n")
 }

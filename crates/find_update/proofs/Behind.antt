@@ -18,7 +18,7 @@ use Rattle.lists.proofs.Search.{search_none, search_passes}
 use Rattle.field.specs.Fields.{add, sub, mul, inverse}
 use Rattle.field.proofs.Arithmetic.{Arithmetic, add_back, add_neg, sub_is}
 use Rattle.field.proofs.BothKinds.{arithmetic}
-use Rattle.field.proofs.Bounds.{mul_below, sub_below}
+use Rattle.field.proofs.Bounds.{mul_below}
 use Rattle.field.proofs.Inverse.{mul_inverse, inverse_below}
 use Rattle.generator.specs.declared.Header.{Header}
 use Rattle.generator.specs.Records.{modulus_of, size, Sound}

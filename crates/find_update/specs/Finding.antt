@@ -4,7 +4,7 @@ use Rattle.lists.specs.Choice.{pick}
 use Rattle.lists.specs.Counting.{differ}
 use Rattle.lists.specs.Rows.{from}
 use Rattle.lists.specs.Search.{first_false}
-use Rattle.field.specs.Fields.{add, sub, mul}
+use Rattle.field.specs.Fields.{sub, mul}
 use Rattle.generator.specs.declared.Header.{Header}
 use Rattle.generator.specs.Records.{modulus_of, size}
 use Rattle.generator.specs.Generator.{entry}

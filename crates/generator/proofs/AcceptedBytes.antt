@@ -7,9 +7,9 @@ use native.Mathlib.Omega.{arith}
 use borrow.Author.Tests.{ltb-true, ltb-false, leb-true, eqb-true, not-false}
 use lib.Dec.{eqb, ltb, leb}
 use lib.ListN.{length, get_or}
-use Rattle.lists.specs.Choice.{pick, first_of, when}
+use Rattle.lists.specs.Choice.{pick, when}
 use Rattle.lists.specs.Numbers.{all_below}
-use Rattle.lists.proofs.Cases.{by_test, and_left, and_right, or_left_false, or_right_false, first_zero, when_zero}
+use Rattle.lists.proofs.Cases.{by_test, and_left, and_right, or_right_false, first_zero, when_zero}
 use Rattle.lists.proofs.Numbers.{at_below}
 use Rattle.field.specs.Fields as F
 use Rattle.field.proofs.Agreement.{rest, size_of, is_prime, order_of, size_of_agrees, is_prime_agrees, order_of_agrees}

@@ -31,7 +31,6 @@ use Rattle.generator.specs.Records.{modulus_of, size, Sound}
 use Rattle.generator.specs.Shifts.{shifts}
 use Rattle.generator.proofs.Sound.{field_for, root_for, root_order}
 use Rattle.generator.proofs.Recovery.{the_code}
-use Rattle.generator.proofs.Shifts.{shifts_length}
 use Rattle.interpolation.specs.Inner.Points.{SymbolList}
 use Rattle.interpolation.specs.Inner.Polynomials.{product_of}
 use Rattle.interpolation.proofs.Coefficients.{length_product_of}

@@ -1,9 +1,8 @@
 -- The entries of a node of the plain layout are the weights by which the first k nodes give it.
-use mathlib.Core.Path.{◌≡◌, refl, sym, ap, ap₂, ◌∙◌}
+use mathlib.Core.Path.{◌≡◌, refl, sym, ap, ◌∙◌}
 use mathlib.Core.Bool.{Bool, true, false}
 use mathlib.Core.List.{List}
-use Prim.Native.Nat.{ℕ, ◌+◌, ◌≤◌, ◌<◌}
-use native.Mathlib.Omega.{arith}
+use Prim.Native.Nat.{ℕ, ◌≤◌, ◌<◌}
 use native.Mathlib.Nat.{zero-add}
 use borrow.Author.Tests.{eq-eqb, ne_eqb}
 use lib.Dec.{eqb}
@@ -13,22 +12,21 @@ use Rattle.lists.specs.Choice.{pick}
 use Rattle.lists.specs.Numbers.{all_below}
 use Rattle.lists.specs.Rows.{from, range}
 use Rattle.lists.proofs.Numbers.{at_below}
-use Rattle.lists.proofs.Rows.{length_from, get_or_from, from_ext}
+use Rattle.lists.proofs.Rows.{length_from, get_or_from}
 use Rattle.algebra.proofs.Sums.{sum, sum_one}
 use Rattle.algebra.proofs.Ring.{one-mul, zero-mul}
 use Rattle.field.specs.Fields.{is_field, size_of}
-use Rattle.field.specs.Symbols.{Symbol, numbers}
+use Rattle.field.specs.Symbols.{Symbol}
 use Rattle.field.specs.Inner.Sums.{dot}
 use Rattle.field.proofs.Symbols.{symbols, numbers_symbols, get_or_numbers, symbol_below}
 use Rattle.field.proofs.FieldOf.{field_of, size_pos}
 use Rattle.interpolation.proofs.Bridge.{dot_is}
 use Rattle.generator.specs.declared.Header.{Header}
-use Rattle.generator.specs.Records.{modulus_of, size, Sound}
+use Rattle.generator.specs.Records.{modulus_of, Sound}
 use Rattle.generator.specs.Codewords.{node_of, encoding}
 use Rattle.generator.proofs.PlainLayout.{first_nodes}
 use Rattle.generator.proofs.Recovery.{some_message}
 use Rattle.node_weights.specs.Inner.Weights.{Rebuilds}
-use Rattle.blocks.specs.Blocks.{recovered_lane}
 use Rattle.blocks.proofs.Recovered.{lane_recovered}
 use Rattle.plain_text.specs.Plain.{unit_message, plain_row, plain_entry}
 

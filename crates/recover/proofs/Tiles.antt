@@ -6,7 +6,7 @@ use native.Mathlib.Nat.{add-zero, mul_comm, mul-le-mul, le_trans}
 use native.Mathlib.Omega.{arith}
 use lib.ListN.{length, take, drop}
 use Rattle.lists.proofs.Rows.{from_ext, from_move, length_from, part_size}
-use Rattle.layout.specs.Layout.{Arrangement, row_after_row, lane_after_lane, lane_of, buffer, share_layout}
+use Rattle.layout.specs.Layout.{Arrangement, row_after_row, lane_after_lane, lane_of, share_layout}
 use Rattle.layout.specs.Inner.Parts.{some_lanes}
 use Rattle.layout.specs.Width.{symbols_of, bytes_of}
 use Rattle.layout.proofs.Widths.{length_bytes}

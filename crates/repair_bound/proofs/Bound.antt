@@ -24,7 +24,7 @@ use Rattle.field.specs.Kinds.{modulus}
 use Rattle.scheme.specs.Sums.{sum}
 use Rattle.scheme.proofs.Sums.{count_swap}
 use Rattle.generator.specs.declared.Header.{Header}
-use Rattle.generator.specs.Records.{header_of, modulus_of, size, record_fault, Sound}
+use Rattle.generator.specs.Records.{header_of, modulus_of, record_fault, Sound}
 use Rattle.generator.specs.Codewords.{node_of}
 use Rattle.generator.specs.Claims.{is_message, are_nodes}
 use Rattle.generator.proofs.Accepts.{faultless_sound}

@@ -1,57 +1,58 @@
 // Reads records in words, one a line ("record 1 7 3 6 4"), and writes each line with the record's sheet and comparison, or with what makes
 // it no record. An empty line or a comment is written as it is.
-use libc::STDIN_FILENO;
+#![tactic(auto)]
+
+use std::io;
 use test_tools::{not_read, part, text};
 use test_words::{is_comment, line_end, read_call};
 
-fn print_sheet(rec: &[u8]) {
+fn print_sheet(rt: &impl Print, rec: &[u8]) -> io::Result<()> {
     let mut page = sheet_text::page();
     let end = sheet_text::sheet(rec, &mut page);
-    text(&page[..end]);
+    text(rt, &page[..end])
 }
 
-fn print_comparison(rec: &[u8]) {
+fn print_comparison(rt: &impl Print, rec: &[u8]) -> io::Result<()> {
     let mut page = compare_text::page();
     let end = compare_text::comparison(rec, &mut page);
-    text(&page[..end]);
+    text(rt, &page[..end])
 }
 
 // The sheet and the comparison of the record of a line.
-fn answer_record(line: &[u8]) {
+fn answer_record(rt: &impl Print, line: &[u8]) -> io::Result<()> {
     let words = read_call(line, b"record");
     let fault = words.fault;
     if fault != 0 {
-        not_read(b"record", fault);
-        text(b"\n");
-        return;
+        not_read(rt, b"record", fault)?;
+        return text(rt, b"\n");
     }
-    text(b"\n");
+    text(rt, b"\n")?;
     let record = words.record;
     let counts = words.counts;
-    print_sheet(part(&record, counts[0]));
-    print_comparison(part(&record, counts[0]));
+    print_sheet(rt, part(&record, counts[0]))?;
+    print_comparison(rt, part(&record, counts[0]))
 }
 
-fn answer(line: &[u8]) {
-    text(line);
+fn answer(rt: &impl Print, line: &[u8]) -> io::Result<()> {
+    text(rt, line)?;
     if is_comment(line) {
-        text(b"\n");
-        return;
+        return text(rt, b"\n");
     }
-    answer_record(line);
+    answer_record(rt, line)
 }
 
-fn answers(input: &[u8]) {
+fn answers(rt: &impl Print, input: &[u8]) -> io::Result<()> {
     let mut at = 0;
     while at < input.len() {
         let end = line_end(input, at);
-        answer(&input[at..end]);
+        answer(rt, &input[at..end])?;
         at = end + 1;
     }
+    Ok(())
 }
 
-fn main() {
-    let mut input = io::buffer();
-    let size = io::read_full(STDIN_FILENO, &mut input);
-    answers(&input[..size]);
+fn main(rt: HostRuntime) -> io::Result<()> {
+    let mut input = [0u8; 4096];
+    let size = input::read_full(&rt, &mut input)?;
+    answers(&rt, &input[..size])
 }

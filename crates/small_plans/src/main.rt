@@ -1,8 +1,10 @@
 // Writes every accepted record of kind 1 with p up to 31: a line `p root n k` for each, by p, then by the root, then by k.
-use libc::STDOUT_FILENO;
+#![tactic(auto)]
 
-fn main() {
+use std::io;
+
+fn main(rt: HostRuntime) -> io::Result<()> {
     let mut page = small_plans_text::page();
     let end = small_plans_text::small_plans(&mut page);
-    io::write_all(STDOUT_FILENO, &page[..end]);
+    rt.write_all(&page[..end])
 }

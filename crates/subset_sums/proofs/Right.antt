@@ -11,7 +11,6 @@ use lib.Dec.{eqb}
 use lib.ListN.{length, get_or, take, drop, length-take, length-drop, get_or-eq_default}
 use lib.Seq.{get_or-take, get_or-drop, length-take-le}
 use Rattle.lists.specs.Counting.{passing_from}
-use Rattle.lists.specs.Rows.{from}
 use Rattle.lists.proofs.All.{All, All-at}
 use Rattle.lists.proofs.Cases.{by_test}
 use Rattle.lists.proofs.Numbers.{below_take}

@@ -1,9 +1,9 @@
 -- The powers of 2 in the field of 256 elements are bytes, and each next one is x times the one before.
-use mathlib.Core.Path.{◌≡◌, refl, sym, ap, ◌∙◌}
+use mathlib.Core.Path.{◌≡◌, sym, ap, ◌∙◌}
 use Prim.Native.Nat.{ℕ, ◌+◌, ◌<◌}
 use native.Mathlib.Numerals.{add-one}
 use native.Mathlib.Omega.{arith}
-use Rattle.field.specs.Bytes.{times_x, product}
+use Rattle.field.specs.Bytes.{times_x}
 use Rattle.field.specs.Fields.{size_of, mul, power}
 use Rattle.field.proofs.BothKinds.{arithmetic}
 use Rattle.field.proofs.Bounds.{power_below}

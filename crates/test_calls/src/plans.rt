@@ -1,22 +1,22 @@
 // A record's plan, or its number.
 use plan::Plan;
+use std::io;
 use test_tools::{block, form, part, text, untouched, value};
 use test_words::Words;
 
-pub fn plan(w: Words) {
+pub fn plan(rt: &impl Print, w: Words) -> io::Result<()> {
     let record = w.record;
     let counts = w.counts;
-    planned(part(&record, counts[0]));
+    planned(rt, part(&record, counts[0]))
 }
 
-fn planned(rec: &[u8]) {
+fn planned(rt: &impl Print, rec: &[u8]) -> io::Result<()> {
     let plan = plan::build_plan(rec);
     let number = plan.number;
     if number != 0 {
-        refused(number, empty(plan));
-        return;
+        return refused(rt, number, empty(plan));
     }
-    accepted(plan, width(rec));
+    accepted(rt, plan, width(rec))
 }
 
 // The bytes of a symbol: two for a record of kind 3.
@@ -27,9 +27,9 @@ fn width(rec: &[u8]) -> usize {
     1
 }
 
-fn refused(number: u8, all_zero: bool) {
-    value(b": refused", number as u64);
-    either(all_zero, b", all places 0", b", other places not 0");
+fn refused(rt: &impl Print, number: u8, all_zero: bool) -> io::Result<()> {
+    value(rt, b": refused", number as u64)?;
+    either(rt, all_zero, b", all places 0", b", other places not 0")
 }
 
 // Whether all places beside the number hold 0.
@@ -42,12 +42,12 @@ fn empty(plan: Plan) -> bool {
 }
 
 // The numbers, the shifts, the first nodes and the base word, each of its symbols as w bytes.
-fn accepted(plan: Plan, w: usize) {
-    print_numbers(plan);
-    front(b" shifts", &plan.shifts, plan.k as usize);
-    front(b" firsts", &plan.firsts, plan.k as usize);
+fn accepted(rt: &impl Print, plan: Plan, w: usize) -> io::Result<()> {
+    print_numbers(rt, plan)?;
+    front(rt, b" shifts", &plan.shifts, plan.k as usize)?;
+    front(rt, b" firsts", &plan.firsts, plan.k as usize)?;
     let base = as_bytes(w, &plan.base);
-    front(b" base", &base, length_in(w, plan.n));
+    front(rt, b" base", &base, length_in(w, plan.n))
 }
 
 // The bytes of so many symbols.
@@ -101,8 +101,9 @@ fn as_byte(x: u16) -> u8 {
     if x < 256 { x as u8 } else { 255 }
 }
 
-fn print_numbers(plan: Plan) {
+fn print_numbers(rt: &impl Print, plan: Plan) -> io::Result<()> {
     form(
+        rt,
         b": n # k # d # reads # #",
         &[
             plan.n as u64,
@@ -111,18 +112,19 @@ fn print_numbers(plan: Plan) {
             plan.low as u64,
             plan.high as u64,
         ],
-    );
+    )
 }
 
 // A word, so many places from the front, and whether those after them hold 0.
-fn front(word: &[u8], places: &[u8], count: usize) {
-    text(word);
-    block(part(places, count));
+fn front(rt: &impl Print, word: &[u8], places: &[u8], count: usize) -> io::Result<()> {
+    text(rt, word)?;
+    block(rt, part(places, count))?;
     either(
+        rt,
         untouched(0, after(places, count)),
         b" then 0",
         b" then others",
-    );
+    )
 }
 
 // The places from number `count` on, or all.
@@ -133,10 +135,9 @@ fn after(places: &[u8], count: usize) -> &[u8] {
     places
 }
 
-fn either(test: bool, yes: &[u8], no: &[u8]) {
+fn either(rt: &impl Print, test: bool, yes: &[u8], no: &[u8]) -> io::Result<()> {
     if test {
-        text(yes);
-        return;
+        return text(rt, yes);
     }
-    text(no);
+    text(rt, no)
 }

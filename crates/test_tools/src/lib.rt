@@ -1,4 +1,6 @@
 // What the test programs share: words and numbers on standard output, checksums, parts of buffers.
+#![tactic(auto)]
+
 mod data;
 mod places;
 mod print;

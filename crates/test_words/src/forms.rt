@@ -7,7 +7,7 @@ use crate::groups::{Group, bytes, end_fault, number, record, room};
 // What a line says: the record's bytes, at most two lists of bytes and six numbers, in the order of the form, and the last two lengths of
 // buffers that are written; how many lists and numbers there are; the call's number, or 0 for a line that is another call's; and what is
 // wrong with the line, or 0.
-#[derive(Drop)]
+#[derive(Clone, Copy)]
 pub struct Words {
     pub record: [u8; 64],
     pub first: [u8; 64],

@@ -5,7 +5,7 @@ use crate::numbers::{is_number, value_of};
 use crate::words::{after_word, word_end};
 
 // The numbers of a word: each as a byte, how many there are, the last one whole; the place after them; and what is wrong up to there, or 0.
-#[derive(Drop)]
+#[derive(Clone, Copy)]
 pub struct Group {
     pub bytes: [u8; 64],
     pub count: usize,

@@ -1,6 +1,7 @@
 // Calls in words, one a line, read strictly: a name and the record's bytes, then words with the numbers that they stand for, in base ten.
 // Each word and each number but the name stands after one space. Each group, a word and its numbers, is read after the one before it,
 // whose fault it hands on.
+#![tactic(auto)]
 
 mod calls;
 mod forms;

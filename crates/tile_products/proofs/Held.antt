@@ -7,7 +7,7 @@ use Rattle.lists.specs.Numbers.{all_below}
 use Rattle.lists.proofs.Fill.{length_zeros}
 use Rattle.lists.proofs.Front.{drop_next}
 use Rattle.lists.proofs.Numbers.{below_at}
-use Rattle.lists.proofs.Rows.{from_ext, row_after, row_inside, get_d_part}
+use Rattle.lists.proofs.Rows.{from_ext, row_inside, get_d_part}
 use Rattle.lists.proofs.Padding.{get_or_zeros}
 use Rattle.field.specs.Fields.{mul}
 use Rattle.field.specs.Inner.Sums.{dot}

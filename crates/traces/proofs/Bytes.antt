@@ -1,10 +1,9 @@
 -- The traces of the field of 256 elements: in the algebra's terms, and onto their subfields.
 use mathlib.Core.Path.{◌≡◌, refl, sym, ap, ap₂, fun_ext, ◌∙◌}
-use Prim.Native.Nat.{ℕ, zero, suc, ◌+◌, ◌*◌, ◌/◌, ◌%◌, ◌^◌, ◌≤◌, ◌<◌}
+use Prim.Native.Nat.{ℕ, zero, suc, ◌*◌, ◌/◌, ◌%◌, ◌^◌, ◌≤◌, ◌<◌}
 use native.Mathlib.Nat as Nat
 use native.Mathlib.Omega.{arith}
-use lib.Dec.{lit<}
-use lib.Bits.{bit_xor, xor_self, xor_lt, xor_shr, xor_mod}
+use lib.Bits.{bit_xor, xor_self, xor_shr, xor_mod}
 use Rattle.algebra.specs.Field.{Field}
 use Rattle.algebra.specs.Powers.{pow}
 use Rattle.algebra.proofs.Powers.{pow_mul}
@@ -12,7 +11,7 @@ use Rattle.algebra.proofs.Sums.{sum}
 use Rattle.field.specs.Bytes.{times_x, product_from, product}
 use Rattle.field.specs.Fields.{size_of, add, mul}
 use Rattle.field.specs.Symbols.{Symbol}
-use Rattle.field.proofs.Computed.{at, equal_at}
+use Rattle.field.proofs.Computed.{equal_at}
 use Rattle.field.proofs.Additive.{Additive, agree}
 use Rattle.field.proofs.Xor.{digit, xor_swap, times_xor}
 use Rattle.field.proofs.Symbols.{symbol, symbol_below, symbol_path}

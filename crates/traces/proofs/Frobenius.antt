@@ -1,13 +1,13 @@
 -- Maps a ↦ a^r that keep sums, and the trace Σ a^(r^i) onto the subfield of r elements.
-use mathlib.Core.Path.{◌≡◌, sym, ap, ap₂, fun_ext, ◌∙◌}
-use Prim.Native.Nat.{ℕ, zero, suc, ◌+◌, ◌-◌, ◌*◌, ◌^◌, ◌≤◌, ◌<◌}
+use mathlib.Core.Path.{◌≡◌, sym, ap, ap₂, ◌∙◌}
+use Prim.Native.Nat.{ℕ, zero, suc, ◌-◌, ◌*◌, ◌^◌, ◌≤◌, ◌<◌}
 use native.Mathlib.Nat as Nat
 use native.Mathlib.Omega.{arith}
 use Rattle.algebra.specs.Field.{Field}
 use Rattle.algebra.specs.Powers.{pow}
 use Rattle.algebra.proofs.Ring.{mul_left_comm, zero-add, zero-mul, mul-zero, add-mul, inv_mul, mul_cancel_right}
 use Rattle.algebra.proofs.Powers.{pow_mul, mul_pow, one_pow, pow_nonzero}
-use Rattle.algebra.proofs.Sums.{sum, sum_add}
+use Rattle.algebra.proofs.Sums.{sum}
 
 module _ (F : Field) where
   infixl 70 ◌⊕◌

@@ -21,7 +21,7 @@ use Rattle.algebra.proofs.Ring.{zero-mul}
 use Rattle.algebra.proofs.Sums.{sum, sum_next}
 use Rattle.algebra.proofs.Parity.{check}
 use Rattle.field.specs.Fields.{is_field, size_of, add, sub, mul, inverse}
-use Rattle.field.specs.Symbols.{Symbol, numbers}
+use Rattle.field.specs.Symbols.{Symbol}
 use Rattle.field.proofs.Symbols.{symbol_below, symbol_path, get_or_numbers}
 use Rattle.field.proofs.FieldOf.{field_of, size_pos, number_sub, number_pow}
 use Rattle.field.proofs.Meanings.{byte_field}

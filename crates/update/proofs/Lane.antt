@@ -38,7 +38,7 @@ symbol_written w s j v whole inside =
     let xs = symbols_of w s in
     ap₂ (λ (b u : List ℕ). take (j * w) u ++ (b ++ drop (j * w + w - j * w) (drop (j * w) u))) (sym (append-nil (symbol_bytes w v))) whole
     ∙ ap (λ (k : ℕ). take (j * w) (bytes_of w xs) ++ (bytes_of w (v ∷ []) ++ drop k (drop (j * w) (bytes_of w xs)))) (part_size (j * w) w ∙ sym (one-mul w))
-    ∙ Parts.bytes-replaced w j 1 (v ∷ []) xs
+    ∙ Parts.bytes_replaced w j 1 (v ∷ []) xs
     ∙ ap (bytes_of w) (ap (λ (u : List ℕ). take j xs ++ (v ∷ u)) (drop-drop 1 j xs ∙ ap (λ (x : ℕ). drop x xs) (add-one j)) ∙ sym (set_split xs j v inside))
 
 -- a lane by itself has a symbol for each node
@@ -50,7 +50,7 @@ module _ {h : Header} {l r t : ℕ} {shares : List ℕ} (ready : UpdatableLane h
   some = rw wide (width_some h)
 
   long : length shares ≡ w * h.n * l
-  long = ready.bytes ∙ Parts.lanes-long (width h) h.n l ∙ rw wide
+  long = ready.bytes ∙ Parts.lanes_long (width h) h.n l ∙ rw wide
 
   symbols_long : length (symbols_of w shares) ≡ h.n * l
   symbols_long = count_symbols w (h.n * l) shares some (ready.bytes ∙ rw wide)
@@ -70,7 +70,7 @@ module _ {h : Header} {l r t : ℕ} {shares : List ℕ} (ready : UpdatableLane h
 
   -- its symbols are the lane
   pub lane_is : symbols_of w part ≡ lane_of share_layout h.n l t (symbols_of w shares)
-  lane_is = rw share_by_lane (Parts.lane-part w h.n l t shares long ready.lane some)
+  lane_is = rw share_by_lane (Parts.lane_part w h.n l t shares long ready.lane some)
 
   -- and it can be updated
   pub lane_word : UpdatableWord h w r part
@@ -85,7 +85,7 @@ module _ {h : Header} {l r t : ℕ} {shares : List ℕ} (ready : UpdatableLane h
 
   -- the same lane as a part of the symbols
   symbols_part : symbols_of w part ≡ take (t * h.n + h.n - t * h.n) (drop (t * h.n) (symbols_of w shares))
-  symbols_part = Parts.lane-part w h.n l t shares long ready.lane some ∙ sym (Runs.lane-part h.n l (symbols_of w shares) symbols_long t ready.lane)
+  symbols_part = Parts.lane_part w h.n l t shares long ready.lane some ∙ sym (Runs.lane_part h.n l (symbols_of w shares) symbols_long t ready.lane)
 
   module _ (low : all_below 256 shares ≡ true) (x count : ℕ) (lane : List ℕ) (is : lane ≡ bytes_of w (word_added h r x (symbols_of w part))) (counted : count ≡ differ (symbols_of w part) (word_added h r x (symbols_of w part))) where
     place : t * size ≡ t * h.n * w
@@ -98,7 +98,7 @@ module _ {h : Header} {l r t : ℕ} {shares : List ℕ} (ready : UpdatableLane h
         let new = word_added h r x (symbols_of w part) in
         ap₂ (λ (a k : ℕ). take a shares ++ (lane ++ drop k (drop a shares))) place (part_size (t * size) size ∙ mul_comm w h.n)
         ∙ ap (λ (u : List ℕ). take (t * h.n * w) shares ++ (u ++ drop (h.n * w) (drop (t * h.n * w) shares))) is
-        ∙ Parts.symbols-replaced w (h.n * l) shares some (ready.bytes ∙ rw wide) low (t * h.n) h.n new
+        ∙ Parts.symbols_replaced w (h.n * l) shares some (ready.bytes ∙ rw wide) low (t * h.n) h.n new
         ∙ ap (bytes_of w)
         (ap₂ (λ (u : List ℕ) (k : ℕ). take (t * h.n) xs ++ (word_added h r x u ++ drop k (drop (t * h.n) xs))) symbols_part (sym (part_size (t * h.n) h.n))
         ∙ added_part h l r t x xs symbols_long ready.lane

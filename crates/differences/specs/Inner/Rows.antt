@@ -2,7 +2,6 @@
 use Rattle.std.specs.Prelude.{◌≡◌, List, ◌++◌, ℕ, ◌<◌, get_or}
 use Rattle.lists.specs.Rows.{from}
 use Rattle.layout.specs.Layout.{row_after_row, lane_after_lane, rearranged}
-use Rattle.layout.specs.Width.{bytes_of}
 use Rattle.field.specs.Fields.{sub, mul}
 use Rattle.generator.specs.declared.Header.{Header}
 use Rattle.generator.specs.declared.Record.TheVariants.{Holds}

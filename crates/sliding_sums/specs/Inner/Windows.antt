@@ -1,5 +1,5 @@
 -- The sums of weights times the symbols of a row, from each of its first places on.
-use Rattle.std.specs.Prelude.{◌≡◌, true, List, [], ◌∷◌, ℕ, ◌+◌, ◌*◌, ◌≤◌, length, drop}
+use Rattle.std.specs.Prelude.{◌≡◌, true, List, ℕ, ◌+◌, ◌≤◌, length, drop}
 use Rattle.lists.specs.Rows.{from}
 use Rattle.lists.specs.Numbers.{all_below}
 use Rattle.field.specs.Inner.Sums.{dot}

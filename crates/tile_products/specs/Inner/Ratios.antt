@@ -1,5 +1,5 @@
 -- Weights over a prime field of bytes, and their ratios to the prime.
-use Rattle.std.specs.Prelude.{◌≡◌, ℕ, ◌+◌, ◌-◌, ◌*◌, ◌/◌, ◌<◌, ◌≤◌, List, length, slice_index}
+use Rattle.std.specs.Prelude.{◌≡◌, ℕ, ◌+◌, ◌*◌, ◌/◌, ◌<◌, ◌≤◌, List, length, slice_index}
 
 -- 65536 times the quotient of c by p
 unfoldable pub ratio_of : ℕ → ℕ → ℕ

@@ -1,5 +1,5 @@
 -- Messages by the places of their words that are zero.
-use Rattle.std.specs.Prelude.{not, ℕ, zero, suc, ◌+◌, ◌-◌, ◌^◌}
+use Rattle.std.specs.Prelude.{ℕ, zero, suc, ◌+◌, ◌-◌, ◌^◌}
 
 -- of all messages, those whose word is zero at n − y given places and not zero at w given others, w at most y: by differences,
 -- since a place that is not zero is one that may be anything, less one that is zero

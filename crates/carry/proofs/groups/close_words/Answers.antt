@@ -1,0 +1,28 @@
+-- `close_words` meets its contract: the mask's bytes, then those of the words under it.
+use mathlib.Core.Path.{◌≡◌, sym, ap, ◌∙◌}
+use mathlib.Core.List.{◌++◌}
+use Prim.Native.Nat.{ℕ}
+use native.Mathlib.Omega.{arith}
+use lib.Seq.{length-take-le}
+use Rattle.layout.specs.Width.{symbol_bytes, bytes_of}
+use Rattle.layout.proofs.Widths.{length_symbol}
+use Rattle.carrying.specs.Masks.{masked, covered, mask_of, closed}
+use Rattle.carrying.specs.Carrying.{words_of}
+use Rattle.carry.proofs.Words.{written_behind}
+use Rattle.carry.proofs.groups.close_words.Goals as goal
+
+pub slice_bounds-write_symbol-end-2 : goal.slice_bounds-write_symbol-end-2
+slice_bounds-write_symbol-end-2 c = sym (length-take-le 2 c.args.out.now (omega arith))
+
+pub write_symbol-requires : goal.write_symbol-requires
+write_symbol-requires c = (omega arith, omega arith, omega arith, length-take-le 2 c.args.out.now (omega arith))
+
+pub returns : goal.returns
+unfolding closed covered bytes_of
+returns c =
+    let ws = words_of c.args.s.now in
+    let x = c.find_mask-c.result in
+    let out = c.args.out.now in
+    let mask : x ≡ mask_of c.args.p ws = c.find_mask-c.ensures ∙ ap (mask_of c.args.p) c.load_words.ensures in
+    rw (c.write_symbol.ensures, c.write_all.ensures, c.load_words.ensures)
+    (written_behind (symbol_bytes 2 x) (bytes_of 2 (masked x ws)) out (length_symbol 2 x) ∙ ap (λ (m : ℕ). symbol_bytes 2 m ++ bytes_of 2 (masked m ws)) mask)

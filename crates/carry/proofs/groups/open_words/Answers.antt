@@ -1,0 +1,29 @@
+-- `open_words` meets its contract: the first symbol is the mask of the others.
+use mathlib.Core.Path.{◌≡◌, sym, ap, ap₂, ◌∙◌}
+use mathlib.Core.List.{List}
+use Prim.Native.Nat.{ℕ, ◌+◌, ◌/◌, ◌%◌}
+use native.Mathlib.Omega.{arith}
+use lib.ListN.{length, take, drop, length-drop}
+use Rattle.lists.proofs.Rows.{part_rest}
+use Rattle.layout.specs.Width.{bytes_of}
+use Rattle.carrying.specs.Masks.{masked, opened}
+use Rattle.carrying.specs.Carrying.{word_count, words_of}
+use Rattle.carry.proofs.Words.{first_word, words_symbols}
+use Rattle.carry.proofs.groups.open_words.Goals as goal
+
+pub load_words-requires : goal.load_words-requires
+unfolding word_count
+load_words-requires c =
+    let g = c.args.group.now in
+    let e : length c.args.words.now ≡ length (drop 2 g) / 2 + length (drop 2 g) % 2 = omega (arith, length-drop 2 g, c.requires.0) in
+    rw (part_rest 2 g) e
+
+pub returns : goal.returns
+unfolding opened
+returns c =
+    let g = c.args.group.now in
+    let n = length c.args.out.now in
+    let ws = c.load_words.ensures ∙ ap words_of (part_rest 2 g) ∙ words_symbols (drop 2 g) (omega (arith, length-drop 2 g, c.requires.0)) in
+    c.write_masked.ensures
+    ∙ ap₂ (λ (x : ℕ) (xs : List ℕ). take n (bytes_of 2 (masked x xs))) c.symbol_at-c.ensures ws
+    ∙ ap (λ (xs : List ℕ). take n (bytes_of 2 (opened xs))) (sym (first_word g (omega (arith, c.requires.0))))

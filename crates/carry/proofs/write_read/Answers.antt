@@ -1,0 +1,27 @@
+-- `write_read` meets its contract, by the kind of field.
+use borrow.Author.Tests.{eq-eqb, ne_eqb}
+use Rattle.carrying.specs.Carrying.{bytes_back, carried_length}
+use Rattle.carrying.proofs.Carried.{carrier_good}
+use Rattle.carry.proofs.write_read.Goals as goal
+
+pub copy-requires : goal.copy-requires
+unfolding carried_length
+copy-requires c =
+    let long = rw (eq-eqb c.args.p 0 c.if-p-eq0.true) at c.requires.2 in
+    long
+
+pub returns-then-p-eq0 : goal.returns-then-p-eq0
+unfolding bytes_back
+returns-then-p-eq0 c =
+    rw (eq-eqb c.args.p 0 c.if-p-eq0.true) c.copy.ensures
+
+pub open_groups-requires : goal.open_groups-requires
+unfolding carried_length
+open_groups-requires c =
+    let good = carrier_good c.args.p c.requires.1 c.if-p-eq0.false c.requires.0 in
+    (good.large, good.word, rw (ne_eqb c.args.p 0 c.if-p-eq0.false) at c.requires.2)
+
+pub returns : goal.returns
+unfolding bytes_back
+returns c =
+    rw (ne_eqb c.args.p 0 c.if-p-eq0.false) c.open_groups.ensures

@@ -1,0 +1,81 @@
+-- `fill_power_rows` meets its contract. Invariant: the rows of bytes below i are written.
+use mathlib.Core.Path.{ap, ◌∙◌}
+use Prim.Native.Nat.{ℕ, ◌+◌, ◌-◌, ◌*◌, ◌/◌, ◌%◌, ◌≤◌}
+use native.Mathlib.Nat.{sub-zero, zero-mul, mul_comm, mul-le-mul, le_refl, mod-lt, div-lt_iff_lt-mul}
+use native.Mathlib.Omega.{arith}
+use lib.ListN.{length}
+use Rattle.lists.proofs.Rows.{rows_next, rows_end, row_after, row_inside, part_size, part_length}
+use Rattle.lists.proofs.Fill.{fills_start, fills_part, fills_all}
+use Rattle.check_sums.specs.Inner.Sums.{power_bytes}
+use Rattle.check_sums.proofs.Sizes.{lane_small}
+use Rattle.check_sums.proofs.OneLane.{byte_row, length_power_bytes, power_tile}
+use Rattle.check_sums.proofs.lane.fill_power_rows.Goals as goal
+use Rattle.check_sums.proofs.lane.fill_power_rows.Goals.{In-loop-i}
+
+-- a row of bytes lies within the buffer
+row_in : (c : In-loop-i) → let a = c.args in c.loop-i.i * (a.h.n - a.h.k) + (a.h.n - a.h.k) ≤ length a.rows.now
+row_in c =
+    let width = c.width_of-w in
+    rw (c.requires.1, ← width.ensures.0) (row_inside (width.result * c.args.h.n) c.loop-i.i (c.args.h.n - c.args.h.k) c.loop-i-test.true)
+
+pub width_of-w-requires : goal.width_of-w-requires
+width_of-w-requires c = c.requires.0.usable_field
+
+pub overflow_mul-count : goal.overflow_mul-count
+overflow_mul-count c = omega (arith, lane_small c.args.h c.requires.0 _ c.width_of-w.ensures.0)
+
+pub powers-table-requires : goal.powers-table-requires
+powers-table-requires c = c.requires.0
+
+pub loop-i-init : goal.loop-i-init
+loop-i-init c = (omega arith, rw (sub-zero, zero-mul) (fills_start _ _))
+
+pub overflow_mul-start : goal.overflow_mul-start
+overflow_mul-start c = omega (arith, row_in c)
+
+pub overflow_add-end : goal.overflow_add-end
+overflow_add-end c = omega (arith, row_in c)
+
+pub nonzero_rem-i : goal.nonzero_rem-i
+nonzero_rem-i c = omega (arith, c.width_of-w.ensures.1)
+
+pub nonzero_div-i : goal.nonzero_div-i
+nonzero_div-i c = omega (arith, c.width_of-w.ensures.1)
+
+pub slice_bounds-fill_row-end-in-loop-i : goal.slice_bounds-fill_row-end-in-loop-i
+slice_bounds-fill_row-end-in-loop-i c = omega (arith, row_in (goal.at.slice_bounds-fill_row-end-in-loop-i c).In-loop-i)
+
+pub fill_row-requires : goal.fill_row-requires
+fill_row-requires c =
+    let width = c.width_of-w in
+    let (wide, some, few) = width.ensures in
+    let test = c.loop-i-test.true in
+    (c.requires.0, wide, mod-lt _ some, c.powers-table.ensures, (div-lt_iff_lt-mul some).1 (rw (mul_comm width.result c.args.h.n) at test))
+
+pub overflow_add-i : goal.overflow_add-i
+overflow_add-i c =
+    omega (arith, lane_small c.args.h c.requires.0 _ c.width_of-w.ensures.0, c.loop-i-test.true)
+
+pub loop-i-preserved : goal.loop-i-preserved
+loop-i-preserved c =
+    let a = c.args in
+    let w = c.width_of-w.result in
+    let checks = a.h.n - a.h.k in
+    let l = c.loop-i in (
+      omega arith,
+      rw (row_after, part_size, c.fill_row.ensures ∙ ap (λ (x : ℕ). power_bytes a.h x w (l.i % w) (l.i / w)) (part_length (l.i * checks) checks l.rows (omega (arith, l.invariant.1.long, row_in (goal.at.loop-i-preserved c).In-loop-i))))
+          (fills_part (byte_row a.h w l.i) checks
+          (rw (rows_next _ _ _ c.loop-i-test.true) at l.invariant.1)
+          (length_power_bytes a.h checks w (l.i % w) (l.i / w))
+          (row_in (goal.at.loop-i-preserved c).In-loop-i)),
+    )
+
+pub shape_of-rows : goal.shape_of-rows
+shape_of-rows c = c.loop-i.invariant.1.long
+
+pub returns : goal.returns
+returns c =
+    let wide = c.width_of-w.ensures.0 in
+    fills_all (rw (rows_end _ _ _ c.loop-i-test.false) at c.loop-i.invariant.1)
+    (rw (c.requires.1, ← wide) (mul-le-mul c.loop-i-test.false (le_refl _)))
+    ∙ power_tile c.args.h _ wide

@@ -1,0 +1,23 @@
+-- `fill_row` meets its contract. Invariant: the bytes for the check sums up to e are written, and i is the place of the next power.
+use mathlib.Core.Path.{◌≡◌}
+use mathlib.Core.Bool.{Bool}
+use mathlib.Core.List.{List}
+use Prim.Native.Nat.{ℕ, ◌+◌, ◌-◌, ◌*◌, ◌/◌, ◌%◌, ◌≤◌}
+use lib.ListN.{length, get_or}
+use Rattle.lists.specs.Choice.{pick}
+use Rattle.lists.specs.Rows.{from}
+use Rattle.lists.proofs.Fill.{Fills}
+use Rattle.check_sums.proofs.lane.fill_row.Given as goal
+
+-- the byte for check sum x, as it is read
+abbrev pub read : List ℕ → ℕ → ℕ → Bool → ℕ → ℕ
+read powers j n last x = pick last (get_or powers (j * x % n) 0 % 256) (get_or powers (j * x % n) 0 / 256)
+
+abbrev pub invariant-loop-e : goal.invariant-loop-e
+invariant-loop-e l =
+    (l.e ≤ length l.initial.row)
+    × (l.i ≡ l.j * (1 + l.e) % l.n)
+    × Fills l.initial.row l.row l.e (from {A = ℕ} (read l.powers l.j l.n l.last) (1 + l.e) (length l.initial.row - l.e)) (from {A = ℕ} (read l.powers l.j l.n l.last) 1 (length l.initial.row))
+
+abbrev pub decreases-loop-e : goal.decreases-loop-e
+decreases-loop-e l = length l.initial.row - l.e

@@ -1,0 +1,21 @@
+-- `is_word_with` meets its contract: a lane is a word exactly if its check sums are zero.
+use mathlib.Core.Path.{sym, ap, ◌∙◌}
+use Prim.Native.Nat.{◌-◌}
+use lib.ListN.{length}
+use Rattle.lists.specs.Numbers.{all_below}
+use Rattle.lists.proofs.Padding.{take_padded}
+use Rattle.check_sums.specs.Inner.Sums.{check_sums}
+use Rattle.check_sums.proofs.OneLane.{word_sums, length_sums}
+use Rattle.check_sums.proofs.lane.is_word_with.Goals as goal
+
+pub slice_bounds-all_zero-end : goal.slice_bounds-all_zero-end
+slice_bounds-all_zero-end c =
+    let a = c.args in
+    let ws = a.lane.now in
+    sym (rw c.sums_with-found.ensures (ap length (take_padded 255 (a.h.n - a.h.k) (check_sums a.h ws) (length_sums a.h ws)) ∙ length_sums a.h ws))
+
+pub returns : goal.returns
+returns c =
+    c.all_zero.ensures
+    ∙ ap (all_below 1) (rw c.sums_with-found.ensures (take_padded 255 _ _ (length_sums _ _)))
+    ∙ word_sums _ _

@@ -1,0 +1,17 @@
+-- `factors` meets its contract. Invariant: i is the place of node j's factor, and the factors of the nodes below j are written.
+use mathlib.Core.Path.{◌≡◌}
+use mathlib.Core.List.{List}
+use Prim.Native.Nat.{ℕ, ◌-◌, ◌*◌, ◌%◌}
+use lib.ListN.{get_or}
+use Rattle.lists.proofs.Fill.{Filled}
+use Rattle.check_sums.proofs.powers.factors.Given as goal
+
+-- node j's factor, as it is read
+abbrev pub read : List ℕ → ℕ → ℕ → ℕ → ℕ
+read powers e n j = get_or powers (j * e % n) 0
+
+abbrev pub invariant-loop-j : goal.invariant-loop-j
+invariant-loop-j l = (l.i ≡ l.j * l.e % l.n) × Filled 255 l.n (read l.powers l.e l.n) l.j l.out
+
+abbrev pub decreases-loop-j : goal.decreases-loop-j
+decreases-loop-j l = l.n - l.j

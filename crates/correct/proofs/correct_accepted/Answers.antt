@@ -1,0 +1,25 @@
+-- `correct_accepted` meets its contract: the number of the symbols' test, or what the lanes say.
+use mathlib.Core.Path.{◌≡◌, sym, ◌∙◌}
+use Rattle.belongs.specs.Promise.{belongs_fault}
+use Rattle.belongs.proofs.Accepts.{belongs_accepts}
+use Rattle.layout.specs.Layout.{share_layout}
+use Rattle.correct.proofs.Answers.{correct_refuses, fault_first, fault_last}
+use Rattle.correct.proofs.correct_accepted.Goals as goal
+use Rattle.correct.proofs.correct_accepted.Goals.{Else-number-ne0}
+
+-- no number is met so far
+none_met : (c : Else-number-ne0) → let a = c.args in belongs_fault a.h a.lanes a.shares.now ≡ 0
+none_met c = sym c.belongs_fault-number.ensures ∙ c.if-number-ne0.false
+
+pub returns-then-number-ne0 : goal.returns-then-number-ne0
+returns-then-number-ne0 c =
+    let a = c.args in
+    rw (fault_first share_layout a.h a.lanes a.shares.now _ c.belongs_fault-number.ensures c.if-number-ne0.true) (correct_refuses share_layout a.h a.lanes a.shares.now _ c.if-number-ne0.true)
+
+pub correct_symbols-requires : goal.correct_symbols-requires
+correct_symbols-requires c = belongs_accepts _ c.requires _ _ (none_met (goal.at.correct_symbols-requires c).Else-number-ne0)
+
+pub returns : goal.returns
+returns c =
+    let a = c.args in
+    rw (fault_last share_layout a.h a.lanes a.shares.now (none_met (goal.at.returns c).Else-number-ne0)) c.correct_symbols.ensures

@@ -1,0 +1,75 @@
+-- `correct_lane` meets its contract: the candidate is near enough and a word, or the lane stays.
+use mathlib.Core.Path.{◌≡◌, sym, ap, ◌∙◌}
+use native.Mathlib.Omega.{arith}
+use lib.ListN.{length, take}
+use Rattle.lists.proofs.Padding.{take_padded}
+use Rattle.lists.specs.Counting.{differ}
+use Rattle.generator.specs.Codewords.{is_word}
+use Rattle.nearest_word.specs.Nearest.{radius}
+use Rattle.decode.proofs.Verdict.{says_near, says_far, says_none}
+use Rattle.decode.proofs.correct_lane.Goals as goal
+use Rattle.decode.proofs.correct_lane.Goals.{After-candidate-word, After-differing-altered, After-is_word_with}
+
+-- the first n places of the candidate are its word
+word : (c : After-candidate-word) → take c.args.h.n c.candidate-word.result ≡ c.candidate-word.ensures.word
+word c = let k = c.candidate-word.ensures in rw k.array_is (take_padded 255 _ k.word k.long)
+
+word_long : (c : After-candidate-word) → c.args.h.n ≡ length (take c.args.h.n c.candidate-word.result)
+word_long c = sym (ap length (word c) ∙ c.candidate-word.ensures.long)
+
+pub sums_with-sums-requires : goal.sums_with-sums-requires
+sums_with-sums-requires c = let s = c.requires in (s.0.sound, s.1, s.0.long, s.0.below)
+
+pub constant_tables-tables-requires : goal.constant_tables-tables-requires
+constant_tables-tables-requires c = _
+
+pub candidate-word-requires : goal.candidate-word-requires
+candidate-word-requires c = (c.requires.0, c.sums_with-sums.ensures, c.constant_tables-tables.ensures)
+
+pub slice_bounds-differing-end : goal.slice_bounds-differing-end
+slice_bounds-differing-end c = word_long (goal.at.slice_bounds-differing-end c).After-candidate-word
+
+pub differing-altered-requires : goal.differing-altered-requires
+differing-altered-requires c = sym (word_long (goal.at.differing-altered-requires c).After-candidate-word) ∙ sym c.requires.0.long
+
+pub kept-requires : goal.kept-requires
+kept-requires c =
+    let s = c.requires in omega (arith, s.0.long, c.struct_known-1.given)
+
+-- at how many nodes the candidate differs, and whether it is a word
+distance : (c : After-differing-altered) → c.differing-altered.result ≡ differ c.args.lane.now c.candidate-word.ensures.word
+distance c = rw (word (goal.at.After-differing-altered c).After-candidate-word) at c.differing-altered.ensures
+
+tested : (c : After-is_word_with) → c.is_word_with.result ≡ is_word c.args.h c.candidate-word.ensures.word
+tested c = rw (word (goal.at.After-is_word_with c).After-candidate-word) at c.is_word_with.ensures
+
+pub returns-then-t-altered : goal.returns-then-t-altered
+unfolding radius
+returns-then-t-altered c =
+    let k = c.candidate-word in
+    rw (c.kept.ensures.1, c.kept.ensures.2) (says_far c.args.h c.args.lane.now k.result c.requires.0 k.ensures (rw (← distance (goal.at.returns-then-t-altered c).After-differing-altered) c.if-t-altered.true) _ c.kept.ensures.0)
+
+pub slice_bounds-is_word_with-end : goal.slice_bounds-is_word_with-end
+slice_bounds-is_word_with-end c = word_long (goal.at.slice_bounds-is_word_with-end c).After-candidate-word
+
+pub is_word_with-requires : goal.is_word_with-requires
+is_word_with-requires c =
+    let s = c.requires in
+    let k = c.candidate-word.ensures in
+    rw (word (goal.at.is_word_with-requires c).After-candidate-word) (s.0.sound, s.1, k.long, k.below)
+
+pub returns-then-is_word_with : goal.returns-then-is_word_with
+unfolding radius
+returns-then-is_word_with c =
+    let k = c.candidate-word in
+    let d = distance (goal.at.returns-then-is_word_with c).After-differing-altered in
+    rw d (says_near c.args.h c.args.lane.now k.result c.requires.0 k.ensures (rw (← d) c.if-t-altered.false) (sym (tested (goal.at.returns-then-is_word_with c).After-is_word_with) ∙ c.if-is_word_with.true))
+
+pub kept-requires-2 : goal.kept-requires-2
+kept-requires-2 c =
+    let s = c.requires in omega (arith, s.0.long, c.struct_known-1.given)
+
+pub returns : goal.returns
+returns c =
+    let k = c.candidate-word in
+    rw (c.kept-2.ensures.1, c.kept-2.ensures.2) (says_none c.args.h c.args.lane.now k.result c.requires.0 k.ensures (sym (tested (goal.at.returns c).After-is_word_with) ∙ c.if-is_word_with.false) _ c.kept-2.ensures.0)

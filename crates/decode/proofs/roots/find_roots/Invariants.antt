@@ -1,0 +1,25 @@
+-- `find_roots` meets its contract. Invariant: x is the point of node j, the roots below j are written, and those from j on are to come.
+use mathlib.Core.Path.{◌≡◌}
+use mathlib.Core.Bool.{Bool}
+use mathlib.Core.List.{List}
+use Prim.Native.Nat.{ℕ, ◌-◌, ◌≤◌}
+use lib.Dec.{eqb}
+use Rattle.lists.specs.Counting.{passing_from}
+use Rattle.lists.specs.Padded.{zeros}
+use Rattle.lists.proofs.Fill.{Fills}
+use Rattle.field.specs.Fields.{power}
+use Rattle.field.specs.Kinds.{modulus}
+use Rattle.generator.specs.Codewords.{poly_at}
+use Rattle.decode.proofs.roots.find_roots.Given as goal
+
+-- the polynomial vanishes at node j
+abbrev pub vanishes : ℕ → ℕ → List ℕ → ℕ → Bool
+vanishes p root cs j = eqb (poly_at p cs (power p root j)) 0
+
+abbrev pub invariant-loop-j : goal.invariant-loop-j
+invariant-loop-j l =
+    let is = vanishes (modulus l.field) l.root l.coefficients in
+    (l.count ≤ l.j) × (l.j ≤ l.n) × (l.x ≡ power (modulus l.field) l.root l.j) × Fills (zeros 255) l.nodes l.count (passing_from (l.n - l.j) l.j is) (passing_from l.n 0 is)
+
+abbrev pub decreases-loop-j : goal.decreases-loop-j
+decreases-loop-j l = l.n - l.j

@@ -1,0 +1,47 @@
+-- `wrong_nodes` meets its contract: the roots of the locator that was found.
+use mathlib.Core.Path.{◌≡◌, sym}
+use mathlib.Core.Bool.{true}
+use Prim.Native.Nat.{◌+◌, ◌-◌, ◌/◌}
+use native.Mathlib.Omega.{arith}
+use lib.ListN.{length, take}
+use lib.Seq.{length-take-le, get_or-take}
+use Rattle.lists.specs.Numbers.{all_below}
+use Rattle.lists.proofs.Numbers.{at_below}
+use Rattle.generator.specs.Records.{size}
+use Rattle.nearest_word.specs.Nearest.{radius}
+use Rattle.decode.proofs.wrong_nodes.Goals as goal
+use Rattle.decode.proofs.wrong_nodes.Goals.{After-locate-locator}
+
+-- the locator's coefficients
+front_long : (c : After-locate-locator) → let h = c.args.h in length (take ((h.n - h.k) / 2 + 1) c.locate-locator.result) ≡ (h.n - h.k) / 2 + 1
+front_long c = length-take-le _ c.locate-locator.result (omega (arith, c.locate-locator.ensures.long, c.struct_known-1.given))
+
+front_below : (c : After-locate-locator) → let h = c.args.h in all_below (size h) (take ((h.n - h.k) / 2 + 1) c.locate-locator.result) ≡ true
+front_below c =
+    let h = c.args.h in
+    at_below _ _ (λ i b. rw (get_or-take ((h.n - h.k) / 2 + 1) c.locate-locator.result i 0 (omega (arith, front_long c))) (c.locate-locator.ensures.below i))
+
+pub locate-locator-requires : goal.locate-locator-requires
+locate-locator-requires c = let s = c.requires in (s.0.usable_field, omega (arith, c.struct_known-1.given), s.1, s.2)
+
+pub slice_bounds-locator-end : goal.slice_bounds-locator-end
+slice_bounds-locator-end c = omega (arith, c.locate-locator.ensures.long, c.struct_known-1.given)
+
+pub slice_bounds-find_roots-end : goal.slice_bounds-find_roots-end
+slice_bounds-find_roots-end c = sym (front_long (goal.at.slice_bounds-find_roots-end c).After-locate-locator)
+
+pub find_roots-requires : goal.find_roots-requires
+find_roots-requires c =
+    let s = c.requires in
+    (record { usable_field = s.0.usable_field; below = front_below (goal.at.find_roots-requires c).After-locate-locator; short = omega (arith, front_long (goal.at.find_roots-requires c).After-locate-locator, c.struct_known-1.given) }, s.0.root_below, omega (arith, c.struct_known-1.given), s.2)
+
+pub returns : goal.returns
+unfolding radius
+returns c =
+    record {
+      few = omega (arith, c.struct_known-1.given);
+      locator = c.locate-locator.result;
+      locates = c.locate-locator.ensures;
+      listed = c.find_roots.ensures.0;
+      counted = c.find_roots.ensures.1;
+    }

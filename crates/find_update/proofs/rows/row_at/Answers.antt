@@ -1,0 +1,43 @@
+-- `row_at` meets its contract: with what is left the search gives the same row.
+use mathlib.Core.Path.{◌≡◌, sym, ap, ◌∙◌}
+use mathlib.Core.Bool.{not}
+use native.Mathlib.Nat.{sub-zero}
+use native.Mathlib.Omega.{arith}
+use lib.ListN.{get_or}
+use Rattle.lists.proofs.Search.{search_next, search_found, search_end}
+use Rattle.generator.specs.Shifts.{firsts}
+use Rattle.plan.proofs.Plans.{first_in}
+use Rattle.find_update.specs.Inner.Starts.{row_starting}
+use Rattle.find_update.proofs.Multiples.{first_node}
+use Rattle.find_update.proofs.rows.row_at.Goals as goal
+use Rattle.find_update.proofs.rows.row_at.Goals.{In-loop-r}
+
+-- the first node of row r
+first : (c : In-loop-r)
+    → let a = c.args in
+    get_or a.plan.firsts c.loop-r.r 0 ≡ get_or (firsts a.h) c.loop-r.r 0
+first c =
+    let (sound, plan, long) = c.requires in
+    rw plan (first_in _ sound _ c.loop-r-test.true)
+
+pub loop-r-init : goal.loop-r-init
+unfolding row_starting
+loop-r-init c = (omega arith, rw sub-zero)
+
+pub begins_at-requires : goal.begins_at-requires
+begins_at-requires c =
+    let (sound, plan, long) = c.requires in
+    rw (first (goal.at.begins_at-requires c).In-loop-r, long) (first_node _ sound _ c.loop-r-test.true)
+
+pub returns-then-begins_at : goal.returns-then-begins_at
+returns-then-begins_at c =
+    let found = ap not (rw (first (goal.at.returns-then-begins_at c).In-loop-r) at (sym c.begins_at.ensures ∙ c.if-begins_at.true)) in
+    sym (search_found _ _ _ c.loop-r-test.true found) ∙ c.loop-r.invariant.1
+
+pub loop-r-preserved : goal.loop-r-preserved
+loop-r-preserved c =
+    let passed = ap not (rw (first (goal.at.loop-r-preserved c).In-loop-r) at (sym c.begins_at.ensures ∙ c.if-begins_at.false)) in
+    (omega arith, sym (search_next _ _ _ c.loop-r-test.true passed) ∙ c.loop-r.invariant.1)
+
+pub returns : goal.returns
+returns c = sym (search_end _ _ _ c.loop-r-test.false) ∙ c.loop-r.invariant.1

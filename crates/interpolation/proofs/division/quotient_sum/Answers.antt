@@ -1,0 +1,27 @@
+-- `quotient_sum` meets its contract: the terms times the quotient, after which zeros follow.
+use mathlib.Core.Path.{sym, ◌∙◌}
+use native.Mathlib.Omega.{arith}
+use Rattle.lists.proofs.Padding.{length_padded, below_padded}
+use Rattle.field.specs.Kinds.{modulus}
+use Rattle.field.proofs.FieldOf.{size_pos}
+use Rattle.field.proofs.KindLaws.{usable_field}
+use Rattle.interpolation.specs.Inner.Polynomials.{quotient_of}
+use Rattle.interpolation.proofs.Coefficients.{length_quotient_of, quotient_of_symbols}
+use Rattle.interpolation.proofs.PaddedSums.{dot_padded}
+use Rattle.interpolation.proofs.division.quotient_sum.Goals as goal
+
+pub weighted_sum-requires : goal.weighted_sum-requires
+weighted_sum-requires c =
+    let (coefficients, terms, same, low, tables) = c.requires in
+    let q = quotient_of_symbols c.args.a coefficients low in
+    rw c.quotient-q.ensures (
+      terms.usable_field,
+      terms.below,
+      below_padded _ 255 _ (size_pos _ (usable_field _ terms.usable_field)) q.below,
+      omega (arith, terms.short, length_padded 255 (quotient_of (modulus c.args.field) c.args.a c.args.coefficients.now) q.short),
+      tables,
+    )
+
+pub returns : goal.returns
+returns c =
+    c.weighted_sum.ensures ∙ rw c.quotient-q.ensures (dot_padded _ 255 c.args.terms.now _ (c.requires.2 ∙ sym (length_quotient_of _ _ _)))

@@ -1,0 +1,9 @@
+-- `times_digit` meets its contract: 0 less the digit is a mask.
+use Rattle.std.proofs.Common.{arith}
+use Rattle.kernel.proofs.Digits.{masked}
+use Rattle.kernel.proofs.gf256.times_digit.Goals as goal
+
+pub returns : goal.returns
+returns c =
+    let a = c.args in
+    masked a.a a.digit c.wrapping_sub_u8.result (omega arith) (omega arith) (omega arith) c.wrapping_sub_u8.ensures.value

@@ -1,0 +1,30 @@
+-- `first_off` meets its contract: with what is left the search gives the same place.
+use mathlib.Core.Path.{sym, ◌∙◌}
+use native.Mathlib.Nat.{sub-zero}
+use native.Mathlib.Omega.{arith}
+use borrow.Author.Tests.{not-true, not-false}
+use Rattle.lists.proofs.Numbers.{below_at}
+use Rattle.lists.proofs.Search.{search_next, search_found, search_end}
+use Rattle.mends.specs.Inner.BySums.{first_off}
+use Rattle.mends.proofs.changes.first_off.Goals as goal
+
+pub overflow_sub-last : goal.overflow_sub-last
+overflow_sub-last c = let (has, low, tables) = c.requires in omega (arith, has.some)
+
+pub loop-e-init : goal.loop-e-init
+unfolding first_off
+loop-e-init c = (omega arith, rw sub-zero)
+
+pub is_product-requires : goal.is_product-requires
+is_product-requires c =
+    let (has, low, tables) = c.requires in
+    (has.sound.usable_field, low, below_at _ _ has.symbols c.loop-e.e (omega arith), tables)
+
+pub returns-then-not-is_product : goal.returns-then-not-is_product
+returns-then-not-is_product c = sym (search_found _ _ _ c.loop-e-test.true (sym c.is_product.ensures ∙ not-true _ c.if-not-is_product.true-raw)) ∙ c.loop-e.invariant.1
+
+pub loop-e-preserved : goal.loop-e-preserved
+loop-e-preserved c = (omega arith, sym (search_next _ _ _ c.loop-e-test.true (sym c.is_product.ensures ∙ not-false _ c.if-not-is_product.false-raw)) ∙ c.loop-e.invariant.1)
+
+pub returns : goal.returns
+returns c = sym (search_end _ _ _ c.loop-e-test.false) ∙ c.loop-e.invariant.1

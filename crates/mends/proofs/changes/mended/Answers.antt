@@ -1,0 +1,102 @@
+-- `mended` meets its contract: the power at place (n − j) modulo n is 1 over root^j.
+use mathlib.Core.Path.{◌≡◌, ap, ◌∙◌}
+use Prim.Native.Nat.{ℕ, ◌-◌, ◌%◌, ◌<◌}
+use native.Mathlib.Nat.{mod-lt}
+use native.Mathlib.Omega.{arith}
+use lib.ListN.{get_or}
+use Rattle.lists.proofs.Numbers.{below_at}
+use Rattle.field.specs.Fields.{sub, mul, power}
+use Rattle.field.proofs.Bounds.{mul_below, power_below}
+use Rattle.field.proofs.KindLaws.{size_fits}
+use Rattle.generator.specs.Records.{modulus_of, size}
+use Rattle.check_sums.proofs.Sums.{power_place, power_at}
+use Rattle.mends.specs.Inner.BySums.{mended_at}
+use Rattle.mends.proofs.BySums.{mended_below}
+use Rattle.mends.proofs.changes.mended.Goals as goal
+use Rattle.mends.proofs.changes.mended.Goals.{After-mul_with-amount, After-shared_slice_known-5-1, After-shared_slice_known-6-1, After-sub}
+
+-- the place is one of the table
+inside : (n j : ℕ) → j < n → (n - j) % n < n
+inside n j node = mod-lt (n - j) (omega arith)
+
+-- what is read there
+read : (c : After-shared_slice_known-5-1)
+    → let a = c.args in
+    get_or a.roots.now ((a.h.n - a.j) % a.h.n) 0 ≡ power (modulus_of a.h) a.h.root ((a.h.n - a.j) % a.h.n)
+read c =
+    let (has, table, node, tables) = c.requires in
+    rw table (power_at _ _ (inside _ _ node))
+
+-- and the first check sum are symbols
+read_below : (c : After-shared_slice_known-5-1)
+    → let a = c.args in
+    get_or a.roots.now ((a.h.n - a.j) % a.h.n) 0 < size a.h
+read_below c =
+    let (has, table, node, tables) = c.requires in
+    let s = has.has.sound in
+    rw (read c) (power_below _ s.field _ s.root_below)
+
+sum_below : (c : After-shared_slice_known-5-1) → let a = c.args in get_or a.sums.now 0 0 < size a.h
+sum_below c =
+    let (has, table, node, tables) = c.requires in
+    below_at _ _ has.has.symbols 0 has.has.some
+
+amount_below : (c : After-mul_with-amount) → c.mul_with-amount.result < size c.args.h
+amount_below c =
+    let (has, table, node, tables) = c.requires in
+    rw c.mul_with-amount.ensures (mul_below _ has.has.sound.field (sum_below (goal.at.After-mul_with-amount c).After-shared_slice_known-5-1) (read_below (goal.at.After-mul_with-amount c).After-shared_slice_known-5-1))
+
+held_below : (c : After-shared_slice_known-6-1) → let a = c.args in get_or a.lane.now a.j 0 < size a.h
+held_below c =
+    let (has, table, node, tables) = c.requires in
+    below_at _ _ has.lane.symbols _ (omega (arith, has.lane.long))
+
+result-is : (c : After-sub) → let a = c.args in c.sub.result ≡ mended_at a.h a.lane.now a.sums.now a.j
+unfolding mended_at
+result-is c =
+    let a = c.args in
+    c.sub.ensures
+    ∙ ap (sub (modulus_of a.h) (get_or a.lane.now a.j 0)) (c.mul_with-amount.ensures ∙ ap (mul (modulus_of a.h) (get_or a.sums.now 0 0)) (read (goal.at.After-sub c).After-shared_slice_known-5-1))
+
+pub bounds-sums-0 : goal.bounds-sums-0
+bounds-sums-0 c = let (has, table, node, tables) = c.requires in has.has.some
+
+pub overflow_cast-sums : goal.overflow_cast-sums
+overflow_cast-sums c = omega (arith, c.type_inv.sums 0)
+
+pub offset_bounds-roots-back : goal.offset_bounds-roots-back
+offset_bounds-roots-back c = let (has, table, node, tables) = c.requires in omega (arith, inside _ _ node)
+
+pub bounds-roots-back : goal.bounds-roots-back
+bounds-roots-back c =
+    let (has, table, node, tables) = c.requires in
+    rw table (power_place _ _ (inside _ _ node))
+
+pub overflow_cast-roots : goal.overflow_cast-roots
+overflow_cast-roots c =
+    let a = c.args in omega (arith, c.type_inv.roots ((a.h.n - a.j) % a.h.n))
+
+pub mul_with-amount-requires : goal.mul_with-amount-requires
+mul_with-amount-requires c =
+    let (has, table, node, tables) = c.requires in
+    (has.has.sound.usable_field, sum_below c, read_below c, tables)
+
+pub bounds-lane-j : goal.bounds-lane-j
+bounds-lane-j c =
+    let (has, table, node, tables) = c.requires in omega (arith, has.lane.long)
+
+pub overflow_cast-lane : goal.overflow_cast-lane
+overflow_cast-lane c = omega (arith, c.type_inv.lane c.args.j)
+
+pub sub-requires : goal.sub-requires
+sub-requires c =
+    let (has, table, node, tables) = c.requires in
+    (has.has.sound.usable_field, held_below c, amount_below (goal.at.sub-requires c).After-mul_with-amount)
+
+pub overflow_cast-result : goal.overflow_cast-result
+overflow_cast-result c =
+    let (has, table, node, tables) = c.requires in
+    omega (arith, result-is c, mended_below _ _ _ has _ node, size_fits _ has.has.sound.usable_field)
+
+pub returns : goal.returns
+returns c = result-is c

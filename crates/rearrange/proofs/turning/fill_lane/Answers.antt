@@ -1,0 +1,93 @@
+-- `fill_lane` meets its contract. The loop's invariant: the symbols of the rows below i are written.
+use mathlib.Core.Path.{◌≡◌}
+use mathlib.Core.Bool.{true}
+use Prim.Native.Nat.{◌+◌, ◌*◌, ◌/◌, ◌≤◌, ◌<◌}
+use native.Mathlib.Nat.{sub-zero, zero-mul, mul-le-mul, le_refl}
+use native.Mathlib.Omega.{arith}
+use lib.ListN.{length}
+use Rattle.lists.specs.Numbers.{all_below}
+use Rattle.lists.proofs.Fill.{fills_start, fills_part, fills_all}
+use Rattle.lists.proofs.Numbers.{at_below}
+use Rattle.lists.proofs.Rows.{row_after, row_inside, part_size, part_length}
+use Rattle.layout.specs.Layout.{lane_of}
+use Rattle.layout.specs.Width.{symbol_at, symbol_bytes}
+use Rattle.layout.proofs.Widths.{length_symbol}
+use Rattle.layout.proofs.Readings.{symbol_inside, symbol_below}
+use Rattle.rearrange.proofs.Columns.{column_next, column_end, symbol_in}
+use Rattle.rearrange.proofs.turning.fill_lane.Goals as goal
+use Rattle.rearrange.proofs.turning.fill_lane.Goals.{In-loop-i}
+
+-- the symbol is one of the table
+read-in : (c : In-loop-i) → let a = c.args in c.loop-i.i * a.width + a.t < length a.table.now / a.w
+read-in c =
+    let a = c.args in
+    symbol_in a.w a.rows a.width a.t a.table.now c.requires.0 c.requires.3 c.requires.2 c.loop-i.i c.loop-i-test.true
+
+-- so its place is one of the table's too
+read-place : (c : In-loop-i) → let a = c.args in c.loop-i.i * a.width + a.t < length a.table.now
+read-place c =
+    let a = c.args in
+    let at = c.loop-i.i * a.width + a.t in
+    let ends : at * a.w + a.w ≤ length a.table.now = symbol_inside a.w a.table.now at c.requires.0 (read-in c) in
+    let least : at * 1 ≤ at * a.w = mul-le-mul (le_refl at) c.requires.0 in
+    omega (arith, c.requires.0)
+
+-- its bytes lie within the lane
+write-in : (c : In-loop-i) → let a = c.args in c.loop-i.i * a.w + a.w ≤ length a.lane.now
+write-in c =
+    rw c.requires.4 (row_inside c.args.rows c.loop-i.i c.args.w c.loop-i-test.true)
+
+pub loop-i-init : goal.loop-i-init
+unfolding lane_of
+loop-i-init c = (omega arith, rw (sub-zero, zero-mul) (fills_start _ _))
+
+pub overflow_mul-start : goal.overflow_mul-start
+overflow_mul-start c = omega (arith, write-in c)
+
+pub overflow_add-end : goal.overflow_add-end
+overflow_add-end c = omega (arith, write-in c)
+
+pub overflow_mul-i : goal.overflow_mul-i
+overflow_mul-i c = omega (arith, read-place c)
+
+pub overflow_add-i : goal.overflow_add-i
+overflow_add-i c = omega (arith, read-place c)
+
+pub symbol_at-symbol-requires : goal.symbol_at-symbol-requires
+symbol_at-symbol-requires c = (c.requires.0, c.requires.1, read-in c)
+
+pub slice_bounds-write_symbol-end : goal.slice_bounds-write_symbol-end
+slice_bounds-write_symbol-end c = omega (arith, write-in (goal.at.slice_bounds-write_symbol-end c).In-loop-i, c.loop-i.invariant.1.long)
+
+pub write_symbol-requires : goal.write_symbol-requires
+write_symbol-requires c =
+    let a = c.args in
+    let now = c.loop-i in
+    let place = now.i * a.width + a.t in
+    let low : all_below 256 a.table.now ≡ true = at_below 256 _ (λ i h. omega (arith, c.type_inv.table i)) in (
+      c.requires.0,
+      c.requires.1,
+      rw c.symbol_at-symbol.ensures (symbol_below a.w a.table.now place (symbol_inside a.w a.table.now place c.requires.0 (read-in (goal.at.write_symbol-requires c).In-loop-i)) low),
+      part_length (now.i * a.w) a.w now.lane (omega (arith, now.invariant.1.long, write-in (goal.at.write_symbol-requires c).In-loop-i)),
+    )
+
+pub loop-i-preserved : goal.loop-i-preserved
+loop-i-preserved c =
+    let a = c.args in
+    let now = c.loop-i in
+    let x = symbol_at a.w a.table.now (now.i * a.width + a.t) in (
+      omega arith,
+      rw (row_after, part_size, c.write_symbol.ensures, c.symbol_at-symbol.ensures)
+          (fills_part (symbol_bytes a.w x) a.w
+          (rw (column_next a.w a.rows a.width a.t a.table.now c.requires.0 c.requires.3 c.requires.2 now.i c.loop-i-test.true) at now.invariant.1)
+          (length_symbol a.w x)
+          (write-in (goal.at.loop-i-preserved c).In-loop-i)),
+    )
+
+pub shape_of-lane : goal.shape_of-lane
+shape_of-lane c = c.loop-i.invariant.1.long
+
+pub returns : goal.returns
+returns c =
+    fills_all (rw (column_end _ _ _ _ _ _ c.loop-i-test.false) at c.loop-i.invariant.1)
+    (rw c.requires.4 (mul-le-mul c.loop-i-test.false (le_refl _)))

@@ -1,0 +1,50 @@
+-- `bits_accepted` meets its contract.
+use mathlib.Core.Path.{◌≡◌, sym, ap, ap₂, ◌∙◌}
+use Prim.Native.Nat.{ℕ, ◌<◌, ◌*◌}
+use mir.Syntax.{w8}
+use mir.Val.{Fits}
+use native.Mathlib.Omega.{arith}
+use lib.ListN.{length}
+use Rattle.traces.proofs.Claims.{repairable, bits_few}
+use Rattle.repair.specs.Packing.{plane_size, packed_size}
+use Rattle.repair.proofs.Accepts.{BitsAccepted, bits_accepts, bits_refuses, bits_done}
+use Rattle.repair.proofs.Adding.{table_long, sent_table}
+use Rattle.repair.proofs.bits_accepted.Goals as goal
+use Rattle.repair.proofs.bits_accepted.Goals.{After-bits-b}
+
+pub returns-then-number-ne0 : goal.returns-then-number-ne0
+returns-then-number-ne0 c = rw (← c.bits_fault-number.ensures) (bits_refuses _ _ c.if-number-ne0.true _ _ _ _ _)
+
+byte : {x : ℕ} → Fits w8 x → x < 256
+byte h = omega arith
+
+-- what is known where no number was met
+accepted : (c : After-bits-b)
+    → let a = c.args in
+    BitsAccepted a.h a.lanes a.node a.target a.missing.now (length a.share.now) (length a.out.now)
+accepted c = bits_accepts _ _ _ _ _ _ _ (sym c.bits_fault-number.ensures ∙ c.if-number-ne0.false)
+
+pub digits-table-requires : goal.digits-table-requires
+digits-table-requires c =
+    let is = accepted (goal.at.digits-table-requires c).After-bits-b in
+    let r = is.repairing in
+    let can = repairable _ _ r.some in
+    (c.requires.0, can.kind, can.width, r.inside, r.nodes, is.node)
+
+pub pack-requires : goal.pack-requires
+unfolding packed_size
+pack-requires c =
+    let a = c.args in
+    let is = accepted (goal.at.pack-requires c).After-bits-b in
+    let size = c.plane_size-size.ensures in
+    let table = c.digits-table.ensures in
+    let long : length a.out.now ≡ c.bits-b.result * c.plane_size-size.result = is.out_long ∙ sym (ap₂ ◌*◌ c.bits-b.ensures size) in
+    (rw c.bits-b.ensures (bits_few _ _), table_long 256 _ _ table, rw is.share_long is.few, size ∙ ap plane_size (sym is.share_long), long)
+
+pub returns : goal.returns
+returns c =
+    let a = c.args in
+    let none = sym c.bits_fault-number.ensures ∙ c.if-number-ne0.false in
+    bits_done _ _ none _ _ _ _ _ _
+    (c.pack.ensures
+    ∙ sent_table a.h a.target a.missing.now a.node c.bits-b.result c.digits-table.result a.share.now c.bits-b.ensures c.digits-table.ensures (λ i. byte (c.type_inv.share i)))

@@ -1,0 +1,57 @@
+-- `sums::gather` meets its contract.
+use Rattle.lists.proofs.Rows.{row_inside}
+use Rattle.repair.proofs.Digits.{gather_bit, gather_bit_low, byte_turn_at, byte_done_at}
+use Prim.Native.Nat.{◌<◌, ◌≤◌, ◌+◌, ◌-◌, ◌*◌, ◌/◌}
+use native.Mathlib.Omega.{arith}
+use lib.ListN.{length}
+use Rattle.repair.specs.Inner.Sums.{lane_byte}
+use Rattle.repair.proofs.Digits.{byte_start, byte_small}
+use Rattle.repair.proofs.sums.gather.Goals as goal
+use Rattle.repair.proofs.sums.gather.Goals.{After-shared_slice_known-1, In-loop-p}
+
+pub loop-p-init : goal.loop-p-init
+loop-p-init c = (omega arith, byte_start _ _)
+
+-- a place of a plane lies within the eight
+inside : (c : In-loop-p)
+    → let a = c.args in
+    ((c.loop-p.p - 1) * a.size + a.i / 8 < 8 * 512) × ((c.loop-p.p - 1) * a.size + a.i / 8 < length a.acc.now)
+inside c =
+    let row : (c.loop-p.p - 1) * c.args.size + c.args.size ≤ 8 * c.args.size = row_inside 8 (c.loop-p.p - 1) c.args.size (omega arith) in
+    (omega (arith, c.requires.0, c.requires.1), omega (arith, c.requires.0, c.requires.2))
+
+small : (c : After-shared_slice_known-1) → c.loop-p.x < 256
+small c = byte_small (gather_bit c.args.acc.now c.args.size c.args.i) (gather_bit_low c.args.acc.now c.args.size c.args.i) _ _ _ c.loop-p.invariant.1
+
+pub overflow_mul-x : goal.overflow_mul-x
+overflow_mul-x c = omega (arith, inside c)
+
+pub overflow_add-x : goal.overflow_add-x
+overflow_add-x c = omega (arith, inside c)
+
+pub bounds-acc-p : goal.bounds-acc-p
+bounds-acc-p c = omega (arith, inside (goal.at.bounds-acc-p c).In-loop-p)
+
+pub overflow_cast-x : goal.overflow_cast-x
+overflow_cast-x c = omega (arith, c.type_inv.acc ((c.loop-p.p - 1) * c.args.size + c.args.i / 8))
+
+pub overflow_mul-x-in-loop-p : goal.overflow_mul-x-in-loop-p
+overflow_mul-x-in-loop-p c = omega (arith, small c)
+
+pub overflow_add-x-in-loop-p : goal.overflow_add-x-in-loop-p
+overflow_add-x-in-loop-p c = omega (arith, small c, gather_bit_low c.args.acc.now c.args.size c.args.i (c.loop-p.p - 1))
+
+pub loop-p-preserved : goal.loop-p-preserved
+loop-p-preserved c =
+    let l = c.loop-p in
+    (omega arith, byte_turn_at (gather_bit c.args.acc.now c.args.size c.args.i) l.p l.x (omega arith) l.invariant.0 l.invariant.1)
+
+pub overflow_cast-result : goal.overflow_cast-result
+overflow_cast-result c =
+    let low : c.loop-p.x < 256 = byte_small (gather_bit c.args.acc.now c.args.size c.args.i) (gather_bit_low c.args.acc.now c.args.size c.args.i) _ _ _ c.loop-p.invariant.1 in
+    omega arith
+
+pub returns : goal.returns
+unfolding lane_byte
+returns c =
+    byte_done_at (gather_bit c.args.acc.now c.args.size c.args.i) c.loop-p.p c.loop-p.x (omega arith) c.loop-p.invariant.1

@@ -1,0 +1,60 @@
+-- `sums::sum_plane` meets its contract.
+use Rattle.field.proofs.Xor.{digit}
+use mathlib.Core.Path.{◌≡◌, refl, sym, ap, ◌∙◌}
+use Prim.Native.Nat.{ℕ, ◌≤◌, ◌+◌, ◌*◌}
+use native.Mathlib.Omega.{arith}
+use lib.ListN.{length}
+use Rattle.lists.proofs.Rows.{row_inside, part_length}
+use Rattle.repair.specs.Inner.Sums.{plane_sum}
+use Rattle.repair.proofs.Adding.{sum_none, sum_more, length_sum}
+use Rattle.repair.proofs.sums.sum_plane.Goals as goal
+use Rattle.repair.proofs.sums.sum_plane.Goals.{In-loop-q}
+
+-- a plane lies within the buffer
+row_in : (c : In-loop-q)
+    → let a = c.args in
+    c.loop-q.q * a.size + a.size ≤ length a.rows.now
+row_in c =
+    rw c.requires.2 (row_inside c.args.count c.loop-q.q c.args.size c.loop-q-test.true)
+
+pub loop-q-init : goal.loop-q-init
+loop-q-init c = (omega arith, c.clear.ensures ∙ sum_none c.args.weights.now c.args.size c.args.rows.now c.args.p _ c.requires.3)
+
+pub overflow_mul-start : goal.overflow_mul-start
+overflow_mul-start c = omega (arith, row_in c)
+
+pub overflow_add-end : goal.overflow_add-end
+overflow_add-end c = omega (arith, row_in c)
+
+pub bounds-weights-q : goal.bounds-weights-q
+bounds-weights-q c = omega (arith, c.loop-q-test.true, c.requires.1)
+
+pub overflow_cast-bit : goal.overflow_cast-bit
+overflow_cast-bit c = omega (arith, c.type_inv.weights c.loop-q.q)
+
+pub overflow_shr-bit : goal.overflow_shr-bit
+overflow_shr-bit c = omega (arith, c.requires.0)
+
+pub slice_bounds-add_chosen-end : goal.slice_bounds-add_chosen-end
+slice_bounds-add_chosen-end c = omega (arith, row_in (goal.at.slice_bounds-add_chosen-end c).In-loop-q)
+
+pub add_chosen-requires : goal.add_chosen-requires
+add_chosen-requires c =
+    let l = c.loop-q in
+    let n = c.args.size in
+    let whole = part_length (l.q * n) n c.args.rows.now (row_in (goal.at.add_chosen-requires c).In-loop-q) in
+    let long : length l.acc ≡ n = ap length l.invariant.1 ∙ length_sum _ _ _ _ _ in
+    (digit _, whole ∙ sym long)
+
+pub loop-q-preserved : goal.loop-q-preserved
+loop-q-preserved c =
+    let l = c.loop-q in
+    (omega arith, c.add_chosen.ensures ∙ sum_more c.args.weights.now c.args.size c.args.rows.now c.args.p l.q _ l.acc refl l.invariant.1)
+
+pub shape_of-acc : goal.shape_of-acc
+shape_of-acc c = ap length c.loop-q.invariant.1 ∙ length_sum _ _ _ _ _ ∙ sym c.requires.3
+
+pub returns : goal.returns
+returns c =
+    let last : c.loop-q.q ≡ c.args.count = omega arith in
+    c.loop-q.invariant.1 ∙ ap (λ (n : ℕ). plane_sum c.args.weights.now n c.args.size c.args.rows.now c.args.p) last

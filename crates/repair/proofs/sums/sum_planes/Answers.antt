@@ -1,0 +1,53 @@
+-- `sums::sum_planes` meets its contract.
+use Prim.Native.Nat.{◌≤◌, ◌<◌, ◌+◌, ◌*◌}
+use native.Mathlib.Nat.{zero-mul, mul-le-mul, le_refl}
+use native.Mathlib.Omega.{arith}
+use lib.ListN.{length}
+use Rattle.lists.proofs.Rows.{rows_next, rows_end, row_after, row_inside, part_size, part_length}
+use Rattle.lists.proofs.Fill.{fills_start, fills_part, fills_all}
+use Rattle.repair.specs.Inner.Sums.{plane_sum, plane_sums}
+use Rattle.repair.proofs.Adding.{length_sum}
+use Rattle.repair.proofs.sums.sum_planes.Goals as goal
+use Rattle.repair.proofs.sums.sum_planes.Goals.{In-loop-p}
+
+-- a plane lies within the buffer
+row_in : (c : In-loop-p)
+    → let a = c.args in
+    c.loop-p.p * a.size + a.size ≤ length a.acc.now
+row_in c =
+    rw c.requires.3 (row_inside 8 c.loop-p.p c.args.size (omega (arith, c.loop-p-test.true)))
+
+pub loop-p-init : goal.loop-p-init
+unfolding plane_sums
+loop-p-init c = (omega arith, rw zero-mul (fills_start _ _))
+
+pub overflow_mul-start : goal.overflow_mul-start
+overflow_mul-start c = omega (arith, row_in c)
+
+pub overflow_add-end : goal.overflow_add-end
+overflow_add-end c = omega (arith, row_in c)
+
+pub slice_bounds-sum_plane-end : goal.slice_bounds-sum_plane-end
+slice_bounds-sum_plane-end c = let l = c.loop-p.invariant.1.long in omega (arith, row_in c)
+
+pub sum_plane-requires : goal.sum_plane-requires
+sum_plane-requires c =
+    let l = c.loop-p in
+    (omega (arith, c.loop-p-test.true), c.requires.0, c.requires.1, part_length (l.p * c.args.size) c.args.size l.acc (omega (arith, l.invariant.1.long, row_in (goal.at.sum_plane-requires c).In-loop-p)))
+
+pub loop-p-preserved : goal.loop-p-preserved
+loop-p-preserved c =
+    let l = c.loop-p in
+    let a = c.args in
+    let low : l.p < 8 = omega (arith, c.loop-p-test.true) in (
+      omega arith,
+      rw (row_after, part_size, c.sum_plane.ensures)
+          (fills_part (plane_sum a.weights.now a.count a.size a.rows.now l.p) a.size (rw (rows_next _ 8 l.p low) at l.invariant.1) (length_sum _ _ _ _ _) (row_in (goal.at.loop-p-preserved c).In-loop-p)),
+    )
+
+pub shape_of-acc : goal.shape_of-acc
+shape_of-acc c = c.loop-p.invariant.1.long
+
+pub returns : goal.returns
+returns c =
+    fills_all (rw (rows_end _ 8 _ c.loop-p-test.false) at c.loop-p.invariant.1) (rw c.requires.3 (mul-le-mul c.loop-p-test.false (le_refl _)))

@@ -1,0 +1,10 @@
+-- `spare` meets its contract.
+use Rattle.traces.specs.Repairs.{spare}
+use Rattle.repair_tables.proofs.nodes.spare.Goals as goal
+
+pub needed-requires : goal.needed-requires
+needed-requires c = rw c.bits-b.ensures c.requires.1
+
+pub returns : goal.returns
+unfolding spare
+returns c = rw (c.less-2.ensures, c.less.ensures, c.needed.ensures, c.bits-b.ensures)

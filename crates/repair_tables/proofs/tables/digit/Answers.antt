@@ -1,0 +1,22 @@
+-- `tables::digit` meets its contract.
+use native.Mathlib.Nat.{mod-lt}
+use native.Mathlib.Omega.{arith}
+use Rattle.repair_tables.proofs.Steps.{width_some, mul_kind, symbol_kind}
+use Rattle.repair_tables.proofs.tables.digit.Goals as goal
+
+pub mul_with-y-requires : goal.mul_with-y-requires
+mul_with-y-requires c = let (u, kind, width, f, x, tables) = c.requires in (u, symbol_kind _ _ kind f, symbol_kind _ _ kind x, tables)
+
+pub trace-t-requires : goal.trace-t-requires
+trace-t-requires c = let (u, kind, width, f, x, tables) = c.requires in ((width_some _ width).0, rw c.mul_with-y.ensures (mul_kind _ _ _ kind f), tables)
+
+pub nonzero_rem-result : goal.nonzero_rem-result
+nonzero_rem-result c = rw c.radix-m.ensures (width_some _ c.requires.2).1
+
+pub overflow_cast-result : goal.overflow_cast-result
+overflow_cast-result c =
+    let low = mod-lt c.trace-t.result (nonzero_rem-result c) in
+    omega (arith, c.radix-m.ensures, (width_some _ c.requires.2).2)
+
+pub returns : goal.returns
+returns c = rw (c.trace-t.ensures, c.mul_with-y.ensures, c.radix-m.ensures)

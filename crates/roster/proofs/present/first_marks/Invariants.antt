@@ -1,0 +1,14 @@
+-- `first_marks` meets its contract. Invariant: the first j marks are written.
+use Prim.Native.Nat.{◌≤◌, ◌-◌}
+use lib.Dec.{ltb}
+use Rattle.lists.specs.Rows.{from}
+use Rattle.lists.proofs.Fill.{Fills}
+use Rattle.roster.specs.Rosters.{first_marks}
+use Rattle.roster.proofs.Nodes.{absent}
+use Rattle.roster.proofs.present.first_marks.Given as goal
+
+abbrev pub invariant-loop-j : goal.invariant-loop-j
+invariant-loop-j l = (l.j ≤ 255) × Fills (absent 255) l.marks l.j (from (λ i. ltb i l.n) l.j (255 - l.j)) (first_marks l.n)
+
+abbrev pub decreases-loop-j : goal.decreases-loop-j
+decreases-loop-j l = 255 - l.j

@@ -1,0 +1,16 @@
+-- `read_marks` meets its contract. Invariant: the first j marks are written.
+use Prim.Native.Nat.{◌≤◌, ◌-◌}
+use mathlib.Core.Bool.{not}
+use lib.Dec.{eqb}
+use lib.ListN.{get_or}
+use Rattle.lists.specs.Rows.{from}
+use Rattle.lists.proofs.Fill.{Fills}
+use Rattle.roster.proofs.Nodes.{absent}
+use Rattle.roster_bytes.specs.Bytes.{marks_of}
+use Rattle.roster_bytes.proofs.bytes.read_marks.Given as goal
+
+abbrev pub invariant-loop-j : goal.invariant-loop-j
+invariant-loop-j l = (l.j ≤ 255) × Fills (absent 255) l.marks l.j (from (λ i. not (eqb (get_or l.bytes i 0) 0)) l.j (255 - l.j)) (marks_of l.bytes)
+
+abbrev pub decreases-loop-j : goal.decreases-loop-j
+decreases-loop-j l = 255 - l.j

@@ -1,0 +1,25 @@
+-- `fill_even` meets its contract: one round takes k / g places and skips (n − k) / g.
+use mathlib.Core.Path.{◌∙◌}
+use native.Mathlib.Omega.{arith}
+use Rattle.generator.specs.Shifts.{even_shifts}
+use Rattle.generator.proofs.Gcd.{gcd_pos}
+use Rattle.generator.proofs.EvenShifts.{pos_around, around_within}
+use Rattle.shifts.proofs.even.fill_even.Goals as goal
+
+pub nonzero_div-taken : goal.nonzero_div-taken
+nonzero_div-taken c = let a = c.args in rw c.gcd-g.ensures (gcd_pos a.k a.n (omega arith))
+
+pub nonzero_div-skipped : goal.nonzero_div-skipped
+nonzero_div-skipped c = let a = c.args in rw c.gcd-g.ensures (gcd_pos a.k a.n (omega arith))
+
+pub fill_rounds-requires : goal.fill_rounds-requires
+fill_rounds-requires c =
+    let a = c.args in
+    let p = c.requires in
+    let some = pos_around a.n a.k p.0 p.1 in
+    let within = around_within a.n a.k p.0 p.1 in
+    rw c.gcd-g.ensures (omega arith, omega arith)
+
+pub returns : goal.returns
+unfolding even_shifts
+returns c = c.fill_rounds.ensures ∙ rw c.gcd-g.ensures

@@ -1,0 +1,12 @@
+-- `exponents` meets its contract. Invariant: the exponents below x are written, and the next one and x are known modulo n.
+use mathlib.Core.Path.{◌≡◌}
+use Prim.Native.Nat.{◌-◌, ◌%◌}
+use Rattle.lists.proofs.Fill.{Filled}
+use Rattle.spectrum.specs.Inner.Spectrum.{triangle}
+use Rattle.spectrum.proofs.chirps.exponents.Given as goal
+
+abbrev pub invariant-loop-x : goal.invariant-loop-x
+invariant-loop-x l = Filled 510 510 (λ x. triangle x % l.n) l.x l.out × (l.sum ≡ triangle l.x % l.n) × (l.step ≡ l.x % l.n)
+
+abbrev pub decreases-loop-x : goal.decreases-loop-x
+decreases-loop-x l = 510 - l.x

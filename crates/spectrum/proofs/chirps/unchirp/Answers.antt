@@ -1,0 +1,95 @@
+-- `unchirp` meets its contract: each exponent is below n, and the power of its negative is read from the table.
+use mathlib.Core.Path.{ap, ◌∙◌}
+use Prim.Native.Nat.{◌%◌, ◌<◌}
+use native.Mathlib.Nat.{mod-lt}
+use native.Mathlib.Omega.{arith}
+use lib.ListN.{length, get_or}
+use Rattle.lists.specs.Padded.{zeros, padded}
+use Rattle.lists.proofs.Fill.{filled_start, filled_put, filled_end}
+use Rattle.lists.proofs.Numbers.{below_at}
+use Rattle.lists.proofs.Rows.{from_ext}
+use Rattle.field.specs.Fields.{mul}
+use Rattle.field.proofs.Bounds.{mul_below, power_below}
+use Rattle.field.proofs.KindLaws.{size_fits}
+use Rattle.generator.specs.Records.{modulus_of, size}
+use Rattle.generator.proofs.LaidShifts.{negative_below}
+use Rattle.check_sums.proofs.Sums.{power_place, power_at}
+use Rattle.spectrum.specs.Inner.Spectrum.{triangle, unchirped_at, unchirped}
+use Rattle.spectrum.proofs.Arrays.{value_at}
+use Rattle.spectrum.proofs.chirps.unchirp.Invariants.{read}
+use Rattle.spectrum.proofs.chirps.unchirp.Goals as goal
+use Rattle.spectrum.proofs.chirps.unchirp.Goals.{After-negative-e, In-loop-j}
+
+-- the exponent
+exponent : (c : In-loop-j)
+    → let a = c.args in
+    get_or a.exponents.now c.loop-j.j 0 < a.h.n
+exponent c =
+    rw (c.requires.2, value_at (λ x. triangle x % c.args.h.n) 510 c.loop-j.j (omega (arith, c.requires.3))) (mod-lt _ (omega (arith, c.requires.0.two)))
+
+-- the power that is read, a symbol
+power-is : (c : After-negative-e)
+    → let a = c.args in
+    (c.negative-e.result < length a.powers.now) × (get_or a.powers.now c.negative-e.result 0 < size a.h)
+power-is c =
+    (rw c.requires.1 (power_place c.args.h _ c.negative-e.ensures.1), rw (c.requires.1, power_at c.args.h _ c.negative-e.ensures.1) (power_below _ c.requires.0.field _ c.requires.0.root_below))
+
+-- the symbol
+symbol : (c : In-loop-j) → let a = c.args in get_or a.symbols.now c.loop-j.j 0 < size a.h
+symbol c = below_at _ _ c.requires.4 _ c.loop-j-test.true
+
+pub loop-j-init : goal.loop-j-init
+unfolding zeros
+loop-j-init c = filled_start 255 _ _ c.requires.3
+
+pub bounds-exponents-j : goal.bounds-exponents-j
+bounds-exponents-j c = omega (arith, c.requires.3)
+
+pub overflow_cast-exponents : goal.overflow_cast-exponents
+overflow_cast-exponents c = omega (arith, exponent (goal.at.overflow_cast-exponents c).In-loop-j)
+
+pub negative-e-requires : goal.negative-e-requires
+negative-e-requires c = exponent (goal.at.negative-e-requires c).In-loop-j
+
+pub overflow_cast-symbols : goal.overflow_cast-symbols
+overflow_cast-symbols c = omega (arith, c.type_inv.symbols c.loop-j.j)
+
+pub offset_bounds-powers-e : goal.offset_bounds-powers-e
+offset_bounds-powers-e c = omega (arith, (power-is (goal.at.offset_bounds-powers-e c).After-negative-e).0)
+
+pub bounds-powers-e : goal.bounds-powers-e
+bounds-powers-e c = (power-is (goal.at.bounds-powers-e c).After-negative-e).0
+
+pub overflow_cast-powers : goal.overflow_cast-powers
+overflow_cast-powers c = omega (arith, c.type_inv.powers c.negative-e.result)
+
+pub mul_with-requires : goal.mul_with-requires
+mul_with-requires c =
+    (c.requires.0.usable_field, symbol (goal.at.mul_with-requires c).In-loop-j, (power-is (goal.at.mul_with-requires c).After-negative-e).1, c.requires.5)
+
+pub overflow_cast-out : goal.overflow_cast-out
+overflow_cast-out c =
+    let low : c.mul_with.result < size c.args.h = rw c.mul_with.ensures (mul_below _ c.requires.0.field (symbol (goal.at.overflow_cast-out c).In-loop-j) (power-is (goal.at.overflow_cast-out c).After-negative-e).1) in
+    omega (arith, size_fits _ c.requires.0.usable_field)
+
+pub offset_bounds-out-j : goal.offset_bounds-out-j
+offset_bounds-out-j c = omega (arith, c.requires.3)
+
+pub bounds-out-j : goal.bounds-out-j
+bounds-out-j c = omega (arith, c.requires.3)
+
+pub loop-j-preserved : goal.loop-j-preserved
+loop-j-preserved c =
+    filled_put c.loop-j.invariant c.loop-j-test.true
+    (c.mul_with.ensures ∙ rw c.negative-e.ensures.0)
+
+pub returns : goal.returns
+unfolding unchirped unchirped_at
+returns c =
+    let a = c.args in
+    filled_end c.loop-j.invariant c.loop-j-test.false
+    ∙ ap (padded 255)
+    (from_ext (read (modulus_of a.h) a.h.n a.powers.now a.exponents.now a.symbols.now) (unchirped_at a.h a.symbols.now) 0 (length a.symbols.now)
+    (λ j low high. let small : triangle j % a.h.n < a.h.n = mod-lt _ (omega (arith, c.requires.0.two)) in
+    rw (c.requires.1, c.requires.2, value_at (λ x. triangle x % a.h.n) 510 j (omega (arith, c.requires.3)))
+    (ap (mul (modulus_of a.h) (get_or a.symbols.now j 0)) (power_at a.h _ (negative_below a.h.n (triangle j % a.h.n) (omega (arith, c.requires.0.two)))))))

@@ -1,0 +1,7 @@
+use mathlib.Core.Path.{refl}
+use Rattle.lists.specs.Padded.{zeros}
+use Rattle.subset_sums.proofs.slice.Goals as goal
+
+pub returns : goal.returns
+unfolding zeros
+returns c = refl

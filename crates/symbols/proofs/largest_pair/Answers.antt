@@ -1,0 +1,23 @@
+-- `largest_pair` meets its contract. The loop's invariant: all are below m where the largest so far and those from i on are.
+use mathlib.Core.Path.{◌∙◌}
+use native.Mathlib.Nat.{sub-zero}
+use native.Mathlib.Omega.{arith}
+use borrow.Author.Tests.{lt-ltb}
+use Rattle.layout.specs.Width.{symbols_of}
+use Rattle.symbols.proofs.Below.{below_larger, below_largest}
+use Rattle.symbols.proofs.largest_pair.Goals as goal
+
+pub loop-i-init : goal.loop-i-init
+unfolding symbols_of
+loop-i-init c = (omega arith, λ m some. rw (sub-zero, lt-ltb 0 m some))
+
+pub symbol_at-requires : goal.symbol_at-requires
+symbol_at-requires c = (omega arith, omega arith, c.loop-i-test.true)
+
+pub loop-i-preserved : goal.loop-i-preserved
+loop-i-preserved c =
+    let l = c.loop-i in
+    (omega arith, λ m some. l.invariant.1 m some ∙ below_larger m _ _ l.i _ _ c.loop-i-test.true (rw c.symbol_at.ensures at (c.larger-top.ensures m)))
+
+pub returns : goal.returns
+returns c = λ m some. c.loop-i.invariant.1 m some ∙ below_largest m _ _ c.loop-i.i _ c.loop-i-test.false

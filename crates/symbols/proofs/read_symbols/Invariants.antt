@@ -1,0 +1,12 @@
+-- `read_symbols` meets its contract. The loop's invariant: the symbols below i are read.
+use Prim.Native.Nat.{◌-◌, ◌/◌}
+use lib.ListN.{length}
+use Rattle.lists.proofs.Fill.{Filled}
+use Rattle.layout.specs.Width.{symbol_at}
+use Rattle.symbols.proofs.read_symbols.Given as goal
+
+abbrev pub invariant-loop-i : goal.invariant-loop-i
+invariant-loop-i l = Filled 255 (length l.s / l.w) (symbol_at l.w l.s) l.i l.symbols
+
+abbrev pub decreases-loop-i : goal.decreases-loop-i
+decreases-loop-i l = length l.s / l.w - l.i

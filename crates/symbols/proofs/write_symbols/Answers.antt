@@ -1,0 +1,63 @@
+-- `write_symbols` meets its contract. The loop's invariant: the bytes of the symbols below i are written.
+use Prim.Native.Nat.{◌+◌, ◌*◌, ◌≤◌}
+use native.Mathlib.Nat.{zero-mul, mul-le-mul, le_refl}
+use native.Mathlib.Omega.{arith}
+use lib.ListN.{length, get_or}
+use Rattle.lists.proofs.Fill.{fills_start, fills_part, fills_all}
+use Rattle.lists.proofs.Numbers.{below_at}
+use Rattle.lists.proofs.Rows.{row_after, row_inside, part_size, part_length}
+use Rattle.layout.specs.Width.{symbol_bytes}
+use Rattle.layout.proofs.Widths.{length_symbol}
+use Rattle.symbols.proofs.Written.{bytes_next, bytes_none}
+use Rattle.symbols.proofs.write_symbols.Goals as goal
+use Rattle.symbols.proofs.write_symbols.Goals.{In-loop-i}
+
+pub loop-i-init : goal.loop-i-init
+loop-i-init c = (omega arith, rw zero-mul (fills_start _ _))
+
+-- a symbol's bytes lie within the buffer
+symbol_in : (c : In-loop-i) → let a = c.args in c.loop-i.i * a.w + a.w ≤ length a.out.now
+symbol_in c =
+    rw c.requires.3 (row_inside (length c.args.symbols.now) c.loop-i.i c.args.w c.loop-i-test.true)
+
+pub overflow_mul-start : goal.overflow_mul-start
+overflow_mul-start c = omega (arith, symbol_in c)
+
+pub overflow_add-end : goal.overflow_add-end
+overflow_add-end c = omega (arith, symbol_in c)
+
+pub bounds-symbols-i : goal.bounds-symbols-i
+bounds-symbols-i c = c.loop-i-test.true
+
+pub slice_bounds-write_symbol-end : goal.slice_bounds-write_symbol-end
+slice_bounds-write_symbol-end c = omega (arith, symbol_in (goal.at.slice_bounds-write_symbol-end c).In-loop-i, c.loop-i.invariant.1.long)
+
+pub write_symbol-requires : goal.write_symbol-requires
+write_symbol-requires c =
+    let now = c.loop-i in
+    let w = c.args.w in (
+      c.requires.0,
+      c.requires.1,
+      below_at _ c.args.symbols.now c.requires.2 now.i c.loop-i-test.true,
+      part_length (now.i * w) w now.out (omega (arith, now.invariant.1.long, symbol_in (goal.at.write_symbol-requires c).In-loop-i)),
+    )
+
+pub loop-i-preserved : goal.loop-i-preserved
+loop-i-preserved c =
+    let a = c.args in
+    let x = get_or a.symbols.now c.loop-i.i 0 in (
+      omega arith,
+      rw (row_after, part_size, c.write_symbol.ensures)
+          (fills_part (symbol_bytes a.w x) a.w
+          (rw (bytes_next _ _ _ c.loop-i-test.true) at c.loop-i.invariant.1)
+          (length_symbol a.w x)
+          (symbol_in (goal.at.loop-i-preserved c).In-loop-i)),
+    )
+
+pub shape_of-out : goal.shape_of-out
+shape_of-out c = c.loop-i.invariant.1.long
+
+pub returns : goal.returns
+returns c =
+    fills_all (rw (bytes_none _ _ _ c.loop-i-test.false) at c.loop-i.invariant.1)
+    (rw c.requires.3 (mul-le-mul c.loop-i-test.false (le_refl _)))

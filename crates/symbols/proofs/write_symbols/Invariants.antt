@@ -1,0 +1,12 @@
+-- `write_symbols` meets its contract. The loop's invariant: the bytes of the symbols below i are written.
+use Prim.Native.Nat.{◌-◌, ◌*◌, ◌≤◌}
+use lib.ListN.{length, drop}
+use Rattle.lists.proofs.Fill.{Fills}
+use Rattle.layout.specs.Width.{bytes_of}
+use Rattle.symbols.proofs.write_symbols.Given as goal
+
+abbrev pub invariant-loop-i : goal.invariant-loop-i
+invariant-loop-i l = (l.i ≤ length l.symbols) × Fills l.initial.out l.out (l.i * l.w) (bytes_of l.w (drop l.i l.symbols)) (bytes_of l.w l.symbols)
+
+abbrev pub decreases-loop-i : goal.decreases-loop-i
+decreases-loop-i l = length l.symbols - l.i

@@ -1,0 +1,7 @@
+use Rattle.std.proofs.Common.{refl, arith}
+use Rattle.tile_products.specs.Inner.Products.{groups_of}
+use Rattle.tile_products.proofs.groups_of.Goals as goal
+
+pub returns : goal.returns
+unfolding groups_of
+returns c = (refl, omega arith, omega arith)

@@ -1,0 +1,37 @@
+-- `take_differences` meets its contract. Invariant: w turns are done.
+use Rattle.std.proofs.Common.{◌≡◌, ◌+◌, ◌-◌, length, sym, refl, ap, ◌∙◌, arith}
+use Rattle.weight_counts.specs.Inner.Counting.{with_previous, differences_of}
+use Rattle.weight_counts.proofs.Table.{turns_of, turns_next, turns_table, table_mono, length_table}
+use Rattle.weight_counts.proofs.take_differences.Goals as goal
+use Rattle.weight_counts.proofs.take_differences.Goals.{At-loop-w}
+
+-- the table after w turns
+reached : (c : At-loop-w) → c.loop-w.counts ≡ differences_of c.args.h c.loop-w.w
+reached c =
+    c.loop-w.invariant.1 ∙ ap (turns_of c.loop-w.w) c.requires.1 ∙ turns_table c.args.h c.loop-w.w c.loop-w.invariant.0
+
+pub loop-w-init : goal.loop-w-init
+unfolding turns_of
+loop-w-init c = (omega arith, refl)
+
+pub subtract_previous-requires : goal.subtract_previous-requires
+subtract_previous-requires c =
+    let h = c.args.h in
+    let now = reached (goal.at.subtract_previous-requires c).At-loop-w in
+    let long = ap length now ∙ length_table h c.loop-w.w in
+    (omega arith, omega (arith, long), λ y low high. rw now (table_mono h c.requires.0.sound c.loop-w.w y low (omega (arith, long))))
+
+pub loop-w-preserved : goal.loop-w-preserved
+loop-w-preserved c =
+    let l = c.loop-w in
+    (omega arith, c.subtract_previous.ensures ∙ ap (with_previous ◌-◌ (l.w + 1)) l.invariant.1 ∙ turns_next l.w _)
+
+pub shape_of-counts : goal.shape_of-counts
+shape_of-counts c =
+    ap length (reached (goal.at.shape_of-counts c).At-loop-w) ∙ length_table c.args.h _ ∙ sym (ap length c.requires.1 ∙ length_table c.args.h 0)
+
+pub returns : goal.returns
+returns c =
+    let h = c.args.h in
+    let end : c.loop-w.w ≡ h.n = omega arith in
+    reached (goal.at.returns c).At-loop-w ∙ ap (differences_of h) end
