@@ -175,7 +175,7 @@ async function mistype() {
   await says("#shifts-entry-said", "a node's from 0 to 5");
   await says("#shifts .part", "1,861,798,336,361,982,481,901,297,314,514,134,168,782,765,373,754,021,736,877,885,654,270,513,242,525 sets", "one part in 1.6·10^74: no trying helps");
   await useRecord("1 31 3 30 15");
-  await says("#shifts-verdict", "There are 155,117,520 sets of 15 nodes; 12 were tried, and none failed", "the theorem shifted-basis covers all of them");
+  await says("#shifts-verdict", "There are 155,117,520 sets of 15 nodes; 12 were tried, and none failed", "the theorem shifted_basis covers all of them");
   await takeWay("twice");
   await says("#shifts-verdict", "none of the 155,117,520 sets of 15 nodes does");
   await takeWay("mistyped");
