@@ -4,12 +4,13 @@
 usage: tools/respell.py [--check] [FOLDER]      FOLDER is the top of a checkout; with none, this one
 
 Types and modules keep their capitals, and so does a law that begins with one's name (All-append); functions of src/ and names that the library of Rattle has keep their spelling.
-Two names that would fall together are told apart by the table APART. --check writes nothing and lists what would fall together.
+Two names that would fall together are told apart by the table APART. --check writes nothing and lists what would fall together. Each crate is laid out by `rt fmt` at the end.
 """
 
 import collections
 import os
 import re
+import subprocess
 import sys
 
 WORD = r"[^\s(){}\[\];,.«»\"`:]+"
@@ -43,8 +44,6 @@ APART = {
 }
 # the same, in the files named
 APART_IN = {"crates/generator/proofs/EvenShifts.antt": {"next_place": "next_place_lem"}}
-# never renamed: words of the library that our files use
-KEPT = set()
 
 
 def files(top, *endings):
@@ -124,7 +123,7 @@ def of_library(top, crates):
 
 def table(top):
     crates = sorted(os.listdir(os.path.join(top, "crates")))
-    library = of_library(top, crates) | KEPT
+    library = of_library(top, crates)
     names, fields = set(), set()
     for path in files(os.path.join(top, "crates"), ".antt"):
         for name, is_field in declared(path):
@@ -132,7 +131,7 @@ def table(top):
                 names.add(name)
                 if is_field:
                     fields.add(name)
-    names |= locals_of(top, library)
+    names |= locals_of(top, library) | imported_as(top)
     new = {n: snake(n) for n in names | set(APART)}
     # a lemma that would have its function's name
     by_new = collections.defaultdict(set)
@@ -143,6 +142,17 @@ def table(top):
         if len(olds) == 2 and len(lemmas) == 1:
             new[lemmas[0]] = it + "_lem"
     return {o: n for o, n in new.items() if o != n}, fields, library
+
+
+def imported_as(top):
+    """Names that a source file gives to definitions that it imports."""
+    out = set()
+    for path in files(os.path.join(top, "crates"), ".rt"):
+        with open(path, encoding="utf-8") as f:
+            for line in f:
+                if line.startswith("ghost use"):
+                    out |= {n for n in re.findall(r" as (\w+)", line) if is_odd(n)}
+    return out
 
 
 def locals_of(top, library):
@@ -246,6 +256,9 @@ def main(words):
             if not check:
                 with open(path, "w", encoding="utf-8") as f:
                     f.write(new)
+    if not check:
+        for crate in sorted(os.listdir(os.path.join(top, "crates"))):
+            subprocess.run(["rt", "fmt"], cwd=os.path.join(top, "crates", crate), stdout=subprocess.DEVNULL, check=True)
     print(f"{len(speller.names)} names, {count} files")
 
 
