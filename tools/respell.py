@@ -132,7 +132,7 @@ def table(top):
                 names.add(name)
                 if is_field:
                     fields.add(name)
-    names |= locals_of(top, library)
+    names |= locals_of(top, library) | imported_as(top)
     new = {n: snake(n) for n in names | set(APART)}
     # a lemma that would have its function's name
     by_new = collections.defaultdict(set)
@@ -143,6 +143,17 @@ def table(top):
         if len(olds) == 2 and len(lemmas) == 1:
             new[lemmas[0]] = it + "_lem"
     return {o: n for o, n in new.items() if o != n}, fields, library
+
+
+def imported_as(top):
+    """Names that a source file gives to definitions that it imports."""
+    out = set()
+    for path in files(os.path.join(top, "crates"), ".rt"):
+        with open(path, encoding="utf-8") as f:
+            for line in f:
+                if line.startswith("ghost use"):
+                    out |= {n for n in re.findall(r" as (\w+)", line) if is_odd(n)}
+    return out
 
 
 def locals_of(top, library):
