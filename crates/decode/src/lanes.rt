@@ -5,7 +5,7 @@ ghost use Rattle.lists.specs.Numbers.{all_below};
 ghost use Rattle.lists.specs.Padded.{padded};
 ghost use Rattle.field.specs.Kinds.{modulus};
 ghost use Rattle.interpolation.specs.Inner.Points.{SymbolList};
-ghost use Rattle.decode.specs.Inner.Errors.{removed as removedFrom};
+ghost use Rattle.decode.specs.Inner.Errors.{removed as removed_from};
 
 use crate::field_symbols::{narrow, wide};
 use field::Field;
@@ -46,7 +46,7 @@ pub fn differing(a: &[u16], b: &[u16]) -> usize
 // A lane less the errors at the listed nodes, and zeros after it.
 pub fn removed(field: Field, lane: &[u16], nodes: &[u8], errors: &[u16]) -> [u16; 255]
     requires { SymbolList field lane.now × SymbolList field errors.now × (all_below (length lane.now) nodes.now ≡ true) × (length errors.now ≡ length nodes.now) }
-    ensures { result ≡ padded 255 (removedFrom (modulus field) nodes.now errors.now lane.now) }
+    ensures { result ≡ padded 255 (removed_from (modulus field) nodes.now errors.now lane.now) }
 {
     let mut out = copied(lane);
     let mut i = 0;

@@ -4,7 +4,7 @@ ghost use Rattle.lists.specs.Choice.{pick};
 ghost use Rattle.lists.specs.Padded.{padded};
 ghost use Rattle.field.specs.Tables.{AreTables};
 ghost use Rattle.generator.specs.Records.{modulus_of, Sound};
-ghost use Rattle.generator.specs.Shifts.{shifts as shiftsFor, shifts_of};
+ghost use Rattle.generator.specs.Shifts.{shifts as shifts_for, shifts_of};
 ghost use Rattle.interpolation.specs.Inner.Polynomials.{product_of};
 ghost use Rattle.node_weights.specs.Inner.Rows.{row_points};
 ghost use Rattle.check_sums.specs.Inner.Powers.{powers_of};
@@ -111,7 +111,7 @@ fn spread(g: usize, l: usize, q: &[u16; 256]) -> [u16; 256]
 
 // The product where the shifts come in g rounds.
 fn round_product(h: Header, tables: &Tables, g: usize, powers: &[u16]) -> [u16; 256]
-    requires { Sound h × (0 < g) × (g ≤ 255) × InRounds h.n (shiftsFor h) g × (powers.now ≡ padded 255 (powers_of h)) × AreTables tables.now }
+    requires { Sound h × (0 < g) × (g ≤ 255) × InRounds h.n (shifts_for h) g × (powers.now ≡ padded 255 (powers_of h)) × AreTables tables.now }
     ensures { result ≡ padded 256 (product_of (modulus_of h) (row_points h)) }
 {
     let field = h.field;

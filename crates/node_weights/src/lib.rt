@@ -7,7 +7,7 @@ ghost use Rattle.field.specs.Kinds.{modulus, usable};
 ghost use Rattle.field.specs.Tables.{AreTables};
 ghost use Rattle.lists.specs.Padded.{padded};
 ghost use Rattle.generator.specs.Records.{modulus_of, size, Sound};
-ghost use Rattle.generator.specs.Shifts.{shifts as shiftsFor};
+ghost use Rattle.generator.specs.Shifts.{shifts as shifts_for};
 ghost use Rattle.generator.specs.Claims.{are_nodes};
 ghost use Rattle.node_weights.specs.Inner.Weights.{Rebuilds};
 ghost use Rattle.interpolation.specs.Inner.Points.{points_of};
@@ -67,7 +67,7 @@ pub fn lagrange_basis(field: Field, tables: &Tables, root: u32, places: &[u8], o
 
 // What the inverse of the encoding at the nodes is made from; the shifts are those of the generator's k rows.
 pub fn prepare(h: Header, nodes: &[u8], shifts: &[u8]) -> Setup
-    requires { Sound h × (are_nodes h nodes.now ≡ true) × (shifts.now ≡ shiftsFor h) }
+    requires { Sound h × (are_nodes h nodes.now ≡ true) × (shifts.now ≡ shifts_for h) }
     ensures { result ≡ setup_of h nodes.now }
 {
     let field = h.field;

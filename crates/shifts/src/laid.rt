@@ -1,21 +1,21 @@
 // Rows laid end to end.
 ghost use Rattle.std.specs.Prelude.{◌≡◌, ◌-◌, ◌≤◌, ◌<◌};
 ghost use Rattle.lists.specs.Padded.{padded};
-ghost use Rattle.generator.specs.Shifts.{period as periodOf, laid_at, laid_shifts};
+ghost use Rattle.generator.specs.Shifts.{period as period_of, laid_at, laid_shifts};
 
 use crate::{gcd, negative};
 
 // The number of rows that are laid before they come round.
 fn period(n: u32, d: u32) -> u32
     requires { (0 < d) × (d ≤ n) }
-    ensures { (result ≡ periodOf n d) × (0 < result) }
+    ensures { (result ≡ period_of n d) × (0 < result) }
 {
     n / gcd(n, d)
 }
 
 // The node at which row r begins, where m rows come round.
 fn laid_at(n: u32, d: u32, m: u32, r: u32) -> u32
-    requires { (d ≤ n) × (n ≤ 255) × (m ≡ periodOf n d) × (0 < m) × (r < n) }
+    requires { (d ≤ n) × (n ≤ 255) × (m ≡ period_of n d) × (0 < m) × (r < n) }
     ensures { (result ≡ laid_at n d r) × (result < n) }
 {
     (r / m + r % m * d) % n

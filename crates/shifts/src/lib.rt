@@ -3,7 +3,7 @@
 
 ghost use Rattle.std.specs.Prelude.{◌≡◌, ◌≤◌, ◌<◌};
 ghost use Rattle.lists.specs.Padded.{padded};
-ghost use Rattle.generator.specs.Shifts.{gcd as gcdOf, negative as negativeOf, is_even, shifts_of, firsts_of};
+ghost use Rattle.generator.specs.Shifts.{gcd as gcd_of, negative as negative_of, is_even, shifts_of, firsts_of};
 
 mod even;
 mod laid;
@@ -17,7 +17,7 @@ pub struct Rows {
 
 // The greatest common divisor, by Euclid's algorithm.
 pub fn gcd(x: u32, y: u32) -> u32
-    ensures { result ≡ gcdOf x y }
+    ensures { result ≡ gcd_of x y }
 {
     let mut a = x;
     let mut b = y;
@@ -32,7 +32,7 @@ pub fn gcd(x: u32, y: u32) -> u32
 // −x modulo n.
 fn negative(n: u32, x: u32) -> u32
     requires { x < n }
-    ensures { (result ≡ negativeOf n x) × (result < n) }
+    ensures { (result ≡ negative_of n x) × (result < n) }
 {
     (n - x) % n
 }

@@ -5,7 +5,7 @@ ghost use Rattle.lists.specs.Numbers.{all_below};
 ghost use Rattle.lists.specs.Padded.{padded};
 ghost use Rattle.field.specs.Tables.{AreTables};
 ghost use Rattle.generator.specs.Records.{size, Sound};
-ghost use Rattle.generator.specs.Shifts.{negative as negativeOf};
+ghost use Rattle.generator.specs.Shifts.{negative as negative_of};
 ghost use Rattle.check_sums.specs.Inner.Powers.{powers_of};
 ghost use Rattle.spectrum.specs.Inner.Spectrum.{triangle, chirp_at, unchirped};
 
@@ -16,7 +16,7 @@ use generator::Header;
 // −i modulo n.
 fn negative(n: usize, i: usize) -> usize
     requires { i < n }
-    ensures { (result ≡ negativeOf n i) × (result < n) }
+    ensures { (result ≡ negative_of n i) × (result < n) }
 {
     if i == 0 { 0 } else { n - i }
 }

@@ -1,5 +1,6 @@
 -- `write_symbol` meets its contract: one byte, or the high and the low byte.
 use mathlib.Core.Path.{◌≡◌}
+use Prim.Native.Nat.{ℕ}
 use native.Mathlib.Omega.{arith}
 use lib.ListN.{length-set}
 use Rattle.symbols.proofs.Sizes.{is_two}
@@ -18,7 +19,7 @@ pub returns-then-w-eq1 : goal.returns-then-w-eq1
 returns-then-w-eq1 c = one_written _ _ c.args.out.now c.if-w-eq1.true c.requires.3
 
 pub bounds-out-1 : goal.bounds-out-1
-bounds-out-1 c = simp length-set (omega (arith, two c))
+bounds-out-1 c = omega (arith, two c, length-set {A = ℕ})
 
 pub returns : goal.returns
 returns c = two_written _ _ c.args.out.now (two c) c.requires.3
