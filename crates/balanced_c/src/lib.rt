@@ -78,10 +78,8 @@ fn put_base(plan: Plan, base: &mut [u16])
     requires { length base.old ≡ 255 }
     ensures { base.new ≡ plan.base }
 {
-    let mut i = 0;
-    while i < 255 {
+    for i in 0..255 {
         base[i] = plan.base[i];
-        i += 1;
     }
 }
 

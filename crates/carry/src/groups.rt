@@ -13,10 +13,8 @@ fn load_words(s: &[u8], words: &mut [u16])
     ensures { words.new ≡ words_of s.now }
 {
     let count = s.len() / 2;
-    let mut i = 0;
-    while i < count {
+    for i in 0..count {
         words[i] = symbols::symbol_at(2, s, i);
-        i += 1;
     }
     if s.len() % 2 == 0 {
         return;
@@ -30,12 +28,10 @@ fn write_masked(c: u16, words: &[u16], out: &mut [u8])
     ensures { out.new ≡ take (length out.old) (bytes_of 2 (masked c words.now)) }
 {
     let count = out.len() / 2;
-    let mut i = 0;
-    while i < count {
+    for i in 0..count {
         let start = i * 2;
         let end = start + 2;
         symbols::write_symbol(2, words[i] ^ c, &mut out[start..end]);
-        i += 1;
     }
     if out.len() % 2 == 0 {
         return;

@@ -32,10 +32,8 @@ fn all_ruled_out(p: u32, k: u32, a: u32, words: &[u16]) -> u32
     ensures { result ≡ all_ruled_out p k a (0 ∷ words.now) }
 {
     let mut total = ruled_out(p, k, a, 0);
-    let mut i = 0;
-    while i < words.len() {
+    for i in 0..words.len() {
         total += ruled_out(p, k, a, words[i]);
-        i += 1;
     }
     total
 }

@@ -41,11 +41,9 @@ fn fill_row(h: Header, w: usize, v: usize, powers: &[u16], j: usize, row: &mut [
     let n = h.n as usize;
     let last = v + 1 == w;
     let mut i = j;
-    let mut e = 0;
-    while e < row.len() {
+    for e in 0..row.len() {
         row[e] = byte_of(powers[i], last);
         i = stepped(i, j, n);
-        e += 1;
     }
 }
 
@@ -58,12 +56,10 @@ pub fn fill_power_rows(h: Header, rows: &mut [u8])
     let count = w * h.n as usize;
     let checks = (h.n - h.k) as usize;
     let table = powers::powers(h);
-    let mut i: usize = 0;
-    while i < count {
+    for i in 0..count {
         let start = i * checks;
         let end = start + checks;
         fill_row(h, w, i % w, &table, i / w, &mut rows[start..end]);
-        i += 1;
     }
 }
 
@@ -113,12 +109,10 @@ pub fn sums(h: Header, lane: &[u16]) -> [u16; 255]
 pub fn all_zero(sums: &[u16]) -> bool
     ensures { result ≡ all_below 1 sums.now }
 {
-    let mut i = 0;
-    while i < sums.len() {
+    for i in 0..sums.len() {
         if sums[i] != 0 {
             return false;
         }
-        i += 1;
     }
     true
 }

@@ -33,15 +33,13 @@ pub fn powers_with(h: Header, tables: &Tables) -> [u16; 255]
     let mut x1 = root;
     let mut x2 = square;
     let mut x3 = field.mul_with(tables, root, square);
-    let mut i: usize = 0;
-    while i < n {
+    for i in 0..n {
         out[i] = x as u16;
         let x4 = field.mul_with(tables, fourth, x);
         x = x1;
         x1 = x2;
         x2 = x3;
         x3 = x4;
-        i += 1;
     }
     out
 }
@@ -55,11 +53,9 @@ pub fn factors(h: Header, powers: &[u16], e: usize) -> [u16; 255]
     let step = e % n;
     let mut out = [0u16; 255];
     let mut i: usize = 0;
-    let mut j: usize = 0;
-    while j < n {
+    for j in 0..n {
         out[j] = powers[i];
         i = stepped(i, step, n);
-        j += 1;
     }
     out
 }

@@ -32,14 +32,12 @@ fn first_far(h: Header, rows: &[u8], lanes: usize, marks: &[u8], shares: &[u8]) 
 {
     let n = h.n as usize;
     let size = symbols::width_of(h) * n;
-    let mut t: usize = 0;
-    while t < lanes {
+    for t in 0..lanes {
         let start = t * size;
         let end = start + size;
         if !is_near(h, rows, marks[t], &shares[start..end]) {
             return t;
         }
-        t += 1;
     }
     lanes
 }
@@ -52,12 +50,10 @@ fn correct_lanes(h: Header, rows: &[u8], lanes: usize, marks: &[u8], shares: &mu
     let n = h.n as usize;
     let size = symbols::width_of(h) * n;
     let mut count: u32 = 0;
-    let mut t: usize = 0;
-    while t < lanes {
+    for t in 0..lanes {
         let start = t * size;
         let end = start + size;
         count += write_nearest(h, rows, marks[t], &mut shares[start..end]);
-        t += 1;
     }
     count
 }

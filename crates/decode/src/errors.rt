@@ -35,13 +35,11 @@ fn errors_from(
     ensures { result ≡ padded 255 (errors_from (modulus field) product.now sums.now points.now scales.now) }
 {
     let mut out = [0u16; 255];
-    let mut i = 0;
-    while i < points.len() {
+    for i in 0..points.len() {
         let x = wide(points[i]);
         let scale = wide(scales[i]);
         let e = error_at(field, tables, x, scale, product, sums);
         out[i] = narrow(field, e);
-        i += 1;
     }
     out
 }

@@ -16,10 +16,8 @@ pub fn copied(lane: &[u16]) -> [u16; 255]
     ensures { result ≡ padded 255 lane.now }
 {
     let mut out = [0u16; 255];
-    let mut i = 0;
-    while i < lane.len() {
+    for i in 0..lane.len() {
         out[i] = lane[i];
-        i += 1;
     }
     out
 }
@@ -49,12 +47,10 @@ pub fn removed(field: Field, lane: &[u16], nodes: &[u8], errors: &[u16]) -> [u16
     ensures { result ≡ padded 255 (removed_from (modulus field) nodes.now errors.now lane.now) }
 {
     let mut out = copied(lane);
-    let mut i = 0;
-    while i < nodes.len() {
+    for i in 0..nodes.len() {
         let j = nodes[i] as usize;
         let symbol = field.sub(wide(out[j]), wide(errors[i]));
         out[j] = narrow(field, symbol);
-        i += 1;
     }
     out
 }

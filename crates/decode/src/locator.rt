@@ -31,11 +31,9 @@ fn discrepancy(
     ensures { result ≡ partial (modulus field) v.now s.now e m }
 {
     let mut sum = Field::ZERO;
-    let mut i: usize = 0;
-    while i < m {
+    for i in 0..m {
         let term = field.mul_with(tables, entry(v, i), entry(s, e + i));
         sum = field.add(sum, term);
-        i += 1;
     }
     sum
 }
@@ -63,11 +61,9 @@ fn amended(
     ensures { result ≡ padded 255 (from (amended_at (modulus field) d w.now i v.now j) 0 size) }
 {
     let mut out = [0u16; 255];
-    let mut x: usize = 0;
-    while x < size {
+    for x in 0..size {
         let product = field.mul_with(tables, d, at(v, j, x));
         out[x] = narrow(field, field.sub(at(w, i, x), product));
-        x += 1;
     }
     out
 }
@@ -78,10 +74,8 @@ fn scaled(field: Field, tables: &Tables, d: u32, w: &[u16; 255], size: usize) ->
     ensures { result ≡ padded 255 (from (λ x. mul (modulus field) d (get_or w.now x 0)) 0 size) }
 {
     let mut out = [0u16; 255];
-    let mut x: usize = 0;
-    while x < size {
+    for x in 0..size {
         out[x] = narrow(field, field.mul_with(tables, d, entry(w, x)));
-        x += 1;
     }
     out
 }

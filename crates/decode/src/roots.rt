@@ -41,15 +41,13 @@ pub fn find_roots(field: Field, tables: &Tables, root: u32, coefficients: &[u16]
     let mut nodes = [0u8; 255];
     let mut count: usize = 0;
     let mut x = Field::ONE;
-    let mut j: usize = 0;
-    while j < n {
+    for j in 0..n {
         let y = value(field, tables, coefficients, x);
         x = field.mul_with(tables, root, x);
         if y == Field::ZERO {
             nodes[count] = j as u8;
             count += 1;
         }
-        j += 1;
     }
     Roots {
         nodes: nodes,

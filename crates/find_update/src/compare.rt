@@ -19,10 +19,8 @@ pub fn difference(h: Header, before: &[u16], after: &[u16]) -> [u16; 255]
 {
     let field = h.field;
     let mut out = [0u16; 255];
-    let mut j: usize = 0;
-    while j < before.len() {
+    for j in 0..before.len() {
         out[j] = field.sub(after[j] as u32, before[j] as u32) as u16;
-        j += 1;
     }
     out
 }

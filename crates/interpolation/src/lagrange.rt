@@ -51,10 +51,8 @@ pub fn scales(field: Field, tables: &Tables, points: &[u16]) -> [u16; 255]
     ensures { result ≡ padded 255 (scales_of (modulus field) points.now) }
 {
     let mut out = [0u16; 255];
-    let mut i = 0;
-    while i < points.len() {
+    for i in 0..points.len() {
         out[i] = scale_at(field, tables, points, i) as u16;
-        i += 1;
     }
     out
 }
@@ -66,13 +64,11 @@ fn last_products(field: Field, tables: &Tables, points: &[u16], z: u32) -> [u16;
 {
     let mut out = [0u16; 255];
     let mut product = Field::ONE;
-    let mut m = 0;
-    while m < points.len() {
+    for m in 0..points.len() {
         out[m] = product as u16;
         let last = points.len() - m - 1;
         let factor = field.sub(z, points[last] as u32);
         product = field.mul_with(tables, factor, product);
-        m += 1;
     }
     out
 }
@@ -85,14 +81,12 @@ pub fn values(field: Field, tables: &Tables, points: &[u16], scales: &[u16], z: 
     let after = last_products(field, tables, points, z);
     let mut out = [0u16; 255];
     let mut before = Field::ONE;
-    let mut i = 0;
-    while i < points.len() {
+    for i in 0..points.len() {
         let rest = points.len() - i - 1;
         let others = field.mul_with(tables, before, after[rest] as u32);
         out[i] = field.mul_with(tables, scales[i] as u32, others) as u16;
         let factor = field.sub(z, points[i] as u32);
         before = field.mul_with(tables, before, factor);
-        i += 1;
     }
     out
 }

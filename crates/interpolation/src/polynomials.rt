@@ -16,13 +16,11 @@ fn times_linear(field: Field, tables: &Tables, a: u32, coefficients: &mut [u16])
     ensures { coefficients.new ≡ carried (modulus field) a 0 coefficients.old }
 {
     let mut last = Field::ZERO;
-    let mut i = 0;
-    while i < coefficients.len() {
+    for i in 0..coefficients.len() {
         let c = coefficients[i] as u32;
         let term = field.mul_with(tables, a, c);
         coefficients[i] = field.sub(last, term) as u16;
         last = c;
-        i += 1;
     }
 }
 
@@ -51,12 +49,10 @@ pub fn base(field: Field, tables: &Tables, root: u32, m: usize) -> [u16; 256]
     let mut out = [0u16; 256];
     out[0] = 1;
     let mut y = Field::ONE;
-    let mut i: usize = 0;
-    while i < m {
+    for i in 0..m {
         let size = i + 2;
         times_linear(field, tables, y, &mut out[..size]);
         y = field.mul_with(tables, root, y);
-        i += 1;
     }
     out
 }
@@ -67,12 +63,10 @@ pub fn inverses(field: Field, tables: &Tables, coefficients: &[u16]) -> [u16; 25
     ensures { result ≡ padded 255 (inverses_of (modulus field) coefficients.now) }
 {
     let mut out = [0u16; 255];
-    let mut i = 0;
-    while i < coefficients.len() {
+    for i in 0..coefficients.len() {
         let c = coefficients[i] as u32;
         let y = field.inverse_with(tables, c);
         out[i] = y as u16;
-        i += 1;
     }
     out
 }

@@ -14,10 +14,8 @@ pub fn points(field: Field, tables: &Tables, root: u32, places: &[u8], offset: u
     ensures { result ≡ padded 255 (points_of (modulus field) root offset places.now) }
 {
     let mut out = [0u16; 255];
-    let mut i = 0;
-    while i < places.len() {
+    for i in 0..places.len() {
         out[i] = field.power(tables, root, places[i] as u32 + offset) as u16;
-        i += 1;
     }
     out
 }

@@ -17,10 +17,8 @@ pub fn products(field: Field, tables: &Tables, xs: &[u16], ys: &[u16]) -> [u16; 
     ensures { result ≡ padded 255 (termwise (modulus field) xs.now ys.now) }
 {
     let mut out = [0u16; 255];
-    let mut i = 0;
-    while i < xs.len() {
+    for i in 0..xs.len() {
         out[i] = field.mul_with(tables, xs[i] as u32, ys[i] as u32) as u16;
-        i += 1;
     }
     out
 }

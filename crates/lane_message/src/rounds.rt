@@ -78,11 +78,9 @@ fn round_points(h: Header, g: usize, powers: &[u16]) -> [u16; 255]
     let k = h.k as usize;
     let count = k / g;
     let mut out = [0u16; 255];
-    let mut j: usize = 0;
-    while j < count {
+    for j in 0..count {
         let e = (j + (k - 1)) * g % n;
         out[j] = powers[e];
-        j += 1;
     }
     out
 }
@@ -101,10 +99,8 @@ fn spread(g: usize, l: usize, q: &[u16; 256]) -> [u16; 256]
     ensures { result ≡ padded 256 (spaced_of g l q.now) }
 {
     let mut out = [0u16; 256];
-    let mut j: usize = 0;
-    while j < l {
+    for j in 0..l {
         out[j] = spread_at(g, q, j);
-        j += 1;
     }
     out
 }

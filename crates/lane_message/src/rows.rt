@@ -21,11 +21,9 @@ pub fn row_points(h: Header, shifts: &[u8], powers: &[u16]) -> [u16; 255]
     let n = h.n as usize;
     let k = h.k as usize;
     let mut out = [0u16; 255];
-    let mut r: usize = 0;
-    while r < k {
+    for r in 0..k {
         let e = stepped(shifts[r] as usize, k - 1, n);
         out[r] = powers[e];
-        r += 1;
     }
     out
 }

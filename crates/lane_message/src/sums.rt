@@ -29,11 +29,9 @@ pub fn coefficients(n: usize, k: usize, spectrum: &[u16]) -> [u16; 255]
     ensures { result ≡ padded 255 (from (λ c. get_or spectrum.now (negative n c) 0) 0 k) }
 {
     let mut out = [0u16; 255];
-    let mut c: usize = 0;
-    while c < k {
+    for c in 0..k {
         let e = (n - c) % n;
         out[c] = spectrum[e];
-        c += 1;
     }
     out
 }

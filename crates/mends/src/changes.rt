@@ -38,13 +38,11 @@ fn list_nodes(h: Header, tables: &Tables, roots: &[u16], sums: &[u16], nodes: &m
     let n = h.n as usize;
     let last = sums.len() - 1;
     let mut count: usize = 0;
-    let mut j: usize = 0;
-    while j < n {
+    for j in 0..n {
         if first_off(h, tables, roots[j] as u32, sums) == last {
             nodes[count] = j as u8;
             count += 1;
         }
-        j += 1;
     }
     count
 }
@@ -74,10 +72,8 @@ fn new_symbols(
     ensures { result ≡ padded 255 (map (mended_at h lane.now sums.now) nodes.now) }
 {
     let mut out = [0u16; 255];
-    let mut i: usize = 0;
-    while i < nodes.len() {
+    for i in 0..nodes.len() {
         out[i] = mended(h, tables, roots, lane, sums, nodes[i] as usize);
-        i += 1;
     }
     out
 }

@@ -20,10 +20,8 @@ fn first_nodes(k: u8) -> [u8; 255]
     ensures { result ≡ padded 255 (range 0 k) }
 {
     let mut nodes = [0u8; 255];
-    let mut j: u8 = 0;
-    while j < k {
+    for j in 0..k {
         nodes[j as usize] = j;
-        j += 1;
     }
     nodes
 }
@@ -37,10 +35,8 @@ fn put_entries(out: &mut [u8], at: usize, entries: &[u16]) -> usize
     ensures upper_bound { result ≤ at + 6 * length entries.now + 1 }
 {
     let mut place = at;
-    let mut r: usize = 0;
-    while r < entries.len() {
+    for r in 0..entries.len() {
         place = put_number_field(out, place, entries[r] as u32);
-        r += 1;
     }
     put_byte(out, place, b'\n')
 }
@@ -76,10 +72,8 @@ fn put_plain(out: &mut [u8], at: usize, h: Header) -> usize
     let k = h.k as usize;
     let nodes = first_nodes(h.k);
     let mut place = put_line(out, at, b"plain", &[n, h.k]);
-    let mut j: u8 = 0;
-    while j < n {
+    for j in 0..n {
         place = put_node(out, place, h, &nodes[..k], j);
-        j += 1;
     }
     place
 }

@@ -8,13 +8,11 @@ fn fill_lane(w: usize, rows: usize, width: usize, t: usize, table: &[u8], lane: 
     requires { (1 ≤ w) × (w ≤ 2) × (t < width) × (length table.now ≡ rows * width * w) × (length lane.old ≡ rows * w) }
     ensures { lane.new ≡ bytes_of w (lane_of row_after_row rows width t (symbols_of w table.now)) }
 {
-    let mut i: usize = 0;
-    while i < rows {
+    for i in 0..rows {
         let start = i * w;
         let end = start + w;
         let symbol = symbols::symbol_at(w, table, i * width + t);
         symbols::write_symbol(w, symbol, &mut lane[start..end]);
-        i += 1;
     }
 }
 
@@ -23,13 +21,11 @@ fn turn_symbols(w: usize, rows: usize, lanes: usize, table: &[u8], out: &mut [u8
     requires { (1 ≤ w) × (w ≤ 2) × (length table.now ≡ rows * lanes * w) × (length out.old ≡ rows * lanes * w) }
     ensures { out.new ≡ bytes_of w (rearranged row_after_row lane_after_lane rows lanes (symbols_of w table.now)) }
 {
-    let mut t: usize = 0;
-    while t < lanes {
+    for t in 0..lanes {
         let size = rows * w;
         let start = t * size;
         let end = start + size;
         fill_lane(w, rows, lanes, t, table, &mut out[start..end]);
-        t += 1;
     }
 }
 

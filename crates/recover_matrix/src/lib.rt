@@ -33,13 +33,11 @@ fn fill_terms(h: Header, w: usize, rows: Basis, base: [u16; 255], out: &mut [u8]
     let k = h.k as usize;
     let size = w * k;
     let t = field::constant_tables();
-    let mut r: usize = 0;
-    while r < k {
+    for r in 0..k {
         let row = node_weights::row_terms(h, &t, rows, base, r);
         let start = r * size;
         let end = start + size;
         symbols::write_symbols(w, &row[..k], &mut out[start..end]);
-        r += 1;
     }
 }
 
@@ -56,12 +54,10 @@ fn list_quotients(
     ensures { Begun (modulus field) (length points.now) (λ i. quotient_of (modulus field) (get_or points.now i 0) product.now) (length points.now) lists.new counts.new }
 {
     let t = field::constant_tables();
-    let mut i = 0;
-    while i < points.len() {
+    for i in 0..points.len() {
         let size = product.len();
         let q = division::quotient(field, &t, points[i] as u32, product);
         tile_products::prepare(field, codes, &q[..size], i, lists, counts);
-        i += 1;
     }
 }
 
@@ -79,12 +75,10 @@ fn scaled_column(
     ensures { result ≡ padded 255 (scaled_column (modulus field) scale scales.now r (symbols_of w sums.now)) }
 {
     let mut out = [0u16; 255];
-    let mut i = 0;
-    while i < scales.len() {
+    for i in 0..scales.len() {
         let own = field.mul_with(tables, scale, scales[i] as u32);
         let sum = symbols::symbol_at(w, sums, i * scales.len() + r) as u32;
         out[i] = field.mul_with(tables, own, sum) as u16;
-        i += 1;
     }
     out
 }
@@ -104,12 +98,10 @@ fn list_columns(
     ensures { Begun (modulus field) (length scales.now) (λ r. scaled_column (modulus field) (get_or factors.now r 0) scales.now r (symbols_of w sums.now)) (length scales.now) lists.new counts.new }
 {
     let t = field::constant_tables();
-    let mut r = 0;
-    while r < factors.len() {
+    for r in 0..factors.len() {
         let size = scales.len();
         let column = scaled_column(field, &t, factors[r] as u32, scales, r, w, sums);
         tile_products::prepare(field, codes, &column[..size], r, lists, counts);
-        r += 1;
     }
 }
 

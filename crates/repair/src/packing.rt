@@ -52,10 +52,8 @@ fn pack_plane(e: u32, table: &[u8], share: &[u8], out: &mut [u8])
     requires { (e < 8) × (length table.now ≡ 256) × (length out.old ≤ 512) }
     ensures { out.new ≡ lanewise (λ c y. byte_from 8 (within (length share.now) (λ x. get_or table.now (get_or share.now x 0) 0 / 2 ^ e % 2)) (c * 8)) out.old }
 {
-    let mut c = 0;
-    while c < out.len() {
+    for c in 0..out.len() {
         out[c] = pack_byte(e, table, share, c * 8);
-        c += 1;
     }
 }
 
@@ -65,11 +63,9 @@ pub fn pack(b: u32, table: &[u8], size: usize, share: &[u8], out: &mut [u8])
     ensures { out.new ≡ planes b (length share.now) (λ i. get_or table.now (get_or share.now i 0) 0) }
 {
     let count = b as usize;
-    let mut e: usize = 0;
-    while e < count {
+    for e in 0..count {
         let start = e * size;
         let end = start + size;
         pack_plane(e as u32, table, share, &mut out[start..end]);
-        e += 1;
     }
 }

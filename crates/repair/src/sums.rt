@@ -10,10 +10,8 @@ fn add_row(row: &[u8], acc: &mut [u8])
     requires { length row.now ≡ length acc.old }
     ensures { acc.new ≡ lanewise (λ c y. bit_xor y (get_or row.now c 0)) acc.old }
 {
-    let mut c = 0;
-    while c < acc.len() {
+    for c in 0..acc.len() {
         acc[c] = acc[c] ^ row[c];
-        c += 1;
     }
 }
 
@@ -33,13 +31,11 @@ fn sum_plane(p: u32, weights: &[u8], count: usize, size: usize, rows: &[u8], acc
     ensures { acc.new ≡ plane_sum weights.now count size rows.now p }
 {
     kernel::clear(acc);
-    let mut q: usize = 0;
-    while q < count {
+    for q in 0..count {
         let start = q * size;
         let end = start + size;
         let bit = ((weights[q] as u32) >> p) % 2;
         add_chosen(bit, &rows[start..end], acc);
-        q += 1;
     }
 }
 
@@ -48,12 +44,10 @@ fn sum_planes(weights: &[u8], count: usize, size: usize, rows: &[u8], acc: &mut 
     requires { (count ≤ length weights.now) × (length rows.now ≡ count * size) × (size ≤ 512) × (length acc.old ≡ 8 * size) }
     ensures { acc.new ≡ plane_sums weights.now count size rows.now }
 {
-    let mut p: usize = 0;
-    while p < 8 {
+    for p in 0..8 {
         let start = p * size;
         let end = start + size;
         sum_plane(p as u32, weights, count, size, rows, &mut acc[start..end]);
-        p += 1;
     }
 }
 
@@ -78,10 +72,8 @@ fn gather_all(acc: &[u8], size: usize, out: &mut [u8])
     requires { (size ≤ 512) × (length out.old ≤ size * 8) × (length acc.now ≡ 8 * size) }
     ensures { out.new ≡ lanewise (λ i y. lane_byte acc.now size i) out.old }
 {
-    let mut i = 0;
-    while i < out.len() {
+    for i in 0..out.len() {
         out[i] = gather(acc, size, i);
-        i += 1;
     }
 }
 

@@ -42,13 +42,11 @@ pub fn list_senders(n: u8, target: u32, missing: &[u8]) -> Senders
 {
     let mut nodes = [0u8; 255];
     let mut count: usize = 0;
-    let mut j: u8 = 0;
-    while j < n {
+    for j in 0..n {
         if sends(target, missing, j as u32) {
             nodes[count] = j;
             count += 1;
         }
-        j += 1;
     }
     Senders {
         nodes: nodes,

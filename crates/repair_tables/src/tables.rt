@@ -35,10 +35,8 @@ fn sixteen(field: Field, tables: &Tables, b: u32, f: u32, step: u32) -> [u8; 16]
     ensures { result ≡ from (λ i. trace_of b (mul (modulus field) f (i * step)) % 2 ^ b) 0 16 }
 {
     let mut row = [0u8; 16];
-    let mut i: usize = 0;
-    while i < 16 {
+    for i in 0..16 {
         row[i] = digit(field, tables, b, f, i as u32 * step);
-        i += 1;
     }
     row
 }
@@ -55,10 +53,8 @@ fn sums(low: &[u8; 16], high: &[u8; 16]) -> [u8; 256]
     ensures { result ≡ from (λ x. bit_xor (get_or low.now (x % 16) 0) (get_or high.now (x / 16) 0)) 0 256 }
 {
     let mut table = blank();
-    let mut x: usize = 0;
-    while x < 256 {
+    for x in 0..256 {
         table[x] = low[x % 16] ^ high[x / 16];
-        x += 1;
     }
     table
 }
@@ -140,10 +136,8 @@ fn list_weights(h: Header, b: u32, target: u32, senders: &[u8]) -> [u8; 1020]
     let powers = check_sums::powers::powers(h);
     let count = senders.len() * b as usize;
     let mut table = blank_weights();
-    let mut q: usize = 0;
-    while q < count {
+    for q in 0..count {
         table[q] = weight(h, &tables, &powers, b, target as usize, senders, q);
-        q += 1;
     }
     table
 }

@@ -15,10 +15,8 @@ pub fn first_marks(n: u8) -> [bool; 255]
     ensures { result ≡ first_marks n }
 {
     let mut marks = [false; 255];
-    let mut j: u8 = 0;
-    while j < 255 {
+    for j in 0..255 {
         marks[j as usize] = j < n;
-        j += 1;
     }
     marks
 }
@@ -29,13 +27,11 @@ pub fn list_present(marks: [bool; 255], n: u8) -> Present
 {
     let mut nodes = [0u8; 255];
     let mut count: usize = 0;
-    let mut j: u8 = 0;
-    while j < n {
+    for j in 0..n {
         if marks[j as usize] {
             nodes[count] = j;
             count += 1;
         }
-        j += 1;
     }
     Present {
         nodes: nodes,
@@ -50,9 +46,7 @@ pub fn write_nodes(p: Present, first: usize, list: &mut [u8])
 {
     let nodes = p.nodes;
     let count = p.count;
-    let mut t: usize = 0;
-    while t < list.len() {
+    for t in 0..list.len() {
         list[t] = nodes[(first + t) % count];
-        t += 1;
     }
 }

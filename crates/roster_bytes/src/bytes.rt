@@ -12,10 +12,8 @@ fn read_marks(bytes: &[u8]) -> [bool; 255]
     ensures { result ≡ marks_of bytes.now }
 {
     let mut marks = [false; 255];
-    let mut j: usize = 0;
-    while j < 255 {
+    for j in 0..255 {
         marks[j] = bytes[j] != 0;
-        j += 1;
     }
     marks
 }
@@ -44,10 +42,8 @@ fn write_marks(marks: [bool; 255], bytes: &mut [u8])
     requires { length bytes.old ≡ 256 }
     ensures { bytes.new ≡ marks_in marks bytes.old }
 {
-    let mut j: usize = 0;
-    while j < 255 {
+    for j in 0..255 {
         bytes[j] = mark_byte(marks[j]);
-        j += 1;
     }
 }
 

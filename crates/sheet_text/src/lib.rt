@@ -52,11 +52,9 @@ fn put_entries(out: &mut [u8], at: usize, plan: Plan, r: u8) -> usize
 {
     let n = plan.n;
     let mut place = at;
-    let mut j: u8 = 0;
-    while j < n {
+    for j in 0..n {
         let x = entry(plan, r as u32, j as u32);
         place = put_number_field(out, place, x as u32);
-        j += 1;
     }
     put_byte(out, place, b'\n')
 }
@@ -85,10 +83,8 @@ fn put_sheet(out: &mut [u8], at: usize, plan: Plan) -> usize
     if number != 0 {
         return place;
     }
-    let mut r: u8 = 0;
-    while r < k {
+    for r in 0..k {
         place = put_row(out, place, plan, r);
-        r += 1;
     }
     place
 }

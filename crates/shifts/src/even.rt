@@ -24,14 +24,12 @@ fn fill_rounds(n: u8, taken: u32, skipped: u32) -> [u8; 255]
     let mut out = [0u8; 255];
     let mut count: usize = 0;
     let mut place: u32 = 0;
-    let mut i: u8 = 0;
-    while i < n {
+    for i in 0..n {
         if place < taken {
             out[count] = i;
             count += 1;
         }
         place = next_place(taken + skipped, place);
-        i += 1;
     }
     out
 }

@@ -30,11 +30,9 @@ pub fn fill_laid(n: u8, k: u8) -> [u8; 255]
     let d = nodes - k as u32 + 1;
     let m = period(nodes, d);
     let mut out = [0u8; 255];
-    let mut r: u8 = 0;
-    while r < k {
+    for r in 0..k {
         let first = laid_at(nodes, d, m, r as u32);
         out[r as usize] = negative(nodes, first) as u8;
-        r += 1;
     }
     out
 }

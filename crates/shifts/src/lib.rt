@@ -63,12 +63,10 @@ fn fill_firsts(n: u8, k: u8, shifts: &[u8; 255]) -> [u8; 255]
 {
     let nodes = n as u32;
     let mut out = [0u8; 255];
-    let mut r: u8 = 0;
-    while r < k {
+    for r in 0..k {
         let shift = shifts[r as usize] as u32;
         let first = negative(nodes, shift);
         out[r as usize] = first as u8;
-        r += 1;
     }
     out
 }

@@ -29,12 +29,10 @@ pub fn exponents(n: usize) -> [u8; 510]
     let mut out = [0u8; 510];
     let mut sum: usize = 0;
     let mut step: usize = 0;
-    let mut x: usize = 0;
-    while x < 510 {
+    for x in 0..510 {
         out[x] = sum as u8;
         sum = stepped(sum, step, n);
         step = stepped(step, 1, n);
-        x += 1;
     }
     out
 }
@@ -45,11 +43,9 @@ pub fn chirps(h: Header, powers: &[u16], exponents: &[u8; 510]) -> [u16; 510]
     ensures { result ≡ from (chirp_at h) 0 510 }
 {
     let mut out = [0u16; 510];
-    let mut x: usize = 0;
-    while x < 510 {
+    for x in 0..510 {
         let e = exponents[x] as usize;
         out[x] = powers[e];
-        x += 1;
     }
     out
 }
@@ -68,11 +64,9 @@ pub fn unchirp(
     let field = h.field;
     let n = h.n as usize;
     let mut out = [0u16; 255];
-    let mut j: usize = 0;
-    while j < symbols.len() {
+    for j in 0..symbols.len() {
         let e = negative(n, exponents[j] as usize);
         out[j] = field.mul_with(tables, symbols[j] as u32, powers[e] as u32) as u16;
-        j += 1;
     }
     out
 }

@@ -37,12 +37,10 @@ pub fn symbols_below(size: u32, w: usize, s: &[u8]) -> bool
     ensures { result ≡ all_below size (symbols_of w s.now) }
 {
     let count = s.len() / w;
-    let mut i = 0;
-    while i < count {
+    for i in 0..count {
         if size <= symbol_at(w, s, i) as u32 {
             return false;
         }
-        i += 1;
     }
     true
 }
@@ -60,10 +58,8 @@ fn largest_pair(s: &[u8]) -> u16
 {
     let count = s.len() / 2;
     let mut top: u16 = 0;
-    let mut i = 0;
-    while i < count {
+    for i in 0..count {
         top = larger(top, symbol_at(2, s, i));
-        i += 1;
     }
     top
 }
@@ -83,10 +79,8 @@ pub fn read_symbols(w: usize, s: &[u8]) -> [u16; 255]
 {
     let count = s.len() / w;
     let mut symbols: [u16; 255] = [0; 255];
-    let mut i = 0;
-    while i < count {
+    for i in 0..count {
         symbols[i] = symbol_at(w, s, i);
-        i += 1;
     }
     symbols
 }
@@ -109,11 +103,9 @@ pub fn write_symbols(w: usize, symbols: &[u16], out: &mut [u8])
     requires { (1 ≤ w) × (w ≤ 2) × (all_below (256 ^ w) symbols.now ≡ true) × (length out.old ≡ length symbols.now * w) }
     ensures { out.new ≡ bytes_of w symbols.now }
 {
-    let mut i = 0;
-    while i < symbols.len() {
+    for i in 0..symbols.len() {
         let start = i * w;
         let end = start + w;
         write_symbol(w, symbols[i], &mut out[start..end]);
-        i += 1;
     }
 }

@@ -38,13 +38,11 @@ fn put_powers(h: Header, counts: &mut [u32])
     let q = field.size();
     let fixed = (h.n - h.k) as usize;
     let mut x: u32 = 1;
-    let mut y: usize = 0;
-    while y < counts.len() {
+    for y in 0..counts.len() {
         counts[y] = x;
         if fixed <= y {
             x = x * q;
         }
-        y += 1;
     }
 }
 
@@ -104,10 +102,8 @@ fn scale(counts: &mut [u32], factors: &[u32])
     requires { (length counts.old ≤ length factors.now) × ((w : ℕ) → w < length counts.old → slice_index counts.old w * slice_index factors.now w ≤ 65536) }
     ensures { counts.new ≡ from (λ w. slice_index counts.old w * slice_index factors.now w) 0 (length counts.old) }
 {
-    let mut w: usize = 0;
-    while w < counts.len() {
+    for w in 0..counts.len() {
         counts[w] = counts[w] * factors[w];
-        w += 1;
     }
 }
 

@@ -33,10 +33,8 @@ fn put_counts(out: &mut [u8], at: usize, counts: &[u32]) -> usize
     ensures { Puts out.old out.new at result (count_lines counts.now) }
 {
     let mut place = at;
-    let mut w: usize = 0;
-    while w < counts.len() {
+    for w in 0..counts.len() {
         place = put_count(out, place, w as u32, counts[w]);
-        w += 1;
     }
     place
 }

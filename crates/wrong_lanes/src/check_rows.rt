@@ -41,11 +41,9 @@ fn list_nodes(h: Header, codes: &[u64], lists: &mut [u16], counts: &mut [u8])
     let t = field::constant_tables();
     let roots = powers::powers(h);
     let scales = lagrange::scales(field, &t, &roots[..k]);
-    let mut e: usize = 0;
-    while e < checks {
+    for e in 0..checks {
         let weights = check_weights(h, &t, &roots, &scales[..k], e);
         tile_products::prepare(field, codes, &weights[..n], e, lists, counts);
-        e += 1;
     }
 }
 
@@ -58,11 +56,9 @@ fn list_sums(h: Header, codes: &[u64], lists: &mut [u16], counts: &mut [u8])
     let n = h.n as usize;
     let checks = (h.n - h.k) as usize;
     let table = powers::powers(h);
-    let mut e: usize = 0;
-    while e < checks {
+    for e in 0..checks {
         let weights = powers::factors(h, &table, e + 1);
         tile_products::prepare(field, codes, &weights[..n], e, lists, counts);
-        e += 1;
     }
 }
 

@@ -15,16 +15,16 @@ whole : (c : After-loop-i) → length c.args.plan.base ≡ 255
 whole c = search rules
 
 pub loop-i-init : goal.loop-i-init
-loop-i-init c = (omega arith, fills_start _ _)
+loop-i-init c = fills_start _ _
 
 pub bounds-base-i : goal.bounds-base-i
-bounds-base-i c = omega (arith, c.loop-i.invariant.1.long)
+bounds-base-i c = omega (arith, c.loop-i.invariant.long)
 
 pub loop-i-preserved : goal.loop-i-preserved
-loop-i-preserved c = (omega arith, fills_copy c.loop-i.invariant.1 (omega (arith, array c)) (omega arith) 0)
+loop-i-preserved c = fills_copy c.loop-i.invariant (omega (arith, array c)) (omega arith) 0
 
 pub shape_of-base : goal.shape_of-base
-shape_of-base c = c.loop-i.invariant.1.long
+shape_of-base c = c.loop-i.invariant.long
 
 pub returns : goal.returns
-returns c = fills_copied c.loop-i.invariant.1 (omega (arith, whole c)) (omega arith)
+returns c = fills_copied c.loop-i.invariant (omega (arith, whole c)) (omega arith)

@@ -5,7 +5,4 @@ use Rattle.lists.proofs.Fill.{Fills}
 use Rattle.balanced_c.proofs.put_base.Given as goal
 
 abbrev pub invariant-loop-i : goal.invariant-loop-i
-invariant-loop-i l = (l.i ≤ 255) × Fills l.initial.base l.base l.i (drop l.i l.plan.base) l.plan.base
-
-abbrev pub decreases-loop-i : goal.decreases-loop-i
-decreases-loop-i l = 255 - l.i
+invariant-loop-i l = Fills l.initial.base l.base l.i (drop l.i l.plan.base) l.plan.base

@@ -27,7 +27,7 @@ inside : (c : In-loop-t) → c.loop-t.t * (c.width_of.result * c.args.h.n) + c.w
 inside c = rw c.width_of.ensures.0 (part_inside c.requires.0 (width_some _) c.loop-t.t c.loop-t-test.true)
 
 untouched : (c : In-loop-t) → let a = c.loop-t.t * (width c.args.h * c.args.h.n) in drop a c.loop-t.shares ≡ drop a c.args.shares.now
-untouched c = c.loop-t.invariant.3.kept
+untouched c = c.loop-t.invariant.2.kept
 
 pub width_of-requires : goal.width_of-requires
 width_of-requires c = c.requires.0.sound.usable_field
@@ -40,7 +40,7 @@ overflow_mul-size c =
 pub loop-t-init : goal.loop-t-init
 loop-t-init c =
     let a = c.args in
-    (omega arith, omega arith, sym (apart_none a.h.n (before a.h a.shares.now) (after a.h a.lanes a.shares.now)), rw zero-mul (fills_start _ _))
+    (omega arith, sym (apart_none a.h.n (before a.h a.shares.now) (after a.h a.lanes a.shares.now)), rw zero-mul (fills_start _ _))
 
 pub overflow_mul-start : goal.overflow_mul-start
 overflow_mul-start c = omega (arith, inside c)
@@ -52,7 +52,7 @@ pub bounds-marks-t : goal.bounds-marks-t
 bounds-marks-t c = omega (arith, c.requires.0.marked, c.loop-t-test.true)
 
 pub slice_bounds-write_nearest-end : goal.slice_bounds-write_nearest-end
-slice_bounds-write_nearest-end c = omega (arith, inside (goal.at.slice_bounds-write_nearest-end c).In-loop-t, c.loop-t.invariant.3.long)
+slice_bounds-write_nearest-end c = omega (arith, inside (goal.at.slice_bounds-write_nearest-end c).In-loop-t, c.loop-t.invariant.2.long)
 
 pub write_nearest-count-requires : goal.write_nearest-count-requires
 write_nearest-count-requires c =
@@ -74,7 +74,7 @@ few c =
 
 pub overflow_add-count : goal.overflow_add-count
 overflow_add-count c =
-    omega (arith, few (goal.at.overflow_add-count c).After-write_nearest-count, c.loop-t.invariant.1, c.loop-t-test.true, c.requires.0.few_lanes)
+    omega (arith, few (goal.at.overflow_add-count c).After-write_nearest-count, c.loop-t.invariant.0, c.loop-t-test.true, c.requires.0.few_lanes)
 
 pub loop-t-smaller : goal.loop-t-smaller
 loop-t-smaller c = omega (arith, c.loop-t-test.true)
@@ -88,16 +88,15 @@ loop-t-preserved c =
     let taken = c.loop-t-test.true in
     let whole = corrected_bytes share_layout a.h a.lanes a.shares.now in
     let count : l.count + c.write_nearest-count.result ≡ apart_to a.h.n (before a.h a.shares.now) (after a.h a.lanes a.shares.now) (l.t + 1) =
-    ap₂ (λ (x z : ℕ). x + z) l.invariant.2 (altered (goal.at.loop-t-preserved c).After-write_nearest-count) ∙ sym (apart_lane a.h.n a.lanes (before a.h a.shares.now) (after a.h a.lanes a.shares.now) l.t) in (
-      omega (arith, taken),
-      omega (arith, few (goal.at.loop-t-preserved c).After-write_nearest-count, l.invariant.1),
+    ap₂ (λ (x z : ℕ). x + z) l.invariant.1 (altered (goal.at.loop-t-preserved c).After-write_nearest-count) ∙ sym (apart_lane a.h.n a.lanes (before a.h a.shares.now) (after a.h a.lanes a.shares.now) l.t) in (
+      omega (arith, few (goal.at.loop-t-preserved c).After-write_nearest-count, l.invariant.0),
       count,
       rw (row_after l.t k, c.width_of.ensures.0)
-          (fills_stretch whole (l.t * k) _ k l.invariant.3 (rw (c.width_of.ensures.0, untouched (goal.at.loop-t-preserved c).In-loop-t) at c.write_nearest-count.ensures.0 ∙ part_corrected m (width_some _) l.t taken) (corrected_size m (width_some _)) (part_inside m (width_some _) l.t taken)),
+          (fills_stretch whole (l.t * k) _ k l.invariant.2 (rw (c.width_of.ensures.0, untouched (goal.at.loop-t-preserved c).In-loop-t) at c.write_nearest-count.ensures.0 ∙ part_corrected m (width_some _) l.t taken) (corrected_size m (width_some _)) (part_inside m (width_some _) l.t taken)),
     )
 
 pub shape_of-shares : goal.shape_of-shares
-shape_of-shares c = c.loop-t.invariant.3.long
+shape_of-shares c = c.loop-t.invariant.2.long
 
 pub returns : goal.returns
 unfolding corrected_count
@@ -108,6 +107,6 @@ returns c =
     let k = width a.h * a.h.n in
     let all : length a.shares.now ≤ l.t * k = rw (m.bytes, mul_comm k a.lanes) (mul-le-mul c.loop-t-test.false (le_refl k)) in
     let end : l.t ≡ a.lanes = omega (arith, l.invariant.0, c.loop-t-test.false) in (
-      fills_whole _ (l.t * k) l.invariant.3 (omega (arith, corrected_size m (width_some _))) all,
-      l.invariant.2 ∙ ap (apart_to a.h.n (before a.h a.shares.now) (after a.h a.lanes a.shares.now)) end ∙ apart_all a.h.n a.lanes (before a.h a.shares.now) (after a.h a.lanes a.shares.now) (symbols_long m (width_some _)),
+      fills_whole _ (l.t * k) l.invariant.2 (omega (arith, corrected_size m (width_some _))) all,
+      l.invariant.1 ∙ ap (apart_to a.h.n (before a.h a.shares.now) (after a.h a.lanes a.shares.now)) end ∙ apart_all a.h.n a.lanes (before a.h a.shares.now) (after a.h a.lanes a.shares.now) (symbols_long m (width_some _)),
     )

@@ -32,7 +32,7 @@ overflow_mul-size c =
     omega (arith, mul-le-mul c.width_of.ensures.2 few)
 
 pub loop-t-init : goal.loop-t-init
-loop-t-init c = (omega arith, rw sub-zero)
+loop-t-init c = rw sub-zero
 
 pub overflow_mul-start : goal.overflow_mul-start
 overflow_mul-start c = omega (arith, inside c)
@@ -53,7 +53,7 @@ pub returns-then-not-is_near : goal.returns-then-not-is_near
 unfolding first_far
 returns-then-not-is_near c =
     let l = c.loop-t in
-    sym (l.invariant.1 ∙ search_found _ _ _ c.loop-t-test.true (sym (near-is (goal.at.returns-then-not-is_near c).After-is_near) ∙ not-true _ c.if-not-is_near.true-raw))
+    sym (l.invariant ∙ search_found _ _ _ c.loop-t-test.true (sym (near-is (goal.at.returns-then-not-is_near c).After-is_near) ∙ not-true _ c.if-not-is_near.true-raw))
 
 pub loop-t-smaller : goal.loop-t-smaller
 loop-t-smaller c = omega (arith, c.loop-t-test.true)
@@ -61,11 +61,11 @@ loop-t-smaller c = omega (arith, c.loop-t-test.true)
 pub loop-t-preserved : goal.loop-t-preserved
 loop-t-preserved c =
     let l = c.loop-t in
-    (omega (arith, c.loop-t-test.true), l.invariant.1 ∙ search_next _ _ _ c.loop-t-test.true (sym (near-is (goal.at.loop-t-preserved c).After-is_near) ∙ not-false _ c.if-not-is_near.false-raw))
+    l.invariant ∙ search_next _ _ _ c.loop-t-test.true (sym (near-is (goal.at.loop-t-preserved c).After-is_near) ∙ not-false _ c.if-not-is_near.false-raw)
 
 pub returns : goal.returns
 unfolding first_far
 returns c =
     let l = c.loop-t in
     let end : c.args.lanes ≡ l.t = omega (arith, l.invariant.0, c.loop-t-test.false) in
-    end ∙ sym (l.invariant.1 ∙ search_end _ _ _ c.loop-t-test.false)
+    end ∙ sym (l.invariant ∙ search_end _ _ _ c.loop-t-test.false)

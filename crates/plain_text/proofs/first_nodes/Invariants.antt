@@ -5,6 +5,3 @@ use Rattle.plain_text.proofs.first_nodes.Given as goal
 
 abbrev pub invariant-loop-j : goal.invariant-loop-j
 invariant-loop-j l = Filled 255 l.k (λ i. i) l.j l.nodes
-
-abbrev pub decreases-loop-j : goal.decreases-loop-j
-decreases-loop-j l = l.k - l.j

@@ -7,8 +7,4 @@ use Rattle.text.specs.Text.{fields}
 use Rattle.plain_text.proofs.put_entries.Given as goal
 
 abbrev pub invariant-loop-r : goal.invariant-loop-r
-invariant-loop-r l =
-    (l.r ≤ length l.entries) × (l.place ≤ l.at + 6 * l.r) × Fills l.initial.out l.out l.place (fields (drop l.r l.entries)) (take l.at l.initial.out ++ fields l.entries)
-
-abbrev pub decreases-loop-r : goal.decreases-loop-r
-decreases-loop-r l = length l.entries - l.r
+invariant-loop-r l = (l.place ≤ l.at + 6 * l.r) × Fills l.initial.out l.out l.place (fields (drop l.r l.entries)) (take l.at l.initial.out ++ fields l.entries)

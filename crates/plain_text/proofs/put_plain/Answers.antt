@@ -13,7 +13,7 @@ use Rattle.plain_text.proofs.put_plain.Goals as goal
 use Rattle.plain_text.proofs.put_plain.Goals.{After-first_nodes-nodes}
 
 pub loop-j-init : goal.loop-j-init
-loop-j-init c = (omega arith, omega arith, rw sub-zero (puts_start _ _ _ (omega arith)))
+loop-j-init c = (omega arith, rw sub-zero (puts_start _ _ _ (omega arith)))
 
 -- the list that is lent is that of the first k nodes
 listed : (c : After-first_nodes-nodes) → let k = c.args.h.k in take k c.first_nodes-nodes.result ≡ range 0 k
@@ -31,13 +31,13 @@ pub loop-j-preserved : goal.loop-j-preserved
 loop-j-preserved c =
     let l = c.loop-j in
     let h = c.args.h in
-    let todo = rw (rows_next (node_line h) h.n l.j c.loop-j-test.true) at l.invariant.2 in
-    (omega arith, omega arith, puts_next todo c.put_node-place.ensures.puts (omega arith))
+    let todo = rw (rows_next (node_line h) h.n l.j c.loop-j-test.true) at l.invariant.1 in
+    (omega arith, puts_next todo c.put_node-place.ensures.puts (omega arith))
 
 pub returns : goal.returns
 unfolding plain_for ascii
 returns c =
     let l = c.loop-j in
     let h = c.args.h in
-    let nodes = puts_done c.put_line-place.result _ (rw (rows_end (node_line h) h.n l.j c.loop-j-test.false) at l.invariant.2) (omega arith) in
+    let nodes = puts_done c.put_line-place.result _ (rw (rows_end (node_line h) h.n l.j c.loop-j-test.false) at l.invariant.1) (omega arith) in
     puts_then c.put_line-place.ensures.puts nodes (omega arith)

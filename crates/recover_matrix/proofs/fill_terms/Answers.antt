@@ -36,7 +36,7 @@ pub constant_tables-t-requires : goal.constant_tables-t-requires
 constant_tables-t-requires c = _
 
 pub loop-r-init : goal.loop-r-init
-loop-r-init c = (omega arith, rw (sub-zero, zero-mul) (fills_start _ _))
+loop-r-init c = rw (sub-zero, zero-mul) (fills_start _ _)
 
 pub row_terms-row-requires : goal.row_terms-row-requires
 row_terms-row-requires c = (c.requires.0, c.requires.2, c.requires.3, c.loop-r-test.true, c.constant_tables-t.ensures)
@@ -54,7 +54,7 @@ pub slice_bounds-write_symbols-end : goal.slice_bounds-write_symbols-end
 slice_bounds-write_symbols-end c = rw (taken (goal.at.slice_bounds-write_symbols-end c).After-row_terms-row) (sym (terms (goal.at.slice_bounds-write_symbols-end c).In-loop-r).size)
 
 pub slice_bounds-write_symbols-end-in-loop-r : goal.slice_bounds-write_symbols-end-in-loop-r
-slice_bounds-write_symbols-end-in-loop-r c = omega (arith, row_in (goal.at.slice_bounds-write_symbols-end-in-loop-r c).In-loop-r, c.loop-r.invariant.1.long)
+slice_bounds-write_symbols-end-in-loop-r c = omega (arith, row_in (goal.at.slice_bounds-write_symbols-end-in-loop-r c).In-loop-r, c.loop-r.invariant.long)
 
 pub write_symbols-requires : goal.write_symbols-requires
 write_symbols-requires c =
@@ -62,23 +62,20 @@ write_symbols-requires c =
     let w = c.args.w in
     let l = c.loop-r in
     rw (taken (goal.at.write_symbols-requires c).After-row_terms-row)
-    ((width_of (goal.at.write_symbols-requires c).Start).0, (width_of (goal.at.write_symbols-requires c).Start).1, rw c.requires.1 (symbols_fit c.args.h c.requires.0 (row_terms c.args.h l.r) (terms (goal.at.write_symbols-requires c).In-loop-r).are.below), part_length (l.r * (w * k)) (w * k) l.out (omega (arith, l.invariant.1.long, row_in (goal.at.write_symbols-requires c).In-loop-r)) ∙ mul_comm w k ∙ ap (λ (x : ℕ). x * w) (sym (terms (goal.at.write_symbols-requires c).In-loop-r).size))
+    ((width_of (goal.at.write_symbols-requires c).Start).0, (width_of (goal.at.write_symbols-requires c).Start).1, rw c.requires.1 (symbols_fit c.args.h c.requires.0 (row_terms c.args.h l.r) (terms (goal.at.write_symbols-requires c).In-loop-r).are.below), part_length (l.r * (w * k)) (w * k) l.out (omega (arith, l.invariant.long, row_in (goal.at.write_symbols-requires c).In-loop-r)) ∙ mul_comm w k ∙ ap (λ (x : ℕ). x * w) (sym (terms (goal.at.write_symbols-requires c).In-loop-r).size))
 
 pub loop-r-preserved : goal.loop-r-preserved
 loop-r-preserved c =
     let h = c.args.h in
     let w = c.args.w in
-    let l = c.loop-r in (
-      omega arith,
-      rw (row_after, part_size, c.write_symbols.ensures, taken (goal.at.loop-r-preserved c).After-row_terms-row)
-          (fills_part (bytes_of w (row_terms h l.r)) (w * h.k) (rw (rows_next _ _ _ c.loop-r-test.true) at l.invariant.1) (length_bytes w (row_terms h l.r) ∙ ap (λ (x : ℕ). x * w) (terms (goal.at.loop-r-preserved c).In-loop-r).size ∙ mul_comm h.k w) (row_in (goal.at.loop-r-preserved c).In-loop-r)),
-    )
+    let l = c.loop-r in rw (row_after, part_size, c.write_symbols.ensures, taken (goal.at.loop-r-preserved c).After-row_terms-row)
+    (fills_part (bytes_of w (row_terms h l.r)) (w * h.k) (rw (rows_next _ _ _ c.loop-r-test.true) at l.invariant) (length_bytes w (row_terms h l.r) ∙ ap (λ (x : ℕ). x * w) (terms (goal.at.loop-r-preserved c).In-loop-r).size ∙ mul_comm h.k w) (row_in (goal.at.loop-r-preserved c).In-loop-r))
 
 pub shape_of-out : goal.shape_of-out
-shape_of-out c = c.loop-r.invariant.1.long
+shape_of-out c = c.loop-r.invariant.long
 
 pub returns : goal.returns
 returns c =
     let a = c.args in
-    fills_all (rw (rows_end _ _ _ c.loop-r-test.false) at c.loop-r.invariant.1) (rw (c.requires.4, mul_comm (a.w * a.h.k) a.h.k) (mul-le-mul c.loop-r-test.false (le_refl _)))
+    fills_all (rw (rows_end _ _ _ c.loop-r-test.false) at c.loop-r.invariant) (rw (c.requires.4, mul_comm (a.w * a.h.k) a.h.k) (mul-le-mul c.loop-r-test.false (le_refl _)))
     ∙ bytes_rows a.w (row_terms a.h) 0 a.h.k

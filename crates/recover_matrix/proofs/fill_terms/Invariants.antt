@@ -7,7 +7,4 @@ use Rattle.node_weights.specs.Inner.Rows.{row_terms}
 use Rattle.recover_matrix.proofs.fill_terms.Given as goal
 
 abbrev pub invariant-loop-r : goal.invariant-loop-r
-invariant-loop-r l = (l.r ≤ l.h.k) × Fills l.initial.out l.out (l.r * (l.w * l.h.k)) (rows_from (λ r. bytes_of l.w (row_terms l.h r)) l.r (l.h.k - l.r)) (rows_from (λ r. bytes_of l.w (row_terms l.h r)) 0 l.h.k)
-
-abbrev pub decreases-loop-r : goal.decreases-loop-r
-decreases-loop-r l = l.h.k - l.r
+invariant-loop-r l = Fills l.initial.out l.out (l.r * (l.w * l.h.k)) (rows_from (λ r. bytes_of l.w (row_terms l.h r)) l.r (l.h.k - l.r)) (rows_from (λ r. bytes_of l.w (row_terms l.h r)) 0 l.h.k)

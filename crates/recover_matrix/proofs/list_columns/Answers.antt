@@ -21,7 +21,7 @@ pub constant_tables-t-requires : goal.constant_tables-t-requires
 constant_tables-t-requires c = _
 
 pub loop-r-init : goal.loop-r-init
-loop-r-init c = (omega arith, refl, refl, begun_none _ _ _ _ _ (λ r. length_column _ _ _ _ _))
+loop-r-init c = (refl, refl, begun_none _ _ _ _ _ (λ r. length_column _ _ _ _ _))
 
 -- the factor is a symbol
 factor : (c : In-loop-r) → let a = c.args in get_or a.factors.now c.loop-r.r 0 < size_of (modulus a.field)
@@ -65,27 +65,24 @@ prepare-requires c =
       c.requires.1.short,
       column_below _ x a.scales.now l.r (symbols_of a.w a.sums.now) (usable_field _ c.requires.1.usable_field) (factor (goal.at.prepare-requires c).In-loop-r) c.requires.1.below c.requires.3.below,
       omega (arith, low, c.requires.1.short),
-      omega (arith, row_inside n l.r (8 * groups_of n) low, room.entries, l.invariant.1),
-      omega (arith, row_inside n l.r 8 low, room.sizes, l.invariant.2),
+      omega (arith, row_inside n l.r (8 * groups_of n) low, room.entries, l.invariant.0),
+      omega (arith, row_inside n l.r 8 low, room.sizes, l.invariant.1),
     )
-
-pub overflow_add-r : goal.overflow_add-r
-overflow_add-r c = omega (arith, c.loop-r-test.true)
 
 pub loop-r-preserved : goal.loop-r-preserved
 loop-r-preserved c =
     let a = c.args in
     let l = c.loop-r in
     let made = rw (taken (goal.at.loop-r-preserved c).After-scaled_column-column, length_column (modulus a.field) (get_or a.factors.now l.r 0) a.scales.now l.r (symbols_of a.w a.sums.now)) at c.prepare.ensures in
-    (omega arith, omega (arith, l.invariant.1), omega (arith, l.invariant.2), made (λ j. scaled_column (modulus a.field) (get_or a.factors.now j 0) a.scales.now j (symbols_of a.w a.sums.now)) refl l.invariant.3)
+    (omega (arith, l.invariant.0), omega (arith, l.invariant.1), made (λ j. scaled_column (modulus a.field) (get_or a.factors.now j 0) a.scales.now j (symbols_of a.w a.sums.now)) refl l.invariant.2)
 
 pub shape_of-lists : goal.shape_of-lists
-shape_of-lists c = c.loop-r.invariant.1
+shape_of-lists c = c.loop-r.invariant.0
 
 pub shape_of-counts : goal.shape_of-counts
-shape_of-counts c = c.loop-r.invariant.2
+shape_of-counts c = c.loop-r.invariant.1
 
 pub returns : goal.returns
 returns c =
     let all : c.loop-r.r ≡ length c.args.scales.now = omega (arith, c.requires.2) in
-    rw all at c.loop-r.invariant.3
+    rw all at c.loop-r.invariant.2

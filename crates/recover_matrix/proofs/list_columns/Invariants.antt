@@ -9,7 +9,4 @@ use Rattle.layout.specs.Width.{symbols_of}
 use Rattle.recover_matrix.proofs.list_columns.Given as goal
 
 abbrev pub invariant-loop-r : goal.invariant-loop-r
-invariant-loop-r l = (l.r ≤ length l.factors) × (length l.lists ≡ length l.initial.lists) × (length l.counts ≡ length l.initial.counts) × Begun (modulus l.field) (length l.scales) (λ j. scaled_column (modulus l.field) (get_or l.factors j 0) l.scales j (symbols_of l.w l.sums)) l.r l.lists l.counts
-
-abbrev pub decreases-loop-r : goal.decreases-loop-r
-decreases-loop-r l = length l.factors - l.r
+invariant-loop-r l = (length l.lists ≡ length l.initial.lists) × (length l.counts ≡ length l.initial.counts) × Begun (modulus l.field) (length l.scales) (λ j. scaled_column (modulus l.field) (get_or l.factors j 0) l.scales j (symbols_of l.w l.sums)) l.r l.lists l.counts

@@ -21,7 +21,7 @@ constant_tables-t-requires c = _
 
 pub loop-i-init : goal.loop-i-init
 loop-i-init c =
-    (omega arith, refl, refl, begun_none _ _ _ _ _ (λ i. length_quotient_of _ _ c.args.product.now ∙ c.requires.2))
+    (refl, refl, begun_none _ _ _ _ _ (λ i. length_quotient_of _ _ c.args.product.now ∙ c.requires.2))
 
 pub bounds-points-i : goal.bounds-points-i
 bounds-points-i c = c.loop-i-test.true
@@ -64,26 +64,23 @@ prepare-requires c =
       c.requires.0.short,
       quotient_of_below _ (usable_field _ c.requires.0.usable_field) x a.product.now (point (goal.at.prepare-requires c).In-loop-i) c.requires.1.below,
       omega (arith, low, c.requires.0.short),
-      omega (arith, row_inside n l.i (8 * groups_of n) low, room.entries, l.invariant.1),
-      omega (arith, row_inside n l.i 8 low, room.sizes, l.invariant.2),
+      omega (arith, row_inside n l.i (8 * groups_of n) low, room.entries, l.invariant.0),
+      omega (arith, row_inside n l.i 8 low, room.sizes, l.invariant.1),
     )
-
-pub overflow_add-i : goal.overflow_add-i
-overflow_add-i c = omega (arith, c.loop-i-test.true)
 
 pub loop-i-preserved : goal.loop-i-preserved
 loop-i-preserved c =
     let a = c.args in
     let l = c.loop-i in
     let made = rw (taken (goal.at.loop-i-preserved c).After-quotient-q, length_quotient_of (modulus a.field) (get_or a.points.now l.i 0) a.product.now, c.requires.2) at c.prepare.ensures in
-    (omega arith, omega (arith, l.invariant.1), omega (arith, l.invariant.2), made (λ j. quotient_of (modulus a.field) (get_or a.points.now j 0) a.product.now) refl l.invariant.3)
+    (omega (arith, l.invariant.0), omega (arith, l.invariant.1), made (λ j. quotient_of (modulus a.field) (get_or a.points.now j 0) a.product.now) refl l.invariant.2)
 
 pub shape_of-lists : goal.shape_of-lists
-shape_of-lists c = c.loop-i.invariant.1
+shape_of-lists c = c.loop-i.invariant.0
 
 pub shape_of-counts : goal.shape_of-counts
-shape_of-counts c = c.loop-i.invariant.2
+shape_of-counts c = c.loop-i.invariant.1
 
 pub returns : goal.returns
 returns c =
-    let all : c.loop-i.i ≡ length c.args.points.now = omega arith in rw all at c.loop-i.invariant.3
+    let all : c.loop-i.i ≡ length c.args.points.now = omega arith in rw all at c.loop-i.invariant.2

@@ -8,7 +8,4 @@ use Rattle.tile_products.specs.Inner.Matrices.{Begun}
 use Rattle.recover_matrix.proofs.list_quotients.Given as goal
 
 abbrev pub invariant-loop-i : goal.invariant-loop-i
-invariant-loop-i l = (l.i ≤ length l.points) × (length l.lists ≡ length l.initial.lists) × (length l.counts ≡ length l.initial.counts) × Begun (modulus l.field) (length l.points) (λ j. quotient_of (modulus l.field) (get_or l.points j 0) l.product) l.i l.lists l.counts
-
-abbrev pub decreases-loop-i : goal.decreases-loop-i
-decreases-loop-i l = length l.points - l.i
+invariant-loop-i l = (length l.lists ≡ length l.initial.lists) × (length l.counts ≡ length l.initial.counts) × Begun (modulus l.field) (length l.points) (λ j. quotient_of (modulus l.field) (get_or l.points j 0) l.product) l.i l.lists l.counts

@@ -57,9 +57,6 @@ own c = rw c.mul_with-own.ensures (mul_below _ (usable_field _ c.requires.0.usab
 pub overflow_mul-i : goal.overflow_mul-i
 overflow_mul-i c = omega (arith, in_bytes (goal.at.overflow_mul-i c).In-loop-i)
 
-pub overflow_add-i : goal.overflow_add-i
-overflow_add-i c = omega (arith, in_bytes (goal.at.overflow_add-i c).In-loop-i)
-
 pub symbol_at-sum-requires : goal.symbol_at-sum-requires
 symbol_at-sum-requires c =
     let m = c.requires.3 in (m.some, m.two, sum-in (goal.at.symbol_at-sum-requires c).In-loop-i)

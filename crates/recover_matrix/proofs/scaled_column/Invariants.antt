@@ -9,6 +9,3 @@ use Rattle.recover_matrix.proofs.scaled_column.Given as goal
 
 abbrev pub invariant-loop-i : goal.invariant-loop-i
 invariant-loop-i l = Filled 255 (length l.scales) (λ j. mul (modulus l.field) (mul (modulus l.field) l.scale (get_or l.scales j 0)) (get_or (symbols_of l.w l.sums) (j * length l.scales + l.r) 0)) l.i l.out
-
-abbrev pub decreases-loop-i : goal.decreases-loop-i
-decreases-loop-i l = length l.scales - l.i

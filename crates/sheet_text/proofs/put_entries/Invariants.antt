@@ -9,10 +9,4 @@ use Rattle.text.specs.Text.{fields}
 use Rattle.sheet_text.proofs.put_entries.Given as goal
 
 abbrev pub invariant-loop-j : goal.invariant-loop-j
-invariant-loop-j l =
-    (l.j ≤ l.n)
-    × (l.place ≤ l.at + 6 * l.j)
-    × Fills l.initial.out l.out l.place (fields (from (entry_in l.plan l.r) l.j (l.n - l.j))) (take l.at l.initial.out ++ fields (from (entry_in l.plan l.r) 0 l.n))
-
-abbrev pub decreases-loop-j : goal.decreases-loop-j
-decreases-loop-j l = l.n - l.j
+invariant-loop-j l = (l.place ≤ l.at + 6 * l.j) × Fills l.initial.out l.out l.place (fields (from (entry_in l.plan l.r) l.j (l.n - l.j))) (take l.at l.initial.out ++ fields (from (entry_in l.plan l.r) 0 l.n))

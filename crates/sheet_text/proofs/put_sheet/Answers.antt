@@ -13,19 +13,19 @@ unfolding sheet_of
 returns-then-number-ne0 c = rw (ne_eqb _ 0 c.if-number-ne0.true) (puts_then c.put_head-place.ensures.puts (puts_none _ _) (omega arith))
 
 pub loop-r-init : goal.loop-r-init
-loop-r-init c = (omega arith, omega arith, rw sub-zero (puts_start _ _ _ (omega arith)))
+loop-r-init c = (omega arith, rw sub-zero (puts_start _ _ _ (omega arith)))
 
 pub loop-r-preserved : goal.loop-r-preserved
 loop-r-preserved c =
     let l = c.loop-r in
     let p = c.args.plan in
-    let todo = rw (rows_next (row_line p) p.k l.r c.loop-r-test.true) at l.invariant.2 in
-    (omega arith, omega arith, puts_next todo c.put_row-place.ensures.puts (omega arith))
+    let todo = rw (rows_next (row_line p) p.k l.r c.loop-r-test.true) at l.invariant.1 in
+    (omega arith, puts_next todo c.put_row-place.ensures.puts (omega arith))
 
 pub returns : goal.returns
 unfolding sheet_of
 returns c =
     let l = c.loop-r in
     let p = c.args.plan in
-    let rows = puts_done c.put_head-place.result _ (rw (rows_end (row_line p) p.k l.r c.loop-r-test.false) at l.invariant.2) (omega arith) in
+    let rows = puts_done c.put_head-place.result _ (rw (rows_end (row_line p) p.k l.r c.loop-r-test.false) at l.invariant.1) (omega arith) in
     rw (eq-eqb _ 0 c.if-number-ne0.false) (puts_then c.put_head-place.ensures.puts rows (omega arith))

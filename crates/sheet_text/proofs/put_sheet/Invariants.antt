@@ -8,10 +8,4 @@ use Rattle.sheet_text.specs.Sheet.{row_line}
 use Rattle.sheet_text.proofs.put_sheet.Given as goal
 
 abbrev pub invariant-loop-r : goal.invariant-loop-r
-invariant-loop-r l =
-    (l.r ≤ l.k)
-    × (l.place ≤ l.at + 25 + 1546 * l.r)
-    × Fills l.initial.out l.out l.place (rows_from (row_line l.plan) l.r (l.k - l.r)) (take l.initial.place l.initial.out ++ rows_from (row_line l.plan) 0 l.k)
-
-abbrev pub decreases-loop-r : goal.decreases-loop-r
-decreases-loop-r l = l.k - l.r
+invariant-loop-r l = (l.place ≤ l.at + 25 + 1546 * l.r) × Fills l.initial.out l.out l.place (rows_from (row_line l.plan) l.r (l.k - l.r)) (take l.initial.place l.initial.out ++ rows_from (row_line l.plan) 0 l.k)

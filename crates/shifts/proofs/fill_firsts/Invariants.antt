@@ -7,6 +7,3 @@ use Rattle.shifts.proofs.fill_firsts.Given as goal
 
 abbrev pub invariant-loop-r : goal.invariant-loop-r
 invariant-loop-r l = Filled 255 l.k (λ i. negative l.n (get_or (shifts_of l.n l.k) i 0)) l.r l.out
-
-abbrev pub decreases-loop-r : goal.decreases-loop-r
-decreases-loop-r l = l.k - l.r

@@ -9,7 +9,7 @@ use Rattle.symbols.proofs.largest_pair.Goals as goal
 
 pub loop-i-init : goal.loop-i-init
 unfolding symbols_of
-loop-i-init c = (omega arith, λ m some. rw (sub-zero, lt-ltb 0 m some))
+loop-i-init c = λ m some. rw (sub-zero, lt-ltb 0 m some)
 
 pub symbol_at-requires : goal.symbol_at-requires
 symbol_at-requires c = (omega arith, omega arith, c.loop-i-test.true)
@@ -17,7 +17,7 @@ symbol_at-requires c = (omega arith, omega arith, c.loop-i-test.true)
 pub loop-i-preserved : goal.loop-i-preserved
 loop-i-preserved c =
     let l = c.loop-i in
-    (omega arith, λ m some. l.invariant.1 m some ∙ below_larger m _ _ l.i _ _ c.loop-i-test.true (rw c.symbol_at.ensures at (c.larger-top.ensures m)))
+    λ m some. l.invariant m some ∙ below_larger m _ _ l.i _ _ c.loop-i-test.true (rw c.symbol_at.ensures at (c.larger-top.ensures m))
 
 pub returns : goal.returns
-returns c = λ m some. c.loop-i.invariant.1 m some ∙ below_largest m _ _ c.loop-i.i _ c.loop-i-test.false
+returns c = λ m some. c.loop-i.invariant m some ∙ below_largest m _ _ c.loop-i.i _ c.loop-i-test.false

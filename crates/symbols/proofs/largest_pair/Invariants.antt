@@ -9,7 +9,4 @@ use Rattle.layout.specs.Width.{symbol_at, symbols_of}
 use Rattle.symbols.proofs.largest_pair.Given as goal
 
 abbrev pub invariant-loop-i : goal.invariant-loop-i
-invariant-loop-i l = (l.i ≤ l.count) × ((m : ℕ) → 0 < m → all_below m (symbols_of 2 l.s) ≡ (ltb l.top m && all_below m (from (symbol_at 2 l.s) l.i (l.count - l.i))))
-
-abbrev pub decreases-loop-i : goal.decreases-loop-i
-decreases-loop-i l = l.count - l.i
+invariant-loop-i l = (m : ℕ) → 0 < m → all_below m (symbols_of 2 l.s) ≡ (ltb l.top m && all_below m (from (symbol_at 2 l.s) l.i (l.count - l.i)))

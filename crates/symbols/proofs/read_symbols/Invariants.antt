@@ -7,6 +7,3 @@ use Rattle.symbols.proofs.read_symbols.Given as goal
 
 abbrev pub invariant-loop-i : goal.invariant-loop-i
 invariant-loop-i l = Filled 255 (length l.s / l.w) (symbol_at l.w l.s) l.i l.symbols
-
-abbrev pub decreases-loop-i : goal.decreases-loop-i
-decreases-loop-i l = length l.s / l.w - l.i

@@ -9,7 +9,7 @@ use Rattle.symbols.proofs.symbols_below.Goals as goal
 
 pub loop-i-init : goal.loop-i-init
 unfolding symbols_of
-loop-i-init c = (omega arith, rw sub-zero)
+loop-i-init c = rw sub-zero
 
 pub symbol_at-requires : goal.symbol_at-requires
 symbol_at-requires c = (c.requires.0, c.requires.1, c.loop-i-test.true)
@@ -17,15 +17,12 @@ symbol_at-requires c = (c.requires.0, c.requires.1, c.loop-i-test.true)
 pub returns-then-size-symbol_at : goal.returns-then-size-symbol_at
 returns-then-size-symbol_at c =
     let l = c.loop-i in
-    sym (l.invariant.1 ∙ below_stop _ _ _ _ c.loop-i-test.true (rw c.symbol_at.ensures at c.if-size-symbol_at.true))
-
-pub overflow_add-i : goal.overflow_add-i
-overflow_add-i c = let a = c.args in omega (arith, div-le_self (length a.s.now) a.w)
+    sym (l.invariant ∙ below_stop _ _ _ _ c.loop-i-test.true (rw c.symbol_at.ensures at c.if-size-symbol_at.true))
 
 pub loop-i-preserved : goal.loop-i-preserved
 loop-i-preserved c =
     let l = c.loop-i in
-    (omega arith, l.invariant.1 ∙ below_step _ _ _ _ c.loop-i-test.true (rw c.symbol_at.ensures at c.if-size-symbol_at.false))
+    l.invariant ∙ below_step _ _ _ _ c.loop-i-test.true (rw c.symbol_at.ensures at c.if-size-symbol_at.false)
 
 pub returns : goal.returns
-returns c = sym (c.loop-i.invariant.1 ∙ below_none _ _ _ _ c.loop-i-test.false)
+returns c = sym (c.loop-i.invariant ∙ below_none _ _ _ _ c.loop-i-test.false)

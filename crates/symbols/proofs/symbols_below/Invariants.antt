@@ -7,7 +7,4 @@ use Rattle.layout.specs.Width.{symbol_at, symbols_of}
 use Rattle.symbols.proofs.symbols_below.Given as goal
 
 abbrev pub invariant-loop-i : goal.invariant-loop-i
-invariant-loop-i l = (l.i ≤ l.count) × (all_below l.size (symbols_of l.w l.s) ≡ all_below l.size (from (symbol_at l.w l.s) l.i (l.count - l.i)))
-
-abbrev pub decreases-loop-i : goal.decreases-loop-i
-decreases-loop-i l = l.count - l.i
+invariant-loop-i l = all_below l.size (symbols_of l.w l.s) ≡ all_below l.size (from (symbol_at l.w l.s) l.i (l.count - l.i))

@@ -13,7 +13,7 @@ use Rattle.symbols.proofs.write_symbols.Goals as goal
 use Rattle.symbols.proofs.write_symbols.Goals.{In-loop-i}
 
 pub loop-i-init : goal.loop-i-init
-loop-i-init c = (omega arith, rw zero-mul (fills_start _ _))
+loop-i-init c = rw zero-mul (fills_start _ _)
 
 -- a symbol's bytes lie within the buffer
 symbol_in : (c : In-loop-i) → let a = c.args in c.loop-i.i * a.w + a.w ≤ length a.out.now
@@ -30,7 +30,7 @@ pub bounds-symbols-i : goal.bounds-symbols-i
 bounds-symbols-i c = c.loop-i-test.true
 
 pub slice_bounds-write_symbol-end : goal.slice_bounds-write_symbol-end
-slice_bounds-write_symbol-end c = omega (arith, symbol_in (goal.at.slice_bounds-write_symbol-end c).In-loop-i, c.loop-i.invariant.1.long)
+slice_bounds-write_symbol-end c = omega (arith, symbol_in (goal.at.slice_bounds-write_symbol-end c).In-loop-i, c.loop-i.invariant.long)
 
 pub write_symbol-requires : goal.write_symbol-requires
 write_symbol-requires c =
@@ -39,25 +39,22 @@ write_symbol-requires c =
       c.requires.0,
       c.requires.1,
       below_at _ c.args.symbols.now c.requires.2 now.i c.loop-i-test.true,
-      part_length (now.i * w) w now.out (omega (arith, now.invariant.1.long, symbol_in (goal.at.write_symbol-requires c).In-loop-i)),
+      part_length (now.i * w) w now.out (omega (arith, now.invariant.long, symbol_in (goal.at.write_symbol-requires c).In-loop-i)),
     )
 
 pub loop-i-preserved : goal.loop-i-preserved
 loop-i-preserved c =
     let a = c.args in
-    let x = get_or a.symbols.now c.loop-i.i 0 in (
-      omega arith,
-      rw (row_after, part_size, c.write_symbol.ensures)
-          (fills_part (symbol_bytes a.w x) a.w
-          (rw (bytes_next _ _ _ c.loop-i-test.true) at c.loop-i.invariant.1)
-          (length_symbol a.w x)
-          (symbol_in (goal.at.loop-i-preserved c).In-loop-i)),
-    )
+    let x = get_or a.symbols.now c.loop-i.i 0 in rw (row_after, part_size, c.write_symbol.ensures)
+    (fills_part (symbol_bytes a.w x) a.w
+    (rw (bytes_next _ _ _ c.loop-i-test.true) at c.loop-i.invariant)
+    (length_symbol a.w x)
+    (symbol_in (goal.at.loop-i-preserved c).In-loop-i))
 
 pub shape_of-out : goal.shape_of-out
-shape_of-out c = c.loop-i.invariant.1.long
+shape_of-out c = c.loop-i.invariant.long
 
 pub returns : goal.returns
 returns c =
-    fills_all (rw (bytes_none _ _ _ c.loop-i-test.false) at c.loop-i.invariant.1)
+    fills_all (rw (bytes_none _ _ _ c.loop-i-test.false) at c.loop-i.invariant)
     (rw c.requires.3 (mul-le-mul c.loop-i-test.false (le_refl _)))

@@ -6,7 +6,4 @@ use Rattle.layout.specs.Width.{bytes_of}
 use Rattle.symbols.proofs.write_symbols.Given as goal
 
 abbrev pub invariant-loop-i : goal.invariant-loop-i
-invariant-loop-i l = (l.i ≤ length l.symbols) × Fills l.initial.out l.out (l.i * l.w) (bytes_of l.w (drop l.i l.symbols)) (bytes_of l.w l.symbols)
-
-abbrev pub decreases-loop-i : goal.decreases-loop-i
-decreases-loop-i l = length l.symbols - l.i
+invariant-loop-i l = Fills l.initial.out l.out (l.i * l.w) (bytes_of l.w (drop l.i l.symbols)) (bytes_of l.w l.symbols)

@@ -6,6 +6,3 @@ use Rattle.weight_counts.proofs.put_powers.Given as goal
 
 abbrev pub invariant-loop-y : goal.invariant-loop-y
 invariant-loop-y l = (l.x ≡ l.q ^ (l.y - l.fixed)) × Fills l.initial.counts l.counts l.y (from (λ y. l.q ^ (y - l.fixed)) l.y (length l.initial.counts - l.y)) (from (λ y. l.q ^ (y - l.fixed)) 0 (length l.initial.counts))
-
-abbrev pub decreases-loop-y : goal.decreases-loop-y
-decreases-loop-y l = length l.initial.counts - l.y

@@ -7,6 +7,3 @@ use Rattle.weight_counts.proofs.scale.Given as goal
 abbrev pub invariant-loop-w : goal.invariant-loop-w
 invariant-loop-w l =
     Fills l.initial.counts l.counts l.w (from (λ w. get_or l.initial.counts w 0 * get_or l.factors w 0) l.w (length l.initial.counts - l.w)) (from (λ w. get_or l.initial.counts w 0 * get_or l.factors w 0) 0 (length l.initial.counts))
-
-abbrev pub decreases-loop-w : goal.decreases-loop-w
-decreases-loop-w l = length l.initial.counts - l.w

@@ -10,7 +10,7 @@ use Rattle.weights_text.proofs.put_counts.Invariants.{line_at}
 use Rattle.weights_text.proofs.put_counts.Goals as goal
 
 pub loop-w-init : goal.loop-w-init
-loop-w-init c = (omega arith, omega arith, rw sub-zero (puts_start _ _ _ (omega arith)))
+loop-w-init c = (omega arith, rw sub-zero (puts_start _ _ _ (omega arith)))
 
 pub put_count-place-requires : goal.put_count-place-requires
 put_count-place-requires c =
@@ -21,12 +21,12 @@ pub loop-w-preserved : goal.loop-w-preserved
 loop-w-preserved c =
     let l = c.loop-w in
     let counts = c.args.counts.now in
-    let todo = rw (rows_next (line_at counts) (length counts) l.w c.loop-w-test.true) at l.invariant.2 in
-    (omega arith, omega arith, puts_next todo c.put_count-place.ensures.puts (omega arith))
+    let todo = rw (rows_next (line_at counts) (length counts) l.w c.loop-w-test.true) at l.invariant.1 in
+    (omega arith, puts_next todo c.put_count-place.ensures.puts (omega arith))
 
 pub returns : goal.returns
 unfolding count_lines
 returns c =
     let l = c.loop-w in
     let a = c.args in
-    puts_done a.at _ (rw (rows_end (line_at a.counts.now) (length a.counts.now) l.w c.loop-w-test.false) at l.invariant.2) (omega arith)
+    puts_done a.at _ (rw (rows_end (line_at a.counts.now) (length a.counts.now) l.w c.loop-w-test.false) at l.invariant.1) (omega arith)

@@ -12,8 +12,4 @@ abbrev pub line_at : List ℕ → ℕ → List ℕ
 line_at counts w = count_line w (get_or counts w 0)
 
 abbrev pub invariant-loop-w : goal.invariant-loop-w
-invariant-loop-w l =
-    (l.w ≤ length l.counts) × (l.place ≤ l.at + 12 * l.w) × Fills l.initial.out l.out l.place (rows_from (line_at l.counts) l.w (length l.counts - l.w)) (take l.at l.initial.out ++ rows_from (line_at l.counts) 0 (length l.counts))
-
-abbrev pub decreases-loop-w : goal.decreases-loop-w
-decreases-loop-w l = length l.counts - l.w
+invariant-loop-w l = (l.place ≤ l.at + 12 * l.w) × Fills l.initial.out l.out l.place (rows_from (line_at l.counts) l.w (length l.counts - l.w)) (take l.at l.initial.out ++ rows_from (line_at l.counts) 0 (length l.counts))

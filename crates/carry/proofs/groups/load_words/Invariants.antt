@@ -6,7 +6,4 @@ use Rattle.carrying.specs.Carrying.{words_of}
 use Rattle.carry.proofs.groups.load_words.Given as goal
 
 abbrev pub invariant-loop-i : goal.invariant-loop-i
-invariant-loop-i l = (l.i ≤ l.count) × Fills l.initial.words l.words l.i (drop l.i (words_of l.s)) (words_of l.s)
-
-abbrev pub decreases-loop-i : goal.decreases-loop-i
-decreases-loop-i l = l.count - l.i
+invariant-loop-i l = Fills l.initial.words l.words l.i (drop l.i (words_of l.s)) (words_of l.s)

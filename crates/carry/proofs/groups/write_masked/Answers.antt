@@ -16,36 +16,33 @@ use Rattle.carry.proofs.groups.write_masked.Goals as goal
 use Rattle.carry.proofs.groups.write_masked.Goals.{After-shared_slice_known-2-1}
 
 pub loop-i-init : goal.loop-i-init
-loop-i-init c = (omega arith, rw sub-zero (fills_start _ _))
+loop-i-init c = rw sub-zero (fills_start _ _)
 
 pub slice_bounds-write_symbol-end : goal.slice_bounds-write_symbol-end
-slice_bounds-write_symbol-end c = omega (arith, c.loop-i.invariant.1.long)
+slice_bounds-write_symbol-end c = omega (arith, c.loop-i.invariant.long)
 
 pub write_symbol-requires : goal.write_symbol-requires
 write_symbol-requires c =
     let w = get_or c.args.words.now c.loop-i.i 0 in
-    (omega arith, omega arith, xor_lt 16 w c.args.c (omega (arith, c.type_inv.words c.loop-i.i)) (omega arith), part_length (c.loop-i.i * 2) 2 c.loop-i.out (omega (arith, c.loop-i.invariant.1.long)))
+    (omega arith, omega arith, xor_lt 16 w c.args.c (omega (arith, c.type_inv.words c.loop-i.i)) (omega arith), part_length (c.loop-i.i * 2) 2 c.loop-i.out (omega (arith, c.loop-i.invariant.long)))
 
 pub loop-i-preserved : goal.loop-i-preserved
 loop-i-preserved c =
     let ws = masked c.args.c c.args.words.now in
     let n = length c.args.out.now in
     let long = length_masked c.args.c c.args.words.now in
-    let here = masked_at c.args.c c.args.words.now c.loop-i.i (omega arith) in (
-      omega arith,
-      rw (row_after, part_size, c.write_symbol.ensures, ← here)
-          (fills_part (symbol_bytes 2 (get_or ws c.loop-i.i 0)) 2
-          (rw (bytes_next n ws c.loop-i.i c.loop-i-test.true (omega arith)) at c.loop-i.invariant.1)
-          (length_symbol 2 _)
-          (omega arith)),
-    )
+    let here = masked_at c.args.c c.args.words.now c.loop-i.i (omega arith) in rw (row_after, part_size, c.write_symbol.ensures, ← here)
+    (fills_part (symbol_bytes 2 (get_or ws c.loop-i.i 0)) 2
+    (rw (bytes_next n ws c.loop-i.i c.loop-i-test.true (omega arith)) at c.loop-i.invariant)
+    (length_symbol 2 _)
+    (omega arith))
 
 pub shape_of-out-then-out-eq0 : goal.shape_of-out-then-out-eq0
-shape_of-out-then-out-eq0 c = c.loop-i.invariant.1.long
+shape_of-out-then-out-eq0 c = c.loop-i.invariant.long
 
 pub returns-then-out-eq0 : goal.returns-then-out-eq0
 returns-then-out-eq0 c =
-    fills_all (rw (bytes_none (length c.args.out.now) (masked c.args.c c.args.words.now) c.loop-i.i (omega arith)) at c.loop-i.invariant.1) (omega arith)
+    fills_all (rw (bytes_none (length c.args.out.now) (masked c.args.c c.args.words.now) c.loop-i.i (omega arith)) at c.loop-i.invariant) (omega arith)
 
 -- the last word
 word : (c : After-shared_slice_known-2-1) → bit_xor (get_or c.args.words.now (length c.args.out.now / 2) 0) c.args.c < 65536
@@ -57,10 +54,10 @@ pub overflow_cast-out : goal.overflow_cast-out
 overflow_cast-out c = omega (arith, word c)
 
 pub bounds-out-count : goal.bounds-out-count
-bounds-out-count c = omega (arith, c.loop-i.invariant.1.long)
+bounds-out-count c = omega (arith, c.loop-i.invariant.long)
 
 pub shape_of-out : goal.shape_of-out
-shape_of-out c = simp length-set c.loop-i.invariant.1.long
+shape_of-out c = simp length-set c.loop-i.invariant.long
 
 pub returns : goal.returns
 returns c =
@@ -69,5 +66,5 @@ returns c =
     let n = length c.args.out.now in
     let at : c.loop-i.i ≡ n / 2 = omega arith in
     let here = masked_at c.args.c words c.loop-i.i (omega arith) in
-    let filled = fills_put (rw (bytes_last n ws c.loop-i.i (omega arith) (omega (arith, length_masked c.args.c words))) at c.loop-i.invariant.1) (omega arith) in
+    let filled = fills_put (rw (bytes_last n ws c.loop-i.i (omega arith) (omega (arith, length_masked c.args.c words))) at c.loop-i.invariant) (omega arith) in
     rw (← at, ← here) (fills_all filled (omega arith))

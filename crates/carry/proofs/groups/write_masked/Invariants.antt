@@ -8,7 +8,4 @@ use Rattle.carry.proofs.Words.{bytes_left}
 use Rattle.carry.proofs.groups.write_masked.Given as goal
 
 abbrev pub invariant-loop-i : goal.invariant-loop-i
-invariant-loop-i l = (l.i ≤ l.count) × Fills l.initial.out l.out (l.i * 2) (bytes_left (length l.initial.out) (masked l.c l.words) l.i) (take (length l.initial.out) (bytes_of 2 (masked l.c l.words)))
-
-abbrev pub decreases-loop-i : goal.decreases-loop-i
-decreases-loop-i l = l.count - l.i
+invariant-loop-i l = Fills l.initial.out l.out (l.i * 2) (bytes_left (length l.initial.out) (masked l.c l.words) l.i) (take (length l.initial.out) (bytes_of 2 (masked l.c l.words)))

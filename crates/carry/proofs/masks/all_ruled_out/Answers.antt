@@ -8,17 +8,17 @@ use Rattle.carry.proofs.masks.all_ruled_out.Goals as goal
 
 pub loop-i-init : goal.loop-i-init
 unfolding all_ruled_out
-loop-i-init c = (omega arith, omega arith, omega (arith, c.ruled_out-total.ensures.0))
+loop-i-init c = (omega arith, omega (arith, c.ruled_out-total.ensures.0))
 
 pub loop-i-preserved : goal.loop-i-preserved
 unfolding all_ruled_out
 loop-i-preserved c =
     let words = c.args.words.now in
     let next = ap (all_ruled_out c.args.p c.args.k c.args.a) (drop_next words c.loop-i.i 0 c.loop-i-test.true) in
-    (omega arith, omega (arith, c.ruled_out-total-in-loop-i.ensures.1, c.loop-i.invariant.1), omega (arith, next, c.ruled_out-total-in-loop-i.ensures.0, c.loop-i.invariant.2))
+    (omega (arith, c.ruled_out-total-in-loop-i.ensures.1, c.loop-i.invariant.0), omega (arith, next, c.ruled_out-total-in-loop-i.ensures.0, c.loop-i.invariant.1))
 
 pub returns : goal.returns
 unfolding all_ruled_out
 returns c =
     let none = ap (all_ruled_out c.args.p c.args.k c.args.a) (drop_of_length-le c.args.words.now {i = c.loop-i.i} c.loop-i-test.false) in
-    omega (arith, none, c.loop-i.invariant.2)
+    omega (arith, none, c.loop-i.invariant.1)

@@ -7,7 +7,4 @@ use Rattle.carrying.specs.Masks.{all_ruled_out}
 use Rattle.carry.proofs.masks.all_ruled_out.Given as goal
 
 abbrev pub invariant-loop-i : goal.invariant-loop-i
-invariant-loop-i l = (l.i ≤ length l.words) × (l.total ≤ 32768 * (l.i + 1)) × (l.total + all_ruled_out l.p l.k l.a (drop l.i l.words) ≡ all_ruled_out l.p l.k l.a (0 ∷ l.words))
-
-abbrev pub decreases-loop-i : goal.decreases-loop-i
-decreases-loop-i l = length l.words - l.i
+invariant-loop-i l = (l.total ≤ 32768 * (l.i + 1)) × (l.total + all_ruled_out l.p l.k l.a (drop l.i l.words) ≡ all_ruled_out l.p l.k l.a (0 ∷ l.words))

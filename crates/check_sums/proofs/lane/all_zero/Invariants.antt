@@ -7,6 +7,3 @@ use Rattle.check_sums.proofs.lane.all_zero.Given as goal
 
 abbrev pub invariant-loop-i : goal.invariant-loop-i
 invariant-loop-i l = all_below 1 l.sums ≡ all_below 1 (drop l.i l.sums)
-
-abbrev pub decreases-loop-i : goal.decreases-loop-i
-decreases-loop-i l = length l.sums - l.i

@@ -28,7 +28,7 @@ pub powers-table-requires : goal.powers-table-requires
 powers-table-requires c = c.requires.0
 
 pub loop-i-init : goal.loop-i-init
-loop-i-init c = (omega arith, rw (sub-zero, zero-mul) (fills_start _ _))
+loop-i-init c = rw (sub-zero, zero-mul) (fills_start _ _)
 
 pub overflow_mul-start : goal.overflow_mul-start
 overflow_mul-start c = omega (arith, row_in c)
@@ -52,30 +52,23 @@ fill_row-requires c =
     let test = c.loop-i-test.true in
     (c.requires.0, wide, mod-lt _ some, c.powers-table.ensures, (div-lt_iff_lt-mul some).1 (rw (mul_comm width.result c.args.h.n) at test))
 
-pub overflow_add-i : goal.overflow_add-i
-overflow_add-i c =
-    omega (arith, lane_small c.args.h c.requires.0 _ c.width_of-w.ensures.0, c.loop-i-test.true)
-
 pub loop-i-preserved : goal.loop-i-preserved
 loop-i-preserved c =
     let a = c.args in
     let w = c.width_of-w.result in
     let checks = a.h.n - a.h.k in
-    let l = c.loop-i in (
-      omega arith,
-      rw (row_after, part_size, c.fill_row.ensures ∙ ap (λ (x : ℕ). power_bytes a.h x w (l.i % w) (l.i / w)) (part_length (l.i * checks) checks l.rows (omega (arith, l.invariant.1.long, row_in (goal.at.loop-i-preserved c).In-loop-i))))
-          (fills_part (byte_row a.h w l.i) checks
-          (rw (rows_next _ _ _ c.loop-i-test.true) at l.invariant.1)
-          (length_power_bytes a.h checks w (l.i % w) (l.i / w))
-          (row_in (goal.at.loop-i-preserved c).In-loop-i)),
-    )
+    let l = c.loop-i in rw (row_after, part_size, c.fill_row.ensures ∙ ap (λ (x : ℕ). power_bytes a.h x w (l.i % w) (l.i / w)) (part_length (l.i * checks) checks l.rows (omega (arith, l.invariant.long, row_in (goal.at.loop-i-preserved c).In-loop-i))))
+    (fills_part (byte_row a.h w l.i) checks
+    (rw (rows_next _ _ _ c.loop-i-test.true) at l.invariant)
+    (length_power_bytes a.h checks w (l.i % w) (l.i / w))
+    (row_in (goal.at.loop-i-preserved c).In-loop-i))
 
 pub shape_of-rows : goal.shape_of-rows
-shape_of-rows c = c.loop-i.invariant.1.long
+shape_of-rows c = c.loop-i.invariant.long
 
 pub returns : goal.returns
 returns c =
     let wide = c.width_of-w.ensures.0 in
-    fills_all (rw (rows_end _ _ _ c.loop-i-test.false) at c.loop-i.invariant.1)
+    fills_all (rw (rows_end _ _ _ c.loop-i-test.false) at c.loop-i.invariant)
     (rw (c.requires.1, ← wide) (mul-le-mul c.loop-i-test.false (le_refl _)))
     ∙ power_tile c.args.h _ wide

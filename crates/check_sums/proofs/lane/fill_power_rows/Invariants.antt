@@ -6,8 +6,4 @@ use Rattle.check_sums.proofs.OneLane.{byte_row}
 use Rattle.check_sums.proofs.lane.fill_power_rows.Given as goal
 
 abbrev pub invariant-loop-i : goal.invariant-loop-i
-invariant-loop-i l =
-    (l.i ≤ l.count) × Fills l.initial.rows l.rows (l.i * l.checks) (rows_from (byte_row l.h l.w) l.i (l.count - l.i)) (rows_from (byte_row l.h l.w) 0 l.count)
-
-abbrev pub decreases-loop-i : goal.decreases-loop-i
-decreases-loop-i l = l.count - l.i
+invariant-loop-i l = Fills l.initial.rows l.rows (l.i * l.checks) (rows_from (byte_row l.h l.w) l.i (l.count - l.i)) (rows_from (byte_row l.h l.w) 0 l.count)

@@ -18,17 +18,17 @@ use Rattle.check_sums.proofs.lane.fill_row.Goals.{In-loop-e}
 
 -- i is a place of the table
 place : (c : In-loop-e) → c.loop-e.i < c.args.h.n
-place c = rw c.loop-e.invariant.1 (mod-lt _ (omega arith))
+place c = rw c.loop-e.invariant.0 (mod-lt _ (omega arith))
 
 -- a place of the row is left
 room : (c : In-loop-e) → c.loop-e.e < length c.args.row.now
-room c = omega (arith, c.loop-e.invariant.2.long)
+room c = omega (arith, c.loop-e.invariant.1.long)
 
 pub overflow_add-last : goal.overflow_add-last
 overflow_add-last c = omega (arith, c.requires.2)
 
 pub loop-e-init : goal.loop-e-init
-loop-e-init c = let (sound, wide, byte, powers, node) = c.requires in (omega arith, sym (rw mul-one (mod-eq_of_lt node)), rw sub-zero (fills_start _ _))
+loop-e-init c = let (sound, wide, byte, powers, node) = c.requires in (sym (rw mul-one (mod-eq_of_lt node)), rw sub-zero (fills_start _ _))
 
 pub offset_bounds-powers-i : goal.offset_bounds-powers-i
 offset_bounds-powers-i c = omega (arith, place c, c.struct_known-1.given)
@@ -37,7 +37,7 @@ pub bounds-powers-i : goal.bounds-powers-i
 bounds-powers-i c = rw c.requires.3 (power_place c.args.h _ (place (goal.at.bounds-powers-i c).In-loop-e))
 
 pub bounds-row-e : goal.bounds-row-e
-bounds-row-e c = omega (arith, c.loop-e.invariant.2.long)
+bounds-row-e c = omega (arith, c.loop-e.invariant.1.long)
 
 pub stepped-i-requires : goal.stepped-i-requires
 stepped-i-requires c = (place (goal.at.stepped-i-requires c).In-loop-e, c.requires.4, omega (arith, c.struct_known-1.given))
@@ -45,22 +45,18 @@ stepped-i-requires c = (place (goal.at.stepped-i-requires c).In-loop-e, c.requir
 pub loop-e-preserved : goal.loop-e-preserved
 loop-e-preserved c =
     let l = c.loop-e in
-    let a = c.args in (
-      omega arith,
-      c.stepped-i.ensures ∙ ap (λ (x : ℕ). (x + a.j) % a.h.n) l.invariant.1 ∙ next_place a.j l.e a.h.n,
-      rw (c.byte_of.ensures, l.invariant.1) (fills_put (rw (from_next_at {A = ℕ} (read a.powers.now a.j a.h.n _) 1 (length a.row.now) l.e (room (goal.at.loop-e-preserved c).In-loop-e)) at l.invariant.2) (room (goal.at.loop-e-preserved c).In-loop-e)),
-    )
+    let a = c.args in (c.stepped-i.ensures ∙ ap (λ (x : ℕ). (x + a.j) % a.h.n) l.invariant.0 ∙ next_place a.j l.e a.h.n, rw (c.byte_of.ensures, l.invariant.0) (fills_put (rw (from_next_at {A = ℕ} (read a.powers.now a.j a.h.n _) 1 (length a.row.now) l.e (room (goal.at.loop-e-preserved c).In-loop-e)) at l.invariant.1) (room (goal.at.loop-e-preserved c).In-loop-e)))
 
 pub shape_of-row : goal.shape_of-row
-shape_of-row c = c.loop-e.invariant.2.long
+shape_of-row c = c.loop-e.invariant.1.long
 
 pub returns : goal.returns
 unfolding power_bytes
 returns c =
     let a = c.args in
     let (sound, wide, byte, powers, node) = c.requires in
-    let written : length a.row.now ≤ c.loop-e.e = omega (arith, c.loop-e.invariant.2.long) in
-    fills_all (rw (from_end_at {A = ℕ} (read a.powers.now a.j a.h.n _) 1 (length a.row.now) c.loop-e.e written) at c.loop-e.invariant.2) written
+    let written : length a.row.now ≤ c.loop-e.e = omega (arith, c.loop-e.invariant.1.long) in
+    fills_all (rw (from_end_at {A = ℕ} (read a.powers.now a.j a.h.n _) 1 (length a.row.now) c.loop-e.e written) at c.loop-e.invariant.1) written
     ∙ from_ext _ _ 1 (length a.row.now)
     (λ x low high.
     let at = power_at a.h (a.j * x % a.h.n) (mod-lt _ (omega arith)) in

@@ -14,10 +14,4 @@ abbrev pub read : List ℕ → ℕ → ℕ → Bool → ℕ → ℕ
 read powers j n last x = pick last (get_or powers (j * x % n) 0 % 256) (get_or powers (j * x % n) 0 / 256)
 
 abbrev pub invariant-loop-e : goal.invariant-loop-e
-invariant-loop-e l =
-    (l.e ≤ length l.initial.row)
-    × (l.i ≡ l.j * (1 + l.e) % l.n)
-    × Fills l.initial.row l.row l.e (from {A = ℕ} (read l.powers l.j l.n l.last) (1 + l.e) (length l.initial.row - l.e)) (from {A = ℕ} (read l.powers l.j l.n l.last) 1 (length l.initial.row))
-
-abbrev pub decreases-loop-e : goal.decreases-loop-e
-decreases-loop-e l = length l.initial.row - l.e
+invariant-loop-e l = (l.i ≡ l.j * (1 + l.e) % l.n) × Fills l.initial.row l.row l.e (from {A = ℕ} (read l.powers l.j l.n l.last) (1 + l.e) (length l.initial.row - l.e)) (from {A = ℕ} (read l.powers l.j l.n l.last) 1 (length l.initial.row))

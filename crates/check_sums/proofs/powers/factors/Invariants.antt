@@ -12,6 +12,3 @@ read powers e n j = get_or powers (j * e % n) 0
 
 abbrev pub invariant-loop-j : goal.invariant-loop-j
 invariant-loop-j l = (l.i ≡ l.j * l.e % l.n) × Filled 255 l.n (read l.powers l.e l.n) l.j l.out
-
-abbrev pub decreases-loop-j : goal.decreases-loop-j
-decreases-loop-j l = l.n - l.j

@@ -13,6 +13,3 @@ invariant-loop-i l =
     × (l.x2 ≡ power (modulus l.field) l.root (l.i + 2))
     × (l.x3 ≡ power (modulus l.field) l.root (l.i + 3))
     × Filled 255 l.n (power (modulus l.field) l.root) l.i l.out
-
-abbrev pub decreases-loop-i : goal.decreases-loop-i
-decreases-loop-i l = l.n - l.i

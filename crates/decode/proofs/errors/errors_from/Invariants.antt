@@ -9,6 +9,3 @@ use Rattle.decode.proofs.errors.errors_from.Given as goal
 abbrev pub invariant-loop-i : goal.invariant-loop-i
 invariant-loop-i l =
     Filled 255 (length l.points) (λ j. error_of (modulus l.field) l.product l.sums (get_or l.points j 0) (get_or l.scales j 0)) l.i l.out
-
-abbrev pub decreases-loop-i : goal.decreases-loop-i
-decreases-loop-i l = length l.points - l.i

@@ -6,6 +6,3 @@ use Rattle.decode.proofs.lanes.copied.Given as goal
 
 abbrev pub invariant-loop-i : goal.invariant-loop-i
 invariant-loop-i l = Filled 255 (length l.lane) (λ j. get_or l.lane j 0) l.i l.out
-
-abbrev pub decreases-loop-i : goal.decreases-loop-i
-decreases-loop-i l = length l.lane - l.i

@@ -11,9 +11,4 @@ use Rattle.decode.specs.Inner.Errors.{removed}
 use Rattle.decode.proofs.lanes.removed.Given as goal
 
 abbrev pub invariant-loop-i : goal.invariant-loop-i
-invariant-loop-i l =
-    (l.i ≤ length l.nodes) × (length l.out ≡ 255) × (all_below (size_of (modulus l.field)) l.out ≡ true)
-    × (removed (modulus l.field) (drop l.i l.nodes) (drop l.i l.errors) l.out ≡ removed (modulus l.field) l.nodes l.errors (padded 255 l.lane))
-
-abbrev pub decreases-loop-i : goal.decreases-loop-i
-decreases-loop-i l = length l.nodes - l.i
+invariant-loop-i l = (length l.out ≡ 255) × (all_below (size_of (modulus l.field)) l.out ≡ true) × (removed (modulus l.field) (drop l.i l.nodes) (drop l.i l.errors) l.out ≡ removed (modulus l.field) l.nodes l.errors (padded 255 l.lane))

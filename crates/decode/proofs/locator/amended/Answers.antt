@@ -46,9 +46,6 @@ narrow-requires c =
 pub bounds-out-x : goal.bounds-out-x
 bounds-out-x c = omega (arith, c.requires.4, c.loop-x-test.true)
 
-pub overflow_add-x : goal.overflow_add-x
-overflow_add-x c = omega (arith, c.requires.4, c.loop-x-test.true)
-
 pub loop-x-smaller : goal.loop-x-smaller
 loop-x-smaller c = omega (arith, c.loop-x-test.true)
 

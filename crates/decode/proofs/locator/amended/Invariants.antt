@@ -7,6 +7,3 @@ use Rattle.decode.proofs.locator.amended.Given as goal
 
 abbrev pub invariant-loop-x : goal.invariant-loop-x
 invariant-loop-x l = Filled 255 l.size (amended_at (modulus l.field) l.d l.w l.i l.v l.j) l.x l.out
-
-abbrev pub decreases-loop-x : goal.decreases-loop-x
-decreases-loop-x l = l.size - l.x

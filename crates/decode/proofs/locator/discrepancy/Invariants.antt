@@ -7,7 +7,4 @@ use Rattle.decode.specs.Inner.Locating.{partial}
 use Rattle.decode.proofs.locator.discrepancy.Given as goal
 
 abbrev pub invariant-loop-i : goal.invariant-loop-i
-invariant-loop-i l = (l.i ≤ l.m) × (l.sum < size_of (modulus l.field)) × (l.sum ≡ partial (modulus l.field) l.v l.s l.e l.i)
-
-abbrev pub decreases-loop-i : goal.decreases-loop-i
-decreases-loop-i l = l.m - l.i
+invariant-loop-i l = (l.sum < size_of (modulus l.field)) × (l.sum ≡ partial (modulus l.field) l.v l.s l.e l.i)

@@ -25,9 +25,6 @@ narrow-requires c =
 pub bounds-out-x : goal.bounds-out-x
 bounds-out-x c = omega (arith, c.requires.3)
 
-pub overflow_add-x : goal.overflow_add-x
-overflow_add-x c = omega (arith, c.requires.3)
-
 pub loop-x-preserved : goal.loop-x-preserved
 loop-x-preserved c =
     filled_put c.loop-x.invariant c.loop-x-test.true

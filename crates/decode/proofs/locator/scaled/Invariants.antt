@@ -8,6 +8,3 @@ use Rattle.decode.proofs.locator.scaled.Given as goal
 
 abbrev pub invariant-loop-x : goal.invariant-loop-x
 invariant-loop-x l = Filled 255 l.size (λ y. mul (modulus l.field) l.d (get_or l.w y 0)) l.x l.out
-
-abbrev pub decreases-loop-x : goal.decreases-loop-x
-decreases-loop-x l = l.size - l.x

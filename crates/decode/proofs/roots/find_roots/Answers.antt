@@ -19,15 +19,15 @@ use Rattle.decode.proofs.roots.find_roots.Goals.{After-mul_with-x, At-loop-j, el
 
 -- x is a symbol
 symbol : (c : At-loop-j) → c.loop-j.x < size_of (modulus c.args.field)
-symbol c = let s = c.requires in rw c.loop-j.invariant.2 (power_below _ (usable_field _ s.0.usable_field) c.loop-j.j s.1)
+symbol c = let s = c.requires in rw c.loop-j.invariant.1 (power_below _ (usable_field _ s.0.usable_field) c.loop-j.j s.1)
 
 -- what the value says of node j
 value_is : (c : After-mul_with-x) → c.value-y.result ≡ poly_at (modulus c.args.field) c.args.coefficients.now (power (modulus c.args.field) c.args.root c.loop-j.j)
-value_is c = c.value-y.ensures ∙ ap (poly_at _ c.args.coefficients.now) c.loop-j.invariant.2
+value_is c = c.value-y.ensures ∙ ap (poly_at _ c.args.coefficients.now) c.loop-j.invariant.1
 
 pub loop-j-init : goal.loop-j-init
 unfolding zeros power
-loop-j-init c = (omega arith, omega arith, refl, rw sub-zero (fills_start _ _))
+loop-j-init c = (omega arith, refl, rw sub-zero (fills_start _ _))
 
 pub value-y-requires : goal.value-y-requires
 value-y-requires c = let s = c.requires in (s.0, symbol (goal.at.value-y-requires c).At-loop-j, s.3)
@@ -44,18 +44,10 @@ bounds-nodes-count c = omega (arith, c.requires.2)
 pub overflow_add-count : goal.overflow_add-count
 overflow_add-count c = omega (arith, c.requires.2)
 
-pub overflow_add-j : goal.overflow_add-j
-overflow_add-j c = omega (arith, c.requires.2)
-
 pub loop-j-preserved : goal.loop-j-preserved
 loop-j-preserved c =
     let l = c.loop-j in
-    let todo = rw (passing_next _ _ _ c.loop-j-test.true) at l.invariant.3 in (
-      elim c.if-y-eq-ZERO.branch [ then-y-eq-ZERO w ↦ omega arith | else-y-eq-ZERO w ↦ omega arith ],
-      omega arith,
-      c.mul_with-x.ensures ∙ ap (mul _ _) l.invariant.2 ∙ sym (power_next _ _ l.j),
-      elim c.if-y-eq-ZERO.branch [ then-y-eq-ZERO w ↦ rw (w.nodes-is, w.count-is) (fills_put (rw (eq-eqb _ 0 (sym (value_is (goal.at.loop-j-preserved c).After-mul_with-x) ∙ w.if-y-eq-ZERO.true)) at todo) (omega (arith, length_zeros 255, c.requires.2))) | else-y-eq-ZERO w ↦ rw (w.nodes-is, w.count-is) (rw (ne_eqb _ 0 (λ z. w.if-y-eq-ZERO.false (value_is (goal.at.loop-j-preserved c).After-mul_with-x ∙ z))) at todo) ],
-    )
+    let todo = rw (passing_next _ _ _ c.loop-j-test.true) at l.invariant.2 in (elim c.if-y-eq-ZERO.branch [ then-y-eq-ZERO w ↦ omega arith | else-y-eq-ZERO w ↦ omega arith ], c.mul_with-x.ensures ∙ ap (mul _ _) l.invariant.1 ∙ sym (power_next _ _ l.j), elim c.if-y-eq-ZERO.branch [ then-y-eq-ZERO w ↦ rw (w.nodes-is, w.count-is) (fills_put (rw (eq-eqb _ 0 (sym (value_is (goal.at.loop-j-preserved c).After-mul_with-x) ∙ w.if-y-eq-ZERO.true)) at todo) (omega (arith, length_zeros 255, c.requires.2))) | else-y-eq-ZERO w ↦ rw (w.nodes-is, w.count-is) (rw (ne_eqb _ 0 (λ z. w.if-y-eq-ZERO.false (value_is (goal.at.loop-j-preserved c).After-mul_with-x ∙ z))) at todo) ])
 
 pub returns : goal.returns
-returns c = roots_listed _ _ _ _ (rw (passing_end _ _ _ c.loop-j-test.false) at c.loop-j.invariant.3)
+returns c = roots_listed _ _ _ _ (rw (passing_end _ _ _ c.loop-j-test.false) at c.loop-j.invariant.2)

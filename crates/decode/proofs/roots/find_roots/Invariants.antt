@@ -17,9 +17,5 @@ abbrev pub vanishes : ℕ → ℕ → List ℕ → ℕ → Bool
 vanishes p root cs j = eqb (poly_at p cs (power p root j)) 0
 
 abbrev pub invariant-loop-j : goal.invariant-loop-j
-invariant-loop-j l =
-    let is = vanishes (modulus l.field) l.root l.coefficients in
-    (l.count ≤ l.j) × (l.j ≤ l.n) × (l.x ≡ power (modulus l.field) l.root l.j) × Fills (zeros 255) l.nodes l.count (passing_from (l.n - l.j) l.j is) (passing_from l.n 0 is)
-
-abbrev pub decreases-loop-j : goal.decreases-loop-j
-decreases-loop-j l = l.n - l.j
+invariant-loop-j l = let is = vanishes (modulus l.field) l.root l.coefficients in
+    (l.count ≤ l.j) × (l.x ≡ power (modulus l.field) l.root l.j) × Fills (zeros 255) l.nodes l.count (passing_from (l.n - l.j) l.j is) (passing_from l.n 0 is)

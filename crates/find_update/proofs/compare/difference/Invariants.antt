@@ -8,6 +8,3 @@ use Rattle.find_update.proofs.compare.difference.Given as goal
 
 abbrev pub invariant-loop-j : goal.invariant-loop-j
 invariant-loop-j l = Filled 255 (length l.before) (λ i. sub (modulus l.field) (get_or l.after i 0) (get_or l.before i 0)) l.j l.out
-
-abbrev pub decreases-loop-j : goal.decreases-loop-j
-decreases-loop-j l = length l.before - l.j

@@ -10,6 +10,3 @@ use Rattle.interpolation.proofs.lagrange.last_products.Given as goal
 abbrev pub invariant-loop-m : goal.invariant-loop-m
 invariant-loop-m l =
     (l.product ≡ product_at (modulus l.field) (drop (length l.points - l.m) l.points) l.z) × Filled 255 (length l.points) (λ j. product_at (modulus l.field) (drop (length l.points - j) l.points) l.z) l.m l.out
-
-abbrev pub decreases-loop-m : goal.decreases-loop-m
-decreases-loop-m l = length l.points - l.m

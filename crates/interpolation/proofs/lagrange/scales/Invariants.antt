@@ -8,6 +8,3 @@ use Rattle.interpolation.proofs.lagrange.scales.Given as goal
 
 abbrev pub invariant-loop-i : goal.invariant-loop-i
 invariant-loop-i l = Filled 255 (length l.points) (scale_at (modulus l.field) l.points) l.i l.out
-
-abbrev pub decreases-loop-i : goal.decreases-loop-i
-decreases-loop-i l = length l.points - l.i

@@ -10,6 +10,3 @@ use Rattle.interpolation.proofs.lagrange.values.Given as goal
 abbrev pub invariant-loop-i : goal.invariant-loop-i
 invariant-loop-i l =
     (l.before ≡ product_at (modulus l.field) (take l.i l.points) l.z) × Filled 255 (length l.points) (λ j. basis_at (modulus l.field) l.points j l.z) l.i l.out
-
-abbrev pub decreases-loop-i : goal.decreases-loop-i
-decreases-loop-i l = length l.points - l.i

@@ -18,7 +18,7 @@ use Rattle.interpolation.proofs.polynomials.base.Goals.{In-loop-i}
 low : (c : In-loop-i) → c.loop-i.y < size_of (modulus c.args.field)
 low c =
     let s = c.requires in
-    rw c.loop-i.invariant.1 (power_below _ (usable_field _ s.0) c.loop-i.i s.1)
+    rw c.loop-i.invariant.0 (power_below _ (usable_field _ s.0) c.loop-i.i s.1)
 
 -- one factor more
 more : (c : In-loop-i)
@@ -31,7 +31,7 @@ more c =
     let l = c.loop-i in
     let v = usable_field _ s.0 in
     let size : length (base_of (modulus a.field) a.root l.i) ≡ l.i + 1 = omega (arith, length_base_of (modulus a.field) a.root l.i) in
-    grows _ v _ _ _ l.out l.invariant.2 size (omega (arith, s.2)) (base_of_below _ v _ l.i s.1) (low c)
+    grows _ v _ _ _ l.out l.invariant.1 size (omega (arith, s.2)) (base_of_below _ v _ l.i s.1) (low c)
 
 -- as code has it: i + 2 places
 places : (c : In-loop-i) → c.loop-i.i + 2 ≡ c.loop-i.i + 1 + 1
@@ -39,7 +39,7 @@ places c = omega arith
 
 pub loop-i-init : goal.loop-i-init
 unfolding zeros power base_of
-loop-i-init c = (omega arith, refl, one_padded)
+loop-i-init c = (refl, one_padded)
 
 pub overflow_add-size : goal.overflow_add-size
 overflow_add-size c = omega (arith, c.requires.2)
@@ -62,14 +62,10 @@ pub loop-i-preserved : goal.loop-i-preserved
 loop-i-preserved c =
     let a = c.args in
     let l = c.loop-i in
-    let next : times_linear (modulus a.field) l.y 0 (base_of (modulus a.field) a.root l.i) ≡ base_of (modulus a.field) a.root (l.i + 1) = rw l.invariant.1 (sym (base_of_next (modulus a.field) a.root l.i)) in (
-      omega arith,
-      c.mul_with-y.ensures ∙ rw l.invariant.1 (sym (power_next (modulus a.field) a.root l.i)),
-      rw (places (goal.at.loop-i-preserved c).In-loop-i) ((more (goal.at.loop-i-preserved c).In-loop-i).whole _ (rw (places (goal.at.loop-i-preserved c).In-loop-i) at c.times_linear.ensures)) ∙ ap (padded 256) next,
-    )
+    let next : times_linear (modulus a.field) l.y 0 (base_of (modulus a.field) a.root l.i) ≡ base_of (modulus a.field) a.root (l.i + 1) = rw l.invariant.0 (sym (base_of_next (modulus a.field) a.root l.i)) in (c.mul_with-y.ensures ∙ rw l.invariant.0 (sym (power_next (modulus a.field) a.root l.i)), rw (places (goal.at.loop-i-preserved c).In-loop-i) ((more (goal.at.loop-i-preserved c).In-loop-i).whole _ (rw (places (goal.at.loop-i-preserved c).In-loop-i) at c.times_linear.ensures)) ∙ ap (padded 256) next)
 
 pub returns : goal.returns
 returns c =
     let l = c.loop-i in
     let end : l.i ≡ c.args.m = omega arith in
-    rw end at l.invariant.2
+    rw end at l.invariant.1

@@ -8,8 +8,4 @@ use Rattle.interpolation.specs.Inner.Polynomials.{base_of}
 use Rattle.interpolation.proofs.polynomials.base.Given as goal
 
 abbrev pub invariant-loop-i : goal.invariant-loop-i
-invariant-loop-i l =
-    (l.i ≤ l.m) × (l.y ≡ power (modulus l.field) l.root l.i) × (l.out ≡ padded 256 (base_of (modulus l.field) l.root l.i))
-
-abbrev pub decreases-loop-i : goal.decreases-loop-i
-decreases-loop-i l = l.m - l.i
+invariant-loop-i l = (l.y ≡ power (modulus l.field) l.root l.i) × (l.out ≡ padded 256 (base_of (modulus l.field) l.root l.i))

@@ -8,6 +8,3 @@ use Rattle.interpolation.proofs.polynomials.inverses.Given as goal
 
 abbrev pub invariant-loop-i : goal.invariant-loop-i
 invariant-loop-i l = Filled 255 (length l.coefficients) (λ j. inverse (modulus l.field) (get_or l.coefficients j 0)) l.i l.out
-
-abbrev pub decreases-loop-i : goal.decreases-loop-i
-decreases-loop-i l = length l.coefficients - l.i

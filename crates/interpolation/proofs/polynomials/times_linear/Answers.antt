@@ -21,12 +21,12 @@ turn : (c : In-loop-i)
     (l.i < length a.coefficients.now) × (get_or l.coefficients l.i 0 ≡ get_or a.coefficients.now l.i 0) × (get_or l.coefficients l.i 0 < size_of (modulus a.field))
 turn c =
     let l = c.loop-i in
-    let same = fills_next l.invariant.2 0 in
-    let inside : l.i < length c.args.coefficients.now = omega (arith, l.invariant.2.long) in
+    let same = fills_next l.invariant.1 0 in
+    let inside : l.i < length c.args.coefficients.now = omega (arith, l.invariant.1.long) in
     (inside, same, rw same (below_at _ _ c.requires.1 _ inside))
 
 pub loop-i-init : goal.loop-i-init
-loop-i-init c = (omega arith, size_pos _ (usable_field _ c.requires.0), fills_start _ _)
+loop-i-init c = (size_pos _ (usable_field _ c.requires.0), fills_start _ _)
 
 pub overflow_cast-c : goal.overflow_cast-c
 overflow_cast-c c = omega (arith, c.type_inv.coefficients c.loop-i.i)
@@ -41,12 +41,12 @@ scaled c =
     rw c.mul_with-term.ensures (mul_below _ (usable_field _ s.0) s.2 (turn (goal.at.After-mul_with-term c).In-loop-i).2)
 
 pub sub-requires : goal.sub-requires
-sub-requires c = (c.requires.0, c.loop-i.invariant.1, scaled c)
+sub-requires c = (c.requires.0, c.loop-i.invariant.0, scaled c)
 
 pub overflow_cast-coefficients : goal.overflow_cast-coefficients
 overflow_cast-coefficients c =
     let s = c.requires in
-    let low = sub_below _ (usable_field _ s.0) c.loop-i.invariant.1 (scaled (goal.at.overflow_cast-coefficients c).After-mul_with-term) in
+    let low = sub_below _ (usable_field _ s.0) c.loop-i.invariant.0 (scaled (goal.at.overflow_cast-coefficients c).After-mul_with-term) in
     omega (arith, c.sub.ensures, size_fits _ s.0)
 
 pub loop-i-smaller : goal.loop-i-smaller
@@ -56,14 +56,14 @@ pub loop-i-preserved : goal.loop-i-preserved
 loop-i-preserved c =
     let l = c.loop-i in
     let (inside, same, low) = turn (goal.at.loop-i-preserved c).In-loop-i in
-    let todo = rw (carried_next _ _ _ c.args.coefficients.now l.i inside) at l.invariant.2 in
-    (omega arith, low, rw (c.sub.ensures, c.mul_with-term.ensures, same) (fills_put todo inside))
+    let todo = rw (carried_next _ _ _ c.args.coefficients.now l.i inside) at l.invariant.1 in
+    (low, rw (c.sub.ensures, c.mul_with-term.ensures, same) (fills_put todo inside))
 
 pub shape_of-coefficients : goal.shape_of-coefficients
-shape_of-coefficients c = c.loop-i.invariant.2.long
+shape_of-coefficients c = c.loop-i.invariant.1.long
 
 pub returns : goal.returns
 returns c =
     let l = c.loop-i in
-    let all : length c.args.coefficients.now ≤ l.i = omega (arith, l.invariant.2.long) in
-    fills_all (rw (carried_end _ _ _ _ l.i all) at l.invariant.2) all
+    let all : length c.args.coefficients.now ≤ l.i = omega (arith, l.invariant.1.long) in
+    fills_all (rw (carried_end _ _ _ _ l.i all) at l.invariant.1) all

@@ -8,10 +8,4 @@ use Rattle.interpolation.specs.Inner.Polynomials.{carried}
 use Rattle.interpolation.proofs.polynomials.times_linear.Given as goal
 
 abbrev pub invariant-loop-i : goal.invariant-loop-i
-invariant-loop-i l =
-    (l.i ≤ length l.initial.coefficients)
-    × (l.last < size_of (modulus l.field))
-    × Fills l.initial.coefficients l.coefficients l.i (carried (modulus l.field) l.a l.last (drop l.i l.initial.coefficients)) (carried (modulus l.field) l.a 0 l.initial.coefficients)
-
-abbrev pub decreases-loop-i : goal.decreases-loop-i
-decreases-loop-i l = length l.initial.coefficients - l.i
+invariant-loop-i l = (l.last < size_of (modulus l.field)) × Fills l.initial.coefficients l.coefficients l.i (carried (modulus l.field) l.a l.last (drop l.i l.initial.coefficients)) (carried (modulus l.field) l.a 0 l.initial.coefficients)

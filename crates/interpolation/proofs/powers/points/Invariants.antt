@@ -8,6 +8,3 @@ use Rattle.interpolation.proofs.powers.points.Given as goal
 
 abbrev pub invariant-loop-i : goal.invariant-loop-i
 invariant-loop-i l = Filled 255 (length l.places) (λ j. power (modulus l.field) l.root (get_or l.places j 0 + l.offset)) l.i l.out
-
-abbrev pub decreases-loop-i : goal.decreases-loop-i
-decreases-loop-i l = length l.places - l.i

@@ -8,6 +8,3 @@ use Rattle.interpolation.proofs.sums.products.Given as goal
 
 abbrev pub invariant-loop-i : goal.invariant-loop-i
 invariant-loop-i l = Filled 255 (length l.xs) (λ j. mul (modulus l.field) (get_or l.xs j 0) (get_or l.ys j 0)) l.i l.out
-
-abbrev pub decreases-loop-i : goal.decreases-loop-i
-decreases-loop-i l = length l.xs - l.i

@@ -61,9 +61,6 @@ offset_bounds-out-j c = omega (arith, room (goal.at.offset_bounds-out-j c).After
 pub bounds-out-j : goal.bounds-out-j
 bounds-out-j c = omega (arith, room (goal.at.bounds-out-j c).After-struct_known-2-1)
 
-pub overflow_add-j : goal.overflow_add-j
-overflow_add-j c = omega (arith, room (goal.at.overflow_add-j c).After-struct_known-2-1)
-
 pub loop-j-preserved : goal.loop-j-preserved
 loop-j-preserved c = filled_put c.loop-j.invariant c.loop-j-test.true refl
 

@@ -12,6 +12,3 @@ read powers n k g j = get_or powers ((j + (k - 1)) * g % n) 0
 abbrev pub invariant-loop-j : goal.invariant-loop-j
 invariant-loop-j l =
     Filled 255 l.count (read l.powers l.n l.k l.g) l.j l.out
-
-abbrev pub decreases-loop-j : goal.decreases-loop-j
-decreases-loop-j l = l.count - l.j

@@ -18,9 +18,6 @@ offset_bounds-out-j c = omega (arith, c.requires.1)
 pub bounds-out-j : goal.bounds-out-j
 bounds-out-j c = omega (arith, c.requires.1)
 
-pub overflow_add-j : goal.overflow_add-j
-overflow_add-j c = omega (arith, c.requires.1)
-
 pub loop-j-preserved : goal.loop-j-preserved
 loop-j-preserved c = filled_put c.loop-j.invariant c.loop-j-test.true c.spread_at.ensures
 

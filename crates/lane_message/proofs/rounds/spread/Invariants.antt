@@ -9,6 +9,3 @@ use Rattle.lane_message.proofs.rounds.spread.Given as goal
 abbrev pub invariant-loop-j : goal.invariant-loop-j
 invariant-loop-j l =
     Filled 256 l.l (λ j. pick (eqb (j % l.g) 0) (get_or l.q (j / l.g) 0) 0) l.j l.out
-
-abbrev pub decreases-loop-j : goal.decreases-loop-j
-decreases-loop-j l = l.l - l.j

@@ -62,9 +62,6 @@ offset_bounds-out-r c = omega (arith, few (goal.at.offset_bounds-out-r c).Start)
 pub bounds-out-r : goal.bounds-out-r
 bounds-out-r c = omega (arith, few (goal.at.bounds-out-r c).Start)
 
-pub overflow_add-r : goal.overflow_add-r
-overflow_add-r c = omega (arith, few (goal.at.overflow_add-r c).Start)
-
 pub loop-r-preserved : goal.loop-r-preserved
 loop-r-preserved c =
     filled_put c.loop-r.invariant c.loop-r-test.true (ap (λ (i : ℕ). get_or c.args.powers.now i 0) c.stepped-e.ensures)

@@ -11,6 +11,3 @@ read powers shifts n k r = get_or powers ((get_or shifts r 0 + (k - 1)) % n) 0
 
 abbrev pub invariant-loop-r : goal.invariant-loop-r
 invariant-loop-r l = Filled 255 l.k (read l.powers l.shifts l.n l.k) l.r l.out
-
-abbrev pub decreases-loop-r : goal.decreases-loop-r
-decreases-loop-r l = l.k - l.r

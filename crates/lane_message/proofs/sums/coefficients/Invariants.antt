@@ -7,6 +7,3 @@ use Rattle.lane_message.proofs.sums.coefficients.Given as goal
 
 abbrev pub invariant-loop-c : goal.invariant-loop-c
 invariant-loop-c l = Filled 255 l.k (λ c. get_or l.spectrum (negative l.n c) 0) l.c l.out
-
-abbrev pub decreases-loop-c : goal.decreases-loop-c
-decreases-loop-c l = l.k - l.c

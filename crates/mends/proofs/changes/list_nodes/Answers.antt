@@ -41,7 +41,7 @@ overflow_sub-last c = let (has, table, long, tables) = c.requires in omega (arit
 
 pub loop-j-init : goal.loop-j-init
 unfolding up_nodes
-loop-j-init c = (omega arith, omega arith, rw sub-zero (fills_start _ _))
+loop-j-init c = (omega arith, rw sub-zero (fills_start _ _))
 
 pub bounds-roots-j : goal.bounds-roots-j
 bounds-roots-j c =
@@ -60,27 +60,23 @@ first_off-requires c =
 pub bounds-nodes-count : goal.bounds-nodes-count
 bounds-nodes-count c =
     let (has, table, long, tables) = c.requires in
-    omega (arith, long, c.loop-j.invariant.2.long)
+    omega (arith, long, c.loop-j.invariant.1.long)
 
 pub loop-j-preserved : goal.loop-j-preserved
 loop-j-preserved c =
     let l = c.loop-j in
     let (has, table, long, tables) = c.requires in
-    let todo = rw (passing_next _ _ _ c.loop-j-test.true) at l.invariant.2 in
-    let test = tested (goal.at.loop-j-preserved c).After-first_off in (
-      elim c.if-first_off-last.branch [ then-first_off-last w ↦ omega arith | else-first_off-last w ↦ omega arith ],
-      omega arith,
-      elim c.if-first_off-last.branch [ then-first_off-last w ↦ rw (w.nodes-is, w.count-is) (fills_put (rw (sym test ∙ eq-eqb _ _ w.if-first_off-last.true) at todo) (omega (arith, long))) | else-first_off-last w ↦ rw (w.nodes-is, w.count-is) (rw (sym test ∙ ne_eqb _ _ w.if-first_off-last.false) at todo) ],
-    )
+    let todo = rw (passing_next _ _ _ c.loop-j-test.true) at l.invariant.1 in
+    let test = tested (goal.at.loop-j-preserved c).After-first_off in (elim c.if-first_off-last.branch [ then-first_off-last w ↦ omega arith | else-first_off-last w ↦ omega arith ], elim c.if-first_off-last.branch [ then-first_off-last w ↦ rw (w.nodes-is, w.count-is) (fills_put (rw (sym test ∙ eq-eqb _ _ w.if-first_off-last.true) at todo) (omega (arith, long))) | else-first_off-last w ↦ rw (w.nodes-is, w.count-is) (rw (sym test ∙ ne_eqb _ _ w.if-first_off-last.false) at todo) ])
 
 -- all nodes are tested
 done : (c : After-loop-j)
     → let a = c.args in
     Fills a.nodes.now c.loop-j.nodes c.loop-j.count [] (up_nodes a.h a.sums.now)
-done c = rw (passing_end _ _ _ c.loop-j-test.false) at c.loop-j.invariant.2
+done c = rw (passing_end _ _ _ c.loop-j-test.false) at c.loop-j.invariant.1
 
 pub shape_of-nodes : goal.shape_of-nodes
-shape_of-nodes c = c.loop-j.invariant.2.long
+shape_of-nodes c = c.loop-j.invariant.1.long
 
 pub returns : goal.returns
 unfolding in_front

@@ -7,6 +7,3 @@ use Rattle.mends.proofs.changes.new_symbols.Given as goal
 
 abbrev pub invariant-loop-i : goal.invariant-loop-i
 invariant-loop-i l = Filled 255 (length l.nodes) (λ t. mended_at l.h l.lane l.sums (get_or l.nodes t 0)) l.i l.out
-
-abbrev pub decreases-loop-i : goal.decreases-loop-i
-decreases-loop-i l = length l.nodes - l.i

@@ -39,7 +39,7 @@ write-in c =
 
 pub loop-i-init : goal.loop-i-init
 unfolding lane_of
-loop-i-init c = (omega arith, rw (sub-zero, zero-mul) (fills_start _ _))
+loop-i-init c = rw (sub-zero, zero-mul) (fills_start _ _)
 
 pub overflow_mul-start : goal.overflow_mul-start
 overflow_mul-start c = omega (arith, write-in c)
@@ -50,14 +50,11 @@ overflow_add-end c = omega (arith, write-in c)
 pub overflow_mul-i : goal.overflow_mul-i
 overflow_mul-i c = omega (arith, read-place c)
 
-pub overflow_add-i : goal.overflow_add-i
-overflow_add-i c = omega (arith, read-place c)
-
 pub symbol_at-symbol-requires : goal.symbol_at-symbol-requires
 symbol_at-symbol-requires c = (c.requires.0, c.requires.1, read-in c)
 
 pub slice_bounds-write_symbol-end : goal.slice_bounds-write_symbol-end
-slice_bounds-write_symbol-end c = omega (arith, write-in (goal.at.slice_bounds-write_symbol-end c).In-loop-i, c.loop-i.invariant.1.long)
+slice_bounds-write_symbol-end c = omega (arith, write-in (goal.at.slice_bounds-write_symbol-end c).In-loop-i, c.loop-i.invariant.long)
 
 pub write_symbol-requires : goal.write_symbol-requires
 write_symbol-requires c =
@@ -68,26 +65,23 @@ write_symbol-requires c =
       c.requires.0,
       c.requires.1,
       rw c.symbol_at-symbol.ensures (symbol_below a.w a.table.now place (symbol_inside a.w a.table.now place c.requires.0 (read-in (goal.at.write_symbol-requires c).In-loop-i)) low),
-      part_length (now.i * a.w) a.w now.lane (omega (arith, now.invariant.1.long, write-in (goal.at.write_symbol-requires c).In-loop-i)),
+      part_length (now.i * a.w) a.w now.lane (omega (arith, now.invariant.long, write-in (goal.at.write_symbol-requires c).In-loop-i)),
     )
 
 pub loop-i-preserved : goal.loop-i-preserved
 loop-i-preserved c =
     let a = c.args in
     let now = c.loop-i in
-    let x = symbol_at a.w a.table.now (now.i * a.width + a.t) in (
-      omega arith,
-      rw (row_after, part_size, c.write_symbol.ensures, c.symbol_at-symbol.ensures)
-          (fills_part (symbol_bytes a.w x) a.w
-          (rw (column_next a.w a.rows a.width a.t a.table.now c.requires.0 c.requires.3 c.requires.2 now.i c.loop-i-test.true) at now.invariant.1)
-          (length_symbol a.w x)
-          (write-in (goal.at.loop-i-preserved c).In-loop-i)),
-    )
+    let x = symbol_at a.w a.table.now (now.i * a.width + a.t) in rw (row_after, part_size, c.write_symbol.ensures, c.symbol_at-symbol.ensures)
+    (fills_part (symbol_bytes a.w x) a.w
+    (rw (column_next a.w a.rows a.width a.t a.table.now c.requires.0 c.requires.3 c.requires.2 now.i c.loop-i-test.true) at now.invariant)
+    (length_symbol a.w x)
+    (write-in (goal.at.loop-i-preserved c).In-loop-i))
 
 pub shape_of-lane : goal.shape_of-lane
-shape_of-lane c = c.loop-i.invariant.1.long
+shape_of-lane c = c.loop-i.invariant.long
 
 pub returns : goal.returns
 returns c =
-    fills_all (rw (column_end _ _ _ _ _ _ c.loop-i-test.false) at c.loop-i.invariant.1)
+    fills_all (rw (column_end _ _ _ _ _ _ c.loop-i-test.false) at c.loop-i.invariant)
     (rw c.requires.4 (mul-le-mul c.loop-i-test.false (le_refl _)))

@@ -26,7 +26,7 @@ lane_in c =
     rw (c.requires.3, all_bytes a.w a.rows a.lanes) (row_inside a.lanes c.loop-t.t (a.rows * a.w) c.loop-t-test.true)
 
 pub loop-t-init : goal.loop-t-init
-loop-t-init c = (omega arith, rw (sub-zero, zero-mul) (fills_start _ _))
+loop-t-init c = rw (sub-zero, zero-mul) (fills_start _ _)
 
 pub overflow_mul-size : goal.overflow_mul-size
 overflow_mul-size c = omega (arith, lane_in c)
@@ -44,28 +44,25 @@ pub fill_lane-requires : goal.fill_lane-requires
 fill_lane-requires c =
     let a = c.args in
     let now = c.loop-t in
-    (c.requires.0, c.requires.1, c.loop-t-test.true, c.requires.2, part_length (now.t * (a.rows * a.w)) (a.rows * a.w) now.out (omega (arith, now.invariant.1.long, lane_in (goal.at.fill_lane-requires c).In-loop-t)))
+    (c.requires.0, c.requires.1, c.loop-t-test.true, c.requires.2, part_length (now.t * (a.rows * a.w)) (a.rows * a.w) now.out (omega (arith, now.invariant.long, lane_in (goal.at.fill_lane-requires c).In-loop-t)))
 
 pub loop-t-preserved : goal.loop-t-preserved
 loop-t-preserved c =
     let a = c.args in
-    let now = c.loop-t in (
-      omega arith,
-      rw (row_after, part_size, c.fill_lane.ensures)
-          (fills_part (column a.w a.rows a.lanes a.table.now now.t) (a.rows * a.w)
-          (rw (rows_next _ _ _ c.loop-t-test.true) at now.invariant.1)
-          (length_column a.w a.rows a.lanes now.t a.table.now)
-          (lane_in (goal.at.loop-t-preserved c).In-loop-t)),
-    )
+    let now = c.loop-t in rw (row_after, part_size, c.fill_lane.ensures)
+    (fills_part (column a.w a.rows a.lanes a.table.now now.t) (a.rows * a.w)
+    (rw (rows_next _ _ _ c.loop-t-test.true) at now.invariant)
+    (length_column a.w a.rows a.lanes now.t a.table.now)
+    (lane_in (goal.at.loop-t-preserved c).In-loop-t))
 
 pub shape_of-out : goal.shape_of-out
-shape_of-out c = c.loop-t.invariant.1.long
+shape_of-out c = c.loop-t.invariant.long
 
 pub returns : goal.returns
 unfolding rearranged lane_of
 returns c =
     let a = c.args in
-    fills_all (rw (rows_end _ _ _ c.loop-t-test.false) at c.loop-t.invariant.1)
+    fills_all (rw (rows_end _ _ _ c.loop-t-test.false) at c.loop-t.invariant)
     (rw (c.requires.3, all_bytes a.w a.rows a.lanes) (mul-le-mul c.loop-t-test.false (le_refl _)))
     ∙ bytes_rows a.w (λ q. lane_of row_after_row a.rows a.lanes q (symbols_of a.w a.table.now)) 0 a.lanes
     ∙ sym (ap (bytes_of a.w) (buffer_by_lane a.rows a.lanes (held row_after_row a.rows a.lanes (symbols_of a.w a.table.now))))

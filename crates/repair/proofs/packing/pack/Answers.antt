@@ -21,7 +21,7 @@ row_in c =
 
 pub loop-e-init : goal.loop-e-init
 unfolding planes
-loop-e-init c = (omega arith, rw (sub-zero, zero-mul) (fills_start _ _))
+loop-e-init c = rw (sub-zero, zero-mul) (fills_start _ _)
 
 pub overflow_mul-start : goal.overflow_mul-start
 overflow_mul-start c = omega (arith, row_in c)
@@ -33,13 +33,13 @@ pub overflow_cast-e : goal.overflow_cast-e
 overflow_cast-e c = omega (arith, c.requires.0)
 
 pub slice_bounds-pack_plane-end : goal.slice_bounds-pack_plane-end
-slice_bounds-pack_plane-end c = let l = c.loop-e.invariant.1.long in omega (arith, row_in c)
+slice_bounds-pack_plane-end c = let l = c.loop-e.invariant.long in omega (arith, row_in c)
 
 pub pack_plane-requires : goal.pack_plane-requires
 pack_plane-requires c =
     let p = c.requires in
     let l = c.loop-e in
-    let part = part_length (l.e * c.args.size) c.args.size l.out (omega (arith, l.invariant.1.long, row_in (goal.at.pack_plane-requires c).In-loop-e)) in
+    let part = part_length (l.e * c.args.size) c.args.size l.out (omega (arith, l.invariant.long, row_in (goal.at.pack_plane-requires c).In-loop-e)) in
     let small : c.args.size ≤ 512 = rw p.3 (plane_small _ p.2) in
     (omega (arith, p.0, c.loop-e-test.true), p.1, rw part small)
 
@@ -47,16 +47,13 @@ pub loop-e-preserved : goal.loop-e-preserved
 loop-e-preserved c =
     let l = c.loop-e in
     let a = c.args in
-    let part = part_length (l.e * a.size) a.size l.out (omega (arith, l.invariant.1.long, row_in (goal.at.loop-e-preserved c).In-loop-e)) in
-    let whole = plane_table l.e a.table.now a.share.now (take (l.e * a.size + a.size - l.e * a.size) (drop (l.e * a.size) l.out)) (part ∙ c.requires.3) in (
-      omega arith,
-      rw (row_after, part_size, c.pack_plane.ensures ∙ whole)
-          (fills_part (plane (length a.share.now) (λ i. get_or a.table.now (get_or a.share.now i 0) 0 / 2 ^ l.e % 2)) a.size (rw (rows_next _ a.b l.e c.loop-e-test.true) at l.invariant.1) (length_plane _ _ ∙ sym c.requires.3) (row_in (goal.at.loop-e-preserved c).In-loop-e)),
-    )
+    let part = part_length (l.e * a.size) a.size l.out (omega (arith, l.invariant.long, row_in (goal.at.loop-e-preserved c).In-loop-e)) in
+    let whole = plane_table l.e a.table.now a.share.now (take (l.e * a.size + a.size - l.e * a.size) (drop (l.e * a.size) l.out)) (part ∙ c.requires.3) in rw (row_after, part_size, c.pack_plane.ensures ∙ whole)
+    (fills_part (plane (length a.share.now) (λ i. get_or a.table.now (get_or a.share.now i 0) 0 / 2 ^ l.e % 2)) a.size (rw (rows_next _ a.b l.e c.loop-e-test.true) at l.invariant) (length_plane _ _ ∙ sym c.requires.3) (row_in (goal.at.loop-e-preserved c).In-loop-e))
 
 pub shape_of-out : goal.shape_of-out
-shape_of-out c = c.loop-e.invariant.1.long
+shape_of-out c = c.loop-e.invariant.long
 
 pub returns : goal.returns
 returns c =
-    fills_all (rw (rows_end _ c.args.b _ c.loop-e-test.false) at c.loop-e.invariant.1) (rw c.requires.4 (mul-le-mul c.loop-e-test.false (le_refl _)))
+    fills_all (rw (rows_end _ c.args.b _ c.loop-e-test.false) at c.loop-e.invariant) (rw c.requires.4 (mul-le-mul c.loop-e-test.false (le_refl _)))

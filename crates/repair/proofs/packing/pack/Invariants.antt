@@ -7,7 +7,4 @@ use Rattle.repair.specs.Packing.{plane, planes}
 use Rattle.repair.proofs.packing.pack.Given as goal
 
 abbrev pub invariant-loop-e : goal.invariant-loop-e
-invariant-loop-e l = (l.e ≤ l.b) × Fills l.initial.out l.out (l.e * l.size) (rows_from (λ e. plane (length l.share) (λ i. get_or l.table (get_or l.share i 0) 0 / 2 ^ e % 2)) l.e (l.b - l.e)) (planes l.b (length l.share) (λ i. get_or l.table (get_or l.share i 0) 0))
-
-abbrev pub decreases-loop-e : goal.decreases-loop-e
-decreases-loop-e l = l.b - l.e
+invariant-loop-e l = Fills l.initial.out l.out (l.e * l.size) (rows_from (λ e. plane (length l.share) (λ i. get_or l.table (get_or l.share i 0) 0 / 2 ^ e % 2)) l.e (l.b - l.e)) (planes l.b (length l.share) (λ i. get_or l.table (get_or l.share i 0) 0))

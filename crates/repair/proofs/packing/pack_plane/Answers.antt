@@ -4,7 +4,7 @@ use Rattle.kernel.proofs.Filling.{changed_none, changed_lane, changed_all}
 use Rattle.repair.proofs.packing.pack_plane.Goals as goal
 
 pub loop-c-init : goal.loop-c-init
-loop-c-init c = (omega arith, changed_none _ _)
+loop-c-init c = changed_none _ _
 
 pub overflow_mul-c : goal.overflow_mul-c
 overflow_mul-c c = omega (arith, c.requires.2)
@@ -13,10 +13,10 @@ pub pack_byte-requires : goal.pack_byte-requires
 pack_byte-requires c = let p = c.requires in (p.0, p.1, omega (arith, p.2))
 
 pub loop-c-preserved : goal.loop-c-preserved
-loop-c-preserved c = (omega arith, rw c.pack_byte.ensures (changed_lane _ _ c.loop-c.invariant.1 (omega arith)))
+loop-c-preserved c = rw c.pack_byte.ensures (changed_lane _ _ c.loop-c.invariant (omega arith))
 
 pub shape_of-out : goal.shape_of-out
-shape_of-out c = c.loop-c.invariant.1.long
+shape_of-out c = c.loop-c.invariant.long
 
 pub returns : goal.returns
-returns c = changed_all _ _ c.loop-c.invariant.1 (omega arith)
+returns c = changed_all _ _ c.loop-c.invariant (omega arith)

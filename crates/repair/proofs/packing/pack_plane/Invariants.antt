@@ -7,7 +7,4 @@ use Rattle.repair.proofs.Digits.{lane_bit}
 use Rattle.repair.proofs.packing.pack_plane.Given as goal
 
 abbrev pub invariant-loop-c : goal.invariant-loop-c
-invariant-loop-c l = (l.c ≤ length l.initial.out) × Changed (λ c y. byte_from 8 (lane_bit l.e l.table l.share) (c * 8)) l.initial.out l.out l.c
-
-abbrev pub decreases-loop-c : goal.decreases-loop-c
-decreases-loop-c l = length l.initial.out - l.c
+invariant-loop-c l = Changed (λ c y. byte_from 8 (lane_bit l.e l.table l.share) (c * 8)) l.initial.out l.out l.c

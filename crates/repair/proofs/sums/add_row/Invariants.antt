@@ -6,7 +6,4 @@ use Rattle.kernel.proofs.Filling.{Changed}
 use Rattle.repair.proofs.sums.add_row.Given as goal
 
 abbrev pub invariant-loop-c : goal.invariant-loop-c
-invariant-loop-c l = (l.c ≤ length l.initial.acc) × Changed (λ c y. bit_xor y (get_or l.row c 0)) l.initial.acc l.acc l.c
-
-abbrev pub decreases-loop-c : goal.decreases-loop-c
-decreases-loop-c l = length l.initial.acc - l.c
+invariant-loop-c l = Changed (λ c y. bit_xor y (get_or l.row c 0)) l.initial.acc l.acc l.c

@@ -18,7 +18,7 @@ row_in c =
     rw c.requires.2 (row_inside c.args.count c.loop-q.q c.args.size c.loop-q-test.true)
 
 pub loop-q-init : goal.loop-q-init
-loop-q-init c = (omega arith, c.clear.ensures ∙ sum_none c.args.weights.now c.args.size c.args.rows.now c.args.p _ c.requires.3)
+loop-q-init c = c.clear.ensures ∙ sum_none c.args.weights.now c.args.size c.args.rows.now c.args.p _ c.requires.3
 
 pub overflow_mul-start : goal.overflow_mul-start
 overflow_mul-start c = omega (arith, row_in c)
@@ -43,18 +43,18 @@ add_chosen-requires c =
     let l = c.loop-q in
     let n = c.args.size in
     let whole = part_length (l.q * n) n c.args.rows.now (row_in (goal.at.add_chosen-requires c).In-loop-q) in
-    let long : length l.acc ≡ n = ap length l.invariant.1 ∙ length_sum _ _ _ _ _ in
+    let long : length l.acc ≡ n = ap length l.invariant ∙ length_sum _ _ _ _ _ in
     (digit _, whole ∙ sym long)
 
 pub loop-q-preserved : goal.loop-q-preserved
 loop-q-preserved c =
     let l = c.loop-q in
-    (omega arith, c.add_chosen.ensures ∙ sum_more c.args.weights.now c.args.size c.args.rows.now c.args.p l.q _ l.acc refl l.invariant.1)
+    c.add_chosen.ensures ∙ sum_more c.args.weights.now c.args.size c.args.rows.now c.args.p l.q _ l.acc refl l.invariant
 
 pub shape_of-acc : goal.shape_of-acc
-shape_of-acc c = ap length c.loop-q.invariant.1 ∙ length_sum _ _ _ _ _ ∙ sym c.requires.3
+shape_of-acc c = ap length c.loop-q.invariant ∙ length_sum _ _ _ _ _ ∙ sym c.requires.3
 
 pub returns : goal.returns
 returns c =
     let last : c.loop-q.q ≡ c.args.count = omega arith in
-    c.loop-q.invariant.1 ∙ ap (λ (n : ℕ). plane_sum c.args.weights.now n c.args.size c.args.rows.now c.args.p) last
+    c.loop-q.invariant ∙ ap (λ (n : ℕ). plane_sum c.args.weights.now n c.args.size c.args.rows.now c.args.p) last

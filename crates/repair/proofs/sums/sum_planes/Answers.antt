@@ -19,7 +19,7 @@ row_in c =
 
 pub loop-p-init : goal.loop-p-init
 unfolding plane_sums
-loop-p-init c = (omega arith, rw zero-mul (fills_start _ _))
+loop-p-init c = rw zero-mul (fills_start _ _)
 
 pub overflow_mul-start : goal.overflow_mul-start
 overflow_mul-start c = omega (arith, row_in c)
@@ -28,26 +28,23 @@ pub overflow_add-end : goal.overflow_add-end
 overflow_add-end c = omega (arith, row_in c)
 
 pub slice_bounds-sum_plane-end : goal.slice_bounds-sum_plane-end
-slice_bounds-sum_plane-end c = let l = c.loop-p.invariant.1.long in omega (arith, row_in c)
+slice_bounds-sum_plane-end c = let l = c.loop-p.invariant.long in omega (arith, row_in c)
 
 pub sum_plane-requires : goal.sum_plane-requires
 sum_plane-requires c =
     let l = c.loop-p in
-    (omega (arith, c.loop-p-test.true), c.requires.0, c.requires.1, part_length (l.p * c.args.size) c.args.size l.acc (omega (arith, l.invariant.1.long, row_in (goal.at.sum_plane-requires c).In-loop-p)))
+    (omega (arith, c.loop-p-test.true), c.requires.0, c.requires.1, part_length (l.p * c.args.size) c.args.size l.acc (omega (arith, l.invariant.long, row_in (goal.at.sum_plane-requires c).In-loop-p)))
 
 pub loop-p-preserved : goal.loop-p-preserved
 loop-p-preserved c =
     let l = c.loop-p in
     let a = c.args in
-    let low : l.p < 8 = omega (arith, c.loop-p-test.true) in (
-      omega arith,
-      rw (row_after, part_size, c.sum_plane.ensures)
-          (fills_part (plane_sum a.weights.now a.count a.size a.rows.now l.p) a.size (rw (rows_next _ 8 l.p low) at l.invariant.1) (length_sum _ _ _ _ _) (row_in (goal.at.loop-p-preserved c).In-loop-p)),
-    )
+    let low : l.p < 8 = omega (arith, c.loop-p-test.true) in rw (row_after, part_size, c.sum_plane.ensures)
+    (fills_part (plane_sum a.weights.now a.count a.size a.rows.now l.p) a.size (rw (rows_next _ 8 l.p low) at l.invariant) (length_sum _ _ _ _ _) (row_in (goal.at.loop-p-preserved c).In-loop-p))
 
 pub shape_of-acc : goal.shape_of-acc
-shape_of-acc c = c.loop-p.invariant.1.long
+shape_of-acc c = c.loop-p.invariant.long
 
 pub returns : goal.returns
 returns c =
-    fills_all (rw (rows_end _ 8 _ c.loop-p-test.false) at c.loop-p.invariant.1) (rw c.requires.3 (mul-le-mul c.loop-p-test.false (le_refl _)))
+    fills_all (rw (rows_end _ 8 _ c.loop-p-test.false) at c.loop-p.invariant) (rw c.requires.3 (mul-le-mul c.loop-p-test.false (le_refl _)))

@@ -6,7 +6,4 @@ use Rattle.repair.specs.Inner.Sums.{plane_sum, plane_sums}
 use Rattle.repair.proofs.sums.sum_planes.Given as goal
 
 abbrev pub invariant-loop-p : goal.invariant-loop-p
-invariant-loop-p l = (l.p ≤ 8) × Fills l.initial.acc l.acc (l.p * l.size) (rows_from (plane_sum l.weights l.count l.size l.rows) l.p (8 - l.p)) (plane_sums l.weights l.count l.size l.rows)
-
-abbrev pub decreases-loop-p : goal.decreases-loop-p
-decreases-loop-p l = 8 - l.p
+invariant-loop-p l = Fills l.initial.acc l.acc (l.p * l.size) (rows_from (plane_sum l.weights l.count l.size l.rows) l.p (8 - l.p)) (plane_sums l.weights l.count l.size l.rows)

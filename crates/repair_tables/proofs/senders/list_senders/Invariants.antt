@@ -7,8 +7,4 @@ use Rattle.traces.specs.Repairs.{sends}
 use Rattle.repair_tables.proofs.senders.list_senders.Given as goal
 
 abbrev pub invariant-loop-j : goal.invariant-loop-j
-invariant-loop-j l =
-    (l.count ≤ l.j) × (l.j ≤ l.n) × Fills (zeros 255) l.nodes l.count (passing_from (l.n - l.j) l.j (sends l.target l.missing)) (passing_from l.n 0 (sends l.target l.missing))
-
-abbrev pub decreases-loop-j : goal.decreases-loop-j
-decreases-loop-j l = l.n - l.j
+invariant-loop-j l = (l.count ≤ l.j) × Fills (zeros 255) l.nodes l.count (passing_from (l.n - l.j) l.j (sends l.target l.missing)) (passing_from l.n 0 (sends l.target l.missing))

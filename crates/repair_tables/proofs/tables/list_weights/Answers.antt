@@ -21,9 +21,6 @@ weight-requires c =
 pub bounds-table-q : goal.bounds-table-q
 bounds-table-q c = omega (arith, c.loop-q.invariant.fits)
 
-pub overflow_add-q : goal.overflow_add-q
-overflow_add-q c = omega (arith, c.loop-q.invariant.fits)
-
 pub loop-q-preserved : goal.loop-q-preserved
 loop-q-preserved c = filled_put c.loop-q.invariant c.loop-q-test.true c.weight.ensures
 

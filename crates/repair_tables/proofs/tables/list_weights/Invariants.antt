@@ -6,6 +6,3 @@ use Rattle.repair_tables.proofs.tables.list_weights.Given as goal
 
 abbrev pub invariant-loop-q : goal.invariant-loop-q
 invariant-loop-q l = Filled 1020 l.count (bit_weight l.h l.b l.target l.senders) l.q l.table
-
-abbrev pub decreases-loop-q : goal.decreases-loop-q
-decreases-loop-q l = l.count - l.q

@@ -7,6 +7,3 @@ use Rattle.repair_tables.proofs.tables.sixteen.Given as goal
 
 abbrev pub invariant-loop-i : goal.invariant-loop-i
 invariant-loop-i l = Filled 16 16 (λ i. digit_of (modulus l.field) l.b l.f (i * l.step)) l.i l.row
-
-abbrev pub decreases-loop-i : goal.decreases-loop-i
-decreases-loop-i l = 16 - l.i

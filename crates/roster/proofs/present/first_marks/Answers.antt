@@ -8,12 +8,12 @@ use Rattle.roster.proofs.present.first_marks.Goals as goal
 
 pub loop-j-init : goal.loop-j-init
 unfolding absent first_marks
-loop-j-init c = (omega arith, fills_start _ _)
+loop-j-init c = fills_start _ _
 
 pub loop-j-preserved : goal.loop-j-preserved
 loop-j-preserved c =
-    let todo = rw (from_next _ _ _ c.loop-j-test.true) at c.loop-j.invariant.1 in
-    (omega arith, fills_put todo (omega (arith, length_absent 255)))
+    let todo = rw (from_next _ _ _ c.loop-j-test.true) at c.loop-j.invariant in
+    fills_put todo (omega (arith, length_absent 255))
 
 pub returns : goal.returns
-returns c = fills_all (rw (from_end _ _ _ c.loop-j-test.false) at c.loop-j.invariant.1) (omega (arith, length_absent 255))
+returns c = fills_all (rw (from_end _ _ _ c.loop-j-test.false) at c.loop-j.invariant) (omega (arith, length_absent 255))

@@ -8,7 +8,4 @@ use Rattle.roster.proofs.Nodes.{absent}
 use Rattle.roster.proofs.present.first_marks.Given as goal
 
 abbrev pub invariant-loop-j : goal.invariant-loop-j
-invariant-loop-j l = (l.j ≤ 255) × Fills (absent 255) l.marks l.j (from (λ i. ltb i l.n) l.j (255 - l.j)) (first_marks l.n)
-
-abbrev pub decreases-loop-j : goal.decreases-loop-j
-decreases-loop-j l = 255 - l.j
+invariant-loop-j l = Fills (absent 255) l.marks l.j (from (λ i. ltb i l.n) l.j (255 - l.j)) (first_marks l.n)

@@ -10,17 +10,13 @@ use Rattle.roster.proofs.present.list_present.Goals.{else-marks-j, then-marks-j}
 
 pub loop-j-init : goal.loop-j-init
 unfolding zeros
-loop-j-init c = (omega arith, omega arith, rw sub-zero (fills_start _ _))
+loop-j-init c = (omega arith, rw sub-zero (fills_start _ _))
 
 pub loop-j-preserved : goal.loop-j-preserved
 loop-j-preserved c =
     let l = c.loop-j in
     let marks = c.args.marks in
-    let todo = rw (passing_next _ _ _ c.loop-j-test.true) at l.invariant.2 in (
-      elim c.if-marks-j.branch [ then-marks-j w ↦ omega arith | else-marks-j w ↦ omega arith ],
-      omega arith,
-      elim c.if-marks-j.branch [ then-marks-j w ↦ rw (w.nodes-is, w.count-is) (fills_put (rw w.if-marks-j.true at todo) (omega (arith, length_zeros 255))) | else-marks-j w ↦ rw (w.nodes-is, w.count-is) (rw w.if-marks-j.false at todo) ],
-    )
+    let todo = rw (passing_next _ _ _ c.loop-j-test.true) at l.invariant.1 in (elim c.if-marks-j.branch [ then-marks-j w ↦ omega arith | else-marks-j w ↦ omega arith ], elim c.if-marks-j.branch [ then-marks-j w ↦ rw (w.nodes-is, w.count-is) (fills_put (rw w.if-marks-j.true at todo) (omega (arith, length_zeros 255))) | else-marks-j w ↦ rw (w.nodes-is, w.count-is) (rw w.if-marks-j.false at todo) ])
 
 pub returns : goal.returns
-returns c = present_made _ _ (rw (passing_end _ _ _ c.loop-j-test.false) at c.loop-j.invariant.2)
+returns c = present_made _ _ (rw (passing_end _ _ _ c.loop-j-test.false) at c.loop-j.invariant.1)

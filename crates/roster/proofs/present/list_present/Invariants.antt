@@ -7,8 +7,4 @@ use Rattle.roster.specs.Rosters.{is_present}
 use Rattle.roster.proofs.present.list_present.Given as goal
 
 abbrev pub invariant-loop-j : goal.invariant-loop-j
-invariant-loop-j l =
-    (l.count ≤ l.j) × (l.j ≤ l.n) × Fills (zeros 255) l.nodes l.count (passing_from (l.n - l.j) l.j (is_present l.marks)) (passing_from l.n 0 (is_present l.marks))
-
-abbrev pub decreases-loop-j : goal.decreases-loop-j
-decreases-loop-j l = l.n - l.j
+invariant-loop-j l = (l.count ≤ l.j) × Fills (zeros 255) l.nodes l.count (passing_from (l.n - l.j) l.j (is_present l.marks)) (passing_from l.n 0 (is_present l.marks))

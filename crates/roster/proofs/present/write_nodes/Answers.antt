@@ -8,7 +8,7 @@ use Rattle.lists.proofs.Fill.{fills_start, fills_put, fills_all}
 use Rattle.roster.proofs.present.write_nodes.Goals as goal
 
 pub loop-t-init : goal.loop-t-init
-loop-t-init c = (omega arith, rw (add-zero, sub-zero) (fills_start _ _))
+loop-t-init c = rw (add-zero, sub-zero) (fills_start _ _)
 
 pub bounds-nodes-first : goal.bounds-nodes-first
 bounds-nodes-first c =
@@ -18,15 +18,15 @@ bounds-nodes-first c =
 pub loop-t-preserved : goal.loop-t-preserved
 loop-t-preserved c =
     let l = c.loop-t in
-    let more : l.t < length c.args.list.now = omega (arith, l.invariant.1.long, c.loop-t-test.true) in
-    let todo = rw (from_next_at _ _ _ _ more) at l.invariant.1 in
-    (omega arith, fills_put todo more)
+    let more : l.t < length c.args.list.now = omega (arith, l.invariant.long, c.loop-t-test.true) in
+    let todo = rw (from_next_at _ _ _ _ more) at l.invariant in
+    fills_put todo more
 
 pub shape_of-list : goal.shape_of-list
-shape_of-list c = c.loop-t.invariant.1.long
+shape_of-list c = c.loop-t.invariant.long
 
 pub returns : goal.returns
 returns c =
     let l = c.loop-t in
-    let all : length c.args.list.now ≤ l.t = omega (arith, l.invariant.1.long, c.loop-t-test.false) in
-    fills_all (rw (from_end_at _ _ _ _ all) at l.invariant.1) all
+    let all : length c.args.list.now ≤ l.t = omega (arith, l.invariant.long, c.loop-t-test.false) in
+    fills_all (rw (from_end_at _ _ _ _ all) at l.invariant) all

@@ -6,9 +6,5 @@ use Rattle.lists.proofs.Fill.{Fills}
 use Rattle.roster.proofs.present.write_nodes.Given as goal
 
 abbrev pub invariant-loop-t : goal.invariant-loop-t
-invariant-loop-t l =
-    let g : ℕ → ℕ = λ m. get_or l.nodes (m % l.count) 0 in
-    (l.t ≤ length l.initial.list) × Fills l.initial.list l.list l.t (from g (l.first + l.t) (length l.initial.list - l.t)) (from g l.first (length l.initial.list))
-
-abbrev pub decreases-loop-t : goal.decreases-loop-t
-decreases-loop-t l = length l.initial.list - l.t
+invariant-loop-t l = let g : ℕ → ℕ = λ m. get_or l.nodes (m % l.count) 0 in
+    Fills l.initial.list l.list l.t (from g (l.first + l.t) (length l.initial.list - l.t)) (from g l.first (length l.initial.list))

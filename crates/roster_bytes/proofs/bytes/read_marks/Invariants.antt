@@ -10,7 +10,4 @@ use Rattle.roster_bytes.specs.Bytes.{marks_of}
 use Rattle.roster_bytes.proofs.bytes.read_marks.Given as goal
 
 abbrev pub invariant-loop-j : goal.invariant-loop-j
-invariant-loop-j l = (l.j ≤ 255) × Fills (absent 255) l.marks l.j (from (λ i. not (eqb (get_or l.bytes i 0) 0)) l.j (255 - l.j)) (marks_of l.bytes)
-
-abbrev pub decreases-loop-j : goal.decreases-loop-j
-decreases-loop-j l = 255 - l.j
+invariant-loop-j l = Fills (absent 255) l.marks l.j (from (λ i. not (eqb (get_or l.bytes i 0) 0)) l.j (255 - l.j)) (marks_of l.bytes)

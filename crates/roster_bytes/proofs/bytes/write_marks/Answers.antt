@@ -10,20 +10,20 @@ use Rattle.roster_bytes.proofs.bytes.write_marks.Goals as goal
 
 pub loop-j-init : goal.loop-j-init
 unfolding mark_bytes
-loop-j-init c = (omega arith, fills_start _ _)
+loop-j-init c = fills_start _ _
 
 pub bounds-bytes-j : goal.bounds-bytes-j
-bounds-bytes-j c = omega (arith, c.loop-j.invariant.1.long)
+bounds-bytes-j c = omega (arith, c.loop-j.invariant.long)
 
 pub loop-j-preserved : goal.loop-j-preserved
 loop-j-preserved c =
-    let todo = rw (from_next _ _ _ c.loop-j-test.true) at c.loop-j.invariant.1 in
-    (omega arith, rw c.mark_byte.ensures (fills_put todo (omega arith)))
+    let todo = rw (from_next _ _ _ c.loop-j-test.true) at c.loop-j.invariant in
+    rw c.mark_byte.ensures (fills_put todo (omega arith))
 
 pub shape_of-bytes : goal.shape_of-bytes
-shape_of-bytes c = c.loop-j.invariant.1.long
+shape_of-bytes c = c.loop-j.invariant.long
 
 pub returns : goal.returns
 unfolding marks_in
 returns c =
-    fills_done (rw (from_end _ _ _ c.loop-j-test.false) at c.loop-j.invariant.1) ∙ rw (length_marks c.args.marks)
+    fills_done (rw (from_end _ _ _ c.loop-j-test.false) at c.loop-j.invariant) ∙ rw (length_marks c.args.marks)

@@ -9,7 +9,4 @@ use Rattle.roster_bytes.specs.Bytes.{mark_bytes}
 use Rattle.roster_bytes.proofs.bytes.write_marks.Given as goal
 
 abbrev pub invariant-loop-j : goal.invariant-loop-j
-invariant-loop-j l = (l.j ≤ 255) × Fills l.initial.bytes l.bytes l.j (from (λ i. pick (get_or l.marks i false) 1 0) l.j (255 - l.j)) (mark_bytes l.marks)
-
-abbrev pub decreases-loop-j : goal.decreases-loop-j
-decreases-loop-j l = 255 - l.j
+invariant-loop-j l = Fills l.initial.bytes l.bytes l.j (from (λ i. pick (get_or l.marks i false) 1 0) l.j (255 - l.j)) (mark_bytes l.marks)

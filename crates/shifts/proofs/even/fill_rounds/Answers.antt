@@ -10,19 +10,14 @@ use Rattle.shifts.proofs.even.fill_rounds.Goals.{else-place-taken, then-place-ta
 
 pub loop-i-init : goal.loop-i-init
 unfolding zeros
-loop-i-init c = (omega arith, omega arith, omega arith, rw sub-zero (fills_start _ _))
+loop-i-init c = (omega arith, omega arith, rw sub-zero (fills_start _ _))
 
 pub loop-i-preserved : goal.loop-i-preserved
 loop-i-preserved c =
     let a = c.args in
     let l = c.loop-i in
-    let todo = rw (shifts_next _ _ _ _ _ c.loop-i-test.true) at l.invariant.3 in
-    let next = c.next_place-place.ensures in (
-      elim c.if-place-taken.branch [ then-place-taken w ↦ omega arith | else-place-taken w ↦ omega arith ],
-      omega arith,
-      next.1,
-      elim c.if-place-taken.branch [ then-place-taken w ↦ rw (w.out-is, w.count-is, next.0) (fills_put (rw (lt-ltb l.place a.taken (omega (arith, w.if-place-taken.true))) at todo) (omega (arith, length_zeros 255))) | else-place-taken w ↦ rw (w.out-is, w.count-is, next.0) (rw (le-ltb l.place a.taken (omega (arith, w.if-place-taken.false))) at todo) ],
-    )
+    let todo = rw (shifts_next _ _ _ _ _ c.loop-i-test.true) at l.invariant.2 in
+    let next = c.next_place-place.ensures in (elim c.if-place-taken.branch [ then-place-taken w ↦ omega arith | else-place-taken w ↦ omega arith ], next.1, elim c.if-place-taken.branch [ then-place-taken w ↦ rw (w.out-is, w.count-is, next.0) (fills_put (rw (lt-ltb l.place a.taken (omega (arith, w.if-place-taken.true))) at todo) (omega (arith, length_zeros 255))) | else-place-taken w ↦ rw (w.out-is, w.count-is, next.0) (rw (le-ltb l.place a.taken (omega (arith, w.if-place-taken.false))) at todo) ])
 
 pub returns : goal.returns
-returns c = fills_padded 255 (rw (shifts_end _ _ _ _ _ c.loop-i-test.false) at c.loop-i.invariant.3)
+returns c = fills_padded 255 (rw (shifts_end _ _ _ _ _ c.loop-i-test.false) at c.loop-i.invariant.2)

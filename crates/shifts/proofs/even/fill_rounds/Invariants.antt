@@ -6,11 +6,4 @@ use Rattle.generator.specs.Shifts.{shifts_from}
 use Rattle.shifts.proofs.even.fill_rounds.Given as goal
 
 abbrev pub invariant-loop-i : goal.invariant-loop-i
-invariant-loop-i l =
-    (l.count ≤ l.i)
-    × (l.i ≤ l.n)
-    × (l.place < l.taken + l.skipped)
-    × Fills (zeros 255) l.out l.count (shifts_from (l.n - l.i) l.i l.taken l.skipped l.place) (shifts_from l.n 0 l.taken l.skipped 0)
-
-abbrev pub decreases-loop-i : goal.decreases-loop-i
-decreases-loop-i l = l.n - l.i
+invariant-loop-i l = (l.count ≤ l.i) × (l.place < l.taken + l.skipped) × Fills (zeros 255) l.out l.count (shifts_from (l.n - l.i) l.i l.taken l.skipped l.place) (shifts_from l.n 0 l.taken l.skipped 0)

@@ -6,6 +6,3 @@ use Rattle.shifts.proofs.laid.fill_laid.Given as goal
 
 abbrev pub invariant-loop-r : goal.invariant-loop-r
 invariant-loop-r l = Filled 255 l.k (λ i. negative l.n (laid_at l.n (l.n - l.k + 1) i)) l.r l.out
-
-abbrev pub decreases-loop-r : goal.decreases-loop-r
-decreases-loop-r l = l.k - l.r

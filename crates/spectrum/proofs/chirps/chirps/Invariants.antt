@@ -11,6 +11,3 @@ read powers exponents x = get_or powers (get_or exponents x 0) 0
 
 abbrev pub invariant-loop-x : goal.invariant-loop-x
 invariant-loop-x l = Filled 510 510 (read l.powers l.exponents) l.x l.out
-
-abbrev pub decreases-loop-x : goal.decreases-loop-x
-decreases-loop-x l = 510 - l.x

@@ -7,6 +7,3 @@ use Rattle.spectrum.proofs.chirps.exponents.Given as goal
 
 abbrev pub invariant-loop-x : goal.invariant-loop-x
 invariant-loop-x l = Filled 510 510 (λ x. triangle x % l.n) l.x l.out × (l.sum ≡ triangle l.x % l.n) × (l.step ≡ l.x % l.n)
-
-abbrev pub decreases-loop-x : goal.decreases-loop-x
-decreases-loop-x l = 510 - l.x

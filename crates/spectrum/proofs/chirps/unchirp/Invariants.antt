@@ -14,6 +14,3 @@ read p n powers exponents symbols j = mul p (get_or symbols j 0) (get_or powers 
 
 abbrev pub invariant-loop-j : goal.invariant-loop-j
 invariant-loop-j l = Filled 255 (length l.symbols) (read (modulus l.field) l.n l.powers l.exponents l.symbols) l.j l.out
-
-abbrev pub decreases-loop-j : goal.decreases-loop-j
-decreases-loop-j l = length l.symbols - l.j

@@ -45,7 +45,7 @@ scales-scales-requires c =
     (rw (points_are (goal.at.scales-scales-requires c).After-powers-roots) (points_symbols h.root 0 (range 0 h.k) c.requires.0.usable_field c.requires.0.root_below (omega (arith, length_range 0 h.k, few h c.requires.0 0))), c.constant_tables-t.ensures)
 
 pub loop-e-init : goal.loop-e-init
-loop-e-init c = (omega arith, refl, refl, begun_none _ _ _ _ _ (λ i. length_check_row c.args.h c.requires.0 i))
+loop-e-init c = (refl, refl, begun_none _ _ _ _ _ (λ i. length_check_row c.args.h c.requires.0 i))
 
 -- the scales as they are lent
 scales-are : (c : In-loop-e) → take c.args.h.k c.scales-scales.result ≡ scales_of (modulus_of c.args.h) (first_points c.args.h)
@@ -84,13 +84,9 @@ prepare-requires c =
       c.requires.0.byte,
       check_row_below h c.requires.0 e,
       omega (arith, c.requires.0.byte, low),
-      omega (arith, row_inside (h.n - h.k) e (8 * groups_of h.n) low, c.requires.2, c.loop-e.invariant.1),
-      omega (arith, row_inside (h.n - h.k) e 8 low, c.requires.3, c.loop-e.invariant.2),
+      omega (arith, row_inside (h.n - h.k) e (8 * groups_of h.n) low, c.requires.2, c.loop-e.invariant.0),
+      omega (arith, row_inside (h.n - h.k) e 8 low, c.requires.3, c.loop-e.invariant.1),
     )
-
-pub overflow_add-e : goal.overflow_add-e
-overflow_add-e c =
-    omega (arith, c.loop-e-test.true, c.requires.0.byte)
 
 pub loop-e-smaller : goal.loop-e-smaller
 loop-e-smaller c = omega (arith, c.loop-e-test.true)
@@ -100,16 +96,16 @@ loop-e-preserved c =
     let h = c.args.h in
     let l = c.loop-e in
     let made = rw (taken (goal.at.loop-e-preserved c).After-check_weights-weights, length_check_row h c.requires.0 l.e) at c.prepare.ensures in
-    (omega (arith, c.loop-e-test.true), omega (arith, l.invariant.1), omega (arith, l.invariant.2), made (check_row h) refl l.invariant.3)
+    (omega (arith, l.invariant.0), omega (arith, l.invariant.1), made (check_row h) refl l.invariant.2)
 
 pub shape_of-lists : goal.shape_of-lists
-shape_of-lists c = c.loop-e.invariant.1
+shape_of-lists c = c.loop-e.invariant.0
 
 pub shape_of-counts : goal.shape_of-counts
-shape_of-counts c = c.loop-e.invariant.2
+shape_of-counts c = c.loop-e.invariant.1
 
 pub returns : goal.returns
 returns c =
     let l = c.loop-e in
     let all : l.e ≡ c.args.h.n - c.args.h.k = omega arith in
-    record { weights = check_row c.args.h; tell = rows_word c.args.h c.requires.0; begun = rw all at l.invariant.3; lists_room = omega (arith, l.invariant.1, c.requires.2); counts_room = omega (arith, l.invariant.2, c.requires.3) }
+    record { weights = check_row c.args.h; tell = rows_word c.args.h c.requires.0; begun = rw all at l.invariant.2; lists_room = omega (arith, l.invariant.0, c.requires.2); counts_room = omega (arith, l.invariant.1, c.requires.3) }

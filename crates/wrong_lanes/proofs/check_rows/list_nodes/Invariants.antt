@@ -8,7 +8,4 @@ use Rattle.wrong_lanes.specs.Inner.Checks.{check_row}
 use Rattle.wrong_lanes.proofs.check_rows.list_nodes.Given as goal
 
 abbrev pub invariant-loop-e : goal.invariant-loop-e
-invariant-loop-e l = (l.e ≤ l.checks) × (length l.lists ≡ length l.initial.lists) × (length l.counts ≡ length l.initial.counts) × Begun (modulus_of l.h) l.h.n (check_row l.h) l.e l.lists l.counts
-
-abbrev pub decreases-loop-e : goal.decreases-loop-e
-decreases-loop-e l = l.checks - l.e
+invariant-loop-e l = (length l.lists ≡ length l.initial.lists) × (length l.counts ≡ length l.initial.counts) × Begun (modulus_of l.h) l.h.n (check_row l.h) l.e l.lists l.counts

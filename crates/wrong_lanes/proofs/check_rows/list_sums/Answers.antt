@@ -20,7 +20,7 @@ powers-table-requires c = c.requires.0
 
 pub loop-e-init : goal.loop-e-init
 loop-e-init c =
-    let h = c.args.h in (omega arith, refl, refl, begun_none _ _ _ _ _ (λ i. length_factors h (i + 1)))
+    let h = c.args.h in (refl, refl, begun_none _ _ _ _ _ (λ i. length_factors h (i + 1)))
 
 -- a check's number is small
 few : (c : In-loop-e) → c.loop-e.e + 1 ≤ 255
@@ -53,8 +53,8 @@ prepare-requires c =
       c.requires.0.byte,
       factors_below h (l.e + 1) c.requires.0,
       omega (arith, few (goal.at.prepare-requires c).In-loop-e),
-      omega (arith, row_inside (h.n - h.k) l.e (8 * groups_of h.n) low, c.requires.2, l.invariant.1),
-      omega (arith, row_inside (h.n - h.k) l.e 8 low, c.requires.3, l.invariant.2),
+      omega (arith, row_inside (h.n - h.k) l.e (8 * groups_of h.n) low, c.requires.2, l.invariant.0),
+      omega (arith, row_inside (h.n - h.k) l.e 8 low, c.requires.3, l.invariant.1),
     )
 
 pub loop-e-preserved : goal.loop-e-preserved
@@ -62,16 +62,16 @@ loop-e-preserved c =
     let h = c.args.h in
     let l = c.loop-e in
     let made = rw (taken (goal.at.loop-e-preserved c).After-factors-weights, length_factors h (l.e + 1)) at c.prepare.ensures in
-    (omega arith, omega (arith, l.invariant.1), omega (arith, l.invariant.2), made (λ i. factors_of h (i + 1)) refl l.invariant.3)
+    (omega (arith, l.invariant.0), omega (arith, l.invariant.1), made (λ i. factors_of h (i + 1)) refl l.invariant.2)
 
 pub shape_of-lists : goal.shape_of-lists
-shape_of-lists c = c.loop-e.invariant.1
+shape_of-lists c = c.loop-e.invariant.0
 
 pub shape_of-counts : goal.shape_of-counts
-shape_of-counts c = c.loop-e.invariant.2
+shape_of-counts c = c.loop-e.invariant.1
 
 pub returns : goal.returns
 returns c =
     let all : c.loop-e.e ≡ c.args.h.n - c.args.h.k = omega arith in
     let inv = c.loop-e.invariant in
-    record { weights = λ i. factors_of c.args.h (i + 1); tell = λ ws long below. factors_word c.args.h ws long; begun = rw all at inv.3; lists_room = omega (arith, inv.1, c.requires.2); counts_room = omega (arith, inv.2, c.requires.3) }
+    record { weights = λ i. factors_of c.args.h (i + 1); tell = λ ws long below. factors_word c.args.h ws long; begun = rw all at inv.2; lists_room = omega (arith, inv.0, c.requires.2); counts_room = omega (arith, inv.1, c.requires.3) }

@@ -8,7 +8,4 @@ use Rattle.check_sums.specs.Inner.Powers.{factors_of}
 use Rattle.wrong_lanes.proofs.check_rows.list_sums.Given as goal
 
 abbrev pub invariant-loop-e : goal.invariant-loop-e
-invariant-loop-e l = (l.e ≤ l.checks) × (length l.lists ≡ length l.initial.lists) × (length l.counts ≡ length l.initial.counts) × Begun (modulus_of l.h) l.h.n (λ i. factors_of l.h (i + 1)) l.e l.lists l.counts
-
-abbrev pub decreases-loop-e : goal.decreases-loop-e
-decreases-loop-e l = l.checks - l.e
+invariant-loop-e l = (length l.lists ≡ length l.initial.lists) × (length l.counts ≡ length l.initial.counts) × Begun (modulus_of l.h) l.h.n (λ i. factors_of l.h (i + 1)) l.e l.lists l.counts
