@@ -11,9 +11,11 @@ use Rattle.field.specs.declared.gf256.Gf256.{Gf256}
 use Rattle.field.specs.declared.Field.{Field}
 use Rattle.field.specs.declared.Field.TheVariants.{Prime, Binary}
 use Rattle.field.specs.Primes.{is_prime}
-use Rattle.field.specs.Fields.{is_field, size_of}
+use Rattle.field.specs.Fields.{is_field, size_of, add, sub, mul, power, inverse}
 use Rattle.field.specs.Kinds.{modulus, usable}
 use Rattle.field.proofs.Meanings.{prime_field, prime_size, byte_field}
+use Rattle.field.proofs.Bounds.{add_below, sub_below, mul_below, power_below}
+use Rattle.field.proofs.Inverse.{inverse_below}
 
 -- a usable prime field: its prime, in 16 bits
 pub usable_prime : (f : PrimeField) → usable (Prime f) ≡ true → (f.p ≤ 65521) × (is_prime f.p ≡ true) × (size_of f.p ≡ f.p)
@@ -42,3 +44,20 @@ prime_symbol f h l = rw (usable_prime f h).2 at l
 pub byte_symbol : (g : Gf256) {a : ℕ} → a < size_of (modulus (Binary g)) → a < 256
 unfolding modulus size_of
 byte_symbol g l = l
+
+-- what its operations give are symbols
+module _ (f : Field) (u : usable f ≡ true) where
+  pub add_symbol : {a b : ℕ} → a < size_of (modulus f) → b < size_of (modulus f) → add (modulus f) a b < size_of (modulus f)
+  add_symbol = add_below (modulus f) (usable_field f u)
+
+  pub sub_symbol : {a b : ℕ} → a < size_of (modulus f) → b < size_of (modulus f) → sub (modulus f) a b < size_of (modulus f)
+  sub_symbol = sub_below (modulus f) (usable_field f u)
+
+  pub mul_symbol : {a b : ℕ} → a < size_of (modulus f) → b < size_of (modulus f) → mul (modulus f) a b < size_of (modulus f)
+  mul_symbol = mul_below (modulus f) (usable_field f u)
+
+  pub power_symbol : {a : ℕ} (e : ℕ) → a < size_of (modulus f) → power (modulus f) a e < size_of (modulus f)
+  power_symbol = power_below (modulus f) (usable_field f u)
+
+  pub inverse_symbol : {a : ℕ} → a < size_of (modulus f) → inverse (modulus f) a < size_of (modulus f)
+  inverse_symbol = inverse_below (modulus f) (usable_field f u)

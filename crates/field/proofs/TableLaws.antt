@@ -12,7 +12,9 @@ use lib.ListN.{length, get_or}
 use Rattle.lists.proofs.Cases.{by_test}
 use Rattle.field.specs.Bytes.{times_x, product_from, product}
 use Rattle.field.specs.Fields.{size_of, mul, power, inverse, order_from, order_of}
-use Rattle.field.specs.Tables.{powers_in, logarithms_in, AreTables, table_product, table_inverse}
+use Rattle.field.specs.declared.tables.Tables.{Tables}
+use Rattle.field.specs.Logarithms.{ArePowersAndLogarithms}
+use Rattle.field.specs.Tables.{powers_in, logarithms_in, table_product, table_inverse}
 use Rattle.field.proofs.Computed.{both, both_left, both_right, every_entry, entry_at}
 use Rattle.field.proofs.Product.{times_x_byte, product_one, product_two, product_comm}
 use Rattle.field.proofs.Arithmetic.{zero-mul, mul-zero}
@@ -59,7 +61,7 @@ chain_byte a (x ∷ xs) t ha (suc e) h =
     chain_byte (times_x x) xs (both_right (eqb x a) (chain (times_x x) xs) t) low e (omega arith)
 
 -- lists that pass are tables
-pub are_tables : (ps ls : List ℕ) → T (tables_pass ps ls) → AreTables (ps ∷ (ls ∷ []))
+pub are_tables : (ps ls : List ℕ) → T (tables_pass ps ls) → ArePowersAndLogarithms ps ls
 are_tables ps ls t =
     let sizes = both_left (both (eqb (length ps) 255) (eqb (length ls) 255)) _ t in
     let lp : length ps ≡ 255 = eqb→eq (length ps) 255 (both_left (eqb (length ps) 255) (eqb (length ls) 255) sizes) in
@@ -103,6 +105,29 @@ two_wrap s h =
     ∙ power_add 0 byte_field 2 (s - 255) 255 two
     ∙ ap (power 0 2) whole
 
+-- an exponent modulo 255
+pub reduced : (s : ℕ) → s < 510 → power 0 2 (s % 255) ≡ power 0 2 s
+reduced s h =
+    by_test (ltb s 255)
+    (λ b. let low : s < 255 = ltb-true s 255 b in let e : s % 255 ≡ s = omega arith in ap (power 0 2) e)
+    (λ b. let low : 255 ≤ s = ltb-false s 255 b in let e : s % 255 ≡ s - 255 = omega arith in ap (power 0 2) e ∙ two_wrap s low)
+
+-- exponents add
+pub exponents_add : (i j : ℕ) {a b : ℕ} → power 0 2 i ≡ a → power 0 2 j ≡ b → power 0 2 (i + j) ≡ mul 0 a b
+exponents_add i j is js = sym (power_add 0 byte_field 2 i j two) ∙ ap₂ (mul 0) is js
+
+-- the negative of an exponent
+pub negative : (e : ℕ) {a : ℕ} → e < 255 → a < 256 → power 0 2 e ≡ a → power 0 2 (255 - e) ≡ inverse 0 a
+unfolding size_of
+negative e {a} low h is =
+    let whole : e + (255 - e) ≡ 255 = omega arith in
+    inverse_unique 0 byte_field a (power 0 2 (255 - e)) h (power_below 0 byte_field (255 - e) two)
+    (sym (exponents_add e (255 - e) is refl) ∙ ap (power 0 2) whole ∙ two_255)
+
+-- the power whose exponent is the reduced sum
+pub log_step : (i j : ℕ) {a : ℕ} → i + j < 510 → power 0 2 i ≡ a → mul 0 a (power 0 2 j) ≡ power 0 2 ((i + j) % 255)
+log_step i j few at = sym (exponents_add i j at refl) ∙ sym (reduced (i + j) few)
+
 -- 0 times a byte
 pub zero_times : {a : ℕ} (b : ℕ) → b < 256 → a ≡ 0 → 0 ≡ mul 0 a b
 unfolding size_of
@@ -124,46 +149,26 @@ order_zero = refl
 pub zero_order : {a : ℕ} (n : ℕ) → 1 ≤ n → a ≡ 0 → false ≡ eqb (order_of 0 a) n
 zero_order n some e = sym (ne_eqb _ n (λ found. let none : 0 ≡ n = sym (ap (order_of 0) e ∙ order_zero) ∙ found in omega arith))
 
-module _ {ts : List (List ℕ)} (t : AreTables ts) where
+module _ (ts : Tables) where
   -- what stands at e is 2 to the power e
   pub power_at : (e : ℕ) → e < 255 → get_or (powers_in ts) e 0 ≡ power 0 2 e
   unfolding power mul
-  power_at zero h = t.first
-  power_at (suc e) h = rw add-one at (t.next e (omega arith)) ∙ ap (product 2) (power_at e (omega arith))
-
-  -- the exponent of a, modulo 255 where it is 255 or more
-  pub wrapped_at : (s : ℕ) → 255 ≤ s → s < 510 → get_or (powers_in ts) (s - 255) 0 ≡ power 0 2 s
-  wrapped_at s low high = power_at (s - 255) (omega arith) ∙ two_wrap s low
+  power_at zero h = ts.agree.first
+  power_at (suc e) h = rw add-one at (ts.agree.next e (omega arith)) ∙ ap (product 2) (power_at e (omega arith))
 
   -- the exponent reduced modulo 255
   pub reduced_at : (s : ℕ) → s < 510 → get_or (powers_in ts) (s % 255) 0 ≡ power 0 2 s
-  reduced_at s h =
-      by_test (ltb s 255)
-      (λ b. let low : s < 255 = ltb-true s 255 b in let e : s % 255 ≡ s = omega arith in rw e (power_at s low))
-      (λ b. let low : 255 ≤ s = ltb-false s 255 b in let e : s % 255 ≡ s - 255 = omega arith in rw e (wrapped_at s low h))
+  reduced_at s h = power_at (s % 255) (mod-lt s (omega arith)) ∙ reduced s h
 
   pub log_power : (a : ℕ) → 0 < a → a < 256 → power 0 2 (get_or (logarithms_in ts) (a - 1) 0) ≡ a
-  log_power a pos h = sym (power_at (get_or (logarithms_in ts) (a - 1) 0) (t.below a pos h)) ∙ t.power a pos h
-
-  -- the sum of two exponents
-  pub logs_add : (a b : ℕ) → 0 < a → a < 256 → 0 < b → b < 256 → power 0 2 (get_or (logarithms_in ts) (a - 1) 0 + get_or (logarithms_in ts) (b - 1) 0) ≡ mul 0 a b
-  logs_add a b pa ha pb hb =
-      sym (power_add 0 byte_field 2 (get_or (logarithms_in ts) (a - 1) 0) (get_or (logarithms_in ts) (b - 1) 0) two) ∙ ap₂ (mul 0) (log_power a pa ha) (log_power b pb hb)
-
-  -- the power whose exponent is the reduced sum
-  pub log_step : (i j : ℕ) {a : ℕ} → i + j < 510 → power 0 2 i ≡ a → mul 0 a (power 0 2 j) ≡ power 0 2 ((i + j) % 255)
-  log_step i j few at =
-      ap (λ (x : ℕ). mul 0 x (power 0 2 j)) (sym at)
-      ∙ power_add 0 byte_field 2 i j two
-      ∙ sym (reduced_at (i + j) few)
-      ∙ power_at ((i + j) % 255) (mod-lt (i + j) (omega arith))
+  log_power a pos h = sym (power_at (get_or (logarithms_in ts) (a - 1) 0) (ts.agree.below a pos h)) ∙ ts.agree.power a pos h
 
   -- 1 is the power at 0 alone
   pub one_power : (s : ℕ) → s < 255 → power 0 2 s ≡ 1 → s ≡ 0
   one_power s h one =
-      sym (t.logarithm s h)
-      ∙ ap (λ (x : ℕ). get_or (logarithms_in ts) (x - 1) 0) (power_at s h ∙ one ∙ sym t.first)
-      ∙ t.logarithm 0 (omega arith)
+      sym (ts.agree.logarithm s h)
+      ∙ ap (λ (x : ℕ). get_or (logarithms_in ts) (x - 1) 0) (power_at s h ∙ one ∙ sym ts.agree.first)
+      ∙ ts.agree.logarithm 0 (omega arith)
 
   pub one_test : (s : ℕ) → s < 255 → eqb s 0 ≡ eqb (power 0 2 s) 1
   one_test s h =
@@ -173,12 +178,7 @@ module _ {ts : List (List ℕ)} (t : AreTables ts) where
 
   -- the power with the negative of an exponent
   pub log_inverse : (a : ℕ) → 0 < a → a < 256 → power 0 2 (255 - get_or (logarithms_in ts) (a - 1) 0) ≡ inverse 0 a
-  unfolding size_of
-  log_inverse a pos h =
-      let e = get_or (logarithms_in ts) (a - 1) 0 in
-      let whole : e + (255 - e) ≡ 255 = omega (arith, t.below a pos h) in
-      inverse_unique 0 byte_field a (power 0 2 (255 - e)) h (power_below 0 byte_field (255 - e) two)
-      (ap (λ (x : ℕ). mul 0 x (power 0 2 (255 - e))) (sym (log_power a pos h)) ∙ power_add 0 byte_field 2 e (255 - e) two ∙ ap (power 0 2) whole ∙ two_255)
+  log_inverse a pos h = negative _ (ts.agree.below a pos h) h (log_power a pos h)
 
   -- the table product of every two bytes is the product of polynomials
   pub table_product_lem : (a b : ℕ) → a < 256 → b < 256 → table_product ts a b ≡ product a b
@@ -189,10 +189,10 @@ module _ {ts : List (List ℕ)} (t : AreTables ts) where
       let s = get_or (logarithms_in ts) a 0 + get_or (logarithms_in ts) b 0 in
       let at_a : suc a - 1 ≡ a = omega arith in
       let at_b : suc b - 1 ≡ b = omega arith in
-      let i : get_or (logarithms_in ts) a 0 < 255 = rw at_a at (t.below (suc a) (omega arith) ha) in
-      let j : get_or (logarithms_in ts) b 0 < 255 = rw at_b at (t.below (suc b) (omega arith) hb) in
+      let i : get_or (logarithms_in ts) a 0 < 255 = rw at_a at (ts.agree.below (suc a) (omega arith) ha) in
+      let j : get_or (logarithms_in ts) b 0 < 255 = rw at_b at (ts.agree.below (suc b) (omega arith) hb) in
       let few : s < 510 = omega arith in
-      reduced_at s few ∙ rw (at_a, at_b) at (logs_add (suc a) (suc b) (omega arith) ha (omega arith) hb)
+      reduced_at s few ∙ exponents_add _ _ (rw at_a at (log_power (suc a) (omega arith) ha)) (rw at_b at (log_power (suc b) (omega arith) hb))
 
   -- each byte but 0 times its table inverse is 1
   pub table_inverse_lem : (a : ℕ) → 0 < a → a < 256 → product a (table_inverse ts a) ≡ 1

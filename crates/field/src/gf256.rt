@@ -1,8 +1,8 @@
 // The field of 256 elements: bytes as polynomials over two elements modulo 0x11D. Its number is 0.
-ghost use Rattle.std.specs.Prelude.{◌≡◌, ◌-◌, ◌%◌, ◌≤◌, ◌<◌, eqb, get_or};
+ghost use Rattle.std.specs.Prelude.{◌≡◌, ◌%◌, ◌≤◌, ◌<◌, eqb};
 ghost use Rattle.field.specs.Fields.{add, sub, mul, inverse, order_of};
 ghost use Rattle.field.specs.Kinds.{gf256};
-ghost use Rattle.field.specs.Tables.{powers_in, logarithms_in, AreTables};
+ghost use Rattle.field.specs.Tables.{AreTables};
 
 use crate::tables::{Tables, constant_tables};
 
@@ -53,8 +53,8 @@ impl Gf256 {
         if b == Self::ZERO {
             return Self::ZERO;
         }
-        let e = logarithm(tables, a) as u32 + logarithm(tables, b) as u32;
-        power(tables, reduced(e)) as u32
+        let e = tables.logarithm(a) as u32 + tables.logarithm(b) as u32;
+        tables.power(reduced(e)) as u32
     }
 
     // 0 for 0.
@@ -68,17 +68,17 @@ impl Gf256 {
 
     // The power whose exponent is the negative of a's, modulo 255.
     pub fn inverse_with(self, tables: &Tables, a: u32) -> u32
-        requires { AreTables tables.now × (a < 256) }
+        requires { a < 256 }
         ensures { result ≡ inverse 0 a }
     {
         if a == Self::ZERO {
             return Self::ZERO;
         }
-        let e = logarithm(tables, a) as u32;
+        let e = tables.logarithm(a) as u32;
         if e == 0 {
             Self::ONE
         } else {
-            power(tables, 255 - e) as u32
+            tables.power(255 - e) as u32
         }
     }
 
@@ -91,7 +91,7 @@ impl Gf256 {
             return false;
         }
         let t = constant_tables();
-        let step = logarithm(&t, a) as u32;
+        let step = t.logarithm(a) as u32;
         let mut e: u32 = 1;
         let mut s = step;
         while e < n {
@@ -112,18 +112,4 @@ fn reduced(e: u32) -> u32
 {
     let s = e + 1;
     (s + s / 256) % 256 - 1
-}
-
-fn power(tables: &Tables, e: u32) -> u8
-    requires { e < 255 }
-    ensures { result ≡ get_or (powers_in tables.now) e 0 }
-{
-    tables[0][e as usize]
-}
-
-fn logarithm(tables: &Tables, a: u32) -> u8
-    requires { (0 < a) × (a < 256) }
-    ensures { result ≡ get_or (logarithms_in tables.now) (a - 1) 0 }
-{
-    tables[1][(a - 1) as usize]
 }

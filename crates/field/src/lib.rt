@@ -8,6 +8,7 @@ ghost use Rattle.field.specs.Tables.{AreTables};
 ghost use Rattle.field.specs.Widths.{bytes_for};
 
 mod gf256;
+pub mod lent;
 mod prime;
 mod tables;
 

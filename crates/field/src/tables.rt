@@ -1,15 +1,43 @@
 // The tables of the field of 256 elements: the powers of 2, and the logarithm of each byte but 0.
-ghost use Rattle.field.specs.Tables.{AreTables};
+ghost use Rattle.std.specs.Prelude.{◌≡◌, ◌<◌};
+ghost use Rattle.field.specs.Fields.{power};
+ghost use Rattle.field.specs.Logarithms.{ArePowersAndLogarithms};
 
-// The powers, then the logarithms.
-pub type Tables = [[u8; 255]; 2];
+#[derive(Clone, Copy)]
+pub struct Tables {
+    powers: [u8; 255],
+    logarithms: [u8; 255],
+    pub ghost agree: { ArePowersAndLogarithms powers logarithms },
+}
+
+impl Tables {
+    // 2 to the power e.
+    pub(crate) fn power(&self, e: u32) -> u8
+        requires { e < 255 }
+        ensures { result ≡ power 0 2 e }
+    {
+        self.powers[e as usize]
+    }
+
+    // The exponent below 255 whose power of 2 is a.
+    pub(crate) fn logarithm(&self, a: u32) -> u8
+        requires { (0 < a) × (a < 256) }
+        ensures below { result < 255 }
+        ensures inverts { power 0 2 result ≡ a }
+    {
+        self.logarithms[(a - 1) as usize]
+    }
+}
 
 // Both tables by value. A function that reads a constant array copies it first; one that takes many products asks for the tables
 // once, and lends them to each product.
 pub fn constant_tables() -> Tables
-    ensures { AreTables result }
+    ensures { ArePowersAndLogarithms result.powers result.logarithms }
 {
-    [POWERS, LOGARITHMS]
+    Tables {
+        powers: POWERS,
+        logarithms: LOGARITHMS,
+    }
 }
 
 // 2 to the power e, at e.

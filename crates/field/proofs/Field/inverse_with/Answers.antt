@@ -13,7 +13,7 @@ inverse-requires c =
 pub inverse_with-requires : goal.inverse_with-requires
 inverse_with-requires c =
     let s = c.requires in
-    (s.2, byte_symbol _ (rw c.in-Binary.is at s.1))
+    byte_symbol _ (rw c.in-Binary.is at s.1)
 
 pub returns-in-Prime : goal.returns-in-Prime
 unfolding modulus

@@ -3,6 +3,6 @@ use Rattle.field.specs.Bytes.{times_x}
 use Rattle.field.proofs.TableLaws.{are_tables}
 use Rattle.field.proofs.tables.constant_tables.Goals as goal
 
-pub returns : goal.returns
+pub invariant_of-result : goal.invariant_of-result
 unfolding times_x
-returns c = are_tables _ _ tt
+invariant_of-result c = record { agree = are_tables _ _ tt }

@@ -1,25 +1,18 @@
 -- `Gf256::has_order` meets its contract. The loop's invariant: 2 to the exponent s is the power at which the search stands.
-use mathlib.Core.Path.{◌≡◌, ◌∙◌}
-use Prim.Native.Nat.{◌<◌}
+use mathlib.Core.Path.{◌∙◌}
 use native.Mathlib.Nat.{mod-lt}
 use native.Mathlib.Omega.{arith}
-use Rattle.field.specs.Fields.{power}
 use Rattle.field.proofs.Orders.{searched_start, searched_step, searched_stop, searched_end}
-use Rattle.field.proofs.TableLaws.{zero_order, log_power, log_step, power_zero, one_power, one_test}
+use Rattle.field.proofs.TableLaws.{zero_order, log_step, power_zero, one_power, one_test}
 use Rattle.field.proofs.gf256.Gf256.has_order.Goals as goal
 
 pub returns-then-a-eq-ZERO : goal.returns-then-a-eq-ZERO
 returns-then-a-eq-ZERO c = zero_order _ c.requires.1 c.if-a-eq-ZERO.true
 
-pub constant_tables-t-requires : goal.constant_tables-t-requires
-constant_tables-t-requires c = _
-
 pub loop-e-init : goal.loop-e-init
 loop-e-init c =
-    let t = c.constant_tables-t.ensures in
-    let e : power 0 2 c.logarithm-step.result ≡ c.args.a = rw c.logarithm-step.ensures (log_power t _ (omega arith) c.requires.0) in
-    let low : c.logarithm-step.result < 255 = rw c.logarithm-step.ensures (t.below _ (omega arith) c.requires.0) in
-    (rw e (searched_start 0 _ _ c.requires.1), low, low, e)
+    let log = c.logarithm-step.ensures in
+    (rw log.inverts (searched_start 0 _ _ c.requires.1), log.below, log.below, log.inverts)
 
 pub returns-then-s-eq0 : goal.returns-then-s-eq0
 returns-then-s-eq0 c =
@@ -27,10 +20,10 @@ returns-then-s-eq0 c =
 
 pub loop-e-preserved : goal.loop-e-preserved
 loop-e-preserved c =
-    let t = c.constant_tables-t.ensures in
+    let t = c.constant_tables-t.result in
     let inv = c.loop-e.invariant in
     let next = searched_step 0 _ _ _ _ c.requires.2 c.loop-e-test.true (λ one. c.if-s-eq0.false (one_power t _ inv.1 one)) inv.0 in (
-      rw c.reduced-s.ensures (rw (log_step t c.logarithm-step.result c.loop-e.s (omega arith) inv.3) at next),
+      rw c.reduced-s.ensures (rw (log_step c.logarithm-step.result c.loop-e.s (omega arith) inv.3) at next),
       rw c.reduced-s.ensures (mod-lt _ (omega arith)),
       inv.2,
       inv.3,
@@ -38,5 +31,5 @@ loop-e-preserved c =
 
 pub returns : goal.returns
 returns c =
-    let t = c.constant_tables-t.ensures in
+    let t = c.constant_tables-t.result in
     one_test t _ c.loop-e.invariant.1 ∙ searched_end 0 _ _ _ _ c.requires.2 c.loop-e-test.false c.loop-e.invariant.0

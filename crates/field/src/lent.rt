@@ -1,0 +1,83 @@
+// A field in which code reckons, with the tables that were lent for its products.
+ghost use Rattle.std.specs.Prelude.{◌≡◌, true, ◌≤◌, ◌<◌, eqb};
+ghost use Rattle.field.specs.Fields.{size_of, add, sub, mul, power, inverse};
+ghost use Rattle.field.specs.Kinds.{modulus, usable};
+
+use crate::Field;
+use crate::tables::Tables;
+
+// By value, where code takes sums and products of one field.
+#[derive(Clone, Copy)]
+pub struct Arithmetic<'a> {
+    pub field: Field,
+    pub tables: &'a Tables,
+    pub ghost usable: { usable field ≡ true },
+    pub ghost small: { size_of (modulus field) ≤ 65521 },
+}
+
+impl<'a> Arithmetic<'a> {
+    #[tactic(auto, using(crate::proofs::KindLaws::size_fits))]
+    pub fn new(field: Field, tables: &'a Tables) -> Self
+        requires { usable field ≡ true }
+        ensures { result.field ≡ field }
+    {
+        Self {
+            field: field,
+            tables: tables,
+        }
+    }
+
+    #[tactic(auto, using(crate::proofs::KindLaws::add_symbol))]
+    pub fn add(self, a: u32, b: u32) -> u32
+        requires { (a < size_of (modulus self.field)) × (b < size_of (modulus self.field)) }
+        ensures is { result ≡ add (modulus self.entry.field) a b }
+        ensures symbol { result < size_of (modulus self.entry.field) }
+    {
+        self.field.add(a, b)
+    }
+
+    #[tactic(auto, using(crate::proofs::KindLaws::sub_symbol))]
+    pub fn sub(self, a: u32, b: u32) -> u32
+        requires { (a < size_of (modulus self.field)) × (b < size_of (modulus self.field)) }
+        ensures is { result ≡ sub (modulus self.entry.field) a b }
+        ensures symbol { result < size_of (modulus self.entry.field) }
+    {
+        self.field.sub(a, b)
+    }
+
+    #[tactic(auto, using(crate::proofs::KindLaws::mul_symbol))]
+    pub fn mul(self, a: u32, b: u32) -> u32
+        requires { (a < size_of (modulus self.field)) × (b < size_of (modulus self.field)) }
+        ensures is { result ≡ mul (modulus self.entry.field) a b }
+        ensures symbol { result < size_of (modulus self.entry.field) }
+    {
+        self.field.mul_with(self.tables, a, b)
+    }
+
+    // Whether c is the product of a and b.
+    pub fn is_product(self, a: u32, b: u16, c: u16) -> bool
+        requires { (a < size_of (modulus self.field)) × (b < size_of (modulus self.field)) }
+        ensures { result ≡ eqb c (mul (modulus self.entry.field) a b) }
+    {
+        self.field.is_product(self.tables, a, b, c)
+    }
+
+    // The symbol whose product with a is 1; 0 for 0.
+    #[tactic(auto, using(crate::proofs::KindLaws::inverse_symbol))]
+    pub fn inverse(self, a: u32) -> u32
+        requires { a < size_of (modulus self.field) }
+        ensures is { result ≡ inverse (modulus self.entry.field) a }
+        ensures symbol { result < size_of (modulus self.entry.field) }
+    {
+        self.field.inverse_with(self.tables, a)
+    }
+
+    #[tactic(auto, using(crate::proofs::KindLaws::power_symbol))]
+    pub fn power(self, a: u32, e: u32) -> u32
+        requires { a < size_of (modulus self.field) }
+        ensures is { result ≡ power (modulus self.entry.field) a e }
+        ensures symbol { result < size_of (modulus self.entry.field) }
+    {
+        self.field.power(self.tables, a, e)
+    }
+}
