@@ -1,6 +1,5 @@
 -- Products of numbers of 16 binary digits, and sums of their halves.
-use Rattle.std.proofs.Common.{◌≡◌, ℕ, ◌+◌, ◌*◌, ◌%◌, ◌<◌, ◌≤◌, List, length, get_or, set, sym, ◌∙◌, add-zero, mod-eq_of_lt, mul-le-mul, arith}
-use Rattle.std.proofs.Math.ListN.{length-set}
+use Rattle.std.proofs.Common.{◌≡◌, ℕ, ◌+◌, ◌*◌, ◌%◌, ◌<◌, ◌≤◌, List, length, get_or, set, sym, ◌∙◌, add-zero, mod-eq_of_lt, mul-le-mul, arith, length-set}
 use Rattle.lists.specs.Padded.{zeros}
 use Rattle.lists.proofs.Fill.{length_zeros}
 use Rattle.lists.proofs.Numbers.{at_below, below_at, below_set}

@@ -1,6 +1,5 @@
 -- `gf256::add_two` meets its contract. The loop's invariant: the lanes below t hold the sum.
-use Rattle.std.proofs.Common.{get_or}
-use lib.Bits.{bit_xor}
+use Rattle.std.proofs.Common.{get_or, bit_xor}
 use Rattle.kernel.proofs.Filling.{Changed}
 use Rattle.kernel.proofs.gf256.add_two.Given as goal
 
