@@ -1,6 +1,6 @@
 -- The steps of the product of bytes with no branch: a digit as a mask, and a product with x in eight digits.
-use Rattle.std.proofs.Common.{◌≡◌, ℕ, zero, suc, ◌+◌, ◌*◌, ◌/◌, ◌%◌, ◌<◌, ◌∙◌, mod-eq_of_lt, mul-zero, mul-one, arith}
-use lib.Bits.{bit_and, bit_xor, and_zero_r, and_mask}
+use Rattle.std.proofs.Common.{◌≡◌, ℕ, zero, suc, ◌+◌, ◌*◌, ◌/◌, ◌%◌, ◌<◌, ◌∙◌, mod-eq_of_lt, mul-zero, mul-one, arith, bit_and, bit_xor}
+use lib.Bits.{and_zero_r, and_mask}
 use Rattle.field.specs.Bytes.{times_x}
 use Rattle.field.proofs.Computed.{equal_at}
 

@@ -1,6 +1,9 @@
 -- Products of numbers of 16 binary digits, and sums of their halves.
-use Rattle.std.proofs.Common.{◌≡◌, ℕ, ◌+◌, ◌*◌, ◌%◌, ◌<◌, ◌≤◌, List, length, get_or, sym, ◌∙◌, add-zero, mod-eq_of_lt, mul-le-mul, arith}
-use Rattle.lists.proofs.Numbers.{at_below, below_at}
+use Rattle.std.proofs.Common.{◌≡◌, ℕ, ◌+◌, ◌*◌, ◌%◌, ◌<◌, ◌≤◌, List, length, get_or, set, sym, ◌∙◌, add-zero, mod-eq_of_lt, mul-le-mul, arith, length-set}
+use Rattle.lists.specs.Padded.{zeros}
+use Rattle.lists.proofs.Fill.{length_zeros}
+use Rattle.lists.proofs.Numbers.{at_below, below_at, below_set}
+use Rattle.lists.proofs.Padding.{below_zeros}
 use Rattle.kernel.specs.Inner.Halves.{wrapped, Sixteen}
 use Rattle.kernel.proofs.Lanes.{length_lanewise, get_or_lanewise, lanewise_same}
 
@@ -9,6 +12,13 @@ product16 a b ha hb =
     let la : a ≤ 65535 = omega arith in
     let lb : b ≤ 65535 = omega arith in
     omega (arith, mul-le-mul la lb)
+
+pub sixteen_zeros : Sixteen (zeros 16)
+sixteen_zeros = record { long = length_zeros 16; below = below_zeros 65536 16 (omega arith) }
+
+-- one sum replaced
+pub sixteen_set : (s : List ℕ) (t x : ℕ) → Sixteen s → x < 65536 → Sixteen (set s t x)
+sixteen_set s t x h small = record { long = simp length-set h.long; below = below_set 65536 s t x small h.below }
 
 module _ (f : ℕ → ℕ) (s : List ℕ) (h : Sixteen s) where
   pub get_or_wrapped : (t : ℕ) → t < 16 → get_or (wrapped f s) t 0 ≡ (get_or s t 0 + f t) % 65536

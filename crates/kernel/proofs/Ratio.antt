@@ -1,5 +1,5 @@
 -- The quotient of x·c by p from the ratio r = c·256 / p, for a byte x: x·r / 256 is the quotient or one less.
-use Rattle.std.proofs.Common.{◌≡◌, ℕ, ◌+◌, ◌-◌, ◌*◌, ◌/◌, ◌%◌, ◌<◌, ◌≤◌, sym, ap, ◌∙◌, le_refl, mod-lt, mul_assoc, mul_comm, div-lt_iff_lt-mul, add-mul, mul-le-mul, div-add-mod', mul-add, arith}
+use Rattle.std.proofs.Common.{◌≡◌, ℕ, ◌+◌, ◌-◌, ◌*◌, ◌/◌, ◌%◌, ◌<◌, ◌≤◌, sym, ap, ◌∙◌, le_refl, mod-lt, mul_assoc, mul_comm, add-mul, mul-le-mul, div-add-mod', mul-add, arith}
 use native.Mathlib.Nat.{add-mul-mod_self_right}
 
 -- a product of bytes fits 16 bits
@@ -9,19 +9,13 @@ byte_product a b ha hb =
     let lb : b ≤ 255 = omega arith in
     omega (arith, mul-le-mul la lb)
 
--- the products fit 16 bits, and what is left of x·c is below 2·p and x·c modulo p
+-- what is left of x·c is below 2·p and x·c modulo p
 pub record Estimate (p c r x : ℕ) : Type 0 where
-  pub product_fits : x * c < 65536
-  pub ratio_fits : x * r < 65536
   pub low : x * r / 256 * p ≤ x * c
   pub below : x * c - x * r / 256 * p < 2 * p
   pub same : (x * c - x * r / 256 * p) % p ≡ x * c % p
 
 module _ (p c r x : ℕ) (e : r ≡ c * 256 / p) (hp : p ≤ 256) (hc : c < p) (hx : x < 256) where
-  -- the ratio is a byte
-  ratio_byte : r < 256
-  ratio_byte = rw e ((div-lt_iff_lt-mul {k = p} (omega arith)).1 (omega arith))
-
   -- x·c, 256 times, by the quotients and the remainders
   parts : x * c * 256 ≡ x * r / 256 * p * 256 + x * r % 256 * p + x * (c * 256 % p)
   parts =
@@ -52,8 +46,6 @@ module _ (p c r x : ℕ) (e : r ≡ c * 256 / p) (hp : p ≤ 256) (hc : c < p) (
   pub estimate : Estimate p c r x
   estimate =
       record {
-        product_fits = byte_product x c hx (omega arith);
-        ratio_fits = byte_product x r hx ratio_byte;
         low = quotient_low;
         below = rest_below;
         same = rest_same;

@@ -7,10 +7,8 @@ ghost use Rattle.kernel.specs.Inner.Lanes.{lanewise};
 pub fn multiply_x(acc: &mut [u8])
     ensures { acc.new ≡ lanewise (λ t y. times_x y) acc.old }
 {
-    let mut t = 0;
-    while t < acc.len() {
-        acc[t] = times_x(acc[t]);
-        t += 1;
+    for sum in acc.iter_mut() {
+        *sum = times_x(*sum);
     }
 }
 
@@ -19,10 +17,18 @@ pub fn multiply_x_add(row: &[u8], acc: &mut [u8])
     requires { length row.now ≡ length acc.old }
     ensures { acc.new ≡ lanewise (λ t y. bit_xor (times_x y) (slice_index row.now t)) acc.old }
 {
-    let mut t = 0;
-    while t < acc.len() {
-        acc[t] = times_x(acc[t]) ^ row[t];
-        t += 1;
+    for (t, sum) in acc.iter_mut().enumerate() {
+        *sum = times_x(*sum) ^ row[t];
+    }
+}
+
+// A row added to acc.
+pub fn add(row: &[u8], acc: &mut [u8])
+    requires { length row.now ≡ length acc.old }
+    ensures { acc.new ≡ lanewise (λ t y. bit_xor y (slice_index row.now t)) acc.old }
+{
+    for (t, sum) in acc.iter_mut().enumerate() {
+        *sum ^= row[t];
     }
 }
 
@@ -31,10 +37,8 @@ pub fn add_two(a: &[u8], b: &[u8], acc: &mut [u8])
     requires { (length a.now ≡ length acc.old) × (length b.now ≡ length acc.old) }
     ensures { acc.new ≡ lanewise (λ t y. bit_xor (bit_xor y (slice_index a.now t)) (slice_index b.now t)) acc.old }
 {
-    let mut t = 0;
-    while t < acc.len() {
-        acc[t] = acc[t] ^ a[t] ^ b[t];
-        t += 1;
+    for (t, sum) in acc.iter_mut().enumerate() {
+        *sum = *sum ^ a[t] ^ b[t];
     }
 }
 
@@ -43,10 +47,8 @@ pub fn multiply_x_add_two(a: &[u8], b: &[u8], acc: &mut [u8])
     requires { (length a.now ≡ length acc.old) × (length b.now ≡ length acc.old) }
     ensures { acc.new ≡ lanewise (λ t y. bit_xor (bit_xor (times_x y) (slice_index a.now t)) (slice_index b.now t)) acc.old }
 {
-    let mut t = 0;
-    while t < acc.len() {
-        acc[t] = times_x(acc[t]) ^ a[t] ^ b[t];
-        t += 1;
+    for (t, sum) in acc.iter_mut().enumerate() {
+        *sum = times_x(*sum) ^ a[t] ^ b[t];
     }
 }
 
@@ -62,5 +64,5 @@ fn times_digit(a: u8, digit: u8) -> u8
     requires { digit < 2 }
     ensures { result ≡ a * digit }
 {
-    a & std::num::wrapping_sub_u8(0, digit)
+    a & 0u8.wrapping_sub(digit)
 }

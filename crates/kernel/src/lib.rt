@@ -1,7 +1,7 @@
 // Operations over the lanes of slices: loops with no table, which the compiler turns into vector instructions.
 #![tactic(auto)]
 
-ghost use Rattle.std.specs.Prelude.{◌≡◌, ℕ, ◌<◌, ◌&&◌, length, nat_lt};
+ghost use Rattle.std.specs.Prelude.{◌≡◌, ◌≤◌, EachIndex, MatchOption, SomeIndex, length, slice_index};
 ghost use Rattle.lists.specs.Numbers.{all_below};
 ghost use Rattle.lists.specs.Padded.{zeros};
 
@@ -13,11 +13,7 @@ pub mod wide;
 pub fn clear(acc: &mut [u8])
     ensures { acc.new ≡ zeros (length acc.old) }
 {
-    let mut t = 0;
-    while t < acc.len() {
-        acc[t] = 0;
-        t += 1;
-    }
+    acc.fill(0);
 }
 
 // Copies a row.
@@ -25,42 +21,25 @@ pub fn copy(row: &[u8], out: &mut [u8])
     requires { length row.now ≡ length out.old }
     ensures { out.new ≡ row.now }
 {
-    let mut t = 0;
-    while t < out.len() {
-        out[t] = row[t];
-        t += 1;
-    }
+    out.copy_from_slice(row);
 }
 
 // Whether every byte is a symbol of a field of that size: below it.
 pub fn all_below(size: u32, s: &[u8]) -> bool
     ensures { result ≡ all_below size s.now }
 {
-    if s.len() == 0 {
-        return true;
-    }
     if 256 <= size {
         return true;
     }
-    (largest(s) as u32) < size
-}
-
-// The largest byte: all bytes are below m where it is.
-fn largest(s: &[u8]) -> u8
-    requires { 0 < length s.now }
-    ensures { (m : ℕ) → all_below m s.now ≡ nat_lt result m }
-{
-    let mut top = s[0];
-    let mut t = 1;
-    while t < s.len() {
-        top = larger(top, s[t]);
-        t += 1;
+    match largest(s) {
+        None => true,
+        Some(top) => (top as u32) < size,
     }
-    top
 }
 
-fn larger(a: u8, b: u8) -> u8
-    ensures { (m : ℕ) → nat_lt result m ≡ (nat_lt a m && nat_lt b m) }
+// The largest byte.
+fn largest(s: &[u8]) -> Option<u8>
+    ensures { MatchOption result (length s.now ≡ 0) (λ top. SomeIndex s.now (λ i. slice_index s.now i ≡ top) × EachIndex s.now (λ i. slice_index s.now i ≤ top)) }
 {
-    if a < b { b } else { a }
+    s.iter().copied().max()
 }

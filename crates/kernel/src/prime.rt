@@ -4,6 +4,35 @@ ghost use Rattle.lists.specs.Numbers.{all_below};
 ghost use Rattle.field.specs.Fields.{add, mul};
 ghost use Rattle.kernel.specs.Inner.Lanes.{add_scaled};
 
+// A symbol c of the field of p elements as a factor. ratio stands for c / p.
+#[derive(Clone, Copy)]
+struct Factor {
+    p: u16,
+    c: u16,
+    ratio: u16,
+    ghost byte: { p ≤ 256 },
+    ghost symbol: { c < p },
+    ghost quotient: { ratio ≡ c * 256 / p },
+}
+
+impl Factor {
+    // x·c modulo p. x·ratio / 256 is the quotient of x·c by p, or one less.
+    fn times(self, x: u8) -> u16
+        ensures { result ≡ x * self.c % self.p }
+    {
+        let a = x as u16;
+        reduced(self.p, a * self.c - a * self.ratio / 256 * self.p)
+    }
+
+    // One lane: x·c added to the sum.
+    fn add_product(self, x: u8, sum: u8) -> u8
+        requires { sum < self.p }
+        ensures { result ≡ add self.p (mul self.p x self.c) sum }
+    {
+        reduced(self.p, self.times(x) + sum as u16) as u8
+    }
+}
+
 pub fn add_scaled(p: u16, c: u16, row: &[u8], acc: &mut [u8])
     requires { (p ≤ 256) × (c < p) × (length row.now ≡ length acc.old) × (all_below p acc.old ≡ true) }
     ensures { acc.new ≡ add_scaled p c row.now acc.old }
@@ -11,29 +40,14 @@ pub fn add_scaled(p: u16, c: u16, row: &[u8], acc: &mut [u8])
     if c == 0 {
         return;
     }
-    let ratio = c * 256 / p;
-    let mut t = 0;
-    while t < acc.len() {
-        acc[t] = lane(p, c, ratio, row[t], acc[t]);
-        t += 1;
+    let factor = Factor {
+        p,
+        c,
+        ratio: c * 256 / p,
+    };
+    for (t, sum) in acc.iter_mut().enumerate() {
+        *sum = factor.add_product(row[t], *sum);
     }
-}
-
-// One lane: x·c added to the sum.
-fn lane(p: u16, c: u16, ratio: u16, x: u8, sum: u8) -> u8
-    requires { (p ≤ 256) × (c < p) × (ratio ≡ c * 256 / p) × (sum < p) }
-    ensures { result ≡ add p (mul p x c) sum }
-{
-    reduced(p, times(p, c, ratio, x) + sum as u16) as u8
-}
-
-// x·c modulo p. x·ratio / 256 is the quotient of x·c by p, or one less.
-fn times(p: u16, c: u16, ratio: u16, x: u8) -> u16
-    requires { (p ≤ 256) × (c < p) × (ratio ≡ c * 256 / p) }
-    ensures { result ≡ x * c % p }
-{
-    let a = x as u16;
-    reduced(p, a * c - a * ratio / 256 * p)
 }
 
 // x modulo p, for x below 2·p.

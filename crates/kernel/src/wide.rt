@@ -1,35 +1,121 @@
 // Symbols of two bytes times weights of two bytes, 16 lanes at a time: a row of high bytes and a row of low bytes. The products are
 // summed by halves of 16 binary digits, each in two sums of 16 digits: modulo 65536, and of the upper bytes alone.
-ghost use Rattle.std.specs.Prelude.{◌≡◌, ◌+◌, ◌*◌, ◌/◌, ◌%◌, ◌<◌, length, slice_index};
+ghost use Rattle.std.specs.Prelude.{◌≡◌, ◌+◌, ◌*◌, ◌/◌, ◌%◌, ◌<◌, length, slice_index, slice_set};
+ghost use Rattle.lists.specs.Padded.{zeros};
 ghost use Rattle.lists.specs.Rows.{from};
 ghost use Rattle.kernel.specs.Inner.Halves.{pair_product, wrapped, Sixteen, total_of, rest_of};
-
-use std::num::{wrapping_add_u16, wrapping_sub_u16};
-
-fn symbol(first: u8, second: u8) -> u16
-    ensures { result ≡ first * 256 + second }
-{
-    first as u16 * 256 + second as u16
-}
 
 pub fn product(weight: u16, first: u8, second: u8) -> u32
     ensures { (result ≡ (first * 256 + second) * weight) × (result < 4294967296) }
 {
-    symbol(first, second) as u32 * weight as u32
+    u16::from_be_bytes([first, second]) as u32 * weight as u32
 }
 
-// The lower 16 binary digits of a product.
-fn lower(x: u16, weight: u16) -> u16
-    ensures { result ≡ x * weight % 65536 }
-{
-    (x as u32 * weight as u32 % 65536) as u16
-}
-
-// The upper ones.
+// The upper 16 binary digits of a product.
 fn upper(x: u16, weight: u16) -> u16
     ensures { result ≡ x * weight / 65536 }
 {
     (x as u32 * weight as u32 / 65536) as u16
+}
+
+// Sums of numbers of 16 binary digits, one in each of 16 lanes, held twice: modulo 65536, and the sums of the upper bytes alone. Both
+// together tell the sums of up to 257 numbers.
+#[derive(Clone, Copy)]
+pub struct Half {
+    pub rest: [u16; 16],
+    pub upper: [u16; 16],
+    pub ghost rest_lanes: { Sixteen rest },
+    pub ghost upper_lanes: { Sixteen upper },
+}
+
+impl Half {
+    // The sums of no numbers.
+    fn none() -> Self
+        ensures { (result.rest ≡ zeros 16) × (result.upper ≡ zeros 16) }
+    {
+        Half {
+            rest: [0; 16],
+            upper: [0; 16],
+        }
+    }
+
+    // Adds x to lane t.
+    fn add(&mut self, t: usize, x: u16)
+        requires { t < 16 }
+        ensures rest { self.new.rest ≡ slice_set self.old.rest t ((slice_index self.old.rest t + x) % 65536) }
+        ensures upper { self.new.upper ≡ slice_set self.old.upper t ((slice_index self.old.upper t + x / 256) % 65536) }
+    {
+        self.rest[t] = self.rest[t].wrapping_add(x);
+        self.upper[t] = self.upper[t].wrapping_add(x / 256);
+    }
+
+    // The sum in lane t.
+    fn total(&self, t: usize) -> u64
+        requires { t < 16 }
+        ensures value { result ≡ total_of (slice_index self.now.rest t) (slice_index self.now.upper t) }
+        ensures bound { result < 16842752 }
+    {
+        let upper = self.upper[t];
+        upper as u64 * 256 + self.rest[t].wrapping_sub(upper % 256 * 256) as u64
+    }
+}
+
+// Sums of products of numbers of 16 binary digits: of their lower halves and of their upper ones.
+#[derive(Clone, Copy)]
+pub struct Halves {
+    pub low: Half,
+    pub high: Half,
+}
+
+impl Halves {
+    // The sums of no products.
+    pub fn none() -> Self
+        ensures low { (result.low.rest ≡ zeros 16) × (result.low.upper ≡ zeros 16) }
+        ensures high { (result.high.rest ≡ zeros 16) × (result.high.upper ≡ zeros 16) }
+    {
+        Halves {
+            low: Half::none(),
+            high: Half::none(),
+        }
+    }
+
+    // Adds each symbol of a row times the weight. A weight of 0 costs nothing.
+    pub fn add_products(&mut self, weight: u16, first: &[u8], second: &[u8])
+        requires { (length first.now ≡ 16) × (length second.now ≡ 16) }
+        ensures low_rest { self.new.low.rest ≡ wrapped (λ t. pair_product weight first.now second.now t % 65536) self.old.low.rest }
+        ensures low_upper { self.new.low.upper ≡ wrapped (λ t. pair_product weight first.now second.now t % 65536 / 256) self.old.low.upper }
+        ensures high_rest { self.new.high.rest ≡ wrapped (λ t. pair_product weight first.now second.now t / 65536) self.old.high.rest }
+        ensures high_upper { self.new.high.upper ≡ wrapped (λ t. pair_product weight first.now second.now t / 65536 / 256) self.old.high.upper }
+    {
+        if weight == 0 {
+            return;
+        }
+        for t in 0..16 {
+            let x = u16::from_be_bytes([first[t], second[t]]);
+            self.low.add(t, x.wrapping_mul(weight));
+            self.high.add(t, upper(x, weight));
+        }
+    }
+
+    // The sum of lane t modulo p.
+    fn remainder(&self, p: u16, t: usize) -> u16
+        requires { (0 < p) × (t < 16) }
+        ensures { result ≡ rest_of p (slice_index self.now.low.rest t) (slice_index self.now.low.upper t) (slice_index self.now.high.rest t) (slice_index self.now.high.upper t) }
+    {
+        ((self.high.total(t) * 65536 + self.low.total(t)) % p as u64) as u16
+    }
+
+    // The sums modulo p.
+    pub fn remainders(&self, p: u16) -> [u16; 16]
+        requires { 0 < p }
+        ensures { result ≡ from (λ t. rest_of p (slice_index self.now.low.rest t) (slice_index self.now.low.upper t) (slice_index self.now.high.rest t) (slice_index self.now.high.upper t)) 0 16 }
+    {
+        let mut out = [0u16; 16];
+        for (t, rest) in out.iter_mut().enumerate() {
+            *rest = self.remainder(p, t);
+        }
+        out
+    }
 }
 
 // Adds each symbol of a row times the weight: its lower half to a and b, its upper half to c and d. A weight of 0 costs nothing.
@@ -45,34 +131,21 @@ pub fn add_products(
     requires { (length first.now ≡ 16) × (length second.now ≡ 16) × Sixteen a.old × Sixteen b.old × Sixteen c.old × Sixteen d.old }
     ensures { (a.new ≡ wrapped (λ t. pair_product weight first.now second.now t % 65536) a.old) × (b.new ≡ wrapped (λ t. pair_product weight first.now second.now t % 65536 / 256) b.old) × (c.new ≡ wrapped (λ t. pair_product weight first.now second.now t / 65536) c.old) × (d.new ≡ wrapped (λ t. pair_product weight first.now second.now t / 65536 / 256) d.old) }
 {
-    if weight == 0 {
-        return;
-    }
-    let mut t = 0;
-    while t < 16 {
-        let x = symbol(first[t], second[t]);
-        let low = lower(x, weight);
-        let high = upper(x, weight);
-        a[t] = wrapping_add_u16(a[t], low);
-        b[t] = wrapping_add_u16(b[t], low / 256);
-        c[t] = wrapping_add_u16(c[t], high);
-        d[t] = wrapping_add_u16(d[t], high / 256);
-        t += 1;
-    }
-}
-
-// The sum of halves from their sum modulo 65536 and the sum of their upper bytes.
-fn total(a: u16, b: u16) -> u64
-    ensures { (result ≡ total_of a b) × (result < 16842752) }
-{
-    b as u64 * 256 + wrapping_sub_u16(a, b % 256 * 256) as u64
-}
-
-fn remainder(p: u16, a: u16, b: u16, c: u16, d: u16) -> u16
-    requires { 0 < p }
-    ensures { result ≡ rest_of p a b c d }
-{
-    ((total(c, d) * 65536 + total(a, b)) % p as u64) as u16
+    let mut sums = Halves {
+        low: Half {
+            rest: *a,
+            upper: *b,
+        },
+        high: Half {
+            rest: *c,
+            upper: *d,
+        },
+    };
+    sums.add_products(weight, first, second);
+    *a = sums.low.rest;
+    *b = sums.low.upper;
+    *c = sums.high.rest;
+    *d = sums.high.upper;
 }
 
 // The sums of products modulo p.
@@ -80,11 +153,15 @@ pub fn remainders(p: u16, a: &[u16; 16], b: &[u16; 16], c: &[u16; 16], d: &[u16;
     requires { 0 < p }
     ensures { result ≡ from (λ t. rest_of p (slice_index a.now t) (slice_index b.now t) (slice_index c.now t) (slice_index d.now t)) 0 16 }
 {
-    let mut out = [0u16; 16];
-    let mut t = 0;
-    while t < 16 {
-        out[t] = remainder(p, a[t], b[t], c[t], d[t]);
-        t += 1;
-    }
-    out
+    let sums = Halves {
+        low: Half {
+            rest: *a,
+            upper: *b,
+        },
+        high: Half {
+            rest: *c,
+            upper: *d,
+        },
+    };
+    sums.remainders(p)
 }

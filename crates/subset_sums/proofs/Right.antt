@@ -1,15 +1,9 @@
 -- The slices that an output adds for a digit make the sum of the rows whose weight has the digit, and Horner's rule over them
 -- the sum of the rows times the weights.
-use mathlib.Core.Path.{◌≡◌, refl, sym, ap, ap₂, ◌∙◌}
-use mathlib.Core.List.{List}
-use Prim.Native.Nat.{ℕ, zero, suc, ◌+◌, ◌-◌, ◌*◌, ◌/◌, ◌%◌, ◌^◌, ◌≤◌, ◌<◌}
-use native.Mathlib.Nat.{add-zero, zero-add, mul-zero, suc-add, zero-div}
-use native.Mathlib.Omega.{arith}
-use borrow.Author.Tests.{eqb-true}
-use lib.Bits.{bit_xor, xor_zero_l, xor_zero_r}
-use lib.Dec.{eqb}
-use lib.ListN.{length, get_or, take, drop, length-take, length-drop, get_or-eq_default}
-use lib.Seq.{get_or-take, get_or-drop, length-take-le}
+use Rattle.std.proofs.Common.{◌≡◌, refl, sym, ap, ap₂, ◌∙◌, List, ℕ, zero, suc, ◌+◌, ◌-◌, ◌*◌, ◌/◌, ◌%◌, ◌^◌, ◌≤◌, ◌<◌, add-zero, zero-add, mul-zero, suc-add, arith, eqb-true, bit_xor, eqb, length, get_or, take, drop, length-take, length-drop, get_or-take, get_or-drop, length-take-le}
+use native.Mathlib.Nat.{zero-div}
+use lib.Bits.{xor_zero_l, xor_zero_r}
+use lib.ListN.{get_or-eq_default}
 use Rattle.lists.specs.Counting.{passing_from}
 use Rattle.lists.proofs.All.{All, All-at}
 use Rattle.lists.proofs.Cases.{by_test}

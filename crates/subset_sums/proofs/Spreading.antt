@@ -1,15 +1,8 @@
 -- Spread digits, and the slices of a group listed.
-use mathlib.Core.Path.{◌≡◌, refl, sym, ap, ◌∙◌}
-use mathlib.Core.Bool.{Bool, true, false}
-use mathlib.Core.List.{List, [], ◌∷◌, ◌++◌, append-nil, append_assoc}
-use Prim.Native.Nat.{ℕ, zero, suc, ◌+◌, ◌-◌, ◌*◌, ◌/◌, ◌%◌, ◌^◌, ◌≤◌, ◌<◌}
-use native.Mathlib.Nat.{zero-add, add-zero, sub-zero, div-one, div-div-eq-div-mul, pow-suc, mul_comm, le_antisymm}
-use native.Mathlib.Numerals.{add-one}
-use native.Mathlib.Omega.{arith}
-use borrow.Author.Tests.{eqb-true, eqb-false, ltb-true, ltb-false, leb-true, lt-ltb, le-ltb}
-use lib.Dec.{T, eqb, leb, ltb}
-use lib.ListN.{length, get_or, take, drop, set, length-set, length-drop}
-use lib.Seq.{take-suc-set, take-set-le, drop-set-lt, drop-set-add, get_or-set_same, get_or-set_other}
+use Rattle.std.proofs.Common.{◌≡◌, refl, sym, ap, ◌∙◌, Bool, true, false, List, [], ◌∷◌, ◌++◌, append-nil, append_assoc, ℕ, zero, suc, ◌+◌, ◌-◌, ◌*◌, ◌/◌, ◌%◌, ◌^◌, ◌≤◌, ◌<◌, zero-add, add-zero, div-one, pow-suc, mul_comm, le_antisymm, add-one, arith, eqb-true, ltb-true, ltb-false, leb-true, lt-ltb, le-ltb, T, eqb, leb, ltb, length, get_or, take, drop, set, length-set, length-drop, take-suc-set, drop-set-lt, get_or-set_same, get_or-set_other}
+use native.Mathlib.Nat.{sub-zero, div-div-eq-div-mul}
+use borrow.Author.Tests.{eqb-false}
+use lib.Seq.{take-set-le, drop-set-add}
 use Rattle.lists.specs.Choice.{pick, when}
 use Rattle.lists.specs.Rows.{from}
 use Rattle.lists.specs.Padded.{zeros}
@@ -132,16 +125,6 @@ unfolding slices_from
 slices_next groups g v h = ap (λ (f : ℕ). slices_from f g v) (sub_next groups g h)
 
 module _ (groups : ℕ) (ws : List ℕ) where
-  -- the same places
-  pub streams_same : (a a' : ℕ → ℕ) {list counts : List ℕ} → ((b : ℕ) → b < 8 → a b ≡ a' b) → Streams groups a ws list counts → Streams groups a' ws list counts
-  streams_same a a' {list} {counts} same s =
-      record {
-        long = s.long;
-        counted = s.counted;
-        few = λ b h. rw (same b h) at (s.few b h);
-        listed = λ b h. rw (same b h) at (s.listed b h);
-      }
-
   module _ (g : ℕ) (more : g < groups) where
     -- a group with no weight
     pub streams_skip : {list counts : List ℕ} → ((b : ℕ) → b < 8 → subset_at ws (7 - b) g ≡ 0) → Streams groups (λ b. g) ws list counts → Streams groups (λ b. g + 1) ws list counts
@@ -211,12 +194,6 @@ abbrev pub ahead : ℕ → ℕ → ℕ → ℕ
 ahead g b d = g + when (ltb d b) 1
 
 module _ (groups : ℕ) (ws : List ℕ) (g : ℕ) (more : g < groups) where
-  pub streams_begin : {list counts : List ℕ} → Streams groups (λ b. g) ws list counts → Streams groups (ahead g 0) ws list counts
-  streams_begin s = streams_same groups ws (λ b. g) (ahead g 0) (λ b h. rw (le-ltb b 0 (omega arith), add-zero)) s
-
-  pub streams_end : {list counts : List ℕ} (b : ℕ) → 8 ≤ b → Streams groups (ahead g b) ws list counts → Streams groups (λ b. g + 1) ws list counts
-  streams_end b end s = streams_same groups ws (ahead g b) (λ b. g + 1) (λ d h. rw (lt-ltb d b (omega arith))) s
-
   pub streams_turn : {list counts : List ℕ} (b v : ℕ) → b < 8 → v ≡ subset_at ws (7 - b) g → Streams groups (ahead g b) ws list counts → Streams groups (ahead g (b + 1)) ws (set list (b * groups + get_or counts b 0) (g * 1024 + v * 64)) (set counts b (pick (eqb v 0) (get_or counts b 0) (get_or counts b 0 + 1)))
   streams_turn b v digit subset_is s =
       streams_put groups ws g more b v digit subset_is (ahead g b) (ahead g (b + 1))
@@ -253,10 +230,3 @@ streams_all groups g ws list counts low high s =
       few = λ b h. omega (arith, s.few b h);
       listed = λ b h. rw append-nil at (rw (sub_end groups g high) at (s.listed b h));
     }
-
-pub count_low : (groups g b : ℕ) (ws list counts : List ℕ) → Streams groups (ahead g b) ws list counts → b < 8 → get_or counts b 0 ≤ g
-count_low groups g b ws list counts s h = rw (le-ltb b b (omega arith), add-zero) at (s.few b h)
-
--- the place of the next entry
-pub entry_inside : (groups g b : ℕ) (ws list counts : List ℕ) → Streams groups (ahead g b) ws list counts → b < 8 → g < groups → b * groups + get_or counts b 0 < 8 * groups
-entry_inside groups g b ws list counts s h more = omega (arith, count_low groups g b ws list counts s h, row_inside 8 b groups h)

@@ -1,12 +1,6 @@
 -- Sums of subsets: a row more, the slices of a group, and the groups of a table.
-use mathlib.Core.Path.{◌≡◌, refl, sym, ap, ap₂, ◌∙◌}
-use mathlib.Core.List.{List, ◌++◌}
-use Prim.Native.Nat.{ℕ, zero, suc, ◌+◌, ◌-◌, ◌*◌, ◌/◌, ◌%◌, ◌^◌, ◌≤◌, ◌<◌}
-use native.Mathlib.Nat.{add-zero, zero-add, mul-zero, mul-one, pow-suc}
-use native.Mathlib.Omega.{arith}
-use lib.Bits.{bit_xor, xor_zero_r}
-use lib.ListN.{length, get_or, take, drop, length-append, length-drop}
-use lib.Seq.{take_at}
+use Rattle.std.proofs.Common.{◌≡◌, refl, sym, ap, ap₂, ◌∙◌, List, ◌++◌, ℕ, zero, suc, ◌+◌, ◌-◌, ◌*◌, ◌/◌, ◌%◌, ◌^◌, ◌≤◌, ◌<◌, add-zero, zero-add, mul-zero, mul-one, pow-suc, arith, bit_xor, length, get_or, take, drop, length-append, length-drop, take_at}
+use lib.Bits.{xor_zero_r}
 use Rattle.lists.specs.Rows.{from}
 use Rattle.lists.specs.Padded.{zeros}
 use Rattle.lists.proofs.Rows.{length_from, get_or_from, from_ext, part_length, part_size, get_d_part, from_append}

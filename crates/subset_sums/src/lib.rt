@@ -9,7 +9,7 @@ mod horner;
 mod slices;
 mod table;
 
-pub use horner::{output, turn};
+pub use horner::{Listed, output, turn};
 pub use slices::{fill_spread, list_output};
 pub use table::fill_table;
 
@@ -17,5 +17,5 @@ pub use table::fill_table;
 pub fn slice() -> [u8; 64]
     ensures { result ≡ zeros 64 }
 {
-    [0u8; 64]
+    [0; 64]
 }

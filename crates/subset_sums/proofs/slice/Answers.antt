@@ -1,4 +1,4 @@
-use mathlib.Core.Path.{refl}
+use Rattle.std.proofs.Common.{refl}
 use Rattle.lists.specs.Padded.{zeros}
 use Rattle.subset_sums.proofs.slice.Goals as goal
 

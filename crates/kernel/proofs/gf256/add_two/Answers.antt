@@ -1,16 +1,13 @@
 -- `gf256::add_two` meets its contract. The loop's invariant: the lanes below t hold the sum.
-use Rattle.std.proofs.Common.{arith, rules}
+use Rattle.std.proofs.Common.{arith}
 use Rattle.kernel.proofs.Filling.{changed_none, changed_lane, changed_all}
 use Rattle.kernel.proofs.gf256.add_two.Goals as goal
 
 pub loop-t-init : goal.loop-t-init
-loop-t-init c = (search rules, changed_none _ _)
+loop-t-init c = changed_none _ _
 
 pub loop-t-preserved : goal.loop-t-preserved
-loop-t-preserved c = (omega arith, changed_lane _ _ c.loop-t.invariant.1 (omega arith))
-
-pub shape_of-acc : goal.shape_of-acc
-shape_of-acc c = c.loop-t.invariant.1.long
+loop-t-preserved c = changed_lane _ _ c.loop-t.invariant (omega arith)
 
 pub returns : goal.returns
-returns c = changed_all _ _ c.loop-t.invariant.1 (omega arith)
+returns c = changed_all _ _ c.loop-t.invariant (omega arith)

@@ -1,11 +1,7 @@
 -- `gf256::add_two` meets its contract. The loop's invariant: the lanes below t hold the sum.
-use Rattle.std.proofs.Common.{◌-◌, ◌≤◌, length, get_or}
-use lib.Bits.{bit_xor}
+use Rattle.std.proofs.Common.{get_or, bit_xor}
 use Rattle.kernel.proofs.Filling.{Changed}
 use Rattle.kernel.proofs.gf256.add_two.Given as goal
 
 abbrev pub invariant-loop-t : goal.invariant-loop-t
-invariant-loop-t l = (l.t ≤ length l.initial.acc) × Changed (λ t y. bit_xor (bit_xor y (get_or l.a t 0)) (get_or l.b t 0)) l.initial.acc l.acc l.t
-
-abbrev pub decreases-loop-t : goal.decreases-loop-t
-decreases-loop-t l = length l.initial.acc - l.t
+invariant-loop-t l = Changed (λ t y. bit_xor (bit_xor y (get_or l.a t 0)) (get_or l.b t 0)) l.initial.acc l.acc l.t

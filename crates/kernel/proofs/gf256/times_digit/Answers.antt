@@ -6,4 +6,4 @@ use Rattle.kernel.proofs.gf256.times_digit.Goals as goal
 pub returns : goal.returns
 returns c =
     let a = c.args in
-    masked a.a a.digit c.wrapping_sub_u8.result (omega arith) (omega arith) (omega arith) c.wrapping_sub_u8.ensures.value
+    masked a.a a.digit _ (omega arith) (omega arith) (omega arith) (omega arith)

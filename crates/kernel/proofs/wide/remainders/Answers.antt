@@ -1,20 +1,14 @@
--- `wide::remainders` meets its contract. The loop's invariant: the lanes below t are written.
-use Rattle.std.proofs.Common.{arith}
-use Rattle.lists.specs.Rows.{from}
-use Rattle.lists.specs.Padded.{zeros, padded}
-use Rattle.lists.proofs.Fill.{filled_start, filled_put, filled_end}
+-- `wide::remainders` meets its contract: arrays of 16 numbers of 16 binary digits.
+use Rattle.std.proofs.Common.{◌≡◌, ℕ, ◌<◌, List, length, get_or}
+use Rattle.kernel.specs.Inner.Halves.{Sixteen}
+use Rattle.lists.proofs.Numbers.{at_below}
 use Rattle.kernel.proofs.wide.remainders.Goals as goal
 
-pub loop-t-init : goal.loop-t-init
-unfolding zeros
-loop-t-init c = filled_start 16 16 _ (omega arith)
+sixteen : {s : List ℕ} → length s ≡ 16 → ((i : ℕ) → get_or s i 0 < 65536) → Sixteen s
+sixteen {s} long below = record { long = long; below = at_below 65536 s (λ i inside. below i) }
 
-pub remainder-requires : goal.remainder-requires
-remainder-requires c = c.requires
+pub invariant_of-sums : goal.invariant_of-sums
+invariant_of-sums c = record { rest_lanes = sixteen c.told-a c.fits-a; upper_lanes = sixteen c.told-b c.fits-b }
 
-pub loop-t-preserved : goal.loop-t-preserved
-loop-t-preserved c = filled_put c.loop-t.invariant (omega arith) c.remainder.ensures
-
-pub returns : goal.returns
-unfolding from padded zeros
-returns c = filled_end c.loop-t.invariant c.loop-t-test.false
+pub invariant_of-sums-2 : goal.invariant_of-sums-2
+invariant_of-sums-2 c = record { rest_lanes = sixteen c.told-c c.fits-c; upper_lanes = sixteen c.told-d c.fits-d }

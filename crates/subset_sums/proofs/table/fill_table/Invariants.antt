@@ -1,10 +1,7 @@
-use Prim.Native.Nat.{◌*◌, ◌-◌, ◌≤◌}
+use Rattle.std.proofs.Common.{◌*◌}
 use Rattle.lists.proofs.Parts.{Valued}
 use Rattle.subset_sums.specs.Inner.Subsets.{table_byte}
 use Rattle.subset_sums.proofs.table.fill_table.Given as goal
 
 abbrev pub invariant-loop-g : goal.invariant-loop-g
-invariant-loop-g l = (l.g ≤ l.groups) × Valued (table_byte l.rows) (l.groups * 1024) l.initial.tab l.tab (l.g * 1024)
-
-abbrev pub decreases-loop-g : goal.decreases-loop-g
-decreases-loop-g l = l.groups - l.g
+invariant-loop-g l = Valued (table_byte l.rows) (l.groups * 1024) l.initial.tab l.tab (l.g * 1024)
