@@ -11,6 +11,8 @@ use Rattle.lists.proofs.Rows.{from_ext, row_inside}
 use Rattle.layout.specs.Layout.{row_after_row, lane_after_lane, held, lane_of}
 use Rattle.layout.proofs.Places.{held_by_row, held_by_lane}
 use Rattle.layout.proofs.Runs.{length_replaced, replaced_before, replaced_inside}
+use lib.Lanes.{chunk, put_chunk}
+use Rattle.std.proofs.lemmas.Simd.{length-chunk, length-put_chunk, get_or-chunk, get_or-put_chunk_below, get_or-put_chunk_at}
 use Rattle.tiles.specs.Inner.Squares.{as_rows}
 use Rattle.tiles.specs.Inner.Tiles.{Read, BlockOf, TileOf}
 use Rattle.tiles.proofs.Shuffles.{length_placed, get_or_placed}
@@ -24,10 +26,17 @@ read_put part start xs at to k size fits same enough =
       kept = λ x low. replaced_before start xs to k size fits x low;
     }
 
--- one lane of a block more
-pub block_none : (rows j : ℕ) (part block : List ℕ) → length block ≡ 1024 → BlockOf rows j 0 part block
-block_none rows j part block long = record { long = long; holds = λ t i none low inside. absurd (omega arith) }
+-- 16 bytes from `at` on stored at `to`
+pub read_chunk : (part start : List ℕ) (at to : ℕ) → at + 16 ≤ length part → to + 16 ≤ length start → Read part at to start (put_chunk to start (chunk at 16 part))
+read_chunk part start at to inside room =
+    let size : length (chunk at 16 part) ≡ 16 = length-chunk at 16 part inside in
+    record {
+      long = length-put_chunk to start (chunk at 16 part);
+      put = λ i low has. get_or-put_chunk_at to start (chunk at 16 part) i 0 (omega arith) (omega arith) ∙ get_or-chunk at 16 part i 0 low;
+      kept = λ x low. get_or-put_chunk_below to start (chunk at 16 part) x 0 low;
+    }
 
+-- one lane of a block more
 pub block_lane : (rows j count t : ℕ) (part block now : List ℕ) → length part ≡ count * rows → t < count → BlockOf rows j t part block → Read part (t * rows + j) (t * 16) block now → BlockOf rows j (t + 1) part now
 block_lane rows j count t part block now long lane b r =
     record {

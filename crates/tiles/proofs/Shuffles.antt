@@ -46,10 +46,6 @@ turned_shuffled x =
     ∙ placed_twice σ (λ p. σ (σ (σ p))) 256 256 x inside
     ∙ placed_ext (λ p. σ (σ (σ (σ p)))) (λ p. p % 16 * 16 + p / 16) 256 x four
 
-pub length_turned : (x : List ℕ) → length (turned x) ≡ 256
-unfolding turned
-length_turned x = length_placed _ 256 x
-
 -- one turn of the loop of a shuffle
 abbrev pub shuffled_at : List ℕ → ℕ → ℕ
 shuffled_at x p = get_or x (p / 2 + p % 2 * 128) 0

@@ -1,25 +1,19 @@
 -- `tile_lanes` meets its contract: the lanes that fit the scratch.
 use Prim.Native.Nat.{ℕ, ◌*◌, ◌/◌, ◌≤◌}
-use native.Mathlib.Nat.{le-div_iff_mul-le, mul-div-le, mul-le-mul, le_refl, le_trans, one-mul}
+use native.Mathlib.Nat.{mul-div-le, mul-le-mul, le_refl, le_trans}
 use native.Mathlib.Omega.{arith}
 use Rattle.tiles.proofs.size.tile_lanes.Goals as goal
-use Rattle.tiles.proofs.size.tile_lanes.Goals.{After-smaller-fitting}
-
-pub smaller-fitting-requires : goal.smaller-fitting-requires
-smaller-fitting-requires c =
-    let (some, fits, left) = c.requires in
-    let one : 1 ≤ c.args.size / c.args.rows = (le-div_iff_mul-le some).1 (rw one-mul fits) in
-    (omega arith, omega arith)
+use Rattle.tiles.proofs.size.tile_lanes.Goals.{After-min-fitting}
 
 -- as many lanes as the scratch has room for
-fits : (c : After-smaller-fitting) (r : ℕ) → r ≤ c.smaller-fitting.result → c.args.rows * r ≤ c.args.size
+fits : (c : After-min-fitting) (r : ℕ) → r ≤ c.min-fitting.result → c.args.rows * r ≤ c.args.size
 fits c r low =
     let a = c.args in
-    let few : r ≤ a.size / a.rows = omega (arith, c.smaller-fitting.ensures.1) in
+    let few : r ≤ a.size / a.rows = omega arith in
     le_trans (mul-le-mul (le_refl a.rows) few) (mul-div-le a.size a.rows)
 
 pub returns-then-left-fitting : goal.returns-then-left-fitting
-returns-then-left-fitting c = (c.requires.2, omega arith, fits (goal.at.returns-then-left-fitting c).After-smaller-fitting _ c.if-left-fitting.true)
+returns-then-left-fitting c = (c.requires.2, omega arith, fits (goal.at.returns-then-left-fitting c).After-min-fitting _ c.if-left-fitting.true)
 
 pub returns : goal.returns
-returns c = (omega arith, omega arith, fits (goal.at.returns c).After-smaller-fitting _ c.in_blocks.ensures.1)
+returns c = (omega arith, omega arith, fits (goal.at.returns c).After-min-fitting _ c.in_blocks.ensures.1)
