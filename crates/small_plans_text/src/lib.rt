@@ -1,104 +1,116 @@
 // Every accepted record of kind 1 with p up to 31, as text.
 #![tactic(auto)]
 
-ghost use Rattle.std.specs.Prelude.{◌≡◌, true, [], ◌∷◌, ◌+◌, ◌≤◌, ◌<◌, length};
+ghost use Rattle.std.specs.Prelude.{◌≡◌, true, false, [], ◌∷◌, ◌+◌, ◌≤◌, ◌<◌, length, MatchOption};
 ghost use Rattle.lists.specs.Padded.{zeros};
 ghost use Rattle.field.specs.Primes.{is_prime};
 ghost use Rattle.field.specs.Fields.{order_of};
 ghost use Rattle.text.specs.Text.{decimal, line};
 ghost use Rattle.text.specs.Writing.{OnPage};
-ghost use Rattle.text.specs.Inner.Writing.{Puts};
+ghost use Rattle.text.specs.Writer.{room, Writes};
 ghost use Rattle.small_plans_text.specs.SmallPlans.{root_lines, field_lines, small_plans};
 
 use field::{Field, is_prime};
-use text::{put_fields, put_number};
+use text::Writer;
 
-// Each `put_` function puts its text at a place of a buffer that has room for it, and gives the next place.
+// A prime from 3 to 31.
+#[derive(Clone, Copy)]
+struct SmallPrime {
+    p: u8,
+    ghost prime: { is_prime p ≡ true },
+    ghost least: { 3 ≤ p },
+    ghost most: { p ≤ 31 },
+}
+
+impl SmallPrime {
+    fn new(p: u8) -> Option<Self>
+        requires least { 3 ≤ p }
+        requires most { p ≤ 31 }
+        ensures { MatchOption result (is_prime p ≡ false) (λ prime. prime.p ≡ p) }
+    {
+        if is_prime(u32::from(p)) {
+            Some(SmallPrime { p })
+        } else {
+            None
+        }
+    }
+
+    // The order of a root, which is n in every accepted record with this p and root, or 0 where there is none.
+    fn order(self, root: u8) -> u8
+        requires { root < self.p }
+        ensures order { result ≡ order_of self.p root }
+        ensures most { result ≤ self.p }
+    {
+        let field = Field::new(u32::from(self.p));
+        for n in 1..=self.p {
+            if field.has_order(u32::from(root), u32::from(n)) {
+                return n;
+            }
+        }
+        0
+    }
+
+    // The lines with one root: k from 1 to n.
+    fn write_root(self, writer: &mut Writer, root: u8)
+        requires below { root < self.p }
+        requires room { 558 ≤ room writer.old }
+        ensures text { Writes writer.old writer.new (root_lines self.p root) }
+        ensures room { room writer.old ≤ room writer.new + 558 }
+    {
+        let p = self.p;
+        let n = self.order(root);
+        if n < 2 {
+            return;
+        }
+        for k in 1..=n {
+            write_plan(writer, p, root, n, k);
+        }
+    }
+
+    // The lines of all roots, which are below p.
+    fn write_roots(self, writer: &mut Writer)
+        requires { 17298 ≤ room writer.old }
+        ensures text { Writes writer.old writer.new (field_lines self.p) }
+        ensures room { room writer.old ≤ room writer.new + 17298 }
+    {
+        let p = self.p;
+        for root in 0..p {
+            self.write_root(writer, root);
+        }
+    }
+}
 
 // The line of a record.
-fn put_plan(out: &mut [u8], at: usize, p: u8, root: u8, n: u8, k: u8) -> usize
-    requires { at + 18 ≤ length out.old }
-    ensures puts { Puts out.old out.new at result (line (decimal p) (root ∷ n ∷ k ∷ [])) }
-    ensures upper_bound { result ≤ at + 18 }
+fn write_plan(writer: &mut Writer, p: u8, root: u8, n: u8, k: u8)
+    requires { 18 ≤ room writer.old }
+    ensures text { Writes writer.old writer.new (line (decimal p) (root ∷ n ∷ k ∷ [])) }
+    ensures room { room writer.old ≤ room writer.new + 18 }
 {
-    let named = put_number(out, at, p as u32);
-    put_fields(out, named, &[root, n, k])
-}
-
-// The order of a root, which is n in every accepted record with this p and root. It is at most p.
-fn order(p: u8, root: u8) -> u8
-    requires { (is_prime p ≡ true) × (root < p) }
-    ensures { (result ≡ order_of p root) × (result ≤ p) }
-{
-    let f = Field::new(p as u32);
-    let mut n: u8 = p;
-    while 0 < n {
-        if f.has_order(root as u32, n as u32) {
-            return n;
-        }
-        n -= 1;
-    }
-    0
-}
-
-// The lines with one p and root: k from 1 to n.
-fn put_root(out: &mut [u8], at: usize, p: u8, root: u8) -> usize
-    requires { (is_prime p ≡ true) × (3 ≤ p) × (p ≤ 31) × (root < p) × (at + 558 ≤ length out.old) }
-    ensures puts { Puts out.old out.new at result (root_lines p root) }
-    ensures upper_bound { result ≤ at + 558 }
-{
-    let n = order(p, root);
-    if n < 2 {
-        return at;
-    }
-    let mut place = at;
-    let mut k: u8 = 1;
-    while k <= n {
-        place = put_plan(out, place, p, root, n, k);
-        k += 1;
-    }
-    place
-}
-
-// The lines with one prime p: the root is below p.
-fn put_roots(out: &mut [u8], at: usize, p: u8) -> usize
-    requires { (is_prime p ≡ true) × (3 ≤ p) × (p ≤ 31) × (at + 17298 ≤ length out.old) }
-    ensures puts { Puts out.old out.new at result (field_lines p) }
-    ensures upper_bound { result ≤ at + 17298 }
-{
-    let mut place = at;
-    let mut root: u8 = 0;
-    while root < p {
-        place = put_root(out, place, p, root);
-        root += 1;
-    }
-    place
+    writer.number(p);
+    writer.fields(&[root, n, k]);
 }
 
 // The lines with one p: none where p is no prime.
-fn put_field_plans(out: &mut [u8], at: usize, p: u8) -> usize
-    requires { (3 ≤ p) × (p ≤ 31) × (at + 17298 ≤ length out.old) }
-    ensures puts { Puts out.old out.new at result (field_lines p) }
-    ensures upper_bound { result ≤ at + 17298 }
+fn write_field(writer: &mut Writer, p: u8)
+    requires least { 3 ≤ p }
+    requires most { p ≤ 31 }
+    requires room { 17298 ≤ room writer.old }
+    ensures text { Writes writer.old writer.new (field_lines p) }
+    ensures room { room writer.old ≤ room writer.new + 17298 }
 {
-    if is_prime(p as u32) {
-        return put_roots(out, at, p);
+    if let Some(prime) = SmallPrime::new(p) {
+        prime.write_roots(writer);
     }
-    at
 }
 
 // All lines: p from 3 to 31, for each at most 31 roots with at most 31 lines of at most 18 bytes.
-fn put_plans(out: &mut [u8]) -> usize
-    requires { 501642 ≤ length out.old }
-    ensures { Puts out.old out.new 0 result small_plans }
+fn write_plans(writer: &mut Writer)
+    requires { 501642 ≤ room writer.old }
+    ensures { Writes writer.old writer.new small_plans }
 {
-    let mut place: usize = 0;
-    let mut p: u8 = 3;
-    while p < 32 {
-        place = put_field_plans(out, place, p);
-        p += 1;
+    for p in 3..32 {
+        write_field(writer, p);
     }
-    place
 }
 
 // An empty page: zeros, with room for the lines.
@@ -108,9 +120,11 @@ pub fn page() -> [u8; 501642]
     [0; 501642]
 }
 
-// Puts the lines at the front of a page, and gives their length.
+// Writes the lines at the front of a page, and gives their length.
 pub fn small_plans(out: &mut [u8; 501642]) -> usize
     ensures { OnPage out.old out.new result small_plans }
 {
-    put_plans(out)
+    let mut writer = Writer::new(out);
+    write_plans(&mut writer);
+    writer.len()
 }

@@ -1,36 +1,17 @@
 // The logarithms, each found among the powers of 2.
-ghost use Rattle.std.specs.Prelude.{◌≡◌, ◌+◌, ◌≤◌, ◌<◌, length};
-ghost use Rattle.text.specs.Inner.Writing.{Puts};
-ghost use Rattle.tables.specs.Tables.{logarithm_of, logarithm_lines};
+ghost use Rattle.std.specs.Prelude.{◌≡◌, ◌+◌, ◌≤◌};
+ghost use Rattle.text.specs.Writer.{room, Writes};
+ghost use Rattle.tables.specs.Tables.{logarithm_lines};
 
-use crate::powers::{next, put_line};
-
-// The exponent at which the powers come to a, or 255.
-fn logarithm(a: u32) -> u32
-    ensures { (result ≡ logarithm_of a) × (result < 256) }
-{
-    let mut x: u32 = 1;
-    let mut e: u32 = 0;
-    while e < 255 {
-        if x == a {
-            return e;
-        }
-        x = next(x);
-        e += 1;
-    }
-    e
-}
+use crate::powers::{Powers, write_line};
+use text::Writer;
 
 // The logarithms of 1 to 255.
-pub fn put_logarithms(out: &mut [u8], at: usize) -> usize
-    requires { at + 1530 ≤ length out.old }
-    ensures { Puts out.old out.new at result logarithm_lines }
+pub fn write_logarithms(writer: &mut Writer, powers: &Powers)
+    requires { 1530 ≤ room writer.old }
+    ensures { Writes writer.old writer.new logarithm_lines }
 {
-    let mut place = at;
-    let mut a: u32 = 1;
-    while a < 256 {
-        place = put_line(out, place, logarithm(a));
-        a += 1;
+    for a in 1..256 {
+        write_line(writer, powers.logarithm(a));
     }
-    place
 }

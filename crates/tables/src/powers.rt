@@ -1,13 +1,15 @@
 // The powers of 2, each from the one before it.
-ghost use Rattle.std.specs.Prelude.{◌≡◌, ◌+◌, ◌≤◌, ◌<◌, length};
+ghost use Rattle.std.specs.Prelude.{◌≡◌, ◌+◌, ◌≤◌, ◌<◌};
+ghost use Rattle.lists.specs.Rows.{from};
 ghost use Rattle.field.specs.Bytes.{times_x};
-ghost use Rattle.text.specs.Inner.Writing.{Puts};
-ghost use Rattle.tables.specs.Tables.{number_line, power_lines};
+ghost use Rattle.field.specs.Fields.{power};
+ghost use Rattle.text.specs.Writer.{room, Writes};
+ghost use Rattle.tables.specs.Tables.{number_line, power_lines, logarithm_of};
 
-use text::{put_byte, put_number};
+use text::Writer;
 
 // The next power of 2: shifted, and 0x11D taken away where the eighth power of x appears.
-pub fn next(x: u32) -> u32
+fn next(x: u16) -> u16
     requires { x < 256 }
     ensures { result ≡ times_x x }
 {
@@ -20,28 +22,50 @@ pub fn next(x: u32) -> u32
 }
 
 // A number and a line feed.
-pub fn put_line(out: &mut [u8], at: usize, x: u32) -> usize
-    requires { (x < 256) × (at + 6 ≤ length out.old) }
-    ensures puts { Puts out.old out.new at result (number_line x) }
-    ensures upper_bound { result ≤ at + 6 }
+pub fn write_line(writer: &mut Writer, x: u16)
+    requires { 6 ≤ room writer.old }
+    ensures text { Writes writer.old writer.new (number_line x) }
+    ensures room { room writer.old ≤ room writer.new + 6 }
 {
-    let named = put_number(out, at, x);
-    put_byte(out, named, b'\n')
+    writer.number(x);
+    writer.byte(b'\n');
 }
 
 // The powers from exponent 0 to 254.
-pub fn put_powers(out: &mut [u8], at: usize) -> usize
-    requires { at + 1530 ≤ length out.old }
-    ensures puts { Puts out.old out.new at result power_lines }
-    ensures upper_bound { result ≤ at + 1530 }
-{
-    let mut place = at;
-    let mut x: u32 = 1;
-    let mut e: u32 = 0;
-    while e < 255 {
-        place = put_line(out, place, x);
-        x = next(x);
-        e += 1;
+#[derive(Drop)]
+pub struct Powers {
+    powers: [u16; 255],
+    ghost each: { powers ≡ from (power 0 2) 0 255 },
+}
+
+impl Powers {
+    pub fn new() -> Self {
+        let mut powers = [1; 255];
+        for e in 1..255 {
+            powers[e] = next(powers[e - 1]);
+        }
+        Powers { powers }
     }
-    place
+
+    // The exponent at which the powers come to a, or 255.
+    pub fn logarithm(&self, a: u16) -> u16
+        ensures value { result ≡ logarithm_of a }
+        ensures bound { result < 256 }
+    {
+        self.powers
+            .iter()
+            .position(|power| *power == a)
+            .unwrap_or(255) as u16
+    }
+
+    // The powers, a line for each.
+    pub fn write(&self, writer: &mut Writer)
+        requires { 1530 ≤ room writer.old }
+        ensures text { Writes writer.old writer.new power_lines }
+        ensures room { room writer.old ≤ room writer.new + 1530 }
+    {
+        for power in &self.powers {
+            write_line(writer, *power);
+        }
+    }
 }

@@ -4,8 +4,9 @@ ghost use Rattle.lists.specs.Padded.{zeros};
 ghost use Rattle.text.specs.Writing.{OnPage};
 ghost use Rattle.tables.specs.Tables.{tables_text};
 
-use crate::logarithms::put_logarithms;
-use crate::powers::put_powers;
+use crate::logarithms::write_logarithms;
+use crate::powers::Powers;
+use text::Writer;
 
 // An empty page: zeros, with room for 510 lines of at most six bytes.
 pub fn page() -> [u8; 3060]
@@ -14,10 +15,13 @@ pub fn page() -> [u8; 3060]
     [0; 3060]
 }
 
-// Puts the tables at the front of a page, and gives their length.
+// Writes the tables at the front of a page, and gives their length.
 pub fn tables(out: &mut [u8; 3060]) -> usize
     ensures { OnPage out.old out.new result tables_text }
 {
-    let powers = put_powers(out, 0);
-    put_logarithms(out, powers)
+    let powers = Powers::new();
+    let mut writer = Writer::new(out);
+    powers.write(&mut writer);
+    write_logarithms(&mut writer, &powers);
+    writer.len()
 }

@@ -1,3 +1,4 @@
 -- Laws of the texts and of what puts them into a buffer.
 pub mod Writing
-pub mod Fields
+pub mod Digits
+pub mod Written

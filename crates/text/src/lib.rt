@@ -1,123 +1,130 @@
-// Texts put into a buffer. Each function puts its text at a place of a buffer that has room for it, and gives the next place.
+// Texts of words and numbers, written one after another on a page that is lent.
 #![tactic(auto)]
 
-ghost use Rattle.std.specs.Prelude.{◌≡◌, [], ◌∷◌, ◌+◌, ◌*◌, ◌%◌, ◌≤◌, ◌<◌, length};
-ghost use Rattle.text.specs.Text.{digit, decimal, field, fields, line};
-ghost use Rattle.text.specs.Inner.Text.{zeros_before};
-ghost use Rattle.text.specs.Inner.Writing.{Puts};
+ghost use Rattle.std.specs.Prelude.{◌≡◌, [], ◌∷◌, ◌+◌, ◌*◌, ◌≤◌, ◌<◌, length, map};
+ghost use Rattle.text.specs.Text.{decimal, field, fields, line};
 
-pub fn put_byte(out: &mut [u8], at: usize, b: u8) -> usize
-    requires { at < length out.old }
-    ensures { Puts out.old out.new at result (b ∷ []) }
-{
-    out[at] = b;
-    at + 1
+mod buffers;
+mod number;
+
+pub use buffers::{
+    put_byte, put_field, put_fields, put_line, put_number, put_number_field, put_word,
+};
+use itoa::Buffer;
+pub use number::Number;
+
+// A page, and how many of its bytes are written. Each method but `len` writes its text behind what is written.
+// There is no `fmt::Write` here: what `write!` leaves is known only where it succeeds, and these writes cannot fail.
+#[derive(Drop)]
+pub struct Writer<'a> {
+    page: &'a mut [u8],
+    end: usize,
+    ghost inside: { end ≤ length page.now },
 }
 
-pub fn put_word(out: &mut [u8], at: usize, word: &[u8]) -> usize
-    requires { at + length word.now ≤ length out.old }
-    ensures { Puts out.old out.new at result word.now }
-{
-    let mut place = at;
-    let mut i = 0;
-    while i < word.len() {
-        out[place] = word[i];
-        place += 1;
-        i += 1;
+impl<'a> Writer<'a> {
+    ghost use Rattle.text.specs.Writer.{room, Begins, Writes};
+
+    #[tactic(auto, unfolding(crate::specs::Writer::room))]
+    pub fn new(page: &'a mut [u8]) -> Writer<'a>
+        ensures begins { Begins page.entry 0 result }
+        ensures room { room result ≡ length page.old }
+    {
+        Writer { page, end: 0 }
     }
-    place
-}
 
-// The last digit of a number.
-fn last_digit(x: u32) -> u8
-    ensures { result ≡ digit (x % 10) }
-{
-    b'0' + (x % 10) as u8
-}
-
-// How many of five digits are zeros in front of a number.
-fn zeros_before(x: u32) -> usize
-    ensures { (result ≡ zeros_before x) × (result ≤ 4) }
-{
-    if x < 10 {
-        return 4;
+    // A writer on the bytes of a page from a place on.
+    #[tactic(auto, unfolding(crate::specs::Writer::room))]
+    pub(crate) fn at(page: &'a mut [u8], end: usize) -> Writer<'a>
+        requires { end ≤ length page.old }
+        ensures begins { Begins page.entry end result }
+        ensures room { room result + end ≡ length page.old }
+    {
+        Writer { page, end }
     }
-    if x < 100 {
-        return 3;
-    }
-    if x < 1000 {
-        return 2;
-    }
-    if x < 10000 { 1 } else { 0 }
-}
 
-// A number below 100,000 in base ten.
-pub fn put_number(out: &mut [u8], at: usize, x: u32) -> usize
-    requires { (x < 100000) × (at + 5 ≤ length out.old) }
-    ensures puts { Puts out.old out.new at result (decimal x) }
-    ensures upper_bound { result ≤ at + 5 }
-{
-    let first = zeros_before(x);
-    let digits = [
-        last_digit(x / 10000),
-        last_digit(x / 1000),
-        last_digit(x / 100),
-        last_digit(x / 10),
-        last_digit(x),
-    ];
-    put_word(out, at, &digits[first..])
-}
-
-// A space and a number in base ten.
-pub fn put_field(out: &mut [u8], at: usize, x: u8) -> usize
-    requires { at + 4 ≤ length out.old }
-    ensures puts { Puts out.old out.new at result (field x) }
-    ensures upper_bound { result ≤ at + 4 }
-{
-    if x < 10 {
-        return put_word(out, at, &[b' ', b'0' + x]);
+    // How many bytes are written.
+    pub fn len(&self) -> usize
+        ensures { result ≡ self.now.end }
+    {
+        self.end
     }
-    if x < 100 {
-        return put_word(out, at, &[b' ', b'0' + x / 10, b'0' + x % 10]);
+
+    #[tactic(auto, unfolding(crate::specs::Writer::room))]
+    pub fn byte(&mut self, b: u8)
+        requires { 1 ≤ room self.old }
+        ensures { Writes self.old self.new (b ∷ []) }
+    {
+        self.page[self.end] = b;
+        self.end += 1;
     }
-    put_word(
-        out,
-        at,
-        &[b' ', b'0' + x / 100, b'0' + x / 10 % 10, b'0' + x % 10],
-    )
-}
 
-// The same of a number below 100,000.
-pub fn put_number_field(out: &mut [u8], at: usize, x: u32) -> usize
-    requires { (x < 100000) × (at + 6 ≤ length out.old) }
-    ensures puts { Puts out.old out.new at result (field x) }
-    ensures upper_bound { result ≤ at + 6 }
-{
-    let spaced = put_byte(out, at, b' ');
-    put_number(out, spaced, x)
-}
-
-// The fields of a line, and its line feed.
-pub fn put_fields(out: &mut [u8], at: usize, xs: &[u8]) -> usize
-    requires { at + 4 * length xs.now + 1 ≤ length out.old }
-    ensures puts { Puts out.old out.new at result (fields xs.now) }
-    ensures upper_bound { result ≤ at + 4 * length xs.now + 1 }
-{
-    let mut place = at;
-    let mut i = 0;
-    while i < xs.len() {
-        place = put_field(out, place, xs[i]);
-        i += 1;
+    #[tactic(auto, unfolding(crate::specs::Writer::room))]
+    pub(crate) fn bytes(&mut self, bytes: &[u8])
+        requires { length bytes.now ≤ room self.old }
+        ensures { Writes self.old self.new bytes.now }
+    {
+        let next = self.end + bytes.len();
+        self.page[self.end..next].copy_from_slice(bytes);
+        self.end = next;
     }
-    put_byte(out, place, b'\n')
-}
 
-// A line: a word and fields.
-pub fn put_line(out: &mut [u8], at: usize, word: &[u8], xs: &[u8]) -> usize
-    requires { at + length word.now + 4 * length xs.now + 1 ≤ length out.old }
-    ensures puts { Puts out.old out.new at result (line word.now xs.now) }
-    ensures upper_bound { result ≤ at + length word.now + 4 * length xs.now + 1 }
-{
-    let named = put_word(out, at, word);
-    put_fields(out, named, xs)
+    pub fn word(&mut self, word: &str)
+        requires { length word.now ≤ room self.old }
+        ensures { Writes self.old self.new word.now }
+    {
+        self.bytes(word.as_bytes());
+    }
+
+    // Any number below 100,000 in base ten.
+    pub fn decimal(&mut self, x: u32)
+        requires small { x < 100000 }
+        requires room { length (decimal x) ≤ room self.old }
+        ensures { Writes self.old self.new (decimal x) }
+    {
+        let mut digits = Buffer::new();
+        self.word(digits.format(x));
+    }
+
+    // A number of a type whose values have few digits.
+    pub fn number<N: Number>(&mut self, x: N)
+        requires { N.digits ≤ room self.old }
+        ensures text { Writes self.old self.new (decimal (N.value x)) }
+        ensures room { room self.old ≤ room self.new + N.digits }
+    {
+        self.decimal(x.to_u32());
+    }
+
+    // A space and a number.
+    pub fn field<N: Number>(&mut self, x: N)
+        requires { N.digits + 1 ≤ room self.old }
+        ensures text { Writes self.old self.new (field (N.value x)) }
+        ensures room { room self.old ≤ room self.new + N.digits + 1 }
+    {
+        self.byte(b' ');
+        self.number(x);
+    }
+
+    // The fields of a line, and its line feed.
+    pub fn fields<N: Number>(&mut self, xs: &[N])
+        requires { (N.digits + 1) * length xs.now + 1 ≤ room self.old }
+        ensures text { Writes self.old self.new (fields (map N.value xs.now)) }
+        ensures room { room self.old ≤ room self.new + (N.digits + 1) * length xs.now + 1 }
+    {
+        for x in xs {
+            self.field(*x);
+        }
+        self.byte(b'\n');
+    }
+
+    // A word and fields.
+    pub fn line<N: Number>(&mut self, word: &str, xs: &[N])
+        requires { length word.now + (N.digits + 1) * length xs.now + 1 ≤ room self.old }
+        ensures text { Writes self.old self.new (line word.now (map N.value xs.now)) }
+        ensures room { room self.old
+            ≤ room self.new + length word.now + (N.digits + 1) * length xs.now + 1 }
+    {
+        self.word(word);
+        self.fields(xs);
+    }
 }

@@ -1,6 +1,6 @@
 -- `small_plans` meets its contract.
-use Rattle.text.proofs.Writing.{puts_front}
+use Rattle.text.proofs.Written.{written_page}
 use Rattle.small_plans_text.proofs.small_plans.Goals as goal
 
 pub returns : goal.returns
-returns c = puts_front c.put_plans.ensures
+returns c = rw c.len.ensures (written_page c.new-writer.ensures.begins c.write_plans.ensures)

@@ -1,7 +1,6 @@
 -- `tables` meets its contract: the two tables, one after the other.
-use native.Mathlib.Omega.{arith}
-use Rattle.text.proofs.Writing.{puts_then, puts_front}
+use Rattle.text.proofs.Written.{writes_then, written_page}
 use Rattle.tables.proofs.tables_text.tables.Goals as goal
 
 pub returns : goal.returns
-returns c = puts_front (puts_then c.put_powers-powers.ensures.puts c.put_logarithms.ensures (omega arith))
+returns c = rw c.len.ensures (written_page c.new-writer.ensures.begins (writes_then c.write.ensures.text c.write_logarithms.ensures))

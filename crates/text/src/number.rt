@@ -1,0 +1,36 @@
+// The types of the numbers that a field or a line holds.
+ghost use Rattle.std.specs.Prelude.{◌≡◌, ℕ, ◌≤◌, ◌<◌, length};
+ghost use Rattle.text.specs.Text.{decimal};
+
+// A type whose values have few digits.
+pub trait Number: Copy {
+    ghost value: { Self → ℕ };
+
+    // As many digits at most.
+    ghost digits: { ℕ };
+
+    fn to_u32(self) -> u32
+        ensures value { result ≡ value self }
+        ensures small { value self < 100000 }
+        ensures short { length (decimal (value self)) ≤ digits };
+}
+
+impl Number for u8 {
+    ghost value = { λ x. x };
+
+    ghost digits = { 3 };
+
+    fn to_u32(self) -> u32 {
+        u32::from(self)
+    }
+}
+
+impl Number for u16 {
+    ghost value = { λ x. x };
+
+    ghost digits = { 5 };
+
+    fn to_u32(self) -> u32 {
+        u32::from(self)
+    }
+}
