@@ -7,7 +7,7 @@ ghost use Rattle.field.specs.Primes.{is_prime};
 ghost use Rattle.field.specs.Fields.{order_of};
 ghost use Rattle.text.specs.Text.{decimal, line};
 ghost use Rattle.text.specs.Writing.{OnPage};
-ghost use Rattle.text.specs.Writer.{room, Writes};
+ghost use Rattle.text.specs.Inner.Writer.{room, Writes};
 ghost use Rattle.small_plans_text.specs.SmallPlans.{root_lines, field_lines, small_plans};
 
 use field::{Field, is_prime};
@@ -120,7 +120,7 @@ pub fn page() -> [u8; 501642]
     [0; 501642]
 }
 
-// Writes the lines at the front of a page, and gives their length.
+// Writes the lines at the front of a page, and gives their length. The page is lent, for the library has no heap.
 pub fn small_plans(out: &mut [u8; 501642]) -> usize
     ensures { OnPage out.old out.new result small_plans }
 {

@@ -1,6 +1,6 @@
 // The logarithms, each found among the powers of 2.
 ghost use Rattle.std.specs.Prelude.{◌≡◌, ◌+◌, ◌≤◌};
-ghost use Rattle.text.specs.Writer.{room, Writes};
+ghost use Rattle.text.specs.Inner.Writer.{room, Writes};
 ghost use Rattle.tables.specs.Tables.{logarithm_lines};
 
 use crate::powers::{Powers, write_line};

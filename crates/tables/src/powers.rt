@@ -3,7 +3,7 @@ ghost use Rattle.std.specs.Prelude.{◌≡◌, ◌+◌, ◌≤◌, ◌<◌};
 ghost use Rattle.lists.specs.Rows.{from};
 ghost use Rattle.field.specs.Bytes.{times_x};
 ghost use Rattle.field.specs.Fields.{power};
-ghost use Rattle.text.specs.Writer.{room, Writes};
+ghost use Rattle.text.specs.Inner.Writer.{room, Writes};
 ghost use Rattle.tables.specs.Tables.{number_line, power_lines, logarithm_of};
 
 use text::Writer;

@@ -15,7 +15,7 @@ pub fn page() -> [u8; 3060]
     [0; 3060]
 }
 
-// Writes the tables at the front of a page, and gives their length.
+// Writes the tables at the front of a page, and gives their length. The page is lent: fixed memory is enough for 510 lines.
 pub fn tables(out: &mut [u8; 3060]) -> usize
     ensures { OnPage out.old out.new result tables_text }
 {

@@ -10,7 +10,7 @@ use Rattle.lists.proofs.Rows.{rows_next, rows_end}
 use Rattle.text.specs.declared.Writer.{Writer}
 use Rattle.text.specs.Writing.{OnPage}
 use Rattle.text.specs.Inner.Writing.{written, Puts}
-use Rattle.text.specs.Writer.{room, Begins, Writes}
+use Rattle.text.specs.Inner.Writer.{room, Begins, Writes}
 use Rattle.text.proofs.Writing.{puts_none, puts_then, puts_front}
 
 -- a text that is put where there is room for it

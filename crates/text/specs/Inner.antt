@@ -1,2 +1,3 @@
 -- What the functions and proofs behind the promises give and rely on.
 pub mod Writing
+pub mod Writer

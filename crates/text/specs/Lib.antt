@@ -1,5 +1,4 @@
 -- Texts as lists of bytes, and what it is to put one into a buffer.
 pub mod Text
 pub mod Writing
-pub mod Writer
 pub mod Inner

@@ -23,9 +23,9 @@ pub struct Writer<'a> {
 }
 
 impl<'a> Writer<'a> {
-    ghost use Rattle.text.specs.Writer.{room, Begins, Writes};
+    ghost use Rattle.text.specs.Inner.Writer.{room, Begins, Writes};
 
-    #[tactic(auto, unfolding(crate::specs::Writer::room))]
+    #[tactic(auto, unfolding(crate::specs::Inner::Writer::room))]
     pub fn new(page: &'a mut [u8]) -> Writer<'a>
         ensures begins { Begins page.entry 0 result }
         ensures room { room result ≡ length page.old }
@@ -34,7 +34,7 @@ impl<'a> Writer<'a> {
     }
 
     // A writer on the bytes of a page from a place on.
-    #[tactic(auto, unfolding(crate::specs::Writer::room))]
+    #[tactic(auto, unfolding(crate::specs::Inner::Writer::room))]
     pub(crate) fn at(page: &'a mut [u8], end: usize) -> Writer<'a>
         requires { end ≤ length page.old }
         ensures begins { Begins page.entry end result }
@@ -50,7 +50,7 @@ impl<'a> Writer<'a> {
         self.end
     }
 
-    #[tactic(auto, unfolding(crate::specs::Writer::room))]
+    #[tactic(auto, unfolding(crate::specs::Inner::Writer::room))]
     pub fn byte(&mut self, b: u8)
         requires { 1 ≤ room self.old }
         ensures { Writes self.old self.new (b ∷ []) }
@@ -59,7 +59,7 @@ impl<'a> Writer<'a> {
         self.end += 1;
     }
 
-    #[tactic(auto, unfolding(crate::specs::Writer::room))]
+    #[tactic(auto, unfolding(crate::specs::Inner::Writer::room))]
     pub(crate) fn bytes(&mut self, bytes: &[u8])
         requires { length bytes.now ≤ room self.old }
         ensures { Writes self.old self.new bytes.now }

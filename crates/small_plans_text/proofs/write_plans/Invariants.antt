@@ -1,7 +1,7 @@
 -- `write_plans` meets its contract. Invariant: the lines of the primes below p are written, and the others are to come.
 use Prim.Native.Nat.{◌+◌, ◌*◌, ◌-◌, ◌≤◌}
 use Rattle.lists.specs.Rows.{rows_from}
-use Rattle.text.specs.Writer.{room}
+use Rattle.text.specs.Inner.Writer.{room}
 use Rattle.text.proofs.Written.{Writing}
 use Rattle.small_plans_text.specs.SmallPlans.{field_lines}
 use Rattle.small_plans_text.proofs.write_plans.Given as goal

@@ -1,7 +1,7 @@
 -- `write_roots` meets its contract. Invariant: the lines of the roots below `root` are written, and the others are to come.
 use Prim.Native.Nat.{◌+◌, ◌*◌, ◌-◌, ◌≤◌}
 use Rattle.lists.specs.Rows.{rows_from}
-use Rattle.text.specs.Writer.{room}
+use Rattle.text.specs.Inner.Writer.{room}
 use Rattle.text.proofs.Written.{Writing}
 use Rattle.small_plans_text.specs.SmallPlans.{root_lines}
 use Rattle.small_plans_text.proofs.SmallPrime.write_roots.Given as goal

@@ -1,7 +1,7 @@
 -- `write_logarithms` meets its contract. Invariant: the lines before that of a are written, and the others are to come.
 use Prim.Native.Nat.{◌+◌, ◌*◌, ◌-◌, ◌≤◌}
 use Rattle.lists.specs.Rows.{rows_from}
-use Rattle.text.specs.Writer.{room}
+use Rattle.text.specs.Inner.Writer.{room}
 use Rattle.text.proofs.Written.{Writing}
 use Rattle.tables.specs.Tables.{number_line, logarithm_of, logarithm_lines}
 use Rattle.tables.proofs.logarithms.write_logarithms.Given as goal

@@ -3,7 +3,7 @@ use mathlib.Core.Path.{refl}
 use mathlib.Core.List.{[], ◌∷◌}
 use native.Mathlib.Omega.{arith}
 use Rattle.lists.proofs.Fill.{fills_put}
-use Rattle.text.specs.Writer.{room}
+use Rattle.text.specs.Inner.Writer.{room}
 use Rattle.text.proofs.Writing.{puts_start, puts_done}
 use Rattle.text.proofs.Written.{writes_puts}
 use Rattle.text.proofs.Writer.byte.Goals as goal

@@ -3,7 +3,7 @@ use Prim.Native.Nat.{◌+◌, ◌*◌, ◌≤◌}
 use mathlib.Core.List.{map}
 use lib.ListN.{drop}
 use Rattle.text.specs.Text.{fields}
-use Rattle.text.specs.Writer.{room}
+use Rattle.text.specs.Inner.Writer.{room}
 use Rattle.text.proofs.Written.{Writing}
 use Rattle.text.proofs.Writer.fields.Given as goal
 

@@ -3,7 +3,7 @@ use Prim.Native.Nat.{ℕ}
 use Rattle.std.proofs.Common.{rules}
 use Rattle.std.proofs.lemmas.List.{map-id}
 use Rattle.text.specs.Text.{line}
-use Rattle.text.specs.Writer.{Writes}
+use Rattle.text.specs.Inner.Writer.{Writes}
 use Rattle.text.proofs.Written.{writes_then}
 use Rattle.text.proofs.buffers.put_line.Goals as goal
 

@@ -2,7 +2,7 @@
 use native.Mathlib.Omega.{arith}
 use Rattle.std.proofs.Common.{rules}
 use Rattle.text.specs.Text.{field}
-use Rattle.text.specs.Writer.{Writes}
+use Rattle.text.specs.Inner.Writer.{Writes}
 use Rattle.text.proofs.Digits.{decimal_short}
 use Rattle.text.proofs.Written.{writes_then}
 use Rattle.text.proofs.buffers.put_number_field.Goals as goal

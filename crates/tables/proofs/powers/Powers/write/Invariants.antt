@@ -1,7 +1,7 @@
 -- `write` meets its contract. Invariant: the lines before the power's are written, and the others are to come.
 use Prim.Native.Nat.{◌+◌, ◌*◌, ◌-◌, ◌≤◌}
 use Rattle.lists.specs.Rows.{rows_from}
-use Rattle.text.specs.Writer.{room}
+use Rattle.text.specs.Inner.Writer.{room}
 use Rattle.text.proofs.Written.{Writing}
 use Rattle.tables.specs.Tables.{power_lines}
 use Rattle.tables.proofs.TwoPowers.{power_line}
