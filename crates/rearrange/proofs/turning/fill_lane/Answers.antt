@@ -50,6 +50,9 @@ overflow_add-end c = omega (arith, write-in c)
 pub overflow_mul-i : goal.overflow_mul-i
 overflow_mul-i c = omega (arith, read-place c)
 
+pub overflow_add-i : goal.overflow_add-i
+overflow_add-i c = omega (arith, read-place c)
+
 pub symbol_at-symbol-requires : goal.symbol_at-symbol-requires
 symbol_at-symbol-requires c = (c.requires.0, c.requires.1, read-in c)
 
