@@ -55,9 +55,6 @@ returns-then-not-is_near c =
     let l = c.loop-t in
     sym (l.invariant ∙ search_found _ _ _ c.loop-t-test.true (sym (near-is (goal.at.returns-then-not-is_near c).After-is_near) ∙ not-true _ c.if-not-is_near.true-raw))
 
-pub loop-t-smaller : goal.loop-t-smaller
-loop-t-smaller c = omega (arith, c.loop-t-test.true)
-
 pub loop-t-preserved : goal.loop-t-preserved
 loop-t-preserved c =
     let l = c.loop-t in
@@ -67,5 +64,5 @@ pub returns : goal.returns
 unfolding first_far
 returns c =
     let l = c.loop-t in
-    let end : c.args.lanes ≡ l.t = omega (arith, l.invariant.0, c.loop-t-test.false) in
+    let end : c.args.lanes ≡ l.t = omega (arith, l.auto.t-end, c.loop-t-test.false) in
     end ∙ sym (l.invariant ∙ search_end _ _ _ c.loop-t-test.false)

@@ -83,7 +83,6 @@ overflow_cast-out c =
 pub bounds-out-i : goal.bounds-out-i
 bounds-out-i c = omega (arith, c.loop-i-test.true, c.requires.0.short)
 
-
 pub loop-i-preserved : goal.loop-i-preserved
 loop-i-preserved c =
     let a = c.args in
