@@ -126,7 +126,7 @@ def cited():
     uses = collections.Counter()
     for path in specs() + proofs() + glob.glob(f"{top}/crates/*/src/*.rt"):
         text = "\n".join(line for line in IMPORT.sub("", read(path)).split("\n") if not line.startswith("--"))
-        uses.update(WORD.findall(text))
+        uses.update(name for word in WORD.findall(text) for name in word.split("::"))
     told = set(re.findall(r"`([^`]+)`", read(f"{top}/docs/CLAIMS.md")))
     told |= {name.split(".")[-1] for name in told}
     for path, name, _, lines in laws():

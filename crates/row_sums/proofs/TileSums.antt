@@ -69,13 +69,3 @@ module _ (p rows l : ℕ) (ws s : List ℕ) where
   pub turned_after : rearranged row_after_row lane_after_lane (bytes_for p) l (combined_tile p rows l ws s) ≡ combined_bytes p rows l ws s
   unfolding combined_tile combined_bytes
   turned_after = row_bytes (bytes_for p) l sums (length_combined p rows l ws (tile_symbols (bytes_for p) rows l s))
-
--- the bytes of a tile's sums
-pub length_tile : (p rows l : ℕ) (ws s : List ℕ) → length (combined_tile p rows l ws s) ≡ bytes_for p * l
-unfolding combined_tile
-length_tile p rows l ws s = length_tile_bytes (bytes_for p) 1 l _ ∙ ap (λ (x : ℕ). x * l) (mul-one (bytes_for p))
-
--- rows to write of the same length
-pub other_tile : {field : Field} {rows l : ℕ} {ws s : List ℕ} {n : ℕ} → WeightedRows field rows l ws s n → (m : ℕ) → m ≡ n → WeightedRows field rows l ws s m
-other_tile a m same =
-    record { usable_field = a.usable_field; tile = record { few_lanes = a.tile.few_lanes; bytes = a.tile.bytes; weighted = a.tile.weighted; out_is_bytes = same ∙ a.tile.out_is_bytes } }

@@ -24,6 +24,7 @@ use Rattle.kernel.specs.Inner.Lanes.{lanewise}
 use Rattle.kernel.proofs.Lanes.{lanewise_ext, get_or_lanewise, length_lanewise}
 use Rattle.row_sums.specs.Inner.Combined.{combined}
 use Rattle.row_sums.specs.Inner.Digits.{xor_sum, multiplied}
+use Rattle.row_sums.proofs.FirstWeights.{dot_front}
 use Rattle.row_sums.proofs.Turns.{length_multiplied}
 use Rattle.subset_sums.specs.Inner.Subsets.{subset, table_of as table_of_rows}
 use Rattle.subset_sums.specs.Inner.Lists.{subset_at, slices_from, slices_added, turns_of, Slices, Grouped}
@@ -183,13 +184,6 @@ slices_inside groups at tab list counts few low long s =
           let o = rw here at slice in
           rw (there, length-drop) (omega (arith, o.0, o.1));
     }
-
--- a sum reads as many symbols as there are weights
-dot_front : (p : ℕ) (ws ys zs : List ℕ) → length ws ≤ length ys → dot p ws (ys ++ zs) ≡ dot p ws ys
-unfolding dot
-dot_front p [] ys zs h = refl
-dot_front p (w ∷ ws) [] zs h = absurd (omega arith)
-dot_front p (w ∷ ws) (y ∷ ys) zs h = ap (add p (mul p w y)) (dot_front p ws ys zs (omega arith))
 
 -- all sums
 pub sums_right : (groups l : ℕ) (ws row list counts : List ℕ) → groups ≤ 64 → length ws ≤ 4 * groups → Windows 256 ws row l → Placed groups ws list counts → from (sum_at groups (sliding_table (padded 576 row)) list counts) 0 l ≡ window_sums 0 ws row l

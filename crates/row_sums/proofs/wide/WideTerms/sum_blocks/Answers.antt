@@ -8,7 +8,7 @@ use Rattle.lists.proofs.Rows.{length_from, get_or_from}
 use Rattle.row_sums.specs.Inner.Combined.{combined}
 use Rattle.row_sums.specs.Inner.Terms.{wide_sum_at}
 use Rattle.row_sums.specs.Inner.WideSums.{wide_sum}
-use Rattle.row_sums.proofs.Pairs.{Written, written_none, written_less, written_pairs, written_all}
+use Rattle.row_sums.proofs.Pairs.{Written, written_less, written_pairs, written_all}
 use Rattle.row_sums.proofs.wide.WideTerms.sum_blocks.Goals as goal
 use Rattle.row_sums.proofs.wide.WideTerms.sum_blocks.Goals.{After-block_sums-sums, After-put}
 

@@ -2,7 +2,7 @@
 use native.Mathlib.Omega.{arith}
 use Rattle.row_sums.specs.Inner.Combined.{combined}
 use Rattle.row_sums.specs.Inner.WideSums.{wide_sum}
-use Rattle.row_sums.proofs.Pairs.{written_none, written_one, written_all}
+use Rattle.row_sums.proofs.Pairs.{written_one, written_all}
 use Rattle.row_sums.proofs.wide.WideTerms.sum_lanes.Goals as goal
 
 pub loop-t-preserved : goal.loop-t-preserved
