@@ -13,10 +13,7 @@ pub fn read_full(rt: &impl Input, buf: &mut [u8]) -> io::Result<usize>
 {
     let mut reader = rt.reader();
     let mut done = 0;
-    for _ in 0..u64::MAX {
-        if done == buf.len() {
-            break;
-        }
+    while done < buf.len() {
         let n = reader.read(&mut buf[done..])?;
         if n == 0 {
             break;

@@ -2,57 +2,67 @@
 // it no record. An empty line or a comment is written as it is.
 #![tactic(auto)]
 
-use std::io;
-use test_tools::{not_read, part, text};
-use test_words::{is_comment, line_end, read_call};
+use std::alloc::Global;
+use std::io::{self, BufRead, BufReader, Read};
+use test_tools::not_read;
+use test_words::{Fault, Words, is_comment};
+
+// The most bytes of records that are read.
+const MOST: u64 = 4096;
+
+// The record of a line.
+fn read(alloc: Global, line: &str) -> Result<Vec<u8>, Fault> {
+    let mut words = Words::new(alloc, line);
+    if words.name() != "record" {
+        return Err(Fault::UnknownCall);
+    }
+    let record = words.record()?;
+    words.end()?;
+    Ok(record)
+}
 
 fn print_sheet(rt: &impl Print, rec: &[u8]) -> io::Result<()> {
     let mut page = sheet_text::page();
     let end = sheet_text::sheet(rec, &mut page);
-    text(rt, &page[..end])
+    rt.write_all(&page[..end])
 }
 
 fn print_comparison(rt: &impl Print, rec: &[u8]) -> io::Result<()> {
     let mut page = compare_text::page();
     let end = compare_text::comparison(rec, &mut page);
-    text(rt, &page[..end])
+    rt.write_all(&page[..end])
 }
 
-// The sheet and the comparison of the record of a line.
-fn answer_record(rt: &impl Print, line: &[u8]) -> io::Result<()> {
-    let words = read_call(line, b"record");
-    let fault = words.fault;
-    if fault != 0 {
-        not_read(rt, b"record", fault)?;
-        return text(rt, b"\n");
+// The sheet and the comparison of the record of a line. A byte that is no text stands in a word that is unknown.
+fn answer_record(rt: &(impl Print + AllocGlobal), line: &[u8]) -> io::Result<()> {
+    let alloc = rt.alloc();
+    let text = String::from_utf8_lossy(alloc, line)?;
+    match read(alloc, &text) {
+        Ok(record) => {
+            rt.write_all(b"\n")?;
+            print_sheet(rt, &record)?;
+            print_comparison(rt, &record)
+        }
+        Err(fault) => {
+            not_read(rt, "record", fault)?;
+            rt.write_all(b"\n")
+        }
     }
-    text(rt, b"\n")?;
-    let record = words.record;
-    let counts = words.counts;
-    print_sheet(rt, part(&record, counts[0]))?;
-    print_comparison(rt, part(&record, counts[0]))
 }
 
-fn answer(rt: &impl Print, line: &[u8]) -> io::Result<()> {
-    text(rt, line)?;
+fn answer(rt: &(impl Print + AllocGlobal), line: &[u8]) -> io::Result<()> {
+    rt.write_all(line)?;
     if is_comment(line) {
-        return text(rt, b"\n");
+        return rt.write_all(b"\n");
     }
     answer_record(rt, line)
 }
 
-fn answers(rt: &impl Print, input: &[u8]) -> io::Result<()> {
-    let mut at = 0;
-    while at < input.len() {
-        let end = line_end(input, at);
-        answer(rt, &input[at..end])?;
-        at = end + 1;
+fn main(rt: HostRuntime) -> io::Result<()> {
+    let alloc = rt.alloc();
+    let input = BufReader::new(alloc, rt.reader().take(MOST))?;
+    for line in input.split(alloc, b'\n') {
+        answer(&rt, &line?)?;
     }
     Ok(())
-}
-
-fn main(rt: HostRuntime) -> io::Result<()> {
-    let mut input = [0u8; 4096];
-    let size = input::read_full(&rt, &mut input)?;
-    answers(&rt, &input[..size])
 }

@@ -1,7 +1,13 @@
-// Calls in words that need no block: made, and their answers written to standard output.
+// Calls in words that need no block: read, made, and their answers as texts.
 #![tactic(auto)]
 
-pub mod lanes;
-pub mod plans;
-pub mod rosters;
-pub mod weights;
+mod codes;
+mod lanes;
+mod outcomes;
+mod plans;
+mod rosters;
+mod weights;
+
+pub use codes::CodeCall;
+pub use outcomes::{outcome, write};
+pub use rosters::RosterCall;

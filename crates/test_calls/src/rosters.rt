@@ -1,92 +1,112 @@
-// The calls of a roster. The program keeps the roster from line to line; after a start or an event it writes which nodes are present.
+// The calls of a roster, which is kept from line to line; after a start or an event the answer says which nodes are present.
 use roster::{Listing, Roster, Step};
-use std::io;
-use test_tools::{front, list, number, part, refused, text, untouched, value};
-use test_words::Words;
+use std::alloc::{AllocError, Global};
+use test_tools::{List, MARK, change, refused, untouched};
+use test_words::{Fault, Words};
 
-// The present nodes, 0 to 254.
-fn print_present(rt: &impl Print, marks: [bool; 255]) -> io::Result<()> {
-    let mut j: usize = 0;
-    while j < 255 {
-        if marks[j] {
-            number(rt, j as u64)?;
-        }
-        j += 1;
-    }
-    Ok(())
+#[derive(Debug, Drop)]
+pub enum RosterCall {
+    Start { record: Vec<u8> },
+    Leave { record: Vec<u8>, node: u32 },
+    Rejoin { record: Vec<u8>, node: u32 },
+    Lowest { record: Vec<u8>, room: usize },
+    Job { record: Vec<u8>, room: usize },
 }
 
-// The number, where there is one, and the roster afterwards, which is handed on.
-fn stepped(rt: &impl Print, step: Step) -> io::Result<Roster> {
-    let number = step.number;
-    let roster = step.roster;
-    if number == 0 {
-        text(rt, b": present")?;
-    } else {
-        value(rt, b": refused", number as u64)?;
-        text(rt, b", present")?;
-    }
-    let marks = roster.marks;
-    print_present(rt, marks)?;
-    Ok(roster)
-}
-
-pub fn start(rt: &impl Print, w: Words) -> io::Result<Roster> {
-    let record = w.record;
-    let counts = w.counts;
-    stepped(rt, Roster::start(part(&record, counts[0])))
-}
-
-// A node leaves, or returns where `here` says so.
-pub fn event(rt: &impl Print, w: Words, roster: Roster, here: bool) -> io::Result<Roster> {
-    let record = w.record;
-    let counts = w.counts;
-    let numbers = w.numbers;
-    let rec = part(&record, counts[0]);
-    if here {
-        return stepped(rt, roster.rejoin(rec, numbers[0]));
-    }
-    stepped(rt, roster.leave(rec, numbers[0]))
-}
-
-// The list that was written, or why it was not and whether every byte still holds 170.
-fn print(rt: &impl Print, answer: Listing, out: &[u8]) -> io::Result<()> {
-    match answer {
-        Listing::Written => list(rt, b": done", out),
-        Listing::TooFew => too_few(rt, untouched(170, out)),
-        Listing::Refused(number) => refused(rt, number, untouched(170, out)),
+// The roster afterwards: its present nodes, after the number that turned the call away, where there is one.
+fn stepped(alloc: Global, roster: &mut Roster, step: Step) -> Result<String, AllocError> {
+    *roster = step.roster;
+    let nodes = present(alloc, roster)?;
+    match step.number {
+        0 => format!(in alloc; "present{}", List(&nodes)),
+        number => format!(in alloc; "refused {number}, present{}", List(&nodes)),
     }
 }
 
-fn too_few(rt: &impl Print, kept: bool) -> io::Result<()> {
-    text(rt, b": too few")?;
-    if kept {
-        return text(rt, b", unchanged");
-    }
-    text(rt, b", changed")
+fn present(alloc: Global, roster: &Roster) -> Result<Vec<usize>, AllocError> {
+    let marks = roster.marks.iter().enumerate();
+    marks
+        .filter(|(_, mark)| **mark)
+        .map(|(node, _)| node)
+        .collect(alloc)
 }
 
-pub fn lowest(rt: &impl Print, w: Words, roster: Roster) -> io::Result<Roster> {
-    let record = w.record;
-    let counts = w.counts;
-    let rooms = w.rooms;
-    let mut out = [170u8; 64];
-    let answer = roster.lowest(part(&record, counts[0]), front(&mut out, rooms[1]));
-    print(rt, answer, part(&out, rooms[1]))?;
-    Ok(roster)
+// The list that was written, or why it was not and whether every byte is as it was.
+fn listed(alloc: Global, listing: Listing, out: &[u8]) -> Result<String, AllocError> {
+    let kept = untouched(MARK, out);
+    match listing {
+        Listing::Written => format!(in alloc; "done{}", List(out)),
+        Listing::TooFew => format!(in alloc; "too few, {}", change(kept)),
+        Listing::Refused(number) => refused(alloc, number, kept),
+    }
+}
+
+fn lowest(
+    alloc: Global,
+    roster: &Roster,
+    record: &[u8],
+    room: usize,
+) -> Result<String, AllocError> {
+    let mut out = vec![in alloc; MARK; room]?;
+    let listing = roster.lowest(record, &mut out);
+    listed(alloc, listing, &out)
 }
 
 // The job's list, then the number of the next job.
-pub fn job(rt: &impl Print, w: Words, roster: Roster) -> io::Result<Roster> {
-    let record = w.record;
-    let counts = w.counts;
-    let rooms = w.rooms;
-    let size = rooms[1];
-    let mut out = [170u8; 64];
-    let job = roster.next_job(part(&record, counts[0]), front(&mut out, size));
-    let next = job.roster;
-    let listing = job.listing;
-    print(rt, listing, part(&out, size))?;
-    value(rt, b", next job", next.job as u64)?;
-    Ok(next)
+fn job(
+    alloc: Global,
+    roster: &mut Roster,
+    record: &[u8],
+    room: usize,
+) -> Result<String, AllocError> {
+    let mut out = vec![in alloc; MARK; room]?;
+    let job = roster.next_job(record, &mut out);
+    *roster = job.roster;
+    let list = listed(alloc, job.listing, &out)?;
+    format!(in alloc; "{list}, next job {}", roster.job)
+}
+
+impl RosterCall {
+    // What the words after a name say, if it is one of these calls'.
+    pub fn read(name: &str, words: &mut Words) -> Result<Option<RosterCall>, Fault> {
+        let call = match name {
+            "roster" => RosterCall::Start {
+                record: words.record()?,
+            },
+            "leave" => RosterCall::Leave {
+                record: words.record()?,
+                node: words.number("node")?,
+            },
+            "rejoin" => RosterCall::Rejoin {
+                record: words.record()?,
+                node: words.number("node")?,
+            },
+            "lowest" => RosterCall::Lowest {
+                record: words.record()?,
+                room: words.room()?,
+            },
+            "job" => RosterCall::Job {
+                record: words.record()?,
+                room: words.room()?,
+            },
+            _ => return Ok(None),
+        };
+        Ok(Some(call))
+    }
+
+    pub fn answer(self, alloc: Global, roster: &mut Roster) -> Result<String, AllocError> {
+        match self {
+            RosterCall::Start { record } => stepped(alloc, roster, Roster::start(&record)),
+            RosterCall::Leave { record, node } => {
+                let step = roster.leave(&record, node);
+                stepped(alloc, roster, step)
+            }
+            RosterCall::Rejoin { record, node } => {
+                let step = roster.rejoin(&record, node);
+                stepped(alloc, roster, step)
+            }
+            RosterCall::Lowest { record, room } => lowest(alloc, roster, &record, room),
+            RosterCall::Job { record, room } => job(alloc, roster, &record, room),
+        }
+    }
 }

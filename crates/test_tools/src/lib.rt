@@ -1,10 +1,10 @@
-// What the test programs share: words and numbers on standard output, checksums, parts of buffers.
+// What the test programs share: words and numbers on standard output, the texts of answers, checksums.
 #![tactic(auto)]
 
+mod answers;
 mod data;
-mod places;
 mod print;
 
-pub use data::{sum, untouched};
-pub use places::{front, part};
-pub use print::{block, bytes, form, list, not_read, number, read, refused, text, value};
+pub use answers::{Block, List, change, refused};
+pub use data::{MARK, sum, untouched};
+pub use print::{not_read, number, text, value};

@@ -1,56 +1,115 @@
-// Lines of a text and words of a line. A word has the space before it; it ends at the next space or at the line's end.
-ghost use Rattle.std.specs.Prelude.{◌≤◌, ◌<◌, length};
+// The words of a line, from left to right.
+ghost use Rattle.std.specs.Prelude.{◌≡◌, ◌≤◌, ◌↔◌, IsTrue, IfSome, IfOk, slice_get, vec_len};
 
-// The place of the next such byte, or the text's length.
-pub fn until(text: &[u8], at: usize, mark: u8) -> usize
-    requires { at ≤ length text.now }
-    ensures { (at ≤ result) × (result ≤ length text.now) }
+use crate::Fault;
+use std::alloc::Global;
+use std::iter::Peekable;
+use std::str::{FromStr, Split};
+
+// The most numbers of a list, and the most room for one that is written.
+const MOST: usize = 64;
+
+// Whether a line is empty or a comment: its first byte is no other than '#'.
+pub fn is_comment(line: &[u8]) -> bool
+    ensures { IsTrue result ↔ IfSome (slice_get line.now 0) (λ b. b ≡ 35) }
 {
-    let mut i = at;
-    while i < text.len() && text[i] != mark {
-        i += 1;
+    line.first().is_none_or(|b| *b == b'#')
+}
+
+fn is_number(word: &str) -> bool {
+    !word.is_empty() && word.bytes().all(|b| b.is_ascii_digit())
+}
+
+// The words that are still to be read.
+#[derive(Drop)]
+pub struct Words<'a> {
+    alloc: Global,
+    rest: Peekable<Split<'a, char>>,
+}
+
+impl<'a> Words<'a> {
+    pub fn new(alloc: Global, line: &'a str) -> Words<'a> {
+        Words {
+            alloc,
+            rest: line.split(' ').peekable(),
+        }
     }
-    i
-}
 
-// The place of the next line feed, or the text's length.
-pub fn line_end(text: &[u8], at: usize) -> usize
-    requires { at ≤ length text.now }
-    ensures { (at ≤ result) × (result ≤ length text.now) }
-{
-    until(text, at, b'\n')
-}
-
-// The place after the word at a place.
-pub fn word_end(line: &[u8], at: usize) -> usize
-    requires { at < length line.now }
-    ensures { (at < result) × (result ≤ length line.now) }
-{
-    until(line, at + 1, b' ')
-}
-
-// The place after the word at a place if it is the given one, or that place.
-pub fn after_word(line: &[u8], at: usize, word: &[u8]) -> usize
-    requires { at ≤ length line.now }
-    ensures { (at ≤ result) × (result ≤ length line.now) }
-{
-    if at == line.len() {
-        return at;
+    // The first word of the line.
+    pub fn name(&mut self) -> &'a str {
+        self.rest.next().unwrap_or("")
     }
-    let end = word_end(line, at);
-    if check::same(&line[at..end], word) {
-        end
-    } else {
-        at
+
+    // Goes past the next word, which must be this one.
+    fn pass(&mut self, word: &str) -> Result<(), Fault> {
+        match self.rest.next() {
+            Some(next) if next == word => Ok(()),
+            _ => Err(Fault::UnknownWord),
+        }
     }
-}
 
-// Whether a line is that call's: its first word.
-pub fn is_call(line: &[u8], name: &[u8]) -> bool {
-    0 < after_word(line, 0, name)
-}
+    // The next word, if it is a number.
+    fn digits(&mut self) -> Option<&'a str> {
+        self.rest.next_if(|word| is_number(word))
+    }
 
-// Whether a line is empty or a comment.
-pub fn is_comment(line: &[u8]) -> bool {
-    line.len() == 0 || line[0] == b'#'
+    // The numbers that follow, at most so many.
+    fn numbers<T: FromStr + Drop>(&mut self, most: usize) -> Result<Vec<T>, Fault>
+    where
+        T::Err: Drop,
+        ensures { IfOk result (λ v. vec_len v ≤ most) }
+    {
+        let mut numbers = Vec::new(self.alloc);
+        for _ in 0..most {
+            let Some(digits) = self.digits() else {
+                return Ok(numbers);
+            };
+            let number = digits.parse().or(Err(Fault::LargeNumber))?;
+            numbers.push(number)?;
+        }
+        match self.digits() {
+            None => Ok(numbers),
+            Some(_) => Err(Fault::TooManyNumbers),
+        }
+    }
+
+    // The bytes of the record, which has no word of its own.
+    pub fn record(&mut self) -> Result<Vec<u8>, Fault>
+        ensures { IfOk result (λ v. vec_len v ≤ 64) }
+    {
+        self.numbers(MOST)
+    }
+
+    // A word and bytes.
+    pub fn bytes(&mut self, word: &str) -> Result<Vec<u8>, Fault>
+        ensures { IfOk result (λ v. vec_len v ≤ 64) }
+    {
+        self.pass(word)?;
+        self.numbers(MOST)
+    }
+
+    // A word and one number.
+    pub fn number(&mut self, word: &str) -> Result<u32, Fault> {
+        self.pass(word)?;
+        self.numbers(1)?.pop().ok_or(Fault::MissingNumber)
+    }
+
+    // The length of a buffer that is written.
+    pub fn room(&mut self) -> Result<usize, Fault>
+        ensures { IfOk result (λ room. room ≤ 64) }
+    {
+        let room = self.number("room")? as usize;
+        if MOST < room {
+            return Err(Fault::TooMuchRoom);
+        }
+        Ok(room)
+    }
+
+    // Every word has been read.
+    pub fn end(&mut self) -> Result<(), Fault> {
+        match self.rest.next() {
+            None => Ok(()),
+            Some(_) => Err(Fault::UnknownWord),
+        }
+    }
 }
