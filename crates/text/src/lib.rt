@@ -76,14 +76,14 @@ impl<'a> Writer<'a> {
         self.bytes(word.as_bytes());
     }
 
-    // Any number below 100,000 in base ten.
-    pub fn decimal(&mut self, x: u32)
+    // A number in base ten.
+    fn digits(&mut self, x: u32)
         requires small { x < 100000 }
         requires room { length (decimal x) ≤ room self.old }
         ensures { Writes self.old self.new (decimal x) }
     {
-        let mut digits = Buffer::new();
-        self.word(digits.format(x));
+        let mut buffer = Buffer::new();
+        self.word(buffer.format(x));
     }
 
     // A number of a type whose values have few digits.
@@ -92,7 +92,17 @@ impl<'a> Writer<'a> {
         ensures text { Writes self.old self.new (decimal (N.value x)) }
         ensures room { room self.old ≤ room self.new + N.digits }
     {
-        self.decimal(x.to_u32());
+        self.digits(x.to_u32());
+    }
+
+    // Any number below 100,000.
+    pub fn decimal(&mut self, x: u32)
+        requires small { x < 100000 }
+        requires room { 5 ≤ room self.old }
+        ensures text { Writes self.old self.new (decimal x) }
+        ensures room { room self.old ≤ room self.new + 5 }
+    {
+        self.digits(x);
     }
 
     // A space and a number.

@@ -1,9 +1,10 @@
--- `decimal` meets its contract: the digits are those that std writes.
-use Rattle.text.proofs.Digits.{decimal_same}
+-- `decimal` meets its contract: there are five digits at most.
+use native.Mathlib.Omega.{arith}
+use Rattle.text.proofs.Digits.{decimal_short}
 use Rattle.text.proofs.Writer.decimal.Goals as goal
 
-pub word-requires : goal.word-requires
-word-requires c = rw (c.format.ensures.text, decimal_same c.args.x c.requires.small) c.requires.room
+pub digits-requires-clause-room : goal.digits-requires-clause-room
+digits-requires-clause-room c = omega (arith, decimal_short 5 c.args.x (omega arith) (omega arith) (omega arith))
 
-pub returns : goal.returns
-returns c = rw (c.format.ensures.text, decimal_same c.args.x c.requires.small) at c.word.ensures
+pub returns-clause-room : goal.returns-clause-room
+returns-clause-room c = omega (arith, decimal_short 5 c.args.x (omega arith) (omega arith) (omega arith))
