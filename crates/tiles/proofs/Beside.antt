@@ -1,12 +1,8 @@
 -- Lanes put beside lanes, row by row, and lanes gathered so, 64 at a time.
-use mathlib.Core.Path.{◌≡◌, refl, sym, ap, ◌∙◌}
-use mathlib.Core.List.{List, ◌++◌}
-use Prim.Native.Nat.{ℕ, ◌+◌, ◌-◌, ◌*◌, ◌≤◌, ◌<◌}
-use native.Mathlib.Omega.{arith}
+use Rattle.std.proofs.Common.{◌≡◌, sym, ap, ◌∙◌, List, ◌++◌, ℕ, ◌+◌, ◌-◌, ◌*◌, ◌≤◌, ◌<◌, arith, length, get_or, take, drop}
 use native.Mathlib.Decide.{ℕ_discrete, dec_lt}
-use lib.ListN.{length, get_or, take, drop}
 use mathlib.Core.Logic.{by_cases}
-use Rattle.lists.proofs.Rows.{row_inside, part_length, get_d_part}
+use Rattle.lists.proofs.Rows.{row_inside}
 use Rattle.layout.specs.Layout.{row_after_row, lane_after_lane, held, lane_of, rearranged}
 use Rattle.layout.proofs.Lawful.{by_row}
 use Rattle.layout.proofs.Places.{held_by_row, held_by_lane}
@@ -14,19 +10,10 @@ use Rattle.layout.proofs.Buffers.{get_or_lane, held_buffer, held_equal, length_b
 use Rattle.layout.proofs.Runs.{held_part, length_replaced, replaced_before, replaced_inside, replaced_after}
 use Rattle.tiles.specs.Inner.Beside.{Beside}
 
-pub beside_none : (lanes first count : ℕ) (block start : List ℕ) → Beside lanes first count 0 block start start
-beside_none lanes first count block start = record { long = refl; put = λ i q none inside. absurd (omega arith); kept = λ i t low. refl }
-
 -- row r more, whose lanes are replaced through their part; m is the part's length as code has it
-module _ (rows lanes first count r : ℕ) (block start now : List ℕ) (fits : first + count ≤ lanes) (long : length start ≡ rows * lanes) (row : r < rows) (room : r * 64 + count ≤ length block) (b : Beside lanes first count r block start now) where
+module _ (rows lanes first count r : ℕ) (block start now xs : List ℕ) (fits : first + count ≤ lanes) (long : length start ≡ rows * lanes) (row : r < rows) (size : length xs ≡ count) (same : (q : ℕ) → q < count → get_or xs q 0 ≡ get_or block (r * 64 + q) 0) (b : Beside lanes first count r block start now) where
   abbrev a : ℕ
   a = r * lanes + first
-
-  abbrev xs : List ℕ
-  xs = take (r * 64 + count - r * 64) (drop (r * 64) block)
-
-  size : length xs ≡ count
-  size = part_length (r * 64) count block room
 
   inside_now : a + count ≤ length now
   inside_now = omega (arith, b.long, row_inside rows r lanes row)
@@ -40,7 +27,7 @@ module _ (rows lanes first count r : ℕ) (block start now : List ℕ) (fits : f
       by_cases (ℕ_discrete i r)
       (λ e.
       let place : r * lanes + (first + q) ≡ a + q = omega arith in
-      rw (e, place) (replaced_inside now xs a count size inside_now q inside ∙ get_d_part (r * 64) count block q inside))
+      rw (e, place) (replaced_inside now xs a count size inside_now q inside ∙ same q inside))
       (λ n.
       let less : i < r = omega arith in
       replaced_before now xs a count size inside_now (i * lanes + (first + q)) (omega (arith, row_inside r i lanes less)) ∙ b.put i q less inside)

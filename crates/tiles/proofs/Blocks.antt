@@ -1,21 +1,15 @@
 -- Squares of 16 by 16: read from rows, put into rows, and the loops over squares.
-use mathlib.Core.Path.{◌≡◌, refl, sym, ap, ◌∙◌}
-use mathlib.Core.List.{List, ◌++◌}
-use Prim.Native.Nat.{ℕ, ◌+◌, ◌-◌, ◌*◌, ◌/◌, ◌%◌, ◌≤◌, ◌<◌}
-use native.Mathlib.Nat.{add-mul, mul_comm, mul-le-mul, le_refl}
-use native.Mathlib.Omega.{arith}
-use borrow.Author.Tests.{ltb-true, ltb-false}
-use lib.Dec.{ltb}
-use lib.ListN.{length, get_or, take, drop, length-drop}
-use lib.Seq.{ext_get_or, get_or-drop}
+use Rattle.std.proofs.Common.{◌≡◌, sym, ap, ◌∙◌, List, ◌++◌, ℕ, ◌+◌, ◌-◌, ◌*◌, ◌/◌, ◌%◌, ◌≤◌, ◌<◌, add-mul, mul_comm, mul-le-mul, le_refl, arith, ltb-true, ltb-false, ltb, length, get_or, take, drop, length-drop, ext_get_or, get_or-drop}
+use lib.Lanes.{chunk, put_chunk}
+use Rattle.std.proofs.lemmas.Simd.{length-chunk, length-put_chunk, get_or-chunk, get_or-put_chunk_below, get_or-put_chunk_at, get_or-put_chunk_above}
 use Rattle.lists.proofs.Cases.{by_test}
 use Rattle.lists.specs.Rows.{rows_from}
-use Rattle.lists.proofs.Rows.{from_ext, rows_ext, row_inside, part_length, part_size, get_d_part, part_rest}
+use Rattle.lists.proofs.Rows.{from_ext, rows_ext, row_inside, part_rest}
 use Rattle.lists.proofs.Lanes.{low_sixteen}
 use Rattle.tiles.specs.Inner.Squares.{turned, square_at, as_lanes, as_rows, Squared, TurnedTo}
 use Rattle.layout.specs.Layout.{row_after_row, lane_after_lane, lane_of}
 use Rattle.layout.proofs.Places.{held_by_row, held_by_lane, lanes_whole}
-use Rattle.layout.proofs.Runs.{replaced, length_replaced, replaced_inside, replaced_before, replaced_after}
+use Rattle.layout.proofs.Runs.{replaced, length_replaced, replaced_inside, replaced_before}
 use Rattle.tiles.proofs.Shuffles.{length_placed, get_or_placed}
 
 split_high : (a b : ℕ) → b < 16 → (a * 16 + b) / 16 ≡ a
@@ -25,20 +19,16 @@ split_high a b h = omega arith
 abbrev pub square_byte : ℕ → ℕ → List ℕ → ℕ → ℕ
 square_byte width first rows p = get_or rows (p / 16 * width + (first + p % 16)) 0
 
-pub square_row : (width first : ℕ) (rows : List ℕ) (i p : ℕ) → p < 16 → get_or (take (i * width + first + 16 - (i * width + first)) (drop (i * width + first) rows)) p 0 ≡ square_byte width first rows (i * 16 + p)
+pub square_row : (width first : ℕ) (rows : List ℕ) (i p : ℕ) → p < 16 → get_or (chunk (i * width + first) 16 rows) p 0 ≡ square_byte width first rows (i * 16 + p)
 square_row width first rows i p h =
     let place : i * width + first + p ≡ i * width + (first + p) = omega arith in
-    get_d_part (i * width + first) 16 rows p h ∙ rw (split_high i p h, low_sixteen i p h) (ap (λ (q : ℕ). get_or rows q 0) place)
+    get_or-chunk (i * width + first) 16 rows p 0 h ∙ rw (split_high i p h, low_sixteen i p h) (ap (λ (q : ℕ). get_or rows q 0) place)
 
 -- row i of 16 rows of which the last has 16 bytes from `first` on
 pub row_fits : (width first i size : ℕ) → i < 16 → 15 * width + first + 16 ≤ size → i * width + first + 16 ≤ size
 row_fits width first i size h fits = omega (arith, row_inside 16 i width h)
 
--- of `count` rows, of which the last has 16 bytes from `first` on, the last of 16 rows has them
-pub rows_left : (count at width first size : ℕ) → at + 16 ≤ count → count * width + first + 16 ≤ size + width → at * width + 15 * width + first + 16 ≤ size
-rows_left count at width first size low fits = omega (arith, mul-le-mul low (le_refl width), add-mul at 16 width)
-
--- the same of columns that become rows with `count` bytes
+-- of columns that become rows with `count` bytes, the last 16 lie in the buffer
 pub columns_left : (columns first to count size : ℕ) → first + 16 ≤ columns → columns * to + count ≤ size + to → ((first + 16) * to + count ≤ size + to) × (first * to + 15 * to + count ≤ size)
 columns_left columns first to count size low fits =
     let under : (first + 16) * to ≤ columns * to = mul-le-mul low (le_refl to) in
@@ -54,48 +44,44 @@ rows_apart width i r h = row_inside r i width h
 
 -- a row of the square is put
 module _ (a : List ℕ) (width first : ℕ) (start : List ℕ) (a_long : length a ≡ 256) (long : 15 * width + first + 16 ≤ length start) where
-  pub squared_none : Squared width 0 a first start start
-  squared_none = record { long = refl; put = λ r t h k inside. absurd (omega arith); kept = λ room r t h k. refl }
-
-  pub squared_row : (i : ℕ) (now : List ℕ) → i < 16 → Squared width i a first start now → Squared width (i + 1) a first start (take (i * width + first) now ++ (take (i * 16 + 16 - i * 16) (drop (i * 16) a) ++ drop (i * width + first + 16 - (i * width + first)) (drop (i * width + first) now)))
+  pub squared_row : (i : ℕ) (now : List ℕ) → i < 16 → Squared width i a first start now → Squared width (i + 1) a first start (put_chunk (i * width + first) now (chunk (i * 16) 16 a))
   squared_row i now h s =
-      rw (part_size (i * width + first) 16)
       record {
-        long = length_replaced now xs at 16 size fits ∙ s.long;
+        long = length-put_chunk at now xs ∙ s.long;
         put = λ r t below lane inside.
             by_test (ltb r i)
-            (λ e. let lower : r < i = ltb-true r i e in replaced_before now xs at 16 size fits (r * width + (first + t)) (omega (arith, rows_apart width r i lower)) ∙ s.put r t lower lane inside)
+            (λ e. let lower : r < i = ltb-true r i e in before (r * width + (first + t)) (omega (arith, rows_apart width r i lower)) ∙ s.put r t lower lane inside)
             (λ e.
             let same : r ≡ i = omega (arith, ltb-false r i e) in
-            let place : i * width + (first + t) ≡ i * width + first + t = omega arith in
-            rw (same, place) (replaced_inside now xs at 16 size fits t lane ∙ get_d_part (i * 16) 16 a t lane));
+            let place : i * width + (first + t) ≡ at + t = omega arith in
+            rw (same, place) (get_or-put_chunk_at at now xs t 0 (omega (arith, size)) (omega (arith, size, fits)) ∙ get_or-chunk (i * 16) 16 a t 0 lane));
         kept = λ room r t row lane.
             by_test (ltb i r)
-            (λ e. let higher : i < r = ltb-true i r e in past (r * width + t) (omega (arith, rows_apart width i r higher)) ∙ s.kept room r t row lane)
+            (λ e.
+            let higher : i < r = ltb-true i r e in
+            get_or-put_chunk_above at now xs (r * width + t) 0 (omega (arith, size, rows_apart width i r higher)) ∙ s.kept room r t row lane)
             (λ e.
             let lower : r ≤ i = ltb-false i r e in
-            replaced_before now xs at 16 size fits (r * width + t) (omega (arith, row_low r lower)) ∙ s.kept room r t row lane);
+            before (r * width + t) (omega (arith, row_low r lower)) ∙ s.kept room r t row lane);
       }
     where
       at : ℕ
       at = i * width + first
 
       xs : List ℕ
-      xs = take (i * 16 + 16 - i * 16) (drop (i * 16) a)
+      xs = chunk (i * 16) 16 a
 
       fits : at + 16 ≤ length now
       fits = omega (arith, s.long, row_fits width first i (length start) h long)
 
       size : length xs ≡ 16
-      size = part_length (i * 16) 16 a (omega arith)
+      size = length-chunk (i * 16) 16 a (omega arith)
 
       row_low : (r : ℕ) → r ≤ i → r * width ≤ i * width
       row_low r low = mul-le-mul low (le_refl width)
 
-      past : (p : ℕ) → at + 16 ≤ p → get_or (replaced now xs at 16 size fits) p 0 ≡ get_or now p 0
-      past p h =
-          let place : at + (16 + (p - (at + 16))) ≡ p = omega arith in
-          rw place at (replaced_after now xs at 16 size fits (p - (at + 16)))
+      before : (p : ℕ) → p < at → get_or (put_chunk at now xs) p 0 ≡ get_or now p 0
+      before p low = get_or-put_chunk_below at now xs p 0 low
 
 -- the byte of a square that was turned
 turned_byte : (x : List ℕ) (r t : ℕ) → r < 16 → t < 16 → get_or (turned x) (r * 16 + t) 0 ≡ get_or x (t * 16 + r) 0
@@ -113,11 +99,8 @@ square_byte_lem width first rows t p ht hp =
     ∙ rw (split_high p t ht, low_sixteen p t ht)
 
 module _ (width to first : ℕ) (rows start : List ℕ) where
-  pub turned_none : (columns : ℕ) → TurnedTo width to first columns 0 rows start start
-  turned_none columns = record { long = refl; holds = λ t r column none inside. absurd (omega arith) }
-
   -- 16 rows more, of which some may have been turned
-  pub turned_more : (count done at : ℕ) (old now : List ℕ) → (16 < count → count ≤ to) → at ≤ done → at + 16 ≤ count → TurnedTo width to first 16 done rows start old → Squared to 16 (turned (square_at width first (take (length rows - at * width) (drop (at * width) rows)))) at old now → TurnedTo width to first 16 (at + 16) rows start now
+  pub turned_more : (count done at : ℕ) (old now : List ℕ) → (16 < count → count ≤ to) → at ≤ done → at + 16 ≤ count → TurnedTo width to first 16 done rows start old → Squared to 16 (turned (square_at width first (drop (at * width) rows))) at old now → TurnedTo width to first 16 (at + 16) rows start now
   turned_more count done at old now room low inside o s =
       record {
         long = s.long ∙ o.long;
@@ -134,16 +117,13 @@ module _ (width to first : ℕ) (rows start : List ℕ) where
             let place : at * width + (p * width + (first + t)) ≡ r * width + (first + t) = row_place at p r width (first + t) back in
             let moved : get_or now (t * to + (at + p)) 0 ≡ get_or rows (at * width + (p * width + (first + t))) 0 =
             s.put t p column (omega arith) (omega arith)
-            ∙ square_byte_lem width first (take (length rows - at * width) (drop (at * width) rows)) t p column (omega arith)
-            ∙ rw part_rest (get_or-drop (at * width) rows (p * width + (first + t)) 0) in
+            ∙ square_byte_lem width first (drop (at * width) rows) t p column (omega arith)
+            ∙ get_or-drop (at * width) rows (p * width + (first + t)) 0 in
             rw (back, place) at moved);
       }
 
--- 16 columns more
 module _ (width to count : ℕ) (rows start : List ℕ) where
-  pub columns_none : TurnedTo width to 0 0 count rows start start
-  columns_none = record { long = refl; holds = λ t r none row inside. absurd (omega arith) }
-
+  -- 16 columns more
   pub columns_more : (done first : ℕ) (old xs : List ℕ) → first ≤ done → first * to ≤ length old → (first + 16) * to + count ≤ length old + to → TurnedTo width to 0 done count rows start old → TurnedTo width to first 16 count rows (take (length old - first * to) (drop (first * to) old)) xs → TurnedTo width to 0 (first + 16) count rows start (take (first * to) old ++ (xs ++ drop (length old - first * to) (drop (first * to) old)))
   columns_more done first old xs low begun room o n =
       record {

@@ -3,7 +3,7 @@ pub mod Parts
 pub mod Beside
 pub mod Shuffles
 pub mod Blocks
-pub mod Bytes
+pub mod Chunks
 pub mod Rests
 pub mod Gathered
 pub mod Scattered

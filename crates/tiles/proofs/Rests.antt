@@ -1,13 +1,7 @@
 -- Parts that are replaced one over the other, and the symbols of a lane.
-use mathlib.Core.Path.{◌≡◌, refl, sym, ap, ◌∙◌}
-use mathlib.Core.List.{List, ◌++◌}
-use Prim.Native.Nat.{ℕ, ◌+◌, ◌-◌, ◌*◌, ◌/◌, ◌%◌, ◌≤◌, ◌<◌}
-use native.Mathlib.Nat.{zero-add}
-use native.Mathlib.Omega.{arith}
-use borrow.Author.Tests.{ltb-true, ltb-false}
-use lib.Dec.{ltb}
-use lib.ListN.{length, get_or, take, drop, length-take, length-drop}
-use lib.Seq.{ext_get_or, get_or-take, length-take-le}
+use Rattle.std.proofs.Common.{◌≡◌, refl, sym, ap, ◌∙◌, List, ◌++◌, ℕ, ◌+◌, ◌-◌, ◌*◌, ◌/◌, ◌%◌, ◌≤◌, ◌<◌, zero-add, arith, ltb-true, ltb-false, ltb, length, get_or, take, drop, length-take, length-drop, ext_get_or, get_or-take, length-take-le}
+use lib.Lanes.{chunk}
+use Rattle.std.proofs.lemmas.Simd.{length-chunk, get_or-chunk}
 use Rattle.lists.proofs.Cases.{by_test}
 use Rattle.lists.proofs.Rows.{part_length, part_size, get_d_part}
 use Rattle.tiles.specs.Inner.Squares.{placed, lane_at}
@@ -61,26 +55,27 @@ patched_twice k n s t t_long low high s_long =
 abbrev pub lane_byte : List ℕ → ℕ → ℕ → ℕ
 lane_byte blocks t j = get_or blocks (j / 16 * 1024 + (t * 16 + j % 16)) 0
 
-lane_place : (j t p : ℕ) → j % 16 ≡ 0 → p < 16 → j * 64 + t * 16 + p ≡ (j + p) / 16 * 1024 + (t * 16 + (j + p) % 16)
-lane_place j t p h b = omega arith
+lane_place : (b t p : ℕ) → p < 16 → b * 1024 + t * 16 + p ≡ (b * 16 + p) / 16 * 1024 + (t * 16 + (b * 16 + p) % 16)
+lane_place b t p h = omega arith
 
-pub lane_row : (blocks : List ℕ) (t j p : ℕ) → j % 16 ≡ 0 → p < 16 → get_or (take (j * 64 + t * 16 + 16 - (j * 64 + t * 16)) (drop (j * 64 + t * 16) blocks)) p 0 ≡ lane_byte blocks t (j + p)
-lane_row blocks t j p h b =
-    get_d_part (j * 64 + t * 16) 16 blocks p b ∙ ap (λ (q : ℕ). get_or blocks q 0) (lane_place j t p h b)
+pub lane_row : (blocks : List ℕ) (t b p : ℕ) → p < 16 → get_or (chunk (b * 1024 + t * 16) 16 blocks) p 0 ≡ lane_byte blocks t (b * 16 + p)
+lane_row blocks t b p h =
+    get_or-chunk (b * 1024 + t * 16) 16 blocks p 0 h ∙ ap (λ (q : ℕ). get_or blocks q 0) (lane_place b t p h)
 
 -- the last symbols, fewer than 16
-pub lane_rest : (blocks : List ℕ) (t n j : ℕ) {start now : List ℕ} → Valued (lane_byte blocks t) n start now j → n ≡ length start → j % 16 ≡ 0 → j < n → n < j + 16 → j * 64 + t * 16 + 16 ≤ length blocks → take j now ++ (take (length (take (n - j) (drop j now))) (take (j * 64 + t * 16 + 16 - (j * 64 + t * 16)) (drop (j * 64 + t * 16) blocks)) ++ drop (n - j) (drop j now)) ≡ lane_at t n blocks
+pub lane_rest : (blocks : List ℕ) (t n b : ℕ) {start now : List ℕ} → let j = b * 16 in Valued (lane_byte blocks t) n start now j → n ≡ length start → j < n → n < j + 16 → b * 1024 + t * 16 + 16 ≤ length blocks → take j now ++ (take (length (take (n - j) (drop j now))) (take (b * 1024 + t * 16 + 16 - (b * 1024 + t * 16)) (drop (b * 1024 + t * 16) blocks)) ++ drop (n - j) (drop j now)) ≡ lane_at t n blocks
 unfolding lane_at placed
-lane_rest blocks t n j {start} {now} a long whole some few inside =
+lane_rest blocks t n b {start} {now} a long some few inside =
+    let j : ℕ = b * 16 in
     let rest : length (take (n - j) (drop j now)) ≡ n - j = simp (length-take, length-drop) (omega (arith, a.long)) in
-    let part : List ℕ = take (j * 64 + t * 16 + 16 - (j * 64 + t * 16)) (drop (j * 64 + t * 16) blocks) in
-    let part_long : length part ≡ 16 = part_length (j * 64 + t * 16) 16 blocks inside in
+    let part : List ℕ = chunk (b * 1024 + t * 16) 16 blocks in
+    let part_long : length part ≡ 16 = length-chunk (b * 1024 + t * 16) 16 blocks inside in
     let all : j + (n - j) ≡ n = omega arith in
-    rw rest
+    rw (rest, part_size (b * 1024 + t * 16) 16)
     (valued_all (lane_byte blocks t) n
     (valued_part (lane_byte blocks t) n (take (n - j) part) (n - j) (n - j) a (omega arith) (omega arith) refl
     (length-take-le (n - j) part (omega arith))
-    (λ p h. get_or-take (n - j) part p 0 h ∙ lane_row blocks t j p whole (omega arith)))
+    (λ p h. get_or-take (n - j) part p 0 h ∙ lane_row blocks t b p (omega arith)))
     (omega arith) (omega arith))
 
 pub length_lane : (t n : ℕ) (blocks : List ℕ) → length (lane_at t n blocks) ≡ n

@@ -1,10 +1,5 @@
 -- Four shuffles are the transposition of a square of 16 by 16.
-use mathlib.Core.Path.{◌≡◌, ap, ◌∙◌}
-use mathlib.Core.List.{List}
-use Prim.Native.Nat.{ℕ, ◌+◌, ◌*◌, ◌/◌, ◌%◌, ◌<◌}
-use native.Mathlib.Nat.{zero-add}
-use native.Mathlib.Omega.{arith}
-use lib.ListN.{length, get_or, set}
+use Rattle.std.proofs.Common.{◌≡◌, ap, ◌∙◌, List, ℕ, ◌+◌, ◌*◌, ◌/◌, ◌%◌, ◌<◌, zero-add, arith, length, get_or, set}
 use Rattle.lists.proofs.Rows.{length_from, get_or_from, from_ext, from_next}
 use Rattle.lists.proofs.Fill.{fills_put}
 use Rattle.field.proofs.Computed.{equal_at}
@@ -45,10 +40,6 @@ turned_shuffled x =
     ∙ ap (placed σ 256) (placed_twice σ (λ p. σ (σ p)) 256 256 x inside)
     ∙ placed_twice σ (λ p. σ (σ (σ p))) 256 256 x inside
     ∙ placed_ext (λ p. σ (σ (σ (σ p)))) (λ p. p % 16 * 16 + p / 16) 256 x four
-
-pub length_turned : (x : List ℕ) → length (turned x) ≡ 256
-unfolding turned
-length_turned x = length_placed _ 256 x
 
 -- one turn of the loop of a shuffle
 abbrev pub shuffled_at : List ℕ → ℕ → ℕ

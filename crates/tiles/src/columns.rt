@@ -3,6 +3,7 @@ ghost use Rattle.std.specs.Prelude.{◌≡◌, ◌+◌, ◌*◌, ◌≤◌, ◌<
 ghost use Rattle.layout.specs.Layout.{row_after_row, lane_after_lane, lane_of, rearranged};
 ghost use Rattle.layout.specs.Inner.Parts.{some_lanes};
 
+use crate::lanes::Lanes;
 use crate::{many_lanes, size};
 
 // Fewer lanes than these are turned byte by byte: scratch would take longer than the work.
@@ -13,10 +14,8 @@ fn fill_lane(width: usize, t: usize, table: &[u8], lane: &mut [u8])
     requires { (t < width) × (length table.now ≡ length lane.old * width) }
     ensures { lane.new ≡ lane_of row_after_row (length lane.old) width t table.now }
 {
-    let mut i = 0;
-    while i < lane.len() {
-        lane[i] = table[i * width + t];
-        i += 1;
+    for (i, byte) in lane.iter_mut().enumerate() {
+        *byte = table[i * width + t];
     }
 }
 
@@ -25,35 +24,25 @@ fn turn(rows: usize, lanes: usize, table: &[u8], out: &mut [u8])
     requires { (length table.now ≡ rows * lanes) × (length out.old ≡ rows * lanes) }
     ensures { out.new ≡ rearranged row_after_row lane_after_lane rows lanes table.now }
 {
-    let mut t: usize = 0;
-    while t < lanes {
+    for t in 0..lanes {
         let start = t * rows;
         let end = start + rows;
         fill_lane(lanes, t, table, &mut out[start..end]);
-        t += 1;
     }
 }
 
 // The rows of a tile, from lanes that stand side by side: few lanes, or many rows, byte by byte, as the rows of a table whose columns are the tile's rows.
-pub fn gather(rows: usize, lanes: usize, part: &[u8], tile: &mut [u8])
-    requires { (length part.now ≡ rows * lanes) × (length tile.old ≡ rows * lanes) }
-    ensures { tile.new ≡ rearranged lane_after_lane row_after_row rows lanes part.now }
+fn gather(lanes: Lanes, tile: &mut [u8])
+    requires { length tile.old ≡ lanes.rows * lanes.count }
+    ensures { tile.new ≡ rearranged lane_after_lane row_after_row lanes.entry.rows lanes.entry.count lanes.entry.bytes.now }
 {
-    if lanes < FEW {
-        turn(lanes, rows, part, tile);
-        return;
+    if lanes.count < FEW || 512 < lanes.rows {
+        return turn(lanes.count, lanes.rows, lanes.bytes, tile);
     }
-    if rows <= 64 {
-        let mut block = size::small_scratch();
-        many_lanes::gather_blocks(rows, lanes, part, &mut block, tile);
-        return;
+    if lanes.rows <= 64 {
+        return many_lanes::gather_blocks(lanes, &mut size::scratch::<4096>(), tile);
     }
-    if rows <= 512 {
-        let mut block = size::block_scratch();
-        many_lanes::gather_blocks(rows, lanes, part, &mut block, tile);
-        return;
-    }
-    turn(lanes, rows, part, tile);
+    many_lanes::gather_blocks(lanes, &mut size::scratch::<32768>(), tile);
 }
 
 // The rows of `count` lanes of a buffer, from lane `first` on, which are handed on as the part from its start to the end of the last one.
@@ -68,9 +57,12 @@ pub fn gather_lanes(
     requires { (length source.now ≡ rows * lanes) × (first + count ≤ lanes) × (length tile.old ≡ rows * count) }
     ensures { tile.new ≡ some_lanes lane_after_lane row_after_row rows lanes first count source.now }
 {
-    let start = first * rows;
-    let end = start + count * rows;
-    gather(rows, count, &source[start..end], tile);
+    let all = Lanes {
+        rows,
+        count: lanes,
+        bytes: source,
+    };
+    gather(all.part(first, count), tile);
 }
 
 // The lanes of a tile, one after the other.

@@ -1,9 +1,11 @@
 // Tiles of 64 lanes filled: row i of lane t stands at i·64 + t. Lanes from `count` on hold anything.
 ghost use Rattle.std.specs.Prelude.{◌≡◌, ℕ, ◌+◌, ◌*◌, ◌/◌, ◌≤◌, ◌<◌, length};
 ghost use Rattle.layout.specs.Layout.{row_after_row, lane_after_lane, lane_of};
-ghost use Rattle.tiles.specs.Inner.Tiles.{Read, BlockOf};
+ghost use Rattle.tiles.specs.Inner.Tiles.{Read, BlockOf, LanesIn};
 
-use crate::{moves, turning};
+use crate::lanes::Lanes;
+use crate::{size, turning};
+use std::simd::prelude::*;
 
 // 16 bytes from place `at` on, or those that there are.
 fn read16(part: &[u8], at: usize, to: usize, block: &mut [u8])
@@ -12,73 +14,73 @@ fn read16(part: &[u8], at: usize, to: usize, block: &mut [u8])
 {
     let left = part.len() - at;
     if 16 <= left {
-        let end = at + 16;
-        let to_end = to + 16;
-        moves::move16(&part[at..end], &mut block[to..to_end]);
+        u8x16::from_slice(&part[at..]).copy_to_slice(&mut block[to..]);
         return;
     }
     let to_end = to + left;
-    kernel::copy(&part[at..], &mut block[to..to_end]);
+    block[to..to_end].copy_from_slice(&part[at..]);
 }
 
 // 16 rows of each lane, from row j on, as lanes of 16.
-fn fill_block(rows: usize, j: usize, count: usize, part: &[u8], block: &mut [u8])
-    requires { (rows ≤ 65535) × (count ≤ 64) × (length part.now ≡ count * rows) × (j < rows) × (length block.old ≡ 1024) }
-    ensures { BlockOf rows j count part.now block.new }
+fn fill_block(lanes: Lanes, j: usize, block: &mut [u8])
+    requires { (lanes.count ≤ 64) × (j < lanes.rows) × (length block.old ≡ 1024) }
+    ensures { BlockOf lanes.entry.rows j lanes.entry.count lanes.entry.bytes.now block.new }
 {
-    let mut t = 0;
-    while t < count {
-        read16(part, t * rows + j, t * 16, block);
-        t += 1;
+    for t in 0..lanes.count {
+        read16(lanes.bytes, t * lanes.rows + j, t * 16, block);
     }
-}
-
-fn block() -> [u8; 1024]
-    ensures { length result ≡ 1024 }
-{
-    [0u8; 1024]
 }
 
 // Lanes of fewer than 16 rows: 16 bytes are read of each, which go on into the next ones, and of the last one into scratch.
-fn gather_short(rows: usize, count: usize, part: &[u8], tile: &mut [u8])
-    requires { (rows < 16) × (16 ≤ count) × (count ≤ 64) × (length part.now ≡ count * rows) × (1024 ≤ length tile.old) }
-    ensures { (length tile.new ≡ length tile.old) × ((t : ℕ) → t < count → lane_of row_after_row rows 64 t tile.new ≡ lane_of lane_after_lane rows count t part.now) }
+fn gather_short(lanes: Lanes, tile: &mut [u8])
+    requires { (lanes.rows < 16) × (16 ≤ lanes.count) × (lanes.count ≤ 64) × (1024 ≤ length tile.old) }
+    ensures { LanesIn lanes.entry.rows lanes.entry.count lanes.entry.bytes.now tile.old tile.new }
 {
-    let mut lanes = block();
-    let size = count * rows;
-    kernel::copy(part, &mut lanes[..size]);
-    turning::turn_all(count, 16, rows, &lanes, 64, tile);
+    let mut bytes = size::scratch::<1024>();
+    let size = lanes.count * lanes.rows;
+    bytes[..size].copy_from_slice(lanes.bytes);
+    turning::turn_all(lanes.count, 16, lanes.rows, &bytes, 64, tile);
 }
 
 // Fewer lanes than a square has, through scratch, 16 rows at a time.
-fn gather_few(rows: usize, count: usize, part: &[u8], tile: &mut [u8])
-    requires { (rows ≤ 65535) × (count ≤ 64) × (length part.now ≡ count * rows) × ((rows + 15) / 16 * 1024 ≤ length tile.old) }
-    ensures { (length tile.new ≡ length tile.old) × ((t : ℕ) → t < count → lane_of row_after_row rows 64 t tile.new ≡ lane_of lane_after_lane rows count t part.now) }
+fn gather_few(lanes: Lanes, tile: &mut [u8])
+    requires { (lanes.count ≤ 64) × ((lanes.rows + 15) / 16 * 1024 ≤ length tile.old) }
+    ensures { LanesIn lanes.entry.rows lanes.entry.count lanes.entry.bytes.now tile.old tile.new }
 {
-    let mut lanes = block();
-    let mut j = 0;
-    while j < rows {
-        fill_block(rows, j, count, part, &mut lanes);
+    let mut block = size::scratch::<1024>();
+    for b in 0..lanes.rows.div_ceil(16) {
+        let j = b * 16;
+        fill_block(lanes, j, &mut block);
         let start = j * 64;
         let end = start + 1024;
-        turning::turn_all(64, 16, 16, &lanes, 64, &mut tile[start..end]);
-        j += 16;
+        turning::turn_all(64, 16, 16, &block, 64, &mut tile[start..end]);
     }
 }
 
-// Lanes that stand side by side, by squares.
+// By squares. Put into its callers, so that the lanes stay in registers.
+#[inline(always)]
+pub fn gather(lanes: Lanes, tile: &mut [u8])
+    requires { (lanes.count ≤ 64) × ((lanes.rows + 15) / 16 * 1024 ≤ length tile.old) }
+    ensures { LanesIn lanes.entry.rows lanes.entry.count lanes.entry.bytes.now tile.old tile.new }
+{
+    if lanes.count < 16 || lanes.rows == 0 {
+        return gather_few(lanes, tile);
+    }
+    if lanes.rows < 16 {
+        return gather_short(lanes, tile);
+    }
+    turning::turn_all(lanes.count, lanes.rows, lanes.rows, lanes.bytes, 64, tile);
+}
+
+// Lanes that stand side by side.
 pub fn gather64(rows: usize, count: usize, part: &[u8], tile: &mut [u8])
     requires { (rows ≤ 65535) × (count ≤ 64) × (length part.now ≡ count * rows) × ((rows + 15) / 16 * 1024 ≤ length tile.old) }
     ensures { (length tile.new ≡ length tile.old) × ((t : ℕ) → t < count → lane_of row_after_row rows 64 t tile.new ≡ lane_of lane_after_lane rows count t part.now) }
 {
-    if count < 16 {
-        return gather_few(rows, count, part, tile);
-    }
-    if rows == 0 {
-        return gather_few(rows, count, part, tile);
-    }
-    if rows < 16 {
-        return gather_short(rows, count, part, tile);
-    }
-    turning::turn_all(count, rows, rows, part, 64, tile);
+    let lanes = Lanes {
+        rows,
+        count,
+        bytes: part,
+    };
+    gather(lanes, tile);
 }

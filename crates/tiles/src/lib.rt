@@ -3,6 +3,7 @@
 
 mod columns;
 mod gathering;
+mod lanes;
 mod many_lanes;
 mod moves;
 mod scattering;

@@ -4,26 +4,18 @@ ghost use Rattle.std.specs.Prelude.{◌≡◌, ◌*◌, ◌≤◌, ◌<◌, leng
 // No more lanes than these are in a tile, so that a column's bytes do not fall on the same places of the cache.
 const MOST: usize = 1040;
 
+// Scratch of N bytes.
+pub fn scratch<const N: usize>() -> [u8; N]
+    ensures { length result ≡ N }
+{
+    [0; N]
+}
+
 // Scratch for a tile where the rows and lanes are few: clearing more would take longer than the work.
 pub fn small_scratch() -> [u8; 4096]
     ensures { length result ≡ 4096 }
 {
-    [0u8; 4096]
-}
-
-// Scratch for 64 lanes of 512 rows.
-pub fn block_scratch() -> [u8; 32768]
-    ensures { length result ≡ 32768 }
-{
-    [0u8; 32768]
-}
-
-// The smaller of two numbers.
-fn smaller(a: usize, b: usize) -> usize
-    requires { (0 < a) × (0 < b) }
-    ensures { (0 < result) × (result ≤ a) × (result ≤ b) }
-{
-    if a < b { a } else { b }
+    scratch()
 }
 
 // Blocks of 16 lanes alone, where there is one.
@@ -39,7 +31,7 @@ pub fn tile_lanes(rows: usize, size: usize, left: usize) -> usize
     requires { (0 < rows) × (rows ≤ size) × (0 < left) }
     ensures { (0 < result) × (result ≤ left) × (rows * result ≤ size) }
 {
-    let fitting = smaller(size / rows, MOST);
+    let fitting = (size / rows).min(MOST);
     if left <= fitting {
         return left;
     }
@@ -51,5 +43,5 @@ pub fn lanes64(left: usize) -> usize
     requires { 0 < left }
     ensures { (0 < result) × (result ≤ left) × (result ≤ 64) }
 {
-    if left < 64 { left } else { 64 }
+    left.min(64)
 }

@@ -1,12 +1,8 @@
 -- `gather` meets its contract: the lanes as a table, turned, or 64 lanes at a time.
-use mathlib.Core.Path.{◌∙◌}
+use Rattle.std.proofs.Common.{◌∙◌}
 use Rattle.layout.proofs.Runs.{turned}
 use Rattle.tiles.proofs.columns.gather.Goals as goal
 
 pub returns-then-lanes-lt-FEW : goal.returns-then-lanes-lt-FEW
 returns-then-lanes-lt-FEW c =
-    let a = c.args in c.turn.ensures ∙ turned a.rows a.lanes a.part.now
-
-pub returns : goal.returns
-returns c =
-    let a = c.args in c.turn-2.ensures ∙ turned a.rows a.lanes a.part.now
+    let a = c.args.lanes in c.turn.ensures ∙ turned a.rows a.count a.bytes.now

@@ -1,13 +1,8 @@
--- `gather_blocks` meets its contract. The loop's invariant: the lanes before `first` are gathered.
-use mathlib.Core.Path.{◌≡◌}
-use Prim.Native.Nat.{◌-◌, ◌≤◌}
-use lib.ListN.{length}
+-- `gather_blocks` meets its contract. The loop's invariant: the lanes of the blocks below b are gathered.
+use Rattle.std.proofs.Common.{◌≡◌, min, ◌*◌, length}
 use Rattle.tiles.proofs.Beside.{Gathered}
 use Rattle.tiles.proofs.many_lanes.gather_blocks.Given as goal
 
-abbrev pub invariant-loop-first : goal.invariant-loop-first
-invariant-loop-first l =
-    (l.first ≤ l.lanes) × (length l.block ≡ length l.initial.block) × (length l.tile ≡ length l.initial.tile) × Gathered l.rows l.lanes l.part l.first l.tile
-
-abbrev pub decreases-loop-first : goal.decreases-loop-first
-decreases-loop-first l = l.lanes - l.first
+abbrev pub invariant-loop-b : goal.invariant-loop-b
+invariant-loop-b l =
+    (length l.block ≡ length l.initial.block) × (length l.tile ≡ length l.initial.tile) × Gathered l.lanes.rows l.lanes.count l.lanes.bytes.now (min (l.b * 64) l.lanes.count) l.tile

@@ -1,35 +1,19 @@
 -- `fill_blocks` meets its contract. The loop's invariant: the first b blocks are filled.
-use Prim.Native.Nat.{◌+◌, ◌*◌, ◌-◌}
-use lib.ListN.{take, drop}
+use Rattle.std.proofs.Common.{◌+◌, ◌*◌, ◌-◌, take, drop, arith}
 use Rattle.lists.proofs.Rows.{row_after, part_length, part_size}
-use Rattle.lists.proofs.Parts.{valued_start, valued_part, valued_all}
+use Rattle.lists.proofs.Parts.{valued_part, valued_all}
 use Rattle.tiles.specs.Inner.Squares.{as_lanes, blocks_of, placed}
 use Rattle.tiles.proofs.Blocks.{lanes_turned}
 use Rattle.tiles.proofs.Scattered.{block_byte, block_byte_lem, length_as_lanes}
-use native.Mathlib.Omega.{arith}
 use Rattle.tiles.proofs.scattering.fill_blocks.Goals as goal
-
-pub loop-b-init : goal.loop-b-init
-loop-b-init c = (omega arith, valued_start _ _ _)
-
-pub turn_all-requires : goal.turn_all-requires
-turn_all-requires c =
-    let l = c.loop-b in
-    let a = c.args in
-    let from-long = part_length (l.b * 1024) 1024 a.tile.now (omega arith) in
-    let to-long = part_length (l.b * 1024) 1024 l.blocks (omega arith) in
-    (omega arith, omega arith, omega (arith, from-long), λ more. omega arith, omega (arith, to-long))
 
 pub loop-b-preserved : goal.loop-b-preserved
 loop-b-preserved c =
     let l = c.loop-b in
     let a = c.args in
     let at = l.b * 1024 in
-    (omega arith, rw (row_after, lanes_turned _ _ _ (part_length at 1024 l.blocks (omega arith)) c.turn_all.ensures) (valued_part (block_byte a.tile.now) (a.count * 1024) (as_lanes (take (at + 1024 - at) (drop at a.tile.now))) 1024 _ l.invariant.1 (omega arith) (omega arith) (part_size at 1024) (length_as_lanes _) (λ p h. block_byte_lem a.tile.now l.b p h)))
-
-pub shape_of-blocks : goal.shape_of-blocks
-shape_of-blocks c = c.loop-b.invariant.1.long
+    rw (row_after, lanes_turned _ _ _ (part_length at 1024 l.blocks (omega arith)) c.turn_all.ensures) (valued_part (block_byte a.tile.now) (a.count * 1024) (as_lanes (take (at + 1024 - at) (drop at a.tile.now))) 1024 _ l.invariant (omega arith) (omega arith) (part_size at 1024) (length_as_lanes _) (λ p h. block_byte_lem a.tile.now l.b p h))
 
 pub returns : goal.returns
 unfolding blocks_of placed
-returns c = valued_all _ _ c.loop-b.invariant.1 (omega arith) (omega arith)
+returns c = valued_all _ _ c.loop-b.invariant (omega arith) (omega arith)

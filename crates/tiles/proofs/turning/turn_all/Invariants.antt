@@ -1,10 +1,7 @@
--- `turn_all` meets its contract. The loop's invariant: the columns that are done are turned.
-use Prim.Native.Nat.{◌-◌, ◌≤◌}
+-- `turn_all` meets its contract. The loop's invariant: the columns of the squares below i are turned.
+use Rattle.std.proofs.Common.{min, ◌*◌}
 use Rattle.tiles.specs.Inner.Squares.{TurnedTo}
 use Rattle.tiles.proofs.turning.turn_all.Given as goal
 
-abbrev pub invariant-loop-done : goal.invariant-loop-done
-invariant-loop-done l = (l.done ≤ l.columns) × TurnedTo l.width l.to 0 l.done l.count l.rows l.initial.out l.out
-
-abbrev pub decreases-loop-done : goal.decreases-loop-done
-decreases-loop-done l = l.columns - l.done
+abbrev pub invariant-loop-i : goal.invariant-loop-i
+invariant-loop-i l = TurnedTo l.width l.to 0 (min (l.i * 16) l.columns) l.count l.rows l.initial.out l.out
