@@ -1,10 +1,6 @@
 -- Lanes put beside lanes, row by row, and lanes gathered so, 64 at a time.
-use mathlib.Core.Path.{◌≡◌, sym, ap, ◌∙◌}
-use mathlib.Core.List.{List, ◌++◌}
-use Prim.Native.Nat.{ℕ, ◌+◌, ◌-◌, ◌*◌, ◌≤◌, ◌<◌}
-use native.Mathlib.Omega.{arith}
+use Rattle.std.proofs.Common.{◌≡◌, sym, ap, ◌∙◌, List, ◌++◌, ℕ, ◌+◌, ◌-◌, ◌*◌, ◌≤◌, ◌<◌, arith, length, get_or, take, drop}
 use native.Mathlib.Decide.{ℕ_discrete, dec_lt}
-use lib.ListN.{length, get_or, take, drop}
 use mathlib.Core.Logic.{by_cases}
 use Rattle.lists.proofs.Rows.{row_inside}
 use Rattle.layout.specs.Layout.{row_after_row, lane_after_lane, held, lane_of, rearranged}

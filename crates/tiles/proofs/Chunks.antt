@@ -1,10 +1,5 @@
 -- A buffer that is filled by vectors, each stored at its place.
-use mathlib.Core.Path.{◌≡◌, sym}
-use mathlib.Core.List.{List, ◌++◌, append-nil}
-use Prim.Native.Nat.{ℕ, ◌+◌, ◌≤◌, ◌<◌}
-use native.Mathlib.Omega.{arith}
-use lib.ListN.{length, get_or, take, drop, drop_of_length-le, length-drop}
-use lib.Seq.{take_all}
+use Rattle.std.proofs.Common.{◌≡◌, sym, List, ◌++◌, append-nil, ℕ, ◌+◌, ◌≤◌, ◌<◌, arith, length, get_or, take, drop, drop_of_length-le, length-drop, take_all}
 use lib.Lanes.{put_chunk}
 use Rattle.std.proofs.lemmas.Simd.{put_chunk_is}
 use Rattle.lists.proofs.Parts.{Valued, valued_part}

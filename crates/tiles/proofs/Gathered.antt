@@ -1,30 +1,17 @@
 -- A tile that is filled from lanes, 16 rows at a time, or from rows.
-use mathlib.Core.Path.{◌≡◌, sym, ap, ◌∙◌}
-use mathlib.Core.List.{List, ◌++◌}
+use Rattle.std.proofs.Common.{◌≡◌, sym, ap, ◌∙◌, List, ◌++◌, ℕ, ◌+◌, ◌-◌, ◌*◌, ◌/◌, ◌%◌, ◌≤◌, ◌<◌, arith, length, get_or, take, drop}
 use mathlib.Core.Logic.{by_cases}
-use Prim.Native.Nat.{ℕ, ◌+◌, ◌-◌, ◌*◌, ◌/◌, ◌%◌, ◌≤◌, ◌<◌}
-use native.Mathlib.Decide.{ℕ_discrete, dec_lt}
-use native.Mathlib.Omega.{arith}
-use lib.ListN.{length, get_or, take, drop}
+use native.Mathlib.Decide.{dec_lt}
 use Rattle.lists.specs.Rows.{from}
-use Rattle.lists.proofs.Rows.{from_ext, row_inside}
+use Rattle.lists.proofs.Rows.{from_ext}
 use Rattle.layout.specs.Layout.{row_after_row, lane_after_lane, held, lane_of}
 use Rattle.layout.proofs.Places.{held_by_row, held_by_lane}
-use Rattle.layout.proofs.Runs.{length_replaced, replaced_before, replaced_inside}
+use Rattle.layout.proofs.Runs.{replaced_before, replaced_inside}
 use lib.Lanes.{chunk, put_chunk}
 use Rattle.std.proofs.lemmas.Simd.{length-chunk, length-put_chunk, get_or-chunk, get_or-put_chunk_below, get_or-put_chunk_at}
 use Rattle.tiles.specs.Inner.Squares.{as_rows}
 use Rattle.tiles.specs.Inner.Tiles.{Read, BlockOf, TileOf}
 use Rattle.tiles.proofs.Shuffles.{length_placed, get_or_placed}
-
--- bytes from `at` on copied to `to`: 16 of them, or all that there are
-pub read_put : (part start xs : List ℕ) (at to k : ℕ) → length xs ≡ k → to + k ≤ length start → ((i : ℕ) → i < k → get_or xs i 0 ≡ get_or part (at + i) 0) → ((i : ℕ) → i < 16 → at + i < length part → i < k) → Read part at to start (take to start ++ (xs ++ drop k (drop to start)))
-read_put part start xs at to k size fits same enough =
-    record {
-      long = length_replaced start xs to k size fits;
-      put = λ i low inside. let has = enough i low inside in replaced_inside start xs to k size fits i has ∙ same i has;
-      kept = λ x low. replaced_before start xs to k size fits x low;
-    }
 
 -- 16 bytes from `at` on stored at `to`
 pub read_chunk : (part start : List ℕ) (at to : ℕ) → at + 16 ≤ length part → to + 16 ≤ length start → Read part at to start (put_chunk to start (chunk at 16 part))
@@ -34,19 +21,6 @@ read_chunk part start at to inside room =
       long = length-put_chunk to start (chunk at 16 part);
       put = λ i low has. get_or-put_chunk_at to start (chunk at 16 part) i 0 (omega arith) (omega arith) ∙ get_or-chunk at 16 part i 0 low;
       kept = λ x low. get_or-put_chunk_below to start (chunk at 16 part) x 0 low;
-    }
-
--- one lane of a block more
-pub block_lane : (rows j count t : ℕ) (part block now : List ℕ) → length part ≡ count * rows → t < count → BlockOf rows j t part block → Read part (t * rows + j) (t * 16) block now → BlockOf rows j (t + 1) part now
-block_lane rows j count t part block now long lane b r =
-    record {
-      long = r.long ∙ b.long;
-      holds = λ q i below low inside.
-          by_cases (ℕ_discrete q t)
-          (λ e.
-          let place : t * rows + j + i ≡ t * rows + (j + i) = omega arith in
-          rw e (r.put i low (omega (arith, row_inside count t rows lane)) ∙ ap (λ (x : ℕ). get_or part x 0) place))
-          (λ n. r.kept (q * 16 + i) (omega arith) ∙ b.holds q i (omega arith) low inside);
     }
 
 -- a tile that is filled from its first row on

@@ -1,9 +1,5 @@
 -- Lanes of a tile through its blocks.
-use mathlib.Core.Path.{◌≡◌, sym, ◌∙◌}
-use mathlib.Core.List.{List}
-use Prim.Native.Nat.{ℕ, ◌+◌, ◌-◌, ◌*◌, ◌/◌, ◌%◌, ◌≤◌, ◌<◌}
-use native.Mathlib.Omega.{arith}
-use lib.ListN.{length, get_or, take, drop}
+use Rattle.std.proofs.Common.{◌≡◌, sym, ◌∙◌, List, ℕ, ◌+◌, ◌-◌, ◌*◌, ◌/◌, ◌%◌, ◌≤◌, ◌<◌, arith, length, get_or, take, drop}
 use Rattle.lists.specs.Rows.{rows_from}
 use Rattle.lists.proofs.Rows.{from_ext, get_d_part, rows_ext}
 use Rattle.layout.specs.Layout.{row_after_row, lane_of}

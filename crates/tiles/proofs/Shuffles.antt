@@ -1,10 +1,5 @@
 -- Four shuffles are the transposition of a square of 16 by 16.
-use mathlib.Core.Path.{◌≡◌, ap, ◌∙◌}
-use mathlib.Core.List.{List}
-use Prim.Native.Nat.{ℕ, ◌+◌, ◌*◌, ◌/◌, ◌%◌, ◌<◌}
-use native.Mathlib.Nat.{zero-add}
-use native.Mathlib.Omega.{arith}
-use lib.ListN.{length, get_or, set}
+use Rattle.std.proofs.Common.{◌≡◌, ap, ◌∙◌, List, ℕ, ◌+◌, ◌*◌, ◌/◌, ◌%◌, ◌<◌, zero-add, arith, length, get_or, set}
 use Rattle.lists.proofs.Rows.{length_from, get_or_from, from_ext, from_next}
 use Rattle.lists.proofs.Fill.{fills_put}
 use Rattle.field.proofs.Computed.{equal_at}

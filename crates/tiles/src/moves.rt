@@ -1,4 +1,5 @@
-// Copies of which the compiler knows the size, as one vector: one load and one store. `copy_from_slice` asks first whether the two overlap.
+// Copies whose size the compiler knows, each by one vector: one load and one store. By `copy_from_slice`, which asks first whether the two
+// overlap, squares take two to four times as long.
 ghost use Rattle.std.specs.Prelude.{◌≡◌, ◌+◌, ◌≤◌, ◌<◌, length, take};
 ghost use Rattle.tiles.specs.Inner.Words.{patched};
 

@@ -1,11 +1,8 @@
 -- `fill_lane` meets its contract. Invariant: the first i symbols of the lane are written.
-use mathlib.Core.Path.{sym, ◌∙◌}
-use lib.ListN.{length}
-use lib.Seq.{ext_get_or}
+use Rattle.std.proofs.Common.{sym, ◌∙◌, length, ext_get_or, arith}
 use Rattle.layout.specs.Layout.{row_after_row}
 use Rattle.layout.proofs.Buffers.{length_lane, get_or_lane}
 use Rattle.layout.proofs.Places.{held_by_row}
-use native.Mathlib.Omega.{arith}
 use Rattle.tiles.proofs.columns.fill_lane.Goals as goal
 
 pub returns : goal.returns

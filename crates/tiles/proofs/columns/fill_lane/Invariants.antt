@@ -1,7 +1,5 @@
 -- `fill_lane` meets its contract. Invariant: the first i symbols of the lane are written.
-use Prim.Native.Nat.{ℕ, ◌+◌, ◌*◌, ◌<◌}
-use mathlib.Core.Path.{◌≡◌}
-use lib.ListN.{get_or}
+use Rattle.std.proofs.Common.{ℕ, ◌+◌, ◌*◌, ◌<◌, ◌≡◌, get_or}
 use Rattle.tiles.proofs.columns.fill_lane.Given as goal
 
 abbrev pub invariant-loop-i : goal.invariant-loop-i

@@ -1,5 +1,5 @@
 -- `gather` meets its contract: the lanes as a table, turned, or 64 lanes at a time.
-use mathlib.Core.Path.{◌∙◌}
+use Rattle.std.proofs.Common.{◌∙◌}
 use Rattle.layout.proofs.Runs.{turned}
 use Rattle.tiles.proofs.columns.gather.Goals as goal
 

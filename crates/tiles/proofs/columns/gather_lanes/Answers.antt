@@ -1,5 +1,5 @@
 -- `gather_lanes` meets its contract: the lanes are a part of the buffer.
-use mathlib.Core.Path.{◌∙◌}
+use Rattle.std.proofs.Common.{◌∙◌}
 use Rattle.layout.proofs.Lawful.{by_row}
 use Rattle.layout.proofs.Runs.{rearranged_part}
 use Rattle.tiles.proofs.columns.gather_lanes.Goals as goal

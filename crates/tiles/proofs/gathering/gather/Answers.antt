@@ -1,7 +1,6 @@
 -- `gather` meets its contract, by one way or another.
-use mathlib.Core.Path.{refl}
+use Rattle.std.proofs.Common.{refl, arith}
 use Rattle.tiles.proofs.Blocks.{turned_in}
-use native.Mathlib.Omega.{arith}
 use Rattle.tiles.proofs.gathering.gather.Goals as goal
 
 pub returns : goal.returns

@@ -1,14 +1,11 @@
 -- `gather_few` meets its contract. The loop's invariant: the rows of the blocks below b are in the tile.
-use Prim.Native.Nat.{◌+◌, ◌*◌, ◌≤◌}
-use mathlib.Core.Path.{◌≡◌, ◌∙◌}
-use lib.ListN.{length}
+use Rattle.std.proofs.Common.{◌+◌, ◌*◌, ◌≤◌, ◌≡◌, ◌∙◌, length, arith}
 use Rattle.lists.proofs.Rows.{part_length, part_size}
 use Rattle.layout.specs.Layout.{lane_of}
 use Rattle.layout.proofs.Runs.{length_replaced}
 use Rattle.tiles.specs.Inner.Squares.{as_rows}
 use Rattle.tiles.proofs.Blocks.{rows_turned}
 use Rattle.tiles.proofs.Gathered.{tile_more, tile_lane, block_rows, length_rows_of}
-use native.Mathlib.Omega.{arith}
 use Rattle.tiles.proofs.gathering.gather_few.Goals as goal
 
 pub loop-b-preserved : goal.loop-b-preserved

@@ -1,7 +1,5 @@
 -- `gather_few` meets its contract. The loop's invariant: the rows of the blocks below b are in the tile.
-use Prim.Native.Nat.{◌*◌}
-use mathlib.Core.Path.{◌≡◌}
-use lib.ListN.{length}
+use Rattle.std.proofs.Common.{◌*◌, ◌≡◌, length}
 use Rattle.layout.specs.Layout.{lane_after_lane, held}
 use Rattle.tiles.specs.Inner.Tiles.{TileOf}
 use Rattle.tiles.proofs.gathering.gather_few.Given as goal

@@ -1,7 +1,7 @@
 -- `gather_short` meets its contract: the scratch begins with the lanes.
+use Rattle.std.proofs.Common.{arith}
 use lib.ListN.{get_or-append}
 use Rattle.tiles.proofs.Blocks.{turned_in}
-use native.Mathlib.Omega.{arith}
 use Rattle.tiles.proofs.gathering.gather_short.Goals as goal
 
 pub returns : goal.returns

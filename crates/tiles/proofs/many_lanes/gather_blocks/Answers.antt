@@ -1,8 +1,5 @@
 -- `gather_blocks` meets its contract. The loop's invariant: the lanes of the blocks below b are gathered.
-use mathlib.Core.Path.{◌≡◌, refl, ◌∙◌}
-use Prim.Native.Nat.{min, ◌+◌, ◌*◌}
-use native.Mathlib.Nat.{mul_comm}
-use native.Mathlib.Omega.{arith}
+use Rattle.std.proofs.Common.{◌≡◌, refl, ◌∙◌, min, ◌+◌, ◌*◌, mul_comm, arith}
 use Rattle.tiles.proofs.Beside.{gathered_none, gathered_more, gathered_all}
 use Rattle.tiles.proofs.many_lanes.gather_blocks.Goals as goal
 

@@ -1,7 +1,5 @@
 -- `gather_blocks` meets its contract. The loop's invariant: the lanes of the blocks below b are gathered.
-use mathlib.Core.Path.{◌≡◌}
-use Prim.Native.Nat.{min, ◌*◌}
-use lib.ListN.{length}
+use Rattle.std.proofs.Common.{◌≡◌, min, ◌*◌, length}
 use Rattle.tiles.proofs.Beside.{Gathered}
 use Rattle.tiles.proofs.many_lanes.gather_blocks.Given as goal
 

@@ -1,9 +1,7 @@
 -- `put_rows` meets its contract. The loop's invariant: the rows below r have their lanes.
-use Prim.Native.Nat.{◌+◌, ◌*◌, ◌-◌}
-use lib.ListN.{take, drop}
+use Rattle.std.proofs.Common.{◌+◌, ◌*◌, ◌-◌, take, drop, arith}
 use Rattle.lists.proofs.Rows.{part_length, part_size, get_d_part}
 use Rattle.tiles.proofs.Beside.{beside_row}
-use native.Mathlib.Omega.{arith}
 use Rattle.tiles.proofs.many_lanes.put_rows.Goals as goal
 
 pub loop-r-preserved : goal.loop-r-preserved

@@ -1,6 +1,5 @@
-use lib.Seq.{take_all}
+use Rattle.std.proofs.Common.{take_all, arith}
 use Rattle.std.proofs.lemmas.Simd.{put_chunk_whole}
-use native.Mathlib.Omega.{arith}
 use Rattle.tiles.proofs.moves.move64.Goals as goal
 
 pub returns : goal.returns

@@ -1,10 +1,8 @@
-use mathlib.Core.Path.{◌≡◌}
-use lib.ListN.{length}
+use Rattle.std.proofs.Common.{◌≡◌, length, arith}
 use lib.Lanes.{chunk}
 use Rattle.std.proofs.lemmas.Simd.{put_chunk_is, length-chunk}
 use Rattle.lists.proofs.Rows.{part_size}
 use Rattle.tiles.specs.Inner.Words.{patched}
-use native.Mathlib.Omega.{arith}
 use Rattle.tiles.proofs.moves.move_at.Goals as goal
 
 pub returns : goal.returns

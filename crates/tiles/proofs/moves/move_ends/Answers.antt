@@ -1,6 +1,4 @@
-use mathlib.Core.Path.{refl, ap, ◌∙◌}
-use Prim.Native.Nat.{◌-◌}
-use lib.ListN.{length}
+use Rattle.std.proofs.Common.{refl, ap, ◌∙◌, ◌-◌, length}
 use Rattle.tiles.specs.Inner.Words.{patched}
 use Rattle.tiles.proofs.Rests.{patched_twice}
 use Rattle.tiles.proofs.moves.move_ends.Goals as goal

@@ -1,7 +1,5 @@
 -- `move_row` meets its contract. The loop's invariant: the bytes below i are written.
-use Prim.Native.Nat.{ℕ, ◌<◌}
-use mathlib.Core.Path.{◌≡◌}
-use lib.ListN.{get_or}
+use Rattle.std.proofs.Common.{ℕ, ◌<◌, ◌≡◌, get_or}
 use Rattle.tiles.proofs.moves.move_row.Given as goal
 
 abbrev pub invariant-loop-i : goal.invariant-loop-i

@@ -1,12 +1,10 @@
 -- `fill_blocks` meets its contract. The loop's invariant: the first b blocks are filled.
-use Prim.Native.Nat.{◌+◌, ◌*◌, ◌-◌}
-use lib.ListN.{take, drop}
+use Rattle.std.proofs.Common.{◌+◌, ◌*◌, ◌-◌, take, drop, arith}
 use Rattle.lists.proofs.Rows.{row_after, part_length, part_size}
 use Rattle.lists.proofs.Parts.{valued_part, valued_all}
 use Rattle.tiles.specs.Inner.Squares.{as_lanes, blocks_of, placed}
 use Rattle.tiles.proofs.Blocks.{lanes_turned}
 use Rattle.tiles.proofs.Scattered.{block_byte, block_byte_lem, length_as_lanes}
-use native.Mathlib.Omega.{arith}
 use Rattle.tiles.proofs.scattering.fill_blocks.Goals as goal
 
 pub loop-b-preserved : goal.loop-b-preserved

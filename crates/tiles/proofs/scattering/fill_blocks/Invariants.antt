@@ -1,5 +1,5 @@
 -- `fill_blocks` meets its contract. The loop's invariant: the first b blocks are filled.
-use Prim.Native.Nat.{◌*◌}
+use Rattle.std.proofs.Common.{◌*◌}
 use Rattle.lists.proofs.Parts.{Valued}
 use Rattle.tiles.proofs.Scattered.{block_byte}
 use Rattle.tiles.proofs.scattering.fill_blocks.Given as goal

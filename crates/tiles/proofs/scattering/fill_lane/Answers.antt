@@ -1,8 +1,5 @@
 -- `fill_lane` meets its contract. The loop's invariant: the symbols of the blocks below b are written.
-use mathlib.Core.Path.{◌≡◌, refl}
-use Prim.Native.Nat.{◌+◌, ◌*◌, ◌/◌}
-use native.Mathlib.Nat.{le_refl}
-use lib.ListN.{length}
+use Rattle.std.proofs.Common.{◌≡◌, refl, ◌+◌, ◌*◌, ◌/◌, le_refl, length, arith}
 use lib.Lanes.{chunk}
 use Rattle.std.proofs.lemmas.Simd.{length-chunk}
 use Rattle.lists.proofs.Rows.{row_after}
@@ -10,7 +7,6 @@ use Rattle.tiles.specs.Inner.Squares.{placed, lane_at}
 use Rattle.lists.proofs.Parts.{valued_all}
 use Rattle.tiles.proofs.Chunks.{valued_chunk}
 use Rattle.tiles.proofs.Rests.{lane_byte, lane_row, lane_rest}
-use native.Mathlib.Omega.{arith}
 use Rattle.tiles.proofs.scattering.fill_lane.Goals as goal
 
 pub loop-b-preserved : goal.loop-b-preserved

@@ -1,5 +1,4 @@
-use Prim.Native.Nat.{◌*◌}
-use lib.ListN.{length}
+use Rattle.std.proofs.Common.{◌*◌, length}
 use Rattle.lists.proofs.Parts.{Valued}
 use Rattle.tiles.proofs.Rests.{lane_byte}
 use Rattle.tiles.proofs.scattering.fill_lane.Given as goal

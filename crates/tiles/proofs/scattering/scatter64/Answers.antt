@@ -1,5 +1,5 @@
 -- `scatter64` meets its contract, by one way or another.
-use mathlib.Core.Path.{◌∙◌}
+use Rattle.std.proofs.Common.{◌∙◌}
 use Rattle.tiles.proofs.Blocks.{turned_out}
 use Rattle.tiles.proofs.scattering.scatter64.Goals as goal
 

@@ -1,7 +1,5 @@
 -- `scatter_few` meets its contract: the rows become blocks, and the blocks lanes.
-use Prim.Native.Nat.{◌+◌, ◌/◌}
-use mathlib.Core.Path.{◌≡◌}
-use native.Mathlib.Omega.{arith}
+use Rattle.std.proofs.Common.{◌+◌, ◌/◌, ◌≡◌, arith}
 use Rattle.tiles.proofs.Scattered.{lanes_of_tile}
 use Rattle.tiles.proofs.scattering.scatter_few.Goals as goal
 

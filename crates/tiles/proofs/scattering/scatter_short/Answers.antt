@@ -1,12 +1,7 @@
 -- `scatter_short` meets its contract: the scratch begins with the lanes.
-use Prim.Native.Nat.{◌*◌, ◌≤◌, ◌+◌}
-use mathlib.Core.Path.{◌∙◌}
-use native.Mathlib.Nat.{mul-le-mul}
-use lib.ListN.{length, take}
-use lib.Seq.{length-take-le, get_or-take}
+use Rattle.std.proofs.Common.{◌*◌, ◌≤◌, ◌+◌, ◌∙◌, mul-le-mul, length, take, length-take-le, get_or-take, arith}
 use Rattle.lists.proofs.Rows.{row_inside}
 use Rattle.tiles.proofs.Blocks.{turned_out}
-use native.Mathlib.Omega.{arith}
 use Rattle.tiles.proofs.scattering.scatter_short.Goals as goal
 use Rattle.tiles.proofs.scattering.scatter_short.Goals.{Start}
 

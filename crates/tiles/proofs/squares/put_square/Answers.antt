@@ -1,10 +1,6 @@
 -- `put_square` meets its contract. The loop's invariant: the rows below i are put.
-use Prim.Native.Nat.{◌*◌, ◌-◌}
-use mathlib.Core.Path.{◌≡◌}
-use lib.ListN.{take, drop, length-drop}
-use lib.Seq.{take_all}
+use Rattle.std.proofs.Common.{◌*◌, ◌-◌, ◌≡◌, take, drop, length-drop, take_all, arith}
 use Rattle.tiles.proofs.Blocks.{squared_row}
-use native.Mathlib.Omega.{arith}
 use Rattle.tiles.proofs.squares.put_square.Goals as goal
 
 pub loop-i-preserved : goal.loop-i-preserved

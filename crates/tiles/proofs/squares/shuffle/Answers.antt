@@ -1,7 +1,7 @@
 use Rattle.tiles.specs.Inner.Squares.{placed, shuffled}
 use Rattle.lists.proofs.Parts.{valued_all}
 use Rattle.tiles.proofs.Shuffles.{shuffle_turn}
-use native.Mathlib.Omega.{arith}
+use Rattle.std.proofs.Common.{arith}
 use Rattle.tiles.proofs.squares.shuffle.Goals as goal
 
 pub loop-i-preserved : goal.loop-i-preserved

@@ -1,4 +1,4 @@
-use Prim.Native.Nat.{◌*◌}
+use Rattle.std.proofs.Common.{◌*◌}
 use Rattle.lists.proofs.Parts.{Valued}
 use Rattle.tiles.proofs.Shuffles.{shuffled_at}
 use Rattle.tiles.proofs.squares.shuffle.Given as goal

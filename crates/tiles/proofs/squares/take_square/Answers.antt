@@ -1,5 +1,5 @@
 -- `take_square` meets its contract. The loop's invariant: the rows below i are taken.
-use Prim.Native.Nat.{◌+◌, ◌*◌, ◌-◌}
+use Rattle.std.proofs.Common.{◌+◌, ◌*◌, ◌-◌, arith}
 use lib.Lanes.{chunk}
 use Rattle.std.proofs.lemmas.Simd.{length-chunk}
 use Rattle.lists.proofs.Rows.{row_after}
@@ -7,7 +7,6 @@ use Rattle.lists.proofs.Parts.{valued_all}
 use Rattle.tiles.specs.Inner.Squares.{square_at, placed}
 use Rattle.tiles.proofs.Blocks.{square_byte, square_row, row_fits}
 use Rattle.tiles.proofs.Chunks.{put_rest, valued_chunk}
-use native.Mathlib.Omega.{arith}
 use Rattle.tiles.proofs.squares.take_square.Goals as goal
 
 pub loop-i-preserved : goal.loop-i-preserved

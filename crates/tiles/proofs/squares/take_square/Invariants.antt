@@ -1,4 +1,4 @@
-use Prim.Native.Nat.{◌*◌}
+use Rattle.std.proofs.Common.{◌*◌}
 use Rattle.lists.proofs.Parts.{Valued}
 use Rattle.tiles.proofs.Blocks.{square_byte}
 use Rattle.tiles.proofs.squares.take_square.Given as goal

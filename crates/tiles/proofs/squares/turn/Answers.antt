@@ -1,4 +1,4 @@
-use mathlib.Core.Path.{ap, ◌∙◌}
+use Rattle.std.proofs.Common.{ap, ◌∙◌}
 use Rattle.tiles.specs.Inner.Squares.{shuffled}
 use Rattle.tiles.proofs.Shuffles.{turned_shuffled}
 use Rattle.tiles.proofs.squares.turn.Goals as goal

@@ -1,9 +1,6 @@
 -- `turn_all` meets its contract. The loop's invariant: the columns of the squares below i are turned.
-use Prim.Native.Nat.{min, ◌+◌, ◌*◌}
-use mathlib.Core.Path.{◌≡◌}
-use lib.ListN.{length}
+use Rattle.std.proofs.Common.{min, ◌+◌, ◌*◌, ◌≡◌, length, arith}
 use Rattle.tiles.proofs.Blocks.{columns_more, columns_left}
-use native.Mathlib.Omega.{arith}
 use Rattle.tiles.proofs.turning.turn_all.Goals as goal
 
 pub loop-i-preserved : goal.loop-i-preserved

@@ -1,5 +1,5 @@
 -- `turn_all` meets its contract. The loop's invariant: the columns of the squares below i are turned.
-use Prim.Native.Nat.{min, ◌*◌}
+use Rattle.std.proofs.Common.{min, ◌*◌}
 use Rattle.tiles.specs.Inner.Squares.{TurnedTo}
 use Rattle.tiles.proofs.turning.turn_all.Given as goal
 

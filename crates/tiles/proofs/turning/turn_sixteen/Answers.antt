@@ -1,9 +1,7 @@
 -- `turn_sixteen` meets its contract. The loop's invariant: the rows of the squares below i are turned.
-use Prim.Native.Nat.{min, ◌+◌, ◌*◌}
-use mathlib.Core.Path.{◌≡◌}
+use Rattle.std.proofs.Common.{min, ◌+◌, ◌*◌, ◌≡◌, arith}
 use Rattle.lists.proofs.Rows.{part_rest}
 use Rattle.tiles.proofs.Blocks.{turned_more}
-use native.Mathlib.Omega.{arith}
 use Rattle.tiles.proofs.turning.turn_sixteen.Goals as goal
 
 pub loop-i-preserved : goal.loop-i-preserved

@@ -1,6 +1,5 @@
 -- `part` meets its contract: the lanes lie within the lanes.
-use mathlib.Core.Path.{◌∙◌}
-use native.Mathlib.Nat.{mul_comm}
+use Rattle.std.proofs.Common.{◌∙◌, mul_comm}
 use Rattle.layout.proofs.Runs.{lanes_inside}
 use Rattle.tiles.proofs.lanes.Lanes.part.Goals as goal
 
