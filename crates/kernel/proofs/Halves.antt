@@ -4,7 +4,7 @@ use Rattle.lists.specs.Padded.{zeros}
 use Rattle.lists.proofs.Fill.{length_zeros}
 use Rattle.lists.proofs.Numbers.{at_below, below_at, below_set}
 use Rattle.lists.proofs.Padding.{below_zeros}
-use Rattle.kernel.specs.Inner.Halves.{wrapped, Sixteen}
+use Rattle.kernel.specs.Inner.Halves.{wrapped, LaneSums}
 use Rattle.kernel.proofs.Lanes.{length_lanewise, get_or_lanewise, lanewise_same}
 
 pub product16 : (a b : ℕ) → a < 65536 → b < 65536 → a * b ≤ 4294836225
@@ -13,21 +13,28 @@ product16 a b ha hb =
     let lb : b ≤ 65535 = omega arith in
     omega (arith, mul-le-mul la lb)
 
-pub sixteen_zeros : Sixteen (zeros 16)
-sixteen_zeros = record { long = length_zeros 16; below = below_zeros 65536 16 (omega arith) }
+pub lane_sums_zeros : (n : ℕ) → LaneSums n (zeros n)
+lane_sums_zeros n = record { long = length_zeros n; below = below_zeros 65536 n (omega arith) }
 
 -- one sum replaced
-pub sixteen_set : (s : List ℕ) (t x : ℕ) → Sixteen s → x < 65536 → Sixteen (set s t x)
-sixteen_set s t x h small = record { long = simp length-set h.long; below = below_set 65536 s t x small h.below }
+pub lane_sums_set : {n : ℕ} (s : List ℕ) (t x : ℕ) → LaneSums n s → x < 65536 → LaneSums n (set s t x)
+lane_sums_set s t x h small = record { long = simp length-set h.long; below = below_set 65536 s t x small h.below }
 
-module _ (f : ℕ → ℕ) (s : List ℕ) (h : Sixteen s) where
-  pub get_or_wrapped : (t : ℕ) → t < 16 → get_or (wrapped f s) t 0 ≡ (get_or s t 0 + f t) % 65536
+module _ {n : ℕ} (f : ℕ → ℕ) (s : List ℕ) (h : LaneSums n s) where
+  pub get_or_wrapped : (t : ℕ) → t < n → get_or (wrapped f s) t 0 ≡ (get_or s t 0 + f t) % 65536
   unfolding wrapped
   get_or_wrapped t lane = get_or_lanewise (λ t y. (y + f t) % 65536) s t (omega (arith, h.long))
 
-  length_wrapped : length (wrapped f s) ≡ 16
+  pub length_wrapped : length (wrapped f s) ≡ n
   unfolding wrapped
   length_wrapped = length_lanewise (λ t y. (y + f t) % 65536) s ∙ h.long
+
+  pub sixteen_wrapped : LaneSums n (wrapped f s)
+  sixteen_wrapped =
+      record {
+        long = length_wrapped;
+        below = at_below 65536 (wrapped f s) (λ t inside. let lane : t < n = omega (arith, length_wrapped) in rw (get_or_wrapped t lane) (omega arith));
+      }
 
   -- nothing is added
   pub wrapped_none : ((t : ℕ) → f t ≡ 0) → s ≡ wrapped f s

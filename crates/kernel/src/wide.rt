@@ -3,7 +3,7 @@
 ghost use Rattle.std.specs.Prelude.{◌≡◌, ◌+◌, ◌*◌, ◌/◌, ◌%◌, ◌<◌, length, slice_index, slice_set};
 ghost use Rattle.lists.specs.Padded.{zeros};
 ghost use Rattle.lists.specs.Rows.{from};
-ghost use Rattle.kernel.specs.Inner.Halves.{pair_product, wrapped, Sixteen, total_of, rest_of};
+ghost use Rattle.kernel.specs.Inner.Halves.{pair_product, wrapped, LaneSums, Sixteen, total_of, rest_of};
 
 pub fn product(weight: u16, first: u8, second: u8) -> u32
     ensures { (result ≡ (first * 256 + second) * weight) × (result < 4294967296) }
@@ -12,36 +12,36 @@ pub fn product(weight: u16, first: u8, second: u8) -> u32
 }
 
 // The upper 16 binary digits of a product.
-fn upper(x: u16, weight: u16) -> u16
+pub fn upper(x: u16, weight: u16) -> u16
     ensures { result ≡ x * weight / 65536 }
 {
     (x as u32 * weight as u32 / 65536) as u16
 }
 
-// Sums of numbers of 16 binary digits, one in each of 16 lanes, held twice: modulo 65536, and the sums of the upper bytes alone. Both
+// Sums of numbers of 16 binary digits, one in each of N lanes, held twice: modulo 65536, and the sums of the upper bytes alone. Both
 // together tell the sums of up to 257 numbers.
 #[derive(Clone, Copy)]
-pub struct Half {
-    pub rest: [u16; 16],
-    pub upper: [u16; 16],
-    pub ghost rest_lanes: { Sixteen rest },
-    pub ghost upper_lanes: { Sixteen upper },
+pub struct Sums<const N: usize> {
+    pub rest: [u16; N],
+    pub upper: [u16; N],
+    pub ghost rest_lanes: { LaneSums N rest },
+    pub ghost upper_lanes: { LaneSums N upper },
 }
 
-impl Half {
+impl<const N: usize> Sums<N> {
     // The sums of no numbers.
-    fn none() -> Self
-        ensures { (result.rest ≡ zeros 16) × (result.upper ≡ zeros 16) }
+    pub fn none() -> Self
+        ensures { (result.rest ≡ zeros N) × (result.upper ≡ zeros N) }
     {
-        Half {
-            rest: [0; 16],
-            upper: [0; 16],
+        Sums {
+            rest: [0; N],
+            upper: [0; N],
         }
     }
 
     // Adds x to lane t.
-    fn add(&mut self, t: usize, x: u16)
-        requires { t < 16 }
+    pub fn add(&mut self, t: usize, x: u16)
+        requires { t < N }
         ensures rest { self.new.rest ≡ slice_set self.old.rest t ((slice_index self.old.rest t + x) % 65536) }
         ensures upper { self.new.upper ≡ slice_set self.old.upper t ((slice_index self.old.upper t + x / 256) % 65536) }
     {
@@ -51,7 +51,7 @@ impl Half {
 
     // The sum in lane t.
     fn total(&self, t: usize) -> u64
-        requires { t < 16 }
+        requires { t < N }
         ensures value { result ≡ total_of (slice_index self.now.rest t) (slice_index self.now.upper t) }
         ensures bound { result < 16842752 }
     {
@@ -63,8 +63,8 @@ impl Half {
 // Sums of products of numbers of 16 binary digits: of their lower halves and of their upper ones.
 #[derive(Clone, Copy)]
 pub struct Halves {
-    pub low: Half,
-    pub high: Half,
+    pub low: Sums<16>,
+    pub high: Sums<16>,
 }
 
 impl Halves {
@@ -74,8 +74,8 @@ impl Halves {
         ensures high { (result.high.rest ≡ zeros 16) × (result.high.upper ≡ zeros 16) }
     {
         Halves {
-            low: Half::none(),
-            high: Half::none(),
+            low: Sums::none(),
+            high: Sums::none(),
         }
     }
 
@@ -132,11 +132,11 @@ pub fn add_products(
     ensures { (a.new ≡ wrapped (λ t. pair_product weight first.now second.now t % 65536) a.old) × (b.new ≡ wrapped (λ t. pair_product weight first.now second.now t % 65536 / 256) b.old) × (c.new ≡ wrapped (λ t. pair_product weight first.now second.now t / 65536) c.old) × (d.new ≡ wrapped (λ t. pair_product weight first.now second.now t / 65536 / 256) d.old) }
 {
     let mut sums = Halves {
-        low: Half {
+        low: Sums {
             rest: *a,
             upper: *b,
         },
-        high: Half {
+        high: Sums {
             rest: *c,
             upper: *d,
         },
@@ -154,11 +154,11 @@ pub fn remainders(p: u16, a: &[u16; 16], b: &[u16; 16], c: &[u16; 16], d: &[u16;
     ensures { result ≡ from (λ t. rest_of p (slice_index a.now t) (slice_index b.now t) (slice_index c.now t) (slice_index d.now t)) 0 16 }
 {
     let sums = Halves {
-        low: Half {
+        low: Sums {
             rest: *a,
             upper: *b,
         },
-        high: Half {
+        high: Sums {
             rest: *c,
             upper: *d,
         },

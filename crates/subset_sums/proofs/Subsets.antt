@@ -1,15 +1,17 @@
 -- Sums of subsets: a row more, the slices of a group, and the groups of a table.
-use Rattle.std.proofs.Common.{◌≡◌, refl, sym, ap, ap₂, ◌∙◌, List, ◌++◌, ℕ, zero, suc, ◌+◌, ◌-◌, ◌*◌, ◌/◌, ◌%◌, ◌^◌, ◌≤◌, ◌<◌, add-zero, zero-add, mul-zero, mul-one, pow-suc, arith, bit_xor, length, get_or, take, drop, length-append, length-drop, take_at}
+use Rattle.std.proofs.Common.{length-take-le, get_or-take, pow_mono, ◌≡◌, refl, sym, ap, ap₂, ◌∙◌, List, ◌++◌, ℕ, zero, suc, ◌+◌, ◌-◌, ◌*◌, ◌/◌, ◌%◌, ◌^◌, ◌≤◌, ◌<◌, add-zero, zero-add, mul-zero, mul-one, pow-suc, arith, bit_xor, length, get_or, take, drop, length-append, length-drop}
 use lib.Bits.{xor_zero_r}
+use Rattle.std.proofs.Math.ListN.{get_or-append}
 use Rattle.lists.specs.Rows.{from}
 use Rattle.lists.specs.Padded.{zeros}
 use Rattle.lists.proofs.Rows.{length_from, get_or_from, from_ext, part_length, part_size, get_d_part, from_append}
-use Rattle.lists.proofs.Fill.{length_zeros, from_zeros}
+use Rattle.lists.proofs.Fill.{length_zeros}
 use Rattle.field.proofs.Xor.{xor_assoc}
 use Rattle.kernel.specs.Inner.Lanes.{lanewise}
-use Rattle.lists.proofs.Parts.{Valued, valued_part, valued_at}
+use Rattle.lists.proofs.Parts.{Valued, valued_part, valued_at, from_at}
+use Rattle.lists.proofs.Padding.{get_or_zeros}
 use Rattle.lists.proofs.Lanes.{low_sixteen}
-use Rattle.subset_sums.specs.Inner.Subsets.{subset_from, subset, group_byte, group_of, table_byte, summed}
+use Rattle.subset_sums.specs.Inner.Subsets.{subset_from, subset, group_byte, group_of, table_byte, summed, FirstSums}
 
 pub subset_none : (f : ℕ) (x : ℕ → ℕ) (i : ℕ) → subset_from f x i 0 ≡ 0
 unfolding subset_from
@@ -39,19 +41,24 @@ subset_high (suc i) (suc f) x j v low room =
     ∙ sym (xor_assoc (x j * (v % 2)) (subset_from f x (j + 1) (v / 2)) (x (j + 1 + i)))
     ∙ ap (λ (n : ℕ). bit_xor (bit_xor (x j * (v % 2)) (subset_from f x (j + 1) (v / 2))) (x n)) place
 
--- byte t of slice v of a group, whose highest row is i
-group_more : (rows : List ℕ) (v i t : ℕ) → i < 4 → 2 ^ i ≤ v → v < 2 ^ i * 2 → t < 64 → bit_xor (group_byte rows ((v - 2 ^ i) * 64 + t)) (get_or rows (i * 64 + t) 0) ≡ group_byte rows (v * 64 + t)
+-- byte t of the slice of a subset of the rows below i, and row i
+group_more : (rows : List ℕ) (w i t : ℕ) → i < 4 → w < 2 ^ i → t < 64 → bit_xor (group_byte rows (w * 64 + t)) (get_or rows (i * 64 + t) 0) ≡ group_byte rows ((2 ^ i + w) * 64 + t)
 unfolding group_byte subset
-group_more rows v i t room low high lane =
-    let rest : ((v - 2 ^ i) * 64 + t) / 64 ≡ v - 2 ^ i = omega arith in
-    let rest_lane : ((v - 2 ^ i) * 64 + t) % 64 ≡ t = omega arith in
-    let whole : (v * 64 + t) / 64 ≡ v = omega arith in
-    let whole_lane : (v * 64 + t) % 64 ≡ t = omega arith in
-    let parts : 2 ^ i + (v - 2 ^ i) ≡ v = omega arith in
+group_more rows w i t room low lane =
+    let rest : (w * 64 + t) / 64 ≡ w = omega arith in
+    let rest_lane : (w * 64 + t) % 64 ≡ t = omega arith in
+    let whole : ((2 ^ i + w) * 64 + t) / 64 ≡ 2 ^ i + w = omega arith in
+    let whole_lane : ((2 ^ i + w) * 64 + t) % 64 ≡ t = omega arith in
     rw (rest, rest_lane, whole, whole_lane)
-    (sym (ap (λ (n : ℕ). subset_from 4 (λ k. get_or rows (k * 64 + t) 0) 0 n) (sym parts)
-    ∙ subset_high i 4 (λ k. get_or rows (k * 64 + t) 0) 0 (v - 2 ^ i) (omega arith) room
-    ∙ ap (λ (n : ℕ). bit_xor (subset_from 4 (λ k. get_or rows (k * 64 + t) 0) 0 (v - 2 ^ i)) (get_or rows (n * 64 + t) 0)) (zero-add i)))
+    (sym (subset_high i 4 (λ k. get_or rows (k * 64 + t) 0) 0 w low room
+    ∙ ap (λ (n : ℕ). bit_xor (subset_from 4 (λ k. get_or rows (k * 64 + t) 0) 0 w) (get_or rows (n * 64 + t) 0)) (zero-add i)))
+
+pub power_low : (i : ℕ) → i < 4 → 2 ^ i ≤ 8
+power_low i h = let three : i ≤ 3 = omega arith in pow_mono three
+
+-- 1 shifted by i digits
+pub shifted : (i : ℕ) → i < 4 → 1 * 2 ^ i % 18446744073709551616 ≡ 2 ^ i
+shifted i h = omega (arith, power_low i h)
 
 module _ (rows : List ℕ) where
   -- the empty subset
@@ -61,32 +68,45 @@ module _ (rows : List ℕ) where
       let none : p / 64 ≡ 0 = omega arith in
       rw none (subset_none 4 (λ i. get_or rows (i * 64 + p % 64) 0) 0)
 
-  pub group_first : (tab : List ℕ) → length tab ≡ 1024 → Valued (group_byte rows) 1024 (zeros 64 ++ drop 64 tab) (zeros 64 ++ drop 64 tab) 64
-  group_first tab long =
+  pub sums_first : (tab : List ℕ) → length tab ≡ 1024 → FirstSums rows 1 (zeros 64 ++ drop 64 tab)
+  sums_first tab long =
       let size : length (zeros 64) ≡ 64 = length_zeros 64 in
       record {
-        inside = simp (length-append, length-drop) (omega arith);
+        long = simp (length-append, length-drop) (omega (arith, size));
+        sums = λ p h. get_or-append (zeros 64) (drop 64 tab) 0 p (omega (arith, size)) ∙ get_or_zeros 64 p ∙ sym (group_zero p (omega arith));
+      }
+
+  pub sums_valued : {count : ℕ} {tab : List ℕ} → FirstSums rows count tab → count ≤ 16 → Valued (group_byte rows) 1024 tab tab (count * 64)
+  sums_valued {count} {tab} s few =
+      let f : ℕ → ℕ = group_byte rows in
+      let c : ℕ = count * 64 in
+      record {
+        inside = omega (arith, s.long);
         long = refl;
         written =
-            ap (λ (l : List ℕ). l ++ from (group_byte rows) 64 960) (take_at (zeros 64) (drop 64 tab) 64 size ∙ sym (from_zeros (group_byte rows) 0 64 (λ p low high. group_zero p (omega arith))))
-            ∙ sym (from_append (group_byte rows) 0 64 960);
+            ap (λ (l : List ℕ). l ++ from f c (1024 - c)) (from_at f (take c tab) c (length-take-le c tab (omega (arith, s.long))) (λ p h. get_or-take c tab p 0 h ∙ s.sums p h))
+            ∙ sym (rw zero-add at (from_append f 0 c (1024 - c)))
+            ∙ (let all : c + (1024 - c) ≡ 1024 = omega arith in ap (from f 0) all);
         kept = refl;
       }
 
-  -- slice v is made of a lower one and row i
-  pub group_turn : {start now : List ℕ} (v i u : ℕ) → Valued (group_byte rows) 1024 start now (v * 64) → length rows ≡ 256 → length start ≡ 1024 → v < 16 → i < 4 → 2 ^ i ≤ v → v < 2 ^ i * 2 → u ≡ 2 ^ i → Valued (group_byte rows) 1024 start (summed (take (i * 64 + 64 - i * 64) (drop (i * 64) rows)) ((v - u) * 64) (v * 64) now) ((v + 1) * 64)
+  pub valued_sums : {count : ℕ} {start now : List ℕ} → Valued (group_byte rows) 1024 start now (count * 64) → length start ≡ 1024 → FirstSums rows count now
+  valued_sums {count} {start} {now} a long = record { long = a.long ∙ long; sums = λ p h. valued_at (group_byte rows) 1024 a (omega (arith, a.inside)) p h }
+
+  -- a slice more, of the subset w of the rows below i and row i
+  pub group_turn : {start now : List ℕ} (w i u : ℕ) → u ≡ 2 ^ i → Valued (group_byte rows) 1024 start now ((u + w) * 64) → length rows ≡ 256 → length start ≡ 1024 → i < 4 → w < u → Valued (group_byte rows) 1024 start (summed (take (i * 64 + 64 - i * 64) (drop (i * 64) rows)) (w * 64) ((u + w) * 64) now) ((u + (w + 1)) * 64)
   unfolding summed
-  group_turn {start} {now} v i u a rows_long long below room low high u_is =
-      let next : (v + 1) * 64 ≡ v * 64 + 64 = omega arith in
-      let pos : 0 < 2 ^ i = omega arith in
-      rw (next, u_is)
-      (valued_part (group_byte rows) 1024 (from (λ t. bit_xor (get_or now ((v - 2 ^ i) * 64 + t) 0) (get_or (take (i * 64 + 64 - i * 64) (drop (i * 64) rows)) t 0)) 0 64) 64 (v * 64 + 64 - v * 64) a (omega arith) (omega arith) (part_size (v * 64) 64)
+  group_turn {start} {now} w i u u_is a rows_long long room low =
+      let next : (u + (w + 1)) * 64 ≡ (u + w) * 64 + 64 = omega arith in
+      let few : u ≤ 8 = rw u_is (power_low i room) in
+      rw next
+      (valued_part (group_byte rows) 1024 (from (λ t. bit_xor (get_or now (w * 64 + t) 0) (get_or (take (i * 64 + 64 - i * 64) (drop (i * 64) rows)) t 0)) 0 64) 64 ((u + w) * 64 + 64 - (u + w) * 64) a (omega arith) (omega arith) (part_size ((u + w) * 64) 64)
       (length_from _ 0 64)
       (λ t lane.
       get_or_from _ 0 64 t 0 lane
-      ∙ ap (λ (n : ℕ). bit_xor (get_or now ((v - 2 ^ i) * 64 + n) 0) (get_or (take (i * 64 + 64 - i * 64) (drop (i * 64) rows)) n 0)) (zero-add t)
-      ∙ ap₂ bit_xor (valued_at (group_byte rows) 1024 a (omega arith) ((v - 2 ^ i) * 64 + t) (omega arith)) (get_d_part (i * 64) 64 rows t lane)
-      ∙ group_more rows v i t room low high lane))
+      ∙ ap (λ (n : ℕ). bit_xor (get_or now (w * 64 + n) 0) (get_or (take (i * 64 + 64 - i * 64) (drop (i * 64) rows)) n 0)) (zero-add t)
+      ∙ ap₂ bit_xor (valued_at (group_byte rows) 1024 a (omega arith) (w * 64 + t) (omega arith)) (get_d_part (i * 64) 64 rows t lane)
+      ∙ rw u_is (group_more rows w i t room (rw u_is at low) lane)))
 
 -- a row added to a part
 pub sum_part : (row tab : List ℕ) (a : ℕ) → a + 64 ≤ length tab → lanewise (λ t y. bit_xor y (get_or row t 0)) (take (a + 64 - a) (drop a tab)) ≡ from (λ t. bit_xor (get_or tab (a + t) 0) (get_or row t 0)) 0 64

@@ -2,7 +2,6 @@
 ghost use Rattle.std.specs.Prelude.{◌≡◌, ℕ, ◌+◌, ◌*◌, ◌≤◌, ◌<◌, length, get_or, take, drop};
 ghost use Rattle.subset_sums.specs.Inner.Lists.{slices_added, turns_of, Slices};
 
-use crate::slice;
 use kernel::gf256;
 
 // A table of sums of subsets, and the slices of it that an output adds: for digit 7 − b of its weights those that `list` names from place
@@ -43,7 +42,7 @@ impl<'a> Listed<'a> {
         requires { length out.old ≡ 64 }
         ensures { out.new ≡ turns_of 8 self.entry.groups self.entry.tab.now self.entry.list.now self.entry.counts.now }
     {
-        let mut acc = slice();
+        let mut acc = [0u8; 64];
         for b in 0..8 {
             self.turn(b, &mut acc);
         }

@@ -1,9 +1,8 @@
 // The table: of each group of four rows the sums of all 16 subsets, slices of 64 bytes. Subset v has the rows whose binary digit of v
 // is 1; its slice stands at g·1024 + v·64.
-ghost use Rattle.std.specs.Prelude.{◌≡◌, ◌+◌, ◌*◌, ◌≤◌, length};
-ghost use Rattle.subset_sums.specs.Inner.Subsets.{group_of, table_of, summed};
+ghost use Rattle.std.specs.Prelude.{◌≡◌, ◌+◌, ◌*◌, ◌^◌, ◌≤◌, ◌<◌, length};
+ghost use Rattle.subset_sums.specs.Inner.Subsets.{group_of, table_of, summed, FirstSums};
 
-use crate::slice;
 use kernel::gf256;
 
 // The slice at `to` becomes the sum of that at `a` and a row.
@@ -11,22 +10,32 @@ fn sum(row: &[u8], a: usize, to: usize, tab: &mut [u8])
     requires { (length row.now ≡ 64) × (a + 64 ≤ length tab.old) × (to + 64 ≤ length tab.old) }
     ensures { tab.new ≡ summed row.now a to tab.old }
 {
-    let mut acc = slice();
+    let mut acc = [0u8; 64];
     acc.copy_from_slice(&tab[a..a + 64]);
     gf256::add(row, &mut acc);
     tab[to..to + 64].copy_from_slice(&acc);
 }
 
-// The sums of all subsets of four rows: each is that of a lower subset and its highest row.
+// Row i doubles the sums: the row added to each of the subsets of lower rows.
+fn double(rows: &[u8], i: usize, tab: &mut [u8])
+    requires { (length rows.now ≡ 256) × (i < 4) × FirstSums rows.now (2 ^ i) tab.old }
+    ensures { FirstSums rows.now (2 ^ (i + 1)) tab.new }
+{
+    let count = 1 << i;
+    let start = i * 64;
+    for v in 0..count {
+        sum(&rows[start..start + 64], v * 64, (count + v) * 64, tab);
+    }
+}
+
+// The sums of all subsets of four rows.
 fn fill_group(rows: &[u8], tab: &mut [u8])
     requires { (length rows.now ≡ 256) × (length tab.old ≡ 1024) }
     ensures { tab.new ≡ group_of rows.now }
 {
     tab[..64].fill(0);
-    for v in 1..16usize {
-        let i = v.ilog2() as usize;
-        let start = i * 64;
-        sum(&rows[start..start + 64], (v - (1 << i)) * 64, v * 64, tab);
+    for i in 0..4 {
+        double(rows, i, tab);
     }
 }
 

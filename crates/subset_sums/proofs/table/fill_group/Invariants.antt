@@ -1,7 +1,7 @@
-use Rattle.std.proofs.Common.{◌≡◌, ◌*◌, length}
-use Rattle.lists.proofs.Parts.{Valued}
-use Rattle.subset_sums.specs.Inner.Subsets.{group_byte}
+-- `fill_group` meets its contract. The loop's invariant: the sums of the rows below i are made.
+use Rattle.std.proofs.Common.{◌^◌}
+use Rattle.subset_sums.specs.Inner.Subsets.{FirstSums}
 use Rattle.subset_sums.proofs.table.fill_group.Given as goal
 
-abbrev pub invariant-loop-v : goal.invariant-loop-v
-invariant-loop-v l = (length l.initial.tab ≡ 1024) × Valued (group_byte l.rows) 1024 l.initial.tab l.tab (l.v * 64)
+abbrev pub invariant-loop-i : goal.invariant-loop-i
+invariant-loop-i l = FirstSums l.rows (2 ^ l.i) l.tab

@@ -1,9 +1,0 @@
--- `Half::add` keeps the sums below 65536.
-use Rattle.std.proofs.Common.{arith}
-use Rattle.kernel.proofs.Halves.{sixteen_set}
-use Rattle.kernel.proofs.wide.Half.add.Goals as goal
-
-pub invariant_of-self : goal.invariant_of-self
-invariant_of-self c =
-    let h = c.args.self.now in
-    record { rest_lanes = sixteen_set _ _ _ h.rest_lanes (omega arith); upper_lanes = sixteen_set _ _ _ h.upper_lanes (omega arith) }
