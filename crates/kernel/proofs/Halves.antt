@@ -4,7 +4,7 @@ use Rattle.lists.specs.Padded.{zeros}
 use Rattle.lists.proofs.Fill.{length_zeros}
 use Rattle.lists.proofs.Numbers.{at_below, below_at, below_set}
 use Rattle.lists.proofs.Padding.{below_zeros}
-use Rattle.kernel.specs.Inner.Halves.{wrapped, LaneSums}
+use Rattle.kernel.specs.Inner.Halves.{wrapped, DigitSums}
 use Rattle.kernel.proofs.Lanes.{length_lanewise, get_or_lanewise, lanewise_same}
 
 pub product16 : (a b : ℕ) → a < 65536 → b < 65536 → a * b ≤ 4294836225
@@ -13,14 +13,14 @@ product16 a b ha hb =
     let lb : b ≤ 65535 = omega arith in
     omega (arith, mul-le-mul la lb)
 
-pub lane_sums_zeros : (n : ℕ) → LaneSums n (zeros n)
+pub lane_sums_zeros : (n : ℕ) → DigitSums n (zeros n)
 lane_sums_zeros n = record { long = length_zeros n; below = below_zeros 65536 n (omega arith) }
 
 -- one sum replaced
-pub lane_sums_set : {n : ℕ} (s : List ℕ) (t x : ℕ) → LaneSums n s → x < 65536 → LaneSums n (set s t x)
+pub lane_sums_set : {n : ℕ} (s : List ℕ) (t x : ℕ) → DigitSums n s → x < 65536 → DigitSums n (set s t x)
 lane_sums_set s t x h small = record { long = simp length-set h.long; below = below_set 65536 s t x small h.below }
 
-module _ {n : ℕ} (f : ℕ → ℕ) (s : List ℕ) (h : LaneSums n s) where
+module _ {n : ℕ} (f : ℕ → ℕ) (s : List ℕ) (h : DigitSums n s) where
   pub get_or_wrapped : (t : ℕ) → t < n → get_or (wrapped f s) t 0 ≡ (get_or s t 0 + f t) % 65536
   unfolding wrapped
   get_or_wrapped t lane = get_or_lanewise (λ t y. (y + f t) % 65536) s t (omega (arith, h.long))
@@ -29,7 +29,7 @@ module _ {n : ℕ} (f : ℕ → ℕ) (s : List ℕ) (h : LaneSums n s) where
   unfolding wrapped
   length_wrapped = length_lanewise (λ t y. (y + f t) % 65536) s ∙ h.long
 
-  pub sixteen_wrapped : LaneSums n (wrapped f s)
+  pub sixteen_wrapped : DigitSums n (wrapped f s)
   sixteen_wrapped =
       record {
         long = length_wrapped;

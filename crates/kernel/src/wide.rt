@@ -3,7 +3,7 @@
 ghost use Rattle.std.specs.Prelude.{◌≡◌, ◌+◌, ◌*◌, ◌/◌, ◌%◌, ◌<◌, length, slice_index, slice_set};
 ghost use Rattle.lists.specs.Padded.{zeros};
 ghost use Rattle.lists.specs.Rows.{from};
-ghost use Rattle.kernel.specs.Inner.Halves.{pair_product, wrapped, LaneSums, Sixteen, total_of, rest_of};
+ghost use Rattle.kernel.specs.Inner.Halves.{pair_product, wrapped, DigitSums, Sixteen, total_of, rest_of};
 
 pub fn product(weight: u16, first: u8, second: u8) -> u32
     ensures { (result ≡ (first * 256 + second) * weight) × (result < 4294967296) }
@@ -24,8 +24,8 @@ pub fn upper(x: u16, weight: u16) -> u16
 pub struct Sums<const N: usize> {
     pub rest: [u16; N],
     pub upper: [u16; N],
-    pub ghost rest_lanes: { LaneSums N rest },
-    pub ghost upper_lanes: { LaneSums N upper },
+    pub ghost rest_lanes: { DigitSums N rest },
+    pub ghost upper_lanes: { DigitSums N upper },
 }
 
 impl<const N: usize> Sums<N> {

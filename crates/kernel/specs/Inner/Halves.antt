@@ -12,13 +12,13 @@ unfoldable pub wrapped : (ℕ → ℕ) → List ℕ → List ℕ
 wrapped f acc = lanewise (λ t y. (y + f t) % 65536) acc
 
 -- a sum of 16 binary digits for each of n lanes
-pub record LaneSums (n : ℕ) (sums : List ℕ) : Type 0 where
+pub record DigitSums (n : ℕ) (sums : List ℕ) : Type 0 where
   pub long : length sums ≡ n
   pub below : all_below 65536 sums ≡ true
 
 -- for each of 16 lanes
 abbrev pub Sixteen : List ℕ → Type 0
-Sixteen sums = LaneSums 16 sums
+Sixteen sums = DigitSums 16 sums
 
 -- a sum of at most 257 halves from the sum modulo 65536 and the sum of their upper bytes
 unfoldable pub total_of : ℕ → ℕ → ℕ
