@@ -1,5 +1,6 @@
 -- Laws of sums of rows: row by row, and digit by digit of the weights.
 pub mod Combined
+pub mod FirstWeights
 pub mod Horner
 pub mod Listing
 pub mod Adding

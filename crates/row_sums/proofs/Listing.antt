@@ -1,5 +1,5 @@
 -- The loop that lists the rows whose weight has a digit, and where the listed rows lie.
-use mathlib.Core.Path.{◌≡◌}
+use mathlib.Core.Path.{◌≡◌, ◌∙◌}
 use mathlib.Core.Bool.{Bool}
 use mathlib.Core.List.{List, [], ◌∷◌, ◌++◌, append-nil, append_assoc}
 use Prim.Native.Nat.{ℕ, zero, suc, ◌+◌, ◌-◌, ◌/◌, ◌%◌, ◌^◌, ◌≤◌, ◌<◌}
@@ -7,8 +7,8 @@ use native.Mathlib.Nat.{add-zero, sub-zero}
 use native.Mathlib.Numerals.{add-one}
 use native.Mathlib.Omega.{arith}
 use lib.Dec.{eqb}
-use lib.ListN.{length, get_or, take, set}
-use lib.Seq.{take-suc-set, take-set-le}
+use lib.ListN.{length, get_or, take, drop, set, length-drop}
+use lib.Seq.{take-suc-set, take-set-le, get_or-drop}
 use Rattle.lists.specs.Choice.{pick}
 use Rattle.lists.specs.Counting.{passing_from}
 use Rattle.lists.proofs.All.{All-at}
@@ -57,3 +57,11 @@ module _ (digit rows : ℕ) (ws : List ℕ) where
             rw a.long (row_inside rows (get_or (rows_with digit rows ws) i 0) l (omega arith));
         out_long = e;
       }
+
+-- and those from place r on
+pub listed_rest : {l : ℕ} {js s : List ℕ} {n : ℕ} (r : ℕ) (out : ℕ) → out ≡ n → ListedRows l js s n → ListedRows l (drop r js) s out
+listed_rest {l} {js} {s} {n} r out same a =
+    record {
+      within = λ i inside. rw (get_or-drop r js i 0) (a.within (r + i) (omega (arith, length-drop r js)));
+      out_long = same ∙ a.out_long;
+    }

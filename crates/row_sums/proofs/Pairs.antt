@@ -22,9 +22,6 @@ module _ (l : ℕ) (f : ℕ → ℕ) where
     pub high : (x : ℕ) → x < t → get_or acc x 0 ≡ f x / 256
     pub low : (x : ℕ) → x < t → get_or acc (l + x) 0 ≡ f x % 256
 
-  pub written_none : (acc : List ℕ) → length acc ≡ 2 * l → Written 0 acc
-  written_none acc long = record { long = long; high = λ x h. absurd (omega arith); low = λ x h. absurd (omega arith) }
-
   pub written_less : (t u : ℕ) (acc : List ℕ) → u ≤ t → Written t acc → Written u acc
   written_less t u acc few h = record { long = h.long; high = λ x low. h.high x (omega arith); low = λ x low. h.low x (omega arith) }
 

@@ -2,19 +2,18 @@
 use mathlib.Core.Path.{◌≡◌, sym, ap, ap₂, ◌∙◌}
 use mathlib.Core.List.{List}
 use Prim.Native.Nat.{ℕ, ◌*◌}
-use native.Mathlib.Nat.{one-mul, mul-one}
+use native.Mathlib.Nat.{one-mul}
 use lib.ListN.{length}
 use Rattle.lists.proofs.Rows.{length_from}
 use Rattle.layout.specs.Layout.{row_after_row, lane_after_lane, lane_of, rearranged}
 use Rattle.layout.specs.Width.{bytes_of}
 use Rattle.layout.specs.Inner.Tiles.{tile_symbols, tile_bytes}
-use Rattle.layout.proofs.Tiles.{length_tile_bytes, tile_symbols_one, tile_bytes_one, row_bytes}
+use Rattle.layout.proofs.Tiles.{tile_symbols_one, tile_bytes_one, row_bytes}
 use Rattle.layout.proofs.Widths.{bytes_one}
-use Rattle.field.specs.declared.Field.{Field}
 use Rattle.field.specs.Fields.{size_of}
 use Rattle.field.specs.Inner.Sums.{dot}
 use Rattle.field.specs.Widths.{bytes_for}
-use Rattle.row_sums.specs.Inner.Combined.{combined, combined_tile, combined_bytes, Weighted, TileRows, WeightedRows}
+use Rattle.row_sums.specs.Inner.Combined.{combined, combined_tile, combined_bytes, Weighted, TileRows}
 use Rattle.row_sums.specs.Inner.WideSums.{WideRows}
 use Rattle.row_sums.proofs.Combined.{other_row}
 
@@ -69,13 +68,3 @@ module _ (p rows l : ℕ) (ws s : List ℕ) where
   pub turned_after : rearranged row_after_row lane_after_lane (bytes_for p) l (combined_tile p rows l ws s) ≡ combined_bytes p rows l ws s
   unfolding combined_tile combined_bytes
   turned_after = row_bytes (bytes_for p) l sums (length_combined p rows l ws (tile_symbols (bytes_for p) rows l s))
-
--- the bytes of a tile's sums
-pub length_tile : (p rows l : ℕ) (ws s : List ℕ) → length (combined_tile p rows l ws s) ≡ bytes_for p * l
-unfolding combined_tile
-length_tile p rows l ws s = length_tile_bytes (bytes_for p) 1 l _ ∙ ap (λ (x : ℕ). x * l) (mul-one (bytes_for p))
-
--- rows to write of the same length
-pub other_tile : {field : Field} {rows l : ℕ} {ws s : List ℕ} {n : ℕ} → WeightedRows field rows l ws s n → (m : ℕ) → m ≡ n → WeightedRows field rows l ws s m
-other_tile a m same =
-    record { usable_field = a.usable_field; tile = record { few_lanes = a.tile.few_lanes; bytes = a.tile.bytes; weighted = a.tile.weighted; out_is_bytes = same ∙ a.tile.out_is_bytes } }

@@ -2,3 +2,4 @@
 pub mod Combined
 pub mod Digits
 pub mod WideSums
+pub mod Terms

@@ -1,11 +1,7 @@
 -- `digit_sum` meets its contract. The loop's invariant: the symbols below i whose weight has the digit are added.
-use Prim.Native.Nat.{◌-◌, ◌≤◌}
 use lib.ListN.{length, get_or}
 use Rattle.row_sums.proofs.OneLane.{SummedBelow}
 use Rattle.row_sums.proofs.gf256.digit_sum.Given as goal
 
 abbrev pub invariant-loop-i : goal.invariant-loop-i
-invariant-loop-i l = (l.i ≤ length l.symbols) × SummedBelow l.digit (length l.symbols) l.weights (λ j. get_or l.symbols j 0) l.sum l.i
-
-abbrev pub decreases-loop-i : goal.decreases-loop-i
-decreases-loop-i l = length l.symbols - l.i
+invariant-loop-i l = SummedBelow l.digit.place (length l.symbols) l.weights (λ j. get_or l.symbols j 0) l.sum l.i

@@ -9,4 +9,4 @@ pub returns : goal.returns
 unfolding multiplied
 returns c =
     rw (c.digit_sum.ensures, c.multiply_x.ensures)
-    (lane_added c.args.symbols.now _ _ (length_lanewise _ c.args.acc.now ∙ c.requires.2))
+    (lane_added c.args.symbols.now _ _ (length_lanewise _ c.args.acc.now ∙ c.requires.1))

@@ -7,8 +7,8 @@ use Rattle.field.specs.Widths.{bytes_for}
 use Rattle.field.proofs.Meanings.{prime_size}
 use Rattle.field.proofs.Widths.{one_byte, two_bytes}
 use Rattle.row_sums.proofs.TileSums.{narrow_rows, narrow_sums, wide_rows, wide_out, wide_sums}
-use Rattle.row_sums.proofs.combine_prime.Goals as goal
-use Rattle.row_sums.proofs.combine_prime.Goals.{Else-p-le256, Then-p-le256}
+use Rattle.row_sums.proofs.terms.Terms.combine_prime.Goals as goal
+use Rattle.row_sums.proofs.terms.Terms.combine_prime.Goals.{Else-p-le256, Then-p-le256}
 
 -- the bytes of a symbol in either case
 one : (c : Then-p-le256) → bytes_for c.args.p ≡ 1
@@ -28,10 +28,13 @@ combine-requires c =
 pub returns-then-p-le256 : goal.returns-then-p-le256
 returns-then-p-le256 c = c.combine.ensures ∙ narrow_sums _ _ _ _ _ _ c.requires.2 (one (goal.at.returns-then-p-le256 c).Then-p-le256)
 
-pub combine-requires-2 : goal.combine-requires-2
-combine-requires-2 c =
-    let b = two (goal.at.combine-requires-2 c).Else-p-le256 in
-    (omega arith, c.requires.2.few_lanes, wide_rows _ _ _ _ _ _ c.requires.2 b, wide_out _ _ _ _ _ _ c.requires.2 b)
+pub invariant_of-terms : goal.invariant_of-terms
+invariant_of-terms c =
+    record { some_modulus = omega arith; two_rows = wide_rows _ _ _ _ _ _ c.requires.2 (two (goal.at.invariant_of-terms c).Else-p-le256) }
 
-pub returns : goal.returns
-returns c = c.combine-2.ensures ∙ wide_sums _ _ _ _ _ _ c.requires.2 (two (goal.at.returns c).Else-p-le256)
+pub combine-requires-else-p-le256 : goal.combine-requires-else-p-le256
+combine-requires-else-p-le256 c =
+    (c.requires.2.few_lanes, wide_out _ _ _ _ _ _ c.requires.2 (two (goal.at.combine-requires-else-p-le256 c).Else-p-le256))
+
+pub returns-else-p-le256 : goal.returns-else-p-le256
+returns-else-p-le256 c = c.combine-else-p-le256.ensures ∙ wide_sums _ _ _ _ _ _ c.requires.2 (two (goal.at.returns-else-p-le256 c).Else-p-le256)
