@@ -7,7 +7,7 @@ use native.Mathlib.Nat.{zero-add}
 use native.Mathlib.Omega.{arith}
 use lib.Bits.{bit_xor}
 use lib.ListN.{length, get_or, take, drop, length-take, length-drop}
-use lib.Seq.{get_or-take, get_or-drop, drop-append-le, take_at}
+use lib.Seq.{get_or-take, get_or-drop, drop-append-le}
 use Rattle.lists.specs.Rows.{from}
 use Rattle.lists.specs.Numbers.{all_below}
 use Rattle.lists.specs.Padded.{zeros, padded}
@@ -24,6 +24,7 @@ use Rattle.kernel.specs.Inner.Lanes.{lanewise}
 use Rattle.kernel.proofs.Lanes.{lanewise_ext, get_or_lanewise, length_lanewise}
 use Rattle.row_sums.specs.Inner.Combined.{combined}
 use Rattle.row_sums.specs.Inner.Digits.{xor_sum, multiplied}
+use Rattle.row_sums.proofs.FirstWeights.{dot_front}
 use Rattle.row_sums.proofs.Turns.{length_multiplied}
 use Rattle.subset_sums.specs.Inner.Subsets.{subset, table_of as table_of_rows}
 use Rattle.subset_sums.specs.Inner.Lists.{subset_at, slices_from, slices_added, turns_of, Slices, Grouped}
@@ -184,13 +185,6 @@ slices_inside groups at tab list counts few low long s =
           rw (there, length-drop) (omega (arith, o.0, o.1));
     }
 
--- a sum reads as many symbols as there are weights
-dot_front : (p : ℕ) (ws ys zs : List ℕ) → length ws ≤ length ys → dot p ws (ys ++ zs) ≡ dot p ws ys
-unfolding dot
-dot_front p [] ys zs h = refl
-dot_front p (w ∷ ws) [] zs h = absurd (omega arith)
-dot_front p (w ∷ ws) (y ∷ ys) zs h = ap (add p (mul p w y)) (dot_front p ws ys zs (omega arith))
-
 -- all sums
 pub sums_right : (groups l : ℕ) (ws row list counts : List ℕ) → groups ≤ 64 → length ws ≤ 4 * groups → Windows 256 ws row l → Placed groups ws list counts → from (sum_at groups (sliding_table (padded 576 row)) list counts) 0 l ≡ window_sums 0 ws row l
 unfolding window_sums sum_at padded
@@ -203,13 +197,6 @@ sums_right groups l ws row list counts few room w p =
     ∙ ap (λ (x : ℕ). dot 0 ws (drop x (row ++ zeros (576 - length row)))) place
     ∙ ap (dot 0 ws) (drop-append-le t row (zeros (576 - length row)) (omega (arith, w.room)))
     ∙ dot_front 0 ws (drop t row) (zeros (576 - length row)) (simp length-drop (omega (arith, w.room))))
-
-pub length_placed : {groups : ℕ} {ws list counts : List ℕ} → Placed groups ws list counts → length list ≡ 8 * groups
-length_placed p = ap length p.moved ∙ length_lanewise (λ t o. place_of o) p.rows ∙ p.listing.long
-
--- the lists in front of what an array held
-pub lists_in_front : {groups : ℕ} {ws list counts : List ℕ} (old : List ℕ) → Placed groups ws list counts → take (8 * groups) (list ++ drop (8 * groups) old) ≡ list
-lists_in_front {groups} {ws} {list} old p = take_at list (drop (8 * groups) old) (8 * groups) (length_placed p)
 
 -- a row in front of zeros
 pub row_in_front : (row new old : List ℕ) → new ≡ row → old ≡ zeros 576 → new ++ drop (length row) old ≡ padded 576 row
