@@ -2,19 +2,18 @@
 use mathlib.Core.Path.{◌≡◌, sym, ap, ap₂, ◌∙◌}
 use mathlib.Core.List.{List}
 use Prim.Native.Nat.{ℕ, ◌*◌}
-use native.Mathlib.Nat.{one-mul, mul-one}
+use native.Mathlib.Nat.{one-mul}
 use lib.ListN.{length}
 use Rattle.lists.proofs.Rows.{length_from}
 use Rattle.layout.specs.Layout.{row_after_row, lane_after_lane, lane_of, rearranged}
 use Rattle.layout.specs.Width.{bytes_of}
 use Rattle.layout.specs.Inner.Tiles.{tile_symbols, tile_bytes}
-use Rattle.layout.proofs.Tiles.{length_tile_bytes, tile_symbols_one, tile_bytes_one, row_bytes}
+use Rattle.layout.proofs.Tiles.{tile_symbols_one, tile_bytes_one, row_bytes}
 use Rattle.layout.proofs.Widths.{bytes_one}
-use Rattle.field.specs.declared.Field.{Field}
 use Rattle.field.specs.Fields.{size_of}
 use Rattle.field.specs.Inner.Sums.{dot}
 use Rattle.field.specs.Widths.{bytes_for}
-use Rattle.row_sums.specs.Inner.Combined.{combined, combined_tile, combined_bytes, Weighted, TileRows, WeightedRows}
+use Rattle.row_sums.specs.Inner.Combined.{combined, combined_tile, combined_bytes, Weighted, TileRows}
 use Rattle.row_sums.specs.Inner.WideSums.{WideRows}
 use Rattle.row_sums.proofs.Combined.{other_row}
 

@@ -17,7 +17,8 @@ struct Digit {
 impl Digit {
     // The digit of a weight.
     fn of(self, weight: u16) -> u16
-        ensures { (result ≡ weight / 2 ^ self.place % 2) × (result < 2) }
+        ensures value { result ≡ weight / 2 ^ self.place % 2 }
+        ensures digit { result < 2 }
     {
         (weight >> self.place) % 2
     }
@@ -113,7 +114,7 @@ fn step(digit: Digit, terms: Terms, list: &mut [u8], acc: &mut [u8])
 }
 
 // In each lane the sum of the rows' symbols times the weights.
-pub fn sum_rows(terms: Terms, acc: &mut [u8])
+pub fn combine(terms: Terms, acc: &mut [u8])
     requires { WeightedTerms 256 terms (length acc.old) }
     ensures { acc.new ≡ terms_combined 0 terms.entry }
 {

@@ -8,7 +8,7 @@ use kernel::prime;
 
 // Each row times its weight is added, from the first row to the last: where the rows go down, the compiler's test for overlap
 // sends every lane to scalar code.
-pub fn sum_rows(p: u16, terms: Terms, acc: &mut [u8])
+pub fn combine(p: u16, terms: Terms, acc: &mut [u8])
     requires { (is_prime p ≡ true) × (p ≤ 256) × WeightedTerms p terms (length acc.old) }
     ensures { acc.new ≡ terms_combined p terms.entry }
 {

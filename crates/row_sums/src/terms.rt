@@ -26,8 +26,7 @@ impl<'a> Terms<'a> {
         ensures long { length result.now ≡ self.entry.lanes }
     {
         let start = i * self.lanes;
-        let end = start + self.lanes;
-        &self.rows[start..end]
+        &self.rows[start..start + self.lanes]
     }
 
     // The sums over a prime field, by the width of its symbols.
@@ -36,13 +35,13 @@ impl<'a> Terms<'a> {
         ensures { acc.new ≡ terms_tile p self.entry }
     {
         if p <= 256 {
-            prime::sum_rows(p as u16, self, acc);
+            prime::combine(p as u16, self, acc);
         } else {
             let terms = WideTerms {
                 p: p as u16,
                 terms: self,
             };
-            terms.sum_rows(acc);
+            terms.combine(acc);
         }
     }
 
@@ -53,7 +52,7 @@ impl<'a> Terms<'a> {
     {
         match field {
             Field::Prime(f) => self.combine_prime(f.p, acc),
-            Field::Binary(_) => gf256::sum_rows(self, acc),
+            Field::Binary(_) => gf256::combine(self, acc),
         }
     }
 

@@ -12,9 +12,9 @@ use kernel::wide::{Halves, product};
 
 // Terms whose symbols have two bytes, and the modulus of their sums.
 #[derive(Clone, Copy)]
-pub struct WideTerms<'a> {
-    pub p: u16,
-    pub terms: Terms<'a>,
+pub(crate) struct WideTerms<'a> {
+    pub(crate) p: u16,
+    pub(crate) terms: Terms<'a>,
     ghost some_modulus: { 0 < p },
     ghost two_rows: { WideRows (length terms.weights.now) terms.lanes terms.weights.now terms.rows.now },
 }
@@ -57,7 +57,7 @@ impl<'a> WideTerms<'a> {
     }
 
     // Fewer lanes than a block has, one by one.
-    fn sum_lanes(self, acc: &mut [u8])
+    fn combine_lanes(self, acc: &mut [u8])
         requires { length acc.old ≡ 2 * self.terms.lanes }
         ensures { acc.new ≡ wide_sums self.entry }
     {
@@ -69,7 +69,7 @@ impl<'a> WideTerms<'a> {
     }
 
     // Blocks of 16 lanes. The last one ends with the last lane, and may take lanes again.
-    fn sum_blocks(self, acc: &mut [u8])
+    fn combine_blocks(self, acc: &mut [u8])
         requires { (16 ≤ self.terms.lanes) × (length acc.old ≡ 2 * self.terms.lanes) }
         ensures { acc.new ≡ wide_sums self.entry }
     {
@@ -83,14 +83,14 @@ impl<'a> WideTerms<'a> {
     }
 
     // In each lane the sum of the rows' symbols times the weights.
-    pub fn sum_rows(self, acc: &mut [u8])
+    pub(crate) fn combine(self, acc: &mut [u8])
         requires { (self.terms.lanes ≤ 4096) × (length acc.old ≡ 2 * self.terms.lanes) }
         ensures { acc.new ≡ wide_sums self.entry }
     {
         if self.terms.lanes < 16 {
-            self.sum_lanes(acc);
+            self.combine_lanes(acc);
         } else {
-            self.sum_blocks(acc);
+            self.combine_blocks(acc);
         }
     }
 }
@@ -119,5 +119,5 @@ pub fn combine(p: u16, weights: &[u16], count: usize, lanes: usize, rows: &[u8],
         lanes,
         rows,
     };
-    WideTerms { p, terms }.sum_rows(acc);
+    WideTerms { p, terms }.combine(acc);
 }

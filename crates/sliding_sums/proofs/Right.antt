@@ -7,7 +7,7 @@ use native.Mathlib.Nat.{zero-add}
 use native.Mathlib.Omega.{arith}
 use lib.Bits.{bit_xor}
 use lib.ListN.{length, get_or, take, drop, length-take, length-drop}
-use lib.Seq.{get_or-take, get_or-drop, drop-append-le, take_at}
+use lib.Seq.{get_or-take, get_or-drop, drop-append-le}
 use Rattle.lists.specs.Rows.{from}
 use Rattle.lists.specs.Numbers.{all_below}
 use Rattle.lists.specs.Padded.{zeros, padded}
@@ -197,13 +197,6 @@ sums_right groups l ws row list counts few room w p =
     ∙ ap (λ (x : ℕ). dot 0 ws (drop x (row ++ zeros (576 - length row)))) place
     ∙ ap (dot 0 ws) (drop-append-le t row (zeros (576 - length row)) (omega (arith, w.room)))
     ∙ dot_front 0 ws (drop t row) (zeros (576 - length row)) (simp length-drop (omega (arith, w.room))))
-
-pub length_placed : {groups : ℕ} {ws list counts : List ℕ} → Placed groups ws list counts → length list ≡ 8 * groups
-length_placed p = ap length p.moved ∙ length_lanewise (λ t o. place_of o) p.rows ∙ p.listing.long
-
--- the lists in front of what an array held
-pub lists_in_front : {groups : ℕ} {ws list counts : List ℕ} (old : List ℕ) → Placed groups ws list counts → take (8 * groups) (list ++ drop (8 * groups) old) ≡ list
-lists_in_front {groups} {ws} {list} old p = take_at list (drop (8 * groups) old) (8 * groups) (length_placed p)
 
 -- a row in front of zeros
 pub row_in_front : (row new old : List ℕ) → new ≡ row → old ≡ zeros 576 → new ++ drop (length row) old ≡ padded 576 row

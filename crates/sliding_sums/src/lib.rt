@@ -8,7 +8,6 @@ ghost use Rattle.sliding_sums.specs.Inner.Windows.{window_sums, Windows};
 
 mod bytes;
 mod prime;
-mod scratch;
 
 use field::Field;
 

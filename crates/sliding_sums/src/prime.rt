@@ -10,10 +10,8 @@ fn product_sum(weights: &[u16], row: &[u16]) -> u64
     ensures { result ≡ product_sum weights.now row.now }
 {
     let mut sum: u64 = 0;
-    let mut j = 0;
-    while j < weights.len() {
-        sum += (weights[j] as u32 * row[j] as u32) as u64;
-        j += 1;
+    for (j, weight) in weights.iter().enumerate() {
+        sum += (*weight as u32 * row[j] as u32) as u64;
     }
     sum
 }
@@ -23,9 +21,7 @@ pub fn window_sums(p: u32, weights: &[u16], row: &[u16], sums: &mut [u16])
     requires { (is_prime p ≡ true) × (p ≤ 65521) × Windows p weights.now row.now (length sums.old) }
     ensures { sums.new ≡ window_sums p weights.now row.now (length sums.old) }
 {
-    let mut t = 0;
-    while t < sums.len() {
-        sums[t] = (product_sum(weights, &row[t..]) % p as u64) as u16;
-        t += 1;
+    for (t, sum) in sums.iter_mut().enumerate() {
+        *sum = (product_sum(weights, &row[t..]) % p as u64) as u16;
     }
 }

@@ -9,7 +9,7 @@ loop-i-init c = summed_none _ _ _ _
 pub loop-i-preserved : goal.loop-i-preserved
 loop-i-preserved c =
     let l = c.loop-i in
-    rw c.of.ensures.0 (summed_row _ _ _ _ l.sum l.i (omega arith) l.invariant)
+    rw c.of.ensures.value (summed_row _ _ _ _ l.sum l.i (omega arith) l.invariant)
 
 pub returns : goal.returns
 returns c = let l = c.loop-i in summed_all _ _ _ _ l.sum l.i (omega arith) l.invariant

@@ -9,7 +9,7 @@ loop-i-init c = (omega arith, listed_none _ _ _ c.args.list.now)
 pub loop-i-preserved : goal.loop-i-preserved
 loop-i-preserved c =
     let l = c.loop-i in
-    (omega arith, rw c.of.ensures.0 (listed_row _ _ _ l.list l.count l.i (omega arith) (omega arith) l.invariant.1))
+    (omega arith, rw c.of.ensures.value (listed_row _ _ _ l.list l.count l.i (omega arith) (omega arith) l.invariant.1))
 
 pub returns : goal.returns
 returns c = let l = c.loop-i in (omega arith, listed_all _ _ _ l.list l.count l.i (omega arith) l.invariant.1)

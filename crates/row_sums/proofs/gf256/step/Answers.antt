@@ -2,7 +2,6 @@
 use mathlib.Core.Path.{◌≡◌, ap, ◌∙◌}
 use Prim.Native.Nat.{ℕ, ◌*◌}
 use native.Mathlib.Nat.{mul-one}
-use native.Mathlib.Omega.{arith}
 use lib.ListN.{length}
 use Rattle.row_sums.proofs.gf256.step.Goals as goal
 use Rattle.row_sums.proofs.gf256.step.Goals.{Then-terms-eq1}

@@ -8,5 +8,5 @@ pub returns : goal.returns
 returns c =
     let a = c.args in
     let enough = c.requires.2.weights in
-    c.sum_rows.ensures
+    c.combine.ensures
     ∙ rw (first_long a.count a.lanes a.weights.now a.rows.now enough, combined_front a.count a.lanes a.weights.now a.rows.now enough row_after_row a.p _)

@@ -1,7 +1,7 @@
 -- `wide::put` meets its contract. The loop's invariant: the symbols from t on make of acc what all make of it.
 use mathlib.Core.Path.{◌≡◌}
 use Prim.Native.Nat.{◌/◌, ◌%◌, ◌<◌}
-use native.Mathlib.Nat.{add-zero, add_assoc}
+use native.Mathlib.Nat.{add_assoc}
 use native.Mathlib.Omega.{arith}
 use lib.ListN.{length, get_or, drop_of_length-le}
 use Rattle.lists.proofs.Front.{drop_next}

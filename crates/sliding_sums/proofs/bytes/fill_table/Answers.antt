@@ -2,27 +2,19 @@
 use Prim.Native.Nat.{◌*◌}
 use native.Mathlib.Omega.{arith}
 use Rattle.lists.specs.Rows.{from}
-use Rattle.lists.proofs.Parts.{valued_start, valued_part, valued_all}
+use Rattle.lists.proofs.Parts.{valued_part, valued_all}
 use Rattle.lists.proofs.Rows.{row_after, part_length, part_size, length_from}
 use Rattle.sliding_sums.specs.Inner.Tables.{sliding_subset, sliding_byte, sliding_table}
 use Rattle.sliding_sums.proofs.Tables.{table_part}
 use Rattle.sliding_sums.proofs.bytes.fill_table.Goals as goal
 
-pub loop-v-init : goal.loop-v-init
-loop-v-init c = (omega arith, valued_start _ _ _)
-
-pub fill_subset-requires : goal.fill_subset-requires
-fill_subset-requires c = let l = c.loop-v in rw (part_length (l.v * 512) 512 l.tab (omega (arith, l.invariant.1.long))) (omega arith)
-
 pub loop-v-preserved : goal.loop-v-preserved
 loop-v-preserved c =
-    let a = c.args in
+    let row = c.args.row.now in
     let l = c.loop-v in
-    (omega arith, rw (row_after, c.fill_subset.ensures, part_length (l.v * 512) 512 l.tab (omega (arith, l.invariant.1.long))) (valued_part (sliding_byte a.row.now) 8192 (from (sliding_subset a.row.now l.v) 0 512) 512 _ l.invariant.1 (omega arith) (omega arith) (part_size (l.v * 512) 512) (length_from _ 0 512) (λ p h. table_part a.row.now l.v p h)))
-
-pub shape_of-tab : goal.shape_of-tab
-shape_of-tab c = c.loop-v.invariant.1.long
+    rw (row_after, c.fill_subset.ensures, part_length (l.v * 512) 512 l.tab (omega (arith, l.invariant.long)))
+    (valued_part (sliding_byte row) 8192 (from (sliding_subset row l.v) 0 512) 512 _ l.invariant (omega arith) (omega arith) (part_size (l.v * 512) 512) (length_from _ 0 512) (λ p h. table_part row l.v p h))
 
 pub returns : goal.returns
 unfolding sliding_table
-returns c = valued_all _ _ c.loop-v.invariant.1 (omega arith) (omega arith)
+returns c = valued_all _ _ c.loop-v.invariant (omega arith) (omega arith)

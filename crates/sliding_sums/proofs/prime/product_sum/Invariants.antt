@@ -1,12 +1,6 @@
 -- `product_sum` meets its contract. The loop's invariant: the products below j are added.
-use Prim.Native.Nat.{◌-◌, ◌≤◌}
-use lib.ListN.{length}
 use Rattle.sliding_sums.proofs.Products.{Added}
 use Rattle.sliding_sums.proofs.prime.product_sum.Given as goal
 
 abbrev pub invariant-loop-j : goal.invariant-loop-j
-invariant-loop-j l =
-    (l.j ≤ length l.weights) × Added l.weights l.row l.j l.sum
-
-abbrev pub decreases-loop-j : goal.decreases-loop-j
-decreases-loop-j l = length l.weights - l.j
+invariant-loop-j l = Added l.weights l.row l.j l.sum

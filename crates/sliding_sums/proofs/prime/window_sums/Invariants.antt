@@ -1,5 +1,4 @@
 -- `window_sums` meets its contract. The loop's invariant: the places below t have their sum.
-use Prim.Native.Nat.{◌-◌, ◌≤◌}
 use lib.ListN.{length, drop}
 use Rattle.lists.proofs.Parts.{Valued}
 use Rattle.field.specs.Inner.Sums.{dot}
@@ -7,7 +6,4 @@ use Rattle.sliding_sums.proofs.prime.window_sums.Given as goal
 
 abbrev pub invariant-loop-t : goal.invariant-loop-t
 invariant-loop-t l =
-    (l.t ≤ length l.initial.sums) × Valued (λ t. dot l.p l.weights (drop t l.row)) (length l.initial.sums) l.initial.sums l.sums l.t
-
-abbrev pub decreases-loop-t : goal.decreases-loop-t
-decreases-loop-t l = length l.initial.sums - l.t
+    Valued (λ t. dot l.p l.weights (drop t l.row)) (length l.initial.sums) l.initial.sums l.sums l.t

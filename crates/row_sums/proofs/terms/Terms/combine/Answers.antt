@@ -35,9 +35,9 @@ one = one_byte 0 (le_refl 256)
 pub combine_prime-requires : goal.combine_prime-requires
 combine_prime-requires c = prime_rows _ (rw c.in-Prime.is at c.requires)
 
-pub sum_rows-requires : goal.sum_rows-requires
+pub combine-requires : goal.combine-requires
 unfolding size_of
-sum_rows-requires c = narrow_rows _ _ _ _ _ _ (byte_rows _ (rw c.in-Binary.is at c.requires)) one
+combine-requires c = narrow_rows _ _ _ _ _ _ (byte_rows _ (rw c.in-Binary.is at c.requires)) one
 
 pub returns-in-Prime : goal.returns-in-Prime
 unfolding modulus
@@ -45,4 +45,4 @@ returns-in-Prime c = rw c.in-Prime.is c.combine_prime.ensures
 
 pub returns-in-Binary : goal.returns-in-Binary
 unfolding modulus
-returns-in-Binary c = rw c.in-Binary.is (c.sum_rows.ensures ∙ narrow_sums _ _ _ _ _ _ (byte_rows _ (rw c.in-Binary.is at c.requires)) one)
+returns-in-Binary c = rw c.in-Binary.is (c.combine.ensures ∙ narrow_sums _ _ _ _ _ _ (byte_rows _ (rw c.in-Binary.is at c.requires)) one)

@@ -21,20 +21,20 @@ two c =
     let many : 256 < size_of c.args.p = rw (prime_size c.args.p c.requires.0) (omega arith) in
     two_bytes c.args.p many
 
-pub sum_rows-requires : goal.sum_rows-requires
-sum_rows-requires c =
-    (c.requires.0, c.if-p-le256.true, rw (prime_size c.args.p c.requires.0) at (narrow_rows _ _ _ _ _ _ c.requires.2 (one (goal.at.sum_rows-requires c).Then-p-le256)))
+pub combine-requires : goal.combine-requires
+combine-requires c =
+    (c.requires.0, c.if-p-le256.true, rw (prime_size c.args.p c.requires.0) at (narrow_rows _ _ _ _ _ _ c.requires.2 (one (goal.at.combine-requires c).Then-p-le256)))
 
 pub returns-then-p-le256 : goal.returns-then-p-le256
-returns-then-p-le256 c = c.sum_rows.ensures ∙ narrow_sums _ _ _ _ _ _ c.requires.2 (one (goal.at.returns-then-p-le256 c).Then-p-le256)
+returns-then-p-le256 c = c.combine.ensures ∙ narrow_sums _ _ _ _ _ _ c.requires.2 (one (goal.at.returns-then-p-le256 c).Then-p-le256)
 
 pub invariant_of-terms : goal.invariant_of-terms
 invariant_of-terms c =
     record { some_modulus = omega arith; two_rows = wide_rows _ _ _ _ _ _ c.requires.2 (two (goal.at.invariant_of-terms c).Else-p-le256) }
 
-pub sum_rows-requires-else-p-le256 : goal.sum_rows-requires-else-p-le256
-sum_rows-requires-else-p-le256 c =
-    (c.requires.2.few_lanes, wide_out _ _ _ _ _ _ c.requires.2 (two (goal.at.sum_rows-requires-else-p-le256 c).Else-p-le256))
+pub combine-requires-else-p-le256 : goal.combine-requires-else-p-le256
+combine-requires-else-p-le256 c =
+    (c.requires.2.few_lanes, wide_out _ _ _ _ _ _ c.requires.2 (two (goal.at.combine-requires-else-p-le256 c).Else-p-le256))
 
 pub returns-else-p-le256 : goal.returns-else-p-le256
-returns-else-p-le256 c = c.sum_rows-else-p-le256.ensures ∙ wide_sums _ _ _ _ _ _ c.requires.2 (two (goal.at.returns-else-p-le256 c).Else-p-le256)
+returns-else-p-le256 c = c.combine-else-p-le256.ensures ∙ wide_sums _ _ _ _ _ _ c.requires.2 (two (goal.at.returns-else-p-le256 c).Else-p-le256)

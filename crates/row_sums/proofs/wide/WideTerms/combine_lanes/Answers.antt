@@ -1,9 +1,9 @@
--- `sum_lanes` meets its contract. The loop's invariant: the lanes below t are written.
+-- `combine_lanes` meets its contract. The loop's invariant: the lanes below t are written.
 use native.Mathlib.Omega.{arith}
 use Rattle.row_sums.specs.Inner.Combined.{combined}
 use Rattle.row_sums.specs.Inner.WideSums.{wide_sum}
 use Rattle.row_sums.proofs.Pairs.{written_one, written_all}
-use Rattle.row_sums.proofs.wide.WideTerms.sum_lanes.Goals as goal
+use Rattle.row_sums.proofs.wide.WideTerms.combine_lanes.Goals as goal
 
 pub loop-t-preserved : goal.loop-t-preserved
 loop-t-preserved c =

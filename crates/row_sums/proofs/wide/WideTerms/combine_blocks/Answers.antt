@@ -1,4 +1,4 @@
--- `sum_blocks` meets its contract. The loop's invariant: the lanes that are done are written.
+-- `combine_blocks` meets its contract. The loop's invariant: the lanes that are done are written.
 use mathlib.Core.Path.{◌≡◌, ap, ◌∙◌}
 use Prim.Native.Nat.{◌+◌, ◌<◌}
 use native.Mathlib.Nat.{zero-add}
@@ -9,8 +9,8 @@ use Rattle.row_sums.specs.Inner.Combined.{combined}
 use Rattle.row_sums.specs.Inner.Terms.{wide_sum_at}
 use Rattle.row_sums.specs.Inner.WideSums.{wide_sum}
 use Rattle.row_sums.proofs.Pairs.{Written, written_less, written_pairs, written_all}
-use Rattle.row_sums.proofs.wide.WideTerms.sum_blocks.Goals as goal
-use Rattle.row_sums.proofs.wide.WideTerms.sum_blocks.Goals.{After-block_sums-sums, After-put}
+use Rattle.row_sums.proofs.wide.WideTerms.combine_blocks.Goals as goal
+use Rattle.row_sums.proofs.wide.WideTerms.combine_blocks.Goals.{After-block_sums-sums, After-put}
 
 -- a block has 16 sums
 sixteen : (c : After-block_sums-sums) → length c.block_sums-sums.result ≡ 16

@@ -1,4 +1,4 @@
--- `prime::sum_rows` meets its contract. The loop's invariant: acc holds the sums over the rows below i.
+-- `prime::combine` meets its contract. The loop's invariant: acc holds the sums over the rows below i.
 use mathlib.Core.Path.{sym, ◌∙◌}
 use native.Mathlib.Omega.{arith}
 use lib.ListN.{length}
@@ -8,8 +8,8 @@ use Rattle.field.specs.Fields.{size_of}
 use Rattle.field.proofs.Meanings.{prime_field, prime_size}
 use Rattle.row_sums.specs.Inner.Combined.{Weighted}
 use Rattle.row_sums.proofs.Combined.{summed_none, summed_row, summed_all}
-use Rattle.row_sums.proofs.prime.sum_rows.Goals as goal
-use Rattle.row_sums.proofs.prime.sum_rows.Goals.{Start}
+use Rattle.row_sums.proofs.prime.combine.Goals as goal
+use Rattle.row_sums.proofs.prime.combine.Goals.{Start}
 
 -- the weights and the symbols by the size of the field
 sized : (c : Start) → let t = c.args.terms in Weighted (size_of c.args.p) (length t.weights.now) t.lanes t.weights.now t.rows.now (length c.args.acc.now)

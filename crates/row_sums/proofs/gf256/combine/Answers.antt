@@ -1,11 +1,11 @@
--- `gf256::sum_rows` meets its contract. The loop's invariant: acc holds the sums with the weights without their first `place` digits.
+-- `gf256::combine` meets its contract. The loop's invariant: acc holds the sums with the weights without their first `place` digits.
 use mathlib.Core.Path.{◌≡◌, refl, ap, ◌∙◌}
 use Prim.Native.Nat.{◌+◌, ◌-◌}
 use native.Mathlib.Omega.{arith}
 use lib.ListN.{length}
 use Rattle.lists.specs.Padded.{zeros}
 use Rattle.row_sums.proofs.Turns.{sums_of, sums_start, sums_turn, sums_end}
-use Rattle.row_sums.proofs.gf256.sum_rows.Goals as goal
+use Rattle.row_sums.proofs.gf256.combine.Goals as goal
 
 pub loop-place-init : goal.loop-place-init
 unfolding zeros

@@ -1,0 +1,7 @@
+-- `fill_part` meets its contract. The loop's invariant: the first b digits are done.
+use Rattle.subset_sums.specs.Inner.Lists.{turns_of}
+use Rattle.sliding_sums.proofs.bytes.Sliding.fill_part.Goals as goal
+
+pub loop-b-init : goal.loop-b-init
+unfolding turns_of
+loop-b-init c = c.slice-acc.ensures
