@@ -29,13 +29,6 @@ module _ {n : ℕ} (f : ℕ → ℕ) (s : List ℕ) (h : DigitSums n s) where
   unfolding wrapped
   length_wrapped = length_lanewise (λ t y. (y + f t) % 65536) s ∙ h.long
 
-  pub sixteen_wrapped : DigitSums n (wrapped f s)
-  sixteen_wrapped =
-      record {
-        long = length_wrapped;
-        below = at_below 65536 (wrapped f s) (λ t inside. let lane : t < n = omega (arith, length_wrapped) in rw (get_or_wrapped t lane) (omega arith));
-      }
-
   -- nothing is added
   pub wrapped_none : ((t : ℕ) → f t ≡ 0) → s ≡ wrapped f s
   unfolding wrapped

@@ -209,18 +209,6 @@ module _ (groups : ℕ) (ws : List ℕ) (g : ℕ) (more : g < groups) where
           (λ e. rw e (lt-ltb d (b + 1) (omega (arith, ltb-true d b e))))
           (λ e. let above : b < d = lt_of_other b d (λ same. other (sym same)) (ltb-false d b e) in rw e (le-ltb d (b + 1) (omega arith)))
 
-pub streams_none : (groups : ℕ) (ws list : List ℕ) → length list ≡ 8 * groups → Streams groups (λ b. 0) ws list (zeros 8)
-streams_none groups ws list long =
-    record {
-      long = long;
-      counted = length_zeros 8;
-      few = λ b h. rw (zero_at_lem b) (omega arith);
-      listed = λ b h. rw (zero_at_lem b, sub-zero);
-    }
-  where
-    zero_at_lem : (b : ℕ) → get_or (zeros 8) b 0 ≡ 0
-    zero_at_lem b = get_or_zeros 8 b
-
 pub streams_all : (groups g : ℕ) (ws list counts : List ℕ) → g ≤ groups → groups ≤ g → Streams groups (λ b. g) ws list counts → Listing groups ws list counts
 unfolding slices_from
 streams_all groups g ws list counts low high s =
