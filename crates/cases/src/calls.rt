@@ -1,6 +1,6 @@
 // The calls, by what they are on.
 use crate::arranging::Arrangement;
-use crate::blocks::BlockCall;
+use crate::block_calls::BlockCall;
 use crate::repairs::RepairCall;
 use crate::shares::ShareCall;
 use balanced::Roster;

@@ -9,7 +9,7 @@ use test_tools::not_read;
 use test_words::is_comment;
 
 mod arranging;
-mod blocks;
+mod block_calls;
 mod calls;
 mod repairs;
 mod shares;
