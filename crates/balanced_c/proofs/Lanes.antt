@@ -1,4 +1,6 @@
 -- From the answers of the calls on single lanes to what the functions of the C interface promise.
+use Rattle.std.specs.Prelude.{Ok, Err}
+use Rattle.generator.specs.Answers.{Answer}
 use mathlib.Core.Path.{◌≡◌, sym, ap, ◌∙◌}
 use mathlib.Core.List.{List}
 use Prim.Native.Nat.{ℕ}
@@ -12,8 +14,6 @@ use Rattle.find_update.specs.Promise.{find_fault, FindSays}
 use Rattle.find_update.specs.Numbers.{case_of, found_symbol, found_amount}
 use Rattle.find_update.proofs.Meaning.{not_refused}
 use Rattle.find_update.proofs.Accepts.{found_means, refused_means}
-use Rattle.mends.specs.declared.Mending.{Mending}
-use Rattle.mends.specs.declared.Mending.TheVariants as M
 use Rattle.mends.specs.Promise.{mends_fault, MendsSay}
 use Rattle.mends.proofs.Accepts.{listed_count, refused_number}
 use Rattle.balanced_c.specs.Lanes.{found_in, FindGives, mended_nodes, mended_bytes, MendsGive}
@@ -56,12 +56,12 @@ module _ (rec before after : List ℕ) (answer symbol amount : ℕ) (a : Finding
         claims = says.claims;
       }
 
-module _ (rec lane nodes symbols nodes' symbols' : List ℕ) (a : Mending) (says : MendsSay rec lane nodes symbols nodes' symbols' a) (count : ℕ) where
+module _ (rec lane nodes symbols nodes' symbols' : List ℕ) (a : Answer ℕ) (says : MendsSay rec lane nodes symbols nodes' symbols' a) (count : ℕ) where
   abbrev fault : ℕ
   fault = fault_of rec (λ h. mends_fault h lane (length nodes) (length symbols))
 
   -- the list, and how many entries it has
-  pub mends_listed : (c : ℕ) → a ≡ M.Listed c → MendsGive rec lane nodes symbols count nodes' symbols' c 0
+  pub mends_listed : (c : ℕ) → a ≡ Ok c → MendsGive rec lane nodes symbols count nodes' symbols' c 0
   unfolding mended_nodes mended_bytes
   mends_listed c e =
       let promise = says.listed.promise in
@@ -75,7 +75,7 @@ module _ (rec lane nodes symbols nodes' symbols' : List ℕ) (a : Mending) (says
       }
 
   -- the number: the count is as it was
-  pub mends_refused : (g : ℕ) → a ≡ M.Refused g → MendsGive rec lane nodes symbols count nodes' symbols' count g
+  pub mends_refused : (g : ℕ) → a ≡ Err g → MendsGive rec lane nodes symbols count nodes' symbols' count g
   unfolding mended_nodes mended_bytes
   mends_refused g e =
       let promise = says.listed.promise in

@@ -1,4 +1,5 @@
 -- What holds where the call meets no number, and what it says beside one.
+use Rattle.std.specs.Prelude.{Err}
 use mathlib.Core.Path.{◌≡◌, sym}
 use mathlib.Core.List.{List}
 use Prim.Native.Nat.{ℕ, ◌*◌}
@@ -10,7 +11,6 @@ use Rattle.generator.specs.Records.{width, Sound}
 use Rattle.refusals.specs.Conditions.{lanes_bad, length_bad, symbols_bad}
 use Rattle.refusals.specs.Accepted.{SymbolBuffer}
 use Rattle.refusals.proofs.Accepts.{not_met, rows_good}
-use Rattle.blocks.specs.declared.Membership.TheVariants as M
 use Rattle.blocks.proofs.Refused.{membership_refused}
 use Rattle.belongs.specs.Promise.{belongs_fault, BelongsPromise}
 
@@ -25,5 +25,5 @@ module _ (h : Header) (sound : Sound h) (l : ℕ) where
 
 -- beside a number g: the number, and nothing is written
 module _ {y : Arrangement} (h : Header) (g : ℕ) (some : g ≡ 0 → ⊥) (l : ℕ) where
-  pub belongs_refuses : (shares : List ℕ) → BelongsPromise y l shares (M.Refused g) h g
+  pub belongs_refuses : (shares : List ℕ) → BelongsPromise y l shares (Err g) h g
   belongs_refuses shares = record { answer = sym (membership_refused g l _ some) }

@@ -22,16 +22,13 @@ use Rattle.layout.proofs.Runs as runs
 use Rattle.layout.proofs.Tiles.{many_symbols}
 use Rattle.layout.proofs.Widths.{length_symbols}
 use Rattle.tiles.specs.Inner.Tiles.{TileOf}
-use Rattle.field.specs.Kinds.{modulus}
 use Rattle.field.specs.Inner.Sums.{dot}
 use Rattle.field.specs.Widths.{bytes_for}
-use Rattle.field.proofs.Widths.{bytes_range}
 use Rattle.tile_products.specs.Inner.Products.{groups_of}
 use Rattle.tile_products.specs.Inner.Matrices.{lane_product}
 use Rattle.tile_products.proofs.Fitting.{groups_few}
 use Rattle.tile_products.proofs.Lanes.{lane_prefix}
-use Rattle.block_products.specs.declared.Product.{Product}
-use Rattle.block_products.specs.Inner.Ways.{Ready, Room}
+use Rattle.block_products.specs.Inner.Ways.{Room}
 
 -- lane t from what its places hold
 pub lane_is : (n l t : ℕ) (s xs : List ℕ) → length xs ≡ n → ((r : ℕ) → r < n → get_or s (t * n + r) 0 ≡ get_or xs r 0) → lane_of lane_after_lane n l t s ≡ xs
@@ -97,11 +94,10 @@ room_for w outputs rows groups blocks some grouped a b less =
     record { lanes = omega arith; sums = omega (arith, groups_few rows groups grouped); blocks = omega arith; products = omega arith }
 
 -- and that of a product whose rows of bytes fill so many blocks of 16
-pub few_room : {m : Product} {w out : ℕ} {lists counts source : List ℕ} → Ready m w lists counts source out → (blocks : ℕ) → w * m.outputs ≤ 16 * blocks → w * m.rows ≤ 16 * blocks → Room w m.outputs m.rows (blocks * 1024) (4 * blocks * 1024) (blocks * 1024)
-few_room {m = m} {w = w} r blocks outputs rows =
-    let some : 1 ≤ w = rw r.wide (bytes_range (modulus m.field)).0 in
-    let fewer : m.rows ≤ 4 * (4 * blocks) = omega (arith, mul-le-mul some (le_refl m.rows)) in
-    room_for w m.outputs m.rows (4 * blocks) blocks some fewer outputs rows (omega arith)
+pub few_room : (w outputs rows blocks : ℕ) → 1 ≤ w → w * outputs ≤ 16 * blocks → w * rows ≤ 16 * blocks → Room w outputs rows (blocks * 1024) (4 * blocks * 1024) (blocks * 1024)
+few_room w outputs rows blocks some a b =
+    let fewer : rows ≤ 4 * (4 * blocks) = omega (arith, mul-le-mul some (le_refl rows)) in
+    room_for w outputs rows (4 * blocks) blocks some fewer a b (omega arith)
 
 -- the groups of four rows lie in a tile that is filled 16 rows of bytes at a time
 pub groups_inside : (w rows : ℕ) → 1 ≤ w → w ≤ 2 → groups_of rows * (w * 256) ≤ (w * rows + 15) / 16 * 1024

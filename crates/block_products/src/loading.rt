@@ -6,86 +6,89 @@ ghost use Rattle.layout.specs.Width.{symbols_of, bytes_of};
 ghost use Rattle.tiles.specs.Inner.Tiles.{TileOf};
 ghost use Rattle.block_products.specs.Inner.Ways.{side_of};
 
-use crate::{Product, Way};
+use crate::Way;
+use crate::job::Part;
 
-// Byte v of each symbol of two bytes.
-fn pick_bytes(v: usize, part: &[u8], out: &mut [u8])
-    requires { (v < 2) × (length part.now ≡ length out.old * 2) }
-    ensures { out.new ≡ from (λ q. get_or part.now (q * 2 + v) 0) 0 (length out.old) }
+// Byte V of each symbol of W bytes. Both are constants, so that the lanes become vector instructions.
+pub fn pick_bytes<const W: usize, const V: usize>(part: &[u8], out: &mut [u8])
+    requires few { W ≤ 2 }
+    requires byte { V < W }
+    requires long { length part.now ≡ length out.old * W }
+    ensures { out.new ≡ from (λ q. get_or part.now (q * W + V) 0) 0 (length out.old) }
 {
-    let mut q: usize = 0;
-    while q < out.len() {
-        out[q] = part[q * 2 + v];
-        q += 1;
+    for (q, byte) in out.iter_mut().enumerate() {
+        *byte = part[q * W + V];
     }
 }
 
-// The same for symbols of either width.
+// The same where neither is a constant.
 fn copy_bytes(w: usize, v: usize, part: &[u8], out: &mut [u8])
-    requires { (w ≤ 2) × (v < w) × (length part.now ≡ length out.old * w) }
+    requires few { w ≤ 2 }
+    requires byte { v < w }
+    requires long { length part.now ≡ length out.old * w }
     ensures { out.new ≡ from (λ q. get_or part.now (q * w + v) 0) 0 (length out.old) }
 {
-    if w == 1 {
-        kernel::copy(part, out);
-        return;
+    match (w, v) {
+        (1, _) => pick_bytes::<1, 0>(part, out),
+        (_, 0) => pick_bytes::<2, 0>(part, out),
+        (_, _) => pick_bytes::<2, 1>(part, out),
     }
-    pick_bytes(v, part, out);
 }
 
 // The bytes of `count` symbols as rows of a tile, those of the high bytes first.
 fn load_row(w: usize, count: usize, part: &[u8], rows: &mut [u8])
-    requires { (w ≤ 2) × (count ≤ 64) × (length part.now ≡ count * w) × (length rows.old ≡ w * 64) }
+    requires few_bytes { w ≤ 2 }
+    requires few { count ≤ 64 }
+    requires part_long { length part.now ≡ count * w }
+    requires rows_long { length rows.old ≡ w * 64 }
     ensures { TileOf w w count (λ v q. get_or part.now (q * w + v) 0) rows.new }
 {
-    let mut v: usize = 0;
-    while v < w {
+    for v in 0..w {
         let start = v * 64;
         let end = start + count;
         copy_bytes(w, v, part, &mut rows[start..end]);
-        v += 1;
     }
 }
 
-// `count` lanes of rows of symbols that stand one after the other, from lane `first` on.
-fn load_rows(m: Product, w: usize, first: usize, count: usize, source: &[u8], tile: &mut [u8])
-    requires { (1 ≤ w) × (w ≤ 2) × (length source.now ≡ w * m.rows * m.lanes) × (first + count ≤ m.lanes) × (count ≤ 64) × (w * m.rows * 64 ≤ length tile.old) }
-    ensures { (length tile.new ≡ length tile.old) × ((t : ℕ) → t < count → lane_of row_after_row (w * m.rows) 64 t tile.new ≡ bytes_of w (lane_of row_after_row m.rows m.lanes (first + t) (symbols_of w source.now))) }
-{
-    let rows = m.rows;
-    let lanes = m.lanes;
-    let size = w * 64;
-    let mut r: usize = 0;
-    while r < rows {
-        let from = (r * lanes + first) * w;
-        let to = from + count * w;
-        let start = r * size;
-        let end = start + size;
-        load_row(w, count, &source[from..to], &mut tile[start..end]);
-        r += 1;
+impl Part<'_> {
+    // The lanes of rows of symbols that stand one after the other.
+    fn load_rows(self, tile: &mut [u8])
+        requires { self.job.w * self.job.m.rows * 64 ≤ length tile.old }
+        ensures { let p = self.entry in let j = p.job in (t : ℕ) → t < p.count → lane_of row_after_row (j.w * j.m.rows) 64 t tile.new ≡ bytes_of j.w (lane_of row_after_row j.m.rows j.m.lanes (p.first + t) (symbols_of j.w j.source.now)) }
+    {
+        let job = self.job;
+        let w = job.w;
+        let lanes = job.m.lanes;
+        let size = w * 64;
+        for r in 0..job.m.rows {
+            let from = (r * lanes + self.first) * w;
+            let to = from + self.count * w;
+            let start = r * size;
+            let end = start + size;
+            load_row(w, self.count, &job.source[from..to], &mut tile[start..end]);
+        }
     }
-}
 
-// The same of lanes that stand one after the other.
-fn load_lanes(m: Product, w: usize, first: usize, count: usize, source: &[u8], tile: &mut [u8])
-    requires { (1 ≤ w) × (w * m.rows ≤ 510) × (length source.now ≡ w * m.rows * m.lanes) × (first + count ≤ m.lanes) × (count ≤ 64) × ((w * m.rows + 15) / 16 * 1024 ≤ length tile.old) }
-    ensures { (length tile.new ≡ length tile.old) × ((t : ℕ) → t < count → symbols_of w (lane_of row_after_row (w * m.rows) 64 t tile.new) ≡ lane_of lane_after_lane m.rows m.lanes (first + t) (symbols_of w source.now)) }
-{
-    let rows = m.rows;
-    let lane = w * rows;
-    let start = first * lane;
-    let end = start + count * lane;
-    tiles::gather64(lane, count, &source[start..end], tile);
-}
+    // The same of lanes that stand one after the other.
+    fn load_lanes(self, tile: &mut [u8])
+        requires { (self.job.w * self.job.m.rows + 15) / 16 * 1024 ≤ length tile.old }
+        ensures { let p = self.entry in let j = p.job in (t : ℕ) → t < p.count → symbols_of j.w (lane_of row_after_row (j.w * j.m.rows) 64 t tile.new) ≡ lane_of lane_after_lane j.m.rows j.m.lanes (p.first + t) (symbols_of j.w j.source.now) }
+    {
+        let job = self.job;
+        let lane = job.w * job.m.rows;
+        let start = self.first * lane;
+        let end = start + self.count * lane;
+        tiles::gather64(lane, self.count, &job.source[start..end], tile);
+    }
 
-// The lanes as they stand in the block.
-pub fn load(m: Product, w: usize, first: usize, count: usize, source: &[u8], tile: &mut [u8])
-    requires { (1 ≤ w) × (w ≤ 2) × (m.rows ≤ 255) × (length source.now ≡ w * m.rows * m.lanes) × (first + count ≤ m.lanes) × (count ≤ 64) × ((w * m.rows + 15) / 16 * 1024 ≤ length tile.old) }
-    ensures { (length tile.new ≡ length tile.old) × ((t : ℕ) → t < count → symbols_of w (lane_of row_after_row (w * m.rows) 64 t tile.new) ≡ lane_of (side_of m.way) m.rows m.lanes (first + t) (symbols_of w source.now)) }
-{
-    let way = m.way;
-    match way {
-        Way::RowsToLanes => load_rows(m, w, first, count, source, tile),
-        Way::LanesToRows => load_lanes(m, w, first, count, source, tile),
-        Way::LanesToMarks => load_lanes(m, w, first, count, source, tile),
+    // The lanes as they stand in the block.
+    pub fn load(self, tile: &mut [u8])
+        requires { (self.job.w * self.job.m.rows + 15) / 16 * 1024 ≤ length tile.old }
+        ensures { let p = self.entry in let j = p.job in (t : ℕ) → t < p.count → symbols_of j.w (lane_of row_after_row (j.w * j.m.rows) 64 t tile.new) ≡ lane_of (side_of j.m.way) j.m.rows j.m.lanes (p.first + t) (symbols_of j.w j.source.now) }
+    {
+        match self.job.m.way {
+            Way::RowsToLanes => self.load_rows(tile),
+            Way::LanesToRows | Way::LanesToMarks => self.load_lanes(tile),
+        }
     }
 }

@@ -1,13 +1,11 @@
 -- What an answer says of the number that turned the call away, and of its value.
+use Rattle.std.specs.Prelude.{Some, None, Ok, Err}
 use mathlib.Core.Path.{◌≡◌, refl, sym, ap, ◌∙◌}
 use Prim.Native.Nat.{ℕ, zero, suc}
 use native.Mathlib.Omega.{arith}
 use borrow.Author.Tests.{eqb-true, eqb-false}
 use lib.Dec.{eqb}
 use Rattle.lists.proofs.Cases.{by_test, never}
-use Rattle.blocks.specs.declared.Outcome.TheVariants as O
-use Rattle.blocks.specs.declared.Update.TheVariants as U
-use Rattle.blocks.specs.declared.Membership.TheVariants as M
 use Rattle.blocks.specs.Answers.{outcome_of, update_of, membership_of}
 use Rattle.blocks.specs.Inner.Answers.{outcome_number}
 
@@ -18,36 +16,36 @@ outcome_number_lem zero = refl
 outcome_number_lem (suc f) = refl
 
 -- a call that is done met no number
-pub done_means : (f : ℕ) → O.Done ≡ outcome_of f → f ≡ 0
+pub done_means : (f : ℕ) → (Ok tt) ≡ outcome_of f → f ≡ 0
 unfolding outcome_number
 done_means f e = sym (outcome_number_lem f) ∙ ap outcome_number (sym e)
 
 -- an update that altered nodes met no number; one that was refused met its number
-pub altered_means : (f count x : ℕ) → U.Altered x ≡ update_of f count → (f ≡ 0) × (x ≡ count)
+pub altered_means : (f count x : ℕ) → Ok x ≡ update_of f count → (f ≡ 0) × (x ≡ count)
 unfolding update_of
 altered_means zero count x e = (refl, cc)
 altered_means (suc f) count x e = never cc
 
-pub refused_means : (f count g : ℕ) → U.Refused g ≡ update_of f count → (g ≡ f) × (g ≡ 0 → ⊥)
+pub refused_means : (f count g : ℕ) → Err g ≡ update_of f count → (g ≡ f) × (g ≡ 0 → ⊥)
 unfolding update_of
 refused_means zero count g e = never cc
 refused_means (suc f) count g e = let same : g ≡ suc f = cc in (same, λ z. omega arith)
 
 -- a membership that is yes, names a lane, or was refused
-pub yes_means : (f l wrong : ℕ) → M.Yes ≡ membership_of f l wrong → (f ≡ 0) × (wrong ≡ l)
+pub yes_means : (f l wrong : ℕ) → (Ok None) ≡ membership_of f l wrong → (f ≡ 0) × (wrong ≡ l)
 unfolding membership_of
-yes_means zero l wrong e = (refl, by_test (eqb wrong l) (λ q. eqb-true wrong l q) (λ q. let w : M.Yes ≡ M.No wrong = rw q at e in never cc))
+yes_means zero l wrong e = (refl, by_test (eqb wrong l) (λ q. eqb-true wrong l q) (λ q. let w : (Ok None) ≡ Ok (Some wrong) = rw q at e in never cc))
 yes_means (suc f) l wrong e = never cc
 
-pub no_means : (f l wrong t : ℕ) → M.No t ≡ membership_of f l wrong → (f ≡ 0) × (wrong ≡ t) × (wrong ≡ l → ⊥)
+pub no_means : (f l wrong t : ℕ) → Ok (Some t) ≡ membership_of f l wrong → (f ≡ 0) × (wrong ≡ t) × (wrong ≡ l → ⊥)
 unfolding membership_of
 no_means zero l wrong t e =
     by_test (eqb wrong l)
-    (λ q. let w : M.No t ≡ M.Yes = rw q at e in never cc)
-    (λ q. let w : M.No t ≡ M.No wrong = rw q at e in (refl, cc, eqb-false wrong l q))
+    (λ q. let w : Ok (Some t) ≡ (Ok None) = rw q at e in never cc)
+    (λ q. let w : Ok (Some t) ≡ Ok (Some wrong) = rw q at e in (refl, cc, eqb-false wrong l q))
 no_means (suc f) l wrong t e = never cc
 
-pub refusal_means : (f l wrong g : ℕ) → M.Refused g ≡ membership_of f l wrong → (g ≡ f) × (g ≡ 0 → ⊥)
+pub refusal_means : (f l wrong g : ℕ) → Err g ≡ membership_of f l wrong → (g ≡ f) × (g ≡ 0 → ⊥)
 unfolding membership_of
-refusal_means zero l wrong g e = by_test (eqb wrong l) (λ q. let w : M.Refused g ≡ M.Yes = rw q at e in never cc) (λ q. let w : M.Refused g ≡ M.No wrong = rw q at e in never cc)
+refusal_means zero l wrong g e = by_test (eqb wrong l) (λ q. let w : Err g ≡ (Ok None) = rw q at e in never cc) (λ q. let w : Err g ≡ Ok (Some wrong) = rw q at e in never cc)
 refusal_means (suc f) l wrong g e = let same : g ≡ suc f = cc in (same, λ z. omega arith)

@@ -1,4 +1,5 @@
 -- The notebook's cases in one table that one statement covers. Blocks are of one lane.
+use Rattle.std.specs.Prelude.{Ok, Err}
 use mathlib.Core.Path.{◌≡◌, refl}
 use mathlib.Core.Bool.{Bool, true, false}
 use mathlib.Core.List.{List, [], ◌∷◌}
@@ -14,7 +15,6 @@ use Rattle.field.specs.Primes.{divides_some, is_prime}
 use Rattle.field.specs.Bytes.{times_x, product_from, product}
 use Rattle.field.specs.Fields.{size_of, add, sub, mul, power, order_from, order_of}
 use Rattle.field.specs.Kinds.{modulus}
-use Rattle.generator.specs.declared.Record.TheVariants.{Holds, Meets}
 use Rattle.generator.specs.Records.{header_of, distance, low_reads, high_reads, kind_bad, body_bad, prime_in, field_bad, size_bad, root_bad, header_fault, record_fault, judged, record_of}
 use Rattle.generator.specs.Shifts.{gcd_from, gcd, shifts_from, even_shifts, negative, period, laid_at, laid_shifts, is_even, shifts_of, shifts, firsts_of, firsts}
 use Rattle.generator.specs.Generator.{base_from, base_at, entry_at, entry, base_word}
@@ -46,12 +46,12 @@ pub data Case : Type 0 where
 unfoldable pub Says : Case → Type 0
 Says (sheet rec n k d low high ss fs rows) =
     let h = header_of rec in
-    (record_of rec ≡ Holds h) × (h.n ≡ n) × (h.k ≡ k) × (distance h ≡ d) × (low_reads h ≡ low) × (high_reads h ≡ high) × (shifts h ≡ ss) × (firsts h ≡ fs) × (from (λ r. from (entry h r) 0 n) 0 k ≡ rows)
+    (record_of rec ≡ Ok h) × (h.n ≡ n) × (h.k ≡ k) × (distance h ≡ d) × (low_reads h ≡ low) × (high_reads h ≡ high) × (shifts h ≡ ss) × (firsts h ≡ fs) × (from (λ r. from (entry h r) 0 n) 0 k ≡ rows)
 Says (uneven rec counts) = let h = header_of rec in (is_even h.n h.k ≡ false) × (from (reads h) 0 h.n ≡ counts)
 Says (encodes rec message shares) = shares_of share_layout (header_of rec) 1 message ≡ shares
 Says (updates rec shares r old new after count) = (updated share_layout (header_of rec) 1 r 0 old new shares ≡ after) × (differ shares after ≡ count)
 Says (recovers rec nodes shares message target share) = (recovered share_layout (header_of rec) 1 nodes shares ≡ message) × (share_of (header_of rec) 1 message target ≡ share)
-Says (refused rec number) = record_of rec ≡ Meets number
+Says (refused rec number) = record_of rec ≡ Err number
 Says (lanes count bad) = lanes_bad count ≡ bad
 
 unfoldable pub notebook : List Case

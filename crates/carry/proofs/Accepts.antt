@@ -1,4 +1,5 @@
 -- What holds where a call meets no number, and what it says beside one.
+use Rattle.std.specs.Prelude.{Err}
 use mathlib.Core.Path.{◌≡◌, refl, sym}
 use mathlib.Core.Bool.{true, false}
 use mathlib.Core.List.{List}
@@ -16,10 +17,8 @@ use Rattle.generator.specs.Records.{modulus_of}
 use Rattle.refusals.specs.Conditions.{length_bad, symbols_bad}
 use Rattle.refusals.proofs.Accepts.{not_met}
 use Rattle.refusals.proofs.NotMet.{length_good}
-use Rattle.blocks.specs.declared.Outcome.TheVariants.{Refused}
 use Rattle.blocks.proofs.Refused.{outcome_refused, refused_value}
 use Rattle.carrying.specs.Carrying.{carries_none, carried_length}
-use Rattle.carry.specs.declared.CarriedLen.TheVariants as L
 use Rattle.carry.specs.Promise.{long_bad, carried_len_fault, carry_in_fault, carry_out_fault, carried_len_of, CarriedLenPromise, CarryInPromise, CarryOutPromise}
 
 -- the prime of a field is a word
@@ -52,13 +51,13 @@ out_accepts h n symbols e =
     (before, when_zero (symbols_bad h symbols) 10 last)
 
 -- beside a number g: nothing is written
-pub length_refuses : (h : Header) (g : ℕ) → (g ≡ 0 → ⊥) → (n : ℕ) → CarriedLenPromise n (L.Refused g) h g
+pub length_refuses : (h : Header) (g : ℕ) → (g ≡ 0 → ⊥) → (n : ℕ) → CarriedLenPromise n (Err g) h g
 unfolding carried_len_of
 length_refuses h zero some n = absurd (some refl)
 length_refuses h (suc g) some n = record { answered = refl }
 
-pub in_refuses : (h : Header) (g : ℕ) → (g ≡ 0 → ⊥) → (bytes out : List ℕ) → CarryInPromise bytes out out (Refused g) h g
+pub in_refuses : (h : Header) (g : ℕ) → (g ≡ 0 → ⊥) → (bytes out : List ℕ) → CarryInPromise bytes out out (Err g) h g
 in_refuses h g some bytes out = record { answered = sym (outcome_refused g some); written = sym (refused_value g _ out some) }
 
-pub out_refuses : (h : Header) (g : ℕ) → (g ≡ 0 → ⊥) → (symbols out : List ℕ) → CarryOutPromise symbols out out (Refused g) h g
+pub out_refuses : (h : Header) (g : ℕ) → (g ≡ 0 → ⊥) → (symbols out : List ℕ) → CarryOutPromise symbols out out (Err g) h g
 out_refuses h g some symbols out = record { answered = sym (outcome_refused g some); written = sym (refused_value g _ out some) }

@@ -1,4 +1,6 @@
 -- What one call carries the other reads, from the promises of both alone.
+use Rattle.std.specs.Prelude.{Ok}
+use Rattle.generator.specs.Answers.{Answer}
 use mathlib.Core.Path.{◌≡◌, ap, ◌∙◌}
 use mathlib.Core.Bool.{true, false, not}
 use mathlib.Core.List.{List}
@@ -14,8 +16,6 @@ use Rattle.generator.specs.Records.{header_of, modulus_of, width, record_fault, 
 use Rattle.refusals.specs.Conditions.{length_bad, symbols_bad}
 use Rattle.refusals.specs.Faults.{fault_of}
 use Rattle.refusals.proofs.OnRecord.{none_met}
-use Rattle.blocks.specs.declared.Outcome.{Outcome}
-use Rattle.blocks.specs.declared.Outcome.TheVariants.{Done}
 use Rattle.blocks.specs.Answers.{outcome_of}
 use Rattle.blocks.proofs.Answered.{done_means}
 use Rattle.carrying.specs.Carrying.{carries_none, carried_bytes, bytes_back, carried_length}
@@ -29,7 +29,7 @@ unfolding carry_in_fault carried_len_fault long_bad length_bad
 in_none h n long good fits = rw (good.carries, le-ltb 4611686018427387904 n good.few, eq-eqb long (carried_length (modulus_of h) n) fits)
 
 -- a record that carries, no more than 2^62 bytes and the room for them: the call is done, whatever the bytes
-pub always_done : (rec bytes out out' : List ℕ) (answer : Outcome) → record_fault rec ≡ 0 → carries_none (modulus_of (header_of rec)) ≡ false → length bytes ≤ 4611686018427387904 → length out ≡ carried_length (modulus_of (header_of rec)) (length bytes) → CarryInSays rec bytes out out' answer → answer ≡ Done
+pub always_done : (rec bytes out out' : List ℕ) (answer : Answer (Unit {0})) → record_fault rec ≡ 0 → carries_none (modulus_of (header_of rec)) ≡ false → length bytes ≤ 4611686018427387904 → length out ≡ carried_length (modulus_of (header_of rec)) (length bytes) → CarryInSays rec bytes out out' answer → answer ≡ Ok tt
 unfolding outcome_of fault_of
 always_done rec bytes out out' answer accepted carries few fits says =
     let zero : fault_of rec (λ h. carry_in_fault h (length bytes) (length out)) ≡ 0 = rw accepted (in_none (header_of rec) (length bytes) (length out) (record { carries = carries; few = few }) fits) in
@@ -62,7 +62,7 @@ module _ (rec bytes : List ℕ) (sound : Sound (header_of rec)) (accepted : reco
     );
   }
 
-pub carries : (rec bytes out out' : List ℕ) → all_below 256 bytes ≡ true → CarryInSays rec bytes out out' Done → Carries rec bytes out'
+pub carries : (rec bytes out out' : List ℕ) → all_below 256 bytes ≡ true → CarryInSays rec bytes out out' (Ok tt) → Carries rec bytes out'
 unfolding fault_of
 carries rec bytes out out' low says =
     let zero = done_means _ says.promise.answered in

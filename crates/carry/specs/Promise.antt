@@ -1,16 +1,14 @@
 -- Bytes carried in the symbols of a record, and read again: the numbers that turn the calls away, and what they promise.
+use Rattle.std.specs.Prelude.{Ok, Err}
+use Rattle.generator.specs.Answers.{Answer}
 use Rattle.std.specs.Prelude.{◌≡◌, Bool, false, List, ℕ, zero, suc, eqb, ltb, length}
 use Rattle.lists.specs.Choice.{pick, first_of, when}
 use Rattle.generator.specs.declared.Header.{Header}
 use Rattle.generator.specs.Records.{header_of, modulus_of}
 use Rattle.refusals.specs.Conditions.{length_bad, symbols_bad}
 use Rattle.refusals.specs.Promise.{OnRecord}
-use Rattle.blocks.specs.declared.Outcome.{Outcome}
-use Rattle.blocks.specs.declared.Outcome.TheVariants.{Done}
 use Rattle.blocks.specs.Answers.{outcome_of}
 use Rattle.carrying.specs.Carrying.{carries_none, carried_bytes, bytes_back, carried_length}
-use Rattle.carry.specs.declared.CarriedLen.{CarriedLen}
-use Rattle.carry.specs.declared.CarriedLen.TheVariants as L
 
 -- number 8: more bytes than 2^62, of which no buffer has so many
 unfoldable pub long_bad : ℕ → Bool
@@ -29,34 +27,34 @@ unfoldable pub carry_out_fault : Header → ℕ → List ℕ → ℕ
 carry_out_fault h n symbols = first_of (carry_in_fault h n (length symbols)) (when (symbols_bad h symbols) 11)
 
 -- the answer of the first call: so many bytes, or the number
-unfoldable pub carried_len_of : ℕ → ℕ → CarriedLen
-carried_len_of zero n = L.Bytes n
-carried_len_of (suc f) n = L.Refused (suc f)
+unfoldable pub carried_len_of : ℕ → ℕ → Answer ℕ
+carried_len_of zero n = Ok n
+carried_len_of (suc f) n = Err (suc f)
 
-pub record CarriedLenPromise (n : ℕ) (answer : CarriedLen) (h : Header) (f : ℕ) : Type 0 where
+pub record CarriedLenPromise (n : ℕ) (answer : Answer ℕ) (h : Header) (f : ℕ) : Type 0 where
   pub answered : answer ≡ carried_len_of f (carried_length (modulus_of h) n)
 
 -- the bytes as they are carried; nothing is written beside a number
-pub record CarryInPromise (bytes out out' : List ℕ) (answer : Outcome) (h : Header) (f : ℕ) : Type 0 where
+pub record CarryInPromise (bytes out out' : List ℕ) (answer : Answer (Unit {0})) (h : Header) (f : ℕ) : Type 0 where
   pub answered : answer ≡ outcome_of f
   pub written : out' ≡ pick (eqb f 0) (carried_bytes (modulus_of h) bytes) out
 
 -- the bytes that the symbols carry, as many as there is room for; likewise
-pub record CarryOutPromise (symbols out out' : List ℕ) (answer : Outcome) (h : Header) (f : ℕ) : Type 0 where
+pub record CarryOutPromise (symbols out out' : List ℕ) (answer : Answer (Unit {0})) (h : Header) (f : ℕ) : Type 0 where
   pub answered : answer ≡ outcome_of f
   pub written : out' ≡ pick (eqb f 0) (bytes_back (modulus_of h) (length out) symbols) out
 
 -- over the record as it is read
-abbrev pub CarriedLenSays : List ℕ → ℕ → CarriedLen → Type 0
+abbrev pub CarriedLenSays : List ℕ → ℕ → Answer ℕ → Type 0
 CarriedLenSays rec n answer = OnRecord rec (λ h. carried_len_fault h n) (CarriedLenPromise n answer)
 
-abbrev pub CarryInSays : List ℕ → List ℕ → List ℕ → List ℕ → Outcome → Type 0
+abbrev pub CarryInSays : List ℕ → List ℕ → List ℕ → List ℕ → Answer (Unit {0}) → Type 0
 CarryInSays rec bytes out out' answer = OnRecord rec (λ h. carry_in_fault h (length bytes) (length out)) (CarryInPromise bytes out out' answer)
 
-abbrev pub CarryOutSays : List ℕ → List ℕ → List ℕ → List ℕ → Outcome → Type 0
+abbrev pub CarryOutSays : List ℕ → List ℕ → List ℕ → List ℕ → Answer (Unit {0}) → Type 0
 CarryOutSays rec symbols out out' answer = OnRecord rec (λ h. carry_out_fault h (length out) symbols) (CarryOutPromise symbols out out' answer)
 
 -- symbols that carry bytes: they are symbols, and the third call is done with room for as many bytes, and writes these bytes
 pub record Carries (rec bytes symbols : List ℕ) : Type 0 where
   pub symbols_good : symbols_bad (header_of rec) symbols ≡ false
-  pub back : (out out' : List ℕ) (answer : Outcome) → length out ≡ length bytes → CarryOutSays rec symbols out out' answer → (answer ≡ Done) × (out' ≡ bytes)
+  pub back : (out out' : List ℕ) (answer : Answer (Unit {0})) → length out ≡ length bytes → CarryOutSays rec symbols out out' answer → (answer ≡ Ok tt) × (out' ≡ bytes)

@@ -1,4 +1,5 @@
 -- A record that is written byte by byte into seven bytes, and what is known where no number is met.
+use Rattle.std.specs.Prelude.{Err}
 use mathlib.Core.Path.{◌≡◌, refl, sym, ap}
 use mathlib.Core.Bool.{◌||◌}
 use mathlib.Core.List.{List, [], ◌∷◌, ◌++◌}
@@ -12,7 +13,6 @@ use Rattle.refusals.specs.Conditions.{length_bad}
 use Rattle.refusals.proofs.Accepts.{not_met}
 use Rattle.refusals.proofs.NotMet.{length_good}
 use Rattle.blocks.proofs.Refused.{refused_value}
-use Rattle.choose.specs.declared.Chosen.TheVariants as C
 use Rattle.choose.specs.Promise.{asked_bad, choose_fault, chosen_of, ChoosePromise}
 
 pub four_put : (out : List ℕ) (a b c d : ℕ) → length out ≡ 7 → set (set (set (set out 0 a) 1 b) 2 c) 3 d ≡ (a ∷ b ∷ c ∷ d ∷ []) ++ drop 4 out
@@ -60,7 +60,7 @@ choose_accepts n k out e =
     }
 
 -- beside a number nothing is written
-pub choose_refuses : (n k : ℕ) (out : List ℕ) (g : ℕ) → (g ≡ 0 → ⊥) → ChoosePromise n k out out (C.Refused g) g
+pub choose_refuses : (n k : ℕ) (out : List ℕ) (g : ℕ) → (g ≡ 0 → ⊥) → ChoosePromise n k out out (Err g) g
 unfolding chosen_of
 choose_refuses n k out zero some = absurd (some refl)
 choose_refuses n k out (suc g) some = record { answered = refl; written = sym (refused_value (suc g) _ out some) }

@@ -1,4 +1,6 @@
 -- A record for n nodes of which k are needed that carries bytes: the numbers that turn the call away, what it promises, and what holds of the record.
+use Rattle.std.specs.Prelude.{Ok, Err}
+use Rattle.generator.specs.Answers.{Answer}
 use Rattle.std.specs.Prelude.{◌≡◌, Bool, true, false, ◌||◌, List, [], ◌∷◌, ◌++◌, ℕ, zero, suc, ◌/◌, ◌%◌, ◌≤◌, ◌<◌, eqb, ltb, length, drop}
 use Rattle.lists.specs.Choice.{pick, first_of, when}
 use Rattle.field.specs.Primes.{is_prime}
@@ -6,8 +8,6 @@ use Rattle.generator.specs.Records.{header_of, modulus_of, record_fault}
 use Rattle.refusals.specs.Conditions.{length_bad}
 use Rattle.carrying.specs.Carrying.{carries_none}
 use Rattle.choose.specs.Table.{prime_for, root_for}
-use Rattle.choose.specs.declared.Chosen.{Chosen}
-use Rattle.choose.specs.declared.Chosen.TheVariants as C
 
 -- kind 2 where there is no prime for n, else kind 3
 unfoldable pub chosen_record : ℕ → ℕ → List ℕ
@@ -25,16 +25,16 @@ unfoldable pub choose_fault : ℕ → ℕ → ℕ → ℕ
 choose_fault n k room = first_of (when (asked_bad n k) 4) (when (length_bad 7 room) 8)
 
 -- the answer: how many bytes the record has, or the number
-unfoldable pub chosen_of : ℕ → ℕ → Chosen
-chosen_of zero size = C.Bytes size
-chosen_of (suc f) size = C.Refused (suc f)
+unfoldable pub chosen_of : ℕ → ℕ → Answer ℕ
+chosen_of zero size = Ok size
+chosen_of (suc f) size = Err (suc f)
 
 -- the record, at the front of the room; nothing is written beside a number
-pub record ChoosePromise (n k : ℕ) (out out' : List ℕ) (answer : Chosen) (f : ℕ) : Type 0 where
+pub record ChoosePromise (n k : ℕ) (out out' : List ℕ) (answer : Answer ℕ) (f : ℕ) : Type 0 where
   pub answered : answer ≡ chosen_of f (length (chosen_record n k))
   pub written : out' ≡ pick (eqb f 0) (chosen_record n k ++ drop (length (chosen_record n k)) out) out
 
-abbrev pub ChooseSays : ℕ → ℕ → List ℕ → List ℕ → Chosen → Type 0
+abbrev pub ChooseSays : ℕ → ℕ → List ℕ → List ℕ → Answer ℕ → Type 0
 ChooseSays n k out out' answer = ChoosePromise n k out out' answer (choose_fault n k (length out))
 
 -- what holds of the record: it is accepted, has this n and this k, and carries bytes, as they are where n divides 255; else no larger prime leaves 1 modulo n

@@ -2,18 +2,13 @@
 #![tactic(auto)]
 
 ghost use Rattle.std.specs.Prelude.{◌≡◌, [], ◌∷◌, ◌++◌, ◌/◌, ◌%◌, ◌≤◌, length, drop};
+ghost use Rattle.generator.specs.Answers.{numbered, outcome_of};
 ghost use Rattle.choose.specs.Promise.{chosen_record, asked_bad, choose_fault, ChooseSays};
 
-use refusals::{first, length_bad};
+use generator::Refusal;
+use refusals::length_bad;
 
 mod table;
-
-// The answer of `choose_record`: how many bytes the record has, or the number that turned the call away.
-#[derive(Clone, Copy)]
-pub enum Chosen {
-    Bytes(u8),
-    Refused(u8),
-}
 
 // Number 4: n below 2 or no byte, k zero, or k above n.
 fn asked_bad(n: u32, k: u32) -> bool
@@ -23,11 +18,11 @@ fn asked_bad(n: u32, k: u32) -> bool
 }
 
 // Number 4, then 8 for the room.
-fn choose_fault(n: u32, k: u32, room: usize) -> u8
-    ensures { result ≡ choose_fault n k room }
+fn choose_fault(n: u32, k: u32, room: usize) -> Result<(), Refusal>
+    ensures { numbered result ≡ outcome_of (choose_fault n k room) }
 {
-    let number = first(0, asked_bad(n, k), 4);
-    first(number, length_bad(7, room), 8)
+    Refusal::Size.when(asked_bad(n, k))?;
+    Refusal::Length.when(length_bad(7, room))
 }
 
 // A record of kind 2.
@@ -70,13 +65,10 @@ fn write_chosen(n: u8, k: u8, out: &mut [u8]) -> u8
     7
 }
 
-// Writes a record for n nodes of which k are needed, or gives the number that turns the call away and writes nothing.
-pub fn choose_record(n: u32, k: u32, out: &mut [u8]) -> Chosen
-    ensures { ChooseSays n k out.old out.new result }
+// Writes a record for n nodes of which k are needed, and gives how many bytes the record has, or what turns the call away and writes nothing.
+pub fn choose_record(n: u32, k: u32, out: &mut [u8]) -> Result<u8, Refusal>
+    ensures { ChooseSays n k out.old out.new (numbered result) }
 {
-    let number = choose_fault(n, k, out.len());
-    if number != 0 {
-        return Chosen::Refused(number);
-    }
-    Chosen::Bytes(write_chosen(n as u8, k as u8, out))
+    choose_fault(n, k, out.len())?;
+    Ok(write_chosen(n as u8, k as u8, out))
 }

@@ -1,10 +1,10 @@
 -- The text of a comparison: what the plain and the balanced layout of a record cost, and the least that any layout can.
 -- A layout's writes are the nodes that a changed symbol alters; the reads of a node are the symbols that it depends on.
 -- That the figures are those of the layouts is `Compared` (generator, specs/Comparison).
+use Rattle.std.specs.Prelude.{Ok, Err}
+use Rattle.generator.specs.Answers.{Answer}
 use Rattle.std.specs.Prelude.{List, [], ◌∷◌, ◌++◌, ℕ}
 use Rattle.generator.specs.declared.Header.{Header}
-use Rattle.generator.specs.declared.Record.{Record}
-use Rattle.generator.specs.declared.Record.TheVariants.{Holds, Meets}
 use Rattle.generator.specs.Records.{distance, low_reads, high_reads}
 use Rattle.generator.specs.Comparison.{plain_greatest}
 use Rattle.text.specs.Text.{ascii, field, line}
@@ -26,6 +26,6 @@ unfoldable pub bound_line : Header → List ℕ
 bound_line h = cost_line (ascii "bound writes") (distance h) (high_reads h ∷ [])
 
 -- the comparison of a record: n and k, then the lines of costs; or the number that turned it away
-unfoldable pub comparison_for : Record → List ℕ
-comparison_for (Meets f) = line (ascii "refused") (f ∷ [])
-comparison_for (Holds h) = line (ascii "compare") (h.n ∷ h.k ∷ []) ++ (plain_line h ++ (balanced_line h ++ bound_line h))
+unfoldable pub comparison_for : Answer Header → List ℕ
+comparison_for (Err f) = line (ascii "refused") (f ∷ [])
+comparison_for (Ok h) = line (ascii "compare") (h.n ∷ h.k ∷ []) ++ (plain_line h ++ (balanced_line h ++ bound_line h))

@@ -1,4 +1,5 @@
 -- What an answer says of the number that turned the call away, and of the count.
+use Rattle.std.specs.Prelude.{Ok, Err}
 use mathlib.Core.Path.{◌≡◌, refl, sym, ap, ◌∙◌}
 use mathlib.Core.List.{List}
 use Prim.Native.Nat.{ℕ, zero, suc}
@@ -12,27 +13,26 @@ use Rattle.generator.specs.declared.Header.{Header}
 use Rattle.generator.specs.Records.{header_of, width}
 use Rattle.generator.proofs.Widths.{width_some}
 use Rattle.refusals.specs.Faults.{fault_of}
-use Rattle.correct.specs.declared.Correction.TheVariants as C
 use Rattle.correct.specs.Blocks.{corrected_shares, corrected_bytes, corrected_count}
 use Rattle.correct.specs.Promise.{correct_fault, correction_of, CorrectSays}
 
-pub altered_means : (f count x : ℕ) → C.Altered x ≡ correction_of f count → (f ≡ 0) × (x ≡ count)
+pub altered_means : (f count x : ℕ) → Ok x ≡ correction_of f count → (f ≡ 0) × (x ≡ count)
 unfolding correction_of
 altered_means zero count x e = (refl, cc)
 altered_means (suc f) count x e = never cc
 
-pub means_refused : (f count : ℕ) → (f ≡ 0 → ⊥) → correction_of f count ≡ C.Refused f
+pub means_refused : (f count : ℕ) → (f ≡ 0 → ⊥) → correction_of f count ≡ Err f
 unfolding correction_of
 means_refused zero count n = absurd (n refl)
 means_refused (suc f) count n = refl
 
-pub refused_means : (f count g : ℕ) → C.Refused g ≡ correction_of f count → (g ≡ f) × (g ≡ 0 → ⊥)
+pub refused_means : (f count g : ℕ) → Err g ≡ correction_of f count → (g ≡ f) × (g ≡ 0 → ⊥)
 unfolding correction_of
 refused_means zero count g e = never cc
 refused_means (suc f) count g e = let same : g ≡ suc f = cc in (same, λ z. omega arith)
 
 -- a block that was set right: the symbols afterwards, and the count of those that differ
-module _ (rec : List ℕ) (l : ℕ) (shares shares' : List ℕ) (count : ℕ) (says : CorrectSays rec l shares shares' (C.Altered count)) where
+module _ (rec : List ℕ) (l : ℕ) (shares shares' : List ℕ) (count : ℕ) (says : CorrectSays rec l shares shares' (Ok count)) where
   abbrev h : Header
   h = header_of rec
 

@@ -1,4 +1,5 @@
 -- What the call answers: the number that turns it away, or the count.
+use Rattle.std.specs.Prelude.{Ok, Err}
 use mathlib.Core.Path.{◌≡◌, refl, sym, ap}
 use mathlib.Core.List.{List}
 use Prim.Native.Nat.{ℕ, zero, suc, ◌+◌, ◌≤◌, ◌<◌}
@@ -14,19 +15,18 @@ use Rattle.belongs.specs.Promise.{belongs_fault}
 use Rattle.blocks.proofs.Refused.{refused_value}
 use Rattle.nearest_word.specs.Nearest.{has_near}
 use Rattle.correct.proofs.Answered.{means_refused}
-use Rattle.correct.specs.declared.Correction.TheVariants.{Altered, Refused}
 use Rattle.correct.specs.Blocks.{first_far, corrected_bytes, corrected_count, far_bad}
 use Rattle.correct.specs.Promise.{correct_fault, correction_of, CorrectPromise}
 
 module _ (y : Arrangement) (h : Header) (l : ℕ) (shares : List ℕ) where
   -- a number turns the call away, and nothing is written
-  pub correct_refuses : (g : ℕ) → (g ≡ 0 → ⊥) → CorrectPromise y l shares shares (Refused g) h g
+  pub correct_refuses : (g : ℕ) → (g ≡ 0 → ⊥) → CorrectPromise y l shares shares (Err g) h g
   correct_refuses g some = record { answer = sym (means_refused g _ some); written = sym (refused_value g _ shares some) }
 
   -- no number does
-  pub correct_done : (count : ℕ) (shares' : List ℕ) → shares' ≡ corrected_bytes y h l shares → count ≡ corrected_count y h l shares → CorrectPromise y l shares shares' (Altered count) h 0
+  pub correct_done : (count : ℕ) (shares' : List ℕ) → shares' ≡ corrected_bytes y h l shares → count ≡ corrected_count y h l shares → CorrectPromise y l shares shares' (Ok count) h 0
   unfolding correction_of
-  correct_done count shares' is number = record { answer = ap Altered number; written = is }
+  correct_done count shares' is number = record { answer = ap Ok number; written = is }
 
   -- a lane is too far from every word, or none is
   pub far_met : (far : ℕ) → far ≡ first_far y h l (symbols_of (width h) shares) → far < l → when (far_bad y h l shares) 14 ≡ 14

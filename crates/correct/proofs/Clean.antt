@@ -1,4 +1,5 @@
 -- Shares with no lane marked: every lane is a word, and setting right leaves them as they are.
+use Rattle.std.specs.Prelude.{Ok}
 use mathlib.Core.Path.{◌≡◌, sym, ap, ◌∙◌}
 use mathlib.Core.Bool.{true}
 use mathlib.Core.List.{List}
@@ -25,7 +26,6 @@ use Rattle.generator.specs.Records.{width}
 use Rattle.generator.proofs.Widths.{width_some}
 use Rattle.nearest_word.specs.Nearest.{has_near}
 use Rattle.nearest_word.proofs.Corrected.{word_near, word_stays}
-use Rattle.correct.specs.declared.Correction.TheVariants.{Altered}
 use Rattle.correct.specs.Blocks.{corrected_shares, first_far, corrected_bytes, corrected_count, far_bad}
 use Rattle.correct.specs.Promise.{CorrectPromise}
 use Rattle.correct.specs.Inner.Marked.{MarkedShares}
@@ -66,7 +66,7 @@ module _ {h : Header} {l : ℕ} {marks shares : List ℕ} (m : MarkedShares h l 
       ∙ zero-add l
 
   -- so nothing is written, and no symbol altered
-  pub clean_says : all_below 256 shares ≡ true → CorrectPromise share_layout l shares shares (Altered 0) h (when (far_bad share_layout h l shares) 14)
+  pub clean_says : all_below 256 shares ≡ true → CorrectPromise share_layout l shares shares (Ok 0) h (when (far_bad share_layout h l shares) 14)
   unfolding corrected_bytes corrected_count
   clean_says low =
       let same : shares ≡ corrected_bytes share_layout h l shares = sym (ap (bytes_of (width h)) shares_stay ∙ bytes_symbols (width h) (h.n * l) shares (width_some h) (m.bytes ∙ sym (lanes_long (width h) h.n l)) low) in

@@ -1,12 +1,12 @@
 -- What turns the call away, and what it promises: the answer, and every lent byte afterwards.
+use Rattle.std.specs.Prelude.{Ok, Err}
+use Rattle.generator.specs.Answers.{Answer}
 use Rattle.std.specs.Prelude.{◌≡◌, List, ℕ, zero, suc, eqb}
 use Rattle.lists.specs.Choice.{pick, first_of, when}
 use Rattle.layout.specs.Layout.{Arrangement, share_layout}
 use Rattle.generator.specs.declared.Header.{Header}
 use Rattle.belongs.specs.Promise.{belongs_fault}
 use Rattle.refusals.specs.Promise.{OnRecord}
-use Rattle.correct.specs.declared.Correction.{Correction}
-use Rattle.correct.specs.declared.Correction.TheVariants.{Altered, Refused}
 use Rattle.correct.specs.Blocks.{corrected_bytes, corrected_count, far_bad}
 
 -- numbers 7, 8 and 11 as Belongs has them, then 14
@@ -14,18 +14,18 @@ unfoldable pub correct_fault : Arrangement → Header → ℕ → List ℕ → �
 correct_fault y h l shares = first_of (belongs_fault h l shares) (when (far_bad y h l shares) 14)
 
 -- the answer, from the number that turned the call away (0 for none) and the count of altered symbols
-unfoldable pub correction_of : ℕ → ℕ → Correction
-correction_of zero count = Altered count
-correction_of (suc f) count = Refused (suc f)
+unfoldable pub correction_of : ℕ → ℕ → Answer ℕ
+correction_of zero count = Ok count
+correction_of (suc f) count = Err (suc f)
 
 -- every lane as the word nearest to it, and how many symbols differ afterwards; beside a number nothing is written
-pub record CorrectPromise (y : Arrangement) (l : ℕ) (shares shares' : List ℕ) (r : Correction) (h : Header) (f : ℕ) : Type 0 where
+pub record CorrectPromise (y : Arrangement) (l : ℕ) (shares shares' : List ℕ) (r : Answer ℕ) (h : Header) (f : ℕ) : Type 0 where
   pub answer : r ≡ correction_of f (corrected_count y h l shares)
   pub written : shares' ≡ pick (eqb f 0) (corrected_bytes y h l shares) shares
 
-abbrev pub CorrectSaysIn : Arrangement → List ℕ → ℕ → List ℕ → List ℕ → Correction → Type 0
+abbrev pub CorrectSaysIn : Arrangement → List ℕ → ℕ → List ℕ → List ℕ → Answer ℕ → Type 0
 CorrectSaysIn y rec l shares shares' r = OnRecord rec (λ h. correct_fault y h l shares) (CorrectPromise y l shares shares' r)
 
 -- with shares as they stand in buffers
-abbrev pub CorrectSays : List ℕ → ℕ → List ℕ → List ℕ → Correction → Type 0
+abbrev pub CorrectSays : List ℕ → ℕ → List ℕ → List ℕ → Answer ℕ → Type 0
 CorrectSays = CorrectSaysIn share_layout

@@ -5,25 +5,19 @@ ghost use Rattle.std.specs.Prelude.{◌≡◌};
 ghost use Rattle.lists.specs.Choice.{when};
 ghost use Rattle.layout.specs.Layout.{share_layout};
 ghost use Rattle.layout.specs.Width.{symbols_of};
-ghost use Rattle.generator.specs.Records.{Sound, width};
+ghost use Rattle.generator.specs.Records.{width};
+ghost use Rattle.generator.specs.Answers.{numbered};
 ghost use Rattle.refusals.specs.Accepted.{SymbolBuffer};
 ghost use Rattle.check_sums.specs.Inner.Sums.{power_rows};
 ghost use Rattle.correct.specs.Blocks.{first_far, corrected_bytes, corrected_count, far_bad};
 ghost use Rattle.correct.specs.Promise.{correct_fault, CorrectPromise, CorrectSays};
 ghost use Rattle.correct.specs.Inner.Marked.{MarkedShares};
 
-use generator::{Header, Record};
+use generator::{Code, Header, Refusal};
 
 mod lane;
 
 use lane::{is_near, write_nearest};
-
-// How many symbols were altered, or the number that turns the call away.
-#[derive(Clone, Copy)]
-pub enum Correction {
-    Altered(u32),
-    Refused(u8),
-}
 
 // The smallest lane that no word is near enough to, or the number of lanes.
 fn first_far(h: Header, rows: &[u8], lanes: usize, marks: &[u8], shares: &[u8]) -> usize
@@ -65,22 +59,19 @@ fn correct_marked(
     lanes: usize,
     marks: &[u8],
     shares: &mut [u8],
-) -> Correction
+) -> Result<u32, Refusal>
     requires { MarkedShares h lanes marks.now shares.old × (rows.now ≡ power_rows h) }
-    ensures { CorrectPromise share_layout lanes shares.old shares.new result h (when (far_bad share_layout h lanes shares.old) 14) }
+    ensures { CorrectPromise share_layout lanes shares.old shares.new (numbered result) h (when (far_bad share_layout h lanes shares.old) 14) }
 {
     let far = first_far(h, rows, lanes, marks, shares);
-    if far < lanes {
-        return Correction::Refused(14);
-    }
-    let count = correct_lanes(h, rows, lanes, marks, shares);
-    Correction::Altered(count)
+    Refusal::Far.when(far < lanes)?;
+    Ok(correct_lanes(h, rows, lanes, marks, shares))
 }
 
 // The same with the rows of powers made here.
-fn correct_wrong(h: Header, lanes: usize, marks: &[u8], shares: &mut [u8]) -> Correction
+fn correct_wrong(h: Header, lanes: usize, marks: &[u8], shares: &mut [u8]) -> Result<u32, Refusal>
     requires { MarkedShares h lanes marks.now shares.old }
-    ensures { CorrectPromise share_layout lanes shares.old shares.new result h (when (far_bad share_layout h lanes shares.old) 14) }
+    ensures { CorrectPromise share_layout lanes shares.old shares.new (numbered result) h (when (far_bad share_layout h lanes shares.old) 14) }
 {
     let w = symbols::width_of(h);
     let size = w * h.n as usize * (h.n - h.k) as usize;
@@ -90,44 +81,38 @@ fn correct_wrong(h: Header, lanes: usize, marks: &[u8], shares: &mut [u8]) -> Co
 }
 
 // The same, but for shares with no lane marked, which stay as they are: nothing is made for them.
-fn correct_any(h: Header, lanes: usize, marks: &[u8], shares: &mut [u8]) -> Correction
+fn correct_any(h: Header, lanes: usize, marks: &[u8], shares: &mut [u8]) -> Result<u32, Refusal>
     requires { MarkedShares h lanes marks.now shares.old }
-    ensures { CorrectPromise share_layout lanes shares.old shares.new result h (when (far_bad share_layout h lanes shares.old) 14) }
+    ensures { CorrectPromise share_layout lanes shares.old shares.new (numbered result) h (when (far_bad share_layout h lanes shares.old) 14) }
 {
     if wrong_lanes::first_nonzero(lanes, marks) == lanes {
-        return Correction::Altered(0);
+        return Ok(0);
     }
     correct_wrong(h, lanes, marks, shares)
 }
 
 // The same for shares of symbols: the lanes that are no word of the code are marked, all at once.
-fn correct_symbols(h: Header, lanes: usize, shares: &mut [u8]) -> Correction
+fn correct_symbols(h: Header, lanes: usize, shares: &mut [u8]) -> Result<u32, Refusal>
     requires { SymbolBuffer h h.n lanes shares.old }
-    ensures { CorrectPromise share_layout lanes shares.old shares.new result h (when (far_bad share_layout h lanes shares.old) 14) }
+    ensures { CorrectPromise share_layout lanes shares.old shares.new (numbered result) h (when (far_bad share_layout h lanes shares.old) 14) }
 {
     let mut marks = [0u8; 4096];
     wrong_lanes::marks::mark_lanes(h, lanes, shares, &mut marks[..lanes]);
     correct_any(h, lanes, &marks[..lanes], shares)
 }
 
-// Sets a block right over an accepted record's header.
-fn correct_accepted(h: Header, lanes: usize, shares: &mut [u8]) -> Correction
-    requires { Sound h }
-    ensures { CorrectPromise share_layout lanes shares.old shares.new result h (correct_fault share_layout h lanes shares.old) }
+// Sets a block right over a code.
+fn correct_accepted(code: Code, lanes: usize, shares: &mut [u8]) -> Result<u32, Refusal>
+    ensures { CorrectPromise share_layout lanes shares.old shares.new (numbered result) code.header (correct_fault share_layout code.header lanes shares.old) }
 {
-    let number = belongs::fault::belongs_fault(h, lanes, shares);
-    if number != 0 {
-        return Correction::Refused(number);
-    }
-    correct_symbols(h, lanes, shares)
+    belongs::belongs_fault(code.header, lanes, shares)?;
+    correct_symbols(code.header, lanes, shares)
 }
 
-// Replaces each lane by the word of the code that differs from it at no more than (n - k) / 2 nodes and gives how many symbols it altered, or gives the number that turns the call away and writes nothing.
-pub fn correct_block(rec: &[u8], lanes: u32, shares: &mut [u8]) -> Correction
-    ensures { CorrectSays rec.now lanes shares.old shares.new result }
+// Replaces each lane by the word of the code that differs from it at no more than (n - k) / 2 nodes and gives how many symbols it altered, or gives what turns the call away and writes nothing.
+pub fn correct_block(rec: &[u8], lanes: u32, shares: &mut [u8]) -> Result<u32, Refusal>
+    ensures { CorrectSays rec.now lanes shares.old shares.new (numbered result) }
 {
-    match records::read_record(rec) {
-        Record::Holds(h) => correct_accepted(h, lanes as usize, shares),
-        Record::Meets(number) => Correction::Refused(number),
-    }
+    let code = records::read_record(rec)?;
+    correct_accepted(code, lanes as usize, shares)
 }

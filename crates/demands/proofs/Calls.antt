@@ -1,4 +1,5 @@
 -- The demands of the calls themselves, from what each call promises.
+use Rattle.std.specs.Prelude.{Some, None, Ok}
 use mathlib.Core.Path.{◌≡◌, sym, ap, subst, ◌∙◌}
 use mathlib.Core.List.{List}
 use Prim.Native.Nat.{ℕ, ◌<◌}
@@ -21,9 +22,6 @@ use Rattle.recover.proofs.Accepts.{recover_accepts, rebuild_accepts}
 use Rattle.belongs.proofs.Accepts.{belongs_accepts}
 use Rattle.encode.proofs.Accepts.{encode_accepts}
 use Rattle.refusals.proofs.OnRecord.{none_met}
-use Rattle.blocks.specs.declared.Outcome.TheVariants as O
-use Rattle.blocks.specs.declared.Update.TheVariants as U
-use Rattle.blocks.specs.declared.Membership.TheVariants as M
 use Rattle.blocks.specs.Blocks.{share_of, shares_of, updated, first_wrong, MessageFor}
 use Rattle.blocks.specs.Bytes.{encoded_bytes, updated_bytes, RecoveredBytes, RebuiltBytes, wrong_lane}
 use Rattle.blocks.proofs.Answered.{done_means, altered_means, yes_means, no_means}
@@ -49,7 +47,7 @@ module _ (rec : List ℕ) (l : ℕ) where
   abbrev h : Header
   h = header_of rec
 
-  encode : (message out out' : List ℕ) → EncodeSays rec l message out out' O.Done → EncodeDone h l message out'
+  encode : (message out out' : List ℕ) → EncodeSays rec l message out out' (Ok tt) → EncodeDone h l message out'
   unfolding encoded_bytes
   encode message out out' says =
       let none = done_means (fault_of rec (λ h. encode_fault h l (length out) message)) says.promise.answer in
@@ -63,13 +61,13 @@ module _ (rec : List ℕ) (l : ℕ) where
       }
 
   module _ (nodes shares : List ℕ) where
-    recover : (out out' : List ℕ) → RecoverSays rec l nodes shares out out' O.Done → RecoverDone h l nodes shares out'
+    recover : (out out' : List ℕ) → RecoverSays rec l nodes shares out out' (Ok tt) → RecoverDone h l nodes shares out'
     unfolding RecoveredBytes
     recover out out' says =
         let none = done_means (fault_of rec (λ h. recover_fault h l nodes shares (length out))) says.promise.answer in
         let (sound, own) = none_met rec (λ h. recover_fault h l nodes shares (length out)) none in
         let (listed, long) = recover_accepts h sound l nodes shares (length out) own in
-        let (m, is, written) = rw none at (recover_law share_lawful rec l nodes shares out out' O.Done says) in
+        let (m, is, written) = rw none at (recover_law share_lawful rec l nodes shares out out' (Ok tt) says) in
         let same : read h out' ≡ m = read_written h out' m written in
         let code = code_demands h sound in
         record {
@@ -78,13 +76,13 @@ module _ (rec : List ℕ) (l : ℕ) where
           returns = λ u symbols e. same ∙ code.returns l nodes u m listed.different symbols (subst (λ (x : List ℕ). MessageFor share_layout h l nodes x m) e is);
         }
 
-    rebuild : (target : ℕ) (out out' : List ℕ) → RebuildSays rec l nodes shares target out out' O.Done → RebuildDone h l nodes shares target out'
+    rebuild : (target : ℕ) (out out' : List ℕ) → RebuildSays rec l nodes shares target out out' (Ok tt) → RebuildDone h l nodes shares target out'
     unfolding RebuiltBytes
     rebuild target out out' says =
         let none = done_means (fault_of rec (λ h. rebuild_fault h l nodes shares target (length out))) says.promise.answer in
         let (sound, own) = none_met rec (λ h. rebuild_fault h l nodes shares target (length out)) none in
         let (listed, node, long) = rebuild_accepts h sound l nodes shares target (length out) own in
-        let (m, is, written) = rw none at (rebuild_law share_lawful rec l nodes shares out out' O.Done target says) in
+        let (m, is, written) = rw none at (rebuild_law share_lawful rec l nodes shares out out' (Ok tt) target says) in
         let same : read h out' ≡ share_of h l m target = read_written h out' (share_of h l m target) written in
         let code = code_demands h sound in
         record {
@@ -96,7 +94,7 @@ module _ (rec : List ℕ) (l : ℕ) where
         }
 
   module _ (shares : List ℕ) where
-    passes : BelongsSays rec l shares M.Yes → AllWords h l shares
+    passes : BelongsSays rec l shares (Ok None) → AllWords h l shares
     unfolding wrong_lane
     passes says =
         let (none, all) = yes_means (fault_of rec (λ h. belongs_fault h l shares)) l (wrong_lane share_layout h l shares) says.promise.answer in
@@ -104,7 +102,7 @@ module _ (rec : List ℕ) (l : ℕ) where
         let rows = belongs_accepts h sound l shares own in
         λ t inside. ((code_demands h sound).passes l (read h shares) (rows_are h h.n l (read h shares) rows.symbol_rows)).0 all t inside
 
-    names : (wrong : ℕ) → BelongsSays rec l shares (M.No wrong) → SmallestWrong h l shares wrong
+    names : (wrong : ℕ) → BelongsSays rec l shares (Ok (Some wrong)) → SmallestWrong h l shares wrong
     unfolding wrong_lane
     names wrong says =
         let (none, at, other) = no_means (fault_of rec (λ h. belongs_fault h l shares)) l (wrong_lane share_layout h l shares) wrong says.promise.answer in
@@ -119,7 +117,7 @@ module _ (rec : List ℕ) (l : ℕ) where
           smaller = smaller;
         }
 
-  update : (r t old new : ℕ) (shares shares' : List ℕ) (count : ℕ) → UpdateSays rec l r t old new shares shares' (U.Altered count) → UpdateDone h shares shares' l r t old new count
+  update : (r t old new : ℕ) (shares shares' : List ℕ) (count : ℕ) → UpdateSays rec l r t old new shares shares' (Ok count) → UpdateDone h shares shares' l r t old new count
   unfolding updated_bytes
   update r t old new shares shares' count says =
       let (none, same) = altered_means (fault_of rec (λ h. update_fault share_layout h l r t old new shares)) _ count says.promise.answer in

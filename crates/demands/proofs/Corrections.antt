@@ -1,4 +1,6 @@
 -- Setting right, sentence by sentence, from what the call promises.
+use Rattle.std.specs.Prelude.{Option, None, Ok, Err}
+use Rattle.generator.specs.Answers.{Answer}
 use mathlib.Core.Path.{◌≡◌, refl, sym, ap, ap₂, ◌∙◌}
 use mathlib.Core.Logic.{◌↔◌, by_cases}
 use mathlib.Core.Bool.{Bool, true, false, not}
@@ -35,8 +37,6 @@ use Rattle.belongs.specs.Promise.{belongs_fault, BelongsSays}
 use Rattle.refusals.proofs.Accepts.{not_met}
 use Rattle.belongs.proofs.Accepts.{belongs_accepts}
 use Rattle.refusals.proofs.OnRecord.{none_met}
-use Rattle.blocks.specs.declared.Membership.{Membership}
-use Rattle.blocks.specs.declared.Membership.TheVariants as M
 use Rattle.blocks.specs.Answers.{membership_of}
 use Rattle.blocks.specs.Blocks.{first_wrong}
 use Rattle.blocks.specs.Bytes.{wrong_lane, rearranged_bytes}
@@ -45,8 +45,6 @@ use Rattle.demands.specs.LaneAfterLane.{Full}
 use Rattle.demands.proofs.TurnedBytes.{belongs_turned}
 use Rattle.nearest_word.specs.Nearest.{has_near, corrected}
 use Rattle.nearest_word.proofs.Corrected.{corrected_word, exact}
-use Rattle.correct.specs.declared.Correction.{Correction}
-use Rattle.correct.specs.declared.Correction.TheVariants as C
 use Rattle.correct.specs.Blocks.{corrected_shares, first_far, corrected_bytes, corrected_count, far_bad}
 use Rattle.correct.specs.Promise.{correct_fault, correction_of, CorrectSaysIn, CorrectSays}
 use Rattle.correct.specs.Meaning.{NearWord, lane_in, CorrectDone}
@@ -130,7 +128,7 @@ module _ (rec : List ℕ) (l : ℕ) (shares : List ℕ) where
     own = none_met rec (λ h. belongs_fault h l shares) none
 
   -- what is known of a call that was done
-  module _ (shares' : List ℕ) (count : ℕ) (says : CorrectSays rec l shares shares' (C.Altered count)) where
+  module _ (shares' : List ℕ) (count : ℕ) (says : CorrectSays rec l shares shares' (Ok count)) where
     no_number : number ≡ 0
     no_number = (altered_means number _ count says.promise.answer).0
 
@@ -191,7 +189,7 @@ module _ (rec : List ℕ) (l : ℕ) (shares : List ℕ) where
         ap (is_word h) (lane_is t inside) ∙ corrected_word h sound (lane_in h l shares t) is.long is.below (near_all h sound l shares accepted.1 near_good t inside))
         ∙ zero-add l
 
-    belongs : (r : Membership) → BelongsSays rec l shares' r → r ≡ M.Yes
+    belongs : (r : Answer (Option ℕ)) → BelongsSays rec l shares' r → r ≡ Ok None
     unfolding fault_of membership_of
     belongs r promised =
         let (fine, rest) = first_zero (record_fault rec) (belongs_fault h l shares) (none_earlier no_number) in
@@ -209,7 +207,7 @@ module _ (rec : List ℕ) (l : ℕ) (shares : List ℕ) where
 
   -- a call that was turned away
   module _ (shares' : List ℕ) where
-    untouched : (g : ℕ) → CorrectSays rec l shares shares' (C.Refused g) → shares' ≡ shares
+    untouched : (g : ℕ) → CorrectSays rec l shares shares' (Err g) → shares' ≡ shares
     untouched g says =
         let (same, some) = refused_means number _ g says.promise.answer in
         says.promise.written ∙ refused_value number _ shares (λ e. some (same ∙ e))
@@ -231,10 +229,10 @@ module _ (rec : List ℕ) (l : ℕ) (shares : List ℕ) where
         go false false false false false false false true z = omega arith
         go false false false false false false false false z = omega arith
 
-    refused : (r : Correction) → CorrectSays rec l shares shares' r → (r ≡ C.Refused 14) ↔ ((earlier ≡ 0) × ((t : ℕ) × (t < l) × ((us : List ℕ) → NearWord h (lane_in h l shares t) us → ⊥)))
+    refused : (r : Answer ℕ) → CorrectSays rec l shares shares' r → (r ≡ Err 14) ↔ ((earlier ≡ 0) × ((t : ℕ) × (t < l) × ((us : List ℕ) → NearWord h (lane_in h l shares t) us → ⊥)))
     refused r says = (to, back)
       where
-        to : r ≡ C.Refused 14 → (earlier ≡ 0) × ((t : ℕ) × (t < l) × ((us : List ℕ) → NearWord h (lane_in h l shares t) us → ⊥))
+        to : r ≡ Err 14 → (earlier ≡ 0) × ((t : ℕ) × (t < l) × ((us : List ℕ) → NearWord h (lane_in h l shares t) us → ⊥))
         to e =
             let is : 14 ≡ number = (refused_means number _ 14 (sym e ∙ says.promise.answer)).0 in
             let none : earlier ≡ 0 = by_cases (ℕ_discrete earlier 0) (λ z. z) (λ some. absurd (not_earlier (sym (first some) ∙ sym is))) in
@@ -243,7 +241,7 @@ module _ (rec : List ℕ) (l : ℕ) (shares : List ℕ) where
             let (t, inside, far) = far_one h sound l shares fine bad in
             (none, (t, inside, λ us n. none_near h sound (lane_in h l shares t) (length_lane share_layout h.n l t (symbols_of (width h) shares)) far us n))
 
-        back : (earlier ≡ 0) × ((t : ℕ) × (t < l) × ((us : List ℕ) → NearWord h (lane_in h l shares t) us → ⊥)) → r ≡ C.Refused 14
+        back : (earlier ≡ 0) × ((t : ℕ) × (t < l) × ((us : List ℕ) → NearWord h (lane_in h l shares t) us → ⊥)) → r ≡ Err 14
         back (none, (t, inside, no_word)) =
             let (sound, fine) = own none in
             let ws = lane_in h l shares t in
@@ -281,7 +279,7 @@ module _ {y z : Arrangement} (a : Lawful y) (b : Lawful z) (h : Header) (l : ℕ
       ∙ count_turned a b h l (symbols_of (width h) shares) (count_symbols (width h) (h.n * l) shares (width_some h) full)
 
 module _ {y z : Arrangement} (a : Lawful y) (b : Lawful z) (rec : List ℕ) (l : ℕ) (shares : List ℕ) (full : Full (header_of rec) (header_of rec).n l shares) where
-  lanes : (shares' now : List ℕ) (before after : Correction) → CorrectSaysIn y rec l shares shares' before → CorrectSaysIn z rec l (rearranged_bytes y z (header_of rec) (header_of rec).n l shares) now after → (after ≡ before) × (now ≡ rearranged_bytes y z (header_of rec) (header_of rec).n l shares')
+  lanes : (shares' now : List ℕ) (before after : Answer ℕ) → CorrectSaysIn y rec l shares shares' before → CorrectSaysIn z rec l (rearranged_bytes y z (header_of rec) (header_of rec).n l shares) now after → (after ≡ before) × (now ≡ rearranged_bytes y z (header_of rec) (header_of rec).n l shares')
   lanes shares' now before after was is = (
     is.promise.answer ∙ ap₂ correction_of same (counts_turned a b h' l shares full) ∙ sym was.promise.answer,
     by_cases (ℕ_discrete given 0)

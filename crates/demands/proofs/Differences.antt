@@ -1,4 +1,5 @@
 -- What each node adds leads from the shares of a message to those of the message with another row.
+use Rattle.std.specs.Prelude.{Ok}
 use mathlib.Core.Path.{◌≡◌, sym, ap, ap₂, ◌∙◌}
 use mathlib.Core.List.{List, [], ◌∷◌}
 use mathlib.Core.Logic.{by_cases}
@@ -34,7 +35,6 @@ use Rattle.generator.proofs.Widths.{width_some}
 use Rattle.refusals.specs.Accepted.{SymbolBuffer}
 use Rattle.refusals.specs.Faults.{fault_of}
 use Rattle.refusals.proofs.OnRecord.{none_met}
-use Rattle.blocks.specs.declared.Outcome.TheVariants.{Done}
 use Rattle.blocks.specs.Blocks.{share_at, share_of}
 use Rattle.blocks.proofs.Answered.{done_means}
 use Rattle.blocks.proofs.Messages.{lane_message}
@@ -67,7 +67,7 @@ record Told (h : Header) (l r : ℕ) (old new s : List ℕ) : Type 0 where
   row : r < h.k
   written : s ≡ bytes_of (width h) (buffer row_after_row h.n l (difference_at h r (read h old) (read h new)))
 
-told : (rec : List ℕ) (l r : ℕ) (old new room s : List ℕ) → DifferencesSays rec l r old new room s Done → Told (header_of rec) l r old new s
+told : (rec : List ℕ) (l r : ℕ) (old new room s : List ℕ) → DifferencesSays rec l r old new room s (Ok tt) → Told (header_of rec) l r old new s
 unfolding difference_bytes
 told rec l r old new room s says =
     let none = done_means (fault_of rec (λ h. differences_fault h l r old new (length room))) says.promise.answered in

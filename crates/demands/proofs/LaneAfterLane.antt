@@ -1,4 +1,6 @@
 -- With shares rearranged, each call gives the old results, and share buffers are the old ones rearranged.
+use Rattle.std.specs.Prelude.{Option, Ok}
+use Rattle.generator.specs.Answers.{Answer}
 use mathlib.Core.Path.{◌≡◌, sym, ap, ap₂, ◌∙◌}
 use mathlib.Core.Bool.{true}
 use mathlib.Core.List.{List}
@@ -21,10 +23,6 @@ use Rattle.update.specs.Promise.{input_fault, update_fault, UpdateSaysIn}
 use Rattle.encode.specs.Promise.{encode_fault, EncodeSaysIn}
 use Rattle.rearrange.proofs.Accepts.{rearrange_accepts}
 use Rattle.refusals.proofs.OnRecord.{none_met}
-use Rattle.blocks.specs.declared.Outcome.{Outcome}
-use Rattle.blocks.specs.declared.Outcome.TheVariants.{Done}
-use Rattle.blocks.specs.declared.Update.{Update}
-use Rattle.blocks.specs.declared.Membership.{Membership}
 use Rattle.blocks.specs.Answers.{outcome_of, update_of, membership_of}
 use Rattle.blocks.specs.Bytes.{altered_count, rearranged_bytes}
 use Rattle.blocks.proofs.Answered.{done_means}
@@ -48,7 +46,7 @@ module _ {y z : Arrangement} (a : Lawful y) (b : Lawful z) (rec : List ℕ) (l :
   unfolding fault_of
   same_number f g e = ap (first_of (record_fault rec)) e
 
-  encode : (message out out' new new' : List ℕ) (r u : Outcome) → length new ≡ length out → EncodeSaysIn y rec l message out out' r → EncodeSaysIn z rec l message new new' u → (u ≡ r) × (u ≡ Done → new' ≡ rearranged_bytes y z h h.n l out')
+  encode : (message out out' new new' : List ℕ) (r u : Answer (Unit {0})) → length new ≡ length out → EncodeSaysIn y rec l message out out' r → EncodeSaysIn z rec l message new new' u → (u ≡ r) × (u ≡ Ok tt → new' ≡ rearranged_bytes y z h h.n l out')
   encode message out out' new new' r u size old now =
       let same : fault_of rec (λ h. encode_fault h l (length new) message) ≡ fault_of rec (λ h. encode_fault h l (length out) message) = rw size in
       let answer : u ≡ r = now.promise.answer ∙ ap outcome_of same ∙ sym old.promise.answer in (
@@ -64,7 +62,7 @@ module _ {y z : Arrangement} (a : Lawful y) (b : Lawful z) (rec : List ℕ) (l :
     abbrev turned : List ℕ
     turned = rearranged_bytes y z h h.n l shares
 
-    update : (r t old new : ℕ) (shares' now : List ℕ) (before after : Update) → UpdateSaysIn y rec l r t old new shares shares' before → UpdateSaysIn z rec l r t old new turned now after → (after ≡ before) × (now ≡ rearranged_bytes y z h h.n l shares')
+    update : (r t old new : ℕ) (shares' now : List ℕ) (before after : Answer ℕ) → UpdateSaysIn y rec l r t old new shares shares' before → UpdateSaysIn z rec l r t old new turned now after → (after ≡ before) × (now ≡ rearranged_bytes y z h h.n l shares')
     update r t old new shares' now before after was is =
         by_cases (ℕ_discrete number 0)
         (λ none.
@@ -88,7 +86,7 @@ module _ {y z : Arrangement} (a : Lawful y) (b : Lawful z) (rec : List ℕ) (l :
         same : fault_of rec (λ h. update_fault z h l r t old new turned) ≡ number
         same = same_number (λ h. update_fault y h l r t old new shares) (λ h. update_fault z h l r t old new turned) (update_turned a b h l shares full r t old new)
 
-    belongs : (r u : Membership) → BelongsSaysIn y rec l shares r → BelongsSaysIn z rec l turned u → u ≡ r
+    belongs : (r u : Answer (Option ℕ)) → BelongsSaysIn y rec l shares r → BelongsSaysIn z rec l turned u → u ≡ r
     belongs r u was is =
         is.promise.answer
         ∙ ap₂ (λ (f w : ℕ). membership_of f l w) (same_number (λ h. belongs_fault h l shares) (λ h. belongs_fault h l turned) (belongs_turned a b h l shares full)) (wrong_turned a b h l shares full)
@@ -99,14 +97,14 @@ module _ {y z : Arrangement} (a : Lawful y) (b : Lawful z) (rec : List ℕ) (l :
     abbrev listed : List ℕ
     listed = rearranged_bytes y z h h.k l shares
 
-    recover : (out out' now : List ℕ) (r u : Outcome) → RecoverSaysIn y rec l nodes shares out out' r → RecoverSaysIn z rec l nodes listed out now u → (u ≡ r) × (now ≡ out')
+    recover : (out out' now : List ℕ) (r u : Answer (Unit {0})) → RecoverSaysIn y rec l nodes shares out out' r → RecoverSaysIn z rec l nodes listed out now u → (u ≡ r) × (now ≡ out')
     recover out out' now r u was is =
         let same = same_number (λ h. recover_fault h l nodes shares (length out)) (λ h. recover_fault h l nodes listed (length out)) (recover_turned a b h l nodes shares full (length out)) in (
           is.promise.answer ∙ ap outcome_of same ∙ sym was.promise.answer,
           is.promise.written ∙ ap₂ (λ (f : ℕ) (m : List ℕ). pick (eqb f 0) m out) same (recovered_turned a b h l nodes shares full) ∙ sym was.promise.written,
         )
 
-    rebuild : (target : ℕ) (out out' now : List ℕ) (r u : Outcome) → RebuildSaysIn y rec l nodes shares target out out' r → RebuildSaysIn z rec l nodes listed target out now u → (u ≡ r) × (now ≡ out')
+    rebuild : (target : ℕ) (out out' now : List ℕ) (r u : Answer (Unit {0})) → RebuildSaysIn y rec l nodes shares target out out' r → RebuildSaysIn z rec l nodes listed target out now u → (u ≡ r) × (now ≡ out')
     rebuild target out out' now r u was is =
         let same = same_number (λ h. rebuild_fault h l nodes shares target (length out)) (λ h. rebuild_fault h l nodes listed target (length out)) (rebuild_turned a b h l nodes shares full target (length out)) in (
           is.promise.answer ∙ ap outcome_of same ∙ sym was.promise.answer,
@@ -114,7 +112,7 @@ module _ {y z : Arrangement} (a : Lawful y) (b : Lawful z) (rec : List ℕ) (l :
         )
 
   -- the two calls, of all nodes or of listed ones
-  calls : (rows : Header → ℕ) (s out out' end end' : List ℕ) → all_below 256 s ≡ true → RearrangeSays y z rows rec l s out out' Done → RearrangeSays z y rows rec l out' end end' Done → end' ≡ s
+  calls : (rows : Header → ℕ) (s out out' end end' : List ℕ) → all_below 256 s ≡ true → RearrangeSays y z rows rec l s out out' (Ok tt) → RearrangeSays z y rows rec l out' end end' (Ok tt) → end' ≡ s
   calls rows s out out' end end' bytes first second =
       let none = done_means (fault_of rec (λ h. rearrange_fault h (rows h) l (length s) (length out))) first.promise.answered in
       let after = done_means (fault_of rec (λ h. rearrange_fault h (rows h) l (length out') (length end))) second.promise.answered in
@@ -125,7 +123,7 @@ module _ {y z : Arrangement} (a : Lawful y) (b : Lawful z) (rec : List ℕ) (l :
       ∙ turned_back a b h (rows h) l s long bytes
 
   -- Recover of shares that the call rearranged
-  listed_recover : (nodes s moved moved' out out' now : List ℕ) (r u : Outcome) → RearrangeSays y z (λ h. h.k) rec l s moved moved' Done → RecoverSaysIn y rec l nodes s out out' r → RecoverSaysIn z rec l nodes moved' out now u → (u ≡ r) × (now ≡ out')
+  listed_recover : (nodes s moved moved' out out' now : List ℕ) (r u : Answer (Unit {0})) → RearrangeSays y z (λ h. h.k) rec l s moved moved' (Ok tt) → RecoverSaysIn y rec l nodes s out out' r → RecoverSaysIn z rec l nodes moved' out now u → (u ≡ r) × (now ≡ out')
   listed_recover nodes s moved moved' out out' now r u done was is =
       let none = done_means (fault_of rec (λ h. rearrange_fault h h.k l (length s) (length moved))) done.promise.answered in
       let (sound, own) = none_met rec (λ h. rearrange_fault h h.k l (length s) (length moved)) none in

@@ -1,4 +1,6 @@
 -- The single changes that make a lane a word: the sentences, proved.
+use Rattle.std.specs.Prelude.{Ok, Err}
+use Rattle.generator.specs.Answers.{Answer}
 use mathlib.Core.Path.{◌≡◌}
 use mathlib.Core.List.{List}
 use Prim.Native.Nat.{ℕ}
@@ -8,8 +10,6 @@ use Rattle.generator.specs.Records.{header_of, width}
 use Rattle.generator.proofs.Accepts.{faultless_sound}
 use Rattle.refusals.specs.Faults.{fault_of}
 use Rattle.refusals.proofs.OnRecord.{none_met}
-use Rattle.mends.specs.declared.Mending.{Mending}
-use Rattle.mends.specs.declared.Mending.TheVariants.{Listed, Refused}
 use Rattle.mends.specs.Mends.{mend_nodes, mend_symbols, Mends}
 use Rattle.mends.specs.Promise.{mends_fault, mending_of, in_front, MendsSay}
 use Rattle.mends.proofs.Accepts.{mends_accepts, listed_means}
@@ -17,7 +17,7 @@ use Rattle.mends.proofs.Meaning.{mends}
 use Rattle.demands.specs.Calls.{read}
 use Rattle.demands.specs.Mending.{SingleMends}
 
-call : (rec lane nodes symbols nodes' symbols' : List ℕ) (r : Mending) → MendsSay rec lane nodes symbols nodes' symbols' r → ((g : ℕ) → r ≡ Refused g → ⊥) → (r ≡ Listed (length (mend_nodes (header_of rec) (read (header_of rec) lane)))) × (nodes' ≡ in_front (mend_nodes (header_of rec) (read (header_of rec) lane)) nodes) × (symbols' ≡ in_front (bytes_of (width (header_of rec)) (mend_symbols (header_of rec) (read (header_of rec) lane))) symbols) × Mends (header_of rec) (read (header_of rec) lane)
+call : (rec lane nodes symbols nodes' symbols' : List ℕ) (r : Answer ℕ) → MendsSay rec lane nodes symbols nodes' symbols' r → ((g : ℕ) → r ≡ Err g → ⊥) → (r ≡ Ok (length (mend_nodes (header_of rec) (read (header_of rec) lane)))) × (nodes' ≡ in_front (mend_nodes (header_of rec) (read (header_of rec) lane)) nodes) × (symbols' ≡ in_front (bytes_of (width (header_of rec)) (mend_symbols (header_of rec) (read (header_of rec) lane))) symbols) × Mends (header_of rec) (read (header_of rec) lane)
 unfolding mending_of
 call rec lane nodes symbols nodes' symbols' r says other =
     let h = header_of rec in

@@ -1,4 +1,5 @@
 -- Records and plans: the sentences, proved.
+use Rattle.std.specs.Prelude.{Ok}
 use mathlib.Core.Path.{◌≡◌, refl, sym, ap, ap₂, ◌∙◌}
 use mathlib.Core.List.{List}
 use Prim.Native.Nat.{ℕ, zero, suc, ◌+◌, ◌*◌}
@@ -7,7 +8,6 @@ use Rattle.lists.proofs.Padding.{length_padded, padded_past, get_or_zeros}
 use Rattle.field.specs.declared.Field.TheVariants.{Prime}
 use Rattle.field.specs.Kinds.{prime_of}
 use Rattle.generator.specs.declared.Header.{Header}
-use Rattle.generator.specs.declared.Record.TheVariants.{Holds}
 use Rattle.generator.specs.Records.{header_of, record_fault, record_of, judged, distance, low_reads, high_reads, Sound}
 use Rattle.generator.specs.Shifts.{shifts, negative, firsts}
 use Rattle.generator.specs.Generator.{base_word}
@@ -23,7 +23,7 @@ use Rattle.demands.specs.Plans.{PlanHolds, EmptyPlan, Plans}
 use Rattle.demands.proofs.Judging.{by_number}
 use Rattle.demands.proofs.RecordNumbers.{record_tells}
 
-holds : (h : Header) → Sound h → PlanHolds h (plan_for (Holds h))
+holds : (h : Header) → Sound h → PlanHolds h (plan_for (Ok h))
 unfolding plan_for distance low_reads high_reads negative
 holds h s =
     let shifts_long = shifts_length h.n h.k s.some s.fits in
@@ -51,7 +51,7 @@ holds h s =
 accepted : (rec : List ℕ) (p : Plan) → PlanSays rec p → record_fault rec ≡ 0 → PlanHolds (header_of rec) p
 unfolding record_of judged
 accepted rec p says none =
-    let is : p ≡ plan_for (Holds (header_of rec)) = says.plan ∙ rw none in
+    let is : p ≡ plan_for (Ok (header_of rec)) = says.plan ∙ rw none in
     rw is (holds (header_of rec) (faultless_sound rec none))
 
 empty : (rec : List ℕ) → (record_fault rec ≡ 0 → ⊥) → EmptyPlan (plan_for (record_of rec))

@@ -1,4 +1,5 @@
 -- What one bad read does to Rebuild, from what the call promises.
+use Rattle.std.specs.Prelude.{Ok}
 use mathlib.Core.Path.{◌≡◌, sym, ap, ◌∙◌}
 use mathlib.Core.Bool.{true, false}
 use mathlib.Core.List.{List}
@@ -25,7 +26,6 @@ use Rattle.refusals.specs.Faults.{fault_of}
 use Rattle.recover.specs.Promise.{rebuild_fault, RebuildSays}
 use Rattle.recover.proofs.Accepts.{rebuild_accepts}
 use Rattle.refusals.proofs.OnRecord.{none_met}
-use Rattle.blocks.specs.declared.Outcome.TheVariants.{Done}
 use Rattle.blocks.specs.Blocks.{share_at, share_of, MessageFor}
 use Rattle.blocks.specs.Bytes.{RebuiltBytes}
 use Rattle.blocks.proofs.Answered.{done_means}
@@ -91,12 +91,12 @@ module _ (h : Header) (l i t : ℕ) (shares wrong : List ℕ) (off : OneOff h l 
         (one_message h s nodes (lane_of row_after_row h.k l q u) (lane_of row_after_row h.k l q m) different (message' q inside) (message q inside) (misread.lanes q inside ∙ other_lane q inside other ∙ sym (read.lanes q inside)))
 
 -- what a call that is done relied on and gave
-done_call : (rec : List ℕ) (l : ℕ) (nodes shares : List ℕ) (target : ℕ) (out out' : List ℕ) → RebuildSays rec l nodes shares target out out' Done → Sound (header_of rec) × (are_nodes (header_of rec) nodes ≡ true) × (target < (header_of rec).n) × RebuiltBytes share_layout (header_of rec) l nodes shares target out'
+done_call : (rec : List ℕ) (l : ℕ) (nodes shares : List ℕ) (target : ℕ) (out out' : List ℕ) → RebuildSays rec l nodes shares target out out' (Ok tt) → Sound (header_of rec) × (are_nodes (header_of rec) nodes ≡ true) × (target < (header_of rec).n) × RebuiltBytes share_layout (header_of rec) l nodes shares target out'
 done_call rec l nodes shares target out out' says =
     let none = done_means (fault_of rec (λ h. rebuild_fault h l nodes shares target (length out))) says.promise.answer in
     let (s, own) = none_met rec (λ h. rebuild_fault h l nodes shares target (length out)) none in
     let (listed, low, size_is) = rebuild_accepts (header_of rec) s l nodes shares target (length out) own in
-    (s, listed.different, low, rw none at (rebuild_law share_lawful rec l nodes shares out out' Done target says))
+    (s, listed.different, low, rw none at (rebuild_law share_lawful rec l nodes shares out out' (Ok tt) target says))
 
 pub bad_read : BadRead
 unfolding RebuiltBytes

@@ -1,4 +1,6 @@
 -- Repair by traces, from what its calls promise.
+use Rattle.std.specs.Prelude.{Ok, Err}
+use Rattle.generator.specs.Answers.{Answer}
 use mathlib.Core.Path.{◌≡◌, refl, sym, ap, subst, ◌∙◌}
 use mathlib.Core.Logic.{◌↔◌, ◌⊎◌}
 use mathlib.Core.Bool.{Bool, true, false, ◌||◌, not}
@@ -18,8 +20,6 @@ use Rattle.generator.specs.Records.{header_of, modulus_of, width}
 use Rattle.refusals.specs.Conditions.{lanes_bad, length_bad, number_bad, nodes_bad, twice_bad}
 use Rattle.refusals.specs.Faults.{fault_of}
 use Rattle.refusals.proofs.OnRecord.{none_met}
-use Rattle.blocks.specs.declared.Outcome.{Outcome}
-use Rattle.blocks.specs.declared.Outcome.TheVariants as O
 use Rattle.blocks.specs.Blocks.{share_of}
 use Rattle.blocks.proofs.Answered.{done_means}
 use Rattle.encode.specs.Promise.{EncodeSays}
@@ -28,7 +28,6 @@ use Rattle.traces.proofs.Claims.{repairable, no_repair, enough, least, sender_be
 use Rattle.repair_bound.proofs.Bound.{repair_bound}
 use Rattle.repair_bound.proofs.Prices.{trace_price}
 use Rattle.repair.specs.declared.RepairPlan.{RepairPlan}
-use Rattle.repair.specs.declared.RepairPlan.TheVariants as P
 use Rattle.repair.specs.Packing.{plane_size, packed_size}
 use Rattle.repair.specs.Sent.{sent, repaired_share}
 use Rattle.repair.specs.Inner.Rows.{sent_all}
@@ -108,7 +107,7 @@ module _ (rec : List ℕ) where
     bits_number : Tells (record_numbers rec ++ repair_bits_numbers h l j target missing (length share) (length out)) (fault_of rec (λ h. repair_bits_fault h l j target missing (length share) (length out)))
     bits_number = own_after rec _ (λ h. repair_bits_fault h l j target missing (length share) (length out)) refl (λ none. bits_tells h l j target missing (length share) (length out))
 
-    bits_judged : (r : Outcome) → RepairBitsSays rec l j target missing share out out' r → Judged (record_numbers rec ++ repair_bits_numbers h l j target missing (length share) (length out)) (λ f. r ≡ O.Refused f) (out' ≡ out)
+    bits_judged : (r : Answer (Unit {0})) → RepairBitsSays rec l j target missing share out out' r → Judged (record_numbers rec ++ repair_bits_numbers h l j target missing (length share) (length out)) (λ f. r ≡ Err f) (out' ≡ out)
     bits_judged r says = by_outcome bits_number says.promise.answer (λ some. rw (ne_eqb _ 0 some) at says.promise.written)
 
     bits_returns : (r : ℕ) → RepairBitsGives rec l j target missing share out out' r → Judged (record_numbers rec ++ repair_bits_numbers h l j target missing (length share) (length out)) (Returns r) (out' ≡ out)
@@ -118,7 +117,7 @@ module _ (rec : List ℕ) where
     share_number : Tells (record_numbers rec ++ repair_share_numbers h l target missing (length rows) (length out)) (fault_of rec (λ h. repair_share_fault h l target missing (length rows) (length out)))
     share_number = own_after rec _ (λ h. repair_share_fault h l target missing (length rows) (length out)) refl (λ none. share_tells h l target missing (length rows) (length out))
 
-    share_judged : (r : Outcome) → RepairShareSays rec l target missing rows out out' r → Judged (record_numbers rec ++ repair_share_numbers h l target missing (length rows) (length out)) (λ f. r ≡ O.Refused f) (out' ≡ out)
+    share_judged : (r : Answer (Unit {0})) → RepairShareSays rec l target missing rows out out' r → Judged (record_numbers rec ++ repair_share_numbers h l target missing (length rows) (length out)) (λ f. r ≡ Err f) (out' ≡ out)
     share_judged r says = by_outcome share_number says.promise.answer (λ some. rw (ne_eqb _ 0 some) at says.promise.written)
 
     share_returns : (r : ℕ) → RepairShareGives rec l target missing rows out out' r → Judged (record_numbers rec ++ repair_share_numbers h l target missing (length rows) (length out)) (Returns r) (out' ≡ out)
@@ -128,10 +127,10 @@ module _ (rec : List ℕ) where
     plan_number : Tells (record_numbers rec ++ repair_plan_numbers h count) (fault_of rec (λ h. repair_plan_fault h count))
     plan_number = own_after rec _ (λ h. repair_plan_fault h count) refl (λ none. plan_tells h count)
 
-    plan_judged : (r : RepairPlan) → RepairPlanSays rec count r → Judged (record_numbers rec ++ repair_plan_numbers h count) (λ f. r ≡ P.Refused f) (Unit {0})
+    plan_judged : (r : Answer RepairPlan) → RepairPlanSays rec count r → Judged (record_numbers rec ++ repair_plan_numbers h count) (λ f. r ≡ Err f) (Unit {0})
     plan_judged r says =
         let number = fault_of rec (λ h. repair_plan_fault h count) in
-        call_judged number plan_number (by_answer P.Refused says.promise.answer (refused_plan number _ _) (plan_refused number _ _)) (λ some. tt)
+        call_judged number plan_number (by_answer Err says.promise.answer (refused_plan number _ _) (plan_refused number _ _)) (λ some. tt)
 
     plan_returns : (b more b' more' r : ℕ) → RepairPlanGives rec count b more b' more' r → Judged (record_numbers rec ++ repair_plan_numbers h count) (Returns r) ((b' ≡ b) × (more' ≡ more))
     plan_returns b more b' more' r g = by_number g.number plan_number (λ some. (rw (ne_eqb r 0 some) at g.bits_are, rw (ne_eqb r 0 some) at g.spare_is))
@@ -141,7 +140,7 @@ module _ (rec : List ℕ) where
     unfolding repair_plan_fault traces_bad
     plan_some own = eqb-false _ 0 (when_zero (eqb (bits h count) 0) 16 own)
 
-    plan_done : (b more : ℕ) → RepairPlanSays rec count (P.Sends b more) → PlanDone h count b more
+    plan_done : (b more : ℕ) → RepairPlanSays rec count (Ok (record { bits = b; spare = more })) → PlanDone h count b more
     unfolding spare
     plan_done b more says =
         let fault = fault_of rec (λ h. repair_plan_fault h count) in
@@ -153,7 +152,7 @@ module _ (rec : List ℕ) where
         record { field = kind; bits = rw same width; uses = rw (same, rest) uses; least = rw same (least h kind count) }
 
   -- what a node wrote
-  sends_done : (l j target : ℕ) (missing share out out' : List ℕ) → RepairBitsSays rec l j target missing share out out' O.Done → BitsDone h l j target missing share out'
+  sends_done : (l j target : ℕ) (missing share out out' : List ℕ) → RepairBitsSays rec l j target missing share out out' (Ok tt) → BitsDone h l j target missing share out'
   unfolding packed_size plane_size
   sends_done l j target missing share out out' says =
       let none = done_means (fault_of rec (λ h. repair_bits_fault h l j target missing (length share) (length out))) says.promise.answer in
@@ -169,7 +168,7 @@ module _ (rec : List ℕ) where
       }
 
 -- all nodes of one encoding, and the target
-module _ (rec : List ℕ) (l : ℕ) (message out shares : List ℕ) (says : EncodeSays rec l message out shares O.Done) (target : ℕ) (missing : List ℕ) (by : ℕ → List ℕ) (all : AllSent rec l target missing shares by) where
+module _ (rec : List ℕ) (l : ℕ) (message out shares : List ℕ) (says : EncodeSays rec l message out shares (Ok tt)) (target : ℕ) (missing : List ℕ) (by : ℕ → List ℕ) (all : AllSent rec l target missing shares by) where
   abbrev hd : Header
   hd = header_of rec
 
@@ -184,7 +183,7 @@ module _ (rec : List ℕ) (l : ℕ) (message out shares : List ℕ) (says : Enco
       let none = done_means (fault_of rec (λ h. repair_bits_fault h l j target missing (length (cut_of hd l (j ∷ []) shares)) (length o))) done.promise.answer in
       rw none at done.promise.written ∙ ap (sent hd target missing j) (cut_share (encoded rec l message out shares says) j (sender_below hd target missing i (omega arith)))
 
-  repairs : (back back' : List ℕ) → RepairShareSays rec l target missing (in_order rec target missing by) back back' O.Done → back' ≡ cut_of hd l (target ∷ []) shares
+  repairs : (back back' : List ℕ) → RepairShareSays rec l target missing (in_order rec target missing by) back back' (Ok tt) → back' ≡ cut_of hd l (target ∷ []) shares
   unfolding sent_all
   repairs back back' done =
       let rows = in_order rec target missing by in

@@ -1,4 +1,6 @@
 -- Demand 1 of the calls of a roster, proved.
+use Rattle.std.specs.Prelude.{Ok, Err}
+use Rattle.generator.specs.Answers.{Answer}
 use mathlib.Core.Path.{◌≡◌, refl, sym, ap, ◌∙◌}
 use mathlib.Core.Logic.Iff
 use mathlib.Core.Logic.{◌↔◌, by_cases}
@@ -14,8 +16,6 @@ use lib.Seq.{get_or_at}
 use Rattle.lists.specs.Choice.{first_of, when}
 use Rattle.lists.proofs.Cases.{by_test}
 use Rattle.generator.specs.declared.Header.{Header}
-use Rattle.generator.specs.declared.Record.{Record}
-use Rattle.generator.specs.declared.Record.TheVariants.{Holds, Meets}
 use Rattle.generator.specs.Records.{header_of, record_fault, record_of, judged}
 use Rattle.generator.proofs.Accepts.{faultless_sound}
 use Rattle.roster.specs.declared.Roster.{Roster}
@@ -59,10 +59,10 @@ two_lengths true b = refl
 two_lengths false b = refl
 
 -- the jobs are counted from 0
-first_job : (R : Record) → (start_of R).roster.job ≡ 0
+first_job : (R : Answer Header) → (start_of R).roster.job ≡ 0
 unfolding start_of first_step
-first_job (Holds h) = refl
-first_job (Meets f) = refl
+first_job (Ok h) = refl
+first_job (Err f) = refl
 
 module _ (rec : List ℕ) where
   abbrev h : Header

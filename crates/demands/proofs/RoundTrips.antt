@@ -1,4 +1,5 @@
 -- Calls one after the other, from what each promises.
+use Rattle.std.specs.Prelude.{Ok}
 use mathlib.Core.Path.{◌≡◌, sym, ap, ap₂, ◌∙◌}
 use mathlib.Core.Bool.{true}
 use mathlib.Core.List.{List, [], ◌∷◌}
@@ -35,8 +36,6 @@ use Rattle.recover.proofs.Accepts.{recover_accepts, rebuild_accepts}
 use Rattle.update.proofs.Accepts.{update_accepts}
 use Rattle.encode.proofs.Accepts.{encode_accepts}
 use Rattle.refusals.proofs.OnRecord.{none_met}
-use Rattle.blocks.specs.declared.Outcome.TheVariants as O
-use Rattle.blocks.specs.declared.Update.TheVariants as U
 use Rattle.blocks.specs.Blocks.{share_at, share_of, shares_of, gathered, recovered, updated}
 use Rattle.blocks.specs.Bytes.{encoded_bytes, updated_bytes, recovered_bytes, rebuilt_bytes}
 use Rattle.blocks.proofs.Answered.{done_means, altered_means}
@@ -45,7 +44,6 @@ use Rattle.blocks.proofs.OneSymbol.{updated_shares}
 use Rattle.blocks.proofs.Recovered.{recovered_only}
 use Rattle.blocks.proofs.Shares.{length_shares, lane_encodes}
 use Rattle.demands.specs.LaneAfterLane.{Full}
-use Rattle.correct.specs.declared.Correction.TheVariants as C
 use Rattle.correct.specs.Blocks.{corrected_shares, corrected_bytes}
 use Rattle.correct.specs.Promise.{correct_fault, CorrectSays}
 use Rattle.correct.specs.Meaning.{NearWord, lane_in}
@@ -62,7 +60,7 @@ pub record Encoded (h : Header) (l : ℕ) (message shares : List ℕ) : Type 0 w
   pub written : shares ≡ bytes_of (width h) (shares_of share_layout h l (read h message))
   pub shares_are : read h shares ≡ shares_of share_layout h l (read h message)
 
-pub encoded : (rec : List ℕ) (l : ℕ) (message out shares : List ℕ) → EncodeSays rec l message out shares O.Done → Encoded (header_of rec) l message shares
+pub encoded : (rec : List ℕ) (l : ℕ) (message out shares : List ℕ) → EncodeSays rec l message out shares (Ok tt) → Encoded (header_of rec) l message shares
 unfolding encoded_bytes
 encoded rec l message out shares says =
     let h = header_of rec in
@@ -167,7 +165,7 @@ module _ {h : Header} {l : ℕ} {message shares : List ℕ} (e : Encoded h l mes
       ∙ get_or_lane row_after_row h.k l t m r row
       ∙ held_by_row h.k l m r t
 
-module _ (rec : List ℕ) (l : ℕ) (message out shares : List ℕ) (says : EncodeSays rec l message out shares O.Done) where
+module _ (rec : List ℕ) (l : ℕ) (message out shares : List ℕ) (says : EncodeSays rec l message out shares (Ok tt)) where
   abbrev h : Header
   h = header_of rec
 
@@ -175,7 +173,7 @@ module _ (rec : List ℕ) (l : ℕ) (message out shares : List ℕ) (says : Enco
   e = encoded rec l message out shares says
 
   -- Recover writes the message again
-  recover : (nodes back back' : List ℕ) → RecoverSays rec l nodes (cut_of h l nodes shares) back back' O.Done → back' ≡ bytes_of (width h) (read h message)
+  recover : (nodes back back' : List ℕ) → RecoverSays rec l nodes (cut_of h l nodes shares) back back' (Ok tt) → back' ≡ bytes_of (width h) (read h message)
   unfolding recovered_bytes
   recover nodes back back' done =
       let listed = cut_of h l nodes shares in
@@ -185,7 +183,7 @@ module _ (rec : List ℕ) (l : ℕ) (message out shares : List ℕ) (says : Enco
       rw none at done.promise.written ∙ ap (bytes_of (width h)) (recovered_back e nodes different)
 
   -- Rebuild writes a node's share of it
-  rebuild : (nodes : List ℕ) (target : ℕ) (back back' : List ℕ) → RebuildSays rec l nodes (cut_of h l nodes shares) target back back' O.Done → (target < h.n) × (back' ≡ bytes_of (width h) (share_of h l (read h message) target))
+  rebuild : (nodes : List ℕ) (target : ℕ) (back back' : List ℕ) → RebuildSays rec l nodes (cut_of h l nodes shares) target back back' (Ok tt) → (target < h.n) × (back' ≡ bytes_of (width h) (share_of h l (read h message) target))
   unfolding rebuilt_bytes
   rebuild nodes target back back' done =
       let listed = cut_of h l nodes shares in
@@ -195,7 +193,7 @@ module _ (rec : List ℕ) (l : ℕ) (message out shares : List ℕ) (says : Enco
       (node, rw none at done.promise.written ∙ ap (λ (u : List ℕ). bytes_of (width h) (share_of h l u target)) (recovered_back e nodes is.different))
 
   -- the setting right writes the shares again
-  correct : (wrong wrong' : List ℕ) (count : ℕ) → FewWrong h l shares wrong → CorrectSays rec l wrong wrong' (C.Altered count) → wrong' ≡ shares
+  correct : (wrong wrong' : List ℕ) (count : ℕ) → FewWrong h l shares wrong → CorrectSays rec l wrong wrong' (Ok count) → wrong' ≡ shares
   unfolding corrected_bytes corrected_shares
   correct wrong wrong' count few done =
       let none = (Corrected.altered_means (fault_of rec (λ h. correct_fault share_layout h l wrong)) _ count done.promise.answer).0 in
@@ -209,7 +207,7 @@ module _ (rec : List ℕ) (l : ℕ) (message out shares : List ℕ) (says : Enco
       written ∙ ap (bytes_of (width h)) (sym now ∙ same ∙ e.shares_are) ∙ sym e.written
 
   -- Update writes the shares of the message with the new symbol
-  update : (r t old new : ℕ) (shares' : List ℕ) (count : ℕ) → UpdateSays rec l r t old new shares shares' (U.Altered count) → shares' ≡ bytes_of (width h) (shares_of share_layout h l (set (read h message) (r * l + t) new))
+  update : (r t old new : ℕ) (shares' : List ℕ) (count : ℕ) → UpdateSays rec l r t old new shares shares' (Ok count) → shares' ≡ bytes_of (width h) (shares_of share_layout h l (set (read h message) (r * l + t) new))
   unfolding updated_bytes
   update r t old new shares' count done =
       let none = (altered_means (fault_of rec (λ h. update_fault share_layout h l r t old new shares)) _ count done.promise.answer).0 in

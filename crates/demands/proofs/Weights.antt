@@ -1,4 +1,5 @@
 -- How many messages light how many nodes: the sentences, proved.
+use Rattle.std.specs.Prelude.{Ok}
 use mathlib.Core.Path.{◌≡◌, ap, ◌∙◌}
 use mathlib.Core.List.{List}
 use Prim.Native.Nat.{ℕ, ◌+◌, ◌≤◌}
@@ -10,7 +11,6 @@ use Rattle.generator.specs.Records.{header_of}
 use Rattle.generator.proofs.Accepts.{faultless_sound}
 use Rattle.refusals.specs.Faults.{fault_of}
 use Rattle.refusals.proofs.OnRecord.{none_met}
-use Rattle.blocks.specs.declared.Outcome.TheVariants.{Done}
 use Rattle.blocks.proofs.Answered.{done_means}
 use Rattle.weight_distribution.proofs.Choosing.{choosing}
 use Rattle.weight_counts.specs.Weights.{weight_count_of, weight_counts, weights_fault, Distribution, WeightsSay}
@@ -18,7 +18,7 @@ use Rattle.weight_counts.proofs.Sample.{sample_counts}
 use Rattle.weight_counts.proofs.Weights.{distribution}
 use Rattle.demands.specs.Weights.{Weights}
 
-call : (rec counts counts' : List ℕ) → WeightsSay rec counts counts' Done → (length counts' ≡ (header_of rec).n + 1) × ((w : ℕ) → w ≤ (header_of rec).n → get_or counts' w 0 ≡ weight_count_of (header_of rec) w) × Distribution (header_of rec)
+call : (rec counts counts' : List ℕ) → WeightsSay rec counts counts' (Ok tt) → (length counts' ≡ (header_of rec).n + 1) × ((w : ℕ) → w ≤ (header_of rec).n → get_or counts' w 0 ≡ weight_count_of (header_of rec) w) × Distribution (header_of rec)
 unfolding weight_counts
 call rec counts counts' says =
     let h = header_of rec in

@@ -1,4 +1,5 @@
 -- Demands 2 and 3 of the calls themselves: what follows from the promise of a call that no number turned away. Buffers are read as symbols.
+use Rattle.std.specs.Prelude.{Some, None, Ok}
 use Rattle.std.specs.Prelude.{◌≡◌, List, ℕ, ◌<◌, length, get_or}
 use Rattle.lists.specs.Counting.{differ}
 use Rattle.layout.specs.Layout.{row_after_row, lane_of, share_layout}
@@ -7,9 +8,6 @@ use Rattle.generator.specs.declared.Header.{Header}
 use Rattle.generator.specs.Records.{header_of, width}
 use Rattle.generator.specs.Codewords.{encoding}
 use Rattle.generator.specs.Claims.{Codeword}
-use Rattle.blocks.specs.declared.Outcome.TheVariants as O
-use Rattle.blocks.specs.declared.Update.TheVariants as U
-use Rattle.blocks.specs.declared.Membership.TheVariants as M
 use Rattle.blocks.specs.Blocks.{gathered, MessageFor}
 use Rattle.belongs.specs.Promise.{BelongsSays}
 use Rattle.recover.specs.Promise.{RecoverSays, RebuildSays}
@@ -57,9 +55,9 @@ pub record UpdateDone (h : Header) (shares shares' : List ℕ) (l r t old new co
 
 -- the calls, whatever the record
 pub record CallDemands : Type 0 where
-  pub encode : (rec : List ℕ) (l : ℕ) (message out out' : List ℕ) → EncodeSays rec l message out out' O.Done → EncodeDone (header_of rec) l message out'
-  pub recover : (rec : List ℕ) (l : ℕ) (nodes shares out out' : List ℕ) → RecoverSays rec l nodes shares out out' O.Done → RecoverDone (header_of rec) l nodes shares out'
-  pub rebuild : (rec : List ℕ) (l : ℕ) (nodes shares : List ℕ) (target : ℕ) (out out' : List ℕ) → RebuildSays rec l nodes shares target out out' O.Done → RebuildDone (header_of rec) l nodes shares target out'
-  pub passes : (rec : List ℕ) (l : ℕ) (shares : List ℕ) → BelongsSays rec l shares M.Yes → AllWords (header_of rec) l shares
-  pub names : (rec : List ℕ) (l : ℕ) (shares : List ℕ) (wrong : ℕ) → BelongsSays rec l shares (M.No wrong) → SmallestWrong (header_of rec) l shares wrong
-  pub update : (rec : List ℕ) (l r t old new : ℕ) (shares shares' : List ℕ) (count : ℕ) → UpdateSays rec l r t old new shares shares' (U.Altered count) → UpdateDone (header_of rec) shares shares' l r t old new count
+  pub encode : (rec : List ℕ) (l : ℕ) (message out out' : List ℕ) → EncodeSays rec l message out out' (Ok tt) → EncodeDone (header_of rec) l message out'
+  pub recover : (rec : List ℕ) (l : ℕ) (nodes shares out out' : List ℕ) → RecoverSays rec l nodes shares out out' (Ok tt) → RecoverDone (header_of rec) l nodes shares out'
+  pub rebuild : (rec : List ℕ) (l : ℕ) (nodes shares : List ℕ) (target : ℕ) (out out' : List ℕ) → RebuildSays rec l nodes shares target out out' (Ok tt) → RebuildDone (header_of rec) l nodes shares target out'
+  pub passes : (rec : List ℕ) (l : ℕ) (shares : List ℕ) → BelongsSays rec l shares (Ok None) → AllWords (header_of rec) l shares
+  pub names : (rec : List ℕ) (l : ℕ) (shares : List ℕ) (wrong : ℕ) → BelongsSays rec l shares (Ok (Some wrong)) → SmallestWrong (header_of rec) l shares wrong
+  pub update : (rec : List ℕ) (l r t old new : ℕ) (shares shares' : List ℕ) (count : ℕ) → UpdateSays rec l r t old new shares shares' (Ok count) → UpdateDone (header_of rec) shares shares' l r t old new count

@@ -1,4 +1,6 @@
 -- Setting right, sentence by sentence: of the code, and of the call, whatever the record.
+use Rattle.std.specs.Prelude.{Option, None, Ok, Err}
+use Rattle.generator.specs.Answers.{Answer}
 use Rattle.std.specs.Prelude.{◌≡◌, ◌↔◌, true, List, ℕ, ◌+◌, ◌≤◌, ◌<◌, length}
 use Rattle.lists.specs.Counting.{differ}
 use Rattle.lists.specs.Numbers.{all_below}
@@ -8,11 +10,7 @@ use Rattle.generator.specs.Records.{header_of, record_fault, size, width, distan
 use Rattle.generator.specs.Claims.{Codeword}
 use Rattle.refusals.specs.Faults.{fault_of}
 use Rattle.belongs.specs.Promise.{belongs_fault, BelongsSays}
-use Rattle.blocks.specs.declared.Membership.{Membership}
-use Rattle.blocks.specs.declared.Membership.TheVariants as M
 use Rattle.demands.specs.LaneAfterLane.{to_lanes, Full}
-use Rattle.correct.specs.declared.Correction.{Correction}
-use Rattle.correct.specs.declared.Correction.TheVariants as C
 use Rattle.correct.specs.Promise.{CorrectSaysIn, CorrectSays}
 use Rattle.correct.specs.Meaning.{NearWord, lane_in, CorrectDone}
 
@@ -24,17 +22,17 @@ pub record Corrections : Type 0 where
   -- so at most one is within (n − k)/2 nodes of a lane
   pub one : (rec : List ℕ) → record_fault rec ≡ 0 → (ws us vs : List ℕ) → length ws ≡ (header_of rec).n → NearWord (header_of rec) ws us → NearWord (header_of rec) ws vs → us ≡ vs
   -- a block that was set right: each lane is that word, the count is of the places where the buffers differ, a word stays
-  pub done : (rec : List ℕ) (l : ℕ) (shares shares' : List ℕ) (count : ℕ) → CorrectSays rec l shares shares' (C.Altered count) → CorrectDone (header_of rec) l shares shares' count
+  pub done : (rec : List ℕ) (l : ℕ) (shares shares' : List ℕ) (count : ℕ) → CorrectSays rec l shares shares' (Ok count) → CorrectDone (header_of rec) l shares shares' count
   -- and Belongs says yes
-  pub belongs : (rec : List ℕ) (l : ℕ) (shares shares' : List ℕ) (count : ℕ) → CorrectSays rec l shares shares' (C.Altered count) → (r : Membership) → BelongsSays rec l shares' r → r ≡ M.Yes
+  pub belongs : (rec : List ℕ) (l : ℕ) (shares shares' : List ℕ) (count : ℕ) → CorrectSays rec l shares shares' (Ok count) → (r : Answer (Option ℕ)) → BelongsSays rec l shares' r → r ≡ Ok None
   -- number 14 is given exactly if no number before it is, and some lane has no word that near
-  pub refused : (rec : List ℕ) (l : ℕ) (shares shares' : List ℕ) (r : Correction) → CorrectSays rec l shares shares' r →
-      (r ≡ C.Refused 14) ↔ ((fault_of rec (λ h. belongs_fault h l shares) ≡ 0) × ((t : ℕ) × (t < l) × ((us : List ℕ) → NearWord (header_of rec) (lane_in (header_of rec) l shares t) us → ⊥)))
+  pub refused : (rec : List ℕ) (l : ℕ) (shares shares' : List ℕ) (r : Answer ℕ) → CorrectSays rec l shares shares' r →
+      (r ≡ Err 14) ↔ ((fault_of rec (λ h. belongs_fault h l shares) ≡ 0) × ((t : ℕ) × (t < l) × ((us : List ℕ) → NearWord (header_of rec) (lane_in (header_of rec) l shares t) us → ⊥)))
   -- beside any number no lane is touched
-  pub untouched : (rec : List ℕ) (l : ℕ) (shares shares' : List ℕ) (g : ℕ) → CorrectSays rec l shares shares' (C.Refused g) → shares' ≡ shares
+  pub untouched : (rec : List ℕ) (l : ℕ) (shares shares' : List ℕ) (g : ℕ) → CorrectSays rec l shares shares' (Err g) → shares' ≡ shares
   -- for k = n and k = n − 1 only words of the code pass
-  pub exact : (rec : List ℕ) (l : ℕ) (shares shares' : List ℕ) (count : ℕ) → (header_of rec).n ≤ (header_of rec).k + 1 → CorrectSays rec l shares shares' (C.Altered count) → ((t : ℕ) → t < l → Codeword (header_of rec) (lane_in (header_of rec) l shares t)) × (symbols_of (width (header_of rec)) shares' ≡ symbols_of (width (header_of rec)) shares) × (count ≡ 0)
+  pub exact : (rec : List ℕ) (l : ℕ) (shares shares' : List ℕ) (count : ℕ) → (header_of rec).n ≤ (header_of rec).k + 1 → CorrectSays rec l shares shares' (Ok count) → ((t : ℕ) → t < l → Codeword (header_of rec) (lane_in (header_of rec) l shares t)) × (symbols_of (width (header_of rec)) shares' ≡ symbols_of (width (header_of rec)) shares) × (count ≡ 0)
   -- lane after lane beside node after node: the same answer with its count, and the old shares rearranged
-  pub lanes : (rec : List ℕ) (l : ℕ) (s s' now : List ℕ) (a b : Correction) → Full (header_of rec) (header_of rec).n l s
+  pub lanes : (rec : List ℕ) (l : ℕ) (s s' now : List ℕ) (a b : Answer ℕ) → Full (header_of rec) (header_of rec).n l s
       → CorrectSaysIn row_after_row rec l s s' a → CorrectSays rec l (to_lanes (header_of rec) (header_of rec).n l s) now b
       → (b ≡ a) × (now ≡ to_lanes (header_of rec) (header_of rec).n l s')

@@ -1,9 +1,9 @@
 -- A row of a message changes in every lane: what each node is told to add, over what Encode writes before and after.
+use Rattle.std.specs.Prelude.{Ok}
 use Rattle.std.specs.Prelude.{◌≡◌, List, [], ◌∷◌, ℕ, ◌+◌, ◌*◌, ◌%◌, ◌<◌, get_or, take, drop}
 use Rattle.generator.specs.declared.Header.{Header}
 use Rattle.generator.specs.Records.{header_of, distance, width}
 use Rattle.generator.specs.Shifts.{firsts}
-use Rattle.blocks.specs.declared.Outcome.TheVariants.{Done}
 use Rattle.encode.specs.Promise.{EncodeSays}
 use Rattle.differences.specs.Promise.{DifferencesSays, AddSays}
 use Rattle.demands.specs.Calls.{read}
@@ -22,10 +22,10 @@ pub record RowChanged (h : Header) (l r : ℕ) (old new message changed : List �
 pub record RowChanges : Type 0 where
   -- a node that holds its share of the message and adds its stretch then holds its share of the changed message
   pub adds : (rec : List ℕ) (l r : ℕ) (old new message changed out shares again shares' room s : List ℕ) → RowChanged (header_of rec) l r old new message changed
-      → EncodeSays rec l message out shares Done → EncodeSays rec l changed again shares' Done → DifferencesSays rec l r old new room s Done
-      → (j : ℕ) → j < (header_of rec).n → (share : List ℕ) → AddSays rec l (stretch_of (header_of rec) l j s) (cut_of (header_of rec) l (j ∷ []) shares) share Done
+      → EncodeSays rec l message out shares (Ok tt) → EncodeSays rec l changed again shares' (Ok tt) → DifferencesSays rec l r old new room s (Ok tt)
+      → (j : ℕ) → j < (header_of rec).n → (share : List ℕ) → AddSays rec l (stretch_of (header_of rec) l j s) (cut_of (header_of rec) l (j ∷ []) shares) share (Ok tt)
       → share ≡ cut_of (header_of rec) l (j ∷ []) shares'
   -- a node outside the d nodes of the row, which begin at its first node, has zeros to add
-  pub outside : (rec : List ℕ) (l r : ℕ) (old new room s : List ℕ) → DifferencesSays rec l r old new room s Done
+  pub outside : (rec : List ℕ) (l r : ℕ) (old new room s : List ℕ) → DifferencesSays rec l r old new room s (Ok tt)
       → (j : ℕ) → j < (header_of rec).n → ((x : ℕ) → x < distance (header_of rec) → (get_or (firsts (header_of rec)) r 0 + x) % (header_of rec).n ≡ j → ⊥)
       → (t : ℕ) → t < l → get_or (read (header_of rec) (stretch_of (header_of rec) l j s)) t 0 ≡ 0

@@ -1,13 +1,11 @@
 -- Each call with shares lane after lane, beside the same call with shares node after node: the promises are the same definitions in two arrangements. With shares rearranged, each share buffer that is written is the old one rearranged, and every other result is the old one.
+use Rattle.std.specs.Prelude.{Option, Ok}
+use Rattle.generator.specs.Answers.{Answer}
 use Rattle.std.specs.Prelude.{◌≡◌, true, List, ℕ, ◌*◌, length}
 use Rattle.lists.specs.Numbers.{all_below}
 use Rattle.layout.specs.Layout.{row_after_row, lane_after_lane}
 use Rattle.generator.specs.declared.Header.{Header}
 use Rattle.generator.specs.Records.{header_of, width}
-use Rattle.blocks.specs.declared.Outcome.{Outcome}
-use Rattle.blocks.specs.declared.Outcome.TheVariants.{Done}
-use Rattle.blocks.specs.declared.Update.{Update}
-use Rattle.blocks.specs.declared.Membership.{Membership}
 use Rattle.blocks.specs.Bytes.{rearranged_bytes}
 use Rattle.belongs.specs.Promise.{BelongsSaysIn, BelongsSays}
 use Rattle.recover.specs.Promise.{RecoverSaysIn, RecoverSays, RebuildSaysIn, RebuildSays}
@@ -28,35 +26,35 @@ Full h rows l s = length s ≡ rows * l * width h
 
 pub record LaneAfterLane : Type 0 where
   -- Encode into two buffers of one length, whatever they held
-  pub encode : (rec : List ℕ) (l : ℕ) (message out out' new new' : List ℕ) (r u : Outcome) → length new ≡ length out
+  pub encode : (rec : List ℕ) (l : ℕ) (message out out' new new' : List ℕ) (r u : Answer (Unit {0})) → length new ≡ length out
       → EncodeSaysIn row_after_row rec l message out out' r → EncodeSays rec l message new new' u
-      → (u ≡ r) × (u ≡ Done → new' ≡ to_lanes (header_of rec) (header_of rec).n l out')
+      → (u ≡ r) × (u ≡ Ok tt → new' ≡ to_lanes (header_of rec) (header_of rec).n l out')
   -- Update: the answer with its count, and the shares
-  pub update : (rec : List ℕ) (l r t old new : ℕ) (s s' now : List ℕ) (a b : Update) → Full (header_of rec) (header_of rec).n l s
+  pub update : (rec : List ℕ) (l r t old new : ℕ) (s s' now : List ℕ) (a b : Answer ℕ) → Full (header_of rec) (header_of rec).n l s
       → UpdateSaysIn row_after_row rec l r t old new s s' a → UpdateSays rec l r t old new (to_lanes (header_of rec) (header_of rec).n l s) now b
       → (b ≡ a) × (now ≡ to_lanes (header_of rec) (header_of rec).n l s')
   -- Recover: the answer and the message
-  pub recover : (rec : List ℕ) (l : ℕ) (nodes s out out' now : List ℕ) (r u : Outcome) → Full (header_of rec) (header_of rec).k l s
+  pub recover : (rec : List ℕ) (l : ℕ) (nodes s out out' now : List ℕ) (r u : Answer (Unit {0})) → Full (header_of rec) (header_of rec).k l s
       → RecoverSaysIn row_after_row rec l nodes s out out' r → RecoverSays rec l nodes (to_lanes (header_of rec) (header_of rec).k l s) out now u
       → (u ≡ r) × (now ≡ out')
   -- Rebuild: the answer and the share
-  pub rebuild : (rec : List ℕ) (l : ℕ) (nodes s : List ℕ) (target : ℕ) (out out' now : List ℕ) (r u : Outcome) → Full (header_of rec) (header_of rec).k l s
+  pub rebuild : (rec : List ℕ) (l : ℕ) (nodes s : List ℕ) (target : ℕ) (out out' now : List ℕ) (r u : Answer (Unit {0})) → Full (header_of rec) (header_of rec).k l s
       → RebuildSaysIn row_after_row rec l nodes s target out out' r → RebuildSays rec l nodes (to_lanes (header_of rec) (header_of rec).k l s) target out now u
       → (u ≡ r) × (now ≡ out')
   -- Belongs: yes, the smallest wrong lane, or the number
-  pub belongs : (rec : List ℕ) (l : ℕ) (s : List ℕ) (r u : Membership) → Full (header_of rec) (header_of rec).n l s
+  pub belongs : (rec : List ℕ) (l : ℕ) (s : List ℕ) (r u : Answer (Option ℕ)) → Full (header_of rec) (header_of rec).n l s
       → BelongsSaysIn row_after_row rec l s r → BelongsSays rec l (to_lanes (header_of rec) (header_of rec).n l s) u
       → u ≡ r
   -- the two rearrangements of bytes undo each other
   pub back : (h : Header) (rows l : ℕ) (s : List ℕ) → Full h rows l s → all_below 256 s ≡ true → to_nodes h rows l (to_lanes h rows l s) ≡ s
   pub forth : (h : Header) (rows l : ℕ) (s : List ℕ) → Full h rows l s → all_below 256 s ≡ true → to_lanes h rows l (to_nodes h rows l s) ≡ s
   -- so do the two calls for all nodes
-  pub calls_back : (rec : List ℕ) (l : ℕ) (s out out' end end' : List ℕ) → all_below 256 s ≡ true → ToLanesSays rec l s out out' Done → ToNodesSays rec l out' end end' Done → end' ≡ s
-  pub calls_forth : (rec : List ℕ) (l : ℕ) (s out out' end end' : List ℕ) → all_below 256 s ≡ true → ToNodesSays rec l s out out' Done → ToLanesSays rec l out' end end' Done → end' ≡ s
+  pub calls_back : (rec : List ℕ) (l : ℕ) (s out out' end end' : List ℕ) → all_below 256 s ≡ true → ToLanesSays rec l s out out' (Ok tt) → ToNodesSays rec l out' end end' (Ok tt) → end' ≡ s
+  pub calls_forth : (rec : List ℕ) (l : ℕ) (s out out' end end' : List ℕ) → all_below 256 s ≡ true → ToNodesSays rec l s out out' (Ok tt) → ToLanesSays rec l out' end end' (Ok tt) → end' ≡ s
   -- and the two for k listed ones
-  pub listed_back : (rec : List ℕ) (l : ℕ) (s out out' end end' : List ℕ) → all_below 256 s ≡ true → ListedToLanesSays rec l s out out' Done → ListedToNodesSays rec l out' end end' Done → end' ≡ s
-  pub listed_forth : (rec : List ℕ) (l : ℕ) (s out out' end end' : List ℕ) → all_below 256 s ≡ true → ListedToNodesSays rec l s out out' Done → ListedToLanesSays rec l out' end end' Done → end' ≡ s
+  pub listed_back : (rec : List ℕ) (l : ℕ) (s out out' end end' : List ℕ) → all_below 256 s ≡ true → ListedToLanesSays rec l s out out' (Ok tt) → ListedToNodesSays rec l out' end end' (Ok tt) → end' ≡ s
+  pub listed_forth : (rec : List ℕ) (l : ℕ) (s out out' end end' : List ℕ) → all_below 256 s ≡ true → ListedToNodesSays rec l s out out' (Ok tt) → ListedToLanesSays rec l out' end end' (Ok tt) → end' ≡ s
   -- Recover of listed shares that stood node after node: `listed_to_lanes` first gives the message that Recover of that arrangement would
-  pub listed_recover : (rec : List ℕ) (l : ℕ) (nodes s moved moved' out out' now : List ℕ) (answer other : Outcome) → ListedToLanesSays rec l s moved moved' Done
+  pub listed_recover : (rec : List ℕ) (l : ℕ) (nodes s moved moved' out out' now : List ℕ) (answer other : Answer (Unit {0})) → ListedToLanesSays rec l s moved moved' (Ok tt)
       → RecoverSaysIn row_after_row rec l nodes s out out' answer → RecoverSays rec l nodes moved' out now other
       → (other ≡ answer) × (now ≡ out')

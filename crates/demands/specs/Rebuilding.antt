@@ -1,11 +1,11 @@
 -- What one bad read does to Rebuild: two accepted calls whose shares differ in one symbol.
+use Rattle.std.specs.Prelude.{Ok}
 use Rattle.std.specs.Prelude.{◌≡◌, false, List, ℕ, ◌<◌, get_or}
 use Rattle.lists.specs.Numbers.{is_in}
 use Rattle.layout.specs.Layout.{share_layout, held}
 use Rattle.layout.specs.Width.{symbols_of}
 use Rattle.generator.specs.declared.Header.{Header}
 use Rattle.generator.specs.Records.{header_of, width}
-use Rattle.blocks.specs.declared.Outcome.TheVariants.{Done}
 use Rattle.recover.specs.Promise.{RebuildSays}
 
 -- what the listed node at place i has read in lane t
@@ -30,4 +30,4 @@ pub record OneLaneOff (h : Header) (l t : ℕ) (out wrong : List ℕ) : Type 0 w
 
 -- of two calls of Rebuild that are done
 abbrev pub BadRead : Type 0
-BadRead = (rec : List ℕ) (l i t : ℕ) (nodes shares wrong : List ℕ) (target : ℕ) (out out' off off' : List ℕ) → RebuildSays rec l nodes shares target out out' Done → RebuildSays rec l nodes wrong target off off' Done → OneOff (header_of rec) l i t shares wrong → is_in target nodes ≡ false → OneLaneOff (header_of rec) l t out' off'
+BadRead = (rec : List ℕ) (l i t : ℕ) (nodes shares wrong : List ℕ) (target : ℕ) (out out' off off' : List ℕ) → RebuildSays rec l nodes shares target out out' (Ok tt) → RebuildSays rec l nodes wrong target off off' (Ok tt) → OneOff (header_of rec) l i t shares wrong → is_in target nodes ≡ false → OneLaneOff (header_of rec) l t out' off'

@@ -1,10 +1,10 @@
 -- Repair by traces: the numbers that turn its calls away, the plan, and what a target makes of what the nodes of one encoding send.
+use Rattle.std.specs.Prelude.{Ok, Err}
+use Rattle.generator.specs.Answers.{Answer}
 use Rattle.std.specs.Prelude.{◌≡◌, ◌≢◌, ◌⊎◌, List, [], ◌∷◌, ◌++◌, ℕ, ◌+◌, ◌-◌, ◌*◌, ◌/◌, ◌%◌, ◌^◌, ◌≤◌, ◌<◌, length, get_or}
 use Rattle.lists.specs.Rows.{rows_from}
 use Rattle.generator.specs.declared.Header.{Header}
 use Rattle.generator.specs.Records.{header_of, modulus_of, record_fault, width}
-use Rattle.blocks.specs.declared.Outcome.{Outcome}
-use Rattle.blocks.specs.declared.Outcome.TheVariants as O
 use Rattle.encode.specs.Promise.{EncodeSays}
 use Rattle.recover.specs.Promise.{RebuildSays}
 use Rattle.traces.specs.Traces.{TraceBits}
@@ -13,7 +13,6 @@ use Rattle.traces.specs.Claims.{TraceLaws, BytesRepair}
 use Rattle.repair_bound.specs.Additive.{RepairBound}
 use Rattle.repair_bound.specs.Prices.{TracePrice}
 use Rattle.repair.specs.declared.RepairPlan.{RepairPlan}
-use Rattle.repair.specs.declared.RepairPlan.TheVariants as P
 use Rattle.repair.specs.Promise.{RepairBitsSays, RepairShareSays, RepairPlanSays}
 use Rattle.balanced_c.specs.Repairs.{RepairPlanGives, RepairBitsGives, RepairShareGives}
 use Rattle.demands.specs.Judging.{Table, Judged, Returns}
@@ -77,7 +76,7 @@ abbrev pub AllSent : List ℕ → ℕ → ℕ → List ℕ → List ℕ → (ℕ
 AllSent rec l target missing shares by =
     let h = header_of rec in
     let js = senders h target missing in
-    (i : ℕ) → i < length js → (out : List ℕ) × RepairBitsSays rec l (get_or js i 0) target missing (cut_of h l (get_or js i 0 ∷ []) shares) out (by i) O.Done
+    (i : ℕ) → i < length js → (out : List ℕ) × RepairBitsSays rec l (get_or js i 0) target missing (cut_of h l (get_or js i 0 ∷ []) shares) out (by i) (Ok tt)
 
 -- what the target is lent: what they wrote, one after the other
 abbrev pub in_order : List ℕ → ℕ → List ℕ → (ℕ → List ℕ) → List ℕ
@@ -85,12 +84,12 @@ in_order rec target missing by = rows_from by 0 (length (senders (header_of rec)
 
 pub record Repairs : Type 0 where
   -- which number turns each call away; no byte is written then
-  pub bits_judged : (rec : List ℕ) (l j target : ℕ) (missing share out out' : List ℕ) (r : Outcome) → RepairBitsSays rec l j target missing share out out' r
-      → Judged (record_numbers rec ++ repair_bits_numbers (header_of rec) l j target missing (length share) (length out)) (λ f. r ≡ O.Refused f) (out' ≡ out)
-  pub share_judged : (rec : List ℕ) (l target : ℕ) (missing rows out out' : List ℕ) (r : Outcome) → RepairShareSays rec l target missing rows out out' r
-      → Judged (record_numbers rec ++ repair_share_numbers (header_of rec) l target missing (length rows) (length out)) (λ f. r ≡ O.Refused f) (out' ≡ out)
-  pub plan_judged : (rec : List ℕ) (count : ℕ) (r : RepairPlan) → RepairPlanSays rec count r
-      → Judged (record_numbers rec ++ repair_plan_numbers (header_of rec) count) (λ f. r ≡ P.Refused f) (Unit {0})
+  pub bits_judged : (rec : List ℕ) (l j target : ℕ) (missing share out out' : List ℕ) (r : Answer (Unit {0})) → RepairBitsSays rec l j target missing share out out' r
+      → Judged (record_numbers rec ++ repair_bits_numbers (header_of rec) l j target missing (length share) (length out)) (λ f. r ≡ Err f) (out' ≡ out)
+  pub share_judged : (rec : List ℕ) (l target : ℕ) (missing rows out out' : List ℕ) (r : Answer (Unit {0})) → RepairShareSays rec l target missing rows out out' r
+      → Judged (record_numbers rec ++ repair_share_numbers (header_of rec) l target missing (length rows) (length out)) (λ f. r ≡ Err f) (out' ≡ out)
+  pub plan_judged : (rec : List ℕ) (count : ℕ) (r : Answer RepairPlan) → RepairPlanSays rec count r
+      → Judged (record_numbers rec ++ repair_plan_numbers (header_of rec) count) (λ f. r ≡ Err f) (Unit {0})
   -- the same of the functions for C; no lent number is altered either
   pub bits_returns : (rec : List ℕ) (l j target : ℕ) (missing share out out' : List ℕ) (r : ℕ) → RepairBitsGives rec l j target missing share out out' r
       → Judged (record_numbers rec ++ repair_bits_numbers (header_of rec) l j target missing (length share) (length out)) (Returns r) (out' ≡ out)
@@ -99,16 +98,16 @@ pub record Repairs : Type 0 where
   pub plan_returns : (rec : List ℕ) (count b more b' more' r : ℕ) → RepairPlanGives rec count b more b' more' r
       → Judged (record_numbers rec ++ repair_plan_numbers (header_of rec) count) (Returns r) ((b' ≡ b) × (more' ≡ more))
   -- the plan
-  pub plan : (rec : List ℕ) (count b more : ℕ) → RepairPlanSays rec count (P.Sends b more) → PlanDone (header_of rec) count b more
+  pub plan : (rec : List ℕ) (count b more : ℕ) → RepairPlanSays rec count (Ok (record { bits = b; spare = more })) → PlanDone (header_of rec) count b more
   -- what a node sends
-  pub sends : (rec : List ℕ) (l j target : ℕ) (missing share out out' : List ℕ) → RepairBitsSays rec l j target missing share out out' O.Done → BitsDone (header_of rec) l j target missing share out'
+  pub sends : (rec : List ℕ) (l j target : ℕ) (missing share out out' : List ℕ) → RepairBitsSays rec l j target missing share out out' (Ok tt) → BitsDone (header_of rec) l j target missing share out'
   -- from what the other nodes send of one encoding the target writes its own symbols of it, in every lane ..
   pub repairs : (rec : List ℕ) (l : ℕ) (message out shares : List ℕ) (target : ℕ) (missing : List ℕ) (by : ℕ → List ℕ) (back back' : List ℕ)
-      → EncodeSays rec l message out shares O.Done → AllSent rec l target missing shares by → RepairShareSays rec l target missing (in_order rec target missing by) back back' O.Done
+      → EncodeSays rec l message out shares (Ok tt) → AllSent rec l target missing shares by → RepairShareSays rec l target missing (in_order rec target missing by) back back' (Ok tt)
       → back' ≡ cut_of (header_of rec) l (target ∷ []) shares
   -- .. which is what Rebuild writes from any k shares of it
   pub rebuilds : (rec : List ℕ) (l : ℕ) (message out shares : List ℕ) (target : ℕ) (missing : List ℕ) (by : ℕ → List ℕ) (back back' nodes other other' : List ℕ)
-      → EncodeSays rec l message out shares O.Done → AllSent rec l target missing shares by → RepairShareSays rec l target missing (in_order rec target missing by) back back' O.Done → RebuildSays rec l nodes (cut_of (header_of rec) l nodes shares) target other other' O.Done
+      → EncodeSays rec l message out shares (Ok tt) → AllSent rec l target missing shares by → RepairShareSays rec l target missing (in_order rec target missing by) back back' (Ok tt) → RebuildSays rec l nodes (cut_of (header_of rec) l nodes shares) target other other' (Ok tt)
       → back' ≡ other'
   -- the theory: every accepted record of kind 2 has it, and how many bits are moved
   pub traces : TraceLaws

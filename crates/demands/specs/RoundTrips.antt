@@ -1,4 +1,5 @@
 -- Calls one after the other, in bytes: what Encode wrote is cut, altered or updated, and another call reads that.
+use Rattle.std.specs.Prelude.{Ok}
 use Rattle.std.specs.Prelude.{◌≡◌, true, List, [], ◌∷◌, ℕ, ◌+◌, ◌-◌, ◌*◌, ◌/◌, ◌≤◌, ◌<◌, length, get_or, set}
 use Rattle.lists.specs.Counting.{differ}
 use Rattle.lists.specs.Numbers.{all_below}
@@ -6,13 +7,10 @@ use Rattle.layout.specs.Layout.{held, buffer, share_layout}
 use Rattle.layout.specs.Width.{bytes_of}
 use Rattle.generator.specs.declared.Header.{Header}
 use Rattle.generator.specs.Records.{header_of, width}
-use Rattle.blocks.specs.declared.Outcome.TheVariants as O
-use Rattle.blocks.specs.declared.Update.TheVariants as U
 use Rattle.recover.specs.Promise.{RecoverSays, RebuildSays}
 use Rattle.update.specs.Promise.{UpdateSays}
 use Rattle.encode.specs.Promise.{EncodeSays}
 use Rattle.demands.specs.LaneAfterLane.{Full}
-use Rattle.correct.specs.declared.Correction.TheVariants as C
 use Rattle.correct.specs.Promise.{CorrectSays}
 use Rattle.correct.specs.Meaning.{lane_in}
 use Rattle.demands.specs.Calls.{read}
@@ -37,17 +35,17 @@ pub record RoundTrips : Type 0 where
       → get_or (cut_of h l nodes shares) ((t * length nodes + i) * width h + v) 0 ≡ get_or shares ((t * h.n + get_or nodes i 0) * width h + v) 0
   -- Recover from listed nodes' symbols of what Encode wrote: the bytes that were encoded
   pub recover : (rec : List ℕ) (l : ℕ) (message out shares nodes back back' : List ℕ) → all_below 256 message ≡ true
-      → EncodeSays rec l message out shares O.Done → RecoverSays rec l nodes (cut_of (header_of rec) l nodes shares) back back' O.Done
+      → EncodeSays rec l message out shares (Ok tt) → RecoverSays rec l nodes (cut_of (header_of rec) l nodes shares) back back' (Ok tt)
       → back' ≡ message
   -- Rebuild from them: the target's own symbols of what Encode wrote
   pub rebuild : (rec : List ℕ) (l : ℕ) (message out shares nodes : List ℕ) (target : ℕ) (back back' : List ℕ)
-      → EncodeSays rec l message out shares O.Done → RebuildSays rec l nodes (cut_of (header_of rec) l nodes shares) target back back' O.Done
+      → EncodeSays rec l message out shares (Ok tt) → RebuildSays rec l nodes (cut_of (header_of rec) l nodes shares) target back back' (Ok tt)
       → back' ≡ cut_of (header_of rec) l (target ∷ []) shares
   -- setting right where few symbols are wrong: what Encode wrote
   pub correct : (rec : List ℕ) (l : ℕ) (message out shares wrong wrong' : List ℕ) (count : ℕ)
-      → EncodeSays rec l message out shares O.Done → FewWrong (header_of rec) l shares wrong → CorrectSays rec l wrong wrong' (C.Altered count)
+      → EncodeSays rec l message out shares (Ok tt) → FewWrong (header_of rec) l shares wrong → CorrectSays rec l wrong wrong' (Ok count)
       → wrong' ≡ shares
   -- Update of what Encode wrote: what Encode writes of the message with the new symbol
   pub update : (rec : List ℕ) (l r t old new : ℕ) (message out shares shares' again again' : List ℕ) (count : ℕ)
-      → EncodeSays rec l message out shares O.Done → UpdateSays rec l r t old new shares shares' (U.Altered count) → EncodeSays rec l (with_symbol (header_of rec) l r t new message) again again' O.Done
+      → EncodeSays rec l message out shares (Ok tt) → UpdateSays rec l r t old new shares shares' (Ok count) → EncodeSays rec l (with_symbol (header_of rec) l r t new message) again again' (Ok tt)
       → shares' ≡ again'

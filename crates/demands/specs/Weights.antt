@@ -1,7 +1,7 @@
 -- How many messages light how many nodes, sentence by sentence.
+use Rattle.std.specs.Prelude.{Ok}
 use Rattle.std.specs.Prelude.{◌≡◌, List, [], ◌∷◌, ℕ, ◌+◌, ◌≤◌, length, get_or}
 use Rattle.generator.specs.Records.{header_of, record_fault}
-use Rattle.blocks.specs.declared.Outcome.TheVariants.{Done}
 use Rattle.weight_distribution.specs.Choosing.{Choosing}
 use Rattle.weight_counts.specs.Weights.{weight_count_of, weight_counts, Distribution, WeightsSay}
 
@@ -11,7 +11,7 @@ pub record Weights : Type 0 where
   -- C(a, b) in it is the number of ways to choose b out of a
   pub choosing : (a b : ℕ) → Choosing a b
   -- of a call that is done: n + 1 counts, for w from 0 to n
-  pub call : (rec counts counts' : List ℕ) → WeightsSay rec counts counts' Done →
+  pub call : (rec counts counts' : List ℕ) → WeightsSay rec counts counts' (Ok tt) →
       let h = header_of rec in
       (length counts' ≡ h.n + 1) × ((w : ℕ) → w ≤ h.n → get_or counts' w 0 ≡ weight_count_of h w) × Distribution h
   -- the counts of 1 7 3 6 3

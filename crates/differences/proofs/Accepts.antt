@@ -1,4 +1,5 @@
 -- What holds where a call meets no number, and what it says beside one.
+use Rattle.std.specs.Prelude.{Err}
 use mathlib.Core.Path.{◌≡◌, sym}
 use mathlib.Core.List.{List}
 use Prim.Native.Nat.{ℕ, ◌*◌, ◌<◌}
@@ -11,7 +12,6 @@ use Rattle.refusals.specs.Accepted.{SymbolBuffer}
 use Rattle.refusals.specs.Conditions.{lanes_bad, length_bad, number_bad, symbols_bad}
 use Rattle.refusals.proofs.NotMet.{length_good, number_good}
 use Rattle.refusals.proofs.Accepts.{not_met, rows_good}
-use Rattle.blocks.specs.declared.Outcome.TheVariants.{Refused}
 use Rattle.blocks.proofs.Refused.{outcome_refused, refused_value}
 use Rattle.differences.specs.Promise.{differences_fault, add_fault, DifferencesPromise, AddPromise}
 
@@ -50,8 +50,8 @@ module _ (h : Header) (sound : Sound h) (l : ℕ) where
 
 -- beside a number g: the number, and nothing is written
 module _ (h : Header) (g : ℕ) (some : g ≡ 0 → ⊥) (l : ℕ) where
-  pub differences_refuses : (r : ℕ) (old new out : List ℕ) → DifferencesPromise l r old new out out (Refused g) h g
+  pub differences_refuses : (r : ℕ) (old new out : List ℕ) → DifferencesPromise l r old new out out (Err g) h g
   differences_refuses r old new out = record { answered = sym (outcome_refused g some); written = sym (refused_value g _ out some) }
 
-  pub add_refuses : (difference share : List ℕ) → AddPromise l difference share share (Refused g) h g
+  pub add_refuses : (difference share : List ℕ) → AddPromise l difference share share (Err g) h g
   add_refuses difference share = record { answered = sym (outcome_refused g some); written = sym (refused_value g _ share some) }

@@ -2,15 +2,15 @@
 use mathlib.Core.Path.{◌≡◌, refl, sym, ap, ap₂, ◌∙◌}
 use mathlib.Core.Bool.{true}
 use mathlib.Core.List.{List, [], ◌∷◌, ◌++◌, append-nil}
-use Prim.Native.Nat.{ℕ, zero, suc, ◌+◌, ◌-◌, ◌*◌, ◌≤◌, ◌<◌}
+use Prim.Native.Nat.{ℕ, zero, suc, ◌+◌, ◌*◌, ◌≤◌, ◌<◌}
 use native.Mathlib.Nat.{zero-add, one-mul, mul-one, zero-mul, mul_comm, mul_assoc, mul-le-mul}
 use native.Mathlib.Omega.{arith}
-use lib.ListN.{length, get_or, take, drop, length-append, length-drop, drop_of_length-le, get_or-append}
-use lib.Seq.{get_or-append-add, take_at, drop_at}
+use lib.ListN.{length, get_or, length-append, get_or-append}
+use lib.Seq.{get_or-append-add}
 use Rattle.lists.specs.Numbers.{all_below}
 use Rattle.lists.specs.Rows.{from, rows_from}
 use Rattle.lists.proofs.Numbers.{below_at, at_below, below_append, cons_below}
-use Rattle.lists.proofs.Rows.{from_ext, length_from, get_or_from, part_size, rows_ext}
+use Rattle.lists.proofs.Rows.{from_ext, length_from, get_or_from, rows_ext}
 use Rattle.layout.specs.Layout.{row_after_row, held, lane_of, buffer}
 use Rattle.layout.specs.Inner.Tiles.{tile_symbols}
 use Rattle.layout.specs.Width.{symbols_of, bytes_of}
@@ -147,6 +147,11 @@ module _ {h : Header} {w l : ℕ} {s : List ℕ} (a : SymbolBytes h w 1 l s) whe
   pub row_bytes_long : length s ≡ w * l
   row_bytes_long = a.bytes ∙ ap (λ (x : ℕ). x * l) (mul-one w)
 
+  pub row_few : length s ≤ 8192
+  row_few =
+      let two : w ≤ 2 = rw a.wide (width_range h).1 in
+      omega (arith, row_bytes_long, mul-le-mul two a.symbol_rows.few_lanes)
+
   row_count : length (symbols_of w s) ≡ l
   row_count = a.symbol_rows.long ∙ one-mul l
 
@@ -214,13 +219,6 @@ module _ {h : Header} {w l : ℕ} {tile : List ℕ} (a : SymbolTile h w 1 l tile
       combined_symbols h w 1 l (c ∷ []) tile a.wide
       ∙ ap (bytes_of w) (times_sums h a.symbol_rows.sound l (tile_symbols w 1 l tile) (a.symbol_rows.long ∙ one-mul l) a.symbol_rows.symbols c low)
 
--- the tiles of two rows put one after the other into a buffer
-pub pair_put : (xs ys s : List ℕ) (n : ℕ) → length xs ≡ n → length s ≡ 2 * n → take n (xs ++ drop n s) ++ (ys ++ drop (n + n - n) (drop n (xs ++ drop n s))) ≡ xs ++ ys
-pair_put xs ys s n long room =
-    let fits : length (drop n s) ≤ n = simp length-drop (omega arith) in
-    let none : drop n (drop n s) ≡ [] = drop_of_length-le (drop n s) fits in
-    rw (take_at xs (drop n s) n long, drop_at xs (drop n s) n long, part_size n n, none, append-nil ys)
-
 -- weights that are symbols
 pub weights_below : (h : Header) → Sound h → (c : ℕ) → c < size h → all_below (size h) (1 ∷ c ∷ []) ≡ true
 unfolding all_below
@@ -238,8 +236,3 @@ length_times h w l xs c = length_bytes w _ ∙ ap (λ (x : ℕ). x * w) (length_
 module _ {h : Header} {l : ℕ} {s : List ℕ} (a : SymbolBuffer h 1 l s) where
   pub judged_row : (w : ℕ) → w ≡ width h → SymbolBytes h w 1 l s
   judged_row w wide = rw wide record { wide = refl; bytes = a.bytes ∙ lanes_long (width h) 1 l; symbol_rows = a.symbol_rows }
-
-  pub row_small : length s ≤ 8192
-  row_small =
-      let few : 1 * l ≤ 4096 = omega (arith, one-mul l, a.symbol_rows.few_lanes) in
-      omega (arith, a.bytes, mul-le-mul few (width_range h).1)

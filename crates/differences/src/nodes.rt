@@ -1,72 +1,40 @@
 // What each node adds: the difference of two rows times the node's entry.
-ghost use Rattle.std.specs.Prelude.{◌≡◌, ◌*◌, ◌<◌, length};
+ghost use Rattle.std.specs.Prelude.{◌≡◌, ◌*◌, length};
 ghost use Rattle.lists.specs.Rows.{rows_from};
-ghost use Rattle.layout.specs.Inner.Tiles.{tile_symbols};
 ghost use Rattle.layout.specs.Layout.{row_after_row, buffer};
 ghost use Rattle.layout.specs.Width.{symbols_of, bytes_of};
-ghost use Rattle.generator.specs.Generator.{entry};
-ghost use Rattle.generator.specs.Records.{Sound};
-ghost use Rattle.refusals.specs.Inner.Accepted.{SymbolBytes, SymbolTile};
+ghost use Rattle.refusals.specs.Inner.Accepted.{SymbolTile};
 ghost use Rattle.differences.specs.Differences.{difference_at};
-ghost use Rattle.differences.specs.Inner.Rows.{RowOf, row_times};
+ghost use Rattle.differences.specs.Inner.Changes.{told};
 
-use crate::rows::{load_row, multiply_row, subtract_rows};
-use generator::Header;
-
-// The node's entry of the symbol's row.
-fn entry_of(h: Header, symbol: usize, shifts: &[u8], base: &[u16], node: usize) -> u16
-    requires { Sound h × RowOf h symbol shifts.now base.now × (node < h.n) }
-    ensures { result ≡ entry h symbol node }
-{
-    let shift = shifts[symbol] as usize;
-    plan::entry_at(h.n as usize, shift, base, node)
-}
+use crate::change::Change;
 
 // A row, as a tile, times each node's entry.
-fn fill_nodes(
-    h: Header,
-    w: usize,
-    lanes: usize,
-    symbol: usize,
-    shifts: &[u8],
-    base: &[u16],
-    tile: &[u8],
-    out: &mut [u8],
-)
-    requires { RowOf h symbol shifts.now base.now × SymbolTile h w 1 lanes tile.now × (length out.old ≡ h.n * (w * lanes)) }
-    ensures { out.new ≡ rows_from (λ j. bytes_of w (row_times h lanes (tile_symbols w 1 lanes tile.now) (entry h symbol j))) 0 h.n }
+fn fill_nodes(change: &Change, tile: &[u8], out: &mut [u8])
+    requires { let rows = change.now.rows in SymbolTile rows.code.header rows.width 1 rows.lanes tile.now × (length out.old ≡ rows.code.header.n * (rows.width * rows.lanes)) }
+    ensures { out.new ≡ rows_from (told change.now.rows change.now.symbol tile.now) 0 change.now.rows.code.header.n }
 {
-    let n = h.n as usize;
+    let n = change.rows.code.header.n as usize;
     let size = tile.len();
-    let mut node: usize = 0;
-    while node < n {
+    for node in 0..n {
+        let weight = change.generator.entry(change.symbol, node);
         let start = node * size;
         let end = start + size;
-        let weight = entry_of(h, symbol, shifts, base, node);
-        multiply_row(h, w, lanes, weight, tile, &mut out[start..end]);
-        node += 1;
+        change.rows.multiply(weight, tile, &mut out[start..end]);
     }
 }
 
-// Node after node; `pair`, `row` and `tile` are scratch for the tiles of two rows, for a row and for its tile.
-pub fn fill_differences(
-    h: Header,
-    w: usize,
-    lanes: usize,
-    symbol: usize,
-    shifts: &[u8],
-    base: &[u16],
-    old: &[u8],
-    new: &[u8],
-    pair: &mut [u8],
-    row: &mut [u8],
-    tile: &mut [u8],
-    out: &mut [u8],
-)
-    requires { RowOf h symbol shifts.now base.now × SymbolBytes h w 1 lanes old.now × SymbolBytes h w 1 lanes new.now × (length pair.old ≡ 2 * (w * lanes)) × (length row.old ≡ w * lanes) × (length tile.old ≡ w * lanes) × (length out.old ≡ h.n * (w * lanes)) }
-    ensures { out.new ≡ bytes_of w (buffer row_after_row h.n lanes (difference_at h symbol (symbols_of w old.now) (symbols_of w new.now))) }
+// Node after node.
+pub fn fill_differences(change: &Change, out: &mut [u8])
+    requires { let rows = change.now.rows in length out.old ≡ rows.code.header.n * (rows.width * rows.lanes) }
+    ensures { let rows = change.now.rows in out.new ≡ bytes_of rows.width (buffer row_after_row rows.code.header.n rows.lanes (difference_at rows.code.header change.now.symbol (symbols_of rows.width change.now.old.now) (symbols_of rows.width change.now.new.now))) }
 {
-    subtract_rows(h, w, lanes, new, old, pair, row);
-    load_row(w, lanes, row, tile);
-    fill_nodes(h, w, lanes, symbol, shifts, base, tile, out);
+    let size = change.new.len();
+    let mut row = [0u8; 8192];
+    let row = &mut row[..size];
+    let mut tile = [0u8; 8192];
+    let tile = &mut tile[..size];
+    change.rows.subtract(change.new, change.old, row);
+    change.rows.load(row, tile);
+    fill_nodes(change, tile, out);
 }

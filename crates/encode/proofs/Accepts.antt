@@ -1,4 +1,5 @@
 -- What holds where the call meets no number, and what it says beside one.
+use Rattle.std.specs.Prelude.{Err}
 use mathlib.Core.Path.{◌≡◌, sym}
 use mathlib.Core.List.{List}
 use Prim.Native.Nat.{ℕ, ◌*◌}
@@ -11,7 +12,6 @@ use Rattle.refusals.specs.Conditions.{lanes_bad, length_bad, symbols_bad}
 use Rattle.refusals.specs.Accepted.{SymbolBuffer}
 use Rattle.refusals.proofs.NotMet.{length_good}
 use Rattle.refusals.proofs.Accepts.{not_met, rows_good}
-use Rattle.blocks.specs.declared.Outcome.TheVariants as O
 use Rattle.blocks.proofs.Refused.{outcome_refused, refused_value}
 use Rattle.encode.specs.Promise.{encode_fault, EncodePromise}
 
@@ -27,5 +27,5 @@ module _ (h : Header) (sound : Sound h) (l : ℕ) where
 
 -- beside a number g: the number, and nothing is written
 module _ {y : Arrangement} (h : Header) (g : ℕ) (some : g ≡ 0 → ⊥) (l : ℕ) where
-  pub encode_refuses : (message out : List ℕ) → EncodePromise y l message out out (O.Refused g) h g
+  pub encode_refuses : (message out : List ℕ) → EncodePromise y l message out out (Err g) h g
   encode_refuses message out = record { answer = sym (outcome_refused g some); written = sym (refused_value g _ out some) }

@@ -1,14 +1,16 @@
 -- The sums of the base word with a lane's placed symbols, in the order of the nodes, are the lane's encoding.
 use mathlib.Core.Path.{◌≡◌, refl, sym, ap, ◌∙◌}
 use mathlib.Core.Bool.{true, not}
-use mathlib.Core.List.{List, [], ◌∷◌}
+use mathlib.Core.List.{List, [], ◌∷◌, ◌++◌, append-nil}
 use Prim.Native.Nat.{ℕ, zero, suc, ◌+◌, ◌-◌, ◌%◌, ◌<◌}
 use native.Mathlib.Nat.{mod-lt, mod_self, mod-eq_of_lt, add-mod_left, add_comm, sub-zero, zero-add, add-zero}
 use native.Mathlib.Omega.{arith}
 use borrow.Author.Tests.{eqb-true, ltb-true, ltb-false}
 use lib.Dec.{ltb}
 use lib.ListN.{length, get_or, take, drop, set, length-set}
-use lib.Seq.{get_or-take, length-take-le}
+use lib.Seq.{get_or-take, length-take-le, ext_get_or, take-length, drop-length}
+use Rattle.std.specs.Prelude.{reverse}
+use Rattle.std.proofs.lemmas.List.{length-reverse, get_or-reverse}
 use Rattle.lists.specs.Numbers.{all_below}
 use Rattle.lists.specs.Padded.{zeros}
 use Rattle.lists.proofs.All.{Distinct-at}
@@ -16,6 +18,7 @@ use Rattle.lists.proofs.Cases.{by_test}
 use Rattle.lists.proofs.Fill.{length_zeros, drop_zeros}
 use Rattle.lists.proofs.Numbers.{at_below, below_get_or, below_cons, below_drop, below_set}
 use Rattle.lists.proofs.Padding.{below_zeros, get_or_zeros}
+use Rattle.lists.specs.Rows.{from}
 use Rattle.lists.proofs.Rows.{from_ext, length_from, get_or_from}
 use Rattle.field.specs.Fields.{is_field, size_of, add}
 use Rattle.field.specs.Inner.Sums.{dot}
@@ -24,7 +27,6 @@ use Rattle.field.proofs.BothKinds.{arithmetic}
 use Rattle.field.proofs.FieldOf.{size_pos}
 use Rattle.field.proofs.Sums.{dot_below}
 use Rattle.generator.specs.declared.Header.{Header}
-use Rattle.generator.specs.declared.Record.TheVariants.{Holds}
 use Rattle.generator.specs.Records.{modulus_of, size, distance, Sound}
 use Rattle.generator.specs.Generator.{entry_at, base_word}
 use Rattle.generator.specs.Codewords.{node_of, node_from, encoding}
@@ -34,7 +36,7 @@ use Rattle.generator.proofs.Entries.{entry_at_zero}
 use Rattle.generator.proofs.Recovery.{shifts_are_places}
 use Rattle.generator.proofs.LaidShifts.{negative_below}
 use Rattle.generator.proofs.Sound.{weight_fits}
-use Rattle.plan.specs.Plans.{plan_for}
+use Rattle.plan.specs.Plans.{plan_of}
 use Rattle.plan.proofs.Plans.{shift_in, shift_below, base_in, base_room, entry_read}
 use Rattle.sliding_sums.specs.Inner.Windows.{window_sums}
 use Rattle.encode.specs.Inner.OneLane.{placed_from, by_node}
@@ -61,12 +63,36 @@ from_negative n (suc j) s node =
     let same : s + (n - (n - suc j)) ≡ suc j + s = omega arith in
     rw (mod-eq_of_lt less) (ap (λ (x : ℕ). x % n) same)
 
+-- sums from each place in the order of the nodes: the first stays, and the others stand the other way round
+node_order : (x : ℕ) (xs : List ℕ) → x ∷ reverse xs ≡ by_node (x ∷ xs)
+unfolding by_node negative
+node_order x xs =
+    let n : ℕ = length (x ∷ xs) in
+    let f : ℕ → ℕ = λ j. get_or (x ∷ xs) (negative n j) 0 in
+    ext_get_or 0 (x ∷ reverse xs) (from f 0 n) (ap suc (length-reverse xs) ∙ sym (length_from f 0 n))
+    (λ i inside. at i (omega (arith, length-reverse xs)) ∙ sym (get_or_from f 0 n i 0 (omega (arith, length-reverse xs)) ∙ ap f (zero-add i)))
+  where
+    at : (i : ℕ) → i < length (x ∷ xs) → get_or (x ∷ reverse xs) i 0 ≡ get_or (x ∷ xs) (negative (length (x ∷ xs)) i) 0
+    at zero inside = let n : ℕ = length (x ∷ xs) in ap (λ (j : ℕ). get_or (x ∷ xs) j 0) (sym (ap (λ (j : ℕ). j % n) (sub-zero n) ∙ mod_self n))
+    at (suc i) inside =
+        let low : i < length xs = omega arith in
+        let less : length (x ∷ xs) - suc i < length (x ∷ xs) = omega arith in
+        let place : length (x ∷ xs) - suc i ≡ suc (length xs - 1 - i) = omega arith in
+        get_or-reverse xs i 0 low ∙ ap (λ (j : ℕ). get_or (x ∷ xs) j 0) (sym place ∙ sym (mod-eq_of_lt less))
+
+-- the same for a list of which all but the first place was lent
+pub turned : (xs ys : List ℕ) → 0 < length xs → ys ≡ reverse (take (length xs - 1) (drop 1 xs)) → take 1 xs ++ (ys ++ drop (length xs - 1) (drop 1 xs)) ≡ by_node xs
+turned [] ys some e = absurd (omega arith)
+turned (x ∷ xs) ys some e =
+    let all : length (x ∷ xs) - 1 ≡ length xs = omega arith in
+    rw (e, all, take-length xs, drop-length xs, append-nil (reverse xs)) (node_order x xs)
+
 module _ (h : Header) (s : Sound h) where
-  abbrev ss : List ℕ
-  ss = (plan_for (Holds h)).shifts
+  abbrev places : List ℕ
+  places = (plan_of h).shifts
 
   abbrev base : List ℕ
-  base = (plan_for (Holds h)).base
+  base = (plan_of h).base
 
   -- the first d entries of the base word; the others are 0
   abbrev entries : List ℕ
@@ -96,36 +122,36 @@ module _ (h : Header) (s : Sound h) where
       rw (entries_at i low, entry_is i low) (entry_at_below h s 0 i))
 
   -- from place −j on the base word meets each row's symbol with its entry of node j
-  leads : (j : ℕ) → j < h.n → Leads h h.n j (negative h.n j) ss entries
+  leads : (j : ℕ) → j < h.n → Leads h h.n j (negative h.n j) places entries
   leads j node =
       record {
         low = λ r row. shift_below h s r row;
         apart = λ r u less row e.
             absurd (omega (arith, Distinct-at 0 (shifts h) (shifts_are_places h s).distinct u r (omega (arith, (shifts_are_places h s).size)) (omega (arith, (shifts_are_places h s).size)) (sym (shift_in h s u row) ∙ e ∙ shift_in h s r (omega arith))));
         entries = λ r row.
-            let place = from_negative h.n j (get_or ss r 0) node in
-            ap (λ (x : ℕ). get_or entries x 0) place ∙ entries_at _ (mod-lt (j + get_or ss r 0) (omega arith)) ∙ entry_read h s r j row node;
+            let place = from_negative h.n j (get_or places r 0) node in
+            ap (λ (x : ℕ). get_or entries x 0) place ∙ entries_at _ (mod-lt (j + get_or places r 0) (omega arith)) ∙ entry_read h s r j row node;
         from_low = negative_below h.n j (omega arith);
         short = omega (arith, length_entries, weight_fits h s);
         symbols = entries_below;
       }
 
   -- a node's sum
-  node_sum : (ms : List ℕ) → length ms ≡ h.k → all_below (size h) ms ≡ true → (j : ℕ) → j < h.n → dot (modulus_of h) entries (drop (negative h.n j) (placed_from h.n 0 ss ms (zeros 510))) ≡ node_from 0 h ms j
+  node_sum : (ms : List ℕ) → length ms ≡ h.k → all_below (size h) ms ≡ true → (j : ℕ) → j < h.n → dot (modulus_of h) entries (drop (negative h.n j) (placed_from h.n 0 places ms (zeros 510))) ≡ node_from 0 h ms j
   node_sum ms count symbols j node =
       let p = modulus_of h in
       let t = negative h.n j in
       let held = node_from_below h s 0 ms j symbols in
-      placed_sum h s h.n j t ss entries (leads j node) 0 ms (zeros 510) (omega arith) (omega (arith, length_zeros 510, s.byte)) symbols (below_zeros (size h) 510 (size_pos p s.field)) (λ u high row. (get_or_zeros 510 (get_or ss u 0), get_or_zeros 510 (get_or ss u 0 + h.n)))
+      placed_sum h s h.n j t places entries (leads j node) 0 ms (zeros 510) (omega arith) (omega (arith, length_zeros 510, s.byte)) symbols (below_zeros (size h) 510 (size_pos p s.field)) (λ u high row. (get_or_zeros 510 (get_or places u 0), get_or_zeros 510 (get_or places u 0 + h.n)))
       ∙ ap (λ (x : ℕ). add p x (node_from 0 h ms j)) (ap (dot p entries) (drop_zeros t 510) ∙ zeros_sum p s.field entries (510 - t) entries_below)
       ∙ (arithmetic p s.field).add_comm 0 _ (size_pos p s.field) held
       ∙ (arithmetic p s.field).add-zero _ held
 
   -- the sums are the encoding
-  pub lane_sums : (ms : List ℕ) → length ms ≡ h.k → all_below (size h) ms ≡ true → by_node (window_sums (modulus_of h) entries (placed_from h.n 0 ss ms (zeros 510)) h.n) ≡ encoding h ms
+  pub lane_sums : (ms : List ℕ) → length ms ≡ h.k → all_below (size h) ms ≡ true → by_node (window_sums (modulus_of h) entries (placed_from h.n 0 places ms (zeros 510)) h.n) ≡ encoding h ms
   unfolding by_node window_sums encoding node_of
   lane_sums ms count symbols =
-      let f : ℕ → ℕ = λ t. dot (modulus_of h) entries (drop t (placed_from h.n 0 ss ms (zeros 510))) in
+      let f : ℕ → ℕ = λ t. dot (modulus_of h) entries (drop t (placed_from h.n 0 places ms (zeros 510))) in
       rw (length_from f 0 h.n)
       (from_ext _ _ 0 h.n
       (λ j low high.

@@ -1,4 +1,5 @@
 -- What Encode promises: the numbers that turn it away, the answer and every lent byte afterwards, and the same over a record.
+use Rattle.generator.specs.Answers.{Answer}
 use Rattle.std.specs.Prelude.{List, ◌≡◌, ℕ, ◌*◌, length, eqb}
 use Rattle.lists.specs.Choice.{first_of, when, pick}
 use Rattle.layout.specs.Layout.{Arrangement, share_layout}
@@ -6,7 +7,6 @@ use Rattle.generator.specs.declared.Header.{Header}
 use Rattle.generator.specs.Records.{width}
 use Rattle.refusals.specs.Conditions.{lanes_bad, length_bad, symbols_bad}
 use Rattle.refusals.specs.Promise.{OnRecord}
-use Rattle.blocks.specs.declared.Outcome.{Outcome}
 use Rattle.blocks.specs.Bytes.{encoded_bytes}
 use Rattle.blocks.specs.Answers.{outcome_of}
 
@@ -19,14 +19,14 @@ encode_fault h l out message =
     (when (symbols_bad h message) 11)))
 
 -- Encode: in each lane the encoding of the message
-pub record EncodePromise (y : Arrangement) (l : ℕ) (message out out' : List ℕ) (r : Outcome) (h : Header) (f : ℕ) : Type 0 where
+pub record EncodePromise (y : Arrangement) (l : ℕ) (message out out' : List ℕ) (r : Answer (Unit {0})) (h : Header) (f : ℕ) : Type 0 where
   pub answer : r ≡ outcome_of f
   pub written : out' ≡ pick (eqb f 0) (encoded_bytes y h l message) out
 
 -- over the record as it is read, with shares arranged as y says
-abbrev pub EncodeSaysIn : Arrangement → List ℕ → ℕ → List ℕ → List ℕ → List ℕ → Outcome → Type 0
+abbrev pub EncodeSaysIn : Arrangement → List ℕ → ℕ → List ℕ → List ℕ → List ℕ → Answer (Unit {0}) → Type 0
 EncodeSaysIn y rec l message out out' r = OnRecord rec (λ h. encode_fault h l (length out) message) (EncodePromise y l message out out' r)
 
 -- with shares as they stand in buffers
-abbrev pub EncodeSays : List ℕ → ℕ → List ℕ → List ℕ → List ℕ → Outcome → Type 0
+abbrev pub EncodeSays : List ℕ → ℕ → List ℕ → List ℕ → List ℕ → Answer (Unit {0}) → Type 0
 EncodeSays = EncodeSaysIn share_layout

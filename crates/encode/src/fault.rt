@@ -1,18 +1,17 @@
-// The first of numbers 7 to 11 that the call meets, or 0: each test hands the number met so far on. `size` is the length of a written buffer.
-ghost use Rattle.std.specs.Prelude.{◌≡◌, true};
-ghost use Rattle.field.specs.Kinds.{usable};
+// The first refusal that the call meets. `size` is the length of a written buffer.
+ghost use Rattle.std.specs.Prelude.{◌≡◌};
+ghost use Rattle.generator.specs.Answers.{numbered, outcome_of};
 ghost use Rattle.encode.specs.Promise.{encode_fault};
 
-use generator::Header;
-use refusals::{buffer_bad, first, lanes_bad, symbols_bad};
+use generator::{Code, Refusal};
+use refusals::{buffer_bad, lanes_bad, symbols_bad};
 
-// Encode.
-pub fn encode_fault(h: Header, lanes: usize, message: &[u8], size: usize) -> u8
-    requires { usable h.field ≡ true }
-    ensures { result ≡ encode_fault h lanes size message.now }
+pub fn encode_fault(code: Code, lanes: usize, message: &[u8], size: usize) -> Result<(), Refusal>
+    ensures { numbered result ≡ outcome_of (encode_fault code.header lanes size message.now) }
 {
-    let number = first(0, lanes_bad(lanes), 7);
-    let number = first(number, buffer_bad(h, h.k, lanes, message.len()), 8);
-    let number = first(number, buffer_bad(h, h.n, lanes, size), 8);
-    first(number, symbols_bad(h, message), 11)
+    let h = code.header;
+    Refusal::Lanes.when(lanes_bad(lanes))?;
+    Refusal::Length.when(buffer_bad(h, h.k, lanes, message.len()))?;
+    Refusal::Length.when(buffer_bad(h, h.n, lanes, size))?;
+    Refusal::Symbol.when(symbols_bad(h, message))
 }

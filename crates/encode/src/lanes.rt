@@ -1,101 +1,93 @@
 // The shares of all lanes: the nodes' columns as lists, and their products with the lanes.
-ghost use Rattle.std.specs.Prelude.{◌≡◌, ◌*◌, length};
-ghost use Rattle.layout.specs.Layout.{lane_after_lane};
-ghost use Rattle.layout.specs.Width.{symbols_of, bytes_of};
+ghost use Rattle.std.specs.Prelude.{◌≡◌, ◌≤◌, ◌<◌, length};
 ghost use Rattle.generator.specs.Records.{modulus_of};
-ghost use Rattle.blocks.specs.Blocks.{shares_of};
 ghost use Rattle.tile_products.specs.Inner.Products.{Codes};
 ghost use Rattle.tile_products.specs.Inner.Matrices.{Begun};
-ghost use Rattle.plan.specs.Inner.Planned.{Planned};
-ghost use Rattle.encode.specs.Inner.Columns.{MessageBytes, ColumnRoom, column_of, column_product};
+ghost use Rattle.encode.specs.Inner.Columns.{ColumnRoom, column_of, column_product};
+ghost use Rattle.encode.specs.Inner.Encoded.{record_header, share_bytes, encoded};
 
-use crate::fill_column;
+use crate::message::Message;
 use block_products::{Product, Way};
 use generator::Header;
+use plan::Generator;
 use tile_products::scratch;
+
+// Fills the node's column of the generator.
+fn fill_column(generator: &Generator, node: usize, column: &mut [u16])
+    requires { (node < generator.now.code.header.n) × (length column.old ≡ generator.now.code.header.k) }
+    ensures { column.new ≡ column_of generator.now.code.header node }
+{
+    for (r, entry) in column.iter_mut().enumerate() {
+        *entry = generator.entry(r, node);
+    }
+}
 
 // The lists of every node's column; `column` is scratch.
 fn list_columns(
-    h: Header,
-    shifts: &[u8],
-    base: &[u16],
+    generator: &Generator,
     codes: &[u64],
     column: &mut [u16],
     lists: &mut [u16],
     counts: &mut [u8],
 )
-    requires { Planned h shifts.now base.now × Codes (modulus_of h) codes.now × (length column.old ≡ h.k) × ColumnRoom h (length lists.old) (length counts.old) }
-    ensures { Begun (modulus_of h) h.k (column_of h) h.n lists.new counts.new }
+    requires { Codes (modulus_of generator.now.code.header) codes.now × (length column.old ≡ generator.now.code.header.k) × ColumnRoom generator.now.code.header (length lists.old) (length counts.old) }
+    ensures { Begun (modulus_of generator.now.code.header) generator.now.code.header.k (column_of generator.now.code.header) generator.now.code.header.n lists.new counts.new }
 {
-    let field = h.field;
-    let n = h.n as usize;
-    let mut node: usize = 0;
-    while node < n {
-        fill_column(h, shifts, base, node, column);
+    let Header { field, n, .. } = generator.code.header;
+    for node in 0..n as usize {
+        fill_column(generator, node, column);
         tile_products::prepare(field, codes, column, node, lists, counts);
-        node += 1;
     }
 }
 
 // The same in scratch of its own. The codes are filled in place: as the result of a call they would be copied.
-fn fill_lists(h: Header, shifts: &[u8], base: &[u16], lists: &mut [u16], counts: &mut [u8])
-    requires { Planned h shifts.now base.now × ColumnRoom h (length lists.old) (length counts.old) }
-    ensures { Begun (modulus_of h) h.k (column_of h) h.n lists.new counts.new }
+fn fill_lists(generator: &Generator, lists: &mut [u16], counts: &mut [u8])
+    requires { ColumnRoom generator.now.code.header (length lists.old) (length counts.old) }
+    ensures { Begun (modulus_of generator.now.code.header) generator.now.code.header.k (column_of generator.now.code.header) generator.now.code.header.n lists.new counts.new }
 {
-    let field = h.field;
-    let k = h.k as usize;
+    let Header { field, k, .. } = generator.code.header;
     let mut codes = scratch::codes();
     tile_products::fill_codes(field, &mut codes);
     let mut column = [0u16; 255];
-    list_columns(h, shifts, base, &codes, &mut column[..k], lists, counts);
+    list_columns(generator, &codes, &mut column[..k as usize], lists, counts);
 }
 
 // The product of the generator's columns and so many lanes.
 fn product_of(h: Header, lanes: usize) -> Product
     ensures { result ≡ column_product h lanes }
 {
-    let way = Way::RowsToLanes;
-    let field = h.field;
-    let outputs = h.n as usize;
-    let rows = h.k as usize;
     Product {
-        way: way,
-        field: field,
-        outputs: outputs,
-        rows: rows,
-        lanes: lanes,
+        way: Way::RowsToLanes,
+        field: h.field,
+        outputs: h.n as usize,
+        rows: h.k as usize,
+        lanes,
     }
 }
 
-// Fills all lanes, as a product of matrices, in the smallest scratch that the record's nodes fit. Clearing the largest takes longer than the
-// work of a small record.
-pub fn fill_lanes<'a>(
-    h: Header,
-    shifts: &'a [u8],
-    base: &'a [u16],
-    w: usize,
-    lanes: usize,
-    message: &[u8],
-    out: &mut [u8],
-)
-    requires { Planned h shifts.now base.now × MessageBytes h w lanes message.now × (length out.old ≡ w * h.n * lanes) }
-    ensures { out.new ≡ bytes_of w (shares_of lane_after_lane h lanes (symbols_of w message.now)) }
+// Fills all lanes, as a product of matrices, in scratch for lists of so many elements and so many counts.
+fn fill_in<const LISTS: usize, const COUNTS: usize>(message: &Message, out: &mut [u8])
+    requires { (LISTS ≤ 130560) × (COUNTS ≤ 2040) × ColumnRoom (record_header message.now) LISTS COUNTS × (length out.old ≡ share_bytes message.now) }
+    ensures { out.new ≡ encoded message.now }
 {
-    let m = product_of(h, lanes);
-    if h.n <= 16 {
-        let mut lists = scratch::small_lists();
-        let mut counts = scratch::small_counts();
-        fill_lists(h, shifts, base, &mut lists, &mut counts);
-        return block_products::fill(m, w, &lists, &counts, message, out);
+    let product = product_of(message.generator.code.header, message.lanes);
+    let mut lists = [0u16; LISTS];
+    let mut counts = [0u8; COUNTS];
+    fill_lists(message.generator, &mut lists, &mut counts);
+    block_products::fill(product, message.width, &lists, &counts, message.bytes, out);
+}
+
+// The same in the smallest scratch that the record's nodes fit. Clearing the largest takes longer than the work of a small record.
+pub fn fill_lanes(message: &Message, out: &mut [u8])
+    requires { length out.old ≡ share_bytes message.now }
+    ensures { out.new ≡ encoded message.now }
+{
+    let n = message.generator.code.header.n;
+    if n <= 16 {
+        fill_in::<512, 128>(message, out)
+    } else if n <= 64 {
+        fill_in::<8192, 512>(message, out)
+    } else {
+        fill_in::<130560, 2040>(message, out)
     }
-    if h.n <= 64 {
-        let mut lists = scratch::middle_lists();
-        let mut counts = scratch::middle_counts();
-        fill_lists(h, shifts, base, &mut lists, &mut counts);
-        return block_products::fill(m, w, &lists, &counts, message, out);
-    }
-    let mut lists = scratch::large_lists();
-    let mut counts = scratch::large_counts();
-    fill_lists(h, shifts, base, &mut lists, &mut counts);
-    block_products::fill(m, w, &lists, &counts, message, out);
 }

@@ -1,43 +1,20 @@
 // Encode: the shares of all nodes, each lane encoded by itself. Lanes are encoded 64 at a time, as rows of a tile.
 #![tactic(auto)]
 
-ghost use Rattle.std.specs.Prelude.{◌≡◌, ◌+◌, ◌*◌, ◌%◌, ◌≤◌, ◌<◌, length, get_or};
-ghost use Rattle.layout.specs.Layout.{lane_after_lane, share_layout};
-ghost use Rattle.layout.specs.Width.{symbols_of, bytes_of};
-ghost use Rattle.generator.specs.Records.{Sound};
-ghost use Rattle.blocks.specs.Blocks.{shares_of};
-ghost use Rattle.plan.specs.Inner.Planned.{Planned};
+ghost use Rattle.std.specs.Prelude.{◌≡◌, length};
+ghost use Rattle.layout.specs.Layout.{share_layout};
+ghost use Rattle.generator.specs.Answers.{numbered};
 ghost use Rattle.encode.specs.Promise.{encode_fault, EncodePromise, EncodeSays};
-ghost use Rattle.encode.specs.Inner.Columns.{MessageBytes, column_of};
+ghost use Rattle.encode.specs.Inner.Encoded.{share_bytes, encoded};
 
-use blocks::Outcome;
-use generator::{Header, Record};
+use generator::{Code, Refusal};
+use message::Message;
+use plan::Generator;
 
 mod fault;
 mod lanes;
+mod message;
 mod one_lane;
-
-// Entry (r, node) of the generator: the base word at (node + shift of row r) modulo n. No row is copied.
-fn coefficient(h: Header, shifts: &[u8], base: &[u16], r: usize, node: usize) -> u16
-    requires { (r < length shifts.now) × (get_or shifts.now r 0 < h.n) × (node < h.n) × (h.n ≤ length base.now) }
-    ensures { result ≡ get_or base.now ((node + get_or shifts.now r 0) % h.n) 0 }
-{
-    let n = h.n as usize;
-    let shift = shifts[r] as usize;
-    plan::entry_at(n, shift, base, node)
-}
-
-// Fills the node's column of the generator.
-fn fill_column(h: Header, shifts: &[u8], base: &[u16], node: usize, column: &mut [u16])
-    requires { Planned h shifts.now base.now × (node < h.n) × (length column.old ≡ h.k) }
-    ensures { column.new ≡ column_of h node }
-{
-    let mut r = 0;
-    while r < column.len() {
-        column[r] = coefficient(h, shifts, base, r, node);
-        r += 1;
-    }
-}
 
 // Whether so few lanes take less time one by one than as a tile: a lane by itself takes longer for each node.
 fn are_few(lanes: usize, n: usize) -> bool {
@@ -45,47 +22,38 @@ fn are_few(lanes: usize, n: usize) -> bool {
 }
 
 // Fills all lanes: few lanes one by one, more as a product of matrices.
-fn encode_lanes<'a>(
-    h: Header,
-    shifts: &'a [u8],
-    base: &'a [u16],
-    w: usize,
-    lanes: usize,
-    message: &[u8],
-    out: &mut [u8],
-)
-    requires { Planned h shifts.now base.now × MessageBytes h w lanes message.now × (length out.old ≡ w * h.n * lanes) }
-    ensures { out.new ≡ bytes_of w (shares_of lane_after_lane h lanes (symbols_of w message.now)) }
+fn encode_lanes(message: &Message, out: &mut [u8])
+    requires { length out.old ≡ share_bytes message.now }
+    ensures { out.new ≡ encoded message.now }
 {
-    if are_few(lanes, h.n as usize) {
-        one_lane::fill_each(h, shifts, base, w, lanes, message, out);
-        return;
+    if are_few(message.lanes, message.generator.code.header.n as usize) {
+        one_lane::fill_each(message, out);
+    } else {
+        lanes::fill_lanes(message, out);
     }
-    lanes::fill_lanes(h, shifts, base, w, lanes, message, out);
 }
 
-// Encodes over the header of an accepted record. Everything is judged before the first byte is written.
-fn encode_accepted(h: Header, lanes: usize, message: &[u8], out: &mut [u8]) -> Outcome
-    requires { Sound h }
-    ensures { EncodePromise share_layout lanes message.now out.old out.new result h (encode_fault h lanes (length out.old) message.now) }
+// Encodes over an accepted record's code. Everything is judged before the first byte is written.
+fn encode_accepted(code: Code, lanes: usize, message: &[u8], out: &mut [u8]) -> Result<(), Refusal>
+    ensures { EncodePromise share_layout lanes message.now out.old out.new (numbered result) code.header (encode_fault code.header lanes (length out.old) message.now) }
 {
-    let number = fault::encode_fault(h, lanes, message, out.len());
-    if number != 0 {
-        return Outcome::Refused(number);
-    }
-    let w = symbols::width_of(h);
-    let shifts = plan::row_shifts(h);
-    let base = plan::base_word(h);
-    encode_lanes(h, &shifts, &base, w, lanes, message, out);
-    Outcome::Done
+    fault::encode_fault(code, lanes, message, out.len())?;
+    let tables = field::constant_tables();
+    let generator = Generator::new(code, &tables);
+    let message = Message {
+        generator: &generator,
+        width: symbols::width_of(code.header),
+        lanes,
+        bytes: message,
+    };
+    encode_lanes(&message, out);
+    Ok(())
 }
 
-// Writes the shares of all nodes, or gives the number that turns the call away and writes nothing.
-pub fn encode_block(rec: &[u8], lanes: u32, message: &[u8], out: &mut [u8]) -> Outcome
-    ensures { EncodeSays rec.now lanes message.now out.old out.new result }
+// Writes the shares of all nodes, or says what turns the call away and writes nothing.
+pub fn encode_block(rec: &[u8], lanes: u32, message: &[u8], out: &mut [u8]) -> Result<(), Refusal>
+    ensures { EncodeSays rec.now lanes message.now out.old out.new (numbered result) }
 {
-    match records::read_record(rec) {
-        Record::Holds(h) => encode_accepted(h, lanes as usize, message, out),
-        Record::Meets(number) => Outcome::Refused(number),
-    }
+    let code = records::read_record(rec)?;
+    encode_accepted(code, lanes as usize, message, out)
 }

@@ -7,7 +7,6 @@ use borrow.Author.Tests.{leb-true}
 use lib.Dec.{leb}
 use Rattle.lists.proofs.Cases.{and_left, and_right}
 use Rattle.field.specs.declared.prime.PrimeField.{PrimeField}
-use Rattle.field.specs.declared.gf256.Gf256.{Gf256}
 use Rattle.field.specs.declared.Field.{Field}
 use Rattle.field.specs.declared.Field.TheVariants.{Prime, Binary}
 use Rattle.field.specs.Primes.{is_prime}
@@ -24,10 +23,17 @@ usable_prime f h =
     let prime = and_right (leb f.p 65521) (is_prime f.p) h in
     (leb-true f.p 65521 (and_left (leb f.p 65521) (is_prime f.p) h), prime, prime_size f.p prime)
 
+-- what its arithmetic asks
+pub prime_fits : (f : PrimeField) → usable (Prime f) ≡ true → (size_of f.p ≡ f.p) × (f.p ≤ 65521)
+prime_fits f h = let u = usable_prime f h in (u.2, u.0)
+
+pub prime_names : (f : PrimeField) → usable (Prime f) ≡ true → is_field f.p ≡ true
+prime_names f h = prime_field f.p (usable_prime f h).1
+
 -- a usable value names a field
 pub usable_field : (f : Field) → usable f ≡ true → is_field (modulus f) ≡ true
 unfolding usable modulus
-usable_field (Prime f) h = prime_field f.p (usable_prime f h).1
+usable_field (Prime f) h = prime_names f h
 usable_field (Binary g) h = byte_field
 
 -- whose symbols fit 16 bits
@@ -35,15 +41,6 @@ pub size_fits : (f : Field) → usable f ≡ true → size_of (modulus f) ≤ 65
 unfolding usable modulus size_of
 size_fits (Prime f) h = let u = usable_prime f h in rw u.2 u.0
 size_fits (Binary g) h = omega arith
-
--- symbols of either kind
-pub prime_symbol : (f : PrimeField) → usable (Prime f) ≡ true → {a : ℕ} → a < size_of (modulus (Prime f)) → a < f.p
-unfolding modulus
-prime_symbol f h l = rw (usable_prime f h).2 at l
-
-pub byte_symbol : (g : Gf256) {a : ℕ} → a < size_of (modulus (Binary g)) → a < 256
-unfolding modulus size_of
-byte_symbol g l = l
 
 -- what its operations give are symbols
 module _ (f : Field) (u : usable f ≡ true) where

@@ -1,7 +1,7 @@
 -- Which numbers name a field, and what the operations are where p is not 0: arithmetic modulo p.
 use mathlib.Core.Path.{◌≡◌, refl}
 use mathlib.Core.Bool.{true, or-true}
-use Prim.Native.Nat.{ℕ, ◌+◌, ◌-◌, ◌*◌, ◌%◌, ◌<◌}
+use Prim.Native.Nat.{ℕ, zero, suc, ◌+◌, ◌-◌, ◌*◌, ◌%◌, ◌<◌}
 use native.Mathlib.Nat.{mod-lt}
 use native.Mathlib.Omega.{arith}
 use borrow.Author.Tests.{ne_eqb}
@@ -41,6 +41,12 @@ prime_field p prime = rw prime (or-true (eqb p 0))
 
 pub prime_size : (p : ℕ) → is_prime p ≡ true → size_of p ≡ p
 prime_size p prime = size_modulo p (omega (arith, two≤prime p prime))
+
+-- what names a field and is its size is a prime
+pub field_prime : {p : ℕ} → is_field p ≡ true → size_of p ≡ p → is_prime p ≡ true
+unfolding is_field size_of
+field_prime {p = zero} v sized = absurd (omega arith)
+field_prime {p = suc p} v sized = rw (ne_eqb (suc p) 0 (λ z. omega arith)) at v
 
 -- 0 names the field of 256 elements
 pub byte_field : is_field 0 ≡ true

@@ -1,10 +1,10 @@
 // The field of 256 elements: bytes as polynomials over two elements modulo 0x11D. Its number is 0.
-ghost use Rattle.std.specs.Prelude.{◌≡◌, ◌%◌, ◌≤◌, ◌<◌, eqb};
-ghost use Rattle.field.specs.Fields.{add, sub, mul, inverse, order_of};
+ghost use Rattle.std.specs.Prelude.{◌≡◌, ⊤, ◌%◌, ◌<◌};
+ghost use Rattle.field.specs.Fields.{mul};
 ghost use Rattle.field.specs.Kinds.{gf256};
-ghost use Rattle.field.specs.Tables.{AreTables};
 
-use crate::tables::{Tables, constant_tables};
+use crate::kind::FieldKind;
+use crate::tables::Tables;
 
 #[derive(Clone, Copy)]
 pub struct Gf256 {}
@@ -20,33 +20,34 @@ impl Gf256 {
         Self {}
     }
 
-    pub fn add(self, a: u32, b: u32) -> u32
-        requires { (a < 256) × (b < 256) }
-        ensures { result ≡ add 0 a b }
-    {
-        a ^ b
-    }
-
-    pub fn sub(self, a: u32, b: u32) -> u32
-        requires { (a < 256) × (b < 256) }
-        ensures { result ≡ sub 0 a b }
-    {
-        a ^ b
-    }
-
-    pub fn mul(self, a: u32, b: u32) -> u32
+    // `mul` for bytes.
+    #[tactic(auto, unfolding(crate::specs::Fields::size_of))]
+    pub fn mul_with(self, tables: &Tables, a: u32, b: u32) -> u32
         requires { (a < 256) × (b < 256) }
         ensures { result ≡ mul 0 a b }
     {
-        let t = constant_tables();
-        self.mul_with(&t, a, b)
+        self.mul(tables, a, b)
+    }
+}
+
+impl FieldKind for Gf256 {
+    ghost modulus = { λ _. 0 };
+
+    ghost fits = { λ _. ⊤ };
+
+    #[tactic(auto, unfolding(crate::specs::Fields::add))]
+    fn add(self, a: u32, b: u32) -> u32 {
+        a ^ b
+    }
+
+    // Each byte is its own negative.
+    #[tactic(auto, unfolding(crate::specs::Fields::add, crate::specs::Fields::sub))]
+    fn sub(self, a: u32, b: u32) -> u32 {
+        self.add(a, b)
     }
 
     // The exponents add, modulo 255; 0 times a byte is 0.
-    pub fn mul_with(self, tables: &Tables, a: u32, b: u32) -> u32
-        requires { AreTables tables.now × (a < 256) × (b < 256) }
-        ensures { result ≡ mul 0 a b }
-    {
+    fn mul(self, tables: &Tables, a: u32, b: u32) -> u32 {
         if a == Self::ZERO {
             return Self::ZERO;
         }
@@ -57,20 +58,8 @@ impl Gf256 {
         tables.power(reduced(e)) as u32
     }
 
-    // 0 for 0.
-    pub fn inverse(self, a: u32) -> u32
-        requires { a < 256 }
-        ensures { result ≡ inverse 0 a }
-    {
-        let t = constant_tables();
-        self.inverse_with(&t, a)
-    }
-
     // The power whose exponent is the negative of a's, modulo 255.
-    pub fn inverse_with(self, tables: &Tables, a: u32) -> u32
-        requires { a < 256 }
-        ensures { result ≡ inverse 0 a }
-    {
+    fn inverse(self, tables: &Tables, a: u32) -> u32 {
         if a == Self::ZERO {
             return Self::ZERO;
         }
@@ -82,24 +71,18 @@ impl Gf256 {
         }
     }
 
-    // Whether the order of a is n, by n − 1 sums of exponents modulo 255: 1 is the power at 0.
-    pub fn has_order(self, a: u32, n: u32) -> bool
-        requires { (a < 256) × (1 ≤ n) × (n ≤ 256) }
-        ensures { result ≡ eqb (order_of 0 a) n }
-    {
+    // By n − 1 sums of exponents modulo 255: 1 is the power at 0.
+    fn has_order(self, tables: &Tables, a: u32, n: u32) -> bool {
         if a == Self::ZERO {
             return false;
         }
-        let t = constant_tables();
-        let step = t.logarithm(a) as u32;
-        let mut e: u32 = 1;
+        let step = tables.logarithm(a) as u32;
         let mut s = step;
-        while e < n {
+        for _ in 1..n {
             if s == 0 {
                 return false;
             }
             s = reduced(step + s);
-            e += 1;
         }
         s == 0
     }

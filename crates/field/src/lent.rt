@@ -4,6 +4,7 @@ ghost use Rattle.field.specs.Fields.{size_of, add, sub, mul, power, inverse};
 ghost use Rattle.field.specs.Kinds.{modulus, usable};
 
 use crate::Field;
+use crate::kind::FieldKind;
 use crate::tables::Tables;
 
 // By value, where code takes sums and products of one field.
@@ -15,6 +16,7 @@ pub struct Arithmetic<'a> {
     pub ghost small: { size_of (modulus field) ≤ 65521 },
 }
 
+// As for `Field`, one function that takes the operation would be no plainer.
 impl<'a> Arithmetic<'a> {
     #[tactic(auto, using(crate::proofs::KindLaws::size_fits))]
     pub fn new(field: Field, tables: &'a Tables) -> Self
@@ -45,13 +47,16 @@ impl<'a> Arithmetic<'a> {
         self.field.sub(a, b)
     }
 
-    #[tactic(auto, using(crate::proofs::KindLaws::mul_symbol))]
+    #[tactic(auto, using(crate::proofs::KindLaws::mul_symbol, crate::proofs::KindLaws::prime_fits), unfolding(crate::specs::Kinds::modulus))]
     pub fn mul(self, a: u32, b: u32) -> u32
         requires { (a < size_of (modulus self.field)) × (b < size_of (modulus self.field)) }
         ensures is { result ≡ mul (modulus self.entry.field) a b }
         ensures symbol { result < size_of (modulus self.entry.field) }
     {
-        self.field.mul_with(self.tables, a, b)
+        match self.field {
+            Field::Prime(f) => f.mul(self.tables, a, b),
+            Field::Binary(g) => g.mul(self.tables, a, b),
+        }
     }
 
     // Whether c is the product of a and b.
@@ -59,25 +64,31 @@ impl<'a> Arithmetic<'a> {
         requires { (a < size_of (modulus self.field)) × (b < size_of (modulus self.field)) }
         ensures { result ≡ eqb c (mul (modulus self.entry.field) a b) }
     {
-        self.field.is_product(self.tables, a, b, c)
+        c as u32 == self.mul(a, b as u32)
     }
 
     // The symbol whose product with a is 1; 0 for 0.
-    #[tactic(auto, using(crate::proofs::KindLaws::inverse_symbol))]
+    #[tactic(auto, using(crate::proofs::KindLaws::inverse_symbol, crate::proofs::KindLaws::prime_fits, crate::proofs::KindLaws::prime_names, crate::proofs::Meanings::byte_field), unfolding(crate::specs::Kinds::modulus))]
     pub fn inverse(self, a: u32) -> u32
         requires { a < size_of (modulus self.field) }
         ensures is { result ≡ inverse (modulus self.entry.field) a }
         ensures symbol { result < size_of (modulus self.entry.field) }
     {
-        self.field.inverse_with(self.tables, a)
+        match self.field {
+            Field::Prime(f) => f.inverse(self.tables, a),
+            Field::Binary(g) => g.inverse(self.tables, a),
+        }
     }
 
-    #[tactic(auto, using(crate::proofs::KindLaws::power_symbol))]
+    #[tactic(auto, using(crate::proofs::KindLaws::power_symbol, crate::proofs::KindLaws::prime_fits, crate::proofs::KindLaws::prime_names, crate::proofs::Meanings::byte_field), unfolding(crate::specs::Kinds::modulus))]
     pub fn power(self, a: u32, e: u32) -> u32
         requires { a < size_of (modulus self.field) }
         ensures is { result ≡ power (modulus self.entry.field) a e }
         ensures symbol { result < size_of (modulus self.entry.field) }
     {
-        self.field.power(self.tables, a, e)
+        match self.field {
+            Field::Prime(f) => f.power(self.tables, a, e),
+            Field::Binary(g) => g.power(self.tables, a, e),
+        }
     }
 }

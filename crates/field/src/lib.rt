@@ -4,15 +4,17 @@
 ghost use Rattle.std.specs.Prelude.{◌≡◌, true, ◌&&◌, ◌≤◌, ◌<◌, eqb, leb};
 ghost use Rattle.field.specs.Fields.{is_field, size_of, add, sub, mul, power, inverse, order_of};
 ghost use Rattle.field.specs.Kinds.{modulus, usable};
-ghost use Rattle.field.specs.Tables.{AreTables};
 ghost use Rattle.field.specs.Widths.{bytes_for};
 
 mod gf256;
+mod kind;
 pub mod lent;
 mod prime;
 mod tables;
 
 pub use gf256::Gf256;
+pub use kind::FieldKind;
+use lent::Arithmetic;
 pub use prime::{PrimeField, is_prime};
 pub use tables::{Tables, constant_tables};
 
@@ -22,12 +24,14 @@ pub enum Field {
     Binary(Gf256),
 }
 
+// The operations on symbols have the same arms: one function that takes the operation would make each call longer, and no plainer.
 impl Field {
     pub const ZERO: u32 = 0;
 
     pub const ONE: u32 = 1;
 
     // The field that p names: of p elements, or of 256 for 0.
+    #[tactic(auto, unfolding(crate::specs::Fields::is_field, crate::specs::Kinds::modulus, crate::specs::Kinds::usable))]
     pub fn new(p: u32) -> Self
         ensures { (modulus result ≡ p) × (usable result ≡ (leb p 65521 && is_field p)) }
     {
@@ -38,6 +42,7 @@ impl Field {
         }
     }
 
+    #[tactic(auto, using(crate::proofs::KindLaws::prime_fits), unfolding(crate::specs::Fields::size_of, crate::specs::Kinds::modulus))]
     pub fn size(self) -> u32
         requires { usable self ≡ true }
         ensures { result ≡ size_of (modulus self) }
@@ -58,6 +63,7 @@ impl Field {
         if top / 256 % 256 == 0 { 1 } else { 2 }
     }
 
+    #[tactic(auto, using(crate::proofs::KindLaws::prime_fits), unfolding(crate::specs::Kinds::modulus))]
     pub fn add(self, a: u32, b: u32) -> u32
         requires { (usable self ≡ true) × (a < size_of (modulus self)) × (b < size_of (modulus self)) }
         ensures { result ≡ add (modulus self) a b }
@@ -68,6 +74,7 @@ impl Field {
         }
     }
 
+    #[tactic(auto, using(crate::proofs::KindLaws::prime_fits), unfolding(crate::specs::Kinds::modulus))]
     pub fn sub(self, a: u32, b: u32) -> u32
         requires { (usable self ≡ true) × (a < size_of (modulus self)) × (b < size_of (modulus self)) }
         ensures { result ≡ sub (modulus self) a b }
@@ -83,26 +90,23 @@ impl Field {
         ensures { result ≡ mul (modulus self) a b }
     {
         let tables = constant_tables();
-        self.mul_with(&tables, a, b)
+        Arithmetic::new(self, &tables).mul(a, b)
     }
 
     // The same with lent tables, for loops that take many products; a prime field needs none.
     pub fn mul_with(self, tables: &Tables, a: u32, b: u32) -> u32
-        requires { (usable self ≡ true) × (a < size_of (modulus self)) × (b < size_of (modulus self)) × AreTables tables.now }
+        requires { (usable self ≡ true) × (a < size_of (modulus self)) × (b < size_of (modulus self)) }
         ensures { result ≡ mul (modulus self) a b }
     {
-        match self {
-            Field::Prime(f) => f.mul(a, b),
-            Field::Binary(g) => g.mul_with(tables, a, b),
-        }
+        Arithmetic::new(self, tables).mul(a, b)
     }
 
     // Whether c is the product of a and b.
     pub fn is_product(self, tables: &Tables, a: u32, b: u16, c: u16) -> bool
-        requires { (usable self ≡ true) × (a < size_of (modulus self)) × (b < size_of (modulus self)) × AreTables tables.now }
+        requires { (usable self ≡ true) × (a < size_of (modulus self)) × (b < size_of (modulus self)) }
         ensures { result ≡ eqb c (mul (modulus self) a b) }
     {
-        c as u32 == self.mul_with(tables, a, b as u32)
+        Arithmetic::new(self, tables).is_product(a, b, c)
     }
 
     // The symbol whose product with a is 1; 0 for 0.
@@ -111,45 +115,33 @@ impl Field {
         ensures { result ≡ inverse (modulus self) a }
     {
         let tables = constant_tables();
-        self.inverse_with(&tables, a)
+        Arithmetic::new(self, &tables).inverse(a)
     }
 
     pub fn inverse_with(self, tables: &Tables, a: u32) -> u32
-        requires { (usable self ≡ true) × (a < size_of (modulus self)) × AreTables tables.now }
+        requires { (usable self ≡ true) × (a < size_of (modulus self)) }
         ensures { result ≡ inverse (modulus self) a }
     {
-        match self {
-            Field::Prime(f) => f.inverse(a),
-            Field::Binary(g) => g.inverse_with(tables, a),
-        }
+        Arithmetic::new(self, tables).inverse(a)
     }
 
-    // By squaring, with lent tables: the result so far times base^k is the power.
     pub fn power(self, tables: &Tables, a: u32, e: u32) -> u32
-        requires { (usable self ≡ true) × (a < size_of (modulus self)) × AreTables tables.now }
+        requires { (usable self ≡ true) × (a < size_of (modulus self)) }
         ensures { result ≡ power (modulus self) a e }
     {
-        let mut base = a;
-        let mut k = e;
-        let mut r = Self::ONE;
-        while k > 0 {
-            if k % 2 == 1 {
-                r = self.mul_with(tables, r, base);
-            }
-            base = self.mul_with(tables, base, base);
-            k = k / 2;
-        }
-        r
+        Arithmetic::new(self, tables).power(a, e)
     }
 
     // Whether the order of a is n: the first exponent whose power of a is 1.
+    #[tactic(auto, using(crate::proofs::KindLaws::prime_fits), unfolding(crate::specs::Kinds::modulus))]
     pub fn has_order(self, a: u32, n: u32) -> bool
         requires { (usable self ≡ true) × (a < size_of (modulus self)) × (1 ≤ n) × (n ≤ 256) }
         ensures { result ≡ eqb (order_of (modulus self) a) n }
     {
+        let tables = constant_tables();
         match self {
-            Field::Prime(f) => f.has_order(a, n),
-            Field::Binary(g) => g.has_order(a, n),
+            Field::Prime(f) => f.has_order(&tables, a, n),
+            Field::Binary(g) => g.has_order(&tables, a, n),
         }
     }
 }

@@ -1,8 +1,11 @@
 // The fields of p elements, p a prime up to 65,521: arithmetic modulo p.
-ghost use Rattle.std.specs.Prelude.{◌≡◌, true, ◌≤◌, ◌<◌, eqb};
+ghost use Rattle.std.specs.Prelude.{◌≡◌, ◌≤◌};
 ghost use Rattle.field.specs.Primes.{is_prime};
-ghost use Rattle.field.specs.Fields.{add, sub, mul, inverse, order_of};
+ghost use Rattle.field.specs.Fields.{size_of};
 ghost use Rattle.field.specs.Kinds.{prime_of};
+
+use crate::kind::FieldKind;
+use crate::tables::Tables;
 
 #[derive(Clone, Copy)]
 pub struct PrimeField {
@@ -19,35 +22,29 @@ impl PrimeField {
     {
         Self { p: p }
     }
+}
 
-    pub fn add(self, a: u32, b: u32) -> u32
-        requires { (self.p ≤ 65521) × (a < self.p) × (b < self.p) }
-        ensures { result ≡ add self.p a b }
-    {
+impl FieldKind for PrimeField {
+    ghost modulus = { λ f. f.p };
+
+    ghost fits = { λ f. (size_of f.p ≡ f.p) × (f.p ≤ 65521) };
+
+    fn add(self, a: u32, b: u32) -> u32 {
         let p = self.p;
         let s = a + b;
         if s < p { s } else { s - p }
     }
 
-    pub fn sub(self, a: u32, b: u32) -> u32
-        requires { (self.p ≤ 65521) × (a < self.p) × (b < self.p) }
-        ensures { result ≡ sub self.p a b }
-    {
+    fn sub(self, a: u32, b: u32) -> u32 {
         if b <= a { a - b } else { a + (self.p - b) }
     }
 
-    pub fn mul(self, a: u32, b: u32) -> u32
-        requires { (self.p ≤ 65521) × (a < self.p) × (b < self.p) }
-        ensures { result ≡ mul self.p a b }
-    {
+    fn mul(self, _tables: &Tables, a: u32, b: u32) -> u32 {
         (a * b) % self.p
     }
 
-    // From t·a = x to a smaller x, at most half as large, down to 1; 0 for 0.
-    pub fn inverse(self, a: u32) -> u32
-        requires { (is_prime self.p ≡ true) × (self.p ≤ 65521) × (a < self.p) }
-        ensures { result ≡ inverse self.p a }
-    {
+    // From t·a = x to a smaller x, at most half as large, down to 1: a division gives the next x, and no index is counted.
+    fn inverse(self, tables: &Tables, a: u32) -> u32 {
         if a == Self::ZERO {
             return Self::ZERO;
         }
@@ -58,29 +55,25 @@ impl PrimeField {
             let q = p / x;
             let r = p % x;
             if r <= x - r {
-                t = self.sub(Self::ZERO, self.mul(q, t));
+                t = self.sub(Self::ZERO, self.mul(tables, q, t));
                 x = r;
             } else {
-                t = self.mul(q + 1, t);
+                t = self.mul(tables, q + 1, t);
                 x = x - r;
             }
         }
         t
     }
 
-    // Whether the order of a is n, by n − 1 products.
-    pub fn has_order(self, a: u32, n: u32) -> bool
-        requires { (self.p ≤ 65521) × (a < self.p) × (1 ≤ n) × (n ≤ 256) }
-        ensures { result ≡ eqb (order_of self.p a) n }
-    {
-        let mut e: u32 = 1;
+    // By n − 1 products, each times a.
+    #[tactic(auto, using(crate::proofs::Orders::searched_start, crate::proofs::Orders::searched_step, crate::proofs::Orders::searched_stop, crate::proofs::Meanings::mul_under))]
+    fn has_order(self, tables: &Tables, a: u32, n: u32) -> bool {
         let mut x = a;
-        while e < n {
+        for _ in 1..n {
             if x == Self::ONE {
                 return false;
             }
-            x = self.mul(a, x);
-            e += 1;
+            x = self.mul(tables, a, x);
         }
         x == Self::ONE
     }
@@ -90,15 +83,5 @@ impl PrimeField {
 pub fn is_prime(p: u32) -> bool
     ensures { result ≡ is_prime p }
 {
-    if p < 2 {
-        return false;
-    }
-    let mut d: u32 = 2;
-    while d <= p / d {
-        if p % d == 0 {
-            return false;
-        }
-        d += 1;
-    }
-    true
+    2 <= p && (2..p.isqrt() + 1).all(|d| p % d != 0)
 }

@@ -12,6 +12,7 @@ pub struct Tables {
 
 impl Tables {
     // 2 to the power e.
+    #[tactic(auto, using(crate::proofs::TableLaws::power_at))]
     pub(crate) fn power(&self, e: u32) -> u8
         requires { e < 255 }
         ensures { result ≡ power 0 2 e }
@@ -20,6 +21,7 @@ impl Tables {
     }
 
     // The exponent below 255 whose power of 2 is a.
+    #[tactic(auto, using(crate::proofs::TableLaws::log_power))]
     pub(crate) fn logarithm(&self, a: u32) -> u8
         requires { (0 < a) × (a < 256) }
         ensures below { result < 255 }

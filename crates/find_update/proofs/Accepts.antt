@@ -1,4 +1,6 @@
 -- What holds where no number is met: each lane has n symbols; and what the call says beside a number.
+use Rattle.std.specs.Prelude.{Ok, Err}
+use Rattle.generator.specs.Answers.{Answer}
 use mathlib.Core.Path.{◌≡◌, refl, sym}
 use mathlib.Core.List.{List}
 use Prim.Native.Nat.{ℕ, zero, suc, ◌*◌}
@@ -7,8 +9,6 @@ use lib.ListN.{length}
 use Rattle.lists.proofs.Cases.{when_zero}
 use Rattle.layout.specs.Width.{symbols_of}
 use Rattle.generator.specs.declared.Header.{Header}
-use Rattle.generator.specs.declared.Record.{Record}
-use Rattle.generator.specs.declared.Record.TheVariants.{Holds, Meets}
 use Rattle.generator.specs.Records.{record_of, width}
 use Rattle.generator.proofs.Accepts.{accepted_sound}
 use Rattle.refusals.specs.Conditions.{length_bad, symbols_bad}
@@ -58,7 +58,7 @@ refused_means zero found g never e = absurd (never g (sym e))
 refused_means (suc f) found g never e = let same : g ≡ suc f = cc in (same, λ z. omega arith)
 
 -- what holds of every two lanes of a record
-pub found_lanes : (rec : List ℕ) (r : Record) → record_of rec ≡ r → Found r
+pub found_lanes : (rec : List ℕ) (r : Answer Header) → record_of rec ≡ r → Found r
 unfolding Found
-found_lanes rec (Meets f) e = tt
-found_lanes rec (Holds h) e = λ us vs before after. finds h (accepted_sound rec h e) us vs before after
+found_lanes rec (Err f) e = tt
+found_lanes rec (Ok h) e = λ us vs before after. finds h (accepted_sound rec h e) us vs before after

@@ -1,15 +1,14 @@
 -- What the call promises: the finding for two lanes, or the number that turns it away.
+use Rattle.std.specs.Prelude.{Ok, Err}
+use Rattle.generator.specs.Answers.{Answer}
 use Rattle.std.specs.Prelude.{◌≡◌, List, ℕ, zero, suc, ◌*◌, length}
 use Rattle.lists.specs.Choice.{first_of, when}
 use Rattle.layout.specs.Width.{symbols_of}
 use Rattle.generator.specs.declared.Header.{Header}
-use Rattle.generator.specs.declared.Record.{Record}
-use Rattle.generator.specs.declared.Record.TheVariants.{Holds, Meets}
 use Rattle.generator.specs.Records.{record_of, width}
 use Rattle.refusals.specs.Conditions.{length_bad, symbols_bad}
 use Rattle.refusals.specs.Promise.{OnRecord}
 use Rattle.find_update.specs.declared.Finding.{Finding}
-use Rattle.find_update.specs.declared.Finding.TheVariants.{Refused}
 use Rattle.refusals.specs.Accepted.{IsLane}
 use Rattle.find_update.specs.Finding.{finding_of, Finds}
 
@@ -22,20 +21,20 @@ find_fault h before after =
     (when (symbols_bad h after) 11)))
 
 -- the answer for each number, and for what was found where there is none
-unfoldable pub answer_of : ℕ → Finding → Finding
-answer_of zero found = found
-answer_of (suc f) found = Refused (suc f)
+unfoldable pub answer_of : ℕ → Finding → Answer Finding
+answer_of zero found = Ok found
+answer_of (suc f) found = Err (suc f)
 
 -- what holds of every two lanes of a record that was read
-unfoldable pub Found : Record → Type 0
-Found (Holds h) = (us vs : List ℕ) → IsLane h us → IsLane h vs → Finds h us vs
-Found (Meets f) = Unit {0}
+unfoldable pub Found : Answer Header → Type 0
+Found (Ok h) = (us vs : List ℕ) → IsLane h us → IsLane h vs → Finds h us vs
+Found (Err f) = Unit {0}
 
 -- over a header and the number that turns the call away, 0 where none does
-pub record FindPromise (before after : List ℕ) (r : Finding) (h : Header) (f : ℕ) : Type 0 where
+pub record FindPromise (before after : List ℕ) (r : Answer Finding) (h : Header) (f : ℕ) : Type 0 where
   pub answer : r ≡ answer_of f (finding_of h (symbols_of (width h) before) (symbols_of (width h) after))
 
 -- what `find_update` promises over the record as it is read, and what the answer means
-pub record FindSays (rec before after : List ℕ) (r : Finding) : Type 0 where
+pub record FindSays (rec before after : List ℕ) (r : Answer Finding) : Type 0 where
   pub found : OnRecord rec (λ h. find_fault h before after) (FindPromise before after r)
   pub claims : Found (record_of rec)

@@ -4,7 +4,7 @@ ghost use Rattle.lists.specs.Padded.{padded};
 ghost use Rattle.lists.specs.Search.{first_false};
 ghost use Rattle.field.specs.Tables.{AreTables};
 ghost use Rattle.generator.specs.Records.{size, Sound};
-ghost use Rattle.plan.specs.Plans.{plan_for};
+ghost use Rattle.plan.specs.Plans.{plan_of};
 ghost use Rattle.refusals.specs.Accepted.{IsLane};
 ghost use Rattle.find_update.specs.Inner.Starts.{differences, first_other};
 
@@ -48,7 +48,7 @@ pub fn first_other(
     x: u32,
     difference: &[u16],
 ) -> usize
-    requires { Sound h × (plan ≡ plan_for (Record.Holds h)) × (row < h.k) × (x < size h) × (length difference.now ≡ h.n) × AreTables tables.now }
+    requires { Sound h × (plan ≡ plan_of h) × (row < h.k) × (x < size h) × (length difference.now ≡ h.n) × AreTables tables.now }
     ensures { result ≡ first_other h difference.now row x }
 {
     let n = h.n as usize;

@@ -1,7 +1,7 @@
 // The row of the generator that a difference begins with.
 ghost use Rattle.std.specs.Prelude.{◌≡◌, ◌<◌, length};
 ghost use Rattle.generator.specs.Records.{Sound};
-ghost use Rattle.plan.specs.Plans.{plan_for};
+ghost use Rattle.plan.specs.Plans.{plan_of};
 ghost use Rattle.find_update.specs.Inner.Starts.{begins_at, row_starting};
 
 use generator::{Header, Record};
@@ -19,7 +19,7 @@ fn begins_at(k: u8, first: usize, difference: &[u16]) -> bool
 
 // The least row that the difference begins with, or k.
 pub fn row_at(h: Header, plan: Plan, difference: &[u16]) -> usize
-    requires { Sound h × (plan ≡ plan_for (Record.Holds h)) × (length difference.now ≡ h.n) }
+    requires { Sound h × (plan ≡ plan_of h) × (length difference.now ≡ h.n) }
     ensures { result ≡ row_starting h difference.now }
 {
     let k = h.k as usize;

@@ -1,4 +1,5 @@
 -- What a record that no number turns away holds.
+use Rattle.std.specs.Prelude.{Ok}
 use mathlib.Core.Path.{◌≡◌, refl, subst}
 use mathlib.Core.Bool.{true, false, ◌&&◌}
 use mathlib.Core.List.{List}
@@ -15,7 +16,6 @@ use Rattle.field.specs.Fields.{order_of}
 use Rattle.field.specs.Kinds.{prime_of, usable}
 use Rattle.field.proofs.KindLaws.{usable_field}
 use Rattle.generator.specs.declared.Header.{Header}
-use Rattle.generator.specs.declared.Record.TheVariants.{Holds}
 use Rattle.generator.specs.Records.{pair_at, header_of, modulus_of, size, kind_bad, body_bad, prime_in, field_bad, size_bad, root_bad, header_fault, record_fault, judged, record_of, Sound}
 use Rattle.generator.proofs.Faults.{sizes}
 
@@ -57,16 +57,16 @@ field_usable rec e =
     (λ u. rw (t, u)))
 
 -- a record that holds a header meets no number, and the header is its own
-pub held_header : (rec : List ℕ) (h : Header) → record_of rec ≡ Holds h → (record_fault rec ≡ 0) × (header_of rec ≡ h)
+pub held_header : (rec : List ℕ) (h : Header) → record_of rec ≡ Ok h → (record_fault rec ≡ 0) × (header_of rec ≡ h)
 unfolding record_of judged
 held_header rec h e = go (record_fault rec) refl
   where
     go : (f : ℕ) → record_fault rec ≡ f → (record_fault rec ≡ 0) × (header_of rec ≡ h)
-    go zero q = (q, let w : judged zero (header_of rec) ≡ Holds h = rw q at e in cc)
-    go (suc f) q = let w : judged (suc f) (header_of rec) ≡ Holds h = rw q at e in let z : ◌≡◌ {A = ℕ} 0 1 = cc in absurd (omega arith)
+    go zero q = (q, let w : judged zero (header_of rec) ≡ Ok h = rw q at e in cc)
+    go (suc f) q = let w : judged (suc f) (header_of rec) ≡ Ok h = rw q at e in let z : ◌≡◌ {A = ℕ} 0 1 = cc in absurd (omega arith)
 
 -- such a header is sound
-pub accepted_sound : (rec : List ℕ) (h : Header) → record_of rec ≡ Holds h → Sound h
+pub accepted_sound : (rec : List ℕ) (h : Header) → record_of rec ≡ Ok h → Sound h
 unfolding record_fault
 accepted_sound rec h e =
     let (none, same) = held_header rec h e in

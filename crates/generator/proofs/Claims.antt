@@ -1,11 +1,11 @@
 -- Everything that is claimed of an accepted plan.
+use Rattle.std.specs.Prelude.{Ok, Err}
+use Rattle.generator.specs.Answers.{Answer}
 use mathlib.Core.Path.{◌≡◌}
 use mathlib.Core.List.{List}
 use Prim.Native.Nat.{ℕ}
 use Rattle.lists.proofs.Numbers.{all_below_lem, all_distinct}
 use Rattle.generator.specs.declared.Header.{Header}
-use Rattle.generator.specs.declared.Record.{Record}
-use Rattle.generator.specs.declared.Record.TheVariants.{Holds, Meets}
 use Rattle.generator.specs.Records.{record_of, Sound}
 use Rattle.generator.specs.Shifts.{shifts}
 use Rattle.generator.specs.Claims.{Ours, Promised}
@@ -49,7 +49,7 @@ ours h s =
     }
 
 -- what is promised of every record
-pub promised : (rec : List ℕ) (r : Record) → record_of rec ≡ r → Promised r
+pub promised : (rec : List ℕ) (r : Answer Header) → record_of rec ≡ r → Promised r
 unfolding Promised
-promised rec (Holds h) e = let s = accepted_sound rec h e in record { code = ours h s; scheme = our_scheme h s }
-promised rec (Meets f) e = tt
+promised rec (Ok h) e = let s = accepted_sound rec h e in record { code = ours h s; scheme = our_scheme h s }
+promised rec (Err f) e = tt

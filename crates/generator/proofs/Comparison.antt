@@ -1,4 +1,6 @@
 -- The figures of the plan and of the plain layout, for every accepted record.
+use Rattle.std.specs.Prelude.{Ok, Err}
+use Rattle.generator.specs.Answers.{Answer}
 use mathlib.Core.Path.{◌≡◌, refl}
 use mathlib.Core.Logic.{◌≢◌}
 use mathlib.Core.List.{List}
@@ -7,8 +9,6 @@ use native.Mathlib.Omega.{arith}
 use Rattle.scheme.proofs.Plain.{plain_figures}
 use Rattle.scheme.proofs.Figures.{tight_figures, figures_bound}
 use Rattle.generator.specs.declared.Header.{Header}
-use Rattle.generator.specs.declared.Record.{Record}
-use Rattle.generator.specs.declared.Record.TheVariants.{Holds, Meets}
 use Rattle.generator.specs.Records.{record_of, distance, low_reads, high_reads, Sound}
 use Rattle.generator.specs.Comparison.{plain_greatest, Compared, ComparedRecord}
 use Rattle.generator.proofs.Accepts.{accepted_sound}
@@ -37,6 +37,6 @@ pub compared : (rec : List ℕ) → ComparedRecord (record_of rec)
 unfolding ComparedRecord
 compared rec = go (record_of rec) refl
   where
-    go : (r : Record) → record_of rec ≡ r → ComparedRecord r
-    go (Holds h) e = comparison h (accepted_sound rec h e)
-    go (Meets f) e = tt
+    go : (r : Answer Header) → record_of rec ≡ r → ComparedRecord r
+    go (Ok h) e = comparison h (accepted_sound rec h e)
+    go (Err f) e = tt

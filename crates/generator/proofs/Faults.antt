@@ -1,4 +1,5 @@
 -- The first of the numbers 4 and 5 whose condition holds turns a header away.
+use Rattle.std.specs.Prelude.{Ok, Err}
 use mathlib.Core.Path.{◌≡◌}
 use mathlib.Core.Bool.{true, false, ◌||◌}
 use Prim.Native.Nat.{◌≤◌, ◌<◌}
@@ -7,21 +8,24 @@ use borrow.Author.Tests.{ltb-false, eqb-false}
 use lib.Dec.{eqb, ltb}
 use Rattle.lists.proofs.Cases.{or_left_false, or_right_false}
 use Rattle.generator.specs.declared.Header.{Header}
-use Rattle.generator.specs.declared.Record.TheVariants.{Holds, Meets}
 use Rattle.generator.specs.Records.{size_bad, root_bad, header_fault, judged}
 
 module _ (h : Header) where
-  pub meets_four : size_bad h ≡ true → Meets 4 ≡ judged (header_fault h) h
+  pub meets_four : size_bad h ≡ true → Err 4 ≡ judged (header_fault h) h
   unfolding judged header_fault
   meets_four four = rw four
 
-  pub meets_five : size_bad h ≡ false → root_bad h ≡ true → Meets 5 ≡ judged (header_fault h) h
+  pub meets_five : size_bad h ≡ false → root_bad h ≡ true → Err 5 ≡ judged (header_fault h) h
   unfolding judged header_fault
   meets_five four five = rw (four, five)
 
-  pub meets_none : size_bad h ≡ false → root_bad h ≡ false → Holds h ≡ judged (header_fault h) h
+  pub meets_none : size_bad h ≡ false → root_bad h ≡ false → Ok h ≡ judged (header_fault h) h
   unfolding judged header_fault
   meets_none four five = rw (four, five)
+
+  pub no_fault : size_bad h ≡ false → root_bad h ≡ false → header_fault h ≡ 0
+  unfolding header_fault
+  no_fault four five = rw (four, five)
 
   -- the sizes that number 4 passes
   pub sizes : size_bad h ≡ false → (2 ≤ h.n) × (h.n ≤ 255) × (0 < h.k) × (h.k ≤ h.n)

@@ -33,3 +33,4 @@ pub mod RecordsAgreement
 pub mod AcceptedBytes
 pub mod ShiftsAgreement
 pub mod Agreement
+pub mod Answered

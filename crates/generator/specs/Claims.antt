@@ -1,4 +1,6 @@
 -- What holds of every accepted plan.
+use Rattle.std.specs.Prelude.{Ok, Err}
+use Rattle.generator.specs.Answers.{Answer}
 use Rattle.std.specs.Prelude.{◌≡◌, ◌↔◌, ◌⊎◌, Bool, true, false, ◌&&◌, not, List, map, eqb, ltb, length, get_or, set}
 use Prim.Native.Nat.{ℕ, ◌+◌, ◌*◌, ◌%◌, ◌<◌, Fin}
 use Rattle.lists.specs.Counting.{count_from, differ}
@@ -9,8 +11,6 @@ use Rattle.scheme.specs.Schemes.{Scheme}
 use Rattle.scheme.specs.Sums.{sum}
 use Rattle.scheme.specs.Costs.{Tight, CostsAtLeast}
 use Rattle.generator.specs.declared.Header.{Header}
-use Rattle.generator.specs.declared.Record.{Record}
-use Rattle.generator.specs.declared.Record.TheVariants.{Holds, Meets}
 use Rattle.generator.specs.Records.{size, distance, low_reads, high_reads}
 use Rattle.generator.specs.Shifts.{shifts, negative, firsts}
 use Rattle.generator.specs.Generator.{entry, base_word}
@@ -88,6 +88,6 @@ pub record Accepted (h : Header) : Type 0 where
   pub code : Ours h
   pub scheme : OurScheme h
 
-unfoldable pub Promised : Record → Type 0
-Promised (Holds h) = Accepted h
-Promised (Meets f) = Unit {0}
+unfoldable pub Promised : Answer Header → Type 0
+Promised (Ok h) = Accepted h
+Promised (Err f) = Unit {0}

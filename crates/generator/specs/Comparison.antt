@@ -1,4 +1,6 @@
 -- The plan held against the plain layout for the same k and n: the plain layout of the same code, and the figures of both.
+use Rattle.std.specs.Prelude.{Ok, Err}
+use Rattle.generator.specs.Answers.{Answer}
 use Rattle.std.specs.Prelude.{◌≡◌, true}
 use Prim.Native.Nat.{ℕ, ◌≤◌, Fin}
 use Rattle.lists.specs.Numbers.{all_below}
@@ -7,8 +9,6 @@ use Rattle.scheme.specs.Messages.{Message, symbols}
 use Rattle.scheme.specs.Schemes.{Scheme}
 use Rattle.scheme.specs.Layouts.{HasFigures, Plain, plain_reads}
 use Rattle.generator.specs.declared.Header.{Header}
-use Rattle.generator.specs.declared.Record.{Record}
-use Rattle.generator.specs.declared.Record.TheVariants.{Holds, Meets}
 use Rattle.generator.specs.Records.{size, distance, low_reads, high_reads}
 use Rattle.generator.specs.Codewords.{is_word}
 use Rattle.generator.specs.Claims.{OurScheme}
@@ -39,6 +39,6 @@ pub record Compared (h : Header) : Type 0 where
   pub bound : (s : Scheme h.k h.n ℕ (λ j. ℕ)) (w l g : ℕ) → HasFigures s w l g → (distance h ≤ w) × (high_reads h ≤ g)
 
 -- the same of a record that was read
-unfoldable pub ComparedRecord : Record → Type 0
-ComparedRecord (Holds h) = Compared h
-ComparedRecord (Meets f) = Unit {0}
+unfoldable pub ComparedRecord : Answer Header → Type 0
+ComparedRecord (Ok h) = Compared h
+ComparedRecord (Err f) = Unit {0}

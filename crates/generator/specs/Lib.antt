@@ -7,3 +7,5 @@ pub mod Messages
 pub mod Claims
 pub mod Comparison
 pub mod Pinned
+pub mod Answers
+pub mod Reading

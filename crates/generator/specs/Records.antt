@@ -1,4 +1,6 @@
 -- Records: what one holds, and the numbers 1 to 5 that turn one away.
+use Rattle.std.specs.Prelude.{Ok, Err}
+use Rattle.generator.specs.Answers.{Answer}
 use Rattle.std.specs.Prelude.{◌≡◌, Bool, true, false, ◌&&◌, ◌||◌, not, List, ℕ, zero, suc, ◌+◌, ◌-◌, ◌*◌, ◌≤◌, ◌<◌, eqb, ltb, leb, length, get_or}
 use Rattle.lists.specs.Choice.{pick, first_of, when}
 use Rattle.field.specs.declared.Field.TheVariants.{Prime, Binary}
@@ -8,8 +10,6 @@ use Rattle.field.specs.Kinds.{prime_of, gf256, modulus, usable}
 use Rattle.field.specs.Widths.{bytes_for}
 use Rattle.scheme.specs.Costs.{floor, ceil}
 use Rattle.generator.specs.declared.Header.{Header}
-use Rattle.generator.specs.declared.Record.{Record}
-use Rattle.generator.specs.declared.Record.TheVariants.{Holds, Meets}
 
 -- a number of two bytes, high byte first
 abbrev pub pair_at : List ℕ → ℕ → ℕ
@@ -85,12 +85,12 @@ record_fault s =
     (first_of (when (field_bad s) 3) (header_fault (header_of s))))
 
 -- a header where the number is 0, else the number
-unfoldable pub judged : ℕ → Header → Record
-judged zero h = Holds h
-judged (suc f) h = Meets (suc f)
+unfoldable pub judged : ℕ → Header → Answer Header
+judged zero h = Ok h
+judged (suc f) h = Err (suc f)
 
 -- a record as it is read
-unfoldable pub record_of : List ℕ → Record
+unfoldable pub record_of : List ℕ → Answer Header
 record_of s = judged (record_fault s) (header_of s)
 
 -- what is known of a header that numbers 3 to 5 pass

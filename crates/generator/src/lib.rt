@@ -1,7 +1,13 @@
-// What a record holds. Everything else here is theory: the generator, its codewords, and what holds of every accepted record.
+// What a record holds, the code that an accepted one stands for, and what turns a call away. Everything else here is theory: the
+// generator, its codewords, and what holds of every accepted record.
 #![tactic(auto)]
 
+mod code;
+mod refusal;
+
+pub use code::Code;
 use field::Field;
+pub use refusal::Refusal;
 
 #[derive(Clone, Copy)]
 pub struct Header {
@@ -9,11 +15,4 @@ pub struct Header {
     pub root: u32,
     pub n: u8,
     pub k: u8,
-}
-
-// A record that was read: what it holds, or the number that turned it away.
-#[derive(Clone, Copy)]
-pub enum Record {
-    Holds(Header),
-    Meets(u8),
 }

@@ -1,10 +1,10 @@
 -- The text of the plain layout of a record's code: the first k nodes hold the message, and all n nodes together hold a word of the same code.
+use Rattle.std.specs.Prelude.{Ok, Err}
+use Rattle.generator.specs.Answers.{Answer}
 use Rattle.std.specs.Prelude.{List, [], ◌∷◌, ◌++◌, ℕ, eqb, get_or}
 use Rattle.lists.specs.Choice.{pick}
 use Rattle.lists.specs.Rows.{from, range, rows_from}
 use Rattle.generator.specs.declared.Header.{Header}
-use Rattle.generator.specs.declared.Record.{Record}
-use Rattle.generator.specs.declared.Record.TheVariants.{Holds, Meets}
 use Rattle.generator.specs.Codewords.{encoding}
 use Rattle.blocks.specs.Blocks.{recovered_lane}
 use Rattle.text.specs.Text.{ascii, line}
@@ -30,6 +30,6 @@ unfoldable pub node_line : Header → ℕ → List ℕ
 node_line h j = entries_line j (from (λ r. plain_entry h r j) 0 h.k)
 
 -- the plain layout of a record: n and k, then a line for each node; or the number that turned the record away
-unfoldable pub plain_for : Record → List ℕ
-plain_for (Meets f) = line (ascii "refused") (f ∷ [])
-plain_for (Holds h) = line (ascii "plain") (h.n ∷ h.k ∷ []) ++ rows_from (node_line h) 0 h.n
+unfoldable pub plain_for : Answer Header → List ℕ
+plain_for (Err f) = line (ascii "refused") (f ∷ [])
+plain_for (Ok h) = line (ascii "plain") (h.n ∷ h.k ∷ []) ++ rows_from (node_line h) 0 h.n

@@ -1,21 +1,20 @@
 -- What a plan holds.
+use Rattle.std.specs.Prelude.{Ok, Err}
+use Rattle.generator.specs.Answers.{Answer}
+use Rattle.generator.specs.declared.Header.{Header}
 use Rattle.std.specs.Prelude.{◌≡◌, ◌&&◌, List, ℕ, ◌+◌, ◌%◌, ltb, get_or}
 use Rattle.lists.specs.Choice.{pick}
-use Rattle.lists.specs.Padded.{zeros, padded}
-use Rattle.generator.specs.declared.Record.{Record}
-use Rattle.generator.specs.declared.Record.TheVariants.{Holds, Meets}
+use Rattle.lists.specs.Padded.{padded}
 use Rattle.plan.specs.declared.Plan.{Plan}
 use Rattle.generator.specs.Records.{distance, low_reads, high_reads, record_of}
 use Rattle.generator.specs.Claims.{Promised}
 use Rattle.generator.specs.Shifts.{shifts, firsts}
 use Rattle.generator.specs.Generator.{base_word}
 
--- the plan of a record: the places beyond the k shifts, the k first nodes and the n entries hold 0, and all do beside a number
-unfoldable pub plan_for : Record → Plan
-plan_for (Meets f) = record { number = f; n = 0; k = 0; d = 0; low = 0; high = 0; shifts = zeros 255; firsts = zeros 255; base = zeros 255 }
-plan_for (Holds h) =
+-- the plan of a header: the places beyond the k shifts, the k first nodes and the n entries hold 0
+unfoldable pub plan_of : Header → Plan
+plan_of h =
     record {
-      number = 0;
       n = h.n;
       k = h.k;
       d = distance h;
@@ -26,11 +25,16 @@ plan_for (Holds h) =
       base = padded 255 (base_word h);
     }
 
+-- the plan of a record as it was read, or the number that turns it away
+unfoldable pub plan_for : Answer Header → Answer Plan
+plan_for (Err f) = Err f
+plan_for (Ok h) = Ok (plan_of h)
+
 -- entry (r, j) of a plan, read from its base word by the shift of row r; 0 where r is not below k or j not below n
 unfoldable pub entry_in : Plan → ℕ → ℕ → ℕ
 entry_in p r j = pick (ltb r p.k && ltb j p.n) (get_or p.base ((j + get_or p.shifts r 0) % p.n) 0) 0
 
 -- what `build_plan` promises: the plan of the record, and everything claimed of an accepted one
-pub record PlanSays (rec : List ℕ) (r : Plan) : Type 0 where
+pub record PlanSays (rec : List ℕ) (r : Answer Plan) : Type 0 where
   pub plan : r ≡ plan_for (record_of rec)
   pub claims : Promised (record_of rec)

@@ -3,38 +3,36 @@ ghost use Rattle.std.specs.Prelude.{◌≡◌, ◌+◌, ◌-◌, ◌<◌};
 ghost use Rattle.lists.specs.Padded.{padded};
 ghost use Rattle.field.specs.Fields.{mul, power};
 ghost use Rattle.field.specs.Tables.{AreTables};
-ghost use Rattle.generator.specs.Records.{modulus_of, size, Sound};
+ghost use Rattle.generator.specs.Records.{modulus_of, size};
 ghost use Rattle.generator.specs.Generator.{base_at, entry_at, base_word};
 
 use field::{Field, Tables};
-use generator::Header;
+use generator::Code;
 
 // Entry 0, factor by factor; y is root^i.
-fn first_entry(h: Header, tables: &Tables) -> u32
-    requires { Sound h × AreTables tables.now }
-    ensures { result ≡ entry_at h 0 0 }
+fn first_entry(code: Code, tables: &Tables) -> u32
+    requires { AreTables tables.now }
+    ensures { result ≡ entry_at code.header 0 0 }
 {
-    let field = h.field;
-    let root = h.root;
-    let count = h.k - 1;
+    let field = code.header.field;
+    let root = code.header.root;
+    let count = code.header.k - 1;
     let x = field.power(tables, root, count as u32);
     let mut product = Field::ONE;
     let mut y = Field::ONE;
-    let mut i: u8 = 0;
-    while i < count {
+    for _ in 0..count {
         product = field.mul_with(tables, field.sub(x, y), product);
         y = field.mul_with(tables, root, y);
-        i += 1;
     }
     product
 }
 
 // p(root·x) from p(x), which is `entry`: p(root·x)·(x − pole) = p(x)·(scale·x − pole), where scale is root^(k−1) and pole is root^(k−2).
-fn next_entry(h: Header, tables: &Tables, scale: u32, pole: u32, x: u32, entry: u32) -> u32
-    requires { Sound h × (scale ≡ power (modulus_of h) h.root (h.k - 1)) × (pole ≡ power (modulus_of h) h.root (h.n + h.k - 2)) × (x < size h) × (x ≡ pole → ⊥) × (entry ≡ base_at h x) × AreTables tables.now }
-    ensures { result ≡ base_at h (mul (modulus_of h) h.root x) }
+fn next_entry(code: Code, tables: &Tables, scale: u32, pole: u32, x: u32, entry: u32) -> u32
+    requires { (scale ≡ power (modulus_of code.header) code.header.root (code.header.k - 1)) × (pole ≡ power (modulus_of code.header) code.header.root (code.header.n + code.header.k - 2)) × (x < size code.header) × (x ≡ pole → ⊥) × (entry ≡ base_at code.header x) × AreTables tables.now }
+    ensures { result ≡ base_at code.header (mul (modulus_of code.header) code.header.root x) }
 {
-    let field = h.field;
+    let field = code.header.field;
     let above = field.sub(field.mul_with(tables, scale, x), pole);
     let below = field.sub(x, pole);
     let ratio = field.mul_with(tables, above, field.inverse_with(tables, below));
@@ -42,10 +40,11 @@ fn next_entry(h: Header, tables: &Tables, scale: u32, pole: u32, x: u32, entry: 
 }
 
 // The n − k + 1 entries that are not 0, each from the one before it, and zeros after them.
-pub fn fill_base(h: Header, tables: &Tables) -> [u16; 255]
-    requires { Sound h × AreTables tables.now }
-    ensures { result ≡ padded 255 (base_word h) }
+pub fn fill_base(code: Code, tables: &Tables) -> [u16; 255]
+    requires { AreTables tables.now }
+    ensures { result ≡ padded 255 (base_word code.header) }
 {
+    let h = code.header;
     let field = h.field;
     let root = h.root;
     let n = h.n as u32;
@@ -55,14 +54,12 @@ pub fn fill_base(h: Header, tables: &Tables) -> [u16; 255]
     let last = (n - k) as usize;
     let mut out = [0u16; 255];
     let mut x = scale;
-    let mut entry = first_entry(h, tables);
+    let mut entry = first_entry(code, tables);
     out[0] = entry as u16;
-    let mut j: usize = 0;
-    while j < last {
-        entry = next_entry(h, tables, scale, pole, x, entry);
+    for j in 0..last {
+        entry = next_entry(code, tables, scale, pole, x, entry);
         x = field.mul_with(tables, root, x);
-        j += 1;
-        out[j] = entry as u16;
+        out[j + 1] = entry as u16;
     }
     out
 }

@@ -3,23 +3,24 @@
 
 ghost use Rattle.std.specs.Prelude.{◌≡◌};
 ghost use Rattle.lists.specs.Padded.{padded};
-ghost use Rattle.generator.specs.Records.{Sound};
+ghost use Rattle.generator.specs.Answers.{numbered};
 ghost use Rattle.generator.specs.Shifts.{shifts_of};
 ghost use Rattle.generator.specs.Generator.{base_word};
-ghost use Rattle.plan.specs.Plans.{plan_for, PlanSays};
+ghost use Rattle.plan.specs.Plans.{plan_of, plan_for, PlanSays};
 
-use generator::{Header, Record};
+use generator::{Code, Header, Refusal};
 
 mod base;
 mod entries;
+mod generator_rows;
 
 pub use base::fill_base;
 pub use entries::{entry, entry_at};
+pub use generator_rows::Generator;
 
-// A plan; all places hold 0 beside a number. `low` and `high` are k·d / n rounded down and up.
+// A plan. `low` and `high` are k·d / n rounded down and up.
 #[derive(Clone, Copy)]
 pub struct Plan {
-    pub number: u8,
     pub n: u8,
     pub k: u8,
     pub d: u8,
@@ -30,73 +31,47 @@ pub struct Plan {
     pub base: [u16; 255],
 }
 
-// What stands in a plan's place beside a number.
-fn refused(number: u8) -> Plan
-    ensures { result ≡ plan_for (Record.Meets number) }
+// The shifts of a code's rows, and zeros after them: for a caller that needs no whole plan.
+pub fn row_shifts(code: Code) -> [u8; 255]
+    ensures { result ≡ padded 255 (shifts_of code.header.n code.header.k) }
 {
-    Plan {
-        number: number,
-        n: 0,
-        k: 0,
-        d: 0,
-        low: 0,
-        high: 0,
-        shifts: [0; 255],
-        firsts: [0; 255],
-        base: [0; 255],
-    }
-}
-
-// The shifts of an accepted record's rows, and zeros after them: for a caller that needs no whole plan.
-pub fn row_shifts(h: Header) -> [u8; 255]
-    requires { Sound h }
-    ensures { result ≡ padded 255 (shifts_of h.n h.k) }
-{
-    shifts::fill_shifts(h.n, h.k)
+    shifts::fill_shifts(code.header.n, code.header.k)
 }
 
 // Its base word, and zeros after it.
-pub fn base_word(h: Header) -> [u16; 255]
-    requires { Sound h }
-    ensures { result ≡ padded 255 (base_word h) }
+pub fn base_word(code: Code) -> [u16; 255]
+    ensures { result ≡ padded 255 (base_word code.header) }
 {
     let tables = field::constant_tables();
-    base::fill_base(h, &tables)
+    base::fill_base(code, &tables)
 }
 
-// The plan of what an accepted record holds.
-pub fn plan_of(h: Header) -> Plan
-    requires { Sound h }
-    ensures { result ≡ plan_for (Record.Holds h) }
+// The plan of a code.
+#[tactic(auto, unfolding(crate::specs::Plans::plan_of))]
+pub fn plan_of(code: Code) -> Plan
+    ensures { result ≡ plan_of code.header }
 {
-    let n = h.n;
-    let k = h.k;
-    let d = records::distance_of(h);
-    let low = records::low_reads(h);
-    let high = records::high_reads(h);
+    let Header { n, k, .. } = code.header;
     let rows = shifts::place_rows(n, k);
     let shifts = rows.shifts;
     let firsts = rows.firsts;
-    let base = base_word(h);
+    let base = base_word(code);
     Plan {
-        number: 0,
-        n: n,
-        k: k,
-        d: d,
-        low: low,
-        high: high,
-        shifts: shifts,
-        firsts: firsts,
-        base: base,
+        n,
+        k,
+        d: records::distance_of(code.header),
+        low: records::low_reads(code.header),
+        high: records::high_reads(code.header),
+        shifts,
+        firsts,
+        base,
     }
 }
 
-// The plan of a record, or the number that turns it away.
-pub fn build_plan(rec: &[u8]) -> Plan
-    ensures { PlanSays rec.now result }
+// The plan of a record, or what turns it away.
+pub fn build_plan(rec: &[u8]) -> Result<Plan, Refusal>
+    ensures { PlanSays rec.now (numbered result) }
 {
-    match records::read_record(rec) {
-        Record::Holds(h) => plan_of(h),
-        Record::Meets(number) => refused(number),
-    }
+    let code = records::read_record(rec)?;
+    Ok(plan_of(code))
 }

@@ -4,39 +4,34 @@
 ghost use Rattle.std.specs.Prelude.{◌≡◌, length};
 ghost use Rattle.lists.specs.Choice.{pick};
 ghost use Rattle.layout.specs.Layout.{row_after_row, lane_after_lane};
-ghost use Rattle.generator.specs.Records.{Sound};
+ghost use Rattle.generator.specs.Answers.{numbered};
 ghost use Rattle.rearrange.specs.Promise.{RearrangePromise, RearrangeSays, ToLanesSays, ToNodesSays, ListedToLanesSays, ListedToNodesSays, rearrange_fault};
 
-use blocks::Outcome;
-use generator::{Header, Record};
+use generator::{Code, Header, Refusal};
 
 mod fault;
 mod turning;
 
-// Over the header of an accepted record: row j's symbol of lane t goes from j·lanes + t to t·rows + j, or back.
+// Over a code: row j's symbol of lane t goes from j·lanes + t to t·rows + j, or back.
 fn move_accepted(
-    h: Header,
+    code: Code,
     rows: u8,
     lanes: usize,
     from_nodes: bool,
     source: &[u8],
     out: &mut [u8],
-) -> Outcome
-    requires { Sound h }
-    ensures { RearrangePromise (pick from_nodes row_after_row lane_after_lane) (pick from_nodes lane_after_lane row_after_row) rows lanes source.now out.old out.new result h (rearrange_fault h rows lanes (length source.now) (length out.old)) }
+) -> Result<(), Refusal>
+    ensures { RearrangePromise (pick from_nodes row_after_row lane_after_lane) (pick from_nodes lane_after_lane row_after_row) rows lanes source.now out.old out.new (numbered result) code.header (rearrange_fault code.header rows lanes (length source.now) (length out.old)) }
 {
-    let number = fault::rearrange_fault(h, rows, lanes, source.len(), out.len());
-    if number != 0 {
-        return Outcome::Refused(number);
-    }
+    fault::rearrange_fault(code, rows, lanes, source.len(), out.len())?;
     let count = rows as usize;
-    let w = symbols::width_of(h);
+    let w = symbols::width_of(code.header);
     if from_nodes {
         turning::turn(w, count, lanes, source, out);
-        return Outcome::Done;
+        return Ok(());
     }
     turning::turn(w, lanes, count, source, out);
-    Outcome::Done
+    Ok(())
 }
 
 // The rows of a block of shares: one for each node, or for each of k listed ones.
@@ -57,48 +52,48 @@ fn move_shares(
     lanes: u32,
     source: &[u8],
     out: &mut [u8],
-) -> Outcome
-    ensures { RearrangeSays (pick from_nodes row_after_row lane_after_lane) (pick from_nodes lane_after_lane row_after_row) (λ h. pick listed h.k h.n) rec.now lanes source.now out.old out.new result }
+) -> Result<(), Refusal>
+    ensures { RearrangeSays (pick from_nodes row_after_row lane_after_lane) (pick from_nodes lane_after_lane row_after_row) (λ h. pick listed h.k h.n) rec.now lanes source.now out.old out.new (numbered result) }
 {
-    match records::read_record(rec) {
-        Record::Holds(h) => {
-            move_accepted(
-                h,
-                rows_of(h, listed),
-                lanes as usize,
-                from_nodes,
-                source,
-                out,
-            )
-        }
-        Record::Meets(number) => Outcome::Refused(number),
-    }
+    let code = records::read_record(rec)?;
+    let rows = rows_of(code.header, listed);
+    move_accepted(code, rows, lanes as usize, from_nodes, source, out)
 }
 
-// Writes shares that stand node after node lane after lane, or gives the number that turns the call away and writes nothing.
-pub fn to_lanes(rec: &[u8], lanes: u32, by_node: &[u8], by_lane: &mut [u8]) -> Outcome
-    ensures { ToLanesSays rec.now lanes by_node.now by_lane.old by_lane.new result }
+// Writes shares that stand node after node lane after lane, or gives what turns the call away and writes nothing.
+pub fn to_lanes(rec: &[u8], lanes: u32, by_node: &[u8], by_lane: &mut [u8]) -> Result<(), Refusal>
+    ensures { ToLanesSays rec.now lanes by_node.now by_lane.old by_lane.new (numbered result) }
 {
     move_shares(rec, false, true, lanes, by_node, by_lane)
 }
 
 // Writes shares that stand lane after lane node after node, likewise.
-pub fn to_nodes(rec: &[u8], lanes: u32, by_lane: &[u8], by_node: &mut [u8]) -> Outcome
-    ensures { ToNodesSays rec.now lanes by_lane.now by_node.old by_node.new result }
+pub fn to_nodes(rec: &[u8], lanes: u32, by_lane: &[u8], by_node: &mut [u8]) -> Result<(), Refusal>
+    ensures { ToNodesSays rec.now lanes by_lane.now by_node.old by_node.new (numbered result) }
 {
     move_shares(rec, false, false, lanes, by_lane, by_node)
 }
 
 // Writes the shares of k listed nodes, as files hold them, lane after lane, as Recover and Rebuild take them.
-pub fn listed_to_lanes(rec: &[u8], lanes: u32, by_node: &[u8], by_lane: &mut [u8]) -> Outcome
-    ensures { ListedToLanesSays rec.now lanes by_node.now by_lane.old by_lane.new result }
+pub fn listed_to_lanes(
+    rec: &[u8],
+    lanes: u32,
+    by_node: &[u8],
+    by_lane: &mut [u8],
+) -> Result<(), Refusal>
+    ensures { ListedToLanesSays rec.now lanes by_node.now by_lane.old by_lane.new (numbered result) }
 {
     move_shares(rec, true, true, lanes, by_node, by_lane)
 }
 
 // Writes the shares of k listed nodes node after node.
-pub fn listed_to_nodes(rec: &[u8], lanes: u32, by_lane: &[u8], by_node: &mut [u8]) -> Outcome
-    ensures { ListedToNodesSays rec.now lanes by_lane.now by_node.old by_node.new result }
+pub fn listed_to_nodes(
+    rec: &[u8],
+    lanes: u32,
+    by_lane: &[u8],
+    by_node: &mut [u8],
+) -> Result<(), Refusal>
+    ensures { ListedToNodesSays rec.now lanes by_lane.now by_node.old by_node.new (numbered result) }
 {
     move_shares(rec, true, false, lanes, by_lane, by_node)
 }

@@ -1,4 +1,5 @@
 -- A record as it is read, by its kind: the number that turns it away, or what it holds is judged.
+use Rattle.std.specs.Prelude.{Err}
 use mathlib.Core.Path.{◌≡◌}
 use mathlib.Core.Bool.{true, false, or-true}
 use mathlib.Core.List.{List}
@@ -10,15 +11,14 @@ use lib.ListN.{length, get_or}
 use Rattle.field.specs.declared.Field.TheVariants.{Prime, Binary}
 use Rattle.field.specs.Kinds.{prime_of, gf256}
 use Rattle.generator.specs.declared.Header.{Header}
-use Rattle.generator.specs.declared.Record.TheVariants.{Meets}
 use Rattle.generator.specs.Records.{pair_at, header_of, kind_bad, body_bad, prime_in, field_bad, header_fault, record_fault, judged, record_of}
 
 -- no record, or of none of the three kinds
-pub none_read : (rec : List ℕ) → length rec ≡ 0 → Meets 1 ≡ record_of rec
+pub none_read : (rec : List ℕ) → length rec ≡ 0 → Err 1 ≡ record_of rec
 unfolding record_of record_fault judged kind_bad
 none_read rec none = rw none
 
-pub kind_unread : (rec : List ℕ) → (get_or rec 0 0 ≡ 1 → ⊥) → (get_or rec 0 0 ≡ 2 → ⊥) → (get_or rec 0 0 ≡ 3 → ⊥) → Meets 1 ≡ record_of rec
+pub kind_unread : (rec : List ℕ) → (get_or rec 0 0 ≡ 1 → ⊥) → (get_or rec 0 0 ≡ 2 → ⊥) → (get_or rec 0 0 ≡ 3 → ⊥) → Err 1 ≡ record_of rec
 unfolding record_of record_fault judged kind_bad
 kind_unread rec one two three = rw (ne_eqb (get_or rec 0 0) 1 one, ne_eqb (get_or rec 0 0) 2 two, ne_eqb (get_or rec 0 0) 3 three, or-true)
 
@@ -28,11 +28,11 @@ module _ (rec : List ℕ) (some : 0 < length rec) where
 
   -- kind 1
   module _ (kind : get_or rec 0 0 ≡ 1) where
-    pub prime_body : (length rec ≡ 5 → ⊥) → Meets 2 ≡ record_of rec
+    pub prime_body : (length rec ≡ 5 → ⊥) → Err 2 ≡ record_of rec
     unfolding record_of record_fault judged kind_bad body_bad
     prime_body other = rw (filled, kind, ne_eqb (length rec) 5 other)
 
-    pub prime_field : length rec ≡ 5 → prime_in 3 251 (get_or rec 1 0) ≡ false → Meets 3 ≡ record_of rec
+    pub prime_field : length rec ≡ 5 → prime_in 3 251 (get_or rec 1 0) ≡ false → Err 3 ≡ record_of rec
     unfolding record_of record_fault judged kind_bad body_bad field_bad
     prime_field long none = rw (filled, kind, eq-eqb (length rec) 5 long, none)
 
@@ -42,7 +42,7 @@ module _ (rec : List ℕ) (some : 0 < length rec) where
 
   -- kind 2
   module _ (kind : get_or rec 0 0 ≡ 2) where
-    pub binary_body : (length rec ≡ 4 → ⊥) → Meets 2 ≡ record_of rec
+    pub binary_body : (length rec ≡ 4 → ⊥) → Err 2 ≡ record_of rec
     unfolding record_of record_fault judged kind_bad body_bad
     binary_body other = rw (filled, kind, ne_eqb (length rec) 4 other)
 
@@ -52,11 +52,11 @@ module _ (rec : List ℕ) (some : 0 < length rec) where
 
   -- kind 3
   module _ (kind : get_or rec 0 0 ≡ 3) where
-    pub wide_body : (length rec ≡ 7 → ⊥) → Meets 2 ≡ record_of rec
+    pub wide_body : (length rec ≡ 7 → ⊥) → Err 2 ≡ record_of rec
     unfolding record_of record_fault judged kind_bad body_bad
     wide_body other = rw (filled, kind, ne_eqb (length rec) 7 other)
 
-    pub wide_field : length rec ≡ 7 → prime_in 257 65521 (pair_at rec 1) ≡ false → Meets 3 ≡ record_of rec
+    pub wide_field : length rec ≡ 7 → prime_in 257 65521 (pair_at rec 1) ≡ false → Err 3 ≡ record_of rec
     unfolding record_of record_fault judged kind_bad body_bad field_bad
     wide_field long none = rw (filled, kind, eq-eqb (length rec) 7 long, none)
 

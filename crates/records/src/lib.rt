@@ -4,11 +4,12 @@
 ghost use Rattle.std.specs.Prelude.{◌≡◌, true, ◌+◌, ◌*◌, ◌≤◌, ◌<◌, length, get_or};
 ghost use Rattle.field.specs.Kinds.{usable};
 ghost use Rattle.generator.specs.Records.{prime_in, size_bad, root_bad, header_fault, judged, record_of};
+ghost use Rattle.generator.specs.Reading.{read_of};
 
 mod sizes;
 
 use field::{Field, Gf256, PrimeField, is_prime};
-use generator::{Header, Record};
+use generator::{Code, Header, Refusal};
 pub use sizes::{distance_of, high_reads, low_reads};
 
 // A prime from `low` to `high`.
@@ -38,35 +39,30 @@ fn root_bad(h: Header) -> bool
     root >= f.size() || !f.has_order(root, n)
 }
 
-// Numbers 4 and 5.
-fn judge(h: Header) -> Record
+// The code of a header, or number 4 or 5.
+fn judge(h: Header) -> Result<Code, Refusal>
     requires { usable h.field ≡ true }
-    ensures { result ≡ judged (header_fault h) h }
+    ensures { read_of result ≡ judged (header_fault h) h }
 {
-    if size_bad(h) {
-        return Record::Meets(4);
-    }
-    if root_bad(h) {
-        return Record::Meets(5);
-    }
-    Record::Holds(h)
+    Refusal::Size.when(size_bad(h))?;
+    Refusal::Root.when(root_bad(h))?;
+    Ok(Code { header: h })
 }
 
 // Kind 1: p, the root, n, k.
-fn read_prime(rec: &[u8]) -> Record
+fn read_prime(rec: &[u8]) -> Result<Code, Refusal>
     requires { (0 < length rec.now) × (get_or rec.now 0 0 ≡ 1) }
-    ensures { result ≡ record_of rec.now }
+    ensures { read_of result ≡ record_of rec.now }
 {
     if rec.len() != 5 {
-        return Record::Meets(2);
+        return Err(Refusal::Body);
     }
     let p = rec[1] as u32;
     if !prime_in(3, 251, p) {
-        return Record::Meets(3);
+        return Err(Refusal::Field);
     }
-    let field = Field::Prime(PrimeField::new(p));
     judge(Header {
-        field,
+        field: Field::Prime(PrimeField::new(p)),
         root: rec[2] as u32,
         n: rec[3],
         k: rec[4],
@@ -74,16 +70,15 @@ fn read_prime(rec: &[u8]) -> Record
 }
 
 // Kind 2: the root, n, k.
-fn read_binary(rec: &[u8]) -> Record
+fn read_binary(rec: &[u8]) -> Result<Code, Refusal>
     requires { (0 < length rec.now) × (get_or rec.now 0 0 ≡ 2) }
-    ensures { result ≡ record_of rec.now }
+    ensures { read_of result ≡ record_of rec.now }
 {
     if rec.len() != 4 {
-        return Record::Meets(2);
+        return Err(Refusal::Body);
     }
-    let field = Field::Binary(Gf256::new());
     judge(Header {
-        field,
+        field: Field::Binary(Gf256::new()),
         root: rec[1] as u32,
         n: rec[2],
         k: rec[3],
@@ -98,39 +93,36 @@ fn pair(high: u8, low: u8) -> u32
 }
 
 // Kind 3: p and the root in two bytes each, n, k.
-fn read_wide(rec: &[u8]) -> Record
+fn read_wide(rec: &[u8]) -> Result<Code, Refusal>
     requires { (0 < length rec.now) × (get_or rec.now 0 0 ≡ 3) }
-    ensures { result ≡ record_of rec.now }
+    ensures { read_of result ≡ record_of rec.now }
 {
     if rec.len() != 7 {
-        return Record::Meets(2);
+        return Err(Refusal::Body);
     }
     let p = pair(rec[1], rec[2]);
     if !prime_in(257, 65521, p) {
-        return Record::Meets(3);
+        return Err(Refusal::Field);
     }
-    let root = pair(rec[3], rec[4]);
-    let field = Field::Prime(PrimeField::new(p));
     judge(Header {
-        field,
-        root,
+        field: Field::Prime(PrimeField::new(p)),
+        root: pair(rec[3], rec[4]),
         n: rec[5],
         k: rec[6],
     })
 }
 
 // The kind byte chooses the body's length and the field.
-pub fn read_record(rec: &[u8]) -> Record
-    ensures { result ≡ record_of rec.now }
+pub fn read_record(rec: &[u8]) -> Result<Code, Refusal>
+    ensures { read_of result ≡ record_of rec.now }
 {
-    if rec.len() == 0 {
-        return Record::Meets(1);
+    if rec.is_empty() {
+        return Err(Refusal::Kind);
     }
-    let kind = rec[0];
-    match kind {
+    match rec[0] {
         1 => read_prime(rec),
         2 => read_binary(rec),
         3 => read_wide(rec),
-        _ => Record::Meets(1),
+        _ => Err(Refusal::Kind),
     }
 }

@@ -1,4 +1,5 @@
 -- What holds where the call meets no number, and what it says beside one.
+use Rattle.std.specs.Prelude.{Err}
 use mathlib.Core.Path.{◌≡◌, sym}
 use mathlib.Core.List.{List}
 use Prim.Native.Nat.{ℕ, ◌*◌, ◌<◌}
@@ -10,7 +11,6 @@ use Rattle.refusals.specs.Conditions.{lanes_bad, length_bad, number_bad}
 use Rattle.refusals.specs.Accepted.{ListedShares}
 use Rattle.refusals.proofs.NotMet.{length_good, number_good}
 use Rattle.refusals.proofs.Accepts.{not_met, list_accepts}
-use Rattle.blocks.specs.declared.Outcome.TheVariants as O
 use Rattle.blocks.proofs.Refused.{outcome_refused, refused_value}
 use Rattle.recover.specs.Promise.{recover_fault, rebuild_fault, RecoverPromise, RebuildPromise}
 
@@ -38,8 +38,8 @@ module _ (h : Header) (sound : Sound h) (l : ℕ) (nodes shares : List ℕ) wher
 
 -- beside a number g: the number, and nothing is written
 module _ {y : Arrangement} (h : Header) (g : ℕ) (some : g ≡ 0 → ⊥) (l : ℕ) where
-  pub recover_refuses : (nodes shares out : List ℕ) → RecoverPromise y l nodes shares out out (O.Refused g) h g
+  pub recover_refuses : (nodes shares out : List ℕ) → RecoverPromise y l nodes shares out out (Err g) h g
   recover_refuses nodes shares out = record { answer = sym (outcome_refused g some); written = sym (refused_value g _ out some) }
 
-  pub rebuild_refuses : (nodes shares : List ℕ) (target : ℕ) (out : List ℕ) → RebuildPromise y l nodes shares target out out (O.Refused g) h g
+  pub rebuild_refuses : (nodes shares : List ℕ) (target : ℕ) (out : List ℕ) → RebuildPromise y l nodes shares target out out (Err g) h g
   rebuild_refuses nodes shares target out = record { answer = sym (outcome_refused g some); written = sym (refused_value g _ out some) }

@@ -1,4 +1,5 @@
 -- The promises of Recover and Rebuild give what the law of the recovered message says of the written bytes.
+use Rattle.generator.specs.Answers.{Answer}
 use mathlib.Core.Path.{◌≡◌, refl}
 use mathlib.Core.List.{List}
 use Prim.Native.Nat.{ℕ}
@@ -13,7 +14,6 @@ use Rattle.layout.proofs.Lawful.{Lawful}
 use Rattle.generator.specs.Records.{header_of}
 use Rattle.refusals.specs.Faults.{fault_of}
 use Rattle.refusals.proofs.OnRecord.{none_met}
-use Rattle.blocks.specs.declared.Outcome.{Outcome}
 use Rattle.blocks.specs.Bytes.{recovered_bytes, rebuilt_bytes, RecoveredBytes, RebuiltBytes}
 use Rattle.blocks.proofs.Recovered.{listed_message}
 use Rattle.recover.specs.Promise.{recover_fault, rebuild_fault, RecoverSaysIn, RebuildSaysIn}
@@ -28,7 +28,7 @@ claimed f P v out out' p written = go (ℕ_discrete f 0)
     go (no some) = rw (ne_eqb f 0 some) (rw (ne_eqb f 0 some) at written)
 
 -- the promises of Recover and Rebuild give what they said before they were equations: the written bytes by the law
-module _ {y : Arrangement} (a : Lawful y) (rec : List ℕ) (l : ℕ) (nodes shares out out' : List ℕ) (r : Outcome) where
+module _ {y : Arrangement} (a : Lawful y) (rec : List ℕ) (l : ℕ) (nodes shares out out' : List ℕ) (r : Answer (Unit {0})) where
   pub recover_law : RecoverSaysIn y rec l nodes shares out out' r → PickT (eqb (fault_of rec (λ h. recover_fault h l nodes shares (length out))) 0) (RecoveredBytes y (header_of rec) l nodes shares out') (out' ≡ out)
   unfolding RecoveredBytes recovered_bytes
   recover_law says =

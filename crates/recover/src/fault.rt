@@ -1,39 +1,45 @@
-// The first of numbers 7 to 11 that the call meets, or 0: each test hands the number met so far on. `size` is the length of a written buffer.
-ghost use Rattle.std.specs.Prelude.{◌≡◌, true};
-ghost use Rattle.field.specs.Kinds.{usable};
+// What turns a call away, the lowest of numbers 7 to 11 first. `size` is the length of the written buffer.
+ghost use Rattle.std.specs.Prelude.{◌≡◌};
+ghost use Rattle.generator.specs.Answers.{numbered, outcome_of};
 ghost use Rattle.recover.specs.Promise.{recover_fault, rebuild_fault};
 
-use generator::Header;
-use refusals::{buffer_bad, first, first_list, lanes_bad, length_bad, number_bad};
+use generator::{Code, Refusal};
+use refusals::{buffer_bad, lanes_bad, length_bad, list_fault, number_bad};
 
 // Recover.
-pub fn recover_fault(h: Header, lanes: usize, nodes: &[u8], shares: &[u8], size: usize) -> u8
-    requires { usable h.field ≡ true }
-    ensures { result ≡ recover_fault h lanes nodes.now shares.now size }
+pub fn recover_fault(
+    code: Code,
+    lanes: usize,
+    nodes: &[u8],
+    shares: &[u8],
+    size: usize,
+) -> Result<(), Refusal>
+    ensures { numbered result ≡ outcome_of (recover_fault code.header lanes nodes.now shares.now size) }
 {
-    let number = first(0, lanes_bad(lanes), 7);
-    let number = first(number, length_bad(h.k as usize, nodes.len()), 8);
-    let number = first(number, buffer_bad(h, h.k, lanes, shares.len()), 8);
-    let number = first(number, buffer_bad(h, h.k, lanes, size), 8);
-    first_list(number, h, lanes, nodes, shares)
+    let h = code.header;
+    Refusal::Lanes.when(lanes_bad(lanes))?;
+    Refusal::Length.when(length_bad(h.k as usize, nodes.len()))?;
+    Refusal::Length.when(buffer_bad(h, h.k, lanes, shares.len()))?;
+    Refusal::Length.when(buffer_bad(h, h.k, lanes, size))?;
+    list_fault(h, lanes, nodes, shares)
 }
 
 // Rebuild.
 pub fn rebuild_fault(
-    h: Header,
+    code: Code,
     lanes: usize,
     nodes: &[u8],
     shares: &[u8],
     target: usize,
     size: usize,
-) -> u8
-    requires { usable h.field ≡ true }
-    ensures { result ≡ rebuild_fault h lanes nodes.now shares.now target size }
+) -> Result<(), Refusal>
+    ensures { numbered result ≡ outcome_of (rebuild_fault code.header lanes nodes.now shares.now target size) }
 {
-    let number = first(0, lanes_bad(lanes), 7);
-    let number = first(number, length_bad(h.k as usize, nodes.len()), 8);
-    let number = first(number, buffer_bad(h, h.k, lanes, shares.len()), 8);
-    let number = first(number, buffer_bad(h, 1, lanes, size), 8);
-    let number = first(number, number_bad(h.n as usize, target), 9);
-    first_list(number, h, lanes, nodes, shares)
+    let h = code.header;
+    Refusal::Lanes.when(lanes_bad(lanes))?;
+    Refusal::Length.when(length_bad(h.k as usize, nodes.len()))?;
+    Refusal::Length.when(buffer_bad(h, h.k, lanes, shares.len()))?;
+    Refusal::Length.when(buffer_bad(h, 1, lanes, size))?;
+    Refusal::Range.when(number_bad(h.n as usize, target))?;
+    list_fault(h, lanes, nodes, shares)
 }

@@ -1,8 +1,7 @@
-// The conditions of numbers 7 to 9 on numbers, and the first number that is met.
+// The conditions of numbers 7 to 9 on numbers.
 ghost use Rattle.std.specs.Prelude.{◌≡◌, true, ◌*◌};
 ghost use Rattle.field.specs.Kinds.{usable};
 ghost use Rattle.generator.specs.Records.{width};
-ghost use Rattle.lists.specs.Choice.{first_of, when};
 ghost use Rattle.refusals.specs.Conditions.{lanes_bad, length_bad, number_bad};
 
 use generator::Header;
@@ -47,14 +46,4 @@ pub fn number_bad(end: usize, x: usize) -> bool
     ensures { result ≡ number_bad end x }
 {
     end <= x
-}
-
-// The number met so far, else the next one where its condition holds, else 0.
-pub fn first(number: u8, bad: bool, next: u8) -> u8
-    ensures { result ≡ first_of number (when bad next) }
-{
-    if number != 0 {
-        return number;
-    }
-    if bad { next } else { 0 }
 }

@@ -1,12 +1,10 @@
 // The condition of number 11 on a number, on a buffer, on the lanes of a buffer one after the other, and on one lane.
-ghost use Rattle.std.specs.Prelude.{◌≡◌, true, ◌*◌, ◌≤◌, ◌<◌, length};
-ghost use Rattle.field.specs.Kinds.{usable};
-ghost use Rattle.lists.specs.Choice.{first_of, when};
+ghost use Rattle.std.specs.Prelude.{◌≡◌, true, ◌*◌, ◌<◌, length};
 ghost use Rattle.layout.specs.Layout.{share_layout};
+ghost use Rattle.field.specs.Kinds.{usable};
 ghost use Rattle.generator.specs.Records.{width};
 ghost use Rattle.refusals.specs.Conditions.{symbol_bad, symbols_bad, lane_bad};
 
-use crate::conditions::first;
 use generator::Header;
 
 // A number that is no symbol.
@@ -14,8 +12,7 @@ pub fn symbol_bad(h: Header, x: u32) -> bool
     requires { usable h.field ≡ true }
     ensures { result ≡ symbol_bad h x }
 {
-    let field = h.field;
-    field.size() <= x
+    h.field.size() <= x
 }
 
 // A buffer that holds a number that is no symbol.
@@ -32,26 +29,24 @@ pub fn symbols_bad(h: Header, s: &[u8]) -> bool
 }
 
 // The same for the shares of some nodes, lane by lane: each lane is handed on as the part from its start to the next one's.
-fn shares_bad(h: Header, nodes: usize, lanes: usize, shares: &[u8]) -> bool
-    requires { (usable h.field ≡ true) × (nodes ≤ 255) × (length shares.now ≡ nodes * lanes * width h) }
+pub fn shares_bad(h: Header, nodes: u8, lanes: usize, shares: &[u8]) -> bool
+    requires { (usable h.field ≡ true) × (length shares.now ≡ nodes * lanes * width h) }
     ensures { result ≡ symbols_bad h shares.now }
 {
     let w = symbols::width_of(h);
-    let size = nodes * w;
-    let mut lane: usize = 0;
-    while lane < lanes {
+    let size = nodes as usize * w;
+    for lane in 0..lanes {
         let start = lane * size;
         let end = start + size;
         if symbols_bad(h, &shares[start..end]) {
             return true;
         }
-        lane += 1;
     }
     false
 }
 
 // A number of one lane that is no symbol: the lane is handed on likewise, and no other byte is read.
-fn lane_bad(h: Header, lanes: usize, lane: usize, shares: &[u8]) -> bool
+pub fn lane_bad(h: Header, lanes: usize, lane: usize, shares: &[u8]) -> bool
     requires { (usable h.field ≡ true) × (lane < lanes) × (length shares.now ≡ h.n * lanes * width h) }
     ensures { result ≡ lane_bad share_layout h lanes lane shares.now }
 {
@@ -60,25 +55,4 @@ fn lane_bad(h: Header, lanes: usize, lane: usize, shares: &[u8]) -> bool
     let start = lane * size;
     let end = start + size;
     symbols_bad(h, &shares[start..end])
-}
-
-// The number met so far, else 11 of the shares; and of one lane.
-pub fn first_shares(number: u8, h: Header, nodes: u8, lanes: usize, shares: &[u8]) -> u8
-    requires { (usable h.field ≡ true) × (number ≡ 0 → length shares.now ≡ nodes * lanes * width h) }
-    ensures { result ≡ first_of number (when (symbols_bad h shares.now) 11) }
-{
-    if number != 0 {
-        return number;
-    }
-    first(0, shares_bad(h, nodes as usize, lanes, shares), 11)
-}
-
-pub fn first_lane(number: u8, h: Header, lanes: usize, lane: usize, shares: &[u8]) -> u8
-    requires { (usable h.field ≡ true) × (number ≡ 0 → (lane < lanes) × (length shares.now ≡ h.n * lanes * width h)) }
-    ensures { result ≡ first_of number (when (lane_bad share_layout h lanes lane shares.now) 11) }
-{
-    if number != 0 {
-        return number;
-    }
-    first(0, lane_bad(h, lanes, lane, shares), 11)
 }

@@ -1,16 +1,15 @@
 -- What the calls of a repair by traces promise: the numbers that turn them away, the answer and every lent byte afterwards, and the same over a record.
-use Rattle.std.specs.Prelude.{◌≡◌, Bool, not, List, ℕ, zero, suc, ◌-◌, ◌*◌, eqb, length}
+use Rattle.generator.specs.Answers.{Answer}
+use Rattle.std.specs.Prelude.{◌≡◌, Ok, Err, Bool, not, List, ℕ, zero, suc, ◌-◌, ◌*◌, eqb, length}
 use Rattle.lists.specs.Choice.{pick, first_of, when}
 use Rattle.lists.specs.Numbers.{is_in}
 use Rattle.generator.specs.declared.Header.{Header}
 use Rattle.generator.specs.Records.{width}
 use Rattle.refusals.specs.Conditions.{lanes_bad, length_bad, number_bad, nodes_bad, twice_bad}
 use Rattle.refusals.specs.Promise.{OnRecord}
-use Rattle.blocks.specs.declared.Outcome.{Outcome}
 use Rattle.blocks.specs.Answers.{outcome_of}
 use Rattle.traces.specs.Repairs.{bits, spare, sends}
 use Rattle.repair.specs.declared.RepairPlan.{RepairPlan}
-use Rattle.repair.specs.declared.RepairPlan.TheVariants as P
 use Rattle.repair.specs.Packing.{packed_size}
 use Rattle.repair.specs.Sent.{sent, repaired_share}
 
@@ -50,29 +49,29 @@ unfoldable pub repair_plan_fault : Header → ℕ → ℕ
 repair_plan_fault h count = when (traces_bad h count) 17
 
 -- its answer: the bits of a symbol that each node sends, and how many further nodes may be missing
-unfoldable pub repair_plan_of : ℕ → ℕ → ℕ → RepairPlan
-repair_plan_of zero b more = P.Sends b more
-repair_plan_of (suc f) b more = P.Refused (suc f)
+unfoldable pub repair_plan_of : ℕ → ℕ → ℕ → Answer RepairPlan
+repair_plan_of zero b more = Ok (record { bits = b; spare = more })
+repair_plan_of (suc f) b more = Err (suc f)
 
 -- what a node sends of its share: a digit of b bits for each lane, as b planes
-pub record RepairBitsPromise (j target : ℕ) (missing share out out' : List ℕ) (r : Outcome) (h : Header) (f : ℕ) : Type 0 where
+pub record RepairBitsPromise (j target : ℕ) (missing share out out' : List ℕ) (r : Answer (Unit {0})) (h : Header) (f : ℕ) : Type 0 where
   pub answer : r ≡ outcome_of f
   pub written : out' ≡ pick (eqb f 0) (sent h target missing j share) out
 
 -- the target's share: in every lane the sum of the parts of what came
-pub record RepairSharePromise (l target : ℕ) (missing rows out out' : List ℕ) (r : Outcome) (h : Header) (f : ℕ) : Type 0 where
+pub record RepairSharePromise (l target : ℕ) (missing rows out out' : List ℕ) (r : Answer (Unit {0})) (h : Header) (f : ℕ) : Type 0 where
   pub answer : r ≡ outcome_of f
   pub written : out' ≡ pick (eqb f 0) (repaired_share h l target missing rows) out
 
 -- the plan of a repair
-pub record RepairPlanPromise (count : ℕ) (r : RepairPlan) (h : Header) (f : ℕ) : Type 0 where
+pub record RepairPlanPromise (count : ℕ) (r : Answer RepairPlan) (h : Header) (f : ℕ) : Type 0 where
   pub answer : r ≡ repair_plan_of f (bits h count) (spare h count)
 
-abbrev pub RepairBitsSays : List ℕ → ℕ → ℕ → ℕ → List ℕ → List ℕ → List ℕ → List ℕ → Outcome → Type 0
+abbrev pub RepairBitsSays : List ℕ → ℕ → ℕ → ℕ → List ℕ → List ℕ → List ℕ → List ℕ → Answer (Unit {0}) → Type 0
 RepairBitsSays rec l j target missing share out out' r = OnRecord rec (λ h. repair_bits_fault h l j target missing (length share) (length out)) (RepairBitsPromise j target missing share out out' r)
 
-abbrev pub RepairShareSays : List ℕ → ℕ → ℕ → List ℕ → List ℕ → List ℕ → List ℕ → Outcome → Type 0
+abbrev pub RepairShareSays : List ℕ → ℕ → ℕ → List ℕ → List ℕ → List ℕ → List ℕ → Answer (Unit {0}) → Type 0
 RepairShareSays rec l target missing rows out out' r = OnRecord rec (λ h. repair_share_fault h l target missing (length rows) (length out)) (RepairSharePromise l target missing rows out out' r)
 
-abbrev pub RepairPlanSays : List ℕ → ℕ → RepairPlan → Type 0
+abbrev pub RepairPlanSays : List ℕ → ℕ → Answer RepairPlan → Type 0
 RepairPlanSays rec count r = OnRecord rec (λ h. repair_plan_fault h count) (RepairPlanPromise count r)

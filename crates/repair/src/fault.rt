@@ -1,12 +1,12 @@
-// The first of numbers 7 to 17 that a call meets, or 0: each test hands the number met so far on.
+// What turns a call away, the lowest of numbers 7 to 17 first.
 ghost use Rattle.std.specs.Prelude.{◌≡◌, ◌-◌, ◌≤◌};
-ghost use Rattle.lists.specs.Choice.{first_of};
 ghost use Rattle.generator.specs.Records.{Sound};
+ghost use Rattle.generator.specs.Answers.{numbered, outcome_of};
 ghost use Rattle.repair.specs.Promise.{traces_bad, target_fault, repair_bits_fault, repair_share_fault};
 
 use crate::packing;
-use generator::Header;
-use refusals::{buffer_bad, first, lanes_bad, length_bad, nodes_bad, number_bad, twice_bad};
+use generator::{Code, Header, Refusal};
+use refusals::{buffer_bad, lanes_bad, length_bad, nodes_bad, number_bad, twice_bad};
 
 // Number 17: no repair by traces with so many nodes missing beside the target.
 pub fn traces_bad(h: Header, missing: usize) -> bool
@@ -16,38 +16,39 @@ pub fn traces_bad(h: Header, missing: usize) -> bool
     repair_tables::bits(h, missing) == 0
 }
 
-// A target and the nodes that are missing beside it: the number met so far, then 9, 10 and 17.
-fn first_target(number: u8, h: Header, target: u32, missing: &[u8]) -> u8
-    requires { Sound h }
-    ensures { result ≡ first_of number (target_fault h target missing.now) }
+// A target and the nodes that are missing beside it.
+fn target_fault(code: Code, target: u32, missing: &[u8]) -> Result<(), Refusal>
+    ensures { numbered result ≡ outcome_of (target_fault code.header target missing.now) }
 {
-    let number = first(number, number_bad(h.n as usize, target as usize), 9);
-    let number = first(number, nodes_bad(h, missing), 9);
-    let number = first(number, repair_tables::is_in(target, missing), 9);
-    let number = first(number, twice_bad(missing), 10);
-    first(number, traces_bad(h, missing.len()), 17)
+    let h = code.header;
+    Refusal::Range.when(number_bad(h.n as usize, target as usize))?;
+    Refusal::Range.when(nodes_bad(h, missing))?;
+    Refusal::Range.when(repair_tables::is_in(target, missing))?;
+    Refusal::Twice.when(twice_bad(missing))?;
+    Refusal::Traces.when(traces_bad(h, missing.len()))
 }
 
 // A node that sends; `share` and `size` are lengths.
 pub fn bits_fault(
-    h: Header,
+    code: Code,
     lanes: usize,
     node: u32,
     target: u32,
     missing: &[u8],
     share: usize,
     size: usize,
-) -> u8
-    requires { Sound h × (lanes ≤ 4294967295) }
-    ensures { result ≡ repair_bits_fault h lanes node target missing.now share size }
+) -> Result<(), Refusal>
+    requires { lanes ≤ 4294967295 }
+    ensures { numbered result ≡ outcome_of (repair_bits_fault code.header lanes node target missing.now share size) }
 {
+    let h = code.header;
     let packed = packing::packed_size(repair_tables::bits(h, missing.len()), lanes);
-    let number = first(0, lanes_bad(lanes), 7);
-    let number = first(number, buffer_bad(h, 1, lanes, share), 8);
-    let number = first(number, length_bad(packed, size), 8);
-    let number = first(number, number_bad(h.n as usize, node as usize), 9);
-    let number = first(number, !repair_tables::sends(target, missing, node), 9);
-    first_target(number, h, target, missing)
+    Refusal::Lanes.when(lanes_bad(lanes))?;
+    Refusal::Length.when(buffer_bad(h, 1, lanes, share))?;
+    Refusal::Length.when(length_bad(packed, size))?;
+    Refusal::Range.when(number_bad(h.n as usize, node as usize))?;
+    Refusal::Range.when(!repair_tables::sends(target, missing, node))?;
+    target_fault(code, target, missing)
 }
 
 // How many nodes send where no number is met.
@@ -59,20 +60,21 @@ pub fn row_count(n: usize, missing: usize) -> usize
 
 // The target; `rows` and `size` are lengths.
 pub fn share_fault(
-    h: Header,
+    code: Code,
     lanes: usize,
     target: u32,
     missing: &[u8],
     rows: usize,
     size: usize,
-) -> u8
-    requires { Sound h × (lanes ≤ 4294967295) }
-    ensures { result ≡ repair_share_fault h lanes target missing.now rows size }
+) -> Result<(), Refusal>
+    requires { lanes ≤ 4294967295 }
+    ensures { numbered result ≡ outcome_of (repair_share_fault code.header lanes target missing.now rows size) }
 {
+    let h = code.header;
     let packed = packing::packed_size(repair_tables::bits(h, missing.len()), lanes);
     let count = row_count(h.n as usize, missing.len());
-    let number = first(0, lanes_bad(lanes), 7);
-    let number = first(number, length_bad(count * packed, rows), 8);
-    let number = first(number, buffer_bad(h, 1, lanes, size), 8);
-    first_target(number, h, target, missing)
+    Refusal::Lanes.when(lanes_bad(lanes))?;
+    Refusal::Length.when(length_bad(count * packed, rows))?;
+    Refusal::Length.when(buffer_bad(h, 1, lanes, size))?;
+    target_fault(code, target, missing)
 }

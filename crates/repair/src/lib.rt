@@ -4,51 +4,49 @@
 ghost use Rattle.std.specs.Prelude.{◌≡◌, true, ◌-◌, ◌*◌, ◌≤◌, length};
 ghost use Rattle.lists.specs.Numbers.{distinct};
 ghost use Rattle.generator.specs.Records.{Sound};
+ghost use Rattle.generator.specs.Answers.{numbered};
 ghost use Rattle.traces.specs.Repairs.{bits};
 ghost use Rattle.traces.specs.Claims.{Repairing};
 ghost use Rattle.repair.specs.Packing.{packed_size};
 ghost use Rattle.repair.specs.Sent.{repaired_share};
 ghost use Rattle.repair.specs.Promise.{repair_bits_fault, repair_share_fault, repair_plan_fault, RepairBitsPromise, RepairSharePromise, RepairPlanPromise, RepairBitsSays, RepairShareSays, RepairPlanSays};
 
-use blocks::Outcome;
-use generator::{Header, Record};
+use generator::{Code, Header, Refusal};
 
 mod fault;
 mod packing;
 mod sums;
 
-// The plan of a repair: how many bits of a symbol each node sends and how many further nodes may be missing, or the number.
-#[derive(Clone, Copy)]
-pub enum RepairPlan {
-    Sends(u32, u32),
-    Refused(u8),
+// The plan of a repair: how many bits of a symbol each node sends, and how many further nodes may be missing.
+#[derive(Clone, Copy, Debug, PartialEq, Eq)]
+pub struct RepairPlan {
+    pub bits: u32,
+    pub spare: u32,
 }
 
-// Sends over an accepted record's header.
+// Sends over a code.
 fn bits_accepted(
-    h: Header,
+    code: Code,
     lanes: usize,
     node: u32,
     target: u32,
     missing: &[u8],
     share: &[u8],
     out: &mut [u8],
-) -> Outcome
-    requires { Sound h × (lanes ≤ 4294967295) }
-    ensures { RepairBitsPromise node target missing.now share.now out.old out.new result h (repair_bits_fault h lanes node target missing.now (length share.now) (length out.old)) }
+) -> Result<(), Refusal>
+    requires { lanes ≤ 4294967295 }
+    ensures { RepairBitsPromise node target missing.now share.now out.old out.new (numbered result) code.header (repair_bits_fault code.header lanes node target missing.now (length share.now) (length out.old)) }
 {
-    let number = fault::bits_fault(h, lanes, node, target, missing, share.len(), out.len());
-    if number != 0 {
-        return Outcome::Refused(number);
-    }
+    fault::bits_fault(code, lanes, node, target, missing, share.len(), out.len())?;
+    let h = code.header;
     let b = repair_tables::bits(h, missing.len());
     let size = packing::plane_size(lanes);
     let table = repair_tables::tables::digits(h, target, missing, node);
     packing::pack(b, &table, size, share, out);
-    Outcome::Done
+    Ok(())
 }
 
-// Writes what a node sends of its share to the target: b planes of a bit for each lane. `missing` lists the nodes that are missing beside the target. Or gives the number that turns the call away and writes nothing.
+// Writes what a node sends of its share to the target: b planes of a bit for each lane. `missing` lists the nodes that are missing beside the target. Or gives what turns the call away and writes nothing.
 pub fn repair_bits(
     rec: &[u8],
     lanes: u32,
@@ -57,13 +55,11 @@ pub fn repair_bits(
     missing: &[u8],
     share: &[u8],
     out: &mut [u8],
-) -> Outcome
-    ensures { RepairBitsSays rec.now lanes node target missing.now share.now out.old out.new result }
+) -> Result<(), Refusal>
+    ensures { RepairBitsSays rec.now lanes node target missing.now share.now out.old out.new (numbered result) }
 {
-    match records::read_record(rec) {
-        Record::Holds(h) => bits_accepted(h, lanes as usize, node, target, missing, share, out),
-        Record::Meets(number) => Outcome::Refused(number),
-    }
+    let code = records::read_record(rec)?;
+    bits_accepted(code, lanes as usize, node, target, missing, share, out)
 }
 
 // The target's share from the planes of the nodes that send.
@@ -79,27 +75,24 @@ fn add_up(h: Header, lanes: usize, target: u32, missing: &[u8], rows: &[u8], out
     sums::weighted_sum(&weights, total, size, rows, out);
 }
 
-// Repairs over an accepted record's header.
+// Repairs over a code.
 fn share_accepted(
-    h: Header,
+    code: Code,
     lanes: usize,
     target: u32,
     missing: &[u8],
     rows: &[u8],
     out: &mut [u8],
-) -> Outcome
-    requires { Sound h × (lanes ≤ 4294967295) }
-    ensures { RepairSharePromise lanes target missing.now rows.now out.old out.new result h (repair_share_fault h lanes target missing.now (length rows.now) (length out.old)) }
+) -> Result<(), Refusal>
+    requires { lanes ≤ 4294967295 }
+    ensures { RepairSharePromise lanes target missing.now rows.now out.old out.new (numbered result) code.header (repair_share_fault code.header lanes target missing.now (length rows.now) (length out.old)) }
 {
-    let number = fault::share_fault(h, lanes, target, missing, rows.len(), out.len());
-    if number != 0 {
-        return Outcome::Refused(number);
-    }
-    add_up(h, lanes, target, missing, rows, out);
-    Outcome::Done
+    fault::share_fault(code, lanes, target, missing, rows.len(), out.len())?;
+    add_up(code.header, lanes, target, missing, rows, out);
+    Ok(())
 }
 
-// Writes the target's share from what the other nodes sent, in their order. `missing` lists the nodes that are missing beside the target. Or gives the number that turns the call away and writes nothing.
+// Writes the target's share from what the other nodes sent, in their order. `missing` lists the nodes that are missing beside the target. Or gives what turns the call away and writes nothing.
 pub fn repair_share(
     rec: &[u8],
     lanes: u32,
@@ -107,34 +100,29 @@ pub fn repair_share(
     missing: &[u8],
     rows: &[u8],
     out: &mut [u8],
-) -> Outcome
-    ensures { RepairShareSays rec.now lanes target missing.now rows.now out.old out.new result }
+) -> Result<(), Refusal>
+    ensures { RepairShareSays rec.now lanes target missing.now rows.now out.old out.new (numbered result) }
 {
-    match records::read_record(rec) {
-        Record::Holds(h) => share_accepted(h, lanes as usize, target, missing, rows, out),
-        Record::Meets(number) => Outcome::Refused(number),
-    }
+    let code = records::read_record(rec)?;
+    share_accepted(code, lanes as usize, target, missing, rows, out)
 }
 
-// Plans over an accepted record's header.
-fn plan_accepted(h: Header, missing: usize) -> RepairPlan
-    requires { Sound h }
-    ensures { RepairPlanPromise missing result h (repair_plan_fault h missing) }
+// Plans over a code.
+fn plan_accepted(code: Code, missing: usize) -> Result<RepairPlan, Refusal>
+    ensures { RepairPlanPromise missing (numbered result) code.header (repair_plan_fault code.header missing) }
 {
-    if fault::traces_bad(h, missing) {
-        return RepairPlan::Refused(17);
-    }
-    let b = repair_tables::bits(h, missing);
-    let more = repair_tables::spare(h, missing);
-    RepairPlan::Sends(b, more)
+    let h = code.header;
+    Refusal::Traces.when(fault::traces_bad(h, missing))?;
+    Ok(RepairPlan {
+        bits: repair_tables::bits(h, missing),
+        spare: repair_tables::spare(h, missing),
+    })
 }
 
-// Gives how many bits of a symbol each node sends with so many nodes missing beside the target, and how many further ones may be missing. Or the number that turns the call away.
-pub fn repair_plan(rec: &[u8], missing: u32) -> RepairPlan
-    ensures { RepairPlanSays rec.now missing result }
+// Gives how many bits of a symbol each node sends with so many nodes missing beside the target, and how many further ones may be missing.
+pub fn repair_plan(rec: &[u8], missing: u32) -> Result<RepairPlan, Refusal>
+    ensures { RepairPlanSays rec.now missing (numbered result) }
 {
-    match records::read_record(rec) {
-        Record::Holds(h) => plan_accepted(h, missing as usize),
-        Record::Meets(number) => RepairPlan::Refused(number),
-    }
+    let code = records::read_record(rec)?;
+    plan_accepted(code, missing as usize)
 }

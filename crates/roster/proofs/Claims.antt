@@ -1,10 +1,10 @@
 -- What holds of the rosters of every record.
+use Rattle.std.specs.Prelude.{Ok, Err}
+use Rattle.generator.specs.Answers.{Answer}
 use mathlib.Core.Path.{◌≡◌, refl}
 use mathlib.Core.List.{List}
 use Prim.Native.Nat.{ℕ}
 use Rattle.generator.specs.declared.Header.{Header}
-use Rattle.generator.specs.declared.Record.{Record}
-use Rattle.generator.specs.declared.Record.TheVariants.{Holds, Meets}
 use Rattle.generator.specs.Records.{header_of, record_fault, record_of, Sound}
 use Rattle.generator.proofs.Accepts.{accepted_sound, faultless_sound}
 use Rattle.roster.specs.Claims.{RosterSays, RosterPromised}
@@ -27,6 +27,6 @@ pub roster_promised : (rec : List ℕ) → RosterPromised (record_of rec)
 unfolding RosterPromised
 roster_promised rec = go (record_of rec) refl
   where
-    go : (read : Record) → record_of rec ≡ read → RosterPromised read
-    go (Holds h) e = sound_says h (accepted_sound rec h e)
-    go (Meets f) e = turned_away f
+    go : (read : Answer Header) → record_of rec ≡ read → RosterPromised read
+    go (Ok h) e = sound_says h (accepted_sound rec h e)
+    go (Err f) e = turned_away f

@@ -1,4 +1,7 @@
 -- Worked examples over the record 1 7 3 6 3: n = 6, k = 3.
+use Rattle.std.specs.Prelude.{Ok}
+use Rattle.generator.specs.Answers.{Answer}
+use Rattle.generator.specs.declared.Header.{Header}
 use mathlib.Core.Path.{◌≡◌, refl}
 use mathlib.Core.List.{List, [], ◌∷◌}
 use Prim.Native.Nat.{ℕ}
@@ -6,8 +9,6 @@ use Rattle.lists.specs.Rows.{from}
 use Rattle.lists.specs.Counting.{passing_from}
 use Rattle.field.specs.declared.Field.TheVariants.{Prime}
 use Rattle.field.specs.Kinds.{prime_of}
-use Rattle.generator.specs.declared.Record.{Record}
-use Rattle.generator.specs.declared.Record.TheVariants.{Holds}
 use Rattle.roster.specs.declared.Roster.{Roster}
 use Rattle.roster.specs.declared.Listing.TheVariants.{TooFew, Refused}
 use Rattle.roster.specs.Events.{leaves, returns}
@@ -15,8 +16,8 @@ use Rattle.roster.specs.Rosters.{first_marks, present_of, first_step, start_of, 
 use Rattle.roster.specs.Histories.{after_events}
 use Rattle.roster.specs.Runs.{event, job, next, is_read, read_by, reads_of}
 
-unfoldable pub rec : Record
-rec = Holds (record { field = Prime (prime_of 7); root = 3; n = 6; k = 3 })
+unfoldable pub rec : Answer Header
+rec = Ok (record { field = Prime (prime_of 7); root = 3; n = 6; k = 3 })
 
 unfoldable pub lent : List ℕ
 lent = 9 ∷ 9 ∷ 9 ∷ []

@@ -1,4 +1,5 @@
 -- The roster after any events is that of the history of events alone.
+use Rattle.std.specs.Prelude.{Ok}
 use mathlib.Core.Path.{◌≡◌, refl, sym, ap, ◌∙◌}
 use mathlib.Core.Bool.{Bool, beq, true, false}
 use mathlib.Core.List.{List, [], ◌∷◌, ◌++◌}
@@ -15,7 +16,6 @@ use Rattle.lists.specs.Choice.{pick, when}
 use Rattle.lists.proofs.Passing.{passing_ext}
 use Rattle.lists.proofs.Rows.{length_from, get_or_from}
 use Rattle.generator.specs.declared.Header.{Header}
-use Rattle.generator.specs.declared.Record.TheVariants.{Holds}
 use Rattle.roster.specs.declared.Roster.{Roster}
 use Rattle.roster.specs.Events.{Event, named, says}
 use Rattle.roster.specs.Rosters.{first_marks, is_present, present_of, first_step, start_of, event_fault, marked, step_with, step_by, step_of, lowest_nodes, lowest_of, lowest_list, job_of}
@@ -54,24 +54,24 @@ module _ (n : ℕ) (small : n ≤ 255) (node : ℕ) (here : Bool) (r : Roster) (
 
 module _ (h : Header) (small : h.n ≤ 255) where
   -- from any roster
-  events_node : (es : List Event) (r : Roster) → length r.marks ≡ 255 → (j : ℕ) → j < h.n → is_present (after_events (Holds h) es r).marks j ≡ last_says j es (is_present r.marks j)
+  events_node : (es : List Event) (r : Roster) → length r.marks ≡ 255 → (j : ℕ) → j < h.n → is_present (after_events (Ok h) es r).marks j ≡ last_says j es (is_present r.marks j)
   unfolding after_events last_says step_by
   events_node [] r long j low = refl
   events_node (e ∷ es) r long j low =
-      events_node es (step_of (Holds h) e r).roster (step_length e r (Holds h) ∙ long) j low
+      events_node es (step_of (Ok h) e r).roster (step_length e r (Ok h) ∙ long) j low
       ∙ ap (last_says j es) (step_node h.n small (named e) (says e) r long j low)
 
   -- all are present at first
-  start_long : length (start_of (Holds h)).roster.marks ≡ 255
+  start_long : length (start_of (Ok h)).roster.marks ≡ 255
   unfolding start_of first_step first_marks
   start_long = length_from (λ j. ltb j h.n) 0 255
 
-  start_node : (j : ℕ) → j < h.n → is_present (start_of (Holds h)).roster.marks j ≡ true
+  start_node : (j : ℕ) → j < h.n → is_present (start_of (Ok h)).roster.marks j ≡ true
   unfolding start_of first_step first_marks
   start_node j low = get_or_from (λ j. ltb j h.n) 0 255 j false (omega arith) ∙ lt-ltb (0 + j) h.n (omega arith)
 
   reached_node : (es : List Event) (j : ℕ) → j < h.n → is_present (reached h es).marks j ≡ last_says j es true
-  reached_node es j low = events_node es (start_of (Holds h)).roster start_long j low ∙ ap (last_says j es) (start_node j low)
+  reached_node es j low = events_node es (start_of (Ok h)).roster start_long j low ∙ ap (last_says j es) (start_node j low)
 
   -- the present nodes
   reached_present : (es : List Event) → present_of h.n (reached h es).marks ≡ present_by h.n es
@@ -90,34 +90,34 @@ last_named j [] e later first is none = ap (λ (t : Bool). last_says j later (pi
 last_named j (d ∷ before) e later first is none = last_named j before e later (pick (eqb (named d) j) (says d) first) is none
 
 -- jobs between the events play no part
-calls_marks : (h : Header) (cs : List Call) (r q : Roster) → r.marks ≡ q.marks → (after_calls (Holds h) cs r).marks ≡ (after_events (Holds h) (events_in cs) q).marks
+calls_marks : (h : Header) (cs : List Call) (r q : Roster) → r.marks ≡ q.marks → (after_calls (Ok h) cs r).marks ≡ (after_events (Ok h) (events_in cs) q).marks
 unfolding after_calls after_events events_in next
 calls_marks h [] r q same = same
-calls_marks h (event e ∷ cs) r q same = calls_marks h cs (step_of (Holds h) e r).roster (step_of (Holds h) e q).roster (step_marks e r h q same)
-calls_marks h (job list ∷ cs) r q same = calls_marks h cs (job_of (Holds h) r list).roster q (job_marks h r list ∙ same)
+calls_marks h (event e ∷ cs) r q same = calls_marks h cs (step_of (Ok h) e r).roster (step_of (Ok h) e q).roster (step_marks e r h q same)
+calls_marks h (job list ∷ cs) r q same = calls_marks h cs (job_of (Ok h) r list).roster q (job_marks h r list ∙ same)
 
 -- calls leave the number of marks, and the marks at n and above
-calls_length : (h : Header) (cs : List Call) (r : Roster) → length (after_calls (Holds h) cs r).marks ≡ length r.marks
+calls_length : (h : Header) (cs : List Call) (r : Roster) → length (after_calls (Ok h) cs r).marks ≡ length r.marks
 unfolding after_calls next
 calls_length h [] r = refl
-calls_length h (event e ∷ cs) r = calls_length h cs (step_of (Holds h) e r).roster ∙ step_length e r (Holds h)
-calls_length h (job list ∷ cs) r = calls_length h cs (job_of (Holds h) r list).roster ∙ ap length (job_marks h r list)
+calls_length h (event e ∷ cs) r = calls_length h cs (step_of (Ok h) e r).roster ∙ step_length e r (Ok h)
+calls_length h (job list ∷ cs) r = calls_length h cs (job_of (Ok h) r list).roster ∙ ap length (job_marks h r list)
 
-calls_above : (h : Header) (cs : List Call) (r : Roster) (j : ℕ) → h.n ≤ j → is_present (after_calls (Holds h) cs r).marks j ≡ is_present r.marks j
+calls_above : (h : Header) (cs : List Call) (r : Roster) (j : ℕ) → h.n ≤ j → is_present (after_calls (Ok h) cs r).marks j ≡ is_present r.marks j
 unfolding after_calls next
 calls_above h [] r j high = refl
-calls_above h (event e ∷ cs) r j high = calls_above h cs (step_of (Holds h) e r).roster j high ∙ (stepping h).above r e j high
-calls_above h (job list ∷ cs) r j high = calls_above h cs (job_of (Holds h) r list).roster j high ∙ ap (λ (ms : List Bool). is_present ms j) (job_marks h r list)
+calls_above h (event e ∷ cs) r j high = calls_above h cs (step_of (Ok h) e r).roster j high ∙ (stepping h).above r e j high
+calls_above h (job list ∷ cs) r j high = calls_above h cs (job_of (Ok h) r list).roster j high ∙ ap (λ (ms : List Bool). is_present ms j) (job_marks h r list)
 
 -- the marks at first
-start_marks : (h : Header) → h.n ≤ 255 → (j : ℕ) → is_present (start_of (Holds h)).roster.marks j ≡ ltb j h.n
+start_marks : (h : Header) → h.n ≤ 255 → (j : ℕ) → is_present (start_of (Ok h)).roster.marks j ≡ ltb j h.n
 unfolding start_of first_step first_marks
 start_marks h small j =
     by_cases (dec_lt j 255)
     (λ l. rw zero-add at (get_or_from (λ i. ltb i h.n) 0 255 j false l))
     (λ l. get_or-eq_default (first_marks h.n) false (omega (arith, length_from (λ i. ltb i h.n) 0 255)) ∙ sym (le-ltb j h.n (omega arith)))
 
-start_job : (h : Header) → (start_of (Holds h)).roster.job ≡ 0
+start_job : (h : Header) → (start_of (Ok h)).roster.job ≡ 0
 unfolding start_of first_step
 start_job h = refl
 
@@ -133,6 +133,6 @@ kept h small =
       last = λ j before e later is none. last_named j before e later true is none;
       none = λ j es free. last_unnamed j es free true;
       between = λ cs r. calls_marks h cs r r refl;
-      many = λ cs. calls_length h cs (start_of (Holds h)).roster ∙ start_long h small;
-      above = λ cs j high. calls_above h cs (start_of (Holds h)).roster j high ∙ start_marks h small j ∙ le-ltb j h.n high;
+      many = λ cs. calls_length h cs (start_of (Ok h)).roster ∙ start_long h small;
+      above = λ cs j high. calls_above h cs (start_of (Ok h)).roster j high ∙ start_marks h small j ∙ le-ltb j h.n high;
     }

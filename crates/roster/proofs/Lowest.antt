@@ -1,4 +1,6 @@
 -- The query: the list it writes, and when too few are present.
+use Rattle.std.specs.Prelude.{Ok, Err}
+use Rattle.generator.specs.Answers.{Answer}
 use mathlib.Core.Path.{◌≡◌, refl, sym, ◌∙◌}
 use mathlib.Core.Bool.{Bool, true, false, not, true≢false}
 use mathlib.Core.List.{List}
@@ -21,8 +23,6 @@ use Rattle.lists.proofs.Passing.{passing_ext}
 use Rattle.lists.proofs.Rows.{length_from}
 use Rattle.lists.proofs.Around.{around_first, around_all, around_distinct}
 use Rattle.generator.specs.declared.Header.{Header}
-use Rattle.generator.specs.declared.Record.{Record}
-use Rattle.generator.specs.declared.Record.TheVariants.{Holds, Meets}
 use Rattle.generator.specs.Records.{header_of, record_fault, judged, record_of}
 use Rattle.generator.specs.Claims.{are_nodes}
 use Rattle.roster.specs.declared.Roster.{Roster}
@@ -122,10 +122,10 @@ module _ (r : Roster) (list : List ℕ) where
       go (suc f) z = absurd (omega arith)
 
   -- beside a number the list is as it was
-  pub lowest_kept : (rec : Record) → (listing_number (lowest_of rec r list) ≡ 0 → ⊥) → lowest_list rec r list ≡ list
+  pub lowest_kept : (rec : Answer Header) → (listing_number (lowest_of rec r list) ≡ 0 → ⊥) → lowest_list rec r list ≡ list
   unfolding lowest_list listed listing_number
-  lowest_kept (Meets f) bad = refl
-  lowest_kept (Holds h) bad = go (lowest_of (Holds h) r list) bad
+  lowest_kept (Err f) bad = refl
+  lowest_kept (Ok h) bad = go (lowest_of (Ok h) r list) bad
     where
       go : (a : Listing) → (listing_number a ≡ 0 → ⊥) → listed a (lowest_nodes h.n h.k r.marks) list ≡ list
       go Written bad = absurd (bad refl)
@@ -137,37 +137,37 @@ pub same_present : (h : Header) (r q : Roster) → ((j : ℕ) → j < h.n → is
 unfolding present_of
 same_present h r q same = passing_ext h.n 0 (is_present r.marks) (is_present q.marks) (λ j a b. same j (omega arith))
 
-module _ (h : Header) (r : Roster) (list : List ℕ) (e : lowest_of (Holds h) r list ≡ Written) where
+module _ (h : Header) (r : Roster) (list : List ℕ) (e : lowest_of (Ok h) r list ≡ Written) where
   pub enough_are : h.k ≤ present_count h r
   unfolding lowest_of
   enough_are = written_enough h.k (present_count h r) (length list) e
 
-  lowest_is : lowest_list (Holds h) r list ≡ take h.k (present_of h.n r.marks)
+  lowest_is : lowest_list (Ok h) r list ≡ take h.k (present_of h.n r.marks)
   unfolding lowest_list lowest_nodes listed
   lowest_is = rw e
 
-  lowest_around : lowest_list (Holds h) r list ≡ from (around (present_of h.n r.marks)) 0 h.k
+  lowest_around : lowest_list (Ok h) r list ≡ from (around (present_of h.n r.marks)) 0 h.k
   lowest_around = lowest_is ∙ sym (around_first (present_of h.n r.marks) h.k enough_are)
 
   -- the query's node at place i
-  lowest_at : (i : ℕ) → i < h.k → get_or (lowest_list (Holds h) r list) i 0 ≡ get_or (present_of h.n r.marks) i 0
+  lowest_at : (i : ℕ) → i < h.k → get_or (lowest_list (Ok h) r list) i 0 ≡ get_or (present_of h.n r.marks) i 0
   lowest_at i low = rw lowest_is (get_or-take h.k (present_of h.n r.marks) i 0 low)
 
-  lowest_long : length (lowest_list (Holds h) r list) ≡ h.k
+  lowest_long : length (lowest_list (Ok h) r list) ≡ h.k
   lowest_long = rw lowest_is (length-take-le h.k (present_of h.n r.marks) enough_are)
 
-  lowest_rises : (i j : ℕ) → i < j → j < h.k → get_or (lowest_list (Holds h) r list) i 0 < get_or (lowest_list (Holds h) r list) j 0
+  lowest_rises : (i j : ℕ) → i < j → j < h.k → get_or (lowest_list (Ok h) r list) i 0 < get_or (lowest_list (Ok h) r list) j 0
   lowest_rises i j up low = rw (lowest_at i (omega arith), lowest_at j low) (present_rises h.n r.marks i j up (omega (arith, enough_are)))
 
   -- a present node that is not listed stands at place k or later
-  lowest_least : (i j : ℕ) → is_in i (lowest_list (Holds h) r list) ≡ true → IsIn h r j → is_in j (lowest_list (Holds h) r list) ≡ false → i < j
+  lowest_least : (i j : ℕ) → is_in i (lowest_list (Ok h) r list) ≡ true → IsIn h r j → is_in j (lowest_list (Ok h) r list) ≡ false → i < j
   lowest_least i j there (low, is) away =
-      let (u, u_low, u_is) = is_in_place i (lowest_list (Holds h) r list) there in
+      let (u, u_low, u_is) = is_in_place i (lowest_list (Ok h) r list) there in
       let (v, v_low, v_is) = present_place h.n r.marks j low is in
       let inside : u < h.k = omega (arith, lowest_long) in
       by_cases (dec_lt v h.k)
       (λ (l : v < h.k).
-      let here : is_in (get_or (lowest_list (Holds h) r list) v 0) (lowest_list (Holds h) r list) ≡ true = place_is_in (lowest_list (Holds h) r list) v (omega (arith, lowest_long)) in
+      let here : is_in (get_or (lowest_list (Ok h) r list) v 0) (lowest_list (Ok h) r list) ≡ true = place_is_in (lowest_list (Ok h) r list) v (omega (arith, lowest_long)) in
       absurd (true≢false (sym (rw (lowest_at v l ∙ v_is) at here) ∙ away)))
       (λ l. rw (sym u_is ∙ lowest_at u inside, sym v_is) (present_rises h.n r.marks u v (omega arith) v_low))
 

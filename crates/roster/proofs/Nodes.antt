@@ -1,4 +1,6 @@
 -- The present nodes: rising, below n, marked; and the array that lists them.
+use Rattle.generator.specs.Answers.{Answer}
+use Rattle.generator.specs.declared.Header.{Header}
 use mathlib.Core.Path.{◌≡◌, sym, ap, ap₂, ◌∙◌}
 use mathlib.Core.Bool.{Bool, true, false}
 use mathlib.Core.List.{List, []}
@@ -16,7 +18,6 @@ use Rattle.lists.proofs.Fill.{Fills, fills_padded, filled_length}
 use Rattle.lists.proofs.Padding.{get_or_padded}
 use Rattle.lists.proofs.Numbers.{StandsIn}
 use Rattle.lists.proofs.Passing.{passing_most, passing_within, passing_pass, passing_place, Rises, passing_rises, rises_distinct}
-use Rattle.generator.specs.declared.Record.{Record}
 use Rattle.generator.specs.Records.{record_of}
 use Rattle.roster.specs.declared.present.Present.{Present}
 use Rattle.roster.specs.Rosters.{is_present, present_of, present}
@@ -30,11 +31,11 @@ unfolding absent
 length_absent n = length-replicate n false
 
 -- what holds of the record that was read holds of the record
-pub as_read : {A : Type 0} (f : Record → A) {x : A} {read is : Record} (rec : List ℕ) → read ≡ record_of rec → read ≡ is → x ≡ f is → x ≡ f (record_of rec)
+pub as_read : {A : Type 0} (f : Answer Header → A) {x : A} {read is : Answer Header} (rec : List ℕ) → read ≡ record_of rec → read ≡ is → x ≡ f is → x ≡ f (record_of rec)
 as_read f rec e g h = h ∙ ap f (sym g ∙ e)
 
 -- the same of an answer and of a list
-pub both_read : {A B : Type 0} (f : Record → A) (g : Record → B) {x : A} {y : B} {read is : Record} (rec : List ℕ) → read ≡ record_of rec → read ≡ is → x ≡ f is → y ≡ g is → (x ≡ f (record_of rec)) × (y ≡ g (record_of rec))
+pub both_read : {A B : Type 0} (f : Answer Header → A) (g : Answer Header → B) {x : A} {y : B} {read is : Answer Header} (rec : List ℕ) → read ≡ record_of rec → read ≡ is → x ≡ f is → y ≡ g is → (x ≡ f (record_of rec)) × (y ≡ g (record_of rec))
 both_read f g rec e same answer list = (as_read f rec e same answer, as_read g rec e same list)
 
 abbrev pub made : List ℕ → ℕ → Present

@@ -1,4 +1,6 @@
 -- One job on any roster: what it writes, and the roster afterwards.
+use Rattle.std.specs.Prelude.{Ok, Err}
+use Rattle.generator.specs.Answers.{Answer}
 use mathlib.Core.Path.{◌≡◌, refl, ap, ap₂, ◌∙◌}
 use mathlib.Core.List.{List}
 use Prim.Native.Nat.{ℕ, ◌+◌, ◌*◌, ◌%◌, ◌≤◌, ◌<◌}
@@ -8,8 +10,6 @@ use lib.ListN.{get_or}
 use Rattle.lists.specs.Rows.{from}
 use Rattle.lists.specs.Around.{around}
 use Rattle.generator.specs.declared.Header.{Header}
-use Rattle.generator.specs.declared.Record.{Record}
-use Rattle.generator.specs.declared.Record.TheVariants.{Holds, Meets}
 use Rattle.roster.specs.declared.Roster.{Roster}
 use Rattle.roster.specs.declared.Listing.{Listing}
 use Rattle.roster.specs.declared.Listing.TheVariants.{Written, TooFew, Refused}
@@ -31,11 +31,11 @@ job_written n k r p l e f pos enough =
 abbrev made : Roster → Listing → Job
 made r l = record { roster = r; listing = l }
 
-pub job_answer : (h : Header) (r : Roster) (list list' : List ℕ) (a : Job) → JobSays h.n h.k r list list' a → a ≡ job_of (Holds h) r list
+pub job_answer : (h : Header) (r : Roster) (list list' : List ℕ) (a : Job) → JobSays h.n h.k r list list' a → a ≡ job_of (Ok h) r list
 unfolding job_of lowest_of
 job_answer h r list list' a s = ap₂ made (s.roster ∙ ap (λ l. after l h.n r) s.answer) s.answer
 
-pub job_lists : (h : Header) (r : Roster) (list list' : List ℕ) (a : Job) → JobSays h.n h.k r list list' a → list' ≡ job_list (Holds h) r list
+pub job_lists : (h : Header) (r : Roster) (list list' : List ℕ) (a : Job) → JobSays h.n h.k r list list' a → list' ≡ job_list (Ok h) r list
 unfolding job_list lowest_of
 job_lists h r list list' a s = s.written ∙ ap (λ l. listed l (job_nodes h.n h.k r) list) s.answer
 
@@ -61,25 +61,25 @@ listed_idle (Refused f) nodes list bad = refl
 
 module _ (h : Header) (r : Roster) (list : List ℕ) where
   -- a job leaves the marks
-  pub job_marks : (job_of (Holds h) r list).roster.marks ≡ r.marks
+  pub job_marks : (job_of (Ok h) r list).roster.marks ≡ r.marks
   unfolding job_of
-  job_marks = after_marks h.n r (lowest_of (Holds h) r list)
+  job_marks = after_marks h.n r (lowest_of (Ok h) r list)
 
-  pub job_idle : ((job_of (Holds h) r list).listing ≡ Written → ⊥) → ((job_of (Holds h) r list).roster ≡ r) × (job_list (Holds h) r list ≡ list)
+  pub job_idle : ((job_of (Ok h) r list).listing ≡ Written → ⊥) → ((job_of (Ok h) r list).roster ≡ r) × (job_list (Ok h) r list ≡ list)
   unfolding job_of job_list
-  job_idle bad = (after_idle h.n r (lowest_of (Holds h) r list) bad, listed_idle (lowest_of (Holds h) r list) (job_nodes h.n h.k r) list bad)
+  job_idle bad = (after_idle h.n r (lowest_of (Ok h) r list) bad, listed_idle (lowest_of (Ok h) r list) (job_nodes h.n h.k r) list bad)
 
   -- a job that writes reads k present nodes in succession, and moves the number on
-  module _ (e : lowest_of (Holds h) r list ≡ Written) where
-    pub job_around : job_list (Holds h) r list ≡ from (around (present_of h.n r.marks)) (r.job % present_count h r * h.k) h.k
+  module _ (e : lowest_of (Ok h) r list ≡ Written) where
+    pub job_around : job_list (Ok h) r list ≡ from (around (present_of h.n r.marks)) (r.job % present_count h r * h.k) h.k
     unfolding job_list job_nodes nodes_at listed
     job_around = rw e
 
-    pub job_moved : (job_of (Holds h) r list).roster ≡ moved_on h.n r
+    pub job_moved : (job_of (Ok h) r list).roster ≡ moved_on h.n r
     unfolding job_of after
     job_moved = rw e
 
-    job_next : (job_of (Holds h) r list).roster.job ≡ (r.job + 1) % present_count h r
+    job_next : (job_of (Ok h) r list).roster.job ≡ (r.job + 1) % present_count h r
     unfolding moved_on
     job_next = ap (λ (x : Roster). x.job) job_moved
 
@@ -87,15 +87,15 @@ module _ (h : Header) (r : Roster) (list : List ℕ) where
     job_below some = mod-lt (r.job + 1) {m = present_count h r} (omega (arith, enough_are h r list e))
 
 -- for every record: a job answers as the query, and beside a number the list is as it was
-pub job_listing : (r : Roster) (list : List ℕ) (rec : Record) → (job_of rec r list).listing ≡ lowest_of rec r list
+pub job_listing : (r : Roster) (list : List ℕ) (rec : Answer Header) → (job_of rec r list).listing ≡ lowest_of rec r list
 unfolding job_of lowest_of
-job_listing r list (Meets f) = refl
-job_listing r list (Holds h) = refl
+job_listing r list (Err f) = refl
+job_listing r list (Ok h) = refl
 
-pub job_kept : (r : Roster) (list : List ℕ) (rec : Record) → (listing_number (lowest_of rec r list) ≡ 0 → ⊥) → job_list rec r list ≡ list
+pub job_kept : (r : Roster) (list : List ℕ) (rec : Answer Header) → (listing_number (lowest_of rec r list) ≡ 0 → ⊥) → job_list rec r list ≡ list
 unfolding job_list listing_number
-job_kept r list (Meets f) bad = refl
-job_kept r list (Holds h) bad = listed_idle (lowest_of (Holds h) r list) (job_nodes h.n h.k r) list (λ e. bad (zero_written (lowest_of (Holds h) r list) e))
+job_kept r list (Err f) bad = refl
+job_kept r list (Ok h) bad = listed_idle (lowest_of (Ok h) r list) (job_nodes h.n h.k r) list (λ e. bad (zero_written (lowest_of (Ok h) r list) e))
   where
     zero_written : (a : Listing) → a ≡ Written → listing_number a ≡ 0
     zero_written a e = rw e

@@ -1,4 +1,6 @@
 -- One event on any roster, and every call of a record that is turned away.
+use Rattle.std.specs.Prelude.{Ok, Err}
+use Rattle.generator.specs.Answers.{Answer}
 use mathlib.Core.Path.{◌≡◌, refl, sym, ap, ◌∙◌}
 use mathlib.Core.Bool.{Bool, beq, true, false, true≢false}
 use mathlib.Core.List.{List}
@@ -14,8 +16,6 @@ use Rattle.lists.specs.Choice.{first_of, when}
 use Rattle.lists.proofs.Cases.{first_zero, when_zero}
 use Rattle.lists.proofs.Rows.{length_from, get_or_from}
 use Rattle.generator.specs.declared.Header.{Header}
-use Rattle.generator.specs.declared.Record.{Record}
-use Rattle.generator.specs.declared.Record.TheVariants.{Holds, Meets}
 use Rattle.generator.specs.Records.{header_of, record_fault, judged, record_of}
 use Rattle.roster.specs.declared.Roster.{Roster}
 use Rattle.roster.specs.Events.{Event, named, says}
@@ -88,23 +88,23 @@ module _ (e : Event) (r : Roster) where
       go (suc f) = refl
 
   -- a refused event leaves the roster as it was
-  pub step_same : (rec : Record) → ((step_of rec e r).number ≡ 0 → ⊥) → (step_of rec e r).roster ≡ r
+  pub step_same : (rec : Answer Header) → ((step_of rec e r).number ≡ 0 → ⊥) → (step_of rec e r).roster ≡ r
   unfolding step_by step_with
-  step_same (Meets f) bad = refl
-  step_same (Holds h) bad = marked_same (named e) (says e) r (event_fault h.n (named e) (says e) r.marks) bad
+  step_same (Err f) bad = refl
+  step_same (Ok h) bad = marked_same (named e) (says e) r (event_fault h.n (named e) (says e) r.marks) bad
 
   -- the marks afterwards are settled by the marks before
-  pub step_marks : (h : Header) (q : Roster) → r.marks ≡ q.marks → (step_of (Holds h) e r).roster.marks ≡ (step_of (Holds h) e q).roster.marks
+  pub step_marks : (h : Header) (q : Roster) → r.marks ≡ q.marks → (step_of (Ok h) e r).roster.marks ≡ (step_of (Ok h) e q).roster.marks
   unfolding step_by step_with
   step_marks h q same =
       marked_marks (named e) (says e) r q same (event_fault h.n (named e) (says e) r.marks)
       ∙ ap (λ (ms : List Bool). (marked (event_fault h.n (named e) (says e) ms) (named e) (says e) q).roster.marks) same
 
   -- as many marks as before
-  pub step_length : (rec : Record) → length (step_of rec e r).roster.marks ≡ length r.marks
+  pub step_length : (rec : Answer Header) → length (step_of rec e r).roster.marks ≡ length r.marks
   unfolding step_by step_with
-  step_length (Meets f) = refl
-  step_length (Holds h) = marked_length (named e) (says e) r (event_fault h.n (named e) (says e) r.marks)
+  step_length (Err f) = refl
+  step_length (Ok h) = marked_length (named e) (says e) r (event_fault h.n (named e) (says e) r.marks)
 
 -- the number of a start is the record's
 pub start_number : (rec : List ℕ) → (start_of (record_of rec)).number ≡ record_fault rec
@@ -119,13 +119,13 @@ pub stepping : (h : Header) → Stepping h
 unfolding step_by
 stepping h =
     record {
-      refused = λ r e bad. step_same e r (Holds h) bad;
+      refused = λ r e bad. step_same e r (Ok h) bad;
       accepted = λ r e z. accepted_event h.n (named e) (says e) r z;
       above = λ r e. step_above h.n (named e) (says e) r;
     }
 
 -- no node is present beside a number
-nothing : (f j : ℕ) → is_present (start_of (Meets f)).roster.marks j ≡ false
+nothing : (f j : ℕ) → is_present (start_of (Err f)).roster.marks j ≡ false
 unfolding start_of first_step first_marks
 nothing f j =
     by_cases (dec_lt j 255)

@@ -1,14 +1,15 @@
 -- Histories: events one after the other, and what they alone say.
+use Rattle.generator.specs.Answers.{Answer}
+use Rattle.generator.specs.declared.Header.{Header}
 use Rattle.std.specs.Prelude.{◌≡◌, Bool, true, List, [], ◌∷◌, ℕ, eqb}
 use Rattle.lists.specs.Choice.{pick}
 use Rattle.lists.specs.Counting.{passing_from}
-use Rattle.generator.specs.declared.Record.{Record}
 use Rattle.roster.specs.declared.Roster.{Roster}
 use Rattle.roster.specs.Events.{Event, named, says}
 use Rattle.roster.specs.Rosters.{step_of}
 
 -- the roster after events one after the other, accepted or refused
-unfoldable pub after_events : Record → List Event → Roster → Roster
+unfoldable pub after_events : Answer Header → List Event → Roster → Roster
 after_events rec [] r = r
 after_events rec (e ∷ es) r = after_events rec es (step_of rec e r).roster
 

@@ -1,4 +1,7 @@
 -- Rosters: the present nodes, events, the query and the jobs.
+use Rattle.std.specs.Prelude.{Ok, Err}
+use Rattle.generator.specs.Answers.{Answer}
+use Rattle.generator.specs.declared.Header.{Header}
 use Rattle.std.specs.Prelude.{Bool, true, false, not, List, ℕ, zero, suc, ◌+◌, ◌*◌, ◌%◌, eqb, ltb, leb, length, get_or, set, take}
 use Rattle.std.specs.Bool.{beq}
 use Rattle.lists.specs.Choice.{first_of, when}
@@ -6,8 +9,6 @@ use Rattle.lists.specs.Rows.{from}
 use Rattle.lists.specs.Around.{around}
 use Rattle.lists.specs.Padded.{padded}
 use Rattle.lists.specs.Counting.{passing_from}
-use Rattle.generator.specs.declared.Record.{Record}
-use Rattle.generator.specs.declared.Record.TheVariants.{Holds, Meets}
 use Rattle.roster.specs.declared.Roster.{Roster}
 use Rattle.roster.specs.declared.Step.{Step}
 use Rattle.roster.specs.declared.Listing.{Listing}
@@ -37,9 +38,9 @@ unfoldable pub first_step : ℕ → ℕ → Step
 first_step n f = record { roster = record { marks = first_marks n; job = 0 }; number = f }
 
 -- the roster of a record; beside a number no node is present
-unfoldable pub start_of : Record → Step
-start_of (Meets f) = first_step 0 f
-start_of (Holds h) = first_step h.n 0
+unfoldable pub start_of : Answer Header → Step
+start_of (Err f) = first_step 0 f
+start_of (Ok h) = first_step h.n 0
 
 -- the number that an event meets, or 0: 9 for a node at n or above, 15 for one that already is what the event says
 unfoldable pub event_fault : ℕ → ℕ → Bool → List Bool → ℕ
@@ -54,12 +55,12 @@ unfoldable pub step_with : ℕ → ℕ → Bool → Roster → Step
 step_with n node here r = marked (event_fault n node here r.marks) node here r
 
 -- the same for a record
-unfoldable pub step_by : Record → ℕ → Bool → Roster → Step
-step_by (Meets f) node here r = record { roster = r; number = f }
-step_by (Holds h) node here r = step_with h.n node here r
+unfoldable pub step_by : Answer Header → ℕ → Bool → Roster → Step
+step_by (Err f) node here r = record { roster = r; number = f }
+step_by (Ok h) node here r = step_with h.n node here r
 
 -- an event
-abbrev pub step_of : Record → Event → Roster → Step
+abbrev pub step_of : Answer Header → Event → Roster → Step
 step_of rec e r = step_by rec (named e) (says e) r
 
 -- the answer by its number, 0 where the call was accepted, and whether enough nodes are present
@@ -88,13 +89,13 @@ unfoldable pub lowest_nodes : ℕ → ℕ → List Bool → List ℕ
 lowest_nodes n k marks = take k (present_of n marks)
 
 -- what the query answers, and the list afterwards
-unfoldable pub lowest_of : Record → Roster → List ℕ → Listing
-lowest_of (Meets f) r list = Refused f
-lowest_of (Holds h) r list = listing h.k (length (present_of h.n r.marks)) (length list)
+unfoldable pub lowest_of : Answer Header → Roster → List ℕ → Listing
+lowest_of (Err f) r list = Refused f
+lowest_of (Ok h) r list = listing h.k (length (present_of h.n r.marks)) (length list)
 
-unfoldable pub lowest_list : Record → Roster → List ℕ → List ℕ
-lowest_list (Meets f) r list = list
-lowest_list (Holds h) r list = listed (lowest_of (Holds h) r list) (lowest_nodes h.n h.k r.marks) list
+unfoldable pub lowest_list : Answer Header → Roster → List ℕ → List ℕ
+lowest_list (Err f) r list = list
+lowest_list (Ok h) r list = listed (lowest_of (Ok h) r list) (lowest_nodes h.n h.k r.marks) list
 
 -- the nodes that job i reads: the present nodes at places i·k + t, going round, for t from 0 to k − 1
 unfoldable pub nodes_at : List ℕ → ℕ → ℕ → List ℕ
@@ -115,10 +116,10 @@ after TooFew n r = r
 after (Refused f) n r = r
 
 -- what a job answers, which is what the query would, with the roster after it; and the list afterwards
-unfoldable pub job_of : Record → Roster → List ℕ → Job
-job_of (Meets f) r list = record { roster = r; listing = Refused f }
-job_of (Holds h) r list = record { roster = after (lowest_of (Holds h) r list) h.n r; listing = lowest_of (Holds h) r list }
+unfoldable pub job_of : Answer Header → Roster → List ℕ → Job
+job_of (Err f) r list = record { roster = r; listing = Refused f }
+job_of (Ok h) r list = record { roster = after (lowest_of (Ok h) r list) h.n r; listing = lowest_of (Ok h) r list }
 
-unfoldable pub job_list : Record → Roster → List ℕ → List ℕ
-job_list (Meets f) r list = list
-job_list (Holds h) r list = listed (lowest_of (Holds h) r list) (job_nodes h.n h.k r) list
+unfoldable pub job_list : Answer Header → Roster → List ℕ → List ℕ
+job_list (Err f) r list = list
+job_list (Ok h) r list = listed (lowest_of (Ok h) r list) (job_nodes h.n h.k r) list

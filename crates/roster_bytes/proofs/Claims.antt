@@ -1,4 +1,6 @@
 -- What holds of calls one after the other on the bytes of a roster of an accepted record.
+use Rattle.std.specs.Prelude.{Ok}
+use Rattle.generator.specs.Answers.{Answer}
 use mathlib.Core.Path.{◌≡◌, refl, sym, ap, ap₂, subst, ◌∙◌}
 use mathlib.Core.Bool.{Bool, true, false, ◌&&◌, not}
 use mathlib.Core.List.{List, [], ◌∷◌}
@@ -16,8 +18,6 @@ use Rattle.lists.proofs.Cases.{by_test, when_zero, and_right}
 use Rattle.lists.proofs.Passing.{passing_ext}
 use Rattle.lists.proofs.Rows.{length_from, get_or_from}
 use Rattle.generator.specs.declared.Header.{Header}
-use Rattle.generator.specs.declared.Record.{Record}
-use Rattle.generator.specs.declared.Record.TheVariants.{Holds}
 use Rattle.generator.specs.Records.{header_of, record_fault, record_of, judged, Sound}
 use Rattle.generator.proofs.Accepts.{faultless_sound}
 use Rattle.roster.specs.declared.Roster.{Roster}
@@ -55,7 +55,7 @@ module _ (rec : List ℕ) (none : record_fault rec ≡ 0) where
   sound : Sound h
   sound = faultless_sound rec none
 
-  holds : record_of rec ≡ Holds h
+  holds : record_of rec ≡ Ok h
   unfolding record_of judged
   holds = rw none
 
@@ -70,8 +70,8 @@ module _ (rec : List ℕ) (none : record_fault rec ≡ 0) where
   is_in_lem s j (low, some) = (low, mark_at s j (omega (arith, sound.byte)) ∙ ap not (ne_eqb _ 0 some))
 
   -- runs
-  ran : {s t reads : List ℕ} {jobs : ℕ} → length s ≡ 256 → Run rec s reads jobs t → Ran (Holds h) s reads jobs t
-  ran {s} {t} {reads} {jobs} long run = subst (λ (R : Record). Ran R s reads jobs t) holds (run_back rec run long)
+  ran : {s t reads : List ℕ} {jobs : ℕ} → length s ≡ 256 → Run rec s reads jobs t → Ran (Ok h) s reads jobs t
+  ran {s} {t} {reads} {jobs} long run = subst (λ (R : Answer Header). Ran R s reads jobs t) holds (run_back rec run long)
 
   reads_are : (s t reads : List ℕ) (jobs : ℕ) → length s ≡ 256 → Run rec s reads jobs t → reads ≡ from (around (present_in h s)) (get_or s 255 0 * h.k) (jobs * h.k)
   unfolding roster_of
@@ -111,10 +111,10 @@ module _ (rec : List ℕ) (none : record_fault rec ≡ 0) where
         let other : when (not (eqb (length bytes) 256)) 8 ≡ 0 = sym (rw none at g.number) in
         eqb-true (length bytes) 256 (not-false _ (when_zero (not (eqb (length bytes) 256)) 7 other))
 
-    written : s ≡ roster_bytes (start_of (Holds h)).roster
+    written : s ≡ roster_bytes (start_of (Ok h)).roster
     written = rw (eq-eqb (length bytes) 256 lent, holds) at g.bytes_are
 
-    roster_is : roster_of s ≡ (start_of (Holds h)).roster
+    roster_is : roster_of s ≡ (start_of (Ok h)).roster
     unfolding after_calls
     roster_is = ap roster_of written ∙ roster_back _ (says.kept.many [])
 
@@ -133,13 +133,13 @@ module _ (rec : List ℕ) (none : record_fault rec ≡ 0) where
       traced : Traced rec s cs t
       traced = history_back rec history size_is
 
-      after_is : roster_of t ≡ after_calls (Holds h) cs (start_of (Holds h)).roster
-      after_is = traced.roster ∙ ap₂ (λ (R : Record) (r : Roster). after_calls R cs r) holds roster_is
+      after_is : roster_of t ≡ after_calls (Ok h) cs (start_of (Ok h)).roster
+      after_is = traced.roster ∙ ap₂ (λ (R : Answer Header) (r : Roster). after_calls R cs r) holds roster_is
 
       node_is : (j : ℕ) → j < h.n → is_present (roster_of t).marks j ≡ last_says j (events_in cs) true
       node_is j low =
           ap (λ (r : Roster). is_present r.marks j) after_is
-          ∙ ap (λ (ms : List Bool). is_present ms j) (says.kept.between cs (start_of (Holds h)).roster)
+          ∙ ap (λ (ms : List Bool). is_present ms j) (says.kept.between cs (start_of (Ok h)).roster)
           ∙ says.kept.node (events_in cs) j low
 
       byte_is : (j : ℕ) → j < 255 → get_or t j 0 ≡ when (is_present (roster_of t).marks j) 1
@@ -162,7 +162,7 @@ module _ (rec : List ℕ) (none : record_fault rec ≡ 0) where
       query list list' enough enough' q =
           let fits : (eqb (length t) 256 && eqb (length list) h.k) ≡ true = not-false _ (when_zero (not (eqb (length t) 256 && eqb (length list) h.k)) 7 (sym (rw none at q.number))) in
           let whole : eqb (length list) h.k ≡ true = and_right (eqb (length t) 256) _ fits in
-          let is : list' ≡ lowest_list (Holds h) (roster_of t) list = rw holds at q.list_is in
+          let is : list' ≡ lowest_list (Ok h) (roster_of t) list = rw holds at q.list_is in
           let ps = present_by h.n (events_in cs) in (
             q.enough_is ∙ rw present_by_lem,
             is ∙ rw (present_by_lem, whole) (by_test (leb h.k (length ps)) (λ b. rw b) (λ b. rw b)),

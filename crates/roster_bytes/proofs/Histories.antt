@@ -1,4 +1,7 @@
 -- Calls one after the other on the bytes of a roster are the same calls on the roster that they hold.
+use Rattle.std.specs.Prelude.{Ok, Err}
+use Rattle.generator.specs.Answers.{Answer}
+use Rattle.generator.specs.declared.Header.{Header}
 use mathlib.Core.Path.{◌≡◌, refl, sym, ap, ap₂, subst, ◌∙◌}
 use mathlib.Core.Bool.{Bool, true, false, ◌&&◌, true≢false}
 use mathlib.Core.List.{List, [], ◌∷◌, ◌++◌}
@@ -10,8 +13,6 @@ use lib.Dec.{eqb}
 use lib.ListN.{length, length-append}
 use Rattle.lists.specs.Choice.{pick, when}
 use Rattle.lists.proofs.Cases.{by_test, not_both}
-use Rattle.generator.specs.declared.Record.{Record}
-use Rattle.generator.specs.declared.Record.TheVariants.{Holds, Meets}
 use Rattle.generator.specs.Records.{record_of}
 use Rattle.roster.specs.declared.Roster.{Roster}
 use Rattle.roster.specs.Events.{Event}
@@ -43,15 +44,15 @@ clean_pick true r s u is back clean = is ∙ ap roster_bytes (sym (back refl))
 clean_pick false r s u is back clean = is ∙ clean ∙ ap (λ (x : List ℕ). roster_bytes (roster_of x)) (sym is)
 
 -- a job, whatever the record
-job_long : (r : Roster) (list : List ℕ) (R : Record) → length (job_of R r list).roster.marks ≡ length r.marks
+job_long : (r : Roster) (list : List ℕ) (R : Answer Header) → length (job_of R r list).roster.marks ≡ length r.marks
 unfolding job_of
-job_long r list (Meets f) = refl
-job_long r list (Holds h) = ap length (job_marks h r list)
+job_long r list (Err f) = refl
+job_long r list (Ok h) = ap length (job_marks h r list)
 
-pub job_same : (r : Roster) (list : List ℕ) (R : Record) → wrote (job_of R r list).listing ≡ false → (job_of R r list).roster ≡ r
+pub job_same : (r : Roster) (list : List ℕ) (R : Answer Header) → wrote (job_of R r list).listing ≡ false → (job_of R r list).roster ≡ r
 unfolding job_of wrote
-job_same r list (Meets f) no_list = refl
-job_same r list (Holds h) no_list = (job_idle h r list (λ e. true≢false (sym (ap wrote e) ∙ no_list))).0
+job_same r list (Err f) no_list = refl
+job_same r list (Ok h) no_list = (job_idle h r list (λ e. true≢false (sym (ap wrote e) ∙ no_list))).0
 
 module _ (rec : List ℕ) where
   -- after an event
@@ -125,7 +126,7 @@ module _ (rec : List ℕ) where
       }
 
 -- a run on bytes is a run of the roster, as the record reads
-pub record Ran (R : Record) (s : List ℕ) (reads : List ℕ) (jobs : ℕ) (t : List ℕ) : Type 0 where
+pub record Ran (R : Answer Header) (s : List ℕ) (reads : List ℕ) (jobs : ℕ) (t : List ℕ) : Type 0 where
   pub calls : List Call
   pub quiet : Quiet R calls (roster_of s)
   pub read : reads_of R calls (roster_of s) ≡ reads
@@ -134,7 +135,7 @@ pub record Ran (R : Record) (s : List ℕ) (reads : List ℕ) (jobs : ℕ) (t : 
   pub long : length t ≡ 256
 
 module _ (rec : List ℕ) where
-  abbrev R : Record
+  abbrev R : Answer Header
   R = record_of rec
 
   ran_event : (s u t reads : List ℕ) (jobs r : ℕ) (e : Event) → AfterEvent rec s e u r → (r ≡ 0 → ⊥) → Ran R u reads jobs t → Ran R s reads jobs t

@@ -1,9 +1,10 @@
 -- The text of a plan sheet.
+use Rattle.std.specs.Prelude.{Ok, Err}
+use Rattle.generator.specs.Answers.{Answer}
+use Rattle.generator.specs.declared.Header.{Header}
 use Rattle.std.specs.Prelude.{List, [], ◌∷◌, ◌++◌, ℕ, eqb, get_or}
 use Rattle.lists.specs.Choice.{pick}
 use Rattle.lists.specs.Rows.{from, rows_from}
-use Rattle.generator.specs.declared.Record.{Record}
-use Rattle.generator.specs.declared.Record.TheVariants.{Holds, Meets}
 use Rattle.plan.specs.declared.Plan.{Plan}
 use Rattle.generator.specs.Records.{distance, low_reads, high_reads}
 use Rattle.generator.specs.Shifts.{shifts, firsts}
@@ -24,8 +25,8 @@ unfoldable pub row_line : Plan → ℕ → List ℕ
 row_line p r = line (ascii "row") (r ∷ get_or p.shifts r 0 ∷ get_or p.firsts r 0 ∷ from (entry_in p r) 0 p.n)
 
 -- the sheet of a record, by the definitions of the generator
-unfoldable pub sheet_for : Record → List ℕ
-sheet_for (Meets f) = line (ascii "refused") (f ∷ [])
-sheet_for (Holds h) =
+unfoldable pub sheet_for : Answer Header → List ℕ
+sheet_for (Err f) = line (ascii "refused") (f ∷ [])
+sheet_for (Ok h) =
     line (ascii "plan") (h.n ∷ h.k ∷ distance h ∷ roundings (low_reads h) (high_reads h))
     ++ rows_from (λ r. line (ascii "row") (r ∷ get_or (shifts h) r 0 ∷ get_or (firsts h) r 0 ∷ from (entry h r) 0 h.n)) 0 h.k

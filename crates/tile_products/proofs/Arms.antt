@@ -1,6 +1,7 @@
 -- What each kind of field makes of the lists, the tables and the outputs.
 use Rattle.std.proofs.Common.{◌≡◌, ℕ, ◌*◌, ◌<◌, ◌≤◌, true, List, ◌++◌, length, refl, ap, ◌∙◌, arith, length-append}
-use mathlib.Core.Logic.{by_cases}
+use Rattle.std.proofs.Props.{props}
+use mathlib.Core.Logic.{by_cases, ∥∥₁_elim}
 use native.Mathlib.Decide.{dec_lt}
 use lib.ListN.{get_or-append}
 use Rattle.lists.specs.Numbers.{all_below}
@@ -57,14 +58,16 @@ plain_list {ws} {list} rest e = rw e record { long = omega (arith, length-append
 
 module _ (f : PrimeField) (u : usable (Prime f) ≡ true) {rows : ℕ} {list counts : List ℕ} where
   -- what the sums of a prime need
-  pub prime_ready : Lists (modulus (Prime f)) rows list counts → (rows ≤ length list) × (f.p ≤ 256 → InScale f.p rows list)
+  pub prime_ready : ∥ Lists (modulus (Prime f)) rows list counts ∥₁ → (rows ≤ length list) × (f.p ≤ 256 → InScale f.p rows list)
   unfolding modulus
-  prime_ready l =
+  prime_ready made =
+      ∥∥₁_elim made (hlevel props)
+      (λ l.
       let k = usable_prime f u in
       let below = rw k.2 at l.prepared.below in (
         omega (arith, l.prepared.long, l.size, groups_room (length l.weights)),
         λ few. scaled_alone f.p rows l.weights list l.size below (l.prepared.ratios (omega (arith, two≤prime f.p k.1)) few),
-      )
+      ))
 
   pub prime_output : {tile out : List ℕ} → OutputRows f.p rows list tile out → (ws : List ℕ) → length ws ≡ rows → Prepared (modulus (Prime f)) ws list counts → OutputRows (modulus (Prime f)) rows ws tile out
   unfolding modulus
@@ -103,11 +106,13 @@ module _ (g : Gf256) where
   byte_loaded few long table_long e = record { few = few; long = long; table_long = table_long; sums = λ z. e }
 
   module _ {rows groups : ℕ} {list counts tile table : List ℕ} (is : groups ≡ groups_of rows) (t : Loaded (modulus (Binary g)) (groups_of rows) tile table) where
-    pub byte_ready : Lists (modulus (Binary g)) rows list counts → Slices groups table list counts
+    pub byte_ready : ∥ Lists (modulus (Binary g)) rows list counts ∥₁ → Slices groups table list counts
     unfolding modulus
-    byte_ready l =
+    byte_ready made =
+        ∥∥₁_elim made (hlevel props)
+        (λ l.
         let made = rw l.size at (l.prepared.slices refl) in
-        rw is (listing_slices (groups_of rows) l.weights table list counts made t.table_long)
+        rw is (listing_slices (groups_of rows) l.weights table list counts made t.table_long))
 
     pub byte_output : {out : List ℕ} → rows ≤ 255 → all_below 256 tile ≡ true → out ≡ turns_of 8 groups table list counts → (ws : List ℕ) → length ws ≡ rows → Prepared (modulus (Binary g)) ws list counts → OutputRows (modulus (Binary g)) rows ws tile out
     unfolding modulus size_of

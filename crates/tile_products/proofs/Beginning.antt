@@ -1,10 +1,12 @@
 -- The lists of a matrix while they are made, output after output, and the outputs of a tile.
 use Rattle.std.proofs.Common.{◌≡◌, ℕ, ◌+◌, ◌*◌, ◌<◌, ◌≤◌, List, ◌++◌, length, take, drop, sym, ap, ◌∙◌, arith, ext_get_or}
-use mathlib.Core.Logic.{by_cases}
+use Rattle.std.proofs.Props.{props}
+use mathlib.Core.Logic.{by_cases, ∥∥₁_elim, ∥∥₁_prop}
+use Rattle.std.proofs.lemmas.Grind.{merely}
 use native.Mathlib.Decide.{ℕ_discrete}
 use Rattle.lists.proofs.Rows.{part_length, get_d_part, row_inside}
 use Rattle.layout.proofs.Runs.{replaced, length_replaced, replaced_before, replaced_inside}
-use Rattle.tile_products.specs.Inner.Products.{groups_of, Prepared}
+use Rattle.tile_products.specs.Inner.Products.{groups_of, Prepared, Lists}
 use Rattle.tile_products.specs.Inner.Matrices.{part_of, Begun, Made}
 
 -- parts of a list of which part j was replaced
@@ -53,3 +55,14 @@ begun_none p rows w lists counts size = record { size = size; each = λ i none. 
 pub begun_made : {p rows : ℕ} {w : ℕ → List ℕ} {outputs : ℕ} {lists counts : List ℕ} → outputs ≤ 255 → outputs * (8 * groups_of rows) ≤ length lists → outputs * 8 ≤ length counts → Begun p rows w outputs lists counts → Made p rows outputs lists counts
 begun_made {p} {rows} {w} few lists_room counts_room b =
     record { few = few; lists_room = lists_room; counts_room = counts_room; each = λ i low. record { weights = w i; size = b.size i; prepared = b.each i low } }
+
+-- what is known of the parts where the weights are not named
+module _ {p rows outputs : ℕ} {lists counts : List ℕ} (made : ∥ Made p rows outputs lists counts ∥₁) where
+  pub lists_inside : (j : ℕ) → j < outputs → j * (8 * groups_of rows) + 8 * groups_of rows ≤ length lists
+  lists_inside j low = ∥∥₁_elim made (hlevel props) (λ m. omega (arith, m.lists_room, row_inside outputs j (8 * groups_of rows) low))
+
+  pub counts_inside : (j : ℕ) → j < outputs → j * 8 + 8 ≤ length counts
+  counts_inside j low = ∥∥₁_elim made (hlevel props) (λ m. omega (arith, m.counts_room, row_inside outputs j 8 low))
+
+  pub part_made : (j : ℕ) → j < outputs → ∥ Lists p rows (part_of (8 * groups_of rows) j lists) (part_of 8 j counts) ∥₁
+  part_made j low = ∥∥₁_elim made ∥∥₁_prop (λ m. merely (m.each j low))

@@ -1,6 +1,6 @@
 -- Sums of products, row after row, each in two sums of 16 binary digits.
-use Rattle.std.proofs.Common.{◌≡◌, ℕ, ◌+◌, ◌-◌, ◌*◌, ◌/◌, ◌%◌, ◌<◌, ◌≤◌, true, List, [], ◌∷◌, length, get_or, take, drop, sym, ap, ◌∙◌, ap₂, add-zero, add_assoc, mod-eq_of_lt, mul_comm, zero-add, arith, drop_of_length-le}
-use native.Mathlib.Nat.{zero-mod, mod-mod, add-mod-mod, mod-add-mod}
+use Rattle.std.proofs.Common.{◌≡◌, ℕ, ◌+◌, ◌-◌, ◌*◌, ◌/◌, ◌%◌, ◌<◌, ◌≤◌, true, List, [], ◌∷◌, length, get_or, take, drop, sym, ap, ◌∙◌, ap₂, add-zero, add_assoc, mul-zero, mod-eq_of_lt, mul_comm, zero-add, arith, drop_of_length-le}
+use native.Mathlib.Nat.{zero-mod, zero-div, mod-mod, add-mod-mod, mod-add-mod}
 use Rattle.lists.specs.Rows.{from}
 use Rattle.lists.specs.Padded.{zeros}
 use Rattle.lists.specs.Numbers.{all_below}
@@ -24,7 +24,7 @@ use Rattle.row_sums.proofs.Halves.{Half, half_more, half_total}
 use Rattle.tile_products.specs.Inner.Ratios.{InScale}
 
 -- a weight of 0 adds nothing
-pub wrapped_same : (f : ℕ → ℕ) (acc : List ℕ) → length acc ≡ 64 → ((t : ℕ) → t < 64 → get_or acc t 0 < 65536) → ((t : ℕ) → f t ≡ 0) → acc ≡ wrapped f acc
+wrapped_same : (f : ℕ → ℕ) (acc : List ℕ) → length acc ≡ 64 → ((t : ℕ) → t < 64 → get_or acc t 0 < 65536) → ((t : ℕ) → f t ≡ 0) → acc ≡ wrapped f acc
 unfolding wrapped
 wrapped_same f acc long low none =
     sym (lanewise_same _ acc (λ t inside. rw (none t, add-zero) (mod-eq_of_lt (low t (omega (arith, long))))))
@@ -139,12 +139,13 @@ module _ (p rows : ℕ) (ws s : List ℕ) where
                 };
           }
 
-    -- both sums fit 16 binary digits
-    pub low_fits : (i : ℕ) (low up : List ℕ) → i ≤ 255 → Held i low up → (t : ℕ) → t < 64 → get_or low t 0 < 65536
-    low_fits i low up few h t lane = omega (arith, (h.lanes t lane).half.rest)
-
-    pub up_fits : (i : ℕ) (low up : List ℕ) → i ≤ 255 → Held i low up → (t : ℕ) → t < 64 → get_or up t 0 < 65536
-    up_fits i low up few h t lane = omega (arith, (h.lanes t lane).half.small)
+      -- a row whose weight is 0 adds nothing: both sums fit 16 binary digits
+      pub held_zero : (low up : List ℕ) → w ≡ 0 → Held i low up → Held (i + 1) low up
+      held_zero low up none h =
+          let few : i ≤ 255 = omega (arith, a.few) in
+          let same_low = wrapped_same (λ t. get_or part t 0 * w) low h.long (λ t lane. omega (arith, (h.lanes t lane).half.rest)) (λ t. rw none (mul-zero (get_or part t 0))) in
+          let same_up = wrapped_same (λ t. get_or part t 0 * w / 256) up h.long_up (λ t lane. omega (arith, (h.lanes t lane).half.small)) (λ t. rw (none, mul-zero) (zero-div 256)) in
+          rw (same_low, same_up) (held_row low up h)
 
     pub held_all : (i : ℕ) (low up : List ℕ) → i ≡ rows → i ≤ 255 → Held i low up → from (λ t. total_of (get_or low t 0) (get_or up t 0) % p) 0 64 ≡ combined row_after_row p rows 64 ws s
     unfolding combined dot

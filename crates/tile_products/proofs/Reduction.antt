@@ -40,6 +40,3 @@ module _ (p x : ℕ) (hp : 2 ≤ p) (hx : x < 65536) where
       let q : ℕ = x * m / 65536 in
       let all : x - q * p + q * p ≡ x = omega (arith, rest_low) in
       sym (add-mul-mod_self_right (x - q * p) q p) ∙ ap (λ (n : ℕ). n % p) all
-
-pub inverse_fits : (p : ℕ) → 2 ≤ p → 65536 / p < 65536
-inverse_fits p h = (div-lt_iff_lt-mul {k = p} (omega arith)).1 (omega arith)

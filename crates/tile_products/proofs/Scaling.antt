@@ -12,9 +12,6 @@ pub record Scaling (p : ℕ) (ws : List ℕ) (size i : ℕ) (list : List ℕ) : 
   pub ratios : (j : ℕ) → j < i → get_or list (length ws + j) 0 ≡ ratio_of p (get_or ws j 0)
 
 module _ (p : ℕ) (ws : List ℕ) (size : ℕ) (room : 2 * length ws ≤ size) where
-  pub scaling_start : (list : List ℕ) → length list ≡ size → Scaling p ws size 0 list
-  scaling_start list long = record { long = long; weights = λ j h. absurd (omega arith); ratios = λ j h. absurd (omega arith) }
-
   module _ (i w r : ℕ) (row : i < length ws) (w_is : w ≡ get_or ws i 0) (r_is : r ≡ ratio_of p w) {list : List ℕ} (s : Scaling p ws size i list) where
     abbrev first : List ℕ
     first = set list i w
@@ -39,10 +36,6 @@ module _ (p : ℕ) (ws : List ℕ) (size : ℕ) (room : 2 * length ws ≤ size) 
               (λ e. rw e (get_or-set_same first (length ws + i) r 0 (omega (arith, first_long)) ∙ r_is ∙ ap (ratio_of p) w_is))
               (λ n. other (length ws + j) (omega arith) (omega arith) ∙ s.ratios j (omega arith));
         }
-
-  pub scaling_end : (i : ℕ) {list : List ℕ} → length ws ≤ 255 → length ws ≤ i → Scaling p ws size i list → Scaled p ws list
-  scaling_end i few all s =
-      record { few = few; long = omega (arith, s.long); weights = λ j h. s.weights j (omega arith); ratios = λ j h. s.ratios j (omega arith) }
 
 -- what `output` requires of it
 pub scaled_alone : (p rows : ℕ) (ws list : List ℕ) → length ws ≡ rows → all_below p ws ≡ true → Scaled p ws list → InScale p rows list

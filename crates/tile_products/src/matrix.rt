@@ -4,9 +4,10 @@ ghost use Rattle.lists.specs.Numbers.{all_below};
 ghost use Rattle.field.specs.Fields.{size_of};
 ghost use Rattle.field.specs.Kinds.{modulus, usable};
 ghost use Rattle.field.specs.Widths.{bytes_for};
-ghost use Rattle.tile_products.specs.Inner.Products.{groups_of, Codes, Loaded};
-ghost use Rattle.tile_products.specs.Inner.Matrices.{Begun, Made, OutputsOf, Multiplied};
+ghost use Rattle.tile_products.specs.Inner.Products.{groups_of, Codes};
+ghost use Rattle.tile_products.specs.Inner.Matrices.{Begun, Made, Multiplied};
 
+use crate::loaded::LoadedTile;
 use crate::{Shape, groups_of};
 use field::Field;
 
@@ -36,44 +37,25 @@ pub fn prepare(
     );
 }
 
-// Every output, each through its own part.
-fn outputs(m: Shape, lists: &[u16], counts: &[u8], tile: &[u8], table: &[u8], out: &mut [u8])
-    requires { (usable m.field ≡ true) × (m.rows ≤ 255) × Made (modulus m.field) m.rows m.outputs lists.now counts.now × Loaded (modulus m.field) (groups_of m.rows) tile.now table.now × (m.outputs * (bytes_for (modulus m.field) * 64) ≤ length out.old) }
-    ensures { (w : ℕ → List ℕ) → Begun (modulus m.field) m.rows w m.outputs lists.now counts.now → OutputsOf (modulus m.field) m.rows m.outputs w tile.now m.outputs out.new }
-{
-    let field = m.field;
-    let count = m.outputs;
-    let rows = m.rows;
-    let row = field.width() * 64;
-    let size = 8 * groups_of(rows);
-    let mut j = 0;
-    while j < count {
-        let start = j * size;
-        let end = start + size;
-        let at = j * 8;
-        let at_end = at + 8;
-        let to = j * row;
-        let to_end = to + row;
-        crate::output(
-            field,
-            rows,
-            &lists[start..end],
-            &counts[at..at_end],
-            tile,
-            table,
-            &mut out[to..to_end],
-        );
-        j += 1;
-    }
+// Every output's lists are made.
+#[derive(Clone, Copy)]
+pub struct Matrix<'a> {
+    pub shape: Shape,
+    pub lists: &'a [u16],
+    pub counts: &'a [u8],
+    pub ghost usable_field: { usable shape.field ≡ true },
+    pub ghost few: { shape.rows ≤ 255 },
+    pub ghost made: { ∥ Made (modulus shape.field) shape.rows shape.outputs lists.now counts.now ∥₁ },
 }
 
-// The product of a matrix and a tile; `table` is scratch.
-pub fn apply(m: Shape, lists: &[u16], counts: &[u8], tile: &[u8], table: &mut [u8], out: &mut [u8])
-    requires { (usable m.field ≡ true) × (m.rows ≤ 255) × Made (modulus m.field) m.rows m.outputs lists.now counts.now × (length tile.now ≡ groups_of m.rows * (bytes_for (modulus m.field) * 256)) × (length table.old ≡ groups_of m.rows * 1024) × (m.outputs * (bytes_for (modulus m.field) * 64) ≤ length out.old) }
-    ensures { (w : ℕ → List ℕ) → Begun (modulus m.field) m.rows w m.outputs lists.now counts.now → Multiplied (modulus m.field) m.rows m.outputs w tile.now out.new }
-{
-    let field = m.field;
-    let groups = groups_of(m.rows);
-    crate::load(field, groups, tile, table);
-    outputs(m, lists, counts, tile, table, out);
+impl Matrix<'_> {
+    // The product with a tile; `table` is scratch.
+    pub fn apply(self, tile: &[u8], table: &mut [u8], out: &mut [u8])
+        requires tile_long { length tile.now ≡ groups_of self.shape.rows * (bytes_for (modulus self.shape.field) * 256) }
+        requires table_long { length table.old ≡ groups_of self.shape.rows * 1024 }
+        requires out_long { self.shape.outputs * (bytes_for (modulus self.shape.field) * 64) ≤ length out.old }
+        ensures { let m = self.entry in let p = modulus m.shape.field in (w : ℕ → List ℕ) → Begun p m.shape.rows w m.shape.outputs m.lists.now m.counts.now → Multiplied p m.shape.rows m.shape.outputs w tile.now out.new }
+    {
+        LoadedTile::new(self, tile, table).outputs(out);
+    }
 }

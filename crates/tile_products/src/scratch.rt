@@ -1,93 +1,86 @@
 // Scratch in three sizes: for at most 16 outputs and rows of bytes, for at most 64, and for any.
 ghost use Rattle.std.specs.Prelude.{◌≡◌, length};
 
+// The lists of 16 outputs of 4 groups, of 64 outputs of 16, and of 255 outputs of 64.
+pub const SMALL_LISTS: usize = 512;
+
+pub const MIDDLE_LISTS: usize = 8192;
+
+pub const LARGE_LISTS: usize = 130560;
+
+// How long they are.
+pub const SMALL_COUNTS: usize = 128;
+
+pub const MIDDLE_COUNTS: usize = 512;
+
+pub const LARGE_COUNTS: usize = 2040;
+
+// The rows of a tile.
+pub const SMALL_ROWS: usize = 1024;
+
+pub const MIDDLE_ROWS: usize = 4096;
+
+pub const LARGE_ROWS: usize = 32768;
+
+// Its table.
+pub const SMALL_TABLE: usize = 4096;
+
+pub const MIDDLE_TABLE: usize = 16384;
+
+pub const LARGE_TABLE: usize = 65536;
+
+// So many times x. Its length is all that a caller is told: an array of zeros that a proof sees is read element by element.
+pub fn filled<T: Copy, const N: usize>(x: T) -> [T; N]
+    ensures { length result ≡ N }
+{
+    [x; N]
+}
+
 // What stands for each weight.
 pub fn codes() -> [u64; 256]
     ensures { length result ≡ 256 }
 {
-    [0u64; 256]
+    filled(0)
 }
 
-// The lists of 16 outputs of 4 groups.
-pub fn small_lists() -> [u16; 512]
+pub fn small_lists() -> [u16; SMALL_LISTS]
     ensures { length result ≡ 512 }
 {
-    [0u16; 512]
+    filled(0)
 }
 
-// How long they are.
-pub fn small_counts() -> [u8; 128]
+pub fn small_counts() -> [u8; SMALL_COUNTS]
     ensures { length result ≡ 128 }
 {
-    [0u8; 128]
+    filled(0)
 }
 
-// The rows of a tile.
-pub fn small_rows() -> [u8; 1024]
-    ensures { length result ≡ 1024 }
-{
-    [0u8; 1024]
-}
-
-// Its table.
-pub fn small_table() -> [u8; 4096]
-    ensures { length result ≡ 4096 }
-{
-    [0u8; 4096]
-}
-
-// The lists of 64 outputs of 16 groups.
-pub fn middle_lists() -> [u16; 8192]
+pub fn middle_lists() -> [u16; MIDDLE_LISTS]
     ensures { length result ≡ 8192 }
 {
-    [0u16; 8192]
+    filled(0)
 }
 
-// How long they are.
-pub fn middle_counts() -> [u8; 512]
+pub fn middle_counts() -> [u8; MIDDLE_COUNTS]
     ensures { length result ≡ 512 }
 {
-    [0u8; 512]
+    filled(0)
 }
 
-// The rows of a tile.
-pub fn middle_rows() -> [u8; 4096]
-    ensures { length result ≡ 4096 }
-{
-    [0u8; 4096]
-}
-
-// Its table.
-pub fn middle_table() -> [u8; 16384]
-    ensures { length result ≡ 16384 }
-{
-    [0u8; 16384]
-}
-
-// The lists of 255 outputs of 64 groups.
-pub fn large_lists() -> [u16; 130560]
+pub fn large_lists() -> [u16; LARGE_LISTS]
     ensures { length result ≡ 130560 }
 {
-    [0u16; 130560]
+    filled(0)
 }
 
-// How long they are.
-pub fn large_counts() -> [u8; 2040]
+pub fn large_counts() -> [u8; LARGE_COUNTS]
     ensures { length result ≡ 2040 }
 {
-    [0u8; 2040]
+    filled(0)
 }
 
-// The rows of a tile.
-pub fn large_rows() -> [u8; 32768]
+pub fn large_rows() -> [u8; LARGE_ROWS]
     ensures { length result ≡ 32768 }
 {
-    [0u8; 32768]
-}
-
-// Its table.
-pub fn large_table() -> [u8; 65536]
-    ensures { length result ≡ 65536 }
-{
-    [0u8; 65536]
+    filled(0)
 }

@@ -1,4 +1,5 @@
 -- What holds where the call meets no number, and what it says beside one.
+use Rattle.std.specs.Prelude.{Err}
 use mathlib.Core.Path.{◌≡◌, sym}
 use mathlib.Core.List.{List}
 use Prim.Native.Nat.{ℕ, ◌*◌, ◌<◌}
@@ -13,7 +14,6 @@ use Rattle.refusals.specs.Faults.{stale_fault}
 use Rattle.refusals.specs.Accepted.{UpdatableLane, FreshLane}
 use Rattle.refusals.proofs.NotMet.{lanes_good, length_good, number_good, symbol_good, lane_good, word_good, held_good}
 use Rattle.refusals.proofs.Accepts.{not_met}
-use Rattle.blocks.specs.declared.Update.TheVariants as U
 use Rattle.blocks.proofs.Refused.{update_refused, refused_value}
 use Rattle.update.specs.Promise.{input_fault, update_fault, UpdatePromise}
 
@@ -58,5 +58,5 @@ module _ (h : Header) (sound : Sound h) (l : ℕ) where
 
 -- beside a number g: the number, and nothing is written
 module _ {y : Arrangement} (h : Header) (g : ℕ) (some : g ≡ 0 → ⊥) (l : ℕ) where
-  pub update_refuses : (r t old new : ℕ) (shares : List ℕ) → UpdatePromise y l r t old new shares shares (U.Refused g) h g
+  pub update_refuses : (r t old new : ℕ) (shares : List ℕ) → UpdatePromise y l r t old new shares shares (Err g) h g
   update_refuses r t old new shares = record { answer = sym (update_refused g _ some); written = sym (refused_value g _ shares some) }

@@ -1,4 +1,5 @@
 -- An update that no number turns away: the row is added, and the count is of the symbols that differ.
+use Rattle.std.specs.Prelude.{Ok}
 use mathlib.Core.Path.{◌≡◌}
 use mathlib.Core.List.{List}
 use Prim.Native.Nat.{ℕ}
@@ -7,12 +8,11 @@ use Rattle.layout.specs.Layout.{share_layout}
 use Rattle.layout.specs.Width.{symbols_of, bytes_of}
 use Rattle.generator.specs.declared.Header.{Header}
 use Rattle.generator.specs.Records.{width}
-use Rattle.blocks.specs.declared.Update.TheVariants.{Altered}
 use Rattle.blocks.specs.Blocks.{updated}
 use Rattle.blocks.specs.Bytes.{updated_bytes, altered_count}
 use Rattle.blocks.specs.Answers.{update_of}
 use Rattle.update.specs.Promise.{UpdatePromise}
 
-pub altered_says : (h : Header) (w l r t old new : ℕ) (s s' : List ℕ) (f count : ℕ) → w ≡ width h → f ≡ 0 → s' ≡ bytes_of w (updated share_layout h l r t old new (symbols_of w s)) → count ≡ differ (symbols_of w s) (updated share_layout h l r t old new (symbols_of w s)) → UpdatePromise share_layout l r t old new s s' (Altered count) h f
+pub altered_says : (h : Header) (w l r t old new : ℕ) (s s' : List ℕ) (f count : ℕ) → w ≡ width h → f ≡ 0 → s' ≡ bytes_of w (updated share_layout h l r t old new (symbols_of w s)) → count ≡ differ (symbols_of w s) (updated share_layout h l r t old new (symbols_of w s)) → UpdatePromise share_layout l r t old new s s' (Ok count) h f
 unfolding update_of updated_bytes altered_count
 altered_says h w l r t old new s s' f count wide none done counted = record { answer = rw (none, ← wide, counted); written = rw (none, ← wide, done) }

@@ -1,4 +1,5 @@
 -- What Update promises: the numbers that turn it away, the answer and every lent byte afterwards, and the same over a record.
+use Rattle.generator.specs.Answers.{Answer}
 use Rattle.std.specs.Prelude.{List, ◌≡◌, ℕ, ◌*◌, length, eqb}
 use Rattle.lists.specs.Choice.{first_of, when, pick}
 use Rattle.layout.specs.Layout.{Arrangement, lane_of, share_layout}
@@ -8,7 +9,6 @@ use Rattle.generator.specs.Records.{width}
 use Rattle.refusals.specs.Conditions.{lanes_bad, length_bad, number_bad, symbol_bad, lane_bad}
 use Rattle.refusals.specs.Faults.{stale_fault}
 use Rattle.refusals.specs.Promise.{OnRecord}
-use Rattle.blocks.specs.declared.Update.{Update}
 use Rattle.blocks.specs.Bytes.{updated_bytes, altered_count}
 use Rattle.blocks.specs.Answers.{update_of}
 
@@ -28,12 +28,12 @@ unfoldable pub update_fault : Arrangement → Header → ℕ → ℕ → ℕ →
 update_fault y h l r t old new shares = first_of (input_fault y h l r t old new shares) (stale_fault h (lane_of y h.n l t (symbols_of (width h) shares)) r old)
 
 -- Update: the row added to the lane, and how many symbols differ afterwards
-pub record UpdatePromise (y : Arrangement) (l r t old new : ℕ) (shares shares' : List ℕ) (a : Update) (h : Header) (f : ℕ) : Type 0 where
+pub record UpdatePromise (y : Arrangement) (l r t old new : ℕ) (shares shares' : List ℕ) (a : Answer ℕ) (h : Header) (f : ℕ) : Type 0 where
   pub answer : a ≡ update_of f (altered_count y h l r t old new shares)
   pub written : shares' ≡ pick (eqb f 0) (updated_bytes y h l r t old new shares) shares
 
-abbrev pub UpdateSaysIn : Arrangement → List ℕ → ℕ → ℕ → ℕ → ℕ → ℕ → List ℕ → List ℕ → Update → Type 0
+abbrev pub UpdateSaysIn : Arrangement → List ℕ → ℕ → ℕ → ℕ → ℕ → ℕ → List ℕ → List ℕ → Answer ℕ → Type 0
 UpdateSaysIn y rec l r t old new shares shares' a = OnRecord rec (λ h. update_fault y h l r t old new shares) (UpdatePromise y l r t old new shares shares' a)
 
-abbrev pub UpdateSays : List ℕ → ℕ → ℕ → ℕ → ℕ → ℕ → List ℕ → List ℕ → Update → Type 0
+abbrev pub UpdateSays : List ℕ → ℕ → ℕ → ℕ → ℕ → ℕ → List ℕ → List ℕ → Answer ℕ → Type 0
 UpdateSays = UpdateSaysIn share_layout

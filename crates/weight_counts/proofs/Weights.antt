@@ -1,4 +1,6 @@
 -- The code of an accepted record has any k symbols at any k nodes of exactly one message, so its weight distribution is the textbook's.
+use Rattle.std.specs.Prelude.{Ok, Err}
+use Rattle.generator.specs.Answers.{Answer}
 use Rattle.std.proofs.Common.{◌≡◌, ℕ, zero, suc, ◌+◌, true, List, length, replicate, sym, refl, ◌∙◌, eq-eqb}
 use Rattle.lists.proofs.Cases.{both_true}
 use Rattle.lists.proofs.Numbers.{below_all, all_below_lem, all_distinct}
@@ -7,8 +9,6 @@ use Rattle.field.proofs.Arithmetic.{zero-mul}
 use Rattle.field.proofs.BothKinds.{arithmetic}
 use Rattle.field.proofs.FieldOf.{size_pos}
 use Rattle.generator.specs.declared.Header.{Header}
-use Rattle.generator.specs.declared.Record.{Record}
-use Rattle.generator.specs.declared.Record.TheVariants.{Holds, Meets}
 use Rattle.generator.specs.Records.{modulus_of, size, distance, record_of, Sound}
 use Rattle.generator.specs.Generator.{entry}
 use Rattle.generator.specs.Codewords.{node_from, node_of}
@@ -73,7 +73,7 @@ module _ (h : Header) (s : Sound h) where
       }
 
 -- of every record
-pub distributed : (rec : List ℕ) (r : Record) → record_of rec ≡ r → Distributed r
+pub distributed : (rec : List ℕ) (r : Answer Header) → record_of rec ≡ r → Distributed r
 unfolding Distributed
-distributed rec (Holds h) e = distribution h (accepted_sound rec h e)
-distributed rec (Meets f) e = tt
+distributed rec (Ok h) e = distribution h (accepted_sound rec h e)
+distributed rec (Err f) e = tt

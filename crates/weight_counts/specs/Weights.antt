@@ -1,14 +1,13 @@
 -- How many messages of a record have a word of each Hamming weight, and what the call promises.
+use Rattle.std.specs.Prelude.{Ok, Err}
+use Rattle.generator.specs.Answers.{Answer}
 use Rattle.std.specs.Prelude.{◌≡◌, ℕ, ◌+◌, ◌^◌, ◌<◌, ◌≤◌, Bool, true, not, List, length, ◌==◌, nat_lt}
 use Rattle.lists.specs.Choice.{pick, first_of, when}
 use Rattle.lists.specs.Rows.{from, range}
 use Rattle.generator.specs.declared.Header.{Header}
-use Rattle.generator.specs.declared.Record.{Record}
-use Rattle.generator.specs.declared.Record.TheVariants.{Holds, Meets}
 use Rattle.generator.specs.Records.{record_of, size, distance}
 use Rattle.generator.specs.Codewords.{node_of}
 use Rattle.generator.specs.Claims.{is_message}
-use Rattle.blocks.specs.declared.Outcome.{Outcome}
 use Rattle.refusals.specs.Promise.{OnRecord}
 use Rattle.blocks.specs.Answers.{outcome_of}
 use Rattle.weight_distribution.specs.Counts.{sum_of, message_at, weight_count, even_terms, odd_terms, textbook}
@@ -42,16 +41,16 @@ pub record Distribution (h : Header) : Type 0 where
   pub exact : (w : ℕ) → distance h ≤ w → w ≤ h.n → odd_terms (distance h) (size h) w ≤ even_terms (distance h) (size h) w
 
 -- the same of a record that was read
-unfoldable pub Distributed : Record → Type 0
-Distributed (Holds h) = Distribution h
-Distributed (Meets f) = Unit {0}
+unfoldable pub Distributed : Answer Header → Type 0
+Distributed (Ok h) = Distribution h
+Distributed (Err f) = Unit {0}
 
 -- over a header and the number that turns the call away, 0 where none does: the answer, and the counts afterwards
-pub record WeightsPromise (counts counts' : List ℕ) (r : Outcome) (h : Header) (f : ℕ) : Type 0 where
+pub record WeightsPromise (counts counts' : List ℕ) (r : Answer (Unit {0})) (h : Header) (f : ℕ) : Type 0 where
   pub answer : r ≡ outcome_of f
   pub written : counts' ≡ pick (f == 0) (weight_counts h) counts
 
 -- what `weight_counts` promises over the record as it is read, and what holds of the counts
-pub record WeightsSay (rec counts counts' : List ℕ) (r : Outcome) : Type 0 where
+pub record WeightsSay (rec counts counts' : List ℕ) (r : Answer (Unit {0})) : Type 0 where
   pub counted : OnRecord rec (λ h. weights_fault h (length counts)) (WeightsPromise counts counts' r)
   pub claims : Distributed (record_of rec)

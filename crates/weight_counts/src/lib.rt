@@ -5,12 +5,11 @@
 ghost use Rattle.std.specs.Prelude.{◌≡◌, ℕ, ◌+◌, ◌-◌, ◌*◌, ◌%◌, ◌^◌, ◌<◌, ◌≤◌, true, length, slice_index};
 ghost use Rattle.lists.specs.Rows.{from};
 ghost use Rattle.field.specs.Kinds.{usable};
-ghost use Rattle.generator.specs.Records.{Sound};
+ghost use Rattle.generator.specs.Answers.{numbered, outcome_of};
 ghost use Rattle.weight_counts.specs.Weights.{weight_counts, weights_fault, WeightsPromise, WeightsSay};
 ghost use Rattle.weight_counts.specs.Inner.Counting.{Small, message_count, with_previous, differences_of, binomials};
 
-use blocks::Outcome;
-use generator::{Header, Record};
+use generator::{Code, Header, Refusal};
 
 // q^k, or 0 where that is more than 65,536.
 fn message_count(q: u32, k: u8) -> u32
@@ -118,41 +117,29 @@ fn fill_counts(h: Header, counts: &mut [u32])
     scale(counts, &row);
 }
 
-// Numbers 8 and 16, or 0; `size` is the length of the written buffer.
-fn weights_fault(h: Header, size: usize) -> u8
-    requires { usable h.field ≡ true }
-    ensures { result ≡ weights_fault h size }
+// Numbers 8 and 16; `size` is the length of the written buffer.
+fn weights_fault(code: Code, size: usize) -> Result<(), Refusal>
+    ensures { numbered result ≡ outcome_of (weights_fault code.header size) }
 {
-    let field = h.field;
+    let h = code.header;
     let n = h.n as usize;
-    if size != n + 1 {
-        return 8;
-    }
-    if message_count(field.size(), h.k) == 0 {
-        return 16;
-    }
-    0
+    Refusal::Length.when(size != n + 1)?;
+    Refusal::Many.when(message_count(h.field.size(), h.k) == 0)
 }
 
-// Counts over the header of an accepted record.
-pub fn counts_accepted(h: Header, counts: &mut [u32]) -> Outcome
-    requires { Sound h }
-    ensures { WeightsPromise counts.old counts.new result h (weights_fault h (length counts.old)) }
+// Counts over a code.
+pub fn counts_accepted(code: Code, counts: &mut [u32]) -> Result<(), Refusal>
+    ensures { WeightsPromise counts.old counts.new (numbered result) code.header (weights_fault code.header (length counts.old)) }
 {
-    let number = weights_fault(h, counts.len());
-    if number != 0 {
-        return Outcome::Refused(number);
-    }
-    fill_counts(h, counts);
-    Outcome::Done
+    weights_fault(code, counts.len())?;
+    fill_counts(code.header, counts);
+    Ok(())
 }
 
-// Writes for each w from 0 to n how many messages have a word with w nodes that are not zero, or gives the number that turns the call away and writes nothing.
-pub fn weight_counts(rec: &[u8], counts: &mut [u32]) -> Outcome
-    ensures { WeightsSay rec.now counts.old counts.new result }
+// Writes for each w from 0 to n how many messages have a word with w nodes that are not zero, or gives what turns the call away and writes nothing.
+pub fn weight_counts(rec: &[u8], counts: &mut [u32]) -> Result<(), Refusal>
+    ensures { WeightsSay rec.now counts.old counts.new (numbered result) }
 {
-    match records::read_record(rec) {
-        Record::Holds(h) => counts_accepted(h, counts),
-        Record::Meets(number) => Outcome::Refused(number),
-    }
+    let code = records::read_record(rec)?;
+    counts_accepted(code, counts)
 }

@@ -1,9 +1,10 @@
 -- The text of a weight distribution: a line for each weight, `w count`.
+use Rattle.std.specs.Prelude.{Ok, Err}
+use Rattle.generator.specs.Answers.{Answer}
+use Rattle.generator.specs.declared.Header.{Header}
 use Rattle.std.specs.Prelude.{List, [], ◌∷◌, ℕ, length, get_or}
 use Rattle.lists.specs.Choice.{pick}
 use Rattle.lists.specs.Rows.{rows_from}
-use Rattle.generator.specs.declared.Record.{Record}
-use Rattle.generator.specs.declared.Record.TheVariants.{Holds, Meets}
 use Rattle.text.specs.Text.{ascii, decimal, line}
 use Rattle.weight_counts.specs.Weights.{weight_counts, messages_bad}
 
@@ -16,6 +17,6 @@ unfoldable pub count_lines : List ℕ → List ℕ
 count_lines counts = rows_from (λ w. count_line w (get_or counts w 0)) 0 (length counts)
 
 -- the lines of a record: its counts, or the number that turns the call away
-unfoldable pub weights_for : Record → List ℕ
-weights_for (Meets f) = line (ascii "refused") (f ∷ [])
-weights_for (Holds h) = pick (messages_bad h) (line (ascii "refused") (16 ∷ [])) (count_lines (weight_counts h))
+unfoldable pub weights_for : Answer Header → List ℕ
+weights_for (Err f) = line (ascii "refused") (f ∷ [])
+weights_for (Ok h) = pick (messages_bad h) (line (ascii "refused") (16 ∷ [])) (count_lines (weight_counts h))

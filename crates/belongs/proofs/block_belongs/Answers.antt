@@ -1,13 +1,13 @@
--- `block_belongs` meets its contract: the record's number, or what the test over its header gives.
-use Rattle.refusals.proofs.OnRecord.{read_sound, on_held, on_met}
+-- `block_belongs` meets its contract: the record's number, or what the test over its code gives.
+use Rattle.std.proofs.Common.{refl}
+use Rattle.generator.proofs.Answered.{exit}
+use Rattle.refusals.proofs.OnRecord.{on_held, on_met}
 use Rattle.belongs.proofs.Accepts.{belongs_refuses}
 use Rattle.belongs.proofs.block_belongs.Goals as goal
 
-pub test_accepted-requires : goal.test_accepted-requires
-test_accepted-requires c = read_sound _ c.read_record.ensures c.in-Holds.is
+pub returns-in_err-code : goal.returns-in_err-code
+returns-in_err-code c =
+    rw (exit _ c.from_residual.ensures.1) (on_met c.in_err-code.ensures refl (λ h some. belongs_refuses h _ some _ _))
 
-pub returns-in-Holds : goal.returns-in-Holds
-returns-in-Holds c = on_held c.read_record.ensures c.in-Holds.is c.test_accepted.ensures
-
-pub returns-in-Meets : goal.returns-in-Meets
-returns-in-Meets c = on_met c.read_record.ensures c.in-Meets.is (λ h some. belongs_refuses h _ some _ _)
+pub returns : goal.returns
+returns c = on_held c.in_ok-code.ensures refl c.test_accepted.ensures

@@ -1,9 +1,9 @@
 -- The number of an answer.
+use Rattle.std.specs.Prelude.{Ok, Err}
+use Rattle.generator.specs.Answers.{Answer}
 use Rattle.std.specs.Prelude.{ℕ}
-use Rattle.blocks.specs.declared.Outcome.{Outcome}
-use Rattle.blocks.specs.declared.Outcome.TheVariants as O
 
 -- the number of the table that an answer gives, 0 where the call was accepted
-unfoldable pub outcome_number : Outcome → ℕ
-outcome_number O.Done = 0
-outcome_number (O.Refused f) = f
+unfoldable pub outcome_number : Answer (Unit {0}) → ℕ
+outcome_number (Ok tt) = 0
+outcome_number (Err f) = f

@@ -5,21 +5,22 @@ use Rattle.belongs.proofs.Accepts.{belongs_accepts}
 use Rattle.layout.specs.Layout.{share_layout}
 use Rattle.correct.proofs.Answers.{correct_refuses, fault_first, fault_last}
 use Rattle.correct.proofs.correct_accepted.Goals as goal
-use Rattle.correct.proofs.correct_accepted.Goals.{Else-number-ne0}
+use Rattle.generator.proofs.Answered.{done_is}
+use Rattle.correct.proofs.correct_accepted.Goals.{In_ok-belongs_fault}
 
 -- no number is met so far
-none_met : (c : Else-number-ne0) → let a = c.args in belongs_fault a.h a.lanes a.shares.now ≡ 0
-none_met c = sym c.belongs_fault-number.ensures ∙ c.if-number-ne0.false
+none_met : (c : In_ok-belongs_fault) → let a = c.args in belongs_fault a.code.header a.lanes a.shares.now ≡ 0
+none_met c = done_is _ c.in_ok-belongs_fault.ensures
 
 pub returns-then-number-ne0 : goal.returns-then-number-ne0
 returns-then-number-ne0 c =
     let a = c.args in
-    rw (fault_first share_layout a.h a.lanes a.shares.now _ c.belongs_fault-number.ensures c.if-number-ne0.true) (correct_refuses share_layout a.h a.lanes a.shares.now _ c.if-number-ne0.true)
+    rw (fault_first share_layout a.code.header a.lanes a.shares.now _ c.belongs_fault-number.ensures c.if-number-ne0.true) (correct_refuses share_layout a.code.header a.lanes a.shares.now _ c.if-number-ne0.true)
 
 pub correct_symbols-requires : goal.correct_symbols-requires
-correct_symbols-requires c = belongs_accepts _ c.requires _ _ (none_met (goal.at.correct_symbols-requires c).Else-number-ne0)
+correct_symbols-requires c = belongs_accepts _ c.args.code.sound _ _ (none_met (goal.at.correct_symbols-requires c).In_ok-belongs_fault)
 
 pub returns : goal.returns
 returns c =
     let a = c.args in
-    rw (fault_last share_layout a.h a.lanes a.shares.now (none_met (goal.at.returns c).Else-number-ne0)) c.correct_symbols.ensures
+    rw (fault_last share_layout a.code.header a.lanes a.shares.now (none_met (goal.at.returns c).In_ok-belongs_fault)) c.correct_symbols.ensures

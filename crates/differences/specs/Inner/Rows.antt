@@ -1,12 +1,10 @@
 -- Rows of symbols as tiles: what the functions behind the calls rely on and give.
-use Rattle.std.specs.Prelude.{◌≡◌, List, ◌++◌, ℕ, ◌<◌, get_or}
+use Rattle.std.specs.Prelude.{List, ◌++◌, ℕ, get_or}
 use Rattle.lists.specs.Rows.{from}
 use Rattle.layout.specs.Layout.{row_after_row, lane_after_lane, rearranged}
 use Rattle.field.specs.Fields.{sub, mul}
 use Rattle.generator.specs.declared.Header.{Header}
-use Rattle.generator.specs.declared.Record.TheVariants.{Holds}
 use Rattle.generator.specs.Records.{modulus_of}
-use Rattle.plan.specs.Plans.{plan_for}
 
 -- the tile of a row of l symbols of w bytes: a row of bytes for each byte of a symbol
 abbrev pub row_tile : ℕ → ℕ → List ℕ → List ℕ
@@ -22,9 +20,3 @@ row_less h l xs ys = from (λ t. sub (modulus_of h) (get_or xs t 0) (get_or ys t
 
 unfoldable pub row_times : Header → ℕ → List ℕ → ℕ → List ℕ
 row_times h l xs c = from (λ t. mul (modulus_of h) (get_or xs t 0) c) 0 l
-
--- the shifts and the base word of an accepted record's plan, and a row of it
-pub record RowOf (h : Header) (r : ℕ) (shifts base : List ℕ) : Type 0 where
-  pub row : r < h.k
-  pub shifts_are : shifts ≡ (plan_for (Holds h)).shifts
-  pub base_is : base ≡ (plan_for (Holds h)).base

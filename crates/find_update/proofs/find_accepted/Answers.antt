@@ -5,56 +5,59 @@ use native.Mathlib.Omega.{arith}
 use lib.ListN.{take}
 use Rattle.layout.specs.Width.{symbols_of}
 use Rattle.generator.specs.Records.{width}
+use Rattle.generator.proofs.Answered.{exit, done_is, refused_is}
 use Rattle.find_update.specs.Finding.{finding_of}
 use Rattle.find_update.specs.Promise.{answer_of}
 use Rattle.refusals.proofs.LaneSymbols.{few_bytes, lane_read}
 use Rattle.find_update.proofs.Accepts.{Lanes, find_accepts, find_refuses}
 use Rattle.find_update.proofs.find_accepted.Goals as goal
-use Rattle.find_update.proofs.find_accepted.Goals.{After-read_symbols-us, After-read_symbols-vs, Else-number-ne0}
+use Rattle.find_update.proofs.find_accepted.Goals.{After-read_symbols-us, After-read_symbols-vs, In_ok-find_fault}
 
 -- no number turns the call away
-lanes : (c : Else-number-ne0) → let a = c.args in Lanes a.h a.before.now a.after.now
-lanes c = find_accepts _ _ _ (sym c.find_fault-number.ensures ∙ c.if-number-ne0.false)
+lanes : (c : In_ok-find_fault) → let a = c.args in Lanes a.code.header a.before.now a.after.now
+lanes c = find_accepts _ _ _ (done_is _ c.in_ok-find_fault.ensures)
 
 -- the lanes as they are read
 first : (c : After-read_symbols-us)
     → let a = c.args in
-    take a.h.n c.read_symbols-us.result ≡ symbols_of (width a.h) a.before.now
-first c = lane_read _ _ _ _ (lanes (goal.at.After-read_symbols-us c).Else-number-ne0).first c.width_of-w.ensures.0 c.read_symbols-us.ensures
+    take a.code.header.n c.read_symbols-us.result ≡ symbols_of (width a.code.header) a.before.now
+first c = lane_read _ _ _ _ (lanes (goal.at.After-read_symbols-us c).In_ok-find_fault).first c.width_of-w.ensures.0 c.read_symbols-us.ensures
 
 second : (c : After-read_symbols-vs)
     → let a = c.args in
-    take a.h.n c.read_symbols-vs.result ≡ symbols_of (width a.h) a.after.now
-second c = lane_read _ _ _ _ (lanes (goal.at.After-read_symbols-vs c).Else-number-ne0).second c.width_of-w.ensures.0 c.read_symbols-vs.ensures
+    take a.code.header.n c.read_symbols-vs.result ≡ symbols_of (width a.code.header) a.after.now
+second c = lane_read _ _ _ _ (lanes (goal.at.After-read_symbols-vs c).In_ok-find_fault).second c.width_of-w.ensures.0 c.read_symbols-vs.ensures
 
-pub returns-then-number-ne0 : goal.returns-then-number-ne0
-returns-then-number-ne0 c = rw (← c.find_fault-number.ensures) (find_refuses _ _ c.if-number-ne0.true _ _)
+pub returns-in_err-find_fault : goal.returns-in_err-find_fault
+returns-in_err-find_fault c =
+    let met = refused_is _ _ c.in_err-find_fault.ensures in
+    rw (exit _ c.from_residual.ensures.1, ← met.0) (find_refuses _ _ met.1 _ _)
 
 pub read_symbols-us-requires : goal.read_symbols-us-requires
 read_symbols-us-requires c =
-    let few : c.args.h.n ≤ 255 = omega arith in
+    let few : c.args.code.header.n ≤ 255 = omega arith in
     let (is, some, two) = c.width_of-w.ensures in
-    (some, two, few_bytes _ _ _ few (rw is (lanes (goal.at.read_symbols-us-requires c).Else-number-ne0).first_long))
+    (some, two, few_bytes _ _ _ few (rw is (lanes (goal.at.read_symbols-us-requires c).In_ok-find_fault).first_long))
 
 pub read_symbols-vs-requires : goal.read_symbols-vs-requires
 read_symbols-vs-requires c =
-    let few : c.args.h.n ≤ 255 = omega arith in
+    let few : c.args.code.header.n ≤ 255 = omega arith in
     let (is, some, two) = c.width_of-w.ensures in
-    (some, two, few_bytes _ _ _ few (rw is (lanes (goal.at.read_symbols-vs-requires c).Else-number-ne0).second_long))
+    (some, two, few_bytes _ _ _ few (rw is (lanes (goal.at.read_symbols-vs-requires c).In_ok-find_fault).second_long))
 
 pub slice_bounds-find-end : goal.slice_bounds-find-end
-slice_bounds-find-end c = rw (first (goal.at.slice_bounds-find-end c).After-read_symbols-us) (sym (lanes (goal.at.slice_bounds-find-end c).Else-number-ne0).first.long)
+slice_bounds-find-end c = rw (first (goal.at.slice_bounds-find-end c).After-read_symbols-us) (sym (lanes (goal.at.slice_bounds-find-end c).In_ok-find_fault).first.long)
 
 pub slice_bounds-find-end-2 : goal.slice_bounds-find-end-2
-slice_bounds-find-end-2 c = rw (second (goal.at.slice_bounds-find-end-2 c).After-read_symbols-vs) (sym (lanes (goal.at.slice_bounds-find-end-2 c).Else-number-ne0).second.long)
+slice_bounds-find-end-2 c = rw (second (goal.at.slice_bounds-find-end-2 c).After-read_symbols-vs) (sym (lanes (goal.at.slice_bounds-find-end-2 c).In_ok-find_fault).second.long)
 
 pub find-requires : goal.find-requires
 find-requires c =
-    let both = lanes (goal.at.find-requires c).Else-number-ne0 in
-    (c.requires, rw (first (goal.at.find-requires c).After-read_symbols-us) both.first, rw (second (goal.at.find-requires c).After-read_symbols-vs) both.second)
+    let both = lanes (goal.at.find-requires c).In_ok-find_fault in
+    (c.args.code.sound, rw (first (goal.at.find-requires c).After-read_symbols-us) both.first, rw (second (goal.at.find-requires c).After-read_symbols-vs) both.second)
 
 pub returns : goal.returns
 unfolding answer_of
 returns c =
-    let none = sym c.find_fault-number.ensures ∙ c.if-number-ne0.false in
+    let none = done_is _ c.in_ok-find_fault.ensures in
     record { answer = rw none (c.find.ensures ∙ ap₂ (finding_of _) (first (goal.at.returns c).After-read_symbols-us) (second (goal.at.returns c).After-read_symbols-vs)) }

@@ -1,11 +1,10 @@
 -- `find_update` meets its contract: the promise over the header that was read, or the record's number.
 use mathlib.Core.Path.{refl}
-use Rattle.refusals.proofs.OnRecord.{read_sound, on_held, on_met}
+use Rattle.std.proofs.Common.{refl}
+use Rattle.generator.proofs.Answered.{exit}
+use Rattle.refusals.proofs.OnRecord.{on_held, on_met}
 use Rattle.find_update.proofs.Accepts.{find_refuses, found_lanes}
 use Rattle.find_update.proofs.find_update.Goals as goal
-
-pub find_accepted-requires : goal.find_accepted-requires
-find_accepted-requires c = read_sound _ c.read_record.ensures c.in-Holds.is
 
 pub returns-in-Holds : goal.returns-in-Holds
 returns-in-Holds c =

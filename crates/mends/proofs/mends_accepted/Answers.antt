@@ -1,53 +1,56 @@
 -- `mends_accepted` meets its contract: the lane is read and the list made only where no number is met.
+use Rattle.std.specs.Prelude.{Ok}
 use mathlib.Core.Path.{◌≡◌, sym, ap, ◌∙◌}
 use Prim.Native.Nat.{◌≤◌}
 use native.Mathlib.Omega.{arith}
 use lib.ListN.{length, take}
 use Rattle.layout.specs.Width.{symbols_of}
 use Rattle.generator.specs.Records.{width}
+use Rattle.generator.proofs.Answered.{exit, done_is, refused_is}
 use Rattle.refusals.proofs.LaneSymbols.{few_bytes, lane_read}
-use Rattle.mends.specs.declared.Mending.TheVariants.{Listed}
 use Rattle.mends.specs.Promise.{mending_of}
 use Rattle.mends.proofs.Meaning.{mends_few}
 use Rattle.mends.proofs.Accepts.{Given, mends_accepts, mends_refuses}
 use Rattle.mends.proofs.mends_accepted.Goals as goal
-use Rattle.mends.proofs.mends_accepted.Goals.{After-read_symbols-ws, Else-number-ne0}
+use Rattle.mends.proofs.mends_accepted.Goals.{After-read_symbols-ws, In_ok-mends_fault}
 
 -- no number turns the call away
-given : (c : Else-number-ne0) → let a = c.args in Given a.h a.lane.now (length a.nodes.now) (length a.symbols.now)
-given c = mends_accepts _ _ _ _ (sym c.mends_fault-number.ensures ∙ c.if-number-ne0.false)
+given : (c : In_ok-mends_fault) → let a = c.args in Given a.code.header a.lane.now (length a.nodes.now) (length a.symbols.now)
+given c = mends_accepts _ _ _ _ (done_is _ c.in_ok-mends_fault.ensures)
 
 -- the lane as it is read
 part : (c : After-read_symbols-ws)
     → let a = c.args in
-    take a.h.n c.read_symbols-ws.result ≡ symbols_of (width a.h) a.lane.now
-part c = lane_read _ _ _ _ (given (goal.at.After-read_symbols-ws c).Else-number-ne0).lane_is c.width_of-w.ensures.0 c.read_symbols-ws.ensures
+    take a.code.header.n c.read_symbols-ws.result ≡ symbols_of (width a.code.header) a.lane.now
+part c = lane_read _ _ _ _ (given (goal.at.After-read_symbols-ws c).In_ok-mends_fault).lane_is c.width_of-w.ensures.0 c.read_symbols-ws.ensures
 
-pub returns-then-number-ne0 : goal.returns-then-number-ne0
-returns-then-number-ne0 c = rw (← c.mends_fault-number.ensures) (mends_refuses _ _ c.if-number-ne0.true _ _ _)
+pub returns-in_err-mends_fault : goal.returns-in_err-mends_fault
+returns-in_err-mends_fault c =
+    let met = refused_is _ _ c.in_err-mends_fault.ensures in
+    rw (exit _ c.from_residual.ensures.1, ← met.0) (mends_refuses _ _ met.1 _ _ _)
 
 pub read_symbols-ws-requires : goal.read_symbols-ws-requires
 read_symbols-ws-requires c =
-    let few : c.args.h.n ≤ 255 = omega arith in
+    let few : c.args.code.header.n ≤ 255 = omega arith in
     let (is, some, two) = c.width_of-w.ensures in
-    (some, two, few_bytes _ _ _ few (rw is (given (goal.at.read_symbols-ws-requires c).Else-number-ne0).lane_long))
+    (some, two, few_bytes _ _ _ few (rw is (given (goal.at.read_symbols-ws-requires c).In_ok-mends_fault).lane_long))
 
 pub slice_bounds-list_mends-end : goal.slice_bounds-list_mends-end
-slice_bounds-list_mends-end c = rw (part (goal.at.slice_bounds-list_mends-end c).After-read_symbols-ws) (sym (given (goal.at.slice_bounds-list_mends-end c).Else-number-ne0).lane_is.long)
+slice_bounds-list_mends-end c = rw (part (goal.at.slice_bounds-list_mends-end c).After-read_symbols-ws) (sym (given (goal.at.slice_bounds-list_mends-end c).In_ok-mends_fault).lane_is.long)
 
 pub list_mends-count-requires : goal.list_mends-count-requires
 list_mends-count-requires c =
-    let g = given (goal.at.list_mends-count-requires c).Else-number-ne0 in
-    (c.requires, rw (part (goal.at.list_mends-count-requires c).After-read_symbols-ws) g.lane_is, g.nodes_long, g.symbols_long)
+    let g = given (goal.at.list_mends-count-requires c).In_ok-mends_fault in
+    (c.args.code.sound, rw (part (goal.at.list_mends-count-requires c).After-read_symbols-ws) g.lane_is, g.nodes_long, g.symbols_long)
 
 pub overflow_cast-count : goal.overflow_cast-count
 overflow_cast-count c =
-    let few : c.args.h.n ≤ 255 = omega arith in
-    omega (arith, c.list_mends-count.ensures.0, mends_few c.args.h (take c.args.h.n c.read_symbols-ws.result))
+    let few : c.args.code.header.n ≤ 255 = omega arith in
+    omega (arith, c.list_mends-count.ensures.0, mends_few c.args.code.header (take c.args.code.header.n c.read_symbols-ws.result))
 
 pub returns : goal.returns
 unfolding mending_of
 returns c =
-    let none = sym c.mends_fault-number.ensures ∙ c.if-number-ne0.false in
+    let none = done_is _ c.in_ok-mends_fault.ensures in
     let e = rw (part (goal.at.returns c).After-read_symbols-ws) at c.list_mends-count.ensures in
-    record { answer = rw none (ap Listed e.0); nodes_written = rw none e.1; symbols_written = rw none e.2 }
+    record { answer = rw none (ap Ok e.0); nodes_written = rw none e.1; symbols_written = rw none e.2 }

@@ -1,12 +1,30 @@
 -- `mends_fault` meets its contract: the tests are those of the definition, in its order.
-use Rattle.refusals.proofs.Order.{then, last}
+use Rattle.generator.proofs.Answered.{met, passed, last}
 use Rattle.mends.specs.Promise.{mends_fault}
 use Rattle.mends.proofs.mends_fault.Goals as goal
+
+pub returns-in_err-when : goal.returns-in_err-when
+unfolding mends_fault
+returns-in_err-when c =
+    met _ c.lane_length_bad.ensures c.in_err-when.ensures c.from_residual.ensures.1 _
+
+pub returns-in_err-when-2 : goal.returns-in_err-when-2
+unfolding mends_fault
+returns-in_err-when-2 c =
+    passed _ _ c.lane_length_bad.ensures c.in_ok-when.ensures
+    (met _ c.length_bad.ensures c.in_err-when-2.ensures c.from_residual-in_err-when-2.ensures.1 _)
+
+pub returns-in_err-when-3 : goal.returns-in_err-when-3
+unfolding mends_fault
+returns-in_err-when-3 c =
+    passed _ _ c.lane_length_bad.ensures c.in_ok-when.ensures
+    (passed _ _ c.length_bad.ensures c.in_ok-when-2.ensures
+    (met _ c.lane_length_bad-2.ensures c.in_err-when-3.ensures c.from_residual-in_err-when-3.ensures.1 _))
 
 pub returns : goal.returns
 unfolding mends_fault
 returns c =
-    then c.lane_length_bad.ensures 0 8 _ c.first-number.ensures
-    (then c.length_bad.ensures c.first-number.result 8 _ c.first-number-2.ensures
-    (then c.lane_length_bad-2.ensures c.first-number-2.result 8 _ c.first-number-3.ensures
-    (last c.symbols_bad.ensures c.first-number-3.result 11 c.first.ensures)))
+    passed _ _ c.lane_length_bad.ensures c.in_ok-when.ensures
+    (passed _ _ c.length_bad.ensures c.in_ok-when-2.ensures
+    (passed _ _ c.lane_length_bad-2.ensures c.in_ok-when-3.ensures
+    (last _ _ c.symbols_bad.ensures c.when-4.ensures)))

@@ -1,11 +1,10 @@
 -- `single_mends` meets its contract: the promise over the header that was read, or the record's number.
 use mathlib.Core.Path.{refl}
-use Rattle.refusals.proofs.OnRecord.{read_sound, on_held, on_met}
+use Rattle.std.proofs.Common.{refl}
+use Rattle.generator.proofs.Answered.{exit}
+use Rattle.refusals.proofs.OnRecord.{on_held, on_met}
 use Rattle.mends.proofs.Accepts.{mends_refuses, mended_lanes}
 use Rattle.mends.proofs.single_mends.Goals as goal
-
-pub mends_accepted-requires : goal.mends_accepted-requires
-mends_accepted-requires c = read_sound _ c.read_record.ensures c.in-Holds.is
 
 pub returns-in-Holds : goal.returns-in-Holds
 returns-in-Holds c =

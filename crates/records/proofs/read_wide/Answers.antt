@@ -18,4 +18,4 @@ judge-requires c =
 
 pub returns : goal.returns
 returns c =
-    c.judge.ensures ∙ wide_judged _ c.requires.0 c.requires.1 c.if-rec-ne7.false (sym (rw c.pair-p.ensures at c.prime_in.ensures) ∙ c.if-not-prime_in.false) _ (rw (c.new.ensures, c.pair-p.ensures, c.pair-root.ensures))
+    c.judge.ensures ∙ wide_judged _ c.requires.0 c.requires.1 c.if-rec-ne7.false (sym (rw c.pair-p.ensures at c.prime_in.ensures) ∙ c.if-not-prime_in.false) _ (rw (c.new.ensures, c.pair-p.ensures, c.pair.ensures))

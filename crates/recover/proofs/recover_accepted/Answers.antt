@@ -7,6 +7,7 @@ use Rattle.layout.proofs.LaneParts.{lanes_long}
 use Rattle.generator.specs.Records.{width}
 use Rattle.generator.specs.Shifts.{shifts}
 use Rattle.generator.proofs.Shifts.{shifts_length}
+use Rattle.generator.proofs.Answered.{exit, done_is, refused_is}
 use Rattle.refusals.specs.Accepted.{ListedShares}
 use Rattle.recover.proofs.Accepts.{recover_accepts, recover_refuses}
 use Rattle.blocks.specs.Answers.{outcome_of}
@@ -18,32 +19,34 @@ use Rattle.recover.proofs.recover_accepted.Goals.{After-fill_shifts-shifts, Afte
 -- what is known where no number was met
 accepted : (c : After-struct_known-1)
     → let a = c.args in
-    ListedShares a.h a.lanes a.nodes.now a.shares.now × (length a.out.now ≡ a.h.k * a.lanes * width a.h)
+    ListedShares a.code.header a.lanes a.nodes.now a.shares.now × (length a.out.now ≡ a.code.header.k * a.lanes * width a.code.header)
 accepted c =
     let a = c.args in
-    recover_accepts a.h c.requires a.lanes a.nodes.now a.shares.now (length a.out.now)
-    (sym c.recover_fault-number.ensures ∙ c.if-number-ne0.false)
+    recover_accepts a.code.header c.args.code.sound a.lanes a.nodes.now a.shares.now (length a.out.now)
+    (done_is _ c.in_ok-recover_fault.ensures)
 
 -- the lent part of the shifts
 part : (c : After-fill_shifts-shifts)
     → let a = c.args in
-    take a.h.k c.fill_shifts-shifts.result ≡ shifts a.h
+    take a.code.header.k c.fill_shifts-shifts.result ≡ shifts a.code.header
 part c =
-    ap (take c.args.h.k) c.fill_shifts-shifts.ensures ∙ shifts_part c.args.h c.requires
+    ap (take c.args.code.header.k) c.fill_shifts-shifts.ensures ∙ shifts_part c.args.code.header c.args.code.sound
 
 -- it has k places
 part_size : (c : After-fill_shifts-shifts)
     → let a = c.args in
-    length (take a.h.k c.fill_shifts-shifts.result) ≡ a.h.k
+    length (take a.code.header.k c.fill_shifts-shifts.result) ≡ a.code.header.k
 part_size c =
-    ap length (part c) ∙ shifts_length c.args.h.n c.args.h.k c.requires.some c.requires.fits
+    ap length (part c) ∙ shifts_length c.args.code.header.n c.args.code.header.k c.args.code.sound.some c.args.code.sound.fits
 
-pub returns-then-number-ne0 : goal.returns-then-number-ne0
-returns-then-number-ne0 c = rw (← c.recover_fault-number.ensures) (recover_refuses _ _ c.if-number-ne0.true _ _ _ _)
+pub returns-in_err-recover_fault : goal.returns-in_err-recover_fault
+returns-in_err-recover_fault c =
+    let met = refused_is _ _ c.in_err-recover_fault.ensures in
+    rw (exit _ c.from_residual.ensures.1, ← met.0) (recover_refuses _ _ met.1 _ _ _ _)
 
 pub slice_bounds-shifts-end : goal.slice_bounds-shifts-end
 slice_bounds-shifts-end c =
-    let k = c.args.h.k in
+    let k = c.args.code.header.k in
     omega (arith, length-take k c.fill_shifts-shifts.result, part_size c)
 
 pub slice_bounds-prepare-end : goal.slice_bounds-prepare-end
@@ -64,15 +67,15 @@ fill_message-requires c =
       listed.different,
       c.prepare-setup.ensures,
       listed.buffer.symbol_rows.few_lanes,
-      rw wide (listed.buffer.bytes ∙ lanes_long (width a.h) a.h.k a.lanes),
-      rw wide (out ∙ lanes_long (width a.h) a.h.k a.lanes),
+      rw wide (listed.buffer.bytes ∙ lanes_long (width a.code.header) a.code.header.k a.lanes),
+      rw wide (out ∙ lanes_long (width a.code.header) a.code.header.k a.lanes),
     )
 
 pub returns : goal.returns
 unfolding outcome_of
 returns c =
     let wide = c.width_of-w.ensures.0 in
-    let none = sym c.recover_fault-number.ensures ∙ c.if-number-ne0.false in
+    let none = done_is _ c.in_ok-recover_fault.ensures in
     record {
       answer = rw none refl;
       written = rw none (recovered_lanes (accepted (goal.at.returns c).After-struct_known-1).0 (rw wide at c.fill_message.ensures));

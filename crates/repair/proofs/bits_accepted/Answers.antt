@@ -10,10 +10,13 @@ use Rattle.repair.specs.Packing.{plane_size, packed_size}
 use Rattle.repair.proofs.Accepts.{BitsAccepted, bits_accepts, bits_refuses, bits_done}
 use Rattle.repair.proofs.Adding.{table_long, sent_table}
 use Rattle.repair.proofs.bits_accepted.Goals as goal
+use Rattle.generator.proofs.Answered.{exit, done_is, refused_is}
 use Rattle.repair.proofs.bits_accepted.Goals.{After-bits-b}
 
-pub returns-then-number-ne0 : goal.returns-then-number-ne0
-returns-then-number-ne0 c = rw (← c.bits_fault-number.ensures) (bits_refuses _ _ c.if-number-ne0.true _ _ _ _ _)
+pub returns-in_err-bits_fault : goal.returns-in_err-bits_fault
+returns-in_err-bits_fault c =
+    let met = refused_is _ _ c.in_err-bits_fault.ensures in
+    rw (exit _ c.from_residual.ensures.1, ← met.0) (bits_refuses _ _ met.1 _ _ _ _ _)
 
 byte : {x : ℕ} → Fits w8 x → x < 256
 byte h = omega arith
@@ -21,15 +24,15 @@ byte h = omega arith
 -- what is known where no number was met
 accepted : (c : After-bits-b)
     → let a = c.args in
-    BitsAccepted a.h a.lanes a.node a.target a.missing.now (length a.share.now) (length a.out.now)
-accepted c = bits_accepts _ _ _ _ _ _ _ (sym c.bits_fault-number.ensures ∙ c.if-number-ne0.false)
+    BitsAccepted a.code.header a.lanes a.node a.target a.missing.now (length a.share.now) (length a.out.now)
+accepted c = bits_accepts _ _ _ _ _ _ _ (done_is _ c.in_ok-bits_fault.ensures)
 
 pub digits-table-requires : goal.digits-table-requires
 digits-table-requires c =
     let is = accepted (goal.at.digits-table-requires c).After-bits-b in
     let r = is.repairing in
     let can = repairable _ _ r.some in
-    (c.requires.0, can.kind, can.width, r.inside, r.nodes, is.node)
+    (c.args.code.sound.0, can.kind, can.width, r.inside, r.nodes, is.node)
 
 pub pack-requires : goal.pack-requires
 unfolding packed_size
@@ -44,7 +47,7 @@ pack-requires c =
 pub returns : goal.returns
 returns c =
     let a = c.args in
-    let none = sym c.bits_fault-number.ensures ∙ c.if-number-ne0.false in
+    let none = done_is _ c.in_ok-bits_fault.ensures in
     bits_done _ _ none _ _ _ _ _ _
     (c.pack.ensures
-    ∙ sent_table a.h a.target a.missing.now a.node c.bits-b.result c.digits-table.result a.share.now c.bits-b.ensures c.digits-table.ensures (λ i. byte (c.type_inv.share i)))
+    ∙ sent_table a.code.header a.target a.missing.now a.node c.bits-b.result c.digits-table.result a.share.now c.bits-b.ensures c.digits-table.ensures (λ i. byte (c.type_inv.share i)))

@@ -1,9 +1,9 @@
 -- `plan_accepted` meets its contract: number 17, or the bits and how many further nodes may be missing.
+use Rattle.std.specs.Prelude.{Ok}
 use mathlib.Core.Path.{◌≡◌, sym, ap₂, ◌∙◌}
 use mathlib.Core.Bool.{false}
 use borrow.Author.Tests.{eqb-false}
 use Rattle.traces.proofs.Claims.{repairable}
-use Rattle.repair.specs.declared.RepairPlan.TheVariants as P
 use Rattle.repair.specs.Promise.{traces_bad, repair_plan_fault, repair_plan_of}
 use Rattle.repair.proofs.plan_accepted.Goals as goal
 use Rattle.repair.proofs.plan_accepted.Goals.{Else-traces_bad}
@@ -22,4 +22,4 @@ spare-more-requires c = (c.requires, (repairable _ _ (eqb-false _ 0 (passed (goa
 
 pub returns : goal.returns
 unfolding repair_plan_fault repair_plan_of
-returns c = record { answer = rw (passed (goal.at.returns c).Else-traces_bad) (ap₂ P.Sends c.bits-b.ensures c.spare-more.ensures) }
+returns c = record { answer = rw (passed (goal.at.returns c).Else-traces_bad) (ap Ok (plan_is c.bits-b.ensures c.spare-more.ensures)) }

@@ -4,12 +4,12 @@ use Rattle.field.proofs.KindLaws.{usable_prime}
 use Rattle.tile_products.proofs.Arms.{byte_codes}
 use Rattle.tile_products.proofs.fill_codes.Goals as goal
 
-pub fill_codes-requires : goal.fill_codes-requires
-fill_codes-requires c = let k = usable_prime _ (rw c.in-Prime.is at c.requires.0) in (k.1, c.requires.1, k.0)
+pub new-requires : goal.new-requires
+new-requires c = let k = usable_prime _ (rw c.in-Prime.is at c.requires.0) in record { prime = k.1; fits = k.0 }
 
 pub returns-in-Prime : goal.returns-in-Prime
 unfolding modulus
-returns-in-Prime c = rw c.in-Prime.is c.fill_codes.ensures
+returns-in-Prime c = rw (c.in-Prime.is, ← c.new.ensures) c.fill_codes.ensures
 
 pub returns-in-Binary : goal.returns-in-Binary
 returns-in-Binary c = rw c.in-Binary.is (byte_codes _ c.fill_spread.ensures)

@@ -4,4 +4,4 @@ use Rattle.tile_products.proofs.groups_of.Goals as goal
 
 pub returns : goal.returns
 unfolding groups_of
-returns c = (refl, omega arith, omega arith)
+returns c = record { value = refl; few = omega arith; room = omega arith }

@@ -4,7 +4,7 @@ use mathlib.Core.Path.{◌≡◌, sym, ◌∙◌}
 use Rattle.field.proofs.Bounds.{sub_below}
 use Rattle.layout.specs.Layout.{share_layout}
 use Rattle.generator.specs.Records.{size}
-use Rattle.plan.specs.Plans.{plan_for}
+use Rattle.plan.specs.Plans.{plan_of}
 use Rattle.plan.specs.Inner.Planned.{Planned}
 use Rattle.update.specs.Promise.{input_fault, update_fault}
 use Rattle.refusals.specs.Accepted.{UpdatableLane}
@@ -37,7 +37,7 @@ judged c =
 planned : (c : After-fill_base-base)
     →
     Planned c.args.h c.row_shifts-shifts.result c.fill_base-base.result
-unfolding plan_for
+unfolding plan_of
 planned c =
     record { sound = c.requires; shifts_are = c.row_shifts-shifts.ensures; base_is = c.fill_base-base.ensures }
 

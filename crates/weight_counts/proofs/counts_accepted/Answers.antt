@@ -3,18 +3,20 @@ use Rattle.std.proofs.Common.{sym, ◌∙◌}
 use Rattle.blocks.specs.Answers.{outcome_of}
 use Rattle.weight_counts.proofs.Refused.{weights_refuses}
 use Rattle.weight_counts.proofs.Powers.{accepts}
+use Rattle.generator.proofs.Answered.{exit, done_is, refused_is}
 use Rattle.weight_counts.proofs.counts_accepted.Goals as goal
 
-pub returns-then-number-ne0 : goal.returns-then-number-ne0
-returns-then-number-ne0 c =
-    rw (← c.weights_fault-number.ensures) (weights_refuses _ _ c.if-number-ne0.true _)
+pub returns-in_err-weights_fault : goal.returns-in_err-weights_fault
+returns-in_err-weights_fault c =
+    let met = refused_is _ _ c.in_err-weights_fault.ensures in
+    rw (exit _ c.from_residual.ensures.1, ← met.0) (weights_refuses _ _ met.1 _)
 
 pub fill_counts-requires : goal.fill_counts-requires
 fill_counts-requires c =
-    accepts c.args.h c.requires _ (sym c.weights_fault-number.ensures ∙ c.if-number-ne0.false)
+    accepts c.args.code.header c.args.code.sound _ (done_is _ c.in_ok-weights_fault.ensures)
 
 pub returns : goal.returns
 unfolding outcome_of
 returns c =
-    let none = sym c.weights_fault-number.ensures ∙ c.if-number-ne0.false in
+    let none = done_is _ c.in_ok-weights_fault.ensures in
     record { answer = rw none; written = rw none c.fill_counts.ensures }

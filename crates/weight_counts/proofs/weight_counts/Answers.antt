@@ -1,12 +1,11 @@
 -- `weight_counts` meets its contract: the record's number, or what counting over its header gives.
 use Rattle.std.proofs.Common.{refl}
-use Rattle.refusals.proofs.OnRecord.{read_sound, on_held, on_met}
+use Rattle.std.proofs.Common.{refl}
+use Rattle.generator.proofs.Answered.{exit}
+use Rattle.refusals.proofs.OnRecord.{on_held, on_met}
 use Rattle.weight_counts.proofs.Refused.{weights_refuses}
 use Rattle.weight_counts.proofs.Weights.{distributed}
 use Rattle.weight_counts.proofs.weight_counts.Goals as goal
-
-pub counts_accepted-requires : goal.counts_accepted-requires
-counts_accepted-requires c = read_sound _ c.read_record.ensures c.in-Holds.is
 
 pub returns-in-Holds : goal.returns-in-Holds
 returns-in-Holds c =

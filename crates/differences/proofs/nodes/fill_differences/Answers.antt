@@ -1,31 +1,46 @@
 -- `fill_differences` meets its contract: the difference of both rows is made once, and multiplied for each node.
-use mathlib.Core.Path.{ap, ◌∙◌}
+use mathlib.Core.Path.{sym, ap, ◌∙◌}
 use mathlib.Core.List.{List}
 use Prim.Native.Nat.{ℕ}
+use native.Mathlib.Omega.{arith}
 use lib.ListN.{length}
+use lib.Seq.{length-take-le}
 use Rattle.lists.specs.Rows.{rows_from}
-use Rattle.layout.specs.Inner.Tiles.{tile_symbols}
-use Rattle.layout.specs.Width.{bytes_of}
-use Rattle.generator.specs.Generator.{entry}
-use Rattle.differences.specs.Inner.Rows.{row_tile, row_times}
-use Rattle.differences.proofs.Tiles.{length_less_bytes, less_tile, less_times}
+use Rattle.differences.specs.Inner.Rows.{row_tile}
+use Rattle.differences.specs.Inner.Changes.{told}
+use Rattle.differences.proofs.Tiles.{row_bytes_long, row_few, length_less_bytes, less_tile, less_times}
 use Rattle.differences.proofs.nodes.fill_differences.Goals as goal
 
-pub subtract_rows-requires : goal.subtract_rows-requires
-subtract_rows-requires c = (c.requires.2, c.requires.1, c.requires.3, c.requires.4)
+pub slice_bounds-row-end : goal.slice_bounds-row-end
+slice_bounds-row-end c = omega (arith, row_few c.args.change.now.new_row)
 
-pub load_row-requires : goal.load_row-requires
-load_row-requires c =
-    (ap length c.subtract_rows.ensures ∙ length_less_bytes c.args.h c.args.w c.args.lanes _ _, c.requires.5)
+pub slice_bounds-row-end-2 : goal.slice_bounds-row-end-2
+slice_bounds-row-end-2 c = sym (length-take-le _ _ (omega (arith, row_few c.args.change.now.new_row)))
+
+pub slice_bounds-tile-end : goal.slice_bounds-tile-end
+slice_bounds-tile-end c = omega (arith, row_few c.args.change.now.new_row)
+
+pub slice_bounds-tile-end-2 : goal.slice_bounds-tile-end-2
+slice_bounds-tile-end-2 c = sym (length-take-le _ _ (omega (arith, row_few c.args.change.now.new_row)))
+
+pub subtract-requires : goal.subtract-requires
+subtract-requires c = let change = c.args.change.now in (change.new_row, change.old_row, length-take-le _ _ (omega (arith, row_few change.new_row)) ∙ row_bytes_long change.new_row)
+
+pub load-requires : goal.load-requires
+load-requires c =
+    let change = c.args.change.now in
+    let rows = change.rows in
+    (ap length c.subtract.ensures ∙ length_less_bytes rows.code.header rows.width rows.lanes _ _, length-take-le _ _ (omega (arith, row_few change.new_row)) ∙ row_bytes_long change.new_row)
 
 pub fill_nodes-requires : goal.fill_nodes-requires
 fill_nodes-requires c =
-    (c.requires.0, rw (c.load_row.ensures, c.subtract_rows.ensures) (less_tile c.requires.2 c.requires.1), c.requires.6)
+    let change = c.args.change.now in
+    (rw (c.load.ensures, c.subtract.ensures) (less_tile change.new_row change.old_row), c.requires)
 
 pub returns : goal.returns
 returns c =
-    let a = c.args in
+    let change = c.args.change.now in
+    let rows = change.rows in
     c.fill_nodes.ensures
-    ∙ ap (λ (v : List ℕ). rows_from (λ j. bytes_of a.w (row_times a.h a.lanes (tile_symbols a.w 1 a.lanes v) (entry a.h a.symbol j))) 0 a.h.n)
-    (c.load_row.ensures ∙ ap (row_tile a.w a.lanes) c.subtract_rows.ensures)
-    ∙ less_times c.requires.2 c.requires.1 a.symbol
+    ∙ ap (λ (v : List ℕ). rows_from (told rows change.symbol v) 0 rows.code.header.n) (c.load.ensures ∙ ap (row_tile rows.width rows.lanes) c.subtract.ensures)
+    ∙ less_times change.new_row change.old_row change.symbol

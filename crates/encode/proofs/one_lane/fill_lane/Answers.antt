@@ -1,65 +1,65 @@
 -- `fill_lane` meets its contract: the sums of the base word with the placed symbols are the lane's encoding.
 use mathlib.Core.Path.{◌≡◌, sym, ap, ◌∙◌}
-use Prim.Native.Nat.{ℕ, ◌+◌, ◌-◌, ◌*◌}
+use mathlib.Core.Bool.{true}
+use mathlib.Core.List.{List}
+use Prim.Native.Nat.{ℕ, ◌+◌, ◌-◌, ◌*◌, ◌^◌, ◌≤◌, ◌<◌}
 use native.Mathlib.Nat.{mul_comm}
 use native.Mathlib.Omega.{arith}
 use borrow.Author.Rules.{rules}
 use lib.ListN.{length, take}
 use lib.Seq.{length-take-le}
+use Rattle.lists.specs.Numbers.{all_below}
+use Rattle.lists.specs.Padded.{zeros}
 use Rattle.lists.proofs.Fill.{length_zeros}
 use Rattle.lists.proofs.Padding.{below_zeros}
 use Rattle.layout.specs.Width.{bytes_of}
+use Rattle.field.specs.Kinds.{usable}
 use Rattle.field.proofs.FieldOf.{size_pos}
-use Rattle.generator.specs.Records.{modulus_of, size, distance}
+use Rattle.generator.specs.declared.Header.{Header}
+use Rattle.generator.specs.Records.{modulus_of, size, width, distance}
+use Rattle.generator.specs.Codewords.{encoding}
 use Rattle.generator.proofs.Widths.{width_range, size_fits_width}
+use Rattle.plan.specs.Inner.Planned.{Planned}
 use Rattle.plan.proofs.Plans.{base_room}
+use Rattle.sliding_sums.specs.Inner.Windows.{window_sums, Windows}
+use Rattle.encode.specs.Inner.OneLane.{placed_from, by_node}
 use Rattle.encode.proofs.OneLane.{entries_below, placed_below, length_placed, lane_sums}
 use Rattle.encode.proofs.one_lane.fill_lane.Goals as goal
-use Rattle.encode.proofs.one_lane.fill_lane.Goals.{After-row-1, After-sums-1, Start}
 
--- the entries of the base word that are not zero, as they are lent
-weights-long : (s : Start) → let h = s.args.h in length (take (h.n - h.k + 1) s.args.base.now) ≡ h.n - h.k + 1
-weights-long s =
-    let sound = s.requires.0.sound in
-    length-take-le _ _ (rw s.requires.0.base_is (omega (arith, base_room s.args.h, sound.some, sound.fits)))
+module _ (h : Header) (shifts base ms row sums : List ℕ) (p : Planned h shifts base) (long : length ms ≡ h.k) (symbols : all_below (size h) ms ≡ true) (placed : row ≡ placed_from h.n 0 shifts ms (zeros 510)) (places : length sums ≡ h.n) where
+  -- the entries of the base word that are not zero, as they are lent
+  weights_long : length (take (h.n - h.k + 1) base) ≡ h.n - h.k + 1
+  weights_long = length-take-le _ _ (rw p.base_is (omega (arith, base_room h, p.sound.some, p.sound.fits)))
 
-pub slice_bounds-write_nodes-end : goal.slice_bounds-write_nodes-end
-slice_bounds-write_nodes-end c = sym (weights-long (goal.at.slice_bounds-write_nodes-end c).Start)
+  windows : Windows (size h) (take (h.n - h.k + 1) base) row (length sums)
+  unfolding distance
+  windows =
+      let sound = p.sound in
+      let wide = ap length placed ∙ length_placed _ _ _ _ _ ∙ length_zeros 510 in
+      let none = below_zeros (size h) 510 (size_pos (modulus_of h) sound.field) in
+      record {
+        few = omega (arith, weights_long, sound.byte, sound.some);
+        places = omega (arith, sound.byte);
+        room = omega (arith, weights_long, wide, sound.byte, sound.some);
+        short = omega (arith, wide);
+        weights = rw p.base_is (entries_below h sound);
+        symbols = rw placed (placed_below (size h) _ 0 _ _ _ symbols none);
+      }
 
-pub slice_bounds-sums-end : goal.slice_bounds-sums-end
-slice_bounds-sums-end c = search rules
+  encodes : by_node (window_sums (modulus_of h) (take (h.n - h.k + 1) base) row (length sums)) ≡ encoding h ms
+  unfolding distance
+  encodes = rw (placed, places, p.shifts_are, p.base_is) (lane_sums h p.sound ms long symbols)
 
-pub slice_bounds-write_nodes-end-3 : goal.slice_bounds-write_nodes-end-3
-slice_bounds-write_nodes-end-3 c = sym (length-take-le _ _ (slice_bounds-sums-end (goal.at.slice_bounds-write_nodes-end-3 c).After-row-1))
+  ready : (w : ℕ) (out : List ℕ) → w ≡ width h → length out ≡ w * h.n → (usable h.field ≡ true) × Windows (size h) (take (h.n - h.k + 1) base) row (length sums) × (0 < length sums) × (1 ≤ w) × (w ≤ 2) × (size h ≤ 256 ^ w) × (length out ≡ length sums * w)
+  ready w out wide room =
+      let sound = p.sound in
+      (sound.usable_field, windows, omega (arith, sound.two), rw wide (width_range h).0, rw wide (width_range h).1, rw wide (size_fits_width h sound), room ∙ mul_comm w h.n ∙ ap (λ (x : ℕ). x * w) (sym places))
 
 pub write_nodes-requires : goal.write_nodes-requires
-unfolding distance
 write_nodes-requires c =
-    let a = c.args in
-    let sound = c.requires.0.sound in
-    let weights = weights-long (goal.at.write_nodes-requires c).Start in
-    let row = ap length c.placed-row.ensures ∙ length_placed _ _ _ _ _ ∙ length_zeros 510 in
-    let sums = sym (slice_bounds-write_nodes-end-3 (goal.at.write_nodes-requires c).After-sums-1) in
-    let range = width_range a.h in (
-      sound.usable_field,
-      record {
-        few = omega (arith, weights, sound.byte, sound.some);
-        places = omega (arith, sums, sound.byte);
-        room = omega (arith, weights, row, sums, sound.byte, sound.some);
-        short = omega (arith, row);
-        weights = rw c.requires.0.base_is (entries_below a.h sound);
-        symbols = rw c.placed-row.ensures (placed_below (size a.h) _ 0 _ _ _ c.requires.3 (below_zeros (size a.h) 510 (size_pos (modulus_of a.h) sound.field)));
-      },
-      rw c.requires.1 range.0,
-      rw c.requires.1 range.1,
-      rw c.requires.1 (size_fits_width a.h sound),
-      c.requires.4 ∙ mul_comm a.w a.h.n ∙ ap (λ (x : ℕ). x * a.w) (sym sums),
-    )
+    ready _ _ _ _ _ _ c.args.generator.now.planned c.requires.1 c.requires.2 c.placed-row.ensures (length-take-le _ _ (search rules)) c.args.w c.args.out.now c.requires.0 c.requires.3
 
 pub returns : goal.returns
-unfolding distance
 returns c =
-    let a = c.args in
-    let sums = sym (slice_bounds-write_nodes-end-3 (goal.at.returns c).After-sums-1) in
     c.write_nodes.ensures
-    ∙ ap (bytes_of a.w) (rw (c.placed-row.ensures, sums, c.requires.0.shifts_are, c.requires.0.base_is) (lane_sums a.h c.requires.0.sound a.symbols.now c.requires.2 c.requires.3))
+    ∙ ap (bytes_of c.args.w) (encodes _ _ _ _ _ _ c.args.generator.now.planned c.requires.1 c.requires.2 c.placed-row.ensures (length-take-le _ _ (search rules)))

@@ -1,38 +1,17 @@
--- `is_prime` meets its contract. The loop's invariant: no number from 2 on below `d` divides `p`.
-use mathlib.Core.Path.{sym}
-use Prim.Native.Nat.{◌<◌}
-use native.Mathlib.Omega.{arith}
-use borrow.Author.Rules.{rules}
-use borrow.Author.Count.{below_more}
-use Rattle.field.proofs.Primes.{trial, composite, small_divisor, below_two}
+-- `is_prime` meets its contract: a number with no divisor from 2 up to its root is a prime.
+use mathlib.Core.Path.{◌≡◌, refl, sym, ◌∙◌}
+use Prim.Native.Nat.{◌+◌, ◌%◌}
+use borrow.Author.Tests.{tests, lt-leb}
+use Rattle.std.proofs.Common.{rules}
+use Rattle.std.proofs.lemmas.Iterator.{cases_from_all, YieldsList-from_range}
+use Rattle.field.proofs.Primes.{tried, below_two}
 use Rattle.field.proofs.prime.is_prime.Goals as goal
-use Rattle.field.proofs.prime.is_prime.Goals.{In-loop-d}
 
-pub returns-then-p-lt2 : goal.returns-then-p-lt2
-returns-then-p-lt2 c = sym (below_two _ c.if-p-lt2.true)
+pub returns-then-p-ge2 : goal.returns-then-p-ge2
+returns-then-p-ge2 c =
+    let root = c.isqrt.ensures in
+    tried c.args.p c.isqrt.result c.if-p-ge2.true root.square_le root.next_square_gt c.all.result
+    (cases_from_all _ _ _ (λ d. c.args.p % d ≡ 0 → ⊥) (λ d. c.args.p % d ≡ 0) c.all.ensures.ran (YieldsList-from_range 2 (c.isqrt.result + 1) _ refl refl) (λ d q k. search (rules, tests)) (λ d q k. search (rules, tests)))
 
-pub loop-d-init : goal.loop-d-init
-loop-d-init c = (omega arith, omega arith, λ k high low e. omega arith)
-
--- the loop's test says that `d` is below `p`
-below : (c : In-loop-d) → c.loop-d.d < c.args.p
-below c = small_divisor _ _ c.loop-d.invariant.0 (omega arith)
-
-pub returns-then-p-d-eq0 : goal.returns-then-p-d-eq0
-returns-then-p-d-eq0 c = sym (composite _ _ c.loop-d.invariant.0 (below (goal.at.returns-then-p-d-eq0 c).In-loop-d) c.if-p-d-eq0.true)
-
-pub overflow_add-d : goal.overflow_add-d
-overflow_add-d c = omega (arith, below (goal.at.overflow_add-d c).In-loop-d)
-
-pub loop-d-smaller : goal.loop-d-smaller
-loop-d-smaller c = omega (arith, below (goal.at.loop-d-smaller c).In-loop-d)
-
-pub loop-d-preserved : goal.loop-d-preserved
-loop-d-preserved c = (
-  search rules,
-  omega (arith, below (goal.at.loop-d-preserved c).In-loop-d),
-  below_more _ _ c.loop-d.invariant.2 (λ low. c.if-p-d-eq0.false),
-)
-
-pub returns : goal.returns
-returns c = sym (trial _ _ c.if-p-lt2.false (omega arith) c.loop-d.invariant.2)
+pub returns-else-p-ge2 : goal.returns-else-p-ge2
+returns-else-p-ge2 c = lt-leb 2 _ c.if-p-ge2.false ∙ sym (below_two _ c.if-p-ge2.false)

@@ -15,41 +15,22 @@ use Rattle.generator.proofs.BaseWord.{power_turn, pole_apart, entry_is, base_pad
 use Rattle.plan.proofs.base.fill_base.Goals as goal
 use Rattle.plan.proofs.base.fill_base.Goals.{After-first_entry-entry, After-mul_with-x}
 
-pub overflow_sub-k : goal.overflow_sub-k
-overflow_sub-k c = omega (arith, c.requires.0.some)
-
-pub power-scale-requires : goal.power-scale-requires
-power-scale-requires c = let s = c.requires in (s.0.usable_field, s.0.root_below, s.1)
-
-pub overflow_sub-n : goal.overflow_sub-n
-overflow_sub-n c = omega (arith, c.requires.0.two)
-
-pub power-pole-requires : goal.power-pole-requires
-power-pole-requires c = let s = c.requires in (s.0.usable_field, s.0.root_below, s.1)
-
-pub overflow_sub-last : goal.overflow_sub-last
-overflow_sub-last c = omega (arith, c.requires.0.fits)
-
-pub first_entry-entry-requires : goal.first_entry-entry-requires
-first_entry-entry-requires c = c.requires
-
 -- the first entry is p(scale)
-first : (c : After-first_entry-entry) → c.first_entry-entry.result ≡ base_at c.args.h c.power-scale.result
+first : (c : After-first_entry-entry) → c.first_entry-entry.result ≡ base_at c.args.code.header c.power-scale.result
 first c =
-    let h = c.args.h in
-    let s = c.requires.0 in
+    let h = c.args.code.header in
+    let s = c.args.code.sound in
     c.first_entry-entry.ensures ∙ rw (entry_is h s 0, zero-add, c.power-scale.ensures)
 
 pub overflow_cast-out : goal.overflow_cast-out
 overflow_cast-out c =
-    let s = c.requires.0 in
+    let s = c.args.code.sound in
     omega (arith, c.first_entry-entry.ensures, entry_at_below _ s 0 0, size_fits _ s.usable_field)
 
 pub loop-j-init : goal.loop-j-init
 unfolding zeros distance
 loop-j-init c =
-    let h = c.args.h in (
-      omega arith,
+    let h = c.args.code.header in (
       rw zero-add c.power-scale.ensures,
       first c,
       filled_put (filled_start 255 (distance h) (entry_at h 0) (omega arith)) (omega arith) c.first_entry-entry.ensures,
@@ -57,60 +38,58 @@ loop-j-init c =
 
 pub next_entry-entry-requires : goal.next_entry-entry-requires
 next_entry-entry-requires c =
-    let h = c.args.h in
-    let s = c.requires.0 in
+    let h = c.args.code.header in
+    let s = c.args.code.sound in
     let pole = c.power-pole.ensures in
     let l = c.loop-j in (
-      s,
       c.power-scale.ensures,
       pole,
-      rw l.invariant.1 (power_below _ s.field _ s.root_below),
-      λ q. pole_apart h s l.j (omega (arith, s.some)) (sym l.invariant.1 ∙ q ∙ pole),
-      l.invariant.2,
-      c.requires.1,
+      rw l.invariant.0 (power_below _ s.field _ s.root_below),
+      λ q. pole_apart h s l.j (omega (arith, s.some)) (sym l.invariant.0 ∙ q ∙ pole),
+      l.invariant.1,
+      c.requires,
     )
 
 pub mul_with-x-requires : goal.mul_with-x-requires
 mul_with-x-requires c =
-    let s = c.requires.0 in
-    (s.usable_field, s.root_below, rw c.loop-j.invariant.1 (power_below _ s.field _ s.root_below), c.requires.1)
+    let s = c.args.code.sound in
+    (s.usable_field, s.root_below, rw c.loop-j.invariant.0 (power_below _ s.field _ s.root_below), c.requires)
 
 -- after a turn, x and the entry are those of j + 1
 turn : (c : After-mul_with-x)
-    → let h = c.args.h in
+    → let h = c.args.code.header in
     (c.mul_with-x.result ≡ power (modulus_of h) h.root (c.loop-j.j + 1 + (h.k - 1)))
     × (c.next_entry-entry.result ≡ base_at h c.mul_with-x.result)
     × (c.next_entry-entry.result ≡ entry_at h 0 (c.loop-j.j + 1))
 turn c =
-    let h = c.args.h in
-    let s = c.requires.0 in
+    let h = c.args.code.header in
+    let s = c.args.code.sound in
     let l = c.loop-j in
-    let next = c.mul_with-x.ensures ∙ power_turn _ _ _ l.j (h.k - 1) l.invariant.1 in
+    let next = c.mul_with-x.ensures ∙ power_turn _ _ _ l.j (h.k - 1) l.invariant.0 in
     let value : c.next_entry-entry.result ≡ base_at h c.mul_with-x.result = rw c.mul_with-x.ensures c.next_entry-entry.ensures in
     (next, value, value ∙ ap (base_at h) next ∙ sym (entry_is h s (l.j + 1)))
 
 pub overflow_cast-out-in-loop-j : goal.overflow_cast-out-in-loop-j
 overflow_cast-out-in-loop-j c =
-    let s = c.requires.0 in
+    let s = c.args.code.sound in
     omega (arith, (turn c).2, entry_at_below _ s 0 (c.loop-j.j + 1), size_fits _ s.usable_field)
 
 pub loop-j-preserved : goal.loop-j-preserved
 unfolding distance
 loop-j-preserved c =
-    let h = c.args.h in
+    let h = c.args.code.header in
     let l = c.loop-j in
     let t = turn c in (
-      omega arith,
       t.0,
       t.1,
-      filled_put l.invariant.3 (omega arith) t.2,
+      filled_put l.invariant.2 (omega arith) t.2,
     )
 
 pub returns : goal.returns
 unfolding distance
 returns c =
-    let h = c.args.h in
-    let s = c.requires.0 in
+    let h = c.args.code.header in
+    let s = c.args.code.sound in
     let l = c.loop-j in
-    filled_end l.invariant.3 (omega arith)
+    filled_end l.invariant.2 (omega arith)
     ∙ sym (base_padded h s 255 (omega arith))

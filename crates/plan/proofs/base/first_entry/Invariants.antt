@@ -1,18 +1,14 @@
--- `first_entry` meets its contract. Invariant: y is root^i, and the product has the factors below i.
+-- `first_entry` meets its contract. Invariant: y is root^i after i turns, and the product has the factors below i.
 use mathlib.Core.Path.{◌≡◌}
-use Prim.Native.Nat.{◌-◌, ◌≤◌, ◌<◌}
+use Prim.Native.Nat.{◌<◌}
 use Rattle.field.specs.Fields.{size_of, power}
 use Rattle.field.specs.Kinds.{modulus}
 use Rattle.generator.specs.declared.Header.{Header}
 use Rattle.generator.specs.Generator.{base_from}
 use Rattle.plan.proofs.base.first_entry.Given as goal
 
-abbrev pub invariant-loop-i : goal.invariant-loop-i
-invariant-loop-i l =
-    (l.i ≤ l.count)
-    × (l.product < size_of (modulus l.field))
-    × (l.y ≡ power (modulus l.field) l.root l.i)
-    × ((h : Header) → h.field ≡ l.field → h.root ≡ l.root → l.product ≡ base_from l.i h l.x)
-
-abbrev pub decreases-loop-i : goal.decreases-loop-i
-decreases-loop-i l = l.count - l.i
+abbrev pub invariant-loop : goal.invariant-loop
+invariant-loop l =
+    (l.product < size_of (modulus l.field))
+    × (l.y ≡ power (modulus l.field) l.root l.counter)
+    × ((h : Header) → h.field ≡ l.field → h.root ≡ l.root → l.product ≡ base_from l.counter h l.x)

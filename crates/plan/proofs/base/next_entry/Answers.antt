@@ -14,54 +14,56 @@ use Rattle.plan.proofs.base.next_entry.Goals.{After-inverse_with, After-sub-belo
 
 -- the arguments are symbols
 symbols : (c : Start)
-    → let q = size c.args.h in
+    → let q = size c.args.code.header in
     (c.args.scale < q) × (c.args.pole < q) × (c.args.x < q) × (c.args.entry < q)
 symbols c =
-    let (s, scale, pole, low, apart, entry, tables) = c.requires in
+    let s = c.args.code.sound in
+    let (scale, pole, low, apart, entry, tables) = c.requires in
     (rw scale (power_below _ s.field _ s.root_below), rw pole (power_below _ s.field _ s.root_below), low, rw entry (base_at_below _ s low))
 
 pub mul_with-requires : goal.mul_with-requires
-mul_with-requires c = let t = symbols c in (c.requires.0.usable_field, omega arith, omega arith, c.requires.6)
+mul_with-requires c = let t = symbols (goal.at.mul_with-requires c).Start in (c.args.code.sound.usable_field, omega arith, omega arith, c.requires.5)
 
 pub sub-above-requires : goal.sub-above-requires
 sub-above-requires c =
-    let s = c.requires.0 in
+    let s = c.args.code.sound in
     let t = symbols (goal.at.sub-above-requires c).Start in
     (s.usable_field, rw c.mul_with.ensures (mul_below _ s.field (omega arith) (omega arith)), t.1)
 
 pub sub-below-requires : goal.sub-below-requires
-sub-below-requires c = let t = symbols (goal.at.sub-below-requires c).Start in (c.requires.0.usable_field, omega arith, omega arith)
+sub-below-requires c = let t = symbols (goal.at.sub-below-requires c).Start in (c.args.code.sound.usable_field, omega arith, omega arith)
 
 -- both differences are symbols
 differences : (c : After-sub-below)
-    → let q = size c.args.h in
+    → let q = size c.args.code.header in
     (c.sub-above.result < q) × (c.sub-below.result < q)
 differences c =
-    let v = c.requires.0.field in
+    let v = c.args.code.sound.field in
     let t = symbols (goal.at.After-sub-below c).Start in (
       rw (c.sub-above.ensures, c.mul_with.ensures) (sub_below _ v (mul_below _ v (omega arith) (omega arith)) (omega arith)),
       rw c.sub-below.ensures (sub_below _ v (omega arith) (omega arith)),
     )
 
 pub inverse_with-requires : goal.inverse_with-requires
-inverse_with-requires c = let d = differences c in (c.requires.0.usable_field, d.1, c.requires.6)
+inverse_with-requires c = let d = differences c in (c.args.code.sound.usable_field, d.1, c.requires.5)
 
 -- the inverse and the ratio are symbols
-inverse : (c : After-inverse_with) → c.inverse_with.result < size c.args.h
+inverse : (c : After-inverse_with) → c.inverse_with.result < size c.args.code.header
 inverse c =
-    rw c.inverse_with.ensures (inverse_below _ c.requires.0.field (differences (goal.at.After-inverse_with c).After-sub-below).1)
+    rw c.inverse_with.ensures (inverse_below _ c.args.code.sound.field (differences (goal.at.After-inverse_with c).After-sub-below).1)
 
 pub mul_with-ratio-requires : goal.mul_with-ratio-requires
-mul_with-ratio-requires c = (c.requires.0.usable_field, (differences (goal.at.mul_with-ratio-requires c).After-sub-below).0, inverse c, c.requires.6)
+mul_with-ratio-requires c = (c.args.code.sound.usable_field, (differences (goal.at.mul_with-ratio-requires c).After-sub-below).0, inverse c, c.requires.5)
 
 pub mul_with-requires-2 : goal.mul_with-requires-2
 mul_with-requires-2 c =
-    (c.requires.0.usable_field, (symbols (goal.at.mul_with-requires-2 c).Start).3, rw c.mul_with-ratio.ensures (mul_below _ c.requires.0.field (differences (goal.at.mul_with-requires-2 c).After-sub-below).0 (inverse (goal.at.mul_with-requires-2 c).After-inverse_with)), c.requires.6)
+    (c.args.code.sound.usable_field, (symbols (goal.at.mul_with-requires-2 c).Start).3, rw c.mul_with-ratio.ensures (mul_below _ c.args.code.sound.field (differences (goal.at.mul_with-requires-2 c).After-sub-below).0 (inverse (goal.at.mul_with-requires-2 c).After-inverse_with)), c.requires.5)
 
 pub returns : goal.returns
 returns c =
     let a = c.args in
-    let (s, scale, pole, low, apart, entry, tables) = c.requires in
+    let s = a.code.sound in
+    let (scale, pole, low, apart, entry, tables) = c.requires in
     let d = differences (goal.at.returns c).After-sub-below in
     c.mul_with-2.ensures
     ∙ ap (mul _ a.entry) c.mul_with-ratio.ensures
@@ -74,4 +76,4 @@ returns c =
       scale,
       pole,
       entry,
-    ) (sym (base_at_next a.h s a.x low (λ q. apart (q ∙ sym pole))))
+    ) (sym (base_at_next a.code.header s a.x low (λ q. apart (q ∙ sym pole))))

@@ -17,7 +17,7 @@ lanes_of nodes lanes w = ap (λ (x : ℕ). x * w) (mul_comm nodes lanes) ∙ mul
 -- the buffer has so many
 long : (c : After-width_of-w) → let a = c.args in length a.shares.now ≡ a.lanes * (a.nodes * c.width_of-w.result)
 long c =
-    c.requires.2 ∙ ap (λ (x : ℕ). c.args.nodes * c.args.lanes * x) (sym c.width_of-w.ensures.0) ∙ lanes_of c.args.nodes c.args.lanes c.width_of-w.result
+    c.requires.1 ∙ ap (λ (x : ℕ). c.args.nodes * c.args.lanes * x) (sym c.width_of-w.ensures.0) ∙ lanes_of c.args.nodes c.args.lanes c.width_of-w.result
 
 -- a lane lies within the buffer
 lane_in : (c : In-loop-lane) → let a = c.args in let size = a.nodes * c.width_of-w.result in c.loop-lane.lane * size + size ≤ length a.shares.now
@@ -26,7 +26,9 @@ lane_in c =
     rw (long (goal.at.In-loop-lane c).After-width_of-w) (row_inside a.lanes c.loop-lane.lane (a.nodes * c.width_of-w.result) c.loop-lane-test.true)
 
 pub overflow_mul-size : goal.overflow_mul-size
-overflow_mul-size c = omega (arith, mul-le-mul c.requires.1 c.width_of-w.ensures.2)
+overflow_mul-size c =
+    let few : c.args.nodes ≤ 255 = omega arith in
+    omega (arith, mul-le-mul few c.width_of-w.ensures.2)
 
 pub loop-lane-init : goal.loop-lane-init
 loop-lane-init c = rw zero-mul

@@ -7,6 +7,3 @@ use Rattle.refusals.proofs.field_symbols.shares_bad.Given as goal
 
 abbrev pub invariant-loop-lane : goal.invariant-loop-lane
 invariant-loop-lane l = symbols_bad l.h l.shares ≡ symbols_bad l.h (drop (l.lane * l.size) l.shares)
-
-abbrev pub decreases-loop-lane : goal.decreases-loop-lane
-decreases-loop-lane l = l.lanes - l.lane

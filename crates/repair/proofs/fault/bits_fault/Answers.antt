@@ -1,21 +1,49 @@
--- `bits_fault` meets its contract: the tests are those of the definition, in its order.
-use mathlib.Core.Path.{ap}
-use mathlib.Core.Bool.{not}
-use native.Mathlib.Nat.{one-mul}
-use Rattle.refusals.proofs.Order.{then}
-use Rattle.traces.proofs.Claims.{bits_few}
+-- `repair_bits_fault` meets its contract: the tests are those of the definition, in its order.
+use Rattle.generator.proofs.Answered.{met, passed}
 use Rattle.repair.specs.Promise.{repair_bits_fault}
 use Rattle.repair.proofs.fault.bits_fault.Goals as goal
 
-pub packed_size-packed-requires : goal.packed_size-packed-requires
-packed_size-packed-requires c = (rw c.bits.ensures (bits_few _ _), c.requires.1)
+pub returns-in_err-when : goal.returns-in_err-when
+unfolding repair_bits_fault
+returns-in_err-when c =
+    met _ c.lanes_bad.ensures c.in_err-when.ensures c.from_residual.ensures.1 _
+
+pub returns-in_err-when-2 : goal.returns-in_err-when-2
+unfolding repair_bits_fault
+returns-in_err-when-2 c =
+    passed _ _ c.lanes_bad.ensures c.in_ok-when.ensures
+    (met _ (rw one-mul at c.buffer_bad.ensures) c.in_err-when-2.ensures c.from_residual-in_err-when-2.ensures.1 _)
+
+pub returns-in_err-when-3 : goal.returns-in_err-when-3
+unfolding repair_bits_fault
+returns-in_err-when-3 c =
+    passed _ _ c.lanes_bad.ensures c.in_ok-when.ensures
+    (passed _ _ (rw one-mul at c.buffer_bad.ensures) c.in_ok-when-2.ensures
+    (met _ c.length_bad.ensures c.in_err-when-3.ensures c.from_residual-in_err-when-3.ensures.1 _))
+
+pub returns-in_err-when-4 : goal.returns-in_err-when-4
+unfolding repair_bits_fault
+returns-in_err-when-4 c =
+    passed _ _ c.lanes_bad.ensures c.in_ok-when.ensures
+    (passed _ _ (rw one-mul at c.buffer_bad.ensures) c.in_ok-when-2.ensures
+    (passed _ _ c.length_bad.ensures c.in_ok-when-3.ensures
+    (met _ c.number_bad.ensures c.in_err-when-4.ensures c.from_residual-in_err-when-4.ensures.1 _)))
+
+pub returns-in_err-when-5 : goal.returns-in_err-when-5
+unfolding repair_bits_fault
+returns-in_err-when-5 c =
+    passed _ _ c.lanes_bad.ensures c.in_ok-when.ensures
+    (passed _ _ (rw one-mul at c.buffer_bad.ensures) c.in_ok-when-2.ensures
+    (passed _ _ c.length_bad.ensures c.in_ok-when-3.ensures
+    (passed _ _ c.number_bad.ensures c.in_ok-when-4.ensures
+    (met _ (ap not c.sends.ensures) c.in_err-when-5.ensures c.from_residual-in_err-when-5.ensures.1 _))))
 
 pub returns : goal.returns
 unfolding repair_bits_fault
 returns c =
-    then c.lanes_bad.ensures 0 7 _ c.first-number.ensures
-    (then (rw one-mul at c.buffer_bad.ensures) c.first-number.result 8 _ c.first-number-2.ensures
-    (then (rw (c.packed_size-packed.ensures, c.bits.ensures) at c.length_bad.ensures) c.first-number-2.result 8 _ c.first-number-3.ensures
-    (then c.number_bad.ensures c.first-number-3.result 9 _ c.first-number-4.ensures
-    (then (ap not c.sends.ensures) c.first-number-4.result 9 _ c.first-number-5.ensures
-    c.first_target.ensures))))
+    passed _ _ c.lanes_bad.ensures c.in_ok-when.ensures
+    (passed _ _ (rw one-mul at c.buffer_bad.ensures) c.in_ok-when-2.ensures
+    (passed _ _ c.length_bad.ensures c.in_ok-when-3.ensures
+    (passed _ _ c.number_bad.ensures c.in_ok-when-4.ensures
+    (passed _ _ (ap not c.sends.ensures) c.in_ok-when-5.ensures
+    (c.target_fault.ensures)))))

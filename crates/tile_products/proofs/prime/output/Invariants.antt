@@ -1,10 +1,6 @@
 -- `output` meets its contract. The loop's invariant: the two sums hold the products of the rows below i.
-use Rattle.std.proofs.Common.{◌-◌, ◌≤◌}
 use Rattle.tile_products.proofs.Held.{Held}
 use Rattle.tile_products.proofs.prime.output.Given as goal
 
 abbrev pub invariant-loop-i : goal.invariant-loop-i
-invariant-loop-i l = (l.i ≤ l.rows) × Held l.p l.rows l.list l.tile l.i l.low l.up
-
-abbrev pub decreases-loop-i : goal.decreases-loop-i
-decreases-loop-i l = l.rows - l.i
+invariant-loop-i l = Held l.p l.rows l.list l.tile l.i l.sums.low l.sums.up
