@@ -1,7 +1,0 @@
--- `fill_small` meets its contract: its scratch is long enough.
-use Rattle.block_products.proofs.Lanes.{few_room}
-use Rattle.block_products.proofs.fill_small.Goals as goal
-
-pub fill_lanes-requires : goal.fill_lanes-requires
-fill_lanes-requires c =
-    let p = c.requires in (p.0, rw (c.small_rows-tile.ensures, c.small_table-table.ensures, c.small_rows-words.ensures) (few_room p.0 1 p.1 p.2))

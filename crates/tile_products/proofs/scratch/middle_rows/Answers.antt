@@ -1,6 +1,0 @@
-use Rattle.std.proofs.Common.{ℕ}
-use lib.ListN.{length-replicate}
-use Rattle.tile_products.proofs.scratch.middle_rows.Goals as goal
-
-pub returns : goal.returns
-returns c = length-replicate {A = ℕ} 4096 0
