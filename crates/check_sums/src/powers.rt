@@ -1,7 +1,6 @@
 // Powers of the root, and the nodes' factors in a check sum.
 ghost use Rattle.std.specs.Prelude.{◌≡◌, ◌≤◌};
 ghost use Rattle.lists.specs.Padded.{padded};
-ghost use Rattle.field.specs.Tables.{AreTables};
 ghost use Rattle.generator.specs.Records.{Sound};
 ghost use Rattle.check_sums.specs.Inner.Powers.{powers_of, factors_of};
 
@@ -20,7 +19,7 @@ pub fn powers(h: Header) -> [u16; 255]
 
 // The same with lent tables. Four powers are held at a time, each the fourth after the last one's: so a product need not wait for the one before it.
 pub fn powers_with(h: Header, tables: &Tables) -> [u16; 255]
-    requires { Sound h × AreTables tables.now }
+    requires { Sound h }
     ensures { result ≡ padded 255 (powers_of h) }
 {
     let field = h.field;

@@ -3,7 +3,6 @@ ghost use Rattle.std.specs.Prelude.{◌≡◌, ◌<◌, length};
 ghost use Rattle.lists.specs.Padded.{padded};
 ghost use Rattle.field.specs.Fields.{size_of};
 ghost use Rattle.field.specs.Kinds.{modulus};
-ghost use Rattle.field.specs.Tables.{AreTables};
 ghost use Rattle.interpolation.specs.Inner.Points.{SymbolList, points_of};
 ghost use Rattle.decode.specs.Inner.Errors.{error_of, errors_from, errors_of};
 
@@ -13,7 +12,7 @@ use interpolation::division;
 
 // The error at the point x: the sum of the check sums times the coefficients of the product over the other points, times the scale of x, over x.
 fn error_at(field: Field, tables: &Tables, x: u32, scale: u32, product: &[u16], sums: &[u16]) -> u32
-    requires { SymbolList field product.now × SymbolList field sums.now × (length sums.now ≡ length product.now) × (x < size_of (modulus field)) × (scale < size_of (modulus field)) × AreTables tables.now }
+    requires { SymbolList field product.now × SymbolList field sums.now × (length sums.now ≡ length product.now) × (x < size_of (modulus field)) × (scale < size_of (modulus field)) }
     ensures { (result ≡ error_of (modulus field) product.now sums.now x scale) × (result < size_of (modulus field)) }
 {
     let sum = division::quotient_sum(field, tables, x, product, sums);
@@ -31,7 +30,7 @@ fn errors_from(
     product: &[u16],
     sums: &[u16],
 ) -> [u16; 255]
-    requires { SymbolList field points.now × SymbolList field scales.now × SymbolList field product.now × SymbolList field sums.now × (length scales.now ≡ length points.now) × (length sums.now ≡ length product.now) × AreTables tables.now }
+    requires { SymbolList field points.now × SymbolList field scales.now × SymbolList field product.now × SymbolList field sums.now × (length scales.now ≡ length points.now) × (length sums.now ≡ length product.now) }
     ensures { result ≡ padded 255 (errors_from (modulus field) product.now sums.now points.now scales.now) }
 {
     let mut out = [0u16; 255];
@@ -46,7 +45,7 @@ fn errors_from(
 
 // The errors at the listed nodes, and zeros after them; as many check sums are taken as there are nodes.
 pub fn errors(field: Field, tables: &Tables, root: u32, nodes: &[u8], sums: &[u16]) -> [u16; 255]
-    requires { SymbolList field sums.now × (length sums.now ≡ length nodes.now) × (root < size_of (modulus field)) × AreTables tables.now }
+    requires { SymbolList field sums.now × (length sums.now ≡ length nodes.now) × (root < size_of (modulus field)) }
     ensures { result ≡ padded 255 (errors_of (modulus field) (points_of (modulus field) root 0 nodes.now) sums.now) }
 {
     let count = nodes.len();

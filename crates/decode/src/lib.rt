@@ -6,7 +6,6 @@ ghost use Rattle.lists.specs.Counting.{differ};
 ghost use Rattle.lists.specs.Padded.{padded};
 ghost use Rattle.check_sums.specs.Inner.Sums.{check_sums, power_rows};
 ghost use Rattle.nearest_word.specs.Nearest.{has_near, corrected};
-ghost use Rattle.field.specs.Tables.{AreTables};
 ghost use Rattle.generator.specs.Records.{size, Sound};
 ghost use Rattle.decode.specs.Inner.Locating.{Below};
 ghost use Rattle.decode.specs.Inner.Candidates.{SoundLane, WrongNodes, Candidate};
@@ -35,7 +34,7 @@ pub struct Corrected {
 
 // The only symbols that may be a word near enough, and zeros after them.
 fn candidate(h: Header, tables: &Tables, lane: &[u16], sums: [u16; 255]) -> [u16; 255]
-    requires { SoundLane h lane.now × (sums ≡ padded 255 (check_sums h lane.now)) × AreTables tables.now }
+    requires { SoundLane h lane.now × (sums ≡ padded 255 (check_sums h lane.now)) }
     ensures { Candidate h lane.now result }
 {
     let field = h.field;
@@ -49,7 +48,7 @@ fn candidate(h: Header, tables: &Tables, lane: &[u16], sums: [u16; 255]) -> [u16
 
 // The nodes at which the locator of the check sums vanishes: all wrong ones, if a word is near enough.
 fn wrong_nodes(h: Header, tables: &Tables, sums: &[u16; 255]) -> Roots
-    requires { Sound h × Below (size h) sums.now × AreTables tables.now }
+    requires { Sound h × Below (size h) sums.now }
     ensures { WrongNodes h sums.now result.nodes result.count }
 {
     let field = h.field;

@@ -4,7 +4,6 @@ ghost use Rattle.lists.specs.Rows.{from};
 ghost use Rattle.lists.specs.Padded.{padded};
 ghost use Rattle.field.specs.Fields.{size_of, mul};
 ghost use Rattle.field.specs.Kinds.{modulus, usable};
-ghost use Rattle.field.specs.Tables.{AreTables};
 ghost use Rattle.decode.specs.Inner.Locating.{Below, partial, shifted, amended_at, Locates};
 
 use crate::field_symbols::{narrow, wide};
@@ -27,7 +26,7 @@ fn discrepancy(
     e: usize,
     m: usize,
 ) -> u32
-    requires { (usable field ≡ true) × (e + m ≤ 255) × Below (size_of (modulus field)) v.now × Below (size_of (modulus field)) s.now × AreTables tables.now }
+    requires { (usable field ≡ true) × (e + m ≤ 255) × Below (size_of (modulus field)) v.now × Below (size_of (modulus field)) s.now }
     ensures { result ≡ partial (modulus field) v.now s.now e m }
 {
     let mut sum = Field::ZERO;
@@ -57,7 +56,7 @@ fn amended(
     j: usize,
     size: usize,
 ) -> [u16; 255]
-    requires { (usable field ≡ true) × (d < size_of (modulus field)) × Below (size_of (modulus field)) w.now × Below (size_of (modulus field)) v.now × (size ≤ 255) × AreTables tables.now }
+    requires { (usable field ≡ true) × (d < size_of (modulus field)) × Below (size_of (modulus field)) w.now × Below (size_of (modulus field)) v.now × (size ≤ 255) }
     ensures { result ≡ padded 255 (from (amended_at (modulus field) d w.now i v.now j) 0 size) }
 {
     let mut out = [0u16; 255];
@@ -70,7 +69,7 @@ fn amended(
 
 // The first coefficients of d·w, and zeros after them.
 fn scaled(field: Field, tables: &Tables, d: u32, w: &[u16; 255], size: usize) -> [u16; 255]
-    requires { (usable field ≡ true) × (d < size_of (modulus field)) × Below (size_of (modulus field)) w.now × (size ≤ 255) × AreTables tables.now }
+    requires { (usable field ≡ true) × (d < size_of (modulus field)) × Below (size_of (modulus field)) w.now × (size ≤ 255) }
     ensures { result ≡ padded 255 (from (λ x. mul (modulus field) d (get_or w.now x 0)) 0 size) }
 {
     let mut out = [0u16; 255];
@@ -82,7 +81,7 @@ fn scaled(field: Field, tables: &Tables, d: u32, w: &[u16; 255], size: usize) ->
 
 // The locator of the first 2t terms. w has the degree l and no discrepancy below q; v is w before l grew last, made to have the discrepancy 1.
 pub fn locate(field: Field, tables: &Tables, s: &[u16; 255], t: usize) -> [u16; 255]
-    requires { (usable field ≡ true) × (t ≤ 127) × Below (size_of (modulus field)) s.now × AreTables tables.now }
+    requires { (usable field ≡ true) × (t ≤ 127) × Below (size_of (modulus field)) s.now }
     ensures { Locates (modulus field) t s.now result }
 {
     let mut w = [0u16; 255];

@@ -3,7 +3,6 @@ ghost use Rattle.std.specs.Prelude.{◌≡◌, ◌<◌, ◌≤◌, length};
 ghost use Rattle.lists.specs.Padded.{padded};
 ghost use Rattle.field.specs.Fields.{size_of};
 ghost use Rattle.field.specs.Kinds.{modulus};
-ghost use Rattle.field.specs.Tables.{AreTables};
 ghost use Rattle.generator.specs.Codewords.{poly_at};
 ghost use Rattle.interpolation.specs.Inner.Points.{SymbolList};
 ghost use Rattle.decode.specs.Inner.Errors.{roots_of};
@@ -13,7 +12,7 @@ use field::{Field, Tables};
 
 // The value at x, by Horner's rule.
 fn value(field: Field, tables: &Tables, coefficients: &[u16], x: u32) -> u32
-    requires { SymbolList field coefficients.now × (x < size_of (modulus field)) × AreTables tables.now }
+    requires { SymbolList field coefficients.now × (x < size_of (modulus field)) }
     ensures { result ≡ poly_at (modulus field) coefficients.now x }
 {
     let mut sum = Field::ZERO;
@@ -35,7 +34,7 @@ pub struct Roots {
 
 // The nodes below n at which the value is 0.
 pub fn find_roots(field: Field, tables: &Tables, root: u32, coefficients: &[u16], n: usize) -> Roots
-    requires { SymbolList field coefficients.now × (root < size_of (modulus field)) × (n ≤ 255) × AreTables tables.now }
+    requires { SymbolList field coefficients.now × (root < size_of (modulus field)) × (n ≤ 255) }
     ensures { (result.nodes ≡ padded 255 (roots_of (modulus field) root n coefficients.now)) × (result.count ≡ length (roots_of (modulus field) root n coefficients.now)) }
 {
     let mut nodes = [0u8; 255];

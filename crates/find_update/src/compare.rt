@@ -2,7 +2,6 @@
 ghost use Rattle.std.specs.Prelude.{◌≡◌, ◌<◌, eqb, length, get_or};
 ghost use Rattle.lists.specs.Padded.{padded};
 ghost use Rattle.lists.specs.Search.{first_false};
-ghost use Rattle.field.specs.Tables.{AreTables};
 ghost use Rattle.generator.specs.Records.{size, Sound};
 ghost use Rattle.plan.specs.Plans.{plan_of};
 ghost use Rattle.refusals.specs.Accepted.{IsLane};
@@ -48,7 +47,7 @@ pub fn first_other(
     x: u32,
     difference: &[u16],
 ) -> usize
-    requires { Sound h × (plan ≡ plan_of h) × (row < h.k) × (x < size h) × (length difference.now ≡ h.n) × AreTables tables.now }
+    requires { Sound h × (plan ≡ plan_of h) × (row < h.k) × (x < size h) × (length difference.now ≡ h.n) }
     ensures { result ≡ first_other h difference.now row x }
 {
     let n = h.n as usize;

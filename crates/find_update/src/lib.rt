@@ -3,7 +3,6 @@
 
 ghost use Rattle.std.specs.Prelude.{◌≡◌, true, ◌<◌};
 ghost use Rattle.field.specs.Kinds.{usable};
-ghost use Rattle.field.specs.Tables.{AreTables};
 ghost use Rattle.generator.specs.Answers.{numbered, outcome_of};
 ghost use Rattle.plan.specs.Plans.{plan_of};
 ghost use Rattle.refusals.specs.Accepted.{IsLane};
@@ -29,7 +28,7 @@ pub enum Finding {
 
 // What was added at the first node of a row, over the row's entry there, which is the first of the base word.
 fn amount_in(code: Code, tables: &Tables, plan: Plan, row: usize, difference: &[u16]) -> u32
-    requires { (plan ≡ plan_of code.header) × (row < code.header.k) × IsLane code.header difference.now × AreTables tables.now }
+    requires { (plan ≡ plan_of code.header) × (row < code.header.k) × IsLane code.header difference.now }
     ensures { result ≡ amount_in code.header difference.now row }
 {
     let field = code.header.field;

@@ -4,7 +4,6 @@ ghost use Rattle.lists.specs.Padded.{padded};
 ghost use Rattle.field.specs.Fields.{size_of, add, mul};
 ghost use Rattle.field.specs.Kinds.{modulus, usable};
 ghost use Rattle.field.specs.Inner.Sums.{dot};
-ghost use Rattle.field.specs.Tables.{AreTables};
 ghost use Rattle.interpolation.specs.Inner.Points.{SymbolList};
 ghost use Rattle.interpolation.specs.Inner.Polynomials.{quotient_of, termwise};
 
@@ -13,7 +12,7 @@ use field::{Field, Tables};
 
 // a·b + c.
 fn multiply_add(field: Field, tables: &Tables, a: u32, b: u32, c: u32) -> u32
-    requires { (usable field ≡ true) × (a < size_of (modulus field)) × (b < size_of (modulus field)) × (c < size_of (modulus field)) × AreTables tables.now }
+    requires { (usable field ≡ true) × (a < size_of (modulus field)) × (b < size_of (modulus field)) × (c < size_of (modulus field)) }
     ensures { result ≡ add (modulus field) (mul (modulus field) a b) c }
 {
     field.add(field.mul_with(tables, a, b), c)
@@ -21,7 +20,7 @@ fn multiply_add(field: Field, tables: &Tables, a: u32, b: u32, c: u32) -> u32
 
 // The coefficients of the quotient by x − a, from the highest down, and zeros after them.
 pub fn quotient(field: Field, tables: &Tables, a: u32, coefficients: &[u16]) -> [u16; 255]
-    requires { SymbolList field coefficients.now × (a < size_of (modulus field)) × AreTables tables.now }
+    requires { SymbolList field coefficients.now × (a < size_of (modulus field)) }
     ensures { result ≡ padded 255 (quotient_of (modulus field) a coefficients.now) }
 {
     let mut out = [0u16; 255];
@@ -43,7 +42,7 @@ pub fn quotient_terms(
     coefficients: &[u16],
     factors: &[u16],
 ) -> [u16; 255]
-    requires { SymbolList field coefficients.now × SymbolList field factors.now × (length factors.now ≡ length coefficients.now) × (a < size_of (modulus field)) × AreTables tables.now }
+    requires { SymbolList field coefficients.now × SymbolList field factors.now × (length factors.now ≡ length coefficients.now) × (a < size_of (modulus field)) }
     ensures { result ≡ padded 255 (termwise (modulus field) (quotient_of (modulus field) a coefficients.now) factors.now) }
 {
     let size = coefficients.len();
@@ -59,7 +58,7 @@ pub fn quotient_sum(
     coefficients: &[u16],
     terms: &[u16],
 ) -> u32
-    requires { SymbolList field coefficients.now × SymbolList field terms.now × (length terms.now ≡ length coefficients.now) × (a < size_of (modulus field)) × AreTables tables.now }
+    requires { SymbolList field coefficients.now × SymbolList field terms.now × (length terms.now ≡ length coefficients.now) × (a < size_of (modulus field)) }
     ensures { result ≡ dot (modulus field) terms.now (quotient_of (modulus field) a coefficients.now) }
 {
     let q = quotient(field, tables, a, coefficients);

@@ -4,7 +4,6 @@ ghost use Rattle.lists.specs.Padded.{padded};
 ghost use Rattle.lists.specs.Rows.{from};
 ghost use Rattle.field.specs.Fields.{size_of};
 ghost use Rattle.field.specs.Kinds.{modulus};
-ghost use Rattle.field.specs.Tables.{AreTables};
 ghost use Rattle.interpolation.specs.Inner.Points.{SymbolList};
 ghost use Rattle.interpolation.specs.Inner.Lagrange.{product_at, others_at, scale_at, basis_values, scales_of};
 
@@ -12,7 +11,7 @@ use field::{Field, Tables};
 
 // The product of (z − x) over the points x.
 fn product_at(field: Field, tables: &Tables, points: &[u16], z: u32) -> u32
-    requires { SymbolList field points.now × (z < size_of (modulus field)) × AreTables tables.now }
+    requires { SymbolList field points.now × (z < size_of (modulus field)) }
     ensures { result ≡ product_at (modulus field) points.now z }
 {
     let mut product = Field::ONE;
@@ -27,7 +26,7 @@ fn product_at(field: Field, tables: &Tables, points: &[u16], z: u32) -> u32
 
 // The product over the points but number i: over those before it, and over those after it.
 fn others_at(field: Field, tables: &Tables, points: &[u16], i: usize, z: u32) -> u32
-    requires { SymbolList field points.now × (i < length points.now) × (z < size_of (modulus field)) × AreTables tables.now }
+    requires { SymbolList field points.now × (i < length points.now) × (z < size_of (modulus field)) }
     ensures { result ≡ others_at (modulus field) points.now i z }
 {
     let next = i + 1;
@@ -38,7 +37,7 @@ fn others_at(field: Field, tables: &Tables, points: &[u16], i: usize, z: u32) ->
 
 // 1 over that product at point number i itself.
 pub fn scale_at(field: Field, tables: &Tables, points: &[u16], i: usize) -> u32
-    requires { SymbolList field points.now × (i < length points.now) × AreTables tables.now }
+    requires { SymbolList field points.now × (i < length points.now) }
     ensures { result ≡ scale_at (modulus field) points.now i }
 {
     let others = others_at(field, tables, points, i, points[i] as u32);
@@ -47,7 +46,7 @@ pub fn scale_at(field: Field, tables: &Tables, points: &[u16], i: usize) -> u32
 
 // The scales of all basis polynomials, and zeros after them.
 pub fn scales(field: Field, tables: &Tables, points: &[u16]) -> [u16; 255]
-    requires { SymbolList field points.now × AreTables tables.now }
+    requires { SymbolList field points.now }
     ensures { result ≡ padded 255 (scales_of (modulus field) points.now) }
 {
     let mut out = [0u16; 255];
@@ -59,7 +58,7 @@ pub fn scales(field: Field, tables: &Tables, points: &[u16]) -> [u16; 255]
 
 // The products of (z − x) over the last m points x, for m = 0, 1, .., and zeros after them.
 fn last_products(field: Field, tables: &Tables, points: &[u16], z: u32) -> [u16; 255]
-    requires { SymbolList field points.now × (z < size_of (modulus field)) × AreTables tables.now }
+    requires { SymbolList field points.now × (z < size_of (modulus field)) }
     ensures { result ≡ padded 255 (from (λ m. product_at (modulus field) (drop (length points.now - m) points.now) z) 0 (length points.now)) }
 {
     let mut out = [0u16; 255];
@@ -75,7 +74,7 @@ fn last_products(field: Field, tables: &Tables, points: &[u16], z: u32) -> [u16;
 
 // The values at z of all basis polynomials from their scales, and zeros after them: four products for each point.
 pub fn values(field: Field, tables: &Tables, points: &[u16], scales: &[u16], z: u32) -> [u16; 255]
-    requires { SymbolList field points.now × (scales.now ≡ scales_of (modulus field) points.now) × (z < size_of (modulus field)) × AreTables tables.now }
+    requires { SymbolList field points.now × (scales.now ≡ scales_of (modulus field) points.now) × (z < size_of (modulus field)) }
     ensures { result ≡ padded 255 (basis_values (modulus field) points.now z) }
 {
     let after = last_products(field, tables, points, z);

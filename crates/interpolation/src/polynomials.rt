@@ -4,7 +4,6 @@ ghost use Rattle.lists.specs.Numbers.{all_below};
 ghost use Rattle.lists.specs.Padded.{padded};
 ghost use Rattle.field.specs.Fields.{size_of};
 ghost use Rattle.field.specs.Kinds.{modulus, usable};
-ghost use Rattle.field.specs.Tables.{AreTables};
 ghost use Rattle.interpolation.specs.Inner.Points.{SymbolList};
 ghost use Rattle.interpolation.specs.Inner.Polynomials.{carried, product_of, base_of, inverses_of};
 
@@ -12,7 +11,7 @@ use field::{Field, Tables};
 
 // (x − a) times the polynomial whose coefficients stand before the last place, which holds 0.
 fn times_linear(field: Field, tables: &Tables, a: u32, coefficients: &mut [u16])
-    requires { (usable field ≡ true) × (all_below (size_of (modulus field)) coefficients.old ≡ true) × (a < size_of (modulus field)) × AreTables tables.now }
+    requires { (usable field ≡ true) × (all_below (size_of (modulus field)) coefficients.old ≡ true) × (a < size_of (modulus field)) }
     ensures { coefficients.new ≡ carried (modulus field) a 0 coefficients.old }
 {
     let mut last = Field::ZERO;
@@ -26,7 +25,7 @@ fn times_linear(field: Field, tables: &Tables, a: u32, coefficients: &mut [u16])
 
 // The product of (x − a) over the points a, and zeros after it.
 pub fn product(field: Field, tables: &Tables, points: &[u16]) -> [u16; 256]
-    requires { SymbolList field points.now × AreTables tables.now }
+    requires { SymbolList field points.now }
     ensures { result ≡ padded 256 (product_of (modulus field) points.now) }
 {
     let mut out = [0u16; 256];
@@ -43,7 +42,7 @@ pub fn product(field: Field, tables: &Tables, points: &[u16]) -> [u16; 256]
 
 // The base polynomial, the product of (x − root^i) for i below m, and zeros after it.
 pub fn base(field: Field, tables: &Tables, root: u32, m: usize) -> [u16; 256]
-    requires { (usable field ≡ true) × (root < size_of (modulus field)) × (m < 255) × AreTables tables.now }
+    requires { (usable field ≡ true) × (root < size_of (modulus field)) × (m < 255) }
     ensures { result ≡ padded 256 (base_of (modulus field) root m) }
 {
     let mut out = [0u16; 256];
@@ -59,7 +58,7 @@ pub fn base(field: Field, tables: &Tables, root: u32, m: usize) -> [u16; 256]
 
 // 1 over each coefficient, and zeros after them.
 pub fn inverses(field: Field, tables: &Tables, coefficients: &[u16]) -> [u16; 255]
-    requires { SymbolList field coefficients.now × AreTables tables.now }
+    requires { SymbolList field coefficients.now }
     ensures { result ≡ padded 255 (inverses_of (modulus field) coefficients.now) }
 {
     let mut out = [0u16; 255];

@@ -5,7 +5,6 @@ ghost use Rattle.lists.specs.Padded.{padded};
 ghost use Rattle.field.specs.Fields.{size_of};
 ghost use Rattle.field.specs.Kinds.{modulus, usable};
 ghost use Rattle.field.specs.Inner.Sums.{dot};
-ghost use Rattle.field.specs.Tables.{AreTables};
 ghost use Rattle.interpolation.specs.Inner.Points.{SymbolList};
 ghost use Rattle.interpolation.specs.Inner.Polynomials.{termwise};
 
@@ -13,7 +12,7 @@ use field::{Field, Tables};
 
 // Each symbol times that of the other list, and zeros after them.
 pub fn products(field: Field, tables: &Tables, xs: &[u16], ys: &[u16]) -> [u16; 255]
-    requires { SymbolList field xs.now × SymbolList field ys.now × (length ys.now ≡ length xs.now) × AreTables tables.now }
+    requires { SymbolList field xs.now × SymbolList field ys.now × (length ys.now ≡ length xs.now) }
     ensures { result ≡ padded 255 (termwise (modulus field) xs.now ys.now) }
 {
     let mut out = [0u16; 255];
@@ -25,7 +24,7 @@ pub fn products(field: Field, tables: &Tables, xs: &[u16], ys: &[u16]) -> [u16; 
 
 // The sum of the symbols times their weights.
 pub fn weighted_sum(field: Field, tables: &Tables, symbols: &[u16], weights: &[u16]) -> u32
-    requires { (usable field ≡ true) × (all_below (size_of (modulus field)) symbols.now ≡ true) × (all_below (size_of (modulus field)) weights.now ≡ true) × (length symbols.now ≤ length weights.now) × AreTables tables.now }
+    requires { (usable field ≡ true) × (all_below (size_of (modulus field)) symbols.now ≡ true) × (all_below (size_of (modulus field)) weights.now ≡ true) × (length symbols.now ≤ length weights.now) }
     ensures { result ≡ dot (modulus field) symbols.now weights.now }
 {
     let mut sum = Field::ZERO;

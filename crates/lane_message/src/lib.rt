@@ -5,7 +5,6 @@ ghost use Rattle.std.specs.Prelude.{◌≡◌, true, not, ◌<◌, length};
 ghost use Rattle.lists.specs.Choice.{first_of, when};
 ghost use Rattle.lists.specs.Numbers.{all_below};
 ghost use Rattle.lists.specs.Padded.{padded};
-ghost use Rattle.field.specs.Tables.{AreTables};
 ghost use Rattle.generator.specs.Records.{size, Sound};
 ghost use Rattle.generator.specs.Shifts.{shifts_of};
 ghost use Rattle.refusals.specs.Faults.{stale_fault};
@@ -30,7 +29,7 @@ fn symbol_from(
     spectrum: &[u16],
     r: usize,
 ) -> u32
-    requires { Sound h × (powers.now ≡ padded 255 (powers_of h)) × (length spectrum.now ≡ h.n) × (all_below (size h) spectrum.now ≡ true) × (r < h.k) × AreTables tables.now × (shifts.now ≡ padded 255 (shifts_of h.n h.k)) }
+    requires { Sound h × (powers.now ≡ padded 255 (powers_of h)) × (length spectrum.now ≡ h.n) × (all_below (size h) spectrum.now ≡ true) × (r < h.k) × (shifts.now ≡ padded 255 (shifts_of h.n h.k)) }
     ensures { result ≡ symbol_from h r (coefficients_of h spectrum.now) }
 {
     let field = h.field;
@@ -69,7 +68,7 @@ fn stale_with(
     r: usize,
     old: u32,
 ) -> u8
-    requires { Sound h × (powers.now ≡ padded 255 (powers_of h)) × (length lane.now ≡ h.n) × (all_below (size h) lane.now ≡ true) × (r < h.k) × AreTables tables.now × (shifts.now ≡ padded 255 (shifts_of h.n h.k)) }
+    requires { Sound h × (powers.now ≡ padded 255 (powers_of h)) × (length lane.now ≡ h.n) × (all_below (size h) lane.now ≡ true) × (r < h.k) × (shifts.now ≡ padded 255 (shifts_of h.n h.k)) }
     ensures { result ≡ stale_fault h lane.now r old }
 {
     let n = h.n as usize;
@@ -90,7 +89,7 @@ pub fn stale_fault(
     r: usize,
     old: u32,
 ) -> u8
-    requires { Sound h × (length lane.now ≡ h.n) × (all_below (size h) lane.now ≡ true) × (r < h.k) × AreTables tables.now × (shifts.now ≡ padded 255 (shifts_of h.n h.k)) }
+    requires { Sound h × (length lane.now ≡ h.n) × (all_below (size h) lane.now ≡ true) × (r < h.k) × (shifts.now ≡ padded 255 (shifts_of h.n h.k)) }
     ensures { result ≡ stale_fault h lane.now r old }
 {
     let powers = powers::powers_with(h, tables);

@@ -2,7 +2,6 @@
 ghost use Rattle.std.specs.Prelude.{◌≡◌, ℕ, ◌+◌, ◌/◌, ◌%◌, ◌≤◌, ◌<◌, eqb, length, get_or};
 ghost use Rattle.lists.specs.Choice.{pick};
 ghost use Rattle.lists.specs.Padded.{padded};
-ghost use Rattle.field.specs.Tables.{AreTables};
 ghost use Rattle.generator.specs.Records.{modulus_of, Sound};
 ghost use Rattle.generator.specs.Shifts.{shifts as shifts_for, shifts_of};
 ghost use Rattle.interpolation.specs.Inner.Polynomials.{product_of};
@@ -107,7 +106,7 @@ fn spread(g: usize, l: usize, q: &[u16; 256]) -> [u16; 256]
 
 // The product where the shifts come in g rounds.
 fn round_product(h: Header, tables: &Tables, g: usize, powers: &[u16]) -> [u16; 256]
-    requires { Sound h × (0 < g) × (g ≤ 255) × InRounds h.n (shifts_for h) g × (powers.now ≡ padded 255 (powers_of h)) × AreTables tables.now }
+    requires { Sound h × (0 < g) × (g ≤ 255) × InRounds h.n (shifts_for h) g × (powers.now ≡ padded 255 (powers_of h)) }
     ensures { result ≡ padded 256 (product_of (modulus_of h) (row_points h)) }
 {
     let field = h.field;
@@ -126,7 +125,7 @@ pub fn row_product(
     powers: &[u16],
     points: &[u16],
 ) -> [u16; 256]
-    requires { Sound h × (powers.now ≡ padded 255 (powers_of h)) × (points.now ≡ row_points h) × AreTables tables.now × (shifts.now ≡ padded 255 (shifts_of h.n h.k)) }
+    requires { Sound h × (powers.now ≡ padded 255 (powers_of h)) × (points.now ≡ row_points h) × (shifts.now ≡ padded 255 (shifts_of h.n h.k)) }
     ensures { result ≡ padded 256 (product_of (modulus_of h) (row_points h)) }
 {
     let field = h.field;

@@ -1,7 +1,6 @@
 // The rows of the generator in the word's polynomial: their points, and the terms of one of them.
 ghost use Rattle.std.specs.Prelude.{◌≡◌, ◌<◌};
 ghost use Rattle.lists.specs.Padded.{padded};
-ghost use Rattle.field.specs.Tables.{AreTables};
 ghost use Rattle.generator.specs.Records.{modulus_of, size, Sound};
 ghost use Rattle.generator.specs.Shifts.{shifts_of};
 ghost use Rattle.node_weights.specs.Inner.Rows.{row_points, base_inverses, row_terms};
@@ -30,7 +29,7 @@ pub fn row_points(h: Header, shifts: &[u8], powers: &[u16]) -> [u16; 255]
 
 // The step from a coefficient's inverse to that of the one below it: (root^k − y) / (root^(k−1)·(1 − y)), where y is root^c for coefficient c.
 fn step_ratio(h: Header, tables: &Tables, top: u32, scale: u32, y: u32) -> u32
-    requires { Sound h × (top < size h) × (scale < size h) × (y < size h) × AreTables tables.now }
+    requires { Sound h × (top < size h) × (scale < size h) × (y < size h) }
     ensures { (result ≡ step_ratio (modulus_of h) top scale y) × (result < size h) }
 {
     let field = h.field;
@@ -41,7 +40,7 @@ fn step_ratio(h: Header, tables: &Tables, top: u32, scale: u32, y: u32) -> u32
 
 // 1 over the coefficients of the base polynomial, from the highest down, and zeros after them.
 fn base_inverses(h: Header, tables: &Tables, powers: &[u16]) -> [u16; 255]
-    requires { Sound h × (powers.now ≡ padded 255 (powers_of h)) × AreTables tables.now }
+    requires { Sound h × (powers.now ≡ padded 255 (powers_of h)) }
     ensures { result ≡ padded 255 (base_inverses h) }
 {
     let field = h.field;
@@ -69,7 +68,7 @@ pub fn row_terms(
     points: &[u16],
     r: usize,
 ) -> [u16; 255]
-    requires { Sound h × (powers.now ≡ padded 255 (powers_of h)) × (points.now ≡ row_points h) × (r < h.k) × AreTables tables.now × (shifts.now ≡ padded 255 (shifts_of h.n h.k)) }
+    requires { Sound h × (powers.now ≡ padded 255 (powers_of h)) × (points.now ≡ row_points h) × (r < h.k) × (shifts.now ≡ padded 255 (shifts_of h.n h.k)) }
     ensures { result ≡ padded 255 (row_terms h r) }
 {
     let product = rounds::row_product(h, tables, shifts, powers, points);

@@ -4,7 +4,6 @@ ghost use Rattle.std.specs.Prelude.{◌≡◌, true, map, ◌*◌, ◌≤◌, �
 ghost use Rattle.lists.specs.Numbers.{all_below};
 ghost use Rattle.lists.specs.Padded.{padded};
 ghost use Rattle.layout.specs.Width.{bytes_of};
-ghost use Rattle.field.specs.Tables.{AreTables};
 ghost use Rattle.generator.specs.Records.{modulus_of, size, width, Sound};
 ghost use Rattle.check_sums.specs.Inner.Powers.{powers_of};
 ghost use Rattle.mends.specs.Inner.BySums.{HasSums, LaneSums, first_off, up_nodes, mended_at};
@@ -15,7 +14,7 @@ use generator::Header;
 
 // The first place whose next check sum is not c times its own, or the last.
 fn first_off(h: Header, tables: &Tables, c: u32, sums: &[u16]) -> usize
-    requires { HasSums h sums.now × (c < size h) × AreTables tables.now }
+    requires { HasSums h sums.now × (c < size h) }
     ensures { result ≡ first_off (modulus_of h) c sums.now }
 {
     let field = h.field;
@@ -32,7 +31,7 @@ fn first_off(h: Header, tables: &Tables, c: u32, sums: &[u16]) -> usize
 
 // Writes the nodes j for which the check sums go up by root^j, rising; gives how many.
 fn list_nodes(h: Header, tables: &Tables, roots: &[u16], sums: &[u16], nodes: &mut [u8]) -> usize
-    requires { HasSums h sums.now × (roots.now ≡ padded 255 (powers_of h)) × (length nodes.old ≡ h.n) × AreTables tables.now }
+    requires { HasSums h sums.now × (roots.now ≡ padded 255 (powers_of h)) × (length nodes.old ≡ h.n) }
     ensures { (result ≡ length (up_nodes h sums.now)) × (nodes.new ≡ in_front (up_nodes h sums.now) nodes.old) }
 {
     let n = h.n as usize;
@@ -49,7 +48,7 @@ fn list_nodes(h: Header, tables: &Tables, roots: &[u16], sums: &[u16], nodes: &m
 
 // The new symbol of node j: what it holds less the first check sum over root^j.
 fn mended(h: Header, tables: &Tables, roots: &[u16], lane: &[u16], sums: &[u16], j: usize) -> u16
-    requires { LaneSums h lane.now sums.now × (roots.now ≡ padded 255 (powers_of h)) × (j < h.n) × AreTables tables.now }
+    requires { LaneSums h lane.now sums.now × (roots.now ≡ padded 255 (powers_of h)) × (j < h.n) }
     ensures { result ≡ mended_at h lane.now sums.now j }
 {
     let field = h.field;
@@ -68,7 +67,7 @@ fn new_symbols(
     sums: &[u16],
     nodes: &[u8],
 ) -> [u16; 255]
-    requires { LaneSums h lane.now sums.now × (roots.now ≡ padded 255 (powers_of h)) × (all_below h.n nodes.now ≡ true) × (length nodes.now ≤ 255) × AreTables tables.now }
+    requires { LaneSums h lane.now sums.now × (roots.now ≡ padded 255 (powers_of h)) × (all_below h.n nodes.now ≡ true) × (length nodes.now ≤ 255) }
     ensures { result ≡ padded 255 (map (mended_at h lane.now sums.now) nodes.now) }
 {
     let mut out = [0u16; 255];

@@ -4,7 +4,6 @@
 ghost use Rattle.std.specs.Prelude.{◌≡◌, true, ◌<◌, ◌≤◌, length};
 ghost use Rattle.field.specs.Fields.{size_of};
 ghost use Rattle.field.specs.Kinds.{modulus, usable};
-ghost use Rattle.field.specs.Tables.{AreTables};
 ghost use Rattle.lists.specs.Padded.{padded};
 ghost use Rattle.generator.specs.Records.{modulus_of, size, Sound};
 ghost use Rattle.generator.specs.Shifts.{shifts as shifts_for};
@@ -51,7 +50,7 @@ pub fn rebuild_weights(h: Header, nodes: &[u8], target: u32) -> [u16; 255]
 
 // The basis of the points root^(j + offset).
 pub fn lagrange_basis(field: Field, tables: &Tables, root: u32, places: &[u8], offset: u32) -> Basis
-    requires { (usable field ≡ true) × (root < size_of (modulus field)) × (length places.now ≤ 255) × (offset < 256) × AreTables tables.now }
+    requires { (usable field ≡ true) × (root < size_of (modulus field)) × (length places.now ≤ 255) × (offset < 256) }
     ensures { result ≡ basis_of (modulus field) (points_of (modulus field) root offset places.now) }
 {
     let count = places.len();
@@ -88,7 +87,7 @@ pub fn prepare(h: Header, nodes: &[u8], shifts: &[u8]) -> Setup
 
 // The terms of the row with the point x: the coefficients of the product over the points of the other rows, each over that of the base polynomial; and zeros after them.
 pub fn terms_at(h: Header, tables: &Tables, product: &[u16], base: &[u16], x: u32) -> [u16; 255]
-    requires { Sound h × (product.now ≡ padded 256 (product_of (modulus_of h) (row_points h))) × (base.now ≡ padded 255 (base_inverses h)) × (x < size h) × AreTables tables.now }
+    requires { Sound h × (product.now ≡ padded 256 (product_of (modulus_of h) (row_points h))) × (base.now ≡ padded 255 (base_inverses h)) × (x < size h) }
     ensures { result ≡ padded 255 (terms_at h x) }
 {
     let field = h.field;
@@ -100,7 +99,7 @@ pub fn terms_at(h: Header, tables: &Tables, product: &[u16], base: &[u16], x: u3
 
 // The terms of row r.
 pub fn row_terms(h: Header, tables: &Tables, rows: Basis, base: [u16; 255], r: usize) -> [u16; 255]
-    requires { Sound h × (rows ≡ basis_of (modulus_of h) (row_points h)) × (base ≡ padded 255 (base_inverses h)) × (r < h.k) × AreTables tables.now }
+    requires { Sound h × (rows ≡ basis_of (modulus_of h) (row_points h)) × (base ≡ padded 255 (base_inverses h)) × (r < h.k) }
     ensures { result ≡ padded 255 (row_terms h r) }
 {
     let points = rows.points;

@@ -2,7 +2,6 @@
 ghost use Rattle.std.specs.Prelude.{◌≡◌, ◌+◌, ◌-◌, ◌<◌};
 ghost use Rattle.lists.specs.Padded.{padded};
 ghost use Rattle.field.specs.Fields.{mul, power};
-ghost use Rattle.field.specs.Tables.{AreTables};
 ghost use Rattle.generator.specs.Records.{modulus_of, size};
 ghost use Rattle.generator.specs.Generator.{base_at, entry_at, base_word};
 
@@ -11,7 +10,6 @@ use generator::Code;
 
 // Entry 0, factor by factor; y is root^i.
 fn first_entry(code: Code, tables: &Tables) -> u32
-    requires { AreTables tables.now }
     ensures { result ≡ entry_at code.header 0 0 }
 {
     let field = code.header.field;
@@ -29,7 +27,7 @@ fn first_entry(code: Code, tables: &Tables) -> u32
 
 // p(root·x) from p(x), which is `entry`: p(root·x)·(x − pole) = p(x)·(scale·x − pole), where scale is root^(k−1) and pole is root^(k−2).
 fn next_entry(code: Code, tables: &Tables, scale: u32, pole: u32, x: u32, entry: u32) -> u32
-    requires { (scale ≡ power (modulus_of code.header) code.header.root (code.header.k - 1)) × (pole ≡ power (modulus_of code.header) code.header.root (code.header.n + code.header.k - 2)) × (x < size code.header) × (x ≡ pole → ⊥) × (entry ≡ base_at code.header x) × AreTables tables.now }
+    requires { (scale ≡ power (modulus_of code.header) code.header.root (code.header.k - 1)) × (pole ≡ power (modulus_of code.header) code.header.root (code.header.n + code.header.k - 2)) × (x < size code.header) × (x ≡ pole → ⊥) × (entry ≡ base_at code.header x) }
     ensures { result ≡ base_at code.header (mul (modulus_of code.header) code.header.root x) }
 {
     let field = code.header.field;
@@ -41,7 +39,6 @@ fn next_entry(code: Code, tables: &Tables, scale: u32, pole: u32, x: u32, entry:
 
 // The n − k + 1 entries that are not 0, each from the one before it, and zeros after them.
 pub fn fill_base(code: Code, tables: &Tables) -> [u16; 255]
-    requires { AreTables tables.now }
     ensures { result ≡ padded 255 (base_word code.header) }
 {
     let h = code.header;

@@ -1,6 +1,5 @@
 // The generator of a code: all that its entries are read from.
 ghost use Rattle.std.specs.Prelude.{◌≡◌, ◌<◌};
-ghost use Rattle.field.specs.Tables.{AreTables};
 ghost use Rattle.generator.specs.Generator.{entry};
 ghost use Rattle.plan.specs.Inner.Planned.{Planned};
 
@@ -20,7 +19,6 @@ pub struct Generator {
 impl Generator {
     #[tactic(auto, unfolding(crate::specs::Plans::plan_of))]
     pub fn new(code: Code, tables: &Tables) -> Self
-        requires { AreTables tables.now }
         ensures { result.code ≡ code }
     {
         let shifts = shifts::fill_shifts(code.header.n, code.header.k);

@@ -7,7 +7,6 @@ ghost use Rattle.lists.specs.Padded.{padded};
 ghost use Rattle.layout.specs.Width.{symbols_of, bytes_of};
 ghost use Rattle.field.specs.Fields.{size_of};
 ghost use Rattle.field.specs.Kinds.{modulus};
-ghost use Rattle.field.specs.Tables.{AreTables};
 ghost use Rattle.generator.specs.Records.{modulus_of, width, Sound};
 ghost use Rattle.interpolation.specs.Inner.Points.{SymbolList};
 ghost use Rattle.interpolation.specs.Inner.Polynomials.{quotient_of};
@@ -71,7 +70,7 @@ fn scaled_column(
     w: usize,
     sums: &[u8],
 ) -> [u16; 255]
-    requires { SymbolList field scales.now × (scale < size_of (modulus field)) × (r < length scales.now) × SumBytes field w (length scales.now) sums.now × AreTables tables.now }
+    requires { SymbolList field scales.now × (scale < size_of (modulus field)) × (r < length scales.now) × SumBytes field w (length scales.now) sums.now }
     ensures { result ≡ padded 255 (scaled_column (modulus field) scale scales.now r (symbols_of w sums.now)) }
 {
     let mut out = [0u16; 255];

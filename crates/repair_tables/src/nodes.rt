@@ -2,7 +2,6 @@
 ghost use Rattle.std.specs.Prelude.{◌≡◌, true, ◌-◌, ◌^◌, ◌<◌};
 ghost use Rattle.lists.specs.Numbers.{all_below};
 ghost use Rattle.lists.specs.Padded.{padded};
-ghost use Rattle.field.specs.Tables.{AreTables};
 ghost use Rattle.generator.specs.Records.{size, Sound};
 ghost use Rattle.check_sums.specs.Inner.Powers.{powers_of};
 ghost use Rattle.traces.specs.Traces.{TraceBits};
@@ -73,7 +72,7 @@ pub fn spare(h: Header, count: usize) -> u32
 
 // u = root^(node − target).
 fn ratio(h: Header, tables: &Tables, target: u32, node: u32) -> u32
-    requires { Sound h × (target < h.n) × (node < h.n) × AreTables tables.now }
+    requires { Sound h × (target < h.n) × (node < h.n) }
     ensures { result ≡ ratio h target node }
 {
     let field = h.field;
@@ -84,7 +83,7 @@ fn ratio(h: Header, tables: &Tables, target: u32, node: u32) -> u32
 
 // u − 1.
 fn offset(h: Header, tables: &Tables, target: u32, node: u32) -> u32
-    requires { Sound h × (target < h.n) × (node < h.n) × AreTables tables.now }
+    requires { Sound h × (target < h.n) × (node < h.n) }
     ensures { result ≡ offset h target node }
 {
     let field = h.field;
@@ -105,7 +104,7 @@ pub fn offset_from(h: Header, powers: &[u16], target: usize, node: usize) -> u32
 
 // (u − v) / (1 − v) for the v of one missing node.
 fn erasing(h: Header, tables: &Tables, target: u32, u: u32, missing: u32) -> u32
-    requires { Sound h × (target < h.n) × (u < size h) × (missing < h.n) × AreTables tables.now }
+    requires { Sound h × (target < h.n) × (u < size h) × (missing < h.n) }
     ensures { result ≡ erasing h target u missing }
 {
     let field = h.field;
@@ -117,7 +116,7 @@ fn erasing(h: Header, tables: &Tables, target: u32, u: u32, missing: u32) -> u32
 
 // The product of these over the missing nodes.
 fn eraser(h: Header, tables: &Tables, target: u32, u: u32, missing: &[u8]) -> u32
-    requires { Sound h × (target < h.n) × (u < size h) × (all_below h.n missing.now ≡ true) × AreTables tables.now }
+    requires { Sound h × (target < h.n) × (u < size h) × (all_below h.n missing.now ≡ true) }
     ensures { result ≡ eraser h target u missing.now }
 {
     let field = h.field;
@@ -133,7 +132,7 @@ fn eraser(h: Header, tables: &Tables, target: u32, u: u32, missing: &[u8]) -> u3
 
 // u / (u − 1), times that product.
 pub fn factor(h: Header, tables: &Tables, target: u32, missing: &[u8], node: u32) -> u32
-    requires { Sound h × (target < h.n) × (node < h.n) × (all_below h.n missing.now ≡ true) × AreTables tables.now }
+    requires { Sound h × (target < h.n) × (node < h.n) × (all_below h.n missing.now ≡ true) }
     ensures { result ≡ factor h target missing.now node }
 {
     let field = h.field;

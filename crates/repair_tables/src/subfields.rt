@@ -1,13 +1,12 @@
 // Traces of bytes onto the subfields of 2^b elements.
 ghost use Rattle.std.specs.Prelude.{◌≡◌, ◌<◌, ◌^◌};
-ghost use Rattle.field.specs.Tables.{AreTables};
 ghost use Rattle.traces.specs.Traces.{TraceBits, squarings, trace_of, element};
 
 use field::{Gf256, Tables};
 
 // a^(2^count).
 fn squarings(tables: &Tables, count: u32, a: u32) -> u32
-    requires { (a < 256) × AreTables tables.now }
+    requires { a < 256 }
     ensures { result ≡ squarings count a }
 {
     let field = Gf256::new();
@@ -22,7 +21,7 @@ fn squarings(tables: &Tables, count: u32, a: u32) -> u32
 
 // The trace of a byte.
 pub fn trace(tables: &Tables, b: u32, a: u32) -> u32
-    requires { (0 < b) × (a < 256) × AreTables tables.now }
+    requires { (0 < b) × (a < 256) }
     ensures { result ≡ trace_of b a }
 {
     let terms = 8 / b;

@@ -6,7 +6,6 @@ ghost use Rattle.lists.specs.Numbers.{all_below};
 ghost use Rattle.lists.specs.Padded.{zeros, padded};
 ghost use Rattle.field.specs.Fields.{mul};
 ghost use Rattle.field.specs.Kinds.{modulus, usable};
-ghost use Rattle.field.specs.Tables.{AreTables};
 ghost use Rattle.generator.specs.Records.{modulus_of, Sound};
 ghost use Rattle.check_sums.specs.Inner.Powers.{powers_of};
 ghost use Rattle.traces.specs.Traces.{TraceBits, trace_of, element};
@@ -20,7 +19,7 @@ use generator::Header;
 
 // The trace of a product, by its lowest b bits.
 fn digit(field: Field, tables: &Tables, b: u32, f: u32, x: u32) -> u8
-    requires { (usable field ≡ true) × (modulus field ≡ 0) × TraceBits b × (f < 256) × (x < 256) × AreTables tables.now }
+    requires { (usable field ≡ true) × (modulus field ≡ 0) × TraceBits b × (f < 256) × (x < 256) }
     ensures { result ≡ trace_of b (mul (modulus field) f x) % 2 ^ b }
 {
     let y = field.mul_with(tables, f, x);
@@ -31,7 +30,7 @@ fn digit(field: Field, tables: &Tables, b: u32, f: u32, x: u32) -> u8
 
 // The digits of the multiples of `step`, 1 or 16.
 fn sixteen(field: Field, tables: &Tables, b: u32, f: u32, step: u32) -> [u8; 16]
-    requires { (usable field ≡ true) × (modulus field ≡ 0) × TraceBits b × (f < 256) × (step ≤ 16) × AreTables tables.now }
+    requires { (usable field ≡ true) × (modulus field ≡ 0) × TraceBits b × (f < 256) × (step ≤ 16) }
     ensures { result ≡ from (λ i. trace_of b (mul (modulus field) f (i * step)) % 2 ^ b) 0 16 }
 {
     let mut row = [0u8; 16];
@@ -75,7 +74,7 @@ pub fn digits(h: Header, target: u32, missing: &[u8], node: u32) -> [u8; 256]
 
 // A multiple of the element that a digit stands for.
 fn part(field: Field, tables: &Tables, b: u32, y: u32, d: u32) -> u8
-    requires { (usable field ≡ true) × (modulus field ≡ 0) × (y < 256) × AreTables tables.now }
+    requires { (usable field ≡ true) × (modulus field ≡ 0) × (y < 256) }
     ensures { result ≡ mul (modulus field) y (element b d) }
 {
     let e = subfields::element(b, d);
@@ -109,7 +108,7 @@ fn weight(
     senders: &[u8],
     q: usize,
 ) -> u8
-    requires { Sound h × (modulus_of h ≡ 0) × TraceBits b × (target < h.n) × (all_below h.n senders.now ≡ true) × (q < length senders.now * b) × (powers.now ≡ padded 255 (powers_of h)) × AreTables tables.now }
+    requires { Sound h × (modulus_of h ≡ 0) × TraceBits b × (target < h.n) × (all_below h.n senders.now ≡ true) × (q < length senders.now * b) × (powers.now ≡ padded 255 (powers_of h)) }
     ensures { result ≡ bit_weight h b target senders.now q }
 {
     let field = h.field;

@@ -3,7 +3,6 @@ ghost use Rattle.std.specs.Prelude.{◌≡◌, true, ◌%◌, ◌≤◌, ◌<◌
 ghost use Rattle.lists.specs.Rows.{from};
 ghost use Rattle.lists.specs.Numbers.{all_below};
 ghost use Rattle.lists.specs.Padded.{padded};
-ghost use Rattle.field.specs.Tables.{AreTables};
 ghost use Rattle.generator.specs.Records.{size, Sound};
 ghost use Rattle.generator.specs.Shifts.{negative as negative_of};
 ghost use Rattle.check_sums.specs.Inner.Powers.{powers_of};
@@ -58,7 +57,7 @@ pub fn unchirp(
     exponents: &[u8; 510],
     symbols: &[u16],
 ) -> [u16; 255]
-    requires { Sound h × (powers.now ≡ padded 255 (powers_of h)) × (exponents.now ≡ from (λ x. triangle x % h.n) 0 510) × (length symbols.now ≤ 255) × (all_below (size h) symbols.now ≡ true) × AreTables tables.now }
+    requires { Sound h × (powers.now ≡ padded 255 (powers_of h)) × (exponents.now ≡ from (λ x. triangle x % h.n) 0 510) × (length symbols.now ≤ 255) × (all_below (size h) symbols.now ≡ true) }
     ensures { result ≡ padded 255 (unchirped h symbols.now) }
 {
     let field = h.field;

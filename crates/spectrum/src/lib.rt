@@ -4,7 +4,6 @@
 ghost use Rattle.std.specs.Prelude.{◌≡◌, true, length};
 ghost use Rattle.lists.specs.Numbers.{all_below};
 ghost use Rattle.lists.specs.Padded.{zeros, padded};
-ghost use Rattle.field.specs.Tables.{AreTables};
 ghost use Rattle.generator.specs.Records.{size, Sound};
 ghost use Rattle.check_sums.specs.Inner.Powers.{powers_of};
 ghost use Rattle.spectrum.specs.Inner.Spectrum.{spectrum_of};
@@ -23,7 +22,7 @@ fn blank() -> [u16; 255]
 
 // The spectrum, and zeros after it.
 pub fn spectrum_of(h: Header, tables: &Tables, powers: &[u16], lane: &[u16]) -> [u16; 255]
-    requires { Sound h × (powers.now ≡ padded 255 (powers_of h)) × (length lane.now ≡ h.n) × (all_below (size h) lane.now ≡ true) × AreTables tables.now }
+    requires { Sound h × (powers.now ≡ padded 255 (powers_of h)) × (length lane.now ≡ h.n) × (all_below (size h) lane.now ≡ true) }
     ensures { result ≡ padded 255 (spectrum_of h lane.now) }
 {
     let field = h.field;

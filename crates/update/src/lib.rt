@@ -6,7 +6,6 @@ ghost use Rattle.lists.specs.Counting.{differ};
 ghost use Rattle.layout.specs.Layout.{lane_of, share_layout};
 ghost use Rattle.layout.specs.Width.{symbols_of, bytes_of};
 ghost use Rattle.field.specs.Fields.{add, mul};
-ghost use Rattle.field.specs.Tables.{AreTables};
 ghost use Rattle.lists.specs.Padded.{padded};
 ghost use Rattle.generator.specs.Records.{modulus_of, size, width, Sound};
 ghost use Rattle.generator.specs.Shifts.{shifts_of};
@@ -25,7 +24,7 @@ mod fault;
 
 // What a node holds after x times its entry is added to what it held.
 fn renewed(h: Header, tables: &Tables, x: u32, entry: u16, before: u16) -> u16
-    requires { Sound h × (x < size h) × (entry < size h) × (before < size h) × AreTables tables.now }
+    requires { Sound h × (x < size h) × (entry < size h) × (before < size h) }
     ensures { result ≡ add (modulus_of h) before (mul (modulus_of h) x entry) }
 {
     let field = h.field;
@@ -44,7 +43,7 @@ fn rewrite<'a>(
     x: u32,
     lane: &mut [u8],
 ) -> u32
-    requires { UpdatableWord h w which lane.old × (x < size h) × Planned h shifts.now base.now × AreTables tables.now }
+    requires { UpdatableWord h w which lane.old × (x < size h) × Planned h shifts.now base.now }
     ensures { (lane.new ≡ bytes_of w (word_added h which x (symbols_of w lane.old))) × (result ≡ differ (symbols_of w lane.old) (word_added h which x (symbols_of w lane.old))) }
 {
     let n = h.n as usize;
@@ -79,7 +78,7 @@ pub fn rewrite_lane<'a>(
     base: &'a [u16],
     shares: &mut [u8],
 ) -> u32
-    requires { UpdatableLane h lanes which lane shares.old × (w ≡ width h) × (x < size h) × Planned h shifts.now base.now × AreTables tables.now }
+    requires { UpdatableLane h lanes which lane shares.old × (w ≡ width h) × (x < size h) × Planned h shifts.now base.now }
     ensures { (shares.new ≡ bytes_of w (row_added share_layout h lanes which lane x (symbols_of w shares.old))) × (result ≡ differ (symbols_of w shares.old) (row_added share_layout h lanes which lane x (symbols_of w shares.old))) }
 {
     let size = w * h.n as usize;
@@ -107,7 +106,7 @@ fn judge(
     old: u32,
     lane: &[u8],
 ) -> u8
-    requires { UpdatableWord h w which lane.now × AreTables tables.now × (shifts.now ≡ padded 255 (shifts_of h.n h.k)) }
+    requires { UpdatableWord h w which lane.now × (shifts.now ≡ padded 255 (shifts_of h.n h.k)) }
     ensures { result ≡ stale_fault h (symbols_of w lane.now) which old }
 {
     let n = h.n as usize;
@@ -127,7 +126,7 @@ pub fn judge_lane(
     shifts: &[u8],
     shares: &[u8],
 ) -> u8
-    requires { UpdatableLane h lanes which lane shares.now × (w ≡ width h) × AreTables tables.now × (shifts.now ≡ padded 255 (shifts_of h.n h.k)) }
+    requires { UpdatableLane h lanes which lane shares.now × (w ≡ width h) × (shifts.now ≡ padded 255 (shifts_of h.n h.k)) }
     ensures { result ≡ stale_fault h (lane_of share_layout h.n lanes lane (symbols_of w shares.now)) which old }
 {
     let size = w * h.n as usize;

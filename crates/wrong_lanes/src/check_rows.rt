@@ -2,7 +2,6 @@
 ghost use Rattle.std.specs.Prelude.{◌≡◌, ◌+◌, ◌-◌, ◌*◌, ◌≤◌, ◌<◌, length, set};
 ghost use Rattle.lists.specs.Padded.{padded};
 ghost use Rattle.field.specs.Fields.{sub};
-ghost use Rattle.field.specs.Tables.{AreTables};
 ghost use Rattle.generator.specs.Records.{modulus_of, Sound};
 ghost use Rattle.interpolation.specs.Inner.Lagrange.{scales_of};
 ghost use Rattle.check_sums.specs.Inner.Powers.{powers_of};
@@ -16,7 +15,7 @@ use interpolation::lagrange;
 
 // The weights of check e: those by which the first k nodes give node k + e, −1 there, and zeros after them.
 fn check_weights(h: Header, tables: &Tables, roots: &[u16], scales: &[u16], e: usize) -> [u16; 255]
-    requires { Sound h × (roots.now ≡ padded 255 (powers_of h)) × (scales.now ≡ scales_of (modulus_of h) (first_points h)) × (e < h.n - h.k) × AreTables tables.now }
+    requires { Sound h × (roots.now ≡ padded 255 (powers_of h)) × (scales.now ≡ scales_of (modulus_of h) (first_points h)) × (e < h.n - h.k) }
     ensures { result ≡ set (padded 255 (first_weights h e)) (h.k + e) (sub (modulus_of h) 0 1) }
 {
     let field = h.field;

@@ -24,7 +24,7 @@ listed : (c : After-wrong_nodes-found) → let w = c.wrong_nodes-found.result in
 listed c = (facts c).counted ∙ ap length (sym (facts c).nodes_part)
 
 pub wrong_nodes-found-requires : goal.wrong_nodes-found-requires
-wrong_nodes-found-requires c = (c.requires.0.sound, sums_symbols c.args.h c.args.lane.now c.requires.0 c.args.sums c.requires.1, c.requires.2)
+wrong_nodes-found-requires c = (c.requires.0.sound, sums_symbols c.args.h c.args.lane.now c.requires.0 c.args.sums c.requires.1)
 
 pub slice_bounds-nodes-end : goal.slice_bounds-nodes-end
 slice_bounds-nodes-end c = omega (arith, (facts (goal.at.slice_bounds-nodes-end c).After-wrong_nodes-found).count_few, (facts (goal.at.slice_bounds-nodes-end c).After-wrong_nodes-found).nodes_long)
@@ -40,7 +40,7 @@ slice_bounds-errors-end-2 c = sym (facts (goal.at.slice_bounds-errors-end-2 c).A
 
 pub errors-wrong-requires : goal.errors-wrong-requires
 errors-wrong-requires c =
-    let s = c.requires in ((facts (goal.at.errors-wrong-requires c).After-wrong_nodes-found).terms_symbols, (facts (goal.at.errors-wrong-requires c).After-wrong_nodes-found).terms_long ∙ listed (goal.at.errors-wrong-requires c).After-wrong_nodes-found, s.0.sound.root_below, s.2)
+    let s = c.requires in ((facts (goal.at.errors-wrong-requires c).After-wrong_nodes-found).terms_symbols, (facts (goal.at.errors-wrong-requires c).After-wrong_nodes-found).terms_long ∙ listed (goal.at.errors-wrong-requires c).After-wrong_nodes-found, s.0.sound.root_below)
 
 pub slice_bounds-nodes-end-2 : goal.slice_bounds-nodes-end-2
 slice_bounds-nodes-end-2 c = omega (arith, (facts (goal.at.slice_bounds-nodes-end-2 c).After-wrong_nodes-found).count_few, (facts (goal.at.slice_bounds-nodes-end-2 c).After-wrong_nodes-found).nodes_long)

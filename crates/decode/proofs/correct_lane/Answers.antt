@@ -24,7 +24,7 @@ pub constant_tables-tables-requires : goal.constant_tables-tables-requires
 constant_tables-tables-requires c = _
 
 pub candidate-word-requires : goal.candidate-word-requires
-candidate-word-requires c = (c.requires.0, c.sums_with-sums.ensures, c.constant_tables-tables.ensures)
+candidate-word-requires c = (c.requires.0, c.sums_with-sums.ensures)
 
 pub slice_bounds-differing-end : goal.slice_bounds-differing-end
 slice_bounds-differing-end c = word_long (goal.at.slice_bounds-differing-end c).After-candidate-word

@@ -22,7 +22,7 @@ front_below c =
     at_below _ _ (λ i b. rw (get_or-take ((h.n - h.k) / 2 + 1) c.locate-locator.result i 0 (omega (arith, front_long c))) (c.locate-locator.ensures.below i))
 
 pub locate-locator-requires : goal.locate-locator-requires
-locate-locator-requires c = let s = c.requires in (s.0.usable_field, omega (arith, c.struct_known-1.given), s.1, s.2)
+locate-locator-requires c = let s = c.requires in (s.0.usable_field, omega (arith, c.struct_known-1.given), s.1)
 
 pub slice_bounds-locator-end : goal.slice_bounds-locator-end
 slice_bounds-locator-end c = omega (arith, c.locate-locator.ensures.long, c.struct_known-1.given)
@@ -33,7 +33,7 @@ slice_bounds-find_roots-end c = sym (front_long (goal.at.slice_bounds-find_roots
 pub find_roots-requires : goal.find_roots-requires
 find_roots-requires c =
     let s = c.requires in
-    (record { usable_field = s.0.usable_field; below = front_below (goal.at.find_roots-requires c).After-locate-locator; short = omega (arith, front_long (goal.at.find_roots-requires c).After-locate-locator, c.struct_known-1.given) }, s.0.root_below, omega (arith, c.struct_known-1.given), s.2)
+    (record { usable_field = s.0.usable_field; below = front_below (goal.at.find_roots-requires c).After-locate-locator; short = omega (arith, front_long (goal.at.find_roots-requires c).After-locate-locator, c.struct_known-1.given) }, s.0.root_below, omega (arith, c.struct_known-1.given))
 
 pub returns : goal.returns
 unfolding radius

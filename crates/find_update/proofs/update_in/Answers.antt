@@ -30,7 +30,7 @@ constant_tables-tables-requires c = _
 pub first_other-requires : goal.first_other-requires
 first_other-requires c =
     let (sound, plan, lane) = c.requires in
-    (sound, plan, c.if-k-row.false, rw c.amount_in-amount.ensures (amount_symbol _ sound _ lane _ c.if-k-row.false), lane.long, c.constant_tables-tables.ensures)
+    (sound, plan, c.if-k-row.false, rw c.amount_in-amount.ensures (amount_symbol _ sound _ lane _ c.if-k-row.false), lane.long)
 
 pub returns-then-first_other-difference : goal.returns-then-first_other-difference
 returns-then-first_other-difference c = rw (ne_eqb _ _ c.if-first_other-difference.true) at (compared (goal.at.returns-then-first_other-difference c).After-first_other)

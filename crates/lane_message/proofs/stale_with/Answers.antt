@@ -44,7 +44,7 @@ slice_bounds-symbol_from-end c = rw (part (goal.at.slice_bounds-symbol_from-end 
 pub symbol_from-symbol-requires : goal.symbol_from-symbol-requires
 symbol_from-symbol-requires c =
     let h = c.args.h in
-    (c.requires.0, c.requires.1, rw (part (goal.at.symbol_from-symbol-requires c).After-spectrum_of-spectrum) (length_spectrum h c.args.lane.now), rw (part (goal.at.symbol_from-symbol-requires c).After-spectrum_of-spectrum) (spectrum_below h c.requires.0 c.args.lane.now c.requires.3), c.requires.4, c.requires.5, c.requires.6)
+    (c.requires.0, c.requires.1, rw (part (goal.at.symbol_from-symbol-requires c).After-spectrum_of-spectrum) (length_spectrum h c.args.lane.now), rw (part (goal.at.symbol_from-symbol-requires c).After-spectrum_of-spectrum) (spectrum_below h c.requires.0 c.args.lane.now c.requires.3), c.requires.4, c.requires.5)
 
 pub returns : goal.returns
 returns c =

@@ -74,7 +74,7 @@ slice_bounds-row_terms-end c = let q = points (goal.at.slice_bounds-row_terms-en
 
 pub row_terms-terms-requires : goal.row_terms-terms-requires
 row_terms-terms-requires c =
-    (c.requires.0, c.requires.1, (points (goal.at.row_terms-terms-requires c).After-row_points-points).0, c.requires.4, c.requires.5, c.requires.6)
+    (c.requires.0, c.requires.1, (points (goal.at.row_terms-terms-requires c).After-row_points-points).0, c.requires.4, c.requires.5)
 
 pub slice_bounds-weighted_sum-end : goal.slice_bounds-weighted_sum-end
 slice_bounds-weighted_sum-end c = let t = terms (goal.at.slice_bounds-weighted_sum-end c).After-row_terms-terms in rw t.0 (sym t.1.size)
@@ -83,7 +83,7 @@ pub weighted_sum-sum-requires : goal.weighted_sum-sum-requires
 weighted_sum-sum-requires c =
     let t = terms (goal.at.weighted_sum-sum-requires c).After-row_terms-terms in
     let k = coefficients (goal.at.weighted_sum-sum-requires c).After-coefficients-coefficients in
-    (c.requires.0.usable_field, rw t.0 t.1.are.below, rw k.0 (below_padded _ 255 _ (size_pos _ c.requires.0.field) k.1), omega (arith, ap length t.0, t.1.size, ap length k.0, length_padded 255 (coefficients_of c.args.h c.args.spectrum.now) (omega (arith, length_coefficients c.args.h c.args.spectrum.now, few (goal.at.weighted_sum-sum-requires c).Start)), few (goal.at.weighted_sum-sum-requires c).Start), c.requires.5)
+    (c.requires.0.usable_field, rw t.0 t.1.are.below, rw k.0 (below_padded _ 255 _ (size_pos _ c.requires.0.field) k.1), omega (arith, ap length t.0, t.1.size, ap length k.0, length_padded 255 (coefficients_of c.args.h c.args.spectrum.now) (omega (arith, length_coefficients c.args.h c.args.spectrum.now, few (goal.at.weighted_sum-sum-requires c).Start)), few (goal.at.weighted_sum-sum-requires c).Start))
 
 pub slice_bounds-scale_at-end : goal.slice_bounds-scale_at-end
 slice_bounds-scale_at-end c =
@@ -92,10 +92,10 @@ slice_bounds-scale_at-end c =
 pub scale_at-scale-requires : goal.scale_at-scale-requires
 scale_at-scale-requires c =
     let q = points (goal.at.scale_at-scale-requires c).After-row_points-points in
-    rw q.0 (q.1.are, rw q.1.size c.requires.4, c.requires.5)
+    rw q.0 (q.1.are, rw q.1.size c.requires.4)
 
 pub inverse_with-over-requires : goal.inverse_with-over-requires
-inverse_with-over-requires c = (c.requires.0.usable_field, c.ones.ensures.1, c.requires.5)
+inverse_with-over-requires c = (c.requires.0.usable_field, c.ones.ensures.1)
 
 -- 1 over n
 over : (c : After-inverse_with-over) → c.inverse_with-over.result < size c.args.h
@@ -104,11 +104,11 @@ over c =
 
 pub mul_with-part-requires : goal.mul_with-part-requires
 mul_with-part-requires c =
-    (c.requires.0.usable_field, over c, (sum (goal.at.mul_with-part-requires c).After-weighted_sum-sum).1, c.requires.5)
+    (c.requires.0.usable_field, over c, (sum (goal.at.mul_with-part-requires c).After-weighted_sum-sum).1)
 
 pub mul_with-requires : goal.mul_with-requires
 mul_with-requires c =
-    (c.requires.0.usable_field, scale (goal.at.mul_with-requires c).After-scale_at-scale, rw c.mul_with-part.ensures (mul_below _ c.requires.0.field (over (goal.at.mul_with-requires c).After-inverse_with-over) (sum (goal.at.mul_with-requires c).After-weighted_sum-sum).1), c.requires.5)
+    (c.requires.0.usable_field, scale (goal.at.mul_with-requires c).After-scale_at-scale, rw c.mul_with-part.ensures (mul_below _ c.requires.0.field (over (goal.at.mul_with-requires c).After-inverse_with-over) (sum (goal.at.mul_with-requires c).After-weighted_sum-sum).1))
 
 pub returns : goal.returns
 unfolding symbol_from

@@ -25,7 +25,7 @@ slice_bounds-scales-end c =
 pub scales-scales-requires : goal.scales-scales-requires
 scales-scales-requires c =
     let s = c.requires in
-    rw (part (goal.at.scales-scales-requires c).After-points-points) (points_symbols _ _ _ s.0 s.1 s.2, s.4)
+    rw (part (goal.at.scales-scales-requires c).After-points-points) (points_symbols _ _ _ s.0 s.1 s.2)
 
 pub slice_bounds-product-end : goal.slice_bounds-product-end
 slice_bounds-product-end c =
@@ -35,7 +35,7 @@ slice_bounds-product-end c =
 pub product-product-requires : goal.product-product-requires
 product-product-requires c =
     let s = c.requires in
-    rw (part (goal.at.product-product-requires c).After-points-points) (points_symbols _ _ _ s.0 s.1 s.2, s.4)
+    rw (part (goal.at.product-product-requires c).After-points-points) (points_symbols _ _ _ s.0 s.1 s.2)
 
 pub returns : goal.returns
 unfolding basis_of

@@ -31,14 +31,14 @@ pub inverses-inverses-requires : goal.inverses-inverses-requires
 inverses-inverses-requires c =
     let s = c.requires.0 in
     let t = part (goal.at.inverses-inverses-requires c).After-base-base in
-    (rw t.0 record { usable_field = s.usable_field; below = base_of_below _ s.field _ _ s.root_below; short = omega (arith, t.1, t.2) }, c.constant_tables-tables.ensures)
+    rw t.0 record { usable_field = s.usable_field; below = base_of_below _ s.field _ _ s.root_below; short = omega (arith, t.1, t.2) }
 
 pub lagrange_basis-own-requires : goal.lagrange_basis-own-requires
 lagrange_basis-own-requires c =
     let p = c.requires in
     let s = p.0 in
     let t = part (goal.at.lagrange_basis-own-requires c).After-base-base in
-    (s.usable_field, s.root_below, omega (arith, (nodes_places _ _ p.1).size, t.2), omega arith, c.constant_tables-tables.ensures)
+    (s.usable_field, s.root_below, omega (arith, (nodes_places _ _ p.1).size, t.2), omega arith)
 
 pub lagrange_basis-rows-requires : goal.lagrange_basis-rows-requires
 lagrange_basis-rows-requires c =
@@ -46,7 +46,7 @@ lagrange_basis-rows-requires c =
     let p = c.requires in
     let s = p.0 in
     let t = part (goal.at.lagrange_basis-rows-requires c).After-base-base in
-    (s.usable_field, s.root_below, rw (p.2, shifts_length h.n h.k s.some s.fits) t.2, omega (arith, t.2), c.constant_tables-tables.ensures)
+    (s.usable_field, s.root_below, rw (p.2, shifts_length h.n h.k s.some s.fits) t.2, omega (arith, t.2))
 
 pub returns : goal.returns
 unfolding setup_of row_points base_inverses

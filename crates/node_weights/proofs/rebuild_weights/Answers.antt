@@ -23,7 +23,7 @@ pub points-points-requires : goal.points-points-requires
 points-points-requires c =
     let s = c.requires.0 in
     let n = few (goal.at.points-points-requires c).After-power-z in
-    (s.usable_field, s.root_below, omega arith, omega arith, c.constant_tables-tables.ensures)
+    (s.usable_field, s.root_below, omega arith, omega arith)
 
 -- the part of the array that holds the points
 part : (c : After-points-points)
@@ -51,7 +51,7 @@ pub slice_bounds-scales-end : goal.slice_bounds-scales-end
 slice_bounds-scales-end c = many (goal.at.slice_bounds-scales-end c).After-points-points
 
 pub scales-scales-requires : goal.scales-scales-requires
-scales-scales-requires c = (symbols (goal.at.scales-scales-requires c).After-points-points, c.constant_tables-tables.ensures)
+scales-scales-requires c = symbols (goal.at.scales-scales-requires c).After-points-points
 
 -- their scales as they are lent
 scales-are : (c : After-scales-scales) → let a = c.args in let xs = take a.h.k c.points-points.result in take a.h.k c.scales-scales.result ≡ scales_of (modulus_of a.h) xs
@@ -69,12 +69,7 @@ slice_bounds-values-end-2 c =
 
 pub values-requires : goal.values-requires
 values-requires c =
-    let s = c.requires.0 in (
-      symbols (goal.at.values-requires c).After-points-points,
-      scales-are (goal.at.values-requires c).After-scales-scales,
-      rw c.power-z.ensures (power_below _ s.field _ s.root_below),
-      c.constant_tables-tables.ensures,
-    )
+    let s = c.requires.0 in (symbols (goal.at.values-requires c).After-points-points, scales-are (goal.at.values-requires c).After-scales-scales, rw c.power-z.ensures (power_below _ s.field _ s.root_below))
 
 pub returns : goal.returns
 returns c =

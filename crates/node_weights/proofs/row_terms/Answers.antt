@@ -34,7 +34,7 @@ overflow_cast-points c = omega (arith, point (goal.at.overflow_cast-points c).St
 
 pub terms_at-requires : goal.terms_at-requires
 unfolding basis_of
-terms_at-requires c = (c.requires.0, ap (λ (b : Basis). b.product) c.requires.1, c.requires.2, point (goal.at.terms_at-requires c).Start, c.requires.4)
+terms_at-requires c = (c.requires.0, ap (λ (b : Basis). b.product) c.requires.1, c.requires.2, point (goal.at.terms_at-requires c).Start)
 
 pub returns : goal.returns
 unfolding row_terms

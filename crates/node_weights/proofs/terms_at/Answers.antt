@@ -50,7 +50,7 @@ quotient_terms-requires c =
     let s = c.requires in
     let q = product_is (goal.at.quotient_terms-requires c).After-struct_known-1 in
     let b = inverses-are (goal.at.quotient_terms-requires c).After-struct_known-1 in
-    (rw q.0 q.1.are, rw b.0 b.1.are, rw (q.0, b.0) (b.1.size ∙ sym q.1.size), s.3, s.4)
+    (rw q.0 q.1.are, rw b.0 b.1.are, rw (q.0, b.0) (b.1.size ∙ sym q.1.size), s.3)
 
 pub returns : goal.returns
 returns c = c.quotient_terms.ensures ∙ rw ((product_is (goal.at.returns c).After-struct_known-1).0, (inverses-are (goal.at.returns c).After-struct_known-1).0)

@@ -34,7 +34,7 @@ pub overflow_cast-factors : goal.overflow_cast-factors
 overflow_cast-factors c = omega (arith, c.type_inv.factors c.loop-r.r)
 
 pub scaled_column-column-requires : goal.scaled_column-column-requires
-scaled_column-column-requires c = (c.requires.1, factor (goal.at.scaled_column-column-requires c).In-loop-r, omega (arith, c.requires.2, c.loop-r-test.true), c.requires.3, c.constant_tables-t.ensures)
+scaled_column-column-requires c = (c.requires.1, factor (goal.at.scaled_column-column-requires c).In-loop-r, omega (arith, c.requires.2, c.loop-r-test.true), c.requires.3)
 
 -- the column as it is lent
 taken : (c : After-scaled_column-column) → let a = c.args in take (length a.scales.now) c.scaled_column-column.result ≡ scaled_column (modulus a.field) (get_or a.factors.now c.loop-r.r 0) a.scales.now c.loop-r.r (symbols_of a.w a.sums.now)

@@ -34,7 +34,7 @@ pub overflow_cast-points : goal.overflow_cast-points
 overflow_cast-points c = omega (arith, c.type_inv.points c.loop-i.i)
 
 pub quotient-q-requires : goal.quotient-q-requires
-quotient-q-requires c = (c.requires.1, point (goal.at.quotient-q-requires c).In-loop-i, c.constant_tables-t.ensures)
+quotient-q-requires c = (c.requires.1, point (goal.at.quotient-q-requires c).In-loop-i)
 
 -- the quotient as it is lent
 taken : (c : After-quotient-q) → let a = c.args in take (length a.product.now) c.quotient-q.result ≡ quotient_of (modulus a.field) (get_or a.points.now c.loop-i.i 0) a.product.now

@@ -48,7 +48,7 @@ pub overflow_cast-scales : goal.overflow_cast-scales
 overflow_cast-scales c = omega (arith, c.type_inv.scales c.loop-i.i)
 
 pub mul_with-own-requires : goal.mul_with-own-requires
-mul_with-own-requires c = (c.requires.0.usable_field, c.requires.1, (turn (goal.at.mul_with-own-requires c).In-loop-i).0, c.requires.4)
+mul_with-own-requires c = (c.requires.0.usable_field, c.requires.1, (turn (goal.at.mul_with-own-requires c).In-loop-i).0)
 
 -- the scales' product is a symbol
 own : (c : After-mul_with-own) → c.mul_with-own.result < size_of (modulus c.args.field)
@@ -73,7 +73,7 @@ pub overflow_cast-sum : goal.overflow_cast-sum
 overflow_cast-sum c = omega (arith, sum_is c, (turn (goal.at.overflow_cast-sum c).In-loop-i).1, size_fits _ c.requires.0.usable_field)
 
 pub mul_with-requires : goal.mul_with-requires
-mul_with-requires c = (c.requires.0.usable_field, own (goal.at.mul_with-requires c).After-mul_with-own, sum_below c, c.requires.4)
+mul_with-requires c = (c.requires.0.usable_field, own (goal.at.mul_with-requires c).After-mul_with-own, sum_below c)
 
 pub overflow_cast-out : goal.overflow_cast-out
 overflow_cast-out c =

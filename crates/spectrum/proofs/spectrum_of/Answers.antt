@@ -74,7 +74,7 @@ slice_bounds-unchirp-end c = sym (length_whole _ _ _ _ (c.window_sums.ensures âˆ
 pub unchirp-requires : goal.unchirp-requires
 unchirp-requires c =
     let is = whole_is c.args.h.n _ c.blank-sums.result _ (c.window_sums.ensures âˆ™ sums-of (goal.at.unchirp-requires c).After-window_sums) (length_windows _ _ _ _) in
-    (c.requires.0, c.requires.1, c.exponents-exponents.ensures, rw (is, length_windows) (few (goal.at.unchirp-requires c).After-struct_known-1), rw is (windows_below _ c.requires.0 _ _ _ (unchirped_below _ c.requires.0 _ c.requires.3) (chirps_below _ c.requires.0)), c.requires.4)
+    (c.requires.0, c.requires.1, c.exponents-exponents.ensures, rw (is, length_windows) (few (goal.at.unchirp-requires c).After-struct_known-1), rw is (windows_below _ c.requires.0 _ _ _ (unchirped_below _ c.requires.0 _ c.requires.3) (chirps_below _ c.requires.0)))
 
 pub returns : goal.returns
 returns c =

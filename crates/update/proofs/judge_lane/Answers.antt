@@ -17,7 +17,7 @@ pub slice_bounds-judge-end : goal.slice_bounds-judge-end
 slice_bounds-judge-end c = let (ready, wide, tables, shifts) = c.requires in lane_inside ready _ wide
 
 pub judge-requires : goal.judge-requires
-judge-requires c = let (ready, wide, tables, shifts) = c.requires in (lane_word ready _ wide, tables, shifts)
+judge-requires c = let (ready, wide, tables, shifts) = c.requires in (lane_word ready _ wide, shifts)
 
 pub returns : goal.returns
 returns c = let (ready, wide, tables, shifts) = c.requires in c.judge.ensures ∙ rw (lane_is ready _ wide)

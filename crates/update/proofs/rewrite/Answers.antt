@@ -19,7 +19,7 @@ use Rattle.update.proofs.rewrite.Goals.{After-renewed-after, In-loop-j, Start, e
 
 -- the row's shift is below n
 turned : (c : Start) → get_or c.args.shifts.now c.args.which 0 < c.args.h.n
-turned c = let (ready, factor, plan, tables) = c.requires in rw plan.shifts_are (shift_below _ ready.sound _ ready.row)
+turned c = let (ready, factor, plan) = c.requires in rw plan.shifts_are (shift_below _ ready.sound _ ready.row)
 
 -- node j's bytes lie in the lane
 inside : (c : In-loop-j) → let a = c.args in c.loop-j.j * a.w + a.w ≤ length c.loop-j.lane
@@ -37,13 +37,13 @@ held c =
 -- and becomes what the update says
 becomes : (c : After-renewed-after) → let a = c.args in c.renewed-after.result ≡ after a.h a.which a.x (symbols_of a.w a.lane.now) c.loop-j.j
 becomes c =
-    let (ready, factor, plan, tables) = c.requires in
+    let (ready, factor, plan) = c.requires in
     let node = c.loop-j-test.true in
     rw (← entry_read _ plan _ _ ready.row node, ← c.entry_at-entry.ensures, ← bytes_held ready _ c.loop-j.invariant node, ← c.symbol_at-before.ensures) c.renewed-after.ensures
 
 pub bounds-shifts-which : goal.bounds-shifts-which
 bounds-shifts-which c =
-    let (ready, factor, plan, tables) = c.requires in
+    let (ready, factor, plan) = c.requires in
     rw plan.shifts_are (shift_place _ ready.sound _ ready.row)
 
 pub overflow_cast-shift-2 : goal.overflow_cast-shift-2
@@ -55,7 +55,7 @@ loop-j-init c =
 
 pub entry_at-entry-requires : goal.entry_at-entry-requires
 entry_at-entry-requires c =
-    let (ready, factor, plan, tables) = c.requires in
+    let (ready, factor, plan) = c.requires in
     (ready.sound.byte, turned (goal.at.entry_at-entry-requires c).Start, c.loop-j-test.true, rw plan.base_is (base_room _))
 
 pub symbol_at-before-requires : goal.symbol_at-before-requires
@@ -66,13 +66,7 @@ symbol_at-before-requires c =
 
 pub renewed-after-requires : goal.renewed-after-requires
 renewed-after-requires c =
-    let (ready, factor, plan, tables) = c.requires in (
-      ready.sound,
-      factor,
-      rw (c.entry_at-entry.ensures, entry_read _ plan _ _ ready.row c.loop-j-test.true) (entry_below _ ready.sound _ _),
-      rw c.symbol_at-before.ensures (held (goal.at.renewed-after-requires c).In-loop-j),
-      tables,
-    )
+    let (ready, factor, plan) = c.requires in (ready.sound, factor, rw (c.entry_at-entry.ensures, entry_read _ plan _ _ ready.row c.loop-j-test.true) (entry_below _ ready.sound _ _), rw c.symbol_at-before.ensures (held (goal.at.renewed-after-requires c).In-loop-j))
 
 pub overflow_mul-start : goal.overflow_mul-start
 overflow_mul-start c = omega (arith, inside (goal.at.overflow_mul-start c).In-loop-j, few (goal.at.overflow_mul-start c).In-loop-j)
@@ -85,7 +79,7 @@ slice_bounds-write_symbol-end c = omega (arith, inside (goal.at.slice_bounds-wri
 
 pub write_symbol-requires : goal.write_symbol-requires
 write_symbol-requires c =
-    let (ready, factor, plan, tables) = c.requires in
+    let (ready, factor, plan) = c.requires in
     let range = width_range c.args.h in
     let j = c.loop-j.j in (
       rw ready.wide range.0,
@@ -100,7 +94,7 @@ overflow_add-count c =
 
 pub loop-j-preserved : goal.loop-j-preserved
 loop-j-preserved c =
-    let (ready, factor, plan, tables) = c.requires in
+    let (ready, factor, plan) = c.requires in
     let turn = c.loop-j.invariant in
     let node = c.loop-j-test.true in
     elim c.if-after-before.branch [ then-after-before u ↦ rw (u.lane-is, u.count-is, u.write_symbol.ensures) (bytes_put ready _ turn node _ (becomes (goal.at.loop-j-preserved c).After-renewed-after) (λ e. u.if-after-before.true (e ∙ sym c.symbol_at-before.ensures))) | else-after-before u ↦ rw (u.lane-is, u.count-is) (bytes_skip ready _ turn node _ (becomes (goal.at.loop-j-preserved c).After-renewed-after) (u.if-after-before.false ∙ c.symbol_at-before.ensures)) ]

@@ -18,10 +18,10 @@ bytes c = at_below 256 _ (λ i h. omega (arith, c.type_inv.shares i))
 inside : (c : After-struct_known-1)
     → let a = c.args in
     a.lane * (a.w * a.h.n) + a.w * a.h.n ≤ length a.shares.now
-inside c = let (ready, wide, factor, plan, tables) = c.requires in lane_inside ready _ wide
+inside c = let (ready, wide, factor, plan) = c.requires in lane_inside ready _ wide
 
 pub overflow_mul-size : goal.overflow_mul-size
-overflow_mul-size c = let (ready, wide, factor, plan, tables) = c.requires in omega (arith, lane_few ready _ wide)
+overflow_mul-size c = let (ready, wide, factor, plan) = c.requires in omega (arith, lane_few ready _ wide)
 
 pub overflow_mul-start : goal.overflow_mul-start
 overflow_mul-start c = omega (arith, inside c)
@@ -30,14 +30,14 @@ pub overflow_add-end : goal.overflow_add-end
 overflow_add-end c = omega (arith, inside c)
 
 pub slice_bounds-rewrite-end : goal.slice_bounds-rewrite-end
-slice_bounds-rewrite-end c = let (ready, wide, factor, plan, tables) = c.requires in lane_inside ready _ wide
+slice_bounds-rewrite-end c = let (ready, wide, factor, plan) = c.requires in lane_inside ready _ wide
 
 pub rewrite-requires : goal.rewrite-requires
-rewrite-requires c = let (ready, wide, factor, plan, tables) = c.requires in (lane_word ready _ wide, factor, plan, tables)
+rewrite-requires c = let (ready, wide, factor, plan) = c.requires in (lane_word ready _ wide, factor, plan)
 
 pub returns : goal.returns
 returns c =
-    let (ready, wide, factor, plan, tables) = c.requires in
+    let (ready, wide, factor, plan) = c.requires in
     let (added, counted) = c.rewrite.ensures in
     let low = bytes (goal.at.returns c).After-slice_known-1 in
     (lane_rewritten ready _ wide low _ _ _ added counted, lane_differs ready _ wide low _ _ _ added counted)

@@ -46,7 +46,7 @@ returns-then-number-ne0 c = rw (input_met _ _ _ _ _ _ _ _ c.input_fault-number.e
 
 pub judge_lane-stale-requires : goal.judge_lane-stale-requires
 judge_lane-stale-requires c =
-    ((ready (goal.at.judge_lane-stale-requires c).Else-number-ne0).0, c.width_of-w.ensures.0, c.constant_tables-t.ensures, c.row_shifts-shifts.ensures)
+    ((ready (goal.at.judge_lane-stale-requires c).Else-number-ne0).0, c.width_of-w.ensures.0, c.row_shifts-shifts.ensures)
 
 pub returns-then-stale-ne0 : goal.returns-then-stale-ne0
 returns-then-stale-ne0 c = rw (judged (goal.at.returns-then-stale-ne0 c).After-judge_lane-stale) (update_refuses _ _ c.if-stale-ne0.true _ _ _ _ _ _)
@@ -59,7 +59,7 @@ sub-x-requires c =
 pub rewrite_lane-count-requires : goal.rewrite_lane-count-requires
 rewrite_lane-count-requires c =
     let (lane, old, new) = ready (goal.at.rewrite_lane-count-requires c).Else-number-ne0 in
-    (lane, c.width_of-w.ensures.0, rw c.sub-x.ensures (sub_below _ lane.sound.field new old), planned (goal.at.rewrite_lane-count-requires c).After-fill_base-base, c.constant_tables-t.ensures)
+    (lane, c.width_of-w.ensures.0, rw c.sub-x.ensures (sub_below _ lane.sound.field new old), planned (goal.at.rewrite_lane-count-requires c).After-fill_base-base)
 
 pub returns : goal.returns
 unfolding updated

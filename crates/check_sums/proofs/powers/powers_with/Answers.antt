@@ -15,14 +15,14 @@ use Rattle.check_sums.proofs.powers.powers_with.Goals.{After-mul_with-fourth, Af
 
 -- x is a symbol
 symbol : (c : In-loop-i) → c.loop-i.x < size c.args.h
-symbol c = rw c.loop-i.invariant.0 (power_below _ c.requires.0.field c.loop-i.i c.requires.0.root_below)
+symbol c = rw c.loop-i.invariant.0 (power_below _ c.requires.field c.loop-i.i c.requires.root_below)
 
 -- the square and the fourth power
 square : (c : After-mul_with-square)
     → let h = c.args.h in
     (c.mul_with-square.result ≡ power (modulus_of h) h.root 2) × (c.mul_with-square.result < size h)
 square c =
-    let s = c.requires.0 in
+    let s = c.requires in
     let is = c.mul_with-square.ensures ∙ sym (power_two _ s.field _ s.root_below) in
     (is, rw is (power_below _ s.field 2 s.root_below))
 
@@ -30,23 +30,23 @@ fourth : (c : After-mul_with-fourth)
     → let h = c.args.h in
     c.mul_with-fourth.result ≡ power (modulus_of h) h.root 4
 fourth c =
-    let s = c.requires.0 in
+    let s = c.requires in
     c.mul_with-fourth.ensures ∙ ap₂ (mul _) c.mul_with-square.ensures c.mul_with-square.ensures ∙ sym (power_four _ s.field _ s.root_below)
 
 pub mul_with-square-requires : goal.mul_with-square-requires
-mul_with-square-requires c = (c.requires.0.usable_field, c.requires.0.root_below, c.requires.0.root_below, c.requires.1)
+mul_with-square-requires c = (c.requires.usable_field, c.requires.root_below, c.requires.root_below)
 
 pub mul_with-fourth-requires : goal.mul_with-fourth-requires
-mul_with-fourth-requires c = (c.requires.0.usable_field, (square c).1, (square c).1, c.requires.1)
+mul_with-fourth-requires c = (c.requires.usable_field, (square c).1, (square c).1)
 
 pub mul_with-x3-requires : goal.mul_with-x3-requires
 mul_with-x3-requires c =
-    (c.requires.0.usable_field, c.requires.0.root_below, (square (goal.at.mul_with-x3-requires c).After-mul_with-square).1, c.requires.1)
+    (c.requires.usable_field, c.requires.root_below, (square (goal.at.mul_with-x3-requires c).After-mul_with-square).1)
 
 pub loop-i-init : goal.loop-i-init
 unfolding zeros power
 loop-i-init c =
-    let s = c.requires.0 in (
+    let s = c.requires in (
       refl,
       sym (power_one _ s.field _ s.root_below),
       (square (goal.at.loop-i-init c).After-mul_with-square).0,
@@ -55,16 +55,16 @@ loop-i-init c =
     )
 
 pub overflow_cast-out : goal.overflow_cast-out
-overflow_cast-out c = omega (arith, symbol c, size_fits _ c.requires.0.usable_field)
+overflow_cast-out c = omega (arith, symbol c, size_fits _ c.requires.usable_field)
 
 pub mul_with-x4-requires : goal.mul_with-x4-requires
 mul_with-x4-requires c =
-    let s = c.requires.0 in
-    (s.usable_field, rw (fourth (goal.at.mul_with-x4-requires c).After-mul_with-fourth) (power_below _ s.field 4 s.root_below), symbol c, c.requires.1)
+    let s = c.requires in
+    (s.usable_field, rw (fourth (goal.at.mul_with-x4-requires c).After-mul_with-fourth) (power_below _ s.field 4 s.root_below), symbol c)
 
 pub loop-i-preserved : goal.loop-i-preserved
 loop-i-preserved c =
-    let s = c.requires.0 in
+    let s = c.requires in
     let l = c.loop-i in
     let second : l.i + 2 ≡ l.i + 1 + 1 = omega arith in
     let third : l.i + 3 ≡ l.i + 1 + 2 = omega arith in (

@@ -22,15 +22,15 @@ sum_below c =
     dot_below _ v c.args.sums.now _ c.requires.1.below (quotient_of_below _ v _ c.args.product.now c.requires.3 c.requires.0.below)
 
 pub mul_with-scaled-requires : goal.mul_with-scaled-requires
-mul_with-scaled-requires c = (c.requires.0.usable_field, rw c.quotient_sum-sum.ensures (sum_below (goal.at.mul_with-scaled-requires c).Start), c.requires.4, c.requires.5)
+mul_with-scaled-requires c = (c.requires.0.usable_field, rw c.quotient_sum-sum.ensures (sum_below (goal.at.mul_with-scaled-requires c).Start), c.requires.4)
 
 pub inverse_with-inverse-requires : goal.inverse_with-inverse-requires
-inverse_with-inverse-requires c = (c.requires.0.usable_field, c.requires.3, c.requires.5)
+inverse_with-inverse-requires c = (c.requires.0.usable_field, c.requires.3)
 
 pub mul_with-requires : goal.mul_with-requires
 mul_with-requires c =
     let v = usable_field _ c.requires.0.usable_field in
-    (c.requires.0.usable_field, rw (c.mul_with-scaled.ensures, c.quotient_sum-sum.ensures) (mul_below _ v (sum_below (goal.at.mul_with-requires c).Start) c.requires.4), rw c.inverse_with-inverse.ensures (inverse_below _ v c.requires.3), c.requires.5)
+    (c.requires.0.usable_field, rw (c.mul_with-scaled.ensures, c.quotient_sum-sum.ensures) (mul_below _ v (sum_below (goal.at.mul_with-requires c).Start) c.requires.4), rw c.inverse_with-inverse.ensures (inverse_below _ v c.requires.3))
 
 pub returns : goal.returns
 unfolding error_of

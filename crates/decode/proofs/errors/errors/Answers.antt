@@ -22,7 +22,7 @@ basis : (c : After-lagrange_basis-basis) → let a = c.args in Parts a.field (le
 basis c = let a = c.args in parts a.field (length a.nodes.now) _ c.lagrange_basis-basis.result (points_are (goal.at.After-lagrange_basis-basis c).Start) c.lagrange_basis-basis.ensures
 
 pub lagrange_basis-basis-requires : goal.lagrange_basis-basis-requires
-lagrange_basis-basis-requires c = let s = c.requires in (s.0.usable_field, s.2, omega (arith, s.0.short, s.1), omega arith, s.3)
+lagrange_basis-basis-requires c = let s = c.requires in (s.0.usable_field, s.2, omega (arith, s.0.short, s.1), omega arith)
 
 pub slice_bounds-points-end : goal.slice_bounds-points-end
 slice_bounds-points-end c = omega (arith, (basis (goal.at.slice_bounds-points-end c).After-lagrange_basis-basis).long_points, c.requires.0.short, c.requires.1)
@@ -44,15 +44,7 @@ pub errors_from-requires : goal.errors_from-requires
 errors_from-requires c =
     let s = c.requires in
     let b = basis (goal.at.errors_from-requires c).After-lagrange_basis-basis in
-    rw (b.points, b.scales, b.product) (
-      (points_are (goal.at.errors_from-requires c).Start).are,
-      b.some_scales.are,
-      b.some_product.are,
-      s.0,
-      b.some_scales.size ∙ sym (points_are (goal.at.errors_from-requires c).Start).size,
-      s.1 ∙ sym b.some_product.size,
-      s.3,
-    )
+    rw (b.points, b.scales, b.product) ((points_are (goal.at.errors_from-requires c).Start).are, b.some_scales.are, b.some_product.are, s.0, b.some_scales.size ∙ sym (points_are (goal.at.errors_from-requires c).Start).size, s.1 ∙ sym b.some_product.size)
 
 pub returns : goal.returns
 unfolding errors_of

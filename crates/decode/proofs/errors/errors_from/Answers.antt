@@ -17,14 +17,7 @@ bounds-scales-i c = omega (arith, c.requires.4, c.loop-i-test.true)
 
 pub error_at-e-requires : goal.error_at-e-requires
 error_at-e-requires c =
-    let s = c.requires in (
-      s.2,
-      s.3,
-      s.5,
-      rw c.wide-x.ensures (below_at _ _ s.0.below _ (omega arith)),
-      rw c.wide-scale.ensures (below_at _ _ s.1.below _ (omega (arith, s.4))),
-      s.6,
-    )
+    let s = c.requires in (s.2, s.3, s.5, rw c.wide-x.ensures (below_at _ _ s.0.below _ (omega arith)), rw c.wide-scale.ensures (below_at _ _ s.1.below _ (omega (arith, s.4))))
 
 pub narrow-requires : goal.narrow-requires
 narrow-requires c = (c.requires.0.usable_field, c.error_at-e.ensures.1)

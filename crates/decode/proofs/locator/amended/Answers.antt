@@ -29,7 +29,7 @@ pub at-requires : goal.at-requires
 at-requires c = omega (arith, c.requires.4)
 
 pub mul_with-product-requires : goal.mul_with-product-requires
-mul_with-product-requires c = (c.requires.0, c.requires.1, rw c.at.ensures (second (goal.at.mul_with-product-requires c).In-loop-x), c.requires.5)
+mul_with-product-requires c = (c.requires.0, c.requires.1, rw c.at.ensures (second (goal.at.mul_with-product-requires c).In-loop-x))
 
 pub at-requires-in-loop-x : goal.at-requires-in-loop-x
 at-requires-in-loop-x c = omega (arith, c.requires.4, c.loop-x-test.true)

@@ -16,7 +16,7 @@ unfolding partial
 loop-i-init c = (size_pos _ (usable_field _ c.requires.0), refl)
 
 pub mul_with-term-requires : goal.mul_with-term-requires
-mul_with-term-requires c = (c.requires.0, rw c.entry.ensures (c.requires.2 c.loop-i.i), rw c.entry-in-loop-i.ensures (c.requires.3 (c.args.e + c.loop-i.i)), c.requires.4)
+mul_with-term-requires c = (c.requires.0, rw c.entry.ensures (c.requires.2 c.loop-i.i), rw c.entry-in-loop-i.ensures (c.requires.3 (c.args.e + c.loop-i.i)))
 
 pub add-sum-requires : goal.add-sum-requires
 add-sum-requires c =

@@ -47,7 +47,7 @@ pub overflow_add-l-in-loop-l : goal.overflow_add-l-in-loop-l
 overflow_add-l-in-loop-l c = omega (arith, steps (goal.at.overflow_add-l-in-loop-l c).In-loop-l)
 
 pub discrepancy-d-requires : goal.discrepancy-d-requires
-discrepancy-d-requires c = let s = c.requires in (s.0, omega (arith, steps (goal.at.discrepancy-d-requires c).In-loop-l), below-w (goal.at.discrepancy-d-requires c).At-loop-l, s.2, s.3)
+discrepancy-d-requires c = let s = c.requires in (s.0, omega (arith, steps (goal.at.discrepancy-d-requires c).In-loop-l), below-w (goal.at.discrepancy-d-requires c).At-loop-l, s.2)
 
 pub overflow_add-q : goal.overflow_add-q
 overflow_add-q c = omega (arith, steps (goal.at.overflow_add-q c).In-loop-l)
@@ -75,7 +75,7 @@ overflow_add-l-then-q-l c = omega (arith, steps (goal.at.overflow_add-l-then-q-l
 
 pub amended-u-requires : goal.amended-u-requires
 amended-u-requires c =
-    let s = c.requires in (s.0, below-d (goal.at.amended-u-requires c).At-loop-l _ c.discrepancy-d.ensures, below-w (goal.at.amended-u-requires c).At-loop-l, below-v (goal.at.amended-u-requires c).At-loop-l, omega (arith, steps (goal.at.amended-u-requires c).In-loop-l), s.3)
+    let s = c.requires in (s.0, below-d (goal.at.amended-u-requires c).At-loop-l _ c.discrepancy-d.ensures, below-w (goal.at.amended-u-requires c).At-loop-l, below-v (goal.at.amended-u-requires c).At-loop-l, omega (arith, steps (goal.at.amended-u-requires c).In-loop-l))
 
 pub overflow_add-q-then-q-l : goal.overflow_add-q-then-q-l
 overflow_add-q-then-q-l c = omega (arith, steps (goal.at.overflow_add-q-then-q-l c).In-loop-l)
@@ -106,11 +106,11 @@ overflow_add-q-in-loop-l c = omega (arith, steps (goal.at.overflow_add-q-in-loop
 
 pub amended-u-requires-in-loop-l : goal.amended-u-requires-in-loop-l
 amended-u-requires-in-loop-l c =
-    let s = c.requires in (s.0, below-d (goal.at.amended-u-requires-in-loop-l c).At-loop-l _ c.discrepancy-d.ensures, below-w (goal.at.amended-u-requires-in-loop-l c).At-loop-l, below-v (goal.at.amended-u-requires-in-loop-l c).At-loop-l, omega (arith, steps (goal.at.amended-u-requires-in-loop-l c).In-loop-l), s.3)
+    let s = c.requires in (s.0, below-d (goal.at.amended-u-requires-in-loop-l c).At-loop-l _ c.discrepancy-d.ensures, below-w (goal.at.amended-u-requires-in-loop-l c).At-loop-l, below-v (goal.at.amended-u-requires-in-loop-l c).At-loop-l, omega (arith, steps (goal.at.amended-u-requires-in-loop-l c).In-loop-l))
 
 pub inverse_with-e-requires : goal.inverse_with-e-requires
 inverse_with-e-requires c =
-    let s = c.requires in (s.0, below-d (goal.at.inverse_with-e-requires c).At-loop-l _ c.discrepancy-d.ensures, s.3)
+    let s = c.requires in (s.0, below-d (goal.at.inverse_with-e-requires c).At-loop-l _ c.discrepancy-d.ensures)
 
 pub overflow_add-l-in-loop-l-2 : goal.overflow_add-l-in-loop-l-2
 overflow_add-l-in-loop-l-2 c = omega (arith, steps (goal.at.overflow_add-l-in-loop-l-2 c).In-loop-l)
@@ -118,7 +118,7 @@ overflow_add-l-in-loop-l-2 c = omega (arith, steps (goal.at.overflow_add-l-in-lo
 pub scaled-z-requires : goal.scaled-z-requires
 scaled-z-requires c =
     let s = c.requires in
-    (s.0, rw c.inverse_with-e.ensures (inverse_below _ (named (goal.at.scaled-z-requires c).At-loop-l) (below-d (goal.at.scaled-z-requires c).At-loop-l _ c.discrepancy-d.ensures)), below-w (goal.at.scaled-z-requires c).At-loop-l, omega (arith, steps (goal.at.scaled-z-requires c).In-loop-l), s.3)
+    (s.0, rw c.inverse_with-e.ensures (inverse_below _ (named (goal.at.scaled-z-requires c).At-loop-l) (below-d (goal.at.scaled-z-requires c).At-loop-l _ c.discrepancy-d.ensures)), below-w (goal.at.scaled-z-requires c).At-loop-l, omega (arith, steps (goal.at.scaled-z-requires c).In-loop-l))
 
 pub overflow_add-grown : goal.overflow_add-grown
 overflow_add-grown c = omega (arith, steps (goal.at.overflow_add-grown c).In-loop-l)

@@ -16,7 +16,7 @@ pub entry-requires : goal.entry-requires
 entry-requires c = omega (arith, c.requires.3)
 
 pub mul_with-requires : goal.mul_with-requires
-mul_with-requires c = (c.requires.0, c.requires.1, rw c.entry.ensures (c.requires.2 c.loop-x.x), c.requires.4)
+mul_with-requires c = (c.requires.0, c.requires.1, rw c.entry.ensures (c.requires.2 c.loop-x.x))
 
 pub narrow-requires : goal.narrow-requires
 narrow-requires c =

@@ -30,10 +30,10 @@ unfolding zeros power
 loop-j-init c = (omega arith, refl, rw sub-zero (fills_start _ _))
 
 pub value-y-requires : goal.value-y-requires
-value-y-requires c = let s = c.requires in (s.0, symbol (goal.at.value-y-requires c).At-loop-j, s.3)
+value-y-requires c = let s = c.requires in (s.0, symbol (goal.at.value-y-requires c).At-loop-j)
 
 pub mul_with-x-requires : goal.mul_with-x-requires
-mul_with-x-requires c = let s = c.requires in (s.0.usable_field, s.1, symbol (goal.at.mul_with-x-requires c).At-loop-j, s.3)
+mul_with-x-requires c = let s = c.requires in (s.0.usable_field, s.1, symbol (goal.at.mul_with-x-requires c).At-loop-j)
 
 pub overflow_cast-nodes : goal.overflow_cast-nodes
 overflow_cast-nodes c = omega (arith, c.requires.2)

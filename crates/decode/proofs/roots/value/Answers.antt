@@ -22,7 +22,7 @@ pub loop-i-init : goal.loop-i-init
 loop-i-init c = let a = c.args in (omega arith, sym (poly_at_end _ a.coefficients.now a.x))
 
 pub mul_with-product-requires : goal.mul_with-product-requires
-mul_with-product-requires c = let s = c.requires in (s.0.usable_field, s.1, symbol (goal.at.mul_with-product-requires c).At-loop-i, s.2)
+mul_with-product-requires c = let s = c.requires in (s.0.usable_field, s.1, symbol (goal.at.mul_with-product-requires c).At-loop-i)
 
 pub add-sum-requires : goal.add-sum-requires
 add-sum-requires c =

@@ -21,7 +21,7 @@ use Rattle.find_update.proofs.compare.first_other.Goals.{After-entry_at-entry, A
 read : (c : After-entry_at-entry)
     → c.entry_at-entry.result ≡ entry c.args.h c.args.row c.loop-j.j
 read c =
-    let (sound, plan, row, factor, long, tables) = c.requires in
+    let (sound, plan, row, factor, long) = c.requires in
     c.entry_at-entry.ensures ∙ rw plan (entry_read _ sound _ _ row c.loop-j-test.true)
 
 -- so the test is the comparison
@@ -38,13 +38,13 @@ loop-j-init c = (omega arith, rw sub-zero)
 
 pub entry_at-entry-requires : goal.entry_at-entry-requires
 entry_at-entry-requires c =
-    let (sound, plan, row, factor, long, tables) = c.requires in
+    let (sound, plan, row, factor, long) = c.requires in
     (omega arith, rw plan (shift_below _ sound _ row), c.loop-j-test.true, rw plan (base_room _))
 
 pub is_product-requires : goal.is_product-requires
 is_product-requires c =
-    let (sound, plan, row, factor, long, tables) = c.requires in
-    (sound.usable_field, factor, rw (read (goal.at.is_product-requires c).After-entry_at-entry) (entry_below _ sound _ _), tables)
+    let (sound, plan, row, factor, long) = c.requires in
+    (sound.usable_field, factor, rw (read (goal.at.is_product-requires c).After-entry_at-entry) (entry_below _ sound _ _))
 
 pub returns-then-not-is_product : goal.returns-then-not-is_product
 returns-then-not-is_product c =

@@ -46,7 +46,7 @@ pub multiply_add-q-requires : goal.multiply_add-q-requires
 multiply_add-q-requires c =
     let s = c.requires in
     let t = turn (goal.at.multiply_add-q-requires c).In-loop-i in
-    (s.0.usable_field, s.1, t.0, t.1, s.2)
+    (s.0.usable_field, s.1, t.0, t.1)
 
 -- the next coefficient of the quotient, a symbol
 next : (c : After-multiply_add-q)

@@ -12,15 +12,9 @@ use Rattle.interpolation.proofs.division.quotient_sum.Goals as goal
 
 pub weighted_sum-requires : goal.weighted_sum-requires
 weighted_sum-requires c =
-    let (coefficients, terms, same, low, tables) = c.requires in
+    let (coefficients, terms, same, low) = c.requires in
     let q = quotient_of_symbols c.args.a coefficients low in
-    rw c.quotient-q.ensures (
-      terms.usable_field,
-      terms.below,
-      below_padded _ 255 _ (size_pos _ (usable_field _ terms.usable_field)) q.below,
-      omega (arith, terms.short, length_padded 255 (quotient_of (modulus c.args.field) c.args.a c.args.coefficients.now) q.short),
-      tables,
-    )
+    rw c.quotient-q.ensures (terms.usable_field, terms.below, below_padded _ 255 _ (size_pos _ (usable_field _ terms.usable_field)) q.below, omega (arith, terms.short, length_padded 255 (quotient_of (modulus c.args.field) c.args.a c.args.coefficients.now) q.short))
 
 pub returns : goal.returns
 returns c =

@@ -19,8 +19,8 @@ slice_bounds-products-end c = rw (part (goal.at.slice_bounds-products-end c).Aft
 
 pub products-requires : goal.products-requires
 products-requires c =
-    let (coefficients, factors, same, low, tables) = c.requires in
-    rw (part (goal.at.products-requires c).After-quotient-q) (quotient_of_symbols c.args.a coefficients low, factors, same ∙ sym (length_quotient_of _ _ _), tables)
+    let (coefficients, factors, same, low) = c.requires in
+    rw (part (goal.at.products-requires c).After-quotient-q) (quotient_of_symbols c.args.a coefficients low, factors, same ∙ sym (length_quotient_of _ _ _))
 
 pub returns : goal.returns
 returns c = c.products.ensures ∙ rw (part (goal.at.returns c).After-quotient-q)

@@ -47,7 +47,7 @@ sub-factor-requires c = let s = c.requires in (s.0.usable_field, omega (arith, s
 pub mul_with-product-requires : goal.mul_with-product-requires
 mul_with-product-requires c =
     let s = c.requires in
-    (s.0.usable_field, rw c.sub-factor.ensures (sub_below _ (usable_field _ s.0.usable_field) s.1 (point-low (goal.at.mul_with-product-requires c).In-loop-m)), product-low (goal.at.mul_with-product-requires c).In-loop-m, s.2)
+    (s.0.usable_field, rw c.sub-factor.ensures (sub_below _ (usable_field _ s.0.usable_field) s.1 (point-low (goal.at.mul_with-product-requires c).In-loop-m)), product-low (goal.at.mul_with-product-requires c).In-loop-m)
 
 pub loop-m-preserved : goal.loop-m-preserved
 loop-m-preserved c =

@@ -15,21 +15,16 @@ pub slice_bounds-product_at-end : goal.slice_bounds-product_at-end
 slice_bounds-product_at-end c = sym (length-take-le _ _ (omega arith))
 
 pub product_at-before-requires : goal.product_at-before-requires
-product_at-before-requires c = (symbols_take c.requires.0 c.args.i, c.requires.2, c.requires.3)
+product_at-before-requires c = (symbols_take c.requires.0 c.args.i, c.requires.2)
 
 pub product_at-after-requires : goal.product_at-after-requires
 product_at-after-requires c =
-    (rw (part_rest (c.args.i + 1) c.args.points.now) (symbols_drop c.requires.0 (c.args.i + 1)), c.requires.2, c.requires.3)
+    (rw (part_rest (c.args.i + 1) c.args.points.now) (symbols_drop c.requires.0 (c.args.i + 1)), c.requires.2)
 
 pub mul_with-requires : goal.mul_with-requires
 mul_with-requires c =
     let xs = c.args.points.now in
-    let v = usable_field _ c.requires.0.usable_field in (
-      c.requires.0.usable_field,
-      rw c.product_at-before.ensures (product_at_below _ v _ _ (below_take _ c.args.i xs c.requires.0.below) c.requires.2),
-      rw (c.product_at-after.ensures, part_rest (c.args.i + 1) xs) (product_at_below _ v _ _ (below_drop _ (c.args.i + 1) xs c.requires.0.below) c.requires.2),
-      c.requires.3,
-    )
+    let v = usable_field _ c.requires.0.usable_field in (c.requires.0.usable_field, rw c.product_at-before.ensures (product_at_below _ v _ _ (below_take _ c.args.i xs c.requires.0.below) c.requires.2), rw (c.product_at-after.ensures, part_rest (c.args.i + 1) xs) (product_at_below _ v _ _ (below_drop _ (c.args.i + 1) xs c.requires.0.below) c.requires.2))
 
 pub returns : goal.returns
 unfolding others_at

@@ -35,12 +35,7 @@ mul_with-product-requires c =
     let s = c.requires in
     let l = c.loop-i in
     let v = usable_field _ s.0.usable_field in
-    let low = turn (goal.at.mul_with-product-requires c).In-loop-i in (
-      s.0.usable_field,
-      rw c.sub-factor.ensures (sub_below _ v (omega (arith, s.1)) (omega (arith, s.1))),
-      rw l.invariant.1 (product_at_below _ v _ _ (below_drop _ l.i _ s.0.below) s.1),
-      s.2,
-    )
+    let low = turn (goal.at.mul_with-product-requires c).In-loop-i in (s.0.usable_field, rw c.sub-factor.ensures (sub_below _ v (omega (arith, s.1)) (omega (arith, s.1))), rw l.invariant.1 (product_at_below _ v _ _ (below_drop _ l.i _ s.0.below) s.1))
 
 pub loop-i-preserved : goal.loop-i-preserved
 loop-i-preserved c =

@@ -9,16 +9,16 @@ use Rattle.interpolation.proofs.lagrange.scales.Goals as goal
 
 pub loop-i-init : goal.loop-i-init
 unfolding zeros
-loop-i-init c = filled_start 255 _ _ c.requires.0.short
+loop-i-init c = filled_start 255 _ _ c.requires.short
 
 pub scale_at-requires : goal.scale_at-requires
-scale_at-requires c = let s = c.requires in (s.0, c.loop-i-test.true, s.1)
+scale_at-requires c = let s = c.requires in (s, c.loop-i-test.true)
 
 pub overflow_cast-out : goal.overflow_cast-out
 overflow_cast-out c =
     let s = c.requires in
-    let low = scale_at_below _ (usable_field _ s.0.usable_field) _ _ s.0.below c.loop-i-test.true in
-    omega (arith, c.scale_at.ensures, size_fits _ s.0.usable_field)
+    let low = scale_at_below _ (usable_field _ s.usable_field) _ _ s.below c.loop-i-test.true in
+    omega (arith, c.scale_at.ensures, size_fits _ s.usable_field)
 
 pub loop-i-preserved : goal.loop-i-preserved
 loop-i-preserved c = filled_put c.loop-i.invariant c.loop-i-test.true c.scale_at.ensures

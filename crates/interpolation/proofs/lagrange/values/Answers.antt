@@ -43,7 +43,7 @@ value_is c =
     c.mul_with.ensures ∙ rw (scale-here (goal.at.After-mul_with c).In-loop-i, c.mul_with-others.ensures, c.loop-i.invariant.0, after_is (goal.at.After-mul_with c).In-loop-i) (basis_is (modulus a.field) a.points.now a.z c.loop-i.i c.loop-i-test.true)
 
 pub last_products-after-requires : goal.last_products-after-requires
-last_products-after-requires c = let s = c.requires in (s.0, s.2, s.3)
+last_products-after-requires c = let s = c.requires in (s.0, s.2)
 
 pub loop-i-init : goal.loop-i-init
 unfolding zeros
@@ -59,7 +59,7 @@ pub overflow_cast-after : goal.overflow_cast-after
 overflow_cast-after c = omega (arith, after_is c, after-low c, size_fits _ c.requires.0.usable_field)
 
 pub mul_with-others-requires : goal.mul_with-others-requires
-mul_with-others-requires c = let s = c.requires in (s.0.usable_field, before-low c, rw (after_is c) (after-low c), s.3)
+mul_with-others-requires c = let s = c.requires in (s.0.usable_field, before-low c, rw (after_is c) (after-low c))
 
 pub offset_bounds-scales-i : goal.offset_bounds-scales-i
 offset_bounds-scales-i c = omega (arith, c.requires.0.short, c.loop-i-test.true)
@@ -73,7 +73,7 @@ overflow_cast-scales c = omega (arith, scale-low (goal.at.overflow_cast-scales c
 pub mul_with-requires : goal.mul_with-requires
 mul_with-requires c =
     let s = c.requires in
-    (s.0.usable_field, scale-low (goal.at.mul_with-requires c).In-loop-i, rw c.mul_with-others.ensures (mul_below _ (usable_field _ s.0.usable_field) (before-low (goal.at.mul_with-requires c).In-loop-i) (rw (after_is (goal.at.mul_with-requires c).In-loop-i) (after-low (goal.at.mul_with-requires c).In-loop-i))), s.3)
+    (s.0.usable_field, scale-low (goal.at.mul_with-requires c).In-loop-i, rw c.mul_with-others.ensures (mul_below _ (usable_field _ s.0.usable_field) (before-low (goal.at.mul_with-requires c).In-loop-i) (rw (after_is (goal.at.mul_with-requires c).In-loop-i) (after-low (goal.at.mul_with-requires c).In-loop-i))))
 
 pub overflow_cast-out : goal.overflow_cast-out
 overflow_cast-out c =
@@ -103,7 +103,7 @@ sub-factor-requires c =
 pub mul_with-before-requires : goal.mul_with-before-requires
 mul_with-before-requires c =
     let s = c.requires in
-    (s.0.usable_field, before-low (goal.at.mul_with-before-requires c).In-loop-i, rw c.sub-factor.ensures (sub_below _ (usable_field _ s.0.usable_field) s.2 (point-low (goal.at.mul_with-before-requires c).In-loop-i)), s.3)
+    (s.0.usable_field, before-low (goal.at.mul_with-before-requires c).In-loop-i, rw c.sub-factor.ensures (sub_below _ (usable_field _ s.0.usable_field) s.2 (point-low (goal.at.mul_with-before-requires c).In-loop-i)))
 
 pub loop-i-smaller : goal.loop-i-smaller
 loop-i-smaller c = omega (arith, c.loop-i-test.true)

@@ -53,10 +53,10 @@ slice_bounds-times_linear-end c = rw (places (goal.at.slice_bounds-times_linear-
 pub times_linear-requires : goal.times_linear-requires
 times_linear-requires c =
     let s = c.requires in
-    (s.0, rw (places (goal.at.times_linear-requires c).In-loop-i) (more (goal.at.times_linear-requires c).In-loop-i).symbols, low (goal.at.times_linear-requires c).In-loop-i, s.3)
+    (s.0, rw (places (goal.at.times_linear-requires c).In-loop-i) (more (goal.at.times_linear-requires c).In-loop-i).symbols, low (goal.at.times_linear-requires c).In-loop-i)
 
 pub mul_with-y-requires : goal.mul_with-y-requires
-mul_with-y-requires c = let s = c.requires in (s.0, s.1, low (goal.at.mul_with-y-requires c).In-loop-i, s.3)
+mul_with-y-requires c = let s = c.requires in (s.0, s.1, low (goal.at.mul_with-y-requires c).In-loop-i)
 
 pub loop-i-preserved : goal.loop-i-preserved
 loop-i-preserved c =

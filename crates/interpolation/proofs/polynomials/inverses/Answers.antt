@@ -17,7 +17,7 @@ use Rattle.interpolation.proofs.polynomials.inverses.Goals.{In-loop-i}
 
 pub loop-i-init : goal.loop-i-init
 unfolding zeros
-loop-i-init c = filled_start 255 _ _ c.requires.0.short
+loop-i-init c = filled_start 255 _ _ c.requires.short
 
 pub overflow_cast-c : goal.overflow_cast-c
 overflow_cast-c c = omega (arith, c.type_inv.coefficients c.loop-i.i)
@@ -26,17 +26,17 @@ overflow_cast-c c = omega (arith, c.type_inv.coefficients c.loop-i.i)
 turn : (c : In-loop-i)
     → let a = c.args in
     get_or a.coefficients.now c.loop-i.i 0 < size_of (modulus a.field)
-turn c = below_at _ _ c.requires.0.below _ c.loop-i-test.true
+turn c = below_at _ _ c.requires.below _ c.loop-i-test.true
 
 pub inverse_with-y-requires : goal.inverse_with-y-requires
-inverse_with-y-requires c = let s = c.requires in (s.0.usable_field, turn (goal.at.inverse_with-y-requires c).In-loop-i, s.1)
+inverse_with-y-requires c = let s = c.requires in (s.usable_field, turn (goal.at.inverse_with-y-requires c).In-loop-i)
 
 pub overflow_cast-out : goal.overflow_cast-out
 overflow_cast-out c =
     let s = c.requires in
     let t = turn (goal.at.overflow_cast-out c).In-loop-i in
-    let low = inverse_below _ (usable_field _ s.0.usable_field) t in
-    omega (arith, c.inverse_with-y.ensures, size_fits _ s.0.usable_field)
+    let low = inverse_below _ (usable_field _ s.usable_field) t in
+    omega (arith, c.inverse_with-y.ensures, size_fits _ s.usable_field)
 
 pub loop-i-preserved : goal.loop-i-preserved
 loop-i-preserved c = filled_put c.loop-i.invariant c.loop-i-test.true c.inverse_with-y.ensures

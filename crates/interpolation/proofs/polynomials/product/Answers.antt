@@ -20,7 +20,7 @@ more : (c : In-loop-i)
 more c =
     let a = c.args in
     let l = c.loop-i in
-    let s = c.requires.0 in
+    let s = c.requires in
     let v = usable_field _ s.usable_field in
     let cs = product_of (modulus a.field) (drop l.i a.points.now) in
     let size : length cs ≡ l.size = omega (arith, length_product_of (modulus a.field) (drop l.i a.points.now), length-drop l.i a.points.now) in
@@ -31,7 +31,7 @@ unfolding zeros
 loop-i-init c = (omega arith, omega arith, one_padded ∙ sym (ap (padded 256) (product_of_end _ c.args.points.now)))
 
 pub overflow_add-size : goal.overflow_add-size
-overflow_add-size c = omega (arith, c.requires.0.short)
+overflow_add-size c = omega (arith, c.requires.short)
 
 pub overflow_cast-points : goal.overflow_cast-points
 overflow_cast-points c = omega (arith, c.type_inv.points (c.loop-i.i - 1))
@@ -45,7 +45,7 @@ slice_bounds-times_linear-end c = sym (more (goal.at.slice_bounds-times_linear-e
 pub times_linear-requires : goal.times_linear-requires
 times_linear-requires c =
     let s = c.requires in
-    (s.0.usable_field, (more (goal.at.times_linear-requires c).In-loop-i).symbols, below_at _ _ s.0.below _ (omega arith), s.1)
+    (s.usable_field, (more (goal.at.times_linear-requires c).In-loop-i).symbols, below_at _ _ s.below _ (omega arith))
 
 pub loop-i-preserved : goal.loop-i-preserved
 loop-i-preserved c =

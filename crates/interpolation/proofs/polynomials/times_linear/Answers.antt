@@ -32,7 +32,7 @@ pub overflow_cast-c : goal.overflow_cast-c
 overflow_cast-c c = omega (arith, c.type_inv.coefficients c.loop-i.i)
 
 pub mul_with-term-requires : goal.mul_with-term-requires
-mul_with-term-requires c = let s = c.requires in (s.0, s.2, (turn (goal.at.mul_with-term-requires c).In-loop-i).2, s.3)
+mul_with-term-requires c = let s = c.requires in (s.0, s.2, (turn (goal.at.mul_with-term-requires c).In-loop-i).2)
 
 -- the product with a is a symbol
 scaled : (c : After-mul_with-term) → c.mul_with-term.result < size_of (modulus c.args.field)

@@ -24,7 +24,7 @@ pub overflow_add-places : goal.overflow_add-places
 overflow_add-places c = omega (arith, c.type_inv.places c.loop-i.i)
 
 pub power-requires : goal.power-requires
-power-requires c = let s = c.requires in (s.0, s.1, s.4)
+power-requires c = let s = c.requires in (s.0, s.1)
 
 pub overflow_cast-out : goal.overflow_cast-out
 overflow_cast-out c =

@@ -24,7 +24,7 @@ turn : (c : In-loop-i)
     let n = size_of (modulus a.field) in
     (get_or a.xs.now c.loop-i.i 0 < n) × (get_or a.ys.now c.loop-i.i 0 < n)
 turn c =
-    let (xs, ys, same, tables) = c.requires in
+    let (xs, ys, same) = c.requires in
     (below_at _ _ xs.below _ c.loop-i-test.true, below_at _ _ ys.below _ (omega (arith, c.loop-i-test.true)))
 
 pub overflow_cast-xs : goal.overflow_cast-xs
@@ -38,13 +38,13 @@ overflow_cast-ys c = omega (arith, c.type_inv.ys c.loop-i.i)
 
 pub mul_with-requires : goal.mul_with-requires
 mul_with-requires c =
-    let (xs, ys, same, tables) = c.requires in
+    let (xs, ys, same) = c.requires in
     let t = turn (goal.at.mul_with-requires c).In-loop-i in
-    (xs.usable_field, t.0, t.1, tables)
+    (xs.usable_field, t.0, t.1)
 
 pub overflow_cast-out : goal.overflow_cast-out
 overflow_cast-out c =
-    let (xs, ys, same, tables) = c.requires in
+    let (xs, ys, same) = c.requires in
     let t = turn (goal.at.overflow_cast-out c).In-loop-i in
     omega (arith, c.mul_with.ensures, mul_below _ (usable_field _ xs.usable_field) t.0 t.1, size_fits _ xs.usable_field)
 

@@ -20,7 +20,7 @@ turn : (c : In-loop-i)
     let i = c.loop-i.i - 1 in
     (get_or a.symbols.now i 0 < n) × (get_or a.weights.now i 0 < n)
 turn c =
-    let (usable, symbols, weights, fits, tables) = c.requires in
+    let (usable, symbols, weights, fits) = c.requires in
     let inside = c.loop-i.invariant.0 in
     (below_at _ _ symbols _ (omega arith), below_at _ _ weights _ (omega arith))
 
@@ -35,13 +35,13 @@ overflow_cast-weights c = omega (arith, c.type_inv.weights (c.loop-i.i - 1))
 
 pub mul_with-term-requires : goal.mul_with-term-requires
 mul_with-term-requires c =
-    let (usable, symbols, weights, fits, tables) = c.requires in
+    let (usable, symbols, weights, fits) = c.requires in
     let t = turn (goal.at.mul_with-term-requires c).In-loop-i in
-    (usable, t.0, t.1, tables)
+    (usable, t.0, t.1)
 
 pub add-sum-requires : goal.add-sum-requires
 add-sum-requires c =
-    let (usable, symbols, weights, fits, tables) = c.requires in
+    let (usable, symbols, weights, fits) = c.requires in
     let t = turn (goal.at.add-sum-requires c).In-loop-i in
     let v = usable_field _ usable in
     let l = c.loop-i in

@@ -15,7 +15,7 @@ few c = omega (arith, c.requires.0.fits, c.requires.0.byte)
 
 -- the shifts, lent as a part
 part : (c : Start) → take c.args.h.k c.args.shifts.now ≡ shifts c.args.h
-part c = rw c.requires.4 (take_padded 255 _ _ (length_shifts c.args.h c.requires.0))
+part c = rw c.requires.3 (take_padded 255 _ _ (length_shifts c.args.h c.requires.0))
 
 pub slice_bounds-rounds_of-end : goal.slice_bounds-rounds_of-end
 slice_bounds-rounds_of-end c = sym (ap length (part (goal.at.slice_bounds-rounds_of-end c).Start) ∙ length_shifts c.args.h c.requires.0)
@@ -24,7 +24,7 @@ pub rounds_of-rounds-requires : goal.rounds_of-rounds-requires
 rounds_of-rounds-requires c = (c.requires.0.byte, rw (part (goal.at.rounds_of-rounds-requires c).Start, length_shifts c.args.h c.requires.0) (few (goal.at.rounds_of-rounds-requires c).Start))
 
 pub product-requires : goal.product-requires
-product-requires c = (rw c.requires.2 (row_symbols c.args.h c.requires.0 (few (goal.at.product-requires c).Start)).are, c.requires.3)
+product-requires c = rw c.requires.2 (row_symbols c.args.h c.requires.0 (few (goal.at.product-requires c).Start)).are
 
 pub returns-then-rounds-eq0 : goal.returns-then-rounds-eq0
 returns-then-rounds-eq0 c = c.product.ensures ∙ rw c.requires.2
@@ -32,4 +32,4 @@ returns-then-rounds-eq0 c = c.product.ensures ∙ rw c.requires.2
 pub round_product-requires : goal.round_product-requires
 round_product-requires c =
     let r = c.rounds_of-rounds.ensures in
-    (c.requires.0, omega arith, omega (arith, r.0, c.requires.0.byte), rw (part (goal.at.round_product-requires c).Start) at (r.1 (omega arith)), c.requires.1, c.requires.3)
+    (c.requires.0, omega arith, omega (arith, r.0, c.requires.0.byte), rw (part (goal.at.round_product-requires c).Start) at (r.1 (omega arith)), c.requires.1)

@@ -86,12 +86,12 @@ overflow_cast-powers c = omega (arith, c.type_inv.powers c.loop-c.c)
 pub step_ratio-ratio-requires : goal.step_ratio-ratio-requires
 step_ratio-ratio-requires c =
     let h = c.args.h in
-    (c.requires.0, read (goal.at.step_ratio-ratio-requires c).Start _ (turn (goal.at.step_ratio-ratio-requires c).Start), read (goal.at.step_ratio-ratio-requires c).Start _ (omega (arith, c.requires.0.some, c.requires.0.fits)), read (goal.at.step_ratio-ratio-requires c).Start _ (omega (arith, c.loop-c.invariant.inside, c.requires.0.fits)), c.requires.2)
+    (c.requires.0, read (goal.at.step_ratio-ratio-requires c).Start _ (turn (goal.at.step_ratio-ratio-requires c).Start), read (goal.at.step_ratio-ratio-requires c).Start _ (omega (arith, c.requires.0.some, c.requires.0.fits)), read (goal.at.step_ratio-ratio-requires c).Start _ (omega (arith, c.loop-c.invariant.inside, c.requires.0.fits)))
 
 pub mul_with-value-requires : goal.mul_with-value-requires
 mul_with-value-requires c =
     let l = c.loop-c in
-    (c.requires.0.usable_field, c.step_ratio-ratio.ensures.1, rw l.invariant.value_is (inverses_below c.args.h c.requires.0 l.c), c.requires.2)
+    (c.requires.0.usable_field, c.step_ratio-ratio.ensures.1, rw l.invariant.value_is (inverses_below c.args.h c.requires.0 l.c))
 
 pub overflow_cast-out-in-loop-c : goal.overflow_cast-out-in-loop-c
 overflow_cast-out-in-loop-c c =

@@ -32,7 +32,7 @@ pub overflow_cast-points : goal.overflow_cast-points
 overflow_cast-points c = omega (arith, c.type_inv.points c.args.r)
 
 pub terms_at-requires : goal.terms_at-requires
-terms_at-requires c = (c.requires.0, c.row_product-product.ensures, c.base_inverses-base.ensures, point (goal.at.terms_at-requires c).Start, c.requires.4)
+terms_at-requires c = (c.requires.0, c.row_product-product.ensures, c.base_inverses-base.ensures, point (goal.at.terms_at-requires c).Start)
 
 pub returns : goal.returns
 unfolding row_terms

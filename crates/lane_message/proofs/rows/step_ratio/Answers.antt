@@ -27,13 +27,13 @@ pub sub-requires : goal.sub-requires
 sub-requires c = let s = c.requires in (s.0.usable_field, one_below _ s.0.field, s.3)
 
 pub mul_with-below-requires : goal.mul_with-below-requires
-mul_with-below-requires c = let s = c.requires in (s.0.usable_field, s.2, low c, s.4)
+mul_with-below-requires c = let s = c.requires in (s.0.usable_field, s.2, low c)
 
 pub inverse_with-over-requires : goal.inverse_with-over-requires
-inverse_with-over-requires c = let s = c.requires in (s.0.usable_field, divisor c, s.4)
+inverse_with-over-requires c = let s = c.requires in (s.0.usable_field, divisor c)
 
 pub mul_with-requires : goal.mul_with-requires
-mul_with-requires c = let s = c.requires in (s.0.usable_field, above c, over (goal.at.mul_with-requires c).After-inverse_with-over, s.4)
+mul_with-requires c = let s = c.requires in (s.0.usable_field, above c, over (goal.at.mul_with-requires c).After-inverse_with-over)
 
 pub returns : goal.returns
 unfolding step_ratio

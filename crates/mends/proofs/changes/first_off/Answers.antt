@@ -9,7 +9,7 @@ use Rattle.mends.specs.Inner.BySums.{first_off}
 use Rattle.mends.proofs.changes.first_off.Goals as goal
 
 pub overflow_sub-last : goal.overflow_sub-last
-overflow_sub-last c = let (has, low, tables) = c.requires in omega (arith, has.some)
+overflow_sub-last c = let (has, low) = c.requires in omega (arith, has.some)
 
 pub loop-e-init : goal.loop-e-init
 unfolding first_off
@@ -17,8 +17,8 @@ loop-e-init c = (omega arith, rw sub-zero)
 
 pub is_product-requires : goal.is_product-requires
 is_product-requires c =
-    let (has, low, tables) = c.requires in
-    (has.sound.usable_field, low, below_at _ _ has.symbols c.loop-e.e (omega arith), tables)
+    let (has, low) = c.requires in
+    (has.sound.usable_field, low, below_at _ _ has.symbols c.loop-e.e (omega arith))
 
 pub returns-then-not-is_product : goal.returns-then-not-is_product
 returns-then-not-is_product c = sym (search_found _ _ _ c.loop-e-test.true (sym c.is_product.ensures ∙ not-true _ c.if-not-is_product.true-raw)) ∙ c.loop-e.invariant.1

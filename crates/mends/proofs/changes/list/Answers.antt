@@ -23,7 +23,7 @@ powers-roots-requires c = c.requires.0.has.sound
 pub list_nodes-count-requires : goal.list_nodes-count-requires
 list_nodes-count-requires c =
     let (has, few, nodes, symbols) = c.requires in
-    (has.has, c.powers-roots.ensures, nodes, c.constant_tables-tables.ensures)
+    (has.has, c.powers-roots.ensures, nodes)
 
 pub slice_bounds-new_symbols-end-2 : goal.slice_bounds-new_symbols-end-2
 slice_bounds-new_symbols-end-2 c = let e = c.list_nodes-count.ensures in front_room _ _ _ _ e.1 e.0
@@ -37,7 +37,7 @@ new_symbols-new-requires c =
     let e = c.list_nodes-count.ensures in
     let part = front_part _ _ _ _ e.1 e.0 in
     let short = up_few c.args.h c.args.sums.now in
-    (has, c.powers-roots.ensures, rw part (up_below _ _), rw part (omega (arith, short, few)), c.constant_tables-tables.ensures)
+    (has, c.powers-roots.ensures, rw part (up_below _ _), rw part (omega (arith, short, few)))
 
 -- the part of the new symbols that is written
 new-part : (c : After-new_symbols-new)

@@ -24,7 +24,7 @@ read : (c : In-loop-j)
     → let a = c.args in
     get_or a.roots.now c.loop-j.j 0 ≡ power (modulus_of a.h) a.h.root c.loop-j.j
 read c =
-    let (has, table, long, tables) = c.requires in
+    let (has, table, long) = c.requires in
     rw table (power_at _ _ c.loop-j-test.true)
 
 -- the place that is found decides the test
@@ -37,7 +37,7 @@ tested c =
     ap (λ (e : ℕ). eqb e (length a.sums.now - 1)) (c.first_off.ensures ∙ ap (λ (x : ℕ). first_off (modulus_of a.h) x a.sums.now) (read (goal.at.After-first_off c).In-loop-j))
 
 pub overflow_sub-last : goal.overflow_sub-last
-overflow_sub-last c = let (has, table, long, tables) = c.requires in omega (arith, has.some)
+overflow_sub-last c = let (has, table, long) = c.requires in omega (arith, has.some)
 
 pub loop-j-init : goal.loop-j-init
 unfolding up_nodes
@@ -45,7 +45,7 @@ loop-j-init c = (omega arith, rw sub-zero (fills_start _ _))
 
 pub bounds-roots-j : goal.bounds-roots-j
 bounds-roots-j c =
-    let (has, table, long, tables) = c.requires in
+    let (has, table, long) = c.requires in
     rw table (power_place _ _ c.loop-j-test.true)
 
 pub overflow_cast-roots : goal.overflow_cast-roots
@@ -53,19 +53,19 @@ overflow_cast-roots c = omega (arith, c.type_inv.roots c.loop-j.j)
 
 pub first_off-requires : goal.first_off-requires
 first_off-requires c =
-    let (has, table, long, tables) = c.requires in
+    let (has, table, long) = c.requires in
     let s = has.sound in
-    (has, rw (read (goal.at.first_off-requires c).In-loop-j) (power_below _ s.field _ s.root_below), tables)
+    (has, rw (read (goal.at.first_off-requires c).In-loop-j) (power_below _ s.field _ s.root_below))
 
 pub bounds-nodes-count : goal.bounds-nodes-count
 bounds-nodes-count c =
-    let (has, table, long, tables) = c.requires in
+    let (has, table, long) = c.requires in
     omega (arith, long, c.loop-j.invariant.1.long)
 
 pub loop-j-preserved : goal.loop-j-preserved
 loop-j-preserved c =
     let l = c.loop-j in
-    let (has, table, long, tables) = c.requires in
+    let (has, table, long) = c.requires in
     let todo = rw (passing_next _ _ _ c.loop-j-test.true) at l.invariant.1 in
     let test = tested (goal.at.loop-j-preserved c).After-first_off in (elim c.if-first_off-last.branch [ then-first_off-last w ↦ omega arith | else-first_off-last w ↦ omega arith ], elim c.if-first_off-last.branch [ then-first_off-last w ↦ rw (w.nodes-is, w.count-is) (fills_put (rw (sym test ∙ eq-eqb _ _ w.if-first_off-last.true) at todo) (omega (arith, long))) | else-first_off-last w ↦ rw (w.nodes-is, w.count-is) (rw (sym test ∙ ne_eqb _ _ w.if-first_off-last.false) at todo) ])
 

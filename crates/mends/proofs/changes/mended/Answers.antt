@@ -24,7 +24,7 @@ read : (c : After-shared_slice_known-5-1)
     → let a = c.args in
     get_or a.roots.now ((a.h.n - a.j) % a.h.n) 0 ≡ power (modulus_of a.h) a.h.root ((a.h.n - a.j) % a.h.n)
 read c =
-    let (has, table, node, tables) = c.requires in
+    let (has, table, node) = c.requires in
     rw table (power_at _ _ (inside _ _ node))
 
 -- and the first check sum are symbols
@@ -32,23 +32,23 @@ read_below : (c : After-shared_slice_known-5-1)
     → let a = c.args in
     get_or a.roots.now ((a.h.n - a.j) % a.h.n) 0 < size a.h
 read_below c =
-    let (has, table, node, tables) = c.requires in
+    let (has, table, node) = c.requires in
     let s = has.has.sound in
     rw (read c) (power_below _ s.field _ s.root_below)
 
 sum_below : (c : After-shared_slice_known-5-1) → let a = c.args in get_or a.sums.now 0 0 < size a.h
 sum_below c =
-    let (has, table, node, tables) = c.requires in
+    let (has, table, node) = c.requires in
     below_at _ _ has.has.symbols 0 has.has.some
 
 amount_below : (c : After-mul_with-amount) → c.mul_with-amount.result < size c.args.h
 amount_below c =
-    let (has, table, node, tables) = c.requires in
+    let (has, table, node) = c.requires in
     rw c.mul_with-amount.ensures (mul_below _ has.has.sound.field (sum_below (goal.at.After-mul_with-amount c).After-shared_slice_known-5-1) (read_below (goal.at.After-mul_with-amount c).After-shared_slice_known-5-1))
 
 held_below : (c : After-shared_slice_known-6-1) → let a = c.args in get_or a.lane.now a.j 0 < size a.h
 held_below c =
-    let (has, table, node, tables) = c.requires in
+    let (has, table, node) = c.requires in
     below_at _ _ has.lane.symbols _ (omega (arith, has.lane.long))
 
 result-is : (c : After-sub) → let a = c.args in c.sub.result ≡ mended_at a.h a.lane.now a.sums.now a.j
@@ -59,17 +59,17 @@ result-is c =
     ∙ ap (sub (modulus_of a.h) (get_or a.lane.now a.j 0)) (c.mul_with-amount.ensures ∙ ap (mul (modulus_of a.h) (get_or a.sums.now 0 0)) (read (goal.at.After-sub c).After-shared_slice_known-5-1))
 
 pub bounds-sums-0 : goal.bounds-sums-0
-bounds-sums-0 c = let (has, table, node, tables) = c.requires in has.has.some
+bounds-sums-0 c = let (has, table, node) = c.requires in has.has.some
 
 pub overflow_cast-sums : goal.overflow_cast-sums
 overflow_cast-sums c = omega (arith, c.type_inv.sums 0)
 
 pub offset_bounds-roots-back : goal.offset_bounds-roots-back
-offset_bounds-roots-back c = let (has, table, node, tables) = c.requires in omega (arith, inside _ _ node)
+offset_bounds-roots-back c = let (has, table, node) = c.requires in omega (arith, inside _ _ node)
 
 pub bounds-roots-back : goal.bounds-roots-back
 bounds-roots-back c =
-    let (has, table, node, tables) = c.requires in
+    let (has, table, node) = c.requires in
     rw table (power_place _ _ (inside _ _ node))
 
 pub overflow_cast-roots : goal.overflow_cast-roots
@@ -78,24 +78,24 @@ overflow_cast-roots c =
 
 pub mul_with-amount-requires : goal.mul_with-amount-requires
 mul_with-amount-requires c =
-    let (has, table, node, tables) = c.requires in
-    (has.has.sound.usable_field, sum_below c, read_below c, tables)
+    let (has, table, node) = c.requires in
+    (has.has.sound.usable_field, sum_below c, read_below c)
 
 pub bounds-lane-j : goal.bounds-lane-j
 bounds-lane-j c =
-    let (has, table, node, tables) = c.requires in omega (arith, has.lane.long)
+    let (has, table, node) = c.requires in omega (arith, has.lane.long)
 
 pub overflow_cast-lane : goal.overflow_cast-lane
 overflow_cast-lane c = omega (arith, c.type_inv.lane c.args.j)
 
 pub sub-requires : goal.sub-requires
 sub-requires c =
-    let (has, table, node, tables) = c.requires in
+    let (has, table, node) = c.requires in
     (has.has.sound.usable_field, held_below c, amount_below (goal.at.sub-requires c).After-mul_with-amount)
 
 pub overflow_cast-result : goal.overflow_cast-result
 overflow_cast-result c =
-    let (has, table, node, tables) = c.requires in
+    let (has, table, node) = c.requires in
     omega (arith, result-is c, mended_below _ _ _ has _ node, size_fits _ has.has.sound.usable_field)
 
 pub returns : goal.returns

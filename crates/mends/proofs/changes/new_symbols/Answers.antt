@@ -10,23 +10,23 @@ use Rattle.mends.proofs.changes.new_symbols.Goals as goal
 
 pub loop-i-init : goal.loop-i-init
 unfolding zeros
-loop-i-init c = let (has, table, nodes, few, tables) = c.requires in filled_start 255 _ _ few
+loop-i-init c = let (has, table, nodes, few) = c.requires in filled_start 255 _ _ few
 
 pub overflow_cast-nodes : goal.overflow_cast-nodes
 overflow_cast-nodes c = omega (arith, c.type_inv.nodes c.loop-i.i)
 
 pub mended-requires : goal.mended-requires
 mended-requires c =
-    let (has, table, nodes, few, tables) = c.requires in
-    (has, table, below_at _ _ nodes _ c.loop-i-test.true, tables)
+    let (has, table, nodes, few) = c.requires in
+    (has, table, below_at _ _ nodes _ c.loop-i-test.true)
 
 pub offset_bounds-out-i : goal.offset_bounds-out-i
 offset_bounds-out-i c =
-    let (has, table, nodes, few, tables) = c.requires in omega arith
+    let (has, table, nodes, few) = c.requires in omega arith
 
 pub bounds-out-i : goal.bounds-out-i
 bounds-out-i c =
-    let (has, table, nodes, few, tables) = c.requires in omega arith
+    let (has, table, nodes, few) = c.requires in omega arith
 
 pub loop-i-preserved : goal.loop-i-preserved
 loop-i-preserved c = filled_put c.loop-i.invariant c.loop-i-test.true c.mended.ensures

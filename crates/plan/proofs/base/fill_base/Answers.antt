@@ -41,19 +41,12 @@ next_entry-entry-requires c =
     let h = c.args.code.header in
     let s = c.args.code.sound in
     let pole = c.power-pole.ensures in
-    let l = c.loop-j in (
-      c.power-scale.ensures,
-      pole,
-      rw l.invariant.0 (power_below _ s.field _ s.root_below),
-      λ q. pole_apart h s l.j (omega (arith, s.some)) (sym l.invariant.0 ∙ q ∙ pole),
-      l.invariant.1,
-      c.requires,
-    )
+    let l = c.loop-j in (c.power-scale.ensures, pole, rw l.invariant.0 (power_below _ s.field _ s.root_below), λ q. pole_apart h s l.j (omega (arith, s.some)) (sym l.invariant.0 ∙ q ∙ pole), l.invariant.1)
 
 pub mul_with-x-requires : goal.mul_with-x-requires
 mul_with-x-requires c =
     let s = c.args.code.sound in
-    (s.usable_field, s.root_below, rw c.loop-j.invariant.0 (power_below _ s.field _ s.root_below), c.requires)
+    (s.usable_field, s.root_below, rw c.loop-j.invariant.0 (power_below _ s.field _ s.root_below))
 
 -- after a turn, x and the entry are those of j + 1
 turn : (c : After-mul_with-x)

@@ -33,12 +33,12 @@ pub mul_with-product-requires : goal.mul_with-product-requires
 mul_with-product-requires c =
     let s = c.args.code.sound in
     let t = turn (goal.at.mul_with-product-requires c).In-loop in
-    (s.usable_field, rw c.sub.ensures (sub_below _ s.field t.0 t.1), c.loop.invariant.0, c.requires)
+    (s.usable_field, rw c.sub.ensures (sub_below _ s.field t.0 t.1), c.loop.invariant.0)
 
 pub mul_with-y-requires : goal.mul_with-y-requires
 mul_with-y-requires c =
     let s = c.args.code.sound in
-    (s.usable_field, s.root_below, (turn (goal.at.mul_with-y-requires c).In-loop).1, c.requires)
+    (s.usable_field, s.root_below, (turn (goal.at.mul_with-y-requires c).In-loop).1)
 
 pub loop-preserved : goal.loop-preserved
 loop-preserved c =

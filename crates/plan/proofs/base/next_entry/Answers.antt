@@ -18,11 +18,11 @@ symbols : (c : Start)
     (c.args.scale < q) × (c.args.pole < q) × (c.args.x < q) × (c.args.entry < q)
 symbols c =
     let s = c.args.code.sound in
-    let (scale, pole, low, apart, entry, tables) = c.requires in
+    let (scale, pole, low, apart, entry) = c.requires in
     (rw scale (power_below _ s.field _ s.root_below), rw pole (power_below _ s.field _ s.root_below), low, rw entry (base_at_below _ s low))
 
 pub mul_with-requires : goal.mul_with-requires
-mul_with-requires c = let t = symbols (goal.at.mul_with-requires c).Start in (c.args.code.sound.usable_field, omega arith, omega arith, c.requires.5)
+mul_with-requires c = let t = symbols (goal.at.mul_with-requires c).Start in (c.args.code.sound.usable_field, omega arith, omega arith)
 
 pub sub-above-requires : goal.sub-above-requires
 sub-above-requires c =
@@ -45,7 +45,7 @@ differences c =
     )
 
 pub inverse_with-requires : goal.inverse_with-requires
-inverse_with-requires c = let d = differences c in (c.args.code.sound.usable_field, d.1, c.requires.5)
+inverse_with-requires c = let d = differences c in (c.args.code.sound.usable_field, d.1)
 
 -- the inverse and the ratio are symbols
 inverse : (c : After-inverse_with) → c.inverse_with.result < size c.args.code.header
@@ -53,17 +53,17 @@ inverse c =
     rw c.inverse_with.ensures (inverse_below _ c.args.code.sound.field (differences (goal.at.After-inverse_with c).After-sub-below).1)
 
 pub mul_with-ratio-requires : goal.mul_with-ratio-requires
-mul_with-ratio-requires c = (c.args.code.sound.usable_field, (differences (goal.at.mul_with-ratio-requires c).After-sub-below).0, inverse c, c.requires.5)
+mul_with-ratio-requires c = (c.args.code.sound.usable_field, (differences (goal.at.mul_with-ratio-requires c).After-sub-below).0, inverse c)
 
 pub mul_with-requires-2 : goal.mul_with-requires-2
 mul_with-requires-2 c =
-    (c.args.code.sound.usable_field, (symbols (goal.at.mul_with-requires-2 c).Start).3, rw c.mul_with-ratio.ensures (mul_below _ c.args.code.sound.field (differences (goal.at.mul_with-requires-2 c).After-sub-below).0 (inverse (goal.at.mul_with-requires-2 c).After-inverse_with)), c.requires.5)
+    (c.args.code.sound.usable_field, (symbols (goal.at.mul_with-requires-2 c).Start).3, rw c.mul_with-ratio.ensures (mul_below _ c.args.code.sound.field (differences (goal.at.mul_with-requires-2 c).After-sub-below).0 (inverse (goal.at.mul_with-requires-2 c).After-inverse_with)))
 
 pub returns : goal.returns
 returns c =
     let a = c.args in
     let s = a.code.sound in
-    let (scale, pole, low, apart, entry, tables) = c.requires in
+    let (scale, pole, low, apart, entry) = c.requires in
     let d = differences (goal.at.returns c).After-sub-below in
     c.mul_with-2.ensures
     ∙ ap (mul _ a.entry) c.mul_with-ratio.ensures

@@ -15,13 +15,13 @@ overflow_cast-missing c = omega (arith, c.type_inv.missing (c.loop-i.i - 1))
 
 pub erasing-x-requires : goal.erasing-x-requires
 erasing-x-requires c =
-    let (s, t, u, missing, tables) = c.requires in
-    (s, t, u, below_at _ _ missing _ (omega arith), tables)
+    let (s, t, u, missing) = c.requires in
+    (s, t, u, below_at _ _ missing _ (omega arith))
 
 pub mul_with-product-requires : goal.mul_with-product-requires
 mul_with-product-requires c =
-    let (s, t, u, missing, tables) = c.requires in
-    (s.usable_field, rw c.erasing-x.ensures (erasing_below _ s _ _ _ u), rw c.loop-i.invariant.1 (eraser_below _ s _ _ _ u), tables)
+    let (s, t, u, missing) = c.requires in
+    (s.usable_field, rw c.erasing-x.ensures (erasing_below _ s _ _ _ u), rw c.loop-i.invariant.1 (eraser_below _ s _ _ _ u))
 
 pub loop-i-preserved : goal.loop-i-preserved
 loop-i-preserved c =

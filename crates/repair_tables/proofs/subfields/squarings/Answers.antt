@@ -6,10 +6,10 @@ use Rattle.repair_tables.proofs.Steps.{mul_byte, squarings_next, squarings_end}
 use Rattle.repair_tables.proofs.subfields.squarings.Goals as goal
 
 pub loop-i-init : goal.loop-i-init
-loop-i-init c = (omega arith, c.requires.0, rw sub-zero)
+loop-i-init c = (omega arith, c.requires, rw sub-zero)
 
 pub mul_with-x-requires : goal.mul_with-x-requires
-mul_with-x-requires c = let x = c.loop-i.invariant.1 in (c.requires.1, x, x)
+mul_with-x-requires c = let x = c.loop-i.invariant.1 in (x, x)
 
 pub loop-i-preserved : goal.loop-i-preserved
 loop-i-preserved c =

@@ -15,7 +15,7 @@ pub loop-i-init : goal.loop-i-init
 loop-i-init c = (omega arith, c.requires.1, trace_start _ _ _)
 
 pub squarings-x-requires : goal.squarings-x-requires
-squarings-x-requires c = (c.loop-i.invariant.1, c.requires.2)
+squarings-x-requires c = c.loop-i.invariant.1
 
 pub overflow_add-i : goal.overflow_add-i
 overflow_add-i c = omega (arith, div-le_self 8 c.args.b)

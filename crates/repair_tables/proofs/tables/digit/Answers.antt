@@ -5,10 +5,10 @@ use Rattle.repair_tables.proofs.Steps.{width_some, mul_kind, symbol_kind}
 use Rattle.repair_tables.proofs.tables.digit.Goals as goal
 
 pub mul_with-y-requires : goal.mul_with-y-requires
-mul_with-y-requires c = let (u, kind, width, f, x, tables) = c.requires in (u, symbol_kind _ _ kind f, symbol_kind _ _ kind x, tables)
+mul_with-y-requires c = let (u, kind, width, f, x) = c.requires in (u, symbol_kind _ _ kind f, symbol_kind _ _ kind x)
 
 pub trace-t-requires : goal.trace-t-requires
-trace-t-requires c = let (u, kind, width, f, x, tables) = c.requires in ((width_some _ width).0, rw c.mul_with-y.ensures (mul_kind _ _ _ kind f), tables)
+trace-t-requires c = let (u, kind, width, f, x) = c.requires in ((width_some _ width).0, rw c.mul_with-y.ensures (mul_kind _ _ _ kind f))
 
 pub nonzero_rem-result : goal.nonzero_rem-result
 nonzero_rem-result c = rw c.radix-m.ensures (width_some _ c.requires.2).1

@@ -15,7 +15,7 @@ bits-b-requires c = c.requires.0
 pub factor-f-requires : goal.factor-f-requires
 factor-f-requires c =
     let (s, kind, width, t, missing, j) = c.requires in
-    (s, t, j, missing, c.constant_tables-tables.ensures)
+    (s, t, j, missing)
 
 -- the factor is a byte, and b a width
 low : (c : After-factor-f) → c.factor-f.result < 256
@@ -27,12 +27,12 @@ wide c = let (s, kind, width, t, missing, j) = c.requires in rw c.bits-b.ensures
 pub sixteen-low-requires : goal.sixteen-low-requires
 sixteen-low-requires c =
     let (s, kind, width, t, missing, j) = c.requires in
-    (s.usable_field, kind, wide (goal.at.sixteen-low-requires c).After-factor-f, low (goal.at.sixteen-low-requires c).After-factor-f, omega arith, c.constant_tables-tables.ensures)
+    (s.usable_field, kind, wide (goal.at.sixteen-low-requires c).After-factor-f, low (goal.at.sixteen-low-requires c).After-factor-f, omega arith)
 
 pub sixteen-high-requires : goal.sixteen-high-requires
 sixteen-high-requires c =
     let (s, kind, width, t, missing, j) = c.requires in
-    (s.usable_field, kind, wide (goal.at.sixteen-high-requires c).After-factor-f, low (goal.at.sixteen-high-requires c).After-factor-f, omega arith, c.constant_tables-tables.ensures)
+    (s.usable_field, kind, wide (goal.at.sixteen-high-requires c).After-factor-f, low (goal.at.sixteen-high-requires c).After-factor-f, omega arith)
 
 pub returns : goal.returns
 unfolding sent_digit

@@ -16,7 +16,7 @@ loop-q-init c = let (s, kind, width, t, js, few) = c.requires in rw c.blank_weig
 pub weight-requires : goal.weight-requires
 weight-requires c =
     let (s, kind, width, t, js, few) = c.requires in
-    (s, kind, width, t, js, c.loop-q-test.true, c.powers-powers.ensures, c.constant_tables-tables.ensures)
+    (s, kind, width, t, js, c.loop-q-test.true, c.powers-powers.ensures)
 
 pub bounds-table-q : goal.bounds-table-q
 bounds-table-q c = omega (arith, c.loop-q.invariant.fits)

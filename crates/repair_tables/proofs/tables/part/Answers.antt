@@ -5,7 +5,7 @@ use Rattle.repair_tables.proofs.Steps.{element_byte, mul_kind, symbol_kind}
 use Rattle.repair_tables.proofs.tables.part.Goals as goal
 
 pub mul_with-requires : goal.mul_with-requires
-mul_with-requires c = let (u, kind, y, tables) = c.requires in (u, symbol_kind _ _ kind y, rw c.element-e.ensures (symbol_kind _ _ kind (element_byte _ _)), tables)
+mul_with-requires c = let (u, kind, y) = c.requires in (u, symbol_kind _ _ kind y, rw c.element-e.ensures (symbol_kind _ _ kind (element_byte _ _)))
 
 pub overflow_cast-result : goal.overflow_cast-result
 overflow_cast-result c =

@@ -65,7 +65,7 @@ overflow_cast-powers c = omega (arith, c.type_inv.powers c.negative-e.result)
 
 pub mul_with-requires : goal.mul_with-requires
 mul_with-requires c =
-    (c.requires.0.usable_field, symbol (goal.at.mul_with-requires c).In-loop-j, (power-is (goal.at.mul_with-requires c).After-negative-e).1, c.requires.5)
+    (c.requires.0.usable_field, symbol (goal.at.mul_with-requires c).In-loop-j, (power-is (goal.at.mul_with-requires c).After-negative-e).1)
 
 pub overflow_cast-out : goal.overflow_cast-out
 overflow_cast-out c =

@@ -59,7 +59,7 @@ pub values-weights-requires : goal.values-weights-requires
 values-weights-requires c =
     let h = c.args.h in
     let short : length (range 0 h.k) ≤ 255 = omega (arith, length_range 0 h.k, few h c.requires.0 0) in
-    rw (points_are (goal.at.values-weights-requires c).Start) (points_symbols h.root 0 (range 0 h.k) c.requires.0.usable_field c.requires.0.root_below short, c.requires.2, power-low (goal.at.values-weights-requires c).Start, c.requires.4)
+    rw (points_are (goal.at.values-weights-requires c).Start) (points_symbols h.root 0 (range 0 h.k) c.requires.0.usable_field c.requires.0.root_below short, c.requires.2, power-low (goal.at.values-weights-requires c).Start)
 
 pub overflow_cast-weights : goal.overflow_cast-weights
 overflow_cast-weights c =

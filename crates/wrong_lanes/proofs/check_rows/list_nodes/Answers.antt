@@ -42,7 +42,7 @@ slice_bounds-scales-end c =
 pub scales-scales-requires : goal.scales-scales-requires
 scales-scales-requires c =
     let h = c.args.h in
-    (rw (points_are (goal.at.scales-scales-requires c).After-powers-roots) (points_symbols h.root 0 (range 0 h.k) c.requires.0.usable_field c.requires.0.root_below (omega (arith, length_range 0 h.k, few h c.requires.0 0))), c.constant_tables-t.ensures)
+    rw (points_are (goal.at.scales-scales-requires c).After-powers-roots) (points_symbols h.root 0 (range 0 h.k) c.requires.0.usable_field c.requires.0.root_below (omega (arith, length_range 0 h.k, few h c.requires.0 0)))
 
 pub loop-e-init : goal.loop-e-init
 loop-e-init c = (refl, refl, begun_none _ _ _ _ _ (λ i. length_check_row c.args.h c.requires.0 i))
@@ -60,7 +60,7 @@ slice_bounds-check_weights-end-in-loop-e c = rw (scales-are (goal.at.slice_bound
 
 pub check_weights-weights-requires : goal.check_weights-weights-requires
 check_weights-weights-requires c =
-    (c.requires.0, c.powers-roots.ensures, scales-are (goal.at.check_weights-weights-requires c).In-loop-e, c.loop-e-test.true, c.constant_tables-t.ensures)
+    (c.requires.0, c.powers-roots.ensures, scales-are (goal.at.check_weights-weights-requires c).In-loop-e, c.loop-e-test.true)
 
 -- the weights as they are lent
 taken : (c : After-check_weights-weights) → take c.args.h.n c.check_weights-weights.result ≡ check_row c.args.h c.loop-e.e
