@@ -25,10 +25,8 @@ use Rattle.differences.specs.Promise.{differences_fault, add_fault, DifferencesS
 use Rattle.correct.specs.Promise.{correct_fault, CorrectSays}
 use Rattle.correct.proofs.Answered as A
 use Rattle.find_update.specs.declared.Finding.{Finding}
-use Rattle.find_update.specs.declared.Finding.TheVariants as F
 use Rattle.find_update.specs.Promise.{find_fault, FindSays}
 use Rattle.find_update.proofs.Accepts as FA
-use Rattle.find_update.proofs.Meaning.{not_refused}
 use Rattle.mends.specs.Promise.{mends_fault, mending_of, MendsSay}
 use Rattle.mends.proofs.Accepts.{refused_number}
 use Rattle.weight_counts.specs.Weights.{weights_fault, WeightsSay}
@@ -111,11 +109,11 @@ module _ (rec : List ℕ) where
         by_outcome (own_after rec _ (λ h. add_fault h l difference share) refl (λ none. add_tells h l difference share)) says.promise.answered
         (λ some. rw (ne_eqb _ 0 some) at says.promise.written)
 
-  find : (before after : List ℕ) (r : Finding) → FindSays rec before after r → Judged (record_numbers rec ++ find_numbers h before after) (λ f. r ≡ F.Refused f) (Unit {0})
+  find : (before after : List ℕ) (r : Answer Finding) → FindSays rec before after r → Judged (record_numbers rec ++ find_numbers h before after) (λ f. r ≡ Err f) (Unit {0})
   find before after r says =
       let number = fault_of rec (λ h. find_fault h before after) in
       call_judged number (own_after rec _ (λ h. find_fault h before after) refl (λ none. find_tells h before after))
-      (by_answer F.Refused says.found.promise.answer (λ f. FA.refused_means number _ f (not_refused h _ _)) (FA.answer_refused number _))
+      (by_answer Err says.found.promise.answer (FA.refused_means number _) (FA.answer_refused number _))
       (λ some. tt)
 
   mends : (lane nodes symbols nodes' symbols' : List ℕ) (r : Answer ℕ) → MendsSay rec lane nodes symbols nodes' symbols' r → Judged (record_numbers rec ++ mends_numbers h lane (length nodes) (length symbols)) (λ f. r ≡ Err f) ((nodes' ≡ nodes) × (symbols' ≡ symbols))
