@@ -31,7 +31,7 @@ lengths numbers shifts firsts base e =
     )
 
 -- a record that gives no plan has the number of the answer, and one that gives a plan has none
-refused : (rec : List ℕ) (g : ℕ) → Err g ≡ plan_for (record_of rec) → (g ≡ record_fault rec) × (g ≡ 0 → ⊥)
+pub refused : (rec : List ℕ) (g : ℕ) → Err g ≡ plan_for (record_of rec) → (g ≡ record_fault rec) × (g ≡ 0 → ⊥)
 unfolding record_of judged plan_for
 refused rec g e = go (record_fault rec) refl
   where

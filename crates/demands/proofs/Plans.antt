@@ -5,7 +5,6 @@ use mathlib.Core.Path.{◌≡◌, refl, sym, ap₂, ◌∙◌}
 use mathlib.Core.List.{List}
 use Prim.Native.Nat.{ℕ, zero, suc, ◌+◌, ◌*◌}
 use native.Mathlib.Omega.{arith}
-use Rattle.lists.proofs.Cases.{never}
 use Rattle.lists.proofs.Padding.{length_padded, padded_past}
 use Rattle.field.specs.declared.Field.TheVariants.{Prime}
 use Rattle.field.specs.Kinds.{prime_of}
@@ -19,6 +18,7 @@ use Rattle.generator.proofs.Shifts.{shifts_length, firsts_length}
 use Rattle.plan.specs.declared.Plan.{Plan}
 use Rattle.plan.specs.Plans.{plan_of, plan_for, PlanSays}
 use Rattle.plan.proofs.Plans.{shift_in, first_in, entry_read, length_base}
+use Rattle.balanced_c.proofs.Plans.{refused}
 use Rattle.demands.specs.Judging.{Judged}
 use Rattle.demands.specs.Numbers.{record_numbers}
 use Rattle.demands.specs.Plans.{PlanHolds, Plans}
@@ -56,16 +56,7 @@ accepted rec r says none =
     let h = header_of rec in
     (plan_of h, says.plan ∙ rw none refl, holds h (faultless_sound rec none))
 
--- an answer that gives a number gives the record's
-refused : (rec : List ℕ) (g : ℕ) → Err g ≡ plan_for (record_of rec) → (g ≡ record_fault rec) × (g ≡ 0 → ⊥)
-unfolding record_of judged plan_for
-refused rec g e = go (record_fault rec) e
-  where
-    go : (f : ℕ) → Err g ≡ plan_for (judged f (header_of rec)) → (g ≡ f) × (g ≡ 0 → ⊥)
-    go zero e = never cc
-    go (suc f) e = let same : g ≡ suc f = cc in (same, λ z. omega arith)
-
--- and a record that meets a number has it for its answer
+-- a record that meets a number has it for its answer
 met : (rec : List ℕ) → (record_fault rec ≡ 0 → ⊥) → plan_for (record_of rec) ≡ Err (record_fault rec)
 unfolding record_of judged plan_for
 met rec = go (record_fault rec)
