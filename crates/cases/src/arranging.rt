@@ -1,6 +1,5 @@
 // Shares of a block that stand node after node put lane after lane, and back; those of all nodes, or of listed ones.
-use balanced::{listed_to_lanes, listed_to_nodes, to_lanes, to_nodes};
-use generator::Refusal;
+use balanced::{Refusal, listed_to_lanes, listed_to_nodes, to_lanes, to_nodes};
 use std::alloc::Global;
 use test_calls::write;
 use test_tools::MARK;

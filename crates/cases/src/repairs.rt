@@ -1,6 +1,5 @@
 // Calls of a repair by traces.
-use balanced::RepairPlan;
-use generator::Refusal;
+use balanced::{Refusal, RepairPlan};
 use std::alloc::{AllocError, Global};
 use test_calls::{Refused, write};
 use test_tools::MARK;

@@ -1,5 +1,5 @@
 // Calls that test shares, or change them in place.
-use generator::Refusal;
+use balanced::Refusal;
 use std::alloc::{AllocError, Global};
 use test_calls::{Refused, done, turned_away};
 use test_tools::List;
