@@ -1,5 +1,5 @@
 -- `read_accepted` meets its contract: it writes only where no number is met.
-use mathlib.Core.Path.{◌≡◌, sym, ap, ◌∙◌}
+use mathlib.Core.Path.{◌≡◌, ap, ◌∙◌}
 use Prim.Native.Nat.{ℕ}
 use lib.ListN.{length}
 use Rattle.blocks.specs.Answers.{outcome_of}

@@ -1,5 +1,5 @@
 -- `move_accepted` meets its contract: symbols are moved only where no number is met.
-use mathlib.Core.Path.{◌≡◌, sym, ap, ◌∙◌}
+use mathlib.Core.Path.{◌≡◌, ap, ◌∙◌}
 use native.Mathlib.Nat.{mul_comm}
 use lib.ListN.{length}
 use Rattle.layout.specs.Width.{bytes_of}

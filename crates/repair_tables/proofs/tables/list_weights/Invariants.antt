@@ -1,5 +1,4 @@
 -- `list_weights` meets its contract.
-use Prim.Native.Nat.{◌-◌}
 use Rattle.lists.proofs.Fill.{Filled}
 use Rattle.repair_tables.specs.Inner.Weights.{bit_weight}
 use Rattle.repair_tables.proofs.tables.list_weights.Given as goal

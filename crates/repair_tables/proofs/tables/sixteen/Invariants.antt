@@ -1,5 +1,5 @@
 -- `sixteen` meets its contract.
-use Prim.Native.Nat.{◌-◌, ◌*◌}
+use Prim.Native.Nat.{◌*◌}
 use Rattle.lists.proofs.Fill.{Filled}
 use Rattle.field.specs.Kinds.{modulus}
 use Rattle.repair_tables.proofs.Steps.{digit_of}
