@@ -5,7 +5,7 @@ A citation is a path in code type, from crates/ or from the top, and after a col
 `scheme/proofs/Bounds.antt`: `price`, `reads_up`. A name must be defined in that file; that the word occurs there does not do:
 
     .antt       a definition or theorem, a record, a data type; a member is Record.field
-    .rt .rs     a function, a struct, an enum, a constant; a member is Struct.field, Enum.Case, Type.method,
+    .rt .rs     a function, a struct, an enum, a trait, a constant; a member is Struct.field, Enum.Case, Type.method,
                 or Function.label, a labelled part of a function's contract
     .py .c .h   a function, a class, a constant
 
@@ -68,7 +68,7 @@ def antt_names(text):
     return names
 
 
-ITEM = re.compile(r"^(\s*)(?:pub(?:\([^)]*\))?\s+)?(?:extern\s+\"C\"\s+)?(fn|struct|enum|const|static|type|mod)\s+(\w+)")
+ITEM = re.compile(r"^(\s*)(?:pub(?:\([^)]*\))?\s+)?(?:extern\s+\"C\"\s+)?(fn|struct|enum|trait|const|static|type|mod)\s+(\w+)")
 BLOCK = re.compile(r"^(\s*)impl(?:<[^>]*>)?\s+(?:\w+(?:<[^>]*>)?\s+for\s+)?(\w+)")
 MEMBER = re.compile(r"^\s*(?:pub\s+)?(\w+)\s*(?:[:(,{]|$)")
 LABEL = re.compile(r"^\s*ensures\s+([\w-]+)\s*\{")
@@ -86,7 +86,7 @@ def rattle_names(text):
         elif item:
             names |= {item.group(3), f"{holder}.{item.group(3)}"}
             function = item.group(3) if item.group(2) == "fn" else None
-            if item.group(2) in ("struct", "enum") and line.rstrip().endswith("{"):
+            if item.group(2) in ("struct", "enum", "trait") and line.rstrip().endswith("{"):
                 holder, depth = item.group(3), len(item.group(1))
         elif label and function:
             names.add(f"{function}.{label.group(1)}")

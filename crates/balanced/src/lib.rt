@@ -2,17 +2,18 @@
 #![tactic(auto)]
 
 pub use belongs::block_belongs;
-pub use carry::{CarriedLen, carried_len, carry_in, carry_out};
-pub use choose::{Chosen, choose_record};
-pub use correct::{Correction, correct_block};
+pub use carry::{carried_len, carry_in, carry_out};
+pub use choose::choose_record;
+pub use correct::correct_block;
 pub use differences::{add_share, differences};
 pub use encode::encode_block;
 pub use find_update::{Finding, find_update};
-pub use mends::{Mending, single_mends};
+pub use generator::Refusal;
+pub use mends::single_mends;
 pub use plan::build_plan;
 pub use rearrange::{listed_to_lanes, listed_to_nodes, to_lanes, to_nodes};
 pub use recover::{rebuild_share, recover_block};
 pub use repair::{RepairPlan, repair_bits, repair_plan, repair_share};
-pub use roster::{Job, Listing, Roster, Step};
+pub use roster::{Listing, Roster};
 pub use update::update_lane;
 pub use weight_counts::weight_counts;

@@ -1,88 +1,121 @@
 -- From the answers of the calls to what the functions of the C interface promise.
-use Rattle.std.specs.Prelude.{Option, Some, None, Ok, Err}
-use Rattle.generator.specs.Answers.{Answer}
-use mathlib.Core.Path.{◌≡◌, sym, ap, ◌∙◌}
+use Rattle.std.specs.Prelude.{Option, Some, None, Ok, Err, unwrap_or}
+use Rattle.std.specs.Result.{result_unwrap_or}
+use Rattle.generator.specs.Answers.{Answer, outcome_of}
+use mathlib.Core.Path.{◌≡◌, refl, sym, ap, ap₂, ◌∙◌}
 use mathlib.Core.List.{List}
-use Prim.Native.Nat.{ℕ}
+use Prim.Native.Nat.{ℕ, zero, suc}
+use lib.Dec.{eqb}
 use lib.ListN.{length}
+use Rattle.lists.specs.Choice.{pick}
 use Rattle.layout.specs.Layout.{Arrangement, share_layout}
 use Rattle.generator.specs.declared.Header.{Header}
 use Rattle.generator.specs.Records.{header_of}
-use Rattle.blocks.specs.Bytes.{wrong_lane}
+use Rattle.blocks.specs.Bytes.{altered_count, wrong_lane}
 use Rattle.refusals.specs.Faults.{fault_of}
 use Rattle.belongs.specs.Promise.{belongs_fault, BelongsSays}
 use Rattle.recover.specs.Promise.{recover_fault, rebuild_fault, RecoverSays, RebuildSays}
 use Rattle.update.specs.Promise.{update_fault, UpdateSays}
 use Rattle.encode.specs.Promise.{encode_fault, EncodeSays}
-use Rattle.blocks.specs.Answers.{outcome_of}
-use Rattle.blocks.specs.Inner.Answers.{outcome_number}
-use Rattle.blocks.proofs.Answered.{outcome_number_lem, altered_means, refused_means, yes_means, no_means, refusal_means}
+use Rattle.blocks.specs.Answers.{update_of, membership_of}
+use Rattle.blocks.proofs.Answered.{yes_means, no_means, refusal_means}
 use Rattle.blocks.proofs.Bytes.{altered_symbols}
-use Rattle.blocks.proofs.Refused.{update_refused, refused_value}
+use Rattle.blocks.proofs.Refused.{refused_value}
 use Rattle.rearrange.specs.Promise.{RearrangeSays, rearrange_fault}
 use Rattle.weight_counts.specs.Weights.{weights_fault, WeightsSay}
+use Rattle.roster.specs.Rosters.{fault_in}
 use Rattle.balanced_c.specs.Calls.{EncodeGives, UpdateGives, RecoverGives, RebuildGives, BelongsGives, RearrangeGives, WeightsGive}
 
--- an outcome that a call says, by its number
-pub by_number : (a : Answer (Unit {0})) (r f : ℕ) → r ≡ outcome_number a → a ≡ outcome_of f → r ≡ f
-by_number a r f e answer = e ∙ ap outcome_number answer ∙ outcome_number_lem f
+-- the number of an answer is the one that it was made of
+number_lem : (f : ℕ) → fault_in (outcome_of f) ≡ f
+unfolding outcome_of
+number_lem zero = refl
+number_lem (suc f) = refl
 
-pub encode_gives : (rec : List ℕ) (l : ℕ) (message shares shares' : List ℕ) (a : Answer (Unit {0})) (r : ℕ) → r ≡ outcome_number a → EncodeSays rec l message shares shares' a → EncodeGives rec l message shares shares' r
+-- an outcome that a call says, by its number
+pub by_number : (a : Answer (Unit {0})) (r f : ℕ) → r ≡ fault_in a → a ≡ outcome_of f → r ≡ f
+by_number a r f e answer = e ∙ ap fault_in answer ∙ number_lem f
+
+pub encode_gives : (rec : List ℕ) (l : ℕ) (message shares shares' : List ℕ) (a : Answer (Unit {0})) (r : ℕ) → r ≡ fault_in a → EncodeSays rec l message shares shares' a → EncodeGives rec l message shares shares' r
 encode_gives rec l message shares shares' a r e says =
     let number = by_number a r (fault_of rec (λ h. encode_fault h l (length shares) message)) e says.promise.answer in
     record { number = number; says = record { promise = record { answer = ap outcome_of number; written = says.promise.written } } }
 
-pub recover_gives : (rec : List ℕ) (l : ℕ) (nodes shares message message' : List ℕ) (a : Answer (Unit {0})) (r : ℕ) → r ≡ outcome_number a → RecoverSays rec l nodes shares message message' a → RecoverGives rec l nodes shares message message' r
+pub recover_gives : (rec : List ℕ) (l : ℕ) (nodes shares message message' : List ℕ) (a : Answer (Unit {0})) (r : ℕ) → r ≡ fault_in a → RecoverSays rec l nodes shares message message' a → RecoverGives rec l nodes shares message message' r
 recover_gives rec l nodes shares message message' a r e says =
     let number = by_number a r (fault_of rec (λ h. recover_fault h l nodes shares (length message))) e says.promise.answer in
     record { number = number; says = record { promise = record { answer = ap outcome_of number; written = says.promise.written } } }
 
-pub rebuild_gives : (rec : List ℕ) (l : ℕ) (nodes shares : List ℕ) (target : ℕ) (share share' : List ℕ) (a : Answer (Unit {0})) (r : ℕ) → r ≡ outcome_number a → RebuildSays rec l nodes shares target share share' a → RebuildGives rec l nodes shares target share share' r
+pub rebuild_gives : (rec : List ℕ) (l : ℕ) (nodes shares : List ℕ) (target : ℕ) (share share' : List ℕ) (a : Answer (Unit {0})) (r : ℕ) → r ≡ fault_in a → RebuildSays rec l nodes shares target share share' a → RebuildGives rec l nodes shares target share share' r
 rebuild_gives rec l nodes shares target share share' a r e says =
     let number = by_number a r (fault_of rec (λ h. rebuild_fault h l nodes shares target (length share))) e says.promise.answer in
     record { number = number; says = record { promise = record { answer = ap outcome_of number; written = says.promise.written } } }
 
-pub rearrange_gives : (y z : Arrangement) (rows : Header → ℕ) (rec : List ℕ) (l : ℕ) (source out out' : List ℕ) (a : Answer (Unit {0})) (r : ℕ) → r ≡ outcome_number a → RearrangeSays y z rows rec l source out out' a → RearrangeGives y z rows rec l source out out' r
+pub rearrange_gives : (y z : Arrangement) (rows : Header → ℕ) (rec : List ℕ) (l : ℕ) (source out out' : List ℕ) (a : Answer (Unit {0})) (r : ℕ) → r ≡ fault_in a → RearrangeSays y z rows rec l source out out' a → RearrangeGives y z rows rec l source out out' r
 rearrange_gives y z rows rec l source out out' a r e says =
     let number = by_number a r (fault_of rec (λ h. rearrange_fault h (rows h) l (length source) (length out))) e says.promise.answered in
     record { number = number; says = record { promise = record { answered = ap outcome_of number; written = says.promise.written } } }
 
-pub weights_give : (rec counts counts' : List ℕ) (a : Answer (Unit {0})) (r : ℕ) → r ≡ outcome_number a → WeightsSay rec counts counts' a → WeightsGive rec counts counts' r
+pub weights_give : (rec counts counts' : List ℕ) (a : Answer (Unit {0})) (r : ℕ) → r ≡ fault_in a → WeightsSay rec counts counts' a → WeightsGive rec counts counts' r
 weights_give rec counts counts' a r e says =
     let number = by_number a r (fault_of rec (λ h. weights_fault h (length counts))) e says.counted.promise.answer in
     record { number = number; says = record { counted = record { promise = record { answer = ap outcome_of number; written = says.counted.promise.written } }; claims = says.claims } }
 
-module _ (rec : List ℕ) (l symbol lane old new : ℕ) (shares : List ℕ) (altered : ℕ) (shares' : List ℕ) (a : Answer ℕ) (says : UpdateSays rec l symbol lane old new shares shares' a) where
-  pub update_done : (count : ℕ) → a ≡ Ok count → UpdateGives rec l symbol lane old new shares altered shares' count 0
-  update_done count e =
-      let (none, same) = altered_means (fault_of rec (λ h. update_fault share_layout h l symbol lane old new shares)) _ count (sym e ∙ says.promise.answer) in
+-- an answer with a value: its number, what is handed over, and the same answer made of that
+module _ (count held : ℕ) where
+  pub counted_number : (f : ℕ) → fault_in (update_of f count) ≡ f
+  unfolding update_of
+  counted_number zero = refl
+  counted_number (suc f) = refl
+
+  pub counted_value : (f : ℕ) → result_unwrap_or (update_of f count) held ≡ pick (eqb f 0) count held
+  unfolding update_of
+  counted_value zero = refl
+  counted_value (suc f) = refl
+
+  pub counted_again : (f : ℕ) → update_of f (pick (eqb f 0) count held) ≡ update_of f count
+  unfolding update_of
+  counted_again zero = refl
+  counted_again (suc f) = refl
+
+-- a value that is handed over where no number is met
+pub handed : (f : ℕ) {u v w : ℕ} → (f ≡ 0 → u ≡ v) → pick (eqb f 0) u w ≡ pick (eqb f 0) v w
+handed zero same = same refl
+handed (suc f) same = refl
+
+module _ (rec : List ℕ) (l symbol lane old new : ℕ) (shares : List ℕ) (altered : ℕ) (shares' : List ℕ) (a : Answer ℕ) where
+  abbrev update_number : ℕ
+  update_number = fault_of rec (λ h. update_fault share_layout h l symbol lane old new shares)
+
+  abbrev count : ℕ
+  count = altered_count share_layout (header_of rec) l symbol lane old new shares
+
+  pub update_gives : (altered' r : ℕ) → r ≡ fault_in a → altered' ≡ result_unwrap_or a altered → UpdateSays rec l symbol lane old new shares shares' a → UpdateGives rec l symbol lane old new shares altered shares' altered' r
+  update_gives altered' r e v says =
+      let number : r ≡ update_number = e ∙ ap fault_in says.promise.answer ∙ counted_number count altered update_number in
+      let value : altered' ≡ pick (eqb update_number 0) count altered = v ∙ ap (λ (x : Answer ℕ). result_unwrap_or x altered) says.promise.answer ∙ counted_value count altered update_number in
       record {
-        number = sym none;
-        says = record { promise = record { answer = rw (none, same); written = says.promise.written } };
-        altered_is = same ∙ altered_symbols (header_of rec) share_layout l symbol lane old new shares shares' (rw none at says.promise.written);
+        number = number;
+        says = record { promise = record { answer = ap₂ update_of number value ∙ counted_again count altered update_number; written = says.promise.written } };
+        altered_is = rw number (value ∙ handed update_number (λ none. altered_symbols (header_of rec) share_layout l symbol lane old new shares shares' (rw none at says.promise.written)));
       }
 
-  pub update_refuses : (g : ℕ) → a ≡ Err g → UpdateGives rec l symbol lane old new shares altered shares' altered g
-  update_refuses g e =
-      let (same, some) = refused_means (fault_of rec (λ h. update_fault share_layout h l symbol lane old new shares)) _ g (sym e ∙ says.promise.answer) in
-      record {
-        number = same;
-        says = record { promise = record { answer = update_refused g altered some ∙ sym e ∙ says.promise.answer; written = says.promise.written } };
-        altered_is = sym (refused_value g _ altered some);
-      }
+module _ (rec : List ℕ) (l : ℕ) (shares : List ℕ) (first : ℕ) where
+  abbrev belongs_number : ℕ
+  belongs_number = fault_of rec (λ h. belongs_fault h l shares)
 
-module _ (rec : List ℕ) (l : ℕ) (shares : List ℕ) (first : ℕ) (a : Answer (Option ℕ)) (says : BelongsSays rec l shares a) where
-  pub belongs_yes : a ≡ Ok None → BelongsGives rec l shares first l 0
-  belongs_yes e =
-      let (none, all) = yes_means (fault_of rec (λ h. belongs_fault h l shares)) l (wrong_lane share_layout (header_of rec) l shares) (sym e ∙ says.promise.answer) in
-      record { number = sym none; first_is = sym all }
+  abbrev wrong : ℕ
+  wrong = wrong_lane share_layout (header_of rec) l shares
 
-  pub belongs_no : (t : ℕ) → a ≡ Ok (Some t) → BelongsGives rec l shares first t 0
-  belongs_no t e =
-      let (none, at, other) = no_means (fault_of rec (λ h. belongs_fault h l shares)) l (wrong_lane share_layout (header_of rec) l shares) t (sym e ∙ says.promise.answer) in
-      record { number = sym none; first_is = sym at }
+  -- the lane that is named, or the number of lanes
+  named : (f : ℕ) (w : Option ℕ) → Ok w ≡ membership_of f l wrong → (f ≡ 0) × (unwrap_or w l ≡ wrong)
+  named f None e = let (none, all) = yes_means f l wrong e in (none, sym all)
+  named f (Some t) e = let (none, at, other) = no_means f l wrong t e in (none, sym at)
 
-  pub belongs_refuses : (g : ℕ) → a ≡ Err g → BelongsGives rec l shares first first g
-  belongs_refuses g e =
-      let (same, some) = refusal_means (fault_of rec (λ h. belongs_fault h l shares)) l (wrong_lane share_layout (header_of rec) l shares) g (sym e ∙ says.promise.answer) in
+  pub belongs_done : (w : Option ℕ) → BelongsSays rec l shares (Ok w) → BelongsGives rec l shares first (unwrap_or w l) 0
+  belongs_done w says = let (none, at) = named belongs_number w says.promise.answer in record { number = sym none; first_is = at }
+
+  pub belongs_refuses : (g : ℕ) → BelongsSays rec l shares (Err g) → BelongsGives rec l shares first first g
+  belongs_refuses g says =
+      let (same, some) = refusal_means belongs_number l wrong g says.promise.answer in
       record { number = same; first_is = sym (refused_value g _ first some) }

@@ -1,44 +1,43 @@
 -- From the answers of a repair's calls to what the functions of the C interface promise.
 use Rattle.std.specs.Prelude.{Ok, Err}
-use Rattle.generator.specs.Answers.{Answer}
+use Rattle.generator.specs.Answers.{Answer, outcome_of}
 use mathlib.Core.Path.{◌≡◌, sym, ap, ◌∙◌}
 use mathlib.Core.List.{List}
 use Prim.Native.Nat.{ℕ}
 use lib.ListN.{length}
 use Rattle.generator.specs.Records.{header_of}
 use Rattle.refusals.specs.Faults.{fault_of}
-use Rattle.blocks.specs.Answers.{outcome_of}
-use Rattle.blocks.specs.Inner.Answers.{outcome_number}
 use Rattle.blocks.proofs.Refused.{refused_value}
 use Rattle.traces.specs.Repairs.{bits, spare}
 use Rattle.repair.specs.declared.RepairPlan.{RepairPlan}
 use Rattle.repair.specs.Promise.{repair_bits_fault, repair_share_fault, repair_plan_fault, RepairBitsSays, RepairShareSays, RepairPlanSays}
 use Rattle.repair.proofs.Accepts.{planned_means, refused_plan}
+use Rattle.roster.specs.Rosters.{fault_in}
 use Rattle.balanced_c.specs.Repairs.{RepairPlanGives, RepairBitsGives, RepairShareGives}
 use Rattle.balanced_c.proofs.Answers.{by_number}
 
-pub bits_give : (rec : List ℕ) (l j target : ℕ) (missing share out out' : List ℕ) (a : Answer (Unit {0})) (r : ℕ) → r ≡ outcome_number a → RepairBitsSays rec l j target missing share out out' a → RepairBitsGives rec l j target missing share out out' r
+pub bits_give : (rec : List ℕ) (l j target : ℕ) (missing share out out' : List ℕ) (a : Answer (Unit {0})) (r : ℕ) → r ≡ fault_in a → RepairBitsSays rec l j target missing share out out' a → RepairBitsGives rec l j target missing share out out' r
 bits_give rec l j target missing share out out' a r e says =
     let number = by_number a r (fault_of rec (λ h. repair_bits_fault h l j target missing (length share) (length out))) e says.promise.answer in
     record { number = number; says = record { promise = record { answer = ap outcome_of number; written = says.promise.written } } }
 
-pub share_gives : (rec : List ℕ) (l target : ℕ) (missing rows share share' : List ℕ) (a : Answer (Unit {0})) (r : ℕ) → r ≡ outcome_number a → RepairShareSays rec l target missing rows share share' a → RepairShareGives rec l target missing rows share share' r
+pub share_gives : (rec : List ℕ) (l target : ℕ) (missing rows share share' : List ℕ) (a : Answer (Unit {0})) (r : ℕ) → r ≡ fault_in a → RepairShareSays rec l target missing rows share share' a → RepairShareGives rec l target missing rows share share' r
 share_gives rec l target missing rows share share' a r e says =
     let number = by_number a r (fault_of rec (λ h. repair_share_fault h l target missing (length rows) (length share))) e says.promise.answer in
     record { number = number; says = record { promise = record { answer = ap outcome_of number; written = says.promise.written } } }
 
-module _ (rec : List ℕ) (count b more : ℕ) (a : Answer RepairPlan) (says : RepairPlanSays rec count a) where
+module _ (rec : List ℕ) (count b more : ℕ) where
   abbrev fault : ℕ
   fault = fault_of rec (λ h. repair_plan_fault h count)
 
   -- the plan
-  pub plan_sends : (b' more' : ℕ) → a ≡ Ok (record { bits = b'; spare = more' }) → RepairPlanGives rec count b more b' more' 0
-  plan_sends b' more' e =
-      let (none, same, rest) = planned_means fault (bits (header_of rec) count) (spare (header_of rec) count) b' more' (sym e ∙ says.promise.answer) in
+  pub plan_sends : (p : RepairPlan) → RepairPlanSays rec count (Ok p) → RepairPlanGives rec count b more p.bits p.spare 0
+  plan_sends p says =
+      let (none, same, rest) = planned_means fault (bits (header_of rec) count) (spare (header_of rec) count) p.bits p.spare says.promise.answer in
       record { number = sym none; bits_are = same; spare_is = rest }
 
   -- the number: both are as they were
-  pub plan_refuses : (g : ℕ) → a ≡ Err g → RepairPlanGives rec count b more b more g
-  plan_refuses g e =
-      let (same, some) = refused_plan fault (bits (header_of rec) count) (spare (header_of rec) count) g (sym e ∙ says.promise.answer) in
+  pub plan_refuses : (g : ℕ) → RepairPlanSays rec count (Err g) → RepairPlanGives rec count b more b more g
+  plan_refuses g says =
+      let (same, some) = refused_plan fault (bits (header_of rec) count) (spare (header_of rec) count) g says.promise.answer in
       record { number = same; bits_are = sym (refused_value g _ b some); spare_is = sym (refused_value g _ more some) }

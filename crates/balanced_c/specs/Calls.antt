@@ -1,5 +1,5 @@
 -- What the functions of the C interface promise: the returned number, and every lent byte and number afterwards.
-use Rattle.std.specs.Prelude.{◌≡◌, ◌&&◌, not, List, [], ◌∷◌, ℕ, eqb, length}
+use Rattle.std.specs.Prelude.{◌≡◌, Bool, ◌&&◌, not, List, [], ◌∷◌, ℕ, eqb, length}
 use Rattle.lists.specs.Choice.{pick, when}
 use Rattle.lists.specs.Counting.{differ}
 use Rattle.layout.specs.Layout.{Arrangement, row_after_row, lane_after_lane, share_layout}
@@ -8,20 +8,24 @@ use Rattle.generator.specs.declared.Header.{Header}
 use Rattle.generator.specs.Records.{header_of, record_of, width}
 use Rattle.generator.specs.Claims.{Promised}
 use Rattle.plan.specs.declared.Plan.{Plan}
-use Rattle.plan.specs.Plans.{plan_for}
+use Rattle.plan.specs.Plans.{plan_of}
 use Rattle.blocks.specs.Bytes.{wrong_lane}
 use Rattle.refusals.specs.Faults.{fault_of}
 use Rattle.belongs.specs.Promise.{belongs_fault}
 use Rattle.recover.specs.Promise.{recover_fault, rebuild_fault, RecoverSays, RebuildSays}
 use Rattle.update.specs.Promise.{update_fault, UpdateSays}
 use Rattle.encode.specs.Promise.{encode_fault, EncodeSays}
-use Rattle.blocks.specs.Answers.{outcome_of, update_of}
+use Rattle.blocks.specs.Answers.{update_of}
+use Rattle.generator.specs.Answers.{outcome_of}
 use Rattle.rearrange.specs.Promise.{RearrangeSays, rearrange_fault}
 use Rattle.weight_counts.specs.Weights.{weights_fault, WeightsSay}
 
 -- number 8 of `balanced_plan`, from the lengths of its buffers
+abbrev pub plan_room_bad : ℕ → ℕ → ℕ → ℕ → Bool
+plan_room_bad numbers shifts firsts base = not (eqb numbers 5 && (eqb shifts 255 && (eqb firsts 255 && eqb base 255)))
+
 unfoldable pub plan_room_fault : ℕ → ℕ → ℕ → ℕ → ℕ
-plan_room_fault numbers shifts firsts base = when (not (eqb numbers 5 && (eqb shifts 255 && (eqb firsts 255 && eqb base 255)))) 8
+plan_room_fault numbers shifts firsts base = when (plan_room_bad numbers shifts firsts base) 8
 
 -- n, k, d, and k·d / n rounded down and up
 unfoldable pub numbers_of : Plan → List ℕ
@@ -30,10 +34,10 @@ numbers_of p = p.n ∷ p.k ∷ p.d ∷ p.low ∷ p.high ∷ []
 -- `balanced_plan`: the plan's parts, and what is claimed of every accepted record
 pub record PlanGives (rec numbers shifts firsts base numbers' shifts' firsts' base' : List ℕ) (r : ℕ) : Type 0 where
   pub number : r ≡ fault_of rec (λ h. plan_room_fault (length numbers) (length shifts) (length firsts) (length base))
-  pub numbers_are : numbers' ≡ pick (eqb r 0) (numbers_of (plan_for (record_of rec))) numbers
-  pub shifts_are : shifts' ≡ pick (eqb r 0) (plan_for (record_of rec)).shifts shifts
-  pub firsts_are : firsts' ≡ pick (eqb r 0) (plan_for (record_of rec)).firsts firsts
-  pub base_is : base' ≡ pick (eqb r 0) (plan_for (record_of rec)).base base
+  pub numbers_are : numbers' ≡ pick (eqb r 0) (numbers_of (plan_of (header_of rec))) numbers
+  pub shifts_are : shifts' ≡ pick (eqb r 0) (plan_of (header_of rec)).shifts shifts
+  pub firsts_are : firsts' ≡ pick (eqb r 0) (plan_of (header_of rec)).firsts firsts
+  pub base_is : base' ≡ pick (eqb r 0) (plan_of (header_of rec)).base base
   pub claims : Promised (record_of rec)
 
 -- `balanced_encode`: the number, and what Encode says of the shares

@@ -1,10 +1,11 @@
 // The interface for C: each call of the store under a plain name. A call returns 0 or the number that turned it away, and hands its other values over through what it is lent.
 #![tactic(auto)]
 
-ghost use Rattle.std.specs.Prelude.{◌≡◌, length};
-ghost use Rattle.lists.specs.Choice.{first_of};
-ghost use Rattle.blocks.specs.Inner.Answers.{outcome_number};
-ghost use Rattle.balanced_c.specs.Calls.{plan_room_fault, numbers_of, PlanGives, EncodeGives, UpdateGives, RecoverGives, RebuildGives, BelongsGives, WeightsGive};
+ghost use Rattle.std.specs.Prelude.{◌≡◌};
+ghost use Rattle.std.specs.Result.{result_unwrap_or};
+ghost use Rattle.generator.specs.Answers.{numbered};
+ghost use Rattle.roster.specs.Rosters.{fault_in};
+ghost use Rattle.balanced_c.specs.Calls.{plan_room_bad, PlanGives, EncodeGives, UpdateGives, RecoverGives, RebuildGives, BelongsGives, WeightsGive};
 
 mod changes;
 mod correction;
@@ -14,11 +15,10 @@ mod repairs;
 mod rosters;
 mod version;
 
-use blocks::{Membership, Outcome, Update};
 pub use changes::{balanced_add_share, balanced_differences};
 pub use correction::balanced_correct;
+use generator::Refusal;
 pub use one_lane::{balanced_find_update, balanced_mends};
-use plan::Plan;
 pub use rearranging::{
     balanced_listed_to_lanes, balanced_listed_to_nodes, balanced_to_lanes, balanced_to_nodes,
 };
@@ -30,57 +30,53 @@ pub use rosters::{
 pub use version::balanced_version;
 
 // The number that an answer stands for, 0 where the call was accepted.
-fn number_of(answer: Outcome) -> u8
-    ensures { result ≡ outcome_number answer }
+fn number_of(answer: Result<(), Refusal>) -> u8
+    ensures { result ≡ fault_in (numbered answer) }
 {
     match answer {
-        Outcome::Done => 0,
-        Outcome::Refused(number) => number,
+        Ok(()) => 0,
+        Err(refusal) => u8::from(refusal),
     }
 }
 
-// The record's number, else 8 where a buffer for a part of a plan has another length than stated, else 0.
-fn plan_fault(number: u8, numbers: usize, shifts: usize, firsts: usize, base: usize) -> u8
-    ensures { result ≡ first_of number (plan_room_fault numbers shifts firsts base) }
+// The same for an answer with a value, which is handed over; beside a number the place holds what it held.
+fn hand_over(answer: Result<u32, Refusal>, place: &mut u32) -> u8
+    ensures { (result ≡ fault_in (numbered answer)) × (place.new ≡ result_unwrap_or (numbered answer) place.old) }
 {
-    if number != 0 {
-        return number;
+    match answer {
+        Ok(value) => {
+            *place = value;
+            0
+        }
+        Err(refusal) => u8::from(refusal),
     }
-    if numbers != 5 || shifts != 255 || firsts != 255 || base != 255 {
-        return 8;
-    }
-    0
 }
 
-// Writes n, k, d, and k·d / n rounded down and up.
-fn put_numbers(plan: Plan, numbers: &mut [u8])
-    requires { length numbers.old ≡ 5 }
-    ensures { numbers.new ≡ numbers_of plan }
+// Number 8 of the plan: a buffer for one of its parts has another length than stated.
+fn room_bad(numbers: usize, shifts: usize, firsts: usize, base: usize) -> bool
+    ensures { result ≡ plan_room_bad numbers shifts firsts base }
 {
-    numbers[0] = plan.n;
-    numbers[1] = plan.k;
-    numbers[2] = plan.d;
-    numbers[3] = plan.low;
-    numbers[4] = plan.high;
+    numbers != 5 || shifts != 255 || firsts != 255 || base != 255
 }
 
-// Writes the shifts and the first nodes.
-fn put_rows(plan: Plan, shifts: &mut [u8], firsts: &mut [u8])
-    requires { (length shifts.old ≡ 255) × (length firsts.old ≡ 255) }
-    ensures { (shifts.new ≡ plan.shifts) × (firsts.new ≡ plan.firsts) }
+// Writes the parts of a plan where the record gives one and there is room for each.
+fn write_plan(
+    rec: &[u8],
+    numbers: &mut [u8],
+    shifts: &mut [u8],
+    firsts: &mut [u8],
+    base: &mut [u16],
+) -> Result<(), Refusal>
+    ensures { PlanGives rec.now numbers.old shifts.old firsts.old base.old numbers.new shifts.new firsts.new base.new (fault_in (numbered result)) }
 {
-    kernel::copy(&plan.shifts, shifts);
-    kernel::copy(&plan.firsts, firsts);
-}
-
-// Writes the base word.
-fn put_base(plan: Plan, base: &mut [u16])
-    requires { length base.old ≡ 255 }
-    ensures { base.new ≡ plan.base }
-{
-    for i in 0..255 {
-        base[i] = plan.base[i];
-    }
+    let plan = balanced::build_plan(rec)?;
+    let bad = room_bad(numbers.len(), shifts.len(), firsts.len(), base.len());
+    Refusal::Length.when(bad)?;
+    numbers.copy_from_slice(&[plan.n, plan.k, plan.d, plan.low, plan.high]);
+    shifts.copy_from_slice(&plan.shifts);
+    firsts.copy_from_slice(&plan.firsts);
+    base.copy_from_slice(&plan.base);
+    Ok(())
 }
 
 // The plan of a record: n, k, d, k·d / n rounded down and up; the shifts; the first nodes; the base word.
@@ -93,21 +89,7 @@ pub fn balanced_plan(
 ) -> u8
     ensures { PlanGives rec.now numbers.old shifts.old firsts.old base.old numbers.new shifts.new firsts.new base.new result }
 {
-    let plan = balanced::build_plan(rec);
-    let number = plan_fault(
-        plan.number,
-        numbers.len(),
-        shifts.len(),
-        firsts.len(),
-        base.len(),
-    );
-    if number != 0 {
-        return number;
-    }
-    put_numbers(plan, numbers);
-    put_rows(plan, shifts, firsts);
-    put_base(plan, base);
-    0
+    number_of(write_plan(rec, numbers, shifts, firsts, base))
 }
 
 // Encode: the shares of all nodes.
@@ -130,13 +112,8 @@ pub fn balanced_update(
 ) -> u8
     ensures { UpdateGives rec.now lanes symbol lane old new shares.old altered.old shares.new altered.new result }
 {
-    match balanced::update_lane(rec, lanes, symbol, lane, old, new, shares) {
-        Update::Altered(count) => {
-            *altered = count;
-            0
-        }
-        Update::Refused(number) => number,
-    }
+    let answer = balanced::update_lane(rec, lanes, symbol, lane, old, new, shares);
+    hand_over(answer, altered)
 }
 
 // Recover: the message, from the shares of the listed nodes.
@@ -171,15 +148,11 @@ pub fn balanced_belongs(rec: &[u8], lanes: u32, shares: &[u8], first_wrong: &mut
     ensures { BelongsGives rec.now lanes shares.now first_wrong.old first_wrong.new result }
 {
     match balanced::block_belongs(rec, lanes, shares) {
-        Membership::Yes => {
-            *first_wrong = lanes;
+        Ok(wrong) => {
+            *first_wrong = wrong.unwrap_or(lanes);
             0
         }
-        Membership::No(lane) => {
-            *first_wrong = lane;
-            0
-        }
-        Membership::Refused(number) => number,
+        Err(refusal) => u8::from(refusal),
     }
 }
 

@@ -1,7 +1,8 @@
 // The calls on single lanes.
 ghost use Rattle.balanced_c.specs.Lanes.{FindGives, MendsGive};
 
-use balanced::{Finding, Mending};
+use crate::hand_over;
+use balanced::Finding;
 
 // Which update it was: `answer` receives 0 where the lanes are equal, 1 where an update was found and 2 where there is none; `symbol` and `amount` receive what was found, and 0 otherwise.
 pub fn balanced_find_update(
@@ -15,25 +16,25 @@ pub fn balanced_find_update(
     ensures { FindGives rec.now before.now after.now answer.old symbol.old amount.old answer.new symbol.new amount.new result }
 {
     match balanced::find_update(rec, before, after) {
-        Finding::Unchanged => {
+        Ok(Finding::Unchanged) => {
             *answer = 0;
             *symbol = 0;
             *amount = 0;
             0
         }
-        Finding::Added(which, x) => {
+        Ok(Finding::Added(which, x)) => {
             *answer = 1;
             *symbol = which;
             *amount = x;
             0
         }
-        Finding::NoSingleUpdate => {
+        Ok(Finding::NoSingleUpdate) => {
             *answer = 2;
             *symbol = 0;
             *amount = 0;
             0
         }
-        Finding::Refused(number) => number,
+        Err(refusal) => u8::from(refusal),
     }
 }
 
@@ -47,11 +48,5 @@ pub fn balanced_mends(
 ) -> u8
     ensures { MendsGive rec.now lane.now nodes.old symbols.old count.old nodes.new symbols.new count.new result }
 {
-    match balanced::single_mends(rec, lane, nodes, symbols) {
-        Mending::Listed(listed) => {
-            *count = listed;
-            0
-        }
-        Mending::Refused(number) => number,
-    }
+    hand_over(balanced::single_mends(rec, lane, nodes, symbols), count)
 }

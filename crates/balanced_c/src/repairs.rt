@@ -2,19 +2,18 @@
 ghost use Rattle.balanced_c.specs.Repairs.{RepairPlanGives, RepairBitsGives, RepairShareGives};
 
 use crate::number_of;
-use balanced::RepairPlan;
 
 // The plan of a repair with so many nodes missing beside the target: `bits` receives how many bits of a symbol each node sends, `spare` how many further nodes may be missing.
 pub fn balanced_repair_plan(rec: &[u8], missing: u32, bits: &mut u32, spare: &mut u32) -> u8
     ensures { RepairPlanGives rec.now missing bits.old spare.old bits.new spare.new result }
 {
     match balanced::repair_plan(rec, missing) {
-        RepairPlan::Sends(b, more) => {
-            *bits = b;
-            *spare = more;
+        Ok(plan) => {
+            *bits = plan.bits;
+            *spare = plan.spare;
             0
         }
-        RepairPlan::Refused(number) => number,
+        Err(refusal) => u8::from(refusal),
     }
 }
 

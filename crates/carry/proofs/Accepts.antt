@@ -1,12 +1,14 @@
 -- What holds where a call meets no number, and what it says beside one.
-use Rattle.std.specs.Prelude.{Err}
-use mathlib.Core.Path.{◌≡◌, refl, sym}
+use Rattle.std.specs.Prelude.{Result, Err}
+use Rattle.std.specs.Result.{IsErrAnd}
+use mathlib.Core.Path.{◌≡◌, refl, sym, ap, ◌∙◌}
 use mathlib.Core.Bool.{true, false}
 use mathlib.Core.List.{List}
 use Prim.Native.Nat.{ℕ, zero, suc, ◌≤◌, ◌<◌}
 use native.Mathlib.Omega.{arith}
 use borrow.Author.Tests.{leb-true, ltb-false}
 use lib.ListN.{length}
+use Rattle.lists.specs.Choice.{first_of}
 use Rattle.lists.proofs.Cases.{and_left, first_zero, when_zero}
 use Rattle.field.specs.declared.Field.{Field}
 use Rattle.field.specs.declared.Field.TheVariants.{Prime, Binary}
@@ -14,8 +16,12 @@ use Rattle.field.specs.Primes.{is_prime}
 use Rattle.field.specs.Kinds.{modulus, usable}
 use Rattle.generator.specs.declared.Header.{Header}
 use Rattle.generator.specs.Records.{modulus_of}
+use Rattle.generator.specs.declared.refusal.Refusal.{Refusal}
+use Rattle.generator.specs.Answers.{number, numbered, outcome_of}
+use Rattle.generator.proofs.Answered.{exit, refused_is}
 use Rattle.refusals.specs.Conditions.{length_bad, symbols_bad}
 use Rattle.refusals.proofs.Accepts.{not_met}
+use Rattle.refusals.proofs.Order.{first_given}
 use Rattle.refusals.proofs.NotMet.{length_good}
 use Rattle.blocks.proofs.Refused.{outcome_refused, refused_value}
 use Rattle.carrying.specs.Carrying.{carries_none, carried_length}
@@ -49,6 +55,12 @@ unfolding carry_out_fault
 out_accepts h n symbols e =
     let (before, last) = first_zero (carry_in_fault h n (length symbols)) _ e in
     (before, when_zero (symbols_bad h symbols) 10 last)
+
+-- a call that an earlier one turned away gives its number
+pub turned_away : (r : Result (Unit {0}) Refusal) (e : Refusal) (f rest : ℕ) → Err (number e) ≡ outcome_of f → IsErrAnd r (λ y. y ≡ e) → numbered r ≡ outcome_of (first_of f rest)
+turned_away r e f rest refused left =
+    let (same, some) = refused_is f _ refused in
+    rw (exit r left) (refused ∙ ap outcome_of (sym (first_given f rest (λ z. some (same ∙ z)))))
 
 -- beside a number g: nothing is written
 pub length_refuses : (h : Header) (g : ℕ) → (g ≡ 0 → ⊥) → (n : ℕ) → CarriedLenPromise n (Err g) h g

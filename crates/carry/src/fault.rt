@@ -36,17 +36,17 @@ pub fn carried_len_fault(h: Header, n: usize) -> Result<(), Refusal>
 }
 
 // carry_in
-pub fn carry_in_fault(h: Header, n: usize, long: usize) -> Result<(), Refusal>
-    ensures { numbered result ≡ outcome_of (carry_in_fault h n long) }
+pub fn carry_in_fault(code: Code, n: usize, long: usize) -> Result<(), Refusal>
+    ensures { numbered result ≡ outcome_of (carry_in_fault code.header n long) }
 {
-    carried_len_fault(h, n)?;
-    Refusal::Length.when(length_bad(carried_length(modulus_of(h), n), long))
+    carried_len_fault(code.header, n)?;
+    Refusal::Length.when(length_bad(carried_length(modulus_of(code.header), n), long))
 }
 
 // carry_out
 pub fn carry_out_fault(code: Code, n: usize, symbols: &[u8]) -> Result<(), Refusal>
     ensures { numbered result ≡ outcome_of (carry_out_fault code.header n symbols.now) }
 {
-    carry_in_fault(code.header, n, symbols.len())?;
+    carry_in_fault(code, n, symbols.len())?;
     Refusal::Symbol.when(symbols_bad(code.header, symbols))
 }

@@ -50,7 +50,7 @@ fn write_read(p: u32, symbols: &[u8], out: &mut [u8])
 fn carry_accepted(code: Code, bytes: &[u8], out: &mut [u8]) -> Result<(), Refusal>
     ensures { CarryInPromise bytes.now out.old out.new (numbered result) code.header (carry_in_fault code.header (length bytes.now) (length out.old)) }
 {
-    fault::carry_in_fault(code.header, bytes.len(), out.len())?;
+    fault::carry_in_fault(code, bytes.len(), out.len())?;
     write_carried(fault::modulus_of(code.header), bytes, out);
     Ok(())
 }

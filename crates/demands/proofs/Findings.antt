@@ -1,4 +1,6 @@
 -- Which update it was: the sentences, proved.
+use Rattle.std.specs.Prelude.{Ok, Err}
+use Rattle.generator.specs.Answers.{Answer}
 use mathlib.Core.Path.{◌≡◌, refl, sym, ap, ◌∙◌}
 use mathlib.Core.Logic.{◌≢◌}
 use mathlib.Core.Bool.{true}
@@ -20,24 +22,25 @@ use Rattle.refusals.specs.Faults.{fault_of}
 use Rattle.refusals.proofs.OnRecord.{none_met}
 use Rattle.blocks.specs.Blocks.{updated}
 use Rattle.find_update.specs.declared.Finding.{Finding}
-use Rattle.find_update.specs.declared.Finding.TheVariants.{Unchanged, Added, NoSingleUpdate, Refused}
+use Rattle.find_update.specs.declared.Finding.TheVariants.{Unchanged, Added, NoSingleUpdate}
 use Rattle.refusals.specs.Accepted.{IsLane}
 use Rattle.find_update.specs.Finding.{finding_of, Finds}
 use Rattle.find_update.specs.Promise.{find_fault, FindSays}
 use Rattle.find_update.specs.Numbers.{case_of, found_symbol, found_amount}
 use Rattle.find_update.proofs.Accepts.{find_accepts, found_means}
 use Rattle.find_update.proofs.Applied.{update_adds, finds_again}
-use Rattle.find_update.proofs.Meaning.{finds, not_refused}
+use Rattle.find_update.proofs.Meaning.{finds}
 use Rattle.demands.specs.Calls.{read}
 use Rattle.demands.specs.Findings.{InNumbers, Findings}
 
-call : (rec before after : List ℕ) (r : Finding) → FindSays rec before after r → ((g : ℕ) → r ≡ Refused g → ⊥) → (r ≡ finding_of (header_of rec) (read (header_of rec) before) (read (header_of rec) after)) × Finds (header_of rec) (read (header_of rec) before) (read (header_of rec) after)
-call rec before after r says never =
+call : (rec before after : List ℕ) (r : Answer Finding) → FindSays rec before after r → ((g : ℕ) → r ≡ Err g → ⊥) → (r ≡ Ok (finding_of (header_of rec) (read (header_of rec) before) (read (header_of rec) after))) × Finds (header_of rec) (read (header_of rec) before) (read (header_of rec) after)
+call rec before after (Err g) says never = absurd (never g refl)
+call rec before after (Ok r) says never =
     let h = header_of rec in
-    let (none, same) = found_means (fault_of rec (λ h. find_fault h before after)) (finding_of h (read h before) (read h after)) r says.found.promise.answer never in
+    let (none, same) = found_means (fault_of rec (λ h. find_fault h before after)) (finding_of h (read h before) (read h after)) r says.found.promise.answer in
     let (sound, own) = none_met rec (λ h. find_fault h before after) none in
     let lanes = find_accepts h before after own in
-    (sym same, finds h sound (read h before) (read h after) lanes.first lanes.second)
+    (ap Ok (sym same), finds h sound (read h before) (read h after) lanes.first lanes.second)
 
 -- a difference that is zero is of equal symbols
 same_symbols : (h : Header) → Sound h → (a b : ℕ) → a < size h → b < size h → sub (modulus_of h) a b ≡ 0 → a ≡ b
@@ -86,7 +89,6 @@ in_numbers h us vs finds = go (finding_of h us vs) refl
           update = λ e. absurd (omega arith);
           zeros = λ e. (refl, refl);
         }
-    go (Refused g) is = absurd (not_refused h us vs g is)
 
 pub findings : Findings
 findings =

@@ -7,9 +7,10 @@ use borrow.Author.Tests.{ne_eqb}
 use lib.Dec.{eqb}
 use lib.ListN.{length}
 use Rattle.lists.specs.Choice.{first_of, when}
+use Rattle.lists.proofs.Cases.{first_zero}
 use Rattle.layout.specs.Layout.{Arrangement, share_layout}
 use Rattle.generator.specs.declared.Header.{Header}
-use Rattle.generator.specs.Records.{header_of, record_of}
+use Rattle.generator.specs.Records.{header_of, record_fault, record_of, judged}
 use Rattle.generator.proofs.Accepts.{faultless_sound}
 use Rattle.rearrange.specs.Promise.{rearrange_fault}
 use Rattle.differences.specs.Promise.{differences_fault, add_fault}
@@ -17,8 +18,9 @@ use Rattle.belongs.specs.Promise.{belongs_fault}
 use Rattle.recover.specs.Promise.{recover_fault, rebuild_fault}
 use Rattle.update.specs.Promise.{update_fault}
 use Rattle.encode.specs.Promise.{encode_fault}
+use Rattle.refusals.specs.Faults.{fault_of}
 use Rattle.refusals.proofs.OnRecord.{none_met}
-use Rattle.plan.specs.Plans.{plan_for}
+use Rattle.plan.specs.Plans.{plan_of, plan_for}
 use Rattle.correct.specs.Promise.{correct_fault}
 use Rattle.find_update.specs.Promise.{find_fault}
 use Rattle.find_update.proofs.Accepts.{find_accepts}
@@ -65,11 +67,12 @@ module _ (rec : List ℕ) where
       (λ some. let other = ne_eqb r 0 some in (rw other at g.numbers_are, rw other at g.shifts_are, rw other at g.firsts_are, rw other at g.base_is))
 
   plan_done : (numbers shifts firsts base numbers' shifts' firsts' base' : List ℕ) → PlanGives rec numbers shifts firsts base numbers' shifts' firsts' base' 0 → PlanWritten rec numbers' shifts' firsts' base'
-  unfolding numbers_of
+  unfolding fault_of numbers_of record_of judged plan_for
   plan_done numbers shifts firsts base numbers' shifts' firsts' base' g =
+      let none : record_fault rec ≡ 0 = (first_zero (record_fault rec) _ (sym g.number)).0 in
       record {
-        plan = plan_for (record_of rec);
-        is_plan = record { plan = refl; claims = g.claims };
+        plan = plan_of h;
+        is_plan = record { plan = rw none refl; claims = g.claims };
         numbers_are = g.numbers_are;
         shifts_are = g.shifts_are;
         firsts_are = g.firsts_are;

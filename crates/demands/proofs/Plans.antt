@@ -1,10 +1,11 @@
 -- Records and plans: the sentences, proved.
-use Rattle.std.specs.Prelude.{Ok}
-use mathlib.Core.Path.{◌≡◌, refl, sym, ap, ap₂, ◌∙◌}
+use Rattle.std.specs.Prelude.{Ok, Err}
+use Rattle.generator.specs.Answers.{Answer}
+use mathlib.Core.Path.{◌≡◌, refl, sym, ap₂, ◌∙◌}
 use mathlib.Core.List.{List}
 use Prim.Native.Nat.{ℕ, zero, suc, ◌+◌, ◌*◌}
 use native.Mathlib.Omega.{arith}
-use Rattle.lists.proofs.Padding.{length_padded, padded_past, get_or_zeros}
+use Rattle.lists.proofs.Padding.{length_padded, padded_past}
 use Rattle.field.specs.declared.Field.TheVariants.{Prime}
 use Rattle.field.specs.Kinds.{prime_of}
 use Rattle.generator.specs.declared.Header.{Header}
@@ -15,16 +16,17 @@ use Rattle.generator.proofs.Accepts.{faultless_sound}
 use Rattle.generator.proofs.Claims.{ours}
 use Rattle.generator.proofs.Shifts.{shifts_length, firsts_length}
 use Rattle.plan.specs.declared.Plan.{Plan}
-use Rattle.plan.specs.Plans.{plan_for, PlanSays}
-use Rattle.plan.proofs.Plans.{shift_in, first_in, entry_read, length_base, plan_number}
-use Rattle.demands.specs.Judging.{Judged, Returns}
+use Rattle.plan.specs.Plans.{plan_of, plan_for, PlanSays}
+use Rattle.plan.proofs.Plans.{shift_in, first_in, entry_read, length_base}
+use Rattle.balanced_c.proofs.Plans.{refused}
+use Rattle.demands.specs.Judging.{Judged}
 use Rattle.demands.specs.Numbers.{record_numbers}
-use Rattle.demands.specs.Plans.{PlanHolds, EmptyPlan, Plans}
-use Rattle.demands.proofs.Judging.{by_number}
+use Rattle.demands.specs.Plans.{PlanHolds, Plans}
+use Rattle.demands.proofs.Judging.{call_judged, by_answer}
 use Rattle.demands.proofs.RecordNumbers.{record_tells}
 
-holds : (h : Header) → Sound h → PlanHolds h (plan_for (Ok h))
-unfolding plan_for distance low_reads high_reads negative
+holds : (h : Header) → Sound h → PlanHolds h (plan_of h)
+unfolding plan_of distance low_reads high_reads negative
 holds h s =
     let shifts_long = shifts_length h.n h.k s.some s.fits in
     let firsts_long = firsts_length h.n h.k s.some s.fits in
@@ -48,24 +50,23 @@ holds h s =
       );
     }
 
-accepted : (rec : List ℕ) (p : Plan) → PlanSays rec p → record_fault rec ≡ 0 → PlanHolds (header_of rec) p
-unfolding record_of judged
-accepted rec p says none =
-    let is : p ≡ plan_for (Ok (header_of rec)) = says.plan ∙ rw none in
-    rw is (holds (header_of rec) (faultless_sound rec none))
-
-empty : (rec : List ℕ) → (record_fault rec ≡ 0 → ⊥) → EmptyPlan (plan_for (record_of rec))
+accepted : (rec : List ℕ) (r : Answer Plan) → PlanSays rec r → record_fault rec ≡ 0 → (p : Plan) × (r ≡ Ok p) × PlanHolds (header_of rec) p
 unfolding record_of judged plan_for
-empty rec = go (record_fault rec)
-  where
-    go : (f : ℕ) → (f ≡ 0 → ⊥) → EmptyPlan (plan_for (judged f (header_of rec)))
-    go zero some = absurd (some refl)
-    go (suc f) some = record { numbers = (refl, refl, refl, refl, refl); places = λ i. (get_or_zeros 255 i, get_or_zeros 255 i, get_or_zeros 255 i) }
+accepted rec r says none =
+    let h = header_of rec in
+    (plan_of h, says.plan ∙ rw none refl, holds h (faultless_sound rec none))
 
-number : (rec : List ℕ) (p : Plan) → PlanSays rec p → Judged (record_numbers rec) (Returns p.number) (EmptyPlan p)
-number rec p says =
-    let is : p.number ≡ record_fault rec = ap (λ (x : Plan). x.number) says.plan ∙ plan_number rec in
-    by_number is (record_tells rec) (λ some. rw says.plan (empty rec (λ z. some (is ∙ z))))
+-- a record that meets a number has it for its answer
+met : (rec : List ℕ) → (record_fault rec ≡ 0 → ⊥) → plan_for (record_of rec) ≡ Err (record_fault rec)
+unfolding record_of judged plan_for
+met rec = go (record_fault rec)
+  where
+    go : (f : ℕ) → (f ≡ 0 → ⊥) → plan_for (judged f (header_of rec)) ≡ Err f
+    go zero some = absurd (some refl)
+    go (suc f) some = refl
+
+number : (rec : List ℕ) (r : Answer Plan) → PlanSays rec r → Judged (record_numbers rec) (λ f. r ≡ Err f) (Unit {0})
+number rec r says = call_judged (record_fault rec) (record_tells rec) (by_answer Err says.plan (refused rec) (met rec)) (λ some. tt)
 
 -- two bytes as a number
 pair : (high low : ℕ) → high * 256 + low ≡ 256 * high + low

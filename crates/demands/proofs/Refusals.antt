@@ -1,23 +1,21 @@
 -- Demand 1, from what each call promises.
 use Rattle.std.specs.Prelude.{Option, Err}
-use Rattle.generator.specs.Answers.{Answer}
+use Rattle.generator.specs.Answers.{Answer, outcome_of}
 use mathlib.Core.Path.{◌≡◌, refl}
 use mathlib.Core.List.{List, ◌++◌}
 use Prim.Native.Nat.{ℕ, zero, suc}
-use native.Mathlib.Omega.{arith}
 use borrow.Author.Tests.{ne_eqb}
 use lib.ListN.{length}
-use Rattle.lists.proofs.Cases.{never}
 use Rattle.layout.specs.Layout.{Arrangement, share_layout}
 use Rattle.generator.specs.declared.Header.{Header}
 use Rattle.generator.specs.Records.{header_of}
 use Rattle.generator.proofs.Accepts.{faultless_sound}
+use Rattle.generator.proofs.Answered.{refused_is}
 use Rattle.refusals.specs.Faults.{fault_of}
 use Rattle.belongs.specs.Promise.{belongs_fault, BelongsSays}
 use Rattle.recover.specs.Promise.{recover_fault, rebuild_fault, RecoverSays, RebuildSays}
 use Rattle.update.specs.Promise.{update_fault, UpdateSays}
 use Rattle.encode.specs.Promise.{encode_fault, EncodeSays}
-use Rattle.blocks.specs.Answers.{outcome_of}
 use Rattle.blocks.proofs.Answered.{refused_means, refusal_means}
 use Rattle.blocks.proofs.Refused.{outcome_refused, update_refused, membership_refused}
 use Rattle.rearrange.specs.Promise.{RearrangeSays, rearrange_fault}
@@ -25,10 +23,8 @@ use Rattle.differences.specs.Promise.{differences_fault, add_fault, DifferencesS
 use Rattle.correct.specs.Promise.{correct_fault, CorrectSays}
 use Rattle.correct.proofs.Answered as A
 use Rattle.find_update.specs.declared.Finding.{Finding}
-use Rattle.find_update.specs.declared.Finding.TheVariants as F
 use Rattle.find_update.specs.Promise.{find_fault, FindSays}
 use Rattle.find_update.proofs.Accepts as FA
-use Rattle.find_update.proofs.Meaning.{not_refused}
 use Rattle.mends.specs.Promise.{mends_fault, mending_of, MendsSay}
 use Rattle.mends.proofs.Accepts.{refused_number}
 use Rattle.weight_counts.specs.Weights.{weights_fault, WeightsSay}
@@ -38,12 +34,7 @@ use Rattle.demands.specs.Refusals.{Refusals}
 use Rattle.demands.proofs.Judging.{Tells, call_judged, by_answer}
 use Rattle.demands.proofs.Numbers.{own_after, encode_tells, update_tells, recover_tells, rebuild_tells, belongs_tells, correct_tells, rearrange_tells, differences_tells, add_tells, find_tells, mends_tells, weights_tells}
 
--- the number of each kind of answer
-outcome_means : (f g : ℕ) → Err g ≡ outcome_of f → (g ≡ f) × (g ≡ 0 → ⊥)
-unfolding outcome_of
-outcome_means zero g e = never cc
-outcome_means (suc f) g e = let same : g ≡ suc f = cc in (same, λ z. omega arith)
-
+-- the answer beside a number
 mending_refused : (f count : ℕ) → (f ≡ 0 → ⊥) → mending_of f count ≡ Err f
 unfolding mending_of
 mending_refused zero count some = absurd (some refl)
@@ -51,7 +42,7 @@ mending_refused (suc f) count some = refl
 
 -- a call that answers with an outcome
 pub by_outcome : {table : Table} {kept : Type 0} {number : ℕ} {r : Answer (Unit {0})} → Tells table number → r ≡ outcome_of number → ((number ≡ 0 → ⊥) → kept) → Judged table (λ f. r ≡ Err f) kept
-by_outcome {number = number} tells answer kept = call_judged number tells (by_answer Err answer (outcome_means number) (outcome_refused number)) kept
+by_outcome {number = number} tells answer kept = call_judged number tells (by_answer Err answer (refused_is number) (outcome_refused number)) kept
 
 module _ (rec : List ℕ) where
   abbrev h : Header
@@ -111,11 +102,11 @@ module _ (rec : List ℕ) where
         by_outcome (own_after rec _ (λ h. add_fault h l difference share) refl (λ none. add_tells h l difference share)) says.promise.answered
         (λ some. rw (ne_eqb _ 0 some) at says.promise.written)
 
-  find : (before after : List ℕ) (r : Finding) → FindSays rec before after r → Judged (record_numbers rec ++ find_numbers h before after) (λ f. r ≡ F.Refused f) (Unit {0})
+  find : (before after : List ℕ) (r : Answer Finding) → FindSays rec before after r → Judged (record_numbers rec ++ find_numbers h before after) (λ f. r ≡ Err f) (Unit {0})
   find before after r says =
       let number = fault_of rec (λ h. find_fault h before after) in
       call_judged number (own_after rec _ (λ h. find_fault h before after) refl (λ none. find_tells h before after))
-      (by_answer F.Refused says.found.promise.answer (λ f. FA.refused_means number _ f (not_refused h _ _)) (FA.answer_refused number _))
+      (by_answer Err says.found.promise.answer (FA.refused_means number _) (FA.answer_refused number _))
       (λ some. tt)
 
   mends : (lane nodes symbols nodes' symbols' : List ℕ) (r : Answer ℕ) → MendsSay rec lane nodes symbols nodes' symbols' r → Judged (record_numbers rec ++ mends_numbers h lane (length nodes) (length symbols)) (λ f. r ≡ Err f) ((nodes' ≡ nodes) × (symbols' ≡ symbols))

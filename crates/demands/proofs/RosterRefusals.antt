@@ -20,10 +20,8 @@ use Rattle.generator.specs.Records.{header_of, record_fault, record_of, judged}
 use Rattle.generator.proofs.Accepts.{faultless_sound}
 use Rattle.roster.specs.declared.Roster.{Roster}
 use Rattle.roster.specs.declared.Listing.{Listing}
-use Rattle.roster.specs.declared.Listing.TheVariants.{Written, TooFew, Refused}
 use Rattle.roster.specs.Events.{Event, leaves, returns, named, says}
-use Rattle.roster.specs.Rosters.{is_present, first_step, start_of, event_fault, step_of, wrote, lowest_of, lowest_list, job_of, job_list}
-use Rattle.roster.specs.Inner.Answers.{listing_number}
+use Rattle.roster.specs.Rosters.{fault_in, is_present, first_roster, start_of, event_fault, step_of, wrote, lowest_of, lowest_list, job_of, job_list}
 use Rattle.roster.proofs.Stepping.{start_number, step_number, step_same, turned_away}
 use Rattle.roster.proofs.Lowest.{lowest_number, lowest_kept, lowest_refused}
 use Rattle.roster.proofs.OneJob.{job_listing, job_kept}
@@ -47,11 +45,9 @@ beq_test false true = (λ e. absurd (true≢false (sym e)), λ e. absurd (true�
 beq_test false false = (λ e. refl, λ e. refl)
 
 -- an answer whose number is not 0 is a refusal
-listing_refused : (a : Listing) (f : ℕ) → listing_number a ≡ f → (f ≡ 0 → ⊥) → a ≡ Refused f
-unfolding listing_number
-listing_refused Written f e some = absurd (some (sym e))
-listing_refused TooFew f e some = absurd (some (sym e))
-listing_refused (Refused g) f e some = ap Refused e
+listing_refused : (a : Answer Listing) (f : ℕ) → fault_in a ≡ f → (f ≡ 0 → ⊥) → a ≡ Err f
+listing_refused (Ok l) f e some = absurd (some (sym e))
+listing_refused (Err g) f e some = ap Err e
 
 -- two lengths under one number
 two_lengths : (a b : Bool) → when (not (a && b)) 8 ≡ first_of (when (not a) 8) (when (not b) 8)
@@ -60,7 +56,7 @@ two_lengths false b = refl
 
 -- the jobs are counted from 0
 first_job : (R : Answer Header) → (start_of R).roster.job ≡ 0
-unfolding start_of first_step
+unfolding start_of first_roster
 first_job (Ok h) = refl
 first_job (Err f) = refl
 
@@ -106,19 +102,18 @@ module _ (rec : List ℕ) where
     list_tells = after_record rec (list_numbers h list) refl (λ none. last 7 (not (eqb (length list) h.k)) (other_test _ _))
 
     -- what is refused gives its number
-    refused_is : (r : Roster) (f : ℕ) → (lowest_of (record_of rec) r list ≡ Refused f) ↔ ((first_of (record_fault rec) (when (not (eqb (length list) h.k)) 8) ≡ f) × (f ≡ 0 → ⊥))
-    unfolding listing_number
+    refused_is : (r : Roster) (f : ℕ) → (lowest_of (record_of rec) r list ≡ Err f) ↔ ((first_of (record_fault rec) (when (not (eqb (length list) h.k)) 8) ≡ f) × (f ≡ 0 → ⊥))
     refused_is r f = (
-      λ e. (sym (lowest_number r list rec) ∙ ap listing_number e, lowest_refused r list rec f e),
+      λ e. (sym (lowest_number r list rec) ∙ ap fault_in e, lowest_refused r list rec f e),
       λ e. let (is, some) = e in listing_refused _ f (lowest_number r list rec ∙ is) some,
     )
 
-    query : (r : Roster) → Judged (record_numbers rec ++ list_numbers h list) (λ f. lowest_of (record_of rec) r list ≡ Refused f) (lowest_list (record_of rec) r list ≡ list)
+    query : (r : Roster) → Judged (record_numbers rec ++ list_numbers h list) (λ f. lowest_of (record_of rec) r list ≡ Err f) (lowest_list (record_of rec) r list ≡ list)
     query r =
         call_judged _ list_tells (refused_is r)
         (λ some. lowest_kept r list (record_of rec) (λ z. some (sym (lowest_number r list rec) ∙ z)))
 
-    job : (r : Roster) → Judged (record_numbers rec ++ list_numbers h list) (λ f. (job_of (record_of rec) r list).listing ≡ Refused f) (((job_of (record_of rec) r list).roster ≡ r) × (job_list (record_of rec) r list ≡ list))
+    job : (r : Roster) → Judged (record_numbers rec ++ list_numbers h list) (λ f. (job_of (record_of rec) r list).listing ≡ Err f) (((job_of (record_of rec) r list).roster ≡ r) × (job_list (record_of rec) r list ≡ list))
     unfolding wrote
     job r =
         let same = job_listing r list (record_of rec) in

@@ -1,13 +1,14 @@
 -- Which update it was, sentence by sentence: of the definition that `find_update` promises, of the call itself, and after an update.
-use Rattle.std.specs.Prelude.{◌≡◌, ◌↔◌, ◌≢◌, true, List, ℕ, ◌<◌}
+use Rattle.std.specs.Prelude.{◌≡◌, Ok, Err, ◌↔◌, ◌≢◌, true, List, ℕ, ◌<◌}
 use Rattle.lists.specs.Numbers.{all_below}
 use Rattle.layout.specs.Layout.{lane_of, share_layout}
 use Rattle.field.specs.Fields.{sub}
 use Rattle.generator.specs.declared.Header.{Header}
+use Rattle.generator.specs.Answers.{Answer}
 use Rattle.generator.specs.Records.{header_of, record_fault, modulus_of, size}
 use Rattle.blocks.specs.Blocks.{updated, word_added}
 use Rattle.find_update.specs.declared.Finding.{Finding}
-use Rattle.find_update.specs.declared.Finding.TheVariants.{Added, Refused}
+use Rattle.find_update.specs.declared.Finding.TheVariants.{Added}
 use Rattle.refusals.specs.Accepted.{IsLane}
 use Rattle.find_update.specs.Finding.{finding_of, Finds}
 use Rattle.find_update.specs.Numbers.{case_of, found_symbol, found_amount}
@@ -30,9 +31,9 @@ pub record Findings : Type 0 where
       let found = finding_of (header_of rec) us vs in
       InNumbers (header_of rec) us vs (case_of found) (found_symbol found) (found_amount found)
   -- of the two lanes of a call that no number turned away
-  pub call : (rec before after : List ℕ) (r : Finding) → FindSays rec before after r → ((g : ℕ) → r ≡ Refused g → ⊥) →
+  pub call : (rec before after : List ℕ) (r : Answer Finding) → FindSays rec before after r → ((g : ℕ) → r ≡ Err g → ⊥) →
       let h = header_of rec in
-      (r ≡ finding_of h (read h before) (read h after)) × Finds h (read h before) (read h after)
+      (r ≡ Ok (finding_of h (read h before) (read h after))) × Finds h (read h before) (read h after)
   -- an update of a lane of symbols to another symbol is found again
   pub again : (rec : List ℕ) → record_fault rec ≡ 0 → (l r t old new : ℕ) (s : List ℕ) →
       let h = header_of rec in

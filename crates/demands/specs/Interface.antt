@@ -1,5 +1,5 @@
 -- Demand 1 of the interface for C: which number each function returns, and that beside it no byte and no number that the caller lent is altered. 0 is done.
-use Rattle.std.specs.Prelude.{◌≡◌, ◌≢◌, List, [], ◌∷◌, ◌++◌, ℕ, length}
+use Rattle.std.specs.Prelude.{◌≡◌, ◌≢◌, Ok, List, [], ◌∷◌, ◌++◌, ℕ, length}
 use Rattle.generator.specs.Records.{header_of}
 use Rattle.plan.specs.declared.Plan.{Plan}
 use Rattle.plan.specs.Plans.{PlanSays}
@@ -19,7 +19,7 @@ plan_numbers numbers shifts firsts base = (8, numbers ≢ 5) ∷ (8, shifts ≢ 
 -- it wrote the parts of a plan
 pub record PlanWritten (rec numbers shifts firsts base : List ℕ) : Type 0 where
   pub plan : Plan
-  pub is_plan : PlanSays rec plan
+  pub is_plan : PlanSays rec (Ok plan)
   pub numbers_are : numbers ≡ plan.n ∷ plan.k ∷ plan.d ∷ plan.low ∷ plan.high ∷ []
   pub shifts_are : shifts ≡ plan.shifts
   pub firsts_are : firsts ≡ plan.firsts

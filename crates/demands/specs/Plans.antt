@@ -1,14 +1,15 @@
 -- Records and plans, sentence by sentence: what a record of each kind holds, and what `build_plan` gives.
-use Rattle.std.specs.Prelude.{◌≡◌, List, [], ◌∷◌, ℕ, ◌+◌, ◌-◌, ◌*◌, ◌/◌, ◌%◌, ◌≤◌, ◌<◌, length, get_or}
+use Rattle.std.specs.Prelude.{◌≡◌, Ok, Err, List, [], ◌∷◌, ℕ, ◌+◌, ◌-◌, ◌*◌, ◌/◌, ◌%◌, ◌≤◌, ◌<◌, length, get_or}
 use Rattle.field.specs.declared.Field.TheVariants.{Prime, Binary}
 use Rattle.field.specs.Kinds.{prime_of, gf256}
 use Rattle.generator.specs.declared.Header.{Header}
+use Rattle.generator.specs.Answers.{Answer}
 use Rattle.generator.specs.Records.{header_of, record_fault}
 use Rattle.generator.specs.Shifts.{shifts}
 use Rattle.generator.specs.Generator.{entry}
 use Rattle.plan.specs.declared.Plan.{Plan}
 use Rattle.plan.specs.Plans.{PlanSays}
-use Rattle.demands.specs.Judging.{Judged, Returns}
+use Rattle.demands.specs.Judging.{Judged}
 use Rattle.demands.specs.Numbers.{record_numbers}
 
 -- the plan of a header: places beyond the k shifts, the k first nodes and the n entries hold 0
@@ -27,17 +28,12 @@ pub record PlanHolds (h : Header) (p : Plan) : Type 0 where
   pub entries : (r j : ℕ) → r < h.k → j < h.n → entry h r j ≡ get_or p.base ((j + get_or p.shifts r 0) % h.n) 0
   pub beyond : (i : ℕ) → (h.k ≤ i → (get_or p.shifts i 0 ≡ 0) × (get_or p.firsts i 0 ≡ 0)) × (h.n ≤ i → get_or p.base i 0 ≡ 0)
 
--- a plan beside a number: all its places hold 0
-pub record EmptyPlan (p : Plan) : Type 0 where
-  pub numbers : (p.n ≡ 0) × (p.k ≡ 0) × (p.d ≡ 0) × (p.low ≡ 0) × (p.high ≡ 0)
-  pub places : (i : ℕ) → (get_or p.shifts i 0 ≡ 0) × (get_or p.firsts i 0 ≡ 0) × (get_or p.base i 0 ≡ 0)
-
 pub record Plans : Type 0 where
   -- what a record of each kind holds; in kind 3 two bytes make a number, the high one first
   pub kind_1 : (p root n k : ℕ) → header_of (1 ∷ p ∷ root ∷ n ∷ k ∷ []) ≡ record { field = Prime (prime_of p); root = root; n = n; k = k }
   pub kind_2 : (root n k : ℕ) → header_of (2 ∷ root ∷ n ∷ k ∷ []) ≡ record { field = Binary gf256; root = root; n = n; k = k }
   pub kind_3 : (p q root a n k : ℕ) → header_of (3 ∷ p ∷ q ∷ root ∷ a ∷ n ∷ k ∷ []) ≡ record { field = Prime (prime_of (256 * p + q)); root = 256 * root + a; n = n; k = k }
   -- the plan of an accepted record
-  pub accepted : (rec : List ℕ) (p : Plan) → PlanSays rec p → record_fault rec ≡ 0 → PlanHolds (header_of rec) p
-  -- which number a record meets
-  pub number : (rec : List ℕ) (p : Plan) → PlanSays rec p → Judged (record_numbers rec) (Returns p.number) (EmptyPlan p)
+  pub accepted : (rec : List ℕ) (r : Answer Plan) → PlanSays rec r → record_fault rec ≡ 0 → (p : Plan) × (r ≡ Ok p) × PlanHolds (header_of rec) p
+  -- which number turns a record away; a record that gives a plan is accepted
+  pub number : (rec : List ℕ) (r : Answer Plan) → PlanSays rec r → Judged (record_numbers rec) (λ f. r ≡ Err f) (Unit {0})

@@ -11,7 +11,6 @@ use Rattle.rearrange.specs.Promise.{ToLanesSays, ToNodesSays, ListedToLanesSays,
 use Rattle.differences.specs.Promise.{DifferencesSays, AddSays}
 use Rattle.correct.specs.Promise.{CorrectSays}
 use Rattle.find_update.specs.declared.Finding.{Finding}
-use Rattle.find_update.specs.declared.Finding.TheVariants as F
 use Rattle.find_update.specs.Promise.{FindSays}
 use Rattle.mends.specs.Promise.{MendsSay}
 use Rattle.weight_counts.specs.Weights.{WeightsSay}
@@ -53,8 +52,8 @@ pub record Refusals : Type 0 where
   pub add_share : (rec : List ℕ) (l : ℕ) (difference share share' : List ℕ) (answer : Answer (Unit {0})) → AddSays rec l difference share share' answer
       → Judged (record_numbers rec ++ add_numbers (header_of rec) l difference share) (λ f. answer ≡ Err f) (share' ≡ share)
   -- find_update only reads
-  pub find : (rec before after : List ℕ) (r : Finding) → FindSays rec before after r
-      → Judged (record_numbers rec ++ find_numbers (header_of rec) before after) (λ f. r ≡ F.Refused f) (Unit {0})
+  pub find : (rec before after : List ℕ) (r : Answer Finding) → FindSays rec before after r
+      → Judged (record_numbers rec ++ find_numbers (header_of rec) before after) (λ f. r ≡ Err f) (Unit {0})
   -- single_mends: both buffers are as they were
   pub mends : (rec lane nodes symbols nodes' symbols' : List ℕ) (r : Answer ℕ) → MendsSay rec lane nodes symbols nodes' symbols' r
       → Judged (record_numbers rec ++ mends_numbers (header_of rec) lane (length nodes) (length symbols)) (λ f. r ≡ Err f) ((nodes' ≡ nodes) × (symbols' ≡ symbols))

@@ -1,9 +1,8 @@
 -- Demand 1 of the calls of a roster, and of the same calls on lent bytes.
-use Rattle.std.specs.Prelude.{◌≡◌, ◌≢◌, false, List, [], ◌∷◌, ◌++◌, ℕ, ◌≤◌, length, get_or}
+use Rattle.std.specs.Prelude.{◌≡◌, Err, ◌≢◌, false, List, [], ◌∷◌, ◌++◌, ℕ, ◌≤◌, length, get_or}
 use Rattle.generator.specs.declared.Header.{Header}
 use Rattle.generator.specs.Records.{header_of, record_of}
 use Rattle.roster.specs.declared.Roster.{Roster}
-use Rattle.roster.specs.declared.Listing.TheVariants.{Refused}
 use Rattle.roster.specs.Events.{Event, leaves, returns, named, says}
 use Rattle.roster.specs.Rosters.{is_present, start_of, step_of, lowest_of, lowest_list, job_of, job_list}
 use Rattle.roster_bytes.specs.Calls.{StartGives, EventGives, LowestGives, JobGives}
@@ -45,9 +44,9 @@ pub record RosterRefusals : Type 0 where
   -- an event that is turned away leaves the roster equal
   pub event : (rec : List ℕ) (e : Event) (r : Roster) → Judged (record_numbers rec ++ event_numbers (header_of rec) e r) (Returns (step_of (record_of rec) e r).number) ((step_of (record_of rec) e r).roster ≡ r)
   -- a query that is turned away leaves the list
-  pub query : (rec : List ℕ) (r : Roster) (list : List ℕ) → Judged (record_numbers rec ++ list_numbers (header_of rec) list) (λ f. lowest_of (record_of rec) r list ≡ Refused f) (lowest_list (record_of rec) r list ≡ list)
+  pub query : (rec : List ℕ) (r : Roster) (list : List ℕ) → Judged (record_numbers rec ++ list_numbers (header_of rec) list) (λ f. lowest_of (record_of rec) r list ≡ Err f) (lowest_list (record_of rec) r list ≡ list)
   -- and so does a job, which leaves the roster too
-  pub job : (rec : List ℕ) (r : Roster) (list : List ℕ) → Judged (record_numbers rec ++ list_numbers (header_of rec) list) (λ f. (job_of (record_of rec) r list).listing ≡ Refused f) (((job_of (record_of rec) r list).roster ≡ r) × (job_list (record_of rec) r list ≡ list))
+  pub job : (rec : List ℕ) (r : Roster) (list : List ℕ) → Judged (record_numbers rec ++ list_numbers (header_of rec) list) (λ f. (job_of (record_of rec) r list).listing ≡ Err f) (((job_of (record_of rec) r list).roster ≡ r) × (job_list (record_of rec) r list ≡ list))
   -- the same on lent bytes: a start writes zeros
   pub start_bytes : (rec bytes bytes' : List ℕ) (r : ℕ) → StartGives rec bytes bytes' r → Judged (record_numbers rec ++ bytes_numbers bytes) (Returns r) (NoNode bytes bytes')
   -- an event leaves the bytes

@@ -1,14 +1,13 @@
 -- What the answer means.
 use mathlib.Core.Path.{◌≡◌, sym, ap, ap₂, ◌∙◌}
 use mathlib.Core.Logic.{◌⊎◌, inl, inr, ⊎_elim}
-use mathlib.Core.Bool.{Bool, true, false, not}
+use mathlib.Core.Bool.{true, false, not}
 use mathlib.Core.List.{List}
 use Prim.Native.Nat.{ℕ, ◌≤◌, ◌<◌}
 use native.Mathlib.Nat.{zero-add}
 use native.Mathlib.Omega.{arith}
 use borrow.Author.Tests.{eq-eqb, eqb-true, eqb-false, ltb-true, ltb-false, ne_eqb}
 use lib.Dec.{eqb, ltb}
-use Rattle.lists.specs.Choice.{pick}
 use Rattle.lists.specs.Counting.{differ}
 use Rattle.lists.specs.Search.{first_false}
 use Rattle.lists.proofs.Cases.{by_test, not_not}
@@ -16,21 +15,11 @@ use Rattle.lists.proofs.Differ.{differ_same, same_lists}
 use Rattle.lists.proofs.Search.{search_high, search_fails, search_within}
 use Rattle.generator.specs.declared.Header.{Header}
 use Rattle.generator.specs.Records.{size, Sound}
-use Rattle.find_update.specs.declared.Finding.TheVariants.{Unchanged, Added, NoSingleUpdate, Refused}
+use Rattle.find_update.specs.declared.Finding.TheVariants.{Unchanged, Added, NoSingleUpdate}
 use Rattle.refusals.specs.Accepted.{IsLane}
 use Rattle.find_update.specs.Finding.{taken_away, leads, amount_at, symbol_of, finding_of, Finds}
 use Rattle.find_update.proofs.Single.{length_added, one_addition, nothing_added, taken_back}
 use Rattle.blocks.specs.Blocks.{word_added}
-
--- the finding is no refusal
-pub not_refused : (h : Header) (us vs : List ℕ) (g : ℕ) → finding_of h us vs ≡ Refused g → ⊥
-unfolding finding_of
-not_refused h us vs g = go (eqb (differ us vs) 0) (ltb (symbol_of h us vs) h.k)
-  where
-    go : (a b : Bool) → pick a Unchanged (pick b (Added (symbol_of h us vs) (amount_at h us vs (symbol_of h us vs))) NoSingleUpdate) ≡ Refused g → ⊥
-    go true b e = let z : ◌≡◌ {A = ℕ} 0 1 = cc in omega arith
-    go false true e = let z : ◌≡◌ {A = ℕ} 0 1 = cc in omega arith
-    go false false e = let z : ◌≡◌ {A = ℕ} 0 1 = cc in omega arith
 
 module _ (h : Header) (s : Sound h) (us vs : List ℕ) (before : IsLane h us) (after : IsLane h vs) where
   -- the test says that the addition gives the second lane

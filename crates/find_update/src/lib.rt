@@ -61,13 +61,13 @@ fn find(code: Code, before: &[u16], after: &[u16]) -> Finding
     requires { IsLane code.header before.now × IsLane code.header after.now }
     ensures { result ≡ finding_of code.header before.now after.now }
 {
-    let n = code.header.n as usize;
-    let difference = compare::difference(code, before, after);
-    if compare::first_changed(&difference[..n]) == n {
+    if before == after {
         return Finding::Unchanged;
     }
+    let n = code.header.n as usize;
+    let difference = compare::difference(code, before, after);
     let plan = plan::plan_of(code);
-    update_in(h, plan, &difference[..n])
+    update_in(code, plan, &difference[..n])
 }
 
 // Numbers 8 and 11.

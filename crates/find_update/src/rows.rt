@@ -1,10 +1,9 @@
 // The row of the generator that a difference begins with.
 ghost use Rattle.std.specs.Prelude.{◌≡◌, ◌<◌, length};
-ghost use Rattle.generator.specs.Records.{Sound};
 ghost use Rattle.plan.specs.Plans.{plan_of};
 ghost use Rattle.find_update.specs.Inner.Starts.{begins_at, row_starting};
 
-use generator::{Header, Record};
+use generator::Code;
 use plan::Plan;
 
 // Whether the difference is not zero at a row's first node, and zero at the node before it, going round; with k = 1 a row lies on every node.
@@ -18,18 +17,16 @@ fn begins_at(k: u8, first: usize, difference: &[u16]) -> bool
 }
 
 // The least row that the difference begins with, or k.
-pub fn row_at(h: Header, plan: Plan, difference: &[u16]) -> usize
-    requires { Sound h × (plan ≡ plan_of h) × (length difference.now ≡ h.n) }
-    ensures { result ≡ row_starting h difference.now }
+pub fn row_at(code: Code, plan: Plan, difference: &[u16]) -> usize
+    requires { (plan ≡ plan_of code.header) × (length difference.now ≡ code.header.n) }
+    ensures { result ≡ row_starting code.header difference.now }
 {
-    let k = h.k as usize;
-    let mut r: usize = 0;
-    while r < k {
+    let k = code.header.k;
+    for r in 0..k as usize {
         let first = plan.firsts[r] as usize;
-        if begins_at(h.k, first, difference) {
+        if begins_at(k, first, difference) {
             return r;
         }
-        r += 1;
     }
-    r
+    k as usize
 }

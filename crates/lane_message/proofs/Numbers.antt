@@ -1,18 +1,21 @@
--- The number of a lane, from its word test and a symbol that is its message's where it is a word.
-use mathlib.Core.Path.{◌≡◌}
-use mathlib.Core.Bool.{Bool, true, not}
+-- The conditions of a lane's two numbers, from a word test and from a symbol that is its message's where it is a word.
+use mathlib.Core.Path.{◌≡◌, ap}
+use mathlib.Core.Bool.{Bool, true, false, not}
 use mathlib.Core.List.{List}
 use Prim.Native.Nat.{ℕ}
 use lib.Dec.{eqb}
 use lib.ListN.{get_or}
-use Rattle.lists.specs.Choice.{first_of, when}
-use Rattle.lists.proofs.Cases.{by_test}
 use Rattle.generator.specs.declared.Header.{Header}
 use Rattle.generator.specs.Codewords.{is_word}
 use Rattle.generator.specs.Messages.{message_of}
 use Rattle.refusals.specs.Conditions.{no_word, other_symbol}
-use Rattle.refusals.specs.Faults.{stale_fault}
+use Rattle.refusals.proofs.NotMet.{word_good}
 
-pub number_is : (h : Header) (ws : List ℕ) (r old x : ℕ) (word : Bool) → word ≡ is_word h ws → (is_word h ws ≡ true → x ≡ get_or (message_of h ws) r 0) → first_of (when (not word) 12) (when (not (eqb x old)) 13) ≡ stale_fault h ws r old
-unfolding stale_fault no_word other_symbol
-number_is h ws r old x word e symbol = by_test (is_word h ws) (λ t. rw (e, t, symbol t)) (λ t. rw (e, t))
+module _ (h : Header) (ws : List ℕ) where
+  pub no_word_is : (word : Bool) → word ≡ is_word h ws → not word ≡ no_word h ws
+  unfolding no_word
+  no_word_is word e = ap not e
+
+  pub other_symbol_is : (r old x : ℕ) → no_word h ws ≡ false → (is_word h ws ≡ true → x ≡ get_or (message_of h ws) r 0) → not (eqb x old) ≡ other_symbol h ws r old
+  unfolding other_symbol
+  other_symbol_is r old x word symbol = ap (λ (s : ℕ). not (eqb s old)) (symbol (word_good h ws word))

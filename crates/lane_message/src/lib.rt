@@ -1,11 +1,11 @@
 // Whether a lane is stale for an update: whether it is a word of the code whose message holds the old symbol.
 #![tactic(auto)]
 
-ghost use Rattle.std.specs.Prelude.{◌≡◌, true, not, ◌<◌, length};
-ghost use Rattle.lists.specs.Choice.{first_of, when};
+ghost use Rattle.std.specs.Prelude.{◌≡◌, true, ◌<◌, length};
 ghost use Rattle.lists.specs.Numbers.{all_below};
 ghost use Rattle.lists.specs.Padded.{padded};
 ghost use Rattle.generator.specs.Records.{size, Sound};
+ghost use Rattle.generator.specs.Answers.{numbered, outcome_of};
 ghost use Rattle.generator.specs.Shifts.{shifts_of};
 ghost use Rattle.refusals.specs.Faults.{stale_fault};
 ghost use Rattle.check_sums.specs.Inner.Powers.{powers_of};
@@ -17,7 +17,7 @@ mod sums;
 
 use check_sums::{lane, powers};
 use field::Tables;
-use generator::Header;
+use generator::{Code, Header, Refusal};
 use interpolation::lagrange;
 
 // Symbol r of a word's message: the sum of the coefficients of its polynomial times the row's terms, times the row's scale. The spectrum has n times each coefficient.
@@ -45,53 +45,42 @@ fn symbol_from(
     field.mul_with(tables, scale, part)
 }
 
-// The number of a lane: 12 where it is no word of the code, else 13 where its message does not hold the symbol, else 0.
-fn number_of(word: bool, holds: bool) -> u8
-    ensures { result ≡ first_of (when (not word) 12) (when (not holds) 13) }
-{
-    if !word {
-        return 12;
-    }
-    if !holds {
-        return 13;
-    }
-    0
-}
-
-// The number of a lane for an update of symbol r from `old`, with the powers of the root lent to it.
+// Judges a lane for an update of symbol r from `old`, with the powers of the root lent to it.
 fn stale_with(
-    h: Header,
+    code: Code,
     tables: &Tables,
     shifts: &[u8],
     powers: &[u16],
     lane: &[u16],
     r: usize,
     old: u32,
-) -> u8
-    requires { Sound h × (powers.now ≡ padded 255 (powers_of h)) × (length lane.now ≡ h.n) × (all_below (size h) lane.now ≡ true) × (r < h.k) × (shifts.now ≡ padded 255 (shifts_of h.n h.k)) }
-    ensures { result ≡ stale_fault h lane.now r old }
+) -> Result<(), Refusal>
+    requires { (powers.now ≡ padded 255 (powers_of code.header)) × (length lane.now ≡ code.header.n) × (all_below (size code.header) lane.now ≡ true) × (r < code.header.k) × (shifts.now ≡ padded 255 (shifts_of code.header.n code.header.k)) }
+    ensures { numbered result ≡ outcome_of (stale_fault code.header lane.now r old) }
 {
+    let h = code.header;
     let n = h.n as usize;
     let first: usize = 1;
     let end = (h.n - h.k) as usize + 1;
     let spectrum = spectrum::spectrum_of(h, tables, powers, lane);
     let word = lane::all_zero(&spectrum[first..end]);
     let symbol = symbol_from(h, tables, shifts, powers, &spectrum[..n], r);
-    number_of(word, symbol == old)
+    Refusal::Word.when(!word)?;
+    Refusal::Stale.when(symbol != old)
 }
 
-// Number 12 where a lane is no word of the code, else 13 where its message holds another symbol than `old` at number r, else 0. The tables and the rows' shifts are the caller's, who has them for the lane's update too.
+// Whether a lane is no word of the code, or a word whose message holds another symbol than `old` at number r. The tables and the rows' shifts are the caller's, who has them for the lane's update too.
 pub fn stale_fault(
-    h: Header,
+    code: Code,
     tables: &Tables,
     shifts: &[u8],
     lane: &[u16],
     r: usize,
     old: u32,
-) -> u8
-    requires { Sound h × (length lane.now ≡ h.n) × (all_below (size h) lane.now ≡ true) × (r < h.k) × (shifts.now ≡ padded 255 (shifts_of h.n h.k)) }
-    ensures { result ≡ stale_fault h lane.now r old }
+) -> Result<(), Refusal>
+    requires { (length lane.now ≡ code.header.n) × (all_below (size code.header) lane.now ≡ true) × (r < code.header.k) × (shifts.now ≡ padded 255 (shifts_of code.header.n code.header.k)) }
+    ensures { numbered result ≡ outcome_of (stale_fault code.header lane.now r old) }
 {
-    let powers = powers::powers_with(h, tables);
-    stale_with(h, tables, shifts, &powers, lane, r, old)
+    let powers = powers::powers_with(code.header, tables);
+    stale_with(code, tables, shifts, &powers, lane, r, old)
 }

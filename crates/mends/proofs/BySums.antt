@@ -46,7 +46,7 @@ module _ (h : Header) (ws : List ℕ) where
     module _ (other : is_word h ws ≡ false) where
       -- they can be used
       pub has_sums : LaneSums h ws (check_sums h ws)
-      has_sums = record { lane = lane; has = record { sound = s; some = omega (arith, length_sums h ws, some_sums h ws other); symbols = sums_below } }
+      has_sums = record { lane = lane; has = record { some = omega (arith, length_sums h ws, some_sums h ws other); symbols = sums_below } }
 
       module _ (j : ℕ) (node : j < h.n) where
         abbrev passes : ℕ → Bool
@@ -129,10 +129,9 @@ module _ (h : Header) (sums : List ℕ) where
       all_below_lem h.n (up_nodes h sums) (All-imp (λ j. (0 ≤ j) × (j < 0 + h.n)) (λ j. j < h.n) (λ j e. omega arith) (passing_from h.n 0 up) (passing_within h.n 0 up))
 
 -- the new symbols are symbols
-pub mended_below : (h : Header) (ws sums : List ℕ) → LaneSums h ws sums → (j : ℕ) → j < h.n → mended_at h ws sums j < size h
+pub mended_below : (h : Header) → Sound h → (ws sums : List ℕ) → LaneSums h ws sums → (j : ℕ) → j < h.n → mended_at h ws sums j < size h
 unfolding mended_at
-mended_below h ws sums a j node =
-    let s = a.has.sound in
+mended_below h s ws sums a j node =
     let laws : Arithmetic (size h) (add (modulus_of h)) (sub (modulus_of h)) (mul (modulus_of h)) = arithmetic (modulus_of h) s.field in
     laws.sub_below _ _ (below_at (size h) ws a.lane.symbols j (omega (arith, a.lane.long)))
     (laws.mul_below _ _ (below_at (size h) sums a.has.symbols 0 a.has.some) (power_below (modulus_of h) s.field ((h.n - j) % h.n) s.root_below))

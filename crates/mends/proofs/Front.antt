@@ -12,7 +12,7 @@ use Rattle.lists.proofs.Numbers.{below_all, all_below_lem}
 use Rattle.layout.specs.Width.{bytes_of}
 use Rattle.layout.proofs.Widths.{length_bytes}
 use Rattle.generator.specs.declared.Header.{Header}
-use Rattle.generator.specs.Records.{size, width}
+use Rattle.generator.specs.Records.{size, width, Sound}
 use Rattle.generator.specs.Codewords.{is_word}
 use Rattle.mends.specs.Mends.{mend_nodes, mend_symbols}
 use Rattle.mends.specs.Inner.BySums.{LaneSums, mended_at}
@@ -41,11 +41,11 @@ front_bytes w count v new ys old written same long =
     rw (written, bytes, same)
 
 -- the new symbols of nodes are symbols
-pub new_below : (h : Header) (ws sums : List ℕ) → LaneSums h ws sums → (nodes : List ℕ) → all_below h.n nodes ≡ true → all_below (size h) (map (mended_at h ws sums) nodes) ≡ true
-new_below h ws sums has nodes low =
+pub new_below : (h : Header) → Sound h → (ws sums : List ℕ) → LaneSums h ws sums → (nodes : List ℕ) → all_below h.n nodes ≡ true → all_below (size h) (map (mended_at h ws sums) nodes) ≡ true
+new_below h s ws sums has nodes low =
     all_below_lem (size h) (map (mended_at h ws sums) nodes)
     (All-map (λ x. x < size h) (mended_at h ws sums) nodes
-    (All-imp (λ j. j < h.n) (λ j. mended_at h ws sums j < size h) (mended_below h ws sums has) nodes (below_all h.n nodes low)))
+    (All-imp (λ j. j < h.n) (λ j. mended_at h ws sums j < size h) (mended_below h s ws sums has) nodes (below_all h.n nodes low)))
 
 -- a word's buffers are left as they were
 pub word_lists : (h : Header) (ws : List ℕ) → is_word h ws ≡ true → (nodes symbols : List ℕ) → (0 ≡ length (mend_nodes h ws)) × (nodes ≡ in_front (mend_nodes h ws) nodes) × (symbols ≡ in_front (bytes_of (width h) (mend_symbols h ws)) symbols)

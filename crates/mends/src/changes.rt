@@ -4,41 +4,39 @@ ghost use Rattle.std.specs.Prelude.{◌≡◌, true, map, ◌*◌, ◌≤◌, �
 ghost use Rattle.lists.specs.Numbers.{all_below};
 ghost use Rattle.lists.specs.Padded.{padded};
 ghost use Rattle.layout.specs.Width.{bytes_of};
-ghost use Rattle.generator.specs.Records.{modulus_of, size, width, Sound};
+ghost use Rattle.generator.specs.Records.{modulus_of, size, width};
 ghost use Rattle.check_sums.specs.Inner.Powers.{powers_of};
 ghost use Rattle.mends.specs.Inner.BySums.{HasSums, LaneSums, first_off, up_nodes, mended_at};
 ghost use Rattle.mends.specs.Promise.{in_front};
 
 use field::Tables;
-use generator::Header;
+use generator::Code;
 
 // The first place whose next check sum is not c times its own, or the last.
-fn first_off(h: Header, tables: &Tables, c: u32, sums: &[u16]) -> usize
-    requires { HasSums h sums.now × (c < size h) }
-    ensures { result ≡ first_off (modulus_of h) c sums.now }
+fn first_off(code: Code, tables: &Tables, c: u32, sums: &[u16]) -> usize
+    requires { HasSums code.header sums.now × (c < size code.header) }
+    ensures { result ≡ first_off (modulus_of code.header) c sums.now }
 {
-    let field = h.field;
+    let field = code.header.field;
     let last = sums.len() - 1;
-    let mut e: usize = 0;
-    while e < last {
+    for e in 0..last {
         if !field.is_product(tables, c, sums[e], sums[e + 1]) {
             return e;
         }
-        e += 1;
     }
-    e
+    last
 }
 
 // Writes the nodes j for which the check sums go up by root^j, rising; gives how many.
-fn list_nodes(h: Header, tables: &Tables, roots: &[u16], sums: &[u16], nodes: &mut [u8]) -> usize
-    requires { HasSums h sums.now × (roots.now ≡ padded 255 (powers_of h)) × (length nodes.old ≡ h.n) }
-    ensures { (result ≡ length (up_nodes h sums.now)) × (nodes.new ≡ in_front (up_nodes h sums.now) nodes.old) }
+fn list_nodes(code: Code, tables: &Tables, roots: &[u16], sums: &[u16], nodes: &mut [u8]) -> usize
+    requires { HasSums code.header sums.now × (roots.now ≡ padded 255 (powers_of code.header)) × (length nodes.old ≡ code.header.n) }
+    ensures { (result ≡ length (up_nodes code.header sums.now)) × (nodes.new ≡ in_front (up_nodes code.header sums.now) nodes.old) }
 {
-    let n = h.n as usize;
+    let n = code.header.n as usize;
     let last = sums.len() - 1;
     let mut count: usize = 0;
     for j in 0..n {
-        if first_off(h, tables, roots[j] as u32, sums) == last {
+        if first_off(code, tables, roots[j] as u32, sums) == last {
             nodes[count] = j as u8;
             count += 1;
         }
@@ -47,12 +45,12 @@ fn list_nodes(h: Header, tables: &Tables, roots: &[u16], sums: &[u16], nodes: &m
 }
 
 // The new symbol of node j: what it holds less the first check sum over root^j.
-fn mended(h: Header, tables: &Tables, roots: &[u16], lane: &[u16], sums: &[u16], j: usize) -> u16
-    requires { LaneSums h lane.now sums.now × (roots.now ≡ padded 255 (powers_of h)) × (j < h.n) }
-    ensures { result ≡ mended_at h lane.now sums.now j }
+fn mended(code: Code, tables: &Tables, roots: &[u16], lane: &[u16], sums: &[u16], j: usize) -> u16
+    requires { LaneSums code.header lane.now sums.now × (roots.now ≡ padded 255 (powers_of code.header)) × (j < code.header.n) }
+    ensures { result ≡ mended_at code.header lane.now sums.now j }
 {
-    let field = h.field;
-    let n = h.n as usize;
+    let field = code.header.field;
+    let n = code.header.n as usize;
     let back = (n - j) % n;
     let amount = field.mul_with(tables, sums[0] as u32, roots[back] as u32);
     field.sub(lane[j] as u32, amount) as u16
@@ -60,43 +58,43 @@ fn mended(h: Header, tables: &Tables, roots: &[u16], lane: &[u16], sums: &[u16],
 
 // The new symbols of the listed nodes, and zeros after them.
 fn new_symbols(
-    h: Header,
+    code: Code,
     tables: &Tables,
     roots: &[u16],
     lane: &[u16],
     sums: &[u16],
     nodes: &[u8],
 ) -> [u16; 255]
-    requires { LaneSums h lane.now sums.now × (roots.now ≡ padded 255 (powers_of h)) × (all_below h.n nodes.now ≡ true) × (length nodes.now ≤ 255) }
-    ensures { result ≡ padded 255 (map (mended_at h lane.now sums.now) nodes.now) }
+    requires { LaneSums code.header lane.now sums.now × (roots.now ≡ padded 255 (powers_of code.header)) × (all_below code.header.n nodes.now ≡ true) × (length nodes.now ≤ 255) }
+    ensures { result ≡ padded 255 (map (mended_at code.header lane.now sums.now) nodes.now) }
 {
     let mut out = [0u16; 255];
     for i in 0..nodes.len() {
-        out[i] = mended(h, tables, roots, lane, sums, nodes[i] as usize);
+        out[i] = mended(code, tables, roots, lane, sums, nodes[i] as usize);
     }
     out
 }
 
 // Writes new symbols at the front.
-fn put_symbols(h: Header, new: &[u16], symbols: &mut [u8])
-    requires { Sound h × (all_below (size h) new.now ≡ true) × (length new.now ≤ h.n) × (h.n ≤ 255) × (length symbols.old ≡ h.n * width h) }
-    ensures { symbols.new ≡ in_front (bytes_of (width h) new.now) symbols.old }
+fn put_symbols(code: Code, new: &[u16], symbols: &mut [u8])
+    requires { (all_below (size code.header) new.now ≡ true) × (length new.now ≤ code.header.n) × (length symbols.old ≡ code.header.n * width code.header) }
+    ensures { symbols.new ≡ in_front (bytes_of (width code.header) new.now) symbols.old }
 {
     let count = new.len();
-    let w = symbols::width_of(h);
+    let w = symbols::width_of(code.header);
     let end = count * w;
     symbols::write_symbols(w, new, &mut symbols[..end]);
 }
 
 // Lists the nodes and their new symbols; gives how many.
-pub fn list(h: Header, lane: &[u16], sums: &[u16], nodes: &mut [u8], symbols: &mut [u8]) -> usize
-    requires { LaneSums h lane.now sums.now × (h.n ≤ 255) × (length nodes.old ≡ h.n) × (length symbols.old ≡ h.n * width h) }
-    ensures { (result ≡ length (up_nodes h sums.now)) × (nodes.new ≡ in_front (up_nodes h sums.now) nodes.old) × (symbols.new ≡ in_front (bytes_of (width h) (map (mended_at h lane.now sums.now) (up_nodes h sums.now))) symbols.old) }
+pub fn list(code: Code, lane: &[u16], sums: &[u16], nodes: &mut [u8], symbols: &mut [u8]) -> usize
+    requires { LaneSums code.header lane.now sums.now × (length nodes.old ≡ code.header.n) × (length symbols.old ≡ code.header.n * width code.header) }
+    ensures { (result ≡ length (up_nodes code.header sums.now)) × (nodes.new ≡ in_front (up_nodes code.header sums.now) nodes.old) × (symbols.new ≡ in_front (bytes_of (width code.header) (map (mended_at code.header lane.now sums.now) (up_nodes code.header sums.now))) symbols.old) }
 {
     let tables = field::constant_tables();
-    let roots = check_sums::powers::powers(h);
-    let count = list_nodes(h, &tables, &roots, sums, nodes);
-    let new = new_symbols(h, &tables, &roots, lane, sums, &nodes[..count]);
-    put_symbols(h, &new[..count], symbols);
+    let roots = check_sums::powers::powers(code.header);
+    let count = list_nodes(code, &tables, &roots, sums, nodes);
+    let new = new_symbols(code, &tables, &roots, lane, sums, &nodes[..count]);
+    put_symbols(code, &new[..count], symbols);
     count
 }

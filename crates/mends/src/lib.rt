@@ -2,29 +2,29 @@
 #![tactic(auto)]
 
 ghost use Rattle.std.specs.Prelude.{◌≡◌, ◌*◌, length};
-ghost use Rattle.generator.specs.Records.{width, Sound};
+ghost use Rattle.generator.specs.Records.{width};
 ghost use Rattle.generator.specs.Answers.{numbered, outcome_of};
 ghost use Rattle.layout.specs.Width.{bytes_of};
 ghost use Rattle.refusals.specs.Accepted.{IsLane};
 ghost use Rattle.mends.specs.Mends.{mend_nodes, mend_symbols};
 ghost use Rattle.mends.specs.Promise.{in_front, mends_fault, MendsPromise, MendsSay};
 
-use generator::{Code, Header, Refusal};
+use generator::{Code, Refusal};
 use refusals::{lane_length_bad, length_bad, symbols_bad};
 
 mod changes;
 
 // Lists the nodes and their new symbols, none where the lane is a word; gives how many.
-fn list_mends(h: Header, lane: &[u16], nodes: &mut [u8], symbols: &mut [u8]) -> usize
-    requires { Sound h × IsLane h lane.now × (length nodes.old ≡ h.n) × (length symbols.old ≡ h.n * width h) }
-    ensures { (result ≡ length (mend_nodes h lane.now)) × (nodes.new ≡ in_front (mend_nodes h lane.now) nodes.old) × (symbols.new ≡ in_front (bytes_of (width h) (mend_symbols h lane.now)) symbols.old) }
+fn list_mends(code: Code, lane: &[u16], nodes: &mut [u8], symbols: &mut [u8]) -> usize
+    requires { IsLane code.header lane.now × (length nodes.old ≡ code.header.n) × (length symbols.old ≡ code.header.n * width code.header) }
+    ensures { (result ≡ length (mend_nodes code.header lane.now)) × (nodes.new ≡ in_front (mend_nodes code.header lane.now) nodes.old) × (symbols.new ≡ in_front (bytes_of (width code.header) (mend_symbols code.header lane.now)) symbols.old) }
 {
-    let checks = (h.n - h.k) as usize;
-    let sums = check_sums::lane::sums(h, lane);
+    let checks = (code.header.n - code.header.k) as usize;
+    let sums = check_sums::lane::sums(code.header, lane);
     if check_sums::lane::all_zero(&sums[..checks]) {
         return 0;
     }
-    changes::list(h, lane, &sums[..checks], nodes, symbols)
+    changes::list(code, lane, &sums[..checks], nodes, symbols)
 }
 
 // Numbers 8 and 11; `nodes` and `symbols` are the lengths of the written buffers.
@@ -48,11 +48,10 @@ fn mends_accepted(
     ensures { MendsPromise lane.now nodes.old symbols.old nodes.new symbols.new (numbered result) code.header (mends_fault code.header lane.now (length nodes.old) (length symbols.old)) }
 {
     mends_fault(code, lane, nodes.len(), symbols.len())?;
-    let h = code.header;
-    let n = h.n as usize;
-    let w = symbols::width_of(h);
+    let n = code.header.n as usize;
+    let w = symbols::width_of(code.header);
     let ws = symbols::read_symbols(w, lane);
-    let count = list_mends(h, &ws[..n], nodes, symbols) as u32;
+    let count = list_mends(code, &ws[..n], nodes, symbols) as u32;
     Ok(count)
 }
 

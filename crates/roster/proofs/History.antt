@@ -18,7 +18,7 @@ use Rattle.lists.proofs.Rows.{length_from, get_or_from}
 use Rattle.generator.specs.declared.Header.{Header}
 use Rattle.roster.specs.declared.Roster.{Roster}
 use Rattle.roster.specs.Events.{Event, named, says}
-use Rattle.roster.specs.Rosters.{first_marks, is_present, present_of, first_step, start_of, event_fault, marked, step_with, step_by, step_of, lowest_nodes, lowest_of, lowest_list, job_of}
+use Rattle.roster.specs.Rosters.{first_marks, is_present, present_of, first_roster, start_of, event_fault, marked, step_with, step_by, step_of, lowest_nodes, lowest_of, lowest_list, job_of}
 use Rattle.roster.specs.Histories.{after_events, last_says, present_by, NoneNames}
 use Rattle.roster.specs.Runs.{Call, event, job, events_in, next, after_calls}
 use Rattle.roster.specs.Claims.{reached, Kept}
@@ -63,11 +63,11 @@ module _ (h : Header) (small : h.n ≤ 255) where
 
   -- all are present at first
   start_long : length (start_of (Ok h)).roster.marks ≡ 255
-  unfolding start_of first_step first_marks
+  unfolding start_of first_roster first_marks
   start_long = length_from (λ j. ltb j h.n) 0 255
 
   start_node : (j : ℕ) → j < h.n → is_present (start_of (Ok h)).roster.marks j ≡ true
-  unfolding start_of first_step first_marks
+  unfolding start_of first_roster first_marks
   start_node j low = get_or_from (λ j. ltb j h.n) 0 255 j false (omega arith) ∙ lt-ltb (0 + j) h.n (omega arith)
 
   reached_node : (es : List Event) (j : ℕ) → j < h.n → is_present (reached h es).marks j ≡ last_says j es true
@@ -111,14 +111,14 @@ calls_above h (job list ∷ cs) r j high = calls_above h cs (job_of (Ok h) r lis
 
 -- the marks at first
 start_marks : (h : Header) → h.n ≤ 255 → (j : ℕ) → is_present (start_of (Ok h)).roster.marks j ≡ ltb j h.n
-unfolding start_of first_step first_marks
+unfolding start_of first_roster first_marks
 start_marks h small j =
     by_cases (dec_lt j 255)
     (λ l. rw zero-add at (get_or_from (λ i. ltb i h.n) 0 255 j false l))
     (λ l. get_or-eq_default (first_marks h.n) false (omega (arith, length_from (λ i. ltb i h.n) 0 255)) ∙ sym (le-ltb j h.n (omega arith)))
 
 start_job : (h : Header) → (start_of (Ok h)).roster.job ≡ 0
-unfolding start_of first_step
+unfolding start_of first_roster
 start_job h = refl
 
 pub kept : (h : Header) → h.n ≤ 255 → Kept h

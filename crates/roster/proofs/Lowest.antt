@@ -5,7 +5,7 @@ use mathlib.Core.Path.{◌≡◌, refl, sym, ◌∙◌}
 use mathlib.Core.Bool.{Bool, true, false, not, true≢false}
 use mathlib.Core.List.{List}
 use mathlib.Core.Logic.{by_cases}
-use Prim.Native.Nat.{ℕ, zero, suc, ◌%◌, ◌≤◌, ◌<◌}
+use Prim.Native.Nat.{ℕ, zero, suc, ◌≤◌, ◌<◌}
 use native.Mathlib.Decide.{dec_lt}
 use native.Mathlib.Omega.{arith}
 use lib.Dec.{eqb, leb}
@@ -27,19 +27,10 @@ use Rattle.generator.specs.Records.{header_of, record_fault, judged, record_of}
 use Rattle.generator.specs.Claims.{are_nodes}
 use Rattle.roster.specs.declared.Roster.{Roster}
 use Rattle.roster.specs.declared.Listing.{Listing}
-use Rattle.roster.specs.declared.Listing.TheVariants.{Written, TooFew, Refused}
-use Rattle.roster.specs.declared.present.Present.{Present}
-use Rattle.roster.specs.Rosters.{is_present, present_of, present, listing_of, wrote, listing, listed, lowest_nodes, lowest_of, lowest_list}
-use Rattle.roster.specs.Inner.Answers.{listing_number}
+use Rattle.roster.specs.declared.Listing.TheVariants.{Written, TooFew}
+use Rattle.roster.specs.Rosters.{fault_in, is_present, present_of, listing_of, wrote, listing, listed, lowest_nodes, lowest_of, lowest_list}
 use Rattle.roster.specs.Claims.{IsIn, present_count, Lowest}
-use Rattle.roster.proofs.Nodes.{present_rises, present_distinct, present_low, present_marked, present_place, count_is, from_array}
-
--- what the query writes
-pub lowest_written : (n k : ℕ) (marks : List Bool) (p : Present) (l : ℕ) → p ≡ present n marks → l ≡ k → 0 < k → k ≤ p.count → from (λ m. get_or p.nodes (m % p.count) 0) 0 l ≡ lowest_nodes n k marks
-unfolding lowest_nodes
-lowest_written n k marks p l e f pos enough =
-    let many : k ≤ length (present_of n marks) = omega (arith, count_is n marks p e) in
-    from_array n marks p 0 l e (omega arith) ∙ rw f (around_first (present_of n marks) k many)
+use Rattle.roster.proofs.Nodes.{present_rises, present_distinct, present_low, present_marked, present_place}
 
 -- k present nodes in succession, going round: k different nodes, all present
 module _ (h : Header) (marks : List Bool) (some : 0 < h.k) (enough : h.k ≤ length (present_of h.n marks)) (x : ℕ) where
@@ -58,36 +49,36 @@ module _ (h : Header) (marks : List Bool) (some : 0 < h.k) (enough : h.k ≤ len
       rw (sym e) (All-at (λ j. is_present marks j ≡ true) 0 (from (around ps) x h.k) (around_all ps x h.k (λ j. is_present marks j ≡ true) (omega arith) (present_marked h.n marks)) u low)
 
 -- where the list is written, at least k nodes are present
-pub written_enough : (k s l : ℕ) → listing k s l ≡ Written → k ≤ s
+pub written_enough : (k s l : ℕ) → listing k s l ≡ Ok Written → k ≤ s
 unfolding listing listing_of
 written_enough k s l e =
     by_test (eqb l k)
-    (λ a. by_test (leb k s) (leb-true k s) (λ b. let w : TooFew ≡ Written = rw (a, b) at e in never cc))
-    (λ a. let w : Refused 8 ≡ Written = rw a at e in never cc)
+    (λ a. by_test (leb k s) (leb-true k s) (λ b. let w : ◌≡◌ {A = Answer Listing} (Ok TooFew) (Ok Written) = rw (a, b) at e in never cc))
+    (λ a. let w : ◌≡◌ {A = Answer Listing} (Err 8) (Ok Written) = rw a at e in never cc)
 
 -- too few, for a list of k bytes
-few_means : (k s l : ℕ) → l ≡ k → listing k s l ≡ TooFew → s < k
+few_means : (k s l : ℕ) → l ≡ k → listing k s l ≡ Ok TooFew → s < k
 unfolding listing listing_of
-few_means k s l long e = by_test (leb k s) (λ b. let w : Written ≡ TooFew = rw (eq-eqb l k long, b) at e in never cc) (leb-false k s)
+few_means k s l long e = by_test (leb k s) (λ b. let w : ◌≡◌ {A = Answer Listing} (Ok Written) (Ok TooFew) = rw (eq-eqb l k long, b) at e in never cc) (leb-false k s)
 
-few_given : (k s l : ℕ) → l ≡ k → s < k → listing k s l ≡ TooFew
+few_given : (k s l : ℕ) → l ≡ k → s < k → listing k s l ≡ Ok TooFew
 unfolding listing listing_of
 few_given k s l long few = rw (eq-eqb l k long, lt-leb k s few)
 
 -- the number of an answer; where it is 0 the list was written or too few are present
-answer_number : (f : ℕ) (enough : Bool) → listing_number (listing_of f enough) ≡ f
-unfolding listing_number listing_of
+answer_number : (f : ℕ) (enough : Bool) → fault_in (listing_of f enough) ≡ f
+unfolding listing_of
 answer_number zero true = refl
 answer_number zero false = refl
 answer_number (suc f) enough = refl
 
-answer_wrote : (f : ℕ) (enough : Bool) → listing_number (listing_of f enough) ≡ 0 → wrote (listing_of f enough) ≡ enough
-unfolding listing_number wrote listing_of
+answer_wrote : (f : ℕ) (enough : Bool) → fault_in (listing_of f enough) ≡ 0 → wrote (listing_of f enough) ≡ enough
+unfolding wrote listing_of
 answer_wrote zero true z = refl
 answer_wrote zero false z = refl
 answer_wrote (suc f) enough z = absurd (omega arith)
 
-answer_refused : (f : ℕ) (enough : Bool) (g : ℕ) → listing_of f enough ≡ Refused g → g ≡ 0 → ⊥
+answer_refused : (f : ℕ) (enough : Bool) (g : ℕ) → listing_of f enough ≡ Err g → g ≡ 0 → ⊥
 unfolding listing_of
 answer_refused zero true g e z = never cc
 answer_refused zero false g e z = never cc
@@ -95,49 +86,49 @@ answer_refused (suc f) enough g e z = let same : suc f ≡ g = cc in omega arith
 
 module _ (r : Roster) (list : List ℕ) where
   -- a refused query gives a number that is not 0
-  pub lowest_refused : (rec : List ℕ) (g : ℕ) → lowest_of (record_of rec) r list ≡ Refused g → g ≡ 0 → ⊥
+  pub lowest_refused : (rec : List ℕ) (g : ℕ) → lowest_of (record_of rec) r list ≡ Err g → g ≡ 0 → ⊥
   unfolding record_of judged lowest_of listing
   lowest_refused rec = go (record_fault rec)
     where
-      go : (f g : ℕ) → lowest_of (judged f (header_of rec)) r list ≡ Refused g → g ≡ 0 → ⊥
+      go : (f g : ℕ) → lowest_of (judged f (header_of rec)) r list ≡ Err g → g ≡ 0 → ⊥
       go zero g e z = answer_refused (when (not (eqb (length list) (header_of rec).k)) 8) (leb (header_of rec).k (present_count (header_of rec) r)) g e z
       go (suc f) g e z = let same : suc f ≡ g = cc in omega arith
 
   -- the query meets the record's number, then 8 for another length than k
-  pub lowest_number : (rec : List ℕ) → listing_number (lowest_of (record_of rec) r list) ≡ first_of (record_fault rec) (when (not (eqb (length list) (header_of rec).k)) 8)
-  unfolding record_of judged lowest_of listing listing_number
+  pub lowest_number : (rec : List ℕ) → fault_in (lowest_of (record_of rec) r list) ≡ first_of (record_fault rec) (when (not (eqb (length list) (header_of rec).k)) 8)
+  unfolding record_of judged lowest_of listing
   lowest_number rec = go (record_fault rec)
     where
-      go : (f : ℕ) → listing_number (lowest_of (judged f (header_of rec)) r list) ≡ first_of f (when (not (eqb (length list) (header_of rec).k)) 8)
+      go : (f : ℕ) → fault_in (lowest_of (judged f (header_of rec)) r list) ≡ first_of f (when (not (eqb (length list) (header_of rec).k)) 8)
       go zero = answer_number (when (not (eqb (length list) (header_of rec).k)) 8) (leb (header_of rec).k (present_count (header_of rec) r))
       go (suc f) = refl
 
   -- where it meets none, the list is written exactly if k are present
-  pub lowest_wrote : (rec : List ℕ) → listing_number (lowest_of (record_of rec) r list) ≡ 0 → wrote (lowest_of (record_of rec) r list) ≡ leb (header_of rec).k (present_count (header_of rec) r)
-  unfolding record_of judged lowest_of listing listing_number
+  pub lowest_wrote : (rec : List ℕ) → fault_in (lowest_of (record_of rec) r list) ≡ 0 → wrote (lowest_of (record_of rec) r list) ≡ leb (header_of rec).k (present_count (header_of rec) r)
+  unfolding record_of judged lowest_of listing
   lowest_wrote rec = go (record_fault rec)
     where
-      go : (f : ℕ) → listing_number (lowest_of (judged f (header_of rec)) r list) ≡ 0 → wrote (lowest_of (judged f (header_of rec)) r list) ≡ leb (header_of rec).k (present_count (header_of rec) r)
+      go : (f : ℕ) → fault_in (lowest_of (judged f (header_of rec)) r list) ≡ 0 → wrote (lowest_of (judged f (header_of rec)) r list) ≡ leb (header_of rec).k (present_count (header_of rec) r)
       go zero z = answer_wrote (when (not (eqb (length list) (header_of rec).k)) 8) (leb (header_of rec).k (present_count (header_of rec) r)) z
       go (suc f) z = absurd (omega arith)
 
   -- beside a number the list is as it was
-  pub lowest_kept : (rec : Answer Header) → (listing_number (lowest_of rec r list) ≡ 0 → ⊥) → lowest_list rec r list ≡ list
-  unfolding lowest_list listed listing_number
+  pub lowest_kept : (rec : Answer Header) → (fault_in (lowest_of rec r list) ≡ 0 → ⊥) → lowest_list rec r list ≡ list
+  unfolding lowest_list listed
   lowest_kept (Err f) bad = refl
   lowest_kept (Ok h) bad = go (lowest_of (Ok h) r list) bad
     where
-      go : (a : Listing) → (listing_number a ≡ 0 → ⊥) → listed a (lowest_nodes h.n h.k r.marks) list ≡ list
-      go Written bad = absurd (bad refl)
-      go TooFew bad = refl
-      go (Refused f) bad = refl
+      go : (a : Answer Listing) → (fault_in a ≡ 0 → ⊥) → listed a (lowest_nodes h.n h.k r.marks) list ≡ list
+      go (Ok Written) bad = absurd (bad refl)
+      go (Ok TooFew) bad = refl
+      go (Err f) bad = refl
 
 -- the present nodes are settled by the marks below n
 pub same_present : (h : Header) (r q : Roster) → ((j : ℕ) → j < h.n → is_present r.marks j ≡ is_present q.marks j) → present_of h.n r.marks ≡ present_of h.n q.marks
 unfolding present_of
 same_present h r q same = passing_ext h.n 0 (is_present r.marks) (is_present q.marks) (λ j a b. same j (omega arith))
 
-module _ (h : Header) (r : Roster) (list : List ℕ) (e : lowest_of (Ok h) r list ≡ Written) where
+module _ (h : Header) (r : Roster) (list : List ℕ) (e : lowest_of (Ok h) r list ≡ Ok Written) where
   pub enough_are : h.k ≤ present_count h r
   unfolding lowest_of
   enough_are = written_enough h.k (present_count h r) (length list) e

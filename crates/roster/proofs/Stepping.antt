@@ -19,7 +19,7 @@ use Rattle.generator.specs.declared.Header.{Header}
 use Rattle.generator.specs.Records.{header_of, record_fault, judged, record_of}
 use Rattle.roster.specs.declared.Roster.{Roster}
 use Rattle.roster.specs.Events.{Event, named, says}
-use Rattle.roster.specs.Rosters.{first_marks, is_present, first_step, start_of, event_fault, marked, step_with, step_by, step_of, lowest_list, job_of, job_list}
+use Rattle.roster.specs.Rosters.{first_marks, is_present, first_roster, start_of, event_fault, marked, step_with, step_by, step_of, lowest_list, job_of, job_list}
 use Rattle.roster.specs.Claims.{Stepping, RosterRefused}
 
 -- a mark that is what an event says is the same mark
@@ -57,12 +57,12 @@ module _ (n node : ℕ) (here : Bool) (r : Roster) where
 
 -- the next roster and its number, by the number that was met
 module _ (node : ℕ) (here : Bool) (r : Roster) where
-  marked_number : (f : ℕ) → (marked f node here r).number ≡ f
+  pub marked_number : (f : ℕ) → (marked f node here r).number ≡ f
   unfolding marked
   marked_number zero = refl
   marked_number (suc f) = refl
 
-  marked_same : (f : ℕ) → ((marked f node here r).number ≡ 0 → ⊥) → (marked f node here r).roster ≡ r
+  pub marked_same : (f : ℕ) → ((marked f node here r).number ≡ 0 → ⊥) → (marked f node here r).roster ≡ r
   unfolding marked
   marked_same zero bad = absurd (bad refl)
   marked_same (suc f) bad = refl
@@ -108,7 +108,7 @@ module _ (e : Event) (r : Roster) where
 
 -- the number of a start is the record's
 pub start_number : (rec : List ℕ) → (start_of (record_of rec)).number ≡ record_fault rec
-unfolding record_of judged start_of first_step
+unfolding record_of judged start_of first_roster
 start_number rec = go (record_fault rec)
   where
     go : (f : ℕ) → (start_of (judged f (header_of rec))).number ≡ f
@@ -126,7 +126,7 @@ stepping h =
 
 -- no node is present beside a number
 nothing : (f j : ℕ) → is_present (start_of (Err f)).roster.marks j ≡ false
-unfolding start_of first_step first_marks
+unfolding start_of first_roster first_marks
 nothing f j =
     by_cases (dec_lt j 255)
     (λ l. get_or_from (λ i. ltb i 0) 0 255 j false l ∙ le-ltb (0 + j) 0 (omega arith))

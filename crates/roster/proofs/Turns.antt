@@ -1,5 +1,5 @@
 -- Runs of jobs: they read the present nodes in succession, going round, so that each has its turn.
-use Rattle.std.specs.Prelude.{Ok}
+use Rattle.std.specs.Prelude.{Ok, Err}
 use mathlib.Core.Path.{◌≡◌, refl, sym, ap, ap₂, subst, ◌∙◌}
 use mathlib.Core.Bool.{Bool, true, false, true≢false}
 use mathlib.Core.List.{List, [], ◌∷◌, ◌++◌, append-nil}
@@ -14,10 +14,11 @@ use Rattle.lists.specs.Counting.{occurrences}
 use Rattle.lists.proofs.Rows.{from_append}
 use Rattle.lists.proofs.Around.{around_same_rests, around_occurrences}
 use Rattle.field.proofs.Modular.{mod_mul_mod}
+use Rattle.generator.specs.Answers.{Answer}
 use Rattle.generator.specs.declared.Header.{Header}
 use Rattle.roster.specs.declared.Roster.{Roster}
 use Rattle.roster.specs.declared.Listing.{Listing}
-use Rattle.roster.specs.declared.Listing.TheVariants.{Written, TooFew, Refused}
+use Rattle.roster.specs.declared.Listing.TheVariants.{Written, TooFew}
 use Rattle.roster.specs.Events.{Event}
 use Rattle.roster.specs.Rosters.{present_of, step_of, wrote, moved_on, after, lowest_of, job_of, job_list}
 use Rattle.roster.specs.Runs.{Call, event, job, next, after_calls, is_read, read_by, reads_of, jobs_in, Quiet}
@@ -67,16 +68,16 @@ module _ (h : Header) where
   quiet_later (job list ∷ before) cs r q = quiet_later before cs (next (Ok h) (job list) r) q
 
   -- a job that writes
-  read_wrote : (r : Roster) (list : List ℕ) → lowest_of (Ok h) r list ≡ Written → (read_by (Ok h) (job list) r ≡ job_list (Ok h) r list) × (is_read (Ok h) (job list) r ≡ true) × (next (Ok h) (job list) r ≡ moved_on h.n r)
+  read_wrote : (r : Roster) (list : List ℕ) → lowest_of (Ok h) r list ≡ Ok Written → (read_by (Ok h) (job list) r ≡ job_list (Ok h) r list) × (is_read (Ok h) (job list) r ≡ true) × (next (Ok h) (job list) r ≡ moved_on h.n r)
   unfolding read_by is_read next wrote job_of after
   read_wrote r list e = (rw e, rw e, rw e)
 
   -- and one that does not
-  read_idle : (r : Roster) (list : List ℕ) (l : Listing) → lowest_of (Ok h) r list ≡ l → wrote l ≡ false → (read_by (Ok h) (job list) r ≡ []) × (is_read (Ok h) (job list) r ≡ false) × (next (Ok h) (job list) r ≡ r)
+  read_idle : (r : Roster) (list : List ℕ) (l : Answer Listing) → lowest_of (Ok h) r list ≡ l → wrote l ≡ false → (read_by (Ok h) (job list) r ≡ []) × (is_read (Ok h) (job list) r ≡ false) × (next (Ok h) (job list) r ≡ r)
   unfolding read_by is_read next wrote job_of after
-  read_idle r list Written e w = absurd (true≢false w)
-  read_idle r list TooFew e w = (rw e, rw e, rw e)
-  read_idle r list (Refused f) e w = (rw e, rw e, rw e)
+  read_idle r list (Ok Written) e w = absurd (true≢false w)
+  read_idle r list (Ok TooFew) e w = (rw e, rw e, rw e)
+  read_idle r list (Err f) e w = (rw e, rw e, rw e)
 
   event_idle : (e : Event) (r : Roster) → (read_by (Ok h) (event e) r ≡ []) × (is_read (Ok h) (event e) r ≡ false)
   unfolding read_by is_read
@@ -98,7 +99,7 @@ module _ (h : Header) where
       (calls_read ps cs (next (Ok h) (event d) r) i (rw same e) (rw same m) q.1)
   calls_read ps (job list ∷ cs) r i e m q = go (lowest_of (Ok h) r list) refl (calls_read ps cs)
     where
-      idle : (l : Listing) → lowest_of (Ok h) r list ≡ l → wrote l ≡ false
+      idle : (l : Answer Listing) → lowest_of (Ok h) r list ≡ l → wrote l ≡ false
           → ((r : Roster) (i : ℕ) → present_of h.n r.marks ≡ ps → r.job % length ps ≡ i % length ps → Quiet (Ok h) cs r → reads_of (Ok h) cs r ≡ from (around ps) (i * h.k) (jobs_in (Ok h) cs r * h.k))
           → read_by (Ok h) (job list) r ++ reads_of (Ok h) cs (next (Ok h) (job list) r) ≡ from (around ps) (i * h.k) ((when (is_read (Ok h) (job list) r) 1 + jobs_in (Ok h) cs (next (Ok h) (job list) r)) * h.k)
       idle l w no_list later =
@@ -106,16 +107,16 @@ module _ (h : Header) where
           idle_more (around ps) i (jobs_in (Ok h) cs (next (Ok h) (job list) r)) h.k (read_by (Ok h) (job list) r) (reads_of (Ok h) cs (next (Ok h) (job list) r)) (is_read (Ok h) (job list) r) none not_read
           (later (next (Ok h) (job list) r) i (rw same e) (rw same m) q)
 
-      go : (l : Listing) → lowest_of (Ok h) r list ≡ l
+      go : (l : Answer Listing) → lowest_of (Ok h) r list ≡ l
           → ((r : Roster) (i : ℕ) → present_of h.n r.marks ≡ ps → r.job % length ps ≡ i % length ps → Quiet (Ok h) cs r → reads_of (Ok h) cs r ≡ from (around ps) (i * h.k) (jobs_in (Ok h) cs r * h.k))
           → read_by (Ok h) (job list) r ++ reads_of (Ok h) cs (next (Ok h) (job list) r) ≡ from (around ps) (i * h.k) ((when (is_read (Ok h) (job list) r) 1 + jobs_in (Ok h) cs (next (Ok h) (job list) r)) * h.k)
-      go Written w later =
+      go (Ok Written) w later =
           let (read, wrote_it, moved) = read_wrote r list w in
           let nodes : read_by (Ok h) (job list) r ≡ from (around ps) (i * h.k) h.k = read ∙ rw e at (job_around h r list w) ∙ job_places ps r.job i h.k m in
           read_more (around ps) i (jobs_in (Ok h) cs (next (Ok h) (job list) r)) h.k (read_by (Ok h) (job list) r) (reads_of (Ok h) cs (next (Ok h) (job list) r)) (is_read (Ok h) (job list) r) nodes wrote_it
           (later (next (Ok h) (job list) r) (i + 1) (rw (next_marks list r) e) (rw moved (moved_job r i ps e m)) q)
-      go TooFew w later = idle TooFew w refl later
-      go (Refused f) w later = idle (Refused f) w refl later
+      go (Ok TooFew) w later = idle (Ok TooFew) w refl later
+      go (Err f) w later = idle (Err f) w refl later
 
   -- a present node is read as often as its turn comes
   node_turns : (r : Roster) (cs : List Call) → Quiet (Ok h) cs r → (j : ℕ) → IsIn h r j → let m = jobs_in (Ok h) cs r * h.k / present_count h r in (m ≤ occurrences j (reads_of (Ok h) cs r)) × (occurrences j (reads_of (Ok h) cs r) ≤ m + 1)

@@ -58,13 +58,13 @@ pub record Stepping (h : Header) : Type 0 where
 -- the query, on any roster
 pub record Lowest (h : Header) : Type 0 where
   -- with a list of k bytes, too few exactly if fewer than k are present
-  pub few : (r : Roster) (list : List ℕ) → length list ≡ h.k → (lowest_of (Ok h) r list ≡ TooFew) ↔ (present_count h r < h.k)
+  pub few : (r : Roster) (list : List ℕ) → length list ≡ h.k → (lowest_of (Ok h) r list ≡ Ok TooFew) ↔ (present_count h r < h.k)
   -- what is written are k different nodes, which Recover and Rebuild take as a list of nodes, all present
-  pub nodes : (r : Roster) (list : List ℕ) → lowest_of (Ok h) r list ≡ Written → are_nodes h (lowest_list (Ok h) r list) ≡ true
-  pub here : (r : Roster) (list : List ℕ) → lowest_of (Ok h) r list ≡ Written → (j : ℕ) → is_in j (lowest_list (Ok h) r list) ≡ true → is_present r.marks j ≡ true
+  pub nodes : (r : Roster) (list : List ℕ) → lowest_of (Ok h) r list ≡ Ok Written → are_nodes h (lowest_list (Ok h) r list) ≡ true
+  pub here : (r : Roster) (list : List ℕ) → lowest_of (Ok h) r list ≡ Ok Written → (j : ℕ) → is_in j (lowest_list (Ok h) r list) ≡ true → is_present r.marks j ≡ true
   -- they rise, and every other present node is above them
-  pub rises : (r : Roster) (list : List ℕ) → lowest_of (Ok h) r list ≡ Written → (i j : ℕ) → i < j → j < h.k → get_or (lowest_list (Ok h) r list) i 0 < get_or (lowest_list (Ok h) r list) j 0
-  pub least : (r : Roster) (list : List ℕ) → lowest_of (Ok h) r list ≡ Written → (i j : ℕ) → is_in i (lowest_list (Ok h) r list) ≡ true → IsIn h r j → is_in j (lowest_list (Ok h) r list) ≡ false → i < j
+  pub rises : (r : Roster) (list : List ℕ) → lowest_of (Ok h) r list ≡ Ok Written → (i j : ℕ) → i < j → j < h.k → get_or (lowest_list (Ok h) r list) i 0 < get_or (lowest_list (Ok h) r list) j 0
+  pub least : (r : Roster) (list : List ℕ) → lowest_of (Ok h) r list ≡ Ok Written → (i j : ℕ) → is_in i (lowest_list (Ok h) r list) ≡ true → IsIn h r j → is_in j (lowest_list (Ok h) r list) ≡ false → i < j
   -- marks at n and above play no part
   pub beyond : (r q : Roster) (list : List ℕ) → ((j : ℕ) → j < h.n → is_present r.marks j ≡ is_present q.marks j) → (lowest_of (Ok h) r list ≡ lowest_of (Ok h) q list) × (lowest_list (Ok h) r list ≡ lowest_list (Ok h) q list)
 
@@ -73,14 +73,14 @@ pub record Jobs (h : Header) : Type 0 where
   -- it answers as the query does
   pub answer : (r : Roster) (list : List ℕ) → (job_of (Ok h) r list).listing ≡ lowest_of (Ok h) r list
   -- what is written are k different nodes, which Rebuild takes as a list of nodes, all present
-  pub nodes : (r : Roster) (list : List ℕ) → (job_of (Ok h) r list).listing ≡ Written → are_nodes h (job_list (Ok h) r list) ≡ true
-  pub here : (r : Roster) (list : List ℕ) → (job_of (Ok h) r list).listing ≡ Written → (j : ℕ) → is_in j (job_list (Ok h) r list) ≡ true → is_present r.marks j ≡ true
+  pub nodes : (r : Roster) (list : List ℕ) → (job_of (Ok h) r list).listing ≡ Ok Written → are_nodes h (job_list (Ok h) r list) ≡ true
+  pub here : (r : Roster) (list : List ℕ) → (job_of (Ok h) r list).listing ≡ Ok Written → (j : ℕ) → is_in j (job_list (Ok h) r list) ≡ true → is_present r.marks j ≡ true
   -- a job that writes nothing leaves roster and list equal
-  pub idle : (r : Roster) (list : List ℕ) → ((job_of (Ok h) r list).listing ≡ Written → ⊥) → ((job_of (Ok h) r list).roster ≡ r) × (job_list (Ok h) r list ≡ list)
+  pub idle : (r : Roster) (list : List ℕ) → ((job_of (Ok h) r list).listing ≡ Ok Written → ⊥) → ((job_of (Ok h) r list).roster ≡ r) × (job_list (Ok h) r list ≡ list)
   -- a job leaves the marks
   pub marks : (r : Roster) (list : List ℕ) → (job_of (Ok h) r list).roster.marks ≡ r.marks
   -- one that writes moves the job number on by one, modulo the number of present nodes
-  pub moves : (r : Roster) (list : List ℕ) → (job_of (Ok h) r list).listing ≡ Written → ((job_of (Ok h) r list).roster.job ≡ (r.job + 1) % present_count h r) × ((job_of (Ok h) r list).roster.job < present_count h r)
+  pub moves : (r : Roster) (list : List ℕ) → (job_of (Ok h) r list).listing ≡ Ok Written → ((job_of (Ok h) r list).roster.job ≡ (r.job + 1) % present_count h r) × ((job_of (Ok h) r list).roster.job < present_count h r)
   -- marks at n and above play no part, and the job number counts modulo the number of present nodes
   pub beyond : (r q : Roster) (list : List ℕ) → ((j : ℕ) → j < h.n → is_present r.marks j ≡ is_present q.marks j) → r.job % present_count h r ≡ q.job % present_count h r → job_list (Ok h) r list ≡ job_list (Ok h) q list
 

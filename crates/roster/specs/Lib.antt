@@ -4,4 +4,3 @@ pub mod Rosters
 pub mod Histories
 pub mod Runs
 pub mod Claims
-pub mod Inner

@@ -7,15 +7,26 @@ use Rattle.std.specs.Bool.{beq}
 use Rattle.lists.specs.Choice.{first_of, when}
 use Rattle.lists.specs.Rows.{from}
 use Rattle.lists.specs.Around.{around}
-use Rattle.lists.specs.Padded.{padded}
 use Rattle.lists.specs.Counting.{passing_from}
 use Rattle.roster.specs.declared.Roster.{Roster}
-use Rattle.roster.specs.declared.Step.{Step}
 use Rattle.roster.specs.declared.Listing.{Listing}
-use Rattle.roster.specs.declared.Listing.TheVariants.{Written, TooFew, Refused}
-use Rattle.roster.specs.declared.Job.{Job}
-use Rattle.roster.specs.declared.present.Present.{Present}
+use Rattle.roster.specs.declared.Listing.TheVariants.{Written, TooFew}
 use Rattle.roster.specs.Events.{Event, named, says}
+
+-- the roster after a start or an event, and the number that turned it away, or 0
+pub record Step : Type 0 where
+  pub roster : Roster
+  pub number : ℕ
+
+-- the roster after a job, and what became of the list
+pub record Job : Type 0 where
+  pub roster : Roster
+  pub listing : Answer Listing
+
+-- the number that turned a call away, 0 for none
+abbrev pub fault_in : {A : Type 0} → Answer A → ℕ
+fault_in (Ok v) = 0
+fault_in (Err f) = f
 
 -- the marks at first: the nodes below n are present
 unfoldable pub first_marks : ℕ → List Bool
@@ -29,18 +40,14 @@ is_present marks j = get_or marks j false
 unfoldable pub present_of : ℕ → List Bool → List ℕ
 present_of n marks = passing_from n 0 (is_present marks)
 
--- the same as an array, with their number
-unfoldable pub present : ℕ → List Bool → Present
-present n marks = record { nodes = padded 255 (present_of n marks); count = length (present_of n marks) }
-
--- the roster at first, with the nodes below n present, beside a number
-unfoldable pub first_step : ℕ → ℕ → Step
-first_step n f = record { roster = record { marks = first_marks n; job = 0 }; number = f }
+-- the roster at first, with the nodes below n present
+unfoldable pub first_roster : ℕ → Roster
+first_roster n = record { marks = first_marks n; job = 0 }
 
 -- the roster of a record; beside a number no node is present
 unfoldable pub start_of : Answer Header → Step
-start_of (Err f) = first_step 0 f
-start_of (Ok h) = first_step h.n 0
+start_of (Err f) = record { roster = first_roster 0; number = f }
+start_of (Ok h) = record { roster = first_roster h.n; number = 0 }
 
 -- the number that an event meets, or 0: 9 for a node at n or above, 15 for one that already is what the event says
 unfoldable pub event_fault : ℕ → ℕ → Bool → List Bool → ℕ
@@ -64,33 +71,33 @@ abbrev pub step_of : Answer Header → Event → Roster → Step
 step_of rec e r = step_by rec (named e) (says e) r
 
 -- the answer by its number, 0 where the call was accepted, and whether enough nodes are present
-unfoldable pub listing_of : ℕ → Bool → Listing
-listing_of zero true = Written
-listing_of zero false = TooFew
-listing_of (suc f) enough = Refused (suc f)
+unfoldable pub listing_of : ℕ → Bool → Answer Listing
+listing_of zero true = Ok Written
+listing_of zero false = Ok TooFew
+listing_of (suc f) enough = Err (suc f)
 
-unfoldable pub wrote : Listing → Bool
-wrote Written = true
-wrote TooFew = false
-wrote (Refused f) = false
+unfoldable pub wrote : Answer Listing → Bool
+wrote (Ok Written) = true
+wrote (Ok TooFew) = false
+wrote (Err f) = false
 
 -- what becomes of a list of l bytes where s nodes are present: number 8 for another length than k, too few for s below k
-unfoldable pub listing : ℕ → ℕ → ℕ → Listing
+unfoldable pub listing : ℕ → ℕ → ℕ → Answer Listing
 listing k s l = listing_of (when (not (eqb l k)) 8) (leb k s)
 
 -- the list afterwards: the nodes where they are written, else the list as it was
-unfoldable pub listed : Listing → List ℕ → List ℕ → List ℕ
-listed Written nodes list = nodes
-listed TooFew nodes list = list
-listed (Refused f) nodes list = list
+unfoldable pub listed : Answer Listing → List ℕ → List ℕ → List ℕ
+listed (Ok Written) nodes list = nodes
+listed (Ok TooFew) nodes list = list
+listed (Err f) nodes list = list
 
 -- the k lowest present nodes
 unfoldable pub lowest_nodes : ℕ → ℕ → List Bool → List ℕ
 lowest_nodes n k marks = take k (present_of n marks)
 
 -- what the query answers, and the list afterwards
-unfoldable pub lowest_of : Answer Header → Roster → List ℕ → Listing
-lowest_of (Err f) r list = Refused f
+unfoldable pub lowest_of : Answer Header → Roster → List ℕ → Answer Listing
+lowest_of (Err f) r list = Err f
 lowest_of (Ok h) r list = listing h.k (length (present_of h.n r.marks)) (length list)
 
 unfoldable pub lowest_list : Answer Header → Roster → List ℕ → List ℕ
@@ -110,14 +117,14 @@ unfoldable pub moved_on : ℕ → Roster → Roster
 moved_on n r = record { marks = r.marks; job = (r.job + 1) % length (present_of n r.marks) }
 
 -- the roster after a job
-unfoldable pub after : Listing → ℕ → Roster → Roster
-after Written n r = moved_on n r
-after TooFew n r = r
-after (Refused f) n r = r
+unfoldable pub after : Answer Listing → ℕ → Roster → Roster
+after (Ok Written) n r = moved_on n r
+after (Ok TooFew) n r = r
+after (Err f) n r = r
 
 -- what a job answers, which is what the query would, with the roster after it; and the list afterwards
 unfoldable pub job_of : Answer Header → Roster → List ℕ → Job
-job_of (Err f) r list = record { roster = r; listing = Refused f }
+job_of (Err f) r list = record { roster = r; listing = Err f }
 job_of (Ok h) r list = record { roster = after (lowest_of (Ok h) r list) h.n r; listing = lowest_of (Ok h) r list }
 
 unfoldable pub job_list : Answer Header → Roster → List ℕ → List ℕ

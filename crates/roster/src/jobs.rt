@@ -1,37 +1,27 @@
 // Jobs: each reads the next k present nodes, going round.
-ghost use Rattle.std.specs.Prelude.{◌<◌};
-ghost use Rattle.roster.specs.Inner.Answers.{JobSays};
+ghost use Rattle.std.specs.Prelude.{◌≡◌, Ok};
+ghost use Rattle.generator.specs.Answers.{numbered};
+ghost use Rattle.roster.specs.Rosters.{job_of, job_list};
 
 use crate::present::{list_present, write_nodes};
-use crate::{Job, Listing, Roster};
+use crate::{Listing, Roster};
+use generator::{Code, Refusal};
 
-// The job over an accepted record's n and k: the nodes from place job·k on, the job number taken modulo the number of present nodes.
-pub fn write_job(roster: Roster, n: u8, k: u8, list: &mut [u8]) -> Job
-    requires { 0 < k }
-    ensures { JobSays n k roster list.old list.new result }
+// The job over an accepted record: the nodes from place job·k on, the job number taken modulo the number of present nodes.
+pub fn write_job(roster: &mut Roster, code: Code, list: &mut [u8]) -> Result<Listing, Refusal>
+    ensures answer { numbered result ≡ (job_of (Ok code.header) roster.old list.old).listing }
+    ensures roster { roster.new ≡ (job_of (Ok code.header) roster.old list.old).roster }
+    ensures list { list.new ≡ job_list (Ok code.header) roster.old list.old }
 {
-    if list.len() != k as usize {
-        return Job {
-            roster: roster,
-            listing: Listing::Refused(8),
-        };
+    let k = code.header.k as usize;
+    Refusal::Length.when(list.len() != k)?;
+    let nodes = list_present(&roster.marks, code.header.n);
+    let count = nodes.len();
+    if count < k {
+        return Ok(Listing::TooFew);
     }
-    let marks = roster.marks;
     let job = roster.job as usize;
-    let p = list_present(marks, n);
-    let count = p.count;
-    if count < k as usize {
-        return Job {
-            roster: roster,
-            listing: Listing::TooFew,
-        };
-    }
-    write_nodes(p, job % count * k as usize, list);
-    Job {
-        roster: Roster {
-            marks: marks,
-            job: ((job + 1) % count) as u8,
-        },
-        listing: Listing::Written,
-    }
+    write_nodes(&nodes, job % count * k, list);
+    roster.job = ((job + 1) % count) as u8;
+    Ok(Listing::Written)
 }

@@ -1,12 +1,13 @@
 // Rosters: which nodes are present, as nodes leave and return, the lowest of them, and the nodes that rebuild jobs read in turn.
 #![tactic(auto)]
 
-ghost use Rattle.std.specs.Prelude.{◌≡◌};
+ghost use Rattle.std.specs.Prelude.{◌≡◌, MatchResult};
+ghost use Rattle.generator.specs.Answers.{number, numbered, outcome_of};
 ghost use Rattle.generator.specs.Records.{record_of};
 ghost use Rattle.roster.specs.Events.{leaves, returns};
-ghost use Rattle.roster.specs.Rosters.{first_step, start_of, step_of, lowest_of, lowest_list, job_of, job_list};
+ghost use Rattle.roster.specs.Rosters.{Step, first_roster, start_of, step_by, step_of, lowest_of, lowest_list, job_of, job_list};
 
-use generator::Record;
+use generator::Refusal;
 
 mod events;
 mod jobs;
@@ -20,98 +21,73 @@ pub struct Roster {
     pub job: u8,
 }
 
-// The roster after a start or an event, and the number that turned it away, or 0.
-#[derive(Clone, Copy)]
-pub struct Step {
-    pub roster: Roster,
-    pub number: u8,
-}
-
 // What became of a lent list.
-#[derive(Clone, Copy)]
+#[derive(Clone, Copy, Debug, PartialEq, Eq)]
 pub enum Listing {
     Written,
     TooFew,
-    Refused(u8),
 }
 
-// The roster after a job, and what became of the list.
-#[derive(Clone, Copy)]
-pub struct Job {
-    pub roster: Roster,
-    pub listing: Listing,
-}
-
-// The nodes below n present, beside a number.
-fn first_step(n: u8, number: u8) -> Step
-    ensures { result ≡ first_step n number }
+// The nodes below n present.
+fn first_roster(n: u8) -> Roster
+    ensures { result ≡ first_roster n }
 {
-    let marks = present::first_marks(n);
-    Step {
-        roster: Roster {
-            marks: marks,
-            job: 0,
-        },
-        number: number,
+    Roster {
+        marks: present::first_marks(n),
+        job: 0,
     }
 }
 
 impl Roster {
-    // All n nodes of the record present; or no node, and the number that turns the record away.
-    pub fn start(rec: &[u8]) -> Step
-        ensures { result ≡ start_of (record_of rec.now) }
+    // All n nodes of the record present.
+    pub fn start(rec: &[u8]) -> Result<Roster, Refusal>
+        ensures { MatchResult result (λ r. start_of (record_of rec.now) ≡ record { roster = r; number = 0 }) (λ e. (start_of (record_of rec.now)).number ≡ number e) }
     {
-        match records::read_record(rec) {
-            Record::Holds(h) => {
-                let n = h.n;
-                first_step(n, 0)
-            }
-            Record::Meets(number) => first_step(0, number),
-        }
+        let code = records::read_record(rec)?;
+        Ok(first_roster(code.header.n))
+    }
+
+    // A node returns where it is to be here, else it leaves.
+    pub fn mark(&mut self, rec: &[u8], node: u32, here: bool) -> Result<(), Refusal>
+        ensures answer { numbered result ≡ outcome_of (step_by (record_of rec.now) node here self.old).number }
+        ensures roster { self.new ≡ (step_by (record_of rec.now) node here self.old).roster }
+    {
+        let code = records::read_record(rec)?;
+        events::mark(self, code.header.n, node, here)
     }
 
     // A node leaves.
-    pub fn leave(self, rec: &[u8], node: u32) -> Step
-        ensures { result ≡ step_of (record_of rec.now) (leaves node) self }
+    pub fn leave(&mut self, rec: &[u8], node: u32) -> Result<(), Refusal>
+        ensures answer { numbered result ≡ outcome_of (step_of (record_of rec.now) (leaves node) self.old).number }
+        ensures roster { self.new ≡ (step_of (record_of rec.now) (leaves node) self.old).roster }
     {
-        events::take_event(rec, self, node, false)
+        self.mark(rec, node, false)
     }
 
     // A node returns.
-    pub fn rejoin(self, rec: &[u8], node: u32) -> Step
-        ensures { result ≡ step_of (record_of rec.now) (returns node) self }
+    pub fn rejoin(&mut self, rec: &[u8], node: u32) -> Result<(), Refusal>
+        ensures answer { numbered result ≡ outcome_of (step_of (record_of rec.now) (returns node) self.old).number }
+        ensures roster { self.new ≡ (step_of (record_of rec.now) (returns node) self.old).roster }
     {
-        events::take_event(rec, self, node, true)
+        self.mark(rec, node, true)
     }
 
     // Writes the k lowest present nodes, rising.
-    pub fn lowest(self, rec: &[u8], list: &mut [u8]) -> Listing
-        ensures { (result ≡ lowest_of (record_of rec.now) self list.old) × (list.new ≡ lowest_list (record_of rec.now) self list.old) }
+    pub fn lowest(&self, rec: &[u8], list: &mut [u8]) -> Result<Listing, Refusal>
+        ensures answer { numbered result ≡ lowest_of (record_of rec.now) self.now list.old }
+        ensures list { list.new ≡ lowest_list (record_of rec.now) self.now list.old }
     {
-        match records::read_record(rec) {
-            Record::Holds(h) => {
-                let n = h.n;
-                let k = h.k;
-                queries::write_lowest(self, n, k, list)
-            }
-            Record::Meets(number) => Listing::Refused(number),
-        }
+        let code = records::read_record(rec)?;
+        queries::write_lowest(self, code, list)
     }
 
     // Writes the nodes that the next job reads, and moves the job number on.
-    pub fn next_job(self, rec: &[u8], list: &mut [u8]) -> Job
-        ensures { (result ≡ job_of (record_of rec.now) self list.old) × (list.new ≡ job_list (record_of rec.now) self list.old) }
+    pub fn next_job(&mut self, rec: &[u8], list: &mut [u8]) -> Result<Listing, Refusal>
+        ensures answer { numbered result ≡ (job_of (record_of rec.now) self.old list.old).listing }
+        ensures roster { self.new ≡ (job_of (record_of rec.now) self.old list.old).roster }
+        ensures list { list.new ≡ job_list (record_of rec.now) self.old list.old }
     {
-        match records::read_record(rec) {
-            Record::Holds(h) => {
-                let n = h.n;
-                let k = h.k;
-                jobs::write_job(self, n, k, list)
-            }
-            Record::Meets(number) => Job {
-                roster: self,
-                listing: Listing::Refused(number),
-            },
-        }
+        let code = records::read_record(rec)?;
+        jobs::write_job(self, code, list)
     }
 }

@@ -1,14 +1,10 @@
 // The marks of the nodes that are present, and the present nodes in a list.
-ghost use Rattle.std.specs.Prelude.{◌≡◌, ◌%◌, ◌≤◌, ◌<◌, length, get_or};
+ghost use Rattle.std.specs.Prelude.{◌≡◌, ◌≤◌, ◌<◌, length};
+ghost use Rattle.lists.specs.Around.{around};
 ghost use Rattle.lists.specs.Rows.{from};
-ghost use Rattle.roster.specs.Rosters.{first_marks, present};
+ghost use Rattle.roster.specs.Rosters.{first_marks, present_of};
 
-// The present nodes, rising, with zeros after them, and how many they are.
-#[derive(Clone, Copy)]
-pub struct Present {
-    pub nodes: [u8; 255],
-    pub count: usize,
-}
+use arrayvec::ArrayVec;
 
 // The marks with the nodes below n present.
 pub fn first_marks(n: u8) -> [bool; 255]
@@ -21,32 +17,25 @@ pub fn first_marks(n: u8) -> [bool; 255]
     marks
 }
 
-// The present nodes below n.
-pub fn list_present(marks: [bool; 255], n: u8) -> Present
-    ensures { result ≡ present n marks }
+// The present nodes below n, rising.
+pub fn list_present(marks: &[bool; 255], n: u8) -> ArrayVec<u8, 255>
+    ensures { result.items ≡ present_of n marks.now }
 {
-    let mut nodes = [0u8; 255];
-    let mut count: usize = 0;
+    let mut nodes = ArrayVec::new();
     for j in 0..n {
         if marks[j as usize] {
-            nodes[count] = j;
-            count += 1;
+            nodes.push(j);
         }
     }
-    Present {
-        nodes: nodes,
-        count: count,
-    }
+    nodes
 }
 
 // Writes the nodes at the places from `first` on, going round.
-pub fn write_nodes(p: Present, first: usize, list: &mut [u8])
-    requires { (0 < p.count) × (p.count ≤ 255) × (first ≤ 65535) × (length list.old ≤ 255) }
-    ensures { list.new ≡ from (λ m. get_or p.nodes (m % p.count) 0) first (length list.old) }
+pub fn write_nodes(nodes: &[u8], first: usize, list: &mut [u8])
+    requires { (0 < length nodes.now) × (first ≤ 65535) × (length list.old ≤ 255) }
+    ensures { list.new ≡ from (around nodes.now) first (length list.old) }
 {
-    let nodes = p.nodes;
-    let count = p.count;
-    for t in 0..list.len() {
-        list[t] = nodes[(first + t) % count];
+    for (t, node) in list.iter_mut().enumerate() {
+        *node = nodes[(first + t) % nodes.len()];
     }
 }

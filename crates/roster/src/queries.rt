@@ -1,24 +1,23 @@
 // The query: the k lowest present nodes.
-ghost use Rattle.std.specs.Prelude.{◌≡◌, ◌<◌, length};
-ghost use Rattle.roster.specs.Rosters.{present_of, listing, listed, lowest_nodes};
+ghost use Rattle.std.specs.Prelude.{◌≡◌, Ok};
+ghost use Rattle.generator.specs.Answers.{numbered};
+ghost use Rattle.roster.specs.Rosters.{lowest_of, lowest_list};
 
-use crate::present::{list_present, write_nodes};
+use crate::present::list_present;
 use crate::{Listing, Roster};
+use generator::{Code, Refusal};
 
-// The query over an accepted record's n and k.
-pub fn write_lowest(roster: Roster, n: u8, k: u8, list: &mut [u8]) -> Listing
-    requires { 0 < k }
-    ensures { (result ≡ listing k (length (present_of n roster.marks)) (length list.old)) × (list.new ≡ listed result (lowest_nodes n k roster.marks) list.old) }
+// The query over an accepted record.
+pub fn write_lowest(roster: &Roster, code: Code, list: &mut [u8]) -> Result<Listing, Refusal>
+    ensures answer { numbered result ≡ lowest_of (Ok code.header) roster.now list.old }
+    ensures list { list.new ≡ lowest_list (Ok code.header) roster.now list.old }
 {
-    if list.len() != k as usize {
-        return Listing::Refused(8);
+    let k = code.header.k as usize;
+    Refusal::Length.when(list.len() != k)?;
+    let nodes = list_present(&roster.marks, code.header.n);
+    if nodes.len() < k {
+        return Ok(Listing::TooFew);
     }
-    let marks = roster.marks;
-    let p = list_present(marks, n);
-    let count = p.count;
-    if count < k as usize {
-        return Listing::TooFew;
-    }
-    write_nodes(p, 0, list);
-    Listing::Written
+    list.copy_from_slice(&nodes[..k]);
+    Ok(Listing::Written)
 }

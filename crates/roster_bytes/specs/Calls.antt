@@ -1,7 +1,10 @@
 -- What the calls of a roster on lent bytes promise: the number, and every lent byte and number afterwards.
-use Rattle.std.specs.Prelude.{◌≡◌, Bool, ◌&&◌, not, List, ℕ, eqb, leb, length}
+use Rattle.std.specs.Prelude.{◌≡◌, Ok, Err, Bool, ◌&&◌, not, List, ℕ, eqb, leb, length}
 use Rattle.lists.specs.Choice.{pick, first_of, when}
+use Rattle.generator.specs.Answers.{Answer}
 use Rattle.generator.specs.Records.{header_of, record_fault, record_of}
+use Rattle.roster.specs.declared.Listing.{Listing}
+use Rattle.roster.specs.declared.Listing.TheVariants.{Written, TooFew}
 use Rattle.roster.specs.Events.{Event, named, says}
 use Rattle.roster.specs.Rosters.{present_of, start_of, event_fault, lowest_list, job_of, job_list}
 use Rattle.roster_bytes.specs.Bytes.{roster_of, roster_bytes, event_bytes}
@@ -27,6 +30,12 @@ listing_fault rec bytes list = first_of (record_fault rec) (when (not (eqb bytes
 -- whether k nodes are present on the roster that bytes hold
 unfoldable pub is_enough : List ℕ → List ℕ → Bool
 is_enough rec bytes = leb (header_of rec).k (length (present_of (header_of rec).n (roster_of bytes).marks))
+
+-- what `enough` receives: 1 where the list was written, 0 where too few nodes are present
+unfoldable pub told_of : Answer Listing → ℕ → ℕ
+told_of (Ok Written) enough = 1
+told_of (Ok TooFew) enough = 0
+told_of (Err f) enough = enough
 
 -- the query: whether k nodes are present, and the list afterwards; both as they were beside a number
 pub record LowestGives (rec bytes list : List ℕ) (enough : ℕ) (list' : List ℕ) (enough' r : ℕ) : Type 0 where

@@ -1,3 +1,2 @@
 -- What the functions and proofs behind the promises give and rely on.
 pub mod Bytes
-pub mod Calls

@@ -1,6 +1,5 @@
 // A roster is read from 256 bytes and written to them.
 ghost use Rattle.std.specs.Prelude.{◌≡◌, length};
-ghost use Rattle.lists.specs.Choice.{pick};
 ghost use Rattle.roster_bytes.specs.Bytes.{marks_of, roster_of, roster_bytes};
 ghost use Rattle.roster_bytes.specs.Inner.Bytes.{marks_in};
 
@@ -23,37 +22,27 @@ pub fn read_roster(bytes: &[u8]) -> Roster
     requires { length bytes.now ≡ 256 }
     ensures { result ≡ roster_of bytes.now }
 {
-    let marks = read_marks(bytes);
     Roster {
-        marks: marks,
+        marks: read_marks(bytes),
         job: bytes[255],
     }
 }
 
-// 1 for a present node, else 0.
-fn mark_byte(here: bool) -> u8
-    ensures { result ≡ pick here 1 0 }
-{
-    if here { 1 } else { 0 }
-}
-
-// Writes the marks.
-fn write_marks(marks: [bool; 255], bytes: &mut [u8])
+// Writes the marks: 1 for a present node, else 0.
+fn write_marks(marks: &[bool; 255], bytes: &mut [u8])
     requires { length bytes.old ≡ 256 }
-    ensures { bytes.new ≡ marks_in marks bytes.old }
+    ensures { bytes.new ≡ marks_in marks.now bytes.old }
 {
     for j in 0..255 {
-        bytes[j] = mark_byte(marks[j]);
+        bytes[j] = marks[j] as u8;
     }
 }
 
 // Writes a roster.
-pub fn write_roster(roster: Roster, bytes: &mut [u8])
+pub fn write_roster(roster: &Roster, bytes: &mut [u8])
     requires { length bytes.old ≡ 256 }
-    ensures { bytes.new ≡ roster_bytes roster }
+    ensures { bytes.new ≡ roster_bytes roster.now }
 {
-    let marks = roster.marks;
-    let job = roster.job;
-    write_marks(marks, bytes);
-    bytes[255] = job;
+    write_marks(&roster.marks, bytes);
+    bytes[255] = roster.job;
 }

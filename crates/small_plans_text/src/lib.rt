@@ -2,7 +2,6 @@
 #![tactic(auto)]
 
 ghost use Rattle.std.specs.Prelude.{◌≡◌, true, false, [], ◌∷◌, ◌+◌, ◌≤◌, ◌<◌, length, MatchOption};
-ghost use Rattle.lists.specs.Padded.{zeros};
 ghost use Rattle.field.specs.Primes.{is_prime};
 ghost use Rattle.field.specs.Fields.{order_of};
 ghost use Rattle.text.specs.Text.{decimal, line};
@@ -12,6 +11,7 @@ ghost use Rattle.small_plans_text.specs.SmallPlans.{root_lines, field_lines, sma
 
 use field::{Field, is_prime};
 use text::Writer;
+pub use text::page;
 
 // A prime from 3 to 31.
 #[derive(Clone, Copy)]
@@ -111,13 +111,6 @@ fn write_plans(writer: &mut Writer)
     for p in 3..32 {
         write_field(writer, p);
     }
-}
-
-// An empty page: zeros, with room for the lines.
-pub fn page() -> [u8; 501642]
-    ensures { (result ≡ zeros 501642) × (501642 ≡ length result) }
-{
-    [0; 501642]
 }
 
 // Writes the lines at the front of a page, and gives their length. The page is lent, for the library has no heap.

@@ -9,7 +9,7 @@ mod tables_text;
 use std::io;
 
 fn main(rt: HostRuntime) -> io::Result<()> {
-    let mut page = tables_text::page();
+    let mut page = text::page();
     let end = tables_text::tables(&mut page);
     rt.write_all(&page[..end])
 }

@@ -1,19 +1,11 @@
 // Both tables as text.
 ghost use Rattle.std.specs.Prelude.{◌≡◌, length};
-ghost use Rattle.lists.specs.Padded.{zeros};
 ghost use Rattle.text.specs.Writing.{OnPage};
 ghost use Rattle.tables.specs.Tables.{tables_text};
 
 use crate::logarithms::write_logarithms;
 use crate::powers::Powers;
 use text::Writer;
-
-// An empty page: zeros, with room for 510 lines of at most six bytes.
-pub fn page() -> [u8; 3060]
-    ensures { (result ≡ zeros 3060) × (3060 ≡ length result) }
-{
-    [0; 3060]
-}
 
 // Writes the tables at the front of a page, and gives their length. The page is lent: fixed memory is enough for 510 lines.
 pub fn tables(out: &mut [u8; 3060]) -> usize

@@ -1,11 +1,10 @@
 -- Texts that are put one after another fill a buffer.
-use mathlib.Core.Path.{◌≡◌, refl, sym, ap, ◌∙◌}
-use mathlib.Core.List.{List, [], ◌++◌, append-nil, append_assoc}
-use Prim.Native.Nat.{ℕ, ◌+◌, ◌≤◌}
+use mathlib.Core.Path.{◌≡◌, sym, ◌∙◌}
+use mathlib.Core.List.{List, [], ◌++◌, append_assoc}
+use Prim.Native.Nat.{ℕ, ◌≤◌}
 use native.Mathlib.Omega.{arith}
 use lib.ListN.{length, take, drop, length-append, take-append-drop}
 use lib.Seq.{length-take-le, take_at, drop_at, drop-drop}
-use Rattle.lists.proofs.Fill.{Fills, fills_part, fills_done}
 use Rattle.text.specs.Writing.{OnPage}
 use Rattle.text.specs.Inner.Writing.{written, Puts}
 
@@ -36,28 +35,3 @@ puts_front {s} {t} {next} {text} p =
     let front : t ≡ text ++ drop next s = rw size p.bytes in
     let within : next ≤ length t = rw front (simp length-append (omega arith)) in
     (front, size, within, sym (length-take-le next t within))
-
--- the same of the text f of a value, given that of an equal value
-pub puts_page : {A : Type 0} {s t : List ℕ} {next : ℕ} (f : A → List ℕ) {x y : A} → x ≡ y → Puts s t 0 next (f x) → OnPage s t next (f y)
-puts_page f same p = puts_front (rw (ap f same) at p)
-
--- a text is to be put at a place
-pub puts_start : (start : List ℕ) (at : ℕ) (text : List ℕ) → at ≤ length start → Fills start start at text (take at start ++ text)
-puts_start start at text h = record { inside = h; long = refl; written = refl; kept = refl }
-
--- a part of it is put
-pub puts_next : {start now after : List ℕ} {c next : ℕ} {xs todo whole : List ℕ} → Fills start now c (xs ++ todo) whole → Puts now after c next xs → next ≤ length start → Fills start after next todo whole
-unfolding written
-puts_next {start} {now} {after} {c} {next} {xs} {todo} {whole} f p h = rw (p.bytes, p.place) (fills_part xs (length xs) f refl (omega (arith, p.place)))
-
--- all of it is put
-pub puts_done : {start now : List ℕ} {c : ℕ} (at : ℕ) (text : List ℕ) → Fills start now c [] (take at start ++ text) → at ≤ length start → Puts start now at c text
-unfolding written
-puts_done {start} {now} {c} at text f h =
-    let whole : length (take at start ++ text) ≡ at + length text = length-append (take at start) text ∙ rw (length-take-le at start h) in
-    let size : length (take c now) ≡ c = length-take-le c now (omega (arith, f.long, f.inside)) in
-    let same : length (take c now) ≡ length (take at start ++ text) = ap length (sym (append-nil (take c now)) ∙ f.written) in
-    record {
-      place = omega arith;
-      bytes = fills_done f ∙ rw (whole, append_assoc, drop-drop);
-    }

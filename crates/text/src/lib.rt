@@ -2,16 +2,22 @@
 #![tactic(auto)]
 
 ghost use Rattle.std.specs.Prelude.{◌≡◌, [], ◌∷◌, ◌+◌, ◌*◌, ◌≤◌, ◌<◌, length, map};
+ghost use Rattle.lists.specs.Padded.{zeros};
 ghost use Rattle.text.specs.Text.{decimal, field, fields, line};
 
-mod buffers;
 mod number;
 
-pub use buffers::{
-    put_byte, put_field, put_fields, put_line, put_number, put_number_field, put_word,
-};
 use itoa::Buffer;
 pub use number::Number;
+
+// An empty page: zeros. A caller lends it, for the library has no heap.
+#[tactic(auto, unfolding(lists::specs::Padded::zeros))]
+pub fn page<const N: usize>() -> [u8; N]
+    ensures zeros { result ≡ zeros N }
+    ensures long { N ≡ length result }
+{
+    [0; N]
+}
 
 // A page, and how many of its bytes are written. Each method but `len` writes its text behind what is written.
 // There is no `fmt::Write` here: what `write!` leaves is known only where it succeeds, and these writes cannot fail.
@@ -33,16 +39,6 @@ impl<'a> Writer<'a> {
         Writer { page, end: 0 }
     }
 
-    // A writer on the bytes of a page from a place on.
-    #[tactic(auto, unfolding(crate::specs::Inner::Writer::room))]
-    pub(crate) fn at(page: &'a mut [u8], end: usize) -> Writer<'a>
-        requires { end ≤ length page.old }
-        ensures begins { Begins page.entry end result }
-        ensures room { room result + end ≡ length page.old }
-    {
-        Writer { page, end }
-    }
-
     // How many bytes are written.
     pub fn len(&self) -> usize
         ensures { result ≡ self.now.end }
@@ -50,17 +46,15 @@ impl<'a> Writer<'a> {
         self.end
     }
 
-    #[tactic(auto, unfolding(crate::specs::Inner::Writer::room))]
     pub fn byte(&mut self, b: u8)
         requires { 1 ≤ room self.old }
         ensures { Writes self.old self.new (b ∷ []) }
     {
-        self.page[self.end] = b;
-        self.end += 1;
+        self.bytes(&[b]);
     }
 
     #[tactic(auto, unfolding(crate::specs::Inner::Writer::room))]
-    pub(crate) fn bytes(&mut self, bytes: &[u8])
+    fn bytes(&mut self, bytes: &[u8])
         requires { length bytes.now ≤ room self.old }
         ensures { Writes self.old self.new bytes.now }
     {
@@ -77,6 +71,7 @@ impl<'a> Writer<'a> {
     }
 
     // A number in base ten.
+    #[tactic(auto, using(crate::proofs::Digits::decimal_same))]
     fn digits(&mut self, x: u32)
         requires small { x < 100000 }
         requires room { length (decimal x) ≤ room self.old }

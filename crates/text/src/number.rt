@@ -2,7 +2,8 @@
 ghost use Rattle.std.specs.Prelude.{◌≡◌, ℕ, ◌≤◌, ◌<◌, length};
 ghost use Rattle.text.specs.Text.{decimal};
 
-// A type whose values have few digits.
+// A type whose values have few digits. No `impl` over all types that go into a u32 serves: u32 itself does, and how many digits there
+// are is known where the type is.
 pub trait Number: Copy {
     ghost value: { Self → ℕ };
 
@@ -20,6 +21,7 @@ impl Number for u8 {
 
     ghost digits = { 3 };
 
+    #[tactic(auto, using(crate::proofs::Digits::decimal_short))]
     fn to_u32(self) -> u32 {
         u32::from(self)
     }
@@ -30,6 +32,7 @@ impl Number for u16 {
 
     ghost digits = { 5 };
 
+    #[tactic(auto, using(crate::proofs::Digits::decimal_short))]
     fn to_u32(self) -> u32 {
         u32::from(self)
     }

@@ -17,6 +17,6 @@ module _ (h : Header) (l r t old new : ℕ) (shares : List ℕ) where
   input_met g e some = rw (← e) (first_given g _ some)
 
   -- it meets none, so the lane's counts
-  pub lane_met : (w g : ℕ) → w ≡ width h → input_fault share_layout h l r t old new shares ≡ 0 → g ≡ stale_fault h (lane_of share_layout h.n l t (symbols_of w shares)) r old → update_fault share_layout h l r t old new shares ≡ g
+  pub lane_met : (g : ℕ) → input_fault share_layout h l r t old new shares ≡ 0 → g ≡ stale_fault h (lane_of share_layout h.n l t (symbols_of (width h) shares)) r old → update_fault share_layout h l r t old new shares ≡ g
   unfolding update_fault
-  lane_met w g wide none e = rw (none, ← wide) (sym e)
+  lane_met g none e = rw none (sym e)

@@ -1,11 +1,11 @@
--- A lane of the shares as a part that can be updated, and the generator's entries for it.
+-- A lane of the shares as a part that can be updated.
 use mathlib.Core.Path.{◌≡◌, sym, ap, ap₂, ◌∙◌}
 use mathlib.Core.Bool.{true}
 use mathlib.Core.List.{List, [], ◌∷◌, ◌++◌, append-nil}
-use Prim.Native.Nat.{ℕ, ◌+◌, ◌-◌, ◌*◌, ◌%◌, ◌≤◌, ◌<◌}
+use Prim.Native.Nat.{ℕ, ◌+◌, ◌-◌, ◌*◌, ◌≤◌, ◌<◌}
 use native.Mathlib.Nat.{mul_comm, mul_assoc, one-mul, mul-le-mul}
 use native.Mathlib.Numerals.{add-one}
-use lib.ListN.{length, get_or, set, take, drop}
+use lib.ListN.{length, set, take, drop}
 use lib.Seq.{drop-drop, set_split}
 use Rattle.lists.specs.Counting.{differ}
 use Rattle.lists.specs.Numbers.{all_below}
@@ -18,18 +18,11 @@ use Rattle.layout.proofs.LaneParts as Parts
 use Rattle.layout.proofs.Runs as Runs
 use Rattle.generator.specs.declared.Header.{Header}
 use Rattle.generator.specs.Records.{width}
-use Rattle.generator.specs.Generator.{entry}
 use Rattle.generator.proofs.Widths.{width_some, width_range}
-use Rattle.plan.specs.Inner.Planned.{Planned}
-use Rattle.plan.proofs.Plans as Plans
 use Rattle.refusals.specs.Accepted.{UpdatableLane}
 use Rattle.blocks.specs.Blocks.{row_added, word_added}
 use Rattle.blocks.proofs.Updates.{added_part, differ_part}
 use Rattle.update.specs.Inner.Words.{UpdatableWord}
-
--- an entry, read from the base word by the shift of its row
-pub entry_read : (h : Header) {shifts base : List ℕ} → Planned h shifts base → (r j : ℕ) → r < h.k → j < h.n → get_or base ((j + get_or shifts r 0) % h.n) 0 ≡ entry h r j
-entry_read h p r j row node = rw (p.base_is, p.shifts_are) (Plans.entry_read h p.sound r j row node)
 
 -- one symbol written in its place among the bytes
 pub symbol_written : (w : ℕ) (s : List ℕ) (j v : ℕ) → s ≡ bytes_of w (symbols_of w s) → j < length (symbols_of w s) → take (j * w) s ++ (symbol_bytes w v ++ drop (j * w + w - j * w) (drop (j * w) s)) ≡ bytes_of w (set (symbols_of w s) j v)

@@ -1,30 +1,29 @@
-// The first of numbers 7 to 11 that the call meets, or 0: each test hands the number met so far on. `size` is the length of a written buffer.
-ghost use Rattle.std.specs.Prelude.{◌≡◌, true};
-ghost use Rattle.field.specs.Kinds.{usable};
+// The first refusal that the call meets by what it is given. Whether its lane is stale is judged afterwards.
+ghost use Rattle.std.specs.Prelude.{◌≡◌};
+ghost use Rattle.generator.specs.Answers.{numbered, outcome_of};
 ghost use Rattle.layout.specs.Layout.{share_layout};
 ghost use Rattle.update.specs.Promise.{input_fault};
 
-use generator::Header;
-use refusals::{buffer_bad, first, first_lane, lanes_bad, number_bad, symbol_bad};
+use generator::{Code, Refusal};
+use refusals::{buffer_bad, lane_bad, lanes_bad, number_bad, symbol_bad};
 
-// Update: what it is given. Whether its lane is stale is judged afterwards.
 pub fn input_fault(
-    h: Header,
+    code: Code,
     lanes: usize,
     which: usize,
     lane: usize,
     old: u32,
     new: u32,
     shares: &[u8],
-) -> u8
-    requires { usable h.field ≡ true }
-    ensures { result ≡ input_fault share_layout h lanes which lane old new shares.now }
+) -> Result<(), Refusal>
+    ensures { numbered result ≡ outcome_of (input_fault share_layout code.header lanes which lane old new shares.now) }
 {
-    let number = first(0, lanes_bad(lanes), 7);
-    let number = first(number, buffer_bad(h, h.n, lanes, shares.len()), 8);
-    let number = first(number, number_bad(h.k as usize, which), 9);
-    let number = first(number, number_bad(lanes, lane), 9);
-    let number = first(number, symbol_bad(h, old), 11);
-    let number = first(number, symbol_bad(h, new), 11);
-    first_lane(number, h, lanes, lane, shares)
+    let h = code.header;
+    Refusal::Lanes.when(lanes_bad(lanes))?;
+    Refusal::Length.when(buffer_bad(h, h.n, lanes, shares.len()))?;
+    Refusal::Range.when(number_bad(h.k as usize, which))?;
+    Refusal::Range.when(number_bad(lanes, lane))?;
+    Refusal::Symbol.when(symbol_bad(h, old))?;
+    Refusal::Symbol.when(symbol_bad(h, new))?;
+    Refusal::Symbol.when(lane_bad(h, lanes, lane, shares))
 }

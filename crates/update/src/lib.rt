@@ -6,167 +6,144 @@ ghost use Rattle.lists.specs.Counting.{differ};
 ghost use Rattle.layout.specs.Layout.{lane_of, share_layout};
 ghost use Rattle.layout.specs.Width.{symbols_of, bytes_of};
 ghost use Rattle.field.specs.Fields.{add, mul};
-ghost use Rattle.lists.specs.Padded.{padded};
-ghost use Rattle.generator.specs.Records.{modulus_of, size, width, Sound};
-ghost use Rattle.generator.specs.Shifts.{shifts_of};
-ghost use Rattle.plan.specs.Inner.Planned.{Planned};
+ghost use Rattle.generator.specs.Answers.{numbered, outcome_of};
+ghost use Rattle.generator.specs.Records.{modulus_of, size, width};
 ghost use Rattle.refusals.specs.Faults.{stale_fault};
 ghost use Rattle.update.specs.Promise.{update_fault, UpdatePromise, UpdateSays};
 ghost use Rattle.refusals.specs.Accepted.{UpdatableLane};
 ghost use Rattle.blocks.specs.Blocks.{row_added, word_added};
 ghost use Rattle.update.specs.Inner.Words.{UpdatableWord};
 
-use blocks::Update;
 use field::Tables;
-use generator::{Header, Record};
+use generator::{Code, Refusal};
+use plan::Generator;
 
 mod fault;
 
 // What a node holds after x times its entry is added to what it held.
-fn renewed(h: Header, tables: &Tables, x: u32, entry: u16, before: u16) -> u16
-    requires { Sound h × (x < size h) × (entry < size h) × (before < size h) }
-    ensures { result ≡ add (modulus_of h) before (mul (modulus_of h) x entry) }
+fn renewed(code: Code, tables: &Tables, x: u32, entry: u16, before: u16) -> u16
+    requires { (x < size code.header) × (entry < size code.header) × (before < size code.header) }
+    ensures { result ≡ add (modulus_of code.header) before (mul (modulus_of code.header) x entry) }
 {
-    let field = h.field;
+    let field = code.header.field;
     let term = field.mul_with(tables, x, entry as u32);
     field.add(before as u32, term) as u16
 }
 
 // Adds x times a row of the generator to a lane: rewrites the nodes whose symbol becomes another one, and counts them.
-fn rewrite<'a>(
-    h: Header,
-    w: usize,
+fn rewrite(
+    generator: &Generator,
     tables: &Tables,
-    shifts: &'a [u8],
-    base: &'a [u16],
-    which: u32,
+    w: usize,
+    which: usize,
     x: u32,
     lane: &mut [u8],
 ) -> u32
-    requires { UpdatableWord h w which lane.old × (x < size h) × Planned h shifts.now base.now }
-    ensures { (lane.new ≡ bytes_of w (word_added h which x (symbols_of w lane.old))) × (result ≡ differ (symbols_of w lane.old) (word_added h which x (symbols_of w lane.old))) }
+    requires { UpdatableWord generator.now.code.header w which lane.old × (x < size generator.now.code.header) }
+    ensures { let added = word_added generator.now.code.header which x (symbols_of w lane.old) in (lane.new ≡ bytes_of w added) × (result ≡ differ (symbols_of w lane.old) added) }
 {
-    let n = h.n as usize;
-    let shift = shifts[which as usize] as usize;
+    let n = generator.code.header.n as usize;
     let mut count: u32 = 0;
-    let mut j: usize = 0;
-    while j < n {
-        let entry = plan::entry_at(n, shift, base, j);
+    for j in 0..n {
+        let entry = generator.entry(which, j);
         let before = symbols::symbol_at(w, lane, j);
-        let after = renewed(h, tables, x, entry, before);
+        let after = renewed(generator.code, tables, x, entry, before);
         if after != before {
             let start = j * w;
             let end = start + w;
             symbols::write_symbol(w, after, &mut lane[start..end]);
             count += 1;
         }
-        j += 1;
     }
     count
 }
 
 // The same for one lane of the shares, which is handed on as the part from its start to the next one's.
-pub fn rewrite_lane<'a>(
-    h: Header,
-    w: usize,
+pub fn rewrite_lane(
+    generator: &Generator,
+    tables: &Tables,
     lanes: usize,
-    which: u32,
+    which: usize,
     lane: usize,
     x: u32,
-    tables: &Tables,
-    shifts: &'a [u8],
-    base: &'a [u16],
     shares: &mut [u8],
 ) -> u32
-    requires { UpdatableLane h lanes which lane shares.old × (w ≡ width h) × (x < size h) × Planned h shifts.now base.now }
-    ensures { (shares.new ≡ bytes_of w (row_added share_layout h lanes which lane x (symbols_of w shares.old))) × (result ≡ differ (symbols_of w shares.old) (row_added share_layout h lanes which lane x (symbols_of w shares.old))) }
+    requires { UpdatableLane generator.now.code.header lanes which lane shares.old × (x < size generator.now.code.header) }
+    ensures { let h = generator.now.code.header in let added = row_added share_layout h lanes which lane x (symbols_of (width h) shares.old) in (shares.new ≡ bytes_of (width h) added) × (result ≡ differ (symbols_of (width h) shares.old) added) }
 {
-    let size = w * h.n as usize;
+    let w = symbols::width_of(generator.code.header);
+    let size = w * generator.code.header.n as usize;
     let start = lane * size;
     let end = start + size;
-    rewrite(
-        h,
-        w,
-        tables,
-        shifts,
-        base,
-        which,
-        x,
-        &mut shares[start..end],
-    )
+    rewrite(generator, tables, w, which, x, &mut shares[start..end])
 }
 
-// The number that a lane meets: 12 where it is no word of the code, else 13 where its message holds another symbol than `old`, else 0.
+// Whether a lane is no word of the code, or one whose message holds another symbol than `old`.
 fn judge(
-    h: Header,
-    w: usize,
+    generator: &Generator,
     tables: &Tables,
-    shifts: &[u8],
-    which: u32,
+    w: usize,
+    which: usize,
     old: u32,
     lane: &[u8],
-) -> u8
-    requires { UpdatableWord h w which lane.now × (shifts.now ≡ padded 255 (shifts_of h.n h.k)) }
-    ensures { result ≡ stale_fault h (symbols_of w lane.now) which old }
+) -> Result<(), Refusal>
+    requires { UpdatableWord generator.now.code.header w which lane.now }
+    ensures { numbered result ≡ outcome_of (stale_fault generator.now.code.header (symbols_of w lane.now) which old) }
 {
-    let n = h.n as usize;
+    let n = generator.code.header.n as usize;
     let symbols = symbols::read_symbols(w, lane);
-    lane_message::stale_fault(h, tables, shifts, &symbols[..n], which as usize, old)
+    lane_message::stale_fault(
+        generator.code,
+        tables,
+        &generator.shifts,
+        &symbols[..n],
+        which,
+        old,
+    )
 }
 
 // The same for one lane of the shares, which is handed on likewise.
 pub fn judge_lane(
-    h: Header,
-    w: usize,
+    generator: &Generator,
+    tables: &Tables,
     lanes: usize,
-    which: u32,
+    which: usize,
     lane: usize,
     old: u32,
-    tables: &Tables,
-    shifts: &[u8],
     shares: &[u8],
-) -> u8
-    requires { UpdatableLane h lanes which lane shares.now × (w ≡ width h) × (shifts.now ≡ padded 255 (shifts_of h.n h.k)) }
-    ensures { result ≡ stale_fault h (lane_of share_layout h.n lanes lane (symbols_of w shares.now)) which old }
+) -> Result<(), Refusal>
+    requires { UpdatableLane generator.now.code.header lanes which lane shares.now }
+    ensures { let h = generator.now.code.header in numbered result ≡ outcome_of (stale_fault h (lane_of share_layout h.n lanes lane (symbols_of (width h) shares.now)) which old) }
 {
-    let size = w * h.n as usize;
+    let w = symbols::width_of(generator.code.header);
+    let size = w * generator.code.header.n as usize;
     let start = lane * size;
     let end = start + size;
-    judge(h, w, tables, shifts, which, old, &shares[start..end])
+    judge(generator, tables, w, which, old, &shares[start..end])
 }
 
-// Updates over an accepted record's header.
+// Updates over the code of an accepted record. Everything is judged before the first byte is written.
 fn update_accepted(
-    h: Header,
+    code: Code,
     lanes: usize,
-    which: u32,
+    which: usize,
     lane: usize,
     old: u32,
     new: u32,
     shares: &mut [u8],
-) -> Update
-    requires { Sound h }
-    ensures { UpdatePromise share_layout lanes which lane old new shares.old shares.new result h (update_fault share_layout h lanes which lane old new shares.old) }
+) -> Result<u32, Refusal>
+    ensures { UpdatePromise share_layout lanes which lane old new shares.old shares.new (numbered result) code.header (update_fault share_layout code.header lanes which lane old new shares.old) }
 {
-    let field = h.field;
-    let number = fault::input_fault(h, lanes, which as usize, lane, old, new, shares);
-    if number != 0 {
-        return Update::Refused(number);
-    }
-    let w = symbols::width_of(h);
-    let t = field::constant_tables();
-    let shifts = plan::row_shifts(h);
-    let stale = judge_lane(h, w, lanes, which, lane, old, &t, &shifts, shares);
-    if stale != 0 {
-        return Update::Refused(stale);
-    }
-    let x = field.sub(new, old);
-    let base = plan::fill_base(h, &t);
-    let count = rewrite_lane(h, w, lanes, which, lane, x, &t, &shifts, &base, shares);
-    Update::Altered(count)
+    fault::input_fault(code, lanes, which, lane, old, new, shares)?;
+    let tables = field::constant_tables();
+    let generator = Generator::new(code, &tables);
+    judge_lane(&generator, &tables, lanes, which, lane, old, shares)?;
+    let x = code.header.field.sub(new, old);
+    let count = rewrite_lane(&generator, &tables, lanes, which, lane, x, shares);
+    Ok(count)
 }
 
-// Adds (new − old) times row `which` of the generator to a lane of the shares and gives how many nodes it altered, or gives the number that turns the call away and writes nothing.
+// Adds (new − old) times row `which` of the generator to a lane of the shares and gives how many nodes it altered, or says what turns the call away and writes nothing.
 pub fn update_lane(
     rec: &[u8],
     lanes: u32,
@@ -175,13 +152,17 @@ pub fn update_lane(
     old: u32,
     new: u32,
     shares: &mut [u8],
-) -> Update
-    ensures { UpdateSays rec.now lanes which lane old new shares.old shares.new result }
+) -> Result<u32, Refusal>
+    ensures { UpdateSays rec.now lanes which lane old new shares.old shares.new (numbered result) }
 {
-    match records::read_record(rec) {
-        Record::Holds(h) => {
-            update_accepted(h, lanes as usize, which, lane as usize, old, new, shares)
-        }
-        Record::Meets(number) => Update::Refused(number),
-    }
+    let code = records::read_record(rec)?;
+    update_accepted(
+        code,
+        lanes as usize,
+        which as usize,
+        lane as usize,
+        old,
+        new,
+        shares,
+    )
 }

@@ -1,5 +1,5 @@
 -- The number of messages, or 0 where there are too many; the powers that the difference table starts from.
-use Rattle.std.proofs.Common.{◌≡◌, ℕ, suc, ◌+◌, ◌-◌, ◌*◌, ◌^◌, ◌<◌, ◌≤◌, true, false, not, eqb, ltb, sym, refl, ap, ◌∙◌, pow-suc, arith, ltb-false, le-ltb, lt-ltb, eqb-true, le-leb}
+use Rattle.std.proofs.Common.{◌≡◌, ℕ, suc, ◌+◌, ◌-◌, ◌*◌, ◌^◌, ◌<◌, ◌≤◌, not, eqb, ltb, sym, refl, ap, ◌∙◌, pow-suc, arith, ltb-false, le-ltb, lt-ltb, eqb-true, ne_eqb, le-leb}
 use native.Mathlib.Nat.{pow-le-pow_right, one-le-pow}
 use native.Mathlib.Decide.{dec_le}
 use borrow.Author.Tests.{lt-leb, not-false}
@@ -25,21 +25,13 @@ many_messages q k r p l h =
     rw (lt-leb (q ^ k) 65536 (omega (arith, pow-suc q r)))
 
 -- number 16, from that number
-pub messages_not_bad : (h : Header) → (message_count (size h) h.k ≡ 0 → ⊥) → messages_bad h ≡ false
+pub messages_tested : (h : Header) → 0 < size h → eqb (message_count (size h) h.k) 0 ≡ messages_bad h
 unfolding message_count messages_bad
-messages_not_bad h n = here (dec_le (size h ^ h.k) 65536)
+messages_tested h some = here (dec_le (size h ^ h.k) 65536)
   where
-    here : Dec (size h ^ h.k ≤ 65536) → ltb 65536 (size h ^ h.k) ≡ false
-    here (yes l) = le-ltb 65536 (size h ^ h.k) l
-    here (no l) = absurd (n (rw (lt-leb (size h ^ h.k) 65536 (omega arith)) refl))
-
-pub messages_bad_lem : (h : Header) → 0 < size h → message_count (size h) h.k ≡ 0 → messages_bad h ≡ true
-unfolding message_count messages_bad
-messages_bad_lem h p e = here (dec_le (size h ^ h.k) 65536)
-  where
-    here : Dec (size h ^ h.k ≤ 65536) → ltb 65536 (size h ^ h.k) ≡ true
-    here (yes l) = absurd (omega (arith, one-le-pow h.k (size h) p, rw (le-leb (size h ^ h.k) 65536 l) at e))
-    here (no l) = lt-ltb 65536 (size h ^ h.k) (omega arith)
+    here : Dec (size h ^ h.k ≤ 65536) → eqb (message_count (size h) h.k) 0 ≡ ltb 65536 (size h ^ h.k)
+    here (yes l) = rw (le-leb (size h ^ h.k) 65536 l, le-ltb 65536 (size h ^ h.k) l) (ne_eqb (size h ^ h.k) 0 (λ e. omega (arith, one-le-pow h.k (size h) some)))
+    here (no l) = rw (lt-leb (size h ^ h.k) 65536 (omega arith), lt-ltb 65536 (size h ^ h.k) (omega arith)) refl
 
 -- no number is met: the counts fill the buffer, whose length is `out`, and the messages are few
 pub accepts : (h : Header) → Sound h → (out : ℕ) → weights_fault h out ≡ 0 → Small h × (out ≡ h.n + 1)

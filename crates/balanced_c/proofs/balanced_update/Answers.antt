@@ -1,9 +1,6 @@
--- `balanced_update` meets its contract, in each arm of the match.
-use Rattle.balanced_c.proofs.Answers.{update_done, update_refuses}
+-- `balanced_update` meets its contract: the number of what `update_lane` answers, and its count.
+use Rattle.balanced_c.proofs.Answers.{update_gives}
 use Rattle.balanced_c.proofs.balanced_update.Goals as goal
 
-pub returns-in-Altered : goal.returns-in-Altered
-returns-in-Altered c = update_done _ _ _ _ _ _ _ _ _ _ c.update_lane.ensures _ c.in-Altered.is
-
-pub returns-in-Refused : goal.returns-in-Refused
-returns-in-Refused c = update_refuses _ _ _ _ _ _ _ _ _ _ c.update_lane.ensures _ c.in-Refused.is
+pub returns : goal.returns
+returns c = update_gives _ _ _ _ _ _ _ _ _ _ _ _ c.hand_over.ensures.0 c.hand_over.ensures.1 c.update_lane-answer.ensures

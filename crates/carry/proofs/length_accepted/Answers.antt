@@ -1,5 +1,5 @@
 -- `length_accepted` meets its contract.
-use mathlib.Core.Path.{sym, ap, ◌∙◌}
+use mathlib.Core.Path.{ap, ◌∙◌}
 use Prim.Native.Nat.{ℕ}
 use Rattle.carrying.specs.Carrying.{carried_length}
 use Rattle.carry.specs.Promise.{carried_len_of}
@@ -15,10 +15,10 @@ returns-in_err-carried_len_fault c =
 pub carried_length-requires : goal.carried_length-requires
 carried_length-requires c =
     let good = length_accepts c.args.code.header c.args.n (done_is _ c.in_ok-carried_len_fault.ensures) in
-    rw c.modulus_of.ensures (modulus_word c.args.code.header.field c.args.code.sound.usable_field, good.carries, good.few)
+    rw c.modulus_of-p.ensures (modulus_word c.args.code.header.field c.args.code.sound.usable_field, good.carries, good.few)
 
 pub returns : goal.returns
 unfolding carried_len_of
 returns c =
-    let is = c.carried_length.ensures ∙ ap (λ (p : ℕ). carried_length p c.args.n) c.modulus_of.ensures in
+    let is = c.carried_length.ensures ∙ ap (λ (p : ℕ). carried_length p c.args.n) c.modulus_of-p.ensures in
     rw (done_is _ c.in_ok-carried_len_fault.ensures) (record { answered = rw is })

@@ -1,20 +1,17 @@
 -- `write_carried` meets its contract, by the kind of field.
-use mathlib.Core.Path.{sym}
 use borrow.Author.Tests.{eq-eqb, ne_eqb}
 use Rattle.carrying.specs.Carrying.{carried_bytes, carried_length}
 use Rattle.carrying.proofs.Carried.{carrier_good}
 use Rattle.carry.proofs.write_carried.Goals as goal
 
-pub copy-requires : goal.copy-requires
+pub copy_from_slice-requires : goal.copy_from_slice-requires
 unfolding carried_length
-copy-requires c =
-    let long = rw (eq-eqb c.args.p 0 c.if-p-eq0.true) at c.requires.2 in
-    sym long
+copy_from_slice-requires c = rw (eq-eqb c.args.p 0 c.if-p-eq0.true) at c.requires.2
 
 pub returns-then-p-eq0 : goal.returns-then-p-eq0
 unfolding carried_bytes
 returns-then-p-eq0 c =
-    rw (eq-eqb c.args.p 0 c.if-p-eq0.true) c.copy.ensures
+    rw (eq-eqb c.args.p 0 c.if-p-eq0.true) c.copy_from_slice.ensures.after
 
 pub close_groups-requires : goal.close_groups-requires
 unfolding carried_length

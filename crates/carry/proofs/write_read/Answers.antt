@@ -1,19 +1,20 @@
 -- `write_read` meets its contract, by the kind of field.
+use mathlib.Core.Path.{sym}
 use borrow.Author.Tests.{eq-eqb, ne_eqb}
 use Rattle.carrying.specs.Carrying.{bytes_back, carried_length}
 use Rattle.carrying.proofs.Carried.{carrier_good}
 use Rattle.carry.proofs.write_read.Goals as goal
 
-pub copy-requires : goal.copy-requires
+pub copy_from_slice-requires : goal.copy_from_slice-requires
 unfolding carried_length
-copy-requires c =
+copy_from_slice-requires c =
     let long = rw (eq-eqb c.args.p 0 c.if-p-eq0.true) at c.requires.2 in
-    long
+    sym long
 
 pub returns-then-p-eq0 : goal.returns-then-p-eq0
 unfolding bytes_back
 returns-then-p-eq0 c =
-    rw (eq-eqb c.args.p 0 c.if-p-eq0.true) c.copy.ensures
+    rw (eq-eqb c.args.p 0 c.if-p-eq0.true) c.copy_from_slice.ensures.after
 
 pub open_groups-requires : goal.open_groups-requires
 unfolding carried_length

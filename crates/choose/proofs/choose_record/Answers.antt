@@ -1,21 +1,24 @@
 -- `choose_record` meets its contract: it writes only where no number is met.
-use mathlib.Core.Path.{◌≡◌, sym, ◌∙◌}
+use mathlib.Core.Path.{◌≡◌}
 use native.Mathlib.Omega.{arith}
 use lib.ListN.{length}
+use Rattle.generator.proofs.Answered.{exit, done_is, refused_is}
 use Rattle.choose.specs.Promise.{choose_fault, chosen_of}
 use Rattle.choose.proofs.Written.{Asked, choose_accepts, choose_refuses}
 use Rattle.choose.proofs.choose_record.Goals as goal
-use Rattle.choose.proofs.choose_record.Goals.{Else-number-ne0}
+use Rattle.choose.proofs.choose_record.Goals.{In_ok-choose_fault}
 
 -- no number is met
-none : (c : Else-number-ne0) → choose_fault c.args.n c.args.k (length c.args.out.now) ≡ 0
-none c = sym c.choose_fault-number.ensures ∙ c.if-number-ne0.false
+none : (c : In_ok-choose_fault) → choose_fault c.args.n c.args.k (length c.args.out.now) ≡ 0
+none c = done_is _ c.in_ok-choose_fault.ensures
 
-asked : (c : Else-number-ne0) → Asked c.args.n c.args.k c.args.out.now
+asked : (c : In_ok-choose_fault) → Asked c.args.n c.args.k c.args.out.now
 asked c = choose_accepts _ _ _ (none c)
 
-pub returns-then-number-ne0 : goal.returns-then-number-ne0
-returns-then-number-ne0 c = rw (← c.choose_fault-number.ensures) (choose_refuses _ _ _ _ c.if-number-ne0.true)
+pub returns-in_err-choose_fault : goal.returns-in_err-choose_fault
+returns-in_err-choose_fault c =
+    let met = refused_is _ _ c.in_err-choose_fault.ensures in
+    rw (exit _ c.from_residual.ensures.1, ← met.0) (choose_refuses _ _ _ _ met.1)
 
 pub overflow_cast-n : goal.overflow_cast-n
 overflow_cast-n c = omega (arith, (asked c).byte)
@@ -24,9 +27,11 @@ pub overflow_cast-k : goal.overflow_cast-k
 overflow_cast-k c = omega (arith, (asked c).byte, (asked c).fits)
 
 pub write_chosen-requires : goal.write_chosen-requires
-write_chosen-requires c = ((asked (goal.at.write_chosen-requires c).Else-number-ne0).two, (asked (goal.at.write_chosen-requires c).Else-number-ne0).room)
+write_chosen-requires c =
+    let can = asked (goal.at.write_chosen-requires c).In_ok-choose_fault in
+    (can.two, can.room)
 
 pub returns : goal.returns
 unfolding chosen_of
 returns c =
-    rw (none (goal.at.returns c).Else-number-ne0) (record { answered = rw c.write_chosen.ensures.0; written = c.write_chosen.ensures.1 })
+    rw (none (goal.at.returns c).In_ok-choose_fault) (record { answered = rw c.write_chosen.ensures.0; written = c.write_chosen.ensures.1 })

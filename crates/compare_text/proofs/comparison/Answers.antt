@@ -1,19 +1,18 @@
--- `comparison` meets its contract: the lines of what was read, or the number.
-use mathlib.Core.Path.{sym, ◌∙◌}
-use borrow.Author.Rules.{rules}
-use Rattle.generator.proofs.Accepts.{accepted_sound}
+-- `comparison` meets its contract: the lines of the code that was read, or the number.
 use Rattle.generator.proofs.Comparison.{compared}
 use Rattle.text.specs.Text.{ascii}
-use Rattle.text.proofs.Writing.{puts_page}
+use Rattle.text.proofs.Written.{written_page}
 use Rattle.compare_text.specs.Comparison.{comparison_for}
 use Rattle.compare_text.proofs.comparison.Goals as goal
+use Rattle.compare_text.proofs.comparison.Goals.{in-Ok, in-Err}
 
-pub put_comparison-requires : goal.put_comparison-requires
-put_comparison-requires c = (accepted_sound c.args.rec.now _ (sym c.read_record.ensures ∙ c.in-Holds.is), search rules)
-
-pub returns-in-Holds : goal.returns-in-Holds
-returns-in-Holds c = record { text = puts_page comparison_for (sym c.in-Holds.is ∙ c.read_record.ensures) c.put_comparison.ensures; figures = compared _ }
-
-pub returns-in-Meets : goal.returns-in-Meets
+pub returns-clause-text : goal.returns-clause-text
 unfolding comparison_for ascii
-returns-in-Meets c = record { text = puts_page comparison_for (sym c.in-Meets.is ∙ c.read_record.ensures) c.put_line.ensures.puts; figures = compared _ }
+returns-clause-text c =
+    elim c.match-read_record.branch [
+      | in-Ok w ↦ rw (c.len.ensures, w.writer-is, ← w.in-Ok.ensures) (written_page c.new-writer.ensures.begins w.write_comparison.ensures)
+      | in-Err w ↦ rw (c.len.ensures, w.writer-is, ← w.in-Err.ensures) (written_page c.new-writer.ensures.begins (rw w.from.ensures at w.line.ensures.text))
+    ]
+
+pub returns-clause-figures : goal.returns-clause-figures
+returns-clause-figures c = compared _

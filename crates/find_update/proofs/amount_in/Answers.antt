@@ -16,25 +16,29 @@ use Rattle.find_update.proofs.amount_in.Goals as goal
 use Rattle.find_update.proofs.amount_in.Goals.{Start}
 
 -- the row's first node
-first : (c : Start) → get_or c.args.plan.firsts c.args.row 0 ≡ get_or (firsts c.args.h) c.args.row 0
+first : (c : Start) → get_or c.args.plan.firsts c.args.row 0 ≡ get_or (firsts c.args.code.header) c.args.row 0
 first c =
-    let (sound, plan, row, lane) = c.requires in
+    let sound = c.args.code.sound in
+    let (plan, row, lane) = c.requires in
     rw plan (first_in _ sound _ row)
 
-inside : (c : Start) → (get_or c.args.plan.firsts c.args.row 0 < length c.args.difference.now) × (length c.args.difference.now ≡ c.args.h.n)
+inside : (c : Start) → (get_or c.args.plan.firsts c.args.row 0 < length c.args.difference.now) × (length c.args.difference.now ≡ c.args.code.header.n)
 inside c =
-    let (sound, plan, row, lane) = c.requires in
+    let sound = c.args.code.sound in
+    let (plan, row, lane) = c.requires in
     (rw (first c, lane.long) (first_node _ sound _ row), lane.long)
 
 -- the entry there
-over : (c : Start) → get_or c.args.plan.base 0 0 ≡ entry c.args.h c.args.row (get_or (firsts c.args.h) c.args.row 0)
+over : (c : Start) → get_or c.args.plan.base 0 0 ≡ entry c.args.code.header c.args.row (get_or (firsts c.args.code.header) c.args.row 0)
 over c =
-    let (sound, plan, row, lane) = c.requires in
-    let h = c.args.h in
+    let sound = c.args.code.sound in
+    let (plan, row, lane) = c.requires in
+    let h = c.args.code.header in
     rw plan (rw (shift_in h sound c.args.row row, first_place h sound c.args.row row) at (entry_read h sound c.args.row (get_or (firsts h) c.args.row 0) row (first_node h sound c.args.row row)))
 
 pub inverse_with-over-requires : goal.inverse_with-over-requires
-inverse_with-over-requires c = let (sound, plan, row, lane) = c.requires in (sound.usable_field, rw (over (goal.at.inverse_with-over-requires c).Start) (entry_below _ sound _ _))
+inverse_with-over-requires c = let sound = c.args.code.sound in
+    let (plan, row, lane) = c.requires in (sound.usable_field, rw (over (goal.at.inverse_with-over-requires c).Start) (entry_below _ sound _ _))
 
 pub offset_bounds-difference-first : goal.offset_bounds-difference-first
 offset_bounds-difference-first c = omega (arith, inside (goal.at.offset_bounds-difference-first c).Start)
@@ -47,8 +51,9 @@ overflow_cast-difference c = omega (arith, c.type_inv.difference (get_or c.args.
 
 pub mul_with-requires : goal.mul_with-requires
 mul_with-requires c =
-    let (sound, plan, row, lane) = c.requires in
-    (sound.usable_field, below_at (size c.args.h) c.args.difference.now lane.symbols _ (inside (goal.at.mul_with-requires c).Start).0, rw c.inverse_with-over.ensures (inverse_below (modulus_of c.args.h) sound.field (rw (over (goal.at.mul_with-requires c).Start) (entry_below _ sound _ _))))
+    let sound = c.args.code.sound in
+    let (plan, row, lane) = c.requires in
+    (sound.usable_field, below_at (size c.args.code.header) c.args.difference.now lane.symbols _ (inside (goal.at.mul_with-requires c).Start).0, rw c.inverse_with-over.ensures (inverse_below (modulus_of c.args.code.header) sound.field (rw (over (goal.at.mul_with-requires c).Start) (entry_below _ sound _ _))))
 
 pub returns : goal.returns
 unfolding amount_in

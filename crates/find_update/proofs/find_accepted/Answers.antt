@@ -1,5 +1,6 @@
 -- `find_accepted` meets its contract: the lanes are compared only where no number is met.
-use mathlib.Core.Path.{◌≡◌, sym, ap₂, ◌∙◌}
+use Rattle.std.specs.Prelude.{Ok}
+use mathlib.Core.Path.{◌≡◌, sym, ap, ap₂, ◌∙◌}
 use Prim.Native.Nat.{◌≤◌}
 use native.Mathlib.Omega.{arith}
 use lib.ListN.{take}
@@ -30,8 +31,8 @@ second c = lane_read _ _ _ _ (lanes (goal.at.After-read_symbols-vs c).In_ok-find
 
 pub returns-in_err-find_fault : goal.returns-in_err-find_fault
 returns-in_err-find_fault c =
-    let met = refused_is _ _ c.in_err-find_fault.ensures in
-    rw (exit _ c.from_residual.ensures.1, ← met.0) (find_refuses _ _ met.1 _ _)
+    let (same, some) = refused_is _ _ c.in_err-find_fault.ensures in
+    rw (exit _ c.from_residual.ensures.1, ← same) (find_refuses _ _ some _ _)
 
 pub read_symbols-us-requires : goal.read_symbols-us-requires
 read_symbols-us-requires c =
@@ -54,10 +55,10 @@ slice_bounds-find-end-2 c = rw (second (goal.at.slice_bounds-find-end-2 c).After
 pub find-requires : goal.find-requires
 find-requires c =
     let both = lanes (goal.at.find-requires c).In_ok-find_fault in
-    (c.args.code.sound, rw (first (goal.at.find-requires c).After-read_symbols-us) both.first, rw (second (goal.at.find-requires c).After-read_symbols-vs) both.second)
+    (rw (first (goal.at.find-requires c).After-read_symbols-us) both.first, rw (second (goal.at.find-requires c).After-read_symbols-vs) both.second)
 
 pub returns : goal.returns
 unfolding answer_of
 returns c =
     let none = done_is _ c.in_ok-find_fault.ensures in
-    record { answer = rw none (c.find.ensures ∙ ap₂ (finding_of _) (first (goal.at.returns c).After-read_symbols-us) (second (goal.at.returns c).After-read_symbols-vs)) }
+    record { answer = rw none (ap Ok (c.find.ensures ∙ ap₂ (finding_of _) (first (goal.at.returns c).After-read_symbols-us) (second (goal.at.returns c).After-read_symbols-vs))) }

@@ -6,47 +6,56 @@ use Rattle.lists.specs.Numbers.{all_below}
 use Rattle.lists.proofs.Padding.{take_padded}
 use Rattle.generator.specs.Codewords.{is_word}
 use Rattle.generator.specs.Messages.{message_of}
+use Rattle.generator.proofs.Answered.{met, passed, last}
+use Rattle.refusals.specs.Faults.{stale_fault}
 use Rattle.check_sums.proofs.OneLane.{word_sums}
 use Rattle.spectrum.specs.Inner.Spectrum.{spectrum_of}
 use Rattle.spectrum.proofs.Spectra.{spectrum_below}
 use Rattle.lane_message.proofs.Formula.{word_symbol}
-use Rattle.lane_message.proofs.Numbers.{number_is}
+use Rattle.lane_message.proofs.Numbers.{no_word_is, other_symbol_is}
 use Rattle.lane_message.proofs.SpectrumParts.{length_spectrum, check_part, coefficients_are}
 use Rattle.lane_message.proofs.stale_with.Goals as goal
 use Rattle.lane_message.proofs.stale_with.Goals.{After-all_zero-word, After-spectrum_of-spectrum, After-symbol_from-symbol}
 
 -- the word test
-test : (c : After-all_zero-word) → let a = c.args in c.all_zero-word.result ≡ is_word a.h a.lane.now
+test : (c : After-all_zero-word) → let a = c.args in c.all_zero-word.result ≡ is_word a.code.header a.lane.now
 test c =
-    let h = c.args.h in
+    let h = c.args.code.header in
     c.all_zero-word.ensures
-    ∙ ap (all_below 1) (rw c.spectrum_of-spectrum.ensures (check_part h c.args.lane.now c.requires.0 c.requires.0.byte))
+    ∙ ap (all_below 1) (rw c.spectrum_of-spectrum.ensures (check_part h c.args.lane.now c.args.code.sound c.args.code.sound.byte))
     ∙ word_sums h c.args.lane.now
 
 -- the spectrum, lent as a part
-part : (c : After-spectrum_of-spectrum) → let a = c.args in take a.h.n c.spectrum_of-spectrum.result ≡ spectrum_of a.h a.lane.now
+part : (c : After-spectrum_of-spectrum) → let a = c.args in take a.code.header.n c.spectrum_of-spectrum.result ≡ spectrum_of a.code.header a.lane.now
 part c =
     let a = c.args in
-    rw c.spectrum_of-spectrum.ensures (take_padded 255 _ _ (length_spectrum a.h a.lane.now))
+    rw c.spectrum_of-spectrum.ensures (take_padded 255 _ _ (length_spectrum a.code.header a.lane.now))
 
 -- the symbol of a word's message
 symbol : (c : After-symbol_from-symbol)
     → let a = c.args in
-    is_word a.h a.lane.now ≡ true → c.symbol_from-symbol.result ≡ get_or (message_of a.h a.lane.now) a.r 0
+    is_word a.code.header a.lane.now ≡ true → c.symbol_from-symbol.result ≡ get_or (message_of a.code.header a.lane.now) a.r 0
 symbol c word =
-    let h = c.args.h in
+    let h = c.args.code.header in
     let ws = c.args.lane.now in
-    c.symbol_from-symbol.ensures ∙ rw (part (goal.at.After-symbol_from-symbol c).After-spectrum_of-spectrum, coefficients_are h c.requires.0 ws) (word_symbol h c.requires.0 ws c.requires.2 c.requires.3 word c.args.r c.requires.4)
+    c.symbol_from-symbol.ensures ∙ rw (part (goal.at.After-symbol_from-symbol c).After-spectrum_of-spectrum, coefficients_are h c.args.code.sound ws) (word_symbol h c.args.code.sound ws c.requires.1 c.requires.2 word c.args.r c.requires.3)
 
 pub slice_bounds-symbol_from-end : goal.slice_bounds-symbol_from-end
 slice_bounds-symbol_from-end c = rw (part (goal.at.slice_bounds-symbol_from-end c).After-spectrum_of-spectrum) (sym (length_spectrum _ _))
 
 pub symbol_from-symbol-requires : goal.symbol_from-symbol-requires
 symbol_from-symbol-requires c =
-    let h = c.args.h in
-    (c.requires.0, c.requires.1, rw (part (goal.at.symbol_from-symbol-requires c).After-spectrum_of-spectrum) (length_spectrum h c.args.lane.now), rw (part (goal.at.symbol_from-symbol-requires c).After-spectrum_of-spectrum) (spectrum_below h c.requires.0 c.args.lane.now c.requires.3), c.requires.4, c.requires.5)
+    let h = c.args.code.header in
+    (c.args.code.sound, c.requires.0, rw (part (goal.at.symbol_from-symbol-requires c).After-spectrum_of-spectrum) (length_spectrum h c.args.lane.now), rw (part (goal.at.symbol_from-symbol-requires c).After-spectrum_of-spectrum) (spectrum_below h c.args.code.sound c.args.lane.now c.requires.2), c.requires.3, c.requires.4)
+
+pub returns-in_err-when : goal.returns-in_err-when
+unfolding stale_fault
+returns-in_err-when c =
+    met _ (no_word_is _ _ _ (test (goal.at.returns-in_err-when c).After-all_zero-word)) c.in_err-when.ensures c.from_residual.ensures.1 _
 
 pub returns : goal.returns
+unfolding stale_fault
 returns c =
-    let a = c.args in
-    c.number_of.ensures ∙ number_is a.h a.lane.now a.r a.old c.symbol_from-symbol.result c.all_zero-word.result (test (goal.at.returns c).After-all_zero-word) (symbol (goal.at.returns c).After-symbol_from-symbol)
+    let word = no_word_is _ _ _ (test (goal.at.returns c).After-all_zero-word) in
+    passed _ _ word c.in_ok-when.ensures
+    (last _ _ (other_symbol_is _ _ _ _ _ (sym word ∙ c.in_ok-when.ensures) (symbol (goal.at.returns c).After-symbol_from-symbol)) c.when-2.ensures)

@@ -1,7 +1,6 @@
 -- `list_mends` meets its contract: a word has no entry, and the list of another lane comes from its check sums.
 use mathlib.Core.Path.{◌≡◌, sym, ap, ◌∙◌}
 use Prim.Native.Nat.{◌-◌}
-use native.Mathlib.Omega.{arith}
 use lib.ListN.{length, take}
 use Rattle.lists.specs.Numbers.{all_below}
 use Rattle.lists.proofs.Padding.{take_padded}
@@ -16,19 +15,20 @@ use Rattle.mends.proofs.list_mends.Goals.{After-all_zero, After-sums-sums}
 -- the check sums
 part : (c : After-sums-sums)
     → let a = c.args in
-    take (a.h.n - a.h.k) c.sums-sums.result ≡ check_sums a.h a.lane.now
+    take (a.code.header.n - a.code.header.k) c.sums-sums.result ≡ check_sums a.code.header a.lane.now
 part c = rw c.sums-sums.ensures (take_padded 255 _ _ (length_sums _ _))
 
-length_part : (c : After-sums-sums) → let a = c.args in length (take (a.h.n - a.h.k) c.sums-sums.result) ≡ a.h.n - a.h.k
+length_part : (c : After-sums-sums) → let a = c.args in length (take (a.code.header.n - a.code.header.k) c.sums-sums.result) ≡ a.code.header.n - a.code.header.k
 length_part c = ap length (part c) ∙ length_sums _ _
 
 -- they tell a word
-tested : (c : After-all_zero) → let a = c.args in c.all_zero.result ≡ is_word a.h a.lane.now
+tested : (c : After-all_zero) → let a = c.args in c.all_zero.result ≡ is_word a.code.header a.lane.now
 tested c = c.all_zero.ensures ∙ ap (all_below 1) (part (goal.at.After-all_zero c).After-sums-sums) ∙ word_sums _ _
 
 pub sums-sums-requires : goal.sums-sums-requires
 sums-sums-requires c =
-    let (sound, lane, nodes, symbols) = c.requires in
+    let sound = c.args.code.sound in
+    let (lane, nodes, symbols) = c.requires in
     (sound, lane.long, lane.symbols)
 
 pub slice_bounds-all_zero-end : goal.slice_bounds-all_zero-end
@@ -42,12 +42,14 @@ slice_bounds-list-end c = sym (length_part (goal.at.slice_bounds-list-end c).Aft
 
 pub list-requires : goal.list-requires
 list-requires c =
-    let (sound, lane, nodes, symbols) = c.requires in
+    let sound = c.args.code.sound in
+    let (lane, nodes, symbols) = c.requires in
     let other = sym (tested (goal.at.list-requires c).After-all_zero) ∙ c.if-all_zero.false in
-    (rw (part (goal.at.list-requires c).After-sums-sums) (has_sums _ _ sound lane other), omega arith, nodes, symbols)
+    (rw (part (goal.at.list-requires c).After-sums-sums) (has_sums _ _ sound lane other), nodes, symbols)
 
 pub returns : goal.returns
 returns c =
-    let (sound, lane, nodes, symbols) = c.requires in
+    let sound = c.args.code.sound in
+    let (lane, nodes, symbols) = c.requires in
     let other = sym (tested (goal.at.returns c).After-all_zero) ∙ c.if-all_zero.false in
     rw (nodes_are _ _ sound lane other, symbols_are _ _ sound lane other) (rw (part (goal.at.returns c).After-sums-sums) at c.list.ensures)

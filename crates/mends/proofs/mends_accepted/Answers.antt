@@ -1,6 +1,6 @@
 -- `mends_accepted` meets its contract: the lane is read and the list made only where no number is met.
 use Rattle.std.specs.Prelude.{Ok}
-use mathlib.Core.Path.{◌≡◌, sym, ap, ◌∙◌}
+use mathlib.Core.Path.{◌≡◌, sym, ap}
 use Prim.Native.Nat.{◌≤◌}
 use native.Mathlib.Omega.{arith}
 use lib.ListN.{length, take}
@@ -26,8 +26,8 @@ part c = lane_read _ _ _ _ (given (goal.at.After-read_symbols-ws c).In_ok-mends_
 
 pub returns-in_err-mends_fault : goal.returns-in_err-mends_fault
 returns-in_err-mends_fault c =
-    let met = refused_is _ _ c.in_err-mends_fault.ensures in
-    rw (exit _ c.from_residual.ensures.1, ← met.0) (mends_refuses _ _ met.1 _ _ _)
+    let (same, some) = refused_is _ _ c.in_err-mends_fault.ensures in
+    rw (exit _ c.from_residual.ensures.1, ← same) (mends_refuses _ _ some _ _ _)
 
 pub read_symbols-ws-requires : goal.read_symbols-ws-requires
 read_symbols-ws-requires c =
@@ -41,7 +41,7 @@ slice_bounds-list_mends-end c = rw (part (goal.at.slice_bounds-list_mends-end c)
 pub list_mends-count-requires : goal.list_mends-count-requires
 list_mends-count-requires c =
     let g = given (goal.at.list_mends-count-requires c).In_ok-mends_fault in
-    (c.args.code.sound, rw (part (goal.at.list_mends-count-requires c).After-read_symbols-ws) g.lane_is, g.nodes_long, g.symbols_long)
+    (rw (part (goal.at.list_mends-count-requires c).After-read_symbols-ws) g.lane_is, g.nodes_long, g.symbols_long)
 
 pub overflow_cast-count : goal.overflow_cast-count
 overflow_cast-count c =

@@ -5,7 +5,7 @@ use Rattle.lists.specs.Numbers.{all_below}
 use Rattle.lists.specs.Search.{first_false}
 use Rattle.field.specs.Fields.{sub, mul, power}
 use Rattle.generator.specs.declared.Header.{Header}
-use Rattle.generator.specs.Records.{modulus_of, size, Sound}
+use Rattle.generator.specs.Records.{modulus_of, size}
 use Rattle.refusals.specs.Accepted.{IsLane}
 
 -- the first place whose next check sum is not c times its own, or the last
@@ -26,7 +26,6 @@ mended_at h ws sums j = sub (modulus_of h) (get_or ws j 0) (mul (modulus_of h) (
 
 -- one check sum or more
 pub record HasSums (h : Header) (sums : List ℕ) : Type 0 where
-  pub sound : Sound h
   pub some : 0 < length sums
   pub symbols : all_below (size h) sums ≡ true
 

@@ -1,32 +1,35 @@
 -- `judge` meets its contract: the lane is read as symbols.
-use mathlib.Core.Path.{◌≡◌, sym, ◌∙◌}
+use mathlib.Core.Path.{◌≡◌, sym}
 use native.Mathlib.Nat.{mul_comm, mul-le-mul, le_refl}
 use lib.ListN.{take}
 use Rattle.lists.proofs.Padding.{take_padded}
 use Rattle.layout.specs.Width.{symbols_of}
 use Rattle.generator.proofs.Widths.{width_range}
+use Rattle.plan.specs.Plans.{plan_of}
 use Rattle.update.proofs.Lane.{word_long}
 use Rattle.update.proofs.judge.Goals as goal
 use Rattle.update.proofs.judge.Goals.{After-read_symbols-symbols}
 
 -- the symbols, lent as a part
-part : (c : After-read_symbols-symbols) → let a = c.args in take a.h.n c.read_symbols-symbols.result ≡ symbols_of a.w a.lane.now
-part c = rw c.read_symbols-symbols.ensures (take_padded 255 _ _ (word_long c.requires.0))
+part : (c : After-read_symbols-symbols) → let a = c.args in take a.generator.now.code.header.n c.read_symbols-symbols.result ≡ symbols_of a.w a.lane.now
+part c = rw c.read_symbols-symbols.ensures (take_padded 255 _ _ (word_long c.requires))
 
 pub read_symbols-symbols-requires : goal.read_symbols-symbols-requires
 read_symbols-symbols-requires c =
-    let (ready, tables, shifts) = c.requires in
-    let range = width_range c.args.h in
+    let ready = c.requires in
+    let range = width_range c.args.generator.now.code.header in
     (rw ready.wide range.0, rw ready.wide range.1, rw (ready.bytes, mul_comm 255 c.args.w) (mul-le-mul (le_refl c.args.w) ready.sound.byte))
 
-pub slice_bounds-stale_fault-end : goal.slice_bounds-stale_fault-end
-slice_bounds-stale_fault-end c =
-    rw (part (goal.at.slice_bounds-stale_fault-end c).After-read_symbols-symbols) (sym (word_long c.requires.0))
+pub slice_bounds-stale_fault-end-2 : goal.slice_bounds-stale_fault-end-2
+slice_bounds-stale_fault-end-2 c =
+    rw (part (goal.at.slice_bounds-stale_fault-end-2 c).After-read_symbols-symbols) (sym (word_long c.requires))
 
 pub stale_fault-requires : goal.stale_fault-requires
+unfolding plan_of
 stale_fault-requires c =
-    let (ready, tables, shifts) = c.requires in
-    (ready.sound, rw (part (goal.at.stale_fault-requires c).After-read_symbols-symbols) (word_long ready), rw (part (goal.at.stale_fault-requires c).After-read_symbols-symbols) ready.symbols, ready.row, tables, shifts)
+    let ready = c.requires in
+    let is = part (goal.at.stale_fault-requires c).After-read_symbols-symbols in
+    (rw is (word_long ready), rw is ready.symbols, ready.row, c.args.generator.now.planned.shifts_are)
 
 pub returns : goal.returns
-returns c = c.stale_fault.ensures ∙ rw (part (goal.at.returns c).After-read_symbols-symbols)
+returns c = rw (part (goal.at.returns c).After-read_symbols-symbols) at c.stale_fault.ensures

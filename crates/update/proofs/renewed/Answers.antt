@@ -8,13 +8,15 @@ use Rattle.update.proofs.renewed.Goals as goal
 
 pub add-requires : goal.add-requires
 add-requires c =
-    let (s, factor, entry, before) = c.requires in
+    let s = c.args.code.sound in
+    let (factor, entry, before) = c.requires in
     (s.usable_field, before, rw c.mul_with-term.ensures (mul_below _ s.field factor entry))
 
 pub overflow_cast-result : goal.overflow_cast-result
 overflow_cast-result c =
-    let (s, factor, entry, before) = c.requires in
-    let low : c.add.result < size c.args.h = rw (c.add.ensures, c.mul_with-term.ensures) (add_below _ s.field before (mul_below _ s.field factor entry)) in
+    let s = c.args.code.sound in
+    let (factor, entry, before) = c.requires in
+    let low : c.add.result < size c.args.code.header = rw (c.add.ensures, c.mul_with-term.ensures) (add_below _ s.field before (mul_below _ s.field factor entry)) in
     omega (arith, size_fits _ s.usable_field)
 
 pub returns : goal.returns

@@ -3,23 +3,18 @@ use Prim.Native.Nat.{◌+◌, ◌*◌, ◌≤◌, ◌<◌}
 use mathlib.Core.Path.{◌≡◌, sym, ◌∙◌}
 use native.Mathlib.Nat.{mul_comm, lt_of_lt_of_le}
 use native.Mathlib.Omega.{arith}
-use lib.ListN.{length, get_or}
+use lib.ListN.{length}
 use Rattle.lists.proofs.Numbers.{at_below, below_at}
 use Rattle.lists.proofs.Rows.{part_length}
 use Rattle.layout.specs.Width.{symbol_at, symbols_of}
 use Rattle.generator.specs.Records.{size}
 use Rattle.generator.proofs.Bounds.{entry_below}
 use Rattle.generator.proofs.Widths.{width_range, size_fits_width}
-use Rattle.plan.proofs.Plans.{shift_place, shift_below, base_room}
-use Rattle.update.proofs.Lane.{entry_read, word_long}
+use Rattle.update.proofs.Lane.{word_long}
 use Rattle.update.proofs.Rewriting.{after}
 use Rattle.update.proofs.LaneBytes.{after_below, bytes_start, bytes_long, bytes_few, bytes_end, place_inside, bytes_inside, bytes_held, bytes_put, bytes_skip}
 use Rattle.update.proofs.rewrite.Goals as goal
-use Rattle.update.proofs.rewrite.Goals.{After-renewed-after, In-loop-j, Start, else-after-before, then-after-before}
-
--- the row's shift is below n
-turned : (c : Start) → get_or c.args.shifts.now c.args.which 0 < c.args.h.n
-turned c = let (ready, factor, plan) = c.requires in rw plan.shifts_are (shift_below _ ready.sound _ ready.row)
+use Rattle.update.proofs.rewrite.Goals.{After-renewed-after, In-loop-j, else-after-before, then-after-before}
 
 -- node j's bytes lie in the lane
 inside : (c : In-loop-j) → let a = c.args in c.loop-j.j * a.w + a.w ≤ length c.loop-j.lane
@@ -29,44 +24,34 @@ few : (c : In-loop-j) → length c.loop-j.lane ≤ 510
 few c = bytes_few c.requires.0 _ c.loop-j.invariant
 
 -- its symbol is one of the field
-held : (c : In-loop-j) → let a = c.args in symbol_at a.w c.loop-j.lane c.loop-j.j < size a.h
+held : (c : In-loop-j) → let a = c.args in symbol_at a.w c.loop-j.lane c.loop-j.j < size a.generator.now.code.header
 held c =
     let ready = c.requires.0 in
     rw (bytes_held ready _ c.loop-j.invariant c.loop-j-test.true) (below_at _ _ ready.symbols _ (omega (arith, word_long ready, c.loop-j-test.true)))
 
 -- and becomes what the update says
-becomes : (c : After-renewed-after) → let a = c.args in c.renewed-after.result ≡ after a.h a.which a.x (symbols_of a.w a.lane.now) c.loop-j.j
+becomes : (c : After-renewed-after) → let a = c.args in c.renewed-after.result ≡ after a.generator.now.code.header a.which a.x (symbols_of a.w a.lane.now) c.loop-j.j
 becomes c =
-    let (ready, factor, plan) = c.requires in
+    let (ready, factor) = c.requires in
     let node = c.loop-j-test.true in
-    rw (← entry_read _ plan _ _ ready.row node, ← c.entry_at-entry.ensures, ← bytes_held ready _ c.loop-j.invariant node, ← c.symbol_at-before.ensures) c.renewed-after.ensures
-
-pub bounds-shifts-which : goal.bounds-shifts-which
-bounds-shifts-which c =
-    let (ready, factor, plan) = c.requires in
-    rw plan.shifts_are (shift_place _ ready.sound _ ready.row)
-
-pub overflow_cast-shift-2 : goal.overflow_cast-shift-2
-overflow_cast-shift-2 c = omega (arith, turned (goal.at.overflow_cast-shift-2 c).Start, c.requires.0.sound.byte)
+    rw (← c.entry-entry.ensures, ← bytes_held ready _ c.loop-j.invariant node, ← c.symbol_at-before.ensures) c.renewed-after.ensures
 
 pub loop-j-init : goal.loop-j-init
 loop-j-init c =
     bytes_start c.requires.0 _ (at_below 256 _ (λ i h. omega (arith, c.type_inv.lane i)))
 
-pub entry_at-entry-requires : goal.entry_at-entry-requires
-entry_at-entry-requires c =
-    let (ready, factor, plan) = c.requires in
-    (ready.sound.byte, turned (goal.at.entry_at-entry-requires c).Start, c.loop-j-test.true, rw plan.base_is (base_room _))
+pub entry-entry-requires : goal.entry-entry-requires
+entry-entry-requires c = (c.requires.0.row, c.loop-j-test.true)
 
 pub symbol_at-before-requires : goal.symbol_at-before-requires
 symbol_at-before-requires c =
     let ready = c.requires.0 in
-    let range = width_range c.args.h in
+    let range = width_range c.args.generator.now.code.header in
     (rw ready.wide range.0, rw ready.wide range.1, place_inside ready _ c.loop-j.invariant c.loop-j-test.true)
 
 pub renewed-after-requires : goal.renewed-after-requires
 renewed-after-requires c =
-    let (ready, factor, plan) = c.requires in (ready.sound, factor, rw (c.entry_at-entry.ensures, entry_read _ plan _ _ ready.row c.loop-j-test.true) (entry_below _ ready.sound _ _), rw c.symbol_at-before.ensures (held (goal.at.renewed-after-requires c).In-loop-j))
+    let (ready, factor) = c.requires in (factor, rw c.entry-entry.ensures (entry_below _ ready.sound _ _), rw c.symbol_at-before.ensures (held (goal.at.renewed-after-requires c).In-loop-j))
 
 pub overflow_mul-start : goal.overflow_mul-start
 overflow_mul-start c = omega (arith, inside (goal.at.overflow_mul-start c).In-loop-j, few (goal.at.overflow_mul-start c).In-loop-j)
@@ -79,12 +64,12 @@ slice_bounds-write_symbol-end c = omega (arith, inside (goal.at.slice_bounds-wri
 
 pub write_symbol-requires : goal.write_symbol-requires
 write_symbol-requires c =
-    let (ready, factor, plan) = c.requires in
-    let range = width_range c.args.h in
+    let (ready, factor) = c.requires in
+    let range = width_range c.args.generator.now.code.header in
     let j = c.loop-j.j in (
       rw ready.wide range.0,
       rw ready.wide range.1,
-      rw (ready.wide, becomes (goal.at.write_symbol-requires c).After-renewed-after) (lt_of_lt_of_le (after_below ready c.args.x factor j c.loop-j-test.true) (size_fits_width c.args.h ready.sound)),
+      rw (ready.wide, becomes (goal.at.write_symbol-requires c).After-renewed-after) (lt_of_lt_of_le (after_below ready c.args.x factor j c.loop-j-test.true) (size_fits_width c.args.generator.now.code.header ready.sound)),
       part_length (j * c.args.w) c.args.w _ (inside (goal.at.write_symbol-requires c).In-loop-j),
     )
 
@@ -94,7 +79,7 @@ overflow_add-count c =
 
 pub loop-j-preserved : goal.loop-j-preserved
 loop-j-preserved c =
-    let (ready, factor, plan) = c.requires in
+    let (ready, factor) = c.requires in
     let turn = c.loop-j.invariant in
     let node = c.loop-j-test.true in
     elim c.if-after-before.branch [ then-after-before u ↦ rw (u.lane-is, u.count-is, u.write_symbol.ensures) (bytes_put ready _ turn node _ (becomes (goal.at.loop-j-preserved c).After-renewed-after) (λ e. u.if-after-before.true (e ∙ sym c.symbol_at-before.ensures))) | else-after-before u ↦ rw (u.lane-is, u.count-is) (bytes_skip ready _ turn node _ (becomes (goal.at.loop-j-preserved c).After-renewed-after) (u.if-after-before.false ∙ c.symbol_at-before.ensures)) ]

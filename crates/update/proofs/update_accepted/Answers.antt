@@ -1,68 +1,58 @@
 -- `update_accepted` meets its contract: what it is given is judged first, then its lane, and then the lane is rewritten.
 use Prim.Native.Nat.{◌<◌}
-use mathlib.Core.Path.{◌≡◌, sym, ◌∙◌}
+use mathlib.Core.Path.{◌≡◌, sym}
 use Rattle.field.proofs.Bounds.{sub_below}
 use Rattle.layout.specs.Layout.{share_layout}
 use Rattle.generator.specs.Records.{size}
-use Rattle.plan.specs.Plans.{plan_of}
-use Rattle.plan.specs.Inner.Planned.{Planned}
-use Rattle.update.specs.Promise.{input_fault, update_fault}
+use Rattle.generator.proofs.Answered.{exit, done_is, refused_is}
+use Rattle.update.specs.Promise.{input_fault}
 use Rattle.refusals.specs.Accepted.{UpdatableLane}
 use Rattle.update.proofs.Accepts.{input_accepts, update_refuses}
 use Rattle.blocks.specs.Blocks.{updated}
 use Rattle.update.proofs.Answering.{altered_says}
 use Rattle.update.proofs.Judging.{input_met, lane_met}
 use Rattle.update.proofs.update_accepted.Goals as goal
-use Rattle.update.proofs.update_accepted.Goals.{After-fill_base-base, After-judge_lane-stale, Else-number-ne0}
+use Rattle.update.proofs.update_accepted.Goals.{In_ok-input_fault}
 
 -- no number of what is given turns the update away
-given : (c : Else-number-ne0)
+given : (c : In_ok-input_fault)
     → let a = c.args in
-    input_fault share_layout a.h a.lanes a.which a.lane a.old a.new a.shares.now ≡ 0
-given c = sym c.input_fault-number.ensures ∙ c.if-number-ne0.false
+    input_fault share_layout a.code.header a.lanes a.which a.lane a.old a.new a.shares.now ≡ 0
+given c = done_is _ c.in_ok-input_fault.ensures
 
-ready : (c : Else-number-ne0)
+ready : (c : In_ok-input_fault)
     → let a = c.args in
-    UpdatableLane a.h a.lanes a.which a.lane a.shares.now × (a.old < size a.h) × (a.new < size a.h)
-ready c = input_accepts _ c.requires _ _ _ _ _ _ (given c)
+    UpdatableLane a.code.header a.lanes a.which a.lane a.shares.now × (a.old < size a.code.header) × (a.new < size a.code.header)
+ready c = input_accepts _ c.args.code.sound _ _ _ _ _ _ (given c)
 
--- Update's number is the lane's
-judged : (c : After-judge_lane-stale)
-    → let a = c.args in
-    update_fault share_layout a.h a.lanes a.which a.lane a.old a.new a.shares.now ≡ c.judge_lane-stale.result
-judged c =
-    lane_met _ _ _ _ _ _ _ _ _ c.width_of-w.ensures.0 (given (goal.at.After-judge_lane-stale c).Else-number-ne0) c.judge_lane-stale.ensures
+pub returns-in_err-input_fault : goal.returns-in_err-input_fault
+returns-in_err-input_fault c =
+    let (same, some) = refused_is _ _ c.in_err-input_fault.ensures in
+    rw (exit _ c.from_residual.ensures.1, input_met _ _ _ _ _ _ _ _ same some) (update_refuses _ _ some _ _ _ _ _ _)
 
--- the shifts and the base word are the plan's
-planned : (c : After-fill_base-base)
-    →
-    Planned c.args.h c.row_shifts-shifts.result c.fill_base-base.result
-unfolding plan_of
-planned c =
-    record { sound = c.requires; shifts_are = c.row_shifts-shifts.ensures; base_is = c.fill_base-base.ensures }
+pub judge_lane-requires : goal.judge_lane-requires
+judge_lane-requires c = rw c.new-generator.ensures (ready (goal.at.judge_lane-requires c).In_ok-input_fault).0
 
-pub returns-then-number-ne0 : goal.returns-then-number-ne0
-returns-then-number-ne0 c = rw (input_met _ _ _ _ _ _ _ _ c.input_fault-number.ensures c.if-number-ne0.true) (update_refuses _ _ c.if-number-ne0.true _ _ _ _ _ _)
-
-pub judge_lane-stale-requires : goal.judge_lane-stale-requires
-judge_lane-stale-requires c =
-    ((ready (goal.at.judge_lane-stale-requires c).Else-number-ne0).0, c.width_of-w.ensures.0, c.row_shifts-shifts.ensures)
-
-pub returns-then-stale-ne0 : goal.returns-then-stale-ne0
-returns-then-stale-ne0 c = rw (judged (goal.at.returns-then-stale-ne0 c).After-judge_lane-stale) (update_refuses _ _ c.if-stale-ne0.true _ _ _ _ _ _)
+pub returns-in_err-judge_lane : goal.returns-in_err-judge_lane
+returns-in_err-judge_lane c =
+    let none = given (goal.at.returns-in_err-judge_lane c).In_ok-input_fault in
+    let (same, some) = refused_is _ _ (rw c.new-generator.ensures at c.in_err-judge_lane.ensures) in
+    rw (exit _ c.from_residual-in_err-judge_lane.ensures.1, lane_met _ _ _ _ _ _ _ _ none same) (update_refuses _ _ some _ _ _ _ _ _)
 
 pub sub-x-requires : goal.sub-x-requires
 sub-x-requires c =
-    let (good, old, new) = ready (goal.at.sub-x-requires c).Else-number-ne0 in
-    (good.sound.usable_field, new, old)
+    let (lane, old, new) = ready (goal.at.sub-x-requires c).In_ok-input_fault in
+    (lane.sound.usable_field, new, old)
 
 pub rewrite_lane-count-requires : goal.rewrite_lane-count-requires
 rewrite_lane-count-requires c =
-    let (lane, old, new) = ready (goal.at.rewrite_lane-count-requires c).Else-number-ne0 in
-    (lane, c.width_of-w.ensures.0, rw c.sub-x.ensures (sub_below _ lane.sound.field new old), planned (goal.at.rewrite_lane-count-requires c).After-fill_base-base)
+    let (lane, old, new) = ready (goal.at.rewrite_lane-count-requires c).In_ok-input_fault in
+    rw (c.new-generator.ensures, c.sub-x.ensures) (lane, sub_below _ lane.sound.field new old)
 
 pub returns : goal.returns
 unfolding updated
 returns c =
-    let (done, counted) = c.rewrite_lane-count.ensures in
-    altered_says _ _ _ _ _ _ _ _ _ _ _ c.width_of-w.ensures.0 (judged (goal.at.returns c).After-judge_lane-stale ∙ c.if-stale-ne0.false) (rw (← c.sub-x.ensures) done) (rw (← c.sub-x.ensures) counted)
+    let none = given (goal.at.returns c).In_ok-input_fault in
+    let fresh = done_is _ (rw c.new-generator.ensures at c.in_ok-judge_lane.ensures) in
+    let (done, counted) = rw (c.new-generator.ensures, c.sub-x.ensures) at c.rewrite_lane-count.ensures in
+    altered_says _ _ _ _ _ _ _ _ _ _ (lane_met _ _ _ _ _ _ _ _ none (sym fresh)) done counted

@@ -1,13 +1,13 @@
--- `update_lane` meets its contract: the promise over the header that was read, or the record's number.
-use Rattle.refusals.proofs.OnRecord.{read_sound, on_held, on_met}
+-- `update_lane` meets its contract: the record's number, or what the call over its header gives.
+use mathlib.Core.Path.{sym}
+use Rattle.generator.proofs.Answered.{exit}
+use Rattle.refusals.proofs.OnRecord.{on_header, on_number}
 use Rattle.update.proofs.Accepts.{update_refuses}
 use Rattle.update.proofs.update_lane.Goals as goal
 
-pub update_accepted-requires : goal.update_accepted-requires
-update_accepted-requires c = read_sound _ c.read_record.ensures c.in-Holds.is
+pub returns-in_err-code : goal.returns-in_err-code
+returns-in_err-code c =
+    rw (exit _ c.from_residual.ensures.1) (on_number _ (sym c.in_err-code.ensures) (λ h some. update_refuses h _ some _ _ _ _ _ _))
 
-pub returns-in-Holds : goal.returns-in-Holds
-returns-in-Holds c = on_held c.read_record.ensures c.in-Holds.is c.update_accepted.ensures
-
-pub returns-in-Meets : goal.returns-in-Meets
-returns-in-Meets c = on_met c.read_record.ensures c.in-Meets.is (λ h some. update_refuses h _ some _ _ _ _ _ _)
+pub returns : goal.returns
+returns c = on_header _ (sym c.in_ok-code.ensures) c.update_accepted.ensures

@@ -1,9 +1,6 @@
--- `balanced_correct` meets its contract, in each arm of the match.
-use Rattle.balanced_c.proofs.Corrections.{correct_done, correct_refuses}
+-- `balanced_correct` meets its contract: the number of what `correct_block` answers, and its count.
+use Rattle.balanced_c.proofs.Corrections.{correct_gives}
 use Rattle.balanced_c.proofs.correction.balanced_correct.Goals as goal
 
-pub returns-in-Altered : goal.returns-in-Altered
-returns-in-Altered c = correct_done _ _ _ _ _ _ c.correct_block.ensures _ c.in-Altered.is
-
-pub returns-in-Refused : goal.returns-in-Refused
-returns-in-Refused c = correct_refuses _ _ _ _ _ _ c.correct_block.ensures _ c.in-Refused.is
+pub returns : goal.returns
+returns c = correct_gives _ _ _ _ _ _ c.correct_block.ensures _ _ c.hand_over.ensures.0 c.hand_over.ensures.1

@@ -1,9 +1,6 @@
--- `balanced_mends` meets its contract, in each arm of the match.
-use Rattle.balanced_c.proofs.Lanes.{mends_listed, mends_refused}
+-- `balanced_mends` meets its contract: the number of what `single_mends` answers, and its count.
+use Rattle.balanced_c.proofs.Lanes.{mends_give}
 use Rattle.balanced_c.proofs.one_lane.balanced_mends.Goals as goal
 
-pub returns-in-Listed : goal.returns-in-Listed
-returns-in-Listed c = mends_listed _ _ _ _ _ _ _ c.single_mends.ensures _ _ c.in-Listed.is
-
-pub returns-in-Refused : goal.returns-in-Refused
-returns-in-Refused c = mends_refused _ _ _ _ _ _ _ c.single_mends.ensures _ _ c.in-Refused.is
+pub returns : goal.returns
+returns c = mends_give _ _ _ _ _ _ _ _ _ _ c.hand_over.ensures.0 c.hand_over.ensures.1 c.single_mends.ensures

@@ -1,24 +1,25 @@
--- `carry_in_fault` meets its contract.
-use mathlib.Core.Path.{sym, ap, ◌∙◌}
-use Prim.Native.Nat.{ℕ}
+-- `carry_in_fault` meets its contract: the test before it, then its own.
+use Rattle.std.proofs.Common.{ap, ◌∙◌}
+use Rattle.std.specs.Prelude.{ℕ}
+use Rattle.generator.proofs.Answered.{done_is, last}
 use Rattle.refusals.specs.Conditions.{length_bad}
-use Rattle.refusals.proofs.Order.{first_given, last}
 use Rattle.carrying.specs.Carrying.{carried_length}
 use Rattle.carry.specs.Promise.{carry_in_fault}
-use Rattle.carry.proofs.Accepts.{modulus_word, length_accepts}
+use Rattle.carry.proofs.Accepts.{modulus_word, length_accepts, turned_away}
 use Rattle.carry.proofs.fault.carry_in_fault.Goals as goal
 
-pub returns-then-number-ne0 : goal.returns-then-number-ne0
+pub returns-in_err-carried_len_fault : goal.returns-in_err-carried_len_fault
 unfolding carry_in_fault
-returns-then-number-ne0 c = rw (← c.carried_len_fault-number.ensures) (sym (first_given _ _ c.if-number-ne0.true))
+returns-in_err-carried_len_fault c = turned_away _ _ _ _ c.in_err-carried_len_fault.ensures c.from_residual.ensures.1
 
 pub carried_length-requires : goal.carried_length-requires
 carried_length-requires c =
-    let good = length_accepts c.args.h c.args.n (sym c.carried_len_fault-number.ensures ∙ c.if-number-ne0.false) in
-    rw c.modulus_of.ensures (modulus_word c.args.h.field c.requires, good.carries, good.few)
+    let h = c.args.code.header in
+    let good = length_accepts h c.args.n (done_is _ c.in_ok-carried_len_fault.ensures) in
+    rw c.modulus_of.ensures (modulus_word h.field c.args.code.sound.usable_field, good.carries, good.few)
 
 pub returns : goal.returns
 unfolding carry_in_fault
 returns c =
-    rw (sym c.carried_len_fault-number.ensures ∙ c.if-number-ne0.false)
-    (last (c.length_bad.ensures ∙ ap (λ (x : ℕ). length_bad x c.args.long) (c.carried_length.ensures ∙ ap (λ (p : ℕ). carried_length p c.args.n) c.modulus_of.ensures)) 0 8 c.first.ensures)
+    rw (done_is _ c.in_ok-carried_len_fault.ensures)
+    (last _ _ (c.length_bad.ensures ∙ ap (λ (x : ℕ). length_bad x c.args.long) (c.carried_length.ensures ∙ ap (λ (p : ℕ). carried_length p c.args.n) c.modulus_of.ensures)) c.when.ensures)

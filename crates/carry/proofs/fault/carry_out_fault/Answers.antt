@@ -1,14 +1,13 @@
--- `carry_out_fault` meets its contract.
-use mathlib.Core.Path.{sym, ◌∙◌}
-use Rattle.refusals.proofs.Order.{first_given, last}
+-- `carry_out_fault` meets its contract: the tests before it, then its own.
+use Rattle.generator.proofs.Answered.{done_is, last}
 use Rattle.carry.specs.Promise.{carry_out_fault}
+use Rattle.carry.proofs.Accepts.{turned_away}
 use Rattle.carry.proofs.fault.carry_out_fault.Goals as goal
 
-pub returns-then-number-ne0 : goal.returns-then-number-ne0
+pub returns-in_err-carry_in_fault : goal.returns-in_err-carry_in_fault
 unfolding carry_out_fault
-returns-then-number-ne0 c = rw (← c.carry_in_fault-number.ensures) (sym (first_given _ _ c.if-number-ne0.true))
+returns-in_err-carry_in_fault c = turned_away _ _ _ _ c.in_err-carry_in_fault.ensures c.from_residual.ensures.1
 
 pub returns : goal.returns
 unfolding carry_out_fault
-returns c =
-    rw (sym c.carry_in_fault-number.ensures ∙ c.if-number-ne0.false) (last c.symbols_bad.ensures 0 11 c.first.ensures)
+returns c = rw (done_is _ c.in_ok-carry_in_fault.ensures) (last _ _ c.symbols_bad.ensures c.when.ensures)

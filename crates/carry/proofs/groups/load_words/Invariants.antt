@@ -1,5 +1,4 @@
 -- `load_words` meets its contract. The loop's invariant: the words below i are those of the bytes.
-use Prim.Native.Nat.{◌-◌, ◌≤◌}
 use lib.ListN.{drop}
 use Rattle.lists.proofs.Fill.{Fills}
 use Rattle.carrying.specs.Carrying.{words_of}

@@ -1,5 +1,5 @@
 -- `write_masked` meets its contract. The loop's invariant: the bytes of the words below i are written.
-use Prim.Native.Nat.{◌-◌, ◌*◌, ◌≤◌}
+use Prim.Native.Nat.{◌*◌}
 use lib.ListN.{length, take}
 use Rattle.lists.proofs.Fill.{Fills}
 use Rattle.layout.specs.Width.{bytes_of}

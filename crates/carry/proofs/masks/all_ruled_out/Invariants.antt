@@ -1,8 +1,8 @@
 -- `all_ruled_out` meets its contract. The loop's invariant: the sum so far and that of the words from i on make the whole.
 use mathlib.Core.Path.{◌≡◌}
 use mathlib.Core.List.{◌∷◌}
-use Prim.Native.Nat.{◌+◌, ◌-◌, ◌*◌, ◌≤◌}
-use lib.ListN.{length, drop}
+use Prim.Native.Nat.{◌+◌, ◌*◌, ◌≤◌}
+use lib.ListN.{drop}
 use Rattle.carrying.specs.Masks.{all_ruled_out}
 use Rattle.carry.proofs.masks.all_ruled_out.Given as goal
 

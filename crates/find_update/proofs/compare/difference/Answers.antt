@@ -18,16 +18,16 @@ use Rattle.find_update.proofs.compare.difference.Goals.{In-loop-j}
 -- node j holds a symbol before and after
 held : (c : In-loop-j)
     → let a = c.args in
-    (get_or a.before.now c.loop-j.j 0 < size a.h) × (get_or a.after.now c.loop-j.j 0 < size a.h) × (c.loop-j.j < length a.after.now)
+    (get_or a.before.now c.loop-j.j 0 < size a.code.header) × (get_or a.after.now c.loop-j.j 0 < size a.code.header) × (c.loop-j.j < length a.after.now)
 held c =
     let a = c.args in
-    let (sound, us, vs) = c.requires in
+    let (us, vs) = c.requires in
     let same : length a.before.now ≡ length a.after.now = us.long ∙ sym vs.long in
-    (below_at (size a.h) a.before.now us.symbols _ c.loop-j-test.true, below_at (size a.h) a.after.now vs.symbols _ (omega (arith, c.loop-j-test.true)), omega (arith, c.loop-j-test.true))
+    (below_at (size a.code.header) a.before.now us.symbols _ c.loop-j-test.true, below_at (size a.code.header) a.after.now vs.symbols _ (omega (arith, c.loop-j-test.true)), omega (arith, c.loop-j-test.true))
 
 pub loop-j-init : goal.loop-j-init
 unfolding zeros
-loop-j-init c = filled_start 255 _ _ (omega (arith, c.requires.1.long))
+loop-j-init c = filled_start 255 _ _ (omega (arith, c.requires.0.long))
 
 pub bounds-after-j : goal.bounds-after-j
 bounds-after-j c = (held (goal.at.bounds-after-j c).In-loop-j).2
@@ -40,17 +40,17 @@ overflow_cast-before c = omega (arith, c.type_inv.before c.loop-j.j)
 
 pub sub-requires : goal.sub-requires
 sub-requires c =
-    let (us, vs, inside) = held (goal.at.sub-requires c).In-loop-j in (c.requires.0.usable_field, vs, us)
+    let (us, vs, inside) = held (goal.at.sub-requires c).In-loop-j in (c.args.code.sound.usable_field, vs, us)
 
 pub overflow_cast-out : goal.overflow_cast-out
 overflow_cast-out c =
     let (us, vs, inside) = held (goal.at.overflow_cast-out c).In-loop-j in
-    let sound = c.requires.0 in
-    let low = sub_below (modulus_of c.args.h) sound.field vs us in
+    let sound = c.args.code.sound in
+    let low = sub_below (modulus_of c.args.code.header) sound.field vs us in
     omega (arith, c.sub.ensures, size_fits _ sound.usable_field, low)
 
 pub bounds-out-j : goal.bounds-out-j
-bounds-out-j c = omega (arith, c.requires.1.long)
+bounds-out-j c = omega (arith, c.requires.0.long)
 
 pub loop-j-preserved : goal.loop-j-preserved
 loop-j-preserved c = filled_put c.loop-j.invariant c.loop-j-test.true c.sub.ensures
@@ -58,4 +58,4 @@ loop-j-preserved c = filled_put c.loop-j.invariant c.loop-j-test.true c.sub.ensu
 pub returns : goal.returns
 unfolding differences
 returns c =
-    filled_end c.loop-j.invariant c.loop-j-test.false ∙ ap (λ (n : ℕ). padded 255 (from (λ j. sub (modulus_of c.args.h) (get_or c.args.after.now j 0) (get_or c.args.before.now j 0)) 0 n)) c.requires.1.long
+    filled_end c.loop-j.invariant c.loop-j-test.false ∙ ap (λ (n : ℕ). padded 255 (from (λ j. sub (modulus_of c.args.code.header) (get_or c.args.after.now j 0) (get_or c.args.before.now j 0)) 0 n)) c.requires.0.long

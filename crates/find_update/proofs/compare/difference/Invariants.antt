@@ -1,5 +1,4 @@
 -- `difference` meets its contract: `Filled` is the invariant.
-use Prim.Native.Nat.{◌-◌}
 use lib.ListN.{length, get_or}
 use Rattle.lists.proofs.Fill.{Filled}
 use Rattle.field.specs.Fields.{sub}

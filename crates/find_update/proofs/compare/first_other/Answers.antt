@@ -1,4 +1,4 @@
--- `first_other` meets its contract: with what is left the search gives the same node.
+-- `first_other` meets its contract. Invariant: the search from 0 on is the search from j on.
 use mathlib.Core.Path.{◌≡◌, sym, ap, ◌∙◌}
 use Prim.Native.Nat.{ℕ}
 use native.Mathlib.Nat.{sub-zero}
@@ -19,42 +19,45 @@ use Rattle.find_update.proofs.compare.first_other.Goals.{After-entry_at-entry, A
 
 -- the entry that is read is the generator's
 read : (c : After-entry_at-entry)
-    → c.entry_at-entry.result ≡ entry c.args.h c.args.row c.loop-j.j
+    → c.entry_at-entry.result ≡ entry c.args.code.header c.args.row c.loop-j.j
 read c =
-    let (sound, plan, row, factor, long) = c.requires in
+    let sound = c.args.code.sound in
+    let (plan, row, factor, long) = c.requires in
     c.entry_at-entry.ensures ∙ rw plan (entry_read _ sound _ _ row c.loop-j-test.true)
 
 -- so the test is the comparison
 compared : (c : After-is_product)
     → let a = c.args in
-    c.is_product.result ≡ same a.h a.difference.now a.row a.x c.loop-j.j
+    c.is_product.result ≡ same a.code.header a.difference.now a.row a.x c.loop-j.j
 compared c =
     let a = c.args in
-    c.is_product.ensures ∙ ap (λ (e : ℕ). eqb (get_or a.difference.now c.loop-j.j 0) (mul (modulus_of a.h) a.x e)) (read (goal.at.After-is_product c).After-entry_at-entry)
+    c.is_product.ensures ∙ ap (λ (e : ℕ). eqb (get_or a.difference.now c.loop-j.j 0) (mul (modulus_of a.code.header) a.x e)) (read (goal.at.After-is_product c).After-entry_at-entry)
 
 pub loop-j-init : goal.loop-j-init
 unfolding first_other
-loop-j-init c = (omega arith, rw sub-zero)
+loop-j-init c = rw sub-zero
 
 pub entry_at-entry-requires : goal.entry_at-entry-requires
 entry_at-entry-requires c =
-    let (sound, plan, row, factor, long) = c.requires in
+    let sound = c.args.code.sound in
+    let (plan, row, factor, long) = c.requires in
     (omega arith, rw plan (shift_below _ sound _ row), c.loop-j-test.true, rw plan (base_room _))
 
 pub is_product-requires : goal.is_product-requires
 is_product-requires c =
-    let (sound, plan, row, factor, long) = c.requires in
+    let sound = c.args.code.sound in
+    let (plan, row, factor, long) = c.requires in
     (sound.usable_field, factor, rw (read (goal.at.is_product-requires c).After-entry_at-entry) (entry_below _ sound _ _))
 
 pub returns-then-not-is_product : goal.returns-then-not-is_product
 returns-then-not-is_product c =
-    let node = c.loop-j-test.true in
-    sym (search_found _ _ _ node (sym (compared (goal.at.returns-then-not-is_product c).After-is_product) ∙ not-true _ c.if-not-is_product.true-raw)) ∙ c.loop-j.invariant.1
+    sym (c.loop-j.invariant ∙ search_found _ _ _ c.loop-j-test.true (sym (compared (goal.at.returns-then-not-is_product c).After-is_product) ∙ not-true _ c.if-not-is_product.true-raw))
 
 pub loop-j-preserved : goal.loop-j-preserved
 loop-j-preserved c =
-    let node = c.loop-j-test.true in
-    (omega arith, sym (search_next _ _ _ node (sym (compared (goal.at.loop-j-preserved c).After-is_product) ∙ not-false _ c.if-not-is_product.false-raw)) ∙ c.loop-j.invariant.1)
+    c.loop-j.invariant ∙ search_next _ _ _ c.loop-j-test.true (sym (compared (goal.at.loop-j-preserved c).After-is_product) ∙ not-false _ c.if-not-is_product.false-raw)
 
 pub returns : goal.returns
-returns c = sym (search_end _ _ _ c.loop-j-test.false) ∙ c.loop-j.invariant.1
+returns c =
+    let end : c.args.code.header.n ≡ c.loop-j.j = omega (arith, c.loop-j.auto.j-end, c.loop-j-test.false) in
+    end ∙ sym (c.loop-j.invariant ∙ search_end _ _ _ c.loop-j-test.false)

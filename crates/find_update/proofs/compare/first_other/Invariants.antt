@@ -1,8 +1,8 @@
--- `first_other` meets its contract: with what is left the search gives the same node.
+-- `first_other` meets its contract. Invariant: the search from 0 on is the search from j on.
 use mathlib.Core.Path.{◌≡◌}
 use mathlib.Core.Bool.{Bool}
 use mathlib.Core.List.{List}
-use Prim.Native.Nat.{ℕ, ◌-◌, ◌≤◌}
+use Prim.Native.Nat.{ℕ, ◌-◌}
 use lib.Dec.{eqb}
 use lib.ListN.{get_or}
 use Rattle.lists.specs.Search.{first_false}
@@ -18,7 +18,6 @@ abbrev pub same : Header → List ℕ → ℕ → ℕ → ℕ → Bool
 same h difference row x j = eqb (get_or difference j 0) (mul (modulus_of h) x (entry h row j))
 
 abbrev pub invariant-loop-j : goal.invariant-loop-j
-invariant-loop-j l = (l.j ≤ l.n) × (first_false (l.n - l.j) l.j (same l.h l.difference l.row l.x) ≡ first_other l.h l.difference l.row l.x)
-
-abbrev pub decreases-loop-j : goal.decreases-loop-j
-decreases-loop-j l = l.n - l.j
+invariant-loop-j l =
+    let h = l.fn.code.header in
+    first_other h l.difference l.row l.x ≡ first_false (l.n - l.j) l.j (same h l.difference l.row l.x)

@@ -1,4 +1,4 @@
--- `row_at` meets its contract: with what is left the search gives the same row.
+-- `row_at` meets its contract. Invariant: the search from 0 on is the search from r on.
 use mathlib.Core.Path.{◌≡◌, sym, ap, ◌∙◌}
 use mathlib.Core.Bool.{not}
 use native.Mathlib.Nat.{sub-zero}
@@ -15,29 +15,33 @@ use Rattle.find_update.proofs.rows.row_at.Goals.{In-loop-r}
 -- the first node of row r
 first : (c : In-loop-r)
     → let a = c.args in
-    get_or a.plan.firsts c.loop-r.r 0 ≡ get_or (firsts a.h) c.loop-r.r 0
+    get_or a.plan.firsts c.loop-r.r 0 ≡ get_or (firsts a.code.header) c.loop-r.r 0
 first c =
-    let (sound, plan, long) = c.requires in
+    let sound = c.args.code.sound in
+    let (plan, long) = c.requires in
     rw plan (first_in _ sound _ c.loop-r-test.true)
 
 pub loop-r-init : goal.loop-r-init
 unfolding row_starting
-loop-r-init c = (omega arith, rw sub-zero)
+loop-r-init c = rw sub-zero
 
 pub begins_at-requires : goal.begins_at-requires
 begins_at-requires c =
-    let (sound, plan, long) = c.requires in
+    let sound = c.args.code.sound in
+    let (plan, long) = c.requires in
     rw (first (goal.at.begins_at-requires c).In-loop-r, long) (first_node _ sound _ c.loop-r-test.true)
 
 pub returns-then-begins_at : goal.returns-then-begins_at
 returns-then-begins_at c =
     let found = ap not (rw (first (goal.at.returns-then-begins_at c).In-loop-r) at (sym c.begins_at.ensures ∙ c.if-begins_at.true)) in
-    sym (search_found _ _ _ c.loop-r-test.true found) ∙ c.loop-r.invariant.1
+    sym (c.loop-r.invariant ∙ search_found _ _ _ c.loop-r-test.true found)
 
 pub loop-r-preserved : goal.loop-r-preserved
 loop-r-preserved c =
     let passed = ap not (rw (first (goal.at.loop-r-preserved c).In-loop-r) at (sym c.begins_at.ensures ∙ c.if-begins_at.false)) in
-    (omega arith, sym (search_next _ _ _ c.loop-r-test.true passed) ∙ c.loop-r.invariant.1)
+    c.loop-r.invariant ∙ search_next _ _ _ c.loop-r-test.true passed
 
 pub returns : goal.returns
-returns c = sym (search_end _ _ _ c.loop-r-test.false) ∙ c.loop-r.invariant.1
+returns c =
+    let end : c.args.code.header.k ≡ c.loop-r.r = omega (arith, c.loop-r.auto.r-end, c.loop-r-test.false) in
+    end ∙ sym (c.loop-r.invariant ∙ search_end _ _ _ c.loop-r-test.false)

@@ -1,8 +1,8 @@
--- `row_at` meets its contract: with what is left the search gives the same row.
+-- `row_at` meets its contract. Invariant: the search from 0 on is the search from r on.
 use mathlib.Core.Path.{◌≡◌}
 use mathlib.Core.Bool.{Bool, not}
 use mathlib.Core.List.{List}
-use Prim.Native.Nat.{ℕ, ◌-◌, ◌≤◌}
+use Prim.Native.Nat.{ℕ, ◌-◌}
 use lib.ListN.{get_or}
 use Rattle.lists.specs.Search.{first_false}
 use Rattle.generator.specs.declared.Header.{Header}
@@ -14,7 +14,6 @@ abbrev pub other : Header → List ℕ → ℕ → Bool
 other h difference r = not (begins_at h.k difference (get_or (firsts h) r 0))
 
 abbrev pub invariant-loop-r : goal.invariant-loop-r
-invariant-loop-r l = (l.r ≤ l.k) × (first_false (l.k - l.r) l.r (other l.h l.difference) ≡ row_starting l.h l.difference)
-
-abbrev pub decreases-loop-r : goal.decreases-loop-r
-decreases-loop-r l = l.k - l.r
+invariant-loop-r l =
+    let h = l.fn.code.header in
+    row_starting h l.difference ≡ first_false (h.k - l.r) l.r (other h l.difference)

@@ -1,5 +1,4 @@
 -- `coefficients` meets its contract.
-use Prim.Native.Nat.{◌-◌}
 use lib.ListN.{get_or}
 use Rattle.lists.proofs.Fill.{Filled}
 use Rattle.generator.specs.Shifts.{negative}

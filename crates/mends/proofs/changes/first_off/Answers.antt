@@ -1,8 +1,10 @@
--- `first_off` meets its contract: with what is left the search gives the same place.
-use mathlib.Core.Path.{sym, ◌∙◌}
+-- `first_off` meets its contract. Invariant: the search from 0 on is the search from e on.
+use mathlib.Core.Path.{◌≡◌, sym, ◌∙◌}
+use Prim.Native.Nat.{◌-◌}
 use native.Mathlib.Nat.{sub-zero}
 use native.Mathlib.Omega.{arith}
 use borrow.Author.Tests.{not-true, not-false}
+use lib.ListN.{length}
 use Rattle.lists.proofs.Numbers.{below_at}
 use Rattle.lists.proofs.Search.{search_next, search_found, search_end}
 use Rattle.mends.specs.Inner.BySums.{first_off}
@@ -13,18 +15,22 @@ overflow_sub-last c = let (has, low) = c.requires in omega (arith, has.some)
 
 pub loop-e-init : goal.loop-e-init
 unfolding first_off
-loop-e-init c = (omega arith, rw sub-zero)
+loop-e-init c = rw sub-zero
 
 pub is_product-requires : goal.is_product-requires
 is_product-requires c =
     let (has, low) = c.requires in
-    (has.sound.usable_field, low, below_at _ _ has.symbols c.loop-e.e (omega arith))
+    (c.args.code.sound.usable_field, low, below_at _ _ has.symbols c.loop-e.e (omega arith))
 
 pub returns-then-not-is_product : goal.returns-then-not-is_product
-returns-then-not-is_product c = sym (search_found _ _ _ c.loop-e-test.true (sym c.is_product.ensures ∙ not-true _ c.if-not-is_product.true-raw)) ∙ c.loop-e.invariant.1
+returns-then-not-is_product c =
+    sym (c.loop-e.invariant ∙ search_found _ _ _ c.loop-e-test.true (sym c.is_product.ensures ∙ not-true _ c.if-not-is_product.true-raw))
 
 pub loop-e-preserved : goal.loop-e-preserved
-loop-e-preserved c = (omega arith, sym (search_next _ _ _ c.loop-e-test.true (sym c.is_product.ensures ∙ not-false _ c.if-not-is_product.false-raw)) ∙ c.loop-e.invariant.1)
+loop-e-preserved c =
+    c.loop-e.invariant ∙ search_next _ _ _ c.loop-e-test.true (sym c.is_product.ensures ∙ not-false _ c.if-not-is_product.false-raw)
 
 pub returns : goal.returns
-returns c = sym (search_end _ _ _ c.loop-e-test.false) ∙ c.loop-e.invariant.1
+returns c =
+    let end : length c.args.sums.now - 1 ≡ c.loop-e.e = omega (arith, c.loop-e.auto.e-end, c.loop-e-test.false) in
+    end ∙ sym (c.loop-e.invariant ∙ search_end _ _ _ c.loop-e-test.false)

@@ -1,8 +1,8 @@
--- `first_off` meets its contract: with what is left the search gives the same place.
+-- `first_off` meets its contract. Invariant: the search from 0 on is the search from e on.
 use mathlib.Core.Path.{◌≡◌}
 use mathlib.Core.Bool.{Bool}
 use mathlib.Core.List.{List}
-use Prim.Native.Nat.{ℕ, ◌+◌, ◌-◌, ◌≤◌}
+use Prim.Native.Nat.{ℕ, ◌+◌, ◌-◌}
 use lib.Dec.{eqb}
 use lib.ListN.{length, get_or}
 use Rattle.lists.specs.Search.{first_false}
@@ -17,7 +17,4 @@ abbrev pub step : Field → ℕ → List ℕ → ℕ → Bool
 step field c sums e = eqb (get_or sums (e + 1) 0) (mul (modulus field) c (get_or sums e 0))
 
 abbrev pub invariant-loop-e : goal.invariant-loop-e
-invariant-loop-e l = (l.e ≤ length l.sums - 1) × (first_false (length l.sums - 1 - l.e) l.e (step l.field l.c l.sums) ≡ first_off (modulus l.field) l.c l.sums)
-
-abbrev pub decreases-loop-e : goal.decreases-loop-e
-decreases-loop-e l = length l.sums - 1 - l.e
+invariant-loop-e l = first_off (modulus l.field) l.c l.sums ≡ first_false (length l.sums - 1 - l.e) l.e (step l.field l.c l.sums)

@@ -14,15 +14,12 @@ use Rattle.mends.proofs.Front.{front_room, front_part, front_length, new_below}
 use Rattle.mends.proofs.changes.list.Goals as goal
 use Rattle.mends.proofs.changes.list.Goals.{After-new_symbols-new}
 
-pub constant_tables-tables-requires : goal.constant_tables-tables-requires
-constant_tables-tables-requires c = _
-
 pub powers-roots-requires : goal.powers-roots-requires
-powers-roots-requires c = c.requires.0.has.sound
+powers-roots-requires c = c.args.code.sound
 
 pub list_nodes-count-requires : goal.list_nodes-count-requires
 list_nodes-count-requires c =
-    let (has, few, nodes, symbols) = c.requires in
+    let (has, nodes, symbols) = c.requires in
     (has.has, c.powers-roots.ensures, nodes)
 
 pub slice_bounds-new_symbols-end-2 : goal.slice_bounds-new_symbols-end-2
@@ -33,40 +30,40 @@ slice_bounds-new_symbols-end-3 c = let e = c.list_nodes-count.ensures in sym (fr
 
 pub new_symbols-new-requires : goal.new_symbols-new-requires
 new_symbols-new-requires c =
-    let (has, few, nodes, symbols) = c.requires in
+    let (has, nodes, symbols) = c.requires in
     let e = c.list_nodes-count.ensures in
     let part = front_part _ _ _ _ e.1 e.0 in
-    let short = up_few c.args.h c.args.sums.now in
-    (has, c.powers-roots.ensures, rw part (up_below _ _), rw part (omega (arith, short, few)))
+    let short = up_few c.args.code.header c.args.sums.now in
+    (has, c.powers-roots.ensures, rw part (up_below _ _), rw part (omega (arith, short, c.args.code.sound.byte)))
 
 -- the part of the new symbols that is written
 new-part : (c : After-new_symbols-new)
     → let a = c.args in
-    take c.list_nodes-count.result c.new_symbols-new.result ≡ map (mended_at a.h a.lane.now a.sums.now) (up_nodes a.h a.sums.now)
+    take c.list_nodes-count.result c.new_symbols-new.result ≡ map (mended_at a.code.header a.lane.now a.sums.now) (up_nodes a.code.header a.sums.now)
 new-part c =
     let a = c.args in
     let e = c.list_nodes-count.ensures in
-    rw (c.new_symbols-new.ensures, front_part _ _ _ _ e.1 e.0) (take_padded 255 _ _ (length-map (up_nodes a.h a.sums.now) (mended_at a.h a.lane.now a.sums.now) ∙ sym e.0))
+    rw (c.new_symbols-new.ensures, front_part _ _ _ _ e.1 e.0) (take_padded 255 _ _ (length-map (up_nodes a.code.header a.sums.now) (mended_at a.code.header a.lane.now a.sums.now) ∙ sym e.0))
 
 pub slice_bounds-new-end : goal.slice_bounds-new-end
 slice_bounds-new-end c =
-    omega (arith, up_few c.args.h c.args.sums.now, c.list_nodes-count.ensures.0, c.requires.1)
+    omega (arith, up_few c.args.code.header c.args.sums.now, c.list_nodes-count.ensures.0, c.args.code.sound.byte)
 
 pub slice_bounds-put_symbols-end : goal.slice_bounds-put_symbols-end
 slice_bounds-put_symbols-end c =
     let a = c.args in
-    rw (new-part (goal.at.slice_bounds-put_symbols-end c).After-new_symbols-new) (c.list_nodes-count.ensures.0 ∙ sym (length-map (up_nodes a.h a.sums.now) (mended_at a.h a.lane.now a.sums.now)))
+    rw (new-part (goal.at.slice_bounds-put_symbols-end c).After-new_symbols-new) (c.list_nodes-count.ensures.0 ∙ sym (length-map (up_nodes a.code.header a.sums.now) (mended_at a.code.header a.lane.now a.sums.now)))
 
 pub put_symbols-requires : goal.put_symbols-requires
 put_symbols-requires c =
     let a = c.args in
-    let (has, few, nodes, symbols) = c.requires in
-    let many = length-map (up_nodes a.h a.sums.now) (mended_at a.h a.lane.now a.sums.now) in
-    rw (new-part (goal.at.put_symbols-requires c).After-new_symbols-new) (has.has.sound, new_below _ _ _ has _ (up_below _ _), omega (arith, many, up_few a.h a.sums.now), few, symbols)
+    let (has, nodes, symbols) = c.requires in
+    let many = length-map (up_nodes a.code.header a.sums.now) (mended_at a.code.header a.lane.now a.sums.now) in
+    rw (new-part (goal.at.put_symbols-requires c).After-new_symbols-new) (new_below _ a.code.sound _ _ has _ (up_below _ _), omega (arith, many, up_few a.code.header a.sums.now), symbols)
 
 pub returns : goal.returns
 returns c =
     let a = c.args in
     let e = c.list_nodes-count.ensures in
-    let symbols = ap (λ (l : List ℕ). in_front (bytes_of (width a.h) l) a.symbols.now) (new-part (goal.at.returns c).After-new_symbols-new) in
+    let symbols = ap (λ (l : List ℕ). in_front (bytes_of (width a.code.header) l) a.symbols.now) (new-part (goal.at.returns c).After-new_symbols-new) in
     (e.0, e.1, c.put_symbols.ensures ∙ symbols)

@@ -22,7 +22,7 @@ use Rattle.mends.proofs.changes.list_nodes.Goals.{After-first_off, After-loop-j,
 -- the power of node j
 read : (c : In-loop-j)
     → let a = c.args in
-    get_or a.roots.now c.loop-j.j 0 ≡ power (modulus_of a.h) a.h.root c.loop-j.j
+    get_or a.roots.now c.loop-j.j 0 ≡ power (modulus_of a.code.header) a.code.header.root c.loop-j.j
 read c =
     let (has, table, long) = c.requires in
     rw table (power_at _ _ c.loop-j-test.true)
@@ -30,11 +30,11 @@ read c =
 -- the place that is found decides the test
 tested : (c : After-first_off)
     → let a = c.args in
-    eqb c.first_off.result (length a.sums.now - 1) ≡ up a.h a.sums.now c.loop-j.j
+    eqb c.first_off.result (length a.sums.now - 1) ≡ up a.code.header a.sums.now c.loop-j.j
 unfolding goes_up
 tested c =
     let a = c.args in
-    ap (λ (e : ℕ). eqb e (length a.sums.now - 1)) (c.first_off.ensures ∙ ap (λ (x : ℕ). first_off (modulus_of a.h) x a.sums.now) (read (goal.at.After-first_off c).In-loop-j))
+    ap (λ (e : ℕ). eqb e (length a.sums.now - 1)) (c.first_off.ensures ∙ ap (λ (x : ℕ). first_off (modulus_of a.code.header) x a.sums.now) (read (goal.at.After-first_off c).In-loop-j))
 
 pub overflow_sub-last : goal.overflow_sub-last
 overflow_sub-last c = let (has, table, long) = c.requires in omega (arith, has.some)
@@ -54,7 +54,7 @@ overflow_cast-roots c = omega (arith, c.type_inv.roots c.loop-j.j)
 pub first_off-requires : goal.first_off-requires
 first_off-requires c =
     let (has, table, long) = c.requires in
-    let s = has.sound in
+    let s = c.args.code.sound in
     (has, rw (read (goal.at.first_off-requires c).In-loop-j) (power_below _ s.field _ s.root_below))
 
 pub bounds-nodes-count : goal.bounds-nodes-count
@@ -72,7 +72,7 @@ loop-j-preserved c =
 -- all nodes are tested
 done : (c : After-loop-j)
     → let a = c.args in
-    Fills a.nodes.now c.loop-j.nodes c.loop-j.count [] (up_nodes a.h a.sums.now)
+    Fills a.nodes.now c.loop-j.nodes c.loop-j.count [] (up_nodes a.code.header a.sums.now)
 done c = rw (passing_end _ _ _ c.loop-j-test.false) at c.loop-j.invariant.1
 
 pub shape_of-nodes : goal.shape_of-nodes

@@ -15,4 +15,4 @@ abbrev pub up : Header → List ℕ → ℕ → Bool
 up h sums j = goes_up (modulus_of h) (power (modulus_of h) h.root j) sums
 
 abbrev pub invariant-loop-j : goal.invariant-loop-j
-invariant-loop-j l = (l.count ≤ l.j) × Fills l.initial.nodes l.nodes l.count (passing_from (l.n - l.j) l.j (up l.h l.sums)) (up_nodes l.h l.sums)
+invariant-loop-j l = (l.count ≤ l.j) × Fills l.initial.nodes l.nodes l.count (passing_from (l.n - l.j) l.j (up l.code.header l.sums)) (up_nodes l.code.header l.sums)

@@ -22,7 +22,7 @@ inside n j node = mod-lt (n - j) (omega arith)
 -- what is read there
 read : (c : After-shared_slice_known-5-1)
     → let a = c.args in
-    get_or a.roots.now ((a.h.n - a.j) % a.h.n) 0 ≡ power (modulus_of a.h) a.h.root ((a.h.n - a.j) % a.h.n)
+    get_or a.roots.now ((a.code.header.n - a.j) % a.code.header.n) 0 ≡ power (modulus_of a.code.header) a.code.header.root ((a.code.header.n - a.j) % a.code.header.n)
 read c =
     let (has, table, node) = c.requires in
     rw table (power_at _ _ (inside _ _ node))
@@ -30,33 +30,33 @@ read c =
 -- and the first check sum are symbols
 read_below : (c : After-shared_slice_known-5-1)
     → let a = c.args in
-    get_or a.roots.now ((a.h.n - a.j) % a.h.n) 0 < size a.h
+    get_or a.roots.now ((a.code.header.n - a.j) % a.code.header.n) 0 < size a.code.header
 read_below c =
     let (has, table, node) = c.requires in
-    let s = has.has.sound in
+    let s = c.args.code.sound in
     rw (read c) (power_below _ s.field _ s.root_below)
 
-sum_below : (c : After-shared_slice_known-5-1) → let a = c.args in get_or a.sums.now 0 0 < size a.h
+sum_below : (c : After-shared_slice_known-5-1) → let a = c.args in get_or a.sums.now 0 0 < size a.code.header
 sum_below c =
     let (has, table, node) = c.requires in
     below_at _ _ has.has.symbols 0 has.has.some
 
-amount_below : (c : After-mul_with-amount) → c.mul_with-amount.result < size c.args.h
+amount_below : (c : After-mul_with-amount) → c.mul_with-amount.result < size c.args.code.header
 amount_below c =
     let (has, table, node) = c.requires in
-    rw c.mul_with-amount.ensures (mul_below _ has.has.sound.field (sum_below (goal.at.After-mul_with-amount c).After-shared_slice_known-5-1) (read_below (goal.at.After-mul_with-amount c).After-shared_slice_known-5-1))
+    rw c.mul_with-amount.ensures (mul_below _ c.args.code.sound.field (sum_below (goal.at.After-mul_with-amount c).After-shared_slice_known-5-1) (read_below (goal.at.After-mul_with-amount c).After-shared_slice_known-5-1))
 
-held_below : (c : After-shared_slice_known-6-1) → let a = c.args in get_or a.lane.now a.j 0 < size a.h
+held_below : (c : After-shared_slice_known-6-1) → let a = c.args in get_or a.lane.now a.j 0 < size a.code.header
 held_below c =
     let (has, table, node) = c.requires in
     below_at _ _ has.lane.symbols _ (omega (arith, has.lane.long))
 
-result-is : (c : After-sub) → let a = c.args in c.sub.result ≡ mended_at a.h a.lane.now a.sums.now a.j
+result-is : (c : After-sub) → let a = c.args in c.sub.result ≡ mended_at a.code.header a.lane.now a.sums.now a.j
 unfolding mended_at
 result-is c =
     let a = c.args in
     c.sub.ensures
-    ∙ ap (sub (modulus_of a.h) (get_or a.lane.now a.j 0)) (c.mul_with-amount.ensures ∙ ap (mul (modulus_of a.h) (get_or a.sums.now 0 0)) (read (goal.at.After-sub c).After-shared_slice_known-5-1))
+    ∙ ap (sub (modulus_of a.code.header) (get_or a.lane.now a.j 0)) (c.mul_with-amount.ensures ∙ ap (mul (modulus_of a.code.header) (get_or a.sums.now 0 0)) (read (goal.at.After-sub c).After-shared_slice_known-5-1))
 
 pub bounds-sums-0 : goal.bounds-sums-0
 bounds-sums-0 c = let (has, table, node) = c.requires in has.has.some
@@ -74,12 +74,12 @@ bounds-roots-back c =
 
 pub overflow_cast-roots : goal.overflow_cast-roots
 overflow_cast-roots c =
-    let a = c.args in omega (arith, c.type_inv.roots ((a.h.n - a.j) % a.h.n))
+    let a = c.args in omega (arith, c.type_inv.roots ((a.code.header.n - a.j) % a.code.header.n))
 
 pub mul_with-amount-requires : goal.mul_with-amount-requires
 mul_with-amount-requires c =
     let (has, table, node) = c.requires in
-    (has.has.sound.usable_field, sum_below c, read_below c)
+    (c.args.code.sound.usable_field, sum_below c, read_below c)
 
 pub bounds-lane-j : goal.bounds-lane-j
 bounds-lane-j c =
@@ -91,12 +91,12 @@ overflow_cast-lane c = omega (arith, c.type_inv.lane c.args.j)
 pub sub-requires : goal.sub-requires
 sub-requires c =
     let (has, table, node) = c.requires in
-    (has.has.sound.usable_field, held_below c, amount_below (goal.at.sub-requires c).After-mul_with-amount)
+    (c.args.code.sound.usable_field, held_below c, amount_below (goal.at.sub-requires c).After-mul_with-amount)
 
 pub overflow_cast-result : goal.overflow_cast-result
 overflow_cast-result c =
     let (has, table, node) = c.requires in
-    omega (arith, result-is c, mended_below _ _ _ has _ node, size_fits _ has.has.sound.usable_field)
+    omega (arith, result-is c, mended_below _ c.args.code.sound _ _ has _ node, size_fits _ c.args.code.sound.usable_field)
 
 pub returns : goal.returns
 returns c = result-is c

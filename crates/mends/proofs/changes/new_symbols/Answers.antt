@@ -34,4 +34,4 @@ loop-i-preserved c = filled_put c.loop-i.invariant c.loop-i-test.true c.mended.e
 pub returns : goal.returns
 returns c =
     let a = c.args in
-    filled_end c.loop-i.invariant c.loop-i-test.false ∙ ap (padded 255) (sym (map_from (mended_at a.h a.lane.now a.sums.now) a.nodes.now))
+    filled_end c.loop-i.invariant c.loop-i-test.false ∙ ap (padded 255) (sym (map_from (mended_at a.code.header a.lane.now a.sums.now) a.nodes.now))

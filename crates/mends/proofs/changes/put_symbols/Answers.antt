@@ -14,16 +14,16 @@ use Rattle.mends.proofs.changes.put_symbols.Goals.{After-width_of-w}
 -- the bytes fit the buffer
 room : (c : After-width_of-w) → let a = c.args in length a.new.now * c.width_of-w.result ≤ length a.symbols.now
 room c =
-    let (sound, low, few, small, long) = c.requires in
+    let (low, few, long) = c.requires in
     rw (c.width_of-w.ensures.0, long) (mul-le-mul_right _ few)
 
 pub width_of-w-requires : goal.width_of-w-requires
-width_of-w-requires c = c.requires.0.usable_field
+width_of-w-requires c = c.args.code.sound.usable_field
 
 pub overflow_mul-end : goal.overflow_mul-end
 overflow_mul-end c =
-    let (sound, low, few, small, long) = c.requires in
-    let most : length c.args.new.now ≤ 255 = omega arith in
+    let (low, few, long) = c.requires in
+    let most : length c.args.new.now ≤ 255 = omega (arith, few, c.args.code.sound.byte) in
     omega (arith, mul-le-mul most c.width_of-w.ensures.2)
 
 pub slice_bounds-write_symbols-end : goal.slice_bounds-write_symbols-end
@@ -34,12 +34,12 @@ slice_bounds-write_symbols-end-2 c = sym (length-take-le _ _ (room (goal.at.slic
 
 pub write_symbols-requires : goal.write_symbols-requires
 write_symbols-requires c =
-    let (sound, low, few, small, long) = c.requires in
+    let (low, few, long) = c.requires in
     let (is, some, two) = c.width_of-w.ensures in
-    (some, two, rw is (symbols_fit _ sound _ low), length-take-le _ _ (room (goal.at.write_symbols-requires c).After-width_of-w))
+    (some, two, rw is (symbols_fit _ c.args.code.sound _ low), length-take-le _ _ (room (goal.at.write_symbols-requires c).After-width_of-w))
 
 pub returns : goal.returns
 returns c =
     let a = c.args in
     let wide = c.width_of-w in
-    front_bytes (width a.h) (length a.new.now) wide.result _ a.new.now _ c.write_symbols.ensures wide.ensures.0 refl
+    front_bytes (width a.code.header) (length a.new.now) wide.result _ a.new.now _ c.write_symbols.ensures wide.ensures.0 refl

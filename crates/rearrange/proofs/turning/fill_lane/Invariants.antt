@@ -1,5 +1,5 @@
 -- `fill_lane` meets its contract. The loop's invariant: the symbols of the rows below i are written.
-use Prim.Native.Nat.{◌-◌, ◌*◌, ◌≤◌}
+use Prim.Native.Nat.{◌*◌}
 use Rattle.lists.proofs.Fill.{Fills}
 use Rattle.layout.specs.Layout.{row_after_row, lane_of}
 use Rattle.layout.specs.Width.{symbols_of, bytes_of}

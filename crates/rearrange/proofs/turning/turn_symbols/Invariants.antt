@@ -1,6 +1,6 @@
 -- `turn_symbols` meets its contract. The loop's invariant: the lanes below t are written, and the others are to come.
 use mathlib.Core.List.{List}
-use Prim.Native.Nat.{ℕ, ◌-◌, ◌*◌, ◌≤◌}
+use Prim.Native.Nat.{ℕ, ◌-◌, ◌*◌}
 use Rattle.lists.specs.Rows.{rows_from}
 use Rattle.lists.proofs.Fill.{Fills}
 use Rattle.layout.specs.Layout.{row_after_row, lane_of}

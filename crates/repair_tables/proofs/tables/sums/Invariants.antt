@@ -1,5 +1,5 @@
 -- `sums` meets its contract.
-use Prim.Native.Nat.{◌-◌, ◌/◌, ◌%◌}
+use Prim.Native.Nat.{◌/◌, ◌%◌}
 use lib.Bits.{bit_xor}
 use lib.ListN.{get_or}
 use Rattle.lists.proofs.Fill.{Filled}

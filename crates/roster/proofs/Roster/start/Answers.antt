@@ -1,12 +1,13 @@
 -- `Roster::start` meets its contract.
+use mathlib.Core.Path.{refl}
+use Rattle.generator.proofs.Answered.{exit}
 use Rattle.roster.specs.Rosters.{start_of}
-use Rattle.roster.proofs.Nodes.{as_read}
 use Rattle.roster.proofs.Roster.start.Goals as goal
 
-pub returns-in-Holds : goal.returns-in-Holds
+pub returns-in_err-code : goal.returns-in_err-code
 unfolding start_of
-returns-in-Holds c = as_read start_of c.args.rec.now c.read_record.ensures c.in-Holds.is c.first_step.ensures
+returns-in_err-code c = rw (exit _ c.from_residual.ensures.1, ← c.in_err-code.ensures) refl
 
-pub returns-in-Meets : goal.returns-in-Meets
+pub returns : goal.returns
 unfolding start_of
-returns-in-Meets c = as_read start_of c.args.rec.now c.read_record.ensures c.in-Meets.is c.first_step-in-Meets.ensures
+returns c = rw (← c.in_ok-code.ensures, c.first_roster.ensures) refl

@@ -1,5 +1,5 @@
 -- `first_marks` meets its contract. Invariant: the first j marks are written.
-use Prim.Native.Nat.{◌≤◌, ◌-◌}
+use Prim.Native.Nat.{◌-◌}
 use lib.Dec.{ltb}
 use Rattle.lists.specs.Rows.{from}
 use Rattle.lists.proofs.Fill.{Fills}

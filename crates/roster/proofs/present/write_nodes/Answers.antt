@@ -13,7 +13,7 @@ loop-t-init c = rw (add-zero, sub-zero) (fills_start _ _)
 pub bounds-nodes-first : goal.bounds-nodes-first
 bounds-nodes-first c =
     let a = c.args in
-    omega (arith, mod-lt (a.first + c.loop-t.t) {m = a.p.count} (omega arith))
+    omega (arith, mod-lt (a.first + c.loop-t.t) {m = length a.nodes.now} (omega arith))
 
 pub loop-t-preserved : goal.loop-t-preserved
 loop-t-preserved c =

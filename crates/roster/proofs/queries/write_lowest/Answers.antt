@@ -1,43 +1,28 @@
 -- `write_lowest` meets its contract.
-use mathlib.Core.Path.{◌≡◌, refl, ◌∙◌}
+use mathlib.Core.Path.{refl}
 use Prim.Native.Nat.{◌≤◌, ◌<◌}
-use native.Mathlib.Omega.{arith}
-use borrow.Author.Tests.{eq-eqb, ne_eqb, lt-leb, le-leb}
+use borrow.Author.Tests.{lt-leb, le-leb}
 use lib.ListN.{length}
-use Rattle.roster.specs.Rosters.{present_of, listing_of, listing, listed}
-use Rattle.roster.proofs.Nodes.{present_most, count_is}
-use Rattle.roster.proofs.Lowest.{lowest_written}
+use Rattle.generator.proofs.Answered.{exit}
+use Rattle.roster.specs.Rosters.{present_of, listing_of, listing, listed, lowest_nodes, lowest_of, lowest_list}
 use Rattle.roster.proofs.queries.write_lowest.Goals as goal
-use Rattle.roster.proofs.queries.write_lowest.Goals.{After-list_present-p}
 
--- as many nodes as are present
-counted : (c : After-list_present-p) → let a = c.args in c.list_present-p.result.count ≡ length (present_of a.n a.roster.marks)
-counted c = let a = c.args in count_is a.n a.roster.marks _ c.list_present-p.ensures
+pub returns-in_err-when : goal.returns-in_err-when
+unfolding lowest_of lowest_list listing listing_of listed
+returns-in_err-when c =
+    let met = c.in_err-when.ensures in
+    rw (exit _ c.from_residual.ensures.1, met.1, met.0) record { answer = refl; list = refl }
 
-pub returns-then-list-k : goal.returns-then-list-k
-unfolding listing listing_of listed
-returns-then-list-k c = (rw (ne_eqb _ _ c.if-list-k.true), refl)
-
-pub returns-then-count-k : goal.returns-then-count-k
-unfolding listing listing_of listed
-returns-then-count-k c =
-    let a = c.args in
-    let few : length (present_of a.n a.roster.marks) < a.k = omega (arith, counted (goal.at.returns-then-count-k c).After-list_present-p) in
-    (rw (eq-eqb _ _ c.if-list-k.false, lt-leb _ _ few), refl)
-
-pub write_nodes-requires : goal.write_nodes-requires
-write_nodes-requires c =
-    let a = c.args in
-    let most = present_most a.n a.roster.marks in
-    let is = counted (goal.at.write_nodes-requires c).After-list_present-p in
-    (omega arith, omega arith, omega arith, omega arith)
+pub returns-then-len-k : goal.returns-then-len-k
+unfolding lowest_of lowest_list listing listing_of listed
+returns-then-len-k c =
+    let h = c.args.code.header in
+    let few : length (present_of h.n c.args.roster.now.marks) < h.k = rw (← c.list_present-nodes.ensures) (rw c.len.ensures.value at c.if-len-k.true) in
+    rw (c.in_ok-when.ensures, lt-leb _ _ few) record { answer = refl; list = refl }
 
 pub returns : goal.returns
-unfolding listing listing_of listed
+unfolding lowest_of lowest_list listing listing_of listed lowest_nodes
 returns c =
-    let a = c.args in
-    let many : a.k ≤ length (present_of a.n a.roster.marks) = omega (arith, counted (goal.at.returns c).After-list_present-p) in
-    let size = c.if-list-k.false in (
-      rw (eq-eqb _ _ size, le-leb _ _ many),
-      c.write_nodes.ensures ∙ lowest_written a.n a.k a.roster.marks _ _ c.list_present-p.ensures size (omega arith) (omega arith),
-    )
+    let h = c.args.code.header in
+    let many : h.k ≤ length (present_of h.n c.args.roster.now.marks) = rw (← c.list_present-nodes.ensures) (rw c.len.ensures.value at c.if-len-k.false) in
+    rw (c.in_ok-when.ensures, le-leb _ _ many) record { answer = refl; list = rw (← c.list_present-nodes.ensures, ← c.deref.ensures.0) c.copy_from_slice.ensures.after }

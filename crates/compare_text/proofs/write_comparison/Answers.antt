@@ -1,0 +1,11 @@
+-- `write_comparison` meets its contract: four lines, one after the other.
+use Rattle.text.specs.Text.{ascii}
+use Rattle.text.proofs.Written.{writes_then}
+use Rattle.compare_text.specs.Comparison.{plain_line, balanced_line, bound_line, comparison_for}
+use Rattle.compare_text.proofs.write_comparison.Goals as goal
+
+pub returns : goal.returns
+unfolding comparison_for plain_line balanced_line bound_line ascii
+returns c =
+    rw (← c.distance_of-writes.ensures, ← c.low_reads.ensures, ← c.high_reads-high.ensures, ← c.plain_greatest.ensures)
+    (writes_then c.line.ensures.text (writes_then c.write_cost.ensures.text (writes_then c.write_cost-2.ensures.text c.write_cost-3.ensures.text)))
