@@ -1,7 +1,7 @@
 // The calls of a roster on lent bytes.
-ghost use Rattle.std.specs.Prelude.{◌≡◌, ℕ, eqb, length};
-ghost use Rattle.lists.specs.Choice.{pick, first_of};
-ghost use Rattle.generator.specs.Answers.{numbered, outcome_of};
+ghost use Rattle.std.specs.Prelude.{◌≡◌, ◌≢◌, ℕ, MatchResult};
+ghost use Rattle.lists.specs.Choice.{first_of};
+ghost use Rattle.generator.specs.Answers.{number, numbered};
 ghost use Rattle.generator.specs.Records.{record_fault};
 ghost use Rattle.roster.specs.Events.{Event, named, says, leaves, returns};
 ghost use Rattle.roster.specs.Rosters.{fault_in};
@@ -13,7 +13,7 @@ use roster::{Listing, Roster};
 
 // Bytes of another length than 256: the record's refusal, else number 8.
 fn length_fault(rec: &[u8], length: usize) -> Result<(), Refusal>
-    ensures { numbered result ≡ outcome_of (pick (eqb length 256) 0 (first_of (record_fault rec.now) 8)) }
+    ensures { MatchResult result (λ _. length ≡ 256) (λ e. (length ≢ 256) × (number e ≡ first_of (record_fault rec.now) 8)) }
 {
     if length == 256 {
         return Ok(());
