@@ -1,7 +1,7 @@
 -- From the answers of the calls to what the functions of the C interface promise.
 use Rattle.std.specs.Prelude.{Option, Some, None, Ok, Err, unwrap_or}
 use Rattle.std.specs.Result.{result_unwrap_or}
-use Rattle.generator.specs.Answers.{Answer}
+use Rattle.generator.specs.Answers.{Answer, outcome_of}
 use mathlib.Core.Path.{◌≡◌, refl, sym, ap, ap₂, ◌∙◌}
 use mathlib.Core.List.{List}
 use Prim.Native.Nat.{ℕ, zero, suc}
@@ -17,7 +17,7 @@ use Rattle.belongs.specs.Promise.{belongs_fault, BelongsSays}
 use Rattle.recover.specs.Promise.{recover_fault, rebuild_fault, RecoverSays, RebuildSays}
 use Rattle.update.specs.Promise.{update_fault, UpdateSays}
 use Rattle.encode.specs.Promise.{encode_fault, EncodeSays}
-use Rattle.blocks.specs.Answers.{outcome_of, update_of, membership_of}
+use Rattle.blocks.specs.Answers.{update_of, membership_of}
 use Rattle.blocks.proofs.Answered.{yes_means, no_means, refusal_means}
 use Rattle.blocks.proofs.Bytes.{altered_symbols}
 use Rattle.blocks.proofs.Refused.{refused_value}

@@ -1,6 +1,6 @@
 -- What the answers of the count mean for its text.
 use Rattle.std.specs.Prelude.{Ok, Err}
-use Rattle.generator.specs.Answers.{Answer}
+use Rattle.generator.specs.Answers.{Answer, outcome_of}
 use mathlib.Core.Path.{◌≡◌, sym, ap, ◌∙◌}
 use mathlib.Core.Bool.{Bool, true, false}
 use mathlib.Core.List.{List, [], ◌∷◌}
@@ -16,7 +16,6 @@ use Rattle.lists.proofs.Numbers.{at_below}
 use Rattle.lists.proofs.Rows.{length_from, get_or_from}
 use Rattle.generator.specs.declared.Header.{Header}
 use Rattle.generator.specs.Records.{size}
-use Rattle.blocks.specs.Answers.{outcome_of}
 use Rattle.text.specs.Text.{ascii, line}
 use Rattle.weight_counts.specs.Weights.{weight_counts, weight_count_of, messages_bad, weights_fault, WeightsPromise}
 use Rattle.weight_counts.specs.Inner.Counting.{Small}
