@@ -1,6 +1,6 @@
 -- What holds where neither call meets a number, and what each says beside one.
 use Rattle.std.specs.Prelude.{Ok, Err}
-use mathlib.Core.Path.{◌≡◌, refl, sym, ◌∙◌}
+use mathlib.Core.Path.{◌≡◌, refl, sym, ap, ◌∙◌}
 use mathlib.Core.Bool.{true, false, not}
 use mathlib.Core.List.{List}
 use Prim.Native.Nat.{ℕ, zero, suc, ◌-◌, ◌*◌, ◌≤◌, ◌<◌}
@@ -16,11 +16,12 @@ use Rattle.refusals.specs.Conditions.{lanes_bad, length_bad, number_bad, nodes_b
 use Rattle.refusals.proofs.NotMet.{lanes_good, length_good, number_good, nodes_good, twice_good}
 use Rattle.refusals.proofs.Accepts.{not_met}
 use Rattle.refusals.proofs.OneByte.{times_width}
-use Rattle.blocks.specs.Answers.{outcome_of}
+use Rattle.generator.specs.Answers.{outcome_of}
 use Rattle.blocks.proofs.Refused.{outcome_refused, refused_value}
 use Rattle.traces.specs.Repairs.{bits, sends}
 use Rattle.traces.specs.Claims.{Repairing}
 use Rattle.traces.proofs.Claims.{repairable}
+use Rattle.repair.specs.declared.RepairPlan.{RepairPlan}
 use Rattle.repair.specs.Packing.{packed_size}
 use Rattle.repair.specs.Sent.{sent, repaired_share}
 use Rattle.repair.specs.Promise.{traces_bad, target_fault, repair_bits_fault, repair_share_fault, repair_plan_of, RepairBitsPromise, RepairSharePromise, RepairPlanPromise}
@@ -111,9 +112,8 @@ module _ (h : Header) where
 pub planned_means : (f b more x y : ℕ) → Ok (record { bits = x; spare = y }) ≡ repair_plan_of f b more → (f ≡ 0) × (x ≡ b) × (y ≡ more)
 unfolding repair_plan_of
 planned_means zero b more x y e =
-    let same : x ≡ b = cc in
-    let rest : y ≡ more = cc in
-    (refl, same, rest)
+    let same : ◌≡◌ {A = RepairPlan} (record { bits = x; spare = y }) (record { bits = b; spare = more }) = cc in
+    (refl, ap (λ (plan : RepairPlan). plan.bits) same, ap (λ (plan : RepairPlan). plan.spare) same)
 planned_means (suc f) b more x y e = never cc
 
 pub refused_plan : (f b more g : ℕ) → Err g ≡ repair_plan_of f b more → (g ≡ f) × (g ≡ 0 → ⊥)

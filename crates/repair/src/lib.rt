@@ -3,7 +3,6 @@
 
 ghost use Rattle.std.specs.Prelude.{◌≡◌, true, ◌-◌, ◌*◌, ◌≤◌, length};
 ghost use Rattle.lists.specs.Numbers.{distinct};
-ghost use Rattle.generator.specs.Records.{Sound};
 ghost use Rattle.generator.specs.Answers.{numbered};
 ghost use Rattle.traces.specs.Repairs.{bits};
 ghost use Rattle.traces.specs.Claims.{Repairing};
@@ -11,7 +10,7 @@ ghost use Rattle.repair.specs.Packing.{packed_size};
 ghost use Rattle.repair.specs.Sent.{repaired_share};
 ghost use Rattle.repair.specs.Promise.{repair_bits_fault, repair_share_fault, repair_plan_fault, RepairBitsPromise, RepairSharePromise, RepairPlanPromise, RepairBitsSays, RepairShareSays, RepairPlanSays};
 
-use generator::{Code, Header, Refusal};
+use generator::{Code, Refusal};
 
 mod fault;
 mod packing;
@@ -38,10 +37,9 @@ fn bits_accepted(
     ensures { RepairBitsPromise node target missing.now share.now out.old out.new (numbered result) code.header (repair_bits_fault code.header lanes node target missing.now (length share.now) (length out.old)) }
 {
     fault::bits_fault(code, lanes, node, target, missing, share.len(), out.len())?;
-    let h = code.header;
-    let b = repair_tables::bits(h, missing.len());
+    let b = repair_tables::bits(code, missing.len());
     let size = packing::plane_size(lanes);
-    let table = repair_tables::tables::digits(h, target, missing, node);
+    let table = repair_tables::tables::digits(code, target, missing, node);
     packing::pack(b, &table, size, share, out);
     Ok(())
 }
@@ -63,14 +61,14 @@ pub fn repair_bits(
 }
 
 // The target's share from the planes of the nodes that send.
-fn add_up(h: Header, lanes: usize, target: u32, missing: &[u8], rows: &[u8], out: &mut [u8])
-    requires { Sound h × Repairing h target missing.now × (distinct missing.now ≡ true) × (lanes ≤ 4096) × (length out.old ≡ lanes) × (length rows.now ≡ (h.n - 1 - length missing.now) * packed_size (bits h (length missing.now)) lanes) }
-    ensures { out.new ≡ repaired_share h lanes target missing.now rows.now }
+fn add_up(code: Code, lanes: usize, target: u32, missing: &[u8], rows: &[u8], out: &mut [u8])
+    requires { Repairing code.header target missing.now × (distinct missing.now ≡ true) × (lanes ≤ 4096) × (length out.old ≡ lanes) × (length rows.now ≡ (code.header.n - 1 - length missing.now) * packed_size (bits code.header (length missing.now)) lanes) }
+    ensures { out.new ≡ repaired_share code.header lanes target missing.now rows.now }
 {
-    let b = repair_tables::bits(h, missing.len());
+    let b = repair_tables::bits(code, missing.len());
     let size = packing::plane_size(lanes);
-    let count = fault::row_count(h.n as usize, missing.len());
-    let weights = repair_tables::tables::weights(h, b, target, missing);
+    let count = fault::row_count(code.header.n as usize, missing.len());
+    let weights = repair_tables::tables::weights(code, b, target, missing);
     let total = count * b as usize;
     sums::weighted_sum(&weights, total, size, rows, out);
 }
@@ -88,7 +86,7 @@ fn share_accepted(
     ensures { RepairSharePromise lanes target missing.now rows.now out.old out.new (numbered result) code.header (repair_share_fault code.header lanes target missing.now (length rows.now) (length out.old)) }
 {
     fault::share_fault(code, lanes, target, missing, rows.len(), out.len())?;
-    add_up(code.header, lanes, target, missing, rows, out);
+    add_up(code, lanes, target, missing, rows, out);
     Ok(())
 }
 
@@ -111,12 +109,10 @@ pub fn repair_share(
 fn plan_accepted(code: Code, missing: usize) -> Result<RepairPlan, Refusal>
     ensures { RepairPlanPromise missing (numbered result) code.header (repair_plan_fault code.header missing) }
 {
-    let h = code.header;
-    Refusal::Traces.when(fault::traces_bad(h, missing))?;
-    Ok(RepairPlan {
-        bits: repair_tables::bits(h, missing),
-        spare: repair_tables::spare(h, missing),
-    })
+    Refusal::Traces.when(fault::traces_bad(code, missing))?;
+    let bits = repair_tables::bits(code, missing);
+    let spare = repair_tables::spare(code, missing);
+    Ok(RepairPlan { bits, spare })
 }
 
 // Gives how many bits of a symbol each node sends with so many nodes missing beside the target, and how many further ones may be missing.

@@ -8,12 +8,12 @@ use native.Mathlib.Omega.{arith}
 use lib.Dec.{eqb, lit<}
 use Rattle.lists.proofs.Cases.{by_test}
 use lib.Bits.{bit_xor, xor_zero_r, xor_comm, xor_lt, xor_mod}
-use lib.ListN.{length, get_or, drop}
+use lib.ListN.{length, get_or, drop, drop_of_length-le}
 use lib.Seq.{drop-length}
 use borrow.Author.Tests.{ne_eqb}
 use Rattle.lists.specs.Rows.{from}
 use Rattle.lists.specs.Numbers.{is_in}
-use Rattle.lists.proofs.Front.{drop_before}
+use Rattle.lists.proofs.Front.{drop_next, drop_before}
 use Rattle.lists.proofs.Numbers.{place_is_in}
 use Rattle.lists.proofs.Rows.{sub_next, sub_end, from_ext, get_or_from}
 use Rattle.field.specs.Bytes.{product}
@@ -113,14 +113,14 @@ pub eraser_next : (h : Header) (t u : ℕ) (missing : List ℕ) (i : ℕ) → 0 
 unfolding eraser
 eraser_next h t u missing i some l = ap (eraser h t u) (drop_before missing i 0 some l)
 
--- a number in what is left of a list that is searched from its end
-pub in_end : (x : ℕ) (l : List ℕ) → is_in x (drop (length l) l) ≡ false
+-- a number in what is left of a list
+pub in_end : (x : ℕ) (l : List ℕ) (i : ℕ) → length l ≤ i → is_in x (drop i l) ≡ false
 unfolding is_in
-in_end x l = ap (is_in x) (drop-length l)
+in_end x l i h = ap (is_in x) (drop_of_length-le l {i = i} h)
 
-pub in_next : (x : ℕ) (l : List ℕ) (i : ℕ) → 0 < i → i ≤ length l → (x ≡ get_or l (i - 1) 0 → ⊥) → is_in x (drop i l) ≡ false → is_in x (drop (i - 1) l) ≡ false
+pub in_next : (x : ℕ) (l : List ℕ) (i : ℕ) → i < length l → (x ≡ get_or l i 0 → ⊥) → is_in x (drop i l) ≡ is_in x (drop (i + 1) l)
 unfolding is_in
-in_next x l i some h d e = ap (is_in x) (drop_before l i 0 some h) ∙ rw (ne_eqb x (get_or l (i - 1) 0) d) e
+in_next x l i h d = ap (is_in x) (drop_next l i 0 h) ∙ rw (ne_eqb x (get_or l i 0) d)
 
 pub in_here : (x : ℕ) (l : List ℕ) (i : ℕ) → i < length l → x ≡ get_or l i 0 → is_in x l ≡ true
 in_here x l i h e = ap (λ (y : ℕ). is_in y l) e ∙ place_is_in l i h

@@ -1,14 +1,15 @@
-// What a header says of repair by traces, and the numbers of one node and one target.
+// What a code says of repair by traces, and the numbers of one node and one target.
 ghost use Rattle.std.specs.Prelude.{◌≡◌, true, ◌-◌, ◌^◌, ◌<◌};
 ghost use Rattle.lists.specs.Numbers.{all_below};
 ghost use Rattle.lists.specs.Padded.{padded};
-ghost use Rattle.generator.specs.Records.{size, Sound};
+ghost use Rattle.generator.specs.Records.{size};
 ghost use Rattle.check_sums.specs.Inner.Powers.{powers_of};
 ghost use Rattle.traces.specs.Traces.{TraceBits};
 ghost use Rattle.traces.specs.Repairs.{bits_for, bits, spare, ratio, offset, erasing, eraser, factor};
 
+use field::lent::Arithmetic;
 use field::{Field, Tables};
-use generator::Header;
+use generator::Code;
 
 // The bits that a node sends of a symbol, by n − k less the number of missing nodes; 0 where there is no repair by traces.
 fn bits_for(r: usize) -> u32
@@ -26,23 +27,14 @@ fn bits_for(r: usize) -> u32
     0
 }
 
-// a − b, or 0 where b is the larger.
-fn less(a: usize, b: usize) -> usize
-    ensures { result ≡ a - b }
+// The bits for a code, with so many nodes missing beside the target.
+pub fn bits(code: Code, count: usize) -> u32
+    ensures { result ≡ bits code.header count }
 {
-    if b < a { a - b } else { 0 }
-}
-
-// The bits for a header, with so many nodes missing beside the target.
-pub fn bits(h: Header, count: usize) -> u32
-    requires { Sound h }
-    ensures { result ≡ bits h count }
-{
-    let field = h.field;
-    let r = (h.n - h.k) as usize;
-    match field {
+    let r = (code.header.n - code.header.k) as usize;
+    match code.header.field {
         Field::Prime(_) => 0,
-        Field::Binary(_) => bits_for(less(r, count)),
+        Field::Binary(_) => bits_for(r.saturating_sub(count)),
     }
 }
 
@@ -61,84 +53,104 @@ fn needed(b: u32) -> usize
 }
 
 // How many further nodes may be missing, with as few bits.
-pub fn spare(h: Header, count: usize) -> u32
-    requires { Sound h × TraceBits (bits h count) }
-    ensures { result ≡ spare h count }
+pub fn spare(code: Code, count: usize) -> u32
+    requires { TraceBits (bits code.header count) }
+    ensures { result ≡ spare code.header count }
 {
-    let r = (h.n - h.k) as usize;
-    let b = bits(h, count);
-    less(less(r, count), needed(b)) as u32
+    let r = (code.header.n - code.header.k) as usize;
+    let b = bits(code, count);
+    r.saturating_sub(count).saturating_sub(needed(b)) as u32
 }
 
-// u = root^(node − target).
-fn ratio(h: Header, tables: &Tables, target: u32, node: u32) -> u32
-    requires { Sound h × (target < h.n) × (node < h.n) }
-    ensures { result ≡ ratio h target node }
-{
-    let field = h.field;
-    let root = h.root;
-    let n = h.n as u32;
-    field.power(tables, root, (node + (n - target)) % n)
+// The target of a repair, and the field in which its code reckons.
+#[derive(Clone, Copy)]
+pub struct Target<'a> {
+    pub code: Code,
+    pub node: u32,
+    pub field: Arithmetic<'a>,
+    pub ghost inside: { node < code.header.n },
+    pub ghost same: { field.field ≡ code.header.field },
 }
 
-// u − 1.
-fn offset(h: Header, tables: &Tables, target: u32, node: u32) -> u32
-    requires { Sound h × (target < h.n) × (node < h.n) }
-    ensures { result ≡ offset h target node }
-{
-    let field = h.field;
-    let u = ratio(h, tables, target, node);
-    field.sub(u, 1)
-}
-
-// The same by the powers of the root, for many nodes.
-pub fn offset_from(h: Header, powers: &[u16], target: usize, node: usize) -> u32
-    requires { Sound h × (target < h.n) × (node < h.n) × (powers.now ≡ padded 255 (powers_of h)) }
-    ensures { result ≡ offset h target node }
-{
-    let field = h.field;
-    let n = h.n as usize;
-    let u = powers[(node + (n - target)) % n] as u32;
-    field.sub(u, 1)
-}
-
-// (u − v) / (1 − v) for the v of one missing node.
-fn erasing(h: Header, tables: &Tables, target: u32, u: u32, missing: u32) -> u32
-    requires { Sound h × (target < h.n) × (u < size h) × (missing < h.n) }
-    ensures { result ≡ erasing h target u missing }
-{
-    let field = h.field;
-    let v = ratio(h, tables, target, missing);
-    let over = field.sub(u, v);
-    let under = field.inverse_with(tables, field.sub(1, v));
-    field.mul_with(tables, over, under)
-}
-
-// The product of these over the missing nodes.
-fn eraser(h: Header, tables: &Tables, target: u32, u: u32, missing: &[u8]) -> u32
-    requires { Sound h × (target < h.n) × (u < size h) × (all_below h.n missing.now ≡ true) }
-    ensures { result ≡ eraser h target u missing.now }
-{
-    let field = h.field;
-    let mut product = Field::ONE;
-    let mut i = missing.len();
-    while i > 0 {
-        i -= 1;
-        let x = erasing(h, tables, target, u, missing[i] as u32);
-        product = field.mul_with(tables, x, product);
+impl<'a> Target<'a> {
+    pub fn new(code: Code, node: u32, tables: &'a Tables) -> Self
+        requires { node < code.header.n }
+        ensures { (result.code ≡ code) × (result.node ≡ node) }
+    {
+        Self {
+            code: code,
+            node: node,
+            field: Arithmetic::new(code.header.field, tables),
+        }
     }
-    product
-}
 
-// u / (u − 1), times that product.
-pub fn factor(h: Header, tables: &Tables, target: u32, missing: &[u8], node: u32) -> u32
-    requires { Sound h × (target < h.n) × (node < h.n) × (all_below h.n missing.now ≡ true) }
-    ensures { result ≡ factor h target missing.now node }
-{
-    let field = h.field;
-    let u = ratio(h, tables, target, node);
-    let y = field.inverse_with(tables, offset(h, tables, target, node));
-    let x = field.mul_with(tables, u, y);
-    let z = eraser(h, tables, target, u, missing);
-    field.mul_with(tables, x, z)
+    // u = root^(node − target).
+    fn ratio(self, node: u32) -> u32
+        requires { node < self.code.header.n }
+        ensures is { result ≡ ratio self.entry.code.header self.entry.node node }
+        ensures symbol { result < size self.entry.code.header }
+    {
+        let n = self.code.header.n as u32;
+        let turn = (node + (n - self.node)) % n;
+        self.field.power(self.code.header.root, turn)
+    }
+
+    // u − 1.
+    fn offset(self, node: u32) -> u32
+        requires { node < self.code.header.n }
+        ensures is { result ≡ offset self.entry.code.header self.entry.node node }
+        ensures symbol { result < size self.entry.code.header }
+    {
+        let u = self.ratio(node);
+        self.field.sub(u, 1)
+    }
+
+    // The same by the powers of the root, for many nodes.
+    pub fn offset_from(self, powers: &[u16], node: usize) -> u32
+        requires { (node < self.code.header.n) × (powers.now ≡ padded 255 (powers_of self.code.header)) }
+        ensures { result ≡ offset self.entry.code.header self.entry.node node }
+    {
+        let n = self.code.header.n as usize;
+        let u = powers[(node + (n - self.node as usize)) % n] as u32;
+        self.field.sub(u, 1)
+    }
+
+    // (u − v) / (1 − v) for the v of one missing node.
+    fn erasing(self, u: u32, missing: u32) -> u32
+        requires { (u < size self.code.header) × (missing < self.code.header.n) }
+        ensures is { result ≡ erasing self.entry.code.header self.entry.node u missing }
+        ensures symbol { result < size self.entry.code.header }
+    {
+        let v = self.ratio(missing);
+        let over = self.field.sub(u, v);
+        let under = self.field.inverse(self.field.sub(1, v));
+        self.field.mul(over, under)
+    }
+
+    // The product of these over the missing nodes.
+    fn eraser(self, u: u32, missing: &[u8]) -> u32
+        requires { (u < size self.code.header) × (all_below self.code.header.n missing.now ≡ true) }
+        ensures is { result ≡ eraser self.entry.code.header self.entry.node u missing.now }
+        ensures symbol { result < size self.entry.code.header }
+    {
+        let mut product = Field::ONE;
+        for i in (0..missing.len()).rev() {
+            let x = self.erasing(u, missing[i] as u32);
+            product = self.field.mul(x, product);
+        }
+        product
+    }
+
+    // u / (u − 1), times that product.
+    pub fn factor(self, missing: &[u8], node: u32) -> u32
+        requires { (node < self.code.header.n) × (all_below self.code.header.n missing.now ≡ true) }
+        ensures is { result ≡ factor self.entry.code.header self.entry.node missing.now node }
+        ensures symbol { result < size self.entry.code.header }
+    {
+        let u = self.ratio(node);
+        let y = self.field.inverse(self.offset(node));
+        let x = self.field.mul(u, y);
+        let z = self.eraser(u, missing);
+        self.field.mul(x, z)
+    }
 }

@@ -16,10 +16,8 @@ pub struct Senders {
 pub fn is_in(x: u32, list: &[u8]) -> bool
     ensures { result ≡ is_in x list.now }
 {
-    let mut i = list.len();
-    while i > 0 {
-        i -= 1;
-        if x == list[i] as u32 {
+    for &y in list {
+        if x == y as u32 {
             return true;
         }
     }

@@ -11,10 +11,8 @@ fn squarings(tables: &Tables, count: u32, a: u32) -> u32
 {
     let field = Gf256::new();
     let mut x = a;
-    let mut i: u32 = 0;
-    while i < count {
+    for _ in 0..count {
         x = field.mul_with(tables, x, x);
-        i += 1;
     }
     x
 }
@@ -27,11 +25,9 @@ pub fn trace(tables: &Tables, b: u32, a: u32) -> u32
     let terms = 8 / b;
     let mut sum: u32 = 0;
     let mut x = a;
-    let mut i: u32 = 0;
-    while i < terms {
+    for _ in 0..terms {
         sum = sum ^ x;
         x = squarings(tables, b, x);
-        i += 1;
     }
     sum
 }

@@ -1,28 +1,29 @@
 -- From the answers of a roster's calls to what the calls on lent bytes promise.
+use Rattle.std.specs.Prelude.{Ok, Err}
 use mathlib.Core.Path.{◌≡◌, refl, sym, ap, ◌∙◌}
-use mathlib.Core.Bool.{false, ◌&&◌}
+use mathlib.Core.Bool.{true, false, ◌&&◌}
 use mathlib.Core.List.{List}
 use Prim.Native.Nat.{ℕ, zero, suc}
 use native.Mathlib.Omega.{arith}
 use lib.Dec.{eqb}
-use lib.ListN.{length}
+use lib.ListN.{length, replicate}
 use borrow.Author.Tests.{eq-eqb, ne_eqb, eqb-true, eqb-false}
 use Rattle.lists.specs.Choice.{pick, first_of, when}
+use Rattle.lists.specs.Rows.{from}
 use Rattle.lists.proofs.Cases.{by_test}
-use Rattle.generator.specs.Records.{record_fault, record_of}
-use Rattle.roster.specs.declared.Step.{Step}
-use Rattle.roster.specs.declared.Roster.{Roster}
+use Rattle.generator.specs.declared.refusal.Refusal.{Refusal}
+use Rattle.generator.specs.Answers.{Answer, number}
+use Rattle.generator.specs.Records.{header_of, record_fault, judged, record_of}
+use Rattle.generator.proofs.Answered.{refused_is, last}
 use Rattle.roster.specs.declared.Listing.{Listing}
-use Rattle.roster.specs.declared.Listing.TheVariants.{Written, TooFew, Refused}
+use Rattle.roster.specs.declared.Listing.TheVariants.{Written, TooFew}
 use Rattle.roster.specs.Events.{Event}
-use Rattle.roster.specs.Rosters.{start_of, step_of, wrote, lowest_of, lowest_list, job_of, job_list}
-use Rattle.roster.specs.Inner.Answers.{listing_number}
+use Rattle.roster.specs.Rosters.{fault_in, first_marks, first_roster, start_of, step_of, wrote, lowest_of, lowest_list, job_of, job_list}
 use Rattle.roster.proofs.Stepping.{start_number, step_number}
 use Rattle.roster.proofs.Lowest.{lowest_number, lowest_wrote, lowest_kept, lowest_refused}
-use Rattle.roster.proofs.OneJob.{job_kept}
-use Rattle.roster_bytes.specs.Bytes.{roster_of, roster_bytes, bytes_fault, event_bytes}
-use Rattle.roster_bytes.specs.Calls.{roster_room_fault, listing_fault, is_enough, StartGives, EventGives, LowestGives, JobGives}
-use Rattle.roster_bytes.specs.Inner.Calls.{told_of}
+use Rattle.roster.proofs.OneJob.{job_listing, job_kept}
+use Rattle.roster_bytes.specs.Bytes.{roster_of, mark_bytes, roster_bytes, bytes_fault, event_bytes}
+use Rattle.roster_bytes.specs.Calls.{told_of, roster_room_fault, listing_fault, is_enough, StartGives, EventGives, LowestGives, JobGives}
 
 -- no second number
 first_none : (f : ℕ) → first_of f 0 ≡ f
@@ -34,23 +35,40 @@ number_some : (f : ℕ) → first_of f 8 ≡ 0 → ⊥
 number_some zero e = omega arith
 number_some (suc f) e = omega arith
 
+-- the number of a refusal is not 0
+pub some : (s : Refusal) → number s ≡ 0 → ⊥
+some s = (refused_is _ _ (last {t = true} (Err s) s refl (refl, refl))).1
+
 -- beside a number nothing is written
-unwritten : (a : Listing) → (listing_number a ≡ 0 → ⊥) → wrote a ≡ false
-unfolding listing_number wrote
-unwritten Written bad = absurd (bad refl)
-unwritten TooFew bad = refl
-unwritten (Refused f) bad = refl
+unwritten : (a : Answer Listing) → (fault_in a ≡ 0 → ⊥) → wrote a ≡ false
+unfolding wrote
+unwritten (Ok Written) bad = absurd (bad refl)
+unwritten (Ok TooFew) bad = refl
+unwritten (Err f) bad = refl
 
--- the number for another length than 256
-pub length_none : (rec : List ℕ) (step : Step) → step ≡ start_of (record_of rec) → step.number ≡ 0 → 8 ≡ first_of (record_fault rec) 8
-length_none rec step e z = rw (sym (start_number rec) ∙ ap (λ (s : Step). s.number) (sym e) ∙ z)
+-- the number for another length than 256, where the start meets none, and where it meets one
+pub length_none : (rec : List ℕ) → (start_of (record_of rec)).number ≡ 0 → 8 ≡ first_of (record_fault rec) 8
+length_none rec none = rw (sym (start_number rec) ∙ none)
 
-pub length_some : (rec : List ℕ) (step : Step) → step ≡ start_of (record_of rec) → (step.number ≡ 0 → ⊥) → step.number ≡ first_of (record_fault rec) 8
-length_some rec step e some = go step.number some (ap (λ (s : Step). s.number) e ∙ start_number rec)
+pub length_some : (rec : List ℕ) (s : Refusal) → (start_of (record_of rec)).number ≡ number s → number s ≡ first_of (record_fault rec) 8
+length_some rec s e = go (number s) (some s) (sym e ∙ start_number rec)
   where
     go : (f : ℕ) → (f ≡ 0 → ⊥) → f ≡ record_fault rec → f ≡ first_of (record_fault rec) 8
     go zero bad q = absurd (bad refl)
     go (suc f) bad q = rw (← q)
+
+-- where the start meets a number, the bytes of its roster are zeros
+no_bytes : (f : ℕ) → roster_bytes (start_of (Err f)).roster ≡ replicate 256 0
+unfolding roster_bytes mark_bytes start_of first_roster first_marks from
+no_bytes f = refl
+
+pub start_empty : (rec : List ℕ) → ((start_of (record_of rec)).number ≡ 0 → ⊥) → roster_bytes (start_of (record_of rec)).roster ≡ replicate 256 0
+unfolding record_of judged start_of
+start_empty rec = go (record_fault rec)
+  where
+    go : (f : ℕ) → ((start_of (judged f (header_of rec))).number ≡ 0 → ⊥) → roster_bytes (start_of (judged f (header_of rec))).roster ≡ replicate 256 0
+    go zero bad = absurd (bad refl)
+    go (suc f) bad = no_bytes (suc f)
 
 module _ (rec bytes : List ℕ) where
   -- bytes of another length
@@ -77,78 +95,76 @@ module _ (rec bytes : List ℕ) where
 
   -- 256 bytes
   module _ (long : length bytes ≡ 256) where
-    pub start_done : (step : Step) (bytes' : List ℕ) (r : ℕ) → step ≡ start_of (record_of rec) → r ≡ step.number → bytes' ≡ roster_bytes step.roster → StartGives rec bytes bytes' r
+    pub start_done : (bytes' : List ℕ) (r : ℕ) → (start_of (record_of rec)).number ≡ r → bytes' ≡ roster_bytes (start_of (record_of rec)).roster → StartGives rec bytes bytes' r
     unfolding roster_room_fault
-    start_done step bytes' r e n w =
+    start_done bytes' r n w =
         record {
-          number = rw (eq-eqb (length bytes) 256 long) (n ∙ ap (λ (s : Step). s.number) e ∙ start_number rec ∙ sym (first_none (record_fault rec)));
-          bytes_are = rw (eq-eqb (length bytes) 256 long) (w ∙ ap (λ (s : Step). roster_bytes s.roster) e);
+          number = rw (eq-eqb (length bytes) 256 long) (sym n ∙ start_number rec ∙ sym (first_none (record_fault rec)));
+          bytes_are = rw (eq-eqb (length bytes) 256 long) w;
         }
 
-    pub event_done : (d : Event) (step : Step) (bytes' : List ℕ) (r : ℕ) → step ≡ step_of (record_of rec) d (roster_of bytes) → r ≡ step.number → bytes' ≡ pick (eqb step.number 0) (roster_bytes step.roster) bytes → EventGives rec bytes d bytes' r
+    pub event_done : (d : Event) (bytes' : List ℕ) (r : ℕ) → (step_of (record_of rec) d (roster_of bytes)).number ≡ r → bytes' ≡ pick (eqb r 0) (roster_bytes (step_of (record_of rec) d (roster_of bytes)).roster) bytes → EventGives rec bytes d bytes' r
     unfolding roster_room_fault event_bytes bytes_fault
-    event_done d step bytes' r e n w =
-        let number : step.number ≡ bytes_fault rec d bytes = ap (λ (s : Step). s.number) e ∙ step_number d (roster_of bytes) rec in
+    event_done d bytes' r n w =
+        let number : r ≡ bytes_fault rec d bytes = sym n ∙ step_number d (roster_of bytes) rec in
         record {
-          number = rw (eq-eqb (length bytes) 256 long) (n ∙ number);
-          bytes_are = rw (eq-eqb (length bytes) 256 long) (w ∙ ap (λ (f : ℕ). pick (eqb f 0) (roster_bytes step.roster) bytes) number ∙ ap (λ (s : Step). pick (eqb (bytes_fault rec d bytes) 0) (roster_bytes s.roster) bytes) e);
+          number = rw (eq-eqb (length bytes) 256 long) number;
+          bytes_are = rw (eq-eqb (length bytes) 256 long) (w ∙ ap (λ (f : ℕ). pick (eqb f 0) (roster_bytes (step_of (record_of rec) d (roster_of bytes)).roster) bytes) number);
         }
 
     -- the number of the answer to a list, and whether the list is written
-    listing_number_lem : (list : List ℕ) → listing_fault rec (length bytes) (length list) ≡ listing_number (lowest_of (record_of rec) (roster_of bytes) list)
-    unfolding listing_fault
-    listing_number_lem list = rw (eq-eqb (length bytes) 256 long) (sym (lowest_number (roster_of bytes) list rec))
+    module _ (list : List ℕ) where
+      abbrev answer : Answer Listing
+      answer = lowest_of (record_of rec) (roster_of bytes) list
 
-    pub listing_wrote : (list : List ℕ) → wrote (lowest_of (record_of rec) (roster_of bytes) list) ≡ (eqb (listing_fault rec (length bytes) (length list)) 0 && is_enough rec bytes)
-    unfolding is_enough
-    listing_wrote list =
-        let a = lowest_of (record_of rec) (roster_of bytes) list in
-        rw (listing_number_lem list)
-        (by_test (eqb (listing_number a) 0)
-        (λ t. rw (t, lowest_wrote (roster_of bytes) list rec (eqb-true (listing_number a) 0 t)))
-        (λ t. rw t (unwritten a (eqb-false (listing_number a) 0 t))))
+      number_is : fault_in answer ≡ listing_fault rec (length bytes) (length list)
+      unfolding listing_fault
+      number_is = rw (eq-eqb (length bytes) 256 long) (lowest_number (roster_of bytes) list rec)
 
-    -- the answer to a list, its number, and what `enough` receives
-    module _ (list : List ℕ) (enough enough' r : ℕ) (a : Listing) (e : a ≡ lowest_of (record_of rec) (roster_of bytes) list) (n : r ≡ listing_number a) (x : enough' ≡ told_of a enough) where
-      number_is : r ≡ listing_fault rec (length bytes) (length list)
-      number_is = n ∙ ap listing_number e ∙ sym (listing_number_lem list)
-
-      -- by the case of the answer
-      told : (a : Listing) → a ≡ lowest_of (record_of rec) (roster_of bytes) list → told_of a enough ≡ pick (eqb (listing_number a) 0) (when (wrote a) 1) enough
-      unfolding told_of listing_number wrote
-      told Written q = refl
-      told TooFew q = refl
-      told (Refused f) q = rw (ne_eqb f 0 (lowest_refused (roster_of bytes) list rec f (sym q)))
-
-      wrote_is : listing_number a ≡ 0 → wrote a ≡ is_enough rec bytes
+      enough_is : fault_in answer ≡ 0 → wrote answer ≡ is_enough rec bytes
       unfolding is_enough
-      wrote_is z = ap wrote e ∙ lowest_wrote (roster_of bytes) list rec (sym (ap listing_number e) ∙ z)
+      enough_is = lowest_wrote (roster_of bytes) list rec
 
-      enough_told : enough' ≡ pick (eqb r 0) (when (is_enough rec bytes) 1) enough
-      enough_told =
-          x ∙ told a e ∙ rw n (by_test (eqb (listing_number a) 0) (λ t. rw (t, wrote_is (eqb-true (listing_number a) 0 t))) (λ t. rw t))
+      wrote_is : wrote answer ≡ (eqb (fault_in answer) 0 && is_enough rec bytes)
+      wrote_is =
+          by_test (eqb (fault_in answer) 0)
+          (λ t. rw (t, enough_is (eqb-true (fault_in answer) 0 t)))
+          (λ t. rw t (unwritten answer (eqb-false (fault_in answer) 0 t)))
+
+      pub listing_wrote : wrote answer ≡ (eqb (listing_fault rec (length bytes) (length list)) 0 && is_enough rec bytes)
+      listing_wrote = wrote_is ∙ ap (λ (x : ℕ). eqb x 0 && is_enough rec bytes) number_is
+
+      -- what `enough` receives, by the case of the answer
+      told : (enough : ℕ) (a : Answer Listing) → a ≡ answer → told_of a enough ≡ pick (eqb (fault_in a) 0) (when (wrote a) 1) enough
+      unfolding told_of wrote
+      told enough (Ok Written) q = refl
+      told enough (Ok TooFew) q = refl
+      told enough (Err f) q = rw (ne_eqb f 0 (lowest_refused (roster_of bytes) list rec f (sym q)))
+
+      enough_told : (enough : ℕ) → told_of answer enough ≡ pick (eqb (fault_in answer) 0) (when (is_enough rec bytes) 1) enough
+      enough_told enough =
+          told enough answer refl ∙ by_test (eqb (fault_in answer) 0) (λ t. rw (t, enough_is (eqb-true (fault_in answer) 0 t))) (λ t. rw t)
 
       -- what is written beside no number is as it was beside a number
-      list_kept : (full : List ℕ) → ((listing_number a ≡ 0 → ⊥) → full ≡ list) → full ≡ pick (eqb r 0) full list
-      list_kept full same = rw n (by_test (eqb (listing_number a) 0) (λ t. rw t) (λ t. rw t (same (eqb-false (listing_number a) 0 t))))
+      list_kept : (full : List ℕ) → ((fault_in answer ≡ 0 → ⊥) → full ≡ list) → full ≡ pick (eqb (fault_in answer) 0) full list
+      list_kept full same = by_test (eqb (fault_in answer) 0) (λ t. rw t) (λ t. rw t (same (eqb-false (fault_in answer) 0 t)))
 
-      pub lowest_done : (list' : List ℕ) → list' ≡ lowest_list (record_of rec) (roster_of bytes) list → LowestGives rec bytes list enough list' enough' r
-      lowest_done list' w =
+      pub lowest_done : (enough : ℕ) → LowestGives rec bytes list enough (lowest_list (record_of rec) (roster_of bytes) list) (told_of answer enough) (fault_in answer)
+      lowest_done enough =
           record {
             number = number_is;
-            list_is = w ∙ list_kept (lowest_list (record_of rec) (roster_of bytes) list) (λ bad. lowest_kept (roster_of bytes) list (record_of rec) (λ z. bad (ap listing_number e ∙ z)));
-            enough_is = enough_told;
+            list_is = list_kept _ (lowest_kept (roster_of bytes) list (record_of rec));
+            enough_is = enough_told enough;
           }
 
       -- where a job writes, no number is met and k nodes are present
-      wrote_both : wrote a ≡ (eqb (listing_number a) 0 && is_enough rec bytes)
-      wrote_both = ap wrote e ∙ listing_wrote list ∙ ap (λ (x : ℕ). eqb x 0 && is_enough rec bytes) (listing_number_lem list ∙ ap listing_number (sym e))
-
-      pub job_done : (bytes' list' : List ℕ) (next : Roster) → next ≡ (job_of (record_of rec) (roster_of bytes) list).roster → bytes' ≡ pick (wrote a) (roster_bytes next) bytes → list' ≡ job_list (record_of rec) (roster_of bytes) list → JobGives rec bytes list enough bytes' list' enough' r
-      job_done bytes' list' next q b w =
+      pub job_done : (enough : ℕ) (a : Answer Listing) (bytes' : List ℕ) → a ≡ (job_of (record_of rec) (roster_of bytes) list).listing → bytes' ≡ pick (wrote a) (roster_bytes (job_of (record_of rec) (roster_of bytes) list).roster) bytes → JobGives rec bytes list enough bytes' (job_list (record_of rec) (roster_of bytes) list) (told_of a enough) (fault_in a)
+      job_done enough a bytes' e b =
+          let same : a ≡ answer = e ∙ job_listing (roster_of bytes) list (record_of rec) in
+          rw same
           record {
             number = number_is;
-            list_is = w ∙ list_kept (job_list (record_of rec) (roster_of bytes) list) (λ bad. job_kept (roster_of bytes) list (record_of rec) (λ z. bad (ap listing_number e ∙ z)));
-            enough_is = enough_told;
-            bytes_are = b ∙ rw (q, n) (ap (λ t. pick t (roster_bytes (job_of (record_of rec) (roster_of bytes) list).roster) bytes) wrote_both);
+            list_is = list_kept _ (job_kept (roster_of bytes) list (record_of rec));
+            enough_is = enough_told enough;
+            bytes_are = rw same at b ∙ ap (λ t. pick t (roster_bytes (job_of (record_of rec) (roster_of bytes) list).roster) bytes) wrote_is;
           }

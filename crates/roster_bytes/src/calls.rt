@@ -1,7 +1,7 @@
 // The calls of a roster on lent bytes.
-ghost use Rattle.std.specs.Prelude.{◌≡◌, ℕ, eqb, length};
-ghost use Rattle.lists.specs.Choice.{pick, first_of};
-ghost use Rattle.generator.specs.Answers.{numbered, outcome_of};
+ghost use Rattle.std.specs.Prelude.{◌≡◌, ◌≢◌, ℕ, MatchResult};
+ghost use Rattle.lists.specs.Choice.{first_of};
+ghost use Rattle.generator.specs.Answers.{number, numbered};
 ghost use Rattle.generator.specs.Records.{record_fault};
 ghost use Rattle.roster.specs.Events.{Event, named, says, leaves, returns};
 ghost use Rattle.roster.specs.Rosters.{fault_in};
@@ -13,7 +13,7 @@ use roster::{Listing, Roster};
 
 // Bytes of another length than 256: the record's refusal, else number 8.
 fn length_fault(rec: &[u8], length: usize) -> Result<(), Refusal>
-    ensures { numbered result ≡ outcome_of (pick (eqb length 256) 0 (first_of (record_fault rec.now) 8)) }
+    ensures { MatchResult result (λ _. length ≡ 256) (λ e. (length ≢ 256) × (number e ≡ first_of (record_fault rec.now) 8)) }
 {
     if length == 256 {
         return Ok(());
@@ -33,7 +33,7 @@ pub fn start(rec: &[u8], bytes: &mut [u8]) -> Result<(), Refusal>
     Ok(())
 }
 
-// A node returns where it is to be here, else it leaves.
+// A node returns where it is to be here, else it leaves. Record, bytes and node come one by one, as callers from C lend them.
 fn mark(rec: &[u8], bytes: &mut [u8], node: u32, here: bool) -> Result<(), Refusal>
     ensures { (e : Event) → named e ≡ node → says e ≡ here → EventGives rec.now bytes.old e bytes.new (fault_in (numbered result)) }
 {

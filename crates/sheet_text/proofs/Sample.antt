@@ -4,7 +4,6 @@ use mathlib.Core.List.{List, [], ◌∷◌}
 use Prim.Native.Nat.{ℕ}
 use Prim.Native.String.{String}
 use Rattle.lists.specs.Rows.{from, rows_from}
-use Rattle.lists.specs.Padded.{zeros, padded}
 use Rattle.lists.proofs.All.{All}
 use Rattle.field.specs.Primes.{divides_some, is_prime}
 use Rattle.field.specs.Bytes.{times_x, product_from, product}
@@ -12,18 +11,16 @@ use Rattle.field.specs.Fields.{size_of, add, sub, mul, power, order_from, order_
 use Rattle.field.specs.Kinds.{modulus}
 use Rattle.generator.specs.Records.{header_of, distance, low_reads, high_reads, kind_bad, body_bad, prime_in, field_bad, size_bad, root_bad, header_fault, record_fault, judged, record_of}
 use Rattle.generator.specs.Shifts.{gcd_from, gcd, shifts_from, even_shifts, negative, period, laid_at, laid_shifts, is_even, shifts_of, firsts_of}
-use Rattle.generator.specs.Generator.{base_from, base_at, entry_at, base_word}
-use Rattle.plan.specs.Plans.{plan_for, entry_in}
+use Rattle.generator.specs.Generator.{base_from, base_at, entry_at, entry}
 use Rattle.text.specs.Text.{ascii, decimal, field, fields, line}
-use Rattle.sheet_text.specs.Sheet.{roundings, numbers_line, row_line}
-use Rattle.sheet_text.specs.Inner.Sheet.{head_line, sheet_of}
+use Rattle.sheet_text.specs.Sheet.{roundings, sheet_for}
 
 -- a record and the text of its sheet
 pub data Case : Type 0 where
   prints : (rec : List ℕ) (text : String) → Case
 
 unfoldable pub Says : Case → Type 0
-Says (prints rec text) = sheet_of (plan_for (record_of rec)) ≡ ascii text
+Says (prints rec text) = sheet_for (record_of rec) ≡ ascii text
 
 unfoldable pub samples : List Case
 samples =
@@ -40,5 +37,5 @@ samples =
 
 -- every case of the table holds
 pub samples_hold : All Says samples
-unfolding Says samples ascii decimal field fields line roundings numbers_line head_line row_line sheet_of entry_in plan_for record_of judged record_fault header_fault kind_bad body_bad field_bad prime_in size_bad root_bad header_of distance low_reads high_reads firsts_of shifts_of is_even even_shifts shifts_from laid_shifts laid_at period negative gcd gcd_from base_word entry_at base_at base_from from rows_from zeros padded modulus size_of add sub mul power order_of order_from product product_from times_x is_prime divides_some
+unfolding Says samples ascii decimal field fields line roundings sheet_for record_of judged record_fault header_fault kind_bad body_bad field_bad prime_in size_bad root_bad header_of distance low_reads high_reads firsts_of shifts_of is_even even_shifts shifts_from laid_shifts laid_at period negative gcd gcd_from entry entry_at base_at base_from from rows_from modulus size_of add sub mul power order_of order_from product product_from times_x is_prime divides_some
 samples_hold = (refl, (refl, (refl, (refl, (refl, (refl, (refl, (refl, (refl, tt)))))))))

@@ -1,6 +1,6 @@
 -- `test_accepted` meets its contract: the call's number, or what the first wrong lane says.
 use Rattle.std.specs.Prelude.{Some, None, Ok}
-use mathlib.Core.Path.{◌≡◌, sym, ◌∙◌}
+use mathlib.Core.Path.{◌≡◌}
 use mathlib.Core.List.{List}
 use Prim.Native.Nat.{ℕ}
 use native.Mathlib.Omega.{arith}

@@ -32,7 +32,7 @@ digits-table-requires c =
     let is = accepted (goal.at.digits-table-requires c).After-bits-b in
     let r = is.repairing in
     let can = repairable _ _ r.some in
-    (c.args.code.sound.0, can.kind, can.width, r.inside, r.nodes, is.node)
+    (can.kind, can.width, r.inside, r.nodes, is.node)
 
 pub pack-requires : goal.pack-requires
 unfolding packed_size

@@ -1,25 +1,28 @@
 -- `plan_accepted` meets its contract: number 17, or the bits and how many further nodes may be missing.
-use Rattle.std.specs.Prelude.{Ok}
-use mathlib.Core.Path.{◌≡◌, sym, ap₂, ◌∙◌}
-use mathlib.Core.Bool.{false}
+use Rattle.std.specs.Prelude.{◌≡◌, ℕ, Ok, false}
+use Rattle.std.proofs.Common.{refl, sym, ap₂, ◌∙◌}
 use borrow.Author.Tests.{eqb-false}
+use Rattle.generator.proofs.Answered.{exit}
 use Rattle.traces.proofs.Claims.{repairable}
 use Rattle.repair.specs.Promise.{traces_bad, repair_plan_fault, repair_plan_of}
 use Rattle.repair.proofs.plan_accepted.Goals as goal
-use Rattle.repair.proofs.plan_accepted.Goals.{Else-traces_bad}
+use Rattle.repair.proofs.plan_accepted.Goals.{In_ok-when}
 
-pub returns-then-traces_bad : goal.returns-then-traces_bad
+pub returns-in_err-when : goal.returns-in_err-when
 unfolding repair_plan_fault repair_plan_of
-returns-then-traces_bad c = record { answer = rw (sym c.traces_bad.ensures ∙ c.if-traces_bad.true) }
+returns-in_err-when c =
+    let (bad, refusal) = c.in_err-when.ensures in
+    record { answer = rw (exit _ c.from_residual.ensures.1, refusal, sym c.traces_bad.ensures ∙ bad) refl }
 
 -- no number is met
-passed : (c : Else-traces_bad) → let start = c.args in traces_bad start.h start.missing ≡ false
-passed c = sym c.traces_bad.ensures ∙ c.if-traces_bad.false
+none : (c : In_ok-when) → traces_bad c.args.code.header c.args.missing ≡ false
+none c = sym c.traces_bad.ensures ∙ c.in_ok-when.ensures
 
-pub spare-more-requires : goal.spare-more-requires
+pub spare-spare-requires : goal.spare-spare-requires
 unfolding traces_bad
-spare-more-requires c = (c.requires, (repairable _ _ (eqb-false _ 0 (passed (goal.at.spare-more-requires c).Else-traces_bad))).width)
+spare-spare-requires c = (repairable _ _ (eqb-false _ 0 (none (goal.at.spare-spare-requires c).In_ok-when))).width
 
 pub returns : goal.returns
 unfolding repair_plan_fault repair_plan_of
-returns c = record { answer = rw (passed (goal.at.returns c).Else-traces_bad) (ap Ok (plan_is c.bits-b.ensures c.spare-more.ensures)) }
+returns c =
+    record { answer = rw (none (goal.at.returns c).In_ok-when) (ap₂ (λ (b more : ℕ). Ok (record { bits = b; spare = more })) c.bits-bits.ensures c.spare-spare.ensures) }

@@ -7,7 +7,7 @@ use Rattle.repair.proofs.Accepts.{bits_refuses}
 use Rattle.repair.proofs.repair_bits.Goals as goal
 
 pub bits_accepted-requires : goal.bits_accepted-requires
-bits_accepted-requires c = (read_sound _ c.read_record.ensures c.in-Holds.is, omega arith)
+bits_accepted-requires c = omega arith
 
 pub returns : goal.returns
 returns c = on_held c.in_ok-code.ensures refl c.bits_accepted.ensures

@@ -7,7 +7,7 @@ use Rattle.repair.proofs.Accepts.{share_refuses}
 use Rattle.repair.proofs.repair_share.Goals as goal
 
 pub share_accepted-requires : goal.share_accepted-requires
-share_accepted-requires c = (read_sound _ c.read_record.ensures c.in-Holds.is, omega arith)
+share_accepted-requires c = omega arith
 
 pub returns : goal.returns
 returns c = on_held c.in_ok-code.ensures refl c.share_accepted.ensures

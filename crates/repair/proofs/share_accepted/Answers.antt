@@ -1,5 +1,4 @@
 -- `share_accepted` meets its contract.
-use mathlib.Core.Path.{sym, ◌∙◌}
 use lib.ListN.{length}
 use Rattle.repair.proofs.Accepts.{ShareAccepted, share_accepts, share_refuses, share_done}
 use Rattle.repair.proofs.share_accepted.Goals as goal
@@ -20,7 +19,7 @@ accepted c = share_accepts _ _ _ _ _ _ (done_is _ c.in_ok-share_fault.ensures)
 pub add_up-requires : goal.add_up-requires
 add_up-requires c =
     let is = accepted (goal.at.add_up-requires c).In_ok-share_fault in
-    (c.args.code.sound.0, is.repairing, is.different, is.few, is.out_long, is.rows_long)
+    (is.repairing, is.different, is.few, is.out_long, is.rows_long)
 
 pub returns : goal.returns
 returns c =

@@ -1,7 +1,26 @@
 -- `repair_bits_fault` meets its contract: the tests are those of the definition, in its order.
+use Rattle.std.specs.Prelude.{◌≡◌, ◌*◌, not, length}
+use Rattle.std.proofs.Common.{ap}
+use native.Mathlib.Nat.{one-mul}
+use Rattle.generator.specs.Records.{width}
 use Rattle.generator.proofs.Answered.{met, passed}
+use Rattle.refusals.specs.Conditions.{length_bad}
+use Rattle.traces.specs.Repairs.{bits}
+use Rattle.traces.proofs.Claims.{bits_few}
+use Rattle.repair.specs.Packing.{packed_size}
 use Rattle.repair.specs.Promise.{repair_bits_fault}
 use Rattle.repair.proofs.fault.bits_fault.Goals as goal
+use Rattle.repair.proofs.fault.bits_fault.Goals.{After-buffer_bad, After-length_bad}
+
+pub packed_size-packed-requires : goal.packed_size-packed-requires
+packed_size-packed-requires c = (rw c.bits.ensures (bits_few _ _), c.requires)
+
+-- the lengths
+read : (c : After-buffer_bad) → let a = c.args in c.buffer_bad.result ≡ length_bad (a.lanes * width a.code.header) a.share
+read c = rw one-mul at c.buffer_bad.ensures
+
+written : (c : After-length_bad) → let a = c.args in c.length_bad.result ≡ length_bad (packed_size (bits a.code.header (length a.missing.now)) a.lanes) a.size
+written c = rw (c.packed_size-packed.ensures, c.bits.ensures) at c.length_bad.ensures
 
 pub returns-in_err-when : goal.returns-in_err-when
 unfolding repair_bits_fault
@@ -12,29 +31,29 @@ pub returns-in_err-when-2 : goal.returns-in_err-when-2
 unfolding repair_bits_fault
 returns-in_err-when-2 c =
     passed _ _ c.lanes_bad.ensures c.in_ok-when.ensures
-    (met _ (rw one-mul at c.buffer_bad.ensures) c.in_err-when-2.ensures c.from_residual-in_err-when-2.ensures.1 _)
+    (met _ (read (goal.at.returns-in_err-when-2 c).After-buffer_bad) c.in_err-when-2.ensures c.from_residual-in_err-when-2.ensures.1 _)
 
 pub returns-in_err-when-3 : goal.returns-in_err-when-3
 unfolding repair_bits_fault
 returns-in_err-when-3 c =
     passed _ _ c.lanes_bad.ensures c.in_ok-when.ensures
-    (passed _ _ (rw one-mul at c.buffer_bad.ensures) c.in_ok-when-2.ensures
-    (met _ c.length_bad.ensures c.in_err-when-3.ensures c.from_residual-in_err-when-3.ensures.1 _))
+    (passed _ _ (read (goal.at.returns-in_err-when-3 c).After-buffer_bad) c.in_ok-when-2.ensures
+    (met _ (written (goal.at.returns-in_err-when-3 c).After-length_bad) c.in_err-when-3.ensures c.from_residual-in_err-when-3.ensures.1 _))
 
 pub returns-in_err-when-4 : goal.returns-in_err-when-4
 unfolding repair_bits_fault
 returns-in_err-when-4 c =
     passed _ _ c.lanes_bad.ensures c.in_ok-when.ensures
-    (passed _ _ (rw one-mul at c.buffer_bad.ensures) c.in_ok-when-2.ensures
-    (passed _ _ c.length_bad.ensures c.in_ok-when-3.ensures
+    (passed _ _ (read (goal.at.returns-in_err-when-4 c).After-buffer_bad) c.in_ok-when-2.ensures
+    (passed _ _ (written (goal.at.returns-in_err-when-4 c).After-length_bad) c.in_ok-when-3.ensures
     (met _ c.number_bad.ensures c.in_err-when-4.ensures c.from_residual-in_err-when-4.ensures.1 _)))
 
 pub returns-in_err-when-5 : goal.returns-in_err-when-5
 unfolding repair_bits_fault
 returns-in_err-when-5 c =
     passed _ _ c.lanes_bad.ensures c.in_ok-when.ensures
-    (passed _ _ (rw one-mul at c.buffer_bad.ensures) c.in_ok-when-2.ensures
-    (passed _ _ c.length_bad.ensures c.in_ok-when-3.ensures
+    (passed _ _ (read (goal.at.returns-in_err-when-5 c).After-buffer_bad) c.in_ok-when-2.ensures
+    (passed _ _ (written (goal.at.returns-in_err-when-5 c).After-length_bad) c.in_ok-when-3.ensures
     (passed _ _ c.number_bad.ensures c.in_ok-when-4.ensures
     (met _ (ap not c.sends.ensures) c.in_err-when-5.ensures c.from_residual-in_err-when-5.ensures.1 _))))
 
@@ -42,8 +61,8 @@ pub returns : goal.returns
 unfolding repair_bits_fault
 returns c =
     passed _ _ c.lanes_bad.ensures c.in_ok-when.ensures
-    (passed _ _ (rw one-mul at c.buffer_bad.ensures) c.in_ok-when-2.ensures
-    (passed _ _ c.length_bad.ensures c.in_ok-when-3.ensures
+    (passed _ _ (read (goal.at.returns c).After-buffer_bad) c.in_ok-when-2.ensures
+    (passed _ _ (written (goal.at.returns c).After-length_bad) c.in_ok-when-3.ensures
     (passed _ _ c.number_bad.ensures c.in_ok-when-4.ensures
     (passed _ _ (ap not c.sends.ensures) c.in_ok-when-5.ensures
-    (c.target_fault.ensures)))))
+    c.target_fault.ensures))))

@@ -1,5 +1,5 @@
 -- `packing::pack` meets its contract.
-use Prim.Native.Nat.{◌≤◌, ◌-◌, ◌*◌, ◌/◌, ◌%◌, ◌^◌}
+use Prim.Native.Nat.{◌-◌, ◌*◌, ◌/◌, ◌%◌, ◌^◌}
 use lib.ListN.{length, get_or}
 use Rattle.lists.specs.Rows.{rows_from}
 use Rattle.lists.proofs.Fill.{Fills}

@@ -1,6 +1,5 @@
 -- `packing::pack_plane` meets its contract.
-use Prim.Native.Nat.{◌≤◌, ◌-◌, ◌*◌}
-use lib.ListN.{length}
+use Prim.Native.Nat.{◌*◌}
 use Rattle.kernel.proofs.Filling.{Changed}
 use Rattle.repair.specs.Packing.{byte_from}
 use Rattle.repair.proofs.Digits.{lane_bit}

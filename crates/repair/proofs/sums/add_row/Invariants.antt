@@ -1,7 +1,6 @@
 -- `sums::add_row` meets its contract.
-use Prim.Native.Nat.{◌≤◌, ◌-◌}
 use lib.Bits.{bit_xor}
-use lib.ListN.{length, get_or}
+use lib.ListN.{get_or}
 use Rattle.kernel.proofs.Filling.{Changed}
 use Rattle.repair.proofs.sums.add_row.Given as goal
 

@@ -1,6 +1,4 @@
 -- `sums::gather_all` meets its contract.
-use Prim.Native.Nat.{◌≤◌, ◌-◌}
-use lib.ListN.{length}
 use Rattle.kernel.proofs.Filling.{Changed}
 use Rattle.repair.specs.Inner.Sums.{lane_byte}
 use Rattle.repair.proofs.sums.gather_all.Given as goal

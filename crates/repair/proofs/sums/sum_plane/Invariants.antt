@@ -1,6 +1,5 @@
 -- `sums::sum_plane` meets its contract.
 use mathlib.Core.Path.{◌≡◌}
-use Prim.Native.Nat.{◌≤◌, ◌-◌}
 use Rattle.repair.specs.Inner.Sums.{plane_sum}
 use Rattle.repair.proofs.sums.sum_plane.Given as goal
 

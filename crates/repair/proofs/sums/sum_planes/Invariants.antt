@@ -1,5 +1,5 @@
 -- `sums::sum_planes` meets its contract.
-use Prim.Native.Nat.{◌≤◌, ◌-◌, ◌*◌}
+use Prim.Native.Nat.{◌-◌, ◌*◌}
 use Rattle.lists.specs.Rows.{rows_from}
 use Rattle.lists.proofs.Fill.{Fills}
 use Rattle.repair.specs.Inner.Sums.{plane_sum, plane_sums}

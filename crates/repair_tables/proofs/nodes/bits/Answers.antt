@@ -19,9 +19,9 @@ pub returns-in-Prime : goal.returns-in-Prime
 unfolding bits modulus
 returns-in-Prime c =
     let e = c.in-Prime.is in
-    let u = usable_prime _ (rw e at c.requires.usable_field) in
+    let u = usable_prime _ (rw e at c.args.code.sound.usable_field) in
     rw (e, other_kind _ u.1)
 
 pub returns-in-Binary : goal.returns-in-Binary
 unfolding bits modulus
-returns-in-Binary c = rw c.in-Binary.is (c.bits_for.ensures ∙ ap bits_for c.less.ensures)
+returns-in-Binary c = rw c.in-Binary.is (c.bits_for.ensures ∙ ap bits_for c.saturating_sub.ensures)

@@ -5,4 +5,4 @@ use Rattle.repair_tables.proofs.tables.blank.Goals as goal
 
 pub returns : goal.returns
 unfolding zeros
-returns c = refl
+returns g c = refl

@@ -4,4 +4,4 @@ use Rattle.repair_tables.specs.Inner.Weights.{bit_weight}
 use Rattle.repair_tables.proofs.tables.list_weights.Given as goal
 
 abbrev pub invariant-loop-q : goal.invariant-loop-q
-invariant-loop-q l = Filled 1020 l.count (bit_weight l.h l.b l.target l.senders) l.q l.table
+invariant-loop-q l = Filled 1020 l.count (bit_weight l.target.code.header l.b l.target.node l.senders) l.q l.table

@@ -10,7 +10,7 @@ use Rattle.repair_tables.proofs.tables.sixteen.Goals.{In-loop-i}
 
 -- a multiple is a byte
 turn : (c : In-loop-i) → c.loop-i.i * c.args.step ≤ 15 * 16
-turn c = let (u, kind, width, f, step) = c.requires in let low : c.loop-i.i ≤ 15 = omega (arith, c.loop-i-test.true) in mul-le-mul low step
+turn c = let (kind, width, f, step) = c.requires in let low : c.loop-i.i ≤ 15 = omega (arith, c.loop-i-test.true) in mul-le-mul low step
 
 pub loop-i-init : goal.loop-i-init
 unfolding zeros
@@ -20,7 +20,7 @@ pub overflow_mul-i : goal.overflow_mul-i
 overflow_mul-i c = omega (arith, turn c)
 
 pub digit-requires : goal.digit-requires
-digit-requires c = let (u, kind, width, f, step) = c.requires in (u, kind, width, f, omega (arith, turn c))
+digit-requires c = let (kind, width, f, step) = c.requires in (kind, width, f, omega (arith, turn c))
 
 pub loop-i-preserved : goal.loop-i-preserved
 loop-i-preserved c = filled_put c.loop-i.invariant c.loop-i-test.true c.digit.ensures

@@ -4,4 +4,4 @@ use Rattle.roster_bytes.proofs.bytes.read_roster.Goals as goal
 
 pub returns : goal.returns
 unfolding roster_of
-returns c = rw c.read_marks-marks.ensures
+returns c = rw c.read_marks.ensures

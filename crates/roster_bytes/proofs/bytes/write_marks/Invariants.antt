@@ -1,6 +1,6 @@
 -- `write_marks` meets its contract. Invariant: the first j marks are written.
 use mathlib.Core.Bool.{false}
-use Prim.Native.Nat.{◌≤◌, ◌-◌}
+use Prim.Native.Nat.{◌-◌}
 use lib.ListN.{get_or}
 use Rattle.lists.specs.Choice.{pick}
 use Rattle.lists.specs.Rows.{from}

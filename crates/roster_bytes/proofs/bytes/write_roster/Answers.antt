@@ -9,4 +9,4 @@ use Rattle.roster_bytes.proofs.bytes.write_roster.Goals as goal
 pub returns : goal.returns
 returns c =
     let a = c.args in
-    ap (λ (l : List ℕ). set l 255 a.roster.job) c.write_marks.ensures ∙ put_job a.roster a.bytes.now c.requires
+    ap (λ (l : List ℕ). set l 255 a.roster.now.job) c.write_marks.ensures ∙ put_job a.roster.now a.bytes.now c.requires

@@ -1,0 +1,42 @@
+-- `offset_from` meets its contract.
+use mathlib.Core.Path.{◌≡◌}
+use Prim.Native.Nat.{◌+◌, ◌-◌, ◌%◌, ◌<◌}
+use native.Mathlib.Nat.{mod-lt}
+use native.Mathlib.Omega.{arith}
+use borrow.Author.Rules.{rules}
+use lib.ListN.{get_or}
+use Rattle.field.proofs.Bounds.{one_below}
+use Rattle.check_sums.proofs.Sums.{power_place, power_at}
+use Rattle.traces.specs.Repairs.{ratio, offset}
+use Rattle.traces.proofs.Bounds.{ratio_below}
+use Rattle.repair_tables.proofs.nodes.Target.offset_from.Goals as goal
+use Rattle.repair_tables.proofs.nodes.Target.offset_from.Goals.{After-shared_slice_known-1}
+
+pub nonzero_rem-u : goal.nonzero_rem-u
+nonzero_rem-u c = search rules
+
+-- the place of the power, and what stands there
+place : (c : After-shared_slice_known-1) → let a = c.args in (a.node + (a.self.code.header.n - a.self.node)) % a.self.code.header.n < a.self.code.header.n
+place c = mod-lt _ (nonzero_rem-u c)
+
+read : (c : After-shared_slice_known-1) → let a = c.args in get_or a.powers.now ((a.node + (a.self.code.header.n - a.self.node)) % a.self.code.header.n) 0 ≡ ratio a.self.code.header a.self.node a.node
+unfolding ratio
+read c = rw c.requires.1 (power_at _ _ (place c))
+
+pub offset_bounds-powers-node : goal.offset_bounds-powers-node
+offset_bounds-powers-node c = omega (arith, place c, c.args.self.code.sound.byte)
+
+pub bounds-powers-node : goal.bounds-powers-node
+bounds-powers-node c = rw c.requires.1 (power_place _ _ (place (goal.at.bounds-powers-node c).After-shared_slice_known-1))
+
+pub overflow_cast-u : goal.overflow_cast-u
+overflow_cast-u c = let a = c.args in omega (arith, c.type_inv.powers ((a.node + (a.self.code.header.n - a.self.node)) % a.self.code.header.n))
+
+pub sub-requires : goal.sub-requires
+sub-requires c =
+    let sound = c.args.self.code.sound in
+    rw c.args.self.same (rw (read (goal.at.sub-requires c).After-shared_slice_known-1) (ratio_below _ sound _ _), one_below _ sound.field)
+
+pub returns : goal.returns
+unfolding offset
+returns c = rw (read (goal.at.returns c).After-shared_slice_known-1, c.args.self.same) at c.sub.ensures.is
