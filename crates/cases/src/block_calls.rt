@@ -8,7 +8,12 @@ fn encode(alloc: Global, words: &mut Words) -> Result<String, Fault> {
     let record = words.record()?;
     let lanes = words.number("lanes")?;
     let message = words.bytes("message")?;
-    write(alloc, words, MARK, |out| balanced::encode_block(&record, lanes, &message, out))
+    write(
+        alloc,
+        words,
+        MARK,
+        |out| balanced::encode_block(&record, lanes, &message, out),
+    )
 }
 
 fn recover(alloc: Global, words: &mut Words) -> Result<String, Fault> {
@@ -16,7 +21,12 @@ fn recover(alloc: Global, words: &mut Words) -> Result<String, Fault> {
     let lanes = words.number("lanes")?;
     let nodes = words.bytes("nodes")?;
     let shares = words.bytes("shares")?;
-    write(alloc, words, MARK, |out| balanced::recover_block(&record, lanes, &nodes, &shares, out))
+    write(
+        alloc,
+        words,
+        MARK,
+        |out| balanced::recover_block(&record, lanes, &nodes, &shares, out),
+    )
 }
 
 fn rebuild(alloc: Global, words: &mut Words) -> Result<String, Fault> {

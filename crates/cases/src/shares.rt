@@ -49,14 +49,15 @@ fn update(alloc: Global, words: &mut Words) -> Result<String, Fault> {
 fn correct(alloc: Global, words: &mut Words) -> Result<String, Fault> {
     let record = words.record()?;
     let lanes = words.number("lanes")?;
-    alter(alloc, words, |shares| balanced::correct_block(&record, lanes, shares))
+    alter(
+        alloc,
+        words,
+        |shares| balanced::correct_block(&record, lanes, shares),
+    )
 }
 
 // Yes, the smallest lane that is no word, or what turned the call away.
-fn membership(
-    alloc: Global,
-    answer: Result<Option<u32>, Refusal>,
-) -> Result<String, AllocError> {
+fn membership(alloc: Global, answer: Result<Option<u32>, Refusal>) -> Result<String, AllocError> {
     match answer {
         Ok(None) => format!(in alloc; "yes"),
         Ok(Some(lane)) => format!(in alloc; "no, lane {lane}"),

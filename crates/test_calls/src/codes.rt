@@ -15,7 +15,12 @@ fn plan(alloc: Global, words: &mut Words) -> Result<String, Fault> {
 // Messages by the Hamming weight of their word.
 fn weights(alloc: Global, words: &mut Words) -> Result<String, Fault> {
     let record = words.record()?;
-    write(alloc, words, MARK, |counts| weight_counts::weight_counts(&record, counts))
+    write(
+        alloc,
+        words,
+        MARK,
+        |counts| weight_counts::weight_counts(&record, counts),
+    )
 }
 
 // The answer to the call, if it is one of these.

@@ -34,7 +34,11 @@ fn mending(
 ) -> Result<String, AllocError> {
     match answer {
         Ok(count) => {
-            format!(in alloc; "count {count} nodes{} symbols{}", List(nodes), List(symbols))
+            format!(in alloc;
+                "count {count} nodes{} symbols{}",
+                List(nodes),
+                List(symbols)
+            )
         }
         Err(refusal) => {
             let kept = untouched(MARK, nodes) && untouched(MARK, symbols);
