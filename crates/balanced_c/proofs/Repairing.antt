@@ -1,13 +1,12 @@
 -- From the answers of a repair's calls to what the functions of the C interface promise.
 use Rattle.std.specs.Prelude.{Ok, Err}
-use Rattle.generator.specs.Answers.{Answer}
+use Rattle.generator.specs.Answers.{Answer, outcome_of}
 use mathlib.Core.Path.{◌≡◌, sym, ap, ◌∙◌}
 use mathlib.Core.List.{List}
 use Prim.Native.Nat.{ℕ}
 use lib.ListN.{length}
 use Rattle.generator.specs.Records.{header_of}
 use Rattle.refusals.specs.Faults.{fault_of}
-use Rattle.blocks.specs.Answers.{outcome_of}
 use Rattle.blocks.proofs.Refused.{refused_value}
 use Rattle.traces.specs.Repairs.{bits, spare}
 use Rattle.repair.specs.declared.RepairPlan.{RepairPlan}

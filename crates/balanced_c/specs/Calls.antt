@@ -15,7 +15,8 @@ use Rattle.belongs.specs.Promise.{belongs_fault}
 use Rattle.recover.specs.Promise.{recover_fault, rebuild_fault, RecoverSays, RebuildSays}
 use Rattle.update.specs.Promise.{update_fault, UpdateSays}
 use Rattle.encode.specs.Promise.{encode_fault, EncodeSays}
-use Rattle.blocks.specs.Answers.{outcome_of, update_of}
+use Rattle.blocks.specs.Answers.{update_of}
+use Rattle.generator.specs.Answers.{outcome_of}
 use Rattle.rearrange.specs.Promise.{RearrangeSays, rearrange_fault}
 use Rattle.weight_counts.specs.Weights.{weights_fault, WeightsSay}
 

@@ -3,7 +3,7 @@ use Rattle.std.specs.Prelude.{◌≡◌, List, ℕ, eqb, length}
 use Rattle.lists.specs.Choice.{pick}
 use Rattle.generator.specs.Records.{header_of}
 use Rattle.refusals.specs.Faults.{fault_of}
-use Rattle.blocks.specs.Answers.{outcome_of}
+use Rattle.generator.specs.Answers.{outcome_of}
 use Rattle.traces.specs.Repairs.{bits, spare}
 use Rattle.repair.specs.Promise.{repair_bits_fault, repair_share_fault, repair_plan_fault, RepairBitsSays, RepairShareSays}
 

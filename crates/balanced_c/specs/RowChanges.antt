@@ -1,7 +1,7 @@
 -- What the functions for a changed row promise: the returned number, and every lent byte afterwards.
 use Rattle.std.specs.Prelude.{◌≡◌, List, ℕ, length}
 use Rattle.refusals.specs.Faults.{fault_of}
-use Rattle.blocks.specs.Answers.{outcome_of}
+use Rattle.generator.specs.Answers.{outcome_of}
 use Rattle.differences.specs.Promise.{differences_fault, add_fault, DifferencesSays, AddSays}
 
 -- `balanced_differences`: the number, and what each node adds

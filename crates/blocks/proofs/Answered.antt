@@ -6,7 +6,8 @@ use native.Mathlib.Omega.{arith}
 use borrow.Author.Tests.{eqb-true, eqb-false}
 use lib.Dec.{eqb}
 use Rattle.lists.proofs.Cases.{by_test, never}
-use Rattle.blocks.specs.Answers.{outcome_of, update_of, membership_of}
+use Rattle.blocks.specs.Answers.{update_of, membership_of}
+use Rattle.generator.specs.Answers.{outcome_of}
 use Rattle.blocks.specs.Inner.Answers.{outcome_number}
 
 -- the number of an outcome is the one that it was made of

@@ -5,7 +5,8 @@ use Prim.Native.Nat.{ℕ, zero, suc}
 use borrow.Author.Tests.{ne_eqb}
 use lib.Dec.{eqb}
 use Rattle.lists.specs.Choice.{pick}
-use Rattle.blocks.specs.Answers.{outcome_of, update_of, membership_of}
+use Rattle.blocks.specs.Answers.{update_of, membership_of}
+use Rattle.generator.specs.Answers.{outcome_of}
 
 -- the answers
 pub outcome_refused : (g : ℕ) → (g ≡ 0 → ⊥) → outcome_of g ≡ Err g

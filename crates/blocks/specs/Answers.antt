@@ -1,7 +1,6 @@
 -- The answers of the calls, from the number that turned a call away (0 for none) and its value.
 use Rattle.std.specs.Prelude.{Option, Some, None, Ok, Err}
 use Rattle.generator.specs.Answers.{Answer}
-unfoldable pub use Rattle.generator.specs.Answers.{outcome_of}
 use Rattle.std.specs.Prelude.{ℕ, zero, suc, eqb}
 use Rattle.lists.specs.Choice.{pick}
 

@@ -1,6 +1,6 @@
 -- What one call carries the other reads, from the promises of both alone.
 use Rattle.std.specs.Prelude.{Ok}
-use Rattle.generator.specs.Answers.{Answer}
+use Rattle.generator.specs.Answers.{Answer, outcome_of}
 use mathlib.Core.Path.{◌≡◌, ap, ◌∙◌}
 use mathlib.Core.Bool.{true, false, not}
 use mathlib.Core.List.{List}
@@ -16,7 +16,6 @@ use Rattle.generator.specs.Records.{header_of, modulus_of, width, record_fault, 
 use Rattle.refusals.specs.Conditions.{length_bad, symbols_bad}
 use Rattle.refusals.specs.Faults.{fault_of}
 use Rattle.refusals.proofs.OnRecord.{none_met}
-use Rattle.blocks.specs.Answers.{outcome_of}
 use Rattle.blocks.proofs.Answered.{done_means}
 use Rattle.carrying.specs.Carrying.{carries_none, carried_bytes, bytes_back, carried_length}
 use Rattle.carrying.proofs.BothKinds.{bytes_back_lem, length_carried, carried_below}

@@ -1,13 +1,12 @@
 -- Bytes carried in the symbols of a record, and read again: the numbers that turn the calls away, and what they promise.
 use Rattle.std.specs.Prelude.{Ok, Err}
-use Rattle.generator.specs.Answers.{Answer}
+use Rattle.generator.specs.Answers.{Answer, outcome_of}
 use Rattle.std.specs.Prelude.{◌≡◌, Bool, false, List, ℕ, zero, suc, eqb, ltb, length}
 use Rattle.lists.specs.Choice.{pick, first_of, when}
 use Rattle.generator.specs.declared.Header.{Header}
 use Rattle.generator.specs.Records.{header_of, modulus_of}
 use Rattle.refusals.specs.Conditions.{length_bad, symbols_bad}
 use Rattle.refusals.specs.Promise.{OnRecord}
-use Rattle.blocks.specs.Answers.{outcome_of}
 use Rattle.carrying.specs.Carrying.{carries_none, carried_bytes, bytes_back, carried_length}
 
 -- number 8: more bytes than 2^62, of which no buffer has so many

@@ -1,6 +1,6 @@
 -- With shares rearranged, each call gives the old results, and share buffers are the old ones rearranged.
 use Rattle.std.specs.Prelude.{Option, Ok}
-use Rattle.generator.specs.Answers.{Answer}
+use Rattle.generator.specs.Answers.{Answer, outcome_of}
 use mathlib.Core.Path.{◌≡◌, sym, ap, ap₂, ◌∙◌}
 use mathlib.Core.Bool.{true}
 use mathlib.Core.List.{List}
@@ -23,7 +23,7 @@ use Rattle.update.specs.Promise.{input_fault, update_fault, UpdateSaysIn}
 use Rattle.encode.specs.Promise.{encode_fault, EncodeSaysIn}
 use Rattle.rearrange.proofs.Accepts.{rearrange_accepts}
 use Rattle.refusals.proofs.OnRecord.{none_met}
-use Rattle.blocks.specs.Answers.{outcome_of, update_of, membership_of}
+use Rattle.blocks.specs.Answers.{update_of, membership_of}
 use Rattle.blocks.specs.Bytes.{altered_count, rearranged_bytes}
 use Rattle.blocks.proofs.Answered.{done_means}
 use Rattle.blocks.proofs.Refused.{update_refused, refused_value}

@@ -1,6 +1,6 @@
 -- Demand 1, from what each call promises.
 use Rattle.std.specs.Prelude.{Option, Err}
-use Rattle.generator.specs.Answers.{Answer}
+use Rattle.generator.specs.Answers.{Answer, outcome_of}
 use mathlib.Core.Path.{◌≡◌, refl}
 use mathlib.Core.List.{List, ◌++◌}
 use Prim.Native.Nat.{ℕ, zero, suc}
@@ -16,7 +16,6 @@ use Rattle.belongs.specs.Promise.{belongs_fault, BelongsSays}
 use Rattle.recover.specs.Promise.{recover_fault, rebuild_fault, RecoverSays, RebuildSays}
 use Rattle.update.specs.Promise.{update_fault, UpdateSays}
 use Rattle.encode.specs.Promise.{encode_fault, EncodeSays}
-use Rattle.blocks.specs.Answers.{outcome_of}
 use Rattle.blocks.proofs.Answered.{refused_means, refusal_means}
 use Rattle.blocks.proofs.Refused.{outcome_refused, update_refused, membership_refused}
 use Rattle.rearrange.specs.Promise.{RearrangeSays, rearrange_fault}

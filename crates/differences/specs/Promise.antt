@@ -1,12 +1,11 @@
 -- What both calls promise: the numbers that turn them away, the answer and every lent byte afterwards, and the same over a record.
-use Rattle.generator.specs.Answers.{Answer}
+use Rattle.generator.specs.Answers.{Answer, outcome_of}
 use Rattle.std.specs.Prelude.{◌≡◌, List, ℕ, ◌*◌, eqb, length}
 use Rattle.lists.specs.Choice.{first_of, when, pick}
 use Rattle.generator.specs.declared.Header.{Header}
 use Rattle.generator.specs.Records.{width}
 use Rattle.refusals.specs.Conditions.{lanes_bad, length_bad, number_bad, symbols_bad}
 use Rattle.refusals.specs.Promise.{OnRecord}
-use Rattle.blocks.specs.Answers.{outcome_of}
 use Rattle.differences.specs.Differences.{difference_bytes, added_bytes}
 
 -- differences reads two rows of symbols and writes a row for each node

@@ -1,5 +1,5 @@
 -- What Encode promises: the numbers that turn it away, the answer and every lent byte afterwards, and the same over a record.
-use Rattle.generator.specs.Answers.{Answer}
+use Rattle.generator.specs.Answers.{Answer, outcome_of}
 use Rattle.std.specs.Prelude.{List, ◌≡◌, ℕ, ◌*◌, length, eqb}
 use Rattle.lists.specs.Choice.{first_of, when, pick}
 use Rattle.layout.specs.Layout.{Arrangement, share_layout}
@@ -8,7 +8,6 @@ use Rattle.generator.specs.Records.{width}
 use Rattle.refusals.specs.Conditions.{lanes_bad, length_bad, symbols_bad}
 use Rattle.refusals.specs.Promise.{OnRecord}
 use Rattle.blocks.specs.Bytes.{encoded_bytes}
-use Rattle.blocks.specs.Answers.{outcome_of}
 
 -- Encode reads a message and writes n shares
 unfoldable pub encode_fault : Header → ℕ → ℕ → List ℕ → ℕ

@@ -53,12 +53,7 @@ unfolding mending_of
 listed_means zero count r e other = refl
 listed_means (suc f) count r e other = absurd (other (suc f) e)
 
--- what each answer says of the number and the count
-pub listed_count : (f count c : ℕ) → Ok c ≡ mending_of f count → (f ≡ 0) × (c ≡ count)
-unfolding mending_of
-listed_count zero count c e = let same : c ≡ count = cc in (refl, same)
-listed_count (suc f) count c e = let z : ◌≡◌ {A = ℕ} 0 1 = cc in absurd (omega arith)
-
+-- a refusal met its number
 pub refused_number : (f count g : ℕ) → Err g ≡ mending_of f count → (g ≡ f) × (g ≡ 0 → ⊥)
 unfolding mending_of
 refused_number zero count g e = let z : ◌≡◌ {A = ℕ} 0 1 = cc in absurd (omega arith)

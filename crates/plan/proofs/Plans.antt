@@ -7,7 +7,7 @@ use borrow.Author.Tests.{lt-ltb}
 use lib.ListN.{length, get_or, length-append}
 use Rattle.lists.specs.Padded.{padded}
 use Rattle.lists.proofs.Rows.{length_from}
-use Rattle.lists.proofs.Padding.{get_or_padded, in_padded}
+use Rattle.lists.proofs.Padding.{get_or_padded}
 use Rattle.generator.specs.declared.Header.{Header}
 use Rattle.generator.specs.Records.{Sound}
 use Rattle.generator.specs.Shifts.{shifts, firsts}
@@ -43,11 +43,6 @@ module _ (h : Header) (s : Sound h) where
   pub base_in : (i : ℕ) → i < h.n → get_or (plan_of h).base i 0 ≡ get_or (base_word h) i 0
   unfolding plan_of
   base_in i low = get_or_padded 255 (base_word h) i (omega (arith, length_base h))
-
-  -- their places
-  pub shift_place : (r : ℕ) → r < h.k → r < length (plan_of h).shifts
-  unfolding plan_of
-  shift_place r row = in_padded 255 (shifts h) r (omega (arith, shifts_length h.n h.k s.some s.fits))
 
   -- what stands in the base word where the shift of row r leads is the generator's entry
   pub entry_read : (r j : ℕ) → r < h.k → j < h.n → get_or (plan_of h).base ((j + get_or (plan_of h).shifts r 0) % h.n) 0 ≡ entry h r j

@@ -1,5 +1,5 @@
 -- Rows of shares that are arranged as y says, rearranged as z says: what the calls promise. The rows are those of all n nodes, or of the k listed ones.
-use Rattle.generator.specs.Answers.{Answer}
+use Rattle.generator.specs.Answers.{Answer, outcome_of}
 use Rattle.std.specs.Prelude.{◌≡◌, List, ℕ, ◌*◌, eqb, length}
 use Rattle.lists.specs.Choice.{pick, first_of, when}
 use Rattle.layout.specs.Layout.{Arrangement, row_after_row, lane_after_lane}
@@ -7,7 +7,6 @@ use Rattle.generator.specs.declared.Header.{Header}
 use Rattle.generator.specs.Records.{width}
 use Rattle.refusals.specs.Promise.{OnRecord}
 use Rattle.refusals.specs.Conditions.{lanes_bad, length_bad}
-use Rattle.blocks.specs.Answers.{outcome_of}
 use Rattle.blocks.specs.Bytes.{rearranged_bytes}
 
 -- so many rows are read and written in another arrangement; `source` is the length of the buffer that is read

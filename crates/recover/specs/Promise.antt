@@ -1,5 +1,5 @@
 -- What Recover and Rebuild promise: the numbers that turn them away, the answer and every lent byte afterwards, and the same over a record.
-use Rattle.generator.specs.Answers.{Answer}
+use Rattle.generator.specs.Answers.{Answer, outcome_of}
 use Rattle.std.specs.Prelude.{List, ◌≡◌, ℕ, ◌*◌, length, eqb}
 use Rattle.lists.specs.Choice.{first_of, when, pick}
 use Rattle.layout.specs.Layout.{Arrangement, share_layout}
@@ -9,7 +9,6 @@ use Rattle.refusals.specs.Conditions.{lanes_bad, length_bad, number_bad}
 use Rattle.refusals.specs.Faults.{list_fault}
 use Rattle.refusals.specs.Promise.{OnRecord}
 use Rattle.blocks.specs.Bytes.{recovered_bytes, rebuilt_bytes}
-use Rattle.blocks.specs.Answers.{outcome_of}
 
 -- Recover reads listed shares and writes a message
 unfoldable pub recover_fault : Header → ℕ → List ℕ → List ℕ → ℕ → ℕ

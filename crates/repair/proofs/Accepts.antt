@@ -16,7 +16,7 @@ use Rattle.refusals.specs.Conditions.{lanes_bad, length_bad, number_bad, nodes_b
 use Rattle.refusals.proofs.NotMet.{lanes_good, length_good, number_good, nodes_good, twice_good}
 use Rattle.refusals.proofs.Accepts.{not_met}
 use Rattle.refusals.proofs.OneByte.{times_width}
-use Rattle.blocks.specs.Answers.{outcome_of}
+use Rattle.generator.specs.Answers.{outcome_of}
 use Rattle.blocks.proofs.Refused.{outcome_refused, refused_value}
 use Rattle.traces.specs.Repairs.{bits, sends}
 use Rattle.traces.specs.Claims.{Repairing}

@@ -1,5 +1,5 @@
 -- What the calls of a repair by traces promise: the numbers that turn them away, the answer and every lent byte afterwards, and the same over a record.
-use Rattle.generator.specs.Answers.{Answer}
+use Rattle.generator.specs.Answers.{Answer, outcome_of}
 use Rattle.std.specs.Prelude.{◌≡◌, Ok, Err, Bool, not, List, ℕ, zero, suc, ◌-◌, ◌*◌, eqb, length}
 use Rattle.lists.specs.Choice.{pick, first_of, when}
 use Rattle.lists.specs.Numbers.{is_in}
@@ -7,7 +7,6 @@ use Rattle.generator.specs.declared.Header.{Header}
 use Rattle.generator.specs.Records.{width}
 use Rattle.refusals.specs.Conditions.{lanes_bad, length_bad, number_bad, nodes_bad, twice_bad}
 use Rattle.refusals.specs.Promise.{OnRecord}
-use Rattle.blocks.specs.Answers.{outcome_of}
 use Rattle.traces.specs.Repairs.{bits, spare, sends}
 use Rattle.repair.specs.declared.RepairPlan.{RepairPlan}
 use Rattle.repair.specs.Packing.{packed_size}

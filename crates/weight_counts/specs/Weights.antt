@@ -1,6 +1,6 @@
 -- How many messages of a record have a word of each Hamming weight, and what the call promises.
 use Rattle.std.specs.Prelude.{Ok, Err}
-use Rattle.generator.specs.Answers.{Answer}
+use Rattle.generator.specs.Answers.{Answer, outcome_of}
 use Rattle.std.specs.Prelude.{◌≡◌, ℕ, ◌+◌, ◌^◌, ◌<◌, ◌≤◌, Bool, true, not, List, length, ◌==◌, nat_lt}
 use Rattle.lists.specs.Choice.{pick, first_of, when}
 use Rattle.lists.specs.Rows.{from, range}
@@ -9,7 +9,6 @@ use Rattle.generator.specs.Records.{record_of, size, distance}
 use Rattle.generator.specs.Codewords.{node_of}
 use Rattle.generator.specs.Claims.{is_message}
 use Rattle.refusals.specs.Promise.{OnRecord}
-use Rattle.blocks.specs.Answers.{outcome_of}
 use Rattle.weight_distribution.specs.Counts.{sum_of, message_at, weight_count, even_terms, odd_terms, textbook}
 
 -- how many messages have a word with w nodes that are not zero

@@ -2,7 +2,7 @@
 use mathlib.Core.Path.{◌≡◌, ap, ◌∙◌}
 use Prim.Native.Nat.{ℕ}
 use lib.ListN.{length}
-use Rattle.blocks.specs.Answers.{outcome_of}
+use Rattle.generator.specs.Answers.{outcome_of}
 use Rattle.generator.specs.Records.{modulus_of}
 use Rattle.generator.proofs.Answered.{exit, done_is, refused_is}
 use Rattle.carrying.specs.Carrying.{bytes_back, carried_length}

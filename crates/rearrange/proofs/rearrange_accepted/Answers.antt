@@ -8,7 +8,7 @@ use Rattle.generator.specs.Records.{width}
 use Rattle.rearrange.specs.Promise.{rearrange_fault}
 use Rattle.generator.proofs.Answered.{exit, done_is, refused_is}
 use Rattle.rearrange.proofs.Accepts.{rearrange_accepts}
-use Rattle.blocks.specs.Answers.{outcome_of}
+use Rattle.generator.specs.Answers.{outcome_of}
 use Rattle.blocks.specs.Bytes.{rearranged_bytes}
 use Rattle.rearrange.proofs.Refused.{rearrange_refuses}
 use Rattle.rearrange.proofs.rearrange_accepted.Goals as goal

@@ -8,7 +8,7 @@ use Rattle.generator.specs.Records.{width}
 use Rattle.generator.proofs.Answered.{exit, done_is, refused_is}
 use Rattle.refusals.specs.Accepted.{ListedShares}
 use Rattle.recover.proofs.Accepts.{rebuild_accepts, rebuild_refuses}
-use Rattle.blocks.specs.Answers.{outcome_of}
+use Rattle.generator.specs.Answers.{outcome_of}
 use Rattle.recover.proofs.Tiles.{listed_bytes, rebuilt_lanes}
 use Rattle.recover.proofs.rebuild_accepted.Goals as goal
 use Rattle.recover.proofs.rebuild_accepted.Goals.{After-weights-1, In_ok-rebuild_fault}

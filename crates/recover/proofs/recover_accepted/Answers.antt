@@ -10,7 +10,7 @@ use Rattle.generator.proofs.Shifts.{shifts_length}
 use Rattle.generator.proofs.Answered.{exit, done_is, refused_is}
 use Rattle.refusals.specs.Accepted.{ListedShares}
 use Rattle.recover.proofs.Accepts.{recover_accepts, recover_refuses}
-use Rattle.blocks.specs.Answers.{outcome_of}
+use Rattle.generator.specs.Answers.{outcome_of}
 use Rattle.recover.proofs.Recovering.{shifts_part}
 use Rattle.recover.proofs.Products.{recovered_lanes}
 use Rattle.recover.proofs.recover_accepted.Goals as goal

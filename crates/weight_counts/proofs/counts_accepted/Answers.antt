@@ -1,5 +1,5 @@
 -- `counts_accepted` meets its contract: counts are written only where no number is met.
-use Rattle.blocks.specs.Answers.{outcome_of}
+use Rattle.generator.specs.Answers.{outcome_of}
 use Rattle.weight_counts.proofs.Refused.{weights_refuses}
 use Rattle.weight_counts.proofs.Powers.{accepts}
 use Rattle.generator.proofs.Answered.{exit, done_is, refused_is}

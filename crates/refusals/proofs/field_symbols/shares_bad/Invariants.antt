@@ -1,5 +1,5 @@
 -- `shares_bad` meets its contract. Invariant: the answer for the buffer is the answer for the lanes from `lane` on.
-use Prim.Native.Nat.{◌-◌, ◌*◌}
+use Prim.Native.Nat.{◌*◌}
 use mathlib.Core.Path.{◌≡◌}
 use lib.ListN.{drop}
 use Rattle.refusals.specs.Conditions.{symbols_bad}
