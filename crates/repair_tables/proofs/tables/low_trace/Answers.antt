@@ -1,8 +1,8 @@
--- `tables::digit` meets its contract.
+-- `tables::low_trace` meets its contract.
 use native.Mathlib.Nat.{mod-lt}
 use native.Mathlib.Omega.{arith}
 use Rattle.repair_tables.proofs.Steps.{width_some, mul_kind, symbol_kind}
-use Rattle.repair_tables.proofs.tables.digit.Goals as goal
+use Rattle.repair_tables.proofs.tables.low_trace.Goals as goal
 
 pub mul-y-requires : goal.mul-y-requires
 mul-y-requires c = let (kind, width, f, x) = c.requires in (symbol_kind _ _ kind f, symbol_kind _ _ kind x)

@@ -1,4 +1,4 @@
--- `move_accepted` meets its contract: symbols are moved only where no number is met.
+-- `rearrange_accepted` meets its contract: symbols are moved only where no number is met.
 use mathlib.Core.Path.{◌≡◌, ap, ◌∙◌}
 use native.Mathlib.Nat.{mul_comm}
 use lib.ListN.{length}
@@ -11,8 +11,8 @@ use Rattle.rearrange.proofs.Accepts.{rearrange_accepts}
 use Rattle.generator.specs.Answers.{outcome_of}
 use Rattle.blocks.specs.Bytes.{rearranged_bytes}
 use Rattle.rearrange.proofs.Refused.{rearrange_refuses}
-use Rattle.rearrange.proofs.move_accepted.Goals as goal
-use Rattle.rearrange.proofs.move_accepted.Goals.{After-width_of-w}
+use Rattle.rearrange.proofs.rearrange_accepted.Goals as goal
+use Rattle.rearrange.proofs.rearrange_accepted.Goals.{After-width_of-w}
 
 -- no number is met
 none : (c : After-width_of-w) → let a = c.args in rearrange_fault a.code.header a.rows a.lanes (length a.source.now) (length a.out.now) ≡ 0

@@ -1,4 +1,4 @@
--- `digits` meets its contract.
+-- `sent_digits` meets its contract.
 use mathlib.Core.Path.{◌≡◌, ap, ◌∙◌}
 use Prim.Native.Nat.{◌<◌}
 use native.Mathlib.Omega.{arith}
@@ -6,8 +6,8 @@ use Rattle.generator.specs.declared.code.Code.{Code}
 use Rattle.traces.specs.Traces.{TraceBits}
 use Rattle.traces.specs.Repairs.{sent_digit}
 use Rattle.repair_tables.proofs.Steps.{table_is, kind_symbol}
-use Rattle.repair_tables.proofs.tables.digits.Goals as goal
-use Rattle.repair_tables.proofs.tables.digits.Goals.{After-factor-f}
+use Rattle.repair_tables.proofs.tables.sent_digits.Goals as goal
+use Rattle.repair_tables.proofs.tables.sent_digits.Goals.{After-factor-f}
 
 pub factor-f-requires : goal.factor-f-requires
 factor-f-requires c =
