@@ -6,6 +6,7 @@ ghost use Rattle.check_sums.specs.Inner.Powers.{powers_of, factors_of};
 
 use crate::lane::stepped;
 use field::Tables;
+use field::lent::Arithmetic;
 use generator::Header;
 
 // The powers of the root below its order, and zeros after them.
@@ -22,19 +23,19 @@ pub fn powers_with(h: Header, tables: &Tables) -> [u16; 255]
     requires { Sound h }
     ensures { result ≡ padded 255 (powers_of h) }
 {
-    let field = h.field;
+    let field = Arithmetic::new(h.field, tables);
     let root = h.root;
     let n = h.n as usize;
-    let square = field.mul_with(tables, root, root);
-    let fourth = field.mul_with(tables, square, square);
+    let square = field.mul(root, root);
+    let fourth = field.mul(square, square);
     let mut out = [0u16; 255];
     let mut x: u32 = 1;
     let mut x1 = root;
     let mut x2 = square;
-    let mut x3 = field.mul_with(tables, root, square);
+    let mut x3 = field.mul(root, square);
     for i in 0..n {
         out[i] = x as u16;
-        let x4 = field.mul_with(tables, fourth, x);
+        let x4 = field.mul(fourth, x);
         x = x1;
         x1 = x2;
         x2 = x3;

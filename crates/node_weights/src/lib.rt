@@ -3,7 +3,7 @@
 
 ghost use Rattle.std.specs.Prelude.{◌≡◌, true, ◌<◌, ◌≤◌, length};
 ghost use Rattle.field.specs.Fields.{size_of};
-ghost use Rattle.field.specs.Kinds.{modulus, usable};
+ghost use Rattle.field.specs.Kinds.{modulus};
 ghost use Rattle.lists.specs.Padded.{padded};
 ghost use Rattle.generator.specs.Records.{modulus_of, size, Sound};
 ghost use Rattle.generator.specs.Shifts.{shifts as shifts_for};
@@ -13,7 +13,8 @@ ghost use Rattle.interpolation.specs.Inner.Points.{points_of};
 ghost use Rattle.interpolation.specs.Inner.Polynomials.{product_of};
 ghost use Rattle.node_weights.specs.Inner.Rows.{basis_of, row_points, base_inverses, setup_of, terms_at, row_terms};
 
-use field::{Field, Tables};
+use field::Tables;
+use field::lent::Arithmetic;
 use generator::Header;
 use interpolation::{division, lagrange, polynomials, powers};
 
@@ -38,25 +39,25 @@ pub fn rebuild_weights(h: Header, nodes: &[u8], target: u32) -> [u16; 255]
     requires { Sound h × (are_nodes h nodes.now ≡ true) × (target < h.n) }
     ensures { Rebuilds h nodes.now target result }
 {
-    let field = h.field;
     let root = h.root;
     let k = h.k as usize;
     let tables = field::constant_tables();
-    let z = field.power(&tables, root, target);
-    let points = powers::points(field, &tables, root, nodes, 0);
-    let scales = lagrange::scales(field, &tables, &points[..k]);
-    lagrange::values(field, &tables, &points[..k], &scales[..k], z)
+    let field = Arithmetic::new(h.field, &tables);
+    let z = field.power(root, target);
+    let points = powers::points(field, root, nodes, 0);
+    let scales = lagrange::scales(field, &points[..k]);
+    lagrange::values(field, &points[..k], &scales[..k], z)
 }
 
 // The basis of the points root^(j + offset).
-pub fn lagrange_basis(field: Field, tables: &Tables, root: u32, places: &[u8], offset: u32) -> Basis
-    requires { (usable field ≡ true) × (root < size_of (modulus field)) × (length places.now ≤ 255) × (offset < 256) }
-    ensures { result ≡ basis_of (modulus field) (points_of (modulus field) root offset places.now) }
+pub fn lagrange_basis(field: Arithmetic, root: u32, places: &[u8], offset: u32) -> Basis
+    requires { (root < size_of (modulus field.field)) × (length places.now ≤ 255) × (offset < 256) }
+    ensures { result ≡ basis_of (modulus field.entry.field) (points_of (modulus field.entry.field) root offset places.now) }
 {
     let count = places.len();
-    let points = powers::points(field, tables, root, places, offset);
-    let scales = lagrange::scales(field, tables, &points[..count]);
-    let product = polynomials::product(field, tables, &points[..count]);
+    let points = powers::points(field, root, places, offset);
+    let scales = lagrange::scales(field, &points[..count]);
+    let product = polynomials::product(field, &points[..count]);
     Basis {
         points: points,
         scales: scales,
@@ -69,15 +70,15 @@ pub fn prepare(h: Header, nodes: &[u8], shifts: &[u8]) -> Setup
     requires { Sound h × (are_nodes h nodes.now ≡ true) × (shifts.now ≡ shifts_for h) }
     ensures { result ≡ setup_of h nodes.now }
 {
-    let field = h.field;
     let root = h.root;
     let k = h.k as usize;
     let m = k - 1;
     let tables = field::constant_tables();
-    let base = polynomials::base(field, &tables, root, m);
-    let inverses = polynomials::inverses(field, &tables, &base[..k]);
-    let own = lagrange_basis(field, &tables, root, nodes, 0);
-    let rows = lagrange_basis(field, &tables, root, shifts, m as u32);
+    let field = Arithmetic::new(h.field, &tables);
+    let base = polynomials::base(field, root, m);
+    let inverses = polynomials::inverses(field, &base[..k]);
+    let own = lagrange_basis(field, root, nodes, 0);
+    let rows = lagrange_basis(field, root, shifts, m as u32);
     Setup {
         nodes: own,
         shifts: rows,
@@ -90,11 +91,11 @@ pub fn terms_at(h: Header, tables: &Tables, product: &[u16], base: &[u16], x: u3
     requires { Sound h × (product.now ≡ padded 256 (product_of (modulus_of h) (row_points h))) × (base.now ≡ padded 255 (base_inverses h)) × (x < size h) }
     ensures { result ≡ padded 255 (terms_at h x) }
 {
-    let field = h.field;
     let k = h.k as usize;
     let first: usize = 1;
     let end = k + 1;
-    division::quotient_terms(field, tables, x, &product[first..end], &base[..k])
+    let field = Arithmetic::new(h.field, tables);
+    division::quotient_terms(field, x, &product[first..end], &base[..k])
 }
 
 // The terms of row r.

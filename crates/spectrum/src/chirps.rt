@@ -10,6 +10,7 @@ ghost use Rattle.spectrum.specs.Inner.Spectrum.{triangle, chirp_at, unchirped};
 
 use check_sums::lane::stepped;
 use field::Tables;
+use field::lent::Arithmetic;
 use generator::Header;
 
 // −i modulo n.
@@ -60,12 +61,12 @@ pub fn unchirp(
     requires { Sound h × (powers.now ≡ padded 255 (powers_of h)) × (exponents.now ≡ from (λ x. triangle x % h.n) 0 510) × (length symbols.now ≤ 255) × (all_below (size h) symbols.now ≡ true) }
     ensures { result ≡ padded 255 (unchirped h symbols.now) }
 {
-    let field = h.field;
+    let field = Arithmetic::new(h.field, tables);
     let n = h.n as usize;
     let mut out = [0u16; 255];
     for j in 0..symbols.len() {
         let e = negative(n, exponents[j] as usize);
-        out[j] = field.mul_with(tables, symbols[j] as u32, powers[e] as u32) as u16;
+        out[j] = field.mul(symbols[j] as u32, powers[e] as u32) as u16;
     }
     out
 }

@@ -1,7 +1,7 @@
 -- `correct_lanes` meets its contract. Invariant: the lanes before t are set right, and the count is of the places at which they differ.
 use mathlib.Core.Path.{◌≡◌}
 use mathlib.Core.List.{List}
-use Prim.Native.Nat.{ℕ, ◌-◌, ◌*◌, ◌≤◌}
+use Prim.Native.Nat.{ℕ, ◌*◌, ◌≤◌}
 use lib.ListN.{drop}
 use Rattle.lists.proofs.Fill.{Fills}
 use Rattle.layout.specs.Layout.{share_layout}

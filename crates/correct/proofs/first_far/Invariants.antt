@@ -2,7 +2,7 @@
 use mathlib.Core.Path.{◌≡◌}
 use mathlib.Core.Bool.{Bool}
 use mathlib.Core.List.{List}
-use Prim.Native.Nat.{ℕ, ◌-◌, ◌≤◌}
+use Prim.Native.Nat.{ℕ, ◌-◌}
 use Rattle.lists.specs.Search.{first_false}
 use Rattle.layout.specs.Layout.{share_layout, lane_of}
 use Rattle.layout.specs.Width.{symbols_of}

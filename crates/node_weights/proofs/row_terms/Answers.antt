@@ -5,7 +5,7 @@ use native.Mathlib.Omega.{arith}
 use lib.ListN.{get_or}
 use Rattle.lists.proofs.Numbers.{below_at}
 use Rattle.field.proofs.KindLaws.{size_fits}
-use Rattle.generator.specs.Records.{size}
+use Rattle.generator.specs.Records.{modulus_of, size}
 use Rattle.node_weights.specs.declared.Basis.{Basis}
 use Rattle.node_weights.specs.Inner.Rows.{basis_of, row_points, row_terms}
 use Rattle.node_weights.proofs.Parts.{Symbols, Parts, parts, row_symbols}
@@ -13,11 +13,11 @@ use Rattle.node_weights.proofs.row_terms.Goals as goal
 use Rattle.node_weights.proofs.row_terms.Goals.{Start}
 
 -- the rows' points, and what their basis holds
-points : (c : Start) → let h = c.args.h in Symbols h.field h.k (row_points h)
+points : (c : Start) → let h = c.args.h in Symbols (modulus_of h) h.k (row_points h)
 points c = row_symbols c.args.h c.requires.0 (omega (arith, c.requires.0.fits, c.requires.0.byte))
 
-rows : (c : Start) → let h = c.args.h in Parts h.field h.k (row_points h) c.args.rows
-rows c = parts _ _ _ _ (points c) c.requires.1
+rows : (c : Start) → let h = c.args.h in Parts (modulus_of h) h.k (row_points h) c.args.rows
+rows c = parts _ c.requires.0.field _ _ _ (points c) c.requires.1
 
 -- the row's point
 point : (c : Start) → get_or c.args.rows.points c.args.r 0 < size c.args.h

@@ -1,5 +1,5 @@
 -- `fill_power_rows` meets its contract. Invariant: the rows of bytes below i are written.
-use Prim.Native.Nat.{◌-◌, ◌*◌, ◌≤◌}
+use Prim.Native.Nat.{◌-◌, ◌*◌}
 use Rattle.lists.specs.Rows.{rows_from}
 use Rattle.lists.proofs.Fill.{Fills}
 use Rattle.check_sums.proofs.OneLane.{byte_row}

@@ -9,8 +9,7 @@ use Rattle.lists.proofs.Fill.{filled_start, filled_put, filled_end}
 use Rattle.lists.proofs.Numbers.{below_at}
 use Rattle.lists.proofs.Rows.{from_ext}
 use Rattle.field.specs.Fields.{mul}
-use Rattle.field.proofs.Bounds.{mul_below, power_below}
-use Rattle.field.proofs.KindLaws.{size_fits}
+use Rattle.field.proofs.Bounds.{power_below}
 use Rattle.generator.specs.Records.{modulus_of, size}
 use Rattle.generator.proofs.LaidShifts.{negative_below}
 use Rattle.check_sums.proofs.Sums.{power_place, power_at}
@@ -63,14 +62,12 @@ bounds-powers-e c = (power-is (goal.at.bounds-powers-e c).After-negative-e).0
 pub overflow_cast-powers : goal.overflow_cast-powers
 overflow_cast-powers c = omega (arith, c.type_inv.powers c.negative-e.result)
 
-pub mul_with-requires : goal.mul_with-requires
-mul_with-requires c =
-    (c.requires.0.usable_field, symbol (goal.at.mul_with-requires c).In-loop-j, (power-is (goal.at.mul_with-requires c).After-negative-e).1)
+pub mul-requires : goal.mul-requires
+mul-requires c =
+    (rw c.new-field.ensures (symbol (goal.at.mul-requires c).In-loop-j), rw c.new-field.ensures (power-is (goal.at.mul-requires c).After-negative-e).1)
 
 pub overflow_cast-out : goal.overflow_cast-out
-overflow_cast-out c =
-    let low : c.mul_with.result < size c.args.h = rw c.mul_with.ensures (mul_below _ c.requires.0.field (symbol (goal.at.overflow_cast-out c).In-loop-j) (power-is (goal.at.overflow_cast-out c).After-negative-e).1) in
-    omega (arith, size_fits _ c.requires.0.usable_field)
+overflow_cast-out c = omega (arith, c.mul.ensures.symbol, c.new-field.result.small)
 
 pub offset_bounds-out-j : goal.offset_bounds-out-j
 offset_bounds-out-j c = omega (arith, c.requires.3)
@@ -81,13 +78,13 @@ bounds-out-j c = omega (arith, c.requires.3)
 pub loop-j-preserved : goal.loop-j-preserved
 loop-j-preserved c =
     filled_put c.loop-j.invariant c.loop-j-test.true
-    (c.mul_with.ensures ∙ rw c.negative-e.ensures.0)
+    (c.mul.ensures.is ∙ rw c.negative-e.ensures.0)
 
 pub returns : goal.returns
 unfolding unchirped unchirped_at
 returns c =
     let a = c.args in
-    filled_end c.loop-j.invariant c.loop-j-test.false
+    rw c.new-field.ensures at (filled_end c.loop-j.invariant c.loop-j-test.false)
     ∙ ap (padded 255)
     (from_ext (read (modulus_of a.h) a.h.n a.powers.now a.exponents.now a.symbols.now) (unchirped_at a.h a.symbols.now) 0 (length a.symbols.now)
     (λ j low high. let small : triangle j % a.h.n < a.h.n = mod-lt _ (omega (arith, c.requires.0.two)) in
