@@ -3,7 +3,6 @@ ghost use Rattle.std.specs.Prelude.{◌≡◌, ◌<◌};
 ghost use Rattle.lists.specs.Padded.{padded};
 ghost use Rattle.field.specs.Fields.{size_of};
 ghost use Rattle.field.specs.Kinds.{modulus};
-ghost use Rattle.generator.specs.Records.{Sound};
 ghost use Rattle.generator.specs.Shifts.{shifts_of};
 ghost use Rattle.node_weights.specs.Inner.Rows.{row_points, base_inverses, row_terms};
 ghost use Rattle.check_sums.specs.Inner.Powers.{powers_of};
@@ -13,13 +12,14 @@ use crate::rounds;
 use check_sums::lane::stepped;
 use field::lent::Arithmetic;
 use field::{Field, Tables};
-use generator::Header;
+use generator::Code;
 
 // The points root^(shift + k − 1) of the rows, and zeros after them.
-pub fn row_points(h: Header, shifts: &[u8], powers: &[u16]) -> [u16; 255]
-    requires { Sound h × (powers.now ≡ padded 255 (powers_of h)) × (shifts.now ≡ padded 255 (shifts_of h.n h.k)) }
-    ensures { result ≡ padded 255 (row_points h) }
+pub fn row_points(code: Code, shifts: &[u8], powers: &[u16]) -> [u16; 255]
+    requires { (powers.now ≡ padded 255 (powers_of code.header)) × (shifts.now ≡ padded 255 (shifts_of code.header.n code.header.k)) }
+    ensures { result ≡ padded 255 (row_points code.header) }
 {
+    let h = code.header;
     let n = h.n as usize;
     let k = h.k as usize;
     let mut out = [0u16; 255];
@@ -42,10 +42,11 @@ fn step_ratio(field: Arithmetic, top: u32, scale: u32, y: u32) -> u32
 }
 
 // 1 over the coefficients of the base polynomial, from the highest down, and zeros after them.
-fn base_inverses(h: Header, tables: &Tables, powers: &[u16]) -> [u16; 255]
-    requires { Sound h × (powers.now ≡ padded 255 (powers_of h)) }
-    ensures { result ≡ padded 255 (base_inverses h) }
+fn base_inverses(code: Code, tables: &Tables, powers: &[u16]) -> [u16; 255]
+    requires { powers.now ≡ padded 255 (powers_of code.header) }
+    ensures { result ≡ padded 255 (base_inverses code.header) }
 {
+    let h = code.header;
     let field = Arithmetic::new(h.field, tables);
     let top = powers[h.k as usize % h.n as usize] as u32;
     let mut out = [0u16; 255];
@@ -64,17 +65,17 @@ fn base_inverses(h: Header, tables: &Tables, powers: &[u16]) -> [u16; 255]
 
 // The terms of row r: the coefficients of the product over the points of the other rows, each over that of the base polynomial; and zeros after them.
 pub fn row_terms(
-    h: Header,
+    code: Code,
     tables: &Tables,
     shifts: &[u8],
     powers: &[u16],
     points: &[u16],
     r: usize,
 ) -> [u16; 255]
-    requires { Sound h × (powers.now ≡ padded 255 (powers_of h)) × (points.now ≡ row_points h) × (r < h.k) × (shifts.now ≡ padded 255 (shifts_of h.n h.k)) }
-    ensures { result ≡ padded 255 (row_terms h r) }
+    requires { (powers.now ≡ padded 255 (powers_of code.header)) × (points.now ≡ row_points code.header) × (r < code.header.k) × (shifts.now ≡ padded 255 (shifts_of code.header.n code.header.k)) }
+    ensures { result ≡ padded 255 (row_terms code.header r) }
 {
-    let product = rounds::row_product(h, tables, shifts, powers, points);
-    let base = base_inverses(h, tables, powers);
-    node_weights::terms_at(h, tables, &product, &base, points[r] as u32)
+    let product = rounds::row_product(code, tables, shifts, powers, points);
+    let base = base_inverses(code, tables, powers);
+    node_weights::terms_at(code, tables, &product, &base, points[r] as u32)
 }

@@ -38,7 +38,7 @@ pub slice_bounds-fill_power_rows-end : goal.slice_bounds-fill_power_rows-end
 slice_bounds-fill_power_rows-end c = sym (length-take-le _ _ (omega (arith, size_fits (goal.at.slice_bounds-fill_power_rows-end c).After-struct_known-2-1, c.room-rows.ensures)))
 
 pub fill_power_rows-requires : goal.fill_power_rows-requires
-fill_power_rows-requires c = (c.requires.sound, sym (slice_bounds-fill_power_rows-end c) ∙ rw c.width_of-w.ensures.0)
+fill_power_rows-requires c = sym (slice_bounds-fill_power_rows-end c) ∙ rw c.width_of-w.ensures.0
 
 pub slice_bounds-rows-end-2 : goal.slice_bounds-rows-end-2
 slice_bounds-rows-end-2 c = whole_fits _ _ _ _ c.fill_power_rows.ensures (long (goal.at.slice_bounds-rows-end-2 c).After-struct_known-2-1)

@@ -18,7 +18,7 @@ word_long : (c : After-candidate-word) → c.args.h.n ≡ length (take c.args.h.
 word_long c = sym (ap length (word c) ∙ c.candidate-word.ensures.long)
 
 pub sums_with-sums-requires : goal.sums_with-sums-requires
-sums_with-sums-requires c = let s = c.requires in (s.0.sound, s.1, s.0.long, s.0.below)
+sums_with-sums-requires c = let s = c.requires in (s.1, s.0.long, s.0.below)
 
 pub constant_tables-tables-requires : goal.constant_tables-tables-requires
 constant_tables-tables-requires c = _
@@ -56,7 +56,7 @@ pub is_word_with-requires : goal.is_word_with-requires
 is_word_with-requires c =
     let s = c.requires in
     let k = c.candidate-word.ensures in
-    rw (word (goal.at.is_word_with-requires c).After-candidate-word) (s.0.sound, s.1, k.long, k.below)
+    rw (word (goal.at.is_word_with-requires c).After-candidate-word) (s.1, k.long, k.below)
 
 pub returns-then-is_word_with : goal.returns-then-is_word_with
 unfolding radius

@@ -55,7 +55,7 @@ slice_bounds-prepare-end c = sym (part_size (goal.at.slice_bounds-prepare-end c)
 pub prepare-setup-requires : goal.prepare-setup-requires
 prepare-setup-requires c =
     let listed = (accepted (goal.at.prepare-setup-requires c).After-struct_known-1).0 in
-    (listed.buffer.symbol_rows.sound, listed.different, part (goal.at.prepare-setup-requires c).After-fill_shifts-shifts)
+    (listed.different, part (goal.at.prepare-setup-requires c).After-fill_shifts-shifts)
 
 pub fill_message-requires : goal.fill_message-requires
 fill_message-requires c =

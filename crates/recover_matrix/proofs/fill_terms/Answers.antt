@@ -39,7 +39,7 @@ pub loop-r-init : goal.loop-r-init
 loop-r-init c = rw (sub-zero, zero-mul) (fills_start _ _)
 
 pub row_terms-row-requires : goal.row_terms-row-requires
-row_terms-row-requires c = (c.requires.0, c.requires.2, c.requires.3, c.loop-r-test.true)
+row_terms-row-requires c = (c.requires.2, c.requires.3, c.loop-r-test.true)
 
 pub overflow_mul-start : goal.overflow_mul-start
 overflow_mul-start c = omega (arith, row_in (goal.at.overflow_mul-start c).In-loop-r)

@@ -14,8 +14,8 @@ use Rattle.check_sums.proofs.powers.powers_with.Goals as goal
 use Rattle.check_sums.proofs.powers.powers_with.Goals.{After-mul-fourth, After-new-field, In-loop-i}
 
 -- the root and x are symbols
-root-symbol : (c : After-new-field) → c.args.h.root < size_of (modulus c.new-field.result.field)
-root-symbol c = rw c.new-field.ensures c.requires.root_below
+root-symbol : (c : After-new-field) → c.args.code.header.root < size_of (modulus c.new-field.result.field)
+root-symbol c = rw c.new-field.ensures c.args.code.sound.root_below
 
 symbol : (c : In-loop-i) → c.loop-i.x < size_of (modulus c.new-field.result.field)
 symbol c =
@@ -23,7 +23,7 @@ symbol c =
     rw c.loop-i.invariant.0 (power_below _ (usable_field _ f.usable) c.loop-i.i (root-symbol (goal.at.In-loop-i c).After-new-field))
 
 -- the fourth power
-fourth : (c : After-mul-fourth) → c.mul-fourth.result ≡ power (modulus c.new-field.result.field) c.args.h.root 4
+fourth : (c : After-mul-fourth) → c.mul-fourth.result ≡ power (modulus c.new-field.result.field) c.args.code.header.root 4
 fourth c =
     let v = usable_field _ c.new-field.result.usable in
     c.mul-fourth.ensures.is ∙ ap₂ (mul _) c.mul-square.ensures.is c.mul-square.ensures.is ∙ sym (power_four _ v _ (root-symbol (goal.at.After-mul-fourth c).After-new-field))
@@ -43,7 +43,7 @@ loop-i-init c =
       sym (power_one _ v _ low),
       c.mul-square.ensures.is ∙ sym (power_two _ v _ low),
       c.mul-x3.ensures.is ∙ ap (mul _ _) c.mul-square.ensures.is ∙ sym (power_three _ v _ low),
-      filled_start 255 _ _ (omega (arith, c.requires.byte)),
+      filled_start 255 _ _ (omega (arith, c.args.code.sound.byte)),
     )
 
 pub overflow_cast-out : goal.overflow_cast-out

@@ -25,9 +25,6 @@ overflow_sub-checks c = omega (arith, c.requires.0.fits)
 pub constant_tables-t-requires : goal.constant_tables-t-requires
 constant_tables-t-requires c = _
 
-pub powers-roots-requires : goal.powers-roots-requires
-powers-roots-requires c = c.requires.0
-
 -- the points as they are lent
 points_are : (c : After-powers-roots) → take c.args.h.k c.powers-roots.result ≡ first_points c.args.h
 points_are c = rw c.powers-roots.ensures (first_points_lem c.args.h c.requires.0)

@@ -15,9 +15,6 @@ use Rattle.wrong_lanes.proofs.check_rows.list_sums.Goals.{After-factors-weights,
 pub overflow_sub-checks : goal.overflow_sub-checks
 overflow_sub-checks c = omega (arith, c.requires.0.fits)
 
-pub powers-table-requires : goal.powers-table-requires
-powers-table-requires c = c.requires.0
-
 pub loop-e-init : goal.loop-e-init
 loop-e-init c =
     let h = c.args.h in (refl, refl, begun_none _ _ _ _ _ (λ i. length_factors h (i + 1)))
@@ -27,7 +24,7 @@ few : (c : In-loop-e) → c.loop-e.e + 1 ≤ 255
 few c = omega (arith, c.requires.0.byte, c.loop-e-test.true)
 
 pub factors-weights-requires : goal.factors-weights-requires
-factors-weights-requires c = (c.requires.0, c.powers-table.ensures, few (goal.at.factors-weights-requires c).In-loop-e)
+factors-weights-requires c = (c.powers-table.ensures, few (goal.at.factors-weights-requires c).In-loop-e)
 
 -- the weights as they are lent
 taken : (c : After-factors-weights) → let h = c.args.h in take h.n c.factors-weights.result ≡ factors_of h (c.loop-e.e + 1)

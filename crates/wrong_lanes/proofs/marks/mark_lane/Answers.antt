@@ -40,7 +40,7 @@ pub slice_bounds-is_word-end : goal.slice_bounds-is_word-end
 slice_bounds-is_word-end c = rw (taken (goal.at.slice_bounds-is_word-end c).After-read_symbols-values) (sym (long (goal.at.slice_bounds-is_word-end c).Start))
 
 pub is_word-word-requires : goal.is_word-word-requires
-is_word-word-requires c = rw (taken (goal.at.is_word-word-requires c).After-read_symbols-values) (c.requires.0.symbol_rows.sound, long (goal.at.is_word-word-requires c).Start, c.requires.0.symbol_rows.symbols)
+is_word-word-requires c = rw (taken (goal.at.is_word-word-requires c).After-read_symbols-values) (long (goal.at.is_word-word-requires c).Start, c.requires.0.symbol_rows.symbols)
 
 pub bounds-marks-0 : goal.bounds-marks-0
 bounds-marks-0 c = omega (arith, c.requires.1)
