@@ -83,6 +83,6 @@ pub fn stale_fault(
     requires { (length lane.now ≡ code.header.n) × (all_below (size code.header) lane.now ≡ true) × (r < code.header.k) × (shifts.now ≡ padded 255 (shifts_of code.header.n code.header.k)) }
     ensures { numbered result ≡ outcome_of (stale_fault code.header lane.now r old) }
 {
-    let powers = powers::powers_with(code.header, tables);
+    let powers = powers::powers_with(code, tables);
     stale_with(code, tables, shifts, &powers, lane, r, old)
 }

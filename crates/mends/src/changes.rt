@@ -93,7 +93,7 @@ pub fn list(code: Code, lane: &[u16], sums: &[u16], nodes: &mut [u8], symbols: &
     ensures { (result ≡ length (up_nodes code.header sums.now)) × (nodes.new ≡ in_front (up_nodes code.header sums.now) nodes.old) × (symbols.new ≡ in_front (bytes_of (width code.header) (map (mended_at code.header lane.now sums.now) (up_nodes code.header sums.now))) symbols.old) }
 {
     let tables = field::constant_tables();
-    let roots = check_sums::powers::powers(code.header);
+    let roots = check_sums::powers::powers(code);
     let count = list_nodes(code, &tables, &roots, sums, nodes);
     let new = new_symbols(code, &tables, &roots, lane, sums, &nodes[..count]);
     put_symbols(code, &new[..count], symbols);
