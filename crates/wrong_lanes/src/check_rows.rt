@@ -10,6 +10,7 @@ ghost use Rattle.wrong_lanes.specs.Inner.Checks.{first_points, first_weights, Ch
 
 use check_sums::powers;
 use field::Tables;
+use field::lent::Arithmetic;
 use generator::Header;
 use interpolation::lagrange;
 
@@ -18,12 +19,12 @@ fn check_weights(h: Header, tables: &Tables, roots: &[u16], scales: &[u16], e: u
     requires { Sound h × (roots.now ≡ padded 255 (powers_of h)) × (scales.now ≡ scales_of (modulus_of h) (first_points h)) × (e < h.n - h.k) }
     ensures { result ≡ set (padded 255 (first_weights h e)) (h.k + e) (sub (modulus_of h) 0 1) }
 {
-    let field = h.field;
+    let field = Arithmetic::new(h.field, tables);
     let k = h.k as usize;
     let at = k + e;
     let z = roots[at] as u32;
     let minus = field.sub(0, 1);
-    let mut weights = lagrange::values(field, tables, &roots[..k], scales, z);
+    let mut weights = lagrange::values(field, &roots[..k], scales, z);
     weights[at] = minus as u16;
     weights
 }
@@ -39,7 +40,7 @@ fn list_nodes(h: Header, codes: &[u64], lists: &mut [u16], counts: &mut [u8])
     let checks = (h.n - h.k) as usize;
     let t = field::constant_tables();
     let roots = powers::powers(h);
-    let scales = lagrange::scales(field, &t, &roots[..k]);
+    let scales = lagrange::scales(Arithmetic::new(field, &t), &roots[..k]);
     for e in 0..checks {
         let weights = check_weights(h, &t, &roots, &scales[..k], e);
         tile_products::prepare(field, codes, &weights[..n], e, lists, counts);

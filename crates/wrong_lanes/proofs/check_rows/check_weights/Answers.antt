@@ -7,10 +7,9 @@ use Rattle.lists.specs.Rows.{range}
 use Rattle.lists.proofs.Padding.{length_padded}
 use Rattle.lists.proofs.Places.{length_range}
 use Rattle.field.specs.Fields.{power}
-use Rattle.field.proofs.Arithmetic.{zero_below}
-use Rattle.field.proofs.BothKinds.{arithmetic}
-use Rattle.field.proofs.Bounds.{one_below, sub_below, power_below}
-use Rattle.field.proofs.KindLaws.{size_fits}
+use Rattle.field.proofs.Bounds.{one_below, power_below}
+use Rattle.field.proofs.FieldOf.{size_pos}
+use Rattle.field.proofs.KindLaws.{usable_field, size_fits}
 use Rattle.generator.specs.Records.{modulus_of, size}
 use Rattle.interpolation.proofs.Points.{length_points, points_symbols}
 use Rattle.check_sums.specs.Inner.Powers.{powers_of}
@@ -50,7 +49,7 @@ pub overflow_cast-z : goal.overflow_cast-z
 overflow_cast-z c = omega (arith, power-low (goal.at.overflow_cast-z c).Start, size_fits _ c.requires.0.usable_field)
 
 pub sub-minus-requires : goal.sub-minus-requires
-sub-minus-requires c = (c.requires.0.usable_field, zero_below (arithmetic (modulus_of c.args.h) c.requires.0.field), one_below (modulus_of c.args.h) c.requires.0.field)
+sub-minus-requires c = let v = usable_field _ c.new-field.result.usable in (size_pos _ v, one_below _ v)
 
 pub slice_bounds-values-end : goal.slice_bounds-values-end
 slice_bounds-values-end c = rw (points_are (goal.at.slice_bounds-values-end c).Start) (sym (length_points (modulus_of c.args.h) c.args.h.root 0 (range 0 c.args.h.k) ∙ length_range 0 c.args.h.k))
@@ -59,13 +58,10 @@ pub values-weights-requires : goal.values-weights-requires
 values-weights-requires c =
     let h = c.args.h in
     let short : length (range 0 h.k) ≤ 255 = omega (arith, length_range 0 h.k, few h c.requires.0 0) in
-    rw (points_are (goal.at.values-weights-requires c).Start) (points_symbols h.root 0 (range 0 h.k) c.requires.0.usable_field c.requires.0.root_below short, c.requires.2, power-low (goal.at.values-weights-requires c).Start)
+    rw (c.new-field.ensures, points_are (goal.at.values-weights-requires c).Start) (points_symbols (modulus_of h) h.root 0 (range 0 h.k) c.requires.0.field c.requires.0.root_below short, c.requires.2, power-low (goal.at.values-weights-requires c).Start)
 
 pub overflow_cast-weights : goal.overflow_cast-weights
-overflow_cast-weights c =
-    let p = modulus_of c.args.h in
-    let v = c.requires.0.field in
-    omega (arith, c.sub-minus.ensures, sub_below p v (zero_below (arithmetic p v)) (one_below p v), size_fits _ c.requires.0.usable_field)
+overflow_cast-weights c = omega (arith, c.sub-minus.ensures.symbol, c.new-field.result.small)
 
 pub offset_bounds-weights-at : goal.offset_bounds-weights-at
 offset_bounds-weights-at c = omega (arith, node (goal.at.offset_bounds-weights-at c).Start, c.requires.0.byte)
@@ -76,4 +72,4 @@ bounds-weights-at c = omega (arith, node (goal.at.bounds-weights-at c).Start, c.
 pub returns : goal.returns
 returns c =
     let at = c.args.h.k + c.args.e in
-    rw (c.sub-minus.ensures, c.values-weights.ensures, points_are (goal.at.returns c).Start, power-is (goal.at.returns c).Start)
+    rw (c.sub-minus.ensures.is, c.values-weights.ensures, c.new-field.ensures, points_are (goal.at.returns c).Start, power-is (goal.at.returns c).Start)

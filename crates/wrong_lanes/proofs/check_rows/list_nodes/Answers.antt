@@ -39,18 +39,18 @@ slice_bounds-scales-end c =
 pub scales-scales-requires : goal.scales-scales-requires
 scales-scales-requires c =
     let h = c.args.h in
-    rw (points_are (goal.at.scales-scales-requires c).After-powers-roots) (points_symbols h.root 0 (range 0 h.k) c.requires.0.usable_field c.requires.0.root_below (omega (arith, length_range 0 h.k, few h c.requires.0 0)))
+    rw (c.new.ensures, points_are (goal.at.scales-scales-requires c).After-powers-roots) (points_symbols (modulus_of h) h.root 0 (range 0 h.k) c.requires.0.field c.requires.0.root_below (omega (arith, length_range 0 h.k, few h c.requires.0 0)))
 
 pub loop-e-init : goal.loop-e-init
 loop-e-init c = (refl, refl, begun_none _ _ _ _ _ (λ i. length_check_row c.args.h c.requires.0 i))
 
 -- the scales as they are lent
 scales-are : (c : In-loop-e) → take c.args.h.k c.scales-scales.result ≡ scales_of (modulus_of c.args.h) (first_points c.args.h)
-scales-are c = rw (c.scales-scales.ensures, points_are (goal.at.In-loop-e c).After-powers-roots) (take_padded 255 _ _ (length_scales c.args.h))
+scales-are c = rw (c.scales-scales.ensures, c.new.ensures, points_are (goal.at.In-loop-e c).After-powers-roots) (take_padded 255 _ _ (length_scales c.args.h))
 
 pub slice_bounds-scales-end-in-loop-e : goal.slice_bounds-scales-end-in-loop-e
 slice_bounds-scales-end-in-loop-e c =
-    rw (c.scales-scales.ensures, points_are (goal.at.slice_bounds-scales-end-in-loop-e c).After-powers-roots) (omega (arith, few c.args.h c.requires.0 0, length_padded 255 (scales_of (modulus_of c.args.h) (first_points c.args.h)) (omega (arith, length_scales c.args.h, few c.args.h c.requires.0 0))))
+    rw (c.scales-scales.ensures, c.new.ensures, points_are (goal.at.slice_bounds-scales-end-in-loop-e c).After-powers-roots) (omega (arith, few c.args.h c.requires.0 0, length_padded 255 (scales_of (modulus_of c.args.h) (first_points c.args.h)) (omega (arith, length_scales c.args.h, few c.args.h c.requires.0 0))))
 
 pub slice_bounds-check_weights-end-in-loop-e : goal.slice_bounds-check_weights-end-in-loop-e
 slice_bounds-check_weights-end-in-loop-e c = rw (scales-are (goal.at.slice_bounds-check_weights-end-in-loop-e c).In-loop-e) (sym (length_scales c.args.h))

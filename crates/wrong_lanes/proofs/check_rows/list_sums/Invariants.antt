@@ -1,6 +1,6 @@
 -- `list_sums` meets its contract. The loop's invariant: the checks below e have their lists.
 use mathlib.Core.Path.{◌≡◌}
-use Prim.Native.Nat.{◌+◌, ◌-◌, ◌≤◌}
+use Prim.Native.Nat.{◌+◌}
 use lib.ListN.{length}
 use Rattle.generator.specs.Records.{modulus_of}
 use Rattle.tile_products.specs.Inner.Matrices.{Begun}
