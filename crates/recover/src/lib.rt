@@ -7,6 +7,7 @@ ghost use Rattle.generator.specs.Answers.{numbered};
 ghost use Rattle.recover.specs.Promise.{recover_fault, rebuild_fault, RecoverPromise, RebuildPromise, RecoverSays, RebuildSays};
 
 use generator::{Code, Refusal};
+use recover_matrix::Inverse;
 
 mod fault;
 mod one_row;
@@ -27,8 +28,12 @@ fn recover_accepted(
     let k = h.k as usize;
     let shifts = shifts::fill_shifts(h.n, h.k);
     let setup = node_weights::prepare(h, nodes, &shifts[..k]);
-    let w = symbols::width_of(h);
-    recover_matrix::fill_message(h, nodes, setup, w, lanes, shares, out);
+    let inverse = Inverse {
+        code,
+        nodes,
+        setup: &setup,
+    };
+    inverse.fill_message(lanes, shares, out);
     Ok(())
 }
 
