@@ -71,7 +71,7 @@ module _ (count held : ℕ) where
   pub counted_value : (f : ℕ) → result_unwrap_or (update_of f count) held ≡ pick (eqb f 0) count held
   unfolding update_of
   counted_value zero = refl
-  counted_value (suc f) = refl
+  counted_value (suc f) = sym (refused_value (suc f) count held (λ z. absurd cc))
 
   pub counted_again : (f : ℕ) → update_of f (pick (eqb f 0) count held) ≡ update_of f count
   unfolding update_of
@@ -79,9 +79,11 @@ module _ (count held : ℕ) where
   counted_again (suc f) = refl
 
 -- a value that is handed over where no number is met
-pub handed : (f : ℕ) {u v w : ℕ} → (f ≡ 0 → u ≡ v) → pick (eqb f 0) u w ≡ pick (eqb f 0) v w
-handed zero same = same refl
-handed (suc f) same = refl
+pub handed : (f : ℕ) {u v : ℕ} (w : ℕ) → (f ≡ 0 → u ≡ v) → pick (eqb f 0) u w ≡ pick (eqb f 0) v w
+handed zero w same = same refl
+handed (suc f) {u} {v} w same =
+    let some : suc f ≡ 0 → ⊥ = λ z. absurd cc in
+    refused_value (suc f) u w some ∙ sym (refused_value (suc f) v w some)
 
 module _ (rec : List ℕ) (l symbol lane old new : ℕ) (shares : List ℕ) (altered : ℕ) (shares' : List ℕ) (a : Answer ℕ) where
   abbrev update_number : ℕ
@@ -97,7 +99,7 @@ module _ (rec : List ℕ) (l symbol lane old new : ℕ) (shares : List ℕ) (alt
       record {
         number = number;
         says = record { promise = record { answer = ap₂ update_of number value ∙ counted_again count altered update_number; written = says.promise.written } };
-        altered_is = rw number (value ∙ handed update_number (λ none. altered_symbols (header_of rec) share_layout l symbol lane old new shares shares' (rw none at says.promise.written)));
+        altered_is = rw number (value ∙ handed update_number altered (λ none. altered_symbols (header_of rec) share_layout l symbol lane old new shares shares' (rw none at says.promise.written)));
       }
 
 module _ (rec : List ℕ) (l : ℕ) (shares : List ℕ) (first : ℕ) where

@@ -49,5 +49,5 @@ module _ (rec : List ℕ) (l : ℕ) (shares : List ℕ) (altered : ℕ) (shares'
       record {
         number = number;
         says = record { promise = record { answer = again r altered' number value; written = says.promise.written } };
-        altered_is = rw number (value ∙ handed f (λ none. counted rec l shares shares' count (done none)));
+        altered_is = rw number (value ∙ handed f altered (λ none. counted rec l shares shares' count (done none)));
       }

@@ -20,15 +20,15 @@ use Rattle.balanced_c.proofs.Answers.{counted_number, counted_value}
 
 module _ (rec before after : List ℕ) (answer symbol amount : ℕ) where
   -- what was found in numbers
-  pub find_done : (r : Finding) → FindSays rec before after (Ok r) → FindGives rec before after answer symbol amount (case_of r) (found_symbol r) (found_amount r) 0
+  pub find_done : {r s : Finding} → r ≡ s → FindSays rec before after (Ok r) → FindGives rec before after answer symbol amount (case_of s) (found_symbol s) (found_amount s) 0
   unfolding found_in
-  find_done r says =
+  find_done {r} is says =
       let (none, same) = found_means (fault_of rec (λ h. find_fault h before after)) (found_in rec before after) r says.found.promise.answer in
       record {
         number = sym none;
-        answer_is = ap case_of (sym same);
-        symbol_is = ap found_symbol (sym same);
-        amount_is = ap found_amount (sym same);
+        answer_is = ap case_of (sym (same ∙ is));
+        symbol_is = ap found_symbol (sym (same ∙ is));
+        amount_is = ap found_amount (sym (same ∙ is));
         claims = says.claims;
       }
 

@@ -68,19 +68,13 @@ fn open_words(group: &[u8], words: &mut [u16], out: &mut [u8])
     write_masked(c, words, out);
 }
 
-// Room for the words of a group.
-fn word_room() -> [u16; 255]
-    ensures { length result ≡ 255 }
-{
-    [0; 255]
-}
-
 // One group of at most 255 words.
+#[tactic(auto, unfolding(carrying::specs::Carrying::word_count))]
 fn close_group(p: u32, s: &[u8], out: &mut [u8])
     requires { (p ≤ 65536) × (word_count (length s.now) ≤ 255) × (length out.old ≡ word_count (length s.now) * 2 + 2) }
     ensures { out.new ≡ bytes_of 2 (closed p (words_of s.now)) }
 {
-    let mut words = word_room();
+    let mut words = [0u16; 255];
     let count = s.len() / 2 + s.len() % 2;
     close_words(p, s, &mut words[..count], out);
 }
@@ -89,16 +83,9 @@ fn open_group(group: &[u8], out: &mut [u8])
     requires { (length group.now % 2 ≡ 0) × (2 ≤ length group.now) × (length group.now ≤ 512) × (length out.old + 2 ≤ length group.now) }
     ensures { out.new ≡ take (length out.old) (bytes_of 2 (opened (symbols_of 2 group.now))) }
 {
-    let mut words = word_room();
+    let mut words = [0u16; 255];
     let count = group.len() / 2 - 1;
     open_words(group, &mut words[..count], out);
-}
-
-// The smaller of two numbers.
-fn smaller(a: usize, b: usize) -> usize
-    ensures { (result ≤ a) × (result ≤ b) × (a < b → result ≡ a) × (b ≤ a → result ≡ b) }
-{
-    if a < b { a } else { b }
 }
 
 // All groups of bytes.
@@ -110,7 +97,7 @@ pub fn close_groups(p: u32, s: &[u8], out: &mut [u8])
     let mut from = 0;
     let mut to = 0;
     while from < s.len() {
-        let part = smaller(size, s.len() - from);
+        let part = size.min(s.len() - from);
         let end = from + part;
         let next = to + (part / 2 + part % 2) * 2 + 2;
         close_group(p, &s[from..end], &mut out[to..next]);
@@ -120,18 +107,18 @@ pub fn close_groups(p: u32, s: &[u8], out: &mut [u8])
 }
 
 // As many bytes as there is room for, of all groups.
-pub fn open_groups(p: u32, s: &[u8], out: &mut [u8])
-    requires { (34815 < p) × (p < 65536) × (length s.now ≡ words_length p (length out.old)) }
-    ensures { out.new ≡ word_bytes_back p (length out.old) s.now }
+pub fn open_groups(p: u32, symbols: &[u8], out: &mut [u8])
+    requires { (34815 < p) × (p < 65536) × (length symbols.now ≡ words_length p (length out.old)) }
+    ensures { out.new ≡ word_bytes_back p (length out.old) symbols.now }
 {
     let size = group_words(p) * 2 + 2;
     let mut from = 0;
     let mut to = 0;
-    while from < s.len() {
-        let part = smaller(size, s.len() - from);
+    while from < symbols.len() {
+        let part = size.min(symbols.len() - from);
         let end = from + part;
-        let next = to + smaller(part - 2, out.len() - to);
-        open_group(&s[from..end], &mut out[to..next]);
+        let next = to + (part - 2).min(out.len() - to);
+        open_group(&symbols[from..end], &mut out[to..next]);
         from = end;
         to = next;
     }

@@ -23,7 +23,7 @@ fn length_accepted(code: Code, n: usize) -> Result<usize, Refusal>
     Ok(lengths::carried_length(p, n))
 }
 
-// Bytes as they are carried, and read.
+// Bytes as they are carried, and read. The two steps differ at every call: one function that takes them would be no plainer.
 fn write_carried(p: u32, bytes: &[u8], out: &mut [u8])
     requires { (p < 65536) × (carries_none p ≡ false) × (length out.old ≡ carried_length p (length bytes.now)) }
     ensures { out.new ≡ carried_bytes p bytes.now }
@@ -79,7 +79,7 @@ pub fn carry_in(rec: &[u8], bytes: &[u8], symbols: &mut [u8]) -> Result<(), Refu
     carry_accepted(code, bytes, symbols)
 }
 
-// Writes the bytes that symbols carry, as many as there is room for, likewise.
+// Writes the bytes that symbols carry, as many as there is room for, likewise. Each call of the interface is a function of its own.
 pub fn carry_out(rec: &[u8], symbols: &[u8], bytes: &mut [u8]) -> Result<(), Refusal>
     ensures { CarryOutSays rec.now symbols.now bytes.old bytes.new (numbered result) }
 {

@@ -1,29 +1,16 @@
 // The mask of a group, digit by digit: each digit is the one with which fewer masks are ruled out.
-ghost use Rattle.std.specs.Prelude.{◌≡◌, ◌∷◌, ◌+◌, ◌-◌, ◌*◌, ◌≤◌, ◌<◌, min, leb, length};
+ghost use Rattle.std.specs.Prelude.{◌≡◌, ◌∷◌, ◌+◌, ◌*◌, ◌≤◌, ◌<◌, leb, length};
 ghost use Rattle.lists.specs.Choice.{pick};
 ghost use Rattle.carrying.specs.Masks.{ruled_out, all_ruled_out, mask_of};
-
-// How far a number is above another, or 0.
-fn above(a: u32, b: u32) -> u32
-    ensures { result ≡ a - b }
-{
-    if b < a { a - b } else { 0 }
-}
-
-// The smaller of two numbers.
-fn smaller(a: u32, b: u32) -> u32
-    ensures { result ≡ min a b }
-{
-    if a < b { a } else { b }
-}
 
 // Of the 2^k masks that begin with the digits of a, those under which a word is no symbol.
 fn ruled_out(p: u32, k: u32, a: u32, w: u16) -> u32
     requires { (k ≤ 15) × (a < 65536) }
     ensures { (result ≡ ruled_out p k a w) × (result ≤ 32768) }
 {
+    let most: u32 = 1 << k;
     let end = (((w as u32 >> k) ^ a) + 1) << k;
-    smaller(1 << k, above(end, p))
+    most.min(end.saturating_sub(p))
 }
 
 // The same of several words and 0, added.
@@ -53,16 +40,14 @@ pub fn find_mask(p: u32, words: &[u16]) -> u16
 {
     let mut total = (words.len() as u32 + 1) * (65536 - p);
     let mut a: u32 = 0;
-    let mut k: u32 = 16;
-    while 0 < k {
+    for k in (0..16).rev() {
         if total == 0 {
-            return (a << k) as u16;
+            return (a << (k + 1)) as u16;
         }
-        k -= 1;
         let low = all_ruled_out(p, k, a * 2, words);
         let high = total - low;
         a = next_digit(a, low, high);
-        total = smaller(low, high);
+        total = low.min(high);
     }
     a as u16
 }

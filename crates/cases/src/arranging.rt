@@ -1,69 +1,35 @@
 // Shares of a block that stand node after node put lane after lane, and back; those of all nodes, or of listed ones.
-use std::alloc::{AllocError, Global};
-use std::str::FromStr;
+use balanced::{Refusal, listed_to_lanes, listed_to_nodes, to_lanes, to_nodes};
+use std::alloc::Global;
 use test_calls::write;
 use test_tools::MARK;
 use test_words::{Fault, Words};
 
-#[derive(Clone, Copy, Debug)]
-enum Way {
-    ToLanes,
-    ToNodes,
-    ListedToLanes,
-    ListedToNodes,
+fn arrange<F: FnOnce(&[u8], u32, &[u8], &mut [u8]) -> Result<(), Refusal>>(
+    alloc: Global,
+    words: &mut Words,
+    call: F,
+) -> Result<String, Fault>
+    requires { F.IsAlwaysCallable call }
+{
+    let record = words.record()?;
+    let lanes = words.number("lanes")?;
+    let shares = words.bytes("shares")?;
+    write(alloc, words, MARK, |out| call(&record, lanes, &shares, out))
 }
 
-impl FromStr for Way {
-    type Err = Fault;
-
-    fn from_str(name: &str) -> Result<Way, Fault> {
-        match name {
-            "to_lanes" => Ok(Way::ToLanes),
-            "to_nodes" => Ok(Way::ToNodes),
-            "listed_to_lanes" => Ok(Way::ListedToLanes),
-            "listed_to_nodes" => Ok(Way::ListedToNodes),
-            _ => Err(Fault::UnknownCall),
-        }
-    }
-}
-
-#[derive(Debug, Drop)]
-pub struct Arrangement {
-    way: Way,
-    record: Vec<u8>,
-    lanes: u32,
-    shares: Vec<u8>,
-    room: usize,
-}
-
-impl Arrangement {
-    // What the words after a name say, if it is one of these calls'.
-    pub fn read(name: &str, words: &mut Words) -> Result<Option<Arrangement>, Fault> {
-        let Ok(way) = name.parse() else {
-            return Ok(None);
-        };
-        Ok(Some(Arrangement {
-            way,
-            record: words.record()?,
-            lanes: words.number("lanes")?,
-            shares: words.bytes("shares")?,
-            room: words.room()?,
-        }))
-    }
-
-    pub fn answer(self, alloc: Global) -> Result<String, AllocError> {
-        let Arrangement {
-            way,
-            record,
-            lanes,
-            shares,
-            room,
-        } = self;
-        write(alloc, MARK, room, |out| match way {
-            Way::ToLanes => balanced::to_lanes(&record, lanes, &shares, out),
-            Way::ToNodes => balanced::to_nodes(&record, lanes, &shares, out),
-            Way::ListedToLanes => balanced::listed_to_lanes(&record, lanes, &shares, out),
-            Way::ListedToNodes => balanced::listed_to_nodes(&record, lanes, &shares, out),
-        })
-    }
+// The answer to the call, if it is one of these.
+pub fn arranging_call(
+    alloc: Global,
+    name: &str,
+    words: &mut Words,
+) -> Result<Option<String>, Fault> {
+    let text = match name {
+        "to_lanes" => arrange(alloc, words, to_lanes)?,
+        "to_nodes" => arrange(alloc, words, to_nodes)?,
+        "listed_to_lanes" => arrange(alloc, words, listed_to_lanes)?,
+        "listed_to_nodes" => arrange(alloc, words, listed_to_nodes)?,
+        _ => return Ok(None),
+    };
+    Ok(Some(text))
 }

@@ -1,119 +1,64 @@
 // Calls that write shares, a message or differences of a block.
-use std::alloc::{AllocError, Global};
+use std::alloc::Global;
 use test_calls::write;
 use test_tools::MARK;
 use test_words::{Fault, Words};
 
-#[derive(Debug, Drop)]
-pub enum BlockCall {
-    Encode {
-        record: Vec<u8>,
-        lanes: u32,
-        message: Vec<u8>,
-        room: usize,
-    },
-    Recover {
-        record: Vec<u8>,
-        lanes: u32,
-        nodes: Vec<u8>,
-        shares: Vec<u8>,
-        room: usize,
-    },
-    Rebuild {
-        record: Vec<u8>,
-        lanes: u32,
-        nodes: Vec<u8>,
-        shares: Vec<u8>,
-        target: u32,
-        room: usize,
-    },
-    Differences {
-        record: Vec<u8>,
-        lanes: u32,
-        symbol: u32,
-        before: Vec<u8>,
-        after: Vec<u8>,
-        room: usize,
-    },
+fn encode(alloc: Global, words: &mut Words) -> Result<String, Fault> {
+    let record = words.record()?;
+    let lanes = words.number("lanes")?;
+    let message = words.bytes("message")?;
+    write(
+        alloc,
+        words,
+        MARK,
+        |out| balanced::encode_block(&record, lanes, &message, out),
+    )
 }
 
-impl BlockCall {
-    // What the words after a name say, if it is one of these calls'.
-    pub fn read(name: &str, words: &mut Words) -> Result<Option<BlockCall>, Fault> {
-        let call = match name {
-            "encode" => BlockCall::Encode {
-                record: words.record()?,
-                lanes: words.number("lanes")?,
-                message: words.bytes("message")?,
-                room: words.room()?,
-            },
-            "recover" => BlockCall::Recover {
-                record: words.record()?,
-                lanes: words.number("lanes")?,
-                nodes: words.bytes("nodes")?,
-                shares: words.bytes("shares")?,
-                room: words.room()?,
-            },
-            "rebuild" => BlockCall::Rebuild {
-                record: words.record()?,
-                lanes: words.number("lanes")?,
-                nodes: words.bytes("nodes")?,
-                shares: words.bytes("shares")?,
-                target: words.number("target")?,
-                room: words.room()?,
-            },
-            "differences" => BlockCall::Differences {
-                record: words.record()?,
-                lanes: words.number("lanes")?,
-                symbol: words.number("symbol")?,
-                before: words.bytes("before")?,
-                after: words.bytes("after")?,
-                room: words.room()?,
-            },
-            _ => return Ok(None),
-        };
-        Ok(Some(call))
-    }
+fn recover(alloc: Global, words: &mut Words) -> Result<String, Fault> {
+    let record = words.record()?;
+    let lanes = words.number("lanes")?;
+    let nodes = words.bytes("nodes")?;
+    let shares = words.bytes("shares")?;
+    write(
+        alloc,
+        words,
+        MARK,
+        |out| balanced::recover_block(&record, lanes, &nodes, &shares, out),
+    )
+}
 
-    pub fn answer(self, alloc: Global) -> Result<String, AllocError> {
-        match self {
-            BlockCall::Encode {
-                record,
-                lanes,
-                message,
-                room,
-            } => write(alloc, MARK, room, |out| {
-                balanced::encode_block(&record, lanes, &message, out)
-            }),
-            BlockCall::Recover {
-                record,
-                lanes,
-                nodes,
-                shares,
-                room,
-            } => write(alloc, MARK, room, |out| {
-                balanced::recover_block(&record, lanes, &nodes, &shares, out)
-            }),
-            BlockCall::Rebuild {
-                record,
-                lanes,
-                nodes,
-                shares,
-                target,
-                room,
-            } => write(alloc, MARK, room, |out| {
-                balanced::rebuild_share(&record, lanes, &nodes, &shares, target, out)
-            }),
-            BlockCall::Differences {
-                record,
-                lanes,
-                symbol,
-                before,
-                after,
-                room,
-            } => write(alloc, MARK, room, |out| {
-                balanced::differences(&record, lanes, symbol, &before, &after, out)
-            }),
-        }
-    }
+fn rebuild(alloc: Global, words: &mut Words) -> Result<String, Fault> {
+    let record = words.record()?;
+    let lanes = words.number("lanes")?;
+    let nodes = words.bytes("nodes")?;
+    let shares = words.bytes("shares")?;
+    let target = words.number("target")?;
+    write(alloc, words, MARK, |out| {
+        balanced::rebuild_share(&record, lanes, &nodes, &shares, target, out)
+    })
+}
+
+fn differences(alloc: Global, words: &mut Words) -> Result<String, Fault> {
+    let record = words.record()?;
+    let lanes = words.number("lanes")?;
+    let symbol = words.number("symbol")?;
+    let before = words.bytes("before")?;
+    let after = words.bytes("after")?;
+    write(alloc, words, MARK, |out| {
+        balanced::differences(&record, lanes, symbol, &before, &after, out)
+    })
+}
+
+// The answer to the call, if it is one of these.
+pub fn block_call(alloc: Global, name: &str, words: &mut Words) -> Result<Option<String>, Fault> {
+    let text = match name {
+        "encode" => encode(alloc, words)?,
+        "recover" => recover(alloc, words)?,
+        "rebuild" => rebuild(alloc, words)?,
+        "differences" => differences(alloc, words)?,
+        _ => return Ok(None),
+    };
+    Ok(Some(text))
 }

@@ -1,102 +1,57 @@
 // Calls of a repair by traces.
-use balanced::RepairPlan;
+use balanced::{Refusal, RepairPlan};
 use std::alloc::{AllocError, Global};
-use test_calls::write;
+use test_calls::{Refused, write};
 use test_tools::MARK;
 use test_words::{Fault, Words};
 
-#[derive(Debug, Drop)]
-pub enum RepairCall {
-    // What a node sends.
-    Bits {
-        record: Vec<u8>,
-        lanes: u32,
-        node: u32,
-        target: u32,
-        missing: Vec<u8>,
-        share: Vec<u8>,
-        room: usize,
-    },
-    // The target's share.
-    Share {
-        record: Vec<u8>,
-        lanes: u32,
-        target: u32,
-        missing: Vec<u8>,
-        rows: Vec<u8>,
-        room: usize,
-    },
-    Plan {
-        record: Vec<u8>,
-        count: u32,
-    },
+// What a node sends.
+fn bits(alloc: Global, words: &mut Words) -> Result<String, Fault> {
+    let record = words.record()?;
+    let lanes = words.number("lanes")?;
+    let node = words.number("node")?;
+    let target = words.number("target")?;
+    let missing = words.bytes("missing")?;
+    let share = words.bytes("share")?;
+    write(alloc, words, MARK, |out| {
+        balanced::repair_bits(&record, lanes, node, target, &missing, &share, out)
+    })
 }
 
-// How many bits each node sends and how many further nodes may be missing, or the number.
-fn planned(alloc: Global, answer: RepairPlan) -> Result<String, AllocError> {
+// The target's share.
+fn share(alloc: Global, words: &mut Words) -> Result<String, Fault> {
+    let record = words.record()?;
+    let lanes = words.number("lanes")?;
+    let target = words.number("target")?;
+    let missing = words.bytes("missing")?;
+    let rows = words.bytes("rows")?;
+    write(alloc, words, MARK, |out| {
+        balanced::repair_share(&record, lanes, target, &missing, &rows, out)
+    })
+}
+
+// How many bits each node sends and how many further nodes may be missing, or what turned the call away.
+fn planned(alloc: Global, answer: Result<RepairPlan, Refusal>) -> Result<String, AllocError> {
     match answer {
-        RepairPlan::Sends(bits, spare) => format!(in alloc; "bits {bits} spare {spare}"),
-        RepairPlan::Refused(number) => format!(in alloc; "refused {number}"),
+        Ok(RepairPlan { bits, spare }) => format!(in alloc; "bits {bits} spare {spare}"),
+        Err(refusal) => format!(in alloc; "{}", Refused(refusal)),
     }
 }
 
-impl RepairCall {
-    // What the words after a name say, if it is one of these calls'.
-    pub fn read(name: &str, words: &mut Words) -> Result<Option<RepairCall>, Fault> {
-        let call = match name {
-            "repair_bits" => RepairCall::Bits {
-                record: words.record()?,
-                lanes: words.number("lanes")?,
-                node: words.number("node")?,
-                target: words.number("target")?,
-                missing: words.bytes("missing")?,
-                share: words.bytes("share")?,
-                room: words.room()?,
-            },
-            "repair_share" => RepairCall::Share {
-                record: words.record()?,
-                lanes: words.number("lanes")?,
-                target: words.number("target")?,
-                missing: words.bytes("missing")?,
-                rows: words.bytes("rows")?,
-                room: words.room()?,
-            },
-            "repair_plan" => RepairCall::Plan {
-                record: words.record()?,
-                count: words.number("count")?,
-            },
-            _ => return Ok(None),
-        };
-        Ok(Some(call))
-    }
+fn plan(alloc: Global, words: &mut Words) -> Result<String, Fault> {
+    let record = words.record()?;
+    let count = words.number("count")?;
+    words.end()?;
+    Ok(planned(alloc, balanced::repair_plan(&record, count))?)
+}
 
-    pub fn answer(self, alloc: Global) -> Result<String, AllocError> {
-        match self {
-            RepairCall::Bits {
-                record,
-                lanes,
-                node,
-                target,
-                missing,
-                share,
-                room,
-            } => write(alloc, MARK, room, |out| {
-                balanced::repair_bits(&record, lanes, node, target, &missing, &share, out)
-            }),
-            RepairCall::Share {
-                record,
-                lanes,
-                target,
-                missing,
-                rows,
-                room,
-            } => write(alloc, MARK, room, |out| {
-                balanced::repair_share(&record, lanes, target, &missing, &rows, out)
-            }),
-            RepairCall::Plan { record, count } => planned(
-                alloc,
-                balanced::repair_plan(&record, count),
-            ),
-        }
-    }
+// The answer to the call, if it is one of these.
+pub fn repair_call(alloc: Global, name: &str, words: &mut Words) -> Result<Option<String>, Fault> {
+    let text = match name {
+        "repair_bits" => bits(alloc, words)?,
+        "repair_share" => share(alloc, words)?,
+        "repair_plan" => plan(alloc, words)?,
+        _ => return Ok(None),
+    };
+    Ok(Some(text))
 }

@@ -1,40 +1,19 @@
--- A record that is written byte by byte into seven bytes, and what is known where no number is met.
+-- What is known where no number is met, and beside one.
 use Rattle.std.specs.Prelude.{Err}
-use mathlib.Core.Path.{◌≡◌, refl, sym, ap}
+use mathlib.Core.Path.{◌≡◌, refl, sym}
 use mathlib.Core.Bool.{◌||◌}
-use mathlib.Core.List.{List, [], ◌∷◌, ◌++◌}
+use mathlib.Core.List.{List}
 use Prim.Native.Nat.{ℕ, zero, suc, ◌≤◌, ◌<◌}
 use native.Mathlib.Omega.{arith}
 use borrow.Author.Tests.{eqb-false, ltb-false}
 use lib.Dec.{eqb, ltb}
-use lib.ListN.{length, set, drop}
+use lib.ListN.{length}
 use Rattle.lists.proofs.Cases.{or_left_false, or_right_false, when_zero}
 use Rattle.refusals.specs.Conditions.{length_bad}
 use Rattle.refusals.proofs.Accepts.{not_met}
 use Rattle.refusals.proofs.NotMet.{length_good}
 use Rattle.blocks.proofs.Refused.{refused_value}
 use Rattle.choose.specs.Promise.{asked_bad, choose_fault, chosen_of, ChoosePromise}
-
-pub four_put : (out : List ℕ) (a b c d : ℕ) → length out ≡ 7 → set (set (set (set out 0 a) 1 b) 2 c) 3 d ≡ (a ∷ b ∷ c ∷ d ∷ []) ++ drop 4 out
-four_put [] a b c d h = absurd (omega arith)
-four_put (x ∷ []) a b c d h = absurd (omega arith)
-four_put (x ∷ y ∷ []) a b c d h = absurd (omega arith)
-four_put (x ∷ y ∷ z ∷ []) a b c d h = absurd (omega arith)
-four_put (x ∷ y ∷ z ∷ u ∷ r) a b c d h = refl
-
-last_put : (out : List ℕ) (a b c : ℕ) → length out ≡ 3 → set (set (set out 0 a) 1 b) 2 c ≡ a ∷ b ∷ c ∷ []
-last_put [] a b c h = absurd (omega arith)
-last_put (x ∷ []) a b c h = absurd (omega arith)
-last_put (x ∷ y ∷ []) a b c h = absurd (omega arith)
-last_put (x ∷ y ∷ z ∷ []) a b c h = refl
-last_put (x ∷ y ∷ z ∷ u ∷ r) a b c h = absurd (omega arith)
-
-pub seven_put : (out : List ℕ) (a b c d e f g : ℕ) → length out ≡ 7 → set (set (set (set (set (set (set out 0 a) 1 b) 2 c) 3 d) 4 e) 5 f) 6 g ≡ a ∷ b ∷ c ∷ d ∷ e ∷ f ∷ g ∷ []
-seven_put [] a b c d e f g h = absurd (omega arith)
-seven_put (x ∷ []) a b c d e f g h = absurd (omega arith)
-seven_put (x ∷ y ∷ []) a b c d e f g h = absurd (omega arith)
-seven_put (x ∷ y ∷ z ∷ []) a b c d e f g h = absurd (omega arith)
-seven_put (x ∷ y ∷ z ∷ u ∷ r) a b c d e f g h = let rest : length r ≡ 3 = omega arith in ap (λ (l : List ℕ). a ∷ b ∷ c ∷ d ∷ l) (last_put r e f g rest)
 
 -- what is asked for can be had
 pub record Asked (n k : ℕ) (out : List ℕ) : Type 0 where

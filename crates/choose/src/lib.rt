@@ -1,7 +1,7 @@
 // A record for any number of nodes from 2 to 255 that carries bytes: bytes as symbols where n divides 255, else the largest prime that fits.
 #![tactic(auto)]
 
-ghost use Rattle.std.specs.Prelude.{◌≡◌, [], ◌∷◌, ◌++◌, ◌/◌, ◌%◌, ◌≤◌, length, drop};
+ghost use Rattle.std.specs.Prelude.{◌≡◌, ◌++◌, ◌≤◌, length, drop};
 ghost use Rattle.generator.specs.Answers.{numbered, outcome_of};
 ghost use Rattle.choose.specs.Promise.{chosen_record, asked_bad, choose_fault, ChooseSays};
 
@@ -25,43 +25,27 @@ fn choose_fault(n: u32, k: u32, room: usize) -> Result<(), Refusal>
     Refusal::Length.when(length_bad(7, room))
 }
 
-// A record of kind 2.
-fn write_binary(root: u8, n: u8, k: u8, out: &mut [u8])
-    requires { length out.old ≡ 7 }
-    ensures { out.new ≡ (2 ∷ root ∷ n ∷ k ∷ []) ++ drop 4 out.old }
-{
-    out[0] = 2;
-    out[1] = root;
-    out[2] = n;
-    out[3] = k;
-}
-
-// A record of kind 3.
-fn write_wide(p: u16, root: u16, n: u8, k: u8, out: &mut [u8])
-    requires { length out.old ≡ 7 }
-    ensures { out.new ≡ 3 ∷ p / 256 ∷ p % 256 ∷ root / 256 ∷ root % 256 ∷ n ∷ k ∷ [] }
-{
-    out[0] = 3;
-    out[1] = (p / 256) as u8;
-    out[2] = (p % 256) as u8;
-    out[3] = (root / 256) as u8;
-    out[4] = (root % 256) as u8;
-    out[5] = n;
-    out[6] = k;
-}
-
-// The record, and how many bytes it has.
+// The record, of kind 2 or 3, and how many bytes it has.
 fn write_chosen(n: u8, k: u8, out: &mut [u8]) -> u8
     requires { (2 ≤ n) × (length out.old ≡ 7) }
     ensures { (result ≡ length (chosen_record n k)) × (out.new ≡ chosen_record n k ++ drop (length (chosen_record n k)) out.old) }
 {
-    let p = table::prime_for(n);
-    let root = table::root_for(n);
+    let entry = table::entry_for(n);
+    let p = entry.prime;
+    let root = entry.root;
     if p == 0 {
-        write_binary(root as u8, n, k, out);
+        out[..4].copy_from_slice(&[2, root as u8, n, k]);
         return 4;
     }
-    write_wide(p, root, n, k, out);
+    out.copy_from_slice(&[
+        3,
+        (p / 256) as u8,
+        (p % 256) as u8,
+        (root / 256) as u8,
+        (root % 256) as u8,
+        n,
+        k,
+    ]);
     7
 }
 

@@ -2,22 +2,25 @@
 ghost use Rattle.std.specs.Prelude.{◌≡◌, ◌≤◌};
 ghost use Rattle.choose.specs.Table.{prime_for, root_for};
 
-// The largest prime below 65,536 that leaves 1 modulo n, or 0 where n divides 255.
-pub fn prime_for(n: u8) -> u16
-    requires { 2 ≤ n }
-    ensures { result ≡ prime_for n }
-{
-    let at = (n - 2) as usize;
-    PRIMES[at]
+// The largest prime below 65,536 that leaves 1 modulo a number of nodes, or 0 where that divides 255, and a symbol of this order there.
+#[derive(Clone, Copy)]
+pub struct Entry {
+    pub prime: u16,
+    pub root: u16,
 }
 
-// A symbol of order n there.
-pub fn root_for(n: u8) -> u16
+// The entry for n nodes.
+#[tactic(auto, unfolding(crate::specs::Table::prime_for, crate::specs::Table::root_for, crate::specs::Table::prime_table, crate::specs::Table::root_table))]
+pub fn entry_for(n: u8) -> Entry
     requires { 2 ≤ n }
-    ensures { result ≡ root_for n }
+    ensures prime { result.prime ≡ prime_for n }
+    ensures root { result.root ≡ root_for n }
 {
     let at = (n - 2) as usize;
-    ROOTS[at]
+    Entry {
+        prime: PRIMES[at],
+        root: ROOTS[at],
+    }
 }
 
 // At n − 2.

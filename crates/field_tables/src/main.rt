@@ -5,20 +5,22 @@ use field::{Field, Gf256};
 use std::io;
 use test_tools::{number, text, value};
 
+#[tactic(auto, unfolding(field::specs::Fields::size_of, field::specs::Kinds::modulus, field::specs::Kinds::usable))]
 fn inverse(a: u8) -> u32 {
     let field = Field::Binary(Gf256::new());
-    field.inverse(a as u32)
+    field.inverse(u32::from(a))
 }
 
+#[tactic(auto, unfolding(field::specs::Fields::size_of, field::specs::Kinds::modulus, field::specs::Kinds::usable))]
 fn product(a: u8, b: u8) -> u32 {
     let field = Field::Binary(Gf256::new());
-    field.mul(a as u32, b as u32)
+    field.mul(u32::from(a), u32::from(b))
 }
 
 fn inverses(rt: &impl Print) -> io::Result<()> {
     text(rt, b"inverses")?;
     for a in 1..=255 {
-        number(rt, inverse(a) as u64)?;
+        number(rt, u64::from(inverse(a)))?;
     }
     Ok(())
 }
@@ -29,7 +31,7 @@ fn print_product(rt: &impl Print, a: u8, b: u8) -> io::Result<()> {
 }
 
 fn row(rt: &impl Print, a: u8) -> io::Result<()> {
-    value(rt, b"\ntimes", a as u64)?;
+    value(rt, b"\ntimes", u64::from(a))?;
     text(rt, b" ")?;
     for b in 0..=255 {
         print_product(rt, a, b)?;

@@ -17,6 +17,7 @@ mod sums;
 
 use check_sums::{lane, powers};
 use field::Tables;
+use field::lent::Arithmetic;
 use generator::{Code, Header, Refusal};
 use interpolation::lagrange;
 
@@ -32,17 +33,17 @@ fn symbol_from(
     requires { Sound h × (powers.now ≡ padded 255 (powers_of h)) × (length spectrum.now ≡ h.n) × (all_below (size h) spectrum.now ≡ true) × (r < h.k) × (shifts.now ≡ padded 255 (shifts_of h.n h.k)) }
     ensures { result ≡ symbol_from h r (coefficients_of h spectrum.now) }
 {
-    let field = h.field;
+    let field = Arithmetic::new(h.field, tables);
     let n = h.n as usize;
     let k = h.k as usize;
     let points = rows::row_points(h, shifts, powers);
     let terms = rows::row_terms(h, tables, shifts, powers, &points[..k], r);
     let coefficients = sums::coefficients(n, k, spectrum);
-    let sum = interpolation::sums::weighted_sum(field, tables, &terms[..k], &coefficients);
-    let scale = lagrange::scale_at(field, tables, &points[..k], r);
-    let over = field.inverse_with(tables, sums::ones(field, n));
-    let part = field.mul_with(tables, over, sum);
-    field.mul_with(tables, scale, part)
+    let sum = interpolation::sums::weighted_sum(field, &terms[..k], &coefficients);
+    let scale = lagrange::scale_at(field, &points[..k], r);
+    let over = field.inverse(sums::ones(field, n));
+    let part = field.mul(over, sum);
+    field.mul(scale, part)
 }
 
 // Judges a lane for an update of symbol r from `old`, with the powers of the root lent to it.

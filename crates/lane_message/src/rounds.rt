@@ -10,6 +10,7 @@ ghost use Rattle.check_sums.specs.Inner.Powers.{powers_of};
 ghost use Rattle.lane_message.specs.Inner.Rows.{InRounds, round_points, spaced_of};
 
 use field::Tables;
+use field::lent::Arithmetic;
 use generator::Header;
 use interpolation::polynomials;
 
@@ -109,11 +110,11 @@ fn round_product(h: Header, tables: &Tables, g: usize, powers: &[u16]) -> [u16; 
     requires { Sound h × (0 < g) × (g ≤ 255) × InRounds h.n (shifts_for h) g × (powers.now ≡ padded 255 (powers_of h)) }
     ensures { result ≡ padded 256 (product_of (modulus_of h) (row_points h)) }
 {
-    let field = h.field;
+    let field = Arithmetic::new(h.field, tables);
     let k = h.k as usize;
     let count = k / g;
     let points = round_points(h, g, powers);
-    let product = polynomials::product(field, tables, &points[..count]);
+    let product = polynomials::product(field, &points[..count]);
     spread(g, k + 1, &product)
 }
 
@@ -128,11 +129,10 @@ pub fn row_product(
     requires { Sound h × (powers.now ≡ padded 255 (powers_of h)) × (points.now ≡ row_points h) × (shifts.now ≡ padded 255 (shifts_of h.n h.k)) }
     ensures { result ≡ padded 256 (product_of (modulus_of h) (row_points h)) }
 {
-    let field = h.field;
     let k = h.k as usize;
     let rounds = rounds_of(h.n as usize, &shifts[..k]);
     if rounds == 0 {
-        return polynomials::product(field, tables, points);
+        return polynomials::product(Arithmetic::new(h.field, tables), points);
     }
     round_product(h, tables, rounds, powers)
 }

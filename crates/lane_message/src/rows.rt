@@ -1,7 +1,9 @@
 // The rows of the generator in the word's polynomial: their points, and the terms of one of them.
 ghost use Rattle.std.specs.Prelude.{◌≡◌, ◌<◌};
 ghost use Rattle.lists.specs.Padded.{padded};
-ghost use Rattle.generator.specs.Records.{modulus_of, size, Sound};
+ghost use Rattle.field.specs.Fields.{size_of};
+ghost use Rattle.field.specs.Kinds.{modulus};
+ghost use Rattle.generator.specs.Records.{Sound};
 ghost use Rattle.generator.specs.Shifts.{shifts_of};
 ghost use Rattle.node_weights.specs.Inner.Rows.{row_points, base_inverses, row_terms};
 ghost use Rattle.check_sums.specs.Inner.Powers.{powers_of};
@@ -9,6 +11,7 @@ ghost use Rattle.lane_message.specs.Inner.Rows.{step_ratio};
 
 use crate::rounds;
 use check_sums::lane::stepped;
+use field::lent::Arithmetic;
 use field::{Field, Tables};
 use generator::Header;
 
@@ -28,14 +31,14 @@ pub fn row_points(h: Header, shifts: &[u8], powers: &[u16]) -> [u16; 255]
 }
 
 // The step from a coefficient's inverse to that of the one below it: (root^k − y) / (root^(k−1)·(1 − y)), where y is root^c for coefficient c.
-fn step_ratio(h: Header, tables: &Tables, top: u32, scale: u32, y: u32) -> u32
-    requires { Sound h × (top < size h) × (scale < size h) × (y < size h) }
-    ensures { (result ≡ step_ratio (modulus_of h) top scale y) × (result < size h) }
+fn step_ratio(field: Arithmetic, top: u32, scale: u32, y: u32) -> u32
+    requires { (top < size_of (modulus field.field)) × (scale < size_of (modulus field.field)) × (y < size_of (modulus field.field)) }
+    ensures is { result ≡ step_ratio (modulus field.entry.field) top scale y }
+    ensures symbol { result < size_of (modulus field.entry.field) }
 {
-    let field = h.field;
-    let below = field.mul_with(tables, scale, field.sub(Field::ONE, y));
-    let over = field.inverse_with(tables, below);
-    field.mul_with(tables, field.sub(top, y), over)
+    let below = field.mul(scale, field.sub(Field::ONE, y));
+    let over = field.inverse(below);
+    field.mul(field.sub(top, y), over)
 }
 
 // 1 over the coefficients of the base polynomial, from the highest down, and zeros after them.
@@ -43,7 +46,7 @@ fn base_inverses(h: Header, tables: &Tables, powers: &[u16]) -> [u16; 255]
     requires { Sound h × (powers.now ≡ padded 255 (powers_of h)) }
     ensures { result ≡ padded 255 (base_inverses h) }
 {
-    let field = h.field;
+    let field = Arithmetic::new(h.field, tables);
     let top = powers[h.k as usize % h.n as usize] as u32;
     let mut out = [0u16; 255];
     let mut c = h.k as usize - 1;
@@ -51,8 +54,8 @@ fn base_inverses(h: Header, tables: &Tables, powers: &[u16]) -> [u16; 255]
     let mut value = Field::ONE;
     out[c] = value as u16;
     while 0 < c {
-        let ratio = step_ratio(h, tables, top, scale, powers[c] as u32);
-        value = field.mul_with(tables, ratio, value);
+        let ratio = step_ratio(field, top, scale, powers[c] as u32);
+        value = field.mul(ratio, value);
         c -= 1;
         out[c] = value as u16;
     }

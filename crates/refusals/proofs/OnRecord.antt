@@ -8,7 +8,7 @@ use native.Mathlib.Omega.{arith}
 use Rattle.lists.proofs.Cases.{first_zero}
 use Rattle.generator.specs.declared.Header.{Header}
 use Rattle.generator.specs.Records.{header_of, record_fault, judged, record_of, Sound}
-use Rattle.generator.proofs.Accepts.{held_header, faultless_sound, accepted_sound}
+use Rattle.generator.proofs.Accepts.{held_header, faultless_sound}
 use Rattle.refusals.specs.Faults.{fault_of}
 use Rattle.refusals.specs.Promise.{OnRecord}
 use Rattle.refusals.proofs.Order.{first_given}
@@ -31,10 +31,6 @@ unfolding fault_of
 none_met rec call e =
     let (none, after) = first_zero (record_fault rec) (call (header_of rec)) e in
     (faultless_sound rec none, after)
-
--- a header that was read is sound
-pub read_sound : (rec : List ℕ) {r : Answer Header} {h : Header} → r ≡ record_of rec → r ≡ Ok h → Sound h
-read_sound rec {h = h} read held = accepted_sound rec h (sym read ∙ held)
 
 module _ {rec : List ℕ} {call : Header → ℕ} {P : Header → ℕ → Type 0} where
   -- a record that holds a header leaves the number to the call

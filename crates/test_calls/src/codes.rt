@@ -1,72 +1,36 @@
-// Calls on a record's code and on its single lanes.
-use crate::{lanes, plans, weights};
-use std::alloc::{AllocError, Global};
+// Calls on a record's code and on its single lanes, by their names.
+use crate::{lanes, plans, write};
+use std::alloc::Global;
 use test_words::{Fault, Words};
 
-#[derive(Debug, Drop)]
-pub enum CodeCall {
-    Plan {
-        record: Vec<u8>,
-    },
-    Weights {
-        record: Vec<u8>,
-        room: usize,
-    },
-    Find {
-        record: Vec<u8>,
-        before: Vec<u8>,
-        after: Vec<u8>,
-    },
-    Mends {
-        record: Vec<u8>,
-        lane: Vec<u8>,
-        nodes: usize,
-        symbols: usize,
-    },
+// What every place of a list of counts holds before the call.
+const MARK: u32 = 43690;
+
+fn plan(alloc: Global, words: &mut Words) -> Result<String, Fault> {
+    let record = words.record()?;
+    words.end()?;
+    Ok(plans::plan(alloc, &record)?)
 }
 
-impl CodeCall {
-    // What the words after a name say, if it is one of these calls'.
-    pub fn read(name: &str, words: &mut Words) -> Result<Option<CodeCall>, Fault> {
-        let call = match name {
-            "plan" => CodeCall::Plan {
-                record: words.record()?,
-            },
-            "weights" => CodeCall::Weights {
-                record: words.record()?,
-                room: words.room()?,
-            },
-            "find" => CodeCall::Find {
-                record: words.record()?,
-                before: words.bytes("before")?,
-                after: words.bytes("after")?,
-            },
-            "mends" => CodeCall::Mends {
-                record: words.record()?,
-                lane: words.bytes("symbols")?,
-                nodes: words.room()?,
-                symbols: words.room()?,
-            },
-            _ => return Ok(None),
-        };
-        Ok(Some(call))
-    }
+// Messages by the Hamming weight of their word.
+fn weights(alloc: Global, words: &mut Words) -> Result<String, Fault> {
+    let record = words.record()?;
+    write(
+        alloc,
+        words,
+        MARK,
+        |counts| weight_counts::weight_counts(&record, counts),
+    )
+}
 
-    pub fn answer(self, alloc: Global) -> Result<String, AllocError> {
-        match self {
-            CodeCall::Plan { record } => plans::plan(alloc, &record),
-            CodeCall::Weights { record, room } => weights::weights(alloc, &record, room),
-            CodeCall::Find {
-                record,
-                before,
-                after,
-            } => lanes::find(alloc, &record, &before, &after),
-            CodeCall::Mends {
-                record,
-                lane,
-                nodes,
-                symbols,
-            } => lanes::mends(alloc, &record, &lane, nodes, symbols),
-        }
-    }
+// The answer to the call, if it is one of these.
+pub fn code_call(alloc: Global, name: &str, words: &mut Words) -> Result<Option<String>, Fault> {
+    let text = match name {
+        "plan" => plan(alloc, words)?,
+        "weights" => weights(alloc, words)?,
+        "find" => lanes::find(alloc, words)?,
+        "mends" => lanes::mends(alloc, words)?,
+        _ => return Ok(None),
+    };
+    Ok(Some(text))
 }

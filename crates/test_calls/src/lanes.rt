@@ -1,60 +1,59 @@
 // Calls on single lanes.
+use crate::{Refused, buffer, turned_away};
 use find_update::Finding;
-use mends::Mending;
+use generator::Refusal;
 use std::alloc::{AllocError, Global};
-use test_tools::{List, MARK, refused, untouched};
+use test_tools::{List, MARK, untouched};
+use test_words::{Fault, Words};
 
-// The symbol and the amount, that there is none, that the lanes are equal, or the number.
-fn finding(alloc: Global, answer: Finding) -> Result<String, AllocError> {
+// The symbol and the amount, that there is none, that the lanes are equal, or what turned the call away.
+fn finding(alloc: Global, answer: Result<Finding, Refusal>) -> Result<String, AllocError> {
     match answer {
-        Finding::Unchanged => format!(in alloc; "unchanged"),
-        Finding::Added(symbol, amount) => format!(in alloc; "symbol {symbol} amount {amount}"),
-        Finding::NoSingleUpdate => format!(in alloc; "no single update"),
-        Finding::Refused(number) => format!(in alloc; "refused {number}"),
+        Ok(Finding::Unchanged) => format!(in alloc; "unchanged"),
+        Ok(Finding::Added(symbol, amount)) => format!(in alloc; "symbol {symbol} amount {amount}"),
+        Ok(Finding::NoSingleUpdate) => format!(in alloc; "no single update"),
+        Err(refusal) => format!(in alloc; "{}", Refused(refusal)),
     }
 }
 
-pub fn find(
-    alloc: Global,
-    record: &[u8],
-    before: &[u8],
-    after: &[u8],
-) -> Result<String, AllocError> {
-    finding(alloc, find_update::find_update(record, before, after))
+pub fn find(alloc: Global, words: &mut Words) -> Result<String, Fault> {
+    let record = words.record()?;
+    let before = words.bytes("before")?;
+    let after = words.bytes("after")?;
+    words.end()?;
+    let answer = find_update::find_update(&record, &before, &after);
+    Ok(finding(alloc, answer)?)
 }
 
-// How many single changes there are and both lists, or the number and whether every byte of both is as it was.
+// How many single changes there are and both lists, or what turned the call away and whether every byte of both is as it was.
 fn mending(
     alloc: Global,
-    answer: Mending,
+    answer: Result<u32, Refusal>,
     nodes: &[u8],
     symbols: &[u8],
 ) -> Result<String, AllocError> {
     match answer {
-        Mending::Listed(count) => {
+        Ok(count) => {
             format!(in alloc;
                 "count {count} nodes{} symbols{}",
                 List(nodes),
                 List(symbols)
             )
         }
-        Mending::Refused(number) => {
+        Err(refusal) => {
             let kept = untouched(MARK, nodes) && untouched(MARK, symbols);
-            refused(alloc, number, kept)
+            turned_away(alloc, refusal, kept)
         }
     }
 }
 
 // The lists are lent with room for so many nodes, and for so many bytes of symbols.
-pub fn mends(
-    alloc: Global,
-    record: &[u8],
-    lane: &[u8],
-    node_room: usize,
-    symbol_room: usize,
-) -> Result<String, AllocError> {
-    let mut nodes = vec![in alloc; MARK; node_room]?;
-    let mut symbols = vec![in alloc; MARK; symbol_room]?;
-    let answer = mends::single_mends(record, lane, &mut nodes, &mut symbols);
-    mending(alloc, answer, &nodes, &symbols)
+pub fn mends(alloc: Global, words: &mut Words) -> Result<String, Fault> {
+    let record = words.record()?;
+    let lane = words.bytes("symbols")?;
+    let mut nodes = buffer(alloc, words, MARK)?;
+    let mut symbols = buffer(alloc, words, MARK)?;
+    words.end()?;
+    let answer = mends::single_mends(&record, &lane, &mut nodes, &mut symbols);
+    Ok(mending(alloc, answer, &nodes, &symbols)?)
 }

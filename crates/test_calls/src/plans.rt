@@ -1,22 +1,32 @@
-// A record's plan, or its number.
+// A record's plan, or what turns the record away.
+use crate::Refused;
 use plan::Plan;
 use std::alloc::{AllocError, Global};
 use std::fmt;
 use test_tools::{Block, untouched};
 
-// So many places from the front, and whether those after them hold 0.
+// A list at the front of its places, and whether those after it hold 0.
 #[derive(Clone, Copy)]
 struct Front<'a> {
-    places: &'a [u8],
-    count: usize,
+    list: &'a [u8],
+    padded: bool,
+}
+
+impl<'a> Front<'a> {
+    // The list of so many of the places.
+    fn new(places: &'a [u8; 255], count: u8) -> Self {
+        let (list, rest) = places.split_at(count as usize);
+        Front {
+            list,
+            padded: untouched(0, rest),
+        }
+    }
 }
 
 impl fmt::Display for Front<'_> {
     fn fmt<W: fmt::Write>(&self, f: &mut fmt::Formatter<W>) -> fmt::Result {
-        let places = self.places;
-        let (front, rest) = places.split_at(self.count.min(places.len()));
-        let others = if untouched(0, rest) { "0" } else { "others" };
-        write!(f, "{} then {others}", Block(front))
+        let rest = if self.padded { "0" } else { "others" };
+        write!(f, "{} then {rest}", Block(self.list))
     }
 }
 
@@ -31,49 +41,26 @@ fn bytes_of(alloc: Global, symbols: &[u16], wide: bool) -> Result<Vec<u8>, Alloc
         .collect(alloc)
 }
 
-// The number, and whether all places beside it hold 0.
-fn refused(alloc: Global, plan: &Plan) -> Result<String, AllocError> {
-    let numbers = [plan.n, plan.k, plan.d, plan.low, plan.high];
-    let empty = untouched(0, &numbers)
-        && untouched(0, &plan.shifts)
-        && untouched(0, &plan.firsts)
-        && untouched(0, &plan.base);
-    let places = if empty {
-        "all places 0"
-    } else {
-        "other places not 0"
-    };
-    format!(in alloc; "refused {}, {places}", plan.number)
-}
-
 // The numbers, the shifts, the first nodes and the base word.
 fn accepted(alloc: Global, plan: &Plan, wide: bool) -> Result<String, AllocError> {
     let (n, k, d, low, high) = (plan.n, plan.k, plan.d, plan.low, plan.high);
-    let rows = k as usize;
-    let nodes = n as usize;
-    let bytes = bytes_of(alloc, &plan.base, wide)?;
-    let shifts = Front {
-        places: &plan.shifts,
-        count: rows,
-    };
-    let firsts = Front {
-        places: &plan.firsts,
-        count: rows,
-    };
+    let (word, rest) = plan.base.split_at(n as usize);
+    let bytes = bytes_of(alloc, word, wide)?;
+    let shifts = Front::new(&plan.shifts, k);
+    let firsts = Front::new(&plan.firsts, k);
     let base = Front {
-        places: &bytes,
-        count: if wide { 2 * nodes } else { nodes },
+        list: &bytes,
+        padded: untouched(0, rest),
     };
     format!(in alloc;
         "n {n} k {k} d {d} reads {low} {high} shifts{shifts} firsts{firsts} base{base}"
     )
 }
 
-// A symbol has two bytes in a record of kind 3, and else one.
+// A symbol has two bytes in a record of kind 3, and else one. A record that is turned away has no plan, and so nothing but 0 in one's places.
 pub fn plan(alloc: Global, record: &[u8]) -> Result<String, AllocError> {
-    let plan = plan::build_plan(record);
-    if plan.number != 0 {
-        return refused(alloc, &plan);
+    match plan::build_plan(record) {
+        Ok(plan) => accepted(alloc, &plan, record.first() == Some(&3)),
+        Err(refusal) => format!(in alloc; "{}, all places 0", Refused(refusal)),
     }
-    accepted(alloc, &plan, record.first() == Some(&3))
 }

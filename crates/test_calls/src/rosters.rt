@@ -1,25 +1,16 @@
 // The calls of a roster, which is kept from line to line; after a start or an event the answer says which nodes are present.
-use roster::{Listing, Roster, Step};
+use crate::{Refused, buffer, turned_away};
+use generator::Refusal;
+use roster::{Listing, Roster};
 use std::alloc::{AllocError, Global};
-use test_tools::{List, MARK, change, refused, untouched};
+use test_tools::{List, MARK, change, untouched};
 use test_words::{Fault, Words};
 
-#[derive(Debug, Drop)]
-pub enum RosterCall {
-    Start { record: Vec<u8> },
-    Leave { record: Vec<u8>, node: u32 },
-    Rejoin { record: Vec<u8>, node: u32 },
-    Lowest { record: Vec<u8>, room: usize },
-    Job { record: Vec<u8>, room: usize },
-}
-
-// The roster afterwards: its present nodes, after the number that turned the call away, where there is one.
-fn stepped(alloc: Global, roster: &mut Roster, step: Step) -> Result<String, AllocError> {
-    *roster = step.roster;
-    let nodes = present(alloc, roster)?;
-    match step.number {
-        0 => format!(in alloc; "present{}", List(&nodes)),
-        number => format!(in alloc; "refused {number}, present{}", List(&nodes)),
+// A roster with no node, as there is before the first start and after one that was turned away.
+pub fn nobody() -> Roster {
+    Roster {
+        marks: [false; 255],
+        job: 0,
     }
 }
 
@@ -31,82 +22,96 @@ fn present(alloc: Global, roster: &Roster) -> Result<Vec<usize>, AllocError> {
         .collect(alloc)
 }
 
-// The list that was written, or why it was not and whether every byte is as it was.
-fn listed(alloc: Global, listing: Listing, out: &[u8]) -> Result<String, AllocError> {
-    let kept = untouched(MARK, out);
-    match listing {
-        Listing::Written => format!(in alloc; "done{}", List(out)),
-        Listing::TooFew => format!(in alloc; "too few, {}", change(kept)),
-        Listing::Refused(number) => refused(alloc, number, kept),
+// The nodes that are present, behind what turned the call away, where something did.
+fn stepped(
+    alloc: Global,
+    roster: &Roster,
+    answer: Result<(), Refusal>,
+) -> Result<String, AllocError> {
+    let nodes = present(alloc, roster)?;
+    match answer {
+        Ok(()) => format!(in alloc; "present{}", List(&nodes)),
+        Err(refusal) => format!(in alloc; "{}, present{}", Refused(refusal), List(&nodes)),
     }
 }
 
-fn lowest(
+fn start(alloc: Global, words: &mut Words, roster: &mut Roster) -> Result<String, Fault> {
+    let record = words.record()?;
+    words.end()?;
+    let started = Roster::start(&record);
+    *roster = started.unwrap_or(nobody());
+    Ok(stepped(alloc, roster, started.map(|_| ()))?)
+}
+
+// A node leaves or returns.
+fn event<F: FnOnce(&mut Roster, &[u8], u32) -> Result<(), Refusal>>(
     alloc: Global,
-    roster: &Roster,
-    record: &[u8],
-    room: usize,
+    words: &mut Words,
+    roster: &mut Roster,
+    call: F,
+) -> Result<String, Fault>
+    requires { F.IsAlwaysCallable call }
+{
+    let record = words.record()?;
+    let node = words.number("node")?;
+    words.end()?;
+    let answer = call(roster, &record, node);
+    Ok(stepped(alloc, roster, answer)?)
+}
+
+// The list that was written, or why it was not and whether every byte is as it was.
+fn listed(
+    alloc: Global,
+    answer: Result<Listing, Refusal>,
+    out: &[u8],
 ) -> Result<String, AllocError> {
-    let mut out = vec![in alloc; MARK; room]?;
-    let listing = roster.lowest(record, &mut out);
-    listed(alloc, listing, &out)
+    let kept = untouched(MARK, out);
+    match answer {
+        Ok(Listing::Written) => format!(in alloc; "done{}", List(out)),
+        Ok(Listing::TooFew) => format!(in alloc; "too few, {}", change(kept)),
+        Err(refusal) => turned_away(alloc, refusal, kept),
+    }
+}
+
+// Lends a list to a call that writes nodes.
+fn list<F: FnOnce(&[u8], &mut [u8]) -> Result<Listing, Refusal>>(
+    alloc: Global,
+    words: &mut Words,
+    call: F,
+) -> Result<String, Fault>
+    requires { F.IsAlwaysCallable call }
+{
+    let record = words.record()?;
+    let mut out = buffer(alloc, words, MARK)?;
+    words.end()?;
+    let answer = call(&record, &mut out);
+    Ok(listed(alloc, answer, &out)?)
+}
+
+fn lowest(alloc: Global, words: &mut Words, roster: &Roster) -> Result<String, Fault> {
+    list(alloc, words, |record, out| roster.lowest(record, out))
 }
 
 // The job's list, then the number of the next job.
-fn job(
-    alloc: Global,
-    roster: &mut Roster,
-    record: &[u8],
-    room: usize,
-) -> Result<String, AllocError> {
-    let mut out = vec![in alloc; MARK; room]?;
-    let job = roster.next_job(record, &mut out);
-    *roster = job.roster;
-    let list = listed(alloc, job.listing, &out)?;
-    format!(in alloc; "{list}, next job {}", roster.job)
+fn job(alloc: Global, words: &mut Words, roster: &mut Roster) -> Result<String, Fault> {
+    let text = list(alloc, words, |record, out| roster.next_job(record, out))?;
+    Ok(format!(in alloc; "{text}, next job {}", roster.job)?)
 }
 
-impl RosterCall {
-    // What the words after a name say, if it is one of these calls'.
-    pub fn read(name: &str, words: &mut Words) -> Result<Option<RosterCall>, Fault> {
-        let call = match name {
-            "roster" => RosterCall::Start {
-                record: words.record()?,
-            },
-            "leave" => RosterCall::Leave {
-                record: words.record()?,
-                node: words.number("node")?,
-            },
-            "rejoin" => RosterCall::Rejoin {
-                record: words.record()?,
-                node: words.number("node")?,
-            },
-            "lowest" => RosterCall::Lowest {
-                record: words.record()?,
-                room: words.room()?,
-            },
-            "job" => RosterCall::Job {
-                record: words.record()?,
-                room: words.room()?,
-            },
-            _ => return Ok(None),
-        };
-        Ok(Some(call))
-    }
-
-    pub fn answer(self, alloc: Global, roster: &mut Roster) -> Result<String, AllocError> {
-        match self {
-            RosterCall::Start { record } => stepped(alloc, roster, Roster::start(&record)),
-            RosterCall::Leave { record, node } => {
-                let step = roster.leave(&record, node);
-                stepped(alloc, roster, step)
-            }
-            RosterCall::Rejoin { record, node } => {
-                let step = roster.rejoin(&record, node);
-                stepped(alloc, roster, step)
-            }
-            RosterCall::Lowest { record, room } => lowest(alloc, roster, &record, room),
-            RosterCall::Job { record, room } => job(alloc, roster, &record, room),
-        }
-    }
+// The answer to the call, if it is one of these.
+pub fn roster_call(
+    alloc: Global,
+    name: &str,
+    words: &mut Words,
+    roster: &mut Roster,
+) -> Result<Option<String>, Fault> {
+    let text = match name {
+        "roster" => start(alloc, words, roster)?,
+        "leave" => event(alloc, words, roster, Roster::leave)?,
+        "rejoin" => event(alloc, words, roster, Roster::rejoin)?,
+        "lowest" => lowest(alloc, words, roster)?,
+        "job" => job(alloc, words, roster)?,
+        _ => return Ok(None),
+    };
+    Ok(Some(text))
 }

@@ -2,7 +2,6 @@
 ghost use Rattle.std.specs.Prelude.{◌≡◌, if◌then◌else◌, codes};
 
 use crate::data::sum;
-use std::alloc::{AllocError, Global};
 use std::fmt;
 use std::fmt::Display;
 
@@ -39,9 +38,4 @@ pub fn change(kept: bool) -> &'static str
     ensures { result.now ≡ (if kept then codes "unchanged" else codes "changed") }
 {
     if kept { "unchanged" } else { "changed" }
-}
-
-// The number that turned a call away, and whether everything that was lent is as it was.
-pub fn refused(alloc: Global, number: u8, kept: bool) -> Result<String, AllocError> {
-    format!(in alloc; "refused {number}, {}", change(kept))
 }

@@ -5,6 +5,6 @@ mod answers;
 mod data;
 mod print;
 
-pub use answers::{Block, List, change, refused};
+pub use answers::{Block, List, change};
 pub use data::{MARK, sum, untouched};
 pub use print::{not_read, number, text, value};

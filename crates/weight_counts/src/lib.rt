@@ -17,13 +17,11 @@ fn message_count(q: u32, k: u8) -> u32
     ensures { result ≡ message_count q k }
 {
     let mut total: u32 = 1;
-    let mut r: u8 = 0;
-    while r < k {
+    for _ in 0..k {
         total = total * q;
         if 65536 < total {
             return 0;
         }
-        r += 1;
     }
     total
 }
@@ -50,9 +48,7 @@ fn subtract_previous(counts: &mut [u32], first: usize)
     requires { (0 < first) × (first ≤ length counts.old) × ((y : ℕ) → first ≤ y → y < length counts.old → slice_index counts.old (y - 1) ≤ slice_index counts.old y) }
     ensures { counts.new ≡ with_previous ◌-◌ first counts.old }
 {
-    let mut y = counts.len();
-    while first < y {
-        y -= 1;
+    for y in (first..counts.len()).rev() {
         counts[y] = counts[y] - counts[y - 1];
     }
 }
@@ -63,10 +59,8 @@ fn take_differences(h: Header, counts: &mut [u32])
     ensures { counts.new ≡ differences_of h h.n }
 {
     let n = h.n as usize;
-    let mut w: usize = 0;
-    while w < n {
-        w += 1;
-        subtract_previous(counts, w);
+    for w in 0..n {
+        subtract_previous(counts, w + 1);
     }
 }
 
@@ -75,9 +69,7 @@ fn add_previous(row: &mut [u32])
     requires { 0 < length row.old }
     ensures { row.new ≡ with_previous (λ x y. (x + y) % 2 ^ 32) 1 row.old }
 {
-    let mut b = row.len();
-    while 1 < b {
-        b -= 1;
+    for b in (1..row.len()).rev() {
         row[b] = std::num::wrapping_add_u32(row[b], row[b - 1]);
     }
 }
@@ -88,10 +80,8 @@ fn pascal_row(n: u8) -> [u32; 256]
 {
     let mut row = [0u32; 256];
     row[0] = 1;
-    let mut a: u8 = 0;
-    while a < n {
+    for _ in 0..n {
         add_previous(&mut row);
-        a += 1;
     }
     row
 }

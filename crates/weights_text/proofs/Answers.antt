@@ -1,8 +1,7 @@
 -- What the answers of the count mean for its text.
 use Rattle.std.specs.Prelude.{Ok, Err}
-use Rattle.generator.specs.Answers.{Answer, outcome_of}
-use mathlib.Core.Path.{◌≡◌, sym, ap, ◌∙◌}
-use mathlib.Core.Bool.{Bool, true, false}
+use mathlib.Core.Path.{◌≡◌}
+use mathlib.Core.Bool.{true, false}
 use mathlib.Core.List.{List, [], ◌∷◌}
 use Prim.Native.Nat.{ℕ, ◌+◌, ◌^◌, ◌≤◌}
 use native.Mathlib.Omega.{arith}
@@ -16,6 +15,7 @@ use Rattle.lists.proofs.Numbers.{at_below}
 use Rattle.lists.proofs.Rows.{length_from, get_or_from}
 use Rattle.generator.specs.declared.Header.{Header}
 use Rattle.generator.specs.Records.{size}
+use Rattle.generator.proofs.Answered.{done_is, refused_is}
 use Rattle.text.specs.Text.{ascii, line}
 use Rattle.weight_counts.specs.Weights.{weight_counts, weight_count_of, messages_bad, weights_fault, WeightsPromise}
 use Rattle.weight_counts.specs.Inner.Counting.{Small}
@@ -31,28 +31,23 @@ few : (h : Header) → messages_bad h ≡ false → size h ^ h.k ≤ 65536
 unfolding messages_bad
 few h e = ltb-false 65536 (size h ^ h.k) e
 
-module _ (h : Header) (counts counts' : List ℕ) (r : Answer (Unit {0})) (long : length counts ≡ h.n + 1) (made : WeightsPromise counts counts' r h (weights_fault h (length counts))) where
-  answer : (t : Bool) → messages_bad h ≡ t → r ≡ outcome_of (when t 16)
-  answer t e = made.answer ∙ ap outcome_of (by_messages h counts long ∙ ap (λ b. when b 16) e)
-
-  pub done_text : r ≡ Ok tt → (weights_for (Ok h) ≡ count_lines counts') × (counts' ≡ weight_counts h) × (size h ^ h.k ≤ 65536)
-  unfolding outcome_of weights_for
-  done_text e =
+module _ (h : Header) (counts counts' : List ℕ) where
+  pub done_text : WeightsPromise counts counts' (Ok tt) h (weights_fault h (length counts)) → length counts ≡ h.n + 1 → (weights_for (Ok h) ≡ count_lines counts') × (counts' ≡ weight_counts h) × (size h ^ h.k ≤ 65536)
+  unfolding weights_for
+  done_text made long =
+      let none : weights_fault h (length counts) ≡ 0 = done_is _ made.answer in
+      let is : counts' ≡ weight_counts h = rw none at made.written in
       by_test (messages_bad h)
-      (λ t. never (let a : (Ok tt) ≡ Err 16 = sym e ∙ answer true t in cc))
-      (λ t.
-      let is : counts' ≡ weight_counts h = rw (by_messages h counts long, t) at made.written in
-      (rw t (ap count_lines (sym is)), is, few h t))
+      (λ t. never (let met : ◌≡◌ {A = ℕ} 16 0 = rw (by_messages h counts long, t) at none in absurd (omega arith)))
+      (λ t. (rw (t, is), is, few h t))
 
-  pub refused_text : (g : ℕ) → r ≡ Err g → weights_for (Ok h) ≡ line (ascii "refused") (g ∷ [])
-  unfolding outcome_of weights_for
-  refused_text g e =
+  pub refused_text : (g : ℕ) → WeightsPromise counts counts' (Err g) h (weights_fault h (length counts)) → length counts ≡ h.n + 1 → weights_for (Ok h) ≡ line (ascii "refused") (g ∷ [])
+  unfolding weights_for
+  refused_text g made long =
+      let (met, some) = refused_is _ g made.answer in
       by_test (messages_bad h)
-      (λ t.
-      let a : Err g ≡ Err 16 = sym e ∙ answer true t in
-      let same : g ≡ 16 = cc in
-      rw (t, same))
-      (λ t. never (let a : Err g ≡ (Ok tt) = sym e ∙ answer false t in cc))
+      (λ t. let same : g ≡ 16 = rw (by_messages h counts long, t) at met in rw (t, same))
+      (λ t. absurd (some (rw (by_messages h counts long, t) at met)))
 
 -- the counts of a record with few messages have at most five digits
 pub counts_below : (h : Header) → Small h → h.n ≤ 255 → (counts : List ℕ) → counts ≡ weight_counts h → (all_below 100000 counts ≡ true) × (length counts ≡ h.n + 1)

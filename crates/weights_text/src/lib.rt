@@ -1,84 +1,69 @@
 // The weight distribution of a record as text.
 #![tactic(auto)]
 
-ghost use Rattle.std.specs.Prelude.{◌≡◌, true, ◌+◌, ◌*◌, ◌≤◌, ◌<◌, length};
+ghost use Rattle.std.specs.Prelude.{◌≡◌, true, [], ◌∷◌, ◌+◌, ◌*◌, ◌≤◌, ◌<◌, length, MatchResult};
 ghost use Rattle.lists.specs.Numbers.{all_below};
-ghost use Rattle.lists.specs.Padded.{zeros};
-ghost use Rattle.generator.specs.Records.{record_of, Sound};
+ghost use Rattle.generator.specs.Answers.{number};
+ghost use Rattle.generator.specs.Records.{record_of};
+ghost use Rattle.text.specs.Text.{ascii, line};
 ghost use Rattle.text.specs.Writing.{OnPage};
-ghost use Rattle.text.specs.Inner.Writing.{Puts};
+ghost use Rattle.text.specs.Inner.Writer.{room, Writes};
 ghost use Rattle.weights_text.specs.Weights.{count_line, count_lines, weights_for};
 
-use blocks::Outcome;
-use generator::{Header, Record};
+use generator::Refusal;
 use records::read_record;
-use text::{put_byte, put_line, put_number};
+use text::Writer;
+pub use text::page;
 use weight_counts::counts_accepted;
 
 // The line of one weight: two numbers of at most five digits, a space and a line feed.
-fn put_count(out: &mut [u8], at: usize, w: u32, count: u32) -> usize
-    requires { (w < 100000) × (count < 100000) × (at + 12 ≤ length out.old) }
-    ensures puts { Puts out.old out.new at result (count_line w count) }
-    ensures upper_bound { result ≤ at + 12 }
+fn write_count(writer: &mut Writer, w: u32, count: u32)
+    requires weight { w < 100000 }
+    requires count { count < 100000 }
+    requires room { 12 ≤ room writer.old }
+    ensures text { Writes writer.old writer.new (count_line w count) }
+    ensures room { room writer.old ≤ room writer.new + 12 }
 {
-    let named = put_number(out, at, w);
-    let parted = put_byte(out, named, b' ');
-    let counted = put_number(out, parted, count);
-    put_byte(out, counted, b'\n')
+    writer.decimal(w);
+    writer.byte(b' ');
+    writer.decimal(count);
+    writer.byte(b'\n');
 }
 
 // The lines of all weights.
-fn put_counts(out: &mut [u8], at: usize, counts: &[u32]) -> usize
-    requires { (all_below 100000 counts.now ≡ true) × (length counts.now ≤ 256) × (at + 12 * length counts.now ≤ length out.old) }
-    ensures { Puts out.old out.new at result (count_lines counts.now) }
+fn write_counts(writer: &mut Writer, counts: &[u32])
+    requires below { all_below 100000 counts.now ≡ true }
+    requires few { length counts.now ≤ 256 }
+    requires room { 12 * length counts.now ≤ room writer.old }
+    ensures { Writes writer.old writer.new (count_lines counts.now) }
 {
-    let mut place = at;
-    for w in 0..counts.len() {
-        place = put_count(out, place, w as u32, counts[w]);
-    }
-    place
-}
-
-// The text of what an accepted record holds, counted in a list that is lent: at most 256 lines of at most 12 bytes.
-fn put_counted(out: &mut [u8], h: Header, counts: &mut [u32]) -> usize
-    requires { Sound h × (length counts.old ≡ h.n + 1) × (3072 ≤ length out.old) }
-    ensures { Puts out.old out.new 0 result (weights_for (Record.Holds h)) }
-{
-    match counts_accepted(h, counts) {
-        Outcome::Done => put_counts(out, 0, counts),
-        Outcome::Refused(number) => put_line(out, 0, b"refused", &[number]),
+    for (w, count) in counts.iter().enumerate() {
+        write_count(writer, w as u32, *count);
     }
 }
 
-// A list with room for any counts.
-fn room() -> [u32; 256]
-    ensures { 256 ≡ length result }
+// The lines of a record: at most 256, of at most 12 bytes. Nothing is written where the call is turned away.
+fn write_weights(writer: &mut Writer, rec: &[u8]) -> Result<(), Refusal>
+    requires { 3072 ≤ room writer.old }
+    ensures { MatchResult result (λ _. Writes writer.old writer.new (weights_for (record_of rec.now))) (λ e. Writes writer.old writer.new [] × (weights_for (record_of rec.now) ≡ line (ascii "refused") (number e ∷ []))) }
 {
-    [0; 256]
+    let code = read_record(rec)?;
+    let size = usize::from(code.header.n) + 1;
+    let mut list = [0; 256];
+    let counts = &mut list[..size];
+    counts_accepted(code, counts)?;
+    write_counts(writer, counts);
+    Ok(())
 }
 
-fn put_weights(out: &mut [u8], h: Header) -> usize
-    requires { Sound h × (3072 ≤ length out.old) }
-    ensures { Puts out.old out.new 0 result (weights_for (Record.Holds h)) }
-{
-    let size = h.n as usize + 1;
-    let mut counts = room();
-    put_counted(out, h, &mut counts[..size])
-}
-
-// An empty page: zeros, with room for any distribution.
-pub fn page() -> [u8; 3072]
-    ensures { (result ≡ zeros 3072) × (3072 ≡ length result) }
-{
-    [0; 3072]
-}
-
-// Puts the lines of a record at the front of a page, and gives their length.
+// Writes the lines of a record at the front of a page, or what turns it away, and gives their length. The page is lent, for the library
+// has no heap.
 pub fn weights(rec: &[u8], out: &mut [u8; 3072]) -> usize
     ensures { OnPage out.old out.new result (weights_for (record_of rec.now)) }
 {
-    match read_record(rec) {
-        Record::Holds(h) => put_weights(out, h),
-        Record::Meets(number) => put_line(out, 0, b"refused", &[number]),
+    let mut writer = Writer::new(out);
+    if let Err(refusal) = write_weights(&mut writer, rec) {
+        writer.line("refused", &[u8::from(refusal)]);
     }
+    writer.len()
 }

@@ -1,6 +1,6 @@
 -- `write_chosen` meets its contract, by the kind of record.
 use mathlib.Core.Path.{◌≡◌, refl, sym, ap, ap₂, ◌∙◌}
-use mathlib.Core.List.{[], ◌∷◌}
+use mathlib.Core.List.{List, [], ◌∷◌, ◌++◌}
 use Prim.Native.Nat.{ℕ, ◌/◌, ◌%◌, ◌<◌}
 use native.Mathlib.Omega.{arith}
 use borrow.Author.Tests.{eq-eqb, ne_eqb, eqb-false}
@@ -12,19 +12,19 @@ use Rattle.choose.proofs.write_chosen.Goals as goal
 
 pub overflow_cast-root : goal.overflow_cast-root
 overflow_cast-root c =
-    let zero = sym c.prime_for-p.ensures ∙ c.if-p-eq0.true in
+    let zero = sym c.entry_for-entry.ensures.prime ∙ c.if-p-eq0.true in
     let low : root_for c.args.n < 256 = entries c.args.n c.requires.0 (omega arith) (λ e entry. entry.below) (λ e entry. absurd (eqb-false (prime_for c.args.n) 0 e zero)) in
-    omega (arith, low, c.root_for-root.ensures)
+    omega (arith, low, c.entry_for-entry.ensures.root)
 
 pub returns-then-p-eq0 : goal.returns-then-p-eq0
 unfolding chosen_record
 returns-then-p-eq0 c =
-    let zero = eq-eqb (prime_for c.args.n) 0 (sym c.prime_for-p.ensures ∙ c.if-p-eq0.true) in
-    rw zero (refl, c.write_binary.ensures ∙ ap (λ (x : ℕ). 2 ∷ x ∷ c.args.n ∷ c.args.k ∷ drop 4 c.args.out.now) c.root_for-root.ensures)
+    let zero = eq-eqb (prime_for c.args.n) 0 (sym c.entry_for-entry.ensures.prime ∙ c.if-p-eq0.true) in
+    rw zero (refl, ap (λ (front : List ℕ). front ++ drop 4 c.args.out.now) c.copy_from_slice.ensures.after ∙ ap (λ (x : ℕ). 2 ∷ x ∷ c.args.n ∷ c.args.k ∷ drop 4 c.args.out.now) c.entry_for-entry.ensures.root)
 
 pub returns : goal.returns
 unfolding chosen_record
 returns c =
-    let some = ne_eqb (prime_for c.args.n) 0 (λ e. c.if-p-eq0.false (c.prime_for-p.ensures ∙ e)) in
+    let some = ne_eqb (prime_for c.args.n) 0 (λ e. c.if-p-eq0.false (c.entry_for-entry.ensures.prime ∙ e)) in
     let none : drop 7 c.args.out.now ≡ [] = drop_of_length-le c.args.out.now {i = 7} (omega (arith, c.requires.1)) in
-    rw (some, none) (refl, c.write_wide.ensures ∙ ap₂ (λ (x y : ℕ). 3 ∷ x / 256 ∷ x % 256 ∷ y / 256 ∷ y % 256 ∷ c.args.n ∷ c.args.k ∷ []) c.prime_for-p.ensures c.root_for-root.ensures)
+    rw (some, none) (refl, c.copy_from_slice-2.ensures.after ∙ ap₂ (λ (x y : ℕ). 3 ∷ x / 256 ∷ x % 256 ∷ y / 256 ∷ y % 256 ∷ c.args.n ∷ c.args.k ∷ []) c.entry_for-entry.ensures.prime c.entry_for-entry.ensures.root)

@@ -1,5 +1,5 @@
 -- `add_previous` meets its contract. Invariant: the places from b on are replaced (`Renewed`).
-use Rattle.std.proofs.Common.{ℕ, ◌+◌, ◌%◌, ◌^◌, ◌≤◌, length}
+use Rattle.std.proofs.Common.{ℕ, ◌+◌, ◌%◌, ◌^◌, ◌≤◌}
 use Rattle.weight_counts.proofs.Previous.{Renewed}
 use Rattle.weight_counts.proofs.add_previous.Given as goal
 
@@ -8,7 +8,4 @@ abbrev pub wrapped : ℕ → ℕ → ℕ
 wrapped x y = (x + y) % 2 ^ 32
 
 abbrev pub invariant-loop-b : goal.invariant-loop-b
-invariant-loop-b l = (1 ≤ l.b) × (l.b ≤ length l.initial.row) × Renewed wrapped l.initial.row l.row l.b
-
-abbrev pub decreases-loop-b : goal.decreases-loop-b
-decreases-loop-b l = l.b
+invariant-loop-b l = (1 ≤ l.b) × Renewed wrapped l.initial.row l.row l.b

@@ -8,11 +8,11 @@ use Rattle.weight_counts.proofs.take_differences.Goals.{At-loop-w}
 -- the table after w turns
 reached : (c : At-loop-w) → c.loop-w.counts ≡ differences_of c.args.h c.loop-w.w
 reached c =
-    c.loop-w.invariant.1 ∙ ap (turns_of c.loop-w.w) c.requires.1 ∙ turns_table c.args.h c.loop-w.w c.loop-w.invariant.0
+    c.loop-w.invariant ∙ ap (turns_of c.loop-w.w) c.requires.1 ∙ turns_table c.args.h c.loop-w.w (omega arith)
 
 pub loop-w-init : goal.loop-w-init
 unfolding turns_of
-loop-w-init c = (omega arith, refl)
+loop-w-init c = refl
 
 pub subtract_previous-requires : goal.subtract_previous-requires
 subtract_previous-requires c =
@@ -24,7 +24,7 @@ subtract_previous-requires c =
 pub loop-w-preserved : goal.loop-w-preserved
 loop-w-preserved c =
     let l = c.loop-w in
-    (omega arith, c.subtract_previous.ensures ∙ ap (with_previous ◌-◌ (l.w + 1)) l.invariant.1 ∙ turns_next l.w _)
+    c.subtract_previous.ensures ∙ ap (with_previous ◌-◌ (l.w + 1)) l.invariant ∙ turns_next l.w _
 
 pub shape_of-counts : goal.shape_of-counts
 shape_of-counts c =

@@ -2,8 +2,8 @@
 use Rattle.balanced_c.proofs.Repairing.{plan_sends, plan_refuses}
 use Rattle.balanced_c.proofs.repairs.balanced_repair_plan.Goals as goal
 
-pub returns-in-Sends : goal.returns-in-Sends
-returns-in-Sends c = plan_sends _ _ _ _ _ c.repair_plan.ensures _ _ c.in-Sends.is
+pub returns-in-Ok : goal.returns-in-Ok
+returns-in-Ok c = plan_sends _ _ _ _ _ c.in-Ok.ensures
 
-pub returns-in-Refused : goal.returns-in-Refused
-returns-in-Refused c = plan_refuses _ _ _ _ _ c.repair_plan.ensures _ c.in-Refused.is
+pub returns-in-Err : goal.returns-in-Err
+returns-in-Err c = rw c.from.ensures (plan_refuses _ _ _ _ _ c.in-Err.ensures)

@@ -14,7 +14,7 @@ use Rattle.carrying.proofs.Carried.{is_carrier}
 use Rattle.carrying.proofs.Bytes.{length_words, length_carried}
 use Rattle.carry.proofs.Parts.{Next, next_cases, next_inside, next_most, next_some, closed_here, closed_from, closed_turn, part_long, closed_long, groups_end, room_left, fills_turn, fills_whole, next_long}
 use Rattle.carry.proofs.groups.close_groups.Goals as goal
-use Rattle.carry.proofs.groups.close_groups.Goals.{After-smaller-part, At-loop-from}
+use Rattle.carry.proofs.groups.close_groups.Goals.{After-min-part, At-loop-from}
 
 -- the buffer holds just what is to be written
 long : (c : At-loop-from) → length (carried_words c.args.p c.args.s.now) ≡ length c.args.out.now
@@ -28,42 +28,42 @@ some : (c : At-loop-from) → 0 < group_words c.args.p
 some c = omega (arith, c.group_words-size.ensures)
 
 -- the next group
-turn : (c : After-smaller-part) →
-    Next (group_words c.args.p * 2) (length c.args.s.now - c.loop-from.from) c.smaller-part.result
+turn : (c : After-min-part) →
+    Next (group_words c.args.p * 2) (length c.args.s.now - c.loop-from.from) c.min-part.result
 turn c =
     let is = c.group_words-size.ensures.0 in
     record {
-      full = λ h. omega (arith, is, c.smaller-part.ensures.2 (omega (arith, is)));
-      rest = λ h. omega (arith, is, c.smaller-part.ensures.3 (omega (arith, is)));
+      full = λ h. omega (arith, is, c.min-part.ensures);
+      rest = λ h. omega (arith, is, c.min-part.ensures);
     }
 
-read-part : (c : After-smaller-part) →
-    length (take (c.loop-from.from + c.smaller-part.result - c.loop-from.from) (drop c.loop-from.from c.args.s.now)) ≡ c.smaller-part.result
+read-part : (c : After-min-part) →
+    length (take (c.loop-from.from + c.min-part.result - c.loop-from.from) (drop c.loop-from.from c.args.s.now)) ≡ c.min-part.result
 read-part c =
-    part_long c.args.p (group_words c.args.p) (some (goal.at.After-smaller-part c).At-loop-from) c.args.s.now (low (goal.at.After-smaller-part c).At-loop-from) c.loop-from.from c.smaller-part.result (c.loop-from.invariant.1 c.loop-from-test.true) (turn c) c.loop-from-test.true
+    part_long c.args.p (group_words c.args.p) (some (goal.at.After-min-part c).At-loop-from) c.args.s.now (low (goal.at.After-min-part c).At-loop-from) c.loop-from.from c.min-part.result (c.loop-from.invariant.1 c.loop-from-test.true) (turn c) c.loop-from-test.true
 
 -- its bytes as they are to be written, and those behind it
-abbrev here : After-smaller-part → List ℕ
+abbrev here : After-min-part → List ℕ
 here c =
-    closed_here c.args.p c.args.s.now c.loop-from.from c.smaller-part.result
+    closed_here c.args.p c.args.s.now c.loop-from.from c.min-part.result
 
-abbrev behind : After-smaller-part → List ℕ
+abbrev behind : After-min-part → List ℕ
 behind c =
-    closed_from c.args.p (group_words c.args.p) c.args.s.now (c.loop-from.from + c.smaller-part.result)
+    closed_from c.args.p (group_words c.args.p) c.args.s.now (c.loop-from.from + c.min-part.result)
 
 -- they are written next, and there is room
-next : (c : After-smaller-part) →
+next : (c : After-min-part) →
     Fills c.args.out.now c.loop-from.out c.loop-from.to (here c ++ behind c) (carried_words c.args.p c.args.s.now)
 next c =
-    rw (closed_turn c.args.p (group_words c.args.p) (some (goal.at.After-smaller-part c).At-loop-from) c.args.s.now (low (goal.at.After-smaller-part c).At-loop-from) c.loop-from.from c.smaller-part.result (c.loop-from.invariant.1 c.loop-from-test.true) (turn c) c.loop-from-test.true) at c.loop-from.invariant.2
+    rw (closed_turn c.args.p (group_words c.args.p) (some (goal.at.After-min-part c).At-loop-from) c.args.s.now (low (goal.at.After-min-part c).At-loop-from) c.loop-from.from c.min-part.result (c.loop-from.invariant.1 c.loop-from-test.true) (turn c) c.loop-from-test.true) at c.loop-from.invariant.2
 
-size : (c : After-smaller-part) → length (here c) ≡ (c.smaller-part.result / 2 + c.smaller-part.result % 2) * 2 + 2
+size : (c : After-min-part) → length (here c) ≡ (c.min-part.result / 2 + c.min-part.result % 2) * 2 + 2
 size c =
-    closed_long c.args.p (group_words c.args.p) (some (goal.at.After-smaller-part c).At-loop-from) c.args.s.now (low (goal.at.After-smaller-part c).At-loop-from) c.loop-from.from c.smaller-part.result (c.loop-from.invariant.1 c.loop-from-test.true) (turn c) c.loop-from-test.true
+    closed_long c.args.p (group_words c.args.p) (some (goal.at.After-min-part c).At-loop-from) c.args.s.now (low (goal.at.After-min-part c).At-loop-from) c.loop-from.from c.min-part.result (c.loop-from.invariant.1 c.loop-from-test.true) (turn c) c.loop-from-test.true
 
-room : (c : After-smaller-part) →
-    c.loop-from.to + ((c.smaller-part.result / 2 + c.smaller-part.result % 2) * 2 + 2) ≤ length c.args.out.now
-room c = omega (arith, size c, room_left (here c) (behind c) (next c) (long (goal.at.After-smaller-part c).At-loop-from))
+room : (c : After-min-part) →
+    c.loop-from.to + ((c.min-part.result / 2 + c.min-part.result % 2) * 2 + 2) ≤ length c.args.out.now
+room c = omega (arith, size c, room_left (here c) (behind c) (next c) (long (goal.at.After-min-part c).At-loop-from))
 
 pub loop-from-init : goal.loop-from-init
 unfolding carried_words carried_symbols word_count
@@ -86,28 +86,28 @@ slice_bounds-close_group-end c = omega (arith, next_inside (turn c))
 
 pub slice_bounds-close_group-end-in-loop-from : goal.slice_bounds-close_group-end-in-loop-from
 slice_bounds-close_group-end-in-loop-from c =
-    omega (arith, room (goal.at.slice_bounds-close_group-end-in-loop-from c).After-smaller-part, c.loop-from.invariant.2.long)
+    omega (arith, room (goal.at.slice_bounds-close_group-end-in-loop-from c).After-min-part, c.loop-from.invariant.2.long)
 
 pub close_group-requires : goal.close_group-requires
 unfolding word_count
 close_group-requires c =
-    let part = c.smaller-part.result in
-    let read = read-part (goal.at.close_group-requires c).After-smaller-part in
-    let most = next_most (turn (goal.at.close_group-requires c).After-smaller-part) in
-    let written = next_long c.loop-from.out c.loop-from.to ((part / 2 + part % 2) * 2 + 2) (c.loop-from.to + (part / 2 + part % 2) * 2 + 2) (omega arith) (omega (arith, room (goal.at.close_group-requires c).After-smaller-part, c.loop-from.invariant.2.long)) in
+    let part = c.min-part.result in
+    let read = read-part (goal.at.close_group-requires c).After-min-part in
+    let most = next_most (turn (goal.at.close_group-requires c).After-min-part) in
+    let written = next_long c.loop-from.out c.loop-from.to ((part / 2 + part % 2) * 2 + 2) (c.loop-from.to + (part / 2 + part % 2) * 2 + 2) (omega arith) (omega (arith, room (goal.at.close_group-requires c).After-min-part, c.loop-from.invariant.2.long)) in
     (omega arith, omega (arith, read, most, c.group_words-size.ensures), omega (arith, read, written))
 
 pub loop-from-smaller : goal.loop-from-smaller
 loop-from-smaller c =
-    omega (arith, next_some (turn (goal.at.loop-from-smaller c).After-smaller-part) (omega arith) (omega arith), next_inside (turn (goal.at.loop-from-smaller c).After-smaller-part))
+    omega (arith, next_some (turn (goal.at.loop-from-smaller c).After-min-part) (omega arith) (omega arith), next_inside (turn (goal.at.loop-from-smaller c).After-min-part))
 
 pub loop-from-preserved : goal.loop-from-preserved
 loop-from-preserved c =
-    let part = c.smaller-part.result in
+    let part = c.min-part.result in
     let even = c.loop-from.invariant.1 c.loop-from-test.true in (
-      omega (arith, next_inside (turn (goal.at.loop-from-preserved c).After-smaller-part)),
-      (λ h. next_cases (turn (goal.at.loop-from-preserved c).After-smaller-part) (λ full e. omega arith) (λ rest e. absurd (omega arith))),
-      rw c.close_group.ensures (fills_turn (here (goal.at.loop-from-preserved c).After-smaller-part) (behind (goal.at.loop-from-preserved c).After-smaller-part) (next (goal.at.loop-from-preserved c).After-smaller-part) (long (goal.at.loop-from-preserved c).At-loop-from) ((part / 2 + part % 2) * 2 + 2) (c.loop-from.to + (part / 2 + part % 2) * 2 + 2) (size (goal.at.loop-from-preserved c).After-smaller-part) (omega arith)),
+      omega (arith, next_inside (turn (goal.at.loop-from-preserved c).After-min-part)),
+      (λ h. next_cases (turn (goal.at.loop-from-preserved c).After-min-part) (λ full e. omega arith) (λ rest e. absurd (omega arith))),
+      rw c.close_group.ensures (fills_turn (here (goal.at.loop-from-preserved c).After-min-part) (behind (goal.at.loop-from-preserved c).After-min-part) (next (goal.at.loop-from-preserved c).After-min-part) (long (goal.at.loop-from-preserved c).At-loop-from) ((part / 2 + part % 2) * 2 + 2) (c.loop-from.to + (part / 2 + part % 2) * 2 + 2) (size (goal.at.loop-from-preserved c).After-min-part) (omega arith)),
     )
 
 pub shape_of-out : goal.shape_of-out

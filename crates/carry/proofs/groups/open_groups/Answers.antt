@@ -18,52 +18,52 @@ use Rattle.carrying.proofs.Carried.{is_carrier}
 use Rattle.carrying.proofs.Bytes.{length_back}
 use Rattle.carry.proofs.Parts.{Next, next_inside, next_most, next_some, opened_here, opened_from, opened_turn, opened_long, read_even, read_long, groups_end, fills_turn, fills_whole, next_long}
 use Rattle.carry.proofs.groups.open_groups.Goals as goal
-use Rattle.carry.proofs.groups.open_groups.Goals.{After-smaller, After-smaller-part, At-loop-from}
+use Rattle.carry.proofs.groups.open_groups.Goals.{After-min, After-min-part, At-loop-from}
 
 -- the buffer holds just what is to be written
-long : (c : At-loop-from) → length (word_bytes_back c.args.p (length c.args.out.now) c.args.s.now) ≡ length c.args.out.now
-long c = length_back c.args.p (is_carrier c.args.p c.requires.0 c.requires.1) (length c.args.out.now) c.args.s.now c.requires.2
+long : (c : At-loop-from) → length (word_bytes_back c.args.p (length c.args.out.now) c.args.symbols.now) ≡ length c.args.out.now
+long c = length_back c.args.p (is_carrier c.args.p c.requires.0 c.requires.1) (length c.args.out.now) c.args.symbols.now c.requires.2
 
-low : (c : At-loop-from) → all_below 256 c.args.s.now ≡ true
-low c = at_below 256 _ (λ i h. omega (arith, c.type_inv.s i))
+low : (c : At-loop-from) → all_below 256 c.args.symbols.now ≡ true
+low c = at_below 256 _ (λ i h. omega (arith, c.type_inv.symbols i))
 
-whole : (c : At-loop-from) → length c.args.s.now % 2 ≡ 0
+whole : (c : At-loop-from) → length c.args.symbols.now % 2 ≡ 0
 unfolding words_length
 whole c = omega (arith, c.requires.2)
 
 -- the next group
-turn : (c : After-smaller-part) →
-    Next ((group_words c.args.p + 1) * 2) (length c.args.s.now - c.loop-from.from) c.smaller-part.result
+turn : (c : After-min-part) →
+    Next ((group_words c.args.p + 1) * 2) (length c.args.symbols.now - c.loop-from.from) c.min-part.result
 turn c =
     let is = c.group_words.ensures.0 in
     record {
-      full = λ h. omega (arith, is, c.smaller-part.ensures.2 (omega (arith, is)));
-      rest = λ h. omega (arith, is, c.smaller-part.ensures.3 (omega (arith, is)));
+      full = λ h. omega (arith, is, c.min-part.ensures);
+      rest = λ h. omega (arith, is, c.min-part.ensures);
     }
 
-two : (c : After-smaller-part) → (2 ≤ c.smaller-part.result) × (c.smaller-part.result % 2 ≡ 0)
+two : (c : After-min-part) → (2 ≤ c.min-part.result) × (c.min-part.result % 2 ≡ 0)
 two c =
-    let even = read_even (group_words c.args.p + 1) (omega arith) c.args.s.now (low (goal.at.After-smaller-part c).At-loop-from) (whole (goal.at.After-smaller-part c).At-loop-from) c.loop-from.from c.smaller-part.result c.loop-from.invariant.1 (turn c) c.loop-from-test.true in
+    let even = read_even (group_words c.args.p + 1) (omega arith) c.args.symbols.now (low (goal.at.After-min-part c).At-loop-from) (whole (goal.at.After-min-part c).At-loop-from) c.loop-from.from c.min-part.result c.loop-from.invariant.1 (turn c) c.loop-from-test.true in
     (omega (arith, even, next_some (turn c) (omega arith) (omega arith)), even)
 
-read-part : (c : After-smaller-part) →
-    length (take (c.loop-from.from + c.smaller-part.result - c.loop-from.from) (drop c.loop-from.from c.args.s.now)) ≡ c.smaller-part.result
+read-part : (c : After-min-part) →
+    length (take (c.loop-from.from + c.min-part.result - c.loop-from.from) (drop c.loop-from.from c.args.symbols.now)) ≡ c.min-part.result
 read-part c =
-    read_long (group_words c.args.p + 1) (omega arith) c.args.s.now (low (goal.at.After-smaller-part c).At-loop-from) (whole (goal.at.After-smaller-part c).At-loop-from) c.loop-from.from c.smaller-part.result c.loop-from.invariant.1 (turn c) c.loop-from-test.true
+    read_long (group_words c.args.p + 1) (omega arith) c.args.symbols.now (low (goal.at.After-min-part c).At-loop-from) (whole (goal.at.After-min-part c).At-loop-from) c.loop-from.from c.min-part.result c.loop-from.invariant.1 (turn c) c.loop-from-test.true
 
 -- and so many bytes of it as there is room for
-written-part : (c : After-smaller) →
-    length (take (c.loop-from.to + c.smaller.result - c.loop-from.to) (drop c.loop-from.to c.loop-from.out)) ≡ c.smaller.result
+written-part : (c : After-min) →
+    length (take (c.loop-from.to + c.min.result - c.loop-from.to) (drop c.loop-from.to c.loop-from.out)) ≡ c.min.result
 written-part c =
-    next_long c.loop-from.out c.loop-from.to c.smaller.result (c.loop-from.to + c.smaller.result) (omega arith) (omega (arith, c.smaller.ensures.1, c.loop-from.invariant.2.inside, c.loop-from.invariant.2.long))
+    next_long c.loop-from.out c.loop-from.to c.min.result (c.loop-from.to + c.min.result) (omega arith) (omega (arith, c.min.ensures, c.loop-from.invariant.2.inside, c.loop-from.invariant.2.long))
 
-short : (c : After-smaller) →
-    c.smaller-part.result - 2 < length c.args.out.now - c.loop-from.to → c.smaller.result ≡ c.smaller-part.result - 2
-short c h = c.smaller.ensures.2 (omega (arith, c.loop-from.invariant.2.long))
+short : (c : After-min) →
+    c.min-part.result - 2 < length c.args.out.now - c.loop-from.to → c.min.result ≡ c.min-part.result - 2
+short c h = omega (arith, c.loop-from.invariant.2.long, c.min.ensures)
 
-most : (c : After-smaller) →
-    length c.args.out.now - c.loop-from.to ≤ c.smaller-part.result - 2 → c.smaller.result ≡ length c.args.out.now - c.loop-from.to
-most c h = omega (arith, c.loop-from.invariant.2.long, c.smaller.ensures.3 (omega (arith, c.loop-from.invariant.2.long)))
+most : (c : After-min) →
+    length c.args.out.now - c.loop-from.to ≤ c.min-part.result - 2 → c.min.result ≡ length c.args.out.now - c.loop-from.to
+most c h = omega (arith, c.loop-from.invariant.2.long, c.min.ensures)
 
 pub loop-from-init : goal.loop-from-init
 unfolding word_bytes_back words_back
@@ -79,40 +79,40 @@ pub overflow_sub-out : goal.overflow_sub-out
 overflow_sub-out c = omega (arith, c.loop-from.invariant.2.inside, c.loop-from.invariant.2.long)
 
 pub overflow_add-next : goal.overflow_add-next
-overflow_add-next c = omega (arith, c.smaller.ensures.1, c.loop-from.invariant.2.inside, c.loop-from.invariant.2.long)
+overflow_add-next c = omega (arith, c.min.ensures, c.loop-from.invariant.2.inside, c.loop-from.invariant.2.long)
 
 pub slice_bounds-open_group-end : goal.slice_bounds-open_group-end
-slice_bounds-open_group-end c = omega (arith, next_inside (turn (goal.at.slice_bounds-open_group-end c).After-smaller-part))
+slice_bounds-open_group-end c = omega (arith, next_inside (turn (goal.at.slice_bounds-open_group-end c).After-min-part))
 
 pub slice_bounds-open_group-end-in-loop-from : goal.slice_bounds-open_group-end-in-loop-from
 slice_bounds-open_group-end-in-loop-from c =
-    omega (arith, c.smaller.ensures.1, c.loop-from.invariant.2.inside, c.loop-from.invariant.2.long)
+    omega (arith, c.min.ensures, c.loop-from.invariant.2.inside, c.loop-from.invariant.2.long)
 
 pub open_group-requires : goal.open_group-requires
 open_group-requires c =
-    let read = read-part (goal.at.open_group-requires c).After-smaller-part in
-    let most = next_most (turn (goal.at.open_group-requires c).After-smaller-part) in
-    let pair = two (goal.at.open_group-requires c).After-smaller-part in
-    (omega (arith, read, pair), omega (arith, read, pair), omega (arith, read, most, c.group_words.ensures), omega (arith, read, pair, written-part (goal.at.open_group-requires c).After-smaller, c.smaller.ensures.0))
+    let read = read-part (goal.at.open_group-requires c).After-min-part in
+    let most = next_most (turn (goal.at.open_group-requires c).After-min-part) in
+    let pair = two (goal.at.open_group-requires c).After-min-part in
+    (omega (arith, read, pair), omega (arith, read, pair), omega (arith, read, most, c.group_words.ensures), omega (arith, read, pair, written-part (goal.at.open_group-requires c).After-min, c.min.ensures))
 
 pub loop-from-smaller : goal.loop-from-smaller
 loop-from-smaller c =
-    omega (arith, next_some (turn (goal.at.loop-from-smaller c).After-smaller-part) (omega arith) (omega arith), next_inside (turn (goal.at.loop-from-smaller c).After-smaller-part))
+    omega (arith, next_some (turn (goal.at.loop-from-smaller c).After-min-part) (omega arith) (omega arith), next_inside (turn (goal.at.loop-from-smaller c).After-min-part))
 
 pub loop-from-preserved : goal.loop-from-preserved
 loop-from-preserved c =
     let m = group_words c.args.p + 1 in
-    let part = c.smaller-part.result in
+    let part = c.min-part.result in
     let n = length c.args.out.now in
-    let r = c.smaller.result in
-    let bytes = c.args.s.now in
+    let r = c.min.result in
+    let bytes = c.args.symbols.now in
     let from = c.loop-from.from in
     let to = c.loop-from.to in
-    let next : Fills c.args.out.now c.loop-from.out to (take r (opened_here bytes from part) ++ take (n - (to + r)) (opened_from m bytes (from + part))) (word_bytes_back c.args.p n bytes) = rw (opened_turn m (omega arith) bytes (low (goal.at.loop-from-preserved c).At-loop-from) (whole (goal.at.loop-from-preserved c).At-loop-from) from part c.loop-from.invariant.1 (turn (goal.at.loop-from-preserved c).After-smaller-part) c.loop-from-test.true n to r (short (goal.at.loop-from-preserved c).After-smaller) (most (goal.at.loop-from-preserved c).After-smaller)) at c.loop-from.invariant.2 in
-    let size = opened_long m (omega arith) bytes (low (goal.at.loop-from-preserved c).At-loop-from) (whole (goal.at.loop-from-preserved c).At-loop-from) from part c.loop-from.invariant.1 (turn (goal.at.loop-from-preserved c).After-smaller-part) c.loop-from-test.true n to r (short (goal.at.loop-from-preserved c).After-smaller) (most (goal.at.loop-from-preserved c).After-smaller) in (
-      omega (arith, next_inside (turn (goal.at.loop-from-preserved c).After-smaller-part)),
-      omega (arith, two (goal.at.loop-from-preserved c).After-smaller-part),
-      rw (c.open_group.ensures, written-part (goal.at.loop-from-preserved c).After-smaller) (fills_turn (take r (opened_here bytes from part)) (take (n - (to + r)) (opened_from m bytes (from + part))) next (long (goal.at.loop-from-preserved c).At-loop-from) r (to + r) size (omega arith)),
+    let next : Fills c.args.out.now c.loop-from.out to (take r (opened_here bytes from part) ++ take (n - (to + r)) (opened_from m bytes (from + part))) (word_bytes_back c.args.p n bytes) = rw (opened_turn m (omega arith) bytes (low (goal.at.loop-from-preserved c).At-loop-from) (whole (goal.at.loop-from-preserved c).At-loop-from) from part c.loop-from.invariant.1 (turn (goal.at.loop-from-preserved c).After-min-part) c.loop-from-test.true n to r (short (goal.at.loop-from-preserved c).After-min) (most (goal.at.loop-from-preserved c).After-min)) at c.loop-from.invariant.2 in
+    let size = opened_long m (omega arith) bytes (low (goal.at.loop-from-preserved c).At-loop-from) (whole (goal.at.loop-from-preserved c).At-loop-from) from part c.loop-from.invariant.1 (turn (goal.at.loop-from-preserved c).After-min-part) c.loop-from-test.true n to r (short (goal.at.loop-from-preserved c).After-min) (most (goal.at.loop-from-preserved c).After-min) in (
+      omega (arith, next_inside (turn (goal.at.loop-from-preserved c).After-min-part)),
+      omega (arith, two (goal.at.loop-from-preserved c).After-min-part),
+      rw (c.open_group.ensures, written-part (goal.at.loop-from-preserved c).After-min) (fills_turn (take r (opened_here bytes from part)) (take (n - (to + r)) (opened_from m bytes (from + part))) next (long (goal.at.loop-from-preserved c).At-loop-from) r (to + r) size (omega arith)),
     )
 
 pub shape_of-out : goal.shape_of-out
@@ -120,5 +120,5 @@ shape_of-out c = c.loop-from.invariant.2.long
 
 pub returns : goal.returns
 returns c =
-    let none = groups_end opened (group_words c.args.p + 1) (symbols_of 2 c.args.s.now) (c.loop-from.from / 2) (omega arith) (omega (arith, length_symbols 2 c.args.s.now)) in
+    let none = groups_end opened (group_words c.args.p + 1) (symbols_of 2 c.args.symbols.now) (c.loop-from.from / 2) (omega arith) (omega (arith, length_symbols 2 c.args.symbols.now)) in
     fills_whole c.loop-from.invariant.2 (ap (take (length c.args.out.now - c.loop-from.to)) none ∙ take-nil (length c.args.out.now - c.loop-from.to)) (long (goal.at.returns c).At-loop-from)

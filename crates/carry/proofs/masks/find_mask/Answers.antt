@@ -19,11 +19,11 @@ use Rattle.carry.proofs.masks.find_mask.Goals.{After-all_ruled_out-low, Else-tot
 -- there is a digit more to find
 half : (c : Else-total-eq0) → c.loop-k.a < 32768
 half c =
-    digits_half c.loop-k.a (c.loop-k.k - 1) c.loop-k.k (omega arith) c.loop-k.invariant.1
+    digits_half c.loop-k.a (c.loop-k.k - 1) c.loop-k.k (omega arith) c.loop-k.invariant.0
 
 low-in : (c : After-all_ruled_out-low) → c.all_ruled_out-low.result ≤ c.loop-k.total
 low-in c =
-    low_part c.args.p (c.loop-k.k - 1) c.loop-k.k c.loop-k.a c.all_ruled_out-low.result c.loop-k.total (0 ∷ c.args.words.now) (omega arith) c.all_ruled_out-low.ensures c.loop-k.invariant.2
+    low_part c.args.p (c.loop-k.k - 1) c.loop-k.k c.loop-k.a c.all_ruled_out-low.result c.loop-k.total (0 ∷ c.args.words.now) (omega arith) c.all_ruled_out-low.ensures c.loop-k.invariant.1
 
 pub overflow_mul-total : goal.overflow_mul-total
 overflow_mul-total c =
@@ -36,19 +36,22 @@ loop-k-init c =
     let words = c.args.words.now in
     let low : all_below 65536 words ≡ true = at_below 65536 words (λ i h. omega (arith, c.type_inv.words i)) in
     let whole = all_whole c.args.p (0 ∷ words) (cons_below 65536 0 words (omega arith) low) in
-    (omega arith, omega arith, ap (λ (n : ℕ). n * (65536 - c.args.p)) (add-one (length words)) ∙ sym whole, refl)
+    (omega arith, ap (λ (n : ℕ). n * (65536 - c.args.p)) (add-one (length words)) ∙ sym whole, refl)
 
 pub overflow_cast-result : goal.overflow_cast-result
 overflow_cast-result c =
-    let less = whole_below c.loop-k.a c.loop-k.k c.loop-k.invariant.1 in
+    let here : c.loop-k.k - 1 + 1 ≡ c.loop-k.k = omega arith in
+    let less = whole_below c.loop-k.a c.loop-k.k c.loop-k.invariant.0 in
     let same : c.loop-k.a * 2 ^ c.loop-k.k % 4294967296 ≡ c.loop-k.a * 2 ^ c.loop-k.k = mod-eq_of_lt (omega arith) in
-    omega (arith, same, less)
+    rw here (omega (arith, same, less))
 
 pub returns-then-total-eq0 : goal.returns-then-total-eq0
 returns-then-total-eq0 c =
-    let less = whole_below c.loop-k.a c.loop-k.k c.loop-k.invariant.1 in
-    mod-eq_of_lt (omega arith)
-    ∙ sym (c.loop-k.invariant.3 ∙ mask_settled c.args.p c.loop-k.k c.loop-k.a (0 ∷ c.args.words.now) (sym c.loop-k.invariant.2 ∙ c.if-total-eq0.true))
+    let here : c.loop-k.k - 1 + 1 ≡ c.loop-k.k = omega arith in
+    let less = whole_below c.loop-k.a c.loop-k.k c.loop-k.invariant.0 in
+    rw here
+    (mod-eq_of_lt (omega arith)
+    ∙ sym (c.loop-k.invariant.2 ∙ mask_settled c.args.p c.loop-k.k c.loop-k.a (0 ∷ c.args.words.now) (sym c.loop-k.invariant.1 ∙ c.if-total-eq0.true)))
 
 pub overflow_mul-a : goal.overflow_mul-a
 overflow_mul-a c = omega (arith, half c)
@@ -68,15 +71,15 @@ loop-k-preserved c =
     let k = c.loop-k.k - 1 in
     let one : k + 1 ≡ c.loop-k.k = omega (arith, c.loop-k-test.true) in
     let digit = c.next_digit-a.ensures in
-    let ruled = taken_ruled c.args.p k c.loop-k.k c.loop-k.a c.all_ruled_out-low.result c.loop-k.total words one c.all_ruled_out-low.ensures c.loop-k.invariant.2 in
-    let mask = taken_mask c.args.p k c.loop-k.k c.loop-k.a c.all_ruled_out-low.result c.loop-k.total words one c.all_ruled_out-low.ensures c.loop-k.invariant.2 in
-    (omega arith, rw digit (next_fits c.loop-k.a k c.loop-k.k one c.loop-k.invariant.1 (leb c.all_ruled_out-low.result (c.loop-k.total - c.all_ruled_out-low.result))), c.smaller-total.ensures ∙ ruled ∙ sym (ap (λ (x : ℕ). all_ruled_out c.args.p k x words) digit), c.loop-k.invariant.3 ∙ mask ∙ sym (ap (λ (x : ℕ). mask_from c.args.p k x words) digit))
+    let ruled = taken_ruled c.args.p k c.loop-k.k c.loop-k.a c.all_ruled_out-low.result c.loop-k.total words one c.all_ruled_out-low.ensures c.loop-k.invariant.1 in
+    let mask = taken_mask c.args.p k c.loop-k.k c.loop-k.a c.all_ruled_out-low.result c.loop-k.total words one c.all_ruled_out-low.ensures c.loop-k.invariant.1 in
+    (rw digit (next_fits c.loop-k.a k c.loop-k.k one c.loop-k.invariant.0 (leb c.all_ruled_out-low.result (c.loop-k.total - c.all_ruled_out-low.result))), c.min-total.ensures ∙ ruled ∙ sym (ap (λ (x : ℕ). all_ruled_out c.args.p k x words) digit), c.loop-k.invariant.2 ∙ mask ∙ sym (ap (λ (x : ℕ). mask_from c.args.p k x words) digit))
 
 pub overflow_cast-result-2 : goal.overflow_cast-result-2
-overflow_cast-result-2 c = omega (arith, digits_below c.loop-k.a c.loop-k.k c.loop-k.invariant.1)
+overflow_cast-result-2 c = omega (arith, digits_below c.loop-k.a c.loop-k.k c.loop-k.invariant.0)
 
 pub returns : goal.returns
 unfolding mask_from
 returns c =
     let end : c.loop-k.k ≡ 0 = omega arith in
-    sym (c.loop-k.invariant.3 ∙ ap (λ (x : ℕ). mask_from c.args.p x c.loop-k.a (0 ∷ c.args.words.now)) end)
+    sym (c.loop-k.invariant.2 ∙ ap (λ (x : ℕ). mask_from c.args.p x c.loop-k.a (0 ∷ c.args.words.now)) end)

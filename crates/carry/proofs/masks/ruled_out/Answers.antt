@@ -25,6 +25,6 @@ returns c =
     let one : 1 * 2 ^ k % 4294967296 ≡ 2 ^ k = ap (λ (x : ℕ). x % 4294967296) (one-mul (2 ^ k)) ∙ mod-eq_of_lt (omega arith) in
     let most : (v + 1) * 2 ^ k ≤ 65536 * 32768 = mul-le-mul {n₁ = v + 1} {m₁ = 2 ^ k} {n₂ = 65536} {m₂ = 32768} (omega (arith, small (goal.at.returns c).Start)) few in
     let end : (v + 1) * 2 ^ k % 4294967296 ≡ (v + 1) * 2 ^ k = mod-eq_of_lt (omega arith) in
-    let over : c.above.result ≡ (v + 1) * 2 ^ k - p = c.above.ensures ∙ ap (λ (x : ℕ). x - p) end in
-    let is : c.smaller.result ≡ min (2 ^ k) ((v + 1) * 2 ^ k - p) = c.smaller.ensures ∙ ap₂ min one over in
+    let over : c.saturating_sub.result ≡ (v + 1) * 2 ^ k - p = c.saturating_sub.ensures ∙ ap (λ (x : ℕ). x - p) end in
+    let is : c.min.result ≡ min (2 ^ k) ((v + 1) * 2 ^ k - p) = c.min.ensures ∙ ap₂ min one over in
     (is, omega (arith, is, few))

@@ -28,7 +28,7 @@ pub slice_bounds-product-end : goal.slice_bounds-product-end
 slice_bounds-product-end c = sym (ap length (part (goal.at.slice_bounds-product-end c).After-round_points-points) ∙ long (goal.at.slice_bounds-product-end c).After-round_points-points)
 
 pub product-product-requires : goal.product-product-requires
-product-product-requires c = rw (part (goal.at.product-product-requires c).After-round_points-points) (round_symbols c.args.h c.requires.0 c.args.g c.requires.1 (few (goal.at.product-product-requires c).After-struct_known-1))
+product-product-requires c = rw (c.new-field.ensures, part (goal.at.product-product-requires c).After-round_points-points) (round_symbols c.args.h c.requires.0 c.args.g c.requires.1 (few (goal.at.product-product-requires c).After-struct_known-1))
 
 pub returns : goal.returns
-returns c = c.spread.ensures ∙ ap (padded 256) (rw (c.product-product.ensures, part (goal.at.returns c).After-round_points-points) (round_product c.args.h c.requires.0 c.args.g c.requires.1 c.requires.3))
+returns c = c.spread.ensures ∙ ap (padded 256) (rw (c.product-product.ensures, c.new-field.ensures, part (goal.at.returns c).After-round_points-points) (round_product c.args.h c.requires.0 c.args.g c.requires.1 c.requires.3))

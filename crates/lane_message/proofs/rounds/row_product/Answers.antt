@@ -24,10 +24,10 @@ pub rounds_of-rounds-requires : goal.rounds_of-rounds-requires
 rounds_of-rounds-requires c = (c.requires.0.byte, rw (part (goal.at.rounds_of-rounds-requires c).Start, length_shifts c.args.h c.requires.0) (few (goal.at.rounds_of-rounds-requires c).Start))
 
 pub product-requires : goal.product-requires
-product-requires c = rw c.requires.2 (row_symbols c.args.h c.requires.0 (few (goal.at.product-requires c).Start)).are
+product-requires c = rw (c.new.ensures, c.requires.2) (row_symbols c.args.h c.requires.0 (few (goal.at.product-requires c).Start)).are
 
 pub returns-then-rounds-eq0 : goal.returns-then-rounds-eq0
-returns-then-rounds-eq0 c = c.product.ensures ∙ rw c.requires.2
+returns-then-rounds-eq0 c = c.product.ensures ∙ rw (c.new.ensures, c.requires.2)
 
 pub round_product-requires : goal.round_product-requires
 round_product-requires c =

@@ -7,13 +7,12 @@ use lib.ListN.{get_or, set}
 use Rattle.lists.specs.Padded.{zeros}
 use Rattle.field.specs.Fields.{mul}
 use Rattle.field.proofs.Bounds.{power_below}
-use Rattle.field.proofs.KindLaws.{size_fits}
 use Rattle.generator.specs.Records.{modulus_of, size}
 use Rattle.check_sums.proofs.Sums.{power_place, power_at}
 use Rattle.lane_message.proofs.Points.{power_modulo}
 use Rattle.lane_message.proofs.BaseInverses.{Written, inverses_below, written_first, written_next, written_all}
 use Rattle.lane_message.proofs.rows.base_inverses.Goals as goal
-use Rattle.lane_message.proofs.rows.base_inverses.Goals.{After-mul_with-value, After-struct_known-2-1, Start}
+use Rattle.lane_message.proofs.rows.base_inverses.Goals.{After-mul-value, After-struct_known-2-1, Start}
 
 few : (c : After-struct_known-2-1) → (c.args.h.k ≤ 255) × (c.args.h.n ≤ 255)
 few c = (omega (arith, c.struct_known-1.given), omega (arith, c.struct_known-2-1.given))
@@ -27,18 +26,19 @@ read : (c : Start) (i : ℕ) → i < c.args.h.n → get_or c.args.powers.now i 0
 read c i low = rw (c.requires.1, power_at c.args.h i low) (power_below _ c.requires.0.field i c.requires.0.root_below)
 
 -- one step
-next : (c : After-mul_with-value)
+next : (c : After-mul-value)
     → let l = c.loop-c in
-    Written c.args.h (l.c - 1) c.mul_with-value.result (set l.out (l.c - 1) c.mul_with-value.result)
+    Written c.args.h (l.c - 1) c.mul-value.result (set l.out (l.c - 1) c.mul-value.result)
 next c =
     let l = c.loop-c in
     let h = c.args.h in
     let s = c.requires.0 in
-    written_next h s l.invariant c.loop-c-test.true c.mul_with-value.result
-    (c.mul_with-value.ensures
-    ∙ ap (λ (x : ℕ). mul (modulus_of h) x l.value)
-    (c.step_ratio-ratio.ensures.0
-    ∙ rw (c.requires.1, power_at h (h.k % h.n) (turn (goal.at.After-mul_with-value c).Start), power_modulo h s h.k, power_at h (h.k - 1) (omega (arith, s.some, s.fits)), power_at h l.c (omega (arith, l.invariant.inside, s.fits)))))
+    written_next h s l.invariant c.loop-c-test.true c.mul-value.result
+    (c.mul-value.ensures.is
+    ∙ rw c.new-field.ensures
+    (ap (λ (x : ℕ). mul (modulus_of h) x l.value)
+    (c.step_ratio-ratio.ensures.is
+    ∙ rw (c.new-field.ensures, c.requires.1, power_at h (h.k % h.n) (turn (goal.at.After-mul-value c).Start), power_modulo h s h.k, power_at h (h.k - 1) (omega (arith, s.some, s.fits)), power_at h l.c (omega (arith, l.invariant.inside, s.fits))))))
 
 pub nonzero_rem-top : goal.nonzero_rem-top
 nonzero_rem-top c = omega (arith, c.requires.0.two)
@@ -85,17 +85,18 @@ overflow_cast-powers c = omega (arith, c.type_inv.powers c.loop-c.c)
 
 pub step_ratio-ratio-requires : goal.step_ratio-ratio-requires
 step_ratio-ratio-requires c =
-    let h = c.args.h in
-    (c.requires.0, read (goal.at.step_ratio-ratio-requires c).Start _ (turn (goal.at.step_ratio-ratio-requires c).Start), read (goal.at.step_ratio-ratio-requires c).Start _ (omega (arith, c.requires.0.some, c.requires.0.fits)), read (goal.at.step_ratio-ratio-requires c).Start _ (omega (arith, c.loop-c.invariant.inside, c.requires.0.fits)))
+    let w = (goal.at.step_ratio-ratio-requires c).Start in
+    let s = c.requires.0 in
+    rw c.new-field.ensures (read w _ (turn w), read w _ (omega (arith, s.some, s.fits)), read w _ (omega (arith, c.loop-c.invariant.inside, s.fits)))
 
-pub mul_with-value-requires : goal.mul_with-value-requires
-mul_with-value-requires c =
+pub mul-value-requires : goal.mul-value-requires
+mul-value-requires c =
     let l = c.loop-c in
-    (c.requires.0.usable_field, c.step_ratio-ratio.ensures.1, rw l.invariant.value_is (inverses_below c.args.h c.requires.0 l.c))
+    (c.step_ratio-ratio.ensures.symbol, rw (c.new-field.ensures, l.invariant.value_is) (inverses_below c.args.h c.requires.0 l.c))
 
 pub overflow_cast-out-in-loop-c : goal.overflow_cast-out-in-loop-c
 overflow_cast-out-in-loop-c c =
-    let w = next c in let low = inverses_below c.args.h c.requires.0 (c.loop-c.c - 1) in omega (arith, w.value_is, size_fits _ c.requires.0.usable_field)
+    omega (arith, c.mul-value.ensures.symbol, c.new-field.result.small)
 
 pub offset_bounds-out-c-in-loop-c : goal.offset_bounds-out-c-in-loop-c
 offset_bounds-out-c-in-loop-c c = omega (arith, (few (goal.at.offset_bounds-out-c-in-loop-c c).After-struct_known-2-1).0, c.loop-c.invariant.inside)

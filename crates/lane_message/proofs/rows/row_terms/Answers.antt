@@ -4,14 +4,14 @@ use Prim.Native.Nat.{◌<◌}
 use native.Mathlib.Omega.{arith}
 use lib.ListN.{length, get_or}
 use Rattle.lists.proofs.Numbers.{below_at}
-use Rattle.generator.specs.Records.{size}
+use Rattle.generator.specs.Records.{modulus_of, size}
 use Rattle.node_weights.specs.Inner.Rows.{row_points, row_terms}
 use Rattle.node_weights.proofs.Parts.{Symbols, row_symbols}
 use Rattle.lane_message.proofs.rows.row_terms.Goals as goal
 use Rattle.lane_message.proofs.rows.row_terms.Goals.{Start}
 
 -- the rows' points
-points : (c : Start) → let h = c.args.h in Symbols h.field h.k (row_points h)
+points : (c : Start) → let h = c.args.h in Symbols (modulus_of h) h.k (row_points h)
 points c = row_symbols c.args.h c.requires.0 (omega (arith, c.requires.0.fits, c.requires.0.byte))
 
 many : (c : Start) → length c.args.points.now ≡ c.args.h.k

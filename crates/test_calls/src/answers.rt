@@ -1,0 +1,35 @@
+// Answers as texts, and the number of what turned a call away.
+use generator::Refusal;
+use std::alloc::{AllocError, Global};
+use std::fmt;
+use std::fmt::Display;
+use test_tools::{List, change};
+
+// A refusal, said by its number.
+#[derive(Clone, Copy)]
+pub struct Refused(pub Refusal);
+
+impl Display for Refused {
+    fn fmt<W: fmt::Write>(&self, f: &mut fmt::Formatter<W>) -> fmt::Result {
+        let number = u8::from(self.0);
+        write!(f, "refused {number}")
+    }
+}
+
+// What turned the call away, and whether everything that was lent is as it was.
+pub fn turned_away(alloc: Global, refusal: Refusal, kept: bool) -> Result<String, AllocError> {
+    format!(in alloc; "{}, {}", Refused(refusal), change(kept))
+}
+
+// What a buffer holds after the call, or what turned it away and whether the buffer is as it was.
+pub fn done<T: Display>(
+    alloc: Global,
+    answer: Result<(), Refusal>,
+    after: &[T],
+    kept: bool,
+) -> Result<String, AllocError> {
+    match answer {
+        Ok(()) => format!(in alloc; "done{}", List(after)),
+        Err(refusal) => turned_away(alloc, refusal, kept),
+    }
+}
