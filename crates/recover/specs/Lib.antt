@@ -1,3 +1,0 @@
--- What the calls of this crate promise.
-pub mod Promise
-pub mod Inner

@@ -1,5 +1,0 @@
--- The inverse of the encoding at listed nodes.
-pub mod Columns
-pub mod Rows
-pub mod Prepared
-pub mod Room

@@ -1,2 +1,0 @@
--- Nothing here is promised to a caller of the library.
-pub mod Inner
