@@ -1,0 +1,3 @@
+-- What the calls of this crate promise.
+pub mod Promise
+pub mod Inner

@@ -1,0 +1,40 @@
+// The message of listed shares: the product of the inverse and the lanes.
+ghost use Rattle.std.specs.Prelude.{◌≡◌, ◌*◌, ◌≤◌, length};
+ghost use Rattle.generator.specs.Records.{width};
+ghost use Rattle.recover_matrix.specs.Inner.Inverse.{inverse_product, square_bytes, ListRoom};
+
+use crate::Inverse;
+
+impl Inverse<'_> {
+    // The message in scratch for lists of so many elements, so many counts, and square matrices of so many bytes.
+    fn fill_in<const LISTS: usize, const COUNTS: usize, const SQUARE: usize>(
+        self,
+        lanes: usize,
+        shares: &[u8],
+        out: &mut [u8],
+    )
+        requires { (LISTS ≤ 130560) × (COUNTS ≤ 2040) × (SQUARE ≤ 130050) × ListRoom self.code.header.k LISTS COUNTS × (square_bytes self.code.header ≤ SQUARE) × (lanes ≤ 4096) × (length shares.now ≡ width self.code.header * self.code.header.k * lanes) × (length out.old ≡ width self.code.header * self.code.header.k * lanes) }
+        ensures { out.new ≡ inverse_product self.entry.code.header self.entry.nodes.now lanes shares.now }
+    {
+        let w = symbols::width_of(self.code.header);
+        let mut lists = [0u16; LISTS];
+        let mut counts = [0u8; COUNTS];
+        self.list_rows::<SQUARE>(&mut lists, &mut counts);
+        block_products::fill(self.product(lanes), w, &lists, &counts, shares, out);
+    }
+
+    // The message of the nodes' shares, row after row, in the smallest scratch that the nodes fit: at most 16, at most 64, or any. Clearing the largest takes longer than the work of a small code.
+    pub fn fill_message(self, lanes: usize, shares: &[u8], out: &mut [u8])
+        requires { (lanes ≤ 4096) × (length shares.now ≡ width self.code.header * self.code.header.k * lanes) × (length out.old ≡ width self.code.header * self.code.header.k * lanes) }
+        ensures { out.new ≡ inverse_product self.entry.code.header self.entry.nodes.now lanes shares.now }
+    {
+        let k = self.code.header.k;
+        if k <= 16 {
+            self.fill_in::<512, 128, 512>(lanes, shares, out)
+        } else if k <= 64 {
+            self.fill_in::<8192, 512, 8192>(lanes, shares, out)
+        } else {
+            self.fill_in::<130560, 2040, 130050>(lanes, shares, out)
+        }
+    }
+}

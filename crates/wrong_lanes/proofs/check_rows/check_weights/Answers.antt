@@ -1,0 +1,69 @@
+-- `check_weights` meets its contract: the values of the first nodes' basis polynomials, and −1.
+use mathlib.Core.Path.{◌≡◌, sym, ◌∙◌}
+use Prim.Native.Nat.{◌+◌, ◌≤◌, ◌<◌}
+use native.Mathlib.Omega.{arith}
+use lib.ListN.{length, get_or, take}
+use Rattle.lists.specs.Rows.{range}
+use Rattle.lists.proofs.Padding.{length_padded}
+use Rattle.lists.proofs.Places.{length_range}
+use Rattle.field.specs.Fields.{power}
+use Rattle.field.proofs.Arithmetic.{zero_below}
+use Rattle.field.proofs.BothKinds.{arithmetic}
+use Rattle.field.proofs.Bounds.{one_below, power_below}
+use Rattle.generator.specs.Records.{modulus_of, size}
+use Rattle.interpolation.proofs.Points.{length_points, points_symbols}
+use Rattle.check_sums.specs.Inner.Powers.{powers_of}
+use Rattle.check_sums.proofs.Sums.{length_powers, power_at}
+use Rattle.wrong_lanes.specs.Inner.Checks.{first_points}
+use Rattle.wrong_lanes.proofs.CheckRows.{few, first_points_lem}
+use Rattle.wrong_lanes.proofs.check_rows.check_weights.Goals as goal
+use Rattle.wrong_lanes.proofs.check_rows.check_weights.Goals.{Start}
+
+-- the node is one of the others
+node : (c : Start) → let h = c.args.code.header in h.k + c.args.e < h.n
+node c = omega (arith, c.requires.3)
+
+roots-long : (c : Start) → length c.args.roots.now ≡ 255
+roots-long c =
+    let h = c.args.code.header in
+    rw c.requires.1 (length_padded 255 (powers_of h) (omega (arith, length_powers h, c.args.code.sound.byte)))
+
+-- its power of the root, and the points of the first nodes
+power-is : (c : Start) → let h = c.args.code.header in get_or c.args.roots.now (h.k + c.args.e) 0 ≡ power (modulus_of h) h.root (h.k + c.args.e)
+power-is c = rw c.requires.1 (power_at c.args.code.header (c.args.code.header.k + c.args.e) (node c))
+
+power-low : (c : Start) → let h = c.args.code.header in get_or c.args.roots.now (h.k + c.args.e) 0 < size h
+power-low c =
+    let s = c.args.code.sound in
+    rw (power-is c) (power_below (modulus_of c.args.code.header) s.field (c.args.code.header.k + c.args.e) s.root_below)
+
+points_are : (c : Start) → let h = c.args.code.header in take h.k c.args.roots.now ≡ first_points h
+points_are c = rw c.requires.1 (first_points_lem c.args.code.header c.args.code.sound)
+
+pub bounds-roots-at : goal.bounds-roots-at
+bounds-roots-at c = omega (arith, node (goal.at.bounds-roots-at c).Start, roots-long (goal.at.bounds-roots-at c).Start, c.args.code.sound.byte)
+
+pub slice_bounds-values-end : goal.slice_bounds-values-end
+slice_bounds-values-end c =
+    let h = c.args.code.header in
+    rw (points_are (goal.at.slice_bounds-values-end c).Start) (sym (length_points (modulus_of h) h.root 0 (range 0 h.k) ∙ length_range 0 h.k))
+
+pub values-weights-requires : goal.values-weights-requires
+values-weights-requires c =
+    let h = c.args.code.header in
+    let s = c.args.code.sound in
+    let short : length (range 0 h.k) ≤ 255 = omega (arith, length_range 0 h.k, few h s 0) in
+    rw (c.requires.0, points_are (goal.at.values-weights-requires c).Start) (points_symbols (modulus_of h) h.root 0 (range 0 h.k) s.field s.root_below short, c.requires.2, power-low (goal.at.values-weights-requires c).Start)
+
+pub sub-requires : goal.sub-requires
+sub-requires c =
+    let h = c.args.code.header in
+    let v = c.args.code.sound.field in
+    rw c.requires.0 (zero_below (arithmetic (modulus_of h) v), one_below (modulus_of h) v)
+
+pub bounds-weights-at : goal.bounds-weights-at
+bounds-weights-at c = omega (arith, node (goal.at.bounds-weights-at c).Start, c.args.code.sound.byte)
+
+pub returns : goal.returns
+returns c =
+    rw (c.sub.ensures.is, c.values-weights.ensures, c.requires.0, points_are (goal.at.returns c).Start, power-is (goal.at.returns c).Start)

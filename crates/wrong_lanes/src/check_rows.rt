@@ -1,0 +1,80 @@
+// The checks of a lane as lists of weights: its check sums, or that each other node holds what the first k give.
+ghost use Rattle.std.specs.Prelude.{◌≡◌, ◌+◌, ◌-◌, ◌<◌, length, set};
+ghost use Rattle.lists.specs.Padded.{padded};
+ghost use Rattle.field.specs.Fields.{sub};
+ghost use Rattle.generator.specs.Records.{modulus_of};
+ghost use Rattle.interpolation.specs.Inner.Lagrange.{scales_of};
+ghost use Rattle.check_sums.specs.Inner.Powers.{powers_of};
+ghost use Rattle.wrong_lanes.specs.Inner.Checks.{first_points, first_weights, CheckLists, CheckRoom};
+
+use check_sums::powers;
+use field::lent::Arithmetic;
+use generator::Code;
+use interpolation::lagrange;
+
+// The weights of check e: those by which the first k nodes give node k + e, −1 there, and zeros after them.
+fn check_weights(
+    code: Code,
+    field: Arithmetic,
+    roots: &[u16],
+    scales: &[u16],
+    e: usize,
+) -> [u16; 255]
+    requires { (field.field ≡ code.header.field) × (roots.now ≡ padded 255 (powers_of code.header)) × (scales.now ≡ scales_of (modulus_of code.header) (first_points code.header)) × (e < code.header.n - code.header.k) }
+    ensures { result ≡ set (padded 255 (first_weights code.header e)) (code.header.k + e) (sub (modulus_of code.header) 0 1) }
+{
+    let k = code.header.k as usize;
+    let at = k + e;
+    let z = roots[at] as u32;
+    let mut weights = lagrange::values(field, &roots[..k], scales, z);
+    weights[at] = field.sub(0, 1) as u16;
+    weights
+}
+
+// The lists of the checks of the other nodes: k weights each, which take k products each to make.
+fn list_nodes(code: Code, lists: &mut [u16], counts: &mut [u8])
+    requires { CheckRoom code.header (length lists.old) (length counts.old) }
+    ensures { CheckLists code.header lists.new counts.new }
+{
+    let h = code.header;
+    let n = h.n as usize;
+    let k = h.k as usize;
+    let checks = (h.n - h.k) as usize;
+    let codes = tile_products::codes_of(h.field);
+    let t = field::constant_tables();
+    let field = Arithmetic::new(h.field, &t);
+    let roots = powers::powers(h);
+    let scales = lagrange::scales(field, &roots[..k]);
+    for e in 0..checks {
+        let weights = check_weights(code, field, &roots, &scales[..k], e);
+        tile_products::prepare(h.field, &codes, &weights[..n], e, lists, counts);
+    }
+}
+
+// The lists of the check sums: n weights each, which are read from the powers of the root.
+fn list_sums(code: Code, lists: &mut [u16], counts: &mut [u8])
+    requires { CheckRoom code.header (length lists.old) (length counts.old) }
+    ensures { CheckLists code.header lists.new counts.new }
+{
+    let h = code.header;
+    let n = h.n as usize;
+    let checks = (h.n - h.k) as usize;
+    let codes = tile_products::codes_of(h.field);
+    let table = powers::powers(h);
+    for e in 0..checks {
+        let weights = powers::factors(h, &table, e + 1);
+        tile_products::prepare(h.field, &codes, &weights[..n], e, lists, counts);
+    }
+}
+
+// The lists of checks for so many lanes: on few lanes making the weights takes longer than the lanes.
+pub fn list_checks(code: Code, lanes: usize, lists: &mut [u16], counts: &mut [u8])
+    requires { CheckRoom code.header (length lists.old) (length counts.old) }
+    ensures { CheckLists code.header lists.new counts.new }
+{
+    if lanes <= 256 {
+        list_sums(code, lists, counts)
+    } else {
+        list_nodes(code, lists, counts)
+    }
+}
