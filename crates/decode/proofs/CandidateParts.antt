@@ -54,11 +54,11 @@ pub record CandidateParts (h : Header) (ws sums nodes : List ℕ) (count : ℕ) 
   pub nodes_low : all_below (length ws) js ≡ true
   pub sums_long : length sums ≡ 255
   pub terms_long : length (take count sums) ≡ count
-  pub terms_symbols : SymbolList h.field (take count sums)
-  pub lane_symbols : SymbolList h.field ws
+  pub terms_symbols : SymbolList (modulus_of h) (take count sums)
+  pub lane_symbols : SymbolList (modulus_of h) ws
   pub errors_are : padded 255 (errors_of (modulus_of h) (points_of (modulus_of h) h.root 0 (take count nodes)) (take count sums)) ≡ padded 255 es
   pub errors_count : length es ≡ count
-  pub errors_symbols : SymbolList h.field es
+  pub errors_symbols : SymbolList (modulus_of h) es
   pub candidate : (array : List ℕ) → array ≡ padded 255 (removed (modulus_of h) js es ws) → Candidate h ws array
 
 module _ (h : Header) (ws : List ℕ) (lane : SoundLane h ws) (sums : List ℕ) (sums_are : sums ≡ padded 255 (check_sums h ws)) where
@@ -98,11 +98,11 @@ module _ (h : Header) (ws : List ℕ) (lane : SoundLane h ws) (sums : List ℕ) 
     long_terms = length-take-le count sums (omega (arith, long_sums, few))
 
     -- the points are symbols, and so are the parts of their basis and the errors
-    points_are : SymbolList h.field points
-    points_are = points_symbols h.root 0 roots lane.sound.usable_field lane.sound.root_below (omega (arith, w.counted, few))
+    points_are : SymbolList (modulus_of h) points
+    points_are = points_symbols p h.root 0 roots lane.sound.field lane.sound.root_below (omega (arith, w.counted, few))
 
-    basis : Parts h.field (length roots) points (basis_of p points)
-    basis = parts h.field (length roots) points _ (record { are = points_are; size = length_points p h.root 0 roots }) refl
+    basis : Parts p (length roots) points (basis_of p points)
+    basis = parts p lane.sound.field (length roots) points _ (record { are = points_are; size = length_points p h.root 0 roots }) refl
 
     long_errors : length errors ≡ length roots
     long_errors = length_es h lane.sound ws lane.long lane.below sums w.locator w.few sums_are long_sums sums_symbols w.locates
@@ -125,11 +125,11 @@ module _ (h : Header) (ws : List ℕ) (lane : SoundLane h ws) (sums : List ℕ) 
           nodes_low = rw lane.long (roots_low p h.root h.n front);
           sums_long = long_sums;
           terms_long = long_terms;
-          terms_symbols = record { usable_field = lane.sound.usable_field; below = below_take (size h) count sums array_below; short = omega (arith, long_terms, few) };
-          lane_symbols = record { usable_field = lane.sound.usable_field; below = lane.below; short = omega (arith, lane.long, w.few) };
+          terms_symbols = record { below = below_take (size h) count sums array_below; short = omega (arith, long_terms, few) };
+          lane_symbols = record { below = lane.below; short = omega (arith, lane.long, w.few) };
           errors_are = ap₂ (λ (l : List ℕ) (c : ℕ). padded 255 (errors_of p (points_of p h.root 0 l) (take c sums))) part w.counted;
           errors_count = long_errors ∙ sym w.counted;
-          errors_symbols = record { usable_field = lane.sound.usable_field; below = errors_below; short = omega (arith, long_errors, w.counted, few) };
+          errors_symbols = record { below = errors_below; short = omega (arith, long_errors, w.counted, few) };
           candidate = λ array is.
               record {
                 word = removed p roots errors ws;

@@ -11,10 +11,10 @@ ghost use Rattle.decode.specs.Inner.Locating.{Below};
 ghost use Rattle.decode.specs.Inner.Candidates.{SoundLane, WrongNodes, Candidate};
 
 use field::Tables;
+use field::lent::Arithmetic;
 use generator::Header;
 
 mod errors;
-mod field_symbols;
 mod lanes;
 mod locator;
 mod roots;
@@ -37,12 +37,12 @@ fn candidate(h: Header, tables: &Tables, lane: &[u16], sums: [u16; 255]) -> [u16
     requires { SoundLane h lane.now × (sums ≡ padded 255 (check_sums h lane.now)) }
     ensures { Candidate h lane.now result }
 {
-    let field = h.field;
+    let field = Arithmetic::new(h.field, tables);
     let root = h.root;
     let found = wrong_nodes(h, tables, &sums);
     let nodes = found.nodes;
     let count = found.count;
-    let wrong = errors(field, tables, root, &nodes[..count], &sums[..count]);
+    let wrong = errors(field, root, &nodes[..count], &sums[..count]);
     removed(field, lane, &nodes[..count], &wrong[..count])
 }
 
@@ -51,13 +51,13 @@ fn wrong_nodes(h: Header, tables: &Tables, sums: &[u16; 255]) -> Roots
     requires { Sound h × Below (size h) sums.now }
     ensures { WrongNodes h sums.now result.nodes result.count }
 {
-    let field = h.field;
+    let field = Arithmetic::new(h.field, tables);
     let root = h.root;
     let n = h.n as usize;
     let t = ((h.n - h.k) / 2) as usize;
     let size = t + 1;
-    let locator = locate(field, tables, sums, t);
-    find_roots(field, tables, root, &locator[..size], n)
+    let locator = locate(field, sums, t);
+    find_roots(field, root, &locator[..size], n)
 }
 
 // The lane as it was: no word is near enough.

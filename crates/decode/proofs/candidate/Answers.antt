@@ -14,7 +14,7 @@ facts c = candidate_parts c.args.h c.args.lane.now c.requires.0 c.args.sums c.re
 
 -- and once the errors are
 errors-is : (c : After-errors-wrong) → c.errors-wrong.result ≡ padded 255 (facts (goal.at.After-errors-wrong c).After-wrong_nodes-found).es
-errors-is c = c.errors-wrong.ensures ∙ (facts (goal.at.After-errors-wrong c).After-wrong_nodes-found).errors_are
+errors-is c = rw c.new-field.ensures at c.errors-wrong.ensures ∙ (facts (goal.at.After-errors-wrong c).After-wrong_nodes-found).errors_are
 
 errors-part : (c : After-errors-wrong) → take c.wrong_nodes-found.result.count c.errors-wrong.result ≡ (facts (goal.at.After-errors-wrong c).After-wrong_nodes-found).es
 errors-part c = rw (errors-is c) (take_padded 255 _ (facts (goal.at.After-errors-wrong c).After-wrong_nodes-found).es (facts (goal.at.After-errors-wrong c).After-wrong_nodes-found).errors_count)
@@ -40,7 +40,7 @@ slice_bounds-errors-end-2 c = sym (facts (goal.at.slice_bounds-errors-end-2 c).A
 
 pub errors-wrong-requires : goal.errors-wrong-requires
 errors-wrong-requires c =
-    let s = c.requires in ((facts (goal.at.errors-wrong-requires c).After-wrong_nodes-found).terms_symbols, (facts (goal.at.errors-wrong-requires c).After-wrong_nodes-found).terms_long ∙ listed (goal.at.errors-wrong-requires c).After-wrong_nodes-found, s.0.sound.root_below)
+    let s = c.requires in rw c.new-field.ensures ((facts (goal.at.errors-wrong-requires c).After-wrong_nodes-found).terms_symbols, (facts (goal.at.errors-wrong-requires c).After-wrong_nodes-found).terms_long ∙ listed (goal.at.errors-wrong-requires c).After-wrong_nodes-found, s.0.sound.root_below)
 
 pub slice_bounds-nodes-end-2 : goal.slice_bounds-nodes-end-2
 slice_bounds-nodes-end-2 c = omega (arith, (facts (goal.at.slice_bounds-nodes-end-2 c).After-wrong_nodes-found).count_few, (facts (goal.at.slice_bounds-nodes-end-2 c).After-wrong_nodes-found).nodes_long)
@@ -57,8 +57,10 @@ slice_bounds-removed-end-2 c = sym (ap length (errors-part (goal.at.slice_bounds
 pub removed-requires : goal.removed-requires
 removed-requires c =
     let f = facts (goal.at.removed-requires c).After-wrong_nodes-found in
-    rw (f.nodes_part, errors-part (goal.at.removed-requires c).After-errors-wrong) (f.lane_symbols, f.errors_symbols, f.nodes_low, f.errors_count ∙ f.counted)
+    rw (c.new-field.ensures, f.nodes_part, errors-part (goal.at.removed-requires c).After-errors-wrong) (f.lane_symbols, f.errors_symbols, f.nodes_low, f.errors_count ∙ f.counted)
 
 pub returns : goal.returns
 returns c =
-    let f = facts (goal.at.returns c).After-wrong_nodes-found in f.candidate _ (c.removed.ensures ∙ rw (f.nodes_part, errors-part (goal.at.returns c).After-errors-wrong))
+    let f = facts (goal.at.returns c).After-wrong_nodes-found in
+    let is = rw c.new-field.ensures at c.removed.ensures in
+    f.candidate _ (is ∙ rw (f.nodes_part, errors-part (goal.at.returns c).After-errors-wrong))

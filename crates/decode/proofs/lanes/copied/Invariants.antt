@@ -1,5 +1,4 @@
 -- `copied` meets its contract. Invariant: the first i symbols are written.
-use Prim.Native.Nat.{◌-◌}
 use lib.ListN.{length, get_or}
 use Rattle.lists.proofs.Fill.{Filled}
 use Rattle.decode.proofs.lanes.copied.Given as goal
