@@ -27,7 +27,7 @@ fn recover_accepted(
     let h = code.header;
     let k = h.k as usize;
     let shifts = shifts::fill_shifts(h.n, h.k);
-    let setup = node_weights::prepare(h, nodes, &shifts[..k]);
+    let setup = node_weights::prepare(code, nodes, &shifts[..k]);
     let inverse = Inverse {
         code,
         nodes,
@@ -65,7 +65,7 @@ fn rebuild_accepted(
     fault::rebuild_fault(code, lanes, nodes, shares, target as usize, out.len())?;
     let h = code.header;
     let w = symbols::width_of(h);
-    let weights = node_weights::rebuild_weights(h, nodes, target);
+    let weights = node_weights::rebuild_weights(code, nodes, target);
     shares::rebuild_lanes(h, w, lanes, &weights, shares, out);
     Ok(())
 }

@@ -43,7 +43,7 @@ fn list_nodes(code: Code, lists: &mut [u16], counts: &mut [u8])
     let codes = tile_products::codes_of(h.field);
     let t = field::constant_tables();
     let field = Arithmetic::new(h.field, &t);
-    let roots = powers::powers(h);
+    let roots = powers::powers(code);
     let scales = lagrange::scales(field, &roots[..k]);
     for e in 0..checks {
         let weights = check_weights(code, field, &roots, &scales[..k], e);
@@ -60,9 +60,9 @@ fn list_sums(code: Code, lists: &mut [u16], counts: &mut [u8])
     let n = h.n as usize;
     let checks = (h.n - h.k) as usize;
     let codes = tile_products::codes_of(h.field);
-    let table = powers::powers(h);
+    let table = powers::powers(code);
     for e in 0..checks {
-        let weights = powers::factors(h, &table, e + 1);
+        let weights = powers::factors(code, &table, e + 1);
         tile_products::prepare(h.field, &codes, &weights[..n], e, lists, counts);
     }
 }

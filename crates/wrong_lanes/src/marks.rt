@@ -29,7 +29,7 @@ fn mark_lane(code: Code, shares: &[u8], marks: &mut [u8])
     let h = code.header;
     let n = h.n as usize;
     let values = symbols::read_symbols(symbols::width_of(h), shares);
-    let word = lane::is_word(h, &values[..n]);
+    let word = lane::is_word(code, &values[..n]);
     marks[0] = mark_of(word);
 }
 

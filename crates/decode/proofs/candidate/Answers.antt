@@ -9,8 +9,8 @@ use Rattle.decode.proofs.candidate.Goals as goal
 use Rattle.decode.proofs.candidate.Goals.{After-errors-wrong, After-wrong_nodes-found}
 
 -- what is known of the arrays once the nodes are found
-facts : (c : After-wrong_nodes-found) → let a = c.args in CandidateParts a.h a.lane.now a.sums c.wrong_nodes-found.result.nodes c.wrong_nodes-found.result.count
-facts c = candidate_parts c.args.h c.args.lane.now c.requires.0 c.args.sums c.requires.1 _ _ c.wrong_nodes-found.ensures
+facts : (c : After-wrong_nodes-found) → let a = c.args in CandidateParts a.code.header a.lane.now a.sums c.wrong_nodes-found.result.nodes c.wrong_nodes-found.result.count
+facts c = candidate_parts c.args.code.header c.args.lane.now c.requires.0 c.args.sums c.requires.1 _ _ c.wrong_nodes-found.ensures
 
 -- and once the errors are
 errors-is : (c : After-errors-wrong) → c.errors-wrong.result ≡ padded 255 (facts (goal.at.After-errors-wrong c).After-wrong_nodes-found).es
@@ -24,7 +24,7 @@ listed : (c : After-wrong_nodes-found) → let w = c.wrong_nodes-found.result in
 listed c = (facts c).counted ∙ ap length (sym (facts c).nodes_part)
 
 pub wrong_nodes-found-requires : goal.wrong_nodes-found-requires
-wrong_nodes-found-requires c = (c.requires.0.sound, sums_symbols c.args.h c.args.lane.now c.requires.0 c.args.sums c.requires.1)
+wrong_nodes-found-requires c = sums_symbols c.args.code.header c.args.lane.now c.requires.0 c.args.sums c.requires.1
 
 pub slice_bounds-nodes-end : goal.slice_bounds-nodes-end
 slice_bounds-nodes-end c = omega (arith, (facts (goal.at.slice_bounds-nodes-end c).After-wrong_nodes-found).count_few, (facts (goal.at.slice_bounds-nodes-end c).After-wrong_nodes-found).nodes_long)

@@ -11,10 +11,10 @@ use Rattle.decode.proofs.correct_lane.Goals as goal
 use Rattle.decode.proofs.correct_lane.Goals.{After-candidate-word, After-differing-altered, After-is_word_with}
 
 -- the first n places of the candidate are its word
-word : (c : After-candidate-word) → take c.args.h.n c.candidate-word.result ≡ c.candidate-word.ensures.word
+word : (c : After-candidate-word) → take c.args.code.header.n c.candidate-word.result ≡ c.candidate-word.ensures.word
 word c = let k = c.candidate-word.ensures in rw k.array_is (take_padded 255 _ k.word k.long)
 
-word_long : (c : After-candidate-word) → c.args.h.n ≡ length (take c.args.h.n c.candidate-word.result)
+word_long : (c : After-candidate-word) → c.args.code.header.n ≡ length (take c.args.code.header.n c.candidate-word.result)
 word_long c = sym (ap length (word c) ∙ c.candidate-word.ensures.long)
 
 pub sums_with-sums-requires : goal.sums_with-sums-requires
@@ -40,14 +40,14 @@ kept-requires c =
 distance : (c : After-differing-altered) → c.differing-altered.result ≡ differ c.args.lane.now c.candidate-word.ensures.word
 distance c = rw (word (goal.at.After-differing-altered c).After-candidate-word) at c.differing-altered.ensures
 
-tested : (c : After-is_word_with) → c.is_word_with.result ≡ is_word c.args.h c.candidate-word.ensures.word
+tested : (c : After-is_word_with) → c.is_word_with.result ≡ is_word c.args.code.header c.candidate-word.ensures.word
 tested c = rw (word (goal.at.After-is_word_with c).After-candidate-word) at c.is_word_with.ensures
 
 pub returns-then-t-altered : goal.returns-then-t-altered
 unfolding radius
 returns-then-t-altered c =
     let k = c.candidate-word in
-    rw (c.kept.ensures.1, c.kept.ensures.2) (says_far c.args.h c.args.lane.now k.result c.requires.0 k.ensures (rw (← distance (goal.at.returns-then-t-altered c).After-differing-altered) c.if-t-altered.true) _ c.kept.ensures.0)
+    rw (c.kept.ensures.1, c.kept.ensures.2) (says_far c.args.code.header c.args.lane.now k.result c.requires.0 k.ensures (rw (← distance (goal.at.returns-then-t-altered c).After-differing-altered) c.if-t-altered.true) _ c.kept.ensures.0)
 
 pub slice_bounds-is_word_with-end : goal.slice_bounds-is_word_with-end
 slice_bounds-is_word_with-end c = word_long (goal.at.slice_bounds-is_word_with-end c).After-candidate-word
@@ -63,7 +63,7 @@ unfolding radius
 returns-then-is_word_with c =
     let k = c.candidate-word in
     let d = distance (goal.at.returns-then-is_word_with c).After-differing-altered in
-    rw d (says_near c.args.h c.args.lane.now k.result c.requires.0 k.ensures (rw (← d) c.if-t-altered.false) (sym (tested (goal.at.returns-then-is_word_with c).After-is_word_with) ∙ c.if-is_word_with.true))
+    rw d (says_near c.args.code.header c.args.lane.now k.result c.requires.0 k.ensures (rw (← d) c.if-t-altered.false) (sym (tested (goal.at.returns-then-is_word_with c).After-is_word_with) ∙ c.if-is_word_with.true))
 
 pub kept-requires-2 : goal.kept-requires-2
 kept-requires-2 c =
@@ -72,4 +72,4 @@ kept-requires-2 c =
 pub returns : goal.returns
 returns c =
     let k = c.candidate-word in
-    rw (c.kept-2.ensures.1, c.kept-2.ensures.2) (says_none c.args.h c.args.lane.now k.result c.requires.0 k.ensures (sym (tested (goal.at.returns c).After-is_word_with) ∙ c.if-is_word_with.false) _ c.kept-2.ensures.0)
+    rw (c.kept-2.ensures.1, c.kept-2.ensures.2) (says_none c.args.code.header c.args.lane.now k.result c.requires.0 k.ensures (sym (tested (goal.at.returns c).After-is_word_with) ∙ c.if-is_word_with.false) _ c.kept-2.ensures.0)

@@ -55,7 +55,7 @@ slice_bounds-prepare-end c = sym (part_size (goal.at.slice_bounds-prepare-end c)
 pub prepare-setup-requires : goal.prepare-setup-requires
 prepare-setup-requires c =
     let listed = (accepted (goal.at.prepare-setup-requires c).In_ok-recover_fault).0 in
-    (listed.buffer.symbol_rows.sound, listed.different, part (goal.at.prepare-setup-requires c).After-fill_shifts-shifts)
+    (listed.different, part (goal.at.prepare-setup-requires c).After-fill_shifts-shifts)
 
 pub invariant_of-inverse : goal.invariant_of-inverse
 invariant_of-inverse c =

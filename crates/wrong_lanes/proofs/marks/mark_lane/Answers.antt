@@ -29,7 +29,7 @@ read_symbols-values-requires c =
     (wide.1, wide.2, rw wide.0 (omega (arith, c.requires.0.bytes, mul-one h.n, few)))
 
 pub is_word-word-requires : goal.is_word-word-requires
-is_word-word-requires c = rw (taken (goal.at.is_word-word-requires c).After-read_symbols-values) (c.args.code.sound, long (goal.at.is_word-word-requires c).Start, c.requires.0.symbol_rows.symbols)
+is_word-word-requires c = rw (taken (goal.at.is_word-word-requires c).After-read_symbols-values) (long (goal.at.is_word-word-requires c).Start, c.requires.0.symbol_rows.symbols)
 
 pub returns : goal.returns
 returns c =
