@@ -116,7 +116,7 @@ fn list_weights(target: Target, b: u32, senders: &[u8]) -> [u8; 1020]
     requires { (modulus_of target.code.header ≡ 0) × TraceBits b × (all_below target.code.header.n senders.now ≡ true) × (length senders.now ≤ 255) }
     ensures { result ≡ padded 1020 (from (bit_weight target.entry.code.header b target.entry.node senders.now) 0 (length senders.now * b)) }
 {
-    let powers = check_sums::powers::powers_with(target.code.header, target.field.tables);
+    let powers = check_sums::powers::powers_with(target.code, target.field.tables);
     let count = senders.len() * b as usize;
     let mut table = blank();
     for q in 0..count {

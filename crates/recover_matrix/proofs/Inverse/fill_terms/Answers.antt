@@ -37,7 +37,7 @@ pub row_terms-row-requires : goal.row_terms-row-requires
 unfolding setup_of
 row_terms-row-requires c =
     let v = c.args.self in
-    (v.code.sound, ap (λ (t : Setup). t.shifts) v.prepared, ap (λ (t : Setup). t.base) v.prepared, c.loop-r-test.true)
+    (ap (λ (t : Setup). t.shifts) v.prepared, ap (λ (t : Setup). t.base) v.prepared, c.loop-r-test.true)
 
 pub write_symbols-requires : goal.write_symbols-requires
 write_symbols-requires c =
