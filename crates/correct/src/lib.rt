@@ -20,16 +20,17 @@ mod lane;
 use lane::{is_near, write_nearest};
 
 // The smallest lane that no word is near enough to, or the number of lanes.
-fn first_far(h: Header, rows: &[u8], lanes: usize, marks: &[u8], shares: &[u8]) -> usize
-    requires { MarkedShares h lanes marks.now shares.now × (rows.now ≡ power_rows h) }
-    ensures { result ≡ first_far share_layout h lanes (symbols_of (width h) shares.now) }
+fn first_far(code: Code, rows: &[u8], lanes: usize, marks: &[u8], shares: &[u8]) -> usize
+    requires { MarkedShares code.header lanes marks.now shares.now × (rows.now ≡ power_rows code.header) }
+    ensures { result ≡ first_far share_layout code.header lanes (symbols_of (width code.header) shares.now) }
 {
+    let h = code.header;
     let n = h.n as usize;
     let size = symbols::width_of(h) * n;
     for t in 0..lanes {
         let start = t * size;
         let end = start + size;
-        if !is_near(h, rows, marks[t], &shares[start..end]) {
+        if !is_near(code, rows, marks[t], &shares[start..end]) {
             return t;
         }
     }
@@ -37,68 +38,70 @@ fn first_far(h: Header, rows: &[u8], lanes: usize, marks: &[u8], shares: &[u8]) 
 }
 
 // Sets every lane right, and gives the number of symbols altered.
-fn correct_lanes(h: Header, rows: &[u8], lanes: usize, marks: &[u8], shares: &mut [u8]) -> u32
-    requires { MarkedShares h lanes marks.now shares.old × (rows.now ≡ power_rows h) }
-    ensures { (shares.new ≡ corrected_bytes share_layout h lanes shares.old) × (result ≡ corrected_count share_layout h lanes shares.old) }
+fn correct_lanes(code: Code, rows: &[u8], lanes: usize, marks: &[u8], shares: &mut [u8]) -> u32
+    requires { MarkedShares code.header lanes marks.now shares.old × (rows.now ≡ power_rows code.header) }
+    ensures { (shares.new ≡ corrected_bytes share_layout code.header lanes shares.old) × (result ≡ corrected_count share_layout code.header lanes shares.old) }
 {
+    let h = code.header;
     let n = h.n as usize;
     let size = symbols::width_of(h) * n;
     let mut count: u32 = 0;
     for t in 0..lanes {
         let start = t * size;
         let end = start + size;
-        count += write_nearest(h, rows, marks[t], &mut shares[start..end]);
+        count += write_nearest(code, rows, marks[t], &mut shares[start..end]);
     }
     count
 }
 
 // Sets the lanes right if each has a word near enough; the last lane is judged before the first byte is written.
 fn correct_marked(
-    h: Header,
+    code: Code,
     rows: &[u8],
     lanes: usize,
     marks: &[u8],
     shares: &mut [u8],
 ) -> Result<u32, Refusal>
-    requires { MarkedShares h lanes marks.now shares.old × (rows.now ≡ power_rows h) }
-    ensures { CorrectPromise share_layout lanes shares.old shares.new (numbered result) h (when (far_bad share_layout h lanes shares.old) 14) }
+    requires { MarkedShares code.header lanes marks.now shares.old × (rows.now ≡ power_rows code.header) }
+    ensures { CorrectPromise share_layout lanes shares.old shares.new (numbered result) code.header (when (far_bad share_layout code.header lanes shares.old) 14) }
 {
-    let far = first_far(h, rows, lanes, marks, shares);
+    let far = first_far(code, rows, lanes, marks, shares);
     Refusal::Far.when(far < lanes)?;
-    Ok(correct_lanes(h, rows, lanes, marks, shares))
+    Ok(correct_lanes(code, rows, lanes, marks, shares))
 }
 
 // The same with the rows of powers made here.
-fn correct_wrong(h: Header, lanes: usize, marks: &[u8], shares: &mut [u8]) -> Result<u32, Refusal>
-    requires { MarkedShares h lanes marks.now shares.old }
-    ensures { CorrectPromise share_layout lanes shares.old shares.new (numbered result) h (when (far_bad share_layout h lanes shares.old) 14) }
+fn correct_wrong(code: Code, lanes: usize, marks: &[u8], shares: &mut [u8]) -> Result<u32, Refusal>
+    requires { MarkedShares code.header lanes marks.now shares.old }
+    ensures { CorrectPromise share_layout lanes shares.old shares.new (numbered result) code.header (when (far_bad share_layout code.header lanes shares.old) 14) }
 {
+    let h = code.header;
     let w = symbols::width_of(h);
     let size = w * h.n as usize * (h.n - h.k) as usize;
     let mut rows = check_sums::lane::room();
-    check_sums::lane::fill_power_rows(h, &mut rows[..size]);
-    correct_marked(h, &rows[..size], lanes, marks, shares)
+    check_sums::lane::fill_power_rows(code, &mut rows[..size]);
+    correct_marked(code, &rows[..size], lanes, marks, shares)
 }
 
 // The same, but for shares with no lane marked, which stay as they are: nothing is made for them.
-fn correct_any(h: Header, lanes: usize, marks: &[u8], shares: &mut [u8]) -> Result<u32, Refusal>
-    requires { MarkedShares h lanes marks.now shares.old }
-    ensures { CorrectPromise share_layout lanes shares.old shares.new (numbered result) h (when (far_bad share_layout h lanes shares.old) 14) }
+fn correct_any(code: Code, lanes: usize, marks: &[u8], shares: &mut [u8]) -> Result<u32, Refusal>
+    requires { MarkedShares code.header lanes marks.now shares.old }
+    ensures { CorrectPromise share_layout lanes shares.old shares.new (numbered result) code.header (when (far_bad share_layout code.header lanes shares.old) 14) }
 {
     if wrong_lanes::first_nonzero(lanes, marks) == lanes {
         return Ok(0);
     }
-    correct_wrong(h, lanes, marks, shares)
+    correct_wrong(code, lanes, marks, shares)
 }
 
 // The same for shares of symbols: the lanes that are no word of the code are marked, all at once.
-fn correct_symbols(h: Header, lanes: usize, shares: &mut [u8]) -> Result<u32, Refusal>
-    requires { SymbolBuffer h h.n lanes shares.old }
-    ensures { CorrectPromise share_layout lanes shares.old shares.new (numbered result) h (when (far_bad share_layout h lanes shares.old) 14) }
+fn correct_symbols(code: Code, lanes: usize, shares: &mut [u8]) -> Result<u32, Refusal>
+    requires { SymbolBuffer code.header code.header.n lanes shares.old }
+    ensures { CorrectPromise share_layout lanes shares.old shares.new (numbered result) code.header (when (far_bad share_layout code.header lanes shares.old) 14) }
 {
     let mut marks = [0u8; 4096];
-    wrong_lanes::marks::mark_lanes(h, lanes, shares, &mut marks[..lanes]);
-    correct_any(h, lanes, &marks[..lanes], shares)
+    wrong_lanes::marks::mark_lanes(code, lanes, shares, &mut marks[..lanes]);
+    correct_any(code, lanes, &marks[..lanes], shares)
 }
 
 // Sets a block right over a code.
@@ -106,7 +109,7 @@ fn correct_accepted(code: Code, lanes: usize, shares: &mut [u8]) -> Result<u32, 
     ensures { CorrectPromise share_layout lanes shares.old shares.new (numbered result) code.header (correct_fault share_layout code.header lanes shares.old) }
 {
     belongs::belongs_fault(code.header, lanes, shares)?;
-    correct_symbols(code.header, lanes, shares)
+    correct_symbols(code, lanes, shares)
 }
 
 // Replaces each lane by the word of the code that differs from it at no more than (n - k) / 2 nodes and gives how many symbols it altered, or gives what turns the call away and writes nothing.

@@ -23,10 +23,10 @@ use Rattle.correct.proofs.correct_lanes.Goals as goal
 use Rattle.correct.proofs.correct_lanes.Goals.{After-write_nearest-count, In-loop-t}
 
 -- the bytes of lane t, which are as they were
-inside : (c : In-loop-t) → c.loop-t.t * (c.width_of.result * c.args.h.n) + c.width_of.result * c.args.h.n ≤ length c.args.shares.now
+inside : (c : In-loop-t) → c.loop-t.t * (c.width_of.result * c.args.code.header.n) + c.width_of.result * c.args.code.header.n ≤ length c.args.shares.now
 inside c = rw c.width_of.ensures.0 (part_inside c.requires.0 (width_some _) c.loop-t.t c.loop-t-test.true)
 
-untouched : (c : In-loop-t) → let a = c.loop-t.t * (width c.args.h * c.args.h.n) in drop a c.loop-t.shares ≡ drop a c.args.shares.now
+untouched : (c : In-loop-t) → let a = c.loop-t.t * (width c.args.code.header * c.args.code.header.n) in drop a c.loop-t.shares ≡ drop a c.args.shares.now
 untouched c = c.loop-t.invariant.2.kept
 
 pub width_of-requires : goal.width_of-requires
@@ -34,13 +34,13 @@ width_of-requires c = c.requires.0.sound.usable_field
 
 pub overflow_mul-size : goal.overflow_mul-size
 overflow_mul-size c =
-    let few : c.args.h.n ≤ 255 = omega (arith, c.struct_known-1.given) in
+    let few : c.args.code.header.n ≤ 255 = omega (arith, c.struct_known-1.given) in
     omega (arith, mul-le-mul c.width_of.ensures.2 few)
 
 pub loop-t-init : goal.loop-t-init
 loop-t-init c =
     let a = c.args in
-    (omega arith, sym (apart_none a.h.n (before a.h a.shares.now) (after a.h a.lanes a.shares.now)), rw zero-mul (fills_start _ _))
+    (omega arith, sym (apart_none a.code.header.n (before a.code.header a.shares.now) (after a.code.header a.lanes a.shares.now)), rw zero-mul (fills_start _ _))
 
 pub overflow_mul-start : goal.overflow_mul-start
 overflow_mul-start c = omega (arith, inside c)
@@ -59,18 +59,18 @@ write_nearest-count-requires c =
     rw (c.width_of.ensures.0, untouched (goal.at.write_nearest-count-requires c).In-loop-t) (part_marked c.requires.0 (width_some _) c.loop-t.t c.loop-t-test.true, c.requires.1)
 
 -- how many symbols of lane t differ
-altered : (c : After-write_nearest-count) → let s = c.args in c.write_nearest-count.result ≡ differ (lane_of share_layout s.h.n s.lanes c.loop-t.t (before s.h s.shares.now)) (lane_of share_layout s.h.n s.lanes c.loop-t.t (after s.h s.lanes s.shares.now))
+altered : (c : After-write_nearest-count) → let s = c.args in c.write_nearest-count.result ≡ differ (lane_of share_layout s.code.header.n s.lanes c.loop-t.t (before s.code.header s.shares.now)) (lane_of share_layout s.code.header.n s.lanes c.loop-t.t (after s.code.header s.lanes s.shares.now))
 altered c =
     let m = c.requires.0 in
     let lane = part_lane m (width_some _) c.loop-t.t c.loop-t-test.true in
-    let right = lane_corrected share_lawful c.args.h m.sound c.args.lanes (before c.args.h c.args.shares.now) (symbols_long m (width_some _)) m.symbols c.loop-t.t c.loop-t-test.true in
+    let right = lane_corrected share_lawful c.args.code.header m.sound c.args.lanes (before c.args.code.header c.args.shares.now) (symbols_long m (width_some _)) m.symbols c.loop-t.t c.loop-t-test.true in
     rw (lane, ← right) at (rw (c.width_of.ensures.0, untouched (goal.at.After-write_nearest-count c).In-loop-t) at c.write_nearest-count.ensures.1)
 
 few : (c : After-write_nearest-count) → c.write_nearest-count.result ≤ 255
 few c =
     let s = c.args in
-    let lane = lane_of share_layout s.h.n s.lanes c.loop-t.t (before s.h s.shares.now) in
-    omega (arith, altered c, differ_most lane (lane_of share_layout s.h.n s.lanes c.loop-t.t (after s.h s.lanes s.shares.now)), length_lane share_layout s.h.n s.lanes c.loop-t.t (before s.h s.shares.now), c.struct_known-1.given)
+    let lane = lane_of share_layout s.code.header.n s.lanes c.loop-t.t (before s.code.header s.shares.now) in
+    omega (arith, altered c, differ_most lane (lane_of share_layout s.code.header.n s.lanes c.loop-t.t (after s.code.header s.lanes s.shares.now)), length_lane share_layout s.code.header.n s.lanes c.loop-t.t (before s.code.header s.shares.now), c.struct_known-1.given)
 
 pub overflow_add-count : goal.overflow_add-count
 overflow_add-count c =
@@ -84,11 +84,11 @@ loop-t-preserved c =
     let a = c.args in
     let m = c.requires.0 in
     let l = c.loop-t in
-    let k = width a.h * a.h.n in
+    let k = width a.code.header * a.code.header.n in
     let taken = c.loop-t-test.true in
-    let whole = corrected_bytes share_layout a.h a.lanes a.shares.now in
-    let count : l.count + c.write_nearest-count.result ≡ apart_to a.h.n (before a.h a.shares.now) (after a.h a.lanes a.shares.now) (l.t + 1) =
-    ap₂ (λ (x z : ℕ). x + z) l.invariant.1 (altered (goal.at.loop-t-preserved c).After-write_nearest-count) ∙ sym (apart_lane a.h.n a.lanes (before a.h a.shares.now) (after a.h a.lanes a.shares.now) l.t) in (
+    let whole = corrected_bytes share_layout a.code.header a.lanes a.shares.now in
+    let count : l.count + c.write_nearest-count.result ≡ apart_to a.code.header.n (before a.code.header a.shares.now) (after a.code.header a.lanes a.shares.now) (l.t + 1) =
+    ap₂ (λ (x z : ℕ). x + z) l.invariant.1 (altered (goal.at.loop-t-preserved c).After-write_nearest-count) ∙ sym (apart_lane a.code.header.n a.lanes (before a.code.header a.shares.now) (after a.code.header a.lanes a.shares.now) l.t) in (
       omega (arith, few (goal.at.loop-t-preserved c).After-write_nearest-count, l.invariant.0),
       count,
       rw (row_after l.t k, c.width_of.ensures.0)
@@ -104,9 +104,9 @@ returns c =
     let a = c.args in
     let m = c.requires.0 in
     let l = c.loop-t in
-    let k = width a.h * a.h.n in
+    let k = width a.code.header * a.code.header.n in
     let all : length a.shares.now ≤ l.t * k = rw (m.bytes, mul_comm k a.lanes) (mul-le-mul c.loop-t-test.false (le_refl k)) in
     let end : l.t ≡ a.lanes = omega (arith, l.invariant.0, c.loop-t-test.false) in (
       fills_whole _ (l.t * k) l.invariant.2 (omega (arith, corrected_size m (width_some _))) all,
-      l.invariant.1 ∙ ap (apart_to a.h.n (before a.h a.shares.now) (after a.h a.lanes a.shares.now)) end ∙ apart_all a.h.n a.lanes (before a.h a.shares.now) (after a.h a.lanes a.shares.now) (symbols_long m (width_some _)),
+      l.invariant.1 ∙ ap (apart_to a.code.header.n (before a.code.header a.shares.now) (after a.code.header a.lanes a.shares.now)) end ∙ apart_all a.code.header.n a.lanes (before a.code.header a.shares.now) (after a.code.header a.lanes a.shares.now) (symbols_long m (width_some _)),
     )

@@ -20,5 +20,5 @@ abbrev pub after : Header → ℕ → List ℕ → List ℕ
 after h l shares = corrected_shares share_layout h l (before h shares)
 
 abbrev pub invariant-loop-t : goal.invariant-loop-t
-invariant-loop-t l = let whole = corrected_bytes share_layout l.h l.lanes l.initial.shares in
-    (l.count ≤ l.t * 255) × (l.count ≡ apart_to l.h.n (before l.h l.initial.shares) (after l.h l.lanes l.initial.shares) l.t) × Fills l.initial.shares l.shares (l.t * (width l.h * l.h.n)) (drop (l.t * (width l.h * l.h.n)) whole) whole
+invariant-loop-t l = let whole = corrected_bytes share_layout l.fn.code.header l.lanes l.initial.shares in
+    (l.count ≤ l.t * 255) × (l.count ≡ apart_to l.fn.code.header.n (before l.fn.code.header l.initial.shares) (after l.fn.code.header l.lanes l.initial.shares) l.t) × Fills l.initial.shares l.shares (l.t * (width l.fn.code.header * l.fn.code.header.n)) (drop (l.t * (width l.fn.code.header * l.fn.code.header.n)) whole) whole

@@ -15,4 +15,4 @@ pub returns : goal.returns
 returns c =
     let a = c.args in
     let done = c.correct_lanes.ensures in
-    rw (far_none share_layout a.h a.lanes a.shares.now _ c.first_far-far.ensures (ltb-false _ _ c.in_ok-when.ensures)) (correct_done share_layout a.h a.lanes a.shares.now _ _ done.0 done.1)
+    rw (far_none share_layout a.code.header a.lanes a.shares.now _ c.first_far-far.ensures (ltb-false _ _ c.in_ok-when.ensures)) (correct_done share_layout a.code.header a.lanes a.shares.now _ _ done.0 done.1)

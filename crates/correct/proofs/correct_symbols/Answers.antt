@@ -28,7 +28,7 @@ slice_bounds-correct_any-end c = sym (length_whole _ _ _ _ c.mark_lanes.ensures 
 
 pub correct_any-requires : goal.correct_any-requires
 correct_any-requires c =
-    marked_shares c.args.h c.args.lanes _ c.args.shares.now c.requires (whole_is _ _ _ _ c.mark_lanes.ensures (length_marks share_layout _ _ _))
+    marked_shares c.args.code.header c.args.lanes _ c.args.shares.now c.requires (whole_is _ _ _ _ c.mark_lanes.ensures (length_marks share_layout _ _ _))
 
 pub returns : goal.returns
 returns c = c.correct_any.ensures

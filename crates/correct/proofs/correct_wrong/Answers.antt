@@ -12,18 +12,18 @@ use Rattle.correct.proofs.correct_wrong.Goals as goal
 use Rattle.correct.proofs.correct_wrong.Goals.{After-struct_known-2-1}
 
 -- the rows fit the room for them
-size_fits : (c : After-struct_known-2-1) → let h = c.args.h in c.width_of-w.result * h.n * (h.n - h.k) ≤ 130050
-size_fits c = rows_small c.args.h c.requires.sound _ c.width_of-w.ensures.0
+size_fits : (c : After-struct_known-2-1) → let h = c.args.code.header in c.width_of-w.result * h.n * (h.n - h.k) ≤ 130050
+size_fits c = rows_small c.args.code.header c.requires.sound _ c.width_of-w.ensures.0
 
 -- so many bytes they are
-long : (c : After-struct_known-2-1) → let h = c.args.h in length (power_rows h) ≡ c.width_of-w.result * h.n * (h.n - h.k)
-long c = length_power_rows c.args.h ∙ rw (← c.width_of-w.ensures.0)
+long : (c : After-struct_known-2-1) → let h = c.args.code.header in length (power_rows h) ≡ c.width_of-w.result * h.n * (h.n - h.k)
+long c = length_power_rows c.args.code.header ∙ rw (← c.width_of-w.ensures.0)
 
 pub width_of-w-requires : goal.width_of-w-requires
 width_of-w-requires c = c.requires.sound.usable_field
 
 pub overflow_mul-size : goal.overflow_mul-size
-overflow_mul-size c = omega (arith, lane_small c.args.h c.requires.sound _ c.width_of-w.ensures.0)
+overflow_mul-size c = omega (arith, lane_small c.args.code.header c.requires.sound _ c.width_of-w.ensures.0)
 
 pub overflow_sub-size : goal.overflow_sub-size
 overflow_sub-size c = omega (arith, c.requires.sound.fits)

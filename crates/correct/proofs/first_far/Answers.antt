@@ -14,11 +14,11 @@ use Rattle.correct.proofs.first_far.Goals as goal
 use Rattle.correct.proofs.first_far.Goals.{After-is_near, In-loop-t}
 
 -- the bytes of lane t
-inside : (c : In-loop-t) → c.loop-t.t * (c.width_of.result * c.args.h.n) + c.width_of.result * c.args.h.n ≤ length c.args.shares.now
+inside : (c : In-loop-t) → c.loop-t.t * (c.width_of.result * c.args.code.header.n) + c.width_of.result * c.args.code.header.n ≤ length c.args.shares.now
 inside c = rw c.width_of.ensures.0 (part_inside c.requires.0 (width_some _) c.loop-t.t c.loop-t-test.true)
 
 -- lane t has a word near enough, or not
-near-is : (c : After-is_near) → c.is_near.result ≡ near c.args.h c.args.lanes c.args.shares.now c.loop-t.t
+near-is : (c : After-is_near) → c.is_near.result ≡ near c.args.code.header c.args.lanes c.args.shares.now c.loop-t.t
 near-is c =
     let bytes = part_lane c.requires.0 (width_some _) c.loop-t.t c.loop-t-test.true in
     rw (bytes) at (rw c.width_of.ensures.0 at c.is_near.ensures)
@@ -28,7 +28,7 @@ width_of-requires c = c.requires.0.sound.usable_field
 
 pub overflow_mul-size : goal.overflow_mul-size
 overflow_mul-size c =
-    let few : c.args.h.n ≤ 255 = omega (arith, c.struct_known-1.given) in
+    let few : c.args.code.header.n ≤ 255 = omega (arith, c.struct_known-1.given) in
     omega (arith, mul-le-mul c.width_of.ensures.2 few)
 
 pub loop-t-init : goal.loop-t-init

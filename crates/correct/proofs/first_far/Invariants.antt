@@ -16,4 +16,4 @@ abbrev pub near : Header → ℕ → List ℕ → ℕ → Bool
 near h l shares t = has_near h (lane_of share_layout h.n l t (symbols_of (width h) shares))
 
 abbrev pub invariant-loop-t : goal.invariant-loop-t
-invariant-loop-t l = first_false l.lanes 0 (near l.h l.lanes l.shares) ≡ first_false (l.lanes - l.t) l.t (near l.h l.lanes l.shares)
+invariant-loop-t l = first_false l.lanes 0 (near l.fn.code.header l.lanes l.shares) ≡ first_false (l.lanes - l.t) l.t (near l.fn.code.header l.lanes l.shares)

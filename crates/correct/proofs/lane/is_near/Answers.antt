@@ -9,7 +9,7 @@ use Rattle.correct.proofs.lane.is_near.Goals as goal
 use Rattle.correct.proofs.lane.is_near.Goals.{After-read_symbols-held}
 
 -- the first n places of the array are the lane
-front : (c : After-read_symbols-held) → let a = c.args in take a.h.n c.read_symbols-held.result ≡ symbols_of (width a.h) a.lane.now
+front : (c : After-read_symbols-held) → let a = c.args in take a.code.header.n c.read_symbols-held.result ≡ symbols_of (width a.code.header) a.lane.now
 front c = held_front c.requires.0 _ (rw c.width_of-w.ensures.0 at c.read_symbols-held.ensures)
 
 pub returns-then-mark-eq0 : goal.returns-then-mark-eq0

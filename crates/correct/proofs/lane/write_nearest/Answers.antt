@@ -14,15 +14,15 @@ use Rattle.correct.proofs.lane.write_nearest.Goals as goal
 use Rattle.correct.proofs.lane.write_nearest.Goals.{After-correct_lane-found, After-read_symbols-held}
 
 -- the first n places of the array are the lane
-front : (c : After-read_symbols-held) → let a = c.args in take a.h.n c.read_symbols-held.result ≡ symbols_of (width a.h) a.lane.now
+front : (c : After-read_symbols-held) → let a = c.args in take a.code.header.n c.read_symbols-held.result ≡ symbols_of (width a.code.header) a.lane.now
 front c = held_front c.requires.0 _ (rw c.width_of-w.ensures.0 at c.read_symbols-held.ensures)
 
 -- and those of the answer the nearest word
-word : (c : After-correct_lane-found) → let a = c.args in take a.h.n c.correct_lane-found.result.lane ≡ corrected a.h (symbols_of (width a.h) a.lane.now)
+word : (c : After-correct_lane-found) → let a = c.args in take a.code.header.n c.correct_lane-found.result.lane ≡ corrected a.code.header (symbols_of (width a.code.header) a.lane.now)
 word c = word_front c.requires.0 _ (rw (front (goal.at.After-correct_lane-found c).After-read_symbols-held) at c.correct_lane-found.ensures.1)
 
 -- with the number of altered symbols
-count : (c : After-correct_lane-found) → let a = c.args in let ws = symbols_of (width a.h) a.lane.now in c.correct_lane-found.result.altered ≡ differ ws (corrected a.h ws)
+count : (c : After-correct_lane-found) → let a = c.args in let ws = symbols_of (width a.code.header) a.lane.now in c.correct_lane-found.result.altered ≡ differ ws (corrected a.code.header ws)
 count c = rw (front (goal.at.After-correct_lane-found c).After-read_symbols-held) at c.correct_lane-found.ensures.2
 
 pub returns-then-mark-eq0 : goal.returns-then-mark-eq0
@@ -59,7 +59,7 @@ write_symbols-requires c =
 pub overflow_cast-result : goal.overflow_cast-result
 overflow_cast-result c =
     let m = c.requires.0.symbols in
-    omega (arith, count (goal.at.overflow_cast-result c).After-correct_lane-found, differ_most (symbols_of (width c.args.h) c.args.lane.now) (corrected c.args.h (symbols_of (width c.args.h) c.args.lane.now)), m.long, c.struct_known-1.given)
+    omega (arith, count (goal.at.overflow_cast-result c).After-correct_lane-found, differ_most (symbols_of (width c.args.code.header) c.args.lane.now) (corrected c.args.code.header (symbols_of (width c.args.code.header) c.args.lane.now)), m.long, c.struct_known-1.given)
 
 pub returns : goal.returns
 returns c =
