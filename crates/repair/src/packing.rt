@@ -4,7 +4,7 @@ ghost use Rattle.kernel.specs.Inner.Lanes.{lanewise};
 ghost use Rattle.repair.specs.Inner.Lanes.{lane_bit};
 ghost use Rattle.repair.specs.Packing.{plane_size, packed_size, byte_from, planes};
 
-// How many bytes a plane of a bit for each lane takes. `tiles::lanes64` only reads like it.
+// How many bytes a plane of a bit for each lane takes.
 pub fn plane_size(lanes: usize) -> usize
     requires { lanes ≤ 4294967295 }
     ensures { result ≡ plane_size lanes }
