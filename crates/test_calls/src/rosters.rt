@@ -26,11 +26,11 @@ fn present(alloc: Global, roster: &Roster) -> Result<Vec<usize>, AllocError> {
 fn stepped(
     alloc: Global,
     roster: &Roster,
-    answer: Result<(), Refusal>,
+    answer: Result<Roster, Refusal>,
 ) -> Result<String, AllocError> {
     let nodes = present(alloc, roster)?;
     match answer {
-        Ok(()) => format!(in alloc; "present{}", List(&nodes)),
+        Ok(_) => format!(in alloc; "present{}", List(&nodes)),
         Err(refusal) => format!(in alloc; "{}, present{}", Refused(refusal), List(&nodes)),
     }
 }
@@ -40,11 +40,11 @@ fn start(alloc: Global, words: &mut Words, roster: &mut Roster) -> Result<String
     words.end()?;
     let started = Roster::start(&record);
     *roster = started.unwrap_or(nobody());
-    Ok(stepped(alloc, roster, started.map(|_| ()))?)
+    Ok(stepped(alloc, roster, started)?)
 }
 
-// A node leaves or returns.
-fn event<F: FnOnce(&mut Roster, &[u8], u32) -> Result<(), Refusal>>(
+// A node leaves or returns; where that is turned away the roster stays.
+fn event<F: FnOnce(Roster, &[u8], u32) -> Result<Roster, Refusal>>(
     alloc: Global,
     words: &mut Words,
     roster: &mut Roster,
@@ -55,7 +55,8 @@ fn event<F: FnOnce(&mut Roster, &[u8], u32) -> Result<(), Refusal>>(
     let record = words.record()?;
     let node = words.number("node")?;
     words.end()?;
-    let answer = call(roster, &record, node);
+    let answer = call(*roster, &record, node);
+    *roster = answer.unwrap_or(*roster);
     Ok(stepped(alloc, roster, answer)?)
 }
 
