@@ -1,6 +1,5 @@
--- `correct_lane` meets its contract: the candidate is near enough and a word, or the lane stays.
+-- `correct_lane` meets its contract: the candidate is near enough and a word, or no word is.
 use mathlib.Core.Path.{◌≡◌, sym, ap, ◌∙◌}
-use native.Mathlib.Omega.{arith}
 use lib.ListN.{length, take}
 use Rattle.lists.proofs.Padding.{take_padded}
 use Rattle.lists.specs.Counting.{differ}
@@ -20,9 +19,6 @@ word_long c = sym (ap length (word c) ∙ c.candidate-word.ensures.long)
 pub sums_with-sums-requires : goal.sums_with-sums-requires
 sums_with-sums-requires c = let s = c.requires in (s.0.sound, s.1, s.0.long, s.0.below)
 
-pub constant_tables-tables-requires : goal.constant_tables-tables-requires
-constant_tables-tables-requires c = _
-
 pub candidate-word-requires : goal.candidate-word-requires
 candidate-word-requires c = (c.requires.0, c.sums_with-sums.ensures)
 
@@ -31,10 +27,6 @@ slice_bounds-differing-end c = word_long (goal.at.slice_bounds-differing-end c).
 
 pub differing-altered-requires : goal.differing-altered-requires
 differing-altered-requires c = sym (word_long (goal.at.differing-altered-requires c).After-candidate-word) ∙ sym c.requires.0.long
-
-pub kept-requires : goal.kept-requires
-kept-requires c =
-    let s = c.requires in omega (arith, s.0.long, c.struct_known-1.given)
 
 -- at how many nodes the candidate differs, and whether it is a word
 distance : (c : After-differing-altered) → c.differing-altered.result ≡ differ c.args.lane.now c.candidate-word.ensures.word
@@ -47,10 +39,7 @@ pub returns-then-t-altered : goal.returns-then-t-altered
 unfolding radius
 returns-then-t-altered c =
     let k = c.candidate-word in
-    rw (c.kept.ensures.1, c.kept.ensures.2) (says_far c.args.h c.args.lane.now k.result c.requires.0 k.ensures (rw (← distance (goal.at.returns-then-t-altered c).After-differing-altered) c.if-t-altered.true) _ c.kept.ensures.0)
-
-pub slice_bounds-is_word_with-end : goal.slice_bounds-is_word_with-end
-slice_bounds-is_word_with-end c = word_long (goal.at.slice_bounds-is_word_with-end c).After-candidate-word
+    says_far c.args.h c.args.lane.now k.result c.requires.0 k.ensures (rw (← distance (goal.at.returns-then-t-altered c).After-differing-altered) c.if-t-altered.true)
 
 pub is_word_with-requires : goal.is_word_with-requires
 is_word_with-requires c =
@@ -65,11 +54,7 @@ returns-then-is_word_with c =
     let d = distance (goal.at.returns-then-is_word_with c).After-differing-altered in
     rw d (says_near c.args.h c.args.lane.now k.result c.requires.0 k.ensures (rw (← d) c.if-t-altered.false) (sym (tested (goal.at.returns-then-is_word_with c).After-is_word_with) ∙ c.if-is_word_with.true))
 
-pub kept-requires-2 : goal.kept-requires-2
-kept-requires-2 c =
-    let s = c.requires in omega (arith, s.0.long, c.struct_known-1.given)
-
 pub returns : goal.returns
 returns c =
     let k = c.candidate-word in
-    rw (c.kept-2.ensures.1, c.kept-2.ensures.2) (says_none c.args.h c.args.lane.now k.result c.requires.0 k.ensures (sym (tested (goal.at.returns c).After-is_word_with) ∙ c.if-is_word_with.false) _ c.kept-2.ensures.0)
+    says_none c.args.h c.args.lane.now k.result c.requires.0 k.ensures (sym (tested (goal.at.returns c).After-is_word_with) ∙ c.if-is_word_with.false)

@@ -42,6 +42,5 @@ returns c =
       few = omega (arith, c.requires.0.byte);
       locator = c.locate-locator.result;
       locates = rw c.new-field.ensures at c.locate-locator.ensures;
-      listed = rw c.new-field.ensures at c.find_roots.ensures.0;
-      counted = rw c.new-field.ensures at c.find_roots.ensures.1;
+      listed = rw c.new-field.ensures at c.find_roots.ensures;
     }
