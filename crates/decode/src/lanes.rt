@@ -1,5 +1,5 @@
-// Lanes as arrays: copied, compared, and less the errors at some nodes.
-ghost use Rattle.std.specs.Prelude.{◌≡◌, true, ◌≤◌, length};
+// Lanes compared, and less the errors at some nodes.
+ghost use Rattle.std.specs.Prelude.{◌≡◌, true, length};
 ghost use Rattle.lists.specs.Counting.{differ};
 ghost use Rattle.lists.specs.Numbers.{all_below};
 ghost use Rattle.lists.specs.Padded.{padded};
@@ -8,18 +8,6 @@ ghost use Rattle.interpolation.specs.Inner.Points.{SymbolList};
 ghost use Rattle.decode.specs.Inner.Errors.{removed as removed_from};
 
 use field::lent::Arithmetic;
-
-// A lane, and zeros after it.
-pub fn copied(lane: &[u16]) -> [u16; 255]
-    requires { length lane.now ≤ 255 }
-    ensures { result ≡ padded 255 lane.now }
-{
-    let mut out = [0u16; 255];
-    for i in 0..lane.len() {
-        out[i] = lane[i];
-    }
-    out
-}
 
 // At how many nodes two lanes differ.
 pub fn differing(a: &[u16], b: &[u16]) -> usize
@@ -40,7 +28,8 @@ pub fn removed(field: Arithmetic, lane: &[u16], nodes: &[u8], errors: &[u16]) ->
     requires { SymbolList (modulus field.field) lane.now × SymbolList (modulus field.field) errors.now × (all_below (length lane.now) nodes.now ≡ true) × (length errors.now ≡ length nodes.now) }
     ensures { result ≡ padded 255 (removed_from (modulus field.entry.field) nodes.now errors.now lane.now) }
 {
-    let mut out = copied(lane);
+    let mut out = [0u16; 255];
+    out[..lane.len()].copy_from_slice(lane);
     for i in 0..nodes.len() {
         let j = nodes[i] as usize;
         out[j] = field.sub(out[j] as u32, errors[i] as u32) as u16;

@@ -1,12 +1,12 @@
 // The nodes at which a polynomial vanishes; node j has the point root^j. Polynomials are arrays of coefficients, the constant first.
-ghost use Rattle.std.specs.Prelude.{◌≡◌, ◌<◌, ◌≤◌, length};
-ghost use Rattle.lists.specs.Padded.{padded};
+ghost use Rattle.std.specs.Prelude.{◌≡◌, ◌<◌, ◌≤◌};
 ghost use Rattle.field.specs.Fields.{size_of};
 ghost use Rattle.field.specs.Kinds.{modulus};
 ghost use Rattle.generator.specs.Codewords.{poly_at};
 ghost use Rattle.interpolation.specs.Inner.Points.{SymbolList};
 ghost use Rattle.decode.specs.Inner.Errors.{roots_of};
 
+use arrayvec::ArrayVec;
 use field::Field;
 use field::lent::Arithmetic;
 
@@ -24,31 +24,19 @@ fn value(field: Arithmetic, coefficients: &[u16], x: u32) -> u32
     sum
 }
 
-// Listed nodes, rising, with zeros after them, and how many they are.
-#[derive(Clone, Copy)]
-pub struct Roots {
-    pub nodes: [u8; 255],
-    pub count: usize,
-}
-
-// The nodes below n at which the value is 0.
-pub fn find_roots(field: Arithmetic, root: u32, coefficients: &[u16], n: usize) -> Roots
+// The nodes below n at which the value is 0, rising.
+pub fn find_roots(field: Arithmetic, root: u32, coefficients: &[u16], n: usize) -> ArrayVec<u8, 255>
     requires { SymbolList (modulus field.field) coefficients.now × (root < size_of (modulus field.field)) × (n ≤ 255) }
-    ensures { (result.nodes ≡ padded 255 (roots_of (modulus field.entry.field) root n coefficients.now)) × (result.count ≡ length (roots_of (modulus field.entry.field) root n coefficients.now)) }
+    ensures { result.items ≡ roots_of (modulus field.entry.field) root n coefficients.now }
 {
-    let mut nodes = [0u8; 255];
-    let mut count: usize = 0;
+    let mut nodes = ArrayVec::new();
     let mut x = Field::ONE;
     for j in 0..n {
         let y = value(field, coefficients, x);
         x = field.mul(root, x);
         if y == Field::ZERO {
-            nodes[count] = j as u8;
-            count += 1;
+            nodes.push(j as u8);
         }
     }
-    Roots {
-        nodes: nodes,
-        count: count,
-    }
+    nodes
 }

@@ -1,5 +1,5 @@
 -- `removed` meets its contract. Invariant: with the errors at the nodes from i on it is the lane without all of them.
-use mathlib.Core.Path.{sym, ap, ◌∙◌}
+use mathlib.Core.Path.{refl, sym, ◌∙◌}
 use Prim.Native.Nat.{◌<◌}
 use native.Mathlib.Omega.{arith}
 use lib.ListN.{get_or, length-set}
@@ -7,8 +7,7 @@ use Rattle.lists.proofs.Numbers.{below_at, below_get_or, below_set}
 use Rattle.lists.proofs.Padding.{length_padded, below_padded}
 use Rattle.field.proofs.FieldOf.{size_pos}
 use Rattle.field.proofs.KindLaws.{usable_field}
-use Rattle.decode.specs.Inner.Errors.{removed}
-use Rattle.decode.proofs.Removing.{removed_next, removed_end, removed_padded}
+use Rattle.decode.proofs.Removing.{copied_is, removed_next, removed_end, removed_padded}
 use Rattle.decode.proofs.lanes.removed.Goals as goal
 use Rattle.decode.proofs.lanes.removed.Goals.{In-loop-i}
 
@@ -17,13 +16,11 @@ node : (c : In-loop-i) → get_or c.args.nodes.now c.loop-i.i 0 < 255
 node c =
     let s = c.requires in omega (arith, below_at _ c.args.nodes.now s.2 c.loop-i.i c.loop-i-test.true, s.0.short)
 
-pub copied-out-requires : goal.copied-out-requires
-copied-out-requires c = c.requires.0.short
-
 pub loop-i-init : goal.loop-i-init
 loop-i-init c =
     let s = c.requires in
-    let is = c.copied-out.ensures in (rw is (length_padded 255 _ s.0.short), rw is (below_padded _ 255 _ (size_pos _ (usable_field _ c.args.field.usable)) s.0.below), ap (removed _ c.args.nodes.now c.args.errors.now) is)
+    rw (c.copy_from_slice.ensures.after, copied_is 255 c.args.lane.now)
+    (length_padded 255 _ s.0.short, below_padded _ 255 _ (size_pos _ (usable_field _ c.args.field.usable)) s.0.below, refl)
 
 pub overflow_cast-j : goal.overflow_cast-j
 overflow_cast-j c = omega (arith, node (goal.at.overflow_cast-j c).In-loop-i)

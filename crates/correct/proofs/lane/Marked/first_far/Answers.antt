@@ -1,7 +1,7 @@
 -- `first_far` meets its contract. Invariant: the search from 0 on is the search from t on.
 use mathlib.Core.Path.{◌≡◌, sym, ◌∙◌}
 use Prim.Native.Nat.{◌+◌, ◌*◌, ◌≤◌}
-use native.Mathlib.Nat.{sub-zero, mul-le-mul}
+use native.Mathlib.Nat.{sub-zero}
 use native.Mathlib.Omega.{arith}
 use borrow.Author.Tests.{not-true, not-false}
 use lib.ListN.{length}
@@ -9,27 +9,19 @@ use Rattle.lists.proofs.Search.{search_next, search_found, search_end}
 use Rattle.generator.proofs.Widths.{width_some}
 use Rattle.correct.specs.Blocks.{first_far}
 use Rattle.correct.proofs.LaneBytes.{part_inside, part_lane, part_marked}
-use Rattle.correct.proofs.first_far.Invariants.{near}
-use Rattle.correct.proofs.first_far.Goals as goal
-use Rattle.correct.proofs.first_far.Goals.{After-is_near, In-loop-t}
+use Rattle.correct.proofs.lane.Marked.first_far.Invariants.{near}
+use Rattle.correct.proofs.lane.Marked.first_far.Goals as goal
+use Rattle.correct.proofs.lane.Marked.first_far.Goals.{After-is_near, In-loop-t}
 
 -- the bytes of lane t
-inside : (c : In-loop-t) → c.loop-t.t * (c.width_of.result * c.args.code.header.n) + c.width_of.result * c.args.code.header.n ≤ length c.args.shares.now
-inside c = rw c.width_of.ensures.0 (part_inside c.requires.0 (width_some _) c.loop-t.t c.loop-t-test.true)
+inside : (c : In-loop-t) → let n = c.args.self.code.header.n in c.loop-t.t * (c.width_of.result * n) + c.width_of.result * n ≤ length c.args.shares.now
+inside c = rw c.width_of.ensures.0 (part_inside c.requires (width_some _) c.loop-t.t c.loop-t-test.true)
 
 -- lane t has a word near enough, or not
-near-is : (c : After-is_near) → c.is_near.result ≡ near c.args.code.header c.args.lanes c.args.shares.now c.loop-t.t
+near-is : (c : After-is_near) → let v = c.args.self in c.is_near.result ≡ near v.code.header (length v.marks.now) c.args.shares.now c.loop-t.t
 near-is c =
-    let bytes = part_lane c.requires.0 (width_some _) c.loop-t.t c.loop-t-test.true in
-    rw (bytes) at (rw c.width_of.ensures.0 at c.is_near.ensures)
-
-pub width_of-requires : goal.width_of-requires
-width_of-requires c = c.requires.0.sound.usable_field
-
-pub overflow_mul-size : goal.overflow_mul-size
-overflow_mul-size c =
-    let few : c.args.code.header.n ≤ 255 = omega (arith, c.struct_known-1.given) in
-    omega (arith, mul-le-mul c.width_of.ensures.2 few)
+    let bytes = part_lane c.requires (width_some _) c.loop-t.t c.loop-t-test.true in
+    rw bytes at (rw c.width_of.ensures.0 at c.is_near.ensures)
 
 pub loop-t-init : goal.loop-t-init
 loop-t-init c = rw sub-zero
@@ -40,14 +32,11 @@ overflow_mul-start c = omega (arith, inside c)
 pub overflow_add-end : goal.overflow_add-end
 overflow_add-end c = omega (arith, inside c)
 
-pub bounds-marks-t : goal.bounds-marks-t
-bounds-marks-t c = omega (arith, c.requires.0.marked, c.loop-t-test.true)
-
 pub slice_bounds-is_near-end : goal.slice_bounds-is_near-end
 slice_bounds-is_near-end c = omega (arith, inside (goal.at.slice_bounds-is_near-end c).In-loop-t)
 
 pub is_near-requires : goal.is_near-requires
-is_near-requires c = rw c.width_of.ensures.0 (part_marked c.requires.0 (width_some _) c.loop-t.t c.loop-t-test.true, c.requires.1)
+is_near-requires c = (c.loop-t-test.true, rw c.width_of.ensures.0 (part_marked c.requires (width_some _) c.loop-t.t c.loop-t-test.true))
 
 pub returns-then-not-is_near : goal.returns-then-not-is_near
 unfolding first_far
@@ -64,5 +53,5 @@ pub returns : goal.returns
 unfolding first_far
 returns c =
     let l = c.loop-t in
-    let end : c.args.lanes ≡ l.t = omega (arith, l.auto.t-end, c.loop-t-test.false) in
+    let end : length c.args.self.marks.now ≡ l.t = omega (arith, l.auto.t-end, c.loop-t-test.false) in
     end ∙ sym (l.invariant ∙ search_end _ _ _ c.loop-t-test.false)

@@ -2,7 +2,7 @@
 use mathlib.Core.Path.{◌≡◌}
 use mathlib.Core.List.{List}
 use Prim.Native.Nat.{ℕ, ◌*◌, ◌≤◌}
-use lib.ListN.{drop}
+use lib.ListN.{length, drop}
 use Rattle.lists.proofs.Fill.{Fills}
 use Rattle.layout.specs.Layout.{share_layout}
 use Rattle.layout.specs.Width.{symbols_of}
@@ -10,7 +10,7 @@ use Rattle.generator.specs.declared.Header.{Header}
 use Rattle.generator.specs.Records.{width}
 use Rattle.correct.specs.Blocks.{corrected_shares, corrected_bytes}
 use Rattle.correct.proofs.Counting.{apart_to}
-use Rattle.correct.proofs.correct_lanes.Given as goal
+use Rattle.correct.proofs.lane.Marked.correct_lanes.Given as goal
 
 -- the symbols of the shares, and of the shares set right
 abbrev pub before : Header → List ℕ → List ℕ
@@ -20,5 +20,10 @@ abbrev pub after : Header → ℕ → List ℕ → List ℕ
 after h l shares = corrected_shares share_layout h l (before h shares)
 
 abbrev pub invariant-loop-t : goal.invariant-loop-t
-invariant-loop-t l = let whole = corrected_bytes share_layout l.fn.code.header l.lanes l.initial.shares in
-    (l.count ≤ l.t * 255) × (l.count ≡ apart_to l.fn.code.header.n (before l.fn.code.header l.initial.shares) (after l.fn.code.header l.lanes l.initial.shares) l.t) × Fills l.initial.shares l.shares (l.t * (width l.fn.code.header * l.fn.code.header.n)) (drop (l.t * (width l.fn.code.header * l.fn.code.header.n)) whole) whole
+invariant-loop-t l =
+    let h = l.self.code.header in
+    let lanes = length l.self.marks.now in
+    let whole = corrected_bytes share_layout h lanes l.initial.shares in
+    (l.count ≤ l.t * 255)
+    × (l.count ≡ apart_to h.n (before h l.initial.shares) (after h lanes l.initial.shares) l.t)
+    × Fills l.initial.shares l.shares (l.t * (width h * h.n)) (drop (l.t * (width h * h.n)) whole) whole
