@@ -30,7 +30,7 @@ impl Marked<'_> {
         let h = self.code.header;
         let n = h.n as usize;
         let held = symbols::read_symbols(symbols::width_of(h), lane);
-        decode::correct_lane(h, self.rows, &held[..n]).is_some()
+        decode::correct_lane(self.code, self.rows, &held[..n]).is_some()
     }
 
     // Writes the word that is near enough to lane t, where there is one, and gives the number of symbols altered.
@@ -45,7 +45,7 @@ impl Marked<'_> {
         let n = h.n as usize;
         let w = symbols::width_of(h);
         let held = symbols::read_symbols(w, lane);
-        match decode::correct_lane(h, self.rows, &held[..n]) {
+        match decode::correct_lane(self.code, self.rows, &held[..n]) {
             None => 0,
             Some(found) => {
                 symbols::write_symbols(w, &found.lane[..n], lane);

@@ -6,14 +6,14 @@ ghost use Rattle.lists.specs.Counting.{differ};
 ghost use Rattle.lists.specs.Padded.{padded};
 ghost use Rattle.check_sums.specs.Inner.Sums.{check_sums, power_rows};
 ghost use Rattle.nearest_word.specs.Nearest.{has_near, corrected};
-ghost use Rattle.generator.specs.Records.{size, Sound};
+ghost use Rattle.generator.specs.Records.{size};
 ghost use Rattle.decode.specs.Inner.Locating.{Below};
 ghost use Rattle.decode.specs.Inner.Candidates.{SoundLane, WrongNodes, Candidate};
 
 use arrayvec::ArrayVec;
 use field::Tables;
 use field::lent::Arithmetic;
-use generator::Header;
+use generator::Code;
 
 mod errors;
 mod lanes;
@@ -33,12 +33,13 @@ pub struct Corrected {
 }
 
 // The only symbols that may be a word near enough, and zeros after them.
-fn candidate(h: Header, tables: &Tables, lane: &[u16], sums: [u16; 255]) -> [u16; 255]
-    requires { SoundLane h lane.now × (sums ≡ padded 255 (check_sums h lane.now)) }
-    ensures { Candidate h lane.now result }
+fn candidate(code: Code, tables: &Tables, lane: &[u16], sums: [u16; 255]) -> [u16; 255]
+    requires { SoundLane code.header lane.now × (sums ≡ padded 255 (check_sums code.header lane.now)) }
+    ensures { Candidate code.header lane.now result }
 {
+    let h = code.header;
     let field = Arithmetic::new(h.field, tables);
-    let found = wrong_nodes(h, tables, &sums);
+    let found = wrong_nodes(code, tables, &sums);
     let nodes = found.as_slice();
     let count = nodes.len();
     let wrong = errors(field, h.root, nodes, &sums[..count]);
@@ -46,10 +47,11 @@ fn candidate(h: Header, tables: &Tables, lane: &[u16], sums: [u16; 255]) -> [u16
 }
 
 // The nodes at which the locator of the check sums vanishes: all wrong ones, if a word is near enough.
-fn wrong_nodes(h: Header, tables: &Tables, sums: &[u16; 255]) -> ArrayVec<u8, 255>
-    requires { Sound h × Below (size h) sums.now }
-    ensures { WrongNodes h sums.now result.items }
+fn wrong_nodes(code: Code, tables: &Tables, sums: &[u16; 255]) -> ArrayVec<u8, 255>
+    requires { Below (size code.header) sums.now }
+    ensures { WrongNodes code.header sums.now result.items }
 {
+    let h = code.header;
     let field = Arithmetic::new(h.field, tables);
     let root = h.root;
     let n = h.n as usize;
@@ -60,20 +62,21 @@ fn wrong_nodes(h: Header, tables: &Tables, sums: &[u16; 255]) -> ArrayVec<u8, 25
 }
 
 // The word near enough to a lane, if there is one. `rows` are the rows of powers of the check sums.
-pub fn correct_lane(h: Header, rows: &[u8], lane: &[u16]) -> Option<Corrected>
-    requires { SoundLane h lane.now × (rows.now ≡ power_rows h) }
-    ensures { MatchOption result (has_near h lane.now ≡ false) (λ found. (has_near h lane.now ≡ true) × (found.lane ≡ padded 255 (corrected h lane.now)) × (found.altered ≡ differ lane.now (corrected h lane.now))) }
+pub fn correct_lane(code: Code, rows: &[u8], lane: &[u16]) -> Option<Corrected>
+    requires { SoundLane code.header lane.now × (rows.now ≡ power_rows code.header) }
+    ensures { MatchOption result (has_near code.header lane.now ≡ false) (λ found. (has_near code.header lane.now ≡ true) × (found.lane ≡ padded 255 (corrected code.header lane.now)) × (found.altered ≡ differ lane.now (corrected code.header lane.now))) }
 {
+    let h = code.header;
     let n = h.n as usize;
     let t = ((h.n - h.k) / 2) as usize;
-    let sums = check_sums::lane::sums_with(h, rows, lane);
+    let sums = check_sums::lane::sums_with(code, rows, lane);
     let tables = field::constant_tables();
-    let word = candidate(h, &tables, lane, sums);
+    let word = candidate(code, &tables, lane, sums);
     let altered = differing(lane, &word[..n]);
     if t < altered {
         return None;
     }
-    if check_sums::lane::is_word_with(h, rows, &word[..n]) {
+    if check_sums::lane::is_word_with(code, rows, &word[..n]) {
         return Some(Corrected {
             lane: word,
             altered,

@@ -10,21 +10,21 @@ use Rattle.decode.proofs.candidate.Goals as goal
 use Rattle.decode.proofs.candidate.Goals.{After-as_slice-nodes, After-errors-wrong}
 
 -- what is known once the nodes are found
-facts : (c : After-as_slice-nodes) → let a = c.args in CandidateParts a.h a.lane.now a.sums c.as_slice-nodes.result.now
-facts c = candidate_parts c.args.h c.args.lane.now c.requires.0 c.args.sums c.requires.1 _ (rw c.as_slice-nodes.ensures.value c.wrong_nodes-found.ensures)
+facts : (c : After-as_slice-nodes) → let a = c.args in CandidateParts a.code.header a.lane.now a.sums c.as_slice-nodes.result.now
+facts c = candidate_parts c.args.code.header c.args.lane.now c.requires.0 c.args.sums c.requires.1 _ (rw c.as_slice-nodes.ensures.value c.wrong_nodes-found.ensures)
 
 -- and once the errors are
 errors-part : (c : After-errors-wrong)
     → let nodes : List ℕ = c.as_slice-nodes.result.now in
-    take (length nodes) c.errors-wrong.result ≡ errors_at c.args.h nodes c.args.sums
+    take (length nodes) c.errors-wrong.result ≡ errors_at c.args.code.header nodes c.args.sums
 errors-part c =
     let nodes : List ℕ = c.as_slice-nodes.result.now in
     let wrong : List ℕ = c.errors-wrong.result in
-    let is : wrong ≡ padded 255 (errors_at c.args.h nodes c.args.sums) = rw c.new-field.ensures at c.errors-wrong.ensures in
+    let is : wrong ≡ padded 255 (errors_at c.args.code.header nodes c.args.sums) = rw c.new-field.ensures at c.errors-wrong.ensures in
     ap (take (length nodes)) is ∙ take_padded 255 (length nodes) _ (facts (goal.at.After-errors-wrong c).After-as_slice-nodes).errors_count
 
 pub wrong_nodes-found-requires : goal.wrong_nodes-found-requires
-wrong_nodes-found-requires c = (c.requires.0.sound, sums_symbols c.args.h c.args.lane.now c.requires.0 c.args.sums c.requires.1)
+wrong_nodes-found-requires c = sums_symbols c.args.code.header c.args.lane.now c.requires.0 c.args.sums c.requires.1
 
 pub errors-wrong-requires : goal.errors-wrong-requires
 errors-wrong-requires c =

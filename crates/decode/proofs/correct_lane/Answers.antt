@@ -10,14 +10,14 @@ use Rattle.decode.proofs.correct_lane.Goals as goal
 use Rattle.decode.proofs.correct_lane.Goals.{After-candidate-word, After-differing-altered, After-is_word_with}
 
 -- the first n places of the candidate are its word
-word : (c : After-candidate-word) → take c.args.h.n c.candidate-word.result ≡ c.candidate-word.ensures.word
+word : (c : After-candidate-word) → take c.args.code.header.n c.candidate-word.result ≡ c.candidate-word.ensures.word
 word c = let k = c.candidate-word.ensures in rw k.array_is (take_padded 255 _ k.word k.long)
 
-word_long : (c : After-candidate-word) → c.args.h.n ≡ length (take c.args.h.n c.candidate-word.result)
+word_long : (c : After-candidate-word) → c.args.code.header.n ≡ length (take c.args.code.header.n c.candidate-word.result)
 word_long c = sym (ap length (word c) ∙ c.candidate-word.ensures.long)
 
 pub sums_with-sums-requires : goal.sums_with-sums-requires
-sums_with-sums-requires c = let s = c.requires in (s.0.sound, s.1, s.0.long, s.0.below)
+sums_with-sums-requires c = let s = c.requires in (s.1, s.0.long, s.0.below)
 
 pub candidate-word-requires : goal.candidate-word-requires
 candidate-word-requires c = (c.requires.0, c.sums_with-sums.ensures)
@@ -32,29 +32,29 @@ differing-altered-requires c = sym (word_long (goal.at.differing-altered-require
 distance : (c : After-differing-altered) → c.differing-altered.result ≡ differ c.args.lane.now c.candidate-word.ensures.word
 distance c = rw (word (goal.at.After-differing-altered c).After-candidate-word) at c.differing-altered.ensures
 
-tested : (c : After-is_word_with) → c.is_word_with.result ≡ is_word c.args.h c.candidate-word.ensures.word
+tested : (c : After-is_word_with) → c.is_word_with.result ≡ is_word c.args.code.header c.candidate-word.ensures.word
 tested c = rw (word (goal.at.After-is_word_with c).After-candidate-word) at c.is_word_with.ensures
 
 pub returns-then-t-altered : goal.returns-then-t-altered
 unfolding radius
 returns-then-t-altered c =
     let k = c.candidate-word in
-    says_far c.args.h c.args.lane.now k.result c.requires.0 k.ensures (rw (← distance (goal.at.returns-then-t-altered c).After-differing-altered) c.if-t-altered.true)
+    says_far c.args.code.header c.args.lane.now k.result c.requires.0 k.ensures (rw (← distance (goal.at.returns-then-t-altered c).After-differing-altered) c.if-t-altered.true)
 
 pub is_word_with-requires : goal.is_word_with-requires
 is_word_with-requires c =
     let s = c.requires in
     let k = c.candidate-word.ensures in
-    rw (word (goal.at.is_word_with-requires c).After-candidate-word) (s.0.sound, s.1, k.long, k.below)
+    rw (word (goal.at.is_word_with-requires c).After-candidate-word) (s.1, k.long, k.below)
 
 pub returns-then-is_word_with : goal.returns-then-is_word_with
 unfolding radius
 returns-then-is_word_with c =
     let k = c.candidate-word in
     let d = distance (goal.at.returns-then-is_word_with c).After-differing-altered in
-    rw d (says_near c.args.h c.args.lane.now k.result c.requires.0 k.ensures (rw (← d) c.if-t-altered.false) (sym (tested (goal.at.returns-then-is_word_with c).After-is_word_with) ∙ c.if-is_word_with.true))
+    rw d (says_near c.args.code.header c.args.lane.now k.result c.requires.0 k.ensures (rw (← d) c.if-t-altered.false) (sym (tested (goal.at.returns-then-is_word_with c).After-is_word_with) ∙ c.if-is_word_with.true))
 
 pub returns : goal.returns
 returns c =
     let k = c.candidate-word in
-    says_none c.args.h c.args.lane.now k.result c.requires.0 k.ensures (sym (tested (goal.at.returns c).After-is_word_with) ∙ c.if-is_word_with.false)
+    says_none c.args.code.header c.args.lane.now k.result c.requires.0 k.ensures (sym (tested (goal.at.returns c).After-is_word_with) ∙ c.if-is_word_with.false)

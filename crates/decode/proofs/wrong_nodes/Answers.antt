@@ -13,19 +13,19 @@ use Rattle.decode.proofs.wrong_nodes.Goals as goal
 use Rattle.decode.proofs.wrong_nodes.Goals.{After-locate-locator}
 
 -- the locator's coefficients
-front_long : (c : After-locate-locator) → let h = c.args.h in length (take ((h.n - h.k) / 2 + 1) c.locate-locator.result) ≡ (h.n - h.k) / 2 + 1
-front_long c = length-take-le _ c.locate-locator.result (omega (arith, c.locate-locator.ensures.long, c.requires.0.byte))
+front_long : (c : After-locate-locator) → let h = c.args.code.header in length (take ((h.n - h.k) / 2 + 1) c.locate-locator.result) ≡ (h.n - h.k) / 2 + 1
+front_long c = length-take-le _ c.locate-locator.result (omega (arith, c.locate-locator.ensures.long, c.args.code.sound.byte))
 
-front_below : (c : After-locate-locator) → let h = c.args.h in all_below (size h) (take ((h.n - h.k) / 2 + 1) c.locate-locator.result) ≡ true
+front_below : (c : After-locate-locator) → let h = c.args.code.header in all_below (size h) (take ((h.n - h.k) / 2 + 1) c.locate-locator.result) ≡ true
 front_below c =
-    let h = c.args.h in
+    let h = c.args.code.header in
     at_below _ _ (λ i b. rw (get_or-take ((h.n - h.k) / 2 + 1) c.locate-locator.result i 0 (omega (arith, front_long c))) (rw c.new-field.ensures at (c.locate-locator.ensures.below i)))
 
 pub locate-locator-requires : goal.locate-locator-requires
-locate-locator-requires c = (omega (arith, c.requires.0.byte), rw c.new-field.ensures c.requires.1)
+locate-locator-requires c = (omega (arith, c.args.code.sound.byte), rw c.new-field.ensures c.requires)
 
 pub slice_bounds-locator-end : goal.slice_bounds-locator-end
-slice_bounds-locator-end c = omega (arith, c.locate-locator.ensures.long, c.requires.0.byte)
+slice_bounds-locator-end c = omega (arith, c.locate-locator.ensures.long, c.args.code.sound.byte)
 
 pub slice_bounds-find_roots-end : goal.slice_bounds-find_roots-end
 slice_bounds-find_roots-end c = sym (front_long (goal.at.slice_bounds-find_roots-end c).After-locate-locator)
@@ -33,13 +33,13 @@ slice_bounds-find_roots-end c = sym (front_long (goal.at.slice_bounds-find_roots
 pub find_roots-requires : goal.find_roots-requires
 find_roots-requires c =
     let s = c.requires in
-    rw c.new-field.ensures (record { below = front_below (goal.at.find_roots-requires c).After-locate-locator; short = omega (arith, front_long (goal.at.find_roots-requires c).After-locate-locator, c.requires.0.byte) }, s.0.root_below, omega (arith, c.requires.0.byte))
+    rw c.new-field.ensures (record { below = front_below (goal.at.find_roots-requires c).After-locate-locator; short = omega (arith, front_long (goal.at.find_roots-requires c).After-locate-locator, c.args.code.sound.byte) }, c.args.code.sound.root_below, omega (arith, c.args.code.sound.byte))
 
 pub returns : goal.returns
 unfolding radius
 returns c =
     record {
-      few = omega (arith, c.requires.0.byte);
+      few = omega (arith, c.args.code.sound.byte);
       locator = c.locate-locator.result;
       locates = rw c.new-field.ensures at c.locate-locator.ensures;
       listed = rw c.new-field.ensures at c.find_roots.ensures;
