@@ -18,14 +18,12 @@ use interpolation::polynomials;
 fn run(shifts: &[u8]) -> usize
     ensures { result ≤ length shifts.now }
 {
-    let mut t: usize = 0;
-    while t < shifts.len() {
-        if shifts[t] as usize != t {
+    for (t, &shift) in shifts.iter().enumerate() {
+        if shift as usize != t {
             return t;
         }
-        t += 1;
     }
-    t
+    shifts.len()
 }
 
 // How many of the shifts from the first on have a place below `taken` in a round of so many.
@@ -33,14 +31,12 @@ fn in_rounds(around: usize, taken: usize, shifts: &[u8]) -> usize
     requires { 0 < around }
     ensures { (result ≤ length shifts.now) × ((i : ℕ) → i < result → get_or shifts.now i 0 % around < taken) }
 {
-    let mut i: usize = 0;
-    while i < shifts.len() {
-        if shifts[i] as usize % around >= taken {
+    for (i, &shift) in shifts.iter().enumerate() {
+        if shift as usize % around >= taken {
             return i;
         }
-        i += 1;
     }
-    i
+    shifts.len()
 }
 
 // The number of rounds, or 0 where the shifts do not come in rounds.

@@ -49,14 +49,13 @@ fn base_inverses(h: Header, tables: &Tables, powers: &[u16]) -> [u16; 255]
     let field = Arithmetic::new(h.field, tables);
     let top = powers[h.k as usize % h.n as usize] as u32;
     let mut out = [0u16; 255];
-    let mut c = h.k as usize - 1;
-    let scale = powers[c] as u32;
+    let highest = h.k as usize - 1;
+    let scale = powers[highest] as u32;
     let mut value = Field::ONE;
-    out[c] = value as u16;
-    while 0 < c {
-        let ratio = step_ratio(field, top, scale, powers[c] as u32);
+    out[highest] = value as u16;
+    for c in (0..highest).rev() {
+        let ratio = step_ratio(field, top, scale, powers[c + 1] as u32);
         value = field.mul(ratio, value);
-        c -= 1;
         out[c] = value as u16;
     }
     out

@@ -1,6 +1,6 @@
 -- `base_inverses` meets its contract. The loop's invariant: the inverses from c on are written.
-use mathlib.Core.Path.{refl, ap, ◌∙◌}
-use Prim.Native.Nat.{ℕ, ◌-◌, ◌%◌, ◌≤◌, ◌<◌}
+use mathlib.Core.Path.{◌≡◌, refl, ap, ◌∙◌}
+use Prim.Native.Nat.{ℕ, ◌+◌, ◌-◌, ◌%◌, ◌≤◌, ◌<◌}
 use native.Mathlib.Nat.{mod-lt}
 use native.Mathlib.Omega.{arith}
 use lib.ListN.{get_or, set}
@@ -33,12 +33,13 @@ next c =
     let l = c.loop-c in
     let h = c.args.h in
     let s = c.requires.0 in
-    written_next h s l.invariant c.loop-c-test.true c.mul-value.result
+    let up : l.c - 1 + 1 ≡ l.c = omega arith in
+    written_next h s l.invariant (omega arith) c.mul-value.result
     (c.mul-value.ensures.is
     ∙ rw c.new-field.ensures
     (ap (λ (x : ℕ). mul (modulus_of h) x l.value)
     (c.step_ratio-ratio.ensures.is
-    ∙ rw (c.new-field.ensures, c.requires.1, power_at h (h.k % h.n) (turn (goal.at.After-mul-value c).Start), power_modulo h s h.k, power_at h (h.k - 1) (omega (arith, s.some, s.fits)), power_at h l.c (omega (arith, l.invariant.inside, s.fits))))))
+    ∙ rw (c.new-field.ensures, c.requires.1, power_at h (h.k % h.n) (turn (goal.at.After-mul-value c).Start), power_modulo h s h.k, power_at h (h.k - 1) (omega (arith, s.some, s.fits)), up, power_at h l.c (omega (arith, l.invariant.inside, s.fits))))))
 
 pub nonzero_rem-top : goal.nonzero_rem-top
 nonzero_rem-top c = omega (arith, c.requires.0.two)
@@ -52,33 +53,33 @@ bounds-powers-h c = rw c.requires.1 (power_place c.args.h _ (turn (goal.at.bound
 pub overflow_cast-top-3 : goal.overflow_cast-top-3
 overflow_cast-top-3 c = omega (arith, c.type_inv.powers (c.args.h.k % c.args.h.n))
 
-pub overflow_sub-c : goal.overflow_sub-c
-overflow_sub-c c = omega (arith, c.requires.0.some)
+pub overflow_sub-highest : goal.overflow_sub-highest
+overflow_sub-highest c = omega (arith, c.requires.0.some)
 
-pub offset_bounds-powers-c : goal.offset_bounds-powers-c
-offset_bounds-powers-c c = omega (arith, (few (goal.at.offset_bounds-powers-c c).After-struct_known-2-1).0)
+pub offset_bounds-powers-highest : goal.offset_bounds-powers-highest
+offset_bounds-powers-highest c = omega (arith, (few (goal.at.offset_bounds-powers-highest c).After-struct_known-2-1).0)
 
-pub bounds-powers-c : goal.bounds-powers-c
-bounds-powers-c c = rw c.requires.1 (power_place c.args.h _ (omega (arith, c.requires.0.some, c.requires.0.fits)))
+pub bounds-powers-highest : goal.bounds-powers-highest
+bounds-powers-highest c = rw c.requires.1 (power_place c.args.h _ (omega (arith, c.requires.0.some, c.requires.0.fits)))
 
 pub overflow_cast-scale : goal.overflow_cast-scale
 overflow_cast-scale c = omega (arith, c.type_inv.powers (c.args.h.k - 1))
 
-pub offset_bounds-out-c : goal.offset_bounds-out-c
-offset_bounds-out-c c = omega (arith, (few (goal.at.offset_bounds-out-c c).After-struct_known-2-1).0)
+pub offset_bounds-out-highest : goal.offset_bounds-out-highest
+offset_bounds-out-highest c = omega (arith, (few (goal.at.offset_bounds-out-highest c).After-struct_known-2-1).0)
 
-pub bounds-out-c : goal.bounds-out-c
-bounds-out-c c = omega (arith, (few (goal.at.bounds-out-c c).After-struct_known-2-1).0, c.requires.0.some)
+pub bounds-out-highest : goal.bounds-out-highest
+bounds-out-highest c = omega (arith, (few (goal.at.bounds-out-highest c).After-struct_known-2-1).0, c.requires.0.some)
 
 pub loop-c-init : goal.loop-c-init
 unfolding zeros
 loop-c-init c = written_first c.args.h c.requires.0 (few (goal.at.loop-c-init c).After-struct_known-2-1).0 _ refl
 
-pub offset_bounds-powers-c-in-loop-c : goal.offset_bounds-powers-c-in-loop-c
-offset_bounds-powers-c-in-loop-c c = omega (arith, c.loop-c.invariant.inside, (few (goal.at.offset_bounds-powers-c-in-loop-c c).After-struct_known-2-1).0)
+pub offset_bounds-powers-c : goal.offset_bounds-powers-c
+offset_bounds-powers-c c = omega (arith, c.loop-c.invariant.inside, (few (goal.at.offset_bounds-powers-c c).After-struct_known-2-1).0)
 
-pub bounds-powers-c-in-loop-c : goal.bounds-powers-c-in-loop-c
-bounds-powers-c-in-loop-c c = rw c.requires.1 (power_place c.args.h _ (omega (arith, c.loop-c.invariant.inside, c.requires.0.fits)))
+pub bounds-powers-c : goal.bounds-powers-c
+bounds-powers-c c = rw c.requires.1 (power_place c.args.h _ (omega (arith, c.loop-c.invariant.inside, c.requires.0.fits)))
 
 pub overflow_cast-powers : goal.overflow_cast-powers
 overflow_cast-powers c = omega (arith, c.type_inv.powers c.loop-c.c)
@@ -98,12 +99,12 @@ pub overflow_cast-out-in-loop-c : goal.overflow_cast-out-in-loop-c
 overflow_cast-out-in-loop-c c =
     omega (arith, c.mul-value.ensures.symbol, c.new-field.result.small)
 
-pub offset_bounds-out-c-in-loop-c : goal.offset_bounds-out-c-in-loop-c
-offset_bounds-out-c-in-loop-c c = omega (arith, (few (goal.at.offset_bounds-out-c-in-loop-c c).After-struct_known-2-1).0, c.loop-c.invariant.inside)
+pub offset_bounds-out-c : goal.offset_bounds-out-c
+offset_bounds-out-c c = omega (arith, (few (goal.at.offset_bounds-out-c c).After-struct_known-2-1).0, c.loop-c.invariant.inside)
 
-pub bounds-out-c-in-loop-c : goal.bounds-out-c-in-loop-c
-bounds-out-c-in-loop-c c =
-    let w = next c in omega (arith, (few (goal.at.bounds-out-c-in-loop-c c).After-struct_known-2-1).0, c.loop-c.invariant.inside)
+pub bounds-out-c : goal.bounds-out-c
+bounds-out-c c =
+    let w = next c in omega (arith, (few (goal.at.bounds-out-c c).After-struct_known-2-1).0, c.loop-c.invariant.inside)
 
 pub loop-c-preserved : goal.loop-c-preserved
 loop-c-preserved c = next c

@@ -5,6 +5,3 @@ use Rattle.lane_message.proofs.rows.base_inverses.Given as goal
 abbrev pub invariant-loop-c : goal.invariant-loop-c
 invariant-loop-c l =
     Written l.fn.h l.c l.value l.out
-
-abbrev pub decreases-loop-c : goal.decreases-loop-c
-decreases-loop-c l = l.c
