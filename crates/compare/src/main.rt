@@ -5,9 +5,5 @@
 use std::io;
 
 fn main(rt: HostRuntime) -> io::Result<()> {
-    let mut rec = [0u8; 8];
-    let size = input::read_full(&rt, &mut rec)?;
-    let mut page = compare_text::page();
-    let end = compare_text::comparison(&rec[..size], &mut page);
-    rt.write_all(&page[..end])
+    input::answer(&rt, &mut compare_text::page(), compare_text::comparison)
 }

@@ -4,9 +4,5 @@
 use std::io;
 
 fn main(rt: HostRuntime) -> io::Result<()> {
-    let mut rec = [0u8; 8];
-    let size = input::read_full(&rt, &mut rec)?;
-    let mut page = plain_text::page();
-    let end = plain_text::plain(&rec[..size], &mut page);
-    rt.write_all(&page[..end])
+    input::answer(&rt, &mut plain_text::page(), plain_text::plain)
 }
