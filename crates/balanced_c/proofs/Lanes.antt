@@ -26,9 +26,9 @@ module _ (rec before after : List ℕ) (answer symbol amount : ℕ) where
       let (none, same) = found_means (fault_of rec (λ h. find_fault h before after)) (found_in rec before after) r says.found.promise.answer in
       record {
         number = sym none;
-        answer_is = ap case_of (sym same ∙ is);
-        symbol_is = ap found_symbol (sym same ∙ is);
-        amount_is = ap found_amount (sym same ∙ is);
+        answer_is = ap case_of (sym (same ∙ is));
+        symbol_is = ap found_symbol (sym (same ∙ is));
+        amount_is = ap found_amount (sym (same ∙ is));
         claims = says.claims;
       }
 

@@ -1,6 +1,6 @@
 -- What the proofs of the C interface's functions share.
 mod Answers
-mod Plans
+pub mod Plans
 mod Lanes
 mod Corrections
 mod RowChanges

@@ -2,14 +2,13 @@
 use Rattle.std.specs.Prelude.{Ok, Err}
 use Rattle.generator.specs.Answers.{Answer}
 use mathlib.Core.Path.{◌≡◌, refl, sym, ap, ◌∙◌}
-use mathlib.Core.Bool.{Bool, true, false, ◌&&◌, not}
+use mathlib.Core.Bool.{Bool, true, false, ◌&&◌}
 use mathlib.Core.List.{List}
 use Prim.Native.Nat.{ℕ, zero, suc}
 use lib.Dec.{eqb}
 use lib.ListN.{length}
 use borrow.Author.Tests.{eqb-true, not-false}
-use Rattle.lists.specs.Choice.{first_of, when}
-use Rattle.lists.proofs.Cases.{and_left, and_right, when_zero}
+use Rattle.lists.proofs.Cases.{and_left, and_right}
 use Rattle.generator.specs.Records.{record_of, record_fault, header_of, judged}
 use Rattle.plan.specs.declared.Plan.{Plan}
 use Rattle.plan.specs.Plans.{plan_of, plan_for, PlanSays}

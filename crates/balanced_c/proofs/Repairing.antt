@@ -1,7 +1,7 @@
 -- From the answers of a repair's calls to what the functions of the C interface promise.
 use Rattle.std.specs.Prelude.{Ok, Err}
 use Rattle.generator.specs.Answers.{Answer, outcome_of}
-use mathlib.Core.Path.{◌≡◌, sym, ap, ◌∙◌}
+use mathlib.Core.Path.{◌≡◌, sym, ap}
 use mathlib.Core.List.{List}
 use Prim.Native.Nat.{ℕ}
 use lib.ListN.{length}

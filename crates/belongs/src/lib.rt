@@ -16,7 +16,7 @@ fn test_accepted(code: Code, lanes: usize, shares: &[u8]) -> Result<Option<u32>,
     ensures { BelongsPromise share_layout lanes shares.now (numbered result) code.header (belongs_fault code.header lanes shares.now) }
 {
     belongs_fault(code.header, lanes, shares)?;
-    let wrong = wrong_lanes::first_wrong(code.header, lanes, shares);
+    let wrong = wrong_lanes::first_wrong(code, lanes, shares);
     if wrong == lanes {
         return Ok(None);
     }

@@ -5,13 +5,13 @@ ghost use Rattle.lists.specs.Choice.{pick};
 ghost use Rattle.lists.specs.Numbers.{all_below};
 ghost use Rattle.lists.specs.Padded.{padded};
 ghost use Rattle.layout.specs.Width.{bytes_of};
-ghost use Rattle.generator.specs.Records.{size, width, Sound};
+ghost use Rattle.generator.specs.Records.{size, width};
 ghost use Rattle.generator.specs.Codewords.{is_word};
 ghost use Rattle.check_sums.specs.Inner.Powers.{powers_of};
 ghost use Rattle.check_sums.specs.Inner.Sums.{check_sums, power_bytes, power_rows};
 
 use crate::powers;
-use generator::Header;
+use generator::Code;
 
 // The place of the next power: (i + step) modulo n.
 pub fn stepped(i: usize, step: usize, n: usize) -> usize
@@ -34,10 +34,11 @@ fn byte_of(x: u16, last: bool) -> u8
 }
 
 // Byte v of the w bytes of node j's factors in check sums 1, 2, ..
-fn fill_row(h: Header, w: usize, v: usize, powers: &[u16], j: usize, row: &mut [u8])
-    requires { Sound h × (w ≡ width h) × (v < w) × (powers.now ≡ padded 255 (powers_of h)) × (j < h.n) }
-    ensures { row.new ≡ power_bytes h (length row.old) w v j }
+fn fill_row(code: Code, w: usize, v: usize, powers: &[u16], j: usize, row: &mut [u8])
+    requires { (w ≡ width code.header) × (v < w) × (powers.now ≡ padded 255 (powers_of code.header)) × (j < code.header.n) }
+    ensures { row.new ≡ power_bytes code.header (length row.old) w v j }
 {
+    let h = code.header;
     let n = h.n as usize;
     let last = v + 1 == w;
     let mut i = j;
@@ -48,26 +49,28 @@ fn fill_row(h: Header, w: usize, v: usize, powers: &[u16], j: usize, row: &mut [
 }
 
 // The rows of all nodes.
-pub fn fill_power_rows(h: Header, rows: &mut [u8])
-    requires { Sound h × (length rows.old ≡ width h * h.n * (h.n - h.k)) }
-    ensures { rows.new ≡ power_rows h }
+pub fn fill_power_rows(code: Code, rows: &mut [u8])
+    requires { length rows.old ≡ width code.header * code.header.n * (code.header.n - code.header.k) }
+    ensures { rows.new ≡ power_rows code.header }
 {
+    let h = code.header;
     let w = symbols::width_of(h);
     let count = w * h.n as usize;
     let checks = (h.n - h.k) as usize;
-    let table = powers::powers(h);
+    let table = powers::powers(code);
     for i in 0..count {
         let start = i * checks;
         let end = start + checks;
-        fill_row(h, w, i % w, &table, i / w, &mut rows[start..end]);
+        fill_row(code, w, i % w, &table, i / w, &mut rows[start..end]);
     }
 }
 
 // The check sums of a lane, from the rows of powers.
-fn fill_sums(h: Header, rows: &[u8], lane: &[u16], sums: &mut [u8])
-    requires { Sound h × (rows.now ≡ power_rows h) × (length lane.now ≡ h.n) × (all_below (size h) lane.now ≡ true) × (length sums.old ≡ width h * (h.n - h.k)) }
-    ensures { sums.new ≡ bytes_of (width h) (check_sums h lane.now) }
+fn fill_sums(code: Code, rows: &[u8], lane: &[u16], sums: &mut [u8])
+    requires { (rows.now ≡ power_rows code.header) × (length lane.now ≡ code.header.n) × (all_below (size code.header) lane.now ≡ true) × (length sums.old ≡ width code.header * (code.header.n - code.header.k)) }
+    ensures { sums.new ≡ bytes_of (width code.header) (check_sums code.header lane.now) }
 {
+    let h = code.header;
     let field = h.field;
     let n = h.n as usize;
     let checks = (h.n - h.k) as usize;
@@ -75,14 +78,15 @@ fn fill_sums(h: Header, rows: &[u8], lane: &[u16], sums: &mut [u8])
 }
 
 // The check sums of a lane, from the rows of powers, and zeros after them.
-pub fn sums_with(h: Header, rows: &[u8], lane: &[u16]) -> [u16; 255]
-    requires { Sound h × (rows.now ≡ power_rows h) × (length lane.now ≡ h.n) × (all_below (size h) lane.now ≡ true) }
-    ensures { result ≡ padded 255 (check_sums h lane.now) }
+pub fn sums_with(code: Code, rows: &[u8], lane: &[u16]) -> [u16; 255]
+    requires { (rows.now ≡ power_rows code.header) × (length lane.now ≡ code.header.n) × (all_below (size code.header) lane.now ≡ true) }
+    ensures { result ≡ padded 255 (check_sums code.header lane.now) }
 {
+    let h = code.header;
     let w = symbols::width_of(h);
     let size = w * (h.n - h.k) as usize;
     let mut sums = [0u8; 510];
-    fill_sums(h, rows, lane, &mut sums[..size]);
+    fill_sums(code, rows, lane, &mut sums[..size]);
     symbols::read_symbols(w, &sums[..size])
 }
 
@@ -94,15 +98,16 @@ pub fn room() -> [u8; 130050]
 }
 
 // The check sums of a lane, and zeros after them.
-pub fn sums(h: Header, lane: &[u16]) -> [u16; 255]
-    requires { Sound h × (length lane.now ≡ h.n) × (all_below (size h) lane.now ≡ true) }
-    ensures { result ≡ padded 255 (check_sums h lane.now) }
+pub fn sums(code: Code, lane: &[u16]) -> [u16; 255]
+    requires { (length lane.now ≡ code.header.n) × (all_below (size code.header) lane.now ≡ true) }
+    ensures { result ≡ padded 255 (check_sums code.header lane.now) }
 {
+    let h = code.header;
     let w = symbols::width_of(h);
     let size = w * h.n as usize * (h.n - h.k) as usize;
     let mut rows = room();
-    fill_power_rows(h, &mut rows[..size]);
-    sums_with(h, &rows[..size], lane)
+    fill_power_rows(code, &mut rows[..size]);
+    sums_with(code, &rows[..size], lane)
 }
 
 // Whether every sum is 0.
@@ -118,21 +123,23 @@ pub fn all_zero(sums: &[u16]) -> bool
 }
 
 // Whether a lane is a word of the code, from the rows of powers.
-pub fn is_word_with(h: Header, rows: &[u8], lane: &[u16]) -> bool
-    requires { Sound h × (rows.now ≡ power_rows h) × (length lane.now ≡ h.n) × (all_below (size h) lane.now ≡ true) }
-    ensures { result ≡ is_word h lane.now }
+pub fn is_word_with(code: Code, rows: &[u8], lane: &[u16]) -> bool
+    requires { (rows.now ≡ power_rows code.header) × (length lane.now ≡ code.header.n) × (all_below (size code.header) lane.now ≡ true) }
+    ensures { result ≡ is_word code.header lane.now }
 {
+    let h = code.header;
     let checks = (h.n - h.k) as usize;
-    let found = sums_with(h, rows, lane);
+    let found = sums_with(code, rows, lane);
     all_zero(&found[..checks])
 }
 
 // Whether a lane is a word of the code.
-pub fn is_word(h: Header, lane: &[u16]) -> bool
-    requires { Sound h × (length lane.now ≡ h.n) × (all_below (size h) lane.now ≡ true) }
-    ensures { result ≡ is_word h lane.now }
+pub fn is_word(code: Code, lane: &[u16]) -> bool
+    requires { (length lane.now ≡ code.header.n) × (all_below (size code.header) lane.now ≡ true) }
+    ensures { result ≡ is_word code.header lane.now }
 {
+    let h = code.header;
     let checks = (h.n - h.k) as usize;
-    let found = sums(h, lane);
+    let found = sums(code, lane);
     all_zero(&found[..checks])
 }

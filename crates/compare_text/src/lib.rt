@@ -40,10 +40,10 @@ fn write_comparison(writer: &mut Writer, code: Code)
 {
     let h = code.header;
     let writes = distance_of(h);
-    let high = high_reads(h);
+    let high = high_reads(code);
     writer.line("compare", &[h.n, h.k]);
     write_cost(writer, "plain writes", writes, &[1, plain_greatest(h)]);
-    write_cost(writer, "balanced writes", writes, &[low_reads(h), high]);
+    write_cost(writer, "balanced writes", writes, &[low_reads(code), high]);
     write_cost(writer, "bound writes", writes, &[high]);
 }
 

@@ -1,16 +1,16 @@
 -- One lane of bytes as symbols: how many bytes it has, and its symbols in an array.
 use mathlib.Core.Path.{◌≡◌, sym, ap, ◌∙◌}
-use mathlib.Core.Bool.{true}
+use Rattle.std.specs.Prelude.{Option, Some, None, MatchOption, is_some}
+use mathlib.Core.Bool.{true, false}
 use mathlib.Core.List.{List}
 use Prim.Native.Nat.{ℕ, ◌*◌, ◌^◌, ◌≤◌}
 use native.Mathlib.Nat.{mul_comm, mul-le-mul, le_refl}
-use native.Mathlib.Omega.{arith}
 use lib.ListN.{length, take}
 use Rattle.lists.specs.Counting.{differ}
 use Rattle.lists.specs.Numbers.{all_below}
 use Rattle.lists.specs.Padded.{padded}
 use Rattle.lists.proofs.Differ.{differ_same}
-use Rattle.lists.proofs.Padding.{length_padded, take_padded}
+use Rattle.lists.proofs.Padding.{take_padded}
 use Rattle.layout.specs.Width.{symbols_of, bytes_of}
 use Rattle.layout.proofs.Readings.{bytes_symbols}
 use Rattle.generator.specs.declared.Header.{Header}
@@ -18,7 +18,8 @@ use Rattle.generator.specs.Records.{width}
 use Rattle.generator.proofs.Widths.{width_some}
 use Rattle.symbols.proofs.Fits.{symbols_fit}
 use Rattle.nearest_word.specs.Nearest.{has_near, corrected}
-use Rattle.nearest_word.proofs.Corrected.{word_near, word_stays, corrected_long, corrected_below}
+use Rattle.nearest_word.proofs.Corrected.{word_near, word_stays, corrected_far, corrected_long, corrected_below}
+use Rattle.decode.specs.declared.Corrected.{Corrected}
 use Rattle.correct.specs.Inner.Marked.{MarkedLane}
 
 module _ {h : Header} {mark : ℕ} {lane : List ℕ} (m : MarkedLane h mark lane) where
@@ -40,9 +41,6 @@ module _ {h : Header} {mark : ℕ} {lane : List ℕ} (m : MarkedLane h mark lane
   pub word_front : (word : List ℕ) → word ≡ padded 255 (corrected h ws) → take h.n word ≡ corrected h ws
   word_front word is = rw is (take_padded 255 h.n (corrected h ws) (corrected_long h m.symbols.sound ws m.symbols.long m.symbols.below))
 
-  pub word_room : h.n ≤ 255 → (word : List ℕ) → word ≡ padded 255 (corrected h ws) → h.n ≤ length word
-  word_room few word is = let long = corrected_long h m.symbols.sound ws m.symbols.long m.symbols.below in rw is (omega (arith, length_padded 255 (corrected h ws) (omega arith)))
-
   pub word_fits : all_below (256 ^ w) (corrected h ws) ≡ true
   word_fits = symbols_fit h m.symbols.sound (corrected h ws) (corrected_below h m.symbols.sound ws m.symbols.long m.symbols.below)
 
@@ -56,8 +54,19 @@ module _ {h : Header} {mark : ℕ} {lane : List ℕ} (m : MarkedLane h mark lane
   pub marked_stays : mark ≡ 0 → corrected h ws ≡ ws
   marked_stays e = word_stays h m.symbols.sound ws m.symbols.long m.symbols.below (m.word e)
 
-  pub marked_count : mark ≡ 0 → differ ws (corrected h ws) ≡ 0
-  marked_count e = ap (differ ws) (marked_stays e) ∙ differ_same ws
+  -- so does a lane that has none
+  pub far_stays : has_near h ws ≡ false → corrected h ws ≡ ws
+  far_stays far = corrected_far h ws far
 
-  pub marked_bytes : mark ≡ 0 → all_below 256 lane ≡ true → bytes_of w (corrected h ws) ≡ lane
-  marked_bytes e low = ap (bytes_of w) (marked_stays e) ∙ bytes_symbols w h.n lane (width_some h) (m.bytes ∙ mul_comm w h.n) low
+  -- where the symbols stay, the bytes do
+  module _ (stays : corrected h ws ≡ ws) where
+    pub stays_count : differ ws (corrected h ws) ≡ 0
+    stays_count = ap (differ ws) stays ∙ differ_same ws
+
+    pub stays_bytes : all_below 256 lane ≡ true → bytes_of w (corrected h ws) ≡ lane
+    stays_bytes low = ap (bytes_of w) stays ∙ bytes_symbols w h.n lane (width_some h) (m.bytes ∙ mul_comm w h.n) low
+
+-- whether a decoded lane has a word near enough
+pub found_near : (h : Header) (s : List ℕ) (found : Option Corrected) → MatchOption found (has_near h s ≡ false) (λ x. (has_near h s ≡ true) × (x.lane ≡ padded 255 (corrected h s)) × (x.altered ≡ differ s (corrected h s))) → is_some found ≡ has_near h s
+found_near h s None far = sym far
+found_near h s (Some x) is = sym is.0

@@ -1,5 +1,5 @@
-// One lane of the shares as bytes. A lane that is marked 0 is a word of the code, and is not decoded.
-ghost use Rattle.std.specs.Prelude.{◌≡◌};
+// The lanes of a block as bytes, and their marks. A lane that is marked 0 is a word of the code, and is not decoded.
+ghost use Rattle.std.specs.Prelude.{◌≡◌, ◌<◌, length, get_or};
 ghost use Rattle.lists.specs.Counting.{differ};
 ghost use Rattle.layout.specs.Width.{symbols_of, bytes_of};
 ghost use Rattle.generator.specs.Records.{width};
@@ -7,37 +7,50 @@ ghost use Rattle.check_sums.specs.Inner.Sums.{power_rows};
 ghost use Rattle.nearest_word.specs.Nearest.{has_near, corrected};
 ghost use Rattle.correct.specs.Inner.Marked.{MarkedLane};
 
-use generator::Header;
+use generator::Code;
 
-// Whether a word is near enough.
-pub fn is_near(h: Header, rows: &[u8], mark: u8, lane: &[u8]) -> bool
-    requires { MarkedLane h mark lane.now × (rows.now ≡ power_rows h) }
-    ensures { result ≡ has_near h (symbols_of (width h) lane.now) }
-{
-    if mark == 0 {
-        return true;
-    }
-    let n = h.n as usize;
-    let w = symbols::width_of(h);
-    let held = symbols::read_symbols(w, lane);
-    let found = decode::correct_lane(h, rows, &held[..n]);
-    found.near
+// A mark for each lane, and the rows of powers by which lanes are decoded.
+#[derive(Clone, Copy)]
+pub struct Marked<'a> {
+    pub code: Code,
+    pub rows: &'a [u8],
+    pub marks: &'a [u8],
+    pub ghost powers: { rows.now ≡ power_rows code.header },
 }
 
-// Writes the word that is near enough, where there is one, and gives the number of symbols altered.
-pub fn write_nearest(h: Header, rows: &[u8], mark: u8, lane: &mut [u8]) -> u32
-    requires { MarkedLane h mark lane.old × (rows.now ≡ power_rows h) }
-    ensures { (lane.new ≡ bytes_of (width h) (corrected h (symbols_of (width h) lane.old))) × (result ≡ differ (symbols_of (width h) lane.old) (corrected h (symbols_of (width h) lane.old))) }
-{
-    if mark == 0 {
-        return 0;
+impl Marked<'_> {
+    // Whether a word is near enough to lane t.
+    pub fn is_near(self, t: usize, lane: &[u8]) -> bool
+        requires { (t < length self.marks.now) × MarkedLane self.code.header (get_or self.marks.now t 0) lane.now }
+        ensures { let h = self.entry.code.header in result ≡ has_near h (symbols_of (width h) lane.now) }
+    {
+        if self.marks[t] == 0 {
+            return true;
+        }
+        let h = self.code.header;
+        let n = h.n as usize;
+        let held = symbols::read_symbols(symbols::width_of(h), lane);
+        decode::correct_lane(self.code, self.rows, &held[..n]).is_some()
     }
-    let n = h.n as usize;
-    let w = symbols::width_of(h);
-    let held = symbols::read_symbols(w, lane);
-    let found = decode::correct_lane(h, rows, &held[..n]);
-    let word = found.lane;
-    let altered = found.altered;
-    symbols::write_symbols(w, &word[..n], lane);
-    altered as u32
+
+    // Writes the word that is near enough to lane t, where there is one, and gives the number of symbols altered.
+    pub fn write_nearest(self, t: usize, lane: &mut [u8]) -> u32
+        requires { (t < length self.marks.now) × MarkedLane self.code.header (get_or self.marks.now t 0) lane.old }
+        ensures { let h = self.entry.code.header in let ws = symbols_of (width h) lane.old in (lane.new ≡ bytes_of (width h) (corrected h ws)) × (result ≡ differ ws (corrected h ws)) }
+    {
+        if self.marks[t] == 0 {
+            return 0;
+        }
+        let h = self.code.header;
+        let n = h.n as usize;
+        let w = symbols::width_of(h);
+        let held = symbols::read_symbols(w, lane);
+        match decode::correct_lane(self.code, self.rows, &held[..n]) {
+            None => 0,
+            Some(found) => {
+                symbols::write_symbols(w, &found.lane[..n], lane);
+                found.altered as u32
+            }
+        }
+    }
 }

@@ -1,104 +1,101 @@
 // Setting a block right: each lane becomes the word of the code that differs from it at no more than (n - k) / 2 nodes.
 #![tactic(auto)]
 
-ghost use Rattle.std.specs.Prelude.{◌≡◌};
+ghost use Rattle.std.specs.Prelude.{◌≡◌, length};
 ghost use Rattle.lists.specs.Choice.{when};
 ghost use Rattle.layout.specs.Layout.{share_layout};
 ghost use Rattle.layout.specs.Width.{symbols_of};
 ghost use Rattle.generator.specs.Records.{width};
 ghost use Rattle.generator.specs.Answers.{numbered};
 ghost use Rattle.refusals.specs.Accepted.{SymbolBuffer};
-ghost use Rattle.check_sums.specs.Inner.Sums.{power_rows};
 ghost use Rattle.correct.specs.Blocks.{first_far, corrected_bytes, corrected_count, far_bad};
 ghost use Rattle.correct.specs.Promise.{correct_fault, CorrectPromise, CorrectSays};
 ghost use Rattle.correct.specs.Inner.Marked.{MarkedShares};
 
-use generator::{Code, Header, Refusal};
+use generator::{Code, Refusal};
 
 mod lane;
 
-use lane::{is_near, write_nearest};
+use lane::Marked;
 
-// The smallest lane that no word is near enough to, or the number of lanes.
-fn first_far(h: Header, rows: &[u8], lanes: usize, marks: &[u8], shares: &[u8]) -> usize
-    requires { MarkedShares h lanes marks.now shares.now × (rows.now ≡ power_rows h) }
-    ensures { result ≡ first_far share_layout h lanes (symbols_of (width h) shares.now) }
-{
-    let n = h.n as usize;
-    let size = symbols::width_of(h) * n;
-    for t in 0..lanes {
-        let start = t * size;
-        let end = start + size;
-        if !is_near(h, rows, marks[t], &shares[start..end]) {
-            return t;
+impl Marked<'_> {
+    // The smallest lane that no word is near enough to, or the number of lanes.
+    fn first_far(self, shares: &[u8]) -> usize
+        requires { MarkedShares self.code.header (length self.marks.now) self.marks.now shares.now }
+        ensures { result ≡ first_far share_layout self.entry.code.header (length self.entry.marks.now) (symbols_of (width self.entry.code.header) shares.now) }
+    {
+        let h = self.code.header;
+        let size = symbols::width_of(h) * h.n as usize;
+        for t in 0..self.marks.len() {
+            let start = t * size;
+            let end = start + size;
+            if !self.is_near(t, &shares[start..end]) {
+                return t;
+            }
         }
+        self.marks.len()
     }
-    lanes
-}
 
-// Sets every lane right, and gives the number of symbols altered.
-fn correct_lanes(h: Header, rows: &[u8], lanes: usize, marks: &[u8], shares: &mut [u8]) -> u32
-    requires { MarkedShares h lanes marks.now shares.old × (rows.now ≡ power_rows h) }
-    ensures { (shares.new ≡ corrected_bytes share_layout h lanes shares.old) × (result ≡ corrected_count share_layout h lanes shares.old) }
-{
-    let n = h.n as usize;
-    let size = symbols::width_of(h) * n;
-    let mut count: u32 = 0;
-    for t in 0..lanes {
-        let start = t * size;
-        let end = start + size;
-        count += write_nearest(h, rows, marks[t], &mut shares[start..end]);
+    // Sets every lane right, and gives the number of symbols altered.
+    fn correct_lanes(self, shares: &mut [u8]) -> u32
+        requires { MarkedShares self.code.header (length self.marks.now) self.marks.now shares.old }
+        ensures { let h = self.entry.code.header in let l = length self.entry.marks.now in (shares.new ≡ corrected_bytes share_layout h l shares.old) × (result ≡ corrected_count share_layout h l shares.old) }
+    {
+        let h = self.code.header;
+        let size = symbols::width_of(h) * h.n as usize;
+        let mut count: u32 = 0;
+        for t in 0..self.marks.len() {
+            let start = t * size;
+            let end = start + size;
+            count += self.write_nearest(t, &mut shares[start..end]);
+        }
+        count
     }
-    count
+
+    // Sets the lanes right if each has a word near enough; the last lane is judged before the first byte is written.
+    fn correct(self, shares: &mut [u8]) -> Result<u32, Refusal>
+        requires { MarkedShares self.code.header (length self.marks.now) self.marks.now shares.old }
+        ensures { let h = self.entry.code.header in let l = length self.entry.marks.now in CorrectPromise share_layout l shares.old shares.new (numbered result) h (when (far_bad share_layout h l shares.old) 14) }
+    {
+        let far = self.first_far(shares);
+        Refusal::Far.when(far < self.marks.len())?;
+        Ok(self.correct_lanes(shares))
+    }
 }
 
-// Sets the lanes right if each has a word near enough; the last lane is judged before the first byte is written.
-fn correct_marked(
-    h: Header,
-    rows: &[u8],
-    lanes: usize,
-    marks: &[u8],
-    shares: &mut [u8],
-) -> Result<u32, Refusal>
-    requires { MarkedShares h lanes marks.now shares.old × (rows.now ≡ power_rows h) }
-    ensures { CorrectPromise share_layout lanes shares.old shares.new (numbered result) h (when (far_bad share_layout h lanes shares.old) 14) }
+// Sets the lanes right, with the rows of powers made here.
+fn correct_wrong(code: Code, marks: &[u8], shares: &mut [u8]) -> Result<u32, Refusal>
+    requires { MarkedShares code.header (length marks.now) marks.now shares.old }
+    ensures { CorrectPromise share_layout (length marks.now) shares.old shares.new (numbered result) code.header (when (far_bad share_layout code.header (length marks.now) shares.old) 14) }
 {
-    let far = first_far(h, rows, lanes, marks, shares);
-    Refusal::Far.when(far < lanes)?;
-    Ok(correct_lanes(h, rows, lanes, marks, shares))
-}
-
-// The same with the rows of powers made here.
-fn correct_wrong(h: Header, lanes: usize, marks: &[u8], shares: &mut [u8]) -> Result<u32, Refusal>
-    requires { MarkedShares h lanes marks.now shares.old }
-    ensures { CorrectPromise share_layout lanes shares.old shares.new (numbered result) h (when (far_bad share_layout h lanes shares.old) 14) }
-{
-    let w = symbols::width_of(h);
-    let size = w * h.n as usize * (h.n - h.k) as usize;
-    let mut rows = check_sums::lane::room();
-    check_sums::lane::fill_power_rows(h, &mut rows[..size]);
-    correct_marked(h, &rows[..size], lanes, marks, shares)
+    let h = code.header;
+    let size = symbols::width_of(h) * h.n as usize * (h.n - h.k) as usize;
+    let mut room = check_sums::lane::room();
+    let rows = &mut room[..size];
+    check_sums::lane::fill_power_rows(code, rows);
+    Marked { code, rows, marks }.correct(shares)
 }
 
 // The same, but for shares with no lane marked, which stay as they are: nothing is made for them.
-fn correct_any(h: Header, lanes: usize, marks: &[u8], shares: &mut [u8]) -> Result<u32, Refusal>
-    requires { MarkedShares h lanes marks.now shares.old }
-    ensures { CorrectPromise share_layout lanes shares.old shares.new (numbered result) h (when (far_bad share_layout h lanes shares.old) 14) }
+fn correct_any(code: Code, marks: &[u8], shares: &mut [u8]) -> Result<u32, Refusal>
+    requires { MarkedShares code.header (length marks.now) marks.now shares.old }
+    ensures { CorrectPromise share_layout (length marks.now) shares.old shares.new (numbered result) code.header (when (far_bad share_layout code.header (length marks.now) shares.old) 14) }
 {
-    if wrong_lanes::first_nonzero(lanes, marks) == lanes {
+    if wrong_lanes::first_nonzero(marks.len(), marks) == marks.len() {
         return Ok(0);
     }
-    correct_wrong(h, lanes, marks, shares)
+    correct_wrong(code, marks, shares)
 }
 
 // The same for shares of symbols: the lanes that are no word of the code are marked, all at once.
-fn correct_symbols(h: Header, lanes: usize, shares: &mut [u8]) -> Result<u32, Refusal>
-    requires { SymbolBuffer h h.n lanes shares.old }
-    ensures { CorrectPromise share_layout lanes shares.old shares.new (numbered result) h (when (far_bad share_layout h lanes shares.old) 14) }
+fn correct_symbols(code: Code, lanes: usize, shares: &mut [u8]) -> Result<u32, Refusal>
+    requires { SymbolBuffer code.header code.header.n lanes shares.old }
+    ensures { CorrectPromise share_layout lanes shares.old shares.new (numbered result) code.header (when (far_bad share_layout code.header lanes shares.old) 14) }
 {
-    let mut marks = [0u8; 4096];
-    wrong_lanes::marks::mark_lanes(h, lanes, shares, &mut marks[..lanes]);
-    correct_any(h, lanes, &marks[..lanes], shares)
+    let mut room = [0u8; 4096];
+    let marks = &mut room[..lanes];
+    wrong_lanes::marks::mark_lanes(code, lanes, shares, marks);
+    correct_any(code, marks, shares)
 }
 
 // Sets a block right over a code.
@@ -106,7 +103,7 @@ fn correct_accepted(code: Code, lanes: usize, shares: &mut [u8]) -> Result<u32, 
     ensures { CorrectPromise share_layout lanes shares.old shares.new (numbered result) code.header (correct_fault share_layout code.header lanes shares.old) }
 {
     belongs::belongs_fault(code.header, lanes, shares)?;
-    correct_symbols(code.header, lanes, shares)
+    correct_symbols(code, lanes, shares)
 }
 
 // Replaces each lane by the word of the code that differs from it at no more than (n - k) / 2 nodes and gives how many symbols it altered, or gives what turns the call away and writes nothing.

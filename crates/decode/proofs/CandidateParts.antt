@@ -1,5 +1,5 @@
 -- The parts of arrays that the candidate is made of: the listed nodes, as many check sums, the errors; and that it is what every near word must be.
-use mathlib.Core.Path.{◌≡◌, refl, sym, ap₂, ◌∙◌}
+use mathlib.Core.Path.{◌≡◌, refl, sym, ◌∙◌}
 use mathlib.Core.Bool.{true}
 use mathlib.Core.List.{List}
 use Prim.Native.Nat.{ℕ, ◌+◌, ◌-◌, ◌≤◌}
@@ -11,7 +11,7 @@ use Rattle.lists.specs.Padded.{padded}
 use Rattle.lists.specs.Rows.{from}
 use Rattle.lists.proofs.Numbers.{below_take, at_below}
 use Rattle.lists.proofs.Rows.{get_or_from, length_from}
-use Rattle.lists.proofs.Padding.{length_padded, take_padded, below_padded}
+use Rattle.lists.proofs.Padding.{length_padded, below_padded}
 use Rattle.field.proofs.FieldOf.{size_pos}
 use Rattle.generator.specs.declared.Header.{Header}
 use Rattle.generator.specs.Records.{modulus_of, size, Sound}
@@ -43,23 +43,21 @@ sums_below h s ws b =
     at_below (size h) (from f 1 (h.n - h.k))
     (λ i l. rw (get_or_from f 1 (h.n - h.k) i 0 (omega (arith, length_from f 1 (h.n - h.k)))) (check_from_below h s (1 + i) 0 ws b))
 
--- the listed nodes js, the errors es there, and what is known of the parts of the arrays that hold them
-pub record CandidateParts (h : Header) (ws sums nodes : List ℕ) (count : ℕ) : Type 0 where
-  pub js : List ℕ
-  pub es : List ℕ
-  pub count_few : count ≤ 255
-  pub counted : count ≡ length js
-  pub nodes_long : length nodes ≡ 255
-  pub nodes_part : take count nodes ≡ js
-  pub nodes_low : all_below (length ws) js ≡ true
+-- the errors at the listed nodes
+abbrev pub errors_at : Header → List ℕ → List ℕ → List ℕ
+errors_at h nodes sums = errors_of (modulus_of h) (points_of (modulus_of h) h.root 0 nodes) (take (length nodes) sums)
+
+-- what is known of the listed nodes, the check sums, and the errors
+pub record CandidateParts (h : Header) (ws sums nodes : List ℕ) : Type 0 where
+  pub few : length nodes ≤ 255
+  pub nodes_low : all_below (length ws) nodes ≡ true
   pub sums_long : length sums ≡ 255
-  pub terms_long : length (take count sums) ≡ count
-  pub terms_symbols : SymbolList h.field (take count sums)
-  pub lane_symbols : SymbolList h.field ws
-  pub errors_are : padded 255 (errors_of (modulus_of h) (points_of (modulus_of h) h.root 0 (take count nodes)) (take count sums)) ≡ padded 255 es
-  pub errors_count : length es ≡ count
-  pub errors_symbols : SymbolList h.field es
-  pub candidate : (array : List ℕ) → array ≡ padded 255 (removed (modulus_of h) js es ws) → Candidate h ws array
+  pub terms_long : length (take (length nodes) sums) ≡ length nodes
+  pub terms_symbols : SymbolList (modulus_of h) (take (length nodes) sums)
+  pub lane_symbols : SymbolList (modulus_of h) ws
+  pub errors_count : length (errors_at h nodes sums) ≡ length nodes
+  pub errors_symbols : SymbolList (modulus_of h) (errors_at h nodes sums)
+  pub candidate : (array : List ℕ) → array ≡ padded 255 (removed (modulus_of h) nodes (errors_at h nodes sums) ws) → Candidate h ws array
 
 module _ (h : Header) (ws : List ℕ) (lane : SoundLane h ws) (sums : List ℕ) (sums_are : sums ≡ padded 255 (check_sums h ws)) where
   abbrev p : ℕ
@@ -72,7 +70,7 @@ module _ (h : Header) (ws : List ℕ) (lane : SoundLane h ws) (sums : List ℕ) 
   pub sums_symbols : Below (size h) sums
   sums_symbols = below_everywhere (size h) sums (size_pos p lane.sound.field) array_below
 
-  module _ (nodes : List ℕ) (count : ℕ) (w : WrongNodes h sums nodes count) where
+  module _ (nodes : List ℕ) (w : WrongNodes h sums nodes) where
     abbrev front : List ℕ
     front = take (radius h + 1) w.locator
 
@@ -83,26 +81,23 @@ module _ (h : Header) (ws : List ℕ) (lane : SoundLane h ws) (sums : List ℕ) 
     points = points_of p h.root 0 roots
 
     abbrev errors : List ℕ
-    errors = errors_of p points (take (length roots) sums)
+    errors = errors_at h roots sums
 
     long_sums : length sums ≡ 255
     long_sums = rw sums_are (length_padded 255 (check_sums h ws) (omega (arith, length_sums h ws, w.few)))
 
-    few : count ≤ 255
-    few = omega (arith, w.counted, few_roots p h.root h.n front, w.few)
+    few_nodes : length roots ≤ 255
+    few_nodes = omega (arith, few_roots p h.root h.n front, w.few)
 
-    part : take count nodes ≡ roots
-    part = rw w.listed (take_padded 255 count roots (sym w.counted))
-
-    long_terms : length (take count sums) ≡ count
-    long_terms = length-take-le count sums (omega (arith, long_sums, few))
+    long_terms : length (take (length roots) sums) ≡ length roots
+    long_terms = length-take-le (length roots) sums (omega (arith, long_sums, few_nodes))
 
     -- the points are symbols, and so are the parts of their basis and the errors
-    points_are : SymbolList h.field points
-    points_are = points_symbols h.root 0 roots lane.sound.usable_field lane.sound.root_below (omega (arith, w.counted, few))
+    points_are : SymbolList (modulus_of h) points
+    points_are = points_symbols p h.root 0 roots lane.sound.field lane.sound.root_below few_nodes
 
-    basis : Parts h.field (length roots) points (basis_of p points)
-    basis = parts h.field (length roots) points _ (record { are = points_are; size = length_points p h.root 0 roots }) refl
+    basis : Parts p (length roots) points (basis_of p points)
+    basis = parts p lane.sound.field (length roots) points _ (record { are = points_are; size = length_points p h.root 0 roots }) refl
 
     long_errors : length errors ≡ length roots
     long_errors = length_es h lane.sound ws lane.long lane.below sums w.locator w.few sums_are long_sums sums_symbols w.locates
@@ -113,23 +108,18 @@ module _ (h : Header) (ws : List ℕ) (lane : SoundLane h ws) (sums : List ℕ) 
         errors_from_below p lane.sound.field (drop 1 (product_of p points)) (take (length roots) sums) basis.some_product.are.below (below_take (size h) (length roots) sums array_below)
         points (scales_of p points) (basis.some_scales.size ∙ sym (length_points p h.root 0 roots)) points_are.below basis.some_scales.are.below
 
-    pub candidate_parts : CandidateParts h ws sums nodes count
+    pub candidate_parts : CandidateParts h ws sums nodes
     candidate_parts =
+        rw w.listed
         record {
-          js = roots;
-          es = errors;
-          count_few = few;
-          counted = w.counted;
-          nodes_long = rw w.listed (length_padded 255 roots (omega (arith, w.counted, few)));
-          nodes_part = part;
+          few = few_nodes;
           nodes_low = rw lane.long (roots_low p h.root h.n front);
           sums_long = long_sums;
           terms_long = long_terms;
-          terms_symbols = record { usable_field = lane.sound.usable_field; below = below_take (size h) count sums array_below; short = omega (arith, long_terms, few) };
-          lane_symbols = record { usable_field = lane.sound.usable_field; below = lane.below; short = omega (arith, lane.long, w.few) };
-          errors_are = ap₂ (λ (l : List ℕ) (c : ℕ). padded 255 (errors_of p (points_of p h.root 0 l) (take c sums))) part w.counted;
-          errors_count = long_errors ∙ sym w.counted;
-          errors_symbols = record { usable_field = lane.sound.usable_field; below = errors_below; short = omega (arith, long_errors, w.counted, few) };
+          terms_symbols = record { below = below_take (size h) (length roots) sums array_below; short = omega (arith, long_terms, few_nodes) };
+          lane_symbols = record { below = lane.below; short = omega (arith, lane.long, w.few) };
+          errors_count = long_errors;
+          errors_symbols = record { below = errors_below; short = omega (arith, long_errors, few_nodes) };
           candidate = λ array is.
               record {
                 word = removed p roots errors ws;

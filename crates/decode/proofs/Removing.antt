@@ -1,14 +1,15 @@
 -- A lane less the errors at some nodes: one node after the other, and what it holds at each.
 use mathlib.Core.Path.{◌≡◌, refl, sym, ap, ◌∙◌}
 use mathlib.Core.Bool.{true}
-use mathlib.Core.List.{List, [], ◌∷◌}
+use mathlib.Core.List.{List, [], ◌∷◌, ◌++◌}
 use Prim.Native.Nat.{ℕ, zero, suc, ◌+◌, ◌≤◌, ◌<◌}
 use native.Mathlib.Omega.{arith}
-use lib.ListN.{length, get_or, set, drop, length-set, drop_of_length-le}
+use lib.ListN.{length, get_or, set, drop, replicate, length-set, drop_of_length-le}
 use lib.Seq.{get_or-set_same, get_or-set_other, set-append_left}
 use Rattle.lists.specs.Numbers.{all_below}
 use Rattle.lists.specs.Padded.{padded, zeros}
 use Rattle.lists.proofs.All.{All, All-at, Distinct}
+use Rattle.lists.proofs.Fill.{drop_zeros}
 use Rattle.lists.proofs.Front.{drop_next}
 use Rattle.lists.proofs.Numbers.{below_cons, below_get_or, below_set}
 use Rattle.lists.proofs.Padding.{get_or_padded}
@@ -21,6 +22,11 @@ use Rattle.decode.specs.Inner.Errors.{removed}
 set_padded : (n : ℕ) (ws : List ℕ) (j x : ℕ) → j < length ws → set (padded n ws) j x ≡ padded n (set ws j x)
 unfolding padded
 set_padded n ws j x low = rw (length-set ws j x) (set-append_left ws (zeros _) j x low)
+
+-- a list that is copied into zeros
+pub copied_is : (n : ℕ) (ws : List ℕ) → ws ++ drop (length ws) (replicate n 0) ≡ padded n ws
+unfolding zeros padded
+copied_is n ws = ap (λ (l : List ℕ). ws ++ l) (drop_zeros (length ws) n)
 
 module _ (p : ℕ) where
   -- one node more

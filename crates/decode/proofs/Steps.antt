@@ -13,7 +13,7 @@ use Rattle.lists.proofs.Padding.{get_or_zeros}
 use Rattle.algebra.proofs.Poly.{scale}
 use Rattle.field.specs.Fields.{is_field, size_of, mul, inverse}
 use Rattle.field.specs.Symbols.{Symbol}
-use Rattle.field.proofs.Symbols.{symbol_below, symbol_path}
+use Rattle.field.proofs.Symbols.{symbol_path}
 use Rattle.nearest_word.proofs.Recurrence.{discrepancy}
 use Rattle.nearest_word.proofs.Massey.{Locator, Now, Past, State, After, amend, kept, mended, grown, chosen_locates}
 use Rattle.decode.specs.Inner.Locating.{Below, partial, amended_at, Locates}
@@ -52,9 +52,6 @@ module _ (p : ℕ) (field : is_field p ≡ true) (s : List ℕ) where
 
     discrepancy_number : partial p w s q (l + 1) ≡ δ.0
     discrepancy_number = partial_discrepancy p field w s h.now_list h.holds_now b q (l + 1) (omega (arith, h.now.short))
-
-    pub discrepancy_below : partial p w s q (l + 1) < size_of p
-    discrepancy_below = rw discrepancy_number (symbol_below (size_of p) δ)
 
     pub held_kept : partial p w s q (l + 1) ≡ 0 → Held w v l (q + 1)
     held_kept z =

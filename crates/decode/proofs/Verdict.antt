@@ -7,17 +7,12 @@ use borrow.Author.Tests.{le-leb, lt-leb}
 use lib.Dec.{leb}
 use Rattle.lists.specs.Counting.{differ}
 use Rattle.lists.specs.Padded.{padded}
-use Rattle.lists.proofs.Differ.{differ_same}
 use Rattle.generator.specs.declared.Header.{Header}
 use Rattle.generator.specs.Codewords.{is_word}
 use Rattle.nearest_word.specs.Nearest.{radius, is_near, has_near, nearest, corrected}
 use Rattle.nearest_word.proofs.Near.{judged}
-use Rattle.nearest_word.proofs.Corrected.{corrected_near, corrected_far}
+use Rattle.nearest_word.proofs.Corrected.{corrected_near}
 use Rattle.decode.specs.Inner.Candidates.{SoundLane, Candidate}
-
--- what is promised of a lane that was set right, or that was not
-abbrev Says : Header → List ℕ → List ℕ → ℕ → Bool → Type 0
-Says h ws array altered near = (near ≡ has_near h ws) × (array ≡ padded 255 (corrected h ws)) × (altered ≡ differ ws (corrected h ws))
 
 and-false : (b : Bool) → (b && false) ≡ false
 and-false true = refl
@@ -31,26 +26,20 @@ module _ (h : Header) (ws array : List ℕ) (lane : SoundLane h ws) (c : Candida
   both = judged h lane.sound ws lane.long word c.long c.below (λ vs m. c.only vs m.long m.below m.passes)
 
   -- it is near enough
-  pub says_near : differ ws word ≤ radius h → is_word h word ≡ true → Says h ws array (differ ws word) true
+  pub says_near : differ ws word ≤ radius h → is_word h word ≡ true → (has_near h ws ≡ true) × (array ≡ padded 255 (corrected h ws)) × (differ ws word ≡ differ ws (corrected h ws))
   unfolding is_near
   says_near d w =
       let t : is_near h ws word ≡ true = rw (w, le-leb (differ ws word) (radius h) d) in
       let has : has_near h ws ≡ true = both.0 ∙ t in
       let is : corrected h ws ≡ word = corrected_near h ws has ∙ both.1 t in
-      (sym has, c.array_is ∙ ap (padded 255) (sym is), ap (differ ws) (sym is))
-
-  none : is_near h ws word ≡ false → (kept : List ℕ) → kept ≡ padded 255 ws → Says h ws kept 0 false
-  none t kept k =
-      let has : has_near h ws ≡ false = both.0 ∙ t in
-      let is : corrected h ws ≡ ws = corrected_far h ws has in
-      (sym has, k ∙ ap (padded 255) (sym is), sym (ap (differ ws) is ∙ differ_same ws))
+      (has, c.array_is ∙ ap (padded 255) (sym is), ap (differ ws) (sym is))
 
   -- it is too far away
-  pub says_far : radius h < differ ws word → (kept : List ℕ) → kept ≡ padded 255 ws → Says h ws kept 0 false
+  pub says_far : radius h < differ ws word → has_near h ws ≡ false
   unfolding is_near
-  says_far d = none (ap (λ (b : Bool). is_word h word && b) (lt-leb (differ ws word) (radius h) d) ∙ and-false (is_word h word))
+  says_far d = both.0 ∙ ap (λ (b : Bool). is_word h word && b) (lt-leb (differ ws word) (radius h) d) ∙ and-false (is_word h word)
 
   -- or it is no word
-  pub says_none : is_word h word ≡ false → (kept : List ℕ) → kept ≡ padded 255 ws → Says h ws kept 0 false
+  pub says_none : is_word h word ≡ false → has_near h ws ≡ false
   unfolding is_near
-  says_none w = none (ap (λ (b : Bool). b && leb (differ ws word) (radius h)) w)
+  says_none w = both.0 ∙ ap (λ (b : Bool). b && leb (differ ws word) (radius h)) w

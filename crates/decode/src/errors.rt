@@ -6,58 +6,55 @@ ghost use Rattle.field.specs.Kinds.{modulus};
 ghost use Rattle.interpolation.specs.Inner.Points.{SymbolList, points_of};
 ghost use Rattle.decode.specs.Inner.Errors.{error_of, errors_from, errors_of};
 
-use crate::field_symbols::{narrow, wide};
-use field::{Field, Tables};
+use field::lent::Arithmetic;
 use interpolation::division;
 
 // The error at the point x: the sum of the check sums times the coefficients of the product over the other points, times the scale of x, over x.
-fn error_at(field: Field, tables: &Tables, x: u32, scale: u32, product: &[u16], sums: &[u16]) -> u32
-    requires { SymbolList field product.now × SymbolList field sums.now × (length sums.now ≡ length product.now) × (x < size_of (modulus field)) × (scale < size_of (modulus field)) }
-    ensures { (result ≡ error_of (modulus field) product.now sums.now x scale) × (result < size_of (modulus field)) }
+fn error_at(field: Arithmetic, x: u32, scale: u32, product: &[u16], sums: &[u16]) -> u32
+    requires { SymbolList (modulus field.field) product.now × SymbolList (modulus field.field) sums.now × (length sums.now ≡ length product.now) × (x < size_of (modulus field.field)) × (scale < size_of (modulus field.field)) }
+    ensures is { result ≡ error_of (modulus field.entry.field) product.now sums.now x scale }
+    ensures symbol { result < size_of (modulus field.entry.field) }
 {
-    let sum = division::quotient_sum(field, tables, x, product, sums);
-    let scaled = field.mul_with(tables, sum, scale);
-    let inverse = field.inverse_with(tables, x);
-    field.mul_with(tables, scaled, inverse)
+    let sum = division::quotient_sum(field, x, product, sums);
+    let scaled = field.mul(sum, scale);
+    let inverse = field.inverse(x);
+    field.mul(scaled, inverse)
 }
 
 // The errors at all points, and zeros after them.
 fn errors_from(
-    field: Field,
-    tables: &Tables,
+    field: Arithmetic,
     points: &[u16],
     scales: &[u16],
     product: &[u16],
     sums: &[u16],
 ) -> [u16; 255]
-    requires { SymbolList field points.now × SymbolList field scales.now × SymbolList field product.now × SymbolList field sums.now × (length scales.now ≡ length points.now) × (length sums.now ≡ length product.now) }
-    ensures { result ≡ padded 255 (errors_from (modulus field) product.now sums.now points.now scales.now) }
+    requires { SymbolList (modulus field.field) points.now × SymbolList (modulus field.field) scales.now × SymbolList (modulus field.field) product.now × SymbolList (modulus field.field) sums.now × (length scales.now ≡ length points.now) × (length sums.now ≡ length product.now) }
+    ensures { result ≡ padded 255 (errors_from (modulus field.entry.field) product.now sums.now points.now scales.now) }
 {
     let mut out = [0u16; 255];
     for i in 0..points.len() {
-        let x = wide(points[i]);
-        let scale = wide(scales[i]);
-        let e = error_at(field, tables, x, scale, product, sums);
-        out[i] = narrow(field, e);
+        let x = points[i] as u32;
+        let scale = scales[i] as u32;
+        out[i] = error_at(field, x, scale, product, sums) as u16;
     }
     out
 }
 
 // The errors at the listed nodes, and zeros after them; as many check sums are taken as there are nodes.
-pub fn errors(field: Field, tables: &Tables, root: u32, nodes: &[u8], sums: &[u16]) -> [u16; 255]
-    requires { SymbolList field sums.now × (length sums.now ≡ length nodes.now) × (root < size_of (modulus field)) }
-    ensures { result ≡ padded 255 (errors_of (modulus field) (points_of (modulus field) root 0 nodes.now) sums.now) }
+pub fn errors(field: Arithmetic, root: u32, nodes: &[u8], sums: &[u16]) -> [u16; 255]
+    requires { SymbolList (modulus field.field) sums.now × (length sums.now ≡ length nodes.now) × (root < size_of (modulus field.field)) }
+    ensures { result ≡ padded 255 (errors_of (modulus field.entry.field) (points_of (modulus field.entry.field) root 0 nodes.now) sums.now) }
 {
     let count = nodes.len();
     let first: usize = 1;
     let end = count + 1;
-    let basis = node_weights::lagrange_basis(field, tables, root, nodes, 0);
+    let basis = node_weights::lagrange_basis(field, root, nodes, 0);
     let points = basis.points;
     let scales = basis.scales;
     let product = basis.product;
     errors_from(
         field,
-        tables,
         &points[..count],
         &scales[..count],
         &product[first..end],

@@ -1,5 +1,5 @@
-// Lanes as arrays: copied, compared, and less the errors at some nodes.
-ghost use Rattle.std.specs.Prelude.{◌≡◌, true, ◌≤◌, length};
+// Lanes compared, and less the errors at some nodes.
+ghost use Rattle.std.specs.Prelude.{◌≡◌, true, length};
 ghost use Rattle.lists.specs.Counting.{differ};
 ghost use Rattle.lists.specs.Numbers.{all_below};
 ghost use Rattle.lists.specs.Padded.{padded};
@@ -7,20 +7,7 @@ ghost use Rattle.field.specs.Kinds.{modulus};
 ghost use Rattle.interpolation.specs.Inner.Points.{SymbolList};
 ghost use Rattle.decode.specs.Inner.Errors.{removed as removed_from};
 
-use crate::field_symbols::{narrow, wide};
-use field::Field;
-
-// A lane, and zeros after it.
-pub fn copied(lane: &[u16]) -> [u16; 255]
-    requires { length lane.now ≤ 255 }
-    ensures { result ≡ padded 255 lane.now }
-{
-    let mut out = [0u16; 255];
-    for i in 0..lane.len() {
-        out[i] = lane[i];
-    }
-    out
-}
+use field::lent::Arithmetic;
 
 // At how many nodes two lanes differ.
 pub fn differing(a: &[u16], b: &[u16]) -> usize
@@ -28,29 +15,24 @@ pub fn differing(a: &[u16], b: &[u16]) -> usize
     ensures { result ≡ differ a.now b.now }
 {
     let mut count: usize = 0;
-    let mut i = 0;
-    while i < a.len() {
-        let x = a[i];
-        let y = b[i];
-        i += 1;
-        if x == y {
-            continue;
+    for i in 0..a.len() {
+        if a[i] != b[i] {
+            count += 1;
         }
-        count += 1;
     }
     count
 }
 
 // A lane less the errors at the listed nodes, and zeros after it.
-pub fn removed(field: Field, lane: &[u16], nodes: &[u8], errors: &[u16]) -> [u16; 255]
-    requires { SymbolList field lane.now × SymbolList field errors.now × (all_below (length lane.now) nodes.now ≡ true) × (length errors.now ≡ length nodes.now) }
-    ensures { result ≡ padded 255 (removed_from (modulus field) nodes.now errors.now lane.now) }
+pub fn removed(field: Arithmetic, lane: &[u16], nodes: &[u8], errors: &[u16]) -> [u16; 255]
+    requires { SymbolList (modulus field.field) lane.now × SymbolList (modulus field.field) errors.now × (all_below (length lane.now) nodes.now ≡ true) × (length errors.now ≡ length nodes.now) }
+    ensures { result ≡ padded 255 (removed_from (modulus field.entry.field) nodes.now errors.now lane.now) }
 {
-    let mut out = copied(lane);
+    let mut out = [0u16; 255];
+    out[..lane.len()].copy_from_slice(lane);
     for i in 0..nodes.len() {
         let j = nodes[i] as usize;
-        let symbol = field.sub(wide(out[j]), wide(errors[i]));
-        out[j] = narrow(field, symbol);
+        out[j] = field.sub(out[j] as u32, errors[i] as u32) as u16;
     }
     out
 }

@@ -1,97 +1,86 @@
 // One lane set right: the word of the code that differs from it at no more than (n - k) / 2 nodes.
 #![tactic(auto)]
 
-ghost use Rattle.std.specs.Prelude.{◌≡◌, false, ◌<◌, ◌≤◌, length};
+ghost use Rattle.std.specs.Prelude.{◌≡◌, true, false, MatchOption};
 ghost use Rattle.lists.specs.Counting.{differ};
 ghost use Rattle.lists.specs.Padded.{padded};
 ghost use Rattle.check_sums.specs.Inner.Sums.{check_sums, power_rows};
 ghost use Rattle.nearest_word.specs.Nearest.{has_near, corrected};
-ghost use Rattle.generator.specs.Records.{size, Sound};
+ghost use Rattle.generator.specs.Records.{size};
 ghost use Rattle.decode.specs.Inner.Locating.{Below};
 ghost use Rattle.decode.specs.Inner.Candidates.{SoundLane, WrongNodes, Candidate};
 
+use arrayvec::ArrayVec;
 use field::Tables;
-use generator::Header;
+use field::lent::Arithmetic;
+use generator::Code;
 
 mod errors;
-mod field_symbols;
 mod lanes;
 mod locator;
 mod roots;
 
 use errors::errors;
-use lanes::{copied, differing, removed};
+use lanes::{differing, removed};
 use locator::locate;
-use roots::{Roots, find_roots};
+use roots::find_roots;
 
-// A lane set right and zeros after it, the number of symbols altered, and whether a word is near enough; if not, the lane as it was and 0.
+// The word near enough to a lane, and zeros after it; and the number of symbols altered.
 #[derive(Clone, Copy)]
 pub struct Corrected {
     pub lane: [u16; 255],
     pub altered: usize,
-    pub near: bool,
 }
 
 // The only symbols that may be a word near enough, and zeros after them.
-fn candidate(h: Header, tables: &Tables, lane: &[u16], sums: [u16; 255]) -> [u16; 255]
-    requires { SoundLane h lane.now × (sums ≡ padded 255 (check_sums h lane.now)) }
-    ensures { Candidate h lane.now result }
+fn candidate(code: Code, tables: &Tables, lane: &[u16], sums: [u16; 255]) -> [u16; 255]
+    requires { SoundLane code.header lane.now × (sums ≡ padded 255 (check_sums code.header lane.now)) }
+    ensures { Candidate code.header lane.now result }
 {
-    let field = h.field;
-    let root = h.root;
-    let found = wrong_nodes(h, tables, &sums);
-    let nodes = found.nodes;
-    let count = found.count;
-    let wrong = errors(field, tables, root, &nodes[..count], &sums[..count]);
-    removed(field, lane, &nodes[..count], &wrong[..count])
+    let h = code.header;
+    let field = Arithmetic::new(h.field, tables);
+    let found = wrong_nodes(code, tables, &sums);
+    let nodes = found.as_slice();
+    let count = nodes.len();
+    let wrong = errors(field, h.root, nodes, &sums[..count]);
+    removed(field, lane, nodes, &wrong[..count])
 }
 
 // The nodes at which the locator of the check sums vanishes: all wrong ones, if a word is near enough.
-fn wrong_nodes(h: Header, tables: &Tables, sums: &[u16; 255]) -> Roots
-    requires { Sound h × Below (size h) sums.now }
-    ensures { WrongNodes h sums.now result.nodes result.count }
+fn wrong_nodes(code: Code, tables: &Tables, sums: &[u16; 255]) -> ArrayVec<u8, 255>
+    requires { Below (size code.header) sums.now }
+    ensures { WrongNodes code.header sums.now result.items }
 {
-    let field = h.field;
+    let h = code.header;
+    let field = Arithmetic::new(h.field, tables);
     let root = h.root;
     let n = h.n as usize;
     let t = ((h.n - h.k) / 2) as usize;
     let size = t + 1;
-    let locator = locate(field, tables, sums, t);
-    find_roots(field, tables, root, &locator[..size], n)
+    let locator = locate(field, sums, t);
+    find_roots(field, root, &locator[..size], n)
 }
 
-// The lane as it was: no word is near enough.
-fn kept(lane: &[u16]) -> Corrected
-    requires { length lane.now ≤ 255 }
-    ensures { (result.lane ≡ padded 255 lane.now) × (result.altered ≡ 0) × (result.near ≡ false) }
+// The word near enough to a lane, if there is one. `rows` are the rows of powers of the check sums.
+pub fn correct_lane(code: Code, rows: &[u8], lane: &[u16]) -> Option<Corrected>
+    requires { SoundLane code.header lane.now × (rows.now ≡ power_rows code.header) }
+    ensures { MatchOption result (has_near code.header lane.now ≡ false) (λ found. (has_near code.header lane.now ≡ true) × (found.lane ≡ padded 255 (corrected code.header lane.now)) × (found.altered ≡ differ lane.now (corrected code.header lane.now))) }
 {
-    Corrected {
-        lane: copied(lane),
-        altered: 0,
-        near: false,
-    }
-}
-
-// The lane set right, or as it was. `rows` are the rows of powers of the check sums.
-pub fn correct_lane(h: Header, rows: &[u8], lane: &[u16]) -> Corrected
-    requires { SoundLane h lane.now × (rows.now ≡ power_rows h) }
-    ensures { (result.near ≡ has_near h lane.now) × (result.lane ≡ padded 255 (corrected h lane.now)) × (result.altered ≡ differ lane.now (corrected h lane.now)) }
-{
+    let h = code.header;
     let n = h.n as usize;
     let t = ((h.n - h.k) / 2) as usize;
-    let sums = check_sums::lane::sums_with(h, rows, lane);
+    let sums = check_sums::lane::sums_with(code, rows, lane);
     let tables = field::constant_tables();
-    let word = candidate(h, &tables, lane, sums);
+    let word = candidate(code, &tables, lane, sums);
     let altered = differing(lane, &word[..n]);
     if t < altered {
-        return kept(lane);
+        return None;
     }
-    if check_sums::lane::is_word_with(h, rows, &word[..n]) {
-        return Corrected {
+    if check_sums::lane::is_word_with(code, rows, &word[..n]) {
+        return Some(Corrected {
             lane: word,
-            altered: altered,
-            near: true,
-        };
+            altered,
+        });
     }
-    kept(lane)
+    None
 }

@@ -1,37 +1,31 @@
 // The locator of a sequence, by Berlekamp and Massey. Polynomials are arrays of coefficients, the constant first.
-ghost use Rattle.std.specs.Prelude.{◌≡◌, true, ◌+◌, ◌≤◌, ◌<◌, get_or};
+ghost use Rattle.std.specs.Prelude.{◌≡◌, ◌+◌, ◌≤◌, ◌<◌, get_or};
 ghost use Rattle.lists.specs.Rows.{from};
 ghost use Rattle.lists.specs.Padded.{padded};
 ghost use Rattle.field.specs.Fields.{size_of, mul};
-ghost use Rattle.field.specs.Kinds.{modulus, usable};
+ghost use Rattle.field.specs.Kinds.{modulus};
 ghost use Rattle.decode.specs.Inner.Locating.{Below, partial, shifted, amended_at, Locates};
 
-use crate::field_symbols::{narrow, wide};
-use field::{Field, Tables};
+use field::Field;
+use field::lent::Arithmetic;
 
 // Coefficient i as a symbol's number.
 fn entry(c: &[u16; 255], i: usize) -> u32
     requires { i < 255 }
     ensures { result ≡ get_or c.now i 0 }
 {
-    wide(c[i])
+    c[i] as u32
 }
 
 // The sum of v[i]·s[e + i] over i < m.
-fn discrepancy(
-    field: Field,
-    tables: &Tables,
-    v: &[u16; 255],
-    s: &[u16; 255],
-    e: usize,
-    m: usize,
-) -> u32
-    requires { (usable field ≡ true) × (e + m ≤ 255) × Below (size_of (modulus field)) v.now × Below (size_of (modulus field)) s.now }
-    ensures { result ≡ partial (modulus field) v.now s.now e m }
+fn discrepancy(field: Arithmetic, v: &[u16; 255], s: &[u16; 255], e: usize, m: usize) -> u32
+    requires { (e + m ≤ 255) × Below (size_of (modulus field.field)) v.now × Below (size_of (modulus field.field)) s.now }
+    ensures is { result ≡ partial (modulus field.entry.field) v.now s.now e m }
+    ensures symbol { result < size_of (modulus field.entry.field) }
 {
     let mut sum = Field::ZERO;
     for i in 0..m {
-        let term = field.mul_with(tables, entry(v, i), entry(s, e + i));
+        let term = field.mul(entry(v, i), entry(s, e + i));
         sum = field.add(sum, term);
     }
     sum
@@ -47,8 +41,7 @@ fn at(w: &[u16; 255], i: usize, x: usize) -> u32
 
 // The first coefficients of x^i·w − d·x^j·v, and zeros after them.
 fn amended(
-    field: Field,
-    tables: &Tables,
+    field: Arithmetic,
     d: u32,
     w: &[u16; 255],
     i: usize,
@@ -56,33 +49,33 @@ fn amended(
     j: usize,
     size: usize,
 ) -> [u16; 255]
-    requires { (usable field ≡ true) × (d < size_of (modulus field)) × Below (size_of (modulus field)) w.now × Below (size_of (modulus field)) v.now × (size ≤ 255) }
-    ensures { result ≡ padded 255 (from (amended_at (modulus field) d w.now i v.now j) 0 size) }
+    requires { (d < size_of (modulus field.field)) × Below (size_of (modulus field.field)) w.now × Below (size_of (modulus field.field)) v.now × (size ≤ 255) }
+    ensures { result ≡ padded 255 (from (amended_at (modulus field.entry.field) d w.now i v.now j) 0 size) }
 {
     let mut out = [0u16; 255];
     for x in 0..size {
-        let product = field.mul_with(tables, d, at(v, j, x));
-        out[x] = narrow(field, field.sub(at(w, i, x), product));
+        let product = field.mul(d, at(v, j, x));
+        out[x] = field.sub(at(w, i, x), product) as u16;
     }
     out
 }
 
 // The first coefficients of d·w, and zeros after them.
-fn scaled(field: Field, tables: &Tables, d: u32, w: &[u16; 255], size: usize) -> [u16; 255]
-    requires { (usable field ≡ true) × (d < size_of (modulus field)) × Below (size_of (modulus field)) w.now × (size ≤ 255) }
-    ensures { result ≡ padded 255 (from (λ x. mul (modulus field) d (get_or w.now x 0)) 0 size) }
+fn scaled(field: Arithmetic, d: u32, w: &[u16; 255], size: usize) -> [u16; 255]
+    requires { (d < size_of (modulus field.field)) × Below (size_of (modulus field.field)) w.now × (size ≤ 255) }
+    ensures { result ≡ padded 255 (from (λ x. mul (modulus field.entry.field) d (get_or w.now x 0)) 0 size) }
 {
     let mut out = [0u16; 255];
     for x in 0..size {
-        out[x] = narrow(field, field.mul_with(tables, d, entry(w, x)));
+        out[x] = field.mul(d, entry(w, x)) as u16;
     }
     out
 }
 
 // The locator of the first 2t terms. w has the degree l and no discrepancy below q; v is w before l grew last, made to have the discrepancy 1.
-pub fn locate(field: Field, tables: &Tables, s: &[u16; 255], t: usize) -> [u16; 255]
-    requires { (usable field ≡ true) × (t ≤ 127) × Below (size_of (modulus field)) s.now }
-    ensures { Locates (modulus field) t s.now result }
+pub fn locate(field: Arithmetic, s: &[u16; 255], t: usize) -> [u16; 255]
+    requires { (t ≤ 127) × Below (size_of (modulus field.field)) s.now }
+    ensures { Locates (modulus field.entry.field) t s.now result }
 {
     let mut w = [0u16; 255];
     w[0] = 1;
@@ -90,22 +83,22 @@ pub fn locate(field: Field, tables: &Tables, s: &[u16; 255], t: usize) -> [u16; 
     let mut l: usize = 0;
     let mut q: usize = 0;
     while l + q < t + t {
-        let d = discrepancy(field, tables, &w, s, q, l + 1);
+        let d = discrepancy(field, &w, s, q, l + 1);
         if d == Field::ZERO {
             q += 1;
             continue;
         }
         if q < l {
             let j = l - (q + 1);
-            let u = amended(field, tables, d, &w, 0, &v, j, l + 1);
+            let u = amended(field, d, &w, 0, &v, j, l + 1);
             w = u;
             q += 1;
             continue;
         }
         let i = q + 1 - l;
-        let u = amended(field, tables, d, &w, i, &v, 0, q + 2);
-        let e = field.inverse_with(tables, d);
-        let z = scaled(field, tables, e, &w, l + 1);
+        let u = amended(field, d, &w, i, &v, 0, q + 2);
+        let e = field.inverse(d);
+        let z = scaled(field, e, &w, l + 1);
         w = u;
         v = z;
         let grown = q + 1;

@@ -7,6 +7,7 @@ ghost use Rattle.refusals.specs.Accepted.{IsLane};
 ghost use Rattle.find_update.specs.Inner.Starts.{differences, first_other};
 
 use field::Tables;
+use field::lent::Arithmetic;
 use generator::Code;
 use plan::Plan;
 
@@ -35,12 +36,12 @@ pub fn first_other(
     requires { (plan ≡ plan_of code.header) × (row < code.header.k) × (x < size code.header) × (length difference.now ≡ code.header.n) }
     ensures { result ≡ first_other code.header difference.now row x }
 {
-    let field = code.header.field;
+    let field = Arithmetic::new(code.header.field, tables);
     let n = code.header.n as usize;
     let shift = plan.shifts[row] as usize;
     for j in 0..n {
         let entry = plan::entry_at(n, shift, &plan.base, j);
-        if !field.is_product(tables, x, entry, difference[j]) {
+        if !field.is_product(x, entry, difference[j]) {
             return j;
         }
     }

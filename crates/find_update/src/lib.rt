@@ -11,6 +11,7 @@ ghost use Rattle.find_update.specs.Inner.Starts.{amount_in, update_in};
 ghost use Rattle.find_update.specs.Promise.{find_fault, FindPromise, FindSays};
 
 use field::Tables;
+use field::lent::Arithmetic;
 use generator::{Code, Refusal};
 use plan::Plan;
 use refusals::{lane_length_bad, symbols_bad};
@@ -31,10 +32,10 @@ fn amount_in(code: Code, tables: &Tables, plan: Plan, row: usize, difference: &[
     requires { (plan ≡ plan_of code.header) × (row < code.header.k) × IsLane code.header difference.now }
     ensures { result ≡ amount_in code.header difference.now row }
 {
-    let field = code.header.field;
+    let field = Arithmetic::new(code.header.field, tables);
     let first = plan.firsts[row] as usize;
-    let over = field.inverse_with(tables, plan.base[0] as u32);
-    field.mul_with(tables, difference[first] as u32, over)
+    let over = field.inverse(plan.base[0] as u32);
+    field.mul(difference[first] as u32, over)
 }
 
 // The update that a difference is of, where it is not zero at some node.

@@ -12,19 +12,16 @@ use Rattle.lists.specs.Padded.{zeros, padded}
 use Rattle.lists.specs.Rows.{from}
 use Rattle.lists.proofs.Fill.{zeros_next}
 use Rattle.lists.proofs.Front.{drop_next, drop_before}
-use Rattle.lists.proofs.Numbers.{below_cons, cons_below, below_append, below_get_or, below_drop}
+use Rattle.lists.proofs.Numbers.{below_cons, cons_below, below_append, below_get_or}
 use Rattle.lists.proofs.Images.{from_self}
 use Rattle.lists.proofs.Padding.{length_padded}
 use Rattle.lists.proofs.Rows.{from_ext}
-use Rattle.field.specs.declared.Field.{Field}
-use Rattle.field.specs.Kinds.{modulus}
 use Rattle.field.specs.Fields.{is_field, size_of, add, sub, mul, power, inverse}
 use Rattle.field.proofs.Arithmetic.{mul-zero}
 use Rattle.field.proofs.BothKinds.{arithmetic}
 use Rattle.field.proofs.Bounds.{one_below, add_below, sub_below, mul_below, power_below}
 use Rattle.field.proofs.FieldOf.{size_pos}
 use Rattle.field.proofs.Inverse.{inverse_below}
-use Rattle.field.proofs.KindLaws.{usable_field}
 use Rattle.interpolation.specs.Inner.Points.{SymbolList}
 use Rattle.interpolation.specs.Inner.Polynomials.{times_linear, carried, product_of, base_of, quotient_of, termwise, inverses_of}
 
@@ -96,23 +93,12 @@ module _ (p : ℕ) where
   quotient_of_next a cs i pos h = ap (quotient_of p a) (drop_before cs i 0 pos h)
 
   -- its next coefficient
-  quotient_first : (a : ℕ) (cs : List ℕ) (i : ℕ) → 0 < i → i ≤ length cs → get_or (quotient_of p a (drop (i - 1) cs)) 0 0 ≡ add p (mul p a (get_or (quotient_of p a (drop i cs)) 0 0)) (get_or cs (i - 1) 0)
+  pub quotient_first : (a : ℕ) (cs : List ℕ) (i : ℕ) → 0 < i → i ≤ length cs → get_or (quotient_of p a (drop (i - 1) cs)) 0 0 ≡ add p (mul p a (get_or (quotient_of p a (drop i cs)) 0 0)) (get_or cs (i - 1) 0)
   quotient_first a cs i pos h = ap (λ (l : List ℕ). get_or l 0 0) (quotient_of_next a cs i pos h)
 
   pub quotient_of_end : (a : ℕ) (cs : List ℕ) → quotient_of p a (drop (length cs) cs) ≡ []
   unfolding quotient_of
   quotient_of_end a cs = ap (quotient_of p a) (drop-length cs)
-
-  -- the division, from the highest coefficient down: q is coefficient i of the quotient
-  pub record Dividing (a : ℕ) (cs : List ℕ) (i q : ℕ) : Type 0 where
-    pub some : i ≤ length cs
-    pub first : q ≡ get_or (quotient_of p a (drop i cs)) 0 0
-
-  pub dividing_start : (a : ℕ) (cs : List ℕ) → Dividing a cs (length cs) 0
-  dividing_start a cs = record { some = omega arith; first = sym (ap (λ (l : List ℕ). get_or l 0 0) (quotient_of_end a cs)) }
-
-  pub dividing_next : {a : ℕ} {cs : List ℕ} {i q r : ℕ} → Dividing a cs i q → 0 < i → r ≡ add p (mul p a q) (get_or cs (i - 1) 0) → Dividing a cs (i - 1) r
-  dividing_next {a} {cs} {i} d pos e = record { some = omega (arith, d.some); first = e ∙ rw d.first (sym (quotient_first a cs i pos d.some)) }
 
   pub length_quotient_of : (a : ℕ) (cs : List ℕ) → length (quotient_of p a cs) ≡ length cs
   unfolding quotient_of
@@ -194,17 +180,8 @@ module _ (p : ℕ) where
         let a = below_cons (size_of p) c cs h in
         cons_below (size_of p) (inverse p c) (inverses_of p cs) (inverse_below p v a.0) (inverses_of_below cs a.1)
 
-    -- the quotient's coefficients are symbols
-    pub dividing_below : {a : ℕ} {cs : List ℕ} {i q : ℕ} → Dividing a cs i q → a < size_of p → Below cs → q < size_of p
-    dividing_below {a} {cs} {i} d la h = rw d.first (below_get_or (size_of p) _ (size_pos p v) (quotient_of_below a (drop i cs) la (below_drop (size_of p) i cs h)) 0)
-
-pub quotient_of_symbols : {f : Field} (a : ℕ) {cs : List ℕ} → SymbolList f cs → a < size_of (modulus f) → SymbolList f (quotient_of (modulus f) a cs)
-quotient_of_symbols {f} a {cs} s low =
-    record {
-      usable_field = s.usable_field;
-      below = quotient_of_below (modulus f) (usable_field f s.usable_field) a cs low s.below;
-      short = omega (arith, length_quotient_of (modulus f) a cs, s.short);
-    }
+    pub quotient_of_symbols : (a : ℕ) {cs : List ℕ} → SymbolList p cs → a < size_of p → SymbolList p (quotient_of p a cs)
+    quotient_of_symbols a {cs} s low = record { below = quotient_of_below a cs low s.below; short = omega (arith, length_quotient_of a cs, s.short) }
 
 -- a polynomial of m coefficients in an array, and one factor more in place
 pub record Grows (p a m : ℕ) (cs out : List ℕ) : Type 0 where

@@ -7,11 +7,8 @@ use native.Mathlib.Omega.{arith}
 use lib.ListN.{length, take, drop, length-map, length-take, length-drop}
 use Rattle.lists.specs.Numbers.{all_below}
 use Rattle.lists.proofs.Numbers.{cons_below, below_take, below_drop}
-use Rattle.field.specs.declared.Field.{Field}
 use Rattle.field.specs.Fields.{is_field, size_of, power}
-use Rattle.field.specs.Kinds.{modulus, usable}
 use Rattle.field.proofs.Bounds.{power_below}
-use Rattle.field.proofs.KindLaws.{usable_field}
 use Rattle.interpolation.specs.Inner.Points.{SymbolList, points_of}
 
 module _ (p root e : ℕ) where
@@ -25,18 +22,13 @@ module _ (p root e : ℕ) where
   points_below v l (j ∷ js) = cons_below (size_of p) (power p root (j + e)) (points_of p root e js) (power_below p v (j + e) l) (points_below v l js)
 
 -- parts of a list of symbols
-module _ {f : Field} {xs : List ℕ} (s : SymbolList f xs) where
-  pub symbols_take : (i : ℕ) → SymbolList f (take i xs)
-  symbols_take i = record { usable_field = s.usable_field; below = below_take _ i xs s.below; short = simp length-take (omega (arith, s.short)) }
+module _ {p : ℕ} {xs : List ℕ} (s : SymbolList p xs) where
+  pub symbols_take : (i : ℕ) → SymbolList p (take i xs)
+  symbols_take i = record { below = below_take _ i xs s.below; short = simp length-take (omega (arith, s.short)) }
 
-  pub symbols_drop : (i : ℕ) → SymbolList f (drop i xs)
-  symbols_drop i = record { usable_field = s.usable_field; below = below_drop _ i xs s.below; short = simp length-drop (omega (arith, s.short)) }
+  pub symbols_drop : (i : ℕ) → SymbolList p (drop i xs)
+  symbols_drop i = record { below = below_drop _ i xs s.below; short = simp length-drop (omega (arith, s.short)) }
 
 -- points are symbols of the field
-pub points_symbols : {f : Field} (root e : ℕ) (js : List ℕ) → usable f ≡ true → root < size_of (modulus f) → length js ≤ 255 → SymbolList f (points_of (modulus f) root e js)
-points_symbols {f} root e js usable low short =
-    record {
-      usable_field = usable;
-      below = points_below (modulus f) root e (usable_field f usable) low js;
-      short = omega (arith, length_points (modulus f) root e js);
-    }
+pub points_symbols : (p root e : ℕ) (js : List ℕ) → is_field p ≡ true → root < size_of p → length js ≤ 255 → SymbolList p (points_of p root e js)
+points_symbols p root e js v low short = record { below = points_below p root e v low js; short = omega (arith, length_points p root e js) }

@@ -61,7 +61,3 @@ module _ (p : ℕ) (v : is_field p ≡ true) where
   pub scale_at_below : (xs : List ℕ) (i : ℕ) → all_below (size_of p) xs ≡ true → i < length xs → scale_at p xs i < size_of p
   unfolding scale_at
   scale_at_below xs i h l = inverse_below p v (others_at_below xs i (get_or xs i 0) h (below_at (size_of p) xs h i l))
-
-  pub basis_at_below : (xs : List ℕ) (i z : ℕ) → all_below (size_of p) xs ≡ true → i < length xs → z < size_of p → basis_at p xs i z < size_of p
-  unfolding basis_at
-  basis_at_below xs i z h l m = mul_below p v (scale_at_below xs i h l) (others_at_below xs i z h m)

@@ -3,26 +3,10 @@
 
 ghost use Rattle.std.specs.Prelude.{◌≡◌, ◌≤◌, EachIndex, MatchOption, SomeIndex, length, slice_index};
 ghost use Rattle.lists.specs.Numbers.{all_below};
-ghost use Rattle.lists.specs.Padded.{zeros};
 
 pub mod gf256;
 pub mod prime;
 pub mod wide;
-
-// Writes 0 to every lane.
-pub fn clear(acc: &mut [u8])
-    ensures { acc.new ≡ zeros (length acc.old) }
-{
-    acc.fill(0);
-}
-
-// Copies a row.
-pub fn copy(row: &[u8], out: &mut [u8])
-    requires { length row.now ≡ length out.old }
-    ensures { out.new ≡ row.now }
-{
-    out.copy_from_slice(row);
-}
 
 // Whether every byte is a symbol of a field of that size: below it.
 pub fn all_below(size: u32, s: &[u8]) -> bool

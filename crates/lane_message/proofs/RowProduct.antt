@@ -168,11 +168,10 @@ module _ (h : Header) (s : Sound h) where
     length_round = length_from (λ j. power (modulus_of h) h.root ((j + (h.k - 1)) * g)) 0 (h.k / g)
 
     -- the points of a round are symbols
-    pub round_symbols : h.k ≤ 255 → SymbolList h.field (round_points h g)
+    pub round_symbols : h.k ≤ 255 → SymbolList (modulus_of h) (round_points h g)
     unfolding round_points
     round_symbols few =
         record {
-          usable_field = s.usable_field;
           below = at_below (size h) (round_points h g)
               (λ j inside. rw (rw zero-add at (get_or_from (λ j. power (modulus_of h) h.root ((j + (h.k - 1)) * g)) 0 (h.k / g) j 0 (omega (arith, length_round)))) (power_below (modulus_of h) s.field ((j + (h.k - 1)) * g) s.root_below));
           short = omega (arith, length_round, div-le_self h.k g);

@@ -4,7 +4,7 @@
 ghost use Rattle.std.specs.Prelude.{◌≡◌, true, ◌<◌, length};
 ghost use Rattle.lists.specs.Numbers.{all_below};
 ghost use Rattle.lists.specs.Padded.{padded};
-ghost use Rattle.generator.specs.Records.{size, Sound};
+ghost use Rattle.generator.specs.Records.{size};
 ghost use Rattle.generator.specs.Answers.{numbered, outcome_of};
 ghost use Rattle.generator.specs.Shifts.{shifts_of};
 ghost use Rattle.refusals.specs.Faults.{stale_fault};
@@ -17,32 +17,34 @@ mod sums;
 
 use check_sums::{lane, powers};
 use field::Tables;
+use field::lent::Arithmetic;
 use generator::{Code, Header, Refusal};
 use interpolation::lagrange;
 
 // Symbol r of a word's message: the sum of the coefficients of its polynomial times the row's terms, times the row's scale. The spectrum has n times each coefficient.
 fn symbol_from(
-    h: Header,
+    code: Code,
     tables: &Tables,
     shifts: &[u8],
     powers: &[u16],
     spectrum: &[u16],
     r: usize,
 ) -> u32
-    requires { Sound h × (powers.now ≡ padded 255 (powers_of h)) × (length spectrum.now ≡ h.n) × (all_below (size h) spectrum.now ≡ true) × (r < h.k) × (shifts.now ≡ padded 255 (shifts_of h.n h.k)) }
-    ensures { result ≡ symbol_from h r (coefficients_of h spectrum.now) }
+    requires { (powers.now ≡ padded 255 (powers_of code.header)) × (length spectrum.now ≡ code.header.n) × (all_below (size code.header) spectrum.now ≡ true) × (r < code.header.k) × (shifts.now ≡ padded 255 (shifts_of code.header.n code.header.k)) }
+    ensures { result ≡ symbol_from code.header r (coefficients_of code.header spectrum.now) }
 {
-    let field = h.field;
+    let h = code.header;
+    let field = Arithmetic::new(h.field, tables);
     let n = h.n as usize;
     let k = h.k as usize;
-    let points = rows::row_points(h, shifts, powers);
-    let terms = rows::row_terms(h, tables, shifts, powers, &points[..k], r);
+    let points = rows::row_points(code, shifts, powers);
+    let terms = rows::row_terms(code, tables, shifts, powers, &points[..k], r);
     let coefficients = sums::coefficients(n, k, spectrum);
-    let sum = interpolation::sums::weighted_sum(field, tables, &terms[..k], &coefficients);
-    let scale = lagrange::scale_at(field, tables, &points[..k], r);
-    let over = field.inverse_with(tables, sums::ones(field, n));
-    let part = field.mul_with(tables, over, sum);
-    field.mul_with(tables, scale, part)
+    let sum = interpolation::sums::weighted_sum(field, &terms[..k], &coefficients);
+    let scale = lagrange::scale_at(field, &points[..k], r);
+    let over = field.inverse(sums::ones(field, n));
+    let part = field.mul(over, sum);
+    field.mul(scale, part)
 }
 
 // Judges a lane for an update of symbol r from `old`, with the powers of the root lent to it.
@@ -62,9 +64,9 @@ fn stale_with(
     let n = h.n as usize;
     let first: usize = 1;
     let end = (h.n - h.k) as usize + 1;
-    let spectrum = spectrum::spectrum_of(h, tables, powers, lane);
+    let spectrum = spectrum::spectrum_of(code, tables, powers, lane);
     let word = lane::all_zero(&spectrum[first..end]);
-    let symbol = symbol_from(h, tables, shifts, powers, &spectrum[..n], r);
+    let symbol = symbol_from(code, tables, shifts, powers, &spectrum[..n], r);
     Refusal::Word.when(!word)?;
     Refusal::Stale.when(symbol != old)
 }
@@ -81,6 +83,6 @@ pub fn stale_fault(
     requires { (length lane.now ≡ code.header.n) × (all_below (size code.header) lane.now ≡ true) × (r < code.header.k) × (shifts.now ≡ padded 255 (shifts_of code.header.n code.header.k)) }
     ensures { numbered result ≡ outcome_of (stale_fault code.header lane.now r old) }
 {
-    let powers = powers::powers_with(code.header, tables);
+    let powers = powers::powers_with(code, tables);
     stale_with(code, tables, shifts, &powers, lane, r, old)
 }

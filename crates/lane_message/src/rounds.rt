@@ -2,7 +2,7 @@
 ghost use Rattle.std.specs.Prelude.{◌≡◌, ℕ, ◌+◌, ◌/◌, ◌%◌, ◌≤◌, ◌<◌, eqb, length, get_or};
 ghost use Rattle.lists.specs.Choice.{pick};
 ghost use Rattle.lists.specs.Padded.{padded};
-ghost use Rattle.generator.specs.Records.{modulus_of, Sound};
+ghost use Rattle.generator.specs.Records.{modulus_of};
 ghost use Rattle.generator.specs.Shifts.{shifts as shifts_for, shifts_of};
 ghost use Rattle.interpolation.specs.Inner.Polynomials.{product_of};
 ghost use Rattle.node_weights.specs.Inner.Rows.{row_points};
@@ -10,21 +10,20 @@ ghost use Rattle.check_sums.specs.Inner.Powers.{powers_of};
 ghost use Rattle.lane_message.specs.Inner.Rows.{InRounds, round_points, spaced_of};
 
 use field::Tables;
-use generator::Header;
+use field::lent::Arithmetic;
+use generator::Code;
 use interpolation::polynomials;
 
 // How many of the shifts from the first on are 0, 1, 2, ..
 fn run(shifts: &[u8]) -> usize
     ensures { result ≤ length shifts.now }
 {
-    let mut t: usize = 0;
-    while t < shifts.len() {
-        if shifts[t] as usize != t {
+    for (t, &shift) in shifts.iter().enumerate() {
+        if shift as usize != t {
             return t;
         }
-        t += 1;
     }
-    t
+    shifts.len()
 }
 
 // How many of the shifts from the first on have a place below `taken` in a round of so many.
@@ -32,14 +31,12 @@ fn in_rounds(around: usize, taken: usize, shifts: &[u8]) -> usize
     requires { 0 < around }
     ensures { (result ≤ length shifts.now) × ((i : ℕ) → i < result → get_or shifts.now i 0 % around < taken) }
 {
-    let mut i: usize = 0;
-    while i < shifts.len() {
-        if shifts[i] as usize % around >= taken {
+    for (i, &shift) in shifts.iter().enumerate() {
+        if shift as usize % around >= taken {
             return i;
         }
-        i += 1;
     }
-    i
+    shifts.len()
 }
 
 // The number of rounds, or 0 where the shifts do not come in rounds.
@@ -69,10 +66,11 @@ fn rounds_of(n: usize, shifts: &[u8]) -> usize
 }
 
 // The points of one round to the power g, and zeros after them.
-fn round_points(h: Header, g: usize, powers: &[u16]) -> [u16; 255]
-    requires { Sound h × (0 < g) × (g ≤ 255) × (powers.now ≡ padded 255 (powers_of h)) }
-    ensures { result ≡ padded 255 (round_points h g) }
+fn round_points(code: Code, g: usize, powers: &[u16]) -> [u16; 255]
+    requires { (0 < g) × (g ≤ 255) × (powers.now ≡ padded 255 (powers_of code.header)) }
+    ensures { result ≡ padded 255 (round_points code.header g) }
 {
+    let h = code.header;
     let n = h.n as usize;
     let k = h.k as usize;
     let count = k / g;
@@ -105,34 +103,35 @@ fn spread(g: usize, l: usize, q: &[u16; 256]) -> [u16; 256]
 }
 
 // The product where the shifts come in g rounds.
-fn round_product(h: Header, tables: &Tables, g: usize, powers: &[u16]) -> [u16; 256]
-    requires { Sound h × (0 < g) × (g ≤ 255) × InRounds h.n (shifts_for h) g × (powers.now ≡ padded 255 (powers_of h)) }
-    ensures { result ≡ padded 256 (product_of (modulus_of h) (row_points h)) }
+fn round_product(code: Code, tables: &Tables, g: usize, powers: &[u16]) -> [u16; 256]
+    requires { (0 < g) × (g ≤ 255) × InRounds code.header.n (shifts_for code.header) g × (powers.now ≡ padded 255 (powers_of code.header)) }
+    ensures { result ≡ padded 256 (product_of (modulus_of code.header) (row_points code.header)) }
 {
-    let field = h.field;
+    let h = code.header;
+    let field = Arithmetic::new(h.field, tables);
     let k = h.k as usize;
     let count = k / g;
-    let points = round_points(h, g, powers);
-    let product = polynomials::product(field, tables, &points[..count]);
+    let points = round_points(code, g, powers);
+    let product = polynomials::product(field, &points[..count]);
     spread(g, k + 1, &product)
 }
 
 // The product over the points of the rows, and zeros after it.
 pub fn row_product(
-    h: Header,
+    code: Code,
     tables: &Tables,
     shifts: &[u8],
     powers: &[u16],
     points: &[u16],
 ) -> [u16; 256]
-    requires { Sound h × (powers.now ≡ padded 255 (powers_of h)) × (points.now ≡ row_points h) × (shifts.now ≡ padded 255 (shifts_of h.n h.k)) }
-    ensures { result ≡ padded 256 (product_of (modulus_of h) (row_points h)) }
+    requires { (powers.now ≡ padded 255 (powers_of code.header)) × (points.now ≡ row_points code.header) × (shifts.now ≡ padded 255 (shifts_of code.header.n code.header.k)) }
+    ensures { result ≡ padded 256 (product_of (modulus_of code.header) (row_points code.header)) }
 {
-    let field = h.field;
+    let h = code.header;
     let k = h.k as usize;
     let rounds = rounds_of(h.n as usize, &shifts[..k]);
     if rounds == 0 {
-        return polynomials::product(field, tables, points);
+        return polynomials::product(Arithmetic::new(h.field, tables), points);
     }
-    round_product(h, tables, rounds, powers)
+    round_product(code, tables, rounds, powers)
 }

@@ -1,7 +1,8 @@
 // The rows of the generator in the word's polynomial: their points, and the terms of one of them.
 ghost use Rattle.std.specs.Prelude.{◌≡◌, ◌<◌};
 ghost use Rattle.lists.specs.Padded.{padded};
-ghost use Rattle.generator.specs.Records.{modulus_of, size, Sound};
+ghost use Rattle.field.specs.Fields.{size_of};
+ghost use Rattle.field.specs.Kinds.{modulus};
 ghost use Rattle.generator.specs.Shifts.{shifts_of};
 ghost use Rattle.node_weights.specs.Inner.Rows.{row_points, base_inverses, row_terms};
 ghost use Rattle.check_sums.specs.Inner.Powers.{powers_of};
@@ -9,14 +10,16 @@ ghost use Rattle.lane_message.specs.Inner.Rows.{step_ratio};
 
 use crate::rounds;
 use check_sums::lane::stepped;
+use field::lent::Arithmetic;
 use field::{Field, Tables};
-use generator::Header;
+use generator::Code;
 
 // The points root^(shift + k − 1) of the rows, and zeros after them.
-pub fn row_points(h: Header, shifts: &[u8], powers: &[u16]) -> [u16; 255]
-    requires { Sound h × (powers.now ≡ padded 255 (powers_of h)) × (shifts.now ≡ padded 255 (shifts_of h.n h.k)) }
-    ensures { result ≡ padded 255 (row_points h) }
+pub fn row_points(code: Code, shifts: &[u8], powers: &[u16]) -> [u16; 255]
+    requires { (powers.now ≡ padded 255 (powers_of code.header)) × (shifts.now ≡ padded 255 (shifts_of code.header.n code.header.k)) }
+    ensures { result ≡ padded 255 (row_points code.header) }
 {
+    let h = code.header;
     let n = h.n as usize;
     let k = h.k as usize;
     let mut out = [0u16; 255];
@@ -28,32 +31,32 @@ pub fn row_points(h: Header, shifts: &[u8], powers: &[u16]) -> [u16; 255]
 }
 
 // The step from a coefficient's inverse to that of the one below it: (root^k − y) / (root^(k−1)·(1 − y)), where y is root^c for coefficient c.
-fn step_ratio(h: Header, tables: &Tables, top: u32, scale: u32, y: u32) -> u32
-    requires { Sound h × (top < size h) × (scale < size h) × (y < size h) }
-    ensures { (result ≡ step_ratio (modulus_of h) top scale y) × (result < size h) }
+fn step_ratio(field: Arithmetic, top: u32, scale: u32, y: u32) -> u32
+    requires { (top < size_of (modulus field.field)) × (scale < size_of (modulus field.field)) × (y < size_of (modulus field.field)) }
+    ensures is { result ≡ step_ratio (modulus field.entry.field) top scale y }
+    ensures symbol { result < size_of (modulus field.entry.field) }
 {
-    let field = h.field;
-    let below = field.mul_with(tables, scale, field.sub(Field::ONE, y));
-    let over = field.inverse_with(tables, below);
-    field.mul_with(tables, field.sub(top, y), over)
+    let below = field.mul(scale, field.sub(Field::ONE, y));
+    let over = field.inverse(below);
+    field.mul(field.sub(top, y), over)
 }
 
 // 1 over the coefficients of the base polynomial, from the highest down, and zeros after them.
-fn base_inverses(h: Header, tables: &Tables, powers: &[u16]) -> [u16; 255]
-    requires { Sound h × (powers.now ≡ padded 255 (powers_of h)) }
-    ensures { result ≡ padded 255 (base_inverses h) }
+fn base_inverses(code: Code, tables: &Tables, powers: &[u16]) -> [u16; 255]
+    requires { powers.now ≡ padded 255 (powers_of code.header) }
+    ensures { result ≡ padded 255 (base_inverses code.header) }
 {
-    let field = h.field;
+    let h = code.header;
+    let field = Arithmetic::new(h.field, tables);
     let top = powers[h.k as usize % h.n as usize] as u32;
     let mut out = [0u16; 255];
-    let mut c = h.k as usize - 1;
-    let scale = powers[c] as u32;
+    let highest = h.k as usize - 1;
+    let scale = powers[highest] as u32;
     let mut value = Field::ONE;
-    out[c] = value as u16;
-    while 0 < c {
-        let ratio = step_ratio(h, tables, top, scale, powers[c] as u32);
-        value = field.mul_with(tables, ratio, value);
-        c -= 1;
+    out[highest] = value as u16;
+    for c in (0..highest).rev() {
+        let ratio = step_ratio(field, top, scale, powers[c + 1] as u32);
+        value = field.mul(ratio, value);
         out[c] = value as u16;
     }
     out
@@ -61,17 +64,17 @@ fn base_inverses(h: Header, tables: &Tables, powers: &[u16]) -> [u16; 255]
 
 // The terms of row r: the coefficients of the product over the points of the other rows, each over that of the base polynomial; and zeros after them.
 pub fn row_terms(
-    h: Header,
+    code: Code,
     tables: &Tables,
     shifts: &[u8],
     powers: &[u16],
     points: &[u16],
     r: usize,
 ) -> [u16; 255]
-    requires { Sound h × (powers.now ≡ padded 255 (powers_of h)) × (points.now ≡ row_points h) × (r < h.k) × (shifts.now ≡ padded 255 (shifts_of h.n h.k)) }
-    ensures { result ≡ padded 255 (row_terms h r) }
+    requires { (powers.now ≡ padded 255 (powers_of code.header)) × (points.now ≡ row_points code.header) × (r < code.header.k) × (shifts.now ≡ padded 255 (shifts_of code.header.n code.header.k)) }
+    ensures { result ≡ padded 255 (row_terms code.header r) }
 {
-    let product = rounds::row_product(h, tables, shifts, powers, points);
-    let base = base_inverses(h, tables, powers);
-    node_weights::terms_at(h, tables, &product, &base, points[r] as u32)
+    let product = rounds::row_product(code, tables, shifts, powers, points);
+    let base = base_inverses(code, tables, powers);
+    node_weights::terms_at(code, tables, &product, &base, points[r] as u32)
 }

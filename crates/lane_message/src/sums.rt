@@ -1,24 +1,23 @@
 // Ones added up, and the parts of a spectrum.
-ghost use Rattle.std.specs.Prelude.{◌≡◌, true, ◌≤◌, ◌<◌, length, get_or};
+ghost use Rattle.std.specs.Prelude.{◌≡◌, ◌≤◌, ◌<◌, length, get_or};
 ghost use Rattle.lists.specs.Rows.{from};
 ghost use Rattle.lists.specs.Padded.{padded};
 ghost use Rattle.field.specs.Fields.{size_of};
-ghost use Rattle.field.specs.Kinds.{modulus, usable};
+ghost use Rattle.field.specs.Kinds.{modulus};
 ghost use Rattle.generator.specs.Shifts.{negative};
 ghost use Rattle.lane_message.specs.Inner.Symbols.{ones_of};
 
 use field::Field;
+use field::lent::Arithmetic;
 
 // n ones added up.
-pub fn ones(field: Field, n: usize) -> u32
-    requires { usable field ≡ true }
-    ensures { (result ≡ ones_of (modulus field) n) × (result < size_of (modulus field)) }
+pub fn ones(field: Arithmetic, n: usize) -> u32
+    ensures is { result ≡ ones_of (modulus field.entry.field) n }
+    ensures symbol { result < size_of (modulus field.entry.field) }
 {
     let mut sum = Field::ZERO;
-    let mut i: usize = 0;
-    while i < n {
+    for _ in 0..n {
         sum = field.add(Field::ONE, sum);
-        i += 1;
     }
     sum
 }

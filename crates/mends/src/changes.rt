@@ -10,6 +10,7 @@ ghost use Rattle.mends.specs.Inner.BySums.{HasSums, LaneSums, first_off, up_node
 ghost use Rattle.mends.specs.Promise.{in_front};
 
 use field::Tables;
+use field::lent::Arithmetic;
 use generator::Code;
 
 // The first place whose next check sum is not c times its own, or the last.
@@ -17,10 +18,10 @@ fn first_off(code: Code, tables: &Tables, c: u32, sums: &[u16]) -> usize
     requires { HasSums code.header sums.now × (c < size code.header) }
     ensures { result ≡ first_off (modulus_of code.header) c sums.now }
 {
-    let field = code.header.field;
+    let field = Arithmetic::new(code.header.field, tables);
     let last = sums.len() - 1;
     for e in 0..last {
-        if !field.is_product(tables, c, sums[e], sums[e + 1]) {
+        if !field.is_product(c, sums[e], sums[e + 1]) {
             return e;
         }
     }
@@ -49,10 +50,10 @@ fn mended(code: Code, tables: &Tables, roots: &[u16], lane: &[u16], sums: &[u16]
     requires { LaneSums code.header lane.now sums.now × (roots.now ≡ padded 255 (powers_of code.header)) × (j < code.header.n) }
     ensures { result ≡ mended_at code.header lane.now sums.now j }
 {
-    let field = code.header.field;
+    let field = Arithmetic::new(code.header.field, tables);
     let n = code.header.n as usize;
     let back = (n - j) % n;
-    let amount = field.mul_with(tables, sums[0] as u32, roots[back] as u32);
+    let amount = field.mul(sums[0] as u32, roots[back] as u32);
     field.sub(lane[j] as u32, amount) as u16
 }
 
@@ -92,7 +93,7 @@ pub fn list(code: Code, lane: &[u16], sums: &[u16], nodes: &mut [u8], symbols: &
     ensures { (result ≡ length (up_nodes code.header sums.now)) × (nodes.new ≡ in_front (up_nodes code.header sums.now) nodes.old) × (symbols.new ≡ in_front (bytes_of (width code.header) (map (mended_at code.header lane.now sums.now) (up_nodes code.header sums.now))) symbols.old) }
 {
     let tables = field::constant_tables();
-    let roots = check_sums::powers::powers(code.header);
+    let roots = check_sums::powers::powers(code);
     let count = list_nodes(code, &tables, &roots, sums, nodes);
     let new = new_symbols(code, &tables, &roots, lane, sums, &nodes[..count]);
     put_symbols(code, &new[..count], symbols);

@@ -20,7 +20,7 @@ fn list_mends(code: Code, lane: &[u16], nodes: &mut [u8], symbols: &mut [u8]) ->
     ensures { (result ≡ length (mend_nodes code.header lane.now)) × (nodes.new ≡ in_front (mend_nodes code.header lane.now) nodes.old) × (symbols.new ≡ in_front (bytes_of (width code.header) (mend_symbols code.header lane.now)) symbols.old) }
 {
     let checks = (code.header.n - code.header.k) as usize;
-    let sums = check_sums::lane::sums(code.header, lane);
+    let sums = check_sums::lane::sums(code, lane);
     if check_sums::lane::all_zero(&sums[..checks]) {
         return 0;
     }

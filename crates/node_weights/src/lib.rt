@@ -3,9 +3,9 @@
 
 ghost use Rattle.std.specs.Prelude.{◌≡◌, true, ◌<◌, ◌≤◌, length};
 ghost use Rattle.field.specs.Fields.{size_of};
-ghost use Rattle.field.specs.Kinds.{modulus, usable};
+ghost use Rattle.field.specs.Kinds.{modulus};
 ghost use Rattle.lists.specs.Padded.{padded};
-ghost use Rattle.generator.specs.Records.{modulus_of, size, Sound};
+ghost use Rattle.generator.specs.Records.{modulus_of, size};
 ghost use Rattle.generator.specs.Shifts.{shifts as shifts_for};
 ghost use Rattle.generator.specs.Claims.{are_nodes};
 ghost use Rattle.node_weights.specs.Inner.Weights.{Rebuilds};
@@ -13,8 +13,9 @@ ghost use Rattle.interpolation.specs.Inner.Points.{points_of};
 ghost use Rattle.interpolation.specs.Inner.Polynomials.{product_of};
 ghost use Rattle.node_weights.specs.Inner.Rows.{basis_of, row_points, base_inverses, setup_of, terms_at, row_terms};
 
-use field::{Field, Tables};
-use generator::Header;
+use field::Tables;
+use field::lent::Arithmetic;
+use generator::Code;
 use interpolation::{division, lagrange, polynomials, powers};
 
 // Lagrange's basis of listed points: the points, the scales of the basis polynomials, and the coefficients of the product polynomial; zeros after each list.
@@ -34,29 +35,30 @@ pub struct Setup {
 }
 
 // Weights for what node `target` holds: the values at root^target of Lagrange's basis polynomials of the nodes' points. Places from k on hold 0.
-pub fn rebuild_weights(h: Header, nodes: &[u8], target: u32) -> [u16; 255]
-    requires { Sound h × (are_nodes h nodes.now ≡ true) × (target < h.n) }
-    ensures { Rebuilds h nodes.now target result }
+pub fn rebuild_weights(code: Code, nodes: &[u8], target: u32) -> [u16; 255]
+    requires { (are_nodes code.header nodes.now ≡ true) × (target < code.header.n) }
+    ensures { Rebuilds code.header nodes.now target result }
 {
-    let field = h.field;
+    let h = code.header;
     let root = h.root;
     let k = h.k as usize;
     let tables = field::constant_tables();
-    let z = field.power(&tables, root, target);
-    let points = powers::points(field, &tables, root, nodes, 0);
-    let scales = lagrange::scales(field, &tables, &points[..k]);
-    lagrange::values(field, &tables, &points[..k], &scales[..k], z)
+    let field = Arithmetic::new(h.field, &tables);
+    let z = field.power(root, target);
+    let points = powers::points(field, root, nodes, 0);
+    let scales = lagrange::scales(field, &points[..k]);
+    lagrange::values(field, &points[..k], &scales[..k], z)
 }
 
 // The basis of the points root^(j + offset).
-pub fn lagrange_basis(field: Field, tables: &Tables, root: u32, places: &[u8], offset: u32) -> Basis
-    requires { (usable field ≡ true) × (root < size_of (modulus field)) × (length places.now ≤ 255) × (offset < 256) }
-    ensures { result ≡ basis_of (modulus field) (points_of (modulus field) root offset places.now) }
+pub fn lagrange_basis(field: Arithmetic, root: u32, places: &[u8], offset: u32) -> Basis
+    requires { (root < size_of (modulus field.field)) × (length places.now ≤ 255) × (offset < 256) }
+    ensures { result ≡ basis_of (modulus field.entry.field) (points_of (modulus field.entry.field) root offset places.now) }
 {
     let count = places.len();
-    let points = powers::points(field, tables, root, places, offset);
-    let scales = lagrange::scales(field, tables, &points[..count]);
-    let product = polynomials::product(field, tables, &points[..count]);
+    let points = powers::points(field, root, places, offset);
+    let scales = lagrange::scales(field, &points[..count]);
+    let product = polynomials::product(field, &points[..count]);
     Basis {
         points: points,
         scales: scales,
@@ -65,19 +67,20 @@ pub fn lagrange_basis(field: Field, tables: &Tables, root: u32, places: &[u8], o
 }
 
 // What the inverse of the encoding at the nodes is made from; the shifts are those of the generator's k rows.
-pub fn prepare(h: Header, nodes: &[u8], shifts: &[u8]) -> Setup
-    requires { Sound h × (are_nodes h nodes.now ≡ true) × (shifts.now ≡ shifts_for h) }
-    ensures { result ≡ setup_of h nodes.now }
+pub fn prepare(code: Code, nodes: &[u8], shifts: &[u8]) -> Setup
+    requires { (are_nodes code.header nodes.now ≡ true) × (shifts.now ≡ shifts_for code.header) }
+    ensures { result ≡ setup_of code.header nodes.now }
 {
-    let field = h.field;
+    let h = code.header;
     let root = h.root;
     let k = h.k as usize;
     let m = k - 1;
     let tables = field::constant_tables();
-    let base = polynomials::base(field, &tables, root, m);
-    let inverses = polynomials::inverses(field, &tables, &base[..k]);
-    let own = lagrange_basis(field, &tables, root, nodes, 0);
-    let rows = lagrange_basis(field, &tables, root, shifts, m as u32);
+    let field = Arithmetic::new(h.field, &tables);
+    let base = polynomials::base(field, root, m);
+    let inverses = polynomials::inverses(field, &base[..k]);
+    let own = lagrange_basis(field, root, nodes, 0);
+    let rows = lagrange_basis(field, root, shifts, m as u32);
     Setup {
         nodes: own,
         shifts: rows,
@@ -86,23 +89,24 @@ pub fn prepare(h: Header, nodes: &[u8], shifts: &[u8]) -> Setup
 }
 
 // The terms of the row with the point x: the coefficients of the product over the points of the other rows, each over that of the base polynomial; and zeros after them.
-pub fn terms_at(h: Header, tables: &Tables, product: &[u16], base: &[u16], x: u32) -> [u16; 255]
-    requires { Sound h × (product.now ≡ padded 256 (product_of (modulus_of h) (row_points h))) × (base.now ≡ padded 255 (base_inverses h)) × (x < size h) }
-    ensures { result ≡ padded 255 (terms_at h x) }
+pub fn terms_at(code: Code, tables: &Tables, product: &[u16], base: &[u16], x: u32) -> [u16; 255]
+    requires { (product.now ≡ padded 256 (product_of (modulus_of code.header) (row_points code.header))) × (base.now ≡ padded 255 (base_inverses code.header)) × (x < size code.header) }
+    ensures { result ≡ padded 255 (terms_at code.header x) }
 {
-    let field = h.field;
+    let h = code.header;
     let k = h.k as usize;
     let first: usize = 1;
     let end = k + 1;
-    division::quotient_terms(field, tables, x, &product[first..end], &base[..k])
+    let field = Arithmetic::new(h.field, tables);
+    division::quotient_terms(field, x, &product[first..end], &base[..k])
 }
 
 // The terms of row r.
-pub fn row_terms(h: Header, tables: &Tables, rows: Basis, base: [u16; 255], r: usize) -> [u16; 255]
-    requires { Sound h × (rows ≡ basis_of (modulus_of h) (row_points h)) × (base ≡ padded 255 (base_inverses h)) × (r < h.k) }
-    ensures { result ≡ padded 255 (row_terms h r) }
+pub fn row_terms(code: Code, tables: &Tables, rows: Basis, base: [u16; 255], r: usize) -> [u16; 255]
+    requires { (rows ≡ basis_of (modulus_of code.header) (row_points code.header)) × (base ≡ padded 255 (base_inverses code.header)) × (r < code.header.k) }
+    ensures { result ≡ padded 255 (row_terms code.header r) }
 {
     let points = rows.points;
     let product = rows.product;
-    terms_at(h, tables, &product, &base, points[r] as u32)
+    terms_at(code, tables, &product, &base, points[r] as u32)
 }

@@ -43,7 +43,7 @@ impl PlainLayout {
     {
         let h = self.code.header;
         let k = usize::from(h.k);
-        let weights = rebuild_weights(h, &self.nodes[..k], u32::from(j));
+        let weights = rebuild_weights(self.code, &self.nodes[..k], u32::from(j));
         writer.word("node");
         writer.field(j);
         writer.fields(&weights[..k]);

@@ -5,6 +5,7 @@ ghost use Rattle.field.specs.Fields.{mul, power};
 ghost use Rattle.generator.specs.Records.{modulus_of, size};
 ghost use Rattle.generator.specs.Generator.{base_at, entry_at, base_word};
 
+use field::lent::Arithmetic;
 use field::{Field, Tables};
 use generator::Code;
 
@@ -12,15 +13,15 @@ use generator::Code;
 fn first_entry(code: Code, tables: &Tables) -> u32
     ensures { result ≡ entry_at code.header 0 0 }
 {
-    let field = code.header.field;
+    let field = Arithmetic::new(code.header.field, tables);
     let root = code.header.root;
     let count = code.header.k - 1;
-    let x = field.power(tables, root, count as u32);
+    let x = field.power(root, count as u32);
     let mut product = Field::ONE;
     let mut y = Field::ONE;
     for _ in 0..count {
-        product = field.mul_with(tables, field.sub(x, y), product);
-        y = field.mul_with(tables, root, y);
+        product = field.mul(field.sub(x, y), product);
+        y = field.mul(root, y);
     }
     product
 }
@@ -30,11 +31,11 @@ fn next_entry(code: Code, tables: &Tables, scale: u32, pole: u32, x: u32, entry:
     requires { (scale ≡ power (modulus_of code.header) code.header.root (code.header.k - 1)) × (pole ≡ power (modulus_of code.header) code.header.root (code.header.n + code.header.k - 2)) × (x < size code.header) × (x ≡ pole → ⊥) × (entry ≡ base_at code.header x) }
     ensures { result ≡ base_at code.header (mul (modulus_of code.header) code.header.root x) }
 {
-    let field = code.header.field;
-    let above = field.sub(field.mul_with(tables, scale, x), pole);
+    let field = Arithmetic::new(code.header.field, tables);
+    let above = field.sub(field.mul(scale, x), pole);
     let below = field.sub(x, pole);
-    let ratio = field.mul_with(tables, above, field.inverse_with(tables, below));
-    field.mul_with(tables, entry, ratio)
+    let ratio = field.mul(above, field.inverse(below));
+    field.mul(entry, ratio)
 }
 
 // The n − k + 1 entries that are not 0, each from the one before it, and zeros after them.
@@ -42,12 +43,12 @@ pub fn fill_base(code: Code, tables: &Tables) -> [u16; 255]
     ensures { result ≡ padded 255 (base_word code.header) }
 {
     let h = code.header;
-    let field = h.field;
+    let field = Arithmetic::new(h.field, tables);
     let root = h.root;
     let n = h.n as u32;
     let k = h.k as u32;
-    let scale = field.power(tables, root, k - 1);
-    let pole = field.power(tables, root, n + k - 2);
+    let scale = field.power(root, k - 1);
+    let pole = field.power(root, n + k - 2);
     let last = (n - k) as usize;
     let mut out = [0u16; 255];
     let mut x = scale;
@@ -55,7 +56,7 @@ pub fn fill_base(code: Code, tables: &Tables) -> [u16; 255]
     out[0] = entry as u16;
     for j in 0..last {
         entry = next_entry(code, tables, scale, pole, x, entry);
-        x = field.mul_with(tables, root, x);
+        x = field.mul(root, x);
         out[j + 1] = entry as u16;
     }
     out

@@ -13,7 +13,7 @@ mod fault;
 mod turning;
 
 // Over a code: row j's symbol of lane t goes from j·lanes + t to t·rows + j, or back.
-fn move_accepted(
+fn rearrange_accepted(
     code: Code,
     rows: u8,
     lanes: usize,
@@ -45,7 +45,7 @@ fn rows_of(h: Header, listed: bool) -> u8
 }
 
 // Over the record itself.
-fn move_shares(
+fn rearrange_shares(
     rec: &[u8],
     listed: bool,
     from_nodes: bool,
@@ -57,21 +57,21 @@ fn move_shares(
 {
     let code = records::read_record(rec)?;
     let rows = rows_of(code.header, listed);
-    move_accepted(code, rows, lanes as usize, from_nodes, source, out)
+    rearrange_accepted(code, rows, lanes as usize, from_nodes, source, out)
 }
 
 // Writes shares that stand node after node lane after lane, or gives what turns the call away and writes nothing.
 pub fn to_lanes(rec: &[u8], lanes: u32, by_node: &[u8], by_lane: &mut [u8]) -> Result<(), Refusal>
     ensures { ToLanesSays rec.now lanes by_node.now by_lane.old by_lane.new (numbered result) }
 {
-    move_shares(rec, false, true, lanes, by_node, by_lane)
+    rearrange_shares(rec, false, true, lanes, by_node, by_lane)
 }
 
 // Writes shares that stand lane after lane node after node, likewise.
 pub fn to_nodes(rec: &[u8], lanes: u32, by_lane: &[u8], by_node: &mut [u8]) -> Result<(), Refusal>
     ensures { ToNodesSays rec.now lanes by_lane.now by_node.old by_node.new (numbered result) }
 {
-    move_shares(rec, false, false, lanes, by_lane, by_node)
+    rearrange_shares(rec, false, false, lanes, by_lane, by_node)
 }
 
 // Writes the shares of k listed nodes, as files hold them, lane after lane, as Recover and Rebuild take them.
@@ -83,7 +83,7 @@ pub fn listed_to_lanes(
 ) -> Result<(), Refusal>
     ensures { ListedToLanesSays rec.now lanes by_node.now by_lane.old by_lane.new (numbered result) }
 {
-    move_shares(rec, true, true, lanes, by_node, by_lane)
+    rearrange_shares(rec, true, true, lanes, by_node, by_lane)
 }
 
 // Writes the shares of k listed nodes node after node.
@@ -95,5 +95,5 @@ pub fn listed_to_nodes(
 ) -> Result<(), Refusal>
     ensures { ListedToNodesSays rec.now lanes by_lane.now by_node.old by_node.new (numbered result) }
 {
-    move_shares(rec, true, false, lanes, by_lane, by_node)
+    rearrange_shares(rec, true, false, lanes, by_lane, by_node)
 }

@@ -17,26 +17,26 @@ fn fill_lane(w: usize, rows: usize, width: usize, t: usize, table: &[u8], lane: 
 }
 
 // Fills every lane through its own part.
-fn turn_symbols(w: usize, rows: usize, lanes: usize, table: &[u8], out: &mut [u8])
-    requires { (1 ≤ w) × (w ≤ 2) × (length table.now ≡ rows * lanes * w) × (length out.old ≡ rows * lanes * w) }
-    ensures { out.new ≡ bytes_of w (rearranged row_after_row lane_after_lane rows lanes (symbols_of w table.now)) }
+fn turn_symbols(w: usize, rows: usize, lanes: usize, source: &[u8], out: &mut [u8])
+    requires { (1 ≤ w) × (w ≤ 2) × (length source.now ≡ rows * lanes * w) × (length out.old ≡ rows * lanes * w) }
+    ensures { out.new ≡ bytes_of w (rearranged row_after_row lane_after_lane rows lanes (symbols_of w source.now)) }
 {
     for t in 0..lanes {
         let size = rows * w;
         let start = t * size;
         let end = start + size;
-        fill_lane(w, rows, lanes, t, table, &mut out[start..end]);
+        fill_lane(w, rows, lanes, t, source, &mut out[start..end]);
     }
 }
 
 // The same; bytes are turned faster.
-pub fn turn(w: usize, rows: usize, lanes: usize, table: &[u8], out: &mut [u8])
-    requires { (1 ≤ w) × (w ≤ 2) × (length table.now ≡ rows * lanes * w) × (length out.old ≡ rows * lanes * w) }
-    ensures { out.new ≡ bytes_of w (rearranged row_after_row lane_after_lane rows lanes (symbols_of w table.now)) }
+pub fn turn(w: usize, rows: usize, lanes: usize, source: &[u8], out: &mut [u8])
+    requires { (1 ≤ w) × (w ≤ 2) × (length source.now ≡ rows * lanes * w) × (length out.old ≡ rows * lanes * w) }
+    ensures { out.new ≡ bytes_of w (rearranged row_after_row lane_after_lane rows lanes (symbols_of w source.now)) }
 {
     if w == 1 {
-        tiles::scatter(rows, lanes, table, out);
+        tiles::scatter(rows, lanes, source, out);
         return;
     }
-    turn_symbols(w, rows, lanes, table, out);
+    turn_symbols(w, rows, lanes, source, out);
 }

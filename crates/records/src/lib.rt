@@ -85,13 +85,6 @@ fn read_binary(rec: &[u8]) -> Result<Code, Refusal>
     })
 }
 
-// A number of two bytes.
-fn pair(high: u8, low: u8) -> u32
-    ensures { result ≡ high * 256 + low }
-{
-    high as u32 * 256 + low as u32
-}
-
 // Kind 3: p and the root in two bytes each, n, k.
 fn read_wide(rec: &[u8]) -> Result<Code, Refusal>
     requires { (0 < length rec.now) × (get_or rec.now 0 0 ≡ 3) }
@@ -100,13 +93,13 @@ fn read_wide(rec: &[u8]) -> Result<Code, Refusal>
     if rec.len() != 7 {
         return Err(Refusal::Body);
     }
-    let p = pair(rec[1], rec[2]);
+    let p = u16::from_be_bytes([rec[1], rec[2]]) as u32;
     if !prime_in(257, 65521, p) {
         return Err(Refusal::Field);
     }
     judge(Header {
         field: Field::Prime(PrimeField::new(p)),
-        root: pair(rec[3], rec[4]),
+        root: u16::from_be_bytes([rec[3], rec[4]]) as u32,
         n: rec[5],
         k: rec[6],
     })

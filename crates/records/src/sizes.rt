@@ -1,8 +1,8 @@
 // The numbers of a plan: d, and k·d / n rounded down and up.
 ghost use Rattle.std.specs.Prelude.{◌≡◌, ◌*◌, ◌/◌, ◌≤◌, ◌<◌};
-ghost use Rattle.generator.specs.Records.{distance, low_reads, high_reads, Sound};
+ghost use Rattle.generator.specs.Records.{distance, low_reads, high_reads};
 
-use generator::Header;
+use generator::{Code, Header};
 
 // d, the number of nodes that a changed symbol writes.
 pub fn distance_of(h: Header) -> u8
@@ -15,10 +15,10 @@ pub fn distance_of(h: Header) -> u8
 }
 
 // k·d, the number of entries of the generator that are not zero.
-fn entries(h: Header) -> u32
-    requires { Sound h }
-    ensures { (result ≡ h.k * distance h) × (result ≤ h.n * 255) }
+fn entries(code: Code) -> u32
+    ensures { (result ≡ code.header.k * distance code.header) × (result ≤ code.header.n * 255) }
 {
+    let h = code.header;
     let k = h.k as u32;
     let d = distance_of(h) as u32;
     k * d
@@ -33,18 +33,18 @@ fn over_nodes(h: Header, x: u32) -> u8
 }
 
 // The least number of symbols that a node depends on.
-pub fn low_reads(h: Header) -> u8
-    requires { Sound h }
-    ensures { result ≡ low_reads h }
+pub fn low_reads(code: Code) -> u8
+    ensures { result ≡ low_reads code.header }
 {
-    over_nodes(h, entries(h))
+    let h = code.header;
+    over_nodes(h, entries(code))
 }
 
 // The greatest.
-pub fn high_reads(h: Header) -> u8
-    requires { Sound h }
-    ensures { result ≡ high_reads h }
+pub fn high_reads(code: Code) -> u8
+    ensures { result ≡ high_reads code.header }
 {
+    let h = code.header;
     let n = h.n as u32;
-    over_nodes(h, entries(h) + (n - 1))
+    over_nodes(h, entries(code) + (n - 1))
 }

@@ -7,6 +7,7 @@ ghost use Rattle.generator.specs.Answers.{numbered};
 ghost use Rattle.recover.specs.Promise.{recover_fault, rebuild_fault, RecoverPromise, RebuildPromise, RecoverSays, RebuildSays};
 
 use generator::{Code, Refusal};
+use recover_matrix::Inverse;
 
 mod fault;
 mod one_row;
@@ -26,9 +27,13 @@ fn recover_accepted(
     let h = code.header;
     let k = h.k as usize;
     let shifts = shifts::fill_shifts(h.n, h.k);
-    let setup = node_weights::prepare(h, nodes, &shifts[..k]);
-    let w = symbols::width_of(h);
-    recover_matrix::fill_message(h, nodes, setup, w, lanes, shares, out);
+    let setup = node_weights::prepare(code, nodes, &shifts[..k]);
+    let inverse = Inverse {
+        code,
+        nodes,
+        setup: &setup,
+    };
+    inverse.fill_message(lanes, shares, out);
     Ok(())
 }
 
@@ -60,7 +65,7 @@ fn rebuild_accepted(
     fault::rebuild_fault(code, lanes, nodes, shares, target as usize, out.len())?;
     let h = code.header;
     let w = symbols::width_of(h);
-    let weights = node_weights::rebuild_weights(h, nodes, target);
+    let weights = node_weights::rebuild_weights(code, nodes, target);
     shares::rebuild_lanes(h, w, lanes, &weights, shares, out);
     Ok(())
 }

@@ -1,5 +1,4 @@
 -- The inverse of the encoding at listed nodes.
-pub mod Columns
 pub mod Rows
 pub mod Prepared
 pub mod Room

@@ -1,91 +1,77 @@
--- What is prepared for a list of nodes: its parts are lists of symbols, and it gives the rows of the inverse.
-use mathlib.Core.Path.{◌≡◌, ap, ◌∙◌}
+-- What is prepared for a list of nodes: its parts are lists of symbols, and the sums are read from bytes.
+use mathlib.Core.Path.{◌≡◌, sym, ap, ◌∙◌}
 use mathlib.Core.Bool.{true}
 use mathlib.Core.List.{List}
-use Prim.Native.Nat.{ℕ, ◌+◌, ◌-◌, ◌≤◌, ◌<◌}
+use Prim.Native.Nat.{ℕ, ◌+◌, ◌*◌, ◌/◌, ◌≤◌, ◌<◌}
 use native.Mathlib.Omega.{arith}
-use lib.ListN.{length, get_or, take, drop}
-use Rattle.lists.specs.Numbers.{all_below}
-use Rattle.lists.specs.Rows.{rows_from}
-use Rattle.layout.specs.Layout.{row_after_row, lane_after_lane, lane_of, buffer}
-use Rattle.layout.specs.Width.{symbols_of, bytes_of}
-use Rattle.layout.proofs.Lawful.{by_row}
-use Rattle.layout.proofs.Buffers.{buffer_ext}
-use Rattle.layout.proofs.Widths.{symbols_bytes}
-use Rattle.field.specs.Inner.Sums.{dot}
+use lib.ListN.{length, get_or}
+use Rattle.lists.proofs.Numbers.{below_at, below_get_or}
+use Rattle.lists.proofs.Rows.{row_inside}
+use Rattle.layout.specs.Width.{symbol_at, symbols_of, bytes_of}
+use Rattle.layout.proofs.Widths.{length_symbols, get_or_symbols, symbols_bytes}
+use Rattle.field.proofs.FieldOf.{size_pos}
 use Rattle.generator.specs.declared.Header.{Header}
-use Rattle.generator.specs.Records.{modulus_of, size, Sound}
-use Rattle.interpolation.specs.Inner.Polynomials.{quotient_of}
+use Rattle.generator.specs.Records.{modulus_of, size, width, Sound}
+use Rattle.generator.specs.Claims.{are_nodes}
+use Rattle.generator.proofs.Widths.{width_range}
+use Rattle.interpolation.specs.Inner.Lagrange.{scales_of}
 use Rattle.node_weights.specs.declared.Setup.{Setup}
-use Rattle.node_weights.specs.Inner.Rows.{row_points, setup_of, row_terms}
-use Rattle.node_weights.proofs.InverseRows.{length_weights_of}
-use Rattle.node_weights.proofs.Parts.{Symbols, Parts, parts, node_symbols, row_symbols}
-use Rattle.tile_products.specs.Inner.Matrices.{Begun}
-use Rattle.block_products.specs.declared.Product.{Product}
-use Rattle.block_products.specs.Inner.Ways.{side_of, result_bytes, lane_sum}
-use Rattle.recover_matrix.specs.Inner.Inverse.{node_points, inverse_row, PreparedNodes, prepared_row, prepared_sums, scaled_column, row_product}
-use Rattle.recover_matrix.proofs.Rows.{sums_of, sums_below, columns_rows}
+use Rattle.node_weights.specs.Inner.Rows.{row_points, setup_of}
+use Rattle.node_weights.proofs.Parts.{Parts, parts, node_symbols, row_symbols}
+use Rattle.recover_matrix.specs.Inner.Inverse.{node_points, inverse_sums}
+use Rattle.recover_matrix.proofs.Rows.{sums_below, length_sums}
 
--- the sums as they are written
-pub sums_written : (h : Header) (t : Setup) (w : ℕ) → 1 ≤ w → (terms out : List ℕ) (m : Product) → m ≡ row_product h h.k → terms ≡ bytes_of w (rows_from (row_terms h) 0 h.k) → out ≡ result_bytes m.way w m.outputs m.lanes (lane_sum m w (λ i. quotient_of (modulus_of h) (get_or (take h.k t.nodes.points) i 0) (take (h.k + 1 - 1) (drop 1 t.nodes.product))) terms) → out ≡ bytes_of w (prepared_sums h t)
-unfolding result_bytes side_of prepared_sums
-sums_written h t w some terms out m e is o =
-    let read : symbols_of w terms ≡ rows_from (row_terms h) 0 h.k = ap (symbols_of w) is ∙ symbols_bytes w (rows_from (row_terms h) 0 h.k) some in
-    rw e at o
-    ∙ ap (λ (xs : List ℕ). bytes_of w (buffer row_after_row h.k h.k (λ i r. dot (modulus_of h) (lane_of lane_after_lane h.k h.k r xs) (quotient_of (modulus_of h) (get_or (take h.k t.nodes.points) i 0) (take (h.k + 1 - 1) (drop 1 t.nodes.product)))))) read
+-- a row is short
+pub few : {h : Header} → Sound h → h.k ≤ 255
+few s = omega (arith, s.fits, s.byte)
 
-module _ {h : Header} {t : Setup} (s : Sound h) (p : PreparedNodes h t) where
-  few : h.k ≤ 255
-  few = omega (arith, s.fits, s.byte)
-
-  points_are : Symbols h.field h.k (node_points h p.nodes)
-  points_are = node_symbols h s few p.nodes p.are_the_nodes
-
-  -- the basis of the nodes' points, and that of the rows'
-  pub own_parts : Parts h.field h.k (node_points h p.nodes) t.nodes
+module _ {h : Header} {t : Setup} (s : Sound h) (js : List ℕ) (nodes : are_nodes h js ≡ true) (is : t ≡ setup_of h js) where
+  -- the basis of the nodes' points
+  pub own_parts : Parts (modulus_of h) h.k (node_points h js) t.nodes
   unfolding setup_of
-  own_parts = parts _ _ _ _ points_are (ap (λ (x : Setup). x.nodes) p.is)
+  own_parts = parts _ s.field _ _ _ (node_symbols h s (few s) js nodes) (ap (λ (x : Setup). x.nodes) is)
 
-  pub row_parts : Parts h.field h.k (row_points h) t.shifts
+  -- and that of the rows'
+  pub row_parts : Parts (modulus_of h) h.k (row_points h) t.shifts
   unfolding setup_of
-  row_parts = parts _ _ _ _ (row_symbols h s few) (ap (λ (x : Setup). x.shifts) p.is)
+  row_parts = parts _ s.field _ _ _ (row_symbols h s (few s)) (ap (λ (x : Setup). x.shifts) is)
 
-  -- what is lent of them
-  pub own_points : Symbols h.field h.k (take h.k t.nodes.points)
-  own_points = rw own_parts.points points_are
+  -- the scale of a node, and that of a row
+  pub own_scale : (i : ℕ) → i < h.k → get_or t.nodes.scales i 0 ≡ get_or (scales_of (modulus_of h) (node_points h js)) i 0
+  own_scale i low = own_parts.scale i low
 
-  pub own_product : Symbols h.field h.k (take (h.k + 1 - 1) (drop 1 t.nodes.product))
-  own_product = rw own_parts.product own_parts.some_product
+  pub row_scale : (r : ℕ) → r < h.k → get_or t.shifts.scales r 0 ≡ get_or (scales_of (modulus_of h) (row_points h)) r 0
+  row_scale r row = row_parts.scale r row
 
-  pub own_scales : Symbols h.field h.k (take h.k t.nodes.scales)
-  own_scales = rw own_parts.scales own_parts.some_scales
+  -- they are symbols, as the nodes' points are
+  pub own_scale_below : (i : ℕ) → i < h.k → get_or t.nodes.scales i 0 < size h
+  own_scale_below i low =
+      rw (own_scale i low) (below_at (size h) _ own_parts.some_scales.are.below i (omega (arith, own_parts.some_scales.size)))
 
-  pub row_scales : Symbols h.field h.k (take h.k t.shifts.scales)
-  row_scales = rw row_parts.scales row_parts.some_scales
+  pub row_scale_below : (r : ℕ) → r < h.k → get_or t.shifts.scales r 0 < size h
+  row_scale_below r row =
+      rw (row_scale r row) (below_at (size h) _ row_parts.some_scales.are.below r (omega (arith, row_parts.some_scales.size)))
 
-  -- the sums are those of the nodes
-  sums_same : prepared_sums h t ≡ sums_of h s few p.nodes p.are_the_nodes
-  unfolding prepared_sums
-  sums_same = rw (own_parts.points, own_parts.product)
+  pub point_below : (i : ℕ) → i < h.k → get_or t.nodes.points i 0 < size h
+  point_below i low =
+      let own = node_symbols h s (few s) js nodes in
+      rw (own_parts.point i low) (below_at (size h) _ own.are.below i (omega (arith, own.size)))
 
-  pub sums_symbols : all_below (size h) (prepared_sums h t) ≡ true
-  sums_symbols = rw sums_same (sums_below h s few p.nodes p.are_the_nodes)
+-- the sums, read from bytes
+module _ {h : Header} (s : Sound h) (js : List ℕ) (nodes : are_nodes h js ≡ true) (w : ℕ) {sums : List ℕ} (wide : w ≡ width h) (are : sums ≡ bytes_of (width h) (inverse_sums h js)) where
+  sums_read : symbols_of w sums ≡ inverse_sums h js
+  sums_read = rw (wide, are) (symbols_bytes (width h) (inverse_sums h js) (width_range h).0)
 
-  -- and the rows
-  row_same : (r : ℕ) → r < h.k → prepared_row h t r ≡ inverse_row h p.nodes r
-  unfolding prepared_row inverse_row
-  row_same r low = rw (own_parts.points, own_parts.product, own_parts.scales, row_parts.scale r low)
+  -- sum i of row r stands inside
+  pub sum_inside : (i r : ℕ) → i < h.k → r < h.k → i * h.k + r < length sums / w
+  sum_inside i r low row =
+      let many : length sums / w ≡ h.k * h.k = sym (length_symbols w sums) ∙ ap length sums_read ∙ length_sums h s (few s) js nodes in
+      rw many (omega (arith, row_inside h.k i h.k low))
 
-  length_prepared : (r : ℕ) → length (prepared_row h t r) ≡ h.k
-  unfolding prepared_row
-  length_prepared r = length_weights_of (modulus_of h) _ _ _ (take h.k t.nodes.points) _ ∙ own_points.size
+  pub sum_is : (i r : ℕ) → i < h.k → r < h.k → symbol_at w sums (i * h.k + r) ≡ get_or (inverse_sums h js) (i * h.k + r) 0
+  sum_is i r low row =
+      sym (get_or_symbols w sums (i * h.k + r) (sum_inside i r low row)) ∙ ap (λ (xs : List ℕ). get_or xs (i * h.k + r) 0) sums_read
 
-  -- so the lists of the sums' columns, with scales, are those of the rows
-  pub columns_prepared : {lists counts : List ℕ} → Begun (modulus_of h) h.k (λ r. scaled_column (modulus_of h) (get_or (take h.k t.shifts.scales) r 0) (take h.k t.nodes.scales) r (prepared_sums h t)) h.k lists counts → Begun (modulus_of h) h.k (prepared_row h t) h.k lists counts
-  columns_prepared b =
-      let rows = columns_rows h s few p.nodes p.are_the_nodes own_parts.some_scales.size (rw (row_parts.scales, own_parts.scales, sums_same) at b) in
-      record { size = length_prepared; each = λ r row. rw (row_same r row) (rows.each r row) }
-
-  -- the message by the one and by the other
-  pub message_same : (w l : ℕ) (shares : List ℕ) → bytes_of w (buffer row_after_row h.k l (λ r x. dot (modulus_of h) (lane_of lane_after_lane h.k l x (symbols_of w shares)) (prepared_row h t r))) ≡ bytes_of w (buffer row_after_row h.k l (λ r x. dot (modulus_of h) (lane_of lane_after_lane h.k l x (symbols_of w shares)) (inverse_row h p.nodes r)))
-  message_same w l shares = ap (bytes_of w) (buffer_ext by_row h.k l _ _ (λ r x row lane. ap (dot (modulus_of h) (lane_of lane_after_lane h.k l x (symbols_of w shares))) (row_same r row)))
+  pub sum_below : (i r : ℕ) → i < h.k → r < h.k → symbol_at w sums (i * h.k + r) < size h
+  sum_below i r low row =
+      rw (sum_is i r low row) (below_get_or (size h) _ (size_pos _ s.field) (sums_below h s (few s) js nodes) (i * h.k + r))

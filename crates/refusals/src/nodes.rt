@@ -1,6 +1,5 @@
 // Lists of nodes: the conditions of numbers 9 and 10, and the first that a list and its shares meet.
 ghost use Rattle.std.specs.Prelude.{◌≡◌, true, ◌*◌, length};
-ghost use Rattle.lists.specs.Numbers.{is_in};
 ghost use Rattle.field.specs.Kinds.{usable};
 ghost use Rattle.generator.specs.Records.{width};
 ghost use Rattle.generator.specs.Answers.{numbered, outcome_of};
@@ -17,23 +16,21 @@ pub fn nodes_bad(h: Header, nodes: &[u8]) -> bool
     !kernel::all_below(h.n as u32, nodes)
 }
 
-// Whether a node is in a list.
-fn is_in(node: u8, list: &[u8]) -> bool
-    ensures { result ≡ is_in node list.now }
-{
-    list.contains(&node)
-}
-
-// Number 10: a node stands twice in a list. Each is looked for among those after it, up to the first repeat.
+// Number 10: a node stands twice in a list. Each place is compared with those after it, up to the first repeat.
+// Two loops of list places, which a label leaves, are the form that this place has: it was asked for.
 pub fn twice_bad(nodes: &[u8]) -> bool
     ensures { result ≡ twice_bad nodes.now }
 {
-    for i in 0..nodes.len() {
-        if is_in(nodes[i], &nodes[i + 1..]) {
-            return true;
+    let mut found = false;
+    'places: for i in 0..nodes.len() {
+        for j in i + 1..nodes.len() {
+            if nodes[i] == nodes[j] {
+                found = true;
+                break 'places;
+            }
         }
     }
-    false
+    found
 }
 
 // A list of nodes and their shares: the range, repeats, and the symbols last.

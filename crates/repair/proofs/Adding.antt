@@ -9,9 +9,8 @@ use lib.Bits.{bit_xor, xor_zero_r}
 use lib.ListN.{length, get_or, take, drop}
 use lib.Seq.{get_or-drop}
 use Rattle.lists.specs.Rows.{from}
-use Rattle.lists.specs.Padded.{zeros, padded}
+use Rattle.lists.specs.Padded.{zeros}
 use Rattle.lists.proofs.Rows.{length_from, get_or_from, from_ext, get_d_part}
-use Rattle.lists.proofs.Padding.{get_or_padded}
 use Rattle.lists.proofs.Fill.{from_zeros}
 use Rattle.lists.proofs.Lanes.{get_d_rows}
 use Rattle.field.proofs.Xor.{digit as low_digit}
@@ -28,7 +27,8 @@ use Rattle.repair_tables.proofs.Steps.{mul_kind, kind_symbol}
 use Rattle.repair.specs.Packing.{plane_size, byte_from, plane, bit_at, planes}
 use Rattle.repair.specs.Sent.{sent, repaired_share}
 use Rattle.repair.specs.Inner.Sums.{plane_sum, plane_sums, lane_byte}
-use Rattle.repair.proofs.Digits.{lane_bit, byte_ext, byte_inside}
+use Rattle.repair.specs.Inner.Lanes.{lane_bit}
+use Rattle.repair.proofs.Digits.{byte_ext, byte_inside}
 use Rattle.repair.proofs.Bits.{bit_sum, byte_sum, repaired_bits}
 
 -- a row that is added where the bit is 1
@@ -84,10 +84,7 @@ weight_byte : (h : Header) → Sound h → modulus_of h ≡ 0 → (b t : ℕ) (j
 unfolding bit_weight part
 weight_byte h s kind b t js q = mul_kind (modulus_of h) _ _ kind (kind_symbol (modulus_of h) _ kind (offset_below h s t (get_or js (q / b) 0)))
 
-weight_entry : (f : ℕ → ℕ) (n q : ℕ) → q < n → get_or (padded 1020 (from f 0 n)) q 0 ≡ f q
-weight_entry f n q l = get_or_padded 1020 (from f 0 n) q (omega (arith, length_from f 0 n)) ∙ get_or_from f 0 n q 0 l ∙ ap f (Nat.zero-add q)
-
-module _ (h : Header) (s : Sound h) (l t : ℕ) (missing rows ws : List ℕ) (some : bits h (length missing) ≡ 0 → ⊥) (ws_are : ws ≡ padded 1020 (from (bit_weight h (bits h (length missing)) t (senders h t missing)) 0 (length (senders h t missing) * bits h (length missing)))) where
+module _ (h : Header) (s : Sound h) (l t : ℕ) (missing rows ws : List ℕ) (some : bits h (length missing) ≡ 0 → ⊥) (ws_are : ws ≡ from (bit_weight h (bits h (length missing)) t (senders h t missing)) 0 (length (senders h t missing) * bits h (length missing))) where
   abbrev b : ℕ
   b = bits h (length missing)
 
@@ -111,7 +108,7 @@ module _ (h : Header) (s : Sound h) (l t : ℕ) (missing rows ws : List ℕ) (so
       ∙ xor_below_agree count _ _
       (λ q hq.
       ap₂ (λ (x y : ℕ). x / 2 ^ p % 2 * (y / 2 ^ (i % 8) % 2))
-      (ap (λ (xs : List ℕ). get_or xs q 0) ws_are ∙ weight_entry weight count q hq)
+      (table_at count weight ws ws_are q hq)
       (sym (get_or-drop (q * P) rows (i / 8) 0)))
 
   -- the byte of a lane is the target's symbol

@@ -11,6 +11,9 @@ ghost use Rattle.repair.specs.Sent.{repaired_share};
 ghost use Rattle.repair.specs.Promise.{repair_bits_fault, repair_share_fault, repair_plan_fault, RepairBitsPromise, RepairSharePromise, RepairPlanPromise, RepairBitsSays, RepairShareSays, RepairPlanSays};
 
 use generator::{Code, Refusal};
+use packing::Digits;
+use repair_tables::tables::{sent_digits, weights};
+use sums::Planes;
 
 mod fault;
 mod packing;
@@ -23,24 +26,29 @@ pub struct RepairPlan {
     pub spare: u32,
 }
 
-// Sends over a code.
-fn bits_accepted(
+// A repair in so many lanes of a code: its target, and the nodes that are missing beside it.
+#[derive(Clone, Copy)]
+struct Repair<'a> {
     code: Code,
     lanes: usize,
-    node: u32,
     target: u32,
-    missing: &[u8],
-    share: &[u8],
-    out: &mut [u8],
-) -> Result<(), Refusal>
-    requires { lanes ≤ 4294967295 }
-    ensures { RepairBitsPromise node target missing.now share.now out.old out.new (numbered result) code.header (repair_bits_fault code.header lanes node target missing.now (length share.now) (length out.old)) }
+    missing: &'a [u8],
+    ghost counted: { lanes ≤ 4294967295 },
+}
+
+// Sends what a node has for the target.
+fn bits_accepted(repair: Repair, node: u32, share: &[u8], out: &mut [u8]) -> Result<(), Refusal>
+    ensures { RepairBitsPromise node repair.entry.target repair.entry.missing.now share.now out.old out.new (numbered result) repair.entry.code.header (repair_bits_fault repair.entry.code.header repair.entry.lanes node repair.entry.target repair.entry.missing.now (length share.now) (length out.old)) }
 {
-    fault::bits_fault(code, lanes, node, target, missing, share.len(), out.len())?;
-    let b = repair_tables::bits(code, missing.len());
-    let size = packing::plane_size(lanes);
-    let table = repair_tables::tables::digits(code, target, missing, node);
-    packing::pack(b, &table, size, share, out);
+    fault::bits_fault(repair, node, share.len(), out.len())?;
+    let b = repair_tables::bits(repair.code, repair.missing.len());
+    let size = packing::plane_size(repair.lanes);
+    let table = sent_digits(repair.code, repair.target, repair.missing, node);
+    let digits = Digits {
+        table: &table,
+        share,
+    };
+    digits.pack(b, size, out);
     Ok(())
 }
 
@@ -57,36 +65,38 @@ pub fn repair_bits(
     ensures { RepairBitsSays rec.now lanes node target missing.now share.now out.old out.new (numbered result) }
 {
     let code = records::read_record(rec)?;
-    bits_accepted(code, lanes as usize, node, target, missing, share, out)
+    let repair = Repair {
+        code,
+        lanes: lanes as usize,
+        target,
+        missing,
+    };
+    bits_accepted(repair, node, share, out)
 }
 
 // The target's share from the planes of the nodes that send.
-fn add_up(code: Code, lanes: usize, target: u32, missing: &[u8], rows: &[u8], out: &mut [u8])
-    requires { Repairing code.header target missing.now × (distinct missing.now ≡ true) × (lanes ≤ 4096) × (length out.old ≡ lanes) × (length rows.now ≡ (code.header.n - 1 - length missing.now) * packed_size (bits code.header (length missing.now)) lanes) }
-    ensures { out.new ≡ repaired_share code.header lanes target missing.now rows.now }
+fn add_up(repair: Repair, rows: &[u8], out: &mut [u8])
+    requires { Repairing repair.code.header repair.target repair.missing.now × (distinct repair.missing.now ≡ true) × (repair.lanes ≤ 4096) × (length out.old ≡ repair.lanes) × (length rows.now ≡ (repair.code.header.n - 1 - length repair.missing.now) * packed_size (bits repair.code.header (length repair.missing.now)) repair.lanes) }
+    ensures { out.new ≡ repaired_share repair.entry.code.header repair.entry.lanes repair.entry.target repair.entry.missing.now rows.now }
 {
-    let b = repair_tables::bits(code, missing.len());
-    let size = packing::plane_size(lanes);
-    let count = fault::row_count(code.header.n as usize, missing.len());
-    let weights = repair_tables::tables::weights(code, b, target, missing);
+    let b = repair_tables::bits(repair.code, repair.missing.len());
+    let count = fault::row_count(repair.code.header.n as usize, repair.missing.len());
+    let weights = weights(repair.code, b, repair.target, repair.missing);
     let total = count * b as usize;
-    sums::weighted_sum(&weights, total, size, rows, out);
+    let planes = Planes {
+        weights: &weights[..total],
+        size: packing::plane_size(repair.lanes),
+        rows,
+    };
+    planes.combine(out);
 }
 
-// Repairs over a code.
-fn share_accepted(
-    code: Code,
-    lanes: usize,
-    target: u32,
-    missing: &[u8],
-    rows: &[u8],
-    out: &mut [u8],
-) -> Result<(), Refusal>
-    requires { lanes ≤ 4294967295 }
-    ensures { RepairSharePromise lanes target missing.now rows.now out.old out.new (numbered result) code.header (repair_share_fault code.header lanes target missing.now (length rows.now) (length out.old)) }
+// Repairs the target's share.
+fn share_accepted(repair: Repair, rows: &[u8], out: &mut [u8]) -> Result<(), Refusal>
+    ensures { RepairSharePromise repair.entry.lanes repair.entry.target repair.entry.missing.now rows.now out.old out.new (numbered result) repair.entry.code.header (repair_share_fault repair.entry.code.header repair.entry.lanes repair.entry.target repair.entry.missing.now (length rows.now) (length out.old)) }
 {
-    fault::share_fault(code, lanes, target, missing, rows.len(), out.len())?;
-    add_up(code, lanes, target, missing, rows, out);
+    fault::share_fault(repair, rows.len(), out.len())?;
+    add_up(repair, rows, out);
     Ok(())
 }
 
@@ -102,7 +112,13 @@ pub fn repair_share(
     ensures { RepairShareSays rec.now lanes target missing.now rows.now out.old out.new (numbered result) }
 {
     let code = records::read_record(rec)?;
-    share_accepted(code, lanes as usize, target, missing, rows, out)
+    let repair = Repair {
+        code,
+        lanes: lanes as usize,
+        target,
+        missing,
+    };
+    share_accepted(repair, rows, out)
 }
 
 // Plans over a code.

@@ -1,7 +1,6 @@
 // Sums of planes, and the bytes that they make.
 ghost use Rattle.std.specs.Prelude.{◌≡◌, ◌≤◌, ◌<◌, ◌*◌, ◌/◌, length, get_or};
 ghost use Rattle.std.specs.Int.Bits.{bit_xor};
-ghost use Rattle.lists.specs.Padded.{zeros};
 ghost use Rattle.kernel.specs.Inner.Lanes.{lanewise};
 ghost use Rattle.repair.specs.Inner.Sums.{plane_sum, plane_sums, lane_byte};
 
@@ -25,32 +24,6 @@ fn add_chosen(bit: u32, row: &[u8], acc: &mut [u8])
     }
 }
 
-// The sum of the planes whose weight has bit p.
-fn sum_plane(p: u32, weights: &[u8], count: usize, size: usize, rows: &[u8], acc: &mut [u8])
-    requires { (p < 8) × (count ≤ length weights.now) × (length rows.now ≡ count * size) × (length acc.old ≡ size) }
-    ensures { acc.new ≡ plane_sum weights.now count size rows.now p }
-{
-    kernel::clear(acc);
-    for q in 0..count {
-        let start = q * size;
-        let end = start + size;
-        let bit = ((weights[q] as u32) >> p) % 2;
-        add_chosen(bit, &rows[start..end], acc);
-    }
-}
-
-// The sums for all eight bits.
-fn sum_planes(weights: &[u8], count: usize, size: usize, rows: &[u8], acc: &mut [u8])
-    requires { (count ≤ length weights.now) × (length rows.now ≡ count * size) × (size ≤ 512) × (length acc.old ≡ 8 * size) }
-    ensures { acc.new ≡ plane_sums weights.now count size rows.now }
-{
-    for p in 0..8 {
-        let start = p * size;
-        let end = start + size;
-        sum_plane(p as u32, weights, count, size, rows, &mut acc[start..end]);
-    }
-}
-
 // The byte of one lane of eight planes.
 fn gather(acc: &[u8], size: usize, i: usize) -> u8
     requires { (i / 8 < size) × (size ≤ 512) × (length acc.now ≡ 8 * size) }
@@ -59,9 +32,7 @@ fn gather(acc: &[u8], size: usize, i: usize) -> u8
     let c = i / 8;
     let shift = (i % 8) as u32;
     let mut x: u32 = 0;
-    let mut p: usize = 8;
-    while p > 0 {
-        p -= 1;
+    for p in (0..8).rev() {
         x = ((acc[p * size + c] as u32) >> shift) % 2 + 2 * x;
     }
     x as u8
@@ -77,35 +48,59 @@ fn gather_all(acc: &[u8], size: usize, out: &mut [u8])
     }
 }
 
-// Zeros for eight planes of 4,096 lanes.
-fn blank() -> [u8; 4096]
-    ensures { result ≡ zeros 4096 }
-{
-    [0; 4096]
+// Planes of so many bytes, one after the other, and a weight for each.
+#[derive(Clone, Copy)]
+pub struct Planes<'a> {
+    pub weights: &'a [u8],
+    pub size: usize,
+    pub rows: &'a [u8],
+    pub ghost whole: { length rows.now ≡ length weights.now * size },
+    pub ghost small: { size ≤ 512 },
 }
 
-// The sums in a lent buffer, and the bytes that they make.
-fn sum_and_gather(
-    weights: &[u8],
-    count: usize,
-    size: usize,
-    rows: &[u8],
-    acc: &mut [u8],
-    out: &mut [u8],
-)
-    requires { (count ≤ length weights.now) × (length rows.now ≡ count * size) × (size ≤ 512) × (length acc.old ≡ 8 * size) × (length out.old ≤ size * 8) }
-    ensures { out.new ≡ lanewise (λ i y. lane_byte (plane_sums weights.now count size rows.now) size i) out.old }
-{
-    sum_planes(weights, count, size, rows, acc);
-    gather_all(acc, size, out);
-}
+impl<'a> Planes<'a> {
+    // The sum of the planes whose weight has bit p.
+    fn sum(self, p: u32, acc: &mut [u8])
+        requires { (p < 8) × (length acc.old ≡ self.size) }
+        ensures { acc.new ≡ plane_sum self.entry.weights.now (length self.entry.weights.now) self.entry.size self.entry.rows.now p }
+    {
+        let count = self.weights.len();
+        acc.fill(0);
+        for q in 0..count {
+            let start = q * self.size;
+            let end = start + self.size;
+            let bit = ((self.weights[q] as u32) >> p) % 2;
+            add_chosen(bit, &self.rows[start..end], acc);
+        }
+    }
 
-// The sum of the weights times the bits of the planes, in every lane.
-pub fn weighted_sum(weights: &[u8], count: usize, size: usize, rows: &[u8], out: &mut [u8])
-    requires { (count ≤ length weights.now) × (length rows.now ≡ count * size) × (size ≤ 512) × (length out.old ≤ size * 8) }
-    ensures { out.new ≡ lanewise (λ i y. lane_byte (plane_sums weights.now count size rows.now) size i) out.old }
-{
-    let mut acc = blank();
-    let total = 8 * size;
-    sum_and_gather(weights, count, size, rows, &mut acc[..total], out);
+    // The sums for all eight bits.
+    fn sums(self, acc: &mut [u8])
+        requires { length acc.old ≡ 8 * self.size }
+        ensures { acc.new ≡ plane_sums self.entry.weights.now (length self.entry.weights.now) self.entry.size self.entry.rows.now }
+    {
+        for p in 0..8 {
+            let start = p * self.size;
+            let end = start + self.size;
+            self.sum(p as u32, &mut acc[start..end]);
+        }
+    }
+
+    // The sums in a lent buffer, and the bytes that they make.
+    fn combine_in(self, acc: &mut [u8], out: &mut [u8])
+        requires { (length acc.old ≡ 8 * self.size) × (length out.old ≤ self.size * 8) }
+        ensures { out.new ≡ lanewise (λ i y. lane_byte (plane_sums self.entry.weights.now (length self.entry.weights.now) self.entry.size self.entry.rows.now) self.entry.size i) out.old }
+    {
+        self.sums(acc);
+        gather_all(acc, self.size, out);
+    }
+
+    // The sum of the weights times the bits of the planes, in every lane.
+    pub fn combine(self, out: &mut [u8])
+        requires { length out.old ≤ self.size * 8 }
+        ensures { out.new ≡ lanewise (λ i y. lane_byte (plane_sums self.entry.weights.now (length self.entry.weights.now) self.entry.size self.entry.rows.now) self.entry.size i) out.old }
+    {
+        let mut acc = [0u8; 4096];
+        self.combine_in(&mut acc[..8 * self.size], out);
+    }
 }

@@ -1,16 +1,10 @@
 // The nodes that send: neither the target nor missing.
-ghost use Rattle.std.specs.Prelude.{◌≡◌, length};
+ghost use Rattle.std.specs.Prelude.{◌≡◌};
 ghost use Rattle.lists.specs.Counting.{passing_from};
 ghost use Rattle.lists.specs.Numbers.{is_in};
-ghost use Rattle.lists.specs.Padded.{padded};
 ghost use Rattle.traces.specs.Repairs.{sends};
 
-// The nodes, rising, with zeros after them, and how many they are.
-#[derive(Clone, Copy)]
-pub struct Senders {
-    pub nodes: [u8; 255],
-    pub count: usize,
-}
+use arrayvec::ArrayVec;
 
 // Whether a number is in a list.
 pub fn is_in(x: u32, list: &[u8]) -> bool
@@ -34,20 +28,15 @@ pub fn sends(target: u32, missing: &[u8], node: u32) -> bool
     !is_in(node, missing)
 }
 
-// The nodes below n that send.
-pub fn list_senders(n: u8, target: u32, missing: &[u8]) -> Senders
-    ensures { (result.count ≡ length (passing_from n 0 (sends target missing.now))) × (result.nodes ≡ padded 255 (passing_from n 0 (sends target missing.now))) }
+// The nodes below n that send, rising.
+pub fn list_senders(n: u8, target: u32, missing: &[u8]) -> ArrayVec<u8, 255>
+    ensures { result.items ≡ passing_from n 0 (sends target missing.now) }
 {
-    let mut nodes = [0u8; 255];
-    let mut count: usize = 0;
+    let mut nodes = ArrayVec::new();
     for j in 0..n {
         if sends(target, missing, j as u32) {
-            nodes[count] = j;
-            count += 1;
+            nodes.push(j);
         }
     }
-    Senders {
-        nodes: nodes,
-        count: count,
-    }
+    nodes
 }

@@ -19,7 +19,7 @@ use field::lent::Arithmetic;
 use generator::Code;
 
 // The trace of a product, by its lowest b bits.
-fn digit(field: Arithmetic, b: u32, f: u32, x: u32) -> u8
+fn low_trace(field: Arithmetic, b: u32, f: u32, x: u32) -> u8
     requires { (modulus field.field ≡ 0) × TraceBits b × (f < 256) × (x < 256) }
     ensures { result ≡ trace_of b (mul (modulus field.entry.field) f x) % 2 ^ b }
 {
@@ -36,7 +36,7 @@ fn sixteen(field: Arithmetic, b: u32, f: u32, step: u32) -> [u8; 16]
 {
     let mut row = [0u8; 16];
     for i in 0..16 {
-        row[i] = digit(field, b, f, i as u32 * step);
+        row[i] = low_trace(field, b, f, i as u32 * step);
     }
     row
 }
@@ -60,7 +60,7 @@ fn sums(low: &[u8; 16], high: &[u8; 16]) -> [u8; 256]
 }
 
 // The digit that a node sends for each symbol.
-pub fn digits(code: Code, target: u32, missing: &[u8], node: u32) -> [u8; 256]
+pub fn sent_digits(code: Code, target: u32, missing: &[u8], node: u32) -> [u8; 256]
     requires { (modulus_of code.header ≡ 0) × TraceBits (bits code.header (length missing.now)) × (target < code.header.n) × (all_below code.header.n missing.now ≡ true) × (node < code.header.n) }
     ensures { result ≡ from (sent_digit code.header target missing.now node) 0 256 }
 {
@@ -116,7 +116,7 @@ fn list_weights(target: Target, b: u32, senders: &[u8]) -> [u8; 1020]
     requires { (modulus_of target.code.header ≡ 0) × TraceBits b × (all_below target.code.header.n senders.now ≡ true) × (length senders.now ≤ 255) }
     ensures { result ≡ padded 1020 (from (bit_weight target.entry.code.header b target.entry.node senders.now) 0 (length senders.now * b)) }
 {
-    let powers = check_sums::powers::powers_with(target.code.header, target.field.tables);
+    let powers = check_sums::powers::powers_with(target.code, target.field.tables);
     let count = senders.len() * b as usize;
     let mut table = blank();
     for q in 0..count {
@@ -130,9 +130,8 @@ pub fn weights(code: Code, b: u32, target: u32, missing: &[u8]) -> [u8; 1020]
     requires { (modulus_of code.header ≡ 0) × TraceBits b × (target < code.header.n) }
     ensures { result ≡ padded 1020 (from (bit_weight code.header b target (senders code.header target missing.now)) 0 (length (senders code.header target missing.now) * b)) }
 {
-    let list = list_senders(code.header.n, target, missing);
-    let nodes = list.nodes;
+    let nodes = list_senders(code.header.n, target, missing);
     let tables = field::constant_tables();
     let target = Target::new(code, target, &tables);
-    list_weights(target, b, &nodes[..list.count])
+    list_weights(target, b, nodes.as_slice())
 }

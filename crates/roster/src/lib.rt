@@ -2,7 +2,7 @@
 #![tactic(auto)]
 
 ghost use Rattle.std.specs.Prelude.{◌≡◌, MatchResult};
-ghost use Rattle.generator.specs.Answers.{number, numbered, outcome_of};
+ghost use Rattle.generator.specs.Answers.{number, numbered};
 ghost use Rattle.generator.specs.Records.{record_of};
 ghost use Rattle.roster.specs.Events.{leaves, returns};
 ghost use Rattle.roster.specs.Rosters.{Step, first_roster, start_of, step_by, step_of, lowest_of, lowest_list, job_of, job_list};
@@ -47,27 +47,24 @@ impl Roster {
         Ok(first_roster(code.header.n))
     }
 
-    // A node returns where it is to be here, else it leaves.
-    pub fn mark(&mut self, rec: &[u8], node: u32, here: bool) -> Result<(), Refusal>
-        ensures answer { numbered result ≡ outcome_of (step_by (record_of rec.now) node here self.old).number }
-        ensures roster { self.new ≡ (step_by (record_of rec.now) node here self.old).roster }
+    // The next roster: a node returns where it is to be here, else it leaves.
+    pub fn mark(self, rec: &[u8], node: u32, here: bool) -> Result<Roster, Refusal>
+        ensures { MatchResult result (λ r. step_by (record_of rec.now) node here self ≡ record { roster = r; number = 0 }) (λ e. step_by (record_of rec.now) node here self ≡ record { roster = self; number = number e }) }
     {
         let code = records::read_record(rec)?;
         events::mark(self, code.header.n, node, here)
     }
 
-    // A node leaves.
-    pub fn leave(&mut self, rec: &[u8], node: u32) -> Result<(), Refusal>
-        ensures answer { numbered result ≡ outcome_of (step_of (record_of rec.now) (leaves node) self.old).number }
-        ensures roster { self.new ≡ (step_of (record_of rec.now) (leaves node) self.old).roster }
+    // The next roster: a node leaves.
+    pub fn leave(self, rec: &[u8], node: u32) -> Result<Roster, Refusal>
+        ensures { MatchResult result (λ r. step_of (record_of rec.now) (leaves node) self ≡ record { roster = r; number = 0 }) (λ e. step_of (record_of rec.now) (leaves node) self ≡ record { roster = self; number = number e }) }
     {
         self.mark(rec, node, false)
     }
 
-    // A node returns.
-    pub fn rejoin(&mut self, rec: &[u8], node: u32) -> Result<(), Refusal>
-        ensures answer { numbered result ≡ outcome_of (step_of (record_of rec.now) (returns node) self.old).number }
-        ensures roster { self.new ≡ (step_of (record_of rec.now) (returns node) self.old).roster }
+    // The next roster: a node returns.
+    pub fn rejoin(self, rec: &[u8], node: u32) -> Result<Roster, Refusal>
+        ensures { MatchResult result (λ r. step_of (record_of rec.now) (returns node) self ≡ record { roster = r; number = 0 }) (λ e. step_of (record_of rec.now) (returns node) self ≡ record { roster = self; number = number e }) }
     {
         self.mark(rec, node, true)
     }

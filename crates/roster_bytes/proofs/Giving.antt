@@ -18,7 +18,7 @@ use Rattle.generator.proofs.Answered.{refused_is, last}
 use Rattle.roster.specs.declared.Listing.{Listing}
 use Rattle.roster.specs.declared.Listing.TheVariants.{Written, TooFew}
 use Rattle.roster.specs.Events.{Event}
-use Rattle.roster.specs.Rosters.{fault_in, first_marks, first_roster, start_of, step_of, wrote, lowest_of, lowest_list, job_of, job_list}
+use Rattle.roster.specs.Rosters.{Step, fault_in, first_marks, first_roster, start_of, step_of, wrote, lowest_of, lowest_list, job_of, job_list}
 use Rattle.roster.proofs.Stepping.{start_number, step_number}
 use Rattle.roster.proofs.Lowest.{lowest_number, lowest_wrote, lowest_kept, lowest_refused}
 use Rattle.roster.proofs.OneJob.{job_listing, job_kept}
@@ -111,6 +111,10 @@ module _ (rec bytes : List ℕ) where
           number = rw (eq-eqb (length bytes) 256 long) number;
           bytes_are = rw (eq-eqb (length bytes) 256 long) (w ∙ ap (λ (f : ℕ). pick (eqb f 0) (roster_bytes (step_of (record_of rec) d (roster_of bytes)).roster) bytes) number);
         }
+
+    -- an event that is turned away
+    pub event_refused : (d : Event) (s : Refusal) → step_of (record_of rec) d (roster_of bytes) ≡ record { roster = roster_of bytes; number = number s } → EventGives rec bytes d bytes (number s)
+    event_refused d s is = event_done d bytes (number s) (ap (λ (t : Step). t.number) is) (rw (ne_eqb (number s) 0 (some s)))
 
     -- the number of the answer to a list, and whether the list is written
     module _ (list : List ℕ) where

@@ -38,8 +38,7 @@ fn mark(rec: &[u8], bytes: &mut [u8], node: u32, here: bool) -> Result<(), Refus
     ensures { (e : Event) → named e ≡ node → says e ≡ here → EventGives rec.now bytes.old e bytes.new (fault_in (numbered result)) }
 {
     length_fault(rec, bytes.len())?;
-    let mut roster = read_roster(bytes);
-    roster.mark(rec, node, here)?;
+    let roster = read_roster(bytes).mark(rec, node, here)?;
     write_roster(&roster, bytes);
     Ok(())
 }

@@ -14,7 +14,7 @@ use Rattle.field.specs.declared.Field.{Field}
 use Rattle.field.specs.Fields.{add, mul}
 use Rattle.field.specs.Inner.Sums.{dot}
 use Rattle.field.specs.Widths.{bytes_for}
-use Rattle.row_sums.specs.Inner.Combined.{combined, combined_tile, combined_bytes, WeightedRows}
+use Rattle.row_sums.specs.Inner.Combined.{combined, combined_bytes, WeightedRows}
 
 -- a sum reads as many of the second list as there are in the first
 pub dot_front : (p : ℕ) (ws ys zs : List ℕ) → length ws ≤ length ys → dot p ws (ys ++ zs) ≡ dot p ws ys
@@ -34,10 +34,6 @@ module _ (rows l : ℕ) (ws s : List ℕ) (enough : rows ≤ length ws) where
       (λ t none lane.
       sym (dot_front p (lane_of y rows l t u) (take rows ws) (drop rows ws) (omega (arith, length_lane y rows l t u, first_long)))
       ∙ ap (dot p (lane_of y rows l t u)) (take-append-drop rows ws))
-
-  pub tile_front : (p : ℕ) → combined_tile p (length (take rows ws)) l (take rows ws) s ≡ combined_tile p rows l ws s
-  unfolding combined_tile
-  tile_front p = rw (first_long, combined_front row_after_row p (tile_symbols (bytes_for p) rows l s))
 
   pub bytes_front : (p : ℕ) → combined_bytes p (length (take rows ws)) l (take rows ws) s ≡ combined_bytes p rows l ws s
   unfolding combined_bytes

@@ -3,7 +3,7 @@
 
 ghost use Rattle.std.specs.Prelude.{◌≡◌, length};
 ghost use Rattle.field.specs.Kinds.{modulus};
-ghost use Rattle.row_sums.specs.Inner.Combined.{WeightedRows, combined_tile, combined_bytes};
+ghost use Rattle.row_sums.specs.Inner.Combined.{WeightedRows, combined_bytes};
 
 use field::Field;
 
@@ -14,28 +14,8 @@ pub mod wide;
 
 use terms::Terms;
 
-// In each lane the sum of the rows' symbols times the first `count` weights.
-pub fn combine(
-    field: Field,
-    weights: &[u16],
-    count: usize,
-    lanes: usize,
-    rows: &[u8],
-    acc: &mut [u8],
-)
-    requires { WeightedRows field count lanes weights.now rows.now (length acc.old) }
-    ensures { acc.new ≡ combined_tile (modulus field) count lanes weights.now rows.now }
-{
-    let weights = &weights[..count];
-    Terms {
-        weights,
-        lanes,
-        rows,
-    }
-    .combine(field, acc);
-}
-
-// The same sums as symbols one after the other.
+// In each lane the sum of the rows' symbols times the first `count` weights, as symbols one after the other. `Terms` in place of the parameters would be no
+// plainer: what a caller proves of its rows is stated with their number, and weights that lie in a longer list would be cut at each call.
 pub fn combine_symbols(
     field: Field,
     weights: &[u16],

@@ -3,14 +3,15 @@ ghost use Rattle.std.specs.Prelude.{◌≡◌, true, ◌%◌, ◌≤◌, ◌<◌
 ghost use Rattle.lists.specs.Rows.{from};
 ghost use Rattle.lists.specs.Numbers.{all_below};
 ghost use Rattle.lists.specs.Padded.{padded};
-ghost use Rattle.generator.specs.Records.{size, Sound};
+ghost use Rattle.generator.specs.Records.{size};
 ghost use Rattle.generator.specs.Shifts.{negative as negative_of};
 ghost use Rattle.check_sums.specs.Inner.Powers.{powers_of};
 ghost use Rattle.spectrum.specs.Inner.Spectrum.{triangle, chirp_at, unchirped};
 
 use check_sums::lane::stepped;
 use field::Tables;
-use generator::Header;
+use field::lent::Arithmetic;
+use generator::Code;
 
 // −i modulo n.
 fn negative(n: usize, i: usize) -> usize
@@ -37,9 +38,9 @@ pub fn exponents(n: usize) -> [u8; 510]
 }
 
 // root^T(x).
-pub fn chirps(h: Header, powers: &[u16], exponents: &[u8; 510]) -> [u16; 510]
-    requires { Sound h × (powers.now ≡ padded 255 (powers_of h)) × (exponents.now ≡ from (λ x. triangle x % h.n) 0 510) }
-    ensures { result ≡ from (chirp_at h) 0 510 }
+pub fn chirps(code: Code, powers: &[u16], exponents: &[u8; 510]) -> [u16; 510]
+    requires { (powers.now ≡ padded 255 (powers_of code.header)) × (exponents.now ≡ from (λ x. triangle x % code.header.n) 0 510) }
+    ensures { result ≡ from (chirp_at code.header) 0 510 }
 {
     let mut out = [0u16; 510];
     for x in 0..510 {
@@ -51,21 +52,22 @@ pub fn chirps(h: Header, powers: &[u16], exponents: &[u8; 510]) -> [u16; 510]
 
 // Each symbol over root^T(j), and zeros after them.
 pub fn unchirp(
-    h: Header,
+    code: Code,
     tables: &Tables,
     powers: &[u16],
     exponents: &[u8; 510],
     symbols: &[u16],
 ) -> [u16; 255]
-    requires { Sound h × (powers.now ≡ padded 255 (powers_of h)) × (exponents.now ≡ from (λ x. triangle x % h.n) 0 510) × (length symbols.now ≤ 255) × (all_below (size h) symbols.now ≡ true) }
-    ensures { result ≡ padded 255 (unchirped h symbols.now) }
+    requires { (powers.now ≡ padded 255 (powers_of code.header)) × (exponents.now ≡ from (λ x. triangle x % code.header.n) 0 510) × (length symbols.now ≤ 255) × (all_below (size code.header) symbols.now ≡ true) }
+    ensures { result ≡ padded 255 (unchirped code.header symbols.now) }
 {
-    let field = h.field;
+    let h = code.header;
+    let field = Arithmetic::new(h.field, tables);
     let n = h.n as usize;
     let mut out = [0u16; 255];
     for j in 0..symbols.len() {
         let e = negative(n, exponents[j] as usize);
-        out[j] = field.mul_with(tables, symbols[j] as u32, powers[e] as u32) as u16;
+        out[j] = field.mul(symbols[j] as u32, powers[e] as u32) as u16;
     }
     out
 }

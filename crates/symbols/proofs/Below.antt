@@ -1,12 +1,28 @@
 -- A test of all values of a function: one at a time.
-use mathlib.Core.Path.{◌≡◌, sym}
-use mathlib.Core.Bool.{true, false, ◌&&◌, and-true, and_assoc}
-use Prim.Native.Nat.{ℕ, ◌+◌, ◌-◌, ◌≤◌, ◌<◌}
-use borrow.Author.Tests.{lt-ltb, le-ltb}
+use mathlib.Core.Path.{◌≡◌, ap, sym, ◌∙◌}
+use mathlib.Core.Bool.{true, false, ◌&&◌, and-true, and_assoc, and_comm}
+use Prim.Native.Nat.{ℕ, ◌+◌, ◌-◌, ◌≤◌, ◌<◌, max}
+use native.Mathlib.Omega.{arith}
+use borrow.Author.Tests.{lt-ltb, le-ltb, ltb-true, ltb-false}
 use lib.Dec.{ltb}
 use Rattle.lists.specs.Numbers.{all_below}
 use Rattle.lists.specs.Rows.{from}
+use Rattle.lists.proofs.Cases.{by_test}
 use Rattle.lists.proofs.Rows.{from_next, from_end}
+use Rattle.kernel.proofs.Maximum.{ltb_larger}
+
+-- both are below m where the larger one is
+pub ltb_max : (a b m : ℕ) → ltb (max a b) m ≡ (ltb a m && ltb b m)
+ltb_max a b m =
+    by_test (ltb b a)
+    (λ e.
+    let less = ltb-true b a e in
+    let is : max a b ≡ a = omega (arith, less) in
+    ap (λ x. ltb x m) is ∙ ltb_larger b a m (omega (arith, less)) ∙ and_comm (ltb b m) _)
+    (λ e.
+    let least = ltb-false b a e in
+    let is : max a b ≡ b = omega (arith, least) in
+    ap (λ x. ltb x m) is ∙ ltb_larger a b m (omega (arith, least)))
 
 module _ (m n : ℕ) (f : ℕ → ℕ) (i : ℕ) where
   -- the next one passes ..

@@ -1,7 +1,7 @@
 // Lists of symbols in a lent buffer, of one byte or of two bytes each, the high byte first.
 #![tactic(auto)]
 
-ghost use Rattle.std.specs.Prelude.{◌≡◌, true, ◌&&◌, ℕ, ◌*◌, ◌/◌, ◌^◌, ◌≤◌, ◌<◌, ltb, length};
+ghost use Rattle.std.specs.Prelude.{◌≡◌, true, ℕ, ◌*◌, ◌/◌, ◌^◌, ◌≤◌, ◌<◌, ltb, length};
 ghost use Rattle.lists.specs.Numbers.{all_below};
 ghost use Rattle.lists.specs.Padded.{padded};
 ghost use Rattle.layout.specs.Width.{symbol_at, symbols_of, symbol_bytes, bytes_of};
@@ -45,13 +45,6 @@ pub fn symbols_below(size: u32, w: usize, s: &[u8]) -> bool
     true
 }
 
-// The larger of two symbols.
-fn larger(a: u16, b: u16) -> u16
-    ensures { (m : ℕ) → ltb result m ≡ (ltb a m && ltb b m) }
-{
-    if a < b { b } else { a }
-}
-
 // The largest symbol of two bytes: all of them are below m where it is. Without a branch it takes less time than a search.
 fn largest_pair(s: &[u8]) -> u16
     ensures { (m : ℕ) → 0 < m → all_below m (symbols_of 2 s.now) ≡ ltb result m }
@@ -59,7 +52,7 @@ fn largest_pair(s: &[u8]) -> u16
     let count = s.len() / 2;
     let mut top: u16 = 0;
     for i in 0..count {
-        top = larger(top, symbol_at(2, s, i));
+        top = top.max(symbol_at(2, s, i));
     }
     top
 }

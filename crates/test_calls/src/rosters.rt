@@ -49,8 +49,8 @@ pub fn start(alloc: Global, words: &mut Words, roster: &mut Roster) -> Result<St
     stepped(alloc, roster, started.err())
 }
 
-// A node leaves or returns.
-pub fn event<F: FnOnce(&mut Roster, &[u8], u32) -> Result<(), Refusal>>(
+// A node leaves or returns; where that is turned away the roster stays.
+pub fn event<F: FnOnce(Roster, &[u8], u32) -> Result<Roster, Refusal>>(
     alloc: Global,
     words: &mut Words,
     roster: &mut Roster,
@@ -61,7 +61,8 @@ pub fn event<F: FnOnce(&mut Roster, &[u8], u32) -> Result<(), Refusal>>(
     let record = words.record()?;
     let node = words.number("node")?;
     words.end()?;
-    let answer = call(roster, &record, node);
+    let answer = call(*roster, &record, node);
+    *roster = answer.unwrap_or(*roster);
     stepped(alloc, roster, answer.err())
 }
 

@@ -13,6 +13,5 @@ mod turning;
 
 pub use columns::{gather_lanes, scatter};
 pub use gathering::gather64;
-pub use moves::move64;
 pub use scattering::scatter64;
-pub use size::{lanes64, small_scratch, tile_lanes};
+pub use size::{small_scratch, tile_lanes};

@@ -46,11 +46,3 @@ pub fn move_row(from: &[u8], to: &mut [u8])
         *byte = from[i];
     }
 }
-
-// 64 bytes, through registers.
-pub fn move64(from: &[u8], to: &mut [u8])
-    requires { (length from.now ≡ 64) × (length to.old ≡ 64) }
-    ensures { to.new ≡ from.now }
-{
-    u8x64::from_slice(from).copy_to_slice(to);
-}

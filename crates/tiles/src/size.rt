@@ -37,11 +37,3 @@ pub fn tile_lanes(rows: usize, size: usize, left: usize) -> usize
     }
     in_blocks(fitting)
 }
-
-// How many of the lanes that are left the next tile of 64 takes.
-pub fn lanes64(left: usize) -> usize
-    requires { 0 < left }
-    ensures { (0 < result) × (result ≤ left) × (result ≤ 64) }
-{
-    left.min(64)
-}

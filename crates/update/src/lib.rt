@@ -15,6 +15,7 @@ ghost use Rattle.blocks.specs.Blocks.{row_added, word_added};
 ghost use Rattle.update.specs.Inner.Words.{UpdatableWord};
 
 use field::Tables;
+use field::lent::Arithmetic;
 use generator::{Code, Refusal};
 use plan::Generator;
 
@@ -25,8 +26,8 @@ fn renewed(code: Code, tables: &Tables, x: u32, entry: u16, before: u16) -> u16
     requires { (x < size code.header) × (entry < size code.header) × (before < size code.header) }
     ensures { result ≡ add (modulus_of code.header) before (mul (modulus_of code.header) x entry) }
 {
-    let field = code.header.field;
-    let term = field.mul_with(tables, x, entry as u32);
+    let field = Arithmetic::new(code.header.field, tables);
+    let term = field.mul(x, entry as u32);
     field.add(before as u32, term) as u16
 }
 

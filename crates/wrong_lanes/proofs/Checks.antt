@@ -24,7 +24,6 @@ use Rattle.refusals.specs.Accepted.{SymbolRows}
 use Rattle.refusals.specs.Inner.Accepted.{SymbolBytes}
 use Rattle.row_sums.proofs.Columns.{dot_column}
 use Rattle.check_sums.specs.Inner.Powers.{factors_of}
-use Rattle.tile_products.specs.Inner.Products.{groups_of}
 use Rattle.tile_products.proofs.Beginning.{begun_made}
 use Rattle.tile_products.proofs.Fitting.{lists_fit}
 use Rattle.block_products.specs.declared.Product.{Product}
@@ -32,7 +31,7 @@ use Rattle.block_products.specs.Inner.Marks.{all_zero, zero_marks}
 use Rattle.block_products.specs.Inner.Ways.{side_of, out_bytes, result_bytes, lane_sum, Ready}
 use Rattle.block_products.proofs.Marks.{all_zero_ext}
 use Rattle.wrong_lanes.specs.Inner.Marks.{word_marks}
-use Rattle.wrong_lanes.specs.Inner.Checks.{CheckLists, check_product}
+use Rattle.wrong_lanes.specs.Inner.Checks.{CheckLists, CheckRoom, check_product}
 use Rattle.wrong_lanes.proofs.Marking.{sums_checks}
 
 module _ (h : Header) (e : ℕ) where
@@ -69,20 +68,20 @@ sums_words {h} {l} s w m ws is tell rows =
     ap (λ (b : Bool). pick b 0 1) (tell (lane_of lane_after_lane h.n l t (symbols_of w s)) (length_lane lane_after_lane h.n l t (symbols_of w s)) (lane_symbols by_lane h.n l (size h) t (symbols_of w s) (omega arith) rows.long rows.symbols))))
 
 -- the lists of the checks fit scratch for so many nodes, in groups of four
-pub check_room : (h : Header) (groups most : ℕ) → h.n ≤ most → most ≤ 4 * groups → ((h.n - h.k) * (8 * groups_of h.n) ≤ most * (8 * groups)) × ((h.n - h.k) * 8 ≤ most * 8)
-check_room h groups most few all = (lists_fit (h.n - h.k) h.n groups most (omega arith) (omega arith), omega arith)
+pub check_room : (h : Header) (groups most : ℕ) → h.n ≤ most → most ≤ 4 * groups → CheckRoom h (most * (8 * groups)) (most * 8)
+check_room h groups most few all = record { entries = lists_fit (h.n - h.k) h.n groups most (omega arith) (omega arith); sizes = omega arith }
 
 -- with them made, the product is ready
-pub checks_ready : {h : Header} {w l out : ℕ} {shares lists counts : List ℕ} → SymbolBytes h w h.n l shares → out ≡ l → CheckLists h lists counts → Ready (check_product h l) w lists counts shares out
+pub checks_ready : {h : Header} {w l out : ℕ} {shares lists counts : List ℕ} → SymbolBytes h w h.n l shares → out ≡ l → CheckRoom h (length lists) (length counts) → CheckLists h lists counts → Ready (check_product h l) w lists counts shares out
 unfolding width out_bytes
-checks_ready shares long checks =
+checks_ready shares long room checks =
     let sound = shares.symbol_rows.sound in
     record {
       usable_field = sound.usable_field;
       wide = shares.wide;
       few = sound.byte;
       few_lanes = shares.symbol_rows.few_lanes;
-      made = begun_made (omega (arith, sound.byte)) checks.lists_room checks.counts_room checks.begun;
+      made = begun_made (omega (arith, sound.byte)) room.entries room.sizes checks.begun;
       source_long = shares.bytes;
       out_long = long;
     }

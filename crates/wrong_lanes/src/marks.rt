@@ -1,21 +1,18 @@
 // Marks of the lanes that are no word of the code: one lane by its check sums, more as a product of matrices.
-ghost use Rattle.std.specs.Prelude.{◌≡◌, ◌-◌, ◌*◌, ◌≤◌, length};
+ghost use Rattle.std.specs.Prelude.{◌≡◌, ◌≤◌, length};
 ghost use Rattle.lists.specs.Choice.{pick};
 ghost use Rattle.lists.specs.Padded.{zeros};
-ghost use Rattle.layout.specs.Layout.{lane_after_lane, share_layout};
+ghost use Rattle.layout.specs.Layout.{share_layout};
 ghost use Rattle.layout.specs.Width.{symbols_of};
-ghost use Rattle.generator.specs.Records.{modulus_of, width};
+ghost use Rattle.generator.specs.Records.{width};
 ghost use Rattle.refusals.specs.Accepted.{SymbolBuffer};
-ghost use Rattle.refusals.specs.Inner.Accepted.{SymbolBytes};
-ghost use Rattle.tile_products.specs.Inner.Products.{Codes, groups_of};
 ghost use Rattle.wrong_lanes.specs.Inner.Marks.{word_marks};
-ghost use Rattle.wrong_lanes.specs.Inner.Checks.{check_product};
+ghost use Rattle.wrong_lanes.specs.Inner.Checks.{check_product, CheckRoom};
 
 use crate::check_rows::list_checks;
 use block_products::{Product, Way};
 use check_sums::lane;
-use generator::Header;
-use tile_products::scratch;
+use generator::Code;
 
 // The mark of a lane.
 fn mark_of(word: bool) -> u8
@@ -25,83 +22,61 @@ fn mark_of(word: bool) -> u8
 }
 
 // One lane alone, for which a product would take a whole tile's time.
-fn mark_lane(h: Header, w: usize, shares: &[u8], marks: &mut [u8])
-    requires { SymbolBytes h w h.n 1 shares.now × (length marks.old ≡ 1) }
-    ensures { marks.new ≡ word_marks lane_after_lane h 1 (symbols_of w shares.now) }
+fn mark_lane(code: Code, shares: &[u8], marks: &mut [u8])
+    requires { SymbolBuffer code.header code.header.n 1 shares.now × (length marks.old ≡ 1) }
+    ensures { marks.new ≡ word_marks share_layout code.header 1 (symbols_of (width code.header) shares.now) }
 {
+    let h = code.header;
     let n = h.n as usize;
-    let values = symbols::read_symbols(w, shares);
-    let word = lane::is_word(h, &values[..n]);
+    let values = symbols::read_symbols(symbols::width_of(h), shares);
+    let word = lane::is_word(code, &values[..n]);
     marks[0] = mark_of(word);
 }
 
 // The product of the checks and so many lanes.
-fn product_of(h: Header, lanes: usize) -> Product
-    requires { h.k ≤ h.n }
-    ensures { result ≡ check_product h lanes }
+fn product_of(code: Code, lanes: usize) -> Product
+    ensures { result ≡ check_product code.header lanes }
 {
-    let way = Way::LanesToMarks;
-    let field = h.field;
-    let checks = (h.n - h.k) as usize;
-    let nodes = h.n as usize;
+    let h = code.header;
     Product {
-        way: way,
-        field: field,
-        outputs: checks,
-        rows: nodes,
-        lanes: lanes,
+        way: Way::LanesToMarks,
+        field: h.field,
+        outputs: (h.n - h.k) as usize,
+        rows: h.n as usize,
+        lanes,
     }
 }
 
-// Marks of several lanes as a product of matrices, by lists in scratch that is long enough.
-fn mark_with(
-    h: Header,
-    w: usize,
+// Marks of several lanes as a product of matrices, in scratch for lists of so many elements and so many counts.
+fn mark_in<const LISTS: usize, const COUNTS: usize>(
+    code: Code,
     lanes: usize,
     shares: &[u8],
-    codes: &[u64],
-    lists: &mut [u16],
-    counts: &mut [u8],
     marks: &mut [u8],
 )
-    requires { SymbolBytes h w h.n lanes shares.now × (length marks.old ≡ lanes) × ((h.n - h.k) * (8 * groups_of h.n) ≤ length lists.old) × ((h.n - h.k) * 8 ≤ length counts.old) × Codes (modulus_of h) codes.now }
-    ensures { marks.new ≡ word_marks lane_after_lane h lanes (symbols_of w shares.now) }
+    requires { (LISTS ≤ 130560) × (COUNTS ≤ 2040) × CheckRoom code.header LISTS COUNTS × SymbolBuffer code.header code.header.n lanes shares.now × (length marks.old ≡ lanes) }
+    ensures { marks.new ≡ word_marks share_layout code.header lanes (symbols_of (width code.header) shares.now) }
 {
-    list_checks(h, lanes, codes, lists, counts);
-    block_products::fill(product_of(h, lanes), w, lists, counts, shares, marks);
+    let w = symbols::width_of(code.header);
+    let mut lists = [0u16; LISTS];
+    let mut counts = [0u8; COUNTS];
+    list_checks(code, lanes, &mut lists, &mut counts);
+    block_products::fill(product_of(code, lanes), w, &lists, &counts, shares, marks);
 }
 
-// The same in the smallest scratch that the record's nodes fit: clearing the largest takes longer than the work of a small record.
-fn mark_several(h: Header, w: usize, lanes: usize, shares: &[u8], marks: &mut [u8])
-    requires { SymbolBytes h w h.n lanes shares.now × (length marks.old ≡ lanes) }
-    ensures { marks.new ≡ word_marks lane_after_lane h lanes (symbols_of w shares.now) }
+// Marks all lanes, which have the mark 0 before, in the smallest scratch that the record's nodes fit: clearing the largest takes longer than the work of a small record.
+pub fn mark_lanes(code: Code, lanes: usize, shares: &[u8], marks: &mut [u8])
+    requires { SymbolBuffer code.header code.header.n lanes shares.now × (marks.old ≡ zeros lanes) }
+    ensures { marks.new ≡ word_marks share_layout code.header lanes (symbols_of (width code.header) shares.now) }
 {
-    let field = h.field;
-    let codes = tile_products::codes_of(field);
-    if h.n <= 16 {
-        let mut lists = scratch::small_lists();
-        let mut counts = scratch::small_counts();
-        return mark_with(h, w, lanes, shares, &codes, &mut lists, &mut counts, marks);
-    }
-    if h.n <= 64 {
-        let mut lists = scratch::middle_lists();
-        let mut counts = scratch::middle_counts();
-        return mark_with(h, w, lanes, shares, &codes, &mut lists, &mut counts, marks);
-    }
-    let mut lists = scratch::large_lists();
-    let mut counts = scratch::large_counts();
-    mark_with(h, w, lanes, shares, &codes, &mut lists, &mut counts, marks);
-}
-
-// Marks all lanes, which have the mark 0 before.
-pub fn mark_lanes(h: Header, lanes: usize, shares: &[u8], marks: &mut [u8])
-    requires { SymbolBuffer h h.n lanes shares.now × (marks.old ≡ zeros lanes) }
-    ensures { marks.new ≡ word_marks share_layout h lanes (symbols_of (width h) shares.now) }
-{
-    let w = symbols::width_of(h);
+    let n = code.header.n;
     if lanes == 1 {
-        mark_lane(h, w, shares, marks);
-        return;
+        mark_lane(code, shares, marks)
+    } else if n <= 16 {
+        mark_in::<512, 128>(code, lanes, shares, marks)
+    } else if n <= 64 {
+        mark_in::<8192, 512>(code, lanes, shares, marks)
+    } else {
+        mark_in::<130560, 2040>(code, lanes, shares, marks)
     }
-    mark_several(h, w, lanes, shares, marks);
 }

@@ -1,54 +1,19 @@
 -- `correct_wrong` meets its contract: the rows of powers are made, then the lanes are set right.
-use mathlib.Core.Path.{◌≡◌, sym, ◌∙◌}
 use Prim.Native.Nat.{◌-◌, ◌*◌, ◌≤◌}
 use native.Mathlib.Omega.{arith}
-use lib.ListN.{length}
-use lib.Seq.{length-take-le}
-use Rattle.check_sums.specs.Inner.Sums.{power_rows}
 use Rattle.check_sums.proofs.Sizes.{lane_small, rows_small}
-use Rattle.check_sums.proofs.Prefix.{whole_fits, whole_is, length_whole}
-use Rattle.check_sums.proofs.OneLane.{length_power_rows}
 use Rattle.correct.proofs.correct_wrong.Goals as goal
-use Rattle.correct.proofs.correct_wrong.Goals.{After-struct_known-2-1}
+use Rattle.correct.proofs.correct_wrong.Goals.{After-width_of}
 
 -- the rows fit the room for them
-size_fits : (c : After-struct_known-2-1) → let h = c.args.h in c.width_of-w.result * h.n * (h.n - h.k) ≤ 130050
-size_fits c = rows_small c.args.h c.requires.sound _ c.width_of-w.ensures.0
-
--- so many bytes they are
-long : (c : After-struct_known-2-1) → let h = c.args.h in length (power_rows h) ≡ c.width_of-w.result * h.n * (h.n - h.k)
-long c = length_power_rows c.args.h ∙ rw (← c.width_of-w.ensures.0)
-
-pub width_of-w-requires : goal.width_of-w-requires
-width_of-w-requires c = c.requires.sound.usable_field
+size_fits : (c : After-width_of) → let h = c.args.code.header in c.width_of.result * h.n * (h.n - h.k) ≤ 130050
+size_fits c = rows_small c.args.code.header c.args.code.sound _ c.width_of.ensures.0
 
 pub overflow_mul-size : goal.overflow_mul-size
-overflow_mul-size c = omega (arith, lane_small c.args.h c.requires.sound _ c.width_of-w.ensures.0)
-
-pub overflow_sub-size : goal.overflow_sub-size
-overflow_sub-size c = omega (arith, c.requires.sound.fits)
+overflow_mul-size c = omega (arith, lane_small c.args.code.header c.args.code.sound _ c.width_of.ensures.0)
 
 pub overflow_mul-size-2 : goal.overflow_mul-size-2
-overflow_mul-size-2 c = omega (arith, size_fits c)
+overflow_mul-size-2 c = omega (arith, size_fits (goal.at.overflow_mul-size-2 c).After-width_of)
 
-pub slice_bounds-rows-end : goal.slice_bounds-rows-end
-slice_bounds-rows-end c = omega (arith, size_fits (goal.at.slice_bounds-rows-end c).After-struct_known-2-1, c.room-rows.ensures)
-
-pub slice_bounds-fill_power_rows-end : goal.slice_bounds-fill_power_rows-end
-slice_bounds-fill_power_rows-end c = sym (length-take-le _ _ (omega (arith, size_fits (goal.at.slice_bounds-fill_power_rows-end c).After-struct_known-2-1, c.room-rows.ensures)))
-
-pub fill_power_rows-requires : goal.fill_power_rows-requires
-fill_power_rows-requires c = (c.requires.sound, sym (slice_bounds-fill_power_rows-end c) ∙ rw c.width_of-w.ensures.0)
-
-pub slice_bounds-rows-end-2 : goal.slice_bounds-rows-end-2
-slice_bounds-rows-end-2 c = whole_fits _ _ _ _ c.fill_power_rows.ensures (long (goal.at.slice_bounds-rows-end-2 c).After-struct_known-2-1)
-
-pub slice_bounds-correct_marked-end : goal.slice_bounds-correct_marked-end
-slice_bounds-correct_marked-end c = sym (length_whole _ _ _ _ c.fill_power_rows.ensures (long (goal.at.slice_bounds-correct_marked-end c).After-struct_known-2-1))
-
-pub correct_marked-requires : goal.correct_marked-requires
-correct_marked-requires c =
-    (c.requires, whole_is _ _ _ _ c.fill_power_rows.ensures (long (goal.at.correct_marked-requires c).After-struct_known-2-1))
-
-pub returns : goal.returns
-returns c = c.correct_marked.ensures
+pub slice_bounds-room-end : goal.slice_bounds-room-end
+slice_bounds-room-end c = omega (arith, size_fits (goal.at.slice_bounds-room-end c).After-width_of, c.room-room.ensures)

@@ -1,6 +1,5 @@
--- `correct_lane` meets its contract: the candidate is near enough and a word, or the lane stays.
+-- `correct_lane` meets its contract: the candidate is near enough and a word, or no word is.
 use mathlib.Core.Path.{◌≡◌, sym, ap, ◌∙◌}
-use native.Mathlib.Omega.{arith}
 use lib.ListN.{length, take}
 use Rattle.lists.proofs.Padding.{take_padded}
 use Rattle.lists.specs.Counting.{differ}
@@ -11,17 +10,14 @@ use Rattle.decode.proofs.correct_lane.Goals as goal
 use Rattle.decode.proofs.correct_lane.Goals.{After-candidate-word, After-differing-altered, After-is_word_with}
 
 -- the first n places of the candidate are its word
-word : (c : After-candidate-word) → take c.args.h.n c.candidate-word.result ≡ c.candidate-word.ensures.word
+word : (c : After-candidate-word) → take c.args.code.header.n c.candidate-word.result ≡ c.candidate-word.ensures.word
 word c = let k = c.candidate-word.ensures in rw k.array_is (take_padded 255 _ k.word k.long)
 
-word_long : (c : After-candidate-word) → c.args.h.n ≡ length (take c.args.h.n c.candidate-word.result)
+word_long : (c : After-candidate-word) → c.args.code.header.n ≡ length (take c.args.code.header.n c.candidate-word.result)
 word_long c = sym (ap length (word c) ∙ c.candidate-word.ensures.long)
 
 pub sums_with-sums-requires : goal.sums_with-sums-requires
-sums_with-sums-requires c = let s = c.requires in (s.0.sound, s.1, s.0.long, s.0.below)
-
-pub constant_tables-tables-requires : goal.constant_tables-tables-requires
-constant_tables-tables-requires c = _
+sums_with-sums-requires c = let s = c.requires in (s.1, s.0.long, s.0.below)
 
 pub candidate-word-requires : goal.candidate-word-requires
 candidate-word-requires c = (c.requires.0, c.sums_with-sums.ensures)
@@ -32,44 +28,33 @@ slice_bounds-differing-end c = word_long (goal.at.slice_bounds-differing-end c).
 pub differing-altered-requires : goal.differing-altered-requires
 differing-altered-requires c = sym (word_long (goal.at.differing-altered-requires c).After-candidate-word) ∙ sym c.requires.0.long
 
-pub kept-requires : goal.kept-requires
-kept-requires c =
-    let s = c.requires in omega (arith, s.0.long, c.struct_known-1.given)
-
 -- at how many nodes the candidate differs, and whether it is a word
 distance : (c : After-differing-altered) → c.differing-altered.result ≡ differ c.args.lane.now c.candidate-word.ensures.word
 distance c = rw (word (goal.at.After-differing-altered c).After-candidate-word) at c.differing-altered.ensures
 
-tested : (c : After-is_word_with) → c.is_word_with.result ≡ is_word c.args.h c.candidate-word.ensures.word
+tested : (c : After-is_word_with) → c.is_word_with.result ≡ is_word c.args.code.header c.candidate-word.ensures.word
 tested c = rw (word (goal.at.After-is_word_with c).After-candidate-word) at c.is_word_with.ensures
 
 pub returns-then-t-altered : goal.returns-then-t-altered
 unfolding radius
 returns-then-t-altered c =
     let k = c.candidate-word in
-    rw (c.kept.ensures.1, c.kept.ensures.2) (says_far c.args.h c.args.lane.now k.result c.requires.0 k.ensures (rw (← distance (goal.at.returns-then-t-altered c).After-differing-altered) c.if-t-altered.true) _ c.kept.ensures.0)
-
-pub slice_bounds-is_word_with-end : goal.slice_bounds-is_word_with-end
-slice_bounds-is_word_with-end c = word_long (goal.at.slice_bounds-is_word_with-end c).After-candidate-word
+    says_far c.args.code.header c.args.lane.now k.result c.requires.0 k.ensures (rw (← distance (goal.at.returns-then-t-altered c).After-differing-altered) c.if-t-altered.true)
 
 pub is_word_with-requires : goal.is_word_with-requires
 is_word_with-requires c =
     let s = c.requires in
     let k = c.candidate-word.ensures in
-    rw (word (goal.at.is_word_with-requires c).After-candidate-word) (s.0.sound, s.1, k.long, k.below)
+    rw (word (goal.at.is_word_with-requires c).After-candidate-word) (s.1, k.long, k.below)
 
 pub returns-then-is_word_with : goal.returns-then-is_word_with
 unfolding radius
 returns-then-is_word_with c =
     let k = c.candidate-word in
     let d = distance (goal.at.returns-then-is_word_with c).After-differing-altered in
-    rw d (says_near c.args.h c.args.lane.now k.result c.requires.0 k.ensures (rw (← d) c.if-t-altered.false) (sym (tested (goal.at.returns-then-is_word_with c).After-is_word_with) ∙ c.if-is_word_with.true))
-
-pub kept-requires-2 : goal.kept-requires-2
-kept-requires-2 c =
-    let s = c.requires in omega (arith, s.0.long, c.struct_known-1.given)
+    rw d (says_near c.args.code.header c.args.lane.now k.result c.requires.0 k.ensures (rw (← d) c.if-t-altered.false) (sym (tested (goal.at.returns-then-is_word_with c).After-is_word_with) ∙ c.if-is_word_with.true))
 
 pub returns : goal.returns
 returns c =
     let k = c.candidate-word in
-    rw (c.kept-2.ensures.1, c.kept-2.ensures.2) (says_none c.args.h c.args.lane.now k.result c.requires.0 k.ensures (sym (tested (goal.at.returns c).After-is_word_with) ∙ c.if-is_word_with.false) _ c.kept-2.ensures.0)
+    says_none c.args.code.header c.args.lane.now k.result c.requires.0 k.ensures (sym (tested (goal.at.returns c).After-is_word_with) ∙ c.if-is_word_with.false)

@@ -13,19 +13,19 @@ use Rattle.decode.proofs.wrong_nodes.Goals as goal
 use Rattle.decode.proofs.wrong_nodes.Goals.{After-locate-locator}
 
 -- the locator's coefficients
-front_long : (c : After-locate-locator) → let h = c.args.h in length (take ((h.n - h.k) / 2 + 1) c.locate-locator.result) ≡ (h.n - h.k) / 2 + 1
-front_long c = length-take-le _ c.locate-locator.result (omega (arith, c.locate-locator.ensures.long, c.struct_known-1.given))
+front_long : (c : After-locate-locator) → let h = c.args.code.header in length (take ((h.n - h.k) / 2 + 1) c.locate-locator.result) ≡ (h.n - h.k) / 2 + 1
+front_long c = length-take-le _ c.locate-locator.result (omega (arith, c.locate-locator.ensures.long, c.args.code.sound.byte))
 
-front_below : (c : After-locate-locator) → let h = c.args.h in all_below (size h) (take ((h.n - h.k) / 2 + 1) c.locate-locator.result) ≡ true
+front_below : (c : After-locate-locator) → let h = c.args.code.header in all_below (size h) (take ((h.n - h.k) / 2 + 1) c.locate-locator.result) ≡ true
 front_below c =
-    let h = c.args.h in
-    at_below _ _ (λ i b. rw (get_or-take ((h.n - h.k) / 2 + 1) c.locate-locator.result i 0 (omega (arith, front_long c))) (c.locate-locator.ensures.below i))
+    let h = c.args.code.header in
+    at_below _ _ (λ i b. rw (get_or-take ((h.n - h.k) / 2 + 1) c.locate-locator.result i 0 (omega (arith, front_long c))) (rw c.new-field.ensures at (c.locate-locator.ensures.below i)))
 
 pub locate-locator-requires : goal.locate-locator-requires
-locate-locator-requires c = let s = c.requires in (s.0.usable_field, omega (arith, c.struct_known-1.given), s.1)
+locate-locator-requires c = (omega (arith, c.args.code.sound.byte), rw c.new-field.ensures c.requires)
 
 pub slice_bounds-locator-end : goal.slice_bounds-locator-end
-slice_bounds-locator-end c = omega (arith, c.locate-locator.ensures.long, c.struct_known-1.given)
+slice_bounds-locator-end c = omega (arith, c.locate-locator.ensures.long, c.args.code.sound.byte)
 
 pub slice_bounds-find_roots-end : goal.slice_bounds-find_roots-end
 slice_bounds-find_roots-end c = sym (front_long (goal.at.slice_bounds-find_roots-end c).After-locate-locator)
@@ -33,15 +33,14 @@ slice_bounds-find_roots-end c = sym (front_long (goal.at.slice_bounds-find_roots
 pub find_roots-requires : goal.find_roots-requires
 find_roots-requires c =
     let s = c.requires in
-    (record { usable_field = s.0.usable_field; below = front_below (goal.at.find_roots-requires c).After-locate-locator; short = omega (arith, front_long (goal.at.find_roots-requires c).After-locate-locator, c.struct_known-1.given) }, s.0.root_below, omega (arith, c.struct_known-1.given))
+    rw c.new-field.ensures (record { below = front_below (goal.at.find_roots-requires c).After-locate-locator; short = omega (arith, front_long (goal.at.find_roots-requires c).After-locate-locator, c.args.code.sound.byte) }, c.args.code.sound.root_below, omega (arith, c.args.code.sound.byte))
 
 pub returns : goal.returns
 unfolding radius
 returns c =
     record {
-      few = omega (arith, c.struct_known-1.given);
+      few = omega (arith, c.args.code.sound.byte);
       locator = c.locate-locator.result;
-      locates = c.locate-locator.ensures;
-      listed = c.find_roots.ensures.0;
-      counted = c.find_roots.ensures.1;
+      locates = rw c.new-field.ensures at c.locate-locator.ensures;
+      listed = rw c.new-field.ensures at c.find_roots.ensures;
     }

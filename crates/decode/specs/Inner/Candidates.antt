@@ -14,13 +14,12 @@ pub record SoundLane (h : Header) (ws : List ℕ) : Type 0 where
   pub long : length ws ≡ h.n
   pub below : all_below (size h) ws ≡ true
 
--- of at most 255 nodes those at which a locator of the check sums vanishes, with zeros after them
-pub record WrongNodes (h : Header) (sums nodes : List ℕ) (count : ℕ) : Type 0 where
+-- of at most 255 nodes those at which a locator of the check sums vanishes
+pub record WrongNodes (h : Header) (sums nodes : List ℕ) : Type 0 where
   pub few : h.n ≤ 255
   pub locator : List ℕ
   pub locates : Locates (modulus_of h) (radius h) sums locator
-  pub listed : nodes ≡ padded 255 (roots_of (modulus_of h) h.root h.n (take (radius h + 1) locator))
-  pub counted : count ≡ length (roots_of (modulus_of h) h.root h.n (take (radius h + 1) locator))
+  pub listed : nodes ≡ roots_of (modulus_of h) h.root h.n (take (radius h + 1) locator)
 
 -- n symbols, and zeros after them, that every word near to ws must be
 pub record Candidate (h : Header) (ws array : List ℕ) : Type 0 where

@@ -4,8 +4,7 @@ use Prim.Native.Nat.{◌<◌}
 use native.Mathlib.Omega.{arith}
 use lib.ListN.{length, get_or}
 use Rattle.lists.proofs.Numbers.{below_at}
-use Rattle.field.proofs.Inverse.{inverse_below}
-use Rattle.generator.specs.Records.{modulus_of, size}
+use Rattle.generator.specs.Records.{size}
 use Rattle.generator.specs.Shifts.{firsts}
 use Rattle.generator.specs.Generator.{entry}
 use Rattle.generator.proofs.Bounds.{entry_below}
@@ -36,9 +35,9 @@ over c =
     let h = c.args.code.header in
     rw plan (rw (shift_in h sound c.args.row row, first_place h sound c.args.row row) at (entry_read h sound c.args.row (get_or (firsts h) c.args.row 0) row (first_node h sound c.args.row row)))
 
-pub inverse_with-over-requires : goal.inverse_with-over-requires
-inverse_with-over-requires c = let sound = c.args.code.sound in
-    let (plan, row, lane) = c.requires in (sound.usable_field, rw (over (goal.at.inverse_with-over-requires c).Start) (entry_below _ sound _ _))
+pub inverse-over-requires : goal.inverse-over-requires
+inverse-over-requires c =
+    rw (c.new-field.ensures, over (goal.at.inverse-over-requires c).Start) (entry_below _ c.args.code.sound _ _)
 
 pub offset_bounds-difference-first : goal.offset_bounds-difference-first
 offset_bounds-difference-first c = omega (arith, inside (goal.at.offset_bounds-difference-first c).Start)
@@ -49,12 +48,11 @@ bounds-difference-first c = (inside (goal.at.bounds-difference-first c).Start).0
 pub overflow_cast-difference : goal.overflow_cast-difference
 overflow_cast-difference c = omega (arith, c.type_inv.difference (get_or c.args.plan.firsts c.args.row 0))
 
-pub mul_with-requires : goal.mul_with-requires
-mul_with-requires c =
-    let sound = c.args.code.sound in
+pub mul-requires : goal.mul-requires
+mul-requires c =
     let (plan, row, lane) = c.requires in
-    (sound.usable_field, below_at (size c.args.code.header) c.args.difference.now lane.symbols _ (inside (goal.at.mul_with-requires c).Start).0, rw c.inverse_with-over.ensures (inverse_below (modulus_of c.args.code.header) sound.field (rw (over (goal.at.mul_with-requires c).Start) (entry_below _ sound _ _))))
+    (rw c.new-field.ensures (below_at (size c.args.code.header) c.args.difference.now lane.symbols _ (inside (goal.at.mul-requires c).Start).0), c.inverse-over.ensures.symbol)
 
 pub returns : goal.returns
 unfolding amount_in
-returns c = rw (c.mul_with.ensures, c.inverse_with-over.ensures, over (goal.at.returns c).Start, first (goal.at.returns c).Start)
+returns c = rw (c.mul.ensures.is, c.inverse-over.ensures.is, c.new-field.ensures, over (goal.at.returns c).Start, first (goal.at.returns c).Start)

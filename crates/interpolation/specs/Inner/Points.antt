@@ -1,14 +1,11 @@
 -- Lists of points: powers of the root, symbols of a field.
 use Rattle.std.specs.Prelude.{◌≡◌, true, List, map, ℕ, ◌+◌, ◌≤◌, length}
 use Rattle.lists.specs.Numbers.{all_below}
-use Rattle.field.specs.declared.Field.{Field}
 use Rattle.field.specs.Fields.{size_of, power}
-use Rattle.field.specs.Kinds.{modulus, usable}
 
--- at most 255 symbols of a field
-pub record SymbolList (f : Field) (xs : List ℕ) : Type 0 where
-  pub usable_field : usable f ≡ true
-  pub below : all_below (size_of (modulus f)) xs ≡ true
+-- at most 255 symbols of the field that p names
+pub record SymbolList (p : ℕ) (xs : List ℕ) : Type 0 where
+  pub below : all_below (size_of p) xs ≡ true
   pub short : length xs ≤ 255
 
 -- root^(j + e) for each j of the list

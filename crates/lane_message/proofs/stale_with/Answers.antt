@@ -46,7 +46,7 @@ slice_bounds-symbol_from-end c = rw (part (goal.at.slice_bounds-symbol_from-end 
 pub symbol_from-symbol-requires : goal.symbol_from-symbol-requires
 symbol_from-symbol-requires c =
     let h = c.args.code.header in
-    (c.args.code.sound, c.requires.0, rw (part (goal.at.symbol_from-symbol-requires c).After-spectrum_of-spectrum) (length_spectrum h c.args.lane.now), rw (part (goal.at.symbol_from-symbol-requires c).After-spectrum_of-spectrum) (spectrum_below h c.args.code.sound c.args.lane.now c.requires.2), c.requires.3, c.requires.4)
+    (c.requires.0, rw (part (goal.at.symbol_from-symbol-requires c).After-spectrum_of-spectrum) (length_spectrum h c.args.lane.now), rw (part (goal.at.symbol_from-symbol-requires c).After-spectrum_of-spectrum) (spectrum_below h c.args.code.sound c.args.lane.now c.requires.2), c.requires.3, c.requires.4)
 
 pub returns-in_err-when : goal.returns-in_err-when
 unfolding stale_fault

@@ -29,7 +29,7 @@ pub sums-sums-requires : goal.sums-sums-requires
 sums-sums-requires c =
     let sound = c.args.code.sound in
     let (lane, nodes, symbols) = c.requires in
-    (sound, lane.long, lane.symbols)
+    (lane.long, lane.symbols)
 
 pub slice_bounds-all_zero-end : goal.slice_bounds-all_zero-end
 slice_bounds-all_zero-end c = sym (length_part (goal.at.slice_bounds-all_zero-end c).After-sums-sums)

@@ -15,41 +15,40 @@ use Rattle.node_weights.proofs.prepare.Goals.{After-base-base}
 
 -- the base polynomial has k coefficients, at most 255, and so the array's part
 part : (c : After-base-base)
-    → let h = c.args.h in
+    → let h = c.args.code.header in
     let cs = base_of (modulus_of h) h.root (h.k - 1) in
     (take h.k c.base-base.result ≡ cs) × (length cs ≡ h.k) × (h.k ≤ 255)
 part c =
-    let h = c.args.h in
-    let s = c.requires.0 in
+    let h = c.args.code.header in
+    let s = c.args.code.sound in
     let size : length (base_of (modulus_of h) h.root (h.k - 1)) ≡ h.k = omega (arith, length_base_of (modulus_of h) h.root (h.k - 1), s.some) in
-    (rw c.base-base.ensures (take_padded 256 h.k _ size), size, omega (arith, c.struct_known-1.given))
+    (rw (c.base-base.ensures, c.new-field.ensures) (take_padded 256 h.k _ size), size, omega (arith, s.fits, s.byte))
 
 pub slice_bounds-inverses-end : goal.slice_bounds-inverses-end
 slice_bounds-inverses-end c = let t = part (goal.at.slice_bounds-inverses-end c).After-base-base in rw t.0 (sym t.1)
 
 pub inverses-inverses-requires : goal.inverses-inverses-requires
 inverses-inverses-requires c =
-    let s = c.requires.0 in
+    let s = c.args.code.sound in
     let t = part (goal.at.inverses-inverses-requires c).After-base-base in
-    rw t.0 record { usable_field = s.usable_field; below = base_of_below _ s.field _ _ s.root_below; short = omega (arith, t.1, t.2) }
+    rw (c.new-field.ensures, t.0) record { below = base_of_below _ s.field _ _ s.root_below; short = omega (arith, t.1, t.2) }
 
 pub lagrange_basis-own-requires : goal.lagrange_basis-own-requires
 lagrange_basis-own-requires c =
     let p = c.requires in
-    let s = p.0 in
     let t = part (goal.at.lagrange_basis-own-requires c).After-base-base in
-    (s.usable_field, s.root_below, omega (arith, (nodes_places _ _ p.1).size, t.2), omega arith)
+    (rw c.new-field.ensures c.args.code.sound.root_below, omega (arith, (nodes_places _ _ p.0).size, t.2), omega arith)
 
 pub lagrange_basis-rows-requires : goal.lagrange_basis-rows-requires
 lagrange_basis-rows-requires c =
-    let h = c.args.h in
+    let h = c.args.code.header in
     let p = c.requires in
-    let s = p.0 in
+    let s = c.args.code.sound in
     let t = part (goal.at.lagrange_basis-rows-requires c).After-base-base in
-    (s.usable_field, s.root_below, rw (p.2, shifts_length h.n h.k s.some s.fits) t.2, omega (arith, t.2))
+    (rw c.new-field.ensures s.root_below, rw (p.1, shifts_length h.n h.k s.some s.fits) t.2, omega (arith, t.2))
 
 pub returns : goal.returns
 unfolding setup_of row_points base_inverses
 returns c =
     let p = c.requires in
-    rw (c.lagrange_basis-own.ensures, c.lagrange_basis-rows.ensures, c.inverses-inverses.ensures, (part (goal.at.returns c).After-base-base).0, p.2)
+    rw (c.lagrange_basis-own.ensures, c.lagrange_basis-rows.ensures, c.inverses-inverses.ensures, c.new-field.ensures, (part (goal.at.returns c).After-base-base).0, p.1)

@@ -4,7 +4,6 @@ use Prim.Native.Nat.{◌≤◌}
 use native.Mathlib.Omega.{arith}
 use lib.ListN.{length, take}
 use Rattle.lists.proofs.Padding.{take_padded}
-use Rattle.field.proofs.Bounds.{power_below}
 use Rattle.generator.specs.Records.{modulus_of}
 use Rattle.generator.proofs.Recovery.{nodes_places}
 use Rattle.interpolation.specs.Inner.Points.{SymbolList, points_of}
@@ -16,63 +15,62 @@ use Rattle.node_weights.proofs.rebuild_weights.Goals as goal
 use Rattle.node_weights.proofs.rebuild_weights.Goals.{After-points-points, After-power-z, After-scales-scales}
 
 -- the list of nodes has the length k, which is at most 255
-few : (c : After-power-z) → let a = c.args in (length a.nodes.now ≡ a.h.k) × (a.h.k ≤ 255)
-few c = ((nodes_places _ _ c.requires.1).size, omega (arith, c.struct_known-1.given))
+few : (c : After-power-z) → let a = c.args in (length a.nodes.now ≡ a.code.header.k) × (a.code.header.k ≤ 255)
+few c = ((nodes_places _ _ c.requires.0).size, omega (arith, c.args.code.sound.fits, c.args.code.sound.byte))
 
 pub points-points-requires : goal.points-points-requires
 points-points-requires c =
-    let s = c.requires.0 in
     let n = few (goal.at.points-points-requires c).After-power-z in
-    (s.usable_field, s.root_below, omega arith, omega arith)
+    (rw c.new-field.ensures c.args.code.sound.root_below, omega arith, omega arith)
 
 -- the part of the array that holds the points
 part : (c : After-points-points)
     → let a = c.args in
-    take a.h.k c.points-points.result ≡ points_of (modulus_of a.h) a.h.root 0 a.nodes.now
+    take a.code.header.k c.points-points.result ≡ points_of (modulus_of a.code.header) a.code.header.root 0 a.nodes.now
 part c =
     let a = c.args in
-    rw c.points-points.ensures (take_padded 255 a.h.k _ (length_points (modulus_of a.h) a.h.root 0 a.nodes.now ∙ (few (goal.at.After-points-points c).After-power-z).0))
+    rw (c.points-points.ensures, c.new-field.ensures) (take_padded 255 a.code.header.k _ (length_points (modulus_of a.code.header) a.code.header.root 0 a.nodes.now ∙ (few (goal.at.After-points-points c).After-power-z).0))
 
 -- there are k points
-many : (c : After-points-points) → let a = c.args in a.h.k ≡ length (take a.h.k c.points-points.result)
+many : (c : After-points-points) → let a = c.args in a.code.header.k ≡ length (take a.code.header.k c.points-points.result)
 many c =
     let a = c.args in
-    rw (part c) (sym (length_points (modulus_of a.h) a.h.root 0 a.nodes.now ∙ (few (goal.at.After-points-points c).After-power-z).0))
+    rw (part c) (sym (length_points (modulus_of a.code.header) a.code.header.root 0 a.nodes.now ∙ (few (goal.at.After-points-points c).After-power-z).0))
 
 -- they are symbols
-symbols : (c : After-points-points) → let a = c.args in SymbolList a.h.field (take a.h.k c.points-points.result)
+symbols : (c : After-points-points) → let a = c.args in SymbolList (modulus_of a.code.header) (take a.code.header.k c.points-points.result)
 symbols c =
     let a = c.args in
-    let s = c.requires.0 in
+    let s = c.args.code.sound in
     let n = few (goal.at.After-points-points c).After-power-z in
-    rw (part c) (points_symbols a.h.root 0 a.nodes.now s.usable_field s.root_below (omega arith))
+    rw (part c) (points_symbols (modulus_of a.code.header) a.code.header.root 0 a.nodes.now s.field s.root_below (omega arith))
 
 pub slice_bounds-scales-end : goal.slice_bounds-scales-end
 slice_bounds-scales-end c = many (goal.at.slice_bounds-scales-end c).After-points-points
 
 pub scales-scales-requires : goal.scales-scales-requires
-scales-scales-requires c = symbols (goal.at.scales-scales-requires c).After-points-points
+scales-scales-requires c = rw c.new-field.ensures (symbols (goal.at.scales-scales-requires c).After-points-points)
 
 -- their scales as they are lent
-scales-are : (c : After-scales-scales) → let a = c.args in let xs = take a.h.k c.points-points.result in take a.h.k c.scales-scales.result ≡ scales_of (modulus_of a.h) xs
+scales-are : (c : After-scales-scales) → let a = c.args in let xs = take a.code.header.k c.points-points.result in take a.code.header.k c.scales-scales.result ≡ scales_of (modulus_of a.code.header) xs
 scales-are c =
     let a = c.args in
-    let xs = take a.h.k c.points-points.result in
-    rw c.scales-scales.ensures (take_padded 255 a.h.k _ (length_scales (modulus_of a.h) xs ∙ sym (many (goal.at.After-scales-scales c).After-points-points)))
+    let xs = take a.code.header.k c.points-points.result in
+    rw (c.scales-scales.ensures, c.new-field.ensures) (take_padded 255 a.code.header.k _ (length_scales (modulus_of a.code.header) xs ∙ sym (many (goal.at.After-scales-scales c).After-points-points)))
 
 pub slice_bounds-values-end : goal.slice_bounds-values-end
 slice_bounds-values-end c = many (goal.at.slice_bounds-values-end c).After-points-points
 
 pub slice_bounds-values-end-2 : goal.slice_bounds-values-end-2
 slice_bounds-values-end-2 c =
-    rw (scales-are (goal.at.slice_bounds-values-end-2 c).After-scales-scales) (many (goal.at.slice_bounds-values-end-2 c).After-points-points ∙ sym (length_scales _ (take c.args.h.k c.points-points.result)))
+    rw (scales-are (goal.at.slice_bounds-values-end-2 c).After-scales-scales) (many (goal.at.slice_bounds-values-end-2 c).After-points-points ∙ sym (length_scales _ (take c.args.code.header.k c.points-points.result)))
 
 pub values-requires : goal.values-requires
 values-requires c =
-    let s = c.requires.0 in (symbols (goal.at.values-requires c).After-points-points, scales-are (goal.at.values-requires c).After-scales-scales, rw c.power-z.ensures (power_below _ s.field _ s.root_below))
+    (rw c.new-field.ensures (symbols (goal.at.values-requires c).After-points-points), rw c.new-field.ensures (scales-are (goal.at.values-requires c).After-scales-scales), c.power-z.ensures.symbol)
 
 pub returns : goal.returns
 returns c =
     let a = c.args in
     let s = c.requires in
-    rw (c.values.ensures, part (goal.at.returns c).After-points-points, c.power-z.ensures) (rebuilds a.h s.0 a.nodes.now s.1 a.target (few (goal.at.returns c).After-power-z).1)
+    rw (c.values.ensures, part (goal.at.returns c).After-points-points, c.power-z.ensures.is, c.new-field.ensures) (rebuilds a.code.header c.args.code.sound a.nodes.now s.0 a.target (few (goal.at.returns c).After-power-z).1)

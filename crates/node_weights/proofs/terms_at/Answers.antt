@@ -10,47 +10,47 @@ use Rattle.interpolation.proofs.Coefficients.{length_product_of}
 use Rattle.node_weights.specs.Inner.Rows.{basis_of, row_points, base_inverses}
 use Rattle.node_weights.proofs.Parts.{Symbols, parts, row_symbols, base_symbols}
 use Rattle.node_weights.proofs.terms_at.Goals as goal
-use Rattle.node_weights.proofs.terms_at.Goals.{After-struct_known-1}
+use Rattle.node_weights.proofs.terms_at.Goals.{Start}
 
-few : (c : After-struct_known-1) → c.args.h.k ≤ 255
-few c = omega (arith, c.struct_known-1.given)
+few : (c : Start) → c.args.code.header.k ≤ 255
+few c = let s = c.args.code.sound in omega (arith, s.fits, s.byte)
 
 -- the coefficients of the product, without the constant
-product-size : (c : After-struct_known-1) → let h = c.args.h in length (product_of (modulus_of h) (row_points h)) ≡ h.k + 1
+product-size : (c : Start) → let h = c.args.code.header in length (product_of (modulus_of h) (row_points h)) ≡ h.k + 1
 product-size c =
-    omega (arith, length_product_of (modulus_of c.args.h) (row_points c.args.h), (row_symbols c.args.h c.requires.0 (few c)).size)
+    omega (arith, length_product_of (modulus_of c.args.code.header) (row_points c.args.code.header), (row_symbols c.args.code.header c.args.code.sound (few c)).size)
 
-product_is : (c : After-struct_known-1)
+product_is : (c : Start)
     → let a = c.args in
-    let q = drop 1 (product_of (modulus_of a.h) (row_points a.h)) in
-    (take (a.h.k + 1 - 1) (drop 1 a.product.now) ≡ q) × Symbols a.h.field a.h.k q
+    let q = drop 1 (product_of (modulus_of a.code.header) (row_points a.code.header)) in
+    (take (a.code.header.k + 1 - 1) (drop 1 a.product.now) ≡ q) × Symbols (modulus_of a.code.header) a.code.header.k q
 product_is c =
-    let h = c.args.h in
-    (rw c.requires.1 (part_padded 256 (h.k + 1) 1 (product_of (modulus_of h) (row_points h)) (product-size c) (omega arith)), (parts h.field h.k (row_points h) (basis_of (modulus_of h) (row_points h)) (row_symbols h c.requires.0 (few c)) refl).some_product)
+    let h = c.args.code.header in
+    (rw c.requires.0 (part_padded 256 (h.k + 1) 1 (product_of (modulus_of h) (row_points h)) (product-size c) (omega arith)), (parts (modulus_of h) c.args.code.sound.field h.k (row_points h) (basis_of (modulus_of h) (row_points h)) (row_symbols h c.args.code.sound (few c)) refl).some_product)
 
-whole : (c : After-struct_known-1) → length c.args.product.now ≡ 256
-whole c = rw c.requires.1 (length_padded 256 _ (omega (arith, product-size c, few c)))
+whole : (c : Start) → length c.args.product.now ≡ 256
+whole c = rw c.requires.0 (length_padded 256 _ (omega (arith, product-size c, few c)))
 
 -- the inverses
-inverses-are : (c : After-struct_known-1)
+inverses-are : (c : Start)
     → let a = c.args in
-    (take a.h.k a.base.now ≡ base_inverses a.h) × Symbols a.h.field a.h.k (base_inverses a.h)
+    (take a.code.header.k a.base.now ≡ base_inverses a.code.header) × Symbols (modulus_of a.code.header) a.code.header.k (base_inverses a.code.header)
 inverses-are c =
-    let b = base_symbols c.args.h c.requires.0 (few c) in
-    (rw c.requires.2 (take_padded 255 _ _ b.size), b)
+    let b = base_symbols c.args.code.header c.args.code.sound (few c) in
+    (rw c.requires.1 (take_padded 255 _ _ b.size), b)
 
 pub slice_bounds-quotient_terms-end : goal.slice_bounds-quotient_terms-end
-slice_bounds-quotient_terms-end c = omega (arith, whole c, few c)
+slice_bounds-quotient_terms-end c = let w = (goal.at.slice_bounds-quotient_terms-end c).Start in omega (arith, whole w, few w)
 
 pub slice_bounds-quotient_terms-end-2 : goal.slice_bounds-quotient_terms-end-2
-slice_bounds-quotient_terms-end-2 c = let b = inverses-are (goal.at.slice_bounds-quotient_terms-end-2 c).After-struct_known-1 in rw b.0 (sym b.1.size)
+slice_bounds-quotient_terms-end-2 c = let b = inverses-are (goal.at.slice_bounds-quotient_terms-end-2 c).Start in rw b.0 (sym b.1.size)
 
 pub quotient_terms-requires : goal.quotient_terms-requires
 quotient_terms-requires c =
     let s = c.requires in
-    let q = product_is (goal.at.quotient_terms-requires c).After-struct_known-1 in
-    let b = inverses-are (goal.at.quotient_terms-requires c).After-struct_known-1 in
-    (rw q.0 q.1.are, rw b.0 b.1.are, rw (q.0, b.0) (b.1.size ∙ sym q.1.size), s.3)
+    let q = product_is (goal.at.quotient_terms-requires c).Start in
+    let b = inverses-are (goal.at.quotient_terms-requires c).Start in
+    (rw (c.new-field.ensures, q.0) q.1.are, rw (c.new-field.ensures, b.0) b.1.are, rw (q.0, b.0) (b.1.size ∙ sym q.1.size), rw c.new-field.ensures s.2)
 
 pub returns : goal.returns
-returns c = c.quotient_terms.ensures ∙ rw ((product_is (goal.at.returns c).After-struct_known-1).0, (inverses-are (goal.at.returns c).After-struct_known-1).0)
+returns c = c.quotient_terms.ensures ∙ rw (c.new-field.ensures, (product_is (goal.at.returns c).Start).0, (inverses-are (goal.at.returns c).Start).0)

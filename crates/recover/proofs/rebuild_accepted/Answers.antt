@@ -30,7 +30,7 @@ returns-in_err-rebuild_fault c =
 pub rebuild_weights-weights-requires : goal.rebuild_weights-weights-requires
 rebuild_weights-weights-requires c =
     let (listed, node, out) = accepted (goal.at.rebuild_weights-weights-requires c).In_ok-rebuild_fault in
-    (listed.buffer.symbol_rows.sound, listed.different, node)
+    (listed.different, node)
 
 pub slice_bounds-rebuild_lanes-end : goal.slice_bounds-rebuild_lanes-end
 slice_bounds-rebuild_lanes-end c = search rules

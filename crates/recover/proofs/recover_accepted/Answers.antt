@@ -14,10 +14,10 @@ use Rattle.generator.specs.Answers.{outcome_of}
 use Rattle.recover.proofs.Recovering.{shifts_part}
 use Rattle.recover.proofs.Products.{recovered_lanes}
 use Rattle.recover.proofs.recover_accepted.Goals as goal
-use Rattle.recover.proofs.recover_accepted.Goals.{After-fill_shifts-shifts, After-struct_known-1}
+use Rattle.recover.proofs.recover_accepted.Goals.{After-fill_shifts-shifts, In_ok-recover_fault}
 
 -- what is known where no number was met
-accepted : (c : After-struct_known-1)
+accepted : (c : In_ok-recover_fault)
     → let a = c.args in
     ListedShares a.code.header a.lanes a.nodes.now a.shares.now × (length a.out.now ≡ a.code.header.k * a.lanes * width a.code.header)
 accepted c =
@@ -54,29 +54,25 @@ slice_bounds-prepare-end c = sym (part_size (goal.at.slice_bounds-prepare-end c)
 
 pub prepare-setup-requires : goal.prepare-setup-requires
 prepare-setup-requires c =
-    let listed = (accepted (goal.at.prepare-setup-requires c).After-struct_known-1).0 in
-    (listed.buffer.symbol_rows.sound, listed.different, part (goal.at.prepare-setup-requires c).After-fill_shifts-shifts)
+    let listed = (accepted (goal.at.prepare-setup-requires c).In_ok-recover_fault).0 in
+    (listed.different, part (goal.at.prepare-setup-requires c).After-fill_shifts-shifts)
+
+pub invariant_of-inverse : goal.invariant_of-inverse
+invariant_of-inverse c =
+    let listed = (accepted (goal.at.invariant_of-inverse c).In_ok-recover_fault).0 in
+    record { different = listed.different; prepared = c.prepare-setup.ensures }
 
 pub fill_message-requires : goal.fill_message-requires
 fill_message-requires c =
-    let a = c.args in
-    let (listed, out) = accepted (goal.at.fill_message-requires c).After-struct_known-1 in
-    let wide = c.width_of-w.ensures.0 in (
-      listed.buffer.symbol_rows.sound,
-      wide,
-      listed.different,
-      c.prepare-setup.ensures,
-      listed.buffer.symbol_rows.few_lanes,
-      rw wide (listed.buffer.bytes ∙ lanes_long (width a.code.header) a.code.header.k a.lanes),
-      rw wide (out ∙ lanes_long (width a.code.header) a.code.header.k a.lanes),
-    )
+    let h = c.args.code.header in
+    let (listed, out) = accepted (goal.at.fill_message-requires c).In_ok-recover_fault in
+    (listed.buffer.symbol_rows.few_lanes, listed.buffer.bytes ∙ lanes_long (width h) h.k c.args.lanes, out ∙ lanes_long (width h) h.k c.args.lanes)
 
 pub returns : goal.returns
 unfolding outcome_of
 returns c =
-    let wide = c.width_of-w.ensures.0 in
     let none = done_is _ c.in_ok-recover_fault.ensures in
     record {
       answer = rw none refl;
-      written = rw none (recovered_lanes (accepted (goal.at.returns c).After-struct_known-1).0 (rw wide at c.fill_message.ensures));
+      written = rw none (recovered_lanes (accepted (goal.at.returns c).In_ok-recover_fault).0 c.fill_message.ensures);
     }

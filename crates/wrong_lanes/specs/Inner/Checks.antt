@@ -33,8 +33,11 @@ pub record CheckLists (h : Header) (lists counts : List ℕ) : Type 0 where
   pub weights : ℕ → List ℕ
   pub tell : (ws : List ℕ) → length ws ≡ h.n → all_below (size h) ws ≡ true → all_zero (h.n - h.k) (λ i. dot (modulus_of h) ws (weights i)) ≡ is_word h ws
   pub begun : Begun (modulus_of h) h.n weights (h.n - h.k) lists counts
-  pub lists_room : (h.n - h.k) * (8 * groups_of h.n) ≤ length lists
-  pub counts_room : (h.n - h.k) * 8 ≤ length counts
+
+-- room for the lists of the checks
+pub record CheckRoom (h : Header) (lists counts : ℕ) : Type 0 where
+  pub entries : (h.n - h.k) * (8 * groups_of h.n) ≤ lists
+  pub sizes : (h.n - h.k) * 8 ≤ counts
 
 -- the checks of so many lanes, as marks
 abbrev pub check_product : Header → ℕ → Product

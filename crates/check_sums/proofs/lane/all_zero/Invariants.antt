@@ -1,7 +1,6 @@
 -- `all_zero` meets its contract. Invariant: the test of all sums is the test of those from i on.
 use mathlib.Core.Path.{◌≡◌}
-use Prim.Native.Nat.{◌-◌}
-use lib.ListN.{length, drop}
+use lib.ListN.{drop}
 use Rattle.lists.specs.Numbers.{all_below}
 use Rattle.check_sums.proofs.lane.all_zero.Given as goal
 

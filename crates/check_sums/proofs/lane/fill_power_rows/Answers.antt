@@ -13,19 +13,16 @@ use Rattle.check_sums.proofs.lane.fill_power_rows.Goals as goal
 use Rattle.check_sums.proofs.lane.fill_power_rows.Goals.{In-loop-i}
 
 -- a row of bytes lies within the buffer
-row_in : (c : In-loop-i) → let a = c.args in c.loop-i.i * (a.h.n - a.h.k) + (a.h.n - a.h.k) ≤ length a.rows.now
+row_in : (c : In-loop-i) → let a = c.args in c.loop-i.i * (a.code.header.n - a.code.header.k) + (a.code.header.n - a.code.header.k) ≤ length a.rows.now
 row_in c =
     let width = c.width_of-w in
-    rw (c.requires.1, ← width.ensures.0) (row_inside (width.result * c.args.h.n) c.loop-i.i (c.args.h.n - c.args.h.k) c.loop-i-test.true)
+    rw (c.requires, ← width.ensures.0) (row_inside (width.result * c.args.code.header.n) c.loop-i.i (c.args.code.header.n - c.args.code.header.k) c.loop-i-test.true)
 
 pub width_of-w-requires : goal.width_of-w-requires
-width_of-w-requires c = c.requires.0.usable_field
+width_of-w-requires c = c.args.code.sound.usable_field
 
 pub overflow_mul-count : goal.overflow_mul-count
-overflow_mul-count c = omega (arith, lane_small c.args.h c.requires.0 _ c.width_of-w.ensures.0)
-
-pub powers-table-requires : goal.powers-table-requires
-powers-table-requires c = c.requires.0
+overflow_mul-count c = omega (arith, lane_small c.args.code.header c.args.code.sound _ c.width_of-w.ensures.0)
 
 pub loop-i-init : goal.loop-i-init
 loop-i-init c = rw (sub-zero, zero-mul) (fills_start _ _)
@@ -50,17 +47,17 @@ fill_row-requires c =
     let width = c.width_of-w in
     let (wide, some, few) = width.ensures in
     let test = c.loop-i-test.true in
-    (c.requires.0, wide, mod-lt _ some, c.powers-table.ensures, (div-lt_iff_lt-mul some).1 (rw (mul_comm width.result c.args.h.n) at test))
+    (wide, mod-lt _ some, c.powers-table.ensures, (div-lt_iff_lt-mul some).1 (rw (mul_comm width.result c.args.code.header.n) at test))
 
 pub loop-i-preserved : goal.loop-i-preserved
 loop-i-preserved c =
     let a = c.args in
     let w = c.width_of-w.result in
-    let checks = a.h.n - a.h.k in
-    let l = c.loop-i in rw (row_after, part_size, c.fill_row.ensures ∙ ap (λ (x : ℕ). power_bytes a.h x w (l.i % w) (l.i / w)) (part_length (l.i * checks) checks l.rows (omega (arith, l.invariant.long, row_in (goal.at.loop-i-preserved c).In-loop-i))))
-    (fills_part (byte_row a.h w l.i) checks
+    let checks = a.code.header.n - a.code.header.k in
+    let l = c.loop-i in rw (row_after, part_size, c.fill_row.ensures ∙ ap (λ (x : ℕ). power_bytes a.code.header x w (l.i % w) (l.i / w)) (part_length (l.i * checks) checks l.rows (omega (arith, l.invariant.long, row_in (goal.at.loop-i-preserved c).In-loop-i))))
+    (fills_part (byte_row a.code.header w l.i) checks
     (rw (rows_next _ _ _ c.loop-i-test.true) at l.invariant)
-    (length_power_bytes a.h checks w (l.i % w) (l.i / w))
+    (length_power_bytes a.code.header checks w (l.i % w) (l.i / w))
     (row_in (goal.at.loop-i-preserved c).In-loop-i))
 
 pub shape_of-rows : goal.shape_of-rows
@@ -70,5 +67,5 @@ pub returns : goal.returns
 returns c =
     let wide = c.width_of-w.ensures.0 in
     fills_all (rw (rows_end _ _ _ c.loop-i-test.false) at c.loop-i.invariant)
-    (rw (c.requires.1, ← wide) (mul-le-mul c.loop-i-test.false (le_refl _)))
-    ∙ power_tile c.args.h _ wide
+    (rw (c.requires, ← wide) (mul-le-mul c.loop-i-test.false (le_refl _)))
+    ∙ power_tile c.args.code.header _ wide

@@ -12,7 +12,7 @@ pub slice_bounds-all_zero-end : goal.slice_bounds-all_zero-end
 slice_bounds-all_zero-end c =
     let a = c.args in
     let ws = a.lane.now in
-    sym (rw c.sums-found.ensures (ap length (take_padded 255 (a.h.n - a.h.k) (check_sums a.h ws) (length_sums a.h ws)) ∙ length_sums a.h ws))
+    sym (rw c.sums-found.ensures (ap length (take_padded 255 (a.code.header.n - a.code.header.k) (check_sums a.code.header ws) (length_sums a.code.header ws)) ∙ length_sums a.code.header ws))
 
 pub returns : goal.returns
 returns c =

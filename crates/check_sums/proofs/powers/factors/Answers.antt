@@ -14,12 +14,12 @@ use Rattle.check_sums.proofs.powers.factors.Goals as goal
 use Rattle.check_sums.proofs.powers.factors.Goals.{After-struct_known-1, In-loop-j}
 
 -- there are nodes
-some : (c : After-struct_known-1) → 0 < c.args.h.n
-some c = omega (arith, c.requires.0.two)
+some : (c : After-struct_known-1) → 0 < c.args.code.header.n
+some c = omega (arith, c.args.code.sound.two)
 
 -- the place is that of a power
-place : (c : In-loop-j) → c.loop-j.i < c.args.h.n
-place c = rw c.loop-j.invariant.0 (mod-lt _ (omega (arith, c.requires.0.two)))
+place : (c : In-loop-j) → c.loop-j.i < c.args.code.header.n
+place c = rw c.loop-j.invariant.0 (mod-lt _ (omega (arith, c.args.code.sound.two)))
 
 pub nonzero_rem-step : goal.nonzero_rem-step
 nonzero_rem-step c = omega (arith, some c)
@@ -28,23 +28,23 @@ pub loop-j-init : goal.loop-j-init
 unfolding zeros
 loop-j-init c =
     let a = c.args in
-    (sym (ap (λ (x : ℕ). x % a.h.n) (zero-mul a.e) ∙ mod-eq_of_lt (some c)), filled_start 255 _ _ (omega (arith, c.struct_known-1.given)))
+    (sym (ap (λ (x : ℕ). x % a.code.header.n) (zero-mul a.e) ∙ mod-eq_of_lt (some c)), filled_start 255 _ _ (omega (arith, c.struct_known-1.given)))
 
 pub offset_bounds-powers-i : goal.offset_bounds-powers-i
 offset_bounds-powers-i c = omega (arith, place c, c.struct_known-1.given)
 
 pub bounds-powers-i : goal.bounds-powers-i
-bounds-powers-i c = rw c.requires.1 (power_place c.args.h _ (place (goal.at.bounds-powers-i c).In-loop-j))
+bounds-powers-i c = rw c.requires.0 (power_place c.args.code.header _ (place (goal.at.bounds-powers-i c).In-loop-j))
 
 pub stepped-i-requires : goal.stepped-i-requires
 stepped-i-requires c =
-    (place (goal.at.stepped-i-requires c).In-loop-j, mod-lt _ (omega (arith, c.requires.0.two)), c.requires.0.byte)
+    (place (goal.at.stepped-i-requires c).In-loop-j, mod-lt _ (omega (arith, c.args.code.sound.two)), c.args.code.sound.byte)
 
 pub loop-j-preserved : goal.loop-j-preserved
 loop-j-preserved c =
     let a = c.args in
     let l = c.loop-j in
-    (c.stepped-i.ensures ∙ ap (λ (x : ℕ). (x + a.e % a.h.n) % a.h.n) l.invariant.0 ∙ next_factor l.j a.e a.h.n, filled_put l.invariant.1 c.loop-j-test.true (ap (λ (x : ℕ). get_or a.powers.now x 0) l.invariant.0))
+    (c.stepped-i.ensures ∙ ap (λ (x : ℕ). (x + a.e % a.code.header.n) % a.code.header.n) l.invariant.0 ∙ next_factor l.j a.e a.code.header.n, filled_put l.invariant.1 c.loop-j-test.true (ap (λ (x : ℕ). get_or a.powers.now x 0) l.invariant.0))
 
 pub returns : goal.returns
 unfolding factors_of
@@ -52,4 +52,4 @@ returns c =
     let a = c.args in
     filled_end c.loop-j.invariant.1 c.loop-j-test.false
     ∙ ap (padded 255)
-    (from_ext (read a.powers.now a.e a.h.n) _ 0 a.h.n (λ j low high. rw c.requires.1 (power_at a.h (j * a.e % a.h.n) (mod-lt _ (omega arith)))))
+    (from_ext (read a.powers.now a.e a.code.header.n) _ 0 a.code.header.n (λ j low high. rw c.requires.0 (power_at a.code.header (j * a.e % a.code.header.n) (mod-lt _ (omega arith)))))

@@ -1,7 +1,7 @@
 -- `factors` meets its contract. Invariant: i is the place of node j's factor, and the factors of the nodes below j are written.
 use mathlib.Core.Path.{◌≡◌}
 use mathlib.Core.List.{List}
-use Prim.Native.Nat.{ℕ, ◌-◌, ◌*◌, ◌%◌}
+use Prim.Native.Nat.{ℕ, ◌*◌, ◌%◌}
 use lib.ListN.{get_or}
 use Rattle.lists.proofs.Fill.{Filled}
 use Rattle.check_sums.proofs.powers.factors.Given as goal

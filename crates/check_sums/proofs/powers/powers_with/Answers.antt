@@ -4,77 +4,68 @@ use Prim.Native.Nat.{◌+◌, ◌<◌}
 use native.Mathlib.Omega.{arith}
 use Rattle.lists.specs.Padded.{zeros}
 use Rattle.lists.proofs.Fill.{filled_start, filled_put, filled_end}
-use Rattle.field.specs.Fields.{mul, power}
+use Rattle.field.specs.Fields.{size_of, mul, power}
+use Rattle.field.specs.Kinds.{modulus}
 use Rattle.field.proofs.Bounds.{power_below}
-use Rattle.field.proofs.KindLaws.{size_fits}
-use Rattle.generator.specs.Records.{modulus_of, size}
+use Rattle.field.proofs.KindLaws.{usable_field}
 use Rattle.check_sums.specs.Inner.Powers.{powers_of}
 use Rattle.check_sums.proofs.FirstPowers.{power_one, power_two, power_three, power_four, fourth_after}
 use Rattle.check_sums.proofs.powers.powers_with.Goals as goal
-use Rattle.check_sums.proofs.powers.powers_with.Goals.{After-mul_with-fourth, After-mul_with-square, In-loop-i}
+use Rattle.check_sums.proofs.powers.powers_with.Goals.{After-mul-fourth, After-new-field, In-loop-i}
 
--- x is a symbol
-symbol : (c : In-loop-i) → c.loop-i.x < size c.args.h
-symbol c = rw c.loop-i.invariant.0 (power_below _ c.requires.field c.loop-i.i c.requires.root_below)
+-- the root and x are symbols
+root-symbol : (c : After-new-field) → c.args.code.header.root < size_of (modulus c.new-field.result.field)
+root-symbol c = rw c.new-field.ensures c.args.code.sound.root_below
 
--- the square and the fourth power
-square : (c : After-mul_with-square)
-    → let h = c.args.h in
-    (c.mul_with-square.result ≡ power (modulus_of h) h.root 2) × (c.mul_with-square.result < size h)
-square c =
-    let s = c.requires in
-    let is = c.mul_with-square.ensures ∙ sym (power_two _ s.field _ s.root_below) in
-    (is, rw is (power_below _ s.field 2 s.root_below))
+symbol : (c : In-loop-i) → c.loop-i.x < size_of (modulus c.new-field.result.field)
+symbol c =
+    let f = c.new-field.result in
+    rw c.loop-i.invariant.0 (power_below _ (usable_field _ f.usable) c.loop-i.i (root-symbol (goal.at.In-loop-i c).After-new-field))
 
-fourth : (c : After-mul_with-fourth)
-    → let h = c.args.h in
-    c.mul_with-fourth.result ≡ power (modulus_of h) h.root 4
+-- the fourth power
+fourth : (c : After-mul-fourth) → c.mul-fourth.result ≡ power (modulus c.new-field.result.field) c.args.code.header.root 4
 fourth c =
-    let s = c.requires in
-    c.mul_with-fourth.ensures ∙ ap₂ (mul _) c.mul_with-square.ensures c.mul_with-square.ensures ∙ sym (power_four _ s.field _ s.root_below)
+    let v = usable_field _ c.new-field.result.usable in
+    c.mul-fourth.ensures.is ∙ ap₂ (mul _) c.mul-square.ensures.is c.mul-square.ensures.is ∙ sym (power_four _ v _ (root-symbol (goal.at.After-mul-fourth c).After-new-field))
 
-pub mul_with-square-requires : goal.mul_with-square-requires
-mul_with-square-requires c = (c.requires.usable_field, c.requires.root_below, c.requires.root_below)
+pub mul-square-requires : goal.mul-square-requires
+mul-square-requires c = let w = (goal.at.mul-square-requires c).After-new-field in (root-symbol w, root-symbol w)
 
-pub mul_with-fourth-requires : goal.mul_with-fourth-requires
-mul_with-fourth-requires c = (c.requires.usable_field, (square c).1, (square c).1)
-
-pub mul_with-x3-requires : goal.mul_with-x3-requires
-mul_with-x3-requires c =
-    (c.requires.usable_field, c.requires.root_below, (square (goal.at.mul_with-x3-requires c).After-mul_with-square).1)
+pub mul-x3-requires : goal.mul-x3-requires
+mul-x3-requires c = (root-symbol (goal.at.mul-x3-requires c).After-new-field, c.mul-square.ensures.symbol)
 
 pub loop-i-init : goal.loop-i-init
 unfolding zeros power
 loop-i-init c =
-    let s = c.requires in (
+    let v = usable_field _ c.new-field.result.usable in
+    let low = root-symbol (goal.at.loop-i-init c).After-new-field in (
       refl,
-      sym (power_one _ s.field _ s.root_below),
-      (square (goal.at.loop-i-init c).After-mul_with-square).0,
-      c.mul_with-x3.ensures ∙ ap (mul _ _) c.mul_with-square.ensures ∙ sym (power_three _ s.field _ s.root_below),
-      filled_start 255 _ _ (omega (arith, s.byte)),
+      sym (power_one _ v _ low),
+      c.mul-square.ensures.is ∙ sym (power_two _ v _ low),
+      c.mul-x3.ensures.is ∙ ap (mul _ _) c.mul-square.ensures.is ∙ sym (power_three _ v _ low),
+      filled_start 255 _ _ (omega (arith, c.args.code.sound.byte)),
     )
 
 pub overflow_cast-out : goal.overflow_cast-out
-overflow_cast-out c = omega (arith, symbol c, size_fits _ c.requires.usable_field)
+overflow_cast-out c = omega (arith, symbol c, c.new-field.result.small)
 
-pub mul_with-x4-requires : goal.mul_with-x4-requires
-mul_with-x4-requires c =
-    let s = c.requires in
-    (s.usable_field, rw (fourth (goal.at.mul_with-x4-requires c).After-mul_with-fourth) (power_below _ s.field 4 s.root_below), symbol c)
+pub mul-x4-requires : goal.mul-x4-requires
+mul-x4-requires c = (c.mul-fourth.ensures.symbol, symbol c)
 
 pub loop-i-preserved : goal.loop-i-preserved
 loop-i-preserved c =
-    let s = c.requires in
+    let v = usable_field _ c.new-field.result.usable in
+    let low = root-symbol (goal.at.loop-i-preserved c).After-new-field in
     let l = c.loop-i in
     let second : l.i + 2 ≡ l.i + 1 + 1 = omega arith in
     let third : l.i + 3 ≡ l.i + 1 + 2 = omega arith in (
       l.invariant.1,
       l.invariant.2 ∙ ap (power _ _) second,
       l.invariant.3 ∙ ap (power _ _) third,
-      c.mul_with-x4.ensures ∙ ap₂ (mul _) (fourth (goal.at.loop-i-preserved c).After-mul_with-fourth) l.invariant.0 ∙ fourth_after _ s.field _ s.root_below l.i,
+      c.mul-x4.ensures.is ∙ ap₂ (mul _) (fourth (goal.at.loop-i-preserved c).After-mul-fourth) l.invariant.0 ∙ fourth_after _ v _ low l.i,
       filled_put l.invariant.4 c.loop-i-test.true l.invariant.0,
     )
 
 pub returns : goal.returns
 unfolding powers_of
-returns c = filled_end c.loop-i.invariant.4 c.loop-i-test.false
+returns c = rw c.new-field.ensures at (filled_end c.loop-i.invariant.4 c.loop-i-test.false)

@@ -3,6 +3,7 @@ use mathlib.Core.Path.{sym, ◌∙◌}
 use native.Mathlib.Omega.{arith}
 use lib.ListN.{length}
 use Rattle.field.specs.Kinds.{modulus}
+use Rattle.field.proofs.KindLaws.{usable_field}
 use Rattle.interpolation.specs.Inner.Points.{points_of}
 use Rattle.interpolation.proofs.Points.{length_points, points_symbols}
 use Rattle.node_weights.proofs.Parts.{Symbols, Parts, parts}
@@ -11,18 +12,18 @@ use Rattle.decode.proofs.errors.errors.Goals as goal
 use Rattle.decode.proofs.errors.errors.Goals.{After-lagrange_basis-basis, Start}
 
 -- the nodes' points are symbols
-points_are : (c : Start) → let a = c.args in Symbols a.field (length a.nodes.now) (points_of (modulus a.field) a.root 0 a.nodes.now)
+points_are : (c : Start) → let a = c.args in Symbols (modulus a.field.field) (length a.nodes.now) (points_of (modulus a.field.field) a.root 0 a.nodes.now)
 points_are c =
     let a = c.args in
     let s = c.requires in
-    record { are = points_symbols a.root 0 a.nodes.now s.0.usable_field s.2 (omega (arith, s.0.short, s.1)); size = length_points _ a.root 0 a.nodes.now }
+    record { are = points_symbols _ a.root 0 a.nodes.now (usable_field _ a.field.usable) s.2 (omega (arith, s.0.short, s.1)); size = length_points _ a.root 0 a.nodes.now }
 
 -- so the parts of the basis are what they should be
-basis : (c : After-lagrange_basis-basis) → let a = c.args in Parts a.field (length a.nodes.now) (points_of (modulus a.field) a.root 0 a.nodes.now) c.lagrange_basis-basis.result
-basis c = let a = c.args in parts a.field (length a.nodes.now) _ c.lagrange_basis-basis.result (points_are (goal.at.After-lagrange_basis-basis c).Start) c.lagrange_basis-basis.ensures
+basis : (c : After-lagrange_basis-basis) → let a = c.args in Parts (modulus a.field.field) (length a.nodes.now) (points_of (modulus a.field.field) a.root 0 a.nodes.now) c.lagrange_basis-basis.result
+basis c = let a = c.args in parts _ (usable_field _ a.field.usable) (length a.nodes.now) _ c.lagrange_basis-basis.result (points_are (goal.at.After-lagrange_basis-basis c).Start) c.lagrange_basis-basis.ensures
 
 pub lagrange_basis-basis-requires : goal.lagrange_basis-basis-requires
-lagrange_basis-basis-requires c = let s = c.requires in (s.0.usable_field, s.2, omega (arith, s.0.short, s.1), omega arith)
+lagrange_basis-basis-requires c = let s = c.requires in (s.2, omega (arith, s.0.short, s.1), omega arith)
 
 pub slice_bounds-points-end : goal.slice_bounds-points-end
 slice_bounds-points-end c = omega (arith, (basis (goal.at.slice_bounds-points-end c).After-lagrange_basis-basis).long_points, c.requires.0.short, c.requires.1)

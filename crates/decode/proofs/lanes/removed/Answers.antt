@@ -1,15 +1,13 @@
 -- `removed` meets its contract. Invariant: with the errors at the nodes from i on it is the lane without all of them.
-use mathlib.Core.Path.{sym, ap, ◌∙◌}
+use mathlib.Core.Path.{refl, sym, ◌∙◌}
 use Prim.Native.Nat.{◌<◌}
 use native.Mathlib.Omega.{arith}
 use lib.ListN.{get_or, length-set}
 use Rattle.lists.proofs.Numbers.{below_at, below_get_or, below_set}
 use Rattle.lists.proofs.Padding.{length_padded, below_padded}
-use Rattle.field.proofs.Bounds.{sub_below}
 use Rattle.field.proofs.FieldOf.{size_pos}
 use Rattle.field.proofs.KindLaws.{usable_field}
-use Rattle.decode.specs.Inner.Errors.{removed}
-use Rattle.decode.proofs.Removing.{removed_next, removed_end, removed_padded}
+use Rattle.decode.proofs.Removing.{copied_is, removed_next, removed_end, removed_padded}
 use Rattle.decode.proofs.lanes.removed.Goals as goal
 use Rattle.decode.proofs.lanes.removed.Goals.{In-loop-i}
 
@@ -18,13 +16,11 @@ node : (c : In-loop-i) → get_or c.args.nodes.now c.loop-i.i 0 < 255
 node c =
     let s = c.requires in omega (arith, below_at _ c.args.nodes.now s.2 c.loop-i.i c.loop-i-test.true, s.0.short)
 
-pub copied-out-requires : goal.copied-out-requires
-copied-out-requires c = c.requires.0.short
-
 pub loop-i-init : goal.loop-i-init
 loop-i-init c =
     let s = c.requires in
-    let is = c.copied-out.ensures in (rw is (length_padded 255 _ s.0.short), rw is (below_padded _ 255 _ (size_pos _ (usable_field _ s.0.usable_field)) s.0.below), ap (removed _ c.args.nodes.now c.args.errors.now) is)
+    rw (c.copy_from_slice.ensures.after, copied_is 255 c.args.lane.now)
+    (length_padded 255 _ s.0.short, below_padded _ 255 _ (size_pos _ (usable_field _ c.args.field.usable)) s.0.below, refl)
 
 pub overflow_cast-j : goal.overflow_cast-j
 overflow_cast-j c = omega (arith, node (goal.at.overflow_cast-j c).In-loop-i)
@@ -38,23 +34,11 @@ bounds-out-j c = omega (arith, node (goal.at.bounds-out-j c).In-loop-i, c.loop-i
 pub bounds-errors-i : goal.bounds-errors-i
 bounds-errors-i c = omega (arith, c.requires.3, c.loop-i-test.true)
 
-pub sub-symbol-requires : goal.sub-symbol-requires
-sub-symbol-requires c =
+pub sub-requires : goal.sub-requires
+sub-requires c =
     let s = c.requires in
-    let v = usable_field _ s.0.usable_field in (
-      s.0.usable_field,
-      rw c.wide.ensures (below_get_or _ c.loop-i.out (size_pos _ v) c.loop-i.invariant.1 _),
-      rw c.wide-in-loop-i.ensures (below_at _ c.args.errors.now s.1.below _ (omega (arith, s.3, c.loop-i-test.true))),
-    )
-
-pub narrow-requires : goal.narrow-requires
-narrow-requires c =
-    let s = c.requires in
-    let v = usable_field _ s.0.usable_field in
-    (s.0.usable_field, rw (c.sub-symbol.ensures, c.wide.ensures, c.wide-in-loop-i.ensures) (sub_below _ v (below_get_or _ c.loop-i.out (size_pos _ v) c.loop-i.invariant.1 _) (below_at _ c.args.errors.now s.1.below _ (omega (arith, s.3, c.loop-i-test.true)))))
-
-pub offset_bounds-out-j-in-loop-i : goal.offset_bounds-out-j-in-loop-i
-offset_bounds-out-j-in-loop-i c = omega (arith, node (goal.at.offset_bounds-out-j-in-loop-i c).In-loop-i)
+    let v = usable_field _ c.args.field.usable in
+    (below_get_or _ c.loop-i.out (size_pos _ v) c.loop-i.invariant.1 _, below_at _ c.args.errors.now s.1.below _ (omega (arith, s.3, c.loop-i-test.true)))
 
 pub bounds-out-j-in-loop-i : goal.bounds-out-j-in-loop-i
 bounds-out-j-in-loop-i c =
@@ -63,9 +47,11 @@ bounds-out-j-in-loop-i c =
 pub loop-i-preserved : goal.loop-i-preserved
 loop-i-preserved c =
     let l = c.loop-i in
-    let v = usable_field _ c.requires.0.usable_field in
-    let taken = c.loop-i-test.true in
-    let e = below_at _ c.args.errors.now c.requires.1.below l.i (omega (arith, c.requires.3)) in (length-set l.out _ _ ∙ l.invariant.0, rw (c.narrow.ensures, c.sub-symbol.ensures, c.wide.ensures, c.wide-in-loop-i.ensures) (below_set _ l.out _ _ (sub_below _ v (below_get_or _ l.out (size_pos _ v) l.invariant.1 _) e) l.invariant.1), rw (c.narrow.ensures, c.sub-symbol.ensures, c.wide.ensures, c.wide-in-loop-i.ensures) (sym (removed_next _ c.args.nodes.now c.args.errors.now l.out l.i taken (omega (arith, c.requires.3))) ∙ l.invariant.2))
+    let step = removed_next _ c.args.nodes.now c.args.errors.now l.out l.i c.loop-i-test.true (omega (arith, c.requires.3)) in (
+      length-set l.out _ _ ∙ l.invariant.0,
+      below_set _ l.out _ _ c.sub.ensures.symbol l.invariant.1,
+      rw c.sub.ensures.is (sym step ∙ l.invariant.2),
+    )
 
 pub returns : goal.returns
 returns c =

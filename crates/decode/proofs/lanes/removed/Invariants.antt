@@ -1,7 +1,6 @@
 -- `removed` meets its contract. Invariant: with the errors at the nodes from i on it is the lane without all of them.
 use mathlib.Core.Path.{◌≡◌}
 use mathlib.Core.Bool.{true}
-use Prim.Native.Nat.{◌-◌, ◌≤◌}
 use lib.ListN.{length, drop}
 use Rattle.lists.specs.Numbers.{all_below}
 use Rattle.lists.specs.Padded.{padded}
@@ -11,4 +10,4 @@ use Rattle.decode.specs.Inner.Errors.{removed}
 use Rattle.decode.proofs.lanes.removed.Given as goal
 
 abbrev pub invariant-loop-i : goal.invariant-loop-i
-invariant-loop-i l = (length l.out ≡ 255) × (all_below (size_of (modulus l.field)) l.out ≡ true) × (removed (modulus l.field) (drop l.i l.nodes) (drop l.i l.errors) l.out ≡ removed (modulus l.field) l.nodes l.errors (padded 255 l.lane))
+invariant-loop-i l = (length l.out ≡ 255) × (all_below (size_of (modulus l.field.field)) l.out ≡ true) × (removed (modulus l.field.field) (drop l.i l.nodes) (drop l.i l.errors) l.out ≡ removed (modulus l.field.field) l.nodes l.errors (padded 255 l.lane))

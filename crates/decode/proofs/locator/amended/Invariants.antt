@@ -1,9 +1,8 @@
 -- `amended` meets its contract. Invariant: the first x coefficients are written.
-use Prim.Native.Nat.{◌-◌}
 use Rattle.lists.proofs.Fill.{Filled}
 use Rattle.field.specs.Kinds.{modulus}
 use Rattle.decode.specs.Inner.Locating.{amended_at}
 use Rattle.decode.proofs.locator.amended.Given as goal
 
 abbrev pub invariant-loop-x : goal.invariant-loop-x
-invariant-loop-x l = Filled 255 l.size (amended_at (modulus l.field) l.d l.w l.i l.v l.j) l.x l.out
+invariant-loop-x l = Filled 255 l.size (amended_at (modulus l.field.field) l.d l.w l.i l.v l.j) l.x l.out

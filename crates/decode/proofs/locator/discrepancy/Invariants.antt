@@ -1,10 +1,10 @@
 -- `discrepancy` meets its contract. Invariant: the sum of the first i terms.
 use mathlib.Core.Path.{◌≡◌}
-use Prim.Native.Nat.{◌-◌, ◌≤◌, ◌<◌}
+use Prim.Native.Nat.{◌<◌}
 use Rattle.field.specs.Fields.{size_of}
 use Rattle.field.specs.Kinds.{modulus}
 use Rattle.decode.specs.Inner.Locating.{partial}
 use Rattle.decode.proofs.locator.discrepancy.Given as goal
 
 abbrev pub invariant-loop-i : goal.invariant-loop-i
-invariant-loop-i l = (l.sum < size_of (modulus l.field)) × (l.sum ≡ partial (modulus l.field) l.v l.s l.e l.i)
+invariant-loop-i l = (l.sum < size_of (modulus l.field.field)) × (l.sum ≡ partial (modulus l.field.field) l.v l.s l.e l.i)

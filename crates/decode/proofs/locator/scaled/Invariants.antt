@@ -1,5 +1,4 @@
 -- `scaled` meets its contract. Invariant: the first x coefficients are written.
-use Prim.Native.Nat.{◌-◌}
 use lib.ListN.{get_or}
 use Rattle.lists.proofs.Fill.{Filled}
 use Rattle.field.specs.Fields.{mul}
@@ -7,4 +6,4 @@ use Rattle.field.specs.Kinds.{modulus}
 use Rattle.decode.proofs.locator.scaled.Given as goal
 
 abbrev pub invariant-loop-x : goal.invariant-loop-x
-invariant-loop-x l = Filled 255 l.size (λ y. mul (modulus l.field) l.d (get_or l.w y 0)) l.x l.out
+invariant-loop-x l = Filled 255 l.size (λ y. mul (modulus l.field.field) l.d (get_or l.w y 0)) l.x l.out

@@ -1,13 +1,12 @@
--- `find_roots` meets its contract. Invariant: x is the point of node j, the roots below j are written, and those from j on are to come.
+-- `find_roots` meets its contract. Invariant: x is the point of node j, a symbol, the roots below j are listed, and those from j on are to come.
 use mathlib.Core.Path.{◌≡◌}
 use mathlib.Core.Bool.{Bool}
-use mathlib.Core.List.{List}
-use Prim.Native.Nat.{ℕ, ◌-◌, ◌≤◌}
+use mathlib.Core.List.{List, ◌++◌}
+use Prim.Native.Nat.{ℕ, ◌-◌, ◌≤◌, ◌<◌}
 use lib.Dec.{eqb}
+use lib.ListN.{length}
 use Rattle.lists.specs.Counting.{passing_from}
-use Rattle.lists.specs.Padded.{zeros}
-use Rattle.lists.proofs.Fill.{Fills}
-use Rattle.field.specs.Fields.{power}
+use Rattle.field.specs.Fields.{size_of, power}
 use Rattle.field.specs.Kinds.{modulus}
 use Rattle.generator.specs.Codewords.{poly_at}
 use Rattle.decode.proofs.roots.find_roots.Given as goal
@@ -17,5 +16,12 @@ abbrev pub vanishes : ℕ → ℕ → List ℕ → ℕ → Bool
 vanishes p root cs j = eqb (poly_at p cs (power p root j)) 0
 
 abbrev pub invariant-loop-j : goal.invariant-loop-j
-invariant-loop-j l = let is = vanishes (modulus l.field) l.root l.coefficients in
-    (l.count ≤ l.j) × (l.x ≡ power (modulus l.field) l.root l.j) × Fills (zeros 255) l.nodes l.count (passing_from (l.n - l.j) l.j is) (passing_from l.n 0 is)
+invariant-loop-j l =
+    let p = modulus l.field.field in
+    let is = vanishes p l.root l.coefficients in
+    record {
+      few : length l.nodes.items ≤ l.j;
+      symbol : l.x < size_of p;
+      point : l.x ≡ power p l.root l.j;
+      listed : l.nodes.items ++ passing_from (l.n - l.j) l.j is ≡ passing_from l.n 0 is;
+    }

@@ -31,7 +31,7 @@ compared : (c : After-is_product)
     c.is_product.result ≡ same a.code.header a.difference.now a.row a.x c.loop-j.j
 compared c =
     let a = c.args in
-    c.is_product.ensures ∙ ap (λ (e : ℕ). eqb (get_or a.difference.now c.loop-j.j 0) (mul (modulus_of a.code.header) a.x e)) (read (goal.at.After-is_product c).After-entry_at-entry)
+    c.is_product.ensures ∙ rw c.new-field.ensures (ap (λ (e : ℕ). eqb (get_or a.difference.now c.loop-j.j 0) (mul (modulus_of a.code.header) a.x e)) (read (goal.at.After-is_product c).After-entry_at-entry))
 
 pub loop-j-init : goal.loop-j-init
 unfolding first_other
@@ -47,7 +47,7 @@ pub is_product-requires : goal.is_product-requires
 is_product-requires c =
     let sound = c.args.code.sound in
     let (plan, row, factor, long) = c.requires in
-    (sound.usable_field, factor, rw (read (goal.at.is_product-requires c).After-entry_at-entry) (entry_below _ sound _ _))
+    rw c.new-field.ensures (factor, rw (read (goal.at.is_product-requires c).After-entry_at-entry) (entry_below _ sound _ _))
 
 pub returns-then-not-is_product : goal.returns-then-not-is_product
 returns-then-not-is_product c =

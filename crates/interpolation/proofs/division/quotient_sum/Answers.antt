@@ -13,9 +13,13 @@ use Rattle.interpolation.proofs.division.quotient_sum.Goals as goal
 pub weighted_sum-requires : goal.weighted_sum-requires
 weighted_sum-requires c =
     let (coefficients, terms, same, low) = c.requires in
-    let q = quotient_of_symbols c.args.a coefficients low in
-    rw c.quotient-q.ensures (terms.usable_field, terms.below, below_padded _ 255 _ (size_pos _ (usable_field _ terms.usable_field)) q.below, omega (arith, terms.short, length_padded 255 (quotient_of (modulus c.args.field) c.args.a c.args.coefficients.now) q.short))
+    let v = usable_field _ c.args.field.usable in
+    let q = quotient_of_symbols _ v c.args.a coefficients low in
+    rw c.quotient-q.ensures (terms.below, below_padded _ 255 _ (size_pos _ v) q.below, omega (arith, terms.short, length_padded 255 (quotient_of (modulus c.args.field.field) c.args.a c.args.coefficients.now) q.short))
 
 pub returns : goal.returns
 returns c =
-    c.weighted_sum.ensures ∙ rw c.quotient-q.ensures (dot_padded _ 255 c.args.terms.now _ (c.requires.2 ∙ sym (length_quotient_of _ _ _)))
+    record {
+      is = c.weighted_sum.ensures.is ∙ rw c.quotient-q.ensures (dot_padded _ 255 c.args.terms.now _ (c.requires.2 ∙ sym (length_quotient_of _ _ _)));
+      symbol = c.weighted_sum.ensures.symbol;
+    }

@@ -1,12 +1,13 @@
--- `last_products` meets its contract. Invariant: the product over the last m points, and those over fewer are written.
+-- `last_products` meets its contract. Invariant: the product over the last m points, a symbol, and those over fewer are written.
 use mathlib.Core.Path.{◌≡◌}
-use Prim.Native.Nat.{◌-◌}
+use Prim.Native.Nat.{◌-◌, ◌<◌}
 use lib.ListN.{length, drop}
 use Rattle.lists.proofs.Fill.{Filled}
+use Rattle.field.specs.Fields.{size_of}
 use Rattle.field.specs.Kinds.{modulus}
 use Rattle.interpolation.specs.Inner.Lagrange.{product_at}
 use Rattle.interpolation.proofs.lagrange.last_products.Given as goal
 
 abbrev pub invariant-loop-m : goal.invariant-loop-m
 invariant-loop-m l =
-    (l.product ≡ product_at (modulus l.field) (drop (length l.points - l.m) l.points) l.z) × Filled 255 (length l.points) (λ j. product_at (modulus l.field) (drop (length l.points - j) l.points) l.z) l.m l.out
+    (l.product < size_of (modulus l.field.field)) × (l.product ≡ product_at (modulus l.field.field) (drop (length l.points - l.m) l.points) l.z) × Filled 255 (length l.points) (λ j. product_at (modulus l.field.field) (drop (length l.points - j) l.points) l.z) l.m l.out

@@ -1,5 +1,4 @@
 -- `scales` meets its contract. Invariant: the first i scales are written.
-use Prim.Native.Nat.{◌-◌}
 use lib.ListN.{length}
 use Rattle.lists.proofs.Fill.{Filled}
 use Rattle.field.specs.Kinds.{modulus}
@@ -7,4 +6,4 @@ use Rattle.interpolation.specs.Inner.Lagrange.{scale_at}
 use Rattle.interpolation.proofs.lagrange.scales.Given as goal
 
 abbrev pub invariant-loop-i : goal.invariant-loop-i
-invariant-loop-i l = Filled 255 (length l.points) (scale_at (modulus l.field) l.points) l.i l.out
+invariant-loop-i l = Filled 255 (length l.points) (scale_at (modulus l.field.field) l.points) l.i l.out

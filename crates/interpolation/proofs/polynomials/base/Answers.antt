@@ -1,12 +1,12 @@
--- `base` meets its contract. Invariant: y is root^i, and the product has the factors below i.
+-- `base` meets its contract. Invariant: y is root^i, a symbol, and the product has the factors below i.
 use mathlib.Core.Path.{◌≡◌, refl, sym, ap, ◌∙◌}
-use Prim.Native.Nat.{◌+◌, ◌<◌}
+use Prim.Native.Nat.{◌+◌}
 use native.Mathlib.Omega.{arith}
 use lib.ListN.{length}
 use Rattle.lists.specs.Padded.{zeros, padded}
-use Rattle.field.specs.Fields.{size_of, power}
+use Rattle.field.specs.Fields.{power}
 use Rattle.field.specs.Kinds.{modulus}
-use Rattle.field.proofs.Bounds.{power_below}
+use Rattle.field.proofs.Bounds.{one_below}
 use Rattle.field.proofs.KindLaws.{usable_field}
 use Rattle.field.proofs.Powers.{power_next}
 use Rattle.interpolation.specs.Inner.Polynomials.{times_linear, base_of}
@@ -14,24 +14,18 @@ use Rattle.interpolation.proofs.Coefficients.{Grows, grows, one_padded, base_of_
 use Rattle.interpolation.proofs.polynomials.base.Goals as goal
 use Rattle.interpolation.proofs.polynomials.base.Goals.{In-loop-i}
 
--- y is a symbol
-low : (c : In-loop-i) → c.loop-i.y < size_of (modulus c.args.field)
-low c =
-    let s = c.requires in
-    rw c.loop-i.invariant.0 (power_below _ (usable_field _ s.0) c.loop-i.i s.1)
-
 -- one factor more
 more : (c : In-loop-i)
     → let a = c.args in
     let l = c.loop-i in
-    Grows (modulus a.field) l.y (l.i + 1) (base_of (modulus a.field) a.root l.i) l.out
+    Grows (modulus a.field.field) l.y (l.i + 1) (base_of (modulus a.field.field) a.root l.i) l.out
 more c =
     let a = c.args in
     let s = c.requires in
     let l = c.loop-i in
-    let v = usable_field _ s.0 in
-    let size : length (base_of (modulus a.field) a.root l.i) ≡ l.i + 1 = omega (arith, length_base_of (modulus a.field) a.root l.i) in
-    grows _ v _ _ _ l.out l.invariant.1 size (omega (arith, s.2)) (base_of_below _ v _ l.i s.1) (low c)
+    let v = usable_field _ a.field.usable in
+    let size : length (base_of (modulus a.field.field) a.root l.i) ≡ l.i + 1 = omega (arith, length_base_of (modulus a.field.field) a.root l.i) in
+    grows _ v _ _ _ l.out l.invariant.2 size (omega (arith, s.1)) (base_of_below _ v _ l.i s.0) l.invariant.0
 
 -- as code has it: i + 2 places
 places : (c : In-loop-i) → c.loop-i.i + 2 ≡ c.loop-i.i + 1 + 1
@@ -39,33 +33,24 @@ places c = omega arith
 
 pub loop-i-init : goal.loop-i-init
 unfolding zeros power base_of
-loop-i-init c = (refl, one_padded)
-
-pub overflow_add-size : goal.overflow_add-size
-overflow_add-size c = omega (arith, c.requires.2)
-
-pub slice_bounds-out-end : goal.slice_bounds-out-end
-slice_bounds-out-end c = omega (arith, (more c).room, (more c).long)
+loop-i-init c = (one_below _ (usable_field _ c.args.field.usable), refl, one_padded)
 
 pub slice_bounds-times_linear-end : goal.slice_bounds-times_linear-end
 slice_bounds-times_linear-end c = rw (places (goal.at.slice_bounds-times_linear-end c).In-loop-i) (sym (more (goal.at.slice_bounds-times_linear-end c).In-loop-i).part_long)
 
 pub times_linear-requires : goal.times_linear-requires
 times_linear-requires c =
-    let s = c.requires in
-    (s.0, rw (places (goal.at.times_linear-requires c).In-loop-i) (more (goal.at.times_linear-requires c).In-loop-i).symbols, low (goal.at.times_linear-requires c).In-loop-i)
-
-pub mul_with-y-requires : goal.mul_with-y-requires
-mul_with-y-requires c = let s = c.requires in (s.0, s.1, low (goal.at.mul_with-y-requires c).In-loop-i)
+    let w = (goal.at.times_linear-requires c).In-loop-i in
+    (rw (places w) (more w).symbols, c.loop-i.invariant.0)
 
 pub loop-i-preserved : goal.loop-i-preserved
 loop-i-preserved c =
     let a = c.args in
     let l = c.loop-i in
-    let next : times_linear (modulus a.field) l.y 0 (base_of (modulus a.field) a.root l.i) ≡ base_of (modulus a.field) a.root (l.i + 1) = rw l.invariant.0 (sym (base_of_next (modulus a.field) a.root l.i)) in (c.mul_with-y.ensures ∙ rw l.invariant.0 (sym (power_next (modulus a.field) a.root l.i)), rw (places (goal.at.loop-i-preserved c).In-loop-i) ((more (goal.at.loop-i-preserved c).In-loop-i).whole _ (rw (places (goal.at.loop-i-preserved c).In-loop-i) at c.times_linear.ensures)) ∙ ap (padded 256) next)
+    let next : times_linear (modulus a.field.field) l.y 0 (base_of (modulus a.field.field) a.root l.i) ≡ base_of (modulus a.field.field) a.root (l.i + 1) = rw l.invariant.1 (sym (base_of_next (modulus a.field.field) a.root l.i)) in (c.mul-y.ensures.symbol, c.mul-y.ensures.is ∙ rw l.invariant.1 (sym (power_next (modulus a.field.field) a.root l.i)), rw (places (goal.at.loop-i-preserved c).In-loop-i) ((more (goal.at.loop-i-preserved c).In-loop-i).whole _ (rw (places (goal.at.loop-i-preserved c).In-loop-i) at c.times_linear.ensures)) ∙ ap (padded 256) next)
 
 pub returns : goal.returns
 returns c =
     let l = c.loop-i in
     let end : l.i ≡ c.args.m = omega arith in
-    rw end at l.invariant.1
+    rw end at l.invariant.2

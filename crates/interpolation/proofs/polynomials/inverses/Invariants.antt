@@ -1,5 +1,4 @@
 -- `inverses` meets its contract. Invariant: the first i inverses are written.
-use Prim.Native.Nat.{◌-◌}
 use lib.ListN.{length, get_or}
 use Rattle.lists.proofs.Fill.{Filled}
 use Rattle.field.specs.Fields.{inverse}
@@ -7,4 +6,4 @@ use Rattle.field.specs.Kinds.{modulus}
 use Rattle.interpolation.proofs.polynomials.inverses.Given as goal
 
 abbrev pub invariant-loop-i : goal.invariant-loop-i
-invariant-loop-i l = Filled 255 (length l.coefficients) (λ j. inverse (modulus l.field) (get_or l.coefficients j 0)) l.i l.out
+invariant-loop-i l = Filled 255 (length l.coefficients) (λ j. inverse (modulus l.field.field) (get_or l.coefficients j 0)) l.i l.out

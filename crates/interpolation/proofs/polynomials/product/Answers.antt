@@ -16,28 +16,19 @@ use Rattle.interpolation.proofs.polynomials.product.Goals.{In-loop-i}
 more : (c : In-loop-i)
     → let a = c.args in
     let l = c.loop-i in
-    Grows (modulus a.field) (get_or a.points.now (l.i - 1) 0) l.size (product_of (modulus a.field) (drop l.i a.points.now)) l.out
+    Grows (modulus a.field.field) (get_or a.points.now (l.i - 1) 0) l.size (product_of (modulus a.field.field) (drop l.i a.points.now)) l.out
 more c =
     let a = c.args in
     let l = c.loop-i in
     let s = c.requires in
-    let v = usable_field _ s.usable_field in
-    let cs = product_of (modulus a.field) (drop l.i a.points.now) in
-    let size : length cs ≡ l.size = omega (arith, length_product_of (modulus a.field) (drop l.i a.points.now), length-drop l.i a.points.now) in
-    grows _ v _ _ cs l.out l.invariant.2 size (omega (arith, s.short)) (product_of_below _ v _ (below_drop _ l.i _ s.below)) (below_at _ _ s.below _ (omega arith))
+    let v = usable_field _ a.field.usable in
+    let cs = product_of (modulus a.field.field) (drop l.i a.points.now) in
+    let size : length cs ≡ l.size = omega (arith, length_product_of (modulus a.field.field) (drop l.i a.points.now), length-drop l.i a.points.now) in
+    grows _ v _ _ cs l.out l.invariant.1 size (omega (arith, s.short)) (product_of_below _ v _ (below_drop _ l.i _ s.below)) (below_at _ _ s.below _ (omega arith))
 
 pub loop-i-init : goal.loop-i-init
 unfolding zeros
-loop-i-init c = (omega arith, omega arith, one_padded ∙ sym (ap (padded 256) (product_of_end _ c.args.points.now)))
-
-pub overflow_add-size : goal.overflow_add-size
-overflow_add-size c = omega (arith, c.requires.short)
-
-pub overflow_cast-points : goal.overflow_cast-points
-overflow_cast-points c = omega (arith, c.type_inv.points (c.loop-i.i - 1))
-
-pub slice_bounds-out-end : goal.slice_bounds-out-end
-slice_bounds-out-end c = omega (arith, (more (goal.at.slice_bounds-out-end c).In-loop-i).room, (more (goal.at.slice_bounds-out-end c).In-loop-i).long)
+loop-i-init c = (omega arith, one_padded ∙ sym (ap (padded 256) (product_of_end _ c.args.points.now)))
 
 pub slice_bounds-times_linear-end : goal.slice_bounds-times_linear-end
 slice_bounds-times_linear-end c = sym (more (goal.at.slice_bounds-times_linear-end c).In-loop-i).part_long
@@ -45,13 +36,13 @@ slice_bounds-times_linear-end c = sym (more (goal.at.slice_bounds-times_linear-e
 pub times_linear-requires : goal.times_linear-requires
 times_linear-requires c =
     let s = c.requires in
-    (s.usable_field, (more (goal.at.times_linear-requires c).In-loop-i).symbols, below_at _ _ s.below _ (omega arith))
+    ((more (goal.at.times_linear-requires c).In-loop-i).symbols, below_at _ _ s.below _ (omega arith))
 
 pub loop-i-preserved : goal.loop-i-preserved
 loop-i-preserved c =
     let a = c.args in
     let l = c.loop-i in
-    (omega arith, omega arith, (more (goal.at.loop-i-preserved c).In-loop-i).whole _ c.times_linear.ensures ∙ ap (padded 256) (sym (product_of_next _ a.points.now l.i (omega arith) (omega arith))))
+    (omega arith, (more (goal.at.loop-i-preserved c).In-loop-i).whole _ c.times_linear.ensures ∙ ap (padded 256) (sym (product_of_next _ a.points.now l.i (omega arith) (omega arith))))
 
 pub returns : goal.returns
-returns c = let end : c.loop-i.i ≡ 0 = omega arith in rw end at c.loop-i.invariant.2
+returns c = let end : c.loop-i.i ≡ 0 = omega arith in rw end at c.loop-i.invariant.1

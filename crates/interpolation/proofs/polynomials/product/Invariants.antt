@@ -1,6 +1,6 @@
 -- `product` meets its contract. Invariant: the product over the points from i on, of as many coefficients as `size` says.
 use mathlib.Core.Path.{◌≡◌}
-use Prim.Native.Nat.{◌+◌, ◌-◌, ◌≤◌}
+use Prim.Native.Nat.{◌+◌, ◌-◌}
 use lib.ListN.{length, drop}
 use Rattle.lists.specs.Padded.{padded}
 use Rattle.field.specs.Kinds.{modulus}
@@ -9,7 +9,4 @@ use Rattle.interpolation.proofs.polynomials.product.Given as goal
 
 abbrev pub invariant-loop-i : goal.invariant-loop-i
 invariant-loop-i l =
-    (l.i ≤ length l.points) × (l.size ≡ length l.points - l.i + 1) × (l.out ≡ padded 256 (product_of (modulus l.field) (drop l.i l.points)))
-
-abbrev pub decreases-loop-i : goal.decreases-loop-i
-decreases-loop-i l = l.i
+    (l.size ≡ length l.points - l.i + 1) × (l.out ≡ padded 256 (product_of (modulus l.field.field) (drop l.i l.points)))

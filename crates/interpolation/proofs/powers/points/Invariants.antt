@@ -1,5 +1,5 @@
 -- `points` meets its contract. Invariant: the first i points are written.
-use Prim.Native.Nat.{◌+◌, ◌-◌}
+use Prim.Native.Nat.{◌+◌}
 use lib.ListN.{length, get_or}
 use Rattle.lists.proofs.Fill.{Filled}
 use Rattle.field.specs.Fields.{power}
@@ -7,4 +7,4 @@ use Rattle.field.specs.Kinds.{modulus}
 use Rattle.interpolation.proofs.powers.points.Given as goal
 
 abbrev pub invariant-loop-i : goal.invariant-loop-i
-invariant-loop-i l = Filled 255 (length l.places) (λ j. power (modulus l.field) l.root (get_or l.places j 0 + l.offset)) l.i l.out
+invariant-loop-i l = Filled 255 (length l.places) (λ j. power (modulus l.field.field) l.root (get_or l.places j 0 + l.offset)) l.i l.out

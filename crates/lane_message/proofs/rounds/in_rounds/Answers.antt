@@ -7,16 +7,11 @@ use lib.ListN.{get_or}
 use Rattle.lane_message.proofs.rounds.in_rounds.Goals as goal
 
 pub loop-i-init : goal.loop-i-init
-loop-i-init c = (omega arith, λ j none. absurd (omega arith))
-
-pub overflow_cast-shifts : goal.overflow_cast-shifts
-overflow_cast-shifts c = omega (arith, c.type_inv.shifts c.loop-i.i)
-
-pub returns-then-shifts-i : goal.returns-then-shifts-i
-returns-then-shifts-i c = let l = c.loop-i in (omega arith, l.invariant.1)
+loop-i-init c = λ j none. absurd (omega arith)
 
 pub loop-i-preserved : goal.loop-i-preserved
-loop-i-preserved c = let l = c.loop-i in let a = c.args in let here : get_or a.shifts.now l.i 0 % a.around < a.taken = omega arith in (omega arith, λ j low. by_cases (ℕ_discrete j l.i) (λ e. rw e here) (λ n. l.invariant.1 j (omega arith)))
-
-pub returns : goal.returns
-returns c = let l = c.loop-i in (omega arith, l.invariant.1)
+loop-i-preserved c =
+    let l = c.loop-i in
+    let a = c.args in
+    let here : get_or a.shifts.now l.i 0 % a.around < a.taken = omega arith in
+    λ j low. by_cases (ℕ_discrete j l.i) (λ e. rw e here) (λ n. l.invariant j (omega arith))

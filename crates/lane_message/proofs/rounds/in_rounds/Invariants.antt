@@ -1,11 +1,8 @@
 -- `in_rounds` meets its contract. The loop's invariant: the shifts below i have such a place.
-use Prim.Native.Nat.{ℕ, ◌-◌, ◌%◌, ◌≤◌, ◌<◌}
-use lib.ListN.{length, get_or}
+use Prim.Native.Nat.{ℕ, ◌%◌, ◌<◌}
+use lib.ListN.{get_or}
 use Rattle.lane_message.proofs.rounds.in_rounds.Given as goal
 
 abbrev pub invariant-loop-i : goal.invariant-loop-i
 invariant-loop-i l =
-    (l.i ≤ length l.shifts) × ((j : ℕ) → j < l.i → get_or l.shifts j 0 % l.around < l.taken)
-
-abbrev pub decreases-loop-i : goal.decreases-loop-i
-decreases-loop-i l = length l.shifts - l.i
+    (j : ℕ) → j < l.i → get_or l.shifts j 0 % l.around < l.taken

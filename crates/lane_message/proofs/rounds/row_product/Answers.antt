@@ -10,26 +10,26 @@ use Rattle.lane_message.proofs.Points.{length_shifts}
 use Rattle.lane_message.proofs.rounds.row_product.Goals as goal
 use Rattle.lane_message.proofs.rounds.row_product.Goals.{Start}
 
-few : (c : Start) → c.args.h.k ≤ 255
-few c = omega (arith, c.requires.0.fits, c.requires.0.byte)
+few : (c : Start) → c.args.code.header.k ≤ 255
+few c = omega (arith, c.args.code.sound.fits, c.args.code.sound.byte)
 
 -- the shifts, lent as a part
-part : (c : Start) → take c.args.h.k c.args.shifts.now ≡ shifts c.args.h
-part c = rw c.requires.3 (take_padded 255 _ _ (length_shifts c.args.h c.requires.0))
+part : (c : Start) → take c.args.code.header.k c.args.shifts.now ≡ shifts c.args.code.header
+part c = rw c.requires.2 (take_padded 255 _ _ (length_shifts c.args.code.header c.args.code.sound))
 
 pub slice_bounds-rounds_of-end : goal.slice_bounds-rounds_of-end
-slice_bounds-rounds_of-end c = sym (ap length (part (goal.at.slice_bounds-rounds_of-end c).Start) ∙ length_shifts c.args.h c.requires.0)
+slice_bounds-rounds_of-end c = sym (ap length (part (goal.at.slice_bounds-rounds_of-end c).Start) ∙ length_shifts c.args.code.header c.args.code.sound)
 
 pub rounds_of-rounds-requires : goal.rounds_of-rounds-requires
-rounds_of-rounds-requires c = (c.requires.0.byte, rw (part (goal.at.rounds_of-rounds-requires c).Start, length_shifts c.args.h c.requires.0) (few (goal.at.rounds_of-rounds-requires c).Start))
+rounds_of-rounds-requires c = (c.args.code.sound.byte, rw (part (goal.at.rounds_of-rounds-requires c).Start, length_shifts c.args.code.header c.args.code.sound) (few (goal.at.rounds_of-rounds-requires c).Start))
 
 pub product-requires : goal.product-requires
-product-requires c = rw c.requires.2 (row_symbols c.args.h c.requires.0 (few (goal.at.product-requires c).Start)).are
+product-requires c = rw (c.new.ensures, c.requires.1) (row_symbols c.args.code.header c.args.code.sound (few (goal.at.product-requires c).Start)).are
 
 pub returns-then-rounds-eq0 : goal.returns-then-rounds-eq0
-returns-then-rounds-eq0 c = c.product.ensures ∙ rw c.requires.2
+returns-then-rounds-eq0 c = c.product.ensures ∙ rw (c.new.ensures, c.requires.1)
 
 pub round_product-requires : goal.round_product-requires
 round_product-requires c =
     let r = c.rounds_of-rounds.ensures in
-    (c.requires.0, omega arith, omega (arith, r.0, c.requires.0.byte), rw (part (goal.at.round_product-requires c).Start) at (r.1 (omega arith)), c.requires.1)
+    (omega arith, omega (arith, r.0, c.args.code.sound.byte), rw (part (goal.at.round_product-requires c).Start) at (r.1 (omega arith)), c.requires.0)

@@ -1,111 +1,113 @@
 -- `base_inverses` meets its contract. The loop's invariant: the inverses from c on are written.
-use mathlib.Core.Path.{refl, ap, ◌∙◌}
-use Prim.Native.Nat.{ℕ, ◌-◌, ◌%◌, ◌≤◌, ◌<◌}
+use mathlib.Core.Path.{◌≡◌, refl, ap, ◌∙◌}
+use Prim.Native.Nat.{ℕ, ◌+◌, ◌-◌, ◌%◌, ◌≤◌, ◌<◌}
 use native.Mathlib.Nat.{mod-lt}
 use native.Mathlib.Omega.{arith}
 use lib.ListN.{get_or, set}
 use Rattle.lists.specs.Padded.{zeros}
 use Rattle.field.specs.Fields.{mul}
 use Rattle.field.proofs.Bounds.{power_below}
-use Rattle.field.proofs.KindLaws.{size_fits}
 use Rattle.generator.specs.Records.{modulus_of, size}
 use Rattle.check_sums.proofs.Sums.{power_place, power_at}
 use Rattle.lane_message.proofs.Points.{power_modulo}
 use Rattle.lane_message.proofs.BaseInverses.{Written, inverses_below, written_first, written_next, written_all}
 use Rattle.lane_message.proofs.rows.base_inverses.Goals as goal
-use Rattle.lane_message.proofs.rows.base_inverses.Goals.{After-mul_with-value, After-struct_known-2-1, Start}
+use Rattle.lane_message.proofs.rows.base_inverses.Goals.{After-mul-value, After-struct_known-2-1, Start}
 
-few : (c : After-struct_known-2-1) → (c.args.h.k ≤ 255) × (c.args.h.n ≤ 255)
+few : (c : After-struct_known-2-1) → (c.args.code.header.k ≤ 255) × (c.args.code.header.n ≤ 255)
 few c = (omega (arith, c.struct_known-1.given), omega (arith, c.struct_known-2-1.given))
 
 -- the place of root^k
-turn : (c : Start) → c.args.h.k % c.args.h.n < c.args.h.n
-turn c = mod-lt _ (omega (arith, c.requires.0.two))
+turn : (c : Start) → c.args.code.header.k % c.args.code.header.n < c.args.code.header.n
+turn c = mod-lt _ (omega (arith, c.args.code.sound.two))
 
 -- a power that is read is a symbol
-read : (c : Start) (i : ℕ) → i < c.args.h.n → get_or c.args.powers.now i 0 < size c.args.h
-read c i low = rw (c.requires.1, power_at c.args.h i low) (power_below _ c.requires.0.field i c.requires.0.root_below)
+read : (c : Start) (i : ℕ) → i < c.args.code.header.n → get_or c.args.powers.now i 0 < size c.args.code.header
+read c i low = rw (c.requires, power_at c.args.code.header i low) (power_below _ c.args.code.sound.field i c.args.code.sound.root_below)
 
 -- one step
-next : (c : After-mul_with-value)
+next : (c : After-mul-value)
     → let l = c.loop-c in
-    Written c.args.h (l.c - 1) c.mul_with-value.result (set l.out (l.c - 1) c.mul_with-value.result)
+    Written c.args.code.header (l.c - 1) c.mul-value.result (set l.out (l.c - 1) c.mul-value.result)
 next c =
     let l = c.loop-c in
-    let h = c.args.h in
-    let s = c.requires.0 in
-    written_next h s l.invariant c.loop-c-test.true c.mul_with-value.result
-    (c.mul_with-value.ensures
-    ∙ ap (λ (x : ℕ). mul (modulus_of h) x l.value)
-    (c.step_ratio-ratio.ensures.0
-    ∙ rw (c.requires.1, power_at h (h.k % h.n) (turn (goal.at.After-mul_with-value c).Start), power_modulo h s h.k, power_at h (h.k - 1) (omega (arith, s.some, s.fits)), power_at h l.c (omega (arith, l.invariant.inside, s.fits)))))
+    let h = c.args.code.header in
+    let s = c.args.code.sound in
+    let up : l.c - 1 + 1 ≡ l.c = omega arith in
+    written_next h s l.invariant (omega arith) c.mul-value.result
+    (c.mul-value.ensures.is
+    ∙ rw c.new-field.ensures
+    (ap (λ (x : ℕ). mul (modulus_of h) x l.value)
+    (c.step_ratio-ratio.ensures.is
+    ∙ rw (c.new-field.ensures, c.requires, power_at h (h.k % h.n) (turn (goal.at.After-mul-value c).Start), power_modulo h s h.k, power_at h (h.k - 1) (omega (arith, s.some, s.fits)), up, power_at h l.c (omega (arith, l.invariant.inside, s.fits))))))
 
 pub nonzero_rem-top : goal.nonzero_rem-top
-nonzero_rem-top c = omega (arith, c.requires.0.two)
+nonzero_rem-top c = omega (arith, c.args.code.sound.two)
 
 pub offset_bounds-powers-h : goal.offset_bounds-powers-h
 offset_bounds-powers-h c = omega (arith, turn (goal.at.offset_bounds-powers-h c).Start, (few c).1)
 
 pub bounds-powers-h : goal.bounds-powers-h
-bounds-powers-h c = rw c.requires.1 (power_place c.args.h _ (turn (goal.at.bounds-powers-h c).Start))
+bounds-powers-h c = rw c.requires (power_place c.args.code.header _ (turn (goal.at.bounds-powers-h c).Start))
 
 pub overflow_cast-top-3 : goal.overflow_cast-top-3
-overflow_cast-top-3 c = omega (arith, c.type_inv.powers (c.args.h.k % c.args.h.n))
+overflow_cast-top-3 c = omega (arith, c.type_inv.powers (c.args.code.header.k % c.args.code.header.n))
 
-pub overflow_sub-c : goal.overflow_sub-c
-overflow_sub-c c = omega (arith, c.requires.0.some)
+pub overflow_sub-highest : goal.overflow_sub-highest
+overflow_sub-highest c = omega (arith, c.args.code.sound.some)
 
-pub offset_bounds-powers-c : goal.offset_bounds-powers-c
-offset_bounds-powers-c c = omega (arith, (few (goal.at.offset_bounds-powers-c c).After-struct_known-2-1).0)
+pub offset_bounds-powers-highest : goal.offset_bounds-powers-highest
+offset_bounds-powers-highest c = omega (arith, (few (goal.at.offset_bounds-powers-highest c).After-struct_known-2-1).0)
 
-pub bounds-powers-c : goal.bounds-powers-c
-bounds-powers-c c = rw c.requires.1 (power_place c.args.h _ (omega (arith, c.requires.0.some, c.requires.0.fits)))
+pub bounds-powers-highest : goal.bounds-powers-highest
+bounds-powers-highest c = rw c.requires (power_place c.args.code.header _ (omega (arith, c.args.code.sound.some, c.args.code.sound.fits)))
 
 pub overflow_cast-scale : goal.overflow_cast-scale
-overflow_cast-scale c = omega (arith, c.type_inv.powers (c.args.h.k - 1))
+overflow_cast-scale c = omega (arith, c.type_inv.powers (c.args.code.header.k - 1))
 
-pub offset_bounds-out-c : goal.offset_bounds-out-c
-offset_bounds-out-c c = omega (arith, (few (goal.at.offset_bounds-out-c c).After-struct_known-2-1).0)
+pub offset_bounds-out-highest : goal.offset_bounds-out-highest
+offset_bounds-out-highest c = omega (arith, (few (goal.at.offset_bounds-out-highest c).After-struct_known-2-1).0)
 
-pub bounds-out-c : goal.bounds-out-c
-bounds-out-c c = omega (arith, (few (goal.at.bounds-out-c c).After-struct_known-2-1).0, c.requires.0.some)
+pub bounds-out-highest : goal.bounds-out-highest
+bounds-out-highest c = omega (arith, (few (goal.at.bounds-out-highest c).After-struct_known-2-1).0, c.args.code.sound.some)
 
 pub loop-c-init : goal.loop-c-init
 unfolding zeros
-loop-c-init c = written_first c.args.h c.requires.0 (few (goal.at.loop-c-init c).After-struct_known-2-1).0 _ refl
+loop-c-init c = written_first c.args.code.header c.args.code.sound (few (goal.at.loop-c-init c).After-struct_known-2-1).0 _ refl
 
-pub offset_bounds-powers-c-in-loop-c : goal.offset_bounds-powers-c-in-loop-c
-offset_bounds-powers-c-in-loop-c c = omega (arith, c.loop-c.invariant.inside, (few (goal.at.offset_bounds-powers-c-in-loop-c c).After-struct_known-2-1).0)
+pub offset_bounds-powers-c : goal.offset_bounds-powers-c
+offset_bounds-powers-c c = omega (arith, c.loop-c.invariant.inside, (few (goal.at.offset_bounds-powers-c c).After-struct_known-2-1).0)
 
-pub bounds-powers-c-in-loop-c : goal.bounds-powers-c-in-loop-c
-bounds-powers-c-in-loop-c c = rw c.requires.1 (power_place c.args.h _ (omega (arith, c.loop-c.invariant.inside, c.requires.0.fits)))
+pub bounds-powers-c : goal.bounds-powers-c
+bounds-powers-c c = rw c.requires (power_place c.args.code.header _ (omega (arith, c.loop-c.invariant.inside, c.args.code.sound.fits)))
 
 pub overflow_cast-powers : goal.overflow_cast-powers
 overflow_cast-powers c = omega (arith, c.type_inv.powers c.loop-c.c)
 
 pub step_ratio-ratio-requires : goal.step_ratio-ratio-requires
 step_ratio-ratio-requires c =
-    let h = c.args.h in
-    (c.requires.0, read (goal.at.step_ratio-ratio-requires c).Start _ (turn (goal.at.step_ratio-ratio-requires c).Start), read (goal.at.step_ratio-ratio-requires c).Start _ (omega (arith, c.requires.0.some, c.requires.0.fits)), read (goal.at.step_ratio-ratio-requires c).Start _ (omega (arith, c.loop-c.invariant.inside, c.requires.0.fits)))
+    let w = (goal.at.step_ratio-ratio-requires c).Start in
+    let s = c.args.code.sound in
+    rw c.new-field.ensures (read w _ (turn w), read w _ (omega (arith, s.some, s.fits)), read w _ (omega (arith, c.loop-c.invariant.inside, s.fits)))
 
-pub mul_with-value-requires : goal.mul_with-value-requires
-mul_with-value-requires c =
+pub mul-value-requires : goal.mul-value-requires
+mul-value-requires c =
     let l = c.loop-c in
-    (c.requires.0.usable_field, c.step_ratio-ratio.ensures.1, rw l.invariant.value_is (inverses_below c.args.h c.requires.0 l.c))
+    (c.step_ratio-ratio.ensures.symbol, rw (c.new-field.ensures, l.invariant.value_is) (inverses_below c.args.code.header c.args.code.sound l.c))
 
 pub overflow_cast-out-in-loop-c : goal.overflow_cast-out-in-loop-c
 overflow_cast-out-in-loop-c c =
-    let w = next c in let low = inverses_below c.args.h c.requires.0 (c.loop-c.c - 1) in omega (arith, w.value_is, size_fits _ c.requires.0.usable_field)
+    omega (arith, c.mul-value.ensures.symbol, c.new-field.result.small)
 
-pub offset_bounds-out-c-in-loop-c : goal.offset_bounds-out-c-in-loop-c
-offset_bounds-out-c-in-loop-c c = omega (arith, (few (goal.at.offset_bounds-out-c-in-loop-c c).After-struct_known-2-1).0, c.loop-c.invariant.inside)
+pub offset_bounds-out-c : goal.offset_bounds-out-c
+offset_bounds-out-c c = omega (arith, (few (goal.at.offset_bounds-out-c c).After-struct_known-2-1).0, c.loop-c.invariant.inside)
 
-pub bounds-out-c-in-loop-c : goal.bounds-out-c-in-loop-c
-bounds-out-c-in-loop-c c =
-    let w = next c in omega (arith, (few (goal.at.bounds-out-c-in-loop-c c).After-struct_known-2-1).0, c.loop-c.invariant.inside)
+pub bounds-out-c : goal.bounds-out-c
+bounds-out-c c =
+    let w = next c in omega (arith, (few (goal.at.bounds-out-c c).After-struct_known-2-1).0, c.loop-c.invariant.inside)
 
 pub loop-c-preserved : goal.loop-c-preserved
 loop-c-preserved c = next c
 
 pub returns : goal.returns
-returns c = written_all _ c.requires.0 c.loop-c.invariant (omega arith)
+returns c = written_all _ c.args.code.sound c.loop-c.invariant (omega arith)

@@ -4,7 +4,4 @@ use Rattle.lane_message.proofs.rows.base_inverses.Given as goal
 
 abbrev pub invariant-loop-c : goal.invariant-loop-c
 invariant-loop-c l =
-    Written l.h l.c l.value l.out
-
-abbrev pub decreases-loop-c : goal.decreases-loop-c
-decreases-loop-c l = l.c
+    Written l.fn.code.header l.c l.value l.out

@@ -15,19 +15,19 @@ use Rattle.lane_message.proofs.rows.row_points.Invariants.{read}
 use Rattle.lane_message.proofs.rows.row_points.Goals as goal
 use Rattle.lane_message.proofs.rows.row_points.Goals.{After-stepped-e, In-loop-r, Start}
 
-few : (c : Start) → c.args.h.k ≤ 255
-few c = omega (arith, c.requires.0.fits, c.requires.0.byte)
+few : (c : Start) → c.args.code.header.k ≤ 255
+few c = omega (arith, c.args.code.sound.fits, c.args.code.sound.byte)
 
 -- the shift is below n
 low : (c : In-loop-r)
     → let a = c.args in
-    get_or a.shifts.now c.loop-r.r 0 < a.h.n
+    get_or a.shifts.now c.loop-r.r 0 < a.code.header.n
 low c =
-    rw c.requires.2 (shift_at c.args.h c.requires.0 c.loop-r.r c.loop-r-test.true).1
+    rw c.requires.1 (shift_at c.args.code.header c.args.code.sound c.loop-r.r c.loop-r-test.true).1
 
 -- where the power is read
-inside : (c : After-stepped-e) → c.stepped-e.result < c.args.h.n
-inside c = rw c.stepped-e.ensures (mod-lt _ (omega (arith, c.requires.0.two)))
+inside : (c : After-stepped-e) → c.stepped-e.result < c.args.code.header.n
+inside c = rw c.stepped-e.ensures (mod-lt _ (omega (arith, c.args.code.sound.two)))
 
 pub loop-r-init : goal.loop-r-init
 unfolding zeros
@@ -35,26 +35,26 @@ loop-r-init c = filled_start 255 _ _ (few (goal.at.loop-r-init c).Start)
 
 pub bounds-shifts-r : goal.bounds-shifts-r
 bounds-shifts-r c =
-    rw c.requires.2 (in_padded 255 (shifts_of c.args.h.n c.args.h.k) _ (omega (arith, length_shifts c.args.h c.requires.0, c.loop-r-test.true)))
+    rw c.requires.1 (in_padded 255 (shifts_of c.args.code.header.n c.args.code.header.k) _ (omega (arith, length_shifts c.args.code.header c.args.code.sound, c.loop-r-test.true)))
 
 pub overflow_cast-shifts : goal.overflow_cast-shifts
 overflow_cast-shifts c =
-    omega (arith, low (goal.at.overflow_cast-shifts c).In-loop-r, c.requires.0.byte)
+    omega (arith, low (goal.at.overflow_cast-shifts c).In-loop-r, c.args.code.sound.byte)
 
 pub overflow_sub-k : goal.overflow_sub-k
-overflow_sub-k c = omega (arith, c.requires.0.some)
+overflow_sub-k c = omega (arith, c.args.code.sound.some)
 
 pub stepped-e-requires : goal.stepped-e-requires
 stepped-e-requires c =
-    (low (goal.at.stepped-e-requires c).In-loop-r, omega (arith, c.requires.0.some, c.requires.0.fits), c.requires.0.byte)
+    (low (goal.at.stepped-e-requires c).In-loop-r, omega (arith, c.args.code.sound.some, c.args.code.sound.fits), c.args.code.sound.byte)
 
 pub offset_bounds-powers-e : goal.offset_bounds-powers-e
 offset_bounds-powers-e c =
-    omega (arith, inside c, c.requires.0.byte)
+    omega (arith, inside c, c.args.code.sound.byte)
 
 pub bounds-powers-e : goal.bounds-powers-e
 bounds-powers-e c =
-    rw c.requires.1 (power_place c.args.h _ (inside (goal.at.bounds-powers-e c).After-stepped-e))
+    rw c.requires.0 (power_place c.args.code.header _ (inside (goal.at.bounds-powers-e c).After-stepped-e))
 
 pub offset_bounds-out-r : goal.offset_bounds-out-r
 offset_bounds-out-r c = omega (arith, few (goal.at.offset_bounds-out-r c).Start)
@@ -68,9 +68,9 @@ loop-r-preserved c =
 
 pub returns : goal.returns
 returns c =
-    let h = c.args.h in
+    let h = c.args.code.header in
     filled_end c.loop-r.invariant c.loop-r-test.false
     ∙ ap (padded 255)
     (from_ext (read c.args.powers.now c.args.shifts.now h.n h.k) _ 0 h.k
-    (λ r above below. rw (c.requires.1, c.requires.2, (shift_at h c.requires.0 r (omega arith)).0) (power_at h _ (mod-lt _ (omega (arith, c.requires.0.two))) ∙ point_at h c.requires.0 r))
-    ∙ points_from h c.requires.0)
+    (λ r above below. rw (c.requires.0, c.requires.1, (shift_at h c.args.code.sound r (omega arith)).0) (power_at h _ (mod-lt _ (omega (arith, c.args.code.sound.two))) ∙ point_at h c.args.code.sound r))
+    ∙ points_from h c.args.code.sound)

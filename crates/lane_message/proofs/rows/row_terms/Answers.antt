@@ -4,36 +4,36 @@ use Prim.Native.Nat.{◌<◌}
 use native.Mathlib.Omega.{arith}
 use lib.ListN.{length, get_or}
 use Rattle.lists.proofs.Numbers.{below_at}
-use Rattle.generator.specs.Records.{size}
+use Rattle.generator.specs.Records.{modulus_of, size}
 use Rattle.node_weights.specs.Inner.Rows.{row_points, row_terms}
 use Rattle.node_weights.proofs.Parts.{Symbols, row_symbols}
 use Rattle.lane_message.proofs.rows.row_terms.Goals as goal
 use Rattle.lane_message.proofs.rows.row_terms.Goals.{Start}
 
 -- the rows' points
-points : (c : Start) → let h = c.args.h in Symbols h.field h.k (row_points h)
-points c = row_symbols c.args.h c.requires.0 (omega (arith, c.requires.0.fits, c.requires.0.byte))
+points : (c : Start) → let h = c.args.code.header in Symbols (modulus_of h) h.k (row_points h)
+points c = row_symbols c.args.code.header c.args.code.sound (omega (arith, c.args.code.sound.fits, c.args.code.sound.byte))
 
-many : (c : Start) → length c.args.points.now ≡ c.args.h.k
-many c = ap length c.requires.2 ∙ (points c).size
+many : (c : Start) → length c.args.points.now ≡ c.args.code.header.k
+many c = ap length c.requires.1 ∙ (points c).size
 
 -- the row's point
-point : (c : Start) → get_or c.args.points.now c.args.r 0 < size c.args.h
-point c = rw c.requires.2 (below_at _ _ (points c).are.below _ (omega (arith, (points c).size, c.requires.3)))
+point : (c : Start) → get_or c.args.points.now c.args.r 0 < size c.args.code.header
+point c = rw c.requires.1 (below_at _ _ (points c).are.below _ (omega (arith, (points c).size, c.requires.2)))
 
 pub offset_bounds-points-r : goal.offset_bounds-points-r
 offset_bounds-points-r c =
-    let s = c.requires in omega (arith, s.3, s.0.fits, s.0.byte)
+    let s = c.requires in omega (arith, s.2, c.args.code.sound.fits, c.args.code.sound.byte)
 
 pub bounds-points-r : goal.bounds-points-r
-bounds-points-r c = omega (arith, many (goal.at.bounds-points-r c).Start, c.requires.3)
+bounds-points-r c = omega (arith, many (goal.at.bounds-points-r c).Start, c.requires.2)
 
 pub overflow_cast-points : goal.overflow_cast-points
 overflow_cast-points c = omega (arith, c.type_inv.points c.args.r)
 
 pub terms_at-requires : goal.terms_at-requires
-terms_at-requires c = (c.requires.0, c.row_product-product.ensures, c.base_inverses-base.ensures, point (goal.at.terms_at-requires c).Start)
+terms_at-requires c = (c.row_product-product.ensures, c.base_inverses-base.ensures, point (goal.at.terms_at-requires c).Start)
 
 pub returns : goal.returns
 unfolding row_terms
-returns c = c.terms_at.ensures ∙ rw c.requires.2
+returns c = c.terms_at.ensures ∙ rw c.requires.1

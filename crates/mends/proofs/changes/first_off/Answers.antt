@@ -20,11 +20,11 @@ loop-e-init c = rw sub-zero
 pub is_product-requires : goal.is_product-requires
 is_product-requires c =
     let (has, low) = c.requires in
-    (c.args.code.sound.usable_field, low, below_at _ _ has.symbols c.loop-e.e (omega arith))
+    rw c.new-field.ensures (low, below_at _ _ has.symbols c.loop-e.e (omega arith))
 
 pub returns-then-not-is_product : goal.returns-then-not-is_product
 returns-then-not-is_product c =
-    sym (c.loop-e.invariant ∙ search_found _ _ _ c.loop-e-test.true (sym c.is_product.ensures ∙ not-true _ c.if-not-is_product.true-raw))
+    sym (rw c.new-field.ensures at (c.loop-e.invariant ∙ search_found _ _ _ c.loop-e-test.true (sym c.is_product.ensures ∙ not-true _ c.if-not-is_product.true-raw)))
 
 pub loop-e-preserved : goal.loop-e-preserved
 loop-e-preserved c =
@@ -33,4 +33,4 @@ loop-e-preserved c =
 pub returns : goal.returns
 returns c =
     let end : length c.args.sums.now - 1 ≡ c.loop-e.e = omega (arith, c.loop-e.auto.e-end, c.loop-e-test.false) in
-    end ∙ sym (c.loop-e.invariant ∙ search_end _ _ _ c.loop-e-test.false)
+    end ∙ sym (rw c.new-field.ensures at (c.loop-e.invariant ∙ search_end _ _ _ c.loop-e-test.false))

@@ -14,9 +14,6 @@ use Rattle.mends.proofs.Front.{front_room, front_part, front_length, new_below}
 use Rattle.mends.proofs.changes.list.Goals as goal
 use Rattle.mends.proofs.changes.list.Goals.{After-new_symbols-new}
 
-pub powers-roots-requires : goal.powers-roots-requires
-powers-roots-requires c = c.args.code.sound
-
 pub list_nodes-count-requires : goal.list_nodes-count-requires
 list_nodes-count-requires c =
     let (has, nodes, symbols) = c.requires in

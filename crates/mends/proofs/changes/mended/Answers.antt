@@ -6,14 +6,12 @@ use native.Mathlib.Omega.{arith}
 use lib.ListN.{get_or}
 use Rattle.lists.proofs.Numbers.{below_at}
 use Rattle.field.specs.Fields.{sub, mul, power}
-use Rattle.field.proofs.Bounds.{mul_below, power_below}
-use Rattle.field.proofs.KindLaws.{size_fits}
+use Rattle.field.proofs.Bounds.{power_below}
 use Rattle.generator.specs.Records.{modulus_of, size}
 use Rattle.check_sums.proofs.Sums.{power_place, power_at}
 use Rattle.mends.specs.Inner.BySums.{mended_at}
-use Rattle.mends.proofs.BySums.{mended_below}
 use Rattle.mends.proofs.changes.mended.Goals as goal
-use Rattle.mends.proofs.changes.mended.Goals.{After-mul_with-amount, After-shared_slice_known-5-1, After-shared_slice_known-6-1, After-sub}
+use Rattle.mends.proofs.changes.mended.Goals.{After-shared_slice_known-5-1, After-shared_slice_known-6-1}
 
 -- the place is one of the table
 inside : (n j : ℕ) → j < n → (n - j) % n < n
@@ -41,22 +39,10 @@ sum_below c =
     let (has, table, node) = c.requires in
     below_at _ _ has.has.symbols 0 has.has.some
 
-amount_below : (c : After-mul_with-amount) → c.mul_with-amount.result < size c.args.code.header
-amount_below c =
-    let (has, table, node) = c.requires in
-    rw c.mul_with-amount.ensures (mul_below _ c.args.code.sound.field (sum_below (goal.at.After-mul_with-amount c).After-shared_slice_known-5-1) (read_below (goal.at.After-mul_with-amount c).After-shared_slice_known-5-1))
-
 held_below : (c : After-shared_slice_known-6-1) → let a = c.args in get_or a.lane.now a.j 0 < size a.code.header
 held_below c =
     let (has, table, node) = c.requires in
     below_at _ _ has.lane.symbols _ (omega (arith, has.lane.long))
-
-result-is : (c : After-sub) → let a = c.args in c.sub.result ≡ mended_at a.code.header a.lane.now a.sums.now a.j
-unfolding mended_at
-result-is c =
-    let a = c.args in
-    c.sub.ensures
-    ∙ ap (sub (modulus_of a.code.header) (get_or a.lane.now a.j 0)) (c.mul_with-amount.ensures ∙ ap (mul (modulus_of a.code.header) (get_or a.sums.now 0 0)) (read (goal.at.After-sub c).After-shared_slice_known-5-1))
 
 pub bounds-sums-0 : goal.bounds-sums-0
 bounds-sums-0 c = let (has, table, node) = c.requires in has.has.some
@@ -76,10 +62,9 @@ pub overflow_cast-roots : goal.overflow_cast-roots
 overflow_cast-roots c =
     let a = c.args in omega (arith, c.type_inv.roots ((a.code.header.n - a.j) % a.code.header.n))
 
-pub mul_with-amount-requires : goal.mul_with-amount-requires
-mul_with-amount-requires c =
-    let (has, table, node) = c.requires in
-    (c.args.code.sound.usable_field, sum_below c, read_below c)
+pub mul-amount-requires : goal.mul-amount-requires
+mul-amount-requires c =
+    rw c.new-field.ensures (sum_below c, read_below c)
 
 pub bounds-lane-j : goal.bounds-lane-j
 bounds-lane-j c =
@@ -90,13 +75,15 @@ overflow_cast-lane c = omega (arith, c.type_inv.lane c.args.j)
 
 pub sub-requires : goal.sub-requires
 sub-requires c =
-    let (has, table, node) = c.requires in
-    (c.args.code.sound.usable_field, held_below c, amount_below (goal.at.sub-requires c).After-mul_with-amount)
+    (rw c.new-field.ensures (held_below c), c.mul-amount.ensures.symbol)
 
 pub overflow_cast-result : goal.overflow_cast-result
-overflow_cast-result c =
-    let (has, table, node) = c.requires in
-    omega (arith, result-is c, mended_below _ c.args.code.sound _ _ has _ node, size_fits _ c.args.code.sound.usable_field)
+overflow_cast-result c = omega (arith, c.sub.ensures.symbol, c.new-field.result.small)
 
 pub returns : goal.returns
-returns c = result-is c
+unfolding mended_at
+returns c =
+    let a = c.args in
+    c.sub.ensures.is
+    ∙ rw c.new-field.ensures
+    (ap (sub (modulus_of a.code.header) (get_or a.lane.now a.j 0)) (c.mul-amount.ensures.is ∙ rw c.new-field.ensures (ap (mul (modulus_of a.code.header) (get_or a.sums.now 0 0)) (read (goal.at.returns c).After-shared_slice_known-5-1))))

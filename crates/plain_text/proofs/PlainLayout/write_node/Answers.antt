@@ -24,7 +24,7 @@ pub rebuild_weights-weights-requires : goal.rebuild_weights-weights-requires
 rebuild_weights-weights-requires c =
     let s = c.args.self.now in
     let h = s.code.header in
-    (s.code.sound, rw (lent _ h.k s.nodes c.from-k.ensures s.listed) (first_nodes h s.code.sound), rw c.from.ensures c.requires.node)
+    (rw (lent _ h.k s.nodes c.from-k.ensures s.listed) (first_nodes h s.code.sound), rw c.from.ensures c.requires.node)
 
 pub returns-clause-text : goal.returns-clause-text
 unfolding node_line entries_line line fields ascii

@@ -13,14 +13,14 @@ use Rattle.generator.specs.Generator.{base_at, entry_at}
 use Rattle.generator.proofs.Bounds.{entry_at_below}
 use Rattle.generator.proofs.BaseWord.{power_turn, pole_apart, entry_is, base_padded}
 use Rattle.plan.proofs.base.fill_base.Goals as goal
-use Rattle.plan.proofs.base.fill_base.Goals.{After-first_entry-entry, After-mul_with-x}
+use Rattle.plan.proofs.base.fill_base.Goals.{After-first_entry-entry, After-mul-x}
 
 -- the first entry is p(scale)
 first : (c : After-first_entry-entry) → c.first_entry-entry.result ≡ base_at c.args.code.header c.power-scale.result
 first c =
     let h = c.args.code.header in
     let s = c.args.code.sound in
-    c.first_entry-entry.ensures ∙ rw (entry_is h s 0, zero-add, c.power-scale.ensures)
+    c.first_entry-entry.ensures ∙ rw (entry_is h s 0, zero-add, c.power-scale.ensures.is, c.new-field.ensures)
 
 pub overflow_cast-out : goal.overflow_cast-out
 overflow_cast-out c =
@@ -31,7 +31,7 @@ pub loop-j-init : goal.loop-j-init
 unfolding zeros distance
 loop-j-init c =
     let h = c.args.code.header in (
-      rw zero-add c.power-scale.ensures,
+      rw zero-add (rw c.new-field.ensures at c.power-scale.ensures.is),
       first c,
       filled_put (filled_start 255 (distance h) (entry_at h 0) (omega arith)) (omega arith) c.first_entry-entry.ensures,
     )
@@ -40,26 +40,27 @@ pub next_entry-entry-requires : goal.next_entry-entry-requires
 next_entry-entry-requires c =
     let h = c.args.code.header in
     let s = c.args.code.sound in
-    let pole = c.power-pole.ensures in
-    let l = c.loop-j in (c.power-scale.ensures, pole, rw l.invariant.0 (power_below _ s.field _ s.root_below), λ q. pole_apart h s l.j (omega (arith, s.some)) (sym l.invariant.0 ∙ q ∙ pole), l.invariant.1)
+    let pole = rw c.new-field.ensures at c.power-pole.ensures.is in
+    let l = c.loop-j in (rw c.new-field.ensures at c.power-scale.ensures.is, pole, rw l.invariant.0 (power_below _ s.field _ s.root_below), λ q. pole_apart h s l.j (omega (arith, s.some)) (sym l.invariant.0 ∙ q ∙ pole), l.invariant.1)
 
-pub mul_with-x-requires : goal.mul_with-x-requires
-mul_with-x-requires c =
+pub mul-x-requires : goal.mul-x-requires
+mul-x-requires c =
     let s = c.args.code.sound in
-    (s.usable_field, s.root_below, rw c.loop-j.invariant.0 (power_below _ s.field _ s.root_below))
+    rw c.new-field.ensures (s.root_below, rw c.loop-j.invariant.0 (power_below _ s.field _ s.root_below))
 
 -- after a turn, x and the entry are those of j + 1
-turn : (c : After-mul_with-x)
+turn : (c : After-mul-x)
     → let h = c.args.code.header in
-    (c.mul_with-x.result ≡ power (modulus_of h) h.root (c.loop-j.j + 1 + (h.k - 1)))
-    × (c.next_entry-entry.result ≡ base_at h c.mul_with-x.result)
+    (c.mul-x.result ≡ power (modulus_of h) h.root (c.loop-j.j + 1 + (h.k - 1)))
+    × (c.next_entry-entry.result ≡ base_at h c.mul-x.result)
     × (c.next_entry-entry.result ≡ entry_at h 0 (c.loop-j.j + 1))
 turn c =
     let h = c.args.code.header in
     let s = c.args.code.sound in
     let l = c.loop-j in
-    let next = c.mul_with-x.ensures ∙ power_turn _ _ _ l.j (h.k - 1) l.invariant.0 in
-    let value : c.next_entry-entry.result ≡ base_at h c.mul_with-x.result = rw c.mul_with-x.ensures c.next_entry-entry.ensures in
+    let product = rw c.new-field.ensures at c.mul-x.ensures.is in
+    let next = product ∙ power_turn _ _ _ l.j (h.k - 1) l.invariant.0 in
+    let value : c.next_entry-entry.result ≡ base_at h c.mul-x.result = rw product c.next_entry-entry.ensures in
     (next, value, value ∙ ap (base_at h) next ∙ sym (entry_is h s (l.j + 1)))
 
 pub overflow_cast-out-in-loop-j : goal.overflow_cast-out-in-loop-j

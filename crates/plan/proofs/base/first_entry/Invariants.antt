@@ -9,6 +9,7 @@ use Rattle.plan.proofs.base.first_entry.Given as goal
 
 abbrev pub invariant-loop : goal.invariant-loop
 invariant-loop l =
-    (l.product < size_of (modulus l.field))
-    × (l.y ≡ power (modulus l.field) l.root l.counter)
-    × ((h : Header) → h.field ≡ l.field → h.root ≡ l.root → l.product ≡ base_from l.counter h l.x)
+    (l.product < size_of (modulus l.field.field))
+    × (l.y < size_of (modulus l.field.field))
+    × (l.y ≡ power (modulus l.field.field) l.root l.counter)
+    × ((h : Header) → h.field ≡ l.field.field → h.root ≡ l.root → l.product ≡ base_from l.counter h l.x)

@@ -50,9 +50,9 @@ pub loop-t-preserved : goal.loop-t-preserved
 loop-t-preserved c =
     let a = c.args in
     let now = c.loop-t in rw (row_after, part_size, c.fill_lane.ensures)
-    (fills_part (column a.w a.rows a.lanes a.table.now now.t) (a.rows * a.w)
+    (fills_part (column a.w a.rows a.lanes a.source.now now.t) (a.rows * a.w)
     (rw (rows_next _ _ _ c.loop-t-test.true) at now.invariant)
-    (length_column a.w a.rows a.lanes now.t a.table.now)
+    (length_column a.w a.rows a.lanes now.t a.source.now)
     (lane_in (goal.at.loop-t-preserved c).In-loop-t))
 
 pub shape_of-out : goal.shape_of-out
@@ -64,5 +64,5 @@ returns c =
     let a = c.args in
     fills_all (rw (rows_end _ _ _ c.loop-t-test.false) at c.loop-t.invariant)
     (rw (c.requires.3, all_bytes a.w a.rows a.lanes) (mul-le-mul c.loop-t-test.false (le_refl _)))
-    ∙ bytes_rows a.w (λ q. lane_of row_after_row a.rows a.lanes q (symbols_of a.w a.table.now)) 0 a.lanes
-    ∙ sym (ap (bytes_of a.w) (buffer_by_lane a.rows a.lanes (held row_after_row a.rows a.lanes (symbols_of a.w a.table.now))))
+    ∙ bytes_rows a.w (λ q. lane_of row_after_row a.rows a.lanes q (symbols_of a.w a.source.now)) 0 a.lanes
+    ∙ sym (ap (bytes_of a.w) (buffer_by_lane a.rows a.lanes (held row_after_row a.rows a.lanes (symbols_of a.w a.source.now))))

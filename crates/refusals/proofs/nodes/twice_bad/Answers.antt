@@ -1,28 +1,36 @@
 -- `twice_bad` meets its contract.
-use Rattle.std.proofs.Common.{◌≡◌, Bool, ℕ, ◌+◌, ◌-◌, List, length, get_or, take, drop, sym, ◌∙◌}
+use Rattle.std.proofs.Common.{ℕ, ◌∙◌}
+use borrow.Author.Tests.{eq-eqb, ne_eqb}
 use lib.ListN.{drop_of_length-le}
 use Rattle.lists.specs.Numbers.{is_in, distinct}
 use Rattle.lists.proofs.Front.{drop_next}
-use Rattle.lists.proofs.Rows.{part_rest}
 use Rattle.refusals.specs.Conditions.{twice_bad}
 use Rattle.refusals.proofs.nodes.twice_bad.Goals as goal
 
--- what was tested is whether the node stands among those after it
-tested : {b : Bool} (i : ℕ) (list : List ℕ) → b ≡ is_in (get_or list i 0) (take (length list - (i + 1)) (drop (i + 1) list)) → b ≡ is_in (get_or list i 0) (drop (i + 1) list)
-tested i list test = rw part_rest at test
-
-pub returns-then-is_in : goal.returns-then-is_in
-unfolding distinct twice_bad
-returns-then-is_in c =
-    let stands = sym (tested c.loop-i.i c.args.nodes.now c.is_in.ensures) ∙ c.if-is_in.true in
-    rw (c.loop-i.invariant, drop_next {A = ℕ} c.args.nodes.now c.loop-i.i 0 c.loop-i-test.true, stands)
-
-pub loop-i-preserved : goal.loop-i-preserved
+pub loop-j-init : goal.loop-j-init
 unfolding distinct
-loop-i-preserved c =
-    let fresh = sym (tested c.loop-i.i c.args.nodes.now c.is_in.ensures) ∙ c.if-is_in.false in
-    c.loop-i.invariant ∙ rw (drop_next {A = ℕ} c.args.nodes.now c.loop-i.i 0 c.loop-i-test.true, fresh)
+loop-j-init c =
+    let inv = c.places.invariant in
+    (inv.0, inv.1 ∙ rw (drop_next {A = ℕ} _ _ 0 c.places-test.true))
 
-pub returns : goal.returns
+pub loop-j-preserved : goal.loop-j-preserved
+unfolding is_in
+loop-j-preserved c =
+    let inv = c.loop-j.invariant in
+    (inv.0, inv.1 ∙ rw (drop_next {A = ℕ} _ _ 0 c.loop-j-test.true, ne_eqb _ _ c.if-nodes-i.false))
+
+pub places-preserved : goal.places-preserved
+unfolding is_in
+places-preserved c =
+    let inv = c.loop-j.invariant in
+    (inv.0, inv.1 ∙ rw (drop_of_length-le {A = ℕ} _ c.loop-j-test.false))
+
+pub returns-after-places : goal.returns-after-places
 unfolding distinct twice_bad
-returns c = rw (c.loop-i.invariant, drop_of_length-le {A = ℕ} c.args.nodes.now c.loop-i-test.false)
+returns-after-places c =
+    let inv = c.places.invariant in
+    inv.0 ∙ rw (inv.1, drop_of_length-le {A = ℕ} _ c.places-test.false)
+
+pub returns-then-nodes-i : goal.returns-then-nodes-i
+unfolding is_in twice_bad
+returns-then-nodes-i c = rw (c.loop-j.invariant.1, drop_next {A = ℕ} _ _ 0 c.loop-j-test.true, eq-eqb _ _ c.if-nodes-i.true)

@@ -6,21 +6,17 @@ use Rattle.generator.specs.Records.{width}
 use Rattle.generator.proofs.Answered.{met, passed}
 use Rattle.refusals.specs.Conditions.{length_bad}
 use Rattle.traces.specs.Repairs.{bits}
-use Rattle.traces.proofs.Claims.{bits_few}
 use Rattle.repair.specs.Packing.{packed_size}
 use Rattle.repair.specs.Promise.{repair_bits_fault}
 use Rattle.repair.proofs.fault.bits_fault.Goals as goal
 use Rattle.repair.proofs.fault.bits_fault.Goals.{After-buffer_bad, After-length_bad}
 
-pub packed_size-packed-requires : goal.packed_size-packed-requires
-packed_size-packed-requires c = (rw c.bits.ensures (bits_few _ _), c.requires)
-
 -- the lengths
-read : (c : After-buffer_bad) → let a = c.args in c.buffer_bad.result ≡ length_bad (a.lanes * width a.code.header) a.share
+read : (c : After-buffer_bad) → let r = c.args.repair in c.buffer_bad.result ≡ length_bad (r.lanes * width r.code.header) c.args.share
 read c = rw one-mul at c.buffer_bad.ensures
 
-written : (c : After-length_bad) → let a = c.args in c.length_bad.result ≡ length_bad (packed_size (bits a.code.header (length a.missing.now)) a.lanes) a.size
-written c = rw (c.packed_size-packed.ensures, c.bits.ensures) at c.length_bad.ensures
+written : (c : After-length_bad) → let r = c.args.repair in c.length_bad.result ≡ length_bad (packed_size (bits r.code.header (length r.missing.now)) r.lanes) c.args.size
+written c = rw c.sent_size.ensures.size at c.length_bad.ensures
 
 pub returns-in_err-when : goal.returns-in_err-when
 unfolding repair_bits_fault

@@ -6,31 +6,25 @@ use Rattle.generator.specs.Records.{width}
 use Rattle.generator.proofs.Answered.{met, passed}
 use Rattle.refusals.specs.Conditions.{length_bad}
 use Rattle.traces.specs.Repairs.{bits}
-use Rattle.traces.proofs.Claims.{bits_few}
 use Rattle.repair.specs.Packing.{packed_size}
 use Rattle.repair.specs.Promise.{repair_share_fault}
-use Rattle.repair.proofs.Digits.{size_fits}
 use Rattle.repair.proofs.fault.share_fault.Goals as goal
-use Rattle.repair.proofs.fault.share_fault.Goals.{After-row_count-count, After-length_bad, After-buffer_bad}
-
-pub packed_size-packed-requires : goal.packed_size-packed-requires
-packed_size-packed-requires c = (rw c.bits.ensures (bits_few _ _), c.requires)
+use Rattle.repair.proofs.fault.share_fault.Goals.{After-sent_size, After-length_bad, After-buffer_bad}
 
 -- all rows together
-fit : (c : After-row_count-count) → c.row_count-count.result * c.packed_size-packed.result ≤ 255 * (4 * 536870912)
+fit : (c : After-sent_size) → c.row_count-count.result * c.sent_size.result ≤ 255 * (4 * 536870912)
 fit c =
-    let few : c.row_count-count.result ≤ 255 = omega (arith, c.row_count-count.ensures, c.args.code.sound.byte) in
-    let low : c.packed_size-packed.result ≤ 4 * 536870912 = rw (c.packed_size-packed.ensures, c.bits.ensures) (size_fits _ _ (bits_few _ _) c.requires) in
-    mul-le-mul few low
+    let few : c.row_count-count.result ≤ 255 = omega (arith, c.row_count-count.ensures, c.args.repair.code.sound.byte) in
+    mul-le-mul few c.sent_size.ensures.fits
 
 pub overflow_mul-count : goal.overflow_mul-count
-overflow_mul-count c = omega (arith, fit (goal.at.overflow_mul-count c).After-row_count-count)
+overflow_mul-count c = omega (arith, fit (goal.at.overflow_mul-count c).After-sent_size)
 
 -- the lengths
-read : (c : After-length_bad) → let a = c.args in let h = a.code.header in c.length_bad.result ≡ length_bad ((h.n - 1 - length a.missing.now) * packed_size (bits h (length a.missing.now)) a.lanes) a.rows
-read c = rw (c.row_count-count.ensures, c.packed_size-packed.ensures, c.bits.ensures) at c.length_bad.ensures
+read : (c : After-length_bad) → let r = c.args.repair in let h = r.code.header in c.length_bad.result ≡ length_bad ((h.n - 1 - length r.missing.now) * packed_size (bits h (length r.missing.now)) r.lanes) c.args.rows
+read c = rw (c.row_count-count.ensures, c.sent_size.ensures.size) at c.length_bad.ensures
 
-written : (c : After-buffer_bad) → let a = c.args in c.buffer_bad.result ≡ length_bad (a.lanes * width a.code.header) a.size
+written : (c : After-buffer_bad) → let r = c.args.repair in c.buffer_bad.result ≡ length_bad (r.lanes * width r.code.header) c.args.size
 written c = rw one-mul at c.buffer_bad.ensures
 
 pub returns-in_err-when : goal.returns-in_err-when

@@ -10,7 +10,7 @@ use Rattle.repair.proofs.sums.gather.Goals as goal
 use Rattle.repair.proofs.sums.gather.Goals.{After-shared_slice_known-1, In-loop-p}
 
 pub loop-p-init : goal.loop-p-init
-loop-p-init c = (omega arith, byte_start _ _)
+loop-p-init c = byte_start _ _
 
 -- a place of a plane lies within the eight
 inside : (c : In-loop-p)
@@ -21,7 +21,7 @@ inside c =
     (omega (arith, c.requires.0, c.requires.1), omega (arith, c.requires.0, c.requires.2))
 
 small : (c : After-shared_slice_known-1) → c.loop-p.x < 256
-small c = byte_small (gather_bit c.args.acc.now c.args.size c.args.i) (gather_bit_low c.args.acc.now c.args.size c.args.i) _ _ _ c.loop-p.invariant.1
+small c = byte_small (gather_bit c.args.acc.now c.args.size c.args.i) (gather_bit_low c.args.acc.now c.args.size c.args.i) _ _ _ c.loop-p.invariant
 
 pub overflow_mul-x : goal.overflow_mul-x
 overflow_mul-x c = omega (arith, inside c)
@@ -44,14 +44,14 @@ overflow_add-x-in-loop-p c = omega (arith, small c, gather_bit_low c.args.acc.no
 pub loop-p-preserved : goal.loop-p-preserved
 loop-p-preserved c =
     let l = c.loop-p in
-    (omega arith, byte_turn_at (gather_bit c.args.acc.now c.args.size c.args.i) l.p l.x (omega arith) l.invariant.0 l.invariant.1)
+    byte_turn_at (gather_bit c.args.acc.now c.args.size c.args.i) l.p l.x (omega arith) (omega arith) l.invariant
 
 pub overflow_cast-result : goal.overflow_cast-result
 overflow_cast-result c =
-    let low : c.loop-p.x < 256 = byte_small (gather_bit c.args.acc.now c.args.size c.args.i) (gather_bit_low c.args.acc.now c.args.size c.args.i) _ _ _ c.loop-p.invariant.1 in
+    let low : c.loop-p.x < 256 = byte_small (gather_bit c.args.acc.now c.args.size c.args.i) (gather_bit_low c.args.acc.now c.args.size c.args.i) _ _ _ c.loop-p.invariant in
     omega arith
 
 pub returns : goal.returns
 unfolding lane_byte
 returns c =
-    byte_done_at (gather_bit c.args.acc.now c.args.size c.args.i) c.loop-p.p c.loop-p.x (omega arith) c.loop-p.invariant.1
+    byte_done_at (gather_bit c.args.acc.now c.args.size c.args.i) c.loop-p.p c.loop-p.x (omega arith) c.loop-p.invariant

@@ -1,12 +1,9 @@
 -- `sums::gather` meets its contract.
 use Rattle.repair.proofs.Digits.{gather_bit}
 use mathlib.Core.Path.{◌≡◌}
-use Prim.Native.Nat.{◌≤◌, ◌-◌}
+use Prim.Native.Nat.{◌-◌}
 use Rattle.repair.specs.Packing.{byte_from}
 use Rattle.repair.proofs.sums.gather.Given as goal
 
 abbrev pub invariant-loop-p : goal.invariant-loop-p
-invariant-loop-p l = (l.p ≤ 8) × (l.x ≡ byte_from (8 - l.p) (gather_bit l.acc l.size l.i) l.p)
-
-abbrev pub decreases-loop-p : goal.decreases-loop-p
-decreases-loop-p l = l.p
+invariant-loop-p l = l.x ≡ byte_from (8 - l.p) (gather_bit l.acc l.size l.i) l.p

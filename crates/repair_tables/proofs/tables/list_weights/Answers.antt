@@ -4,9 +4,6 @@ use Rattle.lists.proofs.Fill.{filled_start, filled_put, filled_end}
 use Rattle.repair_tables.proofs.Steps.{bits_fit}
 use Rattle.repair_tables.proofs.tables.list_weights.Goals as goal
 
-pub powers_with-powers-requires : goal.powers_with-powers-requires
-powers_with-powers-requires c = c.args.target.code.sound
-
 pub overflow_mul-count : goal.overflow_mul-count
 overflow_mul-count c = let (kind, width, js, few) = c.requires in omega (arith, bits_fit _ _ few width)
 

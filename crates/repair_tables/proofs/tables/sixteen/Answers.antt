@@ -19,11 +19,11 @@ loop-i-init c = filled_start 16 16 _ (omega arith)
 pub overflow_mul-i : goal.overflow_mul-i
 overflow_mul-i c = omega (arith, turn c)
 
-pub digit-requires : goal.digit-requires
-digit-requires c = let (kind, width, f, step) = c.requires in (kind, width, f, omega (arith, turn c))
+pub low_trace-requires : goal.low_trace-requires
+low_trace-requires c = let (kind, width, f, step) = c.requires in (kind, width, f, omega (arith, turn c))
 
 pub loop-i-preserved : goal.loop-i-preserved
-loop-i-preserved c = filled_put c.loop-i.invariant c.loop-i-test.true c.digit.ensures
+loop-i-preserved c = filled_put c.loop-i.invariant c.loop-i-test.true c.low_trace.ensures
 
 pub returns : goal.returns
 returns c = let filled = c.loop-i.invariant in fills_all (rw (from_end _ 16 _ c.loop-i-test.false) at filled.fills) (omega (arith, length_zeros 16))

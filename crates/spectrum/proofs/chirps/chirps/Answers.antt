@@ -17,9 +17,9 @@ use Rattle.spectrum.proofs.chirps.chirps.Goals.{In-loop-x}
 -- the exponent
 exponent : (c : In-loop-x)
     → let a = c.args in
-    (get_or a.exponents.now c.loop-x.x 0 ≡ triangle c.loop-x.x % a.h.n) × (triangle c.loop-x.x % a.h.n < a.h.n)
+    (get_or a.exponents.now c.loop-x.x 0 ≡ triangle c.loop-x.x % a.code.header.n) × (triangle c.loop-x.x % a.code.header.n < a.code.header.n)
 exponent c =
-    (rw c.requires.2 (value_at _ 510 _ c.loop-x-test.true), mod-lt _ (omega (arith, c.requires.0.two)))
+    (rw c.requires.1 (value_at _ 510 _ c.loop-x-test.true), mod-lt _ (omega (arith, c.args.code.sound.two)))
 
 pub loop-x-init : goal.loop-x-init
 unfolding zeros
@@ -34,7 +34,7 @@ offset_bounds-powers-e c = let (is, low) = exponent (goal.at.offset_bounds-power
 pub bounds-powers-e : goal.bounds-powers-e
 bounds-powers-e c =
     let (is, low) = exponent (goal.at.bounds-powers-e c).In-loop-x in
-    rw (c.requires.1, is) (power_place c.args.h _ low)
+    rw (c.requires.0, is) (power_place c.args.code.header _ low)
 
 pub loop-x-preserved : goal.loop-x-preserved
 loop-x-preserved c = filled_put c.loop-x.invariant c.loop-x-test.true refl
@@ -43,5 +43,5 @@ pub returns : goal.returns
 unfolding chirp_at
 returns c =
     all_filled c.loop-x.invariant (omega arith)
-    ∙ from_ext (read c.args.powers.now c.args.exponents.now) (chirp_at c.args.h) 0 510
-    (λ x low high. rw (c.requires.1, c.requires.2, value_at (λ x. triangle x % c.args.h.n) 510 x (omega arith)) (power_at c.args.h _ (mod-lt _ (omega (arith, c.requires.0.two)))))
+    ∙ from_ext (read c.args.powers.now c.args.exponents.now) (chirp_at c.args.code.header) 0 510
+    (λ x low high. rw (c.requires.0, c.requires.1, value_at (λ x. triangle x % c.args.code.header.n) 510 x (omega arith)) (power_at c.args.code.header _ (mod-lt _ (omega (arith, c.args.code.sound.two)))))

@@ -1,6 +1,6 @@
 -- `chirps` meets its contract: each exponent is below n, and its power is read from the table.
 use mathlib.Core.List.{List}
-use Prim.Native.Nat.{ℕ, ◌-◌}
+use Prim.Native.Nat.{ℕ}
 use lib.ListN.{get_or}
 use Rattle.lists.proofs.Fill.{Filled}
 use Rattle.spectrum.proofs.chirps.chirps.Given as goal

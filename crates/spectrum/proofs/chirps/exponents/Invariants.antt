@@ -1,6 +1,6 @@
 -- `exponents` meets its contract. Invariant: the exponents below x are written, and the next one and x are known modulo n.
 use mathlib.Core.Path.{◌≡◌}
-use Prim.Native.Nat.{◌-◌, ◌%◌}
+use Prim.Native.Nat.{◌%◌}
 use Rattle.lists.proofs.Fill.{Filled}
 use Rattle.spectrum.specs.Inner.Spectrum.{triangle}
 use Rattle.spectrum.proofs.chirps.exponents.Given as goal

@@ -9,8 +9,7 @@ use Rattle.lists.proofs.Fill.{filled_start, filled_put, filled_end}
 use Rattle.lists.proofs.Numbers.{below_at}
 use Rattle.lists.proofs.Rows.{from_ext}
 use Rattle.field.specs.Fields.{mul}
-use Rattle.field.proofs.Bounds.{mul_below, power_below}
-use Rattle.field.proofs.KindLaws.{size_fits}
+use Rattle.field.proofs.Bounds.{power_below}
 use Rattle.generator.specs.Records.{modulus_of, size}
 use Rattle.generator.proofs.LaidShifts.{negative_below}
 use Rattle.check_sums.proofs.Sums.{power_place, power_at}
@@ -23,27 +22,27 @@ use Rattle.spectrum.proofs.chirps.unchirp.Goals.{After-negative-e, In-loop-j}
 -- the exponent
 exponent : (c : In-loop-j)
     → let a = c.args in
-    get_or a.exponents.now c.loop-j.j 0 < a.h.n
+    get_or a.exponents.now c.loop-j.j 0 < a.code.header.n
 exponent c =
-    rw (c.requires.2, value_at (λ x. triangle x % c.args.h.n) 510 c.loop-j.j (omega (arith, c.requires.3))) (mod-lt _ (omega (arith, c.requires.0.two)))
+    rw (c.requires.1, value_at (λ x. triangle x % c.args.code.header.n) 510 c.loop-j.j (omega (arith, c.requires.2))) (mod-lt _ (omega (arith, c.args.code.sound.two)))
 
 -- the power that is read, a symbol
 power-is : (c : After-negative-e)
     → let a = c.args in
-    (c.negative-e.result < length a.powers.now) × (get_or a.powers.now c.negative-e.result 0 < size a.h)
+    (c.negative-e.result < length a.powers.now) × (get_or a.powers.now c.negative-e.result 0 < size a.code.header)
 power-is c =
-    (rw c.requires.1 (power_place c.args.h _ c.negative-e.ensures.1), rw (c.requires.1, power_at c.args.h _ c.negative-e.ensures.1) (power_below _ c.requires.0.field _ c.requires.0.root_below))
+    (rw c.requires.0 (power_place c.args.code.header _ c.negative-e.ensures.1), rw (c.requires.0, power_at c.args.code.header _ c.negative-e.ensures.1) (power_below _ c.args.code.sound.field _ c.args.code.sound.root_below))
 
 -- the symbol
-symbol : (c : In-loop-j) → let a = c.args in get_or a.symbols.now c.loop-j.j 0 < size a.h
-symbol c = below_at _ _ c.requires.4 _ c.loop-j-test.true
+symbol : (c : In-loop-j) → let a = c.args in get_or a.symbols.now c.loop-j.j 0 < size a.code.header
+symbol c = below_at _ _ c.requires.3 _ c.loop-j-test.true
 
 pub loop-j-init : goal.loop-j-init
 unfolding zeros
-loop-j-init c = filled_start 255 _ _ c.requires.3
+loop-j-init c = filled_start 255 _ _ c.requires.2
 
 pub bounds-exponents-j : goal.bounds-exponents-j
-bounds-exponents-j c = omega (arith, c.requires.3)
+bounds-exponents-j c = omega (arith, c.requires.2)
 
 pub overflow_cast-exponents : goal.overflow_cast-exponents
 overflow_cast-exponents c = omega (arith, exponent (goal.at.overflow_cast-exponents c).In-loop-j)
@@ -63,33 +62,31 @@ bounds-powers-e c = (power-is (goal.at.bounds-powers-e c).After-negative-e).0
 pub overflow_cast-powers : goal.overflow_cast-powers
 overflow_cast-powers c = omega (arith, c.type_inv.powers c.negative-e.result)
 
-pub mul_with-requires : goal.mul_with-requires
-mul_with-requires c =
-    (c.requires.0.usable_field, symbol (goal.at.mul_with-requires c).In-loop-j, (power-is (goal.at.mul_with-requires c).After-negative-e).1)
+pub mul-requires : goal.mul-requires
+mul-requires c =
+    (rw c.new-field.ensures (symbol (goal.at.mul-requires c).In-loop-j), rw c.new-field.ensures (power-is (goal.at.mul-requires c).After-negative-e).1)
 
 pub overflow_cast-out : goal.overflow_cast-out
-overflow_cast-out c =
-    let low : c.mul_with.result < size c.args.h = rw c.mul_with.ensures (mul_below _ c.requires.0.field (symbol (goal.at.overflow_cast-out c).In-loop-j) (power-is (goal.at.overflow_cast-out c).After-negative-e).1) in
-    omega (arith, size_fits _ c.requires.0.usable_field)
+overflow_cast-out c = omega (arith, c.mul.ensures.symbol, c.new-field.result.small)
 
 pub offset_bounds-out-j : goal.offset_bounds-out-j
-offset_bounds-out-j c = omega (arith, c.requires.3)
+offset_bounds-out-j c = omega (arith, c.requires.2)
 
 pub bounds-out-j : goal.bounds-out-j
-bounds-out-j c = omega (arith, c.requires.3)
+bounds-out-j c = omega (arith, c.requires.2)
 
 pub loop-j-preserved : goal.loop-j-preserved
 loop-j-preserved c =
     filled_put c.loop-j.invariant c.loop-j-test.true
-    (c.mul_with.ensures ∙ rw c.negative-e.ensures.0)
+    (c.mul.ensures.is ∙ rw c.negative-e.ensures.0)
 
 pub returns : goal.returns
 unfolding unchirped unchirped_at
 returns c =
     let a = c.args in
-    filled_end c.loop-j.invariant c.loop-j-test.false
+    rw c.new-field.ensures at (filled_end c.loop-j.invariant c.loop-j-test.false)
     ∙ ap (padded 255)
-    (from_ext (read (modulus_of a.h) a.h.n a.powers.now a.exponents.now a.symbols.now) (unchirped_at a.h a.symbols.now) 0 (length a.symbols.now)
-    (λ j low high. let small : triangle j % a.h.n < a.h.n = mod-lt _ (omega (arith, c.requires.0.two)) in
-    rw (c.requires.1, c.requires.2, value_at (λ x. triangle x % a.h.n) 510 j (omega (arith, c.requires.3)))
-    (ap (mul (modulus_of a.h) (get_or a.symbols.now j 0)) (power_at a.h _ (negative_below a.h.n (triangle j % a.h.n) (omega (arith, c.requires.0.two)))))))
+    (from_ext (read (modulus_of a.code.header) a.code.header.n a.powers.now a.exponents.now a.symbols.now) (unchirped_at a.code.header a.symbols.now) 0 (length a.symbols.now)
+    (λ j low high. let small : triangle j % a.code.header.n < a.code.header.n = mod-lt _ (omega (arith, c.args.code.sound.two)) in
+    rw (c.requires.0, c.requires.1, value_at (λ x. triangle x % a.code.header.n) 510 j (omega (arith, c.requires.2)))
+    (ap (mul (modulus_of a.code.header) (get_or a.symbols.now j 0)) (power_at a.code.header _ (negative_below a.code.header.n (triangle j % a.code.header.n) (omega (arith, c.args.code.sound.two)))))))

@@ -1,14 +1,11 @@
--- `mark_lanes` meets its contract: shares stand lane after lane.
+-- `mark_lanes` meets its contract: the lists fit the scratch of the size.
 use mathlib.Core.Path.{◌≡◌, ap, ◌∙◌}
+use native.Mathlib.Omega.{arith}
 use lib.ListN.{length}
 use Rattle.lists.proofs.Fill.{length_zeros}
-use Rattle.layout.proofs.Places.{share_by_lane}
-use Rattle.wrong_lanes.proofs.Shares.{buffer_bytes}
+use Rattle.wrong_lanes.proofs.Checks.{check_room}
 use Rattle.wrong_lanes.proofs.marks.mark_lanes.Goals as goal
 use Rattle.wrong_lanes.proofs.marks.mark_lanes.Goals.{Start}
-
-pub width_of-w-requires : goal.width_of-w-requires
-width_of-w-requires c = c.requires.0.symbol_rows.sound.usable_field
 
 -- a mark for each lane
 marks-long : (c : Start) → length c.args.marks.now ≡ c.args.lanes
@@ -17,15 +14,20 @@ marks-long c = ap length c.requires.1 ∙ length_zeros c.args.lanes
 pub mark_lane-requires : goal.mark_lane-requires
 mark_lane-requires c =
     let one = c.if-lanes-eq1.true in
-    (rw one at (buffer_bytes _ c.width_of-w.ensures.0 c.requires.0), marks-long (goal.at.mark_lane-requires c).Start ∙ one)
+    (rw one at c.requires.0, marks-long (goal.at.mark_lane-requires c).Start ∙ one)
 
 pub returns-then-lanes-eq1 : goal.returns-then-lanes-eq1
-returns-then-lanes-eq1 c =
-    let a = c.args in
-    rw (share_by_lane, ← c.width_of-w.ensures.0, c.if-lanes-eq1.true) c.mark_lane.ensures
+returns-then-lanes-eq1 c = rw c.if-lanes-eq1.true c.mark_lane.ensures
 
-pub mark_several-requires : goal.mark_several-requires
-mark_several-requires c = (buffer_bytes _ c.width_of-w.ensures.0 c.requires.0, marks-long (goal.at.mark_several-requires c).Start)
+pub mark_in-requires : goal.mark_in-requires
+mark_in-requires c =
+    (omega arith, omega arith, check_room c.args.code.header 4 16 c.if-n-le16.true (omega arith), c.requires.0, marks-long (goal.at.mark_in-requires c).Start)
 
-pub returns : goal.returns
-returns c = rw (share_by_lane, ← c.width_of-w.ensures.0) c.mark_several.ensures
+pub mark_in-requires-then-n-le64 : goal.mark_in-requires-then-n-le64
+mark_in-requires-then-n-le64 c =
+    (omega arith, omega arith, check_room c.args.code.header 16 64 c.if-n-le64.true (omega arith), c.requires.0, marks-long (goal.at.mark_in-requires-then-n-le64 c).Start)
+
+pub mark_in-requires-else-n-le64 : goal.mark_in-requires-else-n-le64
+mark_in-requires-else-n-le64 c =
+    let h = c.args.code.header in
+    (omega arith, omega arith, check_room h 64 255 c.args.code.sound.byte (omega arith), c.requires.0, marks-long (goal.at.mark_in-requires-else-n-le64 c).Start)

@@ -1,0 +1,64 @@
+-- `write_nearest` meets its contract: a word stays, and any other lane is decoded and written.
+use mathlib.Core.Path.{◌≡◌, sym, ◌∙◌}
+use native.Mathlib.Omega.{arith}
+use lib.ListN.{take}
+use Rattle.lists.specs.Counting.{differ}
+use Rattle.lists.specs.Padded.{padded}
+use Rattle.lists.proofs.Differ.{differ_most}
+use Rattle.lists.proofs.Numbers.{at_below}
+use Rattle.layout.specs.Width.{symbols_of}
+use Rattle.generator.specs.Records.{width}
+use Rattle.nearest_word.specs.Nearest.{corrected}
+use Rattle.correct.proofs.LaneSymbols.{lane_short, held_front, word_front, word_fits, word_bytes, marked_stays, far_stays, stays_count, stays_bytes}
+use Rattle.correct.proofs.lane.Marked.write_nearest.Goals as goal
+use Rattle.correct.proofs.lane.Marked.write_nearest.Goals.{After-read_symbols-held, Else-self-t-eq0, In-Some}
+
+-- the first n places of the array are the lane
+front : (c : After-read_symbols-held) → let h = c.args.self.code.header in take h.n c.read_symbols-held.result ≡ symbols_of (width h) c.args.lane.now
+front c = held_front c.requires.1 _ (rw c.width_of-w.ensures.0 at c.read_symbols-held.ensures)
+
+pub returns-then-self-t-eq0 : goal.returns-then-self-t-eq0
+returns-then-self-t-eq0 c =
+    let m = c.requires.1 in
+    let stays = marked_stays m c.if-self-t-eq0.true in
+    (sym (stays_bytes m stays (at_below 256 _ (λ i h. omega (arith, c.type_inv.lane i)))), sym (stays_count m stays))
+
+pub read_symbols-held-requires : goal.read_symbols-held-requires
+read_symbols-held-requires c =
+    let w = c.width_of-w.ensures in
+    (w.1, w.2, rw w.0 (lane_short c.requires.1 c.args.self.code.sound.byte))
+
+pub correct_lane-requires : goal.correct_lane-requires
+correct_lane-requires c = rw (front (goal.at.correct_lane-requires c).After-read_symbols-held) (c.requires.1.symbols, c.args.self.powers)
+
+-- the word that was found, and how many symbols differ
+decoded : (c : In-Some)
+    → let h = c.args.self.code.header in
+    let ws = symbols_of (width h) c.args.lane.now in
+    (c.in-Some.found.lane ≡ padded 255 (corrected h ws)) × (c.in-Some.found.altered ≡ differ ws (corrected h ws))
+decoded c = let is = rw (front (goal.at.In-Some c).After-read_symbols-held) at c.in-Some.ensures in (is.1, is.2)
+
+word : (c : In-Some) → let h = c.args.self.code.header in take h.n c.in-Some.found.lane ≡ corrected h (symbols_of (width h) c.args.lane.now)
+word c = word_front c.requires.1 _ (decoded c).0
+
+pub write_symbols-requires : goal.write_symbols-requires
+write_symbols-requires c =
+    let w = c.width_of-w.ensures in
+    rw (word (goal.at.write_symbols-requires c).In-Some) (w.1, w.2, rw w.0 (word_fits c.requires.1), rw w.0 (word_bytes c.requires.1))
+
+pub overflow_cast-result : goal.overflow_cast-result
+overflow_cast-result c =
+    let h = c.args.self.code.header in
+    let ws = symbols_of (width h) c.args.lane.now in
+    omega (arith, (decoded (goal.at.overflow_cast-result c).In-Some).1, differ_most ws (corrected h ws), c.requires.1.symbols.long, c.args.self.code.sound.byte)
+
+pub returns-in-None : goal.returns-in-None
+returns-in-None c =
+    let m = c.requires.1 in
+    let far = rw (front (goal.at.returns-in-None c).After-read_symbols-held) at c.in-None.ensures in
+    let stays = far_stays m far in
+    (sym (stays_bytes m stays (at_below 256 _ (λ i h. omega (arith, (goal.at.returns-in-None c).Else-self-t-eq0.type_inv.lane i)))), sym (stays_count m stays))
+
+pub returns-in-Some : goal.returns-in-Some
+returns-in-Some c =
+    (c.write_symbols.ensures ∙ rw (word (goal.at.returns-in-Some c).In-Some, c.width_of-w.ensures.0), (decoded (goal.at.returns-in-Some c).In-Some).1)

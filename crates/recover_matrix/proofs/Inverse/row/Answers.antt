@@ -1,0 +1,49 @@
+-- `row` meets its contract. The loop's invariant: the entries below i are written.
+use mathlib.Core.Path.{ap, ap₂, ◌∙◌}
+use Rattle.lists.specs.Padded.{zeros, padded}
+use Rattle.lists.proofs.Fill.{filled_start, filled_put, filled_end}
+use Rattle.field.specs.Fields.{mul}
+use Rattle.generator.specs.Records.{modulus_of}
+use Rattle.recover_matrix.proofs.Rows.{column_row}
+use Rattle.recover_matrix.proofs.Prepared.{few, own_scale, row_scale, own_scale_below, row_scale_below, sum_inside, sum_is, sum_below}
+use Rattle.recover_matrix.proofs.Inverse.row.Goals as goal
+
+pub loop-i-init : goal.loop-i-init
+unfolding zeros
+loop-i-init c = filled_start 255 _ _ (few c.args.self.code.sound)
+
+pub mul-own-requires : goal.mul-own-requires
+mul-own-requires c =
+    let v = c.args.self in
+    let s = v.code.sound in
+    rw c.requires.0 (row_scale_below s _ v.different v.prepared _ c.requires.1, own_scale_below s _ v.different v.prepared _ c.loop-i-test.true)
+
+pub symbol_at-sum-requires : goal.symbol_at-sum-requires
+symbol_at-sum-requires c =
+    let v = c.args.self in
+    let wide = c.width_of-w.ensures in
+    (wide.1, wide.2, sum_inside v.code.sound _ v.different _ wide.0 c.requires.2 _ _ c.loop-i-test.true c.requires.1)
+
+pub mul-requires : goal.mul-requires
+mul-requires c =
+    let v = c.args.self in
+    (c.mul-own.ensures.symbol, rw (c.requires.0, c.symbol_at-sum.ensures) (sum_below v.code.sound _ v.different _ c.width_of-w.ensures.0 c.requires.2 _ _ c.loop-i-test.true c.requires.1))
+
+pub loop-i-preserved : goal.loop-i-preserved
+loop-i-preserved c =
+    let v = c.args.self in
+    let s = v.code.sound in
+    let low = c.loop-i-test.true in
+    let row = c.requires.1 in
+    let m = mul (modulus_of v.code.header) in
+    let own = rw c.requires.0 at c.mul-own.ensures.is in
+    let last = rw c.requires.0 at c.mul.ensures.is in
+    let scales = ap₂ m (row_scale s _ v.different v.prepared _ row) (own_scale s _ v.different v.prepared _ low) in
+    let sum = c.symbol_at-sum.ensures ∙ sum_is s _ v.different _ c.width_of-w.ensures.0 c.requires.2 _ _ low row in
+    filled_put c.loop-i.invariant low (last ∙ ap₂ m (own ∙ scales) sum)
+
+pub returns : goal.returns
+returns c =
+    let v = c.args.self in
+    let s = v.code.sound in
+    filled_end c.loop-i.invariant c.loop-i-test.false ∙ ap (padded 255) (column_row v.code.header s (few s) v.nodes.now v.different c.args.r c.requires.1)

@@ -1,9 +1,0 @@
--- `packing::pack_plane` meets its contract.
-use Prim.Native.Nat.{◌*◌}
-use Rattle.kernel.proofs.Filling.{Changed}
-use Rattle.repair.specs.Packing.{byte_from}
-use Rattle.repair.proofs.Digits.{lane_bit}
-use Rattle.repair.proofs.packing.pack_plane.Given as goal
-
-abbrev pub invariant-loop-c : goal.invariant-loop-c
-invariant-loop-c l = Changed (λ c y. byte_from 8 (lane_bit l.e l.table l.share) (c * 8)) l.initial.out l.out l.c
