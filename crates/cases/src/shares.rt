@@ -5,15 +5,22 @@ use test_calls::{Refused, done, turned_away};
 use test_tools::List;
 use test_words::{Fault, Words};
 
+// The shares of the last word.
+fn last_shares(words: &mut Words) -> Result<Vec<u8>, Fault> {
+    let shares = words.bytes("shares")?;
+    words.end()?;
+    Ok(shares)
+}
+
 // How many nodes or symbols were altered and the shares afterwards, or what turned the call away and whether the shares are as they were.
 fn altered(
     alloc: Global,
     answer: Result<u32, Refusal>,
     after: &[u8],
     kept: bool,
-) -> Result<String, AllocError> {
+) -> Result<String, Fault> {
     match answer {
-        Ok(count) => format!(in alloc; "altered {count} shares{}", List(after)),
+        Ok(count) => Ok(format!(in alloc; "altered {count} shares{}", List(after))?),
         Err(refusal) => turned_away(alloc, refusal, kept),
     }
 }
@@ -26,15 +33,14 @@ fn alter<F: FnOnce(&mut [u8]) -> Result<u32, Refusal>>(
 ) -> Result<String, Fault>
     requires { F.IsAlwaysCallable call }
 {
-    let before = words.bytes("shares")?;
-    words.end()?;
+    let before = last_shares(words)?;
     let mut after = before.clone()?;
     let answer = call(&mut after);
     let kept = after == before;
-    Ok(altered(alloc, answer, &after, kept)?)
+    altered(alloc, answer, &after, kept)
 }
 
-fn update(alloc: Global, words: &mut Words) -> Result<String, Fault> {
+pub fn update(alloc: Global, words: &mut Words) -> Result<String, Fault> {
     let record = words.record()?;
     let lanes = words.number("lanes")?;
     let symbol = words.number("symbol")?;
@@ -46,7 +52,7 @@ fn update(alloc: Global, words: &mut Words) -> Result<String, Fault> {
     })
 }
 
-fn correct(alloc: Global, words: &mut Words) -> Result<String, Fault> {
+pub fn correct(alloc: Global, words: &mut Words) -> Result<String, Fault> {
     let record = words.record()?;
     let lanes = words.number("lanes")?;
     alter(
@@ -65,36 +71,22 @@ fn membership(alloc: Global, answer: Result<Option<u32>, Refusal>) -> Result<Str
     }
 }
 
-fn belongs(alloc: Global, words: &mut Words) -> Result<String, Fault> {
+pub fn belongs(alloc: Global, words: &mut Words) -> Result<String, Fault> {
     let record = words.record()?;
     let lanes = words.number("lanes")?;
-    let shares = words.bytes("shares")?;
-    words.end()?;
+    let shares = last_shares(words)?;
     let answer = balanced::block_belongs(&record, lanes, &shares);
     Ok(membership(alloc, answer)?)
 }
 
 // A node's difference added to its share.
-fn add_share(alloc: Global, words: &mut Words) -> Result<String, Fault> {
+pub fn add_share(alloc: Global, words: &mut Words) -> Result<String, Fault> {
     let record = words.record()?;
     let lanes = words.number("lanes")?;
     let difference = words.bytes("symbols")?;
-    let before = words.bytes("shares")?;
-    words.end()?;
+    let before = last_shares(words)?;
     let mut after = before.clone()?;
     let answer = balanced::add_share(&record, lanes, &difference, &mut after);
     let kept = after == before;
-    Ok(done(alloc, answer, &after, kept)?)
-}
-
-// The answer to the call, if it is one of these.
-pub fn share_call(alloc: Global, name: &str, words: &mut Words) -> Result<Option<String>, Fault> {
-    let text = match name {
-        "update" => update(alloc, words)?,
-        "belongs" => belongs(alloc, words)?,
-        "correct" => correct(alloc, words)?,
-        "add_share" => add_share(alloc, words)?,
-        _ => return Ok(None),
-    };
-    Ok(Some(text))
+    done(alloc, answer, &after, kept)
 }

@@ -1,9 +1,10 @@
-// Answers as texts, and the number of what turned a call away.
+// Texts of answers, and the number of what turned a call away.
 use generator::Refusal;
-use std::alloc::{AllocError, Global};
+use std::alloc::Global;
 use std::fmt;
 use std::fmt::Display;
-use test_tools::{List, change};
+use test_tools::{List, change, untouched};
+use test_words::Fault;
 
 // A refusal, said by its number.
 #[derive(Clone, Copy)]
@@ -17,19 +18,30 @@ impl Display for Refused {
 }
 
 // What turned the call away, and whether everything that was lent is as it was.
-pub fn turned_away(alloc: Global, refusal: Refusal, kept: bool) -> Result<String, AllocError> {
-    format!(in alloc; "{}, {}", Refused(refusal), change(kept))
+pub fn turned_away(alloc: Global, refusal: Refusal, kept: bool) -> Result<String, Fault> {
+    Ok(format!(in alloc; "{}, {}", Refused(refusal), change(kept))?)
 }
 
-// What a buffer holds after the call, or what turned it away and whether the buffer is as it was.
+// What a lent buffer holds after the call, or what turned the call away.
 pub fn done<T: Display>(
     alloc: Global,
     answer: Result<(), Refusal>,
     after: &[T],
     kept: bool,
-) -> Result<String, AllocError> {
+) -> Result<String, Fault> {
     match answer {
-        Ok(()) => format!(in alloc; "done{}", List(after)),
+        Ok(()) => Ok(format!(in alloc; "done{}", List(after))?),
         Err(refusal) => turned_away(alloc, refusal, kept),
     }
+}
+
+// The same of a buffer in which every place held the mark.
+pub fn written<T: Copy + Display + PartialEq>(
+    alloc: Global,
+    answer: Result<(), Refusal>,
+    mark: T,
+    after: &[T],
+) -> Result<String, Fault> {
+    let kept = untouched(mark, after);
+    done(alloc, answer, after, kept)
 }

@@ -1,5 +1,5 @@
 // Calls on single lanes.
-use crate::{Refused, buffer, turned_away};
+use crate::{Refused, buffer, last_buffer, turned_away};
 use find_update::Finding;
 use generator::Refusal;
 use std::alloc::{AllocError, Global};
@@ -31,15 +31,13 @@ fn mending(
     answer: Result<u32, Refusal>,
     nodes: &[u8],
     symbols: &[u8],
-) -> Result<String, AllocError> {
+) -> Result<String, Fault> {
     match answer {
-        Ok(count) => {
-            format!(in alloc;
-                "count {count} nodes{} symbols{}",
-                List(nodes),
-                List(symbols)
-            )
-        }
+        Ok(count) => Ok(format!(in alloc;
+            "count {count} nodes{} symbols{}",
+            List(nodes),
+            List(symbols)
+        )?),
         Err(refusal) => {
             let kept = untouched(MARK, nodes) && untouched(MARK, symbols);
             turned_away(alloc, refusal, kept)
@@ -52,8 +50,7 @@ pub fn mends(alloc: Global, words: &mut Words) -> Result<String, Fault> {
     let record = words.record()?;
     let lane = words.bytes("symbols")?;
     let mut nodes = buffer(alloc, words, MARK)?;
-    let mut symbols = buffer(alloc, words, MARK)?;
-    words.end()?;
+    let mut symbols = last_buffer(alloc, words, MARK)?;
     let answer = mends::single_mends(&record, &lane, &mut nodes, &mut symbols);
-    Ok(mending(alloc, answer, &nodes, &symbols)?)
+    mending(alloc, answer, &nodes, &symbols)
 }

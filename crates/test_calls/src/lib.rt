@@ -1,14 +1,13 @@
-// Calls in words that need no block: read, made, and their answers as texts; and what all calls in words are read and answered by.
+// Calls in words that need no block, a function each: it reads the words after the name, makes the call, and gives the answer as a text.
+// Beside them what all calls in words lend, and the texts that their answers share.
 #![tactic(auto)]
 
 mod answers;
 mod buffers;
-mod codes;
-mod lanes;
-mod plans;
-mod rosters;
+pub mod counts;
+pub mod lanes;
+pub mod plans;
+pub mod rosters;
 
-pub use answers::{Refused, done, turned_away};
-pub use buffers::{buffer, write};
-pub use codes::code_call;
-pub use rosters::{nobody, roster_call};
+pub use answers::{Refused, done, turned_away, written};
+pub use buffers::{buffer, last_buffer};

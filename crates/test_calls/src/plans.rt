@@ -1,9 +1,11 @@
 // A record's plan, or what turns the record away.
 use crate::Refused;
+use generator::Refusal;
 use plan::Plan;
 use std::alloc::{AllocError, Global};
 use std::fmt;
 use test_tools::{Block, untouched};
+use test_words::{Fault, Words};
 
 // A list at the front of its places, and whether those after it hold 0.
 #[derive(Clone, Copy)]
@@ -32,13 +34,15 @@ impl fmt::Display for Front<'_> {
 
 // The bytes of symbols: one each, where 255 stands for any symbol that is no byte, or two, the high one first.
 fn bytes_of(alloc: Global, symbols: &[u16], wide: bool) -> Result<Vec<u8>, AllocError> {
-    if wide {
-        return symbols.iter().flat_map(|x| x.to_be_bytes()).collect(alloc);
+    let mut bytes = Vec::new(alloc);
+    for x in symbols {
+        if wide {
+            bytes.extend_from_slice(&x.to_be_bytes())?;
+        } else {
+            bytes.push(u8::try_from(*x).unwrap_or(255))?;
+        }
     }
-    symbols
-        .iter()
-        .map(|x| u8::try_from(*x).unwrap_or(255))
-        .collect(alloc)
+    Ok(bytes)
 }
 
 // The numbers, the shifts, the first nodes and the base word.
@@ -57,10 +61,18 @@ fn accepted(alloc: Global, plan: &Plan, wide: bool) -> Result<String, AllocError
     )
 }
 
-// A symbol has two bytes in a record of kind 3, and else one. A record that is turned away has no plan, and so nothing but 0 in one's places.
-pub fn plan(alloc: Global, record: &[u8]) -> Result<String, AllocError> {
-    match plan::build_plan(record) {
-        Ok(plan) => accepted(alloc, &plan, record.first() == Some(&3)),
+// A record that is turned away has no plan, and so nothing but 0 in the places of one.
+fn planned(alloc: Global, answer: Result<Plan, Refusal>, wide: bool) -> Result<String, AllocError> {
+    match answer {
+        Ok(plan) => accepted(alloc, &plan, wide),
         Err(refusal) => format!(in alloc; "{}, all places 0", Refused(refusal)),
     }
+}
+
+// A symbol has two bytes in a record of kind 3, and else one.
+pub fn plan(alloc: Global, words: &mut Words) -> Result<String, Fault> {
+    let record = words.record()?;
+    words.end()?;
+    let wide = record.first() == Some(&3);
+    Ok(planned(alloc, plan::build_plan(&record), wide)?)
 }

@@ -1,8 +1,9 @@
 // The calls of a roster, which is kept from line to line; after a start or an event the answer says which nodes are present.
-use crate::{Refused, buffer, turned_away};
+use crate::{Refused, last_buffer, turned_away};
 use generator::Refusal;
 use roster::{Listing, Roster};
-use std::alloc::{AllocError, Global};
+use std::alloc::Global;
+use std::fmt;
 use test_tools::{List, MARK, change, untouched};
 use test_words::{Fault, Words};
 
@@ -14,37 +15,42 @@ pub fn nobody() -> Roster {
     }
 }
 
-fn present(alloc: Global, roster: &Roster) -> Result<Vec<usize>, AllocError> {
-    let marks = roster.marks.iter().enumerate();
-    marks
-        .filter(|(_, mark)| **mark)
-        .map(|(node, _)| node)
-        .collect(alloc)
-}
+// The nodes that are present.
+#[derive(Clone, Copy)]
+struct Present<'a>(&'a [bool; 255]);
 
-// The nodes that are present, behind what turned the call away, where something did.
-fn stepped(
-    alloc: Global,
-    roster: &Roster,
-    answer: Result<Roster, Refusal>,
-) -> Result<String, AllocError> {
-    let nodes = present(alloc, roster)?;
-    match answer {
-        Ok(_) => format!(in alloc; "present{}", List(&nodes)),
-        Err(refusal) => format!(in alloc; "{}, present{}", Refused(refusal), List(&nodes)),
+impl fmt::Display for Present<'_> {
+    fn fmt<W: fmt::Write>(&self, f: &mut fmt::Formatter<W>) -> fmt::Result {
+        write!(f, "present")?;
+        for (node, mark) in self.0.iter().enumerate() {
+            if *mark {
+                write!(f, " {node}")?;
+            }
+        }
+        Ok(())
     }
 }
 
-fn start(alloc: Global, words: &mut Words, roster: &mut Roster) -> Result<String, Fault> {
+// The nodes that are present after a call, behind what turned it away, where something did.
+fn stepped(alloc: Global, roster: &Roster, refusal: Option<Refusal>) -> Result<String, Fault> {
+    let nodes = Present(&roster.marks);
+    let text = match refusal {
+        None => format!(in alloc; "{nodes}"),
+        Some(refusal) => format!(in alloc; "{}, {nodes}", Refused(refusal)),
+    };
+    Ok(text?)
+}
+
+pub fn start(alloc: Global, words: &mut Words, roster: &mut Roster) -> Result<String, Fault> {
     let record = words.record()?;
     words.end()?;
     let started = Roster::start(&record);
     *roster = started.unwrap_or(nobody());
-    Ok(stepped(alloc, roster, started)?)
+    stepped(alloc, roster, started.err())
 }
 
 // A node leaves or returns; where that is turned away the roster stays.
-fn event<F: FnOnce(Roster, &[u8], u32) -> Result<Roster, Refusal>>(
+pub fn event<F: FnOnce(Roster, &[u8], u32) -> Result<Roster, Refusal>>(
     alloc: Global,
     words: &mut Words,
     roster: &mut Roster,
@@ -57,62 +63,31 @@ fn event<F: FnOnce(Roster, &[u8], u32) -> Result<Roster, Refusal>>(
     words.end()?;
     let answer = call(*roster, &record, node);
     *roster = answer.unwrap_or(*roster);
-    Ok(stepped(alloc, roster, answer)?)
+    stepped(alloc, roster, answer.err())
 }
 
 // The list that was written, or why it was not and whether every byte is as it was.
-fn listed(
-    alloc: Global,
-    answer: Result<Listing, Refusal>,
-    out: &[u8],
-) -> Result<String, AllocError> {
+fn listed(alloc: Global, answer: Result<Listing, Refusal>, out: &[u8]) -> Result<String, Fault> {
     let kept = untouched(MARK, out);
     match answer {
-        Ok(Listing::Written) => format!(in alloc; "done{}", List(out)),
-        Ok(Listing::TooFew) => format!(in alloc; "too few, {}", change(kept)),
+        Ok(Listing::Written) => Ok(format!(in alloc; "done{}", List(out))?),
+        Ok(Listing::TooFew) => Ok(format!(in alloc; "too few, {}", change(kept))?),
         Err(refusal) => turned_away(alloc, refusal, kept),
     }
 }
 
-// Lends a list to a call that writes nodes.
-fn list<F: FnOnce(&[u8], &mut [u8]) -> Result<Listing, Refusal>>(
-    alloc: Global,
-    words: &mut Words,
-    call: F,
-) -> Result<String, Fault>
-    requires { F.IsAlwaysCallable call }
-{
+pub fn lowest(alloc: Global, words: &mut Words, roster: &Roster) -> Result<String, Fault> {
     let record = words.record()?;
-    let mut out = buffer(alloc, words, MARK)?;
-    words.end()?;
-    let answer = call(&record, &mut out);
-    Ok(listed(alloc, answer, &out)?)
-}
-
-fn lowest(alloc: Global, words: &mut Words, roster: &Roster) -> Result<String, Fault> {
-    list(alloc, words, |record, out| roster.lowest(record, out))
+    let mut out = last_buffer(alloc, words, MARK)?;
+    let answer = roster.lowest(&record, &mut out);
+    listed(alloc, answer, &out)
 }
 
 // The job's list, then the number of the next job.
-fn job(alloc: Global, words: &mut Words, roster: &mut Roster) -> Result<String, Fault> {
-    let text = list(alloc, words, |record, out| roster.next_job(record, out))?;
-    Ok(format!(in alloc; "{text}, next job {}", roster.job)?)
-}
-
-// The answer to the call, if it is one of these.
-pub fn roster_call(
-    alloc: Global,
-    name: &str,
-    words: &mut Words,
-    roster: &mut Roster,
-) -> Result<Option<String>, Fault> {
-    let text = match name {
-        "roster" => start(alloc, words, roster)?,
-        "leave" => event(alloc, words, roster, Roster::leave)?,
-        "rejoin" => event(alloc, words, roster, Roster::rejoin)?,
-        "lowest" => lowest(alloc, words, roster)?,
-        "job" => job(alloc, words, roster)?,
-        _ => return Ok(None),
-    };
-    Ok(Some(text))
+pub fn job(alloc: Global, words: &mut Words, roster: &mut Roster) -> Result<String, Fault> {
+    let record = words.record()?;
+    let mut out = last_buffer(alloc, words, MARK)?;
+    let answer = roster.next_job(&record, &mut out);
+    let list = listed(alloc, answer, &out)?;
+    Ok(format!(in alloc; "{list}, next job {}", roster.job)?)
 }
