@@ -8,6 +8,7 @@ ghost use Rattle.recover.specs.Promise.{recover_fault, rebuild_fault, RecoverPro
 
 use generator::{Code, Refusal};
 use recover_matrix::Inverse;
+use shares::Weighted;
 
 mod fault;
 mod one_row;
@@ -63,10 +64,16 @@ fn rebuild_accepted(
     ensures { RebuildPromise share_layout lanes nodes.now shares.now target out.old out.new (numbered result) code.header (rebuild_fault code.header lanes nodes.now shares.now target (length out.old)) }
 {
     fault::rebuild_fault(code, lanes, nodes, shares, target as usize, out.len())?;
-    let h = code.header;
-    let w = symbols::width_of(h);
-    let weights = node_weights::rebuild_weights(h, nodes, target);
-    shares::rebuild_lanes(h, w, lanes, &weights, shares, out);
+    let width = symbols::width_of(code.header);
+    let weights = node_weights::rebuild_weights(code.header, nodes, target);
+    let sums = Weighted {
+        code,
+        width,
+        lanes,
+        weights: &weights,
+        shares,
+    };
+    sums.fill(out);
     Ok(())
 }
 

@@ -2,7 +2,9 @@
 use mathlib.Core.Path.{◌≡◌, refl, sym, ap, ◌∙◌}
 use Prim.Native.Nat.{ℕ, ◌*◌, ◌<◌}
 use native.Mathlib.Nat.{mul_comm}
+use native.Mathlib.Omega.{arith}
 use borrow.Author.Rules.{rules}
+use Rattle.lists.proofs.Numbers.{at_below}
 use lib.ListN.{length}
 use Rattle.generator.specs.Records.{width}
 use Rattle.generator.proofs.Answered.{exit, done_is, refused_is}
@@ -11,7 +13,7 @@ use Rattle.recover.proofs.Accepts.{rebuild_accepts, rebuild_refuses}
 use Rattle.generator.specs.Answers.{outcome_of}
 use Rattle.recover.proofs.Tiles.{listed_bytes, rebuilt_lanes}
 use Rattle.recover.proofs.rebuild_accepted.Goals as goal
-use Rattle.recover.proofs.rebuild_accepted.Goals.{After-weights-1, In_ok-rebuild_fault}
+use Rattle.recover.proofs.rebuild_accepted.Goals.{In_ok-rebuild_fault}
 
 -- what is known where no number was met
 accepted : (c : In_ok-rebuild_fault)
@@ -32,23 +34,30 @@ rebuild_weights-weights-requires c =
     let (listed, node, out) = accepted (goal.at.rebuild_weights-weights-requires c).In_ok-rebuild_fault in
     (listed.buffer.symbol_rows.sound, listed.different, node)
 
-pub slice_bounds-rebuild_lanes-end : goal.slice_bounds-rebuild_lanes-end
-slice_bounds-rebuild_lanes-end c = search rules
+pub invariant_of-sums : goal.invariant_of-sums
+invariant_of-sums c =
+    let (listed, node, out) = accepted (goal.at.invariant_of-sums c).In_ok-rebuild_fault in
+    record {
+      listed = listed_bytes _ c.width_of-width.ensures.0 listed;
+      bytes = at_below 256 _ (λ i h. omega (arith, c.type_inv.shares i));
+      long = search rules;
+      symbols = c.rebuild_weights-weights.ensures.symbols;
+    }
 
-pub rebuild_lanes-requires : goal.rebuild_lanes-requires
-rebuild_lanes-requires c =
+pub fill-requires : goal.fill-requires
+fill-requires c =
     let a = c.args in
-    let wide = c.width_of-w.ensures.0 in
-    let (listed, node, out) = accepted (goal.at.rebuild_lanes-requires c).In_ok-rebuild_fault in
-    (listed_bytes _ wide listed, sym (slice_bounds-rebuild_lanes-end (goal.at.rebuild_lanes-requires c).After-weights-1), c.rebuild_weights-weights.ensures.symbols, out ∙ mul_comm a.lanes (width a.code.header) ∙ ap (λ (w : ℕ). w * a.lanes) (sym wide))
+    let wide = c.width_of-width.ensures.0 in
+    let (listed, node, out) = accepted (goal.at.fill-requires c).In_ok-rebuild_fault in
+    out ∙ mul_comm a.lanes (width a.code.header) ∙ ap (λ (w : ℕ). w * a.lanes) (sym wide)
 
 pub returns : goal.returns
 unfolding outcome_of
 returns c =
-    let wide = c.width_of-w.ensures.0 in
+    let wide = c.width_of-width.ensures.0 in
     let a = c.args in
     let none = done_is _ c.in_ok-rebuild_fault.ensures in
     record {
       answer = rw none refl;
-      written = rw none (rebuilt_lanes (accepted (goal.at.returns c).In_ok-rebuild_fault).0 a.target _ c.rebuild_weights-weights.ensures (rw wide at c.rebuild_lanes.ensures));
+      written = rw none (rebuilt_lanes (accepted (goal.at.returns c).In_ok-rebuild_fault).0 a.target _ c.rebuild_weights-weights.ensures (rw wide at c.fill.ensures));
     }
