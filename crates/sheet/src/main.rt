@@ -4,9 +4,5 @@
 use std::io;
 
 fn main(rt: HostRuntime) -> io::Result<()> {
-    let mut rec = [0u8; 8];
-    let size = input::read_full(&rt, &mut rec)?;
-    let mut page = sheet_text::page();
-    let end = sheet_text::sheet(&rec[..size], &mut page);
-    rt.write_all(&page[..end])
+    input::answer(&rt, &mut sheet_text::page(), sheet_text::sheet)
 }

@@ -5,9 +5,5 @@
 use std::io;
 
 fn main(rt: HostRuntime) -> io::Result<()> {
-    let mut rec = [0u8; 8];
-    let size = input::read_full(&rt, &mut rec)?;
-    let mut page = weights_text::page();
-    let end = weights_text::weights(&rec[..size], &mut page);
-    rt.write_all(&page[..end])
+    input::answer(&rt, &mut weights_text::page(), weights_text::weights)
 }
