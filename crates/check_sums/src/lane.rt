@@ -90,12 +90,8 @@ pub fn sums_with(code: Code, rows: &[u8], lane: &[u16]) -> [u16; 255]
     symbols::read_symbols(w, &sums[..size])
 }
 
-// Room for the rows of powers.
-pub fn room() -> [u8; 130050]
-    ensures { length result ≡ 130050 }
-{
-    [0u8; 130050]
-}
+// Room for the rows of powers of every code.
+pub const ROOM: usize = 130050;
 
 // The check sums of a lane, and zeros after them.
 pub fn sums(code: Code, lane: &[u16]) -> [u16; 255]
@@ -105,7 +101,7 @@ pub fn sums(code: Code, lane: &[u16]) -> [u16; 255]
     let h = code.header;
     let w = symbols::width_of(h);
     let size = w * h.n as usize * (h.n - h.k) as usize;
-    let mut rows = room();
+    let mut rows: [u8; ROOM] = kernel::filled(0);
     fill_power_rows(code, &mut rows[..size]);
     sums_with(code, &rows[..size], lane)
 }

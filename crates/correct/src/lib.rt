@@ -70,7 +70,7 @@ fn correct_wrong(code: Code, marks: &[u8], shares: &mut [u8]) -> Result<u32, Ref
 {
     let h = code.header;
     let size = symbols::width_of(h) * h.n as usize * (h.n - h.k) as usize;
-    let mut room = check_sums::lane::room();
+    let mut room: [u8; check_sums::lane::ROOM] = kernel::filled(0);
     let rows = &mut room[..size];
     check_sums::lane::fill_power_rows(code, rows);
     Marked { code, rows, marks }.correct(shares)

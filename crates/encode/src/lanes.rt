@@ -10,7 +10,6 @@ use crate::message::Message;
 use block_products::{Product, Way};
 use generator::Header;
 use plan::Generator;
-use tile_products::scratch;
 
 // Fills the node's column of the generator.
 fn fill_column(generator: &Generator, node: usize, column: &mut [u16])
@@ -46,7 +45,7 @@ fn fill_lists(generator: &Generator, lists: &mut [u16], counts: &mut [u8])
     ensures { Begun (modulus_of generator.now.code.header) generator.now.code.header.k (column_of generator.now.code.header) generator.now.code.header.n lists.new counts.new }
 {
     let Header { field, k, .. } = generator.code.header;
-    let mut codes = scratch::codes();
+    let mut codes: [u64; 256] = kernel::filled(0);
     tile_products::fill_codes(field, &mut codes);
     let mut column = [0u16; 255];
     list_columns(generator, &codes, &mut column[..k as usize], lists, counts);

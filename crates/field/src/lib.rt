@@ -2,7 +2,7 @@
 #![tactic(auto)]
 
 ghost use Rattle.std.specs.Prelude.{◌≡◌, true, ◌&&◌, ◌≤◌, ◌<◌, eqb, leb};
-ghost use Rattle.field.specs.Fields.{is_field, size_of, add, sub, mul, power, inverse, order_of};
+ghost use Rattle.field.specs.Fields.{is_field, size_of, add, sub, mul, inverse, order_of};
 ghost use Rattle.field.specs.Kinds.{modulus, usable};
 ghost use Rattle.field.specs.Widths.{bytes_for};
 
@@ -93,22 +93,6 @@ impl Field {
         Arithmetic::new(self, &tables).mul(a, b)
     }
 
-    // The same with lent tables, for loops that take many products; a prime field needs none.
-    pub fn mul_with(self, tables: &Tables, a: u32, b: u32) -> u32
-        requires { (usable self ≡ true) × (a < size_of (modulus self)) × (b < size_of (modulus self)) }
-        ensures { result ≡ mul (modulus self) a b }
-    {
-        Arithmetic::new(self, tables).mul(a, b)
-    }
-
-    // Whether c is the product of a and b.
-    pub fn is_product(self, tables: &Tables, a: u32, b: u16, c: u16) -> bool
-        requires { (usable self ≡ true) × (a < size_of (modulus self)) × (b < size_of (modulus self)) }
-        ensures { result ≡ eqb c (mul (modulus self) a b) }
-    {
-        Arithmetic::new(self, tables).is_product(a, b, c)
-    }
-
     // The symbol whose product with a is 1; 0 for 0.
     pub fn inverse(self, a: u32) -> u32
         requires { (usable self ≡ true) × (a < size_of (modulus self)) }
@@ -116,20 +100,6 @@ impl Field {
     {
         let tables = constant_tables();
         Arithmetic::new(self, &tables).inverse(a)
-    }
-
-    pub fn inverse_with(self, tables: &Tables, a: u32) -> u32
-        requires { (usable self ≡ true) × (a < size_of (modulus self)) }
-        ensures { result ≡ inverse (modulus self) a }
-    {
-        Arithmetic::new(self, tables).inverse(a)
-    }
-
-    pub fn power(self, tables: &Tables, a: u32, e: u32) -> u32
-        requires { (usable self ≡ true) × (a < size_of (modulus self)) }
-        ensures { result ≡ power (modulus self) a e }
-    {
-        Arithmetic::new(self, tables).power(a, e)
     }
 
     // Whether the order of a is n: the first exponent whose power of a is 1.

@@ -27,3 +27,10 @@ fn largest(s: &[u8]) -> Option<u8>
 {
     s.iter().copied().max()
 }
+
+// N times x. Its length is all that a caller is told: an array of zeros that a proof sees is read element by element.
+pub fn filled<T: Copy, const N: usize>(x: T) -> [T; N]
+    ensures { length result ≡ N }
+{
+    [x; N]
+}

@@ -3,7 +3,7 @@
 ghost use Rattle.std.specs.Prelude.{◌≡◌, ◌+◌, ◌*◌, ◌/◌, ◌%◌, ◌<◌, length, slice_index, slice_set};
 ghost use Rattle.lists.specs.Padded.{zeros};
 ghost use Rattle.lists.specs.Rows.{from};
-ghost use Rattle.kernel.specs.Inner.Halves.{pair_product, wrapped, DigitSums, Sixteen, total_of, rest_of};
+ghost use Rattle.kernel.specs.Inner.Halves.{pair_product, wrapped, DigitSums, total_of, rest_of};
 
 pub fn product(weight: u16, first: u8, second: u8) -> u32
     ensures { (result ≡ (first * 256 + second) * weight) × (result < 4294967296) }
@@ -116,52 +116,4 @@ impl Halves {
         }
         out
     }
-}
-
-// Adds each symbol of a row times the weight: its lower half to a and b, its upper half to c and d. A weight of 0 costs nothing.
-pub fn add_products(
-    weight: u16,
-    first: &[u8],
-    second: &[u8],
-    a: &mut [u16; 16],
-    b: &mut [u16; 16],
-    c: &mut [u16; 16],
-    d: &mut [u16; 16],
-)
-    requires { (length first.now ≡ 16) × (length second.now ≡ 16) × Sixteen a.old × Sixteen b.old × Sixteen c.old × Sixteen d.old }
-    ensures { (a.new ≡ wrapped (λ t. pair_product weight first.now second.now t % 65536) a.old) × (b.new ≡ wrapped (λ t. pair_product weight first.now second.now t % 65536 / 256) b.old) × (c.new ≡ wrapped (λ t. pair_product weight first.now second.now t / 65536) c.old) × (d.new ≡ wrapped (λ t. pair_product weight first.now second.now t / 65536 / 256) d.old) }
-{
-    let mut sums = Halves {
-        low: Sums {
-            rest: *a,
-            upper: *b,
-        },
-        high: Sums {
-            rest: *c,
-            upper: *d,
-        },
-    };
-    sums.add_products(weight, first, second);
-    *a = sums.low.rest;
-    *b = sums.low.upper;
-    *c = sums.high.rest;
-    *d = sums.high.upper;
-}
-
-// The sums of products modulo p.
-pub fn remainders(p: u16, a: &[u16; 16], b: &[u16; 16], c: &[u16; 16], d: &[u16; 16]) -> [u16; 16]
-    requires { 0 < p }
-    ensures { result ≡ from (λ t. rest_of p (slice_index a.now t) (slice_index b.now t) (slice_index c.now t) (slice_index d.now t)) 0 16 }
-{
-    let sums = Halves {
-        low: Sums {
-            rest: *a,
-            upper: *b,
-        },
-        high: Sums {
-            rest: *c,
-            upper: *d,
-        },
-    };
-    sums.remainders(p)
 }

@@ -4,7 +4,6 @@
 ghost use Rattle.std.specs.Prelude.{◌≡◌};
 ghost use Rattle.lists.specs.Padded.{padded};
 ghost use Rattle.generator.specs.Answers.{numbered};
-ghost use Rattle.generator.specs.Shifts.{shifts_of};
 ghost use Rattle.generator.specs.Generator.{base_word};
 ghost use Rattle.plan.specs.Plans.{plan_of, plan_for, PlanSays};
 
@@ -31,14 +30,7 @@ pub struct Plan {
     pub base: [u16; 255],
 }
 
-// The shifts of a code's rows, and zeros after them: for a caller that needs no whole plan.
-pub fn row_shifts(code: Code) -> [u8; 255]
-    ensures { result ≡ padded 255 (shifts_of code.header.n code.header.k) }
-{
-    shifts::fill_shifts(code.header.n, code.header.k)
-}
-
-// Its base word, and zeros after it.
+// The base word of a code, and zeros after it.
 pub fn base_word(code: Code) -> [u16; 255]
     ensures { result ≡ padded 255 (base_word code.header) }
 {

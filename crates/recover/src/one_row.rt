@@ -35,10 +35,10 @@ pub fn fill_row(h: Header, w: usize, lanes: usize, weights: &[u16], shares: &[u8
 {
     let field = h.field;
     let m = product_of(h, lanes);
-    let mut codes = scratch::codes();
+    let mut codes: [u64; 256] = kernel::filled(0);
     tile_products::fill_codes(field, &mut codes);
-    let mut lists = scratch::small_lists();
-    let mut counts = scratch::small_counts();
+    let mut lists: [u16; scratch::SMALL_LISTS] = kernel::filled(0);
+    let mut counts: [u8; scratch::SMALL_COUNTS] = kernel::filled(0);
     tile_products::prepare(field, &codes, weights, 0, &mut lists, &mut counts);
     block_products::fill(m, w, &lists, &counts, shares, out);
 }

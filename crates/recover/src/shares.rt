@@ -92,6 +92,6 @@ pub fn rebuild_lanes(
         fill_share(h, w, lanes, weights, shares, &mut tile, out);
         return;
     }
-    let mut tile = scratch::large_rows();
+    let mut tile: [u8; scratch::LARGE_ROWS] = kernel::filled(0);
     fill_share(h, w, lanes, weights, shares, &mut tile, out);
 }

@@ -142,7 +142,7 @@ impl<'a> Sliding<'a> {
         ensures { out.new ≡ from (λ t. get_or (part_sums self.entry at 8) t 0) 0 (length out.old) }
     {
         let listed = self.from_place(at);
-        let mut acc = subset_sums::slice();
+        let mut acc = [0u8; 64];
         for b in 0..8 {
             listed.turn(b, &mut acc);
         }

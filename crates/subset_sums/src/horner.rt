@@ -61,19 +61,6 @@ fn add_listed(tab: &[u8], list: &[u16], acc: &mut [u8; 64])
     }
 }
 
-pub fn turn(groups: usize, tab: &[u8], list: &[u16], counts: &[u8], b: usize, acc: &mut [u8; 64])
-    requires { (groups ≤ 64) × Slices groups tab.now list.now counts.now × (b < 8) × (acc.old ≡ turns_of b groups tab.now list.now counts.now) }
-    ensures { acc.new ≡ turns_of (b + 1) groups tab.now list.now counts.now }
-{
-    let listed = Listed {
-        groups,
-        tab,
-        list,
-        counts,
-    };
-    listed.turn(b, acc);
-}
-
 pub fn output(groups: usize, tab: &[u8], list: &[u16], counts: &[u8], out: &mut [u8])
     requires { (groups ≤ 64) × Slices groups tab.now list.now counts.now × (length out.old ≡ 64) }
     ensures { out.new ≡ turns_of 8 groups tab.now list.now counts.now }

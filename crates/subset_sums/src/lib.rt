@@ -2,20 +2,10 @@
 // all subsets are made once, and each output adds, for every binary digit of its weights, one such sum for each four rows.
 #![tactic(auto)]
 
-ghost use Rattle.std.specs.Prelude.{◌≡◌};
-ghost use Rattle.lists.specs.Padded.{zeros};
-
 mod horner;
 mod slices;
 mod table;
 
-pub use horner::{Listed, output, turn};
+pub use horner::{Listed, output};
 pub use slices::{fill_spread, list_output};
 pub use table::fill_table;
-
-// A slice: one byte for each lane.
-pub fn slice() -> [u8; 64]
-    ensures { result ≡ zeros 64 }
-{
-    [0; 64]
-}

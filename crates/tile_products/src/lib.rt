@@ -54,7 +54,7 @@ pub fn codes_of(field: Field) -> [u64; 256]
     requires { usable field ≡ true }
     ensures { Codes (modulus field) result }
 {
-    let mut codes = scratch::filled(0);
+    let mut codes = kernel::filled(0);
     fill_codes(field, &mut codes);
     codes
 }

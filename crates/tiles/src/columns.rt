@@ -4,7 +4,7 @@ ghost use Rattle.layout.specs.Layout.{row_after_row, lane_after_lane, lane_of, r
 ghost use Rattle.layout.specs.Inner.Parts.{some_lanes};
 
 use crate::lanes::Lanes;
-use crate::{many_lanes, size};
+use crate::many_lanes;
 
 // Fewer lanes than these are turned byte by byte: scratch would take longer than the work.
 const FEW: usize = 16;
@@ -40,9 +40,9 @@ fn gather(lanes: Lanes, tile: &mut [u8])
         return turn(lanes.count, lanes.rows, lanes.bytes, tile);
     }
     if lanes.rows <= 64 {
-        return many_lanes::gather_blocks(lanes, &mut size::scratch::<4096>(), tile);
+        return many_lanes::gather_blocks(lanes, &mut kernel::filled::<u8, 4096>(0), tile);
     }
-    many_lanes::gather_blocks(lanes, &mut size::scratch::<32768>(), tile);
+    many_lanes::gather_blocks(lanes, &mut kernel::filled::<u8, 32768>(0), tile);
 }
 
 // The rows of `count` lanes of a buffer, from lane `first` on, which are handed on as the part from its start to the end of the last one.

@@ -4,7 +4,7 @@ ghost use Rattle.layout.specs.Layout.{row_after_row, lane_after_lane, lane_of};
 ghost use Rattle.tiles.specs.Inner.Tiles.{Read, BlockOf, LanesIn};
 
 use crate::lanes::Lanes;
-use crate::{size, turning};
+use crate::turning;
 use std::simd::prelude::*;
 
 // 16 bytes from place `at` on, or those that there are.
@@ -36,7 +36,7 @@ fn gather_short(lanes: Lanes, tile: &mut [u8])
     requires { (lanes.rows < 16) × (16 ≤ lanes.count) × (lanes.count ≤ 64) × (1024 ≤ length tile.old) }
     ensures { LanesIn lanes.entry.rows lanes.entry.count lanes.entry.bytes.now tile.old tile.new }
 {
-    let mut bytes = size::scratch::<1024>();
+    let mut bytes = kernel::filled::<u8, 1024>(0);
     let size = lanes.count * lanes.rows;
     bytes[..size].copy_from_slice(lanes.bytes);
     turning::turn_all(lanes.count, 16, lanes.rows, &bytes, 64, tile);
@@ -47,7 +47,7 @@ fn gather_few(lanes: Lanes, tile: &mut [u8])
     requires { (lanes.count ≤ 64) × ((lanes.rows + 15) / 16 * 1024 ≤ length tile.old) }
     ensures { LanesIn lanes.entry.rows lanes.entry.count lanes.entry.bytes.now tile.old tile.new }
 {
-    let mut block = size::scratch::<1024>();
+    let mut block = kernel::filled::<u8, 1024>(0);
     for b in 0..lanes.rows.div_ceil(16) {
         let j = b * 16;
         fill_block(lanes, j, &mut block);

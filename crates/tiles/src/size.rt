@@ -4,18 +4,11 @@ ghost use Rattle.std.specs.Prelude.{◌≡◌, ◌*◌, ◌≤◌, ◌<◌, leng
 // No more lanes than these are in a tile, so that a column's bytes do not fall on the same places of the cache.
 const MOST: usize = 1040;
 
-// Scratch of N bytes.
-pub fn scratch<const N: usize>() -> [u8; N]
-    ensures { length result ≡ N }
-{
-    [0; N]
-}
-
 // Scratch for a tile where the rows and lanes are few: clearing more would take longer than the work.
 pub fn small_scratch() -> [u8; 4096]
     ensures { length result ≡ 4096 }
 {
-    scratch()
+    kernel::filled(0)
 }
 
 // Blocks of 16 lanes alone, where there is one.

@@ -2,7 +2,6 @@
 ghost use Rattle.std.specs.Prelude.{◌≡◌, ◌+◌, ◌*◌, ◌≤◌, length};
 ghost use Rattle.tiles.specs.Inner.Squares.{shuffled, turned, square_at, Squared};
 
-use crate::size;
 use std::simd::prelude::*;
 
 type Square = [u8; 256];
@@ -21,8 +20,8 @@ fn shuffle(x: &Square, y: &mut Square)
 fn turn(x: &Square, out: &mut Square)
     ensures { out.new ≡ turned x.now }
 {
-    let mut a = size::scratch();
-    let mut b = size::scratch();
+    let mut a = kernel::filled(0);
+    let mut b = kernel::filled(0);
     shuffle(x, &mut a);
     shuffle(&a, &mut b);
     shuffle(&b, &mut a);
@@ -56,8 +55,8 @@ pub fn turn_square(width: usize, first: usize, rows: &[u8], to: usize, at: usize
     requires { (15 * width + first + 16 ≤ length rows.now) × (15 * to + at + 16 ≤ length out.old) }
     ensures { Squared to 16 (turned (square_at width first rows.now)) at out.old out.new }
 {
-    let mut a = size::scratch();
-    let mut b = size::scratch();
+    let mut a = kernel::filled(0);
+    let mut b = kernel::filled(0);
     take_square(width, first, rows, &mut a);
     turn(&a, &mut b);
     put_square(&b, to, at, out);

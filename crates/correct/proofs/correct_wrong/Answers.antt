@@ -16,4 +16,4 @@ pub overflow_mul-size-2 : goal.overflow_mul-size-2
 overflow_mul-size-2 c = omega (arith, size_fits (goal.at.overflow_mul-size-2 c).After-width_of)
 
 pub slice_bounds-room-end : goal.slice_bounds-room-end
-slice_bounds-room-end c = omega (arith, size_fits (goal.at.slice_bounds-room-end c).After-width_of, c.room-room.ensures)
+slice_bounds-room-end c = omega (arith, size_fits (goal.at.slice_bounds-room-end c).After-width_of, c.filled-room.ensures)

@@ -16,10 +16,6 @@ pub record DigitSums (n : ℕ) (sums : List ℕ) : Type 0 where
   pub long : length sums ≡ n
   pub below : all_below 65536 sums ≡ true
 
--- for each of 16 lanes
-abbrev pub Sixteen : List ℕ → Type 0
-Sixteen sums = DigitSums 16 sums
-
 -- a sum of at most 257 halves from the sum modulo 65536 and the sum of their upper bytes
 unfoldable pub total_of : ℕ → ℕ → ℕ
 total_of a b = b * 256 + (a + 65536 - b % 256 * 256) % 65536

@@ -26,10 +26,10 @@ pub overflow_mul-size-2 : goal.overflow_mul-size-2
 overflow_mul-size-2 c = omega (arith, size_fits c)
 
 pub slice_bounds-rows-end : goal.slice_bounds-rows-end
-slice_bounds-rows-end c = omega (arith, size_fits (goal.at.slice_bounds-rows-end c).After-struct_known-2-1, c.room-rows.ensures)
+slice_bounds-rows-end c = omega (arith, size_fits (goal.at.slice_bounds-rows-end c).After-struct_known-2-1, c.filled-rows.ensures)
 
 pub slice_bounds-fill_power_rows-end : goal.slice_bounds-fill_power_rows-end
-slice_bounds-fill_power_rows-end c = sym (length-take-le _ _ (omega (arith, size_fits (goal.at.slice_bounds-fill_power_rows-end c).After-struct_known-2-1, c.room-rows.ensures)))
+slice_bounds-fill_power_rows-end c = sym (length-take-le _ _ (omega (arith, size_fits (goal.at.slice_bounds-fill_power_rows-end c).After-struct_known-2-1, c.filled-rows.ensures)))
 
 pub fill_power_rows-requires : goal.fill_power_rows-requires
 fill_power_rows-requires c =

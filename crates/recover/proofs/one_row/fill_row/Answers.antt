@@ -33,15 +33,15 @@ prepare-requires c = (
   rw c.requires.1 (few (goal.at.prepare-requires c).Start),
   c.requires.2,
   omega arith,
-  rw c.requires.1 (omega (arith, room (goal.at.prepare-requires c).Start, c.small_lists-lists.ensures)),
-  omega (arith, c.small_counts-counts.ensures),
+  rw c.requires.1 (omega (arith, room (goal.at.prepare-requires c).Start, c.filled-lists.ensures)),
+  omega (arith, c.filled-counts.ensures),
 )
 
 -- the lists are as long as they were, and so are the sizes
-same_lists : (c : After-prepare) → length c.prepare.new.lists ≡ length c.small_lists-lists.result
+same_lists : (c : After-prepare) → length c.prepare.new.lists ≡ length c.filled-lists.result
 same_lists c = search rules
 
-same-sizes : (c : After-prepare) → length c.prepare.new.counts ≡ length c.small_counts-counts.result
+same-sizes : (c : After-prepare) → length c.prepare.new.counts ≡ length c.filled-counts.result
 same-sizes c = search rules
 
 -- they are those of the weights
@@ -52,7 +52,7 @@ begun c =
 
 made_row : (c : After-prepare) → Made (modulus_of c.args.h) c.args.h.k 1 c.prepare.new.lists c.prepare.new.counts
 made_row c =
-    begun_made (omega arith) (omega (arith, room (goal.at.After-prepare c).Start, same_lists c, c.small_lists-lists.ensures)) (omega (arith, same-sizes c, c.small_counts-counts.ensures)) (begun c)
+    begun_made (omega arith) (omega (arith, room (goal.at.After-prepare c).Start, same_lists c, c.filled-lists.ensures)) (omega (arith, same-sizes c, c.filled-counts.ensures)) (begun c)
 
 pub fill-requires : goal.fill-requires
 unfolding out_bytes width

@@ -36,4 +36,4 @@ fill_share-requires c =
 pub fill_share-requires-2 : goal.fill_share-requires-2
 fill_share-requires-2 c =
     let (shares, size, weights, out) = c.requires in
-    (shares, size, weights, rw c.large_rows-tile.ensures (omega (arith, row_small c.args.h shares.symbol_rows.sound c.args.w shares.wide)), out)
+    (shares, size, weights, rw c.filled-tile.ensures (omega (arith, row_small c.args.h shares.symbol_rows.sound c.args.w shares.wide)), out)
