@@ -1,15 +1,11 @@
 -- `read_binary` meets its contract.
 use mathlib.Core.Path.{refl, ◌∙◌}
-use native.Mathlib.Omega.{arith}
 use Rattle.field.specs.Kinds.{usable}
 use Rattle.records.proofs.Reading.{binary_body, binary_judged}
 use Rattle.records.proofs.read_binary.Goals as goal
 
 pub returns-then-rec-ne4 : goal.returns-then-rec-ne4
 returns-then-rec-ne4 c = binary_body _ c.requires.0 c.requires.1 c.if-rec-ne4.true
-
-pub overflow_cast-rec : goal.overflow_cast-rec
-overflow_cast-rec c = omega (arith, c.type_inv.rec 1)
 
 pub judge-requires : goal.judge-requires
 unfolding usable

@@ -8,14 +8,8 @@ use Rattle.records.proofs.read_prime.Goals as goal
 pub returns-then-rec-ne5 : goal.returns-then-rec-ne5
 returns-then-rec-ne5 c = prime_body _ c.requires.0 c.requires.1 c.if-rec-ne5.true
 
-pub overflow_cast-p : goal.overflow_cast-p
-overflow_cast-p c = omega (arith, c.type_inv.rec 1)
-
 pub returns-then-not-prime_in : goal.returns-then-not-prime_in
 returns-then-not-prime_in c = prime_field _ c.requires.0 c.requires.1 c.if-rec-ne5.false (sym c.prime_in.ensures ∙ c.if-not-prime_in.true)
-
-pub overflow_cast-rec : goal.overflow_cast-rec
-overflow_cast-rec c = omega (arith, c.type_inv.rec 2)
 
 pub judge-requires : goal.judge-requires
 judge-requires c = rw c.new.ensures (usable_in 3 251 _ (omega arith) (sym c.prime_in.ensures ∙ c.if-not-prime_in.false))

@@ -27,9 +27,6 @@ pub loop-r-init : goal.loop-r-init
 unfolding zeros
 loop-r-init c = filled_start 255 _ _ (omega arith)
 
-pub overflow_cast-shift-in-loop-r : goal.overflow_cast-shift-in-loop-r
-overflow_cast-shift-in-loop-r c = omega (arith, (shift_of c).1)
-
 pub negative-first-requires : goal.negative-first-requires
 negative-first-requires c = (shift_of c).1
 

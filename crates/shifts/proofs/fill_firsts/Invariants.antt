@@ -1,5 +1,4 @@
 -- `fill_firsts` meets its contract. Invariant: the first nodes of the first r rows are written.
-use Prim.Native.Nat.{◌-◌}
 use lib.ListN.{get_or}
 use Rattle.lists.proofs.Fill.{Filled}
 use Rattle.generator.specs.Shifts.{negative, shifts_of}

@@ -1,7 +1,6 @@
 -- `gcd` meets its contract. Invariant: so far as Euclid's algorithm has come, with fuel, the answer is still that of x and y.
 use Prim.Native.Nat.{suc}
 use mathlib.Core.Path.{refl}
-use native.Mathlib.Nat.{mod-lt}
 use native.Mathlib.Omega.{arith}
 use Rattle.generator.specs.Shifts.{gcd}
 use Rattle.generator.proofs.Gcd.{gcd_next, gcd_end}
@@ -10,12 +9,6 @@ use Rattle.shifts.proofs.gcd.Goals as goal
 pub loop-b-init : goal.loop-b-init
 unfolding gcd
 loop-b-init c = (suc c.args.y, omega arith, refl)
-
-pub nonzero_rem-r : goal.nonzero_rem-r
-nonzero_rem-r c = omega (arith, c.loop-b-test.true)
-
-pub loop-b-smaller : goal.loop-b-smaller
-loop-b-smaller c = mod-lt c.loop-b.a (omega (arith, c.loop-b-test.true))
 
 pub loop-b-preserved : goal.loop-b-preserved
 loop-b-preserved c =

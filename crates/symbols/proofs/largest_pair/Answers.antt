@@ -1,7 +1,6 @@
 -- `largest_pair` meets its contract. The loop's invariant: all are below m where the largest so far and those from i on are.
 use mathlib.Core.Path.{◌∙◌}
 use native.Mathlib.Nat.{sub-zero}
-use native.Mathlib.Omega.{arith}
 use borrow.Author.Tests.{lt-ltb}
 use Rattle.layout.specs.Width.{symbols_of}
 use Rattle.symbols.proofs.Below.{ltb_max, below_larger, below_largest}
@@ -10,9 +9,6 @@ use Rattle.symbols.proofs.largest_pair.Goals as goal
 pub loop-i-init : goal.loop-i-init
 unfolding symbols_of
 loop-i-init c = λ m some. rw (sub-zero, lt-ltb 0 m some)
-
-pub symbol_at-requires : goal.symbol_at-requires
-symbol_at-requires c = (omega arith, omega arith, c.loop-i-test.true)
 
 pub loop-i-preserved : goal.loop-i-preserved
 loop-i-preserved c =

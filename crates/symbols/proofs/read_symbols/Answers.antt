@@ -9,9 +9,6 @@ pub loop-i-init : goal.loop-i-init
 unfolding zeros
 loop-i-init c = filled_start 255 _ _ (few_symbols _ _ c.requires.0 c.requires.2)
 
-pub symbol_at-requires : goal.symbol_at-requires
-symbol_at-requires c = (c.requires.0, c.requires.1, c.loop-i-test.true)
-
 pub loop-i-preserved : goal.loop-i-preserved
 loop-i-preserved c = filled_put c.loop-i.invariant c.loop-i-test.true c.symbol_at.ensures
 

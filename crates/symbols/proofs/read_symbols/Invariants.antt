@@ -1,5 +1,5 @@
 -- `read_symbols` meets its contract. The loop's invariant: the symbols below i are read.
-use Prim.Native.Nat.{◌-◌, ◌/◌}
+use Prim.Native.Nat.{◌/◌}
 use lib.ListN.{length}
 use Rattle.lists.proofs.Fill.{Filled}
 use Rattle.layout.specs.Width.{symbol_at}

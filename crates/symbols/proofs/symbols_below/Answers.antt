@@ -1,8 +1,6 @@
 -- `symbols_below` meets its contract. The loop's invariant: all are below the size where those from i on are.
 use mathlib.Core.Path.{sym, ◌∙◌}
-use native.Mathlib.Nat.{sub-zero, div-le_self}
-use native.Mathlib.Omega.{arith}
-use lib.ListN.{length}
+use native.Mathlib.Nat.{sub-zero}
 use Rattle.layout.specs.Width.{symbols_of}
 use Rattle.symbols.proofs.Below.{below_step, below_stop, below_none}
 use Rattle.symbols.proofs.symbols_below.Goals as goal
@@ -10,9 +8,6 @@ use Rattle.symbols.proofs.symbols_below.Goals as goal
 pub loop-i-init : goal.loop-i-init
 unfolding symbols_of
 loop-i-init c = rw sub-zero
-
-pub symbol_at-requires : goal.symbol_at-requires
-symbol_at-requires c = (c.requires.0, c.requires.1, c.loop-i-test.true)
 
 pub returns-then-size-symbol_at : goal.returns-then-size-symbol_at
 returns-then-size-symbol_at c =

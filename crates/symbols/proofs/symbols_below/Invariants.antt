@@ -1,6 +1,6 @@
 -- `symbols_below` meets its contract. The loop's invariant: all are below the size where those from i on are.
 use mathlib.Core.Path.{◌≡◌}
-use Prim.Native.Nat.{◌-◌, ◌≤◌}
+use Prim.Native.Nat.{◌-◌}
 use Rattle.lists.specs.Numbers.{all_below}
 use Rattle.lists.specs.Rows.{from}
 use Rattle.layout.specs.Width.{symbol_at, symbols_of}

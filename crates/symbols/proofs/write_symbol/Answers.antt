@@ -1,10 +1,7 @@
 -- `write_symbol` meets its contract: one byte, or the high and the low byte.
 use mathlib.Core.Path.{◌≡◌}
-use Prim.Native.Nat.{ℕ}
-use native.Mathlib.Omega.{arith}
-use lib.ListN.{length-set}
 use Rattle.symbols.proofs.Sizes.{is_two}
-use Rattle.symbols.proofs.Written.{one_written, two_written, byte_fits}
+use Rattle.symbols.proofs.Written.{one_written, two_written}
 use Rattle.symbols.proofs.write_symbol.Goals as goal
 use Rattle.symbols.proofs.write_symbol.Goals.{Else-w-eq1}
 
@@ -12,14 +9,8 @@ use Rattle.symbols.proofs.write_symbol.Goals.{Else-w-eq1}
 two : (c : Else-w-eq1) → c.args.w ≡ 2
 two c = is_two c.args.w c.requires.0 c.requires.1 c.if-w-eq1.false
 
-pub overflow_cast-out : goal.overflow_cast-out
-overflow_cast-out c = let low = byte_fits _ _ c.if-w-eq1.true c.requires.2 in omega arith
-
 pub returns-then-w-eq1 : goal.returns-then-w-eq1
 returns-then-w-eq1 c = one_written _ _ c.args.out.now c.if-w-eq1.true c.requires.3
-
-pub bounds-out-1 : goal.bounds-out-1
-bounds-out-1 c = omega (arith, two c, length-set {A = ℕ})
 
 pub returns : goal.returns
 returns c = two_written _ _ c.args.out.now (two c) c.requires.3

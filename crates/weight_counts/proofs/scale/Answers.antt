@@ -1,23 +1,8 @@
 -- `scale` meets its contract. Invariant: the places below w are multiplied, and the others are to come.
 use Rattle.std.proofs.Common.{◌<◌, ◌≤◌, length, arith}
-use native.Mathlib.Nat.{sub-zero}
 use Rattle.lists.proofs.Rows.{from_next, from_end}
-use Rattle.lists.proofs.Fill.{fills_start, fills_put, fills_next, fills_all}
+use Rattle.lists.proofs.Fill.{fills_put, fills_next, fills_all}
 use Rattle.weight_counts.proofs.scale.Goals as goal
-
-pub loop-w-init : goal.loop-w-init
-loop-w-init c = rw sub-zero (fills_start _ _)
-
-pub bounds-factors-w : goal.bounds-factors-w
-bounds-factors-w c = omega (arith, c.loop-w.invariant.long)
-
-pub overflow_mul-counts : goal.overflow_mul-counts
-overflow_mul-counts c =
-    let l = c.loop-w in
-    rw (fills_next l.invariant 0) (omega (arith, c.requires.1 l.w (omega (arith, l.invariant.long))))
-
-pub loop-w-smaller : goal.loop-w-smaller
-loop-w-smaller c = omega (arith, c.loop-w.invariant.long)
 
 pub loop-w-preserved : goal.loop-w-preserved
 loop-w-preserved c =
@@ -25,9 +10,6 @@ loop-w-preserved c =
     let more : l.w < length c.args.counts.now = omega (arith, l.invariant.long) in
     let todo = rw (from_next _ _ _ more) at l.invariant in
     rw (fills_next l.invariant 0) (fills_put todo more)
-
-pub shape_of-counts : goal.shape_of-counts
-shape_of-counts c = c.loop-w.invariant.long
 
 pub returns : goal.returns
 returns c =

@@ -1,5 +1,5 @@
 -- `take_differences` meets its contract. Invariant: w turns are done.
-use Rattle.std.proofs.Common.{◌≡◌, ◌+◌, ◌-◌, length, sym, refl, ap, ◌∙◌, arith}
+use Rattle.std.proofs.Common.{◌≡◌, ◌+◌, ◌-◌, length, refl, ap, ◌∙◌, arith}
 use Rattle.weight_counts.specs.Inner.Counting.{with_previous, differences_of}
 use Rattle.weight_counts.proofs.Table.{turns_of, turns_next, turns_table, table_mono, length_table}
 use Rattle.weight_counts.proofs.take_differences.Goals as goal
@@ -25,10 +25,6 @@ pub loop-w-preserved : goal.loop-w-preserved
 loop-w-preserved c =
     let l = c.loop-w in
     c.subtract_previous.ensures ∙ ap (with_previous ◌-◌ (l.w + 1)) l.invariant ∙ turns_next l.w _
-
-pub shape_of-counts : goal.shape_of-counts
-shape_of-counts c =
-    ap length (reached (goal.at.shape_of-counts c).At-loop-w) ∙ length_table c.args.h _ ∙ sym (ap length c.requires.1 ∙ length_table c.args.h 0)
 
 pub returns : goal.returns
 returns c =

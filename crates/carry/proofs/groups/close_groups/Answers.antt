@@ -12,7 +12,7 @@ use Rattle.carrying.specs.Masks.{closed}
 use Rattle.carrying.specs.Carrying.{group_words, word_count, words_of, carried_symbols, carried_words}
 use Rattle.carrying.proofs.Carried.{is_carrier}
 use Rattle.carrying.proofs.Bytes.{length_words, length_carried}
-use Rattle.carry.proofs.Parts.{Next, next_cases, next_inside, next_most, next_some, closed_here, closed_from, closed_turn, part_long, closed_long, groups_end, room_left, fills_turn, fills_whole, next_long}
+use Rattle.carry.proofs.Parts.{Next, next_cases, next_inside, next_most, closed_here, closed_from, closed_turn, part_long, closed_long, groups_end, room_left, fills_turn, fills_whole, next_long}
 use Rattle.carry.proofs.groups.close_groups.Goals as goal
 use Rattle.carry.proofs.groups.close_groups.Goals.{After-min-part, At-loop-from}
 
@@ -69,21 +69,6 @@ pub loop-from-init : goal.loop-from-init
 unfolding carried_words carried_symbols word_count
 loop-from-init c = (omega arith, λ _. omega arith, fills_start _ _)
 
-pub overflow_add-end : goal.overflow_add-end
-overflow_add-end c = omega (arith, next_inside (turn c))
-
-pub overflow_mul-next : goal.overflow_mul-next
-overflow_mul-next c = omega (arith, room c)
-
-pub overflow_add-next-in-loop-from : goal.overflow_add-next-in-loop-from
-overflow_add-next-in-loop-from c = omega (arith, room c)
-
-pub overflow_add-next-in-loop-from-2 : goal.overflow_add-next-in-loop-from-2
-overflow_add-next-in-loop-from-2 c = omega (arith, room c)
-
-pub slice_bounds-close_group-end : goal.slice_bounds-close_group-end
-slice_bounds-close_group-end c = omega (arith, next_inside (turn c))
-
 pub slice_bounds-close_group-end-in-loop-from : goal.slice_bounds-close_group-end-in-loop-from
 slice_bounds-close_group-end-in-loop-from c =
     omega (arith, room (goal.at.slice_bounds-close_group-end-in-loop-from c).After-min-part, c.loop-from.invariant.2.long)
@@ -97,10 +82,6 @@ close_group-requires c =
     let written = next_long c.loop-from.out c.loop-from.to ((part / 2 + part % 2) * 2 + 2) (c.loop-from.to + (part / 2 + part % 2) * 2 + 2) (omega arith) (omega (arith, room (goal.at.close_group-requires c).After-min-part, c.loop-from.invariant.2.long)) in
     (omega arith, omega (arith, read, most, c.group_words-size.ensures), omega (arith, read, written))
 
-pub loop-from-smaller : goal.loop-from-smaller
-loop-from-smaller c =
-    omega (arith, next_some (turn (goal.at.loop-from-smaller c).After-min-part) (omega arith) (omega arith), next_inside (turn (goal.at.loop-from-smaller c).After-min-part))
-
 pub loop-from-preserved : goal.loop-from-preserved
 loop-from-preserved c =
     let part = c.min-part.result in
@@ -109,9 +90,6 @@ loop-from-preserved c =
       (λ h. next_cases (turn (goal.at.loop-from-preserved c).After-min-part) (λ full e. omega arith) (λ rest e. absurd (omega arith))),
       rw c.close_group.ensures (fills_turn (here (goal.at.loop-from-preserved c).After-min-part) (behind (goal.at.loop-from-preserved c).After-min-part) (next (goal.at.loop-from-preserved c).After-min-part) (long (goal.at.loop-from-preserved c).At-loop-from) ((part / 2 + part % 2) * 2 + 2) (c.loop-from.to + (part / 2 + part % 2) * 2 + 2) (size (goal.at.loop-from-preserved c).After-min-part) (omega arith)),
     )
-
-pub shape_of-out : goal.shape_of-out
-shape_of-out c = c.loop-from.invariant.2.long
 
 pub returns : goal.returns
 unfolding word_count

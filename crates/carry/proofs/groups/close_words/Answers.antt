@@ -1,21 +1,13 @@
 -- `close_words` meets its contract: the mask's bytes, then those of the words under it.
-use mathlib.Core.Path.{◌≡◌, sym, ap, ◌∙◌}
+use mathlib.Core.Path.{◌≡◌, ap, ◌∙◌}
 use mathlib.Core.List.{◌++◌}
 use Prim.Native.Nat.{ℕ}
-use native.Mathlib.Omega.{arith}
-use lib.Seq.{length-take-le}
 use Rattle.layout.specs.Width.{symbol_bytes, bytes_of}
 use Rattle.layout.proofs.Widths.{length_symbol}
 use Rattle.carrying.specs.Masks.{masked, covered, mask_of, closed}
 use Rattle.carrying.specs.Carrying.{words_of}
 use Rattle.carry.proofs.Words.{written_behind}
 use Rattle.carry.proofs.groups.close_words.Goals as goal
-
-pub slice_bounds-write_symbol-end-2 : goal.slice_bounds-write_symbol-end-2
-slice_bounds-write_symbol-end-2 c = sym (length-take-le 2 c.args.out.now (omega arith))
-
-pub write_symbol-requires : goal.write_symbol-requires
-write_symbol-requires c = (omega arith, omega arith, omega arith, length-take-le 2 c.args.out.now (omega arith))
 
 pub returns : goal.returns
 unfolding closed covered bytes_of

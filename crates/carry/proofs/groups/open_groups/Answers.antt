@@ -69,24 +69,8 @@ pub loop-from-init : goal.loop-from-init
 unfolding word_bytes_back words_back
 loop-from-init c = (omega arith, omega arith, rw sub-zero (fills_start _ _))
 
-pub overflow_add-end : goal.overflow_add-end
-overflow_add-end c = omega (arith, next_inside (turn c))
-
 pub overflow_sub-part : goal.overflow_sub-part
 overflow_sub-part c = omega (arith, two c)
-
-pub overflow_sub-out : goal.overflow_sub-out
-overflow_sub-out c = omega (arith, c.loop-from.invariant.2.inside, c.loop-from.invariant.2.long)
-
-pub overflow_add-next : goal.overflow_add-next
-overflow_add-next c = omega (arith, c.min.ensures, c.loop-from.invariant.2.inside, c.loop-from.invariant.2.long)
-
-pub slice_bounds-open_group-end : goal.slice_bounds-open_group-end
-slice_bounds-open_group-end c = omega (arith, next_inside (turn (goal.at.slice_bounds-open_group-end c).After-min-part))
-
-pub slice_bounds-open_group-end-in-loop-from : goal.slice_bounds-open_group-end-in-loop-from
-slice_bounds-open_group-end-in-loop-from c =
-    omega (arith, c.min.ensures, c.loop-from.invariant.2.inside, c.loop-from.invariant.2.long)
 
 pub open_group-requires : goal.open_group-requires
 open_group-requires c =
@@ -94,10 +78,6 @@ open_group-requires c =
     let most = next_most (turn (goal.at.open_group-requires c).After-min-part) in
     let pair = two (goal.at.open_group-requires c).After-min-part in
     (omega (arith, read, pair), omega (arith, read, pair), omega (arith, read, most, c.group_words.ensures), omega (arith, read, pair, written-part (goal.at.open_group-requires c).After-min, c.min.ensures))
-
-pub loop-from-smaller : goal.loop-from-smaller
-loop-from-smaller c =
-    omega (arith, next_some (turn (goal.at.loop-from-smaller c).After-min-part) (omega arith) (omega arith), next_inside (turn (goal.at.loop-from-smaller c).After-min-part))
 
 pub loop-from-preserved : goal.loop-from-preserved
 loop-from-preserved c =
@@ -114,9 +94,6 @@ loop-from-preserved c =
       omega (arith, two (goal.at.loop-from-preserved c).After-min-part),
       rw (c.open_group.ensures, written-part (goal.at.loop-from-preserved c).After-min) (fills_turn (take r (opened_here bytes from part)) (take (n - (to + r)) (opened_from m bytes (from + part))) next (long (goal.at.loop-from-preserved c).At-loop-from) r (to + r) size (omega arith)),
     )
-
-pub shape_of-out : goal.shape_of-out
-shape_of-out c = c.loop-from.invariant.2.long
 
 pub returns : goal.returns
 returns c =

@@ -4,9 +4,6 @@ use Rattle.carrying.specs.Carrying.{group_words}
 use Rattle.carrying.proofs.Carried.{two_symbols}
 use Rattle.carry.proofs.lengths.group_words.Goals as goal
 
-pub overflow_sub-result : goal.overflow_sub-result
-overflow_sub-result c = omega (arith, two_symbols c.args.p (omega arith) (omega arith))
-
 pub returns-then-most-lt256 : goal.returns-then-most-lt256
 unfolding group_words
 returns-then-most-lt256 c = (omega arith, omega (arith, two_symbols c.args.p (omega arith) (omega arith)), omega arith)

@@ -2,8 +2,8 @@
 use mathlib.Core.Path.{◌≡◌, refl, sym, ap, ◌∙◌}
 use mathlib.Core.Bool.{true}
 use mathlib.Core.List.{List, ◌∷◌}
-use Prim.Native.Nat.{ℕ, ◌+◌, ◌-◌, ◌*◌, ◌%◌, ◌^◌, ◌≤◌, ◌<◌}
-use native.Mathlib.Nat.{mul-le-mul, mod-eq_of_lt}
+use Prim.Native.Nat.{ℕ, ◌+◌, ◌-◌, ◌*◌, ◌≤◌, ◌<◌}
+use native.Mathlib.Nat.{mod-eq_of_lt}
 use native.Mathlib.Numerals.{add-one}
 use native.Mathlib.Omega.{arith}
 use lib.Dec.{leb}
@@ -12,7 +12,7 @@ use Rattle.lists.specs.Numbers.{all_below}
 use Rattle.lists.proofs.Numbers.{cons_below, at_below}
 use Rattle.carrying.specs.Masks.{all_ruled_out, mask_from, mask_of}
 use Rattle.carrying.proofs.Masks.{all_whole, mask_settled}
-use Rattle.carry.proofs.Digits.{whole_below, digits_below, digits_half, next_fits, low_part, taken_ruled, taken_mask}
+use Rattle.carry.proofs.Digits.{whole_below, digits_half, next_fits, low_part, taken_ruled, taken_mask}
 use Rattle.carry.proofs.masks.find_mask.Goals as goal
 use Rattle.carry.proofs.masks.find_mask.Goals.{After-all_ruled_out-low, Else-total-eq0}
 
@@ -25,11 +25,6 @@ low-in : (c : After-all_ruled_out-low) → c.all_ruled_out-low.result ≤ c.loop
 low-in c =
     low_part c.args.p (c.loop-k.k - 1) c.loop-k.k c.loop-k.a c.all_ruled_out-low.result c.loop-k.total (0 ∷ c.args.words.now) (omega arith) c.all_ruled_out-low.ensures c.loop-k.invariant.1
 
-pub overflow_mul-total : goal.overflow_mul-total
-overflow_mul-total c =
-    let n = length c.args.words.now in
-    omega (arith, mul-le-mul {n₁ = n + 1} {m₁ = 65536 - c.args.p} {n₂ = 256} {m₂ = 65536} (omega arith) (omega arith))
-
 pub loop-k-init : goal.loop-k-init
 unfolding mask_of
 loop-k-init c =
@@ -38,13 +33,6 @@ loop-k-init c =
     let whole = all_whole c.args.p (0 ∷ words) (cons_below 65536 0 words (omega arith) low) in
     (omega arith, ap (λ (n : ℕ). n * (65536 - c.args.p)) (add-one (length words)) ∙ sym whole, refl)
 
-pub overflow_cast-result : goal.overflow_cast-result
-overflow_cast-result c =
-    let here : c.loop-k.k - 1 + 1 ≡ c.loop-k.k = omega arith in
-    let less = whole_below c.loop-k.a c.loop-k.k c.loop-k.invariant.0 in
-    let same : c.loop-k.a * 2 ^ c.loop-k.k % 4294967296 ≡ c.loop-k.a * 2 ^ c.loop-k.k = mod-eq_of_lt (omega arith) in
-    rw here (omega (arith, same, less))
-
 pub returns-then-total-eq0 : goal.returns-then-total-eq0
 returns-then-total-eq0 c =
     let here : c.loop-k.k - 1 + 1 ≡ c.loop-k.k = omega arith in
@@ -52,9 +40,6 @@ returns-then-total-eq0 c =
     rw here
     (mod-eq_of_lt (omega arith)
     ∙ sym (c.loop-k.invariant.2 ∙ mask_settled c.args.p c.loop-k.k c.loop-k.a (0 ∷ c.args.words.now) (sym c.loop-k.invariant.1 ∙ c.if-total-eq0.true)))
-
-pub overflow_mul-a : goal.overflow_mul-a
-overflow_mul-a c = omega (arith, half c)
 
 pub all_ruled_out-low-requires : goal.all_ruled_out-low-requires
 all_ruled_out-low-requires c = (omega arith, omega (arith, half c), omega arith)
@@ -74,9 +59,6 @@ loop-k-preserved c =
     let ruled = taken_ruled c.args.p k c.loop-k.k c.loop-k.a c.all_ruled_out-low.result c.loop-k.total words one c.all_ruled_out-low.ensures c.loop-k.invariant.1 in
     let mask = taken_mask c.args.p k c.loop-k.k c.loop-k.a c.all_ruled_out-low.result c.loop-k.total words one c.all_ruled_out-low.ensures c.loop-k.invariant.1 in
     (rw digit (next_fits c.loop-k.a k c.loop-k.k one c.loop-k.invariant.0 (leb c.all_ruled_out-low.result (c.loop-k.total - c.all_ruled_out-low.result))), c.min-total.ensures ∙ ruled ∙ sym (ap (λ (x : ℕ). all_ruled_out c.args.p k x words) digit), c.loop-k.invariant.2 ∙ mask ∙ sym (ap (λ (x : ℕ). mask_from c.args.p k x words) digit))
-
-pub overflow_cast-result-2 : goal.overflow_cast-result-2
-overflow_cast-result-2 c = omega (arith, digits_below c.loop-k.a c.loop-k.k c.loop-k.invariant.0)
 
 pub returns : goal.returns
 unfolding mask_from

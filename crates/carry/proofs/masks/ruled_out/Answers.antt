@@ -12,9 +12,6 @@ use Rattle.carry.proofs.masks.ruled_out.Goals.{Start}
 small : (c : Start) → bit_xor (c.args.w / 2 ^ c.args.k) c.args.a < 65536
 small c = xor_lt 16 (c.args.w / 2 ^ c.args.k) c.args.a (omega (arith, div-le_self c.args.w (2 ^ c.args.k))) c.requires.1
 
-pub overflow_add-end : goal.overflow_add-end
-overflow_add-end c = omega (arith, small c)
-
 pub returns : goal.returns
 unfolding ruled_out
 returns c =

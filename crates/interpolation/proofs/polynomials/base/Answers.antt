@@ -35,9 +35,6 @@ pub loop-i-init : goal.loop-i-init
 unfolding zeros power base_of
 loop-i-init c = (one_below _ (usable_field _ c.args.field.usable), refl, one_padded)
 
-pub slice_bounds-times_linear-end : goal.slice_bounds-times_linear-end
-slice_bounds-times_linear-end c = rw (places (goal.at.slice_bounds-times_linear-end c).In-loop-i) (sym (more (goal.at.slice_bounds-times_linear-end c).In-loop-i).part_long)
-
 pub times_linear-requires : goal.times_linear-requires
 times_linear-requires c =
     let w = (goal.at.times_linear-requires c).In-loop-i in
@@ -48,9 +45,3 @@ loop-i-preserved c =
     let a = c.args in
     let l = c.loop-i in
     let next : times_linear (modulus a.field.field) l.y 0 (base_of (modulus a.field.field) a.root l.i) ≡ base_of (modulus a.field.field) a.root (l.i + 1) = rw l.invariant.1 (sym (base_of_next (modulus a.field.field) a.root l.i)) in (c.mul-y.ensures.symbol, c.mul-y.ensures.is ∙ rw l.invariant.1 (sym (power_next (modulus a.field.field) a.root l.i)), rw (places (goal.at.loop-i-preserved c).In-loop-i) ((more (goal.at.loop-i-preserved c).In-loop-i).whole _ (rw (places (goal.at.loop-i-preserved c).In-loop-i) at c.times_linear.ensures)) ∙ ap (padded 256) next)
-
-pub returns : goal.returns
-returns c =
-    let l = c.loop-i in
-    let end : l.i ≡ c.args.m = omega arith in
-    rw end at l.invariant.2

@@ -30,9 +30,6 @@ pub loop-i-init : goal.loop-i-init
 unfolding zeros
 loop-i-init c = (omega arith, one_padded ∙ sym (ap (padded 256) (product_of_end _ c.args.points.now)))
 
-pub slice_bounds-times_linear-end : goal.slice_bounds-times_linear-end
-slice_bounds-times_linear-end c = sym (more (goal.at.slice_bounds-times_linear-end c).In-loop-i).part_long
-
 pub times_linear-requires : goal.times_linear-requires
 times_linear-requires c =
     let s = c.requires in
@@ -43,6 +40,3 @@ loop-i-preserved c =
     let a = c.args in
     let l = c.loop-i in
     (omega arith, (more (goal.at.loop-i-preserved c).In-loop-i).whole _ c.times_linear.ensures ∙ ap (padded 256) (sym (product_of_next _ a.points.now l.i (omega arith) (omega arith))))
-
-pub returns : goal.returns
-returns c = let end : c.loop-i.i ≡ 0 = omega arith in rw end at c.loop-i.invariant.1

@@ -3,12 +3,10 @@ use mathlib.Core.Path.{◌≡◌}
 use Prim.Native.Nat.{◌≤◌, ◌<◌}
 use native.Mathlib.Omega.{arith}
 use lib.ListN.{length, get_or}
-use Rattle.lists.proofs.Fill.{fills_start, fills_next, fills_put, fills_all}
+use Rattle.lists.proofs.Fill.{fills_next, fills_put, fills_all}
 use Rattle.lists.proofs.Numbers.{below_at}
 use Rattle.field.specs.Fields.{size_of}
 use Rattle.field.specs.Kinds.{modulus}
-use Rattle.field.proofs.FieldOf.{size_pos}
-use Rattle.field.proofs.KindLaws.{usable_field}
 use Rattle.interpolation.proofs.Coefficients.{carried_next, carried_end}
 use Rattle.interpolation.proofs.polynomials.times_linear.Goals as goal
 use Rattle.interpolation.proofs.polynomials.times_linear.Goals.{In-loop-i}
@@ -22,9 +20,6 @@ turn c =
     let same = fills_next c.loop-i.invariant.1 0 in
     (same, rw same (below_at _ _ c.requires.0 _ (omega (arith, c.loop-i-test.true))))
 
-pub loop-i-init : goal.loop-i-init
-loop-i-init c = (size_pos _ (usable_field _ c.args.field.usable), fills_start _ _)
-
 pub mul-term-requires : goal.mul-term-requires
 mul-term-requires c = (c.requires.1, (turn (goal.at.mul-term-requires c).In-loop-i).1)
 
@@ -35,9 +30,6 @@ loop-i-preserved c =
     let (same, low) = turn (goal.at.loop-i-preserved c).In-loop-i in
     let todo = rw (carried_next _ _ _ c.args.coefficients.now l.i inside) at l.invariant.1 in
     (low, rw (c.sub.ensures.is, c.mul-term.ensures.is, same) (fills_put todo inside))
-
-pub shape_of-coefficients : goal.shape_of-coefficients
-shape_of-coefficients c = c.loop-i.invariant.1.long
 
 pub returns : goal.returns
 returns c =

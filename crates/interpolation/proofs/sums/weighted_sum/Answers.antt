@@ -1,5 +1,5 @@
 -- `weighted_sum` meets its contract. Invariant: the sum has the terms from i on, and is a symbol.
-use mathlib.Core.Path.{◌≡◌, sym}
+use mathlib.Core.Path.{sym}
 use native.Mathlib.Omega.{arith}
 use Rattle.lists.proofs.Numbers.{below_at}
 use Rattle.field.proofs.FieldOf.{size_pos}
@@ -19,6 +19,3 @@ pub loop-i-preserved : goal.loop-i-preserved
 loop-i-preserved c =
     let l = c.loop-i in
     (c.add-sum.ensures.symbol, rw (c.add-sum.ensures.is, c.mul-term.ensures.is, l.invariant.1) (sym (dot_before _ c.args.symbols.now c.args.weights.now l.i (omega arith) (omega arith) (omega arith))))
-
-pub returns : goal.returns
-returns c = let end : c.loop-i.i ≡ 0 = omega arith in record { is = rw end at c.loop-i.invariant.1; symbol = c.loop-i.invariant.0 }

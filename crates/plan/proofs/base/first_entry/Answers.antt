@@ -11,19 +11,10 @@ use Rattle.field.proofs.Powers.{power_next}
 use Rattle.generator.proofs.BaseWord.{base_from_next, entry_is}
 use Rattle.plan.proofs.base.first_entry.Goals as goal
 
-pub power-x-requires : goal.power-x-requires
-power-x-requires c = rw c.new-field.ensures c.args.code.sound.root_below
-
 pub loop-init : goal.loop-init
 unfolding power base_from
 loop-init c =
     let one = one_below _ (usable_field _ c.new-field.result.usable) in (one, one, refl, λ h f r. refl)
-
-pub sub-requires : goal.sub-requires
-sub-requires c = (c.power-x.ensures.symbol, c.loop.invariant.1)
-
-pub mul-y-requires : goal.mul-y-requires
-mul-y-requires c = (rw c.new-field.ensures c.args.code.sound.root_below, c.loop.invariant.1)
 
 pub loop-preserved : goal.loop-preserved
 loop-preserved c =

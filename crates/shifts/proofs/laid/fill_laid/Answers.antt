@@ -10,12 +10,6 @@ pub loop-r-init : goal.loop-r-init
 unfolding zeros
 loop-r-init c = filled_start 255 _ _ (omega arith)
 
-pub laid_at-first-requires : goal.laid_at-first-requires
-laid_at-first-requires c = let p = c.period-m.ensures in (omega arith, omega arith, p.0, p.1, omega arith)
-
-pub negative-requires : goal.negative-requires
-negative-requires c = c.laid_at-first.ensures.1
-
 pub loop-r-preserved : goal.loop-r-preserved
 loop-r-preserved c =
     filled_put c.loop-r.invariant c.loop-r-test.true (c.negative.ensures.0 ∙ ap (negative _) c.laid_at-first.ensures.0)
