@@ -66,7 +66,8 @@ impl Weighted<'_> {
         self.fill_share(&mut tile, out);
     }
 
-    // The sums of all lanes: as a product where they are many, and else in little scratch where the block is small.
+    // The sums of all lanes: as a product where they are many, and else in little scratch where the block is small. Clearing more would take
+    // longer than the work.
     pub fn fill(self, out: &mut [u8])
         requires { length out.old ≡ self.width * self.lanes }
         ensures { let v = self.entry in out.new ≡ sum_bytes v.code.header v.width v.lanes v.weights.now v.shares.now }

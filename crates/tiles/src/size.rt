@@ -11,13 +11,6 @@ pub fn scratch<const N: usize>() -> [u8; N]
     [0; N]
 }
 
-// Scratch for a tile where the rows and lanes are few: clearing more would take longer than the work.
-pub fn small_scratch() -> [u8; 4096]
-    ensures { length result ≡ 4096 }
-{
-    scratch()
-}
-
 // Blocks of 16 lanes alone, where there is one.
 fn in_blocks(lanes: usize) -> usize
     requires { 0 < lanes }
