@@ -72,7 +72,7 @@ fn scaled(field: Arithmetic, d: u32, w: &[u16; 255], size: usize) -> [u16; 255]
     out
 }
 
-// The locator of the first 2t terms. w has the degree l and no discrepancy below q; v is w before l grew last, made to have the discrepancy 1.
+// The locator of the first 2t terms. After r steps w has the degree l and no discrepancy below r − l; v is w before l grew last, made to have the discrepancy 1.
 pub fn locate(field: Arithmetic, s: &[u16; 255], t: usize) -> [u16; 255]
     requires { (t ≤ 127) × Below (size_of (modulus field.field)) s.now }
     ensures { Locates (modulus field.entry.field) t s.now result }
@@ -81,18 +81,16 @@ pub fn locate(field: Arithmetic, s: &[u16; 255], t: usize) -> [u16; 255]
     w[0] = 1;
     let mut v = [0u16; 255];
     let mut l: usize = 0;
-    let mut q: usize = 0;
-    while l + q < t + t {
+    for r in 0..t + t {
+        let q = r - l;
         let d = discrepancy(field, &w, s, q, l + 1);
         if d == Field::ZERO {
-            q += 1;
             continue;
         }
         if q < l {
             let j = l - (q + 1);
             let u = amended(field, d, &w, 0, &v, j, l + 1);
             w = u;
-            q += 1;
             continue;
         }
         let i = q + 1 - l;
@@ -101,9 +99,7 @@ pub fn locate(field: Arithmetic, s: &[u16; 255], t: usize) -> [u16; 255]
         let z = scaled(field, e, &w, l + 1);
         w = u;
         v = z;
-        let grown = q + 1;
-        q = l;
-        l = grown;
+        l = q + 1;
     }
     if l <= t { w } else { v }
 }

@@ -1,40 +1,66 @@
 // Recover and Rebuild: the message, or what one node holds, from the shares of any k nodes.
 #![tactic(auto)]
 
-ghost use Rattle.std.specs.Prelude.{length};
+ghost use Rattle.std.specs.Prelude.{◌≡◌, true, length};
+ghost use Rattle.lists.specs.Numbers.{all_below};
 ghost use Rattle.layout.specs.Layout.{share_layout};
 ghost use Rattle.generator.specs.Answers.{numbered};
 ghost use Rattle.recover.specs.Promise.{recover_fault, rebuild_fault, RecoverPromise, RebuildPromise, RecoverSays, RebuildSays};
 
 use generator::{Code, Refusal};
 use recover_matrix::Inverse;
+use shares::Weighted;
 
 mod fault;
 mod one_row;
 mod shares;
 
-// Recovers over a code.
-fn recover_accepted(
+// Listed nodes and their shares of so many lanes, as they are handed in.
+#[derive(Clone, Copy)]
+struct Listed<'a> {
     code: Code,
     lanes: usize,
-    nodes: &[u8],
-    shares: &[u8],
-    out: &mut [u8],
-) -> Result<(), Refusal>
-    ensures { RecoverPromise share_layout lanes nodes.now shares.now out.old out.new (numbered result) code.header (recover_fault code.header lanes nodes.now shares.now (length out.old)) }
-{
-    fault::recover_fault(code, lanes, nodes, shares, out.len())?;
-    let h = code.header;
-    let k = h.k as usize;
-    let shifts = shifts::fill_shifts(h.n, h.k);
-    let setup = node_weights::prepare(code, nodes, &shifts[..k]);
-    let inverse = Inverse {
-        code,
-        nodes,
-        setup: &setup,
-    };
-    inverse.fill_message(lanes, shares, out);
-    Ok(())
+    nodes: &'a [u8],
+    shares: &'a [u8],
+    ghost bytes: { all_below 256 shares.now ≡ true },
+}
+
+impl Listed<'_> {
+    // Recovers over a code.
+    fn recover_accepted(self, out: &mut [u8]) -> Result<(), Refusal>
+        ensures { let v = self.entry in RecoverPromise share_layout v.lanes v.nodes.now v.shares.now out.old out.new (numbered result) v.code.header (recover_fault v.code.header v.lanes v.nodes.now v.shares.now (length out.old)) }
+    {
+        self.recover_fault(out.len())?;
+        let h = self.code.header;
+        let k = h.k as usize;
+        let shifts = shifts::fill_shifts(h.n, h.k);
+        let setup = node_weights::prepare(self.code, self.nodes, &shifts[..k]);
+        let inverse = Inverse {
+            code: self.code,
+            nodes: self.nodes,
+            setup: &setup,
+        };
+        inverse.fill_message(self.lanes, self.shares, out);
+        Ok(())
+    }
+
+    // Rebuilds over a code.
+    fn rebuild_accepted(self, target: u32, out: &mut [u8]) -> Result<(), Refusal>
+        ensures { let v = self.entry in RebuildPromise share_layout v.lanes v.nodes.now v.shares.now target out.old out.new (numbered result) v.code.header (rebuild_fault v.code.header v.lanes v.nodes.now v.shares.now target (length out.old)) }
+    {
+        self.rebuild_fault(target as usize, out.len())?;
+        let width = symbols::width_of(self.code.header);
+        let weights = node_weights::rebuild_weights(self.code, self.nodes, target);
+        let sums = Weighted {
+            code: self.code,
+            width,
+            lanes: self.lanes,
+            weights: &weights,
+            shares: self.shares,
+        };
+        sums.fill(out);
+        Ok(())
+    }
 }
 
 // Writes the message of the listed nodes' shares, or gives what turns the call away and writes nothing.
@@ -48,26 +74,13 @@ pub fn recover_block(
     ensures { RecoverSays rec.now lanes nodes.now shares.now out.old out.new (numbered result) }
 {
     let code = records::read_record(rec)?;
-    recover_accepted(code, lanes as usize, nodes, shares, out)
-}
-
-// Rebuilds over a code.
-fn rebuild_accepted(
-    code: Code,
-    lanes: usize,
-    nodes: &[u8],
-    shares: &[u8],
-    target: u32,
-    out: &mut [u8],
-) -> Result<(), Refusal>
-    ensures { RebuildPromise share_layout lanes nodes.now shares.now target out.old out.new (numbered result) code.header (rebuild_fault code.header lanes nodes.now shares.now target (length out.old)) }
-{
-    fault::rebuild_fault(code, lanes, nodes, shares, target as usize, out.len())?;
-    let h = code.header;
-    let w = symbols::width_of(h);
-    let weights = node_weights::rebuild_weights(code, nodes, target);
-    shares::rebuild_lanes(h, w, lanes, &weights, shares, out);
-    Ok(())
+    let listed = Listed {
+        code,
+        lanes: lanes as usize,
+        nodes,
+        shares,
+    };
+    listed.recover_accepted(out)
 }
 
 // Writes the target's share from the listed nodes' shares, or gives what turns the call away and writes nothing.
@@ -82,5 +95,11 @@ pub fn rebuild_share(
     ensures { RebuildSays rec.now lanes nodes.now shares.now target out.old out.new (numbered result) }
 {
     let code = records::read_record(rec)?;
-    rebuild_accepted(code, lanes as usize, nodes, shares, target, out)
+    let listed = Listed {
+        code,
+        lanes: lanes as usize,
+        nodes,
+        shares,
+    };
+    listed.rebuild_accepted(target, out)
 }

@@ -1,4 +1,4 @@
-// One node's share from listed shares, some lanes at a time, as rows of a tile.
+// One node's share from listed shares: sums of them times weights, some lanes at a time, as rows of a tile.
 ghost use Rattle.std.specs.Prelude.{◌≡◌, true, ◌+◌, ◌*◌, ◌≤◌, ◌<◌, length};
 ghost use Rattle.lists.specs.Numbers.{all_below};
 ghost use Rattle.layout.specs.Layout.{row_after_row, lane_after_lane};
@@ -7,91 +7,77 @@ ghost use Rattle.layout.specs.Width.{symbols_of, bytes_of};
 ghost use Rattle.generator.specs.Records.{modulus_of, size};
 ghost use Rattle.refusals.specs.Inner.Accepted.{SymbolBytes};
 ghost use Rattle.row_sums.specs.Inner.Combined.{combined};
+ghost use Rattle.recover.specs.Inner.OneRow.{sum_bytes};
 
-use crate::one_row;
-use generator::Header;
+use generator::Code;
 use tile_products::scratch;
 
-// Sums of `count` lanes of the listed shares times the weights, from lane `first` on.
-fn fill_tile(
-    h: Header,
-    w: usize,
-    lanes: usize,
-    first: usize,
-    count: usize,
-    weights: &[u16],
-    shares: &[u8],
-    tile: &mut [u8],
-    out: &mut [u8],
-)
-    requires { SymbolBytes h w h.k lanes shares.now × (length weights.now ≡ 255) × (all_below (size h) weights.now ≡ true) × (0 < count) × (first + count ≤ lanes) × (length tile.old ≡ w * h.k * count) × (length out.old ≡ w * count) }
-    ensures { out.new ≡ bytes_of w (combined row_after_row (modulus_of h) h.k count weights.now (some_lanes lane_after_lane row_after_row h.k lanes first count (symbols_of w shares.now))) }
-{
-    let field = h.field;
-    let k = h.k as usize;
-    tiles::gather_lanes(w * k, lanes, first, count, shares, tile);
-    row_sums::combine_symbols(field, weights, k, count, tile, out);
-}
-
-// Sums of the listed shares times the weights, tile by tile.
-fn fill_share(
-    h: Header,
-    w: usize,
-    lanes: usize,
-    weights: &[u16],
-    shares: &[u8],
-    tile: &mut [u8],
-    out: &mut [u8],
-)
-    requires { SymbolBytes h w h.k lanes shares.now × (length weights.now ≡ 255) × (all_below (size h) weights.now ≡ true) × (w * h.k ≤ length tile.old) × (length out.old ≡ w * lanes) }
-    ensures { out.new ≡ bytes_of w (combined lane_after_lane (modulus_of h) h.k lanes weights.now (symbols_of w shares.now)) }
-{
-    let rows = w * h.k as usize;
-    let mut first: usize = 0;
-    while first < lanes {
-        let count = tiles::tile_lanes(rows, tile.len(), lanes - first);
-        let size = rows * count;
-        let start = first * w;
-        let end = start + count * w;
-        fill_tile(
-            h,
-            w,
-            lanes,
-            first,
-            count,
-            weights,
-            shares,
-            &mut tile[..size],
-            &mut out[start..end],
-        );
-        first += count;
-    }
+// Listed shares, whose symbols have `width` bytes each, and a weight for each of them; what follows the weights counts for nothing.
+#[derive(Clone, Copy)]
+pub struct Weighted<'a> {
+    pub code: Code,
+    pub width: usize,
+    pub lanes: usize,
+    pub weights: &'a [u16],
+    pub shares: &'a [u8],
+    pub ghost listed: { SymbolBytes code.header width code.header.k lanes shares.now },
+    pub ghost bytes: { all_below 256 shares.now ≡ true },
+    pub ghost long: { length weights.now ≡ 255 },
+    pub ghost symbols: { all_below (size code.header) weights.now ≡ true },
 }
 
 // No fewer lanes go by lists, as a product of one row: making the lists takes longer than the work of fewer.
 const MANY: usize = 128;
 
-// The same in scratch of this call, little where the block is small.
-pub fn rebuild_lanes(
-    h: Header,
-    w: usize,
-    lanes: usize,
-    weights: &[u16],
-    shares: &[u8],
-    out: &mut [u8],
-)
-    requires { SymbolBytes h w h.k lanes shares.now × (length weights.now ≡ 255) × (all_below (size h) weights.now ≡ true) × (length out.old ≡ w * lanes) }
-    ensures { out.new ≡ bytes_of w (combined lane_after_lane (modulus_of h) h.k lanes weights.now (symbols_of w shares.now)) }
-{
-    if MANY <= lanes {
-        let k = h.k as usize;
-        return one_row::fill_row(h, w, lanes, &weights[..k], shares, out);
+impl Weighted<'_> {
+    // The sums of `count` lanes, from lane `first` on.
+    fn fill_tile(self, first: usize, count: usize, tile: &mut [u8], out: &mut [u8])
+        requires { (0 < count) × (first + count ≤ self.lanes) × (length tile.old ≡ self.width * self.code.header.k * count) × (length out.old ≡ self.width * count) }
+        ensures { let v = self.entry in let h = v.code.header in out.new ≡ bytes_of v.width (combined row_after_row (modulus_of h) h.k count v.weights.now (some_lanes lane_after_lane row_after_row h.k v.lanes first count (symbols_of v.width v.shares.now))) }
+    {
+        let k = self.code.header.k as usize;
+        tiles::gather_lanes(self.width * k, self.lanes, first, count, self.shares, tile);
+        row_sums::combine_symbols(self.code.header.field, self.weights, k, count, tile, out);
     }
-    if shares.len() <= 4096 {
-        let mut tile = tiles::small_scratch();
-        fill_share(h, w, lanes, weights, shares, &mut tile, out);
-        return;
+
+    // The sums of all lanes, tile by tile.
+    fn fill_share(self, tile: &mut [u8], out: &mut [u8])
+        requires { (self.width * self.code.header.k ≤ length tile.old) × (length out.old ≡ self.width * self.lanes) }
+        ensures { let v = self.entry in out.new ≡ sum_bytes v.code.header v.width v.lanes v.weights.now v.shares.now }
+    {
+        let rows = self.width * self.code.header.k as usize;
+        let mut first: usize = 0;
+        while first < self.lanes {
+            let count = tiles::tile_lanes(rows, tile.len(), self.lanes - first);
+            let size = rows * count;
+            let start = first * self.width;
+            let end = start + count * self.width;
+            self.fill_tile(first, count, &mut tile[..size], &mut out[start..end]);
+            first += count;
+        }
     }
-    let mut tile: [u8; scratch::LARGE_ROWS] = kernel::filled(0);
-    fill_share(h, w, lanes, weights, shares, &mut tile, out);
+
+    // The same in scratch of its own, of so many bytes.
+    fn fill_in<const TILE: usize>(self, out: &mut [u8])
+        requires { (510 ≤ TILE) × (TILE ≤ 32768) × (length out.old ≡ self.width * self.lanes) }
+        ensures { let v = self.entry in out.new ≡ sum_bytes v.code.header v.width v.lanes v.weights.now v.shares.now }
+    {
+        let mut tile: [u8; TILE] = kernel::filled(0);
+        self.fill_share(&mut tile, out);
+    }
+
+    // The sums of all lanes: as a product where they are many, and else in little scratch where the block is small. Clearing more would take
+    // longer than the work.
+    pub fn fill(self, out: &mut [u8])
+        requires { length out.old ≡ self.width * self.lanes }
+        ensures { let v = self.entry in out.new ≡ sum_bytes v.code.header v.width v.lanes v.weights.now v.shares.now }
+    {
+        if MANY <= self.lanes {
+            self.fill_row(out)
+        } else if self.shares.len() <= 4096 {
+            self.fill_in::<4096>(out)
+        } else {
+            self.fill_in::<32768>(out)
+        }
+    }
 }

@@ -82,27 +82,6 @@ impl Inverse<'_> {
         }
     }
 
-    // The sums of all rows' terms with all quotients, with so many bytes of scratch; the lists are scratch too.
-    fn fill_sums<const SQUARE: usize>(
-        self,
-        codes: &[u64],
-        lists: &mut [u16],
-        counts: &mut [u8],
-        sums: &mut [u8],
-    )
-        requires { (SQUARE ≤ 130050) × (square_bytes self.code.header ≤ SQUARE) × Codes (modulus_of self.code.header) codes.now × ListRoom self.code.header.k (length lists.old) (length counts.old) × (length sums.old ≡ square_bytes self.code.header) }
-        ensures { let h = self.entry.code.header in sums.new ≡ bytes_of (width h) (inverse_sums h self.entry.nodes.now) }
-    {
-        let w = symbols::width_of(self.code.header);
-        let product = self.product(self.code.header.k as usize);
-        let size = sums.len();
-        let mut room = [0u8; SQUARE];
-        let terms = &mut room[..size];
-        self.fill_terms(terms);
-        self.list_quotients(codes, lists, counts);
-        block_products::fill(product, w, lists, counts, terms, sums);
-    }
-
     // Row r: column r of the sums, each times the scale of the row and that of its node, and zeros after it.
     fn row(self, field: Arithmetic, r: usize, sums: &[u8]) -> [u16; 255]
         requires { (field.field ≡ self.code.header.field) × (r < self.code.header.k) × (sums.now ≡ bytes_of (width self.code.header) (inverse_sums self.code.header self.nodes.now)) }
@@ -135,16 +114,22 @@ impl Inverse<'_> {
         }
     }
 
-    // The lists of all rows, with so many bytes of scratch for each of two square matrices.
+    // The same, with the sums of all rows' terms with all quotients made in scratch of so many bytes for each of two square matrices.
     fn list_rows<const SQUARE: usize>(self, lists: &mut [u16], counts: &mut [u8])
         requires { (SQUARE ≤ 130050) × (square_bytes self.code.header ≤ SQUARE) × ListRoom self.code.header.k (length lists.old) (length counts.old) }
         ensures { let h = self.entry.code.header in Begun (modulus_of h) h.k (inverse_row h self.entry.nodes.now) h.k lists.new counts.new }
     {
         let k = self.code.header.k as usize;
-        let size = symbols::width_of(self.code.header) * k * k;
+        let w = symbols::width_of(self.code.header);
+        let size = w * k * k;
         let codes = tile_products::codes_of(self.code.header.field);
-        let mut sums = [0u8; SQUARE];
-        self.fill_sums::<SQUARE>(&codes, lists, counts, &mut sums[..size]);
-        self.list_from(&sums[..size], &codes, lists, counts);
+        let mut room = [0u8; SQUARE];
+        let mut other_room = [0u8; SQUARE];
+        let terms = &mut room[..size];
+        let sums = &mut other_room[..size];
+        self.fill_terms(terms);
+        self.list_quotients(&codes, lists, counts);
+        block_products::fill(self.product(k), w, lists, counts, terms, sums);
+        self.list_from(sums, &codes, lists, counts);
     }
 }

@@ -14,4 +14,4 @@ mod turning;
 pub use columns::{gather_lanes, scatter};
 pub use gathering::gather64;
 pub use scattering::scatter64;
-pub use size::{small_scratch, tile_lanes};
+pub use size::tile_lanes;

@@ -1,15 +1,8 @@
-// Scratch for tiles, and how many lanes a tile has.
+// How many lanes a tile has.
 ghost use Rattle.std.specs.Prelude.{◌≡◌, ◌*◌, ◌≤◌, ◌<◌, length};
 
 // No more lanes than these are in a tile, so that a column's bytes do not fall on the same places of the cache.
 const MOST: usize = 1040;
-
-// Scratch for a tile where the rows and lanes are few: clearing more would take longer than the work.
-pub fn small_scratch() -> [u8; 4096]
-    ensures { length result ≡ 4096 }
-{
-    kernel::filled(0)
-}
 
 // Blocks of 16 lanes alone, where there is one.
 fn in_blocks(lanes: usize) -> usize

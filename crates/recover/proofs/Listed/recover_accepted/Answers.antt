@@ -13,31 +13,33 @@ use Rattle.recover.proofs.Accepts.{recover_accepts, recover_refuses}
 use Rattle.generator.specs.Answers.{outcome_of}
 use Rattle.recover.proofs.Recovering.{shifts_part}
 use Rattle.recover.proofs.Products.{recovered_lanes}
-use Rattle.recover.proofs.recover_accepted.Goals as goal
-use Rattle.recover.proofs.recover_accepted.Goals.{After-fill_shifts-shifts, In_ok-recover_fault}
+use Rattle.recover.proofs.Listed.recover_accepted.Goals as goal
+use Rattle.recover.proofs.Listed.recover_accepted.Goals.{After-fill_shifts-shifts, In_ok-recover_fault}
 
 -- what is known where no number was met
 accepted : (c : In_ok-recover_fault)
-    → let a = c.args in
-    ListedShares a.code.header a.lanes a.nodes.now a.shares.now × (length a.out.now ≡ a.code.header.k * a.lanes * width a.code.header)
+    → let v = c.args.self in
+    ListedShares v.code.header v.lanes v.nodes.now v.shares.now × (length c.args.out.now ≡ v.code.header.k * v.lanes * width v.code.header)
 accepted c =
-    let a = c.args in
-    recover_accepts a.code.header c.args.code.sound a.lanes a.nodes.now a.shares.now (length a.out.now)
+    let v = c.args.self in
+    recover_accepts v.code.header v.code.sound v.lanes v.nodes.now v.shares.now (length c.args.out.now)
     (done_is _ c.in_ok-recover_fault.ensures)
 
 -- the lent part of the shifts
 part : (c : After-fill_shifts-shifts)
-    → let a = c.args in
-    take a.code.header.k c.fill_shifts-shifts.result ≡ shifts a.code.header
+    → let v = c.args.self in
+    take v.code.header.k c.fill_shifts-shifts.result ≡ shifts v.code.header
 part c =
-    ap (take c.args.code.header.k) c.fill_shifts-shifts.ensures ∙ shifts_part c.args.code.header c.args.code.sound
+    let code = c.args.self.code in
+    ap (take code.header.k) c.fill_shifts-shifts.ensures ∙ shifts_part code.header code.sound
 
 -- it has k places
 part_size : (c : After-fill_shifts-shifts)
-    → let a = c.args in
-    length (take a.code.header.k c.fill_shifts-shifts.result) ≡ a.code.header.k
+    → let v = c.args.self in
+    length (take v.code.header.k c.fill_shifts-shifts.result) ≡ v.code.header.k
 part_size c =
-    ap length (part c) ∙ shifts_length c.args.code.header.n c.args.code.header.k c.args.code.sound.some c.args.code.sound.fits
+    let code = c.args.self.code in
+    ap length (part c) ∙ shifts_length code.header.n code.header.k code.sound.some code.sound.fits
 
 pub returns-in_err-recover_fault : goal.returns-in_err-recover_fault
 returns-in_err-recover_fault c =
@@ -46,8 +48,8 @@ returns-in_err-recover_fault c =
 
 pub slice_bounds-shifts-end : goal.slice_bounds-shifts-end
 slice_bounds-shifts-end c =
-    let k = c.args.code.header.k in
-    omega (arith, length-take k c.fill_shifts-shifts.result, part_size c)
+    let k = c.args.self.code.header.k in
+    omega (arith, length-take k c.fill_shifts-shifts.result, part_size (goal.at.slice_bounds-shifts-end c).After-fill_shifts-shifts)
 
 pub slice_bounds-prepare-end : goal.slice_bounds-prepare-end
 slice_bounds-prepare-end c = sym (part_size (goal.at.slice_bounds-prepare-end c).After-fill_shifts-shifts)
@@ -64,9 +66,10 @@ invariant_of-inverse c =
 
 pub fill_message-requires : goal.fill_message-requires
 fill_message-requires c =
-    let h = c.args.code.header in
+    let v = c.args.self in
+    let h = v.code.header in
     let (listed, out) = accepted (goal.at.fill_message-requires c).In_ok-recover_fault in
-    (listed.buffer.symbol_rows.few_lanes, listed.buffer.bytes ∙ lanes_long (width h) h.k c.args.lanes, out ∙ lanes_long (width h) h.k c.args.lanes)
+    (listed.buffer.symbol_rows.few_lanes, listed.buffer.bytes ∙ lanes_long (width h) h.k v.lanes, out ∙ lanes_long (width h) h.k v.lanes)
 
 pub returns : goal.returns
 unfolding outcome_of

@@ -10,16 +10,16 @@ use Rattle.refusals.specs.Accepted.{ListedShares}
 use Rattle.recover.proofs.Accepts.{rebuild_accepts, rebuild_refuses}
 use Rattle.generator.specs.Answers.{outcome_of}
 use Rattle.recover.proofs.Tiles.{listed_bytes, rebuilt_lanes}
-use Rattle.recover.proofs.rebuild_accepted.Goals as goal
-use Rattle.recover.proofs.rebuild_accepted.Goals.{After-weights-1, In_ok-rebuild_fault}
+use Rattle.recover.proofs.Listed.rebuild_accepted.Goals as goal
+use Rattle.recover.proofs.Listed.rebuild_accepted.Goals.{In_ok-rebuild_fault}
 
 -- what is known where no number was met
 accepted : (c : In_ok-rebuild_fault)
-    → let a = c.args in
-    ListedShares a.code.header a.lanes a.nodes.now a.shares.now × (a.target < a.code.header.n) × (length a.out.now ≡ a.lanes * width a.code.header)
+    → let v = c.args.self in
+    ListedShares v.code.header v.lanes v.nodes.now v.shares.now × (c.args.target < v.code.header.n) × (length c.args.out.now ≡ v.lanes * width v.code.header)
 accepted c =
-    let a = c.args in
-    rebuild_accepts a.code.header c.args.code.sound a.lanes a.nodes.now a.shares.now a.target (length a.out.now)
+    let v = c.args.self in
+    rebuild_accepts v.code.header v.code.sound v.lanes v.nodes.now v.shares.now c.args.target (length c.args.out.now)
     (done_is _ c.in_ok-rebuild_fault.ensures)
 
 pub returns-in_err-rebuild_fault : goal.returns-in_err-rebuild_fault
@@ -32,23 +32,30 @@ rebuild_weights-weights-requires c =
     let (listed, node, out) = accepted (goal.at.rebuild_weights-weights-requires c).In_ok-rebuild_fault in
     (listed.different, node)
 
-pub slice_bounds-rebuild_lanes-end : goal.slice_bounds-rebuild_lanes-end
-slice_bounds-rebuild_lanes-end c = search rules
+pub invariant_of-sums : goal.invariant_of-sums
+invariant_of-sums c =
+    let (listed, node, out) = accepted (goal.at.invariant_of-sums c).In_ok-rebuild_fault in
+    record {
+      listed = listed_bytes _ c.width_of-width.ensures.0 listed;
+      bytes = c.args.self.bytes;
+      long = search rules;
+      symbols = c.rebuild_weights-weights.ensures.symbols;
+    }
 
-pub rebuild_lanes-requires : goal.rebuild_lanes-requires
-rebuild_lanes-requires c =
-    let a = c.args in
-    let wide = c.width_of-w.ensures.0 in
-    let (listed, node, out) = accepted (goal.at.rebuild_lanes-requires c).In_ok-rebuild_fault in
-    (listed_bytes _ wide listed, sym (slice_bounds-rebuild_lanes-end (goal.at.rebuild_lanes-requires c).After-weights-1), c.rebuild_weights-weights.ensures.symbols, out ∙ mul_comm a.lanes (width a.code.header) ∙ ap (λ (w : ℕ). w * a.lanes) (sym wide))
+pub fill-requires : goal.fill-requires
+fill-requires c =
+    let v = c.args.self in
+    let wide = c.width_of-width.ensures.0 in
+    let (listed, node, out) = accepted (goal.at.fill-requires c).In_ok-rebuild_fault in
+    out ∙ mul_comm v.lanes (width v.code.header) ∙ ap (λ (w : ℕ). w * v.lanes) (sym wide)
 
 pub returns : goal.returns
 unfolding outcome_of
 returns c =
-    let wide = c.width_of-w.ensures.0 in
-    let a = c.args in
+    let wide = c.width_of-width.ensures.0 in
+    let v = c.args.self in
     let none = done_is _ c.in_ok-rebuild_fault.ensures in
     record {
       answer = rw none refl;
-      written = rw none (rebuilt_lanes (accepted (goal.at.returns c).In_ok-rebuild_fault).0 a.target _ c.rebuild_weights-weights.ensures (rw wide at c.rebuild_lanes.ensures));
+      written = rw none (rebuilt_lanes (accepted (goal.at.returns c).In_ok-rebuild_fault).0 c.args.target _ c.rebuild_weights-weights.ensures (rw wide at c.fill.ensures));
     }

@@ -1,0 +1,45 @@
+-- `fill_tile` meets its contract: sums over the gathered lanes.
+use mathlib.Core.Path.{ap, ◌∙◌}
+use mathlib.Core.List.{List}
+use Prim.Native.Nat.{ℕ, ◌*◌, ◌≤◌}
+use native.Mathlib.Nat.{mul-one, mul-le-mul, le_refl}
+use native.Mathlib.Omega.{arith}
+use Rattle.layout.specs.Layout.{row_after_row}
+use Rattle.layout.specs.Width.{bytes_of}
+use Rattle.layout.specs.Inner.Tiles.{tile_symbols}
+use Rattle.generator.specs.Records.{modulus_of}
+use Rattle.blocks.proofs.Tiles.{lanes_tile, lanes_symbols}
+use Rattle.row_sums.specs.Inner.Combined.{combined}
+use Rattle.row_sums.proofs.Columns.{rows_ready, combined_symbols}
+use Rattle.recover.proofs.shares.Weighted.fill_tile.Goals as goal
+
+pub overflow_mul-self : goal.overflow_mul-self
+overflow_mul-self c =
+    let (some, fits, tile, out) = c.requires in
+    let unit = c.args.self.width * c.args.self.code.header.k in
+    let least : unit * 1 ≤ unit * c.args.count = mul-le-mul (le_refl unit) some in
+    omega (arith, tile, mul-one unit)
+
+pub gather_lanes-requires : goal.gather_lanes-requires
+gather_lanes-requires c = let (some, fits, tile, out) = c.requires in (c.args.self.listed.bytes, fits, tile)
+
+pub combine_symbols-requires : goal.combine_symbols-requires
+combine_symbols-requires c =
+    let v = c.args.self in
+    let h = v.code.header in
+    let (some, fits, tile, out) = c.requires in
+    let rows = lanes_tile h v.width h.k v.lanes c.args.first c.args.count v.shares.now v.listed v.bytes fits some in
+    let sound = v.code.sound in
+    rw c.gather_lanes.ensures
+    (rows_ready sound (omega (arith, sound.byte, sound.fits)) rows.symbol_rows.few_lanes v.long v.symbols (rw (← v.listed.wide) rows.bytes) (rw (← v.listed.wide) rows.symbol_rows.symbols) (rw (← v.listed.wide) out))
+
+pub returns : goal.returns
+returns c =
+    let v = c.args.self in
+    let h = v.code.header in
+    let count = c.args.count in
+    let (some, fits, tile, out) = c.requires in
+    c.combine_symbols.ensures
+    ∙ combined_symbols h v.width h.k count v.weights.now _ v.listed.wide
+    ∙ ap (λ (u : List ℕ). bytes_of v.width (combined row_after_row (modulus_of h) h.k count v.weights.now u))
+    (ap (tile_symbols v.width h.k count) c.gather_lanes.ensures ∙ lanes_symbols h v.width h.k v.lanes c.args.first count v.shares.now v.listed v.bytes fits)
