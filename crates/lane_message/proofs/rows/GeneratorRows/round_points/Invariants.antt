@@ -3,7 +3,7 @@ use mathlib.Core.List.{List}
 use Prim.Native.Nat.{ℕ, ◌+◌, ◌-◌, ◌*◌, ◌%◌}
 use lib.ListN.{get_or}
 use Rattle.lists.proofs.Fill.{Filled}
-use Rattle.lane_message.proofs.rounds.round_points.Given as goal
+use Rattle.lane_message.proofs.rows.GeneratorRows.round_points.Given as goal
 
 -- a point, as it is read
 abbrev pub read : List ℕ → ℕ → ℕ → ℕ → ℕ → ℕ
