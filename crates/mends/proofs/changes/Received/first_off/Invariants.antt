@@ -9,11 +9,11 @@ use Rattle.lists.specs.Search.{first_false}
 use Rattle.field.specs.Fields.{mul}
 use Rattle.field.specs.Kinds.{modulus}
 use Rattle.mends.specs.Inner.BySums.{first_off}
-use Rattle.mends.proofs.changes.first_off.Given as goal
+use Rattle.mends.proofs.changes.Received.first_off.Given as goal
 
 -- the test at place e
 abbrev pub step : ℕ → ℕ → List ℕ → ℕ → Bool
 step p c sums e = eqb (get_or sums (e + 1) 0) (mul p c (get_or sums e 0))
 
 abbrev pub invariant-loop-e : goal.invariant-loop-e
-invariant-loop-e l = first_off (modulus l.field.field) l.c l.sums ≡ first_false (length l.sums - 1 - l.e) l.e (step (modulus l.field.field) l.c l.sums)
+invariant-loop-e l = first_off (modulus l.self.field.field) l.c l.sums ≡ first_false (length l.sums - 1 - l.e) l.e (step (modulus l.self.field.field) l.c l.sums)

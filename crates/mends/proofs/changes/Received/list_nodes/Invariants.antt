@@ -8,11 +8,11 @@ use Rattle.field.specs.Fields.{power}
 use Rattle.generator.specs.declared.Header.{Header}
 use Rattle.generator.specs.Records.{modulus_of}
 use Rattle.mends.specs.Inner.BySums.{goes_up, up_nodes}
-use Rattle.mends.proofs.changes.list_nodes.Given as goal
+use Rattle.mends.proofs.changes.Received.list_nodes.Given as goal
 
 -- the test at node j
 abbrev pub up : Header → List ℕ → ℕ → Bool
 up h sums j = goes_up (modulus_of h) (power (modulus_of h) h.root j) sums
 
 abbrev pub invariant-loop-j : goal.invariant-loop-j
-invariant-loop-j l = (l.count ≤ l.j) × Fills l.initial.nodes l.nodes l.count (passing_from (l.n - l.j) l.j (up l.code.header l.sums)) (up_nodes l.code.header l.sums)
+invariant-loop-j l = (l.count ≤ l.j) × Fills l.initial.nodes l.nodes l.count (passing_from (l.n - l.j) l.j (up l.self.code.header l.self.sums.now)) (up_nodes l.self.code.header l.self.sums.now)

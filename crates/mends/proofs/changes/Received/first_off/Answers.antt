@@ -8,10 +8,10 @@ use lib.ListN.{length}
 use Rattle.lists.proofs.Numbers.{below_at}
 use Rattle.lists.proofs.Search.{search_next, search_found, search_end}
 use Rattle.mends.specs.Inner.BySums.{first_off}
-use Rattle.mends.proofs.changes.first_off.Goals as goal
+use Rattle.mends.proofs.changes.Received.first_off.Goals as goal
 
 pub overflow_sub-last : goal.overflow_sub-last
-overflow_sub-last c = let (has, low) = c.requires in omega (arith, has.some)
+overflow_sub-last c = omega (arith, c.args.self.summed.has.some)
 
 pub loop-e-init : goal.loop-e-init
 unfolding first_off
@@ -19,12 +19,11 @@ loop-e-init c = rw sub-zero
 
 pub is_product-requires : goal.is_product-requires
 is_product-requires c =
-    let (has, low) = c.requires in
-    rw c.new-field.ensures (low, below_at _ _ has.symbols c.loop-e.e (omega arith))
+    rw c.args.self.same (c.requires, below_at _ _ c.args.self.summed.has.symbols c.loop-e.e (omega arith))
 
 pub returns-then-not-is_product : goal.returns-then-not-is_product
 returns-then-not-is_product c =
-    sym (rw c.new-field.ensures at (c.loop-e.invariant ∙ search_found _ _ _ c.loop-e-test.true (sym c.is_product.ensures ∙ not-true _ c.if-not-is_product.true-raw)))
+    sym (rw c.args.self.same at (c.loop-e.invariant ∙ search_found _ _ _ c.loop-e-test.true (sym c.is_product.ensures ∙ not-true _ c.if-not-is_product.true-raw)))
 
 pub loop-e-preserved : goal.loop-e-preserved
 loop-e-preserved c =
@@ -32,5 +31,5 @@ loop-e-preserved c =
 
 pub returns : goal.returns
 returns c =
-    let end : length c.args.sums.now - 1 ≡ c.loop-e.e = omega (arith, c.loop-e.auto.e-end, c.loop-e-test.false) in
-    end ∙ sym (rw c.new-field.ensures at (c.loop-e.invariant ∙ search_end _ _ _ c.loop-e-test.false))
+    let end : length c.args.self.sums.now - 1 ≡ c.loop-e.e = omega (arith, c.loop-e.auto.e-end, c.loop-e-test.false) in
+    end ∙ sym (rw c.args.self.same at (c.loop-e.invariant ∙ search_end _ _ _ c.loop-e-test.false))
