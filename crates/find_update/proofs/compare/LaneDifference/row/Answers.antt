@@ -1,4 +1,4 @@
--- `row_at` meets its contract. Invariant: the search from 0 on is the search from r on.
+-- `row` meets its contract. Invariant: the search from 0 on is the search from r on.
 use mathlib.Core.Path.{◌≡◌, sym, ap, ◌∙◌}
 use mathlib.Core.Bool.{not}
 use native.Mathlib.Nat.{sub-zero}
@@ -9,17 +9,16 @@ use Rattle.generator.specs.Shifts.{firsts}
 use Rattle.plan.proofs.Plans.{first_in}
 use Rattle.find_update.specs.Inner.Starts.{row_starting}
 use Rattle.find_update.proofs.Multiples.{first_node}
-use Rattle.find_update.proofs.rows.row_at.Goals as goal
-use Rattle.find_update.proofs.rows.row_at.Goals.{In-loop-r}
+use Rattle.find_update.proofs.compare.LaneDifference.row.Goals as goal
+use Rattle.find_update.proofs.compare.LaneDifference.row.Goals.{In-loop-r}
 
 -- the first node of row r
 first : (c : In-loop-r)
     → let a = c.args in
-    get_or a.plan.firsts c.loop-r.r 0 ≡ get_or (firsts a.code.header) c.loop-r.r 0
+    get_or a.self.plan.now.firsts c.loop-r.r 0 ≡ get_or (firsts a.self.code.header) c.loop-r.r 0
 first c =
-    let sound = c.args.code.sound in
-    let (plan, long) = c.requires in
-    rw plan (first_in _ sound _ c.loop-r-test.true)
+    let sound = c.args.self.code.sound in
+    rw c.args.self.planned (first_in _ sound _ c.loop-r-test.true)
 
 pub loop-r-init : goal.loop-r-init
 unfolding row_starting
@@ -27,9 +26,8 @@ loop-r-init c = rw sub-zero
 
 pub begins_at-requires : goal.begins_at-requires
 begins_at-requires c =
-    let sound = c.args.code.sound in
-    let (plan, long) = c.requires in
-    rw (first (goal.at.begins_at-requires c).In-loop-r, long) (first_node _ sound _ c.loop-r-test.true)
+    let sound = c.args.self.code.sound in
+    rw (first (goal.at.begins_at-requires c).In-loop-r, c.args.self.lane.long) (first_node _ sound _ c.loop-r-test.true)
 
 pub returns-then-begins_at : goal.returns-then-begins_at
 returns-then-begins_at c =
@@ -43,5 +41,5 @@ loop-r-preserved c =
 
 pub returns : goal.returns
 returns c =
-    let end : c.args.code.header.k ≡ c.loop-r.r = omega (arith, c.loop-r.auto.r-end, c.loop-r-test.false) in
+    let end : c.args.self.code.header.k ≡ c.loop-r.r = omega (arith, c.loop-r.auto.r-end, c.loop-r-test.false) in
     end ∙ sym (c.loop-r.invariant ∙ search_end _ _ _ c.loop-r-test.false)

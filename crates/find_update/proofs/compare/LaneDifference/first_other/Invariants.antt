@@ -11,7 +11,7 @@ use Rattle.generator.specs.declared.Header.{Header}
 use Rattle.generator.specs.Records.{modulus_of}
 use Rattle.generator.specs.Generator.{entry}
 use Rattle.find_update.specs.Inner.Starts.{first_other}
-use Rattle.find_update.proofs.compare.first_other.Given as goal
+use Rattle.find_update.proofs.compare.LaneDifference.first_other.Given as goal
 
 -- the comparison at node j
 abbrev pub same : Header → List ℕ → ℕ → ℕ → ℕ → Bool
@@ -19,5 +19,5 @@ same h difference row x j = eqb (get_or difference j 0) (mul (modulus_of h) x (e
 
 abbrev pub invariant-loop-j : goal.invariant-loop-j
 invariant-loop-j l =
-    let h = l.fn.code.header in
-    first_other h l.difference l.row l.x ≡ first_false (l.n - l.j) l.j (same h l.difference l.row l.x)
+    let h = l.fn.self.code.header in
+    first_other h l.self.symbols.now l.row l.x ≡ first_false (l.n - l.j) l.j (same h l.self.symbols.now l.row l.x)
