@@ -4,9 +4,8 @@ ghost use Rattle.lists.specs.Padded.{padded};
 ghost use Rattle.generator.specs.Records.{size};
 ghost use Rattle.plan.specs.Plans.{plan_of};
 ghost use Rattle.refusals.specs.Accepted.{IsLane};
-ghost use Rattle.find_update.specs.Inner.Starts.{differences, first_other};
+ghost use Rattle.find_update.specs.Inner.Starts.{amount_in, differences, first_other};
 
-use field::Tables;
 use field::lent::Arithmetic;
 use generator::Code;
 use plan::Plan;
@@ -24,26 +23,42 @@ pub fn difference(code: Code, before: &[u16], after: &[u16]) -> [u16; 255]
     out
 }
 
-// The first node at which the difference is not x times the entry of the row, or n.
-pub fn first_other(
-    code: Code,
-    tables: &Tables,
-    plan: Plan,
-    row: usize,
-    x: u32,
-    difference: &[u16],
-) -> usize
-    requires { (plan ≡ plan_of code.header) × (row < code.header.k) × (x < size code.header) × (length difference.now ≡ code.header.n) }
-    ensures { result ≡ first_other code.header difference.now row x }
-{
-    let field = Arithmetic::new(code.header.field, tables);
-    let n = code.header.n as usize;
-    let shift = plan.shifts[row] as usize;
-    for j in 0..n {
-        let entry = plan::entry_at(n, shift, &plan.base, j);
-        if !field.is_product(x, entry, difference[j]) {
-            return j;
-        }
+// A difference of two lanes, the field in which its code reckons, and the plan with whose rows it is compared.
+#[derive(Clone, Copy)]
+pub struct LaneDifference<'a> {
+    pub code: Code,
+    pub field: Arithmetic<'a>,
+    pub plan: &'a Plan,
+    pub symbols: &'a [u16],
+    pub ghost same: { field.field ≡ code.header.field },
+    pub ghost planned: { plan.now ≡ plan_of code.header },
+    pub ghost lane: { IsLane code.header symbols.now },
+}
+
+impl LaneDifference<'_> {
+    // What was added at the first node of a row, over the row's entry there, which is the first of the base word.
+    pub fn amount(self, row: usize) -> u32
+        requires { row < self.code.header.k }
+        ensures { result ≡ amount_in self.entry.code.header self.entry.symbols.now row }
+    {
+        let first = self.plan.firsts[row] as usize;
+        let over = self.field.inverse(self.plan.base[0] as u32);
+        self.field.mul(self.symbols[first] as u32, over)
     }
-    n
+
+    // The first node at which the difference is not x times the entry of the row, or n.
+    pub fn first_other(self, row: usize, x: u32) -> usize
+        requires { (row < self.code.header.k) × (x < size self.code.header) }
+        ensures { result ≡ first_other self.entry.code.header self.entry.symbols.now row x }
+    {
+        let n = self.code.header.n as usize;
+        let shift = self.plan.shifts[row] as usize;
+        for j in 0..n {
+            let entry = plan::entry_at(n, shift, &self.plan.base, j);
+            if !self.field.is_product(x, entry, self.symbols[j]) {
+                return j;
+            }
+        }
+        n
+    }
 }

@@ -1,19 +1,16 @@
 // Which update was it: the symbol and the amount that lead from one lane to another.
 #![tactic(auto)]
 
-ghost use Rattle.std.specs.Prelude.{◌≡◌, true, ◌<◌};
-ghost use Rattle.field.specs.Kinds.{usable};
+ghost use Rattle.std.specs.Prelude.{◌≡◌};
 ghost use Rattle.generator.specs.Answers.{numbered, outcome_of};
-ghost use Rattle.plan.specs.Plans.{plan_of};
 ghost use Rattle.refusals.specs.Accepted.{IsLane};
 ghost use Rattle.find_update.specs.Finding.{finding_of};
-ghost use Rattle.find_update.specs.Inner.Starts.{amount_in, update_in};
+ghost use Rattle.find_update.specs.Inner.Starts.{update_in};
 ghost use Rattle.find_update.specs.Promise.{find_fault, FindPromise, FindSays};
 
-use field::Tables;
+use compare::LaneDifference;
 use field::lent::Arithmetic;
 use generator::{Code, Refusal};
-use plan::Plan;
 use refusals::{lane_length_bad, symbols_bad};
 
 mod compare;
@@ -27,34 +24,23 @@ pub enum Finding {
     NoSingleUpdate,
 }
 
-// What was added at the first node of a row, over the row's entry there, which is the first of the base word.
-fn amount_in(code: Code, tables: &Tables, plan: Plan, row: usize, difference: &[u16]) -> u32
-    requires { (plan ≡ plan_of code.header) × (row < code.header.k) × IsLane code.header difference.now }
-    ensures { result ≡ amount_in code.header difference.now row }
-{
-    let field = Arithmetic::new(code.header.field, tables);
-    let first = plan.firsts[row] as usize;
-    let over = field.inverse(plan.base[0] as u32);
-    field.mul(difference[first] as u32, over)
-}
-
-// The update that a difference is of, where it is not zero at some node.
-fn update_in(code: Code, plan: Plan, difference: &[u16]) -> Finding
-    requires { (plan ≡ plan_of code.header) × IsLane code.header difference.now }
-    ensures { result ≡ update_in code.header difference.now }
-{
-    let k = code.header.k as usize;
-    let row = rows::row_at(code, plan, difference);
-    if k <= row {
-        return Finding::NoSingleUpdate;
+impl LaneDifference<'_> {
+    // The update that the difference is of, where it is not zero at some node.
+    fn update(self) -> Finding
+        ensures { result ≡ update_in self.entry.code.header self.entry.symbols.now }
+    {
+        let k = self.code.header.k as usize;
+        let row = self.row();
+        if k <= row {
+            return Finding::NoSingleUpdate;
+        }
+        let amount = self.amount(row);
+        if self.first_other(row, amount) != self.symbols.len() {
+            return Finding::NoSingleUpdate;
+        }
+        let which = row as u32;
+        Finding::Added(which, amount)
     }
-    let tables = field::constant_tables();
-    let amount = amount_in(code, &tables, plan, row, difference);
-    if compare::first_other(code, &tables, plan, row, amount, difference) != difference.len() {
-        return Finding::NoSingleUpdate;
-    }
-    let which = row as u32;
-    Finding::Added(which, amount)
 }
 
 // The update that leads from one lane to another.
@@ -66,9 +52,17 @@ fn find(code: Code, before: &[u16], after: &[u16]) -> Finding
         return Finding::Unchanged;
     }
     let n = code.header.n as usize;
-    let difference = compare::difference(code, before, after);
+    let tables = field::constant_tables();
+    let field = Arithmetic::new(code.header.field, &tables);
+    let symbols = compare::difference(code, before, after);
     let plan = plan::plan_of(code);
-    update_in(code, plan, &difference[..n])
+    let difference = LaneDifference {
+        code,
+        field,
+        plan: &plan,
+        symbols: &symbols[..n],
+    };
+    difference.update()
 }
 
 // Numbers 8 and 11.

@@ -1,10 +1,8 @@
 // The row of the generator that a difference begins with.
 ghost use Rattle.std.specs.Prelude.{◌≡◌, ◌<◌, length};
-ghost use Rattle.plan.specs.Plans.{plan_of};
 ghost use Rattle.find_update.specs.Inner.Starts.{begins_at, row_starting};
 
-use generator::Code;
-use plan::Plan;
+use crate::compare::LaneDifference;
 
 // Whether the difference is not zero at a row's first node, and zero at the node before it, going round; with k = 1 a row lies on every node.
 fn begins_at(k: u8, first: usize, difference: &[u16]) -> bool
@@ -16,17 +14,18 @@ fn begins_at(k: u8, first: usize, difference: &[u16]) -> bool
     difference[first] != 0 && (k == 1 || difference[before] == 0)
 }
 
-// The least row that the difference begins with, or k.
-pub fn row_at(code: Code, plan: Plan, difference: &[u16]) -> usize
-    requires { (plan ≡ plan_of code.header) × (length difference.now ≡ code.header.n) }
-    ensures { result ≡ row_starting code.header difference.now }
-{
-    let k = code.header.k;
-    for r in 0..k as usize {
-        let first = plan.firsts[r] as usize;
-        if begins_at(k, first, difference) {
-            return r;
+impl LaneDifference<'_> {
+    // The least row that the difference begins with, or k.
+    pub fn row(self) -> usize
+        ensures { result ≡ row_starting self.entry.code.header self.entry.symbols.now }
+    {
+        let k = self.code.header.k;
+        for r in 0..k as usize {
+            let first = self.plan.firsts[r] as usize;
+            if begins_at(k, first, self.symbols) {
+                return r;
+            }
         }
+        k as usize
     }
-    k as usize
 }

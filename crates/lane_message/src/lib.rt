@@ -8,7 +8,6 @@ ghost use Rattle.generator.specs.Records.{size};
 ghost use Rattle.generator.specs.Answers.{numbered, outcome_of};
 ghost use Rattle.generator.specs.Shifts.{shifts_of};
 ghost use Rattle.refusals.specs.Faults.{stale_fault};
-ghost use Rattle.check_sums.specs.Inner.Powers.{powers_of};
 ghost use Rattle.lane_message.specs.Inner.Symbols.{coefficients_of, symbol_from};
 
 mod rounds;
@@ -18,64 +17,53 @@ mod sums;
 use check_sums::{lane, powers};
 use field::Tables;
 use field::lent::Arithmetic;
-use generator::{Code, Header, Refusal};
+use generator::{Code, Refusal};
 use interpolation::lagrange;
+use rows::GeneratorRows;
+use spectrum::Transform;
 
-// Symbol r of a word's message: the sum of the coefficients of its polynomial times the row's terms, times the row's scale. The spectrum has n times each coefficient.
-fn symbol_from(
-    code: Code,
-    tables: &Tables,
-    shifts: &[u8],
-    powers: &[u16],
-    spectrum: &[u16],
-    r: usize,
-) -> u32
-    requires { (powers.now ≡ padded 255 (powers_of code.header)) × (length spectrum.now ≡ code.header.n) × (all_below (size code.header) spectrum.now ≡ true) × (r < code.header.k) × (shifts.now ≡ padded 255 (shifts_of code.header.n code.header.k)) }
-    ensures { result ≡ symbol_from code.header r (coefficients_of code.header spectrum.now) }
-{
-    let h = code.header;
-    let field = Arithmetic::new(h.field, tables);
-    let n = h.n as usize;
-    let k = h.k as usize;
-    let points = rows::row_points(code, shifts, powers);
-    let terms = rows::row_terms(code, tables, shifts, powers, &points[..k], r);
-    let coefficients = sums::coefficients(n, k, spectrum);
-    let sum = interpolation::sums::weighted_sum(field, &terms[..k], &coefficients);
-    let scale = lagrange::scale_at(field, &points[..k], r);
-    let over = field.inverse(sums::ones(field, n));
-    let part = field.mul(over, sum);
-    field.mul(scale, part)
-}
+impl GeneratorRows<'_> {
+    // Symbol r of a word's message: the sum of the coefficients of its polynomial times the row's terms, times the row's scale. The spectrum has n times each coefficient.
+    fn symbol(self, spectrum: &[u16], r: usize) -> u32
+        requires { (length spectrum.now ≡ self.transform.code.header.n) × (all_below (size self.transform.code.header) spectrum.now ≡ true) × (r < self.transform.code.header.k) }
+        ensures { let h = self.entry.transform.code.header in result ≡ symbol_from h r (coefficients_of h spectrum.now) }
+    {
+        let h = self.transform.code.header;
+        let field = self.transform.field;
+        let n = h.n as usize;
+        let k = h.k as usize;
+        let points = self.points();
+        let terms = self.terms(&points[..k], r);
+        let coefficients = sums::coefficients(n, k, spectrum);
+        let sum = interpolation::sums::weighted_sum(field, &terms[..k], &coefficients);
+        let scale = lagrange::scale_at(field, &points[..k], r);
+        let over = field.inverse(sums::ones(field, n));
+        let part = field.mul(over, sum);
+        field.mul(scale, part)
+    }
 
-// Judges a lane for an update of symbol r from `old`, with the powers of the root lent to it.
-fn stale_with(
-    code: Code,
-    tables: &Tables,
-    shifts: &[u8],
-    powers: &[u16],
-    lane: &[u16],
-    r: usize,
-    old: u32,
-) -> Result<(), Refusal>
-    requires { (powers.now ≡ padded 255 (powers_of code.header)) × (length lane.now ≡ code.header.n) × (all_below (size code.header) lane.now ≡ true) × (r < code.header.k) × (shifts.now ≡ padded 255 (shifts_of code.header.n code.header.k)) }
-    ensures { numbered result ≡ outcome_of (stale_fault code.header lane.now r old) }
-{
-    let h = code.header;
-    let n = h.n as usize;
-    let first: usize = 1;
-    let end = (h.n - h.k) as usize + 1;
-    let spectrum = spectrum::spectrum_of(code, tables, powers, lane);
-    let word = lane::all_zero(&spectrum[first..end]);
-    let symbol = symbol_from(code, tables, shifts, powers, &spectrum[..n], r);
-    Refusal::Word.when(!word)?;
-    Refusal::Stale.when(symbol != old)
+    // Judges a lane for an update of symbol r from `old`.
+    fn judge(self, lane: &[u16], r: usize, old: u32) -> Result<(), Refusal>
+        requires { (length lane.now ≡ self.transform.code.header.n) × (all_below (size self.transform.code.header) lane.now ≡ true) × (r < self.transform.code.header.k) }
+        ensures { numbered result ≡ outcome_of (stale_fault self.entry.transform.code.header lane.now r old) }
+    {
+        let h = self.transform.code.header;
+        let n = h.n as usize;
+        let first: usize = 1;
+        let end = (h.n - h.k) as usize + 1;
+        let spectrum = self.transform.spectrum(lane);
+        let word = lane::all_zero(&spectrum[first..end]);
+        let symbol = self.symbol(&spectrum[..n], r);
+        Refusal::Word.when(!word)?;
+        Refusal::Stale.when(symbol != old)
+    }
 }
 
 // Whether a lane is no word of the code, or a word whose message holds another symbol than `old` at number r. The tables and the rows' shifts are the caller's, who has them for the lane's update too.
-pub fn stale_fault(
+pub fn stale_fault<'a>(
     code: Code,
-    tables: &Tables,
-    shifts: &[u8],
+    tables: &'a Tables,
+    shifts: &'a [u8],
     lane: &[u16],
     r: usize,
     old: u32,
@@ -83,6 +71,12 @@ pub fn stale_fault(
     requires { (length lane.now ≡ code.header.n) × (all_below (size code.header) lane.now ≡ true) × (r < code.header.k) × (shifts.now ≡ padded 255 (shifts_of code.header.n code.header.k)) }
     ensures { numbered result ≡ outcome_of (stale_fault code.header lane.now r old) }
 {
+    let field = Arithmetic::new(code.header.field, tables);
     let powers = powers::powers_with(code, tables);
-    stale_with(code, tables, shifts, &powers, lane, r, old)
+    let transform = Transform {
+        code,
+        field,
+        powers: &powers,
+    };
+    GeneratorRows { transform, shifts }.judge(lane, r, old)
 }

@@ -3,15 +3,12 @@ ghost use Rattle.std.specs.Prelude.{◌≡◌, ℕ, ◌+◌, ◌/◌, ◌%◌, �
 ghost use Rattle.lists.specs.Choice.{pick};
 ghost use Rattle.lists.specs.Padded.{padded};
 ghost use Rattle.generator.specs.Records.{modulus_of};
-ghost use Rattle.generator.specs.Shifts.{shifts as shifts_for, shifts_of};
+ghost use Rattle.generator.specs.Shifts.{shifts as shifts_for};
 ghost use Rattle.interpolation.specs.Inner.Polynomials.{product_of};
 ghost use Rattle.node_weights.specs.Inner.Rows.{row_points};
-ghost use Rattle.check_sums.specs.Inner.Powers.{powers_of};
 ghost use Rattle.lane_message.specs.Inner.Rows.{InRounds, round_points, spaced_of};
 
-use field::Tables;
-use field::lent::Arithmetic;
-use generator::Code;
+use crate::rows::GeneratorRows;
 use interpolation::polynomials;
 
 // How many of the shifts from the first on are 0, 1, 2, ..
@@ -65,23 +62,6 @@ fn rounds_of(n: usize, shifts: &[u8]) -> usize
     rounds
 }
 
-// The points of one round to the power g, and zeros after them.
-fn round_points(code: Code, g: usize, powers: &[u16]) -> [u16; 255]
-    requires { (0 < g) × (g ≤ 255) × (powers.now ≡ padded 255 (powers_of code.header)) }
-    ensures { result ≡ padded 255 (round_points code.header g) }
-{
-    let h = code.header;
-    let n = h.n as usize;
-    let k = h.k as usize;
-    let count = k / g;
-    let mut out = [0u16; 255];
-    for j in 0..count {
-        let e = (j + (k - 1)) * g % n;
-        out[j] = powers[e];
-    }
-    out
-}
-
 // Coefficient j of q(x^g).
 fn spread_at(g: usize, q: &[u16; 256], j: usize) -> u16
     requires { (0 < g) × (j ≤ 255) × (length q.now ≡ 256) }
@@ -102,36 +82,48 @@ fn spread(g: usize, l: usize, q: &[u16; 256]) -> [u16; 256]
     out
 }
 
-// The product where the shifts come in g rounds.
-fn round_product(code: Code, tables: &Tables, g: usize, powers: &[u16]) -> [u16; 256]
-    requires { (0 < g) × (g ≤ 255) × InRounds code.header.n (shifts_for code.header) g × (powers.now ≡ padded 255 (powers_of code.header)) }
-    ensures { result ≡ padded 256 (product_of (modulus_of code.header) (row_points code.header)) }
-{
-    let h = code.header;
-    let field = Arithmetic::new(h.field, tables);
-    let k = h.k as usize;
-    let count = k / g;
-    let points = round_points(code, g, powers);
-    let product = polynomials::product(field, &points[..count]);
-    spread(g, k + 1, &product)
-}
-
-// The product over the points of the rows, and zeros after it.
-pub fn row_product(
-    code: Code,
-    tables: &Tables,
-    shifts: &[u8],
-    powers: &[u16],
-    points: &[u16],
-) -> [u16; 256]
-    requires { (powers.now ≡ padded 255 (powers_of code.header)) × (points.now ≡ row_points code.header) × (shifts.now ≡ padded 255 (shifts_of code.header.n code.header.k)) }
-    ensures { result ≡ padded 256 (product_of (modulus_of code.header) (row_points code.header)) }
-{
-    let h = code.header;
-    let k = h.k as usize;
-    let rounds = rounds_of(h.n as usize, &shifts[..k]);
-    if rounds == 0 {
-        return polynomials::product(Arithmetic::new(h.field, tables), points);
+impl GeneratorRows<'_> {
+    // The points of one round to the power g, and zeros after them.
+    fn round_points(self, g: usize) -> [u16; 255]
+        requires { (0 < g) × (g ≤ 255) }
+        ensures { result ≡ padded 255 (round_points self.entry.transform.code.header g) }
+    {
+        let h = self.transform.code.header;
+        let powers = self.transform.powers;
+        let n = h.n as usize;
+        let k = h.k as usize;
+        let count = k / g;
+        let mut out = [0u16; 255];
+        for j in 0..count {
+            let e = (j + (k - 1)) * g % n;
+            out[j] = powers[e];
+        }
+        out
     }
-    round_product(code, tables, rounds, powers)
+
+    // The product over the points of the rows, where their shifts come in g rounds.
+    fn round_product(self, g: usize) -> [u16; 256]
+        requires { (0 < g) × (g ≤ 255) × InRounds self.transform.code.header.n (shifts_for self.transform.code.header) g }
+        ensures { let h = self.entry.transform.code.header in result ≡ padded 256 (product_of (modulus_of h) (row_points h)) }
+    {
+        let k = self.transform.code.header.k as usize;
+        let count = k / g;
+        let points = self.round_points(g);
+        let product = polynomials::product(self.transform.field, &points[..count]);
+        spread(g, k + 1, &product)
+    }
+
+    // The product over the points of the rows, and zeros after it.
+    pub fn product(self, points: &[u16]) -> [u16; 256]
+        requires { points.now ≡ row_points self.transform.code.header }
+        ensures { let h = self.entry.transform.code.header in result ≡ padded 256 (product_of (modulus_of h) (row_points h)) }
+    {
+        let h = self.transform.code.header;
+        let k = h.k as usize;
+        let rounds = rounds_of(h.n as usize, &self.shifts[..k]);
+        if rounds == 0 {
+            return polynomials::product(self.transform.field, points);
+        }
+        self.round_product(rounds)
+    }
 }

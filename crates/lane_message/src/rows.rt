@@ -5,29 +5,19 @@ ghost use Rattle.field.specs.Fields.{size_of};
 ghost use Rattle.field.specs.Kinds.{modulus};
 ghost use Rattle.generator.specs.Shifts.{shifts_of};
 ghost use Rattle.node_weights.specs.Inner.Rows.{row_points, base_inverses, row_terms};
-ghost use Rattle.check_sums.specs.Inner.Powers.{powers_of};
 ghost use Rattle.lane_message.specs.Inner.Rows.{step_ratio};
 
-use crate::rounds;
 use check_sums::lane::stepped;
+use field::Field;
 use field::lent::Arithmetic;
-use field::{Field, Tables};
-use generator::Code;
+use spectrum::Transform;
 
-// The points root^(shift + k − 1) of the rows, and zeros after them.
-pub fn row_points(code: Code, shifts: &[u8], powers: &[u16]) -> [u16; 255]
-    requires { (powers.now ≡ padded 255 (powers_of code.header)) × (shifts.now ≡ padded 255 (shifts_of code.header.n code.header.k)) }
-    ensures { result ≡ padded 255 (row_points code.header) }
-{
-    let h = code.header;
-    let n = h.n as usize;
-    let k = h.k as usize;
-    let mut out = [0u16; 255];
-    for r in 0..k {
-        let e = stepped(shifts[r] as usize, k - 1, n);
-        out[r] = powers[e];
-    }
-    out
+// The rows by their shifts, with zeros after them, over the transform of their code.
+#[derive(Clone, Copy)]
+pub struct GeneratorRows<'a> {
+    pub transform: Transform<'a>,
+    pub shifts: &'a [u8],
+    pub ghost shifts_are: { shifts.now ≡ padded 255 (shifts_of transform.code.header.n transform.code.header.k) },
 }
 
 // The step from a coefficient's inverse to that of the one below it: (root^k − y) / (root^(k−1)·(1 − y)), where y is root^c for coefficient c.
@@ -41,40 +31,58 @@ fn step_ratio(field: Arithmetic, top: u32, scale: u32, y: u32) -> u32
     field.mul(field.sub(top, y), over)
 }
 
-// 1 over the coefficients of the base polynomial, from the highest down, and zeros after them.
-fn base_inverses(code: Code, tables: &Tables, powers: &[u16]) -> [u16; 255]
-    requires { powers.now ≡ padded 255 (powers_of code.header) }
-    ensures { result ≡ padded 255 (base_inverses code.header) }
-{
-    let h = code.header;
-    let field = Arithmetic::new(h.field, tables);
-    let top = powers[h.k as usize % h.n as usize] as u32;
-    let mut out = [0u16; 255];
-    let highest = h.k as usize - 1;
-    let scale = powers[highest] as u32;
-    let mut value = Field::ONE;
-    out[highest] = value as u16;
-    for c in (0..highest).rev() {
-        let ratio = step_ratio(field, top, scale, powers[c + 1] as u32);
-        value = field.mul(ratio, value);
-        out[c] = value as u16;
+impl GeneratorRows<'_> {
+    // The points root^(shift + k − 1) of the rows, and zeros after them.
+    pub fn points(self) -> [u16; 255]
+        ensures { result ≡ padded 255 (row_points self.entry.transform.code.header) }
+    {
+        let h = self.transform.code.header;
+        let powers = self.transform.powers;
+        let n = h.n as usize;
+        let k = h.k as usize;
+        let mut out = [0u16; 255];
+        for r in 0..k {
+            let e = stepped(self.shifts[r] as usize, k - 1, n);
+            out[r] = powers[e];
+        }
+        out
     }
-    out
-}
 
-// The terms of row r: the coefficients of the product over the points of the other rows, each over that of the base polynomial; and zeros after them.
-pub fn row_terms(
-    code: Code,
-    tables: &Tables,
-    shifts: &[u8],
-    powers: &[u16],
-    points: &[u16],
-    r: usize,
-) -> [u16; 255]
-    requires { (powers.now ≡ padded 255 (powers_of code.header)) × (points.now ≡ row_points code.header) × (r < code.header.k) × (shifts.now ≡ padded 255 (shifts_of code.header.n code.header.k)) }
-    ensures { result ≡ padded 255 (row_terms code.header r) }
-{
-    let product = rounds::row_product(code, tables, shifts, powers, points);
-    let base = base_inverses(code, tables, powers);
-    node_weights::terms_at(code, tables, &product, &base, points[r] as u32)
+    // 1 over the coefficients of the base polynomial, from the highest down, and zeros after them.
+    fn base_inverses(self) -> [u16; 255]
+        ensures { result ≡ padded 255 (base_inverses self.entry.transform.code.header) }
+    {
+        let h = self.transform.code.header;
+        let field = self.transform.field;
+        let powers = self.transform.powers;
+        let top = powers[h.k as usize % h.n as usize] as u32;
+        let mut out = [0u16; 255];
+        let highest = h.k as usize - 1;
+        let scale = powers[highest] as u32;
+        let mut value = Field::ONE;
+        out[highest] = value as u16;
+        for c in (0..highest).rev() {
+            let ratio = step_ratio(field, top, scale, powers[c + 1] as u32);
+            value = field.mul(ratio, value);
+            out[c] = value as u16;
+        }
+        out
+    }
+
+    // The terms of row r: the coefficients of the product over the points of the other rows, each over that of the base polynomial; and zeros after them.
+    pub fn terms(self, points: &[u16], r: usize) -> [u16; 255]
+        requires { (points.now ≡ row_points self.transform.code.header) × (r < self.transform.code.header.k) }
+        ensures { result ≡ padded 255 (row_terms self.entry.transform.code.header r) }
+    {
+        let product = self.product(points);
+        let base = self.base_inverses();
+        let tables = self.transform.field.tables;
+        node_weights::terms_at(
+            self.transform.code,
+            tables,
+            &product,
+            &base,
+            points[r] as u32,
+        )
+    }
 }

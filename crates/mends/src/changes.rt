@@ -6,74 +6,81 @@ ghost use Rattle.lists.specs.Padded.{padded};
 ghost use Rattle.layout.specs.Width.{bytes_of};
 ghost use Rattle.generator.specs.Records.{modulus_of, size, width};
 ghost use Rattle.check_sums.specs.Inner.Powers.{powers_of};
-ghost use Rattle.mends.specs.Inner.BySums.{HasSums, LaneSums, first_off, up_nodes, mended_at};
+ghost use Rattle.mends.specs.Inner.BySums.{LaneSums, first_off, up_nodes, mended_at};
 ghost use Rattle.mends.specs.Promise.{in_front};
 
-use field::Tables;
 use field::lent::Arithmetic;
 use generator::Code;
 
-// The first place whose next check sum is not c times its own, or the last.
-fn first_off(code: Code, tables: &Tables, c: u32, sums: &[u16]) -> usize
-    requires { HasSums code.header sums.now × (c < size code.header) }
-    ensures { result ≡ first_off (modulus_of code.header) c sums.now }
-{
-    let field = Arithmetic::new(code.header.field, tables);
-    let last = sums.len() - 1;
-    for e in 0..last {
-        if !field.is_product(c, sums[e], sums[e + 1]) {
-            return e;
-        }
-    }
-    last
-}
-
-// Writes the nodes j for which the check sums go up by root^j, rising; gives how many.
-fn list_nodes(code: Code, tables: &Tables, roots: &[u16], sums: &[u16], nodes: &mut [u8]) -> usize
-    requires { HasSums code.header sums.now × (roots.now ≡ padded 255 (powers_of code.header)) × (length nodes.old ≡ code.header.n) }
-    ensures { (result ≡ length (up_nodes code.header sums.now)) × (nodes.new ≡ in_front (up_nodes code.header sums.now) nodes.old) }
-{
-    let n = code.header.n as usize;
-    let last = sums.len() - 1;
-    let mut count: usize = 0;
-    for j in 0..n {
-        if first_off(code, tables, roots[j] as u32, sums) == last {
-            nodes[count] = j as u8;
-            count += 1;
-        }
-    }
-    count
-}
-
-// The new symbol of node j: what it holds less the first check sum over root^j.
-fn mended(code: Code, tables: &Tables, roots: &[u16], lane: &[u16], sums: &[u16], j: usize) -> u16
-    requires { LaneSums code.header lane.now sums.now × (roots.now ≡ padded 255 (powers_of code.header)) × (j < code.header.n) }
-    ensures { result ≡ mended_at code.header lane.now sums.now j }
-{
-    let field = Arithmetic::new(code.header.field, tables);
-    let n = code.header.n as usize;
-    let back = (n - j) % n;
-    let amount = field.mul(sums[0] as u32, roots[back] as u32);
-    field.sub(lane[j] as u32, amount) as u16
-}
-
-// The new symbols of the listed nodes, and zeros after them.
-fn new_symbols(
+// A lane that was received and is no word: its check sums, the field in which its code reckons, and the powers of the root below its order, with zeros after them.
+#[derive(Clone, Copy)]
+struct Received<'a, 'b> {
     code: Code,
-    tables: &Tables,
-    roots: &[u16],
-    lane: &[u16],
-    sums: &[u16],
-    nodes: &[u8],
-) -> [u16; 255]
-    requires { LaneSums code.header lane.now sums.now × (roots.now ≡ padded 255 (powers_of code.header)) × (all_below code.header.n nodes.now ≡ true) × (length nodes.now ≤ 255) }
-    ensures { result ≡ padded 255 (map (mended_at code.header lane.now sums.now) nodes.now) }
-{
-    let mut out = [0u16; 255];
-    for i in 0..nodes.len() {
-        out[i] = mended(code, tables, roots, lane, sums, nodes[i] as usize);
+    field: Arithmetic<'a>,
+    powers: &'a [u16],
+    lane: &'b [u16],
+    sums: &'b [u16],
+    ghost same: { field.field ≡ code.header.field },
+    ghost powers_are: { powers.now ≡ padded 255 (powers_of code.header) },
+    ghost summed: { LaneSums code.header lane.now sums.now },
+}
+
+impl Received<'_, '_> {
+    // The first place whose next check sum is not c times its own, or the last.
+    fn first_off(self, c: u32) -> usize
+        requires { c < size self.code.header }
+        ensures { result ≡ first_off (modulus_of self.entry.code.header) c self.entry.sums.now }
+    {
+        let sums = self.sums;
+        let last = sums.len() - 1;
+        for e in 0..last {
+            if !self.field.is_product(c, sums[e], sums[e + 1]) {
+                return e;
+            }
+        }
+        last
     }
-    out
+
+    // Writes the nodes j for which the check sums go up by root^j, rising; gives how many.
+    fn list_nodes(self, nodes: &mut [u8]) -> usize
+        requires { length nodes.old ≡ self.code.header.n }
+        ensures { let up = up_nodes self.entry.code.header self.entry.sums.now in (result ≡ length up) × (nodes.new ≡ in_front up nodes.old) }
+    {
+        let n = self.code.header.n as usize;
+        let last = self.sums.len() - 1;
+        let mut count: usize = 0;
+        for j in 0..n {
+            if self.first_off(self.powers[j] as u32) == last {
+                nodes[count] = j as u8;
+                count += 1;
+            }
+        }
+        count
+    }
+
+    // The new symbol of node j: what it holds less the first check sum over root^j.
+    fn mended(self, j: usize) -> u16
+        requires { j < self.code.header.n }
+        ensures { result ≡ mended_at self.entry.code.header self.entry.lane.now self.entry.sums.now j }
+    {
+        let n = self.code.header.n as usize;
+        let back = (n - j) % n;
+        let over = self.powers[back] as u32;
+        let amount = self.field.mul(self.sums[0] as u32, over);
+        self.field.sub(self.lane[j] as u32, amount) as u16
+    }
+
+    // The new symbols of the listed nodes, and zeros after them.
+    fn new_symbols(self, nodes: &[u8]) -> [u16; 255]
+        requires { (all_below self.code.header.n nodes.now ≡ true) × (length nodes.now ≤ 255) }
+        ensures { result ≡ padded 255 (map (mended_at self.entry.code.header self.entry.lane.now self.entry.sums.now) nodes.now) }
+    {
+        let mut out = [0u16; 255];
+        for i in 0..nodes.len() {
+            out[i] = self.mended(nodes[i] as usize);
+        }
+        out
+    }
 }
 
 // Writes new symbols at the front.
@@ -88,14 +95,28 @@ fn put_symbols(code: Code, new: &[u16], symbols: &mut [u8])
 }
 
 // Lists the nodes and their new symbols; gives how many.
-pub fn list(code: Code, lane: &[u16], sums: &[u16], nodes: &mut [u8], symbols: &mut [u8]) -> usize
+pub fn list<'a>(
+    code: Code,
+    lane: &'a [u16],
+    sums: &'a [u16],
+    nodes: &mut [u8],
+    symbols: &mut [u8],
+) -> usize
     requires { LaneSums code.header lane.now sums.now × (length nodes.old ≡ code.header.n) × (length symbols.old ≡ code.header.n * width code.header) }
     ensures { (result ≡ length (up_nodes code.header sums.now)) × (nodes.new ≡ in_front (up_nodes code.header sums.now) nodes.old) × (symbols.new ≡ in_front (bytes_of (width code.header) (map (mended_at code.header lane.now sums.now) (up_nodes code.header sums.now))) symbols.old) }
 {
     let tables = field::constant_tables();
-    let roots = check_sums::powers::powers(code);
-    let count = list_nodes(code, &tables, &roots, sums, nodes);
-    let new = new_symbols(code, &tables, &roots, lane, sums, &nodes[..count]);
+    let field = Arithmetic::new(code.header.field, &tables);
+    let powers = check_sums::powers::powers_with(code, &tables);
+    let received = Received {
+        code,
+        field,
+        powers: &powers,
+        lane,
+        sums,
+    };
+    let count = received.list_nodes(nodes);
+    let new = received.new_symbols(&nodes[..count]);
     put_symbols(code, &new[..count], symbols);
     count
 }

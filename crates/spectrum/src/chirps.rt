@@ -5,13 +5,10 @@ ghost use Rattle.lists.specs.Numbers.{all_below};
 ghost use Rattle.lists.specs.Padded.{padded};
 ghost use Rattle.generator.specs.Records.{size};
 ghost use Rattle.generator.specs.Shifts.{negative as negative_of};
-ghost use Rattle.check_sums.specs.Inner.Powers.{powers_of};
 ghost use Rattle.spectrum.specs.Inner.Spectrum.{triangle, chirp_at, unchirped};
 
+use crate::Transform;
 use check_sums::lane::stepped;
-use field::Tables;
-use field::lent::Arithmetic;
-use generator::Code;
 
 // −i modulo n.
 fn negative(n: usize, i: usize) -> usize
@@ -37,37 +34,31 @@ pub fn exponents(n: usize) -> [u8; 510]
     out
 }
 
-// root^T(x).
-pub fn chirps(code: Code, powers: &[u16], exponents: &[u8; 510]) -> [u16; 510]
-    requires { (powers.now ≡ padded 255 (powers_of code.header)) × (exponents.now ≡ from (λ x. triangle x % code.header.n) 0 510) }
-    ensures { result ≡ from (chirp_at code.header) 0 510 }
-{
-    let mut out = [0u16; 510];
-    for x in 0..510 {
-        let e = exponents[x] as usize;
-        out[x] = powers[e];
+impl Transform<'_> {
+    // root^T(x).
+    pub fn chirps(self, exponents: &[u8; 510]) -> [u16; 510]
+        requires { exponents.now ≡ from (λ x. triangle x % self.code.header.n) 0 510 }
+        ensures { result ≡ from (chirp_at self.entry.code.header) 0 510 }
+    {
+        let mut out = [0u16; 510];
+        for x in 0..510 {
+            let e = exponents[x] as usize;
+            out[x] = self.powers[e];
+        }
+        out
     }
-    out
-}
 
-// Each symbol over root^T(j), and zeros after them.
-pub fn unchirp(
-    code: Code,
-    tables: &Tables,
-    powers: &[u16],
-    exponents: &[u8; 510],
-    symbols: &[u16],
-) -> [u16; 255]
-    requires { (powers.now ≡ padded 255 (powers_of code.header)) × (exponents.now ≡ from (λ x. triangle x % code.header.n) 0 510) × (length symbols.now ≤ 255) × (all_below (size code.header) symbols.now ≡ true) }
-    ensures { result ≡ padded 255 (unchirped code.header symbols.now) }
-{
-    let h = code.header;
-    let field = Arithmetic::new(h.field, tables);
-    let n = h.n as usize;
-    let mut out = [0u16; 255];
-    for j in 0..symbols.len() {
-        let e = negative(n, exponents[j] as usize);
-        out[j] = field.mul(symbols[j] as u32, powers[e] as u32) as u16;
+    // Each symbol over root^T(j), and zeros after them.
+    pub fn unchirp(self, exponents: &[u8; 510], symbols: &[u16]) -> [u16; 255]
+        requires { (exponents.now ≡ from (λ x. triangle x % self.code.header.n) 0 510) × (length symbols.now ≤ 255) × (all_below (size self.code.header) symbols.now ≡ true) }
+        ensures { result ≡ padded 255 (unchirped self.entry.code.header symbols.now) }
+    {
+        let n = self.code.header.n as usize;
+        let mut out = [0u16; 255];
+        for j in 0..symbols.len() {
+            let e = negative(n, exponents[j] as usize);
+            out[j] = self.field.mul(symbols[j] as u32, self.powers[e] as u32) as u16;
+        }
+        out
     }
-    out
 }

@@ -10,8 +10,18 @@ ghost use Rattle.spectrum.specs.Inner.Spectrum.{spectrum_of};
 
 mod chirps;
 
-use field::Tables;
+use field::lent::Arithmetic;
 use generator::Code;
+
+// The Fourier transform over a code's field: the field in which its code reckons, and the powers of the root below its order, with zeros after them.
+#[derive(Clone, Copy)]
+pub struct Transform<'a> {
+    pub code: Code,
+    pub field: Arithmetic<'a>,
+    pub powers: &'a [u16],
+    pub ghost same: { field.field ≡ code.header.field },
+    pub ghost powers_are: { powers.now ≡ padded 255 (powers_of code.header) },
+}
 
 // Room for the sums.
 fn blank() -> [u16; 255]
@@ -20,18 +30,19 @@ fn blank() -> [u16; 255]
     [0u16; 255]
 }
 
-// The spectrum, and zeros after it.
-pub fn spectrum_of(code: Code, tables: &Tables, powers: &[u16], lane: &[u16]) -> [u16; 255]
-    requires { (powers.now ≡ padded 255 (powers_of code.header)) × (length lane.now ≡ code.header.n) × (all_below (size code.header) lane.now ≡ true) }
-    ensures { result ≡ padded 255 (spectrum_of code.header lane.now) }
-{
-    let h = code.header;
-    let field = h.field;
-    let n = h.n as usize;
-    let exponents = chirps::exponents(n);
-    let row = chirps::chirps(code, powers, &exponents);
-    let weights = chirps::unchirp(code, tables, powers, &exponents, lane);
-    let mut sums = blank();
-    sliding_sums::window_sums(field, &weights[..n], &row, &mut sums[..n]);
-    chirps::unchirp(code, tables, powers, &exponents, &sums[..n])
+impl Transform<'_> {
+    // The spectrum of a lane, and zeros after it.
+    pub fn spectrum(self, lane: &[u16]) -> [u16; 255]
+        requires { (length lane.now ≡ self.code.header.n) × (all_below (size self.code.header) lane.now ≡ true) }
+        ensures { result ≡ padded 255 (spectrum_of self.entry.code.header lane.now) }
+    {
+        let h = self.code.header;
+        let n = h.n as usize;
+        let exponents = chirps::exponents(n);
+        let row = self.chirps(&exponents);
+        let weights = self.unchirp(&exponents, lane);
+        let mut sums = blank();
+        sliding_sums::window_sums(h.field, &weights[..n], &row, &mut sums[..n]);
+        self.unchirp(&exponents, &sums[..n])
+    }
 }

@@ -17,13 +17,13 @@ use Rattle.mends.proofs.changes.list.Goals.{After-new_symbols-new}
 pub list_nodes-count-requires : goal.list_nodes-count-requires
 list_nodes-count-requires c =
     let (has, nodes, symbols) = c.requires in
-    (has.has, c.powers-roots.ensures, nodes)
+    nodes
+
+pub slice_bounds-new_symbols-end : goal.slice_bounds-new_symbols-end
+slice_bounds-new_symbols-end c = let e = c.list_nodes-count.ensures in front_room _ _ _ _ e.1 e.0
 
 pub slice_bounds-new_symbols-end-2 : goal.slice_bounds-new_symbols-end-2
-slice_bounds-new_symbols-end-2 c = let e = c.list_nodes-count.ensures in front_room _ _ _ _ e.1 e.0
-
-pub slice_bounds-new_symbols-end-3 : goal.slice_bounds-new_symbols-end-3
-slice_bounds-new_symbols-end-3 c = let e = c.list_nodes-count.ensures in sym (front_length _ _ _ _ e.1 e.0)
+slice_bounds-new_symbols-end-2 c = let e = c.list_nodes-count.ensures in sym (front_length _ _ _ _ e.1 e.0)
 
 pub new_symbols-new-requires : goal.new_symbols-new-requires
 new_symbols-new-requires c =
@@ -31,7 +31,7 @@ new_symbols-new-requires c =
     let e = c.list_nodes-count.ensures in
     let part = front_part _ _ _ _ e.1 e.0 in
     let short = up_few c.args.code.header c.args.sums.now in
-    (has, c.powers-roots.ensures, rw part (up_below _ _), rw part (omega (arith, short, c.args.code.sound.byte)))
+    (rw part (up_below _ _), rw part (omega (arith, short, c.args.code.sound.byte)))
 
 -- the part of the new symbols that is written
 new-part : (c : After-new_symbols-new)

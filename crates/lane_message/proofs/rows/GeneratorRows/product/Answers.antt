@@ -1,0 +1,35 @@
+-- `product` meets its contract, whether the shifts come in rounds or not.
+use mathlib.Core.Path.{◌≡◌, sym, ap, ◌∙◌}
+use Prim.Native.Nat.{◌≤◌}
+use native.Mathlib.Omega.{arith}
+use lib.ListN.{length, take}
+use Rattle.lists.proofs.Padding.{take_padded}
+use Rattle.generator.specs.Shifts.{shifts}
+use Rattle.node_weights.proofs.Parts.{row_symbols}
+use Rattle.lane_message.proofs.Points.{length_shifts}
+use Rattle.lane_message.proofs.rows.GeneratorRows.product.Goals as goal
+use Rattle.lane_message.proofs.rows.GeneratorRows.product.Goals.{Start}
+
+few : (c : Start) → c.args.self.transform.code.header.k ≤ 255
+few c = omega (arith, c.args.self.transform.code.sound.fits, c.args.self.transform.code.sound.byte)
+
+-- the shifts, lent as a part
+part : (c : Start) → take c.args.self.transform.code.header.k c.args.self.shifts.now ≡ shifts c.args.self.transform.code.header
+part c = rw c.args.self.shifts_are (take_padded 255 _ _ (length_shifts c.args.self.transform.code.header c.args.self.transform.code.sound))
+
+pub slice_bounds-rounds_of-end : goal.slice_bounds-rounds_of-end
+slice_bounds-rounds_of-end c = sym (ap length (part (goal.at.slice_bounds-rounds_of-end c).Start) ∙ length_shifts c.args.self.transform.code.header c.args.self.transform.code.sound)
+
+pub rounds_of-rounds-requires : goal.rounds_of-rounds-requires
+rounds_of-rounds-requires c = (c.args.self.transform.code.sound.byte, rw (part (goal.at.rounds_of-rounds-requires c).Start, length_shifts c.args.self.transform.code.header c.args.self.transform.code.sound) (few (goal.at.rounds_of-rounds-requires c).Start))
+
+pub product-requires : goal.product-requires
+product-requires c = rw (c.args.self.transform.same, c.requires) (row_symbols c.args.self.transform.code.header c.args.self.transform.code.sound (few (goal.at.product-requires c).Start)).are
+
+pub returns-then-rounds-eq0 : goal.returns-then-rounds-eq0
+returns-then-rounds-eq0 c = c.product.ensures ∙ rw (c.args.self.transform.same, c.requires)
+
+pub round_product-requires : goal.round_product-requires
+round_product-requires c =
+    let r = c.rounds_of-rounds.ensures in
+    (omega arith, omega (arith, r.0, c.args.self.transform.code.sound.byte), rw (part (goal.at.round_product-requires c).Start) at (r.1 (omega arith)))

@@ -1,0 +1,35 @@
+-- `first_off` meets its contract. Invariant: the search from 0 on is the search from e on.
+use mathlib.Core.Path.{◌≡◌, sym, ◌∙◌}
+use Prim.Native.Nat.{◌-◌}
+use native.Mathlib.Nat.{sub-zero}
+use native.Mathlib.Omega.{arith}
+use borrow.Author.Tests.{not-true, not-false}
+use lib.ListN.{length}
+use Rattle.lists.proofs.Numbers.{below_at}
+use Rattle.lists.proofs.Search.{search_next, search_found, search_end}
+use Rattle.mends.specs.Inner.BySums.{first_off}
+use Rattle.mends.proofs.changes.Received.first_off.Goals as goal
+
+pub overflow_sub-last : goal.overflow_sub-last
+overflow_sub-last c = omega (arith, c.args.self.summed.has.some)
+
+pub loop-e-init : goal.loop-e-init
+unfolding first_off
+loop-e-init c = rw sub-zero
+
+pub is_product-requires : goal.is_product-requires
+is_product-requires c =
+    rw c.args.self.same (c.requires, below_at _ _ c.args.self.summed.has.symbols c.loop-e.e (omega arith))
+
+pub returns-then-not-is_product : goal.returns-then-not-is_product
+returns-then-not-is_product c =
+    sym (rw c.args.self.same at (c.loop-e.invariant ∙ search_found _ _ _ c.loop-e-test.true (sym c.is_product.ensures ∙ not-true _ c.if-not-is_product.true-raw)))
+
+pub loop-e-preserved : goal.loop-e-preserved
+loop-e-preserved c =
+    c.loop-e.invariant ∙ search_next _ _ _ c.loop-e-test.true (sym c.is_product.ensures ∙ not-false _ c.if-not-is_product.false-raw)
+
+pub returns : goal.returns
+returns c =
+    let end : length c.args.self.sums.now - 1 ≡ c.loop-e.e = omega (arith, c.loop-e.auto.e-end, c.loop-e-test.false) in
+    end ∙ sym (rw c.args.self.same at (c.loop-e.invariant ∙ search_end _ _ _ c.loop-e-test.false))

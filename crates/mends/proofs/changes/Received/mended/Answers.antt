@@ -1,0 +1,77 @@
+-- `mended` meets its contract: the power at place (n − j) modulo n is 1 over root^j.
+use mathlib.Core.Path.{◌≡◌, ap, ◌∙◌}
+use Prim.Native.Nat.{ℕ, ◌-◌, ◌%◌, ◌<◌}
+use native.Mathlib.Nat.{mod-lt}
+use native.Mathlib.Omega.{arith}
+use lib.ListN.{get_or}
+use Rattle.lists.proofs.Numbers.{below_at}
+use Rattle.field.specs.Fields.{sub, mul, power}
+use Rattle.field.proofs.Bounds.{power_below}
+use Rattle.generator.specs.Records.{modulus_of, size}
+use Rattle.check_sums.proofs.Sums.{power_place, power_at}
+use Rattle.mends.specs.Inner.BySums.{mended_at}
+use Rattle.mends.proofs.changes.Received.mended.Goals as goal
+use Rattle.mends.proofs.changes.Received.mended.Goals.{Start}
+
+-- the place is one of the table
+inside : (n j : ℕ) → j < n → (n - j) % n < n
+inside n j node = mod-lt (n - j) (omega arith)
+
+-- what is read there
+read : (c : Start)
+    → let a = c.args in
+    get_or a.self.powers.now ((a.self.code.header.n - a.j) % a.self.code.header.n) 0 ≡ power (modulus_of a.self.code.header) a.self.code.header.root ((a.self.code.header.n - a.j) % a.self.code.header.n)
+read c =
+    rw c.args.self.powers_are (power_at _ _ (inside _ _ c.requires))
+
+-- and the first check sum are symbols
+read_below : (c : Start)
+    → let a = c.args in
+    get_or a.self.powers.now ((a.self.code.header.n - a.j) % a.self.code.header.n) 0 < size a.self.code.header
+read_below c =
+    let s = c.args.self.code.sound in
+    rw (read c) (power_below _ s.field _ s.root_below)
+
+sum_below : (c : Start) → let a = c.args in get_or a.self.sums.now 0 0 < size a.self.code.header
+sum_below c =
+    let has = c.args.self.summed.has in
+    below_at _ _ has.symbols 0 has.some
+
+held_below : (c : Start) → let a = c.args in get_or a.self.lane.now a.j 0 < size a.self.code.header
+held_below c =
+    let lane = c.args.self.summed.lane in
+    below_at _ _ lane.symbols _ (omega (arith, lane.long))
+
+pub bounds-self-0 : goal.bounds-self-0
+bounds-self-0 c = c.args.self.summed.has.some
+
+pub offset_bounds-self-back : goal.offset_bounds-self-back
+offset_bounds-self-back c = omega (arith, inside _ _ c.requires)
+
+pub bounds-self-back : goal.bounds-self-back
+bounds-self-back c =
+    rw c.args.self.powers_are (power_place _ _ (inside _ _ c.requires))
+
+pub mul-amount-requires : goal.mul-amount-requires
+mul-amount-requires c =
+    let start = (goal.at.mul-amount-requires c).Start in
+    rw c.args.self.same (sum_below start, read_below start)
+
+pub bounds-self-j : goal.bounds-self-j
+bounds-self-j c =
+    omega (arith, c.args.self.summed.lane.long)
+
+pub sub-requires : goal.sub-requires
+sub-requires c =
+    (rw c.args.self.same (held_below (goal.at.sub-requires c).Start), c.mul-amount.ensures.symbol)
+
+pub overflow_cast-result : goal.overflow_cast-result
+overflow_cast-result c = omega (arith, c.sub.ensures.symbol, c.args.self.field.small)
+
+pub returns : goal.returns
+unfolding mended_at
+returns c =
+    let a = c.args in
+    c.sub.ensures.is
+    ∙ rw c.args.self.same
+    (ap (sub (modulus_of a.self.code.header) (get_or a.self.lane.now a.j 0)) (c.mul-amount.ensures.is ∙ rw c.args.self.same (ap (mul (modulus_of a.self.code.header) (get_or a.self.sums.now 0 0)) (read (goal.at.returns c).Start))))

@@ -1,0 +1,78 @@
+-- `spectrum` meets its contract: the sums over the row of powers, with powers taken out before and after, are the spectrum.
+use mathlib.Core.Path.{◌≡◌, sym, ap, ◌∙◌}
+use native.Mathlib.Omega.{arith}
+use lib.ListN.{length, take}
+use lib.Seq.{length-take-le}
+use Rattle.lists.specs.Rows.{from}
+use Rattle.lists.specs.Padded.{padded}
+use Rattle.lists.proofs.Padding.{take_padded}
+use Rattle.lists.proofs.Rows.{length_from}
+use Rattle.lists.proofs.Fill.{length_zeros}
+use Rattle.generator.specs.Records.{modulus_of}
+use Rattle.sliding_sums.specs.Inner.Windows.{window_sums}
+use Rattle.sliding_sums.proofs.Tables.{length_windows}
+use Rattle.spectrum.specs.Inner.Spectrum.{chirp_at, unchirped}
+use Rattle.check_sums.proofs.Prefix.{whole_fits, whole_is, length_whole}
+use Rattle.spectrum.proofs.Lanes.{length_unchirped, chirps_below, unchirped_below, windows_below}
+use Rattle.spectrum.proofs.Chirped.{spectrum_is}
+use Rattle.spectrum.proofs.Transform.spectrum.Goals as goal
+use Rattle.spectrum.proofs.Transform.spectrum.Goals.{After-blank-sums, After-unchirp-weights, After-window_sums}
+
+-- the weights, lent as a part
+weights-are : (c : After-unchirp-weights) → let a = c.args in take a.self.code.header.n c.unchirp-weights.result ≡ unchirped a.self.code.header a.lane.now
+weights-are c =
+    rw c.unchirp-weights.ensures (take_padded 255 _ _ (length_unchirped c.args.self.code.header c.args.lane.now ∙ c.requires.0))
+
+weights-size : (c : After-unchirp-weights) → let a = c.args in length (take a.self.code.header.n c.unchirp-weights.result) ≡ a.self.code.header.n
+weights-size c =
+    ap length (weights-are c) ∙ length_unchirped c.args.self.code.header c.args.lane.now ∙ c.requires.0
+
+-- the room for the sums, lent as a part
+room-size : (c : After-blank-sums) → let a = c.args in length (take a.self.code.header.n c.blank-sums.result) ≡ a.self.code.header.n
+room-size c = length-take-le _ _ (rw (c.blank-sums.ensures, length_zeros 255) c.args.self.code.sound.byte)
+
+-- the sums
+sums-of : (c : After-window_sums)
+    → let a = c.args in
+    window_sums (modulus_of a.self.code.header) (take a.self.code.header.n c.unchirp-weights.result) c.chirps-row.result (length (take a.self.code.header.n c.blank-sums.result))
+    ≡ window_sums (modulus_of a.self.code.header) (unchirped a.self.code.header a.lane.now) (from (chirp_at a.self.code.header) 0 510) a.self.code.header.n
+sums-of c = rw (weights-are (goal.at.After-window_sums c).After-unchirp-weights, c.chirps-row.ensures, room-size (goal.at.After-window_sums c).After-blank-sums)
+
+pub slice_bounds-window_sums-end : goal.slice_bounds-window_sums-end
+slice_bounds-window_sums-end c = sym (weights-size (goal.at.slice_bounds-window_sums-end c).After-unchirp-weights)
+
+pub slice_bounds-window_sums-end-3 : goal.slice_bounds-window_sums-end-3
+slice_bounds-window_sums-end-3 c = sym (room-size (goal.at.slice_bounds-window_sums-end-3 c).After-blank-sums)
+
+pub window_sums-requires : goal.window_sums-requires
+window_sums-requires c =
+    let few = c.args.self.code.sound.byte in
+    let long = weights-size (goal.at.window_sums-requires c).After-unchirp-weights in
+    let room = room-size (goal.at.window_sums-requires c).After-blank-sums in
+    let wide = ap length c.chirps-row.ensures ∙ length_from (chirp_at c.args.self.code.header) 0 510 in (
+      c.args.self.code.sound.usable_field,
+      record {
+        few = omega arith;
+        places = omega arith;
+        room = omega arith;
+        short = omega arith;
+        weights = rw (weights-are (goal.at.window_sums-requires c).After-unchirp-weights) (unchirped_below _ c.args.self.code.sound _ c.requires.1);
+        symbols = rw c.chirps-row.ensures (chirps_below _ c.args.self.code.sound);
+      },
+    )
+
+pub slice_bounds-sums-end-2 : goal.slice_bounds-sums-end-2
+slice_bounds-sums-end-2 c = whole_fits _ _ _ _ (c.window_sums.ensures ∙ sums-of (goal.at.slice_bounds-sums-end-2 c).After-window_sums) (length_windows _ _ _ _)
+
+pub slice_bounds-unchirp-end : goal.slice_bounds-unchirp-end
+slice_bounds-unchirp-end c = sym (length_whole _ _ _ _ (c.window_sums.ensures ∙ sums-of (goal.at.slice_bounds-unchirp-end c).After-window_sums) (length_windows _ _ _ _))
+
+pub unchirp-requires : goal.unchirp-requires
+unchirp-requires c =
+    let is = whole_is c.args.self.code.header.n _ c.blank-sums.result _ (c.window_sums.ensures ∙ sums-of (goal.at.unchirp-requires c).After-window_sums) (length_windows _ _ _ _) in
+    (c.exponents-exponents.ensures, rw (is, length_windows) c.args.self.code.sound.byte, rw is (windows_below _ c.args.self.code.sound _ _ _ (unchirped_below _ c.args.self.code.sound _ c.requires.1) (chirps_below _ c.args.self.code.sound)))
+
+pub returns : goal.returns
+returns c =
+    let is = whole_is c.args.self.code.header.n _ c.blank-sums.result _ (c.window_sums.ensures ∙ sums-of (goal.at.returns c).After-window_sums) (length_windows _ _ _ _) in
+    c.unchirp.ensures ∙ ap (padded 255) (ap (unchirped _) is ∙ spectrum_is _ c.args.self.code.sound _ c.requires.0 c.requires.1 c.args.self.code.sound.byte)

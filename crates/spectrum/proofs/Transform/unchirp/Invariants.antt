@@ -1,0 +1,16 @@
+-- `unchirp` meets its contract: each exponent is below n, and the power of its negative is read from the table.
+use mathlib.Core.List.{List}
+use Prim.Native.Nat.{ℕ}
+use lib.ListN.{length, get_or}
+use Rattle.lists.proofs.Fill.{Filled}
+use Rattle.field.specs.Fields.{mul}
+use Rattle.field.specs.Kinds.{modulus}
+use Rattle.generator.specs.Shifts.{negative}
+use Rattle.spectrum.proofs.Transform.unchirp.Given as goal
+
+-- a symbol over its power, as it is read
+abbrev pub read : ℕ → ℕ → List ℕ → List ℕ → List ℕ → ℕ → ℕ
+read p n powers exponents symbols j = mul p (get_or symbols j 0) (get_or powers (negative n (get_or exponents j 0)) 0)
+
+abbrev pub invariant-loop-j : goal.invariant-loop-j
+invariant-loop-j l = Filled 255 (length l.symbols) (read (modulus l.self.field.field) l.n l.self.powers.now l.exponents l.symbols) l.j l.out
