@@ -14,6 +14,7 @@ ghost use Rattle.correct.specs.Inner.Marked.{MarkedShares};
 
 use check_sums::lane::PowerRows;
 use generator::{Code, Refusal};
+use wrong_lanes::Block;
 
 mod lane;
 
@@ -96,7 +97,12 @@ fn correct_symbols(code: Code, lanes: usize, shares: &mut [u8]) -> Result<u32, R
 {
     let mut room = [0u8; 4096];
     let marks = &mut room[..lanes];
-    wrong_lanes::marks::mark_lanes(code, lanes, shares, marks);
+    let block = Block {
+        code,
+        lanes,
+        shares,
+    };
+    block.mark_lanes(marks);
     correct_any(code, marks, shares)
 }
 
