@@ -6,6 +6,7 @@ ghost use Rattle.generator.specs.Answers.{numbered};
 ghost use Rattle.belongs.specs.Promise.{belongs_fault, BelongsPromise, BelongsSays};
 
 use generator::{Code, Refusal};
+use wrong_lanes::Block;
 
 mod fault;
 
@@ -16,7 +17,12 @@ fn test_accepted(code: Code, lanes: usize, shares: &[u8]) -> Result<Option<u32>,
     ensures { BelongsPromise share_layout lanes shares.now (numbered result) code.header (belongs_fault code.header lanes shares.now) }
 {
     belongs_fault(code.header, lanes, shares)?;
-    let wrong = wrong_lanes::first_wrong(code, lanes, shares);
+    let block = Block {
+        code,
+        lanes,
+        shares,
+    };
+    let wrong = block.first_wrong();
     if wrong == lanes {
         return Ok(None);
     }

@@ -16,9 +16,3 @@ module _ (l : ℕ) (new old whole : List ℕ) (filled : new ≡ whole) (long : l
 
   pub length_whole : length (take l (new ++ drop l old)) ≡ l
   length_whole = ap length whole_is ∙ long
-
-  pub whole_few : (m : ℕ) → l ≤ m → length (take l (new ++ drop l old)) ≤ m
-  whole_few m few = rw length_whole few
-
-  pub whole_reach : l ≤ length (take l (new ++ drop l old))
-  whole_reach = omega (arith, length_whole)

@@ -65,29 +65,51 @@ pub fn fill_power_rows(code: Code, rows: &mut [u8])
     }
 }
 
-// The check sums of a lane, from the rows of powers.
-fn fill_sums(code: Code, rows: &[u8], lane: &[u16], sums: &mut [u8])
-    requires { (rows.now ≡ power_rows code.header) × (length lane.now ≡ code.header.n) × (all_below (size code.header) lane.now ≡ true) × (length sums.old ≡ width code.header * (code.header.n - code.header.k)) }
-    ensures { sums.new ≡ bytes_of (width code.header) (check_sums code.header lane.now) }
-{
-    let h = code.header;
-    let field = h.field;
-    let n = h.n as usize;
-    let checks = (h.n - h.k) as usize;
-    row_sums::combine_symbols(field, lane, n, checks, rows, sums);
+// A code and the rows of powers by which the check sums of its lanes are made.
+#[derive(Clone, Copy)]
+pub struct PowerRows<'a> {
+    pub code: Code,
+    pub rows: &'a [u8],
+    pub ghost made: { rows.now ≡ power_rows code.header },
 }
 
-// The check sums of a lane, from the rows of powers, and zeros after them.
-pub fn sums_with(code: Code, rows: &[u8], lane: &[u16]) -> [u16; 255]
-    requires { (rows.now ≡ power_rows code.header) × (length lane.now ≡ code.header.n) × (all_below (size code.header) lane.now ≡ true) }
-    ensures { result ≡ padded 255 (check_sums code.header lane.now) }
-{
-    let h = code.header;
-    let w = symbols::width_of(h);
-    let size = w * (h.n - h.k) as usize;
-    let mut sums = [0u8; 510];
-    fill_sums(code, rows, lane, &mut sums[..size]);
-    symbols::read_symbols(w, &sums[..size])
+impl PowerRows<'_> {
+    // The check sums of a lane.
+    fn fill_sums(self, lane: &[u16], sums: &mut [u8])
+        requires { let h = self.code.header in (length lane.now ≡ h.n) × (all_below (size h) lane.now ≡ true) × (length sums.old ≡ width h * (h.n - h.k)) }
+        ensures { let h = self.entry.code.header in sums.new ≡ bytes_of (width h) (check_sums h lane.now) }
+    {
+        let h = self.code.header;
+        let field = h.field;
+        let n = h.n as usize;
+        let checks = (h.n - h.k) as usize;
+        row_sums::combine_symbols(field, lane, n, checks, self.rows, sums);
+    }
+
+    // The check sums of a lane, and zeros after them.
+    pub fn sums(self, lane: &[u16]) -> [u16; 255]
+        requires { (length lane.now ≡ self.code.header.n) × (all_below (size self.code.header) lane.now ≡ true) }
+        ensures { result ≡ padded 255 (check_sums self.entry.code.header lane.now) }
+    {
+        let h = self.code.header;
+        let w = symbols::width_of(h);
+        let size = w * (h.n - h.k) as usize;
+        let mut room = [0u8; 510];
+        let sums = &mut room[..size];
+        self.fill_sums(lane, sums);
+        symbols::read_symbols(w, sums)
+    }
+
+    // Whether a lane is a word of the code.
+    pub fn is_word(self, lane: &[u16]) -> bool
+        requires { (length lane.now ≡ self.code.header.n) × (all_below (size self.code.header) lane.now ≡ true) }
+        ensures { result ≡ is_word self.entry.code.header lane.now }
+    {
+        let h = self.code.header;
+        let checks = (h.n - h.k) as usize;
+        let found = self.sums(lane);
+        all_zero(&found[..checks])
+    }
 }
 
 // Room for the rows of powers of every code.
@@ -101,9 +123,10 @@ pub fn sums(code: Code, lane: &[u16]) -> [u16; 255]
     let h = code.header;
     let w = symbols::width_of(h);
     let size = w * h.n as usize * (h.n - h.k) as usize;
-    let mut rows: [u8; ROOM] = kernel::filled(0);
-    fill_power_rows(code, &mut rows[..size]);
-    sums_with(code, &rows[..size], lane)
+    let mut room: [u8; ROOM] = kernel::filled(0);
+    let rows = &mut room[..size];
+    fill_power_rows(code, rows);
+    PowerRows { code, rows }.sums(lane)
 }
 
 // Whether every sum is 0.
@@ -116,17 +139,6 @@ pub fn all_zero(sums: &[u16]) -> bool
         }
     }
     true
-}
-
-// Whether a lane is a word of the code, from the rows of powers.
-pub fn is_word_with(code: Code, rows: &[u8], lane: &[u16]) -> bool
-    requires { (rows.now ≡ power_rows code.header) × (length lane.now ≡ code.header.n) × (all_below (size code.header) lane.now ≡ true) }
-    ensures { result ≡ is_word code.header lane.now }
-{
-    let h = code.header;
-    let checks = (h.n - h.k) as usize;
-    let found = sums_with(code, rows, lane);
-    all_zero(&found[..checks])
 }
 
 // Whether a lane is a word of the code.

@@ -3,49 +3,46 @@ ghost use Rattle.std.specs.Prelude.{◌≡◌, ◌<◌, length, get_or};
 ghost use Rattle.lists.specs.Counting.{differ};
 ghost use Rattle.layout.specs.Width.{symbols_of, bytes_of};
 ghost use Rattle.generator.specs.Records.{width};
-ghost use Rattle.check_sums.specs.Inner.Sums.{power_rows};
 ghost use Rattle.nearest_word.specs.Nearest.{has_near, corrected};
 ghost use Rattle.correct.specs.Inner.Marked.{MarkedLane};
 
-use generator::Code;
+use check_sums::lane::PowerRows;
 
 // A mark for each lane, and the rows of powers by which lanes are decoded.
 #[derive(Clone, Copy)]
-pub struct Marked<'a> {
-    pub code: Code,
-    pub rows: &'a [u8],
-    pub marks: &'a [u8],
-    pub ghost powers: { rows.now ≡ power_rows code.header },
+pub struct Marked<'r, 'm> {
+    pub rows: PowerRows<'r>,
+    pub marks: &'m [u8],
 }
 
-impl Marked<'_> {
+impl Marked<'_, '_> {
     // Whether a word is near enough to lane t.
     pub fn is_near(self, t: usize, lane: &[u8]) -> bool
-        requires { (t < length self.marks.now) × MarkedLane self.code.header (get_or self.marks.now t 0) lane.now }
-        ensures { let h = self.entry.code.header in result ≡ has_near h (symbols_of (width h) lane.now) }
+        requires { (t < length self.marks.now) × MarkedLane self.rows.code.header (get_or self.marks.now t 0) lane.now }
+        ensures { let h = self.entry.rows.code.header in result ≡ has_near h (symbols_of (width h) lane.now) }
     {
         if self.marks[t] == 0 {
             return true;
         }
-        let h = self.code.header;
+        let h = self.rows.code.header;
         let n = h.n as usize;
         let held = symbols::read_symbols(symbols::width_of(h), lane);
-        decode::correct_lane(self.code, self.rows, &held[..n]).is_some()
+        decode::correct_lane(self.rows, &held[..n]).is_some()
     }
 
     // Writes the word that is near enough to lane t, where there is one, and gives the number of symbols altered.
     pub fn write_nearest(self, t: usize, lane: &mut [u8]) -> u32
-        requires { (t < length self.marks.now) × MarkedLane self.code.header (get_or self.marks.now t 0) lane.old }
-        ensures { let h = self.entry.code.header in let ws = symbols_of (width h) lane.old in (lane.new ≡ bytes_of (width h) (corrected h ws)) × (result ≡ differ ws (corrected h ws)) }
+        requires { (t < length self.marks.now) × MarkedLane self.rows.code.header (get_or self.marks.now t 0) lane.old }
+        ensures { let h = self.entry.rows.code.header in let ws = symbols_of (width h) lane.old in (lane.new ≡ bytes_of (width h) (corrected h ws)) × (result ≡ differ ws (corrected h ws)) }
     {
         if self.marks[t] == 0 {
             return 0;
         }
-        let h = self.code.header;
+        let h = self.rows.code.header;
         let n = h.n as usize;
         let w = symbols::width_of(h);
         let held = symbols::read_symbols(w, lane);
-        match decode::correct_lane(self.code, self.rows, &held[..n]) {
+        match decode::correct_lane(self.rows, &held[..n]) {
             None => 0,
             Some(found) => {
                 symbols::write_symbols(w, &found.lane[..n], lane);

@@ -12,19 +12,21 @@ ghost use Rattle.correct.specs.Blocks.{first_far, corrected_bytes, corrected_cou
 ghost use Rattle.correct.specs.Promise.{correct_fault, CorrectPromise, CorrectSays};
 ghost use Rattle.correct.specs.Inner.Marked.{MarkedShares};
 
+use check_sums::lane::PowerRows;
 use generator::{Code, Refusal};
+use wrong_lanes::Block;
 
 mod lane;
 
 use lane::Marked;
 
-impl Marked<'_> {
+impl Marked<'_, '_> {
     // The smallest lane that no word is near enough to, or the number of lanes.
     fn first_far(self, shares: &[u8]) -> usize
-        requires { MarkedShares self.code.header (length self.marks.now) self.marks.now shares.now }
-        ensures { result ≡ first_far share_layout self.entry.code.header (length self.entry.marks.now) (symbols_of (width self.entry.code.header) shares.now) }
+        requires { MarkedShares self.rows.code.header (length self.marks.now) self.marks.now shares.now }
+        ensures { result ≡ first_far share_layout self.entry.rows.code.header (length self.entry.marks.now) (symbols_of (width self.entry.rows.code.header) shares.now) }
     {
-        let h = self.code.header;
+        let h = self.rows.code.header;
         let size = symbols::width_of(h) * h.n as usize;
         for t in 0..self.marks.len() {
             let start = t * size;
@@ -38,10 +40,10 @@ impl Marked<'_> {
 
     // Sets every lane right, and gives the number of symbols altered.
     fn correct_lanes(self, shares: &mut [u8]) -> u32
-        requires { MarkedShares self.code.header (length self.marks.now) self.marks.now shares.old }
-        ensures { let h = self.entry.code.header in let l = length self.entry.marks.now in (shares.new ≡ corrected_bytes share_layout h l shares.old) × (result ≡ corrected_count share_layout h l shares.old) }
+        requires { MarkedShares self.rows.code.header (length self.marks.now) self.marks.now shares.old }
+        ensures { let h = self.entry.rows.code.header in let l = length self.entry.marks.now in (shares.new ≡ corrected_bytes share_layout h l shares.old) × (result ≡ corrected_count share_layout h l shares.old) }
     {
-        let h = self.code.header;
+        let h = self.rows.code.header;
         let size = symbols::width_of(h) * h.n as usize;
         let mut count: u32 = 0;
         for t in 0..self.marks.len() {
@@ -54,8 +56,8 @@ impl Marked<'_> {
 
     // Sets the lanes right if each has a word near enough; the last lane is judged before the first byte is written.
     fn correct(self, shares: &mut [u8]) -> Result<u32, Refusal>
-        requires { MarkedShares self.code.header (length self.marks.now) self.marks.now shares.old }
-        ensures { let h = self.entry.code.header in let l = length self.entry.marks.now in CorrectPromise share_layout l shares.old shares.new (numbered result) h (when (far_bad share_layout h l shares.old) 14) }
+        requires { MarkedShares self.rows.code.header (length self.marks.now) self.marks.now shares.old }
+        ensures { let h = self.entry.rows.code.header in let l = length self.entry.marks.now in CorrectPromise share_layout l shares.old shares.new (numbered result) h (when (far_bad share_layout h l shares.old) 14) }
     {
         let far = self.first_far(shares);
         Refusal::Far.when(far < self.marks.len())?;
@@ -73,7 +75,8 @@ fn correct_wrong(code: Code, marks: &[u8], shares: &mut [u8]) -> Result<u32, Ref
     let mut room: [u8; check_sums::lane::ROOM] = kernel::filled(0);
     let rows = &mut room[..size];
     check_sums::lane::fill_power_rows(code, rows);
-    Marked { code, rows, marks }.correct(shares)
+    let rows = PowerRows { code, rows };
+    Marked { rows, marks }.correct(shares)
 }
 
 // The same, but for shares with no lane marked, which stay as they are: nothing is made for them.
@@ -94,7 +97,12 @@ fn correct_symbols(code: Code, lanes: usize, shares: &mut [u8]) -> Result<u32, R
 {
     let mut room = [0u8; 4096];
     let marks = &mut room[..lanes];
-    wrong_lanes::marks::mark_lanes(code, lanes, shares, marks);
+    let block = Block {
+        code,
+        lanes,
+        shares,
+    };
+    block.mark_lanes(marks);
     correct_any(code, marks, shares)
 }
 

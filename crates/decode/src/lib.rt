@@ -4,13 +4,14 @@
 ghost use Rattle.std.specs.Prelude.{◌≡◌, true, false, MatchOption};
 ghost use Rattle.lists.specs.Counting.{differ};
 ghost use Rattle.lists.specs.Padded.{padded};
-ghost use Rattle.check_sums.specs.Inner.Sums.{check_sums, power_rows};
+ghost use Rattle.check_sums.specs.Inner.Sums.{check_sums};
 ghost use Rattle.nearest_word.specs.Nearest.{has_near, corrected};
 ghost use Rattle.generator.specs.Records.{size};
 ghost use Rattle.decode.specs.Inner.Locating.{Below};
 ghost use Rattle.decode.specs.Inner.Candidates.{SoundLane, WrongNodes, Candidate};
 
 use arrayvec::ArrayVec;
+use check_sums::lane::PowerRows;
 use field::Tables;
 use field::lent::Arithmetic;
 use generator::Code;
@@ -61,22 +62,22 @@ fn wrong_nodes(code: Code, tables: &Tables, sums: &[u16; 255]) -> ArrayVec<u8, 2
     find_roots(field, root, &locator[..size], n)
 }
 
-// The word near enough to a lane, if there is one. `rows` are the rows of powers of the check sums.
-pub fn correct_lane(code: Code, rows: &[u8], lane: &[u16]) -> Option<Corrected>
-    requires { SoundLane code.header lane.now × (rows.now ≡ power_rows code.header) }
-    ensures { MatchOption result (has_near code.header lane.now ≡ false) (λ found. (has_near code.header lane.now ≡ true) × (found.lane ≡ padded 255 (corrected code.header lane.now)) × (found.altered ≡ differ lane.now (corrected code.header lane.now))) }
+// The word near enough to a lane, if there is one.
+pub fn correct_lane(rows: PowerRows, lane: &[u16]) -> Option<Corrected>
+    requires { SoundLane rows.code.header lane.now }
+    ensures { let h = rows.entry.code.header in MatchOption result (has_near h lane.now ≡ false) (λ found. (has_near h lane.now ≡ true) × (found.lane ≡ padded 255 (corrected h lane.now)) × (found.altered ≡ differ lane.now (corrected h lane.now))) }
 {
-    let h = code.header;
+    let h = rows.code.header;
     let n = h.n as usize;
     let t = ((h.n - h.k) / 2) as usize;
-    let sums = check_sums::lane::sums_with(code, rows, lane);
+    let sums = rows.sums(lane);
     let tables = field::constant_tables();
-    let word = candidate(code, &tables, lane, sums);
+    let word = candidate(rows.code, &tables, lane, sums);
     let altered = differing(lane, &word[..n]);
     if t < altered {
         return None;
     }
-    if check_sums::lane::is_word_with(code, rows, &word[..n]) {
+    if rows.is_word(&word[..n]) {
         return Some(Corrected {
             lane: word,
             altered,

@@ -41,6 +41,7 @@ fn stepped(alloc: Global, roster: &Roster, refusal: Option<Refusal>) -> Result<S
     Ok(text?)
 }
 
+// Every call in words takes the allocator and the words, these the roster too, which outlives the line: a value of the three would be made for each line and taken apart by the one call that it names.
 pub fn start(alloc: Global, words: &mut Words, roster: &mut Roster) -> Result<String, Fault> {
     let record = words.record()?;
     words.end()?;

@@ -11,7 +11,7 @@ ghost use Rattle.generator.specs.Records.{modulus_of, size, width};
 ghost use Rattle.refusals.specs.Faults.{stale_fault};
 ghost use Rattle.update.specs.Promise.{update_fault, UpdatePromise, UpdateSays};
 ghost use Rattle.refusals.specs.Accepted.{UpdatableLane};
-ghost use Rattle.blocks.specs.Blocks.{row_added, word_added};
+ghost use Rattle.blocks.specs.Blocks.{updated, word_added};
 ghost use Rattle.update.specs.Inner.Words.{UpdatableWord};
 
 use field::Tables;
@@ -20,6 +20,16 @@ use generator::{Code, Refusal};
 use plan::Generator;
 
 mod fault;
+
+// Of so many lanes, symbol `which` of the message in one lane, which was `old` and becomes `new`.
+#[derive(Clone, Copy)]
+pub struct Update {
+    pub lanes: usize,
+    pub which: usize,
+    pub lane: usize,
+    pub old: u32,
+    pub new: u32,
+}
 
 // What a node holds after x times its entry is added to what it held.
 fn renewed(code: Code, tables: &Tables, x: u32, entry: u16, before: u16) -> u16
@@ -59,26 +69,6 @@ fn rewrite(
     count
 }
 
-// The same for one lane of the shares, which is handed on as the part from its start to the next one's.
-pub fn rewrite_lane(
-    generator: &Generator,
-    tables: &Tables,
-    lanes: usize,
-    which: usize,
-    lane: usize,
-    x: u32,
-    shares: &mut [u8],
-) -> u32
-    requires { UpdatableLane generator.now.code.header lanes which lane shares.old × (x < size generator.now.code.header) }
-    ensures { let h = generator.now.code.header in let added = row_added share_layout h lanes which lane x (symbols_of (width h) shares.old) in (shares.new ≡ bytes_of (width h) added) × (result ≡ differ (symbols_of (width h) shares.old) added) }
-{
-    let w = symbols::width_of(generator.code.header);
-    let size = w * generator.code.header.n as usize;
-    let start = lane * size;
-    let end = start + size;
-    rewrite(generator, tables, w, which, x, &mut shares[start..end])
-}
-
 // Whether a lane is no word of the code, or one whose message holds another symbol than `old`.
 fn judge(
     generator: &Generator,
@@ -103,45 +93,50 @@ fn judge(
     )
 }
 
-// The same for one lane of the shares, which is handed on likewise.
-pub fn judge_lane(
-    generator: &Generator,
-    tables: &Tables,
-    lanes: usize,
-    which: usize,
-    lane: usize,
-    old: u32,
-    shares: &[u8],
-) -> Result<(), Refusal>
-    requires { UpdatableLane generator.now.code.header lanes which lane shares.now }
-    ensures { let h = generator.now.code.header in numbered result ≡ outcome_of (stale_fault h (lane_of share_layout h.n lanes lane (symbols_of (width h) shares.now)) which old) }
-{
-    let w = symbols::width_of(generator.code.header);
-    let size = w * generator.code.header.n as usize;
-    let start = lane * size;
-    let end = start + size;
-    judge(generator, tables, w, which, old, &shares[start..end])
+impl Update {
+    // Judges its lane of the shares, which is handed on as the part from its start to the next one's.
+    fn judge_lane(
+        self,
+        generator: &Generator,
+        tables: &Tables,
+        shares: &[u8],
+    ) -> Result<(), Refusal>
+        requires { UpdatableLane generator.now.code.header self.lanes self.which self.lane shares.now }
+        ensures { let h = generator.now.code.header in numbered result ≡ outcome_of (stale_fault h (lane_of share_layout h.n self.lanes self.lane (symbols_of (width h) shares.now)) self.which self.old) }
+    {
+        let w = symbols::width_of(generator.code.header);
+        let size = w * generator.code.header.n as usize;
+        let start = self.lane * size;
+        let end = start + size;
+        let lane = &shares[start..end];
+        judge(generator, tables, w, self.which, self.old, lane)
+    }
+
+    // Rewrites the lane, which is handed on likewise, and counts the nodes whose symbol becomes another one.
+    fn rewrite_lane(self, generator: &Generator, tables: &Tables, shares: &mut [u8]) -> u32
+        requires { let h = generator.now.code.header in UpdatableLane h self.lanes self.which self.lane shares.old × (self.old < size h) × (self.new < size h) }
+        ensures { let h = generator.now.code.header in let s = symbols_of (width h) shares.old in let added = updated share_layout h self.lanes self.which self.lane self.old self.new s in (shares.new ≡ bytes_of (width h) added) × (result ≡ differ s added) }
+    {
+        let h = generator.code.header;
+        let x = h.field.sub(self.new, self.old);
+        let w = symbols::width_of(h);
+        let size = w * h.n as usize;
+        let start = self.lane * size;
+        let end = start + size;
+        let lane = &mut shares[start..end];
+        rewrite(generator, tables, w, self.which, x, lane)
+    }
 }
 
 // Updates over the code of an accepted record. Everything is judged before the first byte is written.
-fn update_accepted(
-    code: Code,
-    lanes: usize,
-    which: usize,
-    lane: usize,
-    old: u32,
-    new: u32,
-    shares: &mut [u8],
-) -> Result<u32, Refusal>
-    ensures { UpdatePromise share_layout lanes which lane old new shares.old shares.new (numbered result) code.header (update_fault share_layout code.header lanes which lane old new shares.old) }
+fn update_accepted(code: Code, update: Update, shares: &mut [u8]) -> Result<u32, Refusal>
+    ensures { let u = update in UpdatePromise share_layout u.lanes u.which u.lane u.old u.new shares.old shares.new (numbered result) code.header (update_fault share_layout code.header u.lanes u.which u.lane u.old u.new shares.old) }
 {
-    fault::input_fault(code, lanes, which, lane, old, new, shares)?;
+    update.input_fault(code, shares)?;
     let tables = field::constant_tables();
     let generator = Generator::new(code, &tables);
-    judge_lane(&generator, &tables, lanes, which, lane, old, shares)?;
-    let x = code.header.field.sub(new, old);
-    let count = rewrite_lane(&generator, &tables, lanes, which, lane, x, shares);
-    Ok(count)
+    update.judge_lane(&generator, &tables, shares)?;
+    Ok(update.rewrite_lane(&generator, &tables, shares))
 }
 
 // Adds (new − old) times row `which` of the generator to a lane of the shares and gives how many nodes it altered, or says what turns the call away and writes nothing.
@@ -157,13 +152,12 @@ pub fn update_lane(
     ensures { UpdateSays rec.now lanes which lane old new shares.old shares.new (numbered result) }
 {
     let code = records::read_record(rec)?;
-    update_accepted(
-        code,
-        lanes as usize,
-        which as usize,
-        lane as usize,
+    let update = Update {
+        lanes: lanes as usize,
+        which: which as usize,
+        lane: lane as usize,
         old,
         new,
-        shares,
-    )
+    };
+    update_accepted(code, update, shares)
 }

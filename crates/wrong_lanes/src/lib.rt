@@ -12,9 +12,16 @@ ghost use Rattle.blocks.specs.Blocks.{first_wrong};
 use generator::Code;
 
 mod check_rows;
-pub mod marks;
+mod marks;
 
-use marks::mark_lanes;
+// So many lanes of shares, which hold symbols of the code's field.
+#[derive(Clone, Copy)]
+pub struct Block<'a> {
+    pub code: Code,
+    pub lanes: usize,
+    pub shares: &'a [u8],
+    pub ghost symbols: { SymbolBuffer code.header code.header.n lanes shares.now },
+}
 
 // The first of so many places whose byte is not 0, or their number.
 pub fn first_nonzero(lanes: usize, marks: &[u8]) -> usize
@@ -29,12 +36,14 @@ pub fn first_nonzero(lanes: usize, marks: &[u8]) -> usize
     lanes
 }
 
-// The smallest lane that is no word of the code, or the number of lanes.
-pub fn first_wrong(code: Code, lanes: usize, shares: &[u8]) -> usize
-    requires { SymbolBuffer code.header code.header.n lanes shares.now }
-    ensures { result ≡ first_wrong share_layout code.header lanes (symbols_of (width code.header) shares.now) }
-{
-    let mut marks = [0u8; 4096];
-    mark_lanes(code, lanes, shares, &mut marks[..lanes]);
-    first_nonzero(lanes, &marks[..lanes])
+impl Block<'_> {
+    // The smallest lane that is no word of the code, or the number of lanes.
+    pub fn first_wrong(self) -> usize
+        ensures { let b = self.entry in result ≡ first_wrong share_layout b.code.header b.lanes (symbols_of (width b.code.header) b.shares.now) }
+    {
+        let mut room = [0u8; 4096];
+        let marks = &mut room[..self.lanes];
+        self.mark_lanes(marks);
+        first_nonzero(self.lanes, marks)
+    }
 }

@@ -44,8 +44,8 @@ returns-in_err-belongs_fault c =
     let met = refused_is _ _ c.in_err-belongs_fault.ensures in
     rw (exit _ c.from_residual.ensures.1, ← met.0) (belongs_refuses _ _ met.1 _ _)
 
-pub first_wrong-wrong-requires : goal.first_wrong-wrong-requires
-first_wrong-wrong-requires c = belongs_accepts _ c.args.code.sound _ _ (done_is _ c.in_ok-belongs_fault.ensures)
+pub invariant_of-block : goal.invariant_of-block
+invariant_of-block c = record { symbols = belongs_accepts _ c.args.code.sound _ _ (done_is _ c.in_ok-belongs_fault.ensures) }
 
 pub returns-then-wrong-lanes : goal.returns-then-wrong-lanes
 returns-then-wrong-lanes c = passed _ _ _ _ (none_met (goal.at.returns-then-wrong-lanes c).After-first_wrong-wrong) _ c.first_wrong-wrong.ensures c.if-wrong-lanes.true

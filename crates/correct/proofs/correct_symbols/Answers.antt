@@ -11,7 +11,7 @@ use Rattle.correct.proofs.correct_symbols.Goals.{After-mark_lanes}
 -- the marks are 0 before
 pub mark_lanes-requires : goal.mark_lanes-requires
 unfolding zeros
-mark_lanes-requires c = (c.requires, zeros_prefix 4096 c.args.lanes c.requires.symbol_rows.few_lanes)
+mark_lanes-requires c = zeros_prefix 4096 c.args.lanes c.requires.symbol_rows.few_lanes
 
 -- there is one for each lane
 many : (c : After-mark_lanes) → length c.mark_lanes.new.marks ≡ c.args.lanes

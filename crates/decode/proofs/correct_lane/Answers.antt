@@ -7,54 +7,53 @@ use Rattle.generator.specs.Codewords.{is_word}
 use Rattle.nearest_word.specs.Nearest.{radius}
 use Rattle.decode.proofs.Verdict.{says_near, says_far, says_none}
 use Rattle.decode.proofs.correct_lane.Goals as goal
-use Rattle.decode.proofs.correct_lane.Goals.{After-candidate-word, After-differing-altered, After-is_word_with}
+use Rattle.decode.proofs.correct_lane.Goals.{After-candidate-word, After-differing-altered, After-is_word}
 
 -- the first n places of the candidate are its word
-word : (c : After-candidate-word) → take c.args.code.header.n c.candidate-word.result ≡ c.candidate-word.ensures.word
+word : (c : After-candidate-word) → take c.args.rows.code.header.n c.candidate-word.result ≡ c.candidate-word.ensures.word
 word c = let k = c.candidate-word.ensures in rw k.array_is (take_padded 255 _ k.word k.long)
 
-word_long : (c : After-candidate-word) → c.args.code.header.n ≡ length (take c.args.code.header.n c.candidate-word.result)
+word_long : (c : After-candidate-word) → c.args.rows.code.header.n ≡ length (take c.args.rows.code.header.n c.candidate-word.result)
 word_long c = sym (ap length (word c) ∙ c.candidate-word.ensures.long)
 
-pub sums_with-sums-requires : goal.sums_with-sums-requires
-sums_with-sums-requires c = let s = c.requires in (s.1, s.0.long, s.0.below)
+pub sums-sums-requires : goal.sums-sums-requires
+sums-sums-requires c = (c.requires.long, c.requires.below)
 
 pub candidate-word-requires : goal.candidate-word-requires
-candidate-word-requires c = (c.requires.0, c.sums_with-sums.ensures)
+candidate-word-requires c = (c.requires, c.sums-sums.ensures)
 
 pub slice_bounds-differing-end : goal.slice_bounds-differing-end
 slice_bounds-differing-end c = word_long (goal.at.slice_bounds-differing-end c).After-candidate-word
 
 pub differing-altered-requires : goal.differing-altered-requires
-differing-altered-requires c = sym (word_long (goal.at.differing-altered-requires c).After-candidate-word) ∙ sym c.requires.0.long
+differing-altered-requires c = sym (word_long (goal.at.differing-altered-requires c).After-candidate-word) ∙ sym c.requires.long
 
 -- at how many nodes the candidate differs, and whether it is a word
 distance : (c : After-differing-altered) → c.differing-altered.result ≡ differ c.args.lane.now c.candidate-word.ensures.word
 distance c = rw (word (goal.at.After-differing-altered c).After-candidate-word) at c.differing-altered.ensures
 
-tested : (c : After-is_word_with) → c.is_word_with.result ≡ is_word c.args.code.header c.candidate-word.ensures.word
-tested c = rw (word (goal.at.After-is_word_with c).After-candidate-word) at c.is_word_with.ensures
+tested : (c : After-is_word) → c.is_word.result ≡ is_word c.args.rows.code.header c.candidate-word.ensures.word
+tested c = rw (word (goal.at.After-is_word c).After-candidate-word) at c.is_word.ensures
 
 pub returns-then-t-altered : goal.returns-then-t-altered
 unfolding radius
 returns-then-t-altered c =
     let k = c.candidate-word in
-    says_far c.args.code.header c.args.lane.now k.result c.requires.0 k.ensures (rw (← distance (goal.at.returns-then-t-altered c).After-differing-altered) c.if-t-altered.true)
+    says_far c.args.rows.code.header c.args.lane.now k.result c.requires k.ensures (rw (← distance (goal.at.returns-then-t-altered c).After-differing-altered) c.if-t-altered.true)
 
-pub is_word_with-requires : goal.is_word_with-requires
-is_word_with-requires c =
-    let s = c.requires in
+pub is_word-requires : goal.is_word-requires
+is_word-requires c =
     let k = c.candidate-word.ensures in
-    rw (word (goal.at.is_word_with-requires c).After-candidate-word) (s.1, k.long, k.below)
+    rw (word (goal.at.is_word-requires c).After-candidate-word) (k.long, k.below)
 
-pub returns-then-is_word_with : goal.returns-then-is_word_with
+pub returns-then-is_word : goal.returns-then-is_word
 unfolding radius
-returns-then-is_word_with c =
+returns-then-is_word c =
     let k = c.candidate-word in
-    let d = distance (goal.at.returns-then-is_word_with c).After-differing-altered in
-    rw d (says_near c.args.code.header c.args.lane.now k.result c.requires.0 k.ensures (rw (← d) c.if-t-altered.false) (sym (tested (goal.at.returns-then-is_word_with c).After-is_word_with) ∙ c.if-is_word_with.true))
+    let d = distance (goal.at.returns-then-is_word c).After-differing-altered in
+    rw d (says_near c.args.rows.code.header c.args.lane.now k.result c.requires k.ensures (rw (← d) c.if-t-altered.false) (sym (tested (goal.at.returns-then-is_word c).After-is_word) ∙ c.if-is_word.true))
 
 pub returns : goal.returns
 returns c =
     let k = c.candidate-word in
-    says_none c.args.code.header c.args.lane.now k.result c.requires.0 k.ensures (sym (tested (goal.at.returns c).After-is_word_with) ∙ c.if-is_word_with.false)
+    says_none c.args.rows.code.header c.args.lane.now k.result c.requires k.ensures (sym (tested (goal.at.returns c).After-is_word) ∙ c.if-is_word.false)

@@ -1,14 +1,12 @@
 -- `update_accepted` meets its contract: what it is given is judged first, then its lane, and then the lane is rewritten.
 use Prim.Native.Nat.{◌<◌}
 use mathlib.Core.Path.{◌≡◌, sym}
-use Rattle.field.proofs.Bounds.{sub_below}
 use Rattle.layout.specs.Layout.{share_layout}
 use Rattle.generator.specs.Records.{size}
 use Rattle.generator.proofs.Answered.{exit, done_is, refused_is}
 use Rattle.update.specs.Promise.{input_fault}
 use Rattle.refusals.specs.Accepted.{UpdatableLane}
 use Rattle.update.proofs.Accepts.{input_accepts, update_refuses}
-use Rattle.blocks.specs.Blocks.{updated}
 use Rattle.update.proofs.Answering.{altered_says}
 use Rattle.update.proofs.Judging.{input_met, lane_met}
 use Rattle.update.proofs.update_accepted.Goals as goal
@@ -17,12 +15,14 @@ use Rattle.update.proofs.update_accepted.Goals.{In_ok-input_fault}
 -- no number of what is given turns the update away
 given : (c : In_ok-input_fault)
     → let a = c.args in
-    input_fault share_layout a.code.header a.lanes a.which a.lane a.old a.new a.shares.now ≡ 0
+    let u = a.update in
+    input_fault share_layout a.code.header u.lanes u.which u.lane u.old u.new a.shares.now ≡ 0
 given c = done_is _ c.in_ok-input_fault.ensures
 
 ready : (c : In_ok-input_fault)
     → let a = c.args in
-    UpdatableLane a.code.header a.lanes a.which a.lane a.shares.now × (a.old < size a.code.header) × (a.new < size a.code.header)
+    let u = a.update in
+    UpdatableLane a.code.header u.lanes u.which u.lane a.shares.now × (u.old < size a.code.header) × (u.new < size a.code.header)
 ready c = input_accepts _ c.args.code.sound _ _ _ _ _ _ (given c)
 
 pub returns-in_err-input_fault : goal.returns-in_err-input_fault
@@ -39,20 +39,12 @@ returns-in_err-judge_lane c =
     let (same, some) = refused_is _ _ (rw c.new-generator.ensures at c.in_err-judge_lane.ensures) in
     rw (exit _ c.from_residual-in_err-judge_lane.ensures.1, lane_met _ _ _ _ _ _ _ _ none same) (update_refuses _ _ some _ _ _ _ _ _)
 
-pub sub-x-requires : goal.sub-x-requires
-sub-x-requires c =
-    let (lane, old, new) = ready (goal.at.sub-x-requires c).In_ok-input_fault in
-    (lane.sound.usable_field, new, old)
-
-pub rewrite_lane-count-requires : goal.rewrite_lane-count-requires
-rewrite_lane-count-requires c =
-    let (lane, old, new) = ready (goal.at.rewrite_lane-count-requires c).In_ok-input_fault in
-    rw (c.new-generator.ensures, c.sub-x.ensures) (lane, sub_below _ lane.sound.field new old)
+pub rewrite_lane-requires : goal.rewrite_lane-requires
+rewrite_lane-requires c = rw c.new-generator.ensures (ready (goal.at.rewrite_lane-requires c).In_ok-input_fault)
 
 pub returns : goal.returns
-unfolding updated
 returns c =
     let none = given (goal.at.returns c).In_ok-input_fault in
     let fresh = done_is _ (rw c.new-generator.ensures at c.in_ok-judge_lane.ensures) in
-    let (done, counted) = rw (c.new-generator.ensures, c.sub-x.ensures) at c.rewrite_lane-count.ensures in
+    let (done, counted) = rw c.new-generator.ensures at c.rewrite_lane.ensures in
     altered_says _ _ _ _ _ _ _ _ _ _ (lane_met _ _ _ _ _ _ _ _ none (sym fresh)) done counted

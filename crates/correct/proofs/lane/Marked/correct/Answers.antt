@@ -14,7 +14,7 @@ returns-in_err-when c =
 
 pub returns : goal.returns
 returns c =
-    let h = c.args.self.code.header in
+    let h = c.args.self.rows.code.header in
     let l = length c.args.self.marks.now in
     let shares = c.args.shares.now in
     let done = c.correct_lanes.ensures in

@@ -32,15 +32,15 @@ abbrev new_lane : Header → ℕ → List ℕ → ℕ → List ℕ
 new_lane h l shares t = lane_of share_layout h.n l t (after h l shares)
 
 -- the bytes of lane t, which are as they were
-inside : (c : In-loop-t) → let n = c.args.self.code.header.n in c.loop-t.t * (c.width_of.result * n) + c.width_of.result * n ≤ length c.args.shares.now
+inside : (c : In-loop-t) → let n = c.args.self.rows.code.header.n in c.loop-t.t * (c.width_of.result * n) + c.width_of.result * n ≤ length c.args.shares.now
 inside c = rw c.width_of.ensures.0 (part_inside c.requires (width_some _) c.loop-t.t c.loop-t-test.true)
 
-untouched : (c : In-loop-t) → let h = c.args.self.code.header in let a = c.loop-t.t * (width h * h.n) in drop a c.loop-t.shares ≡ drop a c.args.shares.now
+untouched : (c : In-loop-t) → let h = c.args.self.rows.code.header in let a = c.loop-t.t * (width h * h.n) in drop a c.loop-t.shares ≡ drop a c.args.shares.now
 untouched c = c.loop-t.invariant.2.kept
 
 pub loop-t-init : goal.loop-t-init
 loop-t-init c =
-    let h = c.args.self.code.header in
+    let h = c.args.self.rows.code.header in
     let shares = c.args.shares.now in
     (omega arith, sym (apart_none h.n (before h shares) (after h (length c.args.self.marks.now) shares)), rw zero-mul (fills_start _ _))
 
@@ -61,9 +61,9 @@ write_nearest-count-requires c =
 altered : (c : After-write_nearest-count)
     → let v = c.args.self in
     let l = length v.marks.now in
-    c.write_nearest-count.result ≡ differ (old_lane v.code.header l c.args.shares.now c.loop-t.t) (new_lane v.code.header l c.args.shares.now c.loop-t.t)
+    c.write_nearest-count.result ≡ differ (old_lane v.rows.code.header l c.args.shares.now c.loop-t.t) (new_lane v.rows.code.header l c.args.shares.now c.loop-t.t)
 altered c =
-    let h = c.args.self.code.header in
+    let h = c.args.self.rows.code.header in
     let m = c.requires in
     let lane = part_lane m (width_some _) c.loop-t.t c.loop-t-test.true in
     let right = lane_corrected share_lawful h m.sound (length c.args.self.marks.now) (before h c.args.shares.now) (symbols_long m (width_some _)) m.symbols c.loop-t.t c.loop-t-test.true in
@@ -71,7 +71,7 @@ altered c =
 
 few : (c : After-write_nearest-count) → c.write_nearest-count.result ≤ 255
 few c =
-    let h = c.args.self.code.header in
+    let h = c.args.self.rows.code.header in
     let l = length c.args.self.marks.now in
     let shares = c.args.shares.now in
     let t = c.loop-t.t in
@@ -83,7 +83,7 @@ overflow_add-count c =
 
 pub loop-t-preserved : goal.loop-t-preserved
 loop-t-preserved c =
-    let h = c.args.self.code.header in
+    let h = c.args.self.rows.code.header in
     let lanes = length c.args.self.marks.now in
     let shares = c.args.shares.now in
     let m = c.requires in
@@ -102,7 +102,7 @@ loop-t-preserved c =
 pub returns : goal.returns
 unfolding corrected_count
 returns c =
-    let h = c.args.self.code.header in
+    let h = c.args.self.rows.code.header in
     let lanes = length c.args.self.marks.now in
     let shares = c.args.shares.now in
     let m = c.requires in

@@ -21,7 +21,7 @@ after h l shares = corrected_shares share_layout h l (before h shares)
 
 abbrev pub invariant-loop-t : goal.invariant-loop-t
 invariant-loop-t l =
-    let h = l.self.code.header in
+    let h = l.self.rows.code.header in
     let lanes = length l.self.marks.now in
     let whole = corrected_bytes share_layout h lanes l.initial.shares in
     (l.count ≤ l.t * 255)

@@ -14,11 +14,11 @@ use Rattle.correct.proofs.lane.Marked.first_far.Goals as goal
 use Rattle.correct.proofs.lane.Marked.first_far.Goals.{After-is_near, In-loop-t}
 
 -- the bytes of lane t
-inside : (c : In-loop-t) → let n = c.args.self.code.header.n in c.loop-t.t * (c.width_of.result * n) + c.width_of.result * n ≤ length c.args.shares.now
+inside : (c : In-loop-t) → let n = c.args.self.rows.code.header.n in c.loop-t.t * (c.width_of.result * n) + c.width_of.result * n ≤ length c.args.shares.now
 inside c = rw c.width_of.ensures.0 (part_inside c.requires (width_some _) c.loop-t.t c.loop-t-test.true)
 
 -- lane t has a word near enough, or not
-near-is : (c : After-is_near) → let v = c.args.self in c.is_near.result ≡ near v.code.header (length v.marks.now) c.args.shares.now c.loop-t.t
+near-is : (c : After-is_near) → let v = c.args.self in c.is_near.result ≡ near v.rows.code.header (length v.marks.now) c.args.shares.now c.loop-t.t
 near-is c =
     let bytes = part_lane c.requires (width_some _) c.loop-t.t c.loop-t-test.true in
     rw bytes at (rw c.width_of.ensures.0 at c.is_near.ensures)

@@ -18,6 +18,6 @@ near h l shares t = has_near h (lane_of share_layout h.n l t (symbols_of (width 
 
 abbrev pub invariant-loop-t : goal.invariant-loop-t
 invariant-loop-t l =
-    let h = l.self.code.header in
+    let h = l.self.rows.code.header in
     let lanes = length l.self.marks.now in
     first_false lanes 0 (near h lanes l.shares) ≡ first_false (lanes - l.t) l.t (near h lanes l.shares)

@@ -14,7 +14,7 @@ use Rattle.correct.proofs.lane.Marked.write_nearest.Goals as goal
 use Rattle.correct.proofs.lane.Marked.write_nearest.Goals.{After-read_symbols-held, Else-self-t-eq0, In-Some}
 
 -- the first n places of the array are the lane
-front : (c : After-read_symbols-held) → let h = c.args.self.code.header in take h.n c.read_symbols-held.result ≡ symbols_of (width h) c.args.lane.now
+front : (c : After-read_symbols-held) → let h = c.args.self.rows.code.header in take h.n c.read_symbols-held.result ≡ symbols_of (width h) c.args.lane.now
 front c = held_front c.requires.1 _ (rw c.width_of-w.ensures.0 at c.read_symbols-held.ensures)
 
 pub returns-then-self-t-eq0 : goal.returns-then-self-t-eq0
@@ -26,19 +26,19 @@ returns-then-self-t-eq0 c =
 pub read_symbols-held-requires : goal.read_symbols-held-requires
 read_symbols-held-requires c =
     let w = c.width_of-w.ensures in
-    (w.1, w.2, rw w.0 (lane_short c.requires.1 c.args.self.code.sound.byte))
+    (w.1, w.2, rw w.0 (lane_short c.requires.1 c.args.self.rows.code.sound.byte))
 
 pub correct_lane-requires : goal.correct_lane-requires
-correct_lane-requires c = rw (front (goal.at.correct_lane-requires c).After-read_symbols-held) (c.requires.1.symbols, c.args.self.powers)
+correct_lane-requires c = rw (front (goal.at.correct_lane-requires c).After-read_symbols-held) c.requires.1.symbols
 
 -- the word that was found, and how many symbols differ
 decoded : (c : In-Some)
-    → let h = c.args.self.code.header in
+    → let h = c.args.self.rows.code.header in
     let ws = symbols_of (width h) c.args.lane.now in
     (c.in-Some.found.lane ≡ padded 255 (corrected h ws)) × (c.in-Some.found.altered ≡ differ ws (corrected h ws))
 decoded c = let is = rw (front (goal.at.In-Some c).After-read_symbols-held) at c.in-Some.ensures in (is.1, is.2)
 
-word : (c : In-Some) → let h = c.args.self.code.header in take h.n c.in-Some.found.lane ≡ corrected h (symbols_of (width h) c.args.lane.now)
+word : (c : In-Some) → let h = c.args.self.rows.code.header in take h.n c.in-Some.found.lane ≡ corrected h (symbols_of (width h) c.args.lane.now)
 word c = word_front c.requires.1 _ (decoded c).0
 
 pub write_symbols-requires : goal.write_symbols-requires
@@ -48,9 +48,9 @@ write_symbols-requires c =
 
 pub overflow_cast-result : goal.overflow_cast-result
 overflow_cast-result c =
-    let h = c.args.self.code.header in
+    let h = c.args.self.rows.code.header in
     let ws = symbols_of (width h) c.args.lane.now in
-    omega (arith, (decoded (goal.at.overflow_cast-result c).In-Some).1, differ_most ws (corrected h ws), c.requires.1.symbols.long, c.args.self.code.sound.byte)
+    omega (arith, (decoded (goal.at.overflow_cast-result c).In-Some).1, differ_most ws (corrected h ws), c.requires.1.symbols.long, c.args.self.rows.code.sound.byte)
 
 pub returns-in-None : goal.returns-in-None
 returns-in-None c =

@@ -3,7 +3,7 @@ use mathlib.Core.Path.{sym, ◌∙◌}
 use Rattle.generator.proofs.Answered.{met, passed, last}
 use Rattle.refusals.proofs.NotMet.{length_good, number_good}
 use Rattle.update.specs.Promise.{input_fault}
-use Rattle.update.proofs.fault.input_fault.Goals as goal
+use Rattle.update.proofs.Update.input_fault.Goals as goal
 
 pub returns-in_err-when : goal.returns-in_err-when
 unfolding input_fault

@@ -10,33 +10,35 @@ use Rattle.layout.specs.Width.{symbols_of}
 use Rattle.layout.proofs.Places.{share_by_lane}
 use Rattle.generator.specs.Records.{width}
 use Rattle.wrong_lanes.proofs.Marking.{one_mark}
-use Rattle.wrong_lanes.proofs.marks.mark_lane.Goals as goal
-use Rattle.wrong_lanes.proofs.marks.mark_lane.Goals.{After-read_symbols-values, Start}
+use Rattle.wrong_lanes.proofs.Block.mark_lane.Goals as goal
+use Rattle.wrong_lanes.proofs.Block.mark_lane.Goals.{After-read_symbols-values, Start}
 
 -- there is a symbol for each node
-long : (c : Start) → let h = c.args.code.header in length (symbols_of (width h) c.args.shares.now) ≡ h.n
-long c = c.requires.0.symbol_rows.long ∙ mul-one c.args.code.header.n
+long : (c : Start) → let h = c.args.self.code.header in length (symbols_of (width h) c.args.self.shares.now) ≡ h.n
+long c =
+    let b = c.args.self in
+    (rw c.requires.0 at b.symbols.symbol_rows.long) ∙ mul-one b.code.header.n
 
 -- they are what is lent
-taken : (c : After-read_symbols-values) → let h = c.args.code.header in take h.n c.read_symbols-values.result ≡ symbols_of (width h) c.args.shares.now
+taken : (c : After-read_symbols-values) → let h = c.args.self.code.header in take h.n c.read_symbols-values.result ≡ symbols_of (width h) c.args.self.shares.now
 taken c = rw (c.read_symbols-values.ensures, c.width_of.ensures.0) (take_padded 255 _ _ (long (goal.at.After-read_symbols-values c).Start))
 
 pub read_symbols-values-requires : goal.read_symbols-values-requires
 read_symbols-values-requires c =
-    let h = c.args.code.header in
+    let h = c.args.self.code.header in
     let wide = c.width_of.ensures in
-    let few = mul-le-mul c.args.code.sound.byte (le_refl (width h)) in
-    (wide.1, wide.2, rw wide.0 (omega (arith, c.requires.0.bytes, mul-one h.n, few)))
+    let few = mul-le-mul c.args.self.code.sound.byte (le_refl (width h)) in
+    (wide.1, wide.2, rw wide.0 (omega (arith, rw c.requires.0 at c.args.self.symbols.bytes, mul-one h.n, few)))
 
 pub is_word-word-requires : goal.is_word-word-requires
-is_word-word-requires c = rw (taken (goal.at.is_word-word-requires c).After-read_symbols-values) (long (goal.at.is_word-word-requires c).Start, c.requires.0.symbol_rows.symbols)
+is_word-word-requires c = rw (taken (goal.at.is_word-word-requires c).After-read_symbols-values) (long (goal.at.is_word-word-requires c).Start, c.args.self.symbols.symbol_rows.symbols)
 
 pub returns : goal.returns
 returns c =
-    let h = c.args.code.header in
+    let h = c.args.self.code.header in
     let marks = c.args.marks.now in
     let x = c.mark_of.result in
     let told = rw (taken (goal.at.returns c).After-read_symbols-values) at c.is_word-word.ensures in
-    rw share_by_lane
-    (one_mark h (symbols_of (width h) c.args.shares.now) (set marks 0 x) (long (goal.at.returns c).Start) (length-set marks 0 x ∙ c.requires.1)
+    rw (share_by_lane, c.requires.0)
+    (one_mark h (symbols_of (width h) c.args.self.shares.now) (set marks 0 x) (long (goal.at.returns c).Start) (length-set marks 0 x ∙ c.requires.1)
     (get_or-set_same marks 0 x 0 (omega (arith, c.requires.1)) ∙ c.mark_of.ensures ∙ ap (λ b. pick b 0 1) told))

@@ -1,7 +1,7 @@
 -- `judge_lane` meets its contract: the lane is a part of the shares.
 use native.Mathlib.Omega.{arith}
 use Rattle.update.proofs.Lane.{lane_inside, lane_few, lane_word, lane_is}
-use Rattle.update.proofs.judge_lane.Goals as goal
+use Rattle.update.proofs.Update.judge_lane.Goals as goal
 
 pub overflow_mul-size : goal.overflow_mul-size
 overflow_mul-size c = omega (arith, lane_few c.requires _ c.width_of-w.ensures.0)
@@ -12,8 +12,8 @@ overflow_mul-start c = omega (arith, lane_inside c.requires _ c.width_of-w.ensur
 pub overflow_add-end : goal.overflow_add-end
 overflow_add-end c = omega (arith, lane_inside c.requires _ c.width_of-w.ensures.0)
 
-pub slice_bounds-judge-end : goal.slice_bounds-judge-end
-slice_bounds-judge-end c = lane_inside c.requires _ c.width_of-w.ensures.0
+pub slice_bounds-lane-end : goal.slice_bounds-lane-end
+slice_bounds-lane-end c = lane_inside c.requires _ c.width_of-w.ensures.0
 
 pub judge-requires : goal.judge-requires
 judge-requires c = lane_word c.requires _ c.width_of-w.ensures.0
