@@ -6,6 +6,7 @@ ghost use Rattle.differences.specs.Promise.{differences_fault, add_fault};
 use generator::{Code, Refusal};
 use refusals::{buffer_bad, lanes_bad, number_bad, symbols_bad};
 
+#[tactic(auto, using(generator::proofs::Answered::tests), unfolding(crate::specs::Promise::differences_fault))]
 pub fn differences_fault(
     code: Code,
     lanes: usize,
@@ -26,6 +27,7 @@ pub fn differences_fault(
     Refusal::Symbol.when(symbols_bad(h, new))
 }
 
+#[tactic(auto, using(generator::proofs::Answered::tests), unfolding(crate::specs::Promise::add_fault))]
 pub fn add_fault(code: Code, lanes: usize, difference: &[u8], share: &[u8]) -> Result<(), Refusal>
     ensures { numbered result ≡ outcome_of (add_fault code.header lanes difference.now share.now) }
 {

@@ -6,6 +6,7 @@ ghost use Rattle.encode.specs.Promise.{encode_fault};
 use generator::{Code, Refusal};
 use refusals::{buffer_bad, lanes_bad, symbols_bad};
 
+#[tactic(auto, using(generator::proofs::Answered::tests), unfolding(crate::specs::Promise::encode_fault))]
 pub fn encode_fault(code: Code, lanes: usize, message: &[u8], size: usize) -> Result<(), Refusal>
     ensures { numbered result ≡ outcome_of (encode_fault code.header lanes size message.now) }
 {

@@ -1,8 +1,9 @@
 -- The answers of calls by the number that turned them away, and the tests of a call one after the other.
-use Rattle.std.specs.Prelude.{◌≡◌, ℕ, zero, suc, pred, Bool, true, false, Result, Ok, Err, MatchResult}
+use Rattle.std.specs.Prelude.{◌≡◌, ◌<◌, ℕ, zero, suc, pred, Bool, true, false, Result, Ok, Err, MatchResult}
 use Rattle.std.specs.Result.{IsErrAnd}
 use Rattle.std.proofs.Common.{refl, sym, ap, ◌∙◌}
 use Rattle.std.proofs.lemmas.Result.{err_from_is_err_and}
+use native.Mathlib.Omega.{arith}
 use Rattle.lists.specs.Choice.{first_of, when}
 use Rattle.generator.specs.declared.refusal.Refusal.{Refusal}
 use Rattle.generator.specs.declared.refusal.Refusal.TheVariants as R
@@ -68,3 +69,27 @@ passed n rest test fails after = rw (sym test ∙ fails) after
 pub last : {t bad : Bool} (r : Result (Unit {0}) Refusal) (s : Refusal) → t ≡ bad → MatchResult r (λ _. t ≡ false) (λ e. (t ≡ true) × (e ≡ s)) → numbered r ≡ outcome_of (when bad (number s))
 last {bad = bad} (Ok x) s test fails = passed_last bad (number s) (sym test ∙ fails)
 last {bad = bad} (Err e) s test holds = rw holds.1 (met_last bad s (sym test ∙ holds.0))
+
+-- what `grind` needs to go through the tests of a call, one after the other
+pub when_met : (bad : Bool) (n : ℕ) → bad ≡ true → when bad n ≡ n
+when_met bad n holds = rw holds refl
+
+pub when_not : (bad : Bool) (n : ℕ) → bad ≡ false → when bad n ≡ 0
+when_not bad n fails = rw fails refl
+
+pub first_none : (a b : ℕ) → a ≡ 0 → first_of a b ≡ b
+first_none a b none = rw none refl
+
+pub turned_away : (f : ℕ) → 0 < f → outcome_of f ≡ Err f
+unfolding outcome_of
+turned_away zero some = absurd (omega (arith, some))
+turned_away (suc f) some = refl
+
+pub done : (f : ℕ) → f ≡ 0 → outcome_of f ≡ Ok tt
+unfolding outcome_of
+done f none = rw none refl
+
+pub left : {A : Type 0} (r : Result A Refusal) (e : Refusal) → IsErrAnd r (λ y. y ≡ e) → numbered r ≡ Err (number e)
+left r e is = ap numbered (exit r is)
+
+pub ruleset tests = (when_met, when_not, first_none, turned_away, done, left)

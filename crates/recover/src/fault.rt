@@ -9,6 +9,7 @@ use refusals::{buffer_bad, lanes_bad, length_bad, list_fault, number_bad};
 
 impl Listed<'_> {
     // Recover.
+    #[tactic(auto, using(generator::proofs::Answered::tests), unfolding(crate::specs::Promise::recover_fault))]
     pub fn recover_fault(self, size: usize) -> Result<(), Refusal>
         ensures { let v = self.entry in numbered result ≡ outcome_of (recover_fault v.code.header v.lanes v.nodes.now v.shares.now size) }
     {
@@ -21,6 +22,7 @@ impl Listed<'_> {
     }
 
     // Rebuild.
+    #[tactic(auto, using(generator::proofs::Answered::tests), unfolding(crate::specs::Promise::rebuild_fault))]
     pub fn rebuild_fault(self, target: usize, size: usize) -> Result<(), Refusal>
         ensures { let v = self.entry in numbered result ≡ outcome_of (rebuild_fault v.code.header v.lanes v.nodes.now v.shares.now target size) }
     {

@@ -34,6 +34,7 @@ pub fn twice_bad(nodes: &[u8]) -> bool
 }
 
 // A list of nodes and their shares: the range, repeats, and the symbols last. They come as the call was given them: a value of them would hold no fact before they are judged here.
+#[tactic(auto, using(generator::proofs::Answered::tests), unfolding(crate::specs::Faults::list_fault))]
 pub fn list_fault(h: Header, lanes: usize, nodes: &[u8], shares: &[u8]) -> Result<(), Refusal>
     requires { (usable h.field ≡ true) × (length shares.now ≡ h.k * lanes * width h) }
     ensures { numbered result ≡ outcome_of (list_fault h nodes.now shares.now) }

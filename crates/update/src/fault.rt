@@ -9,6 +9,7 @@ use generator::{Code, Refusal};
 use refusals::{buffer_bad, lane_bad, lanes_bad, number_bad, symbol_bad};
 
 impl Update {
+    #[tactic(auto, using(generator::proofs::Answered::tests), unfolding(crate::specs::Promise::input_fault))]
     pub fn input_fault(self, code: Code, shares: &[u8]) -> Result<(), Refusal>
         ensures { numbered result ≡ outcome_of (input_fault share_layout code.header self.lanes self.which self.lane self.old self.new shares.now) }
     {
