@@ -47,8 +47,9 @@ fn write_comparison(writer: &mut Writer, code: Code)
     write_cost(writer, "bound writes", writes, &[high]);
 }
 
-// Writes the comparison of a record at the front of a page, and gives its length. The figures are those of the layouts. The page is
-// lent, for the library has no heap.
+// Writes the comparison of a record at the front of a page, and gives its length (and no slice: see `len` of `Writer`). The figures are
+// those of the layouts. The page is lent, for the library has no heap.
+// The texts differ in what reads the record and in what writes it: one function with two closures would be no plainer.
 pub fn comparison(rec: &[u8], out: &mut [u8; 108]) -> usize
     ensures text { OnPage out.old out.new result (comparison_for (record_of rec.now)) }
     ensures figures { ComparedRecord (record_of rec.now) }

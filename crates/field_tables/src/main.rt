@@ -3,7 +3,6 @@
 
 use field::{Field, Gf256};
 use std::io;
-use test_tools::{number, text, value};
 
 #[tactic(auto, unfolding(field::specs::Fields::size_of, field::specs::Kinds::modulus, field::specs::Kinds::usable))]
 fn inverse(a: u8) -> u32 {
@@ -18,9 +17,10 @@ fn product(a: u8, b: u8) -> u32 {
 }
 
 fn inverses(rt: &impl Print) -> io::Result<()> {
-    text(rt, b"inverses")?;
+    print!(rt; "inverses")?;
     for a in 1..=255 {
-        number(rt, u64::from(inverse(a)))?;
+        let x = inverse(a);
+        print!(rt; " {x}")?;
     }
     Ok(())
 }
@@ -31,8 +31,7 @@ fn print_product(rt: &impl Print, a: u8, b: u8) -> io::Result<()> {
 }
 
 fn row(rt: &impl Print, a: u8) -> io::Result<()> {
-    value(rt, b"\ntimes", u64::from(a))?;
-    text(rt, b" ")?;
+    print!(rt; "\ntimes {a} ")?;
     for b in 0..=255 {
         print_product(rt, a, b)?;
     }
@@ -49,5 +48,5 @@ fn rows(rt: &impl Print) -> io::Result<()> {
 fn main(rt: HostRuntime) -> io::Result<()> {
     inverses(&rt)?;
     rows(&rt)?;
-    text(&rt, b"\n")
+    println!(rt)
 }

@@ -3,6 +3,7 @@
 
 use std::io;
 
+// Each program has a `main` of its own; what they share is `input::answer`.
 fn main(rt: HostRuntime) -> io::Result<()> {
     input::answer(&rt, &mut plain_text::page(), plain_text::plain)
 }

@@ -3,33 +3,33 @@
 
 ghost use Rattle.std.specs.Prelude.{◌≡◌, ◌+◌, ◌≤◌, ◌<◌, length, Ok};
 ghost use Rattle.lists.specs.Rows.{range};
-ghost use Rattle.lists.specs.Padded.{padded};
 ghost use Rattle.generator.specs.Records.{record_of};
 ghost use Rattle.text.specs.Writing.{OnPage};
 ghost use Rattle.text.specs.Inner.Writer.{room, Writes};
 ghost use Rattle.plain_text.specs.Plain.{node_line, plain_for};
 
+use arrayvec::ArrayVec;
 use generator::{Code, Header};
 use node_weights::rebuild_weights;
 use records::read_record;
 use text::Writer;
 pub use text::page;
 
-// The plain layout of a code. Its first k nodes hold the message; zeros stand after them.
+// The plain layout of a code, and its first k nodes, which hold the message.
 #[derive(Drop)]
 struct PlainLayout {
     code: Code,
-    nodes: [u8; 255],
-    ghost listed: { nodes ≡ padded 255 (range 0 code.header.k) },
+    nodes: ArrayVec<u8, 255>,
+    ghost listed: { nodes.items ≡ range 0 code.header.k },
 }
 
 impl PlainLayout {
     fn new(code: Code) -> Self
         ensures { result.code ≡ code }
     {
-        let mut nodes = [0; 255];
+        let mut nodes = ArrayVec::new();
         for j in 0..code.header.k {
-            nodes[usize::from(j)] = j;
+            nodes.push(j);
         }
         PlainLayout { code, nodes }
     }
@@ -41,9 +41,8 @@ impl PlainLayout {
         ensures text { Writes writer.old writer.new (node_line self.now.code.header j) }
         ensures room { room writer.old ≤ room writer.new + 1539 }
     {
-        let h = self.code.header;
-        let k = usize::from(h.k);
-        let weights = rebuild_weights(self.code, &self.nodes[..k], u32::from(j));
+        let k = usize::from(self.code.header.k);
+        let weights = rebuild_weights(self.code, &self.nodes, u32::from(j));
         writer.word("node");
         writer.field(j);
         writer.fields(&weights[..k]);
@@ -62,7 +61,9 @@ impl PlainLayout {
     }
 }
 
-// Writes the plain layout of a record's code at the front of a page, and gives its length. The page is lent, for the library has no heap.
+// Writes the plain layout of a record's code at the front of a page, and gives its length (and no slice: see `len` of `Writer`). The page
+// is lent, for the library has no heap.
+// The texts differ in what reads the record and in what writes it: one function with two closures would be no plainer.
 pub fn plain(rec: &[u8], out: &mut [u8; 392459]) -> usize
     ensures { OnPage out.old out.new result (plain_for (record_of rec.now)) }
 {

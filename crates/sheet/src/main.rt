@@ -3,6 +3,7 @@
 
 use std::io;
 
+// Each program has a `main` of its own; what they share is `input::answer`.
 fn main(rt: HostRuntime) -> io::Result<()> {
     input::answer(&rt, &mut sheet_text::page(), sheet_text::sheet)
 }

@@ -2,6 +2,9 @@
 // it no record. An empty line or a comment is written as it is.
 #![tactic(auto)]
 
+use compare_text::comparison;
+use input::print_text;
+use sheet_text::sheet;
 use std::alloc::Global;
 use std::io::{self, BufRead, BufReader, Read};
 use test_tools::not_read;
@@ -21,18 +24,6 @@ fn read(alloc: Global, line: &str) -> Result<Vec<u8>, Fault> {
     Ok(record)
 }
 
-fn print_sheet(rt: &impl Print, rec: &[u8]) -> io::Result<()> {
-    let mut page = sheet_text::page();
-    let end = sheet_text::sheet(rec, &mut page);
-    rt.write_all(&page[..end])
-}
-
-fn print_comparison(rt: &impl Print, rec: &[u8]) -> io::Result<()> {
-    let mut page = compare_text::page();
-    let end = compare_text::comparison(rec, &mut page);
-    rt.write_all(&page[..end])
-}
-
 // The sheet and the comparison of the record of a line. A byte that is no text stands in a word that is unknown.
 fn answer_record(rt: &(impl Print + AllocGlobal), line: &[u8]) -> io::Result<()> {
     let alloc = rt.alloc();
@@ -40,8 +31,8 @@ fn answer_record(rt: &(impl Print + AllocGlobal), line: &[u8]) -> io::Result<()>
     match read(alloc, &text) {
         Ok(record) => {
             rt.write_all(b"\n")?;
-            print_sheet(rt, &record)?;
-            print_comparison(rt, &record)
+            print_text(rt, &record, &mut sheet_text::page(), sheet)?;
+            print_text(rt, &record, &mut compare_text::page(), comparison)
         }
         Err(fault) => {
             not_read(rt, "record", fault)?;
@@ -50,6 +41,8 @@ fn answer_record(rt: &(impl Print + AllocGlobal), line: &[u8]) -> io::Result<()>
     }
 }
 
+// `answer` and `main` stand in cases too, where a roster goes from line to line and the line feed stands elsewhere: one loop for both
+// programs would take what it keeps and what it asks as parameters.
 fn answer(rt: &(impl Print + AllocGlobal), line: &[u8]) -> io::Result<()> {
     rt.write_all(line)?;
     if is_comment(line) {

@@ -47,7 +47,8 @@ impl Powers {
         Powers { powers }
     }
 
-    // The exponent at which the powers come to a, or 255.
+    // The exponent at which the powers come to a, or 255: no Option, for a line holds a number, and that each a from 1 to 255 has an exponent
+    // need then not be proved (`logarithm_of`).
     pub fn logarithm(&self, a: u16) -> u16
         ensures value { result ≡ logarithm_of a }
         ensures bound { result < 256 }

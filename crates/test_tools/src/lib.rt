@@ -1,4 +1,4 @@
-// What the test programs share: words and numbers on standard output, the texts of answers, checksums.
+// What the test programs share: the texts of answers and of lines that were not read, checksums.
 #![tactic(auto)]
 
 mod answers;
@@ -7,4 +7,4 @@ mod print;
 
 pub use answers::{Block, List, change};
 pub use data::{MARK, sum, untouched};
-pub use print::{not_read, number, text, value};
+pub use print::not_read;

@@ -39,7 +39,8 @@ impl<'a> Writer<'a> {
         Writer { page, end: 0 }
     }
 
-    // How many bytes are written.
+    // How many bytes are written. They are not lent as a slice: where a part of a page goes on into the result, no promise about the page
+    // after the call gets a proof (`follows_so` does not for a page that is an array), and what the rest holds would be unknown.
     pub fn len(&self) -> usize
         ensures { result ≡ self.now.end }
     {
@@ -70,7 +71,7 @@ impl<'a> Writer<'a> {
         self.bytes(word.as_bytes());
     }
 
-    // A number in base ten.
+    // A number in base ten, by the kit's `itoa`: no number is taken apart here.
     #[tactic(auto, using(crate::proofs::Digits::decimal_same))]
     fn digits(&mut self, x: u32)
         requires small { x < 100000 }

@@ -4,6 +4,7 @@
 
 use std::io;
 
+// Each program has a `main` of its own; what they share is `input::answer`.
 fn main(rt: HostRuntime) -> io::Result<()> {
     input::answer(&rt, &mut weights_text::page(), weights_text::weights)
 }

@@ -1,16 +1,29 @@
--- `new` meets its contract. Invariant: the nodes below j are written.
-use mathlib.Core.Path.{refl}
+-- `new` meets its contract. Invariant: the nodes below j are listed.
+use mathlib.Core.Path.{◌≡◌, refl, sym, ap, ◌∙◌}
+use mathlib.Core.List.{[], ◌∷◌, ◌++◌}
+use Prim.Native.Nat.{ℕ, ◌+◌}
+use native.Mathlib.Nat.{zero-add}
 use native.Mathlib.Omega.{arith}
-use Rattle.lists.specs.Padded.{zeros}
-use Rattle.lists.proofs.Fill.{filled_start, filled_put, filled_end}
+use Rattle.lists.specs.Rows.{from, range}
+use Rattle.lists.proofs.Places.{range_append}
 use Rattle.plain_text.proofs.PlainLayout.new.Goals as goal
 
+-- one number more
+range_last : (j : ℕ) → range 0 (j + 1) ≡ range 0 j ++ (j ∷ [])
+unfolding from
+range_last j = range_append 0 j 1 ∙ ap (λ (x : ℕ). range 0 j ++ (x ∷ [])) (zero-add j)
+
 pub loop-j-init : goal.loop-j-init
-unfolding zeros
-loop-j-init c = filled_start 255 _ _ (omega arith)
+unfolding from
+loop-j-init c = rw c.new-nodes.ensures record { count = refl; listed = refl }
 
 pub loop-j-preserved : goal.loop-j-preserved
-loop-j-preserved c = rw c.from.ensures (filled_put c.loop-j.invariant c.loop-j-test.true refl)
+loop-j-preserved c =
+    let l = c.loop-j in
+    record { count = omega (arith, c.push.ensures.len, l.invariant.count); listed = c.push.ensures.items ∙ rw l.invariant.listed (sym (range_last l.j)) }
 
 pub invariant_of-result : goal.invariant_of-result
-invariant_of-result c = record { listed = filled_end c.loop-j.invariant c.loop-j-test.false }
+invariant_of-result c =
+    let l = c.loop-j in
+    let all : l.j ≡ c.args.code.header.k = omega (arith, c.loop-j-test.false, l.auto.j-end) in
+    record { listed = rw all at l.invariant.listed }
