@@ -1,4 +1,5 @@
-// What a kind of field does with its symbols. The tables serve bytes; a prime needs none.
+// What a kind of field does with its symbols. The tables serve bytes; a prime needs none. They are lent to each product: a field that held
+// them would have a lifetime, and so would each header.
 ghost use Rattle.std.specs.Prelude.{◌≡◌, true, ℕ, ◌≤◌, ◌<◌, eqb};
 ghost use Rattle.field.specs.Fields.{is_field, size_of, add, sub, mul, power, inverse, order_of};
 

@@ -25,6 +25,8 @@ pub enum Field {
 }
 
 // The operations on symbols have the same arms: one function that takes the operation would make each call longer, and no plainer.
+// Each asks that the field is usable: headers that are still to be judged hold fields too. Whoever has judged one holds a `Code` or an
+// `Arithmetic`, of which nothing is asked.
 impl Field {
     pub const ZERO: u32 = 0;
 

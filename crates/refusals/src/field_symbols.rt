@@ -1,4 +1,5 @@
-// The condition of number 11 on a number, on a buffer, on the lanes of a buffer one after the other, and on one lane.
+// The condition of number 11 on a number, on a buffer, on the lanes of a buffer one after the other, and on one lane. Here and in the other
+// files a usable field is enough: a `Code` would ask for more.
 ghost use Rattle.std.specs.Prelude.{◌≡◌, true, ◌*◌, ◌<◌, length};
 ghost use Rattle.layout.specs.Layout.{share_layout};
 ghost use Rattle.field.specs.Kinds.{usable};

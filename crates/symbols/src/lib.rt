@@ -1,4 +1,5 @@
-// Lists of symbols in a lent buffer, of one byte or of two bytes each, the high byte first.
+// Lists of symbols in a lent buffer, of one byte or of two bytes each, the high byte first. How many is the number w: it is a factor of
+// lengths and places wherever it stands, and a type for 1 and 2 would be turned into its number each time.
 #![tactic(auto)]
 
 ghost use Rattle.std.specs.Prelude.{◌≡◌, true, ℕ, ◌*◌, ◌/◌, ◌^◌, ◌≤◌, ◌<◌, ltb, length};
@@ -10,7 +11,7 @@ ghost use Rattle.generator.specs.Records.{width};
 
 use generator::Header;
 
-// The bytes of a symbol.
+// The bytes of a symbol. A usable field is enough: a `Code` would ask for more.
 pub fn width_of(h: Header) -> usize
     requires { usable h.field ≡ true }
     ensures { (result ≡ width h) × (1 ≤ result) × (result ≤ 2) }
