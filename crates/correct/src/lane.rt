@@ -14,6 +14,7 @@ use generator::Code;
 pub struct Marked<'a> {
     pub code: Code,
     pub rows: &'a [u8],
+    // A mark is a byte, since the sums of every way are written to lent bytes.
     pub marks: &'a [u8],
     pub ghost powers: { rows.now ≡ power_rows code.header },
 }
