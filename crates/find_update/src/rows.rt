@@ -16,7 +16,7 @@ fn begins_at(k: u8, first: usize, difference: &[u16]) -> bool
 
 impl LaneDifference<'_> {
     // The least row that the difference begins with.
-    pub fn row(self) -> Option<usize>
+    pub(crate) fn row(self) -> Option<usize>
         ensures { let h = self.entry.code.header in MatchOption result (row_starting h self.entry.symbols.now ≡ h.k) (λ r. (r < h.k) × (row_starting h self.entry.symbols.now ≡ r)) }
     {
         let k = self.code.header.k;
