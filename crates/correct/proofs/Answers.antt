@@ -1,19 +1,18 @@
 -- What the call answers: the number that turns it away, or the count.
 use Rattle.std.specs.Prelude.{Ok, Err}
 use mathlib.Core.Path.{◌≡◌, refl, sym, ap}
+use mathlib.Core.Bool.{true, false, not}
 use mathlib.Core.List.{List}
-use Prim.Native.Nat.{ℕ, zero, suc, ◌+◌, ◌≤◌, ◌<◌}
+use Prim.Native.Nat.{ℕ, zero, suc, ◌<◌}
 use native.Mathlib.Omega.{arith}
 use borrow.Author.Tests.{eq-eqb, ne_eqb}
 use Rattle.lists.specs.Choice.{first_of, when}
-use Rattle.lists.proofs.Search.{search_high}
-use Rattle.layout.specs.Layout.{Arrangement, lane_of}
+use Rattle.layout.specs.Layout.{Arrangement}
 use Rattle.layout.specs.Width.{symbols_of}
 use Rattle.generator.specs.declared.Header.{Header}
 use Rattle.generator.specs.Records.{width}
 use Rattle.belongs.specs.Promise.{belongs_fault}
 use Rattle.blocks.proofs.Refused.{refused_value}
-use Rattle.nearest_word.specs.Nearest.{has_near}
 use Rattle.correct.proofs.Answered.{means_refused}
 use Rattle.correct.specs.Blocks.{first_far, corrected_bytes, corrected_count, far_bad}
 use Rattle.correct.specs.Promise.{correct_fault, correction_of, CorrectPromise}
@@ -28,17 +27,14 @@ module _ (y : Arrangement) (h : Header) (l : ℕ) (shares : List ℕ) where
   unfolding correction_of
   correct_done count shares' is number = record { answer = ap Ok number; written = is }
 
-  -- a lane is too far from every word, or none is
-  pub far_met : (far : ℕ) → far ≡ first_far y h l (symbols_of (width h) shares) → far < l → when (far_bad y h l shares) 14 ≡ 14
+  -- no lane is too far from every word, or one is
+  pub far_none : first_far y h l (symbols_of (width h) shares) ≡ l → far_bad y h l shares ≡ false
   unfolding far_bad
-  far_met far is low = rw (← is, ne_eqb far l (λ e. omega arith))
+  far_none end = ap not (eq-eqb _ l end)
 
-  pub far_none : (far : ℕ) → far ≡ first_far y h l (symbols_of (width h) shares) → l ≤ far → when (far_bad y h l shares) 14 ≡ 0
-  unfolding far_bad first_far
-  far_none far is high =
-      let most : far ≤ 0 + l = rw is (search_high l 0 (λ t. has_near h (lane_of y h.n l t (symbols_of (width h) shares)))) in
-      let end : far ≡ l = omega arith in
-      rw (← is, eq-eqb far l end)
+  pub far_met : (t : ℕ) → first_far y h l (symbols_of (width h) shares) ≡ t → t < l → far_bad y h l shares ≡ true
+  unfolding far_bad
+  far_met t is low = rw is (ap not (ne_eqb t l (λ e. omega arith)))
 
   -- numbers 7, 8 and 11 come first
   pub fault_first : (number : ℕ) → number ≡ belongs_fault h l shares → (number ≡ 0 → ⊥) → correct_fault y h l shares ≡ number

@@ -6,15 +6,12 @@ use mathlib.Core.List.{List}
 use Prim.Native.Nat.{ℕ, ◌*◌, ◌<◌}
 use native.Mathlib.Nat.{zero-add}
 use native.Mathlib.Omega.{arith}
-use lib.Dec.{eqb}
-use borrow.Author.Tests.{eqb-true}
 use lib.ListN.{length, get_or}
 use Rattle.lists.specs.Choice.{when}
 use Rattle.lists.specs.Counting.{differ}
 use Rattle.lists.specs.Numbers.{all_below}
-use Rattle.lists.specs.Search.{first_false}
 use Rattle.lists.proofs.Differ.{differ_same}
-use Rattle.lists.proofs.Search.{search_none, search_passes}
+use Rattle.lists.proofs.Search.{search_none}
 use Rattle.layout.specs.Layout.{lane_of, share_layout}
 use Rattle.layout.specs.Width.{symbols_of, bytes_of}
 use Rattle.layout.proofs.Places.{share_lawful}
@@ -32,12 +29,6 @@ use Rattle.correct.specs.Inner.Marked.{MarkedShares}
 use Rattle.correct.proofs.Answers.{correct_done, far_none}
 use Rattle.correct.proofs.Shares.{is_lane, lane_corrected, length_corrected}
 use Rattle.correct.proofs.LaneBytes.{symbols_long}
-
--- a search through the marks that comes to the end has passed no mark
-pub no_mark : (l : ℕ) (marks : List ℕ) → l ≡ first_false l 0 (λ t. eqb (get_or marks t 0) 0) → (t : ℕ) → t < l → get_or marks t 0 ≡ 0
-no_mark l marks end t inside =
-    let low : t < first_false l 0 (λ t. eqb (get_or marks t 0) 0) = rw (← end) inside in
-    eqb-true _ _ (search_passes l 0 (λ t. eqb (get_or marks t 0) 0) t (omega arith) low)
 
 module _ {h : Header} {l : ℕ} {marks shares : List ℕ} (m : MarkedShares h l marks shares) (none : (t : ℕ) → t < l → get_or marks t 0 ≡ 0) where
   abbrev s : List ℕ
@@ -71,4 +62,4 @@ module _ {h : Header} {l : ℕ} {marks shares : List ℕ} (m : MarkedShares h l 
   clean_says low =
       let same : shares ≡ corrected_bytes share_layout h l shares = sym (ap (bytes_of (width h)) shares_stay ∙ bytes_symbols (width h) (h.n * l) shares (width_some h) (m.bytes ∙ sym (lanes_long (width h) h.n l)) low) in
       let count : 0 ≡ corrected_count share_layout h l shares = sym (ap (differ s) shares_stay ∙ differ_same s) in
-      rw (far_none share_layout h l shares l (sym all_near) (omega arith)) (correct_done share_layout h l shares 0 shares same count)
+      rw (far_none share_layout h l shares all_near) (correct_done share_layout h l shares 0 shares same count)

@@ -12,6 +12,7 @@ use check_sums::lane::PowerRows;
 #[derive(Clone, Copy)]
 pub struct Marked<'r, 'm> {
     pub rows: PowerRows<'r>,
+    // A mark is a byte, since the sums of every way are written to lent bytes.
     pub marks: &'m [u8],
 }
 

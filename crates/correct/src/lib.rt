@@ -1,14 +1,12 @@
 // Setting a block right: each lane becomes the word of the code that differs from it at no more than (n - k) / 2 nodes.
 #![tactic(auto)]
 
-ghost use Rattle.std.specs.Prelude.{◌≡◌, length};
+ghost use Rattle.std.specs.Prelude.{◌≡◌, ℕ, true, ◌<◌, length, get_or};
 ghost use Rattle.lists.specs.Choice.{when};
 ghost use Rattle.layout.specs.Layout.{share_layout};
-ghost use Rattle.layout.specs.Width.{symbols_of};
-ghost use Rattle.generator.specs.Records.{width};
 ghost use Rattle.generator.specs.Answers.{numbered};
 ghost use Rattle.refusals.specs.Accepted.{SymbolBuffer};
-ghost use Rattle.correct.specs.Blocks.{first_far, corrected_bytes, corrected_count, far_bad};
+ghost use Rattle.correct.specs.Blocks.{corrected_bytes, corrected_count, far_bad};
 ghost use Rattle.correct.specs.Promise.{correct_fault, CorrectPromise, CorrectSays};
 ghost use Rattle.correct.specs.Inner.Marked.{MarkedShares};
 
@@ -21,10 +19,10 @@ mod lane;
 use lane::Marked;
 
 impl Marked<'_, '_> {
-    // The smallest lane that no word is near enough to, or the number of lanes.
-    fn first_far(self, shares: &[u8]) -> usize
+    // Whether there is a lane that no word is near enough to.
+    fn has_far(self, shares: &[u8]) -> bool
         requires { MarkedShares self.rows.code.header (length self.marks.now) self.marks.now shares.now }
-        ensures { result ≡ first_far share_layout self.entry.rows.code.header (length self.entry.marks.now) (symbols_of (width self.entry.rows.code.header) shares.now) }
+        ensures { result ≡ far_bad share_layout self.entry.rows.code.header (length self.entry.marks.now) shares.now }
     {
         let h = self.rows.code.header;
         let size = symbols::width_of(h) * h.n as usize;
@@ -32,10 +30,10 @@ impl Marked<'_, '_> {
             let start = t * size;
             let end = start + size;
             if !self.is_near(t, &shares[start..end]) {
-                return t;
+                return true;
             }
         }
-        self.marks.len()
+        false
     }
 
     // Sets every lane right, and gives the number of symbols altered.
@@ -59,8 +57,7 @@ impl Marked<'_, '_> {
         requires { MarkedShares self.rows.code.header (length self.marks.now) self.marks.now shares.old }
         ensures { let h = self.entry.rows.code.header in let l = length self.entry.marks.now in CorrectPromise share_layout l shares.old shares.new (numbered result) h (when (far_bad share_layout h l shares.old) 14) }
     {
-        let far = self.first_far(shares);
-        Refusal::Far.when(far < self.marks.len())?;
+        Refusal::Far.when(self.has_far(shares))?;
         Ok(self.correct_lanes(shares))
     }
 }
@@ -79,12 +76,19 @@ fn correct_wrong(code: Code, marks: &[u8], shares: &mut [u8]) -> Result<u32, Ref
     Marked { rows, marks }.correct(shares)
 }
 
+// Whether every lane is marked 0.
+fn none_marked(marks: &[u8]) -> bool
+    ensures { result ≡ true → (t : ℕ) → t < length marks.now → get_or marks.now t 0 ≡ 0 }
+{
+    marks.iter().all(|mark| *mark == 0)
+}
+
 // The same, but for shares with no lane marked, which stay as they are: nothing is made for them.
 fn correct_any(code: Code, marks: &[u8], shares: &mut [u8]) -> Result<u32, Refusal>
     requires { MarkedShares code.header (length marks.now) marks.now shares.old }
     ensures { CorrectPromise share_layout (length marks.now) shares.old shares.new (numbered result) code.header (when (far_bad share_layout code.header (length marks.now) shares.old) 14) }
 {
-    if wrong_lanes::first_nonzero(marks.len(), marks) == marks.len() {
+    if none_marked(marks) {
         return Ok(0);
     }
     correct_wrong(code, marks, shares)

@@ -25,7 +25,7 @@ use Rattle.generator.specs.Generator.{entry}
 use Rattle.generator.proofs.Bounds.{entry_below}
 use Rattle.refusals.specs.Accepted.{IsLane}
 use Rattle.find_update.specs.Finding.{finding_of}
-use Rattle.find_update.specs.Inner.Starts.{differences, row_starting, first_other, amount_in, update_in}
+use Rattle.find_update.specs.Inner.Starts.{differences, row_starting, first_other, is_multiple, amount_in, update_in}
 use Rattle.find_update.proofs.Multiples.{Multiple, first_node, first_entry, row_is}
 use Rattle.find_update.proofs.Single.{get_or_added, length_added, nothing_added}
 use Rattle.find_update.proofs.Meaning.{finds, finding_added}
@@ -134,16 +134,17 @@ module _ (h : Header) (s : Sound h) where
           )
 
       -- the comparison passes there
-      passes : (r x : ℕ) → r < h.k → x < size h → word_added h r x us ≡ vs → (ltb row h.k && eqb (first_other h ws row (amount_in h ws row)) h.n) ≡ true
+      passes : (r x : ℕ) → r < h.k → x < size h → word_added h r x us ≡ vs → (ltb row h.k && is_multiple h ws row (amount_in h ws row)) ≡ true
+      unfolding is_multiple
       passes r x low small e =
           let (same, amount) = behind r x low small e in
           rw (same, amount) (both_true (lt-ltb r h.k low) (eq-eqb _ h.n (all_same ws r x (leads_multiple r x small e))))
 
       -- so the finding is the update in the difference
       pub update_found : finding_of h us vs ≡ update_in h ws
-      unfolding update_in
+      unfolding update_in is_multiple
       update_found =
-          by_test (ltb row h.k && eqb (first_other h ws row (amount_in h ws row)) h.n)
+          by_test (ltb row h.k && is_multiple h ws row (amount_in h ws row))
           (λ t.
           let low = ltb-true row h.k (and_left (ltb row h.k) _ t) in
           let same = same_all_lem ws row (amount_in h ws row) (eqb-true _ h.n (and_right (ltb row h.k) _ t)) in

@@ -4,7 +4,7 @@ ghost use Rattle.lists.specs.Padded.{padded};
 ghost use Rattle.generator.specs.Records.{size};
 ghost use Rattle.plan.specs.Plans.{plan_of};
 ghost use Rattle.refusals.specs.Accepted.{IsLane};
-ghost use Rattle.find_update.specs.Inner.Starts.{amount_in, differences, first_other};
+ghost use Rattle.find_update.specs.Inner.Starts.{amount_in, differences, is_multiple};
 
 use field::lent::Arithmetic;
 use generator::Code;
@@ -46,19 +46,19 @@ impl LaneDifference<'_> {
         self.field.mul(self.symbols[first] as u32, over)
     }
 
-    // The first node at which the difference is not x times the entry of the row, or n.
-    pub fn first_other(self, row: usize, x: u32) -> usize
+    // Whether the difference is x times the row.
+    pub fn is_multiple(self, row: usize, x: u32) -> bool
         requires { (row < self.code.header.k) × (x < size self.code.header) }
-        ensures { result ≡ first_other self.entry.code.header self.entry.symbols.now row x }
+        ensures { result ≡ is_multiple self.entry.code.header self.entry.symbols.now row x }
     {
         let n = self.code.header.n as usize;
         let shift = self.plan.shifts[row] as usize;
         for j in 0..n {
             let entry = plan::entry_at(n, shift, &self.plan.base, j);
             if !self.field.is_product(x, entry, self.symbols[j]) {
-                return j;
+                return false;
             }
         }
-        n
+        true
     }
 }

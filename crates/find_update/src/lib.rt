@@ -29,17 +29,15 @@ impl LaneDifference<'_> {
     fn update(self) -> Finding
         ensures { result ≡ update_in self.entry.code.header self.entry.symbols.now }
     {
-        let k = self.code.header.k as usize;
-        let row = self.row();
-        if k <= row {
+        let Some(row) = self.row() else {
             return Finding::NoSingleUpdate;
-        }
+        };
         let amount = self.amount(row);
-        if self.first_other(row, amount) != self.symbols.len() {
-            return Finding::NoSingleUpdate;
+        if self.is_multiple(row, amount) {
+            Finding::Added(row as u32, amount)
+        } else {
+            Finding::NoSingleUpdate
         }
-        let which = row as u32;
-        Finding::Added(which, amount)
     }
 }
 

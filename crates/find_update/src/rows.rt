@@ -1,5 +1,5 @@
 // The row of the generator that a difference begins with.
-ghost use Rattle.std.specs.Prelude.{◌≡◌, ◌<◌, length};
+ghost use Rattle.std.specs.Prelude.{◌≡◌, ◌<◌, MatchOption, length};
 ghost use Rattle.find_update.specs.Inner.Starts.{begins_at, row_starting};
 
 use crate::compare::LaneDifference;
@@ -15,17 +15,17 @@ fn begins_at(k: u8, first: usize, difference: &[u16]) -> bool
 }
 
 impl LaneDifference<'_> {
-    // The least row that the difference begins with, or k.
-    pub fn row(self) -> usize
-        ensures { result ≡ row_starting self.entry.code.header self.entry.symbols.now }
+    // The least row that the difference begins with.
+    pub(crate) fn row(self) -> Option<usize>
+        ensures { let h = self.entry.code.header in MatchOption result (row_starting h self.entry.symbols.now ≡ h.k) (λ r. (r < h.k) × (row_starting h self.entry.symbols.now ≡ r)) }
     {
         let k = self.code.header.k;
         for r in 0..k as usize {
             let first = self.plan.firsts[r] as usize;
             if begins_at(k, first, self.symbols) {
-                return r;
+                return Some(r);
             }
         }
-        k as usize
+        None
     }
 }

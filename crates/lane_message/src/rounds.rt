@@ -1,5 +1,5 @@
 // The product over the points of the rows. Where their shifts come in g rounds it is a polynomial in x^g, the product over the points of one round to the power g.
-ghost use Rattle.std.specs.Prelude.{◌≡◌, ℕ, ◌+◌, ◌/◌, ◌%◌, ◌≤◌, ◌<◌, eqb, length, get_or};
+ghost use Rattle.std.specs.Prelude.{◌≡◌, ℕ, true, ◌+◌, ◌/◌, ◌%◌, ◌≤◌, ◌<◌, IfSome, eqb, length, get_or};
 ghost use Rattle.lists.specs.Choice.{pick};
 ghost use Rattle.lists.specs.Padded.{padded};
 ghost use Rattle.generator.specs.Records.{modulus_of};
@@ -11,55 +11,42 @@ ghost use Rattle.lane_message.specs.Inner.Rows.{InRounds, round_points, spaced_o
 use crate::rows::GeneratorRows;
 use interpolation::polynomials;
 
-// How many of the shifts from the first on are 0, 1, 2, ..
-fn run(shifts: &[u8]) -> usize
-    ensures { result ≤ length shifts.now }
+// How many of the shifts from the first on are 0, 1, 2, .., where not all are.
+fn run(shifts: &[u8]) -> Option<usize>
+    ensures { IfSome result (λ t. t < length shifts.now) }
 {
-    for (t, &shift) in shifts.iter().enumerate() {
-        if shift as usize != t {
-            return t;
-        }
-    }
-    shifts.len()
+    shifts
+        .iter()
+        .enumerate()
+        .position(|(t, &shift)| shift as usize != t)
 }
 
-// How many of the shifts from the first on have a place below `taken` in a round of so many.
-fn in_rounds(around: usize, taken: usize, shifts: &[u8]) -> usize
+// Whether every shift has a place below `taken` in a round of so many.
+fn in_rounds(around: usize, taken: usize, shifts: &[u8]) -> bool
     requires { 0 < around }
-    ensures { (result ≤ length shifts.now) × ((i : ℕ) → i < result → get_or shifts.now i 0 % around < taken) }
+    ensures { result ≡ true → (i : ℕ) → i < length shifts.now → get_or shifts.now i 0 % around < taken }
 {
-    for (i, &shift) in shifts.iter().enumerate() {
-        if shift as usize % around >= taken {
-            return i;
-        }
-    }
-    shifts.len()
+    shifts.iter().all(|&shift| shift as usize % around < taken)
 }
 
-// The number of rounds, or 0 where the shifts do not come in rounds.
-fn rounds_of(n: usize, shifts: &[u8]) -> usize
-    requires { (n ≤ 255) × (length shifts.now ≤ 255) }
-    ensures { (result ≤ n) × (0 < result → InRounds n shifts.now result) }
+// The number of rounds, where the shifts come in rounds.
+fn rounds_of(n: usize, shifts: &[u8]) -> Option<usize>
+    requires { (0 < n) × (n ≤ 255) × (length shifts.now ≤ 255) }
+    ensures { IfSome result (λ g. (0 < g) × (g ≤ n) × InRounds n shifts.now g) }
 {
-    let taken = run(shifts);
-    if taken == shifts.len() {
-        return 0;
-    }
+    let taken = run(shifts)?;
     let around = shifts[taken] as usize;
-    if around == 0 {
-        return 0;
-    }
-    let rounds = n / around;
+    let rounds = n.checked_div(around)?;
     if rounds * around != n {
-        return 0;
+        return None;
     }
     if rounds * taken != shifts.len() {
-        return 0;
+        return None;
     }
-    if in_rounds(around, taken, shifts) != shifts.len() {
-        return 0;
+    if !in_rounds(around, taken, shifts) {
+        return None;
     }
-    rounds
+    Some(rounds)
 }
 
 // Coefficient j of q(x^g).
@@ -120,10 +107,9 @@ impl GeneratorRows<'_> {
     {
         let h = self.transform.code.header;
         let k = h.k as usize;
-        let rounds = rounds_of(h.n as usize, &self.shifts[..k]);
-        if rounds == 0 {
-            return polynomials::product(self.transform.field, points);
+        match rounds_of(h.n as usize, &self.shifts[..k]) {
+            Some(rounds) => self.round_product(rounds),
+            None => polynomials::product(self.transform.field, points),
         }
-        self.round_product(rounds)
     }
 }

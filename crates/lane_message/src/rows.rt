@@ -33,6 +33,7 @@ fn step_ratio(field: Arithmetic, top: u32, scale: u32, y: u32) -> u32
 
 impl GeneratorRows<'_> {
     // The points root^(shift + k − 1) of the rows, and zeros after them.
+    // An array with zeros after: there is one for each row, so no length stands beside it.
     pub fn points(self) -> [u16; 255]
         ensures { result ≡ padded 255 (row_points self.entry.transform.code.header) }
     {

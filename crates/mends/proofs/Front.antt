@@ -1,11 +1,9 @@
--- A buffer with a list at its front: its length, and the part that holds the list.
+-- A buffer with a list at its front: symbols as bytes, and a word's buffers.
 use mathlib.Core.Path.{◌≡◌, refl, sym, ap, ◌∙◌}
 use mathlib.Core.Bool.{true}
 use mathlib.Core.List.{List, ◌++◌, map}
-use Prim.Native.Nat.{ℕ, ◌*◌, ◌≤◌, ◌<◌}
-use native.Mathlib.Omega.{arith}
-use lib.ListN.{length, take, drop, length-append}
-use lib.Seq.{take_at}
+use Prim.Native.Nat.{ℕ, ◌*◌, ◌<◌}
+use lib.ListN.{length, drop}
 use Rattle.lists.specs.Numbers.{all_below}
 use Rattle.lists.proofs.All.{All-imp, All-map}
 use Rattle.lists.proofs.Numbers.{below_all, all_below_lem}
@@ -19,19 +17,6 @@ use Rattle.mends.specs.Inner.BySums.{LaneSums, mended_at}
 use Rattle.mends.specs.Promise.{in_front}
 use Rattle.mends.proofs.BySums.{mended_below}
 use Rattle.mends.proofs.Meaning.{none_of}
-
--- a buffer that was written
-module _ (new xs s : List ℕ) (n : ℕ) (written : new ≡ in_front xs s) (long : n ≡ length xs) where
-  pub front_room : n ≤ length new
-  unfolding in_front
-  front_room = omega (arith, ap length written, length-append xs (drop (length xs) s))
-
-  pub front_part : take n new ≡ xs
-  unfolding in_front
-  front_part = ap (take n) written ∙ take_at xs (drop (length xs) s) n (sym long)
-
-  pub front_length : length (take n new) ≡ n
-  front_length = ap length front_part ∙ sym long
 
 -- symbols as bytes at the front: the bytes of `count` symbols, and what stood after them
 pub front_bytes : (w count v : ℕ) (new ys old : List ℕ) → new ≡ bytes_of v ys → v ≡ w → length ys ≡ count → new ++ drop (count * v) old ≡ in_front (bytes_of w ys) old

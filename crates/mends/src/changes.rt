@@ -6,9 +6,10 @@ ghost use Rattle.lists.specs.Padded.{padded};
 ghost use Rattle.layout.specs.Width.{bytes_of};
 ghost use Rattle.generator.specs.Records.{modulus_of, size, width};
 ghost use Rattle.check_sums.specs.Inner.Powers.{powers_of};
-ghost use Rattle.mends.specs.Inner.BySums.{LaneSums, first_off, up_nodes, mended_at};
+ghost use Rattle.mends.specs.Inner.BySums.{LaneSums, goes_up, up_nodes, mended_at};
 ghost use Rattle.mends.specs.Promise.{in_front};
 
+use arrayvec::ArrayVec;
 use field::lent::Arithmetic;
 use generator::Code;
 
@@ -26,36 +27,33 @@ struct Received<'a, 'b> {
 }
 
 impl Received<'_, '_> {
-    // The first place whose next check sum is not c times its own, or the last.
-    fn first_off(self, c: u32) -> usize
+    // Whether each check sum is c times the one before it.
+    fn goes_up(self, c: u32) -> bool
         requires { c < size self.code.header }
-        ensures { result ≡ first_off (modulus_of self.entry.code.header) c self.entry.sums.now }
+        ensures { result ≡ goes_up (modulus_of self.entry.code.header) c self.entry.sums.now }
     {
         let sums = self.sums;
         let last = sums.len() - 1;
         for e in 0..last {
             if !self.field.is_product(c, sums[e], sums[e + 1]) {
-                return e;
+                return false;
             }
         }
-        last
+        true
     }
 
-    // Writes the nodes j for which the check sums go up by root^j, rising; gives how many.
-    fn list_nodes(self, nodes: &mut [u8]) -> usize
-        requires { length nodes.old ≡ self.code.header.n }
-        ensures { let up = up_nodes self.entry.code.header self.entry.sums.now in (result ≡ length up) × (nodes.new ≡ in_front up nodes.old) }
+    // The nodes j for which the check sums go up by root^j, rising.
+    fn up_nodes(self) -> ArrayVec<u8, 255>
+        ensures { result.items ≡ up_nodes self.entry.code.header self.entry.sums.now }
     {
-        let n = self.code.header.n as usize;
-        let last = self.sums.len() - 1;
-        let mut count: usize = 0;
+        let n = self.code.header.n;
+        let mut nodes = ArrayVec::new();
         for j in 0..n {
-            if self.first_off(self.powers[j] as u32) == last {
-                nodes[count] = j as u8;
-                count += 1;
+            if self.goes_up(self.powers[j as usize] as u32) {
+                nodes.push(j);
             }
         }
-        count
+        nodes
     }
 
     // The new symbol of node j: what it holds less the first check sum over root^j.
@@ -71,6 +69,7 @@ impl Received<'_, '_> {
     }
 
     // The new symbols of the listed nodes, and zeros after them.
+    // An array with zeros after: it is as long as the list that it is made from, so no length stands beside it.
     fn new_symbols(self, nodes: &[u8]) -> [u16; 255]
         requires { (all_below self.code.header.n nodes.now ≡ true) × (length nodes.now ≤ 255) }
         ensures { result ≡ padded 255 (map (mended_at self.entry.code.header self.entry.lane.now self.entry.sums.now) nodes.now) }
@@ -115,8 +114,11 @@ pub fn list<'a>(
         lane,
         sums,
     };
-    let count = received.list_nodes(nodes);
-    let new = received.new_symbols(&nodes[..count]);
+    let listed = received.up_nodes();
+    let up = listed.as_slice();
+    let count = up.len();
+    nodes[..count].copy_from_slice(up);
+    let new = received.new_symbols(up);
     put_symbols(code, &new[..count], symbols);
     count
 }

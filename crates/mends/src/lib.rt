@@ -56,6 +56,7 @@ fn mends_accepted(
 }
 
 // Lists every node and new symbol whose single change makes the lane a word, lowest node first, and gives how many; or gives what turns the call away and writes nothing.
+// Two lent buffers and a count, as callers from C lend them.
 pub fn single_mends(
     rec: &[u8],
     lane: &[u8],

@@ -1,2 +1,3 @@
 -- What the rearrangements promise.
 pub mod Promise
+pub mod Inner

@@ -2,9 +2,8 @@
 #![tactic(auto)]
 
 ghost use Rattle.std.specs.Prelude.{◌≡◌, length};
-ghost use Rattle.lists.specs.Choice.{pick};
-ghost use Rattle.layout.specs.Layout.{row_after_row, lane_after_lane};
 ghost use Rattle.generator.specs.Answers.{numbered};
+ghost use Rattle.rearrange.specs.Inner.Moves.{rows_of, read_as, written_as};
 ghost use Rattle.rearrange.specs.Promise.{RearrangePromise, RearrangeSays, ToLanesSays, ToNodesSays, ListedToLanesSays, ListedToNodesSays, rearrange_fault};
 
 use generator::{Code, Header, Refusal};
@@ -12,66 +11,81 @@ use generator::{Code, Header, Refusal};
 mod fault;
 mod turning;
 
+// Whose shares are moved: those of all nodes, or of k listed ones.
+#[derive(Clone, Copy)]
+enum Shares {
+    All,
+    Listed,
+}
+
+impl Shares {
+    // A row for each of the nodes.
+    fn rows(self, h: Header) -> u8
+        ensures { result ≡ rows_of self h }
+    {
+        match self {
+            Shares::All => h.n,
+            Shares::Listed => h.k,
+        }
+    }
+}
+
+// How the shares stand that are read; they are written the other way.
+#[derive(Clone, Copy)]
+enum Order {
+    ByNode,
+    ByLane,
+}
+
 // Over a code: row j's symbol of lane t goes from j·lanes + t to t·rows + j, or back.
 fn rearrange_accepted(
     code: Code,
     rows: u8,
     lanes: usize,
-    from_nodes: bool,
+    order: Order,
     source: &[u8],
     out: &mut [u8],
 ) -> Result<(), Refusal>
-    ensures { RearrangePromise (pick from_nodes row_after_row lane_after_lane) (pick from_nodes lane_after_lane row_after_row) rows lanes source.now out.old out.new (numbered result) code.header (rearrange_fault code.header rows lanes (length source.now) (length out.old)) }
+    ensures { RearrangePromise (read_as order) (written_as order) rows lanes source.now out.old out.new (numbered result) code.header (rearrange_fault code.header rows lanes (length source.now) (length out.old)) }
 {
     fault::rearrange_fault(code, rows, lanes, source.len(), out.len())?;
     let count = rows as usize;
     let w = symbols::width_of(code.header);
-    if from_nodes {
-        turning::turn(w, count, lanes, source, out);
-        return Ok(());
+    match order {
+        Order::ByNode => turning::turn(w, count, lanes, source, out),
+        Order::ByLane => turning::turn(w, lanes, count, source, out),
     }
-    turning::turn(w, lanes, count, source, out);
     Ok(())
-}
-
-// The rows of a block of shares: one for each node, or for each of k listed ones.
-fn rows_of(h: Header, listed: bool) -> u8
-    ensures { result ≡ pick listed h.k h.n }
-{
-    if listed {
-        return h.k;
-    }
-    h.n
 }
 
 // Over the record itself.
 fn rearrange_shares(
     rec: &[u8],
-    listed: bool,
-    from_nodes: bool,
+    shares: Shares,
+    order: Order,
     lanes: u32,
     source: &[u8],
     out: &mut [u8],
 ) -> Result<(), Refusal>
-    ensures { RearrangeSays (pick from_nodes row_after_row lane_after_lane) (pick from_nodes lane_after_lane row_after_row) (λ h. pick listed h.k h.n) rec.now lanes source.now out.old out.new (numbered result) }
+    ensures { RearrangeSays (read_as order) (written_as order) (rows_of shares) rec.now lanes source.now out.old out.new (numbered result) }
 {
     let code = records::read_record(rec)?;
-    let rows = rows_of(code.header, listed);
-    rearrange_accepted(code, rows, lanes as usize, from_nodes, source, out)
+    let rows = shares.rows(code.header);
+    rearrange_accepted(code, rows, lanes as usize, order, source, out)
 }
 
 // Writes shares that stand node after node lane after lane, or gives what turns the call away and writes nothing.
 pub fn to_lanes(rec: &[u8], lanes: u32, by_node: &[u8], by_lane: &mut [u8]) -> Result<(), Refusal>
     ensures { ToLanesSays rec.now lanes by_node.now by_lane.old by_lane.new (numbered result) }
 {
-    rearrange_shares(rec, false, true, lanes, by_node, by_lane)
+    rearrange_shares(rec, Shares::All, Order::ByNode, lanes, by_node, by_lane)
 }
 
 // Writes shares that stand lane after lane node after node, likewise.
 pub fn to_nodes(rec: &[u8], lanes: u32, by_lane: &[u8], by_node: &mut [u8]) -> Result<(), Refusal>
     ensures { ToNodesSays rec.now lanes by_lane.now by_node.old by_node.new (numbered result) }
 {
-    rearrange_shares(rec, false, false, lanes, by_lane, by_node)
+    rearrange_shares(rec, Shares::All, Order::ByLane, lanes, by_lane, by_node)
 }
 
 // Writes the shares of k listed nodes, as files hold them, lane after lane, as Recover and Rebuild take them.
@@ -83,7 +97,7 @@ pub fn listed_to_lanes(
 ) -> Result<(), Refusal>
     ensures { ListedToLanesSays rec.now lanes by_node.now by_lane.old by_lane.new (numbered result) }
 {
-    rearrange_shares(rec, true, true, lanes, by_node, by_lane)
+    rearrange_shares(rec, Shares::Listed, Order::ByNode, lanes, by_node, by_lane)
 }
 
 // Writes the shares of k listed nodes node after node.
@@ -95,5 +109,5 @@ pub fn listed_to_nodes(
 ) -> Result<(), Refusal>
     ensures { ListedToNodesSays rec.now lanes by_lane.now by_node.old by_node.new (numbered result) }
 {
-    rearrange_shares(rec, true, false, lanes, by_lane, by_node)
+    rearrange_shares(rec, Shares::Listed, Order::ByLane, lanes, by_lane, by_node)
 }

@@ -32,6 +32,7 @@ fn blank() -> [u16; 255]
 
 impl Transform<'_> {
     // The spectrum of a lane, and zeros after it.
+    // An array with zeros after: it is as long as the list that it is made from, so no length stands beside it.
     pub fn spectrum(self, lane: &[u16]) -> [u16; 255]
         requires { (length lane.now ≡ self.code.header.n) × (all_below (size self.code.header) lane.now ≡ true) }
         ensures { result ≡ padded 255 (spectrum_of self.entry.code.header lane.now) }

@@ -31,6 +31,10 @@ row_starting h ws = first_false h.k 0 (λ r. not (begins_at h.k ws (get_or (firs
 unfoldable pub first_other : Header → List ℕ → ℕ → ℕ → ℕ
 first_other h ws r x = first_false h.n 0 (λ j. eqb (get_or ws j 0) (mul (modulus_of h) x (entry h r j)))
 
+-- and there is none: the list is x times row r
+unfoldable pub is_multiple : Header → List ℕ → ℕ → ℕ → Bool
+is_multiple h ws r x = eqb (first_other h ws r x) h.n
+
 -- the amount: what was added at the first node of row r, over the row's entry there
 unfoldable pub amount_in : Header → List ℕ → ℕ → ℕ
 amount_in h ws r = mul (modulus_of h) (get_or ws (get_or (firsts h) r 0) 0) (inverse (modulus_of h) (entry h r (get_or (firsts h) r 0)))
@@ -38,5 +42,5 @@ amount_in h ws r = mul (modulus_of h) (get_or ws (get_or (firsts h) r 0) 0) (inv
 -- the update that a difference is of, where it is not zero at some node
 unfoldable pub update_in : Header → List ℕ → Finding
 update_in h ws =
-    pick (ltb (row_starting h ws) h.k && eqb (first_other h ws (row_starting h ws) (amount_in h ws (row_starting h ws))) h.n)
+    pick (ltb (row_starting h ws) h.k && is_multiple h ws (row_starting h ws) (amount_in h ws (row_starting h ws)))
     (Added (row_starting h ws) (amount_in h ws (row_starting h ws))) NoSingleUpdate

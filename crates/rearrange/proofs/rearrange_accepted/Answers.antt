@@ -29,22 +29,22 @@ turn-requires c =
     let (read, room) = rearrange_accepts c.args.code.header c.args.code.sound c.args.lanes c.args.rows _ _ (none (goal.at.turn-requires c).After-width_of-w) in
     (width.1, width.2, rw width.0 read, rw width.0 room)
 
-pub returns-then-from_nodes : goal.returns-then-from_nodes
+pub returns-in-ByNode : goal.returns-in-ByNode
 unfolding outcome_of rearranged_bytes
-returns-then-from_nodes c =
-    let zero = none (goal.at.returns-then-from_nodes c).After-width_of-w in
+returns-in-ByNode c =
+    let zero = none (goal.at.returns-in-ByNode c).After-width_of-w in
     let written = rw c.width_of-w.ensures.0 at c.turn.ensures in
-    rw c.if-from_nodes.true (record { answered = rw zero; written = rw zero written })
+    rw c.in-ByNode.is (record { answered = rw zero; written = rw zero written })
 
-pub turn-requires-2 : goal.turn-requires-2
-turn-requires-2 c =
+pub turn-requires-in-ByLane : goal.turn-requires-in-ByLane
+turn-requires-in-ByLane c =
     let width = c.width_of-w.ensures in
-    let (read, room) = rearrange_accepts c.args.code.header c.args.code.sound c.args.lanes c.args.rows _ _ (none (goal.at.turn-requires-2 c).After-width_of-w) in
+    let (read, room) = rearrange_accepts c.args.code.header c.args.code.sound c.args.lanes c.args.rows _ _ (none (goal.at.turn-requires-in-ByLane c).After-width_of-w) in
     (width.1, width.2, rw (width.0, mul_comm c.args.lanes c.args.rows) read, rw (width.0, mul_comm c.args.lanes c.args.rows) room)
 
-pub returns : goal.returns
+pub returns-in-ByLane : goal.returns-in-ByLane
 unfolding outcome_of rearranged_bytes
-returns c =
-    let zero = none (goal.at.returns c).After-width_of-w in
-    let written = rw c.width_of-w.ensures.0 at c.turn-2.ensures ∙ ap (bytes_of (width c.args.code.header)) (turned _ _ _) in
-    rw c.if-from_nodes.false (record { answered = rw zero; written = rw zero written })
+returns-in-ByLane c =
+    let zero = none (goal.at.returns-in-ByLane c).After-width_of-w in
+    let written = rw c.width_of-w.ensures.0 at c.turn-in-ByLane.ensures ∙ ap (bytes_of (width c.args.code.header)) (turned _ _ _) in
+    rw c.in-ByLane.is (record { answered = rw zero; written = rw zero written })

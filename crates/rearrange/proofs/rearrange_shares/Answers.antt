@@ -10,4 +10,4 @@ returns-in_err-code c =
     rw (exit _ c.from_residual.ensures.1) (on_met c.in_err-code.ensures refl (λ h some. rearrange_refuses h _ some _ _ _ _))
 
 pub returns : goal.returns
-returns c = on_held c.in_ok-code.ensures refl (rw c.rows_of-rows.ensures at c.rearrange_accepted.ensures)
+returns c = on_held c.in_ok-code.ensures refl (rw c.rows-rows.ensures at c.rearrange_accepted.ensures)

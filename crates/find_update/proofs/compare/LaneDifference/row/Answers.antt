@@ -32,7 +32,7 @@ begins_at-requires c =
 pub returns-then-begins_at : goal.returns-then-begins_at
 returns-then-begins_at c =
     let found = ap not (rw (first (goal.at.returns-then-begins_at c).In-loop-r) at (sym c.begins_at.ensures ∙ c.if-begins_at.true)) in
-    sym (c.loop-r.invariant ∙ search_found _ _ _ c.loop-r-test.true found)
+    (c.loop-r-test.true, c.loop-r.invariant ∙ search_found _ _ _ c.loop-r-test.true found)
 
 pub loop-r-preserved : goal.loop-r-preserved
 loop-r-preserved c =
@@ -41,5 +41,5 @@ loop-r-preserved c =
 
 pub returns : goal.returns
 returns c =
-    let end : c.args.self.code.header.k ≡ c.loop-r.r = omega (arith, c.loop-r.auto.r-end, c.loop-r-test.false) in
-    end ∙ sym (c.loop-r.invariant ∙ search_end _ _ _ c.loop-r-test.false)
+    let end : c.loop-r.r ≡ c.args.self.code.header.k = omega (arith, c.loop-r.auto.r-end, c.loop-r-test.false) in
+    c.loop-r.invariant ∙ search_end _ _ _ c.loop-r-test.false ∙ end

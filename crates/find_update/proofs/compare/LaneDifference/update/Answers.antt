@@ -1,35 +1,39 @@
 -- `update` meets its contract: the tests are those of the definition.
 use mathlib.Core.Path.{◌≡◌}
-use borrow.Author.Tests.{eq-eqb, ne_eqb, lt-ltb, le-ltb}
-use lib.Dec.{eqb}
-use lib.ListN.{length}
+use mathlib.Core.Bool.{false}
+use native.Mathlib.Omega.{arith}
+use borrow.Author.Tests.{lt-ltb, le-ltb}
+use lib.Dec.{ltb}
 use Rattle.lists.specs.Choice.{pick}
 use Rattle.find_update.specs.declared.Finding.TheVariants.{Added, NoSingleUpdate}
-use Rattle.find_update.specs.Inner.Starts.{update_in}
+use Rattle.find_update.specs.Inner.Starts.{row_starting, update_in}
 use Rattle.find_update.proofs.Behind.{amount_symbol}
 use Rattle.find_update.proofs.compare.LaneDifference.update.Goals as goal
-use Rattle.find_update.proofs.compare.LaneDifference.update.Goals.{After-first_other}
+use Rattle.find_update.proofs.compare.LaneDifference.update.Goals.{After-is_multiple}
 
 -- what comparing the row with the difference says
-compared : (c : After-first_other)
+compared : (c : After-is_multiple)
     → let a = c.args in
-    pick (eqb c.first_other.result (length a.self.symbols.now)) (Added c.row-row.result c.amount-amount.result) NoSingleUpdate
-    ≡ update_in a.self.code.header a.self.symbols.now
+    pick c.is_multiple.result (Added c.in-Some.row c.amount-amount.result) NoSingleUpdate ≡ update_in a.self.code.header a.self.symbols.now
 unfolding update_in
 compared c =
-    rw (c.args.self.lane.long, ← c.row-row.ensures, lt-ltb _ _ c.if-k-row.false, ← c.amount-amount.ensures, ← c.first_other.ensures)
+    let (row, is) = c.in-Some.ensures in
+    rw (is, lt-ltb _ _ row, ← c.amount-amount.ensures, ← c.is_multiple.ensures)
 
-pub returns-then-k-row : goal.returns-then-k-row
+pub returns-in_default : goal.returns-in_default
 unfolding update_in
-returns-then-k-row c = rw (le-ltb _ _ (rw c.row-row.ensures at c.if-k-row.true))
+returns-in_default c =
+    let h = c.args.self.code.header in
+    let none : ltb (row_starting h c.args.self.symbols.now) h.k ≡ false = le-ltb _ _ (omega (arith, c.in_default.ensures)) in
+    rw none
 
-pub first_other-requires : goal.first_other-requires
-first_other-requires c =
-    let sound = c.args.self.code.sound in
-    (c.if-k-row.false, rw c.amount-amount.ensures (amount_symbol _ sound _ c.args.self.lane _ c.if-k-row.false))
+pub is_multiple-requires : goal.is_multiple-requires
+is_multiple-requires c =
+    let row = c.in-Some.ensures.0 in
+    (row, rw c.amount-amount.ensures (amount_symbol _ c.args.self.code.sound _ c.args.self.lane _ row))
 
-pub returns-then-first_other-self : goal.returns-then-first_other-self
-returns-then-first_other-self c = rw (ne_eqb _ _ c.if-first_other-self.true) at (compared (goal.at.returns-then-first_other-self c).After-first_other)
+pub returns-then-is_multiple : goal.returns-then-is_multiple
+returns-then-is_multiple c = rw c.if-is_multiple.true at (compared (goal.at.returns-then-is_multiple c).After-is_multiple)
 
-pub returns : goal.returns
-returns c = rw (eq-eqb _ _ c.if-first_other-self.false) at (compared (goal.at.returns c).After-first_other)
+pub returns-else-is_multiple : goal.returns-else-is_multiple
+returns-else-is_multiple c = rw c.if-is_multiple.false at (compared (goal.at.returns-else-is_multiple c).After-is_multiple)

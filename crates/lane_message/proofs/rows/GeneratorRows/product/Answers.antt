@@ -20,16 +20,18 @@ part c = rw c.args.self.shifts_are (take_padded 255 _ _ (length_shifts c.args.se
 pub slice_bounds-rounds_of-end : goal.slice_bounds-rounds_of-end
 slice_bounds-rounds_of-end c = sym (ap length (part (goal.at.slice_bounds-rounds_of-end c).Start) ∙ length_shifts c.args.self.transform.code.header c.args.self.transform.code.sound)
 
-pub rounds_of-rounds-requires : goal.rounds_of-rounds-requires
-rounds_of-rounds-requires c = (c.args.self.transform.code.sound.byte, rw (part (goal.at.rounds_of-rounds-requires c).Start, length_shifts c.args.self.transform.code.header c.args.self.transform.code.sound) (few (goal.at.rounds_of-rounds-requires c).Start))
+pub rounds_of-requires : goal.rounds_of-requires
+rounds_of-requires c =
+    let sound = c.args.self.transform.code.sound in
+    (omega (arith, sound.two), sound.byte, rw (part (goal.at.rounds_of-requires c).Start, length_shifts c.args.self.transform.code.header sound) (few (goal.at.rounds_of-requires c).Start))
 
 pub product-requires : goal.product-requires
 product-requires c = rw (c.args.self.transform.same, c.requires) (row_symbols c.args.self.transform.code.header c.args.self.transform.code.sound (few (goal.at.product-requires c).Start)).are
 
-pub returns-then-rounds-eq0 : goal.returns-then-rounds-eq0
-returns-then-rounds-eq0 c = c.product.ensures ∙ rw (c.args.self.transform.same, c.requires)
-
 pub round_product-requires : goal.round_product-requires
 round_product-requires c =
-    let r = c.rounds_of-rounds.ensures in
-    (omega arith, omega (arith, r.0, c.args.self.transform.code.sound.byte), rw (part (goal.at.round_product-requires c).Start) at (r.1 (omega arith)))
+    let (some, most, rounds) = c.in-Some.ensures in
+    (some, omega (arith, most, c.args.self.transform.code.sound.byte), rw (part (goal.at.round_product-requires c).Start) at rounds)
+
+pub returns-in-None : goal.returns-in-None
+returns-in-None c = c.product.ensures ∙ rw (c.args.self.transform.same, c.requires)

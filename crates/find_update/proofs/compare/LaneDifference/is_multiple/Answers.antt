@@ -1,9 +1,9 @@
--- `first_other` meets its contract. Invariant: the search from 0 on is the search from j on.
+-- `is_multiple` meets its contract. Invariant: the search from 0 on is the search from j on.
 use mathlib.Core.Path.{◌≡◌, sym, ap, ◌∙◌}
 use Prim.Native.Nat.{ℕ}
 use native.Mathlib.Nat.{sub-zero}
 use native.Mathlib.Omega.{arith}
-use borrow.Author.Tests.{not-true, not-false}
+use borrow.Author.Tests.{not-true, not-false, eq-eqb, ne_eqb}
 use lib.Dec.{eqb}
 use lib.ListN.{get_or}
 use Rattle.lists.proofs.Search.{search_next, search_found, search_end}
@@ -12,10 +12,10 @@ use Rattle.generator.specs.Records.{modulus_of}
 use Rattle.generator.specs.Generator.{entry}
 use Rattle.generator.proofs.Bounds.{entry_below}
 use Rattle.plan.proofs.Plans.{shift_below, base_room, entry_read}
-use Rattle.find_update.specs.Inner.Starts.{first_other}
-use Rattle.find_update.proofs.compare.LaneDifference.first_other.Invariants.{same}
-use Rattle.find_update.proofs.compare.LaneDifference.first_other.Goals as goal
-use Rattle.find_update.proofs.compare.LaneDifference.first_other.Goals.{After-entry_at-entry, After-is_product}
+use Rattle.find_update.specs.Inner.Starts.{first_other, is_multiple}
+use Rattle.find_update.proofs.compare.LaneDifference.is_multiple.Invariants.{same}
+use Rattle.find_update.proofs.compare.LaneDifference.is_multiple.Goals as goal
+use Rattle.find_update.proofs.compare.LaneDifference.is_multiple.Goals.{After-entry_at-entry, After-is_product}
 
 -- the entry that is read is the generator's
 read : (c : After-entry_at-entry)
@@ -50,14 +50,17 @@ is_product-requires c =
     rw c.args.self.same (factor, rw (read (goal.at.is_product-requires c).After-entry_at-entry) (entry_below _ sound _ _))
 
 pub returns-then-not-is_product : goal.returns-then-not-is_product
+unfolding is_multiple
 returns-then-not-is_product c =
-    sym (c.loop-j.invariant ∙ search_found _ _ _ c.loop-j-test.true (sym (compared (goal.at.returns-then-not-is_product c).After-is_product) ∙ not-true _ c.if-not-is_product.true-raw))
+    let found = c.loop-j.invariant ∙ search_found _ _ _ c.loop-j-test.true (sym (compared (goal.at.returns-then-not-is_product c).After-is_product) ∙ not-true _ c.if-not-is_product.true-raw) in
+    sym (rw found (ne_eqb _ _ (omega (arith, c.loop-j-test.true))))
 
 pub loop-j-preserved : goal.loop-j-preserved
 loop-j-preserved c =
     c.loop-j.invariant ∙ search_next _ _ _ c.loop-j-test.true (sym (compared (goal.at.loop-j-preserved c).After-is_product) ∙ not-false _ c.if-not-is_product.false-raw)
 
 pub returns : goal.returns
+unfolding is_multiple
 returns c =
     let end : c.args.self.code.header.n ≡ c.loop-j.j = omega (arith, c.loop-j.auto.j-end, c.loop-j-test.false) in
-    end ∙ sym (c.loop-j.invariant ∙ search_end _ _ _ c.loop-j-test.false)
+    sym (eq-eqb _ _ (c.loop-j.invariant ∙ search_end _ _ _ c.loop-j-test.false ∙ sym end))

@@ -1,4 +1,4 @@
--- `first_far` meets its contract. Invariant: the search from 0 on is the search from t on.
+-- `has_far` meets its contract. Invariant: the search from 0 on is the search from t on.
 use mathlib.Core.Path.{◌≡◌}
 use mathlib.Core.Bool.{Bool}
 use mathlib.Core.List.{List}
@@ -10,7 +10,7 @@ use Rattle.layout.specs.Width.{symbols_of}
 use Rattle.generator.specs.declared.Header.{Header}
 use Rattle.generator.specs.Records.{width}
 use Rattle.nearest_word.specs.Nearest.{has_near}
-use Rattle.correct.proofs.lane.Marked.first_far.Given as goal
+use Rattle.correct.proofs.lane.Marked.has_far.Given as goal
 
 -- lane t has a word near enough
 abbrev pub near : Header → ℕ → List ℕ → ℕ → Bool

@@ -1,4 +1,4 @@
--- `first_far` meets its contract. Invariant: the search from 0 on is the search from t on.
+-- `has_far` meets its contract. Invariant: the search from 0 on is the search from t on.
 use mathlib.Core.Path.{◌≡◌, sym, ◌∙◌}
 use Prim.Native.Nat.{◌+◌, ◌*◌, ◌≤◌}
 use native.Mathlib.Nat.{sub-zero}
@@ -8,10 +8,11 @@ use lib.ListN.{length}
 use Rattle.lists.proofs.Search.{search_next, search_found, search_end}
 use Rattle.generator.proofs.Widths.{width_some}
 use Rattle.correct.specs.Blocks.{first_far}
+use Rattle.correct.proofs.Answers.{far_met, far_none}
 use Rattle.correct.proofs.LaneBytes.{part_inside, part_lane, part_marked}
-use Rattle.correct.proofs.lane.Marked.first_far.Invariants.{near}
-use Rattle.correct.proofs.lane.Marked.first_far.Goals as goal
-use Rattle.correct.proofs.lane.Marked.first_far.Goals.{After-is_near, In-loop-t}
+use Rattle.correct.proofs.lane.Marked.has_far.Invariants.{near}
+use Rattle.correct.proofs.lane.Marked.has_far.Goals as goal
+use Rattle.correct.proofs.lane.Marked.has_far.Goals.{After-is_near, In-loop-t}
 
 -- the bytes of lane t
 inside : (c : In-loop-t) → let n = c.args.self.rows.code.header.n in c.loop-t.t * (c.width_of.result * n) + c.width_of.result * n ≤ length c.args.shares.now
@@ -42,7 +43,8 @@ pub returns-then-not-is_near : goal.returns-then-not-is_near
 unfolding first_far
 returns-then-not-is_near c =
     let l = c.loop-t in
-    sym (l.invariant ∙ search_found _ _ _ c.loop-t-test.true (sym (near-is (goal.at.returns-then-not-is_near c).After-is_near) ∙ not-true _ c.if-not-is_near.true-raw))
+    let found = l.invariant ∙ search_found _ _ _ c.loop-t-test.true (sym (near-is (goal.at.returns-then-not-is_near c).After-is_near) ∙ not-true _ c.if-not-is_near.true-raw) in
+    sym (far_met _ _ _ _ l.t found c.loop-t-test.true)
 
 pub loop-t-preserved : goal.loop-t-preserved
 loop-t-preserved c =
@@ -53,5 +55,5 @@ pub returns : goal.returns
 unfolding first_far
 returns c =
     let l = c.loop-t in
-    let end : length c.args.self.marks.now ≡ l.t = omega (arith, l.auto.t-end, c.loop-t-test.false) in
-    end ∙ sym (l.invariant ∙ search_end _ _ _ c.loop-t-test.false)
+    let end : l.t ≡ length c.args.self.marks.now = omega (arith, l.auto.t-end, c.loop-t-test.false) in
+    sym (far_none _ _ _ _ (l.invariant ∙ search_end _ _ _ c.loop-t-test.false ∙ end))

@@ -1,4 +1,4 @@
--- `first_other` meets its contract. Invariant: the search from 0 on is the search from j on.
+-- `is_multiple` meets its contract. Invariant: the search from 0 on is the search from j on.
 use mathlib.Core.Path.{◌≡◌}
 use mathlib.Core.Bool.{Bool}
 use mathlib.Core.List.{List}
@@ -11,7 +11,7 @@ use Rattle.generator.specs.declared.Header.{Header}
 use Rattle.generator.specs.Records.{modulus_of}
 use Rattle.generator.specs.Generator.{entry}
 use Rattle.find_update.specs.Inner.Starts.{first_other}
-use Rattle.find_update.proofs.compare.LaneDifference.first_other.Given as goal
+use Rattle.find_update.proofs.compare.LaneDifference.is_multiple.Given as goal
 
 -- the comparison at node j
 abbrev pub same : Header → List ℕ → ℕ → ℕ → ℕ → Bool

@@ -1,4 +1,4 @@
--- `first_off` meets its contract. Invariant: the search from 0 on is the search from e on.
+-- `goes_up` meets its contract. Invariant: the search from 0 on is the search from e on.
 use mathlib.Core.Path.{◌≡◌}
 use mathlib.Core.Bool.{Bool}
 use mathlib.Core.List.{List}
@@ -9,7 +9,7 @@ use Rattle.lists.specs.Search.{first_false}
 use Rattle.field.specs.Fields.{mul}
 use Rattle.field.specs.Kinds.{modulus}
 use Rattle.mends.specs.Inner.BySums.{first_off}
-use Rattle.mends.proofs.changes.Received.first_off.Given as goal
+use Rattle.mends.proofs.changes.Received.goes_up.Given as goal
 
 -- the test at place e
 abbrev pub step : ℕ → ℕ → List ℕ → ℕ → Bool
