@@ -64,6 +64,7 @@ fn find(code: Code, before: &[u16], after: &[u16]) -> Finding
 }
 
 // Numbers 8 and 11.
+#[tactic(auto, using(generator::proofs::Answered::tests), unfolding(crate::specs::Promise::find_fault))]
 fn find_fault(code: Code, before: &[u8], after: &[u8]) -> Result<(), Refusal>
     ensures { numbered result ≡ outcome_of (find_fault code.header before.now after.now) }
 {

@@ -28,6 +28,7 @@ fn list_mends(code: Code, lane: &[u16], nodes: &mut [u8], symbols: &mut [u8]) ->
 }
 
 // Numbers 8 and 11; `nodes` and `symbols` are the lengths of the written buffers.
+#[tactic(auto, using(generator::proofs::Answered::tests), unfolding(crate::specs::Promise::mends_fault))]
 fn mends_fault(code: Code, lane: &[u8], nodes: usize, symbols: usize) -> Result<(), Refusal>
     ensures { numbered result ≡ outcome_of (mends_fault code.header lane.now nodes symbols) }
 {

@@ -7,6 +7,7 @@ use generator::{Code, Refusal};
 use refusals::{buffer_bad, lanes_bad};
 
 // So many rows are moved; `source` is the length of the buffer that is read, `size` of the one that is written.
+#[tactic(auto, using(generator::proofs::Answered::tests), unfolding(crate::specs::Promise::rearrange_fault))]
 pub fn rearrange_fault(
     code: Code,
     rows: u8,
