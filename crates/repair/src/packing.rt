@@ -1,8 +1,11 @@
 // Bits packed into planes, and digits into planes of their bits.
 ghost use Rattle.std.specs.Prelude.{◌≡◌, ◌≤◌, ◌<◌, ◌*◌, length, get_or};
 ghost use Rattle.kernel.specs.Inner.Lanes.{lanewise};
+ghost use Rattle.repair_tables.specs.Bits.{bit_count};
 ghost use Rattle.repair.specs.Inner.Lanes.{lane_bit};
 ghost use Rattle.repair.specs.Packing.{plane_size, packed_size, byte_from, planes};
+
+use repair_tables::Bits;
 
 // How many bytes a plane of a bit for each lane takes.
 pub fn plane_size(lanes: usize) -> usize
@@ -13,13 +16,11 @@ pub fn plane_size(lanes: usize) -> usize
 }
 
 // How many bytes a digit for each lane takes.
-pub fn packed_size(b: u32, lanes: usize) -> usize
-    requires { (b ≤ 4) × (lanes ≤ 4294967295) }
-    ensures { result ≡ packed_size b lanes }
+pub fn packed_size(b: Bits, lanes: usize) -> usize
+    requires { lanes ≤ 4294967295 }
+    ensures { result ≡ packed_size (bit_count b) lanes }
 {
-    let count = b as usize;
-    let size = plane_size(lanes);
-    count * size
+    b.count() as usize * plane_size(lanes)
 }
 
 // The digits of a share's symbols, by the table of all 256.
@@ -65,11 +66,11 @@ impl<'a> Digits<'a> {
     }
 
     // The planes of all b bits.
-    pub fn pack(self, b: u32, size: usize, out: &mut [u8])
-        requires { (b ≤ 4) × (length self.share.now ≤ 4096) × (size ≡ plane_size (length self.share.now)) × (length out.old ≡ b * size) }
-        ensures { out.new ≡ planes b (length self.entry.share.now) (λ i. get_or self.entry.table.now (get_or self.entry.share.now i 0) 0) }
+    pub fn pack(self, b: Bits, size: usize, out: &mut [u8])
+        requires { (length self.share.now ≤ 4096) × (size ≡ plane_size (length self.share.now)) × (length out.old ≡ bit_count b * size) }
+        ensures { out.new ≡ planes (bit_count b) (length self.entry.share.now) (λ i. get_or self.entry.table.now (get_or self.entry.share.now i 0) 0) }
     {
-        let count = b as usize;
+        let count = b.count() as usize;
         for e in 0..count {
             let start = e * size;
             let end = start + size;
