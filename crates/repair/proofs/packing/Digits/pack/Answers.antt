@@ -42,7 +42,7 @@ pack_plane-requires c =
     let l = c.loop-e in
     let part = part_length (l.e * c.args.size) c.args.size l.out (omega (arith, l.invariant.long, row_in (goal.at.pack_plane-requires c).In-loop-e)) in
     let small : c.args.size ≤ 512 = rw p.1 (plane_small _ p.0) in
-    (omega (arith, c.count-count.ensures, width_some c.args.b, c.loop-e-test.true), rw part small)
+    rw part small
 
 pub loop-e-preserved : goal.loop-e-preserved
 loop-e-preserved c =
