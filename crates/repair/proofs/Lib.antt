@@ -4,3 +4,4 @@ pub mod Bits
 pub mod Adding
 pub mod Sending
 pub mod Accepts
+pub mod Judging

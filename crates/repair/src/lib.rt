@@ -6,12 +6,14 @@ ghost use Rattle.lists.specs.Numbers.{distinct};
 ghost use Rattle.generator.specs.Answers.{numbered};
 ghost use Rattle.traces.specs.Repairs.{bits};
 ghost use Rattle.traces.specs.Claims.{Repairing};
+ghost use Rattle.repair_tables.specs.Bits.{bit_count};
 ghost use Rattle.repair.specs.Packing.{packed_size};
 ghost use Rattle.repair.specs.Sent.{repaired_share};
 ghost use Rattle.repair.specs.Promise.{repair_bits_fault, repair_share_fault, repair_plan_fault, RepairBitsPromise, RepairSharePromise, RepairPlanPromise, RepairBitsSays, RepairShareSays, RepairPlanSays};
 
 use generator::{Code, Refusal};
 use packing::Digits;
+use repair_tables::Bits;
 use repair_tables::tables::{sent_digits, weights};
 use sums::Planes;
 
@@ -40,10 +42,9 @@ struct Repair<'a> {
 fn bits_accepted(repair: Repair, node: u32, share: &[u8], out: &mut [u8]) -> Result<(), Refusal>
     ensures { RepairBitsPromise node repair.entry.target repair.entry.missing.now share.now out.old out.new (numbered result) repair.entry.code.header (repair_bits_fault repair.entry.code.header repair.entry.lanes node repair.entry.target repair.entry.missing.now (length share.now) (length out.old)) }
 {
-    fault::bits_fault(repair, node, share.len(), out.len())?;
-    let b = repair_tables::bits(repair.code, repair.missing.len());
+    let b = fault::judge_bits(repair, node, share.len(), out.len())?;
     let size = packing::plane_size(repair.lanes);
-    let table = sent_digits(repair.code, repair.target, repair.missing, node);
+    let table = sent_digits(repair.code, b, repair.target, repair.missing, node);
     let digits = Digits {
         table: &table,
         share,
@@ -75,14 +76,13 @@ pub fn repair_bits(
 }
 
 // The target's share from the planes of the nodes that send.
-fn add_up(repair: Repair, rows: &[u8], out: &mut [u8])
-    requires { Repairing repair.code.header repair.target repair.missing.now × (distinct repair.missing.now ≡ true) × (repair.lanes ≤ 4096) × (length out.old ≡ repair.lanes) × (length rows.now ≡ (repair.code.header.n - 1 - length repair.missing.now) * packed_size (bits repair.code.header (length repair.missing.now)) repair.lanes) }
+fn add_up(repair: Repair, b: Bits, rows: &[u8], out: &mut [u8])
+    requires { (bit_count b ≡ bits repair.code.header (length repair.missing.now)) × Repairing repair.code.header repair.target repair.missing.now × (distinct repair.missing.now ≡ true) × (repair.lanes ≤ 4096) × (length out.old ≡ repair.lanes) × (length rows.now ≡ (repair.code.header.n - 1 - length repair.missing.now) * packed_size (bits repair.code.header (length repair.missing.now)) repair.lanes) }
     ensures { out.new ≡ repaired_share repair.entry.code.header repair.entry.lanes repair.entry.target repair.entry.missing.now rows.now }
 {
-    let b = repair_tables::bits(repair.code, repair.missing.len());
-    let count = fault::row_count(repair.code.header.n as usize, repair.missing.len());
+    let senders = fault::row_count(repair.code.header.n as usize, repair.missing.len());
     let weights = weights(repair.code, b, repair.target, repair.missing);
-    let total = count * b as usize;
+    let total = senders * b.count() as usize;
     let planes = Planes {
         weights: &weights[..total],
         size: packing::plane_size(repair.lanes),
@@ -95,8 +95,8 @@ fn add_up(repair: Repair, rows: &[u8], out: &mut [u8])
 fn share_accepted(repair: Repair, rows: &[u8], out: &mut [u8]) -> Result<(), Refusal>
     ensures { RepairSharePromise repair.entry.lanes repair.entry.target repair.entry.missing.now rows.now out.old out.new (numbered result) repair.entry.code.header (repair_share_fault repair.entry.code.header repair.entry.lanes repair.entry.target repair.entry.missing.now (length rows.now) (length out.old)) }
 {
-    fault::share_fault(repair, rows.len(), out.len())?;
-    add_up(repair, rows, out);
+    let b = fault::judge_share(repair, rows.len(), out.len())?;
+    add_up(repair, b, rows, out);
     Ok(())
 }
 
@@ -125,9 +125,9 @@ pub fn repair_share(
 fn plan_accepted(code: Code, missing: usize) -> Result<RepairPlan, Refusal>
     ensures { RepairPlanPromise missing (numbered result) code.header (repair_plan_fault code.header missing) }
 {
-    Refusal::Traces.when(fault::traces_bad(code, missing))?;
-    let bits = repair_tables::bits(code, missing);
-    let spare = repair_tables::spare(code, missing);
+    let b = Bits::new(code, missing).ok_or(Refusal::Traces)?;
+    let bits = b.count();
+    let spare = b.spare(code, missing);
     Ok(RepairPlan { bits, spare })
 }
 

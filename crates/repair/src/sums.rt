@@ -4,15 +4,8 @@ ghost use Rattle.std.specs.Int.Bits.{bit_xor};
 ghost use Rattle.kernel.specs.Inner.Lanes.{lanewise};
 ghost use Rattle.repair.specs.Inner.Sums.{plane_sum, plane_sums, lane_byte};
 
-// A row added to acc.
-fn add_row(row: &[u8], acc: &mut [u8])
-    requires { length row.now ≡ length acc.old }
-    ensures { acc.new ≡ lanewise (λ c y. bit_xor y (get_or row.now c 0)) acc.old }
-{
-    for c in 0..acc.len() {
-        acc[c] = acc[c] ^ row[c];
-    }
-}
+use crate::packing::Bit;
+use kernel::gf256;
 
 // A row added to acc where the bit is 1.
 fn add_chosen(bit: u32, row: &[u8], acc: &mut [u8])
@@ -20,7 +13,7 @@ fn add_chosen(bit: u32, row: &[u8], acc: &mut [u8])
     ensures { acc.new ≡ lanewise (λ c y. bit_xor y (bit * get_or row.now c 0)) acc.old }
 {
     if bit == 1 {
-        add_row(row, acc);
+        gf256::add(row, acc);
     }
 }
 
@@ -30,10 +23,12 @@ fn gather(acc: &[u8], size: usize, i: usize) -> u8
     ensures { result ≡ lane_byte acc.now size i }
 {
     let c = i / 8;
-    let shift = (i % 8) as u32;
+    let bit = Bit {
+        place: (i % 8) as u32,
+    };
     let mut x: u32 = 0;
     for p in (0..8).rev() {
-        x = ((acc[p * size + c] as u32) >> shift) % 2 + 2 * x;
+        x = bit.of(acc[p * size + c]) + 2 * x;
     }
     x as u8
 }
@@ -43,8 +38,8 @@ fn gather_all(acc: &[u8], size: usize, out: &mut [u8])
     requires { (size ≤ 512) × (length out.old ≤ size * 8) × (length acc.now ≡ 8 * size) }
     ensures { out.new ≡ lanewise (λ i y. lane_byte acc.now size i) out.old }
 {
-    for i in 0..out.len() {
-        out[i] = gather(acc, size, i);
+    for (i, x) in out.iter_mut().enumerate() {
+        *x = gather(acc, size, i);
     }
 }
 
@@ -59,18 +54,16 @@ pub struct Planes<'a> {
 }
 
 impl<'a> Planes<'a> {
-    // The sum of the planes whose weight has bit p.
-    fn sum(self, p: u32, acc: &mut [u8])
-        requires { (p < 8) × (length acc.old ≡ self.size) }
-        ensures { acc.new ≡ plane_sum self.entry.weights.now (length self.entry.weights.now) self.entry.size self.entry.rows.now p }
+    // The sum of the planes whose weight has the bit.
+    fn sum(self, bit: Bit, acc: &mut [u8])
+        requires { length acc.old ≡ self.size }
+        ensures { acc.new ≡ plane_sum self.entry.weights.now (length self.entry.weights.now) self.entry.size self.entry.rows.now bit.place }
     {
-        let count = self.weights.len();
         acc.fill(0);
-        for q in 0..count {
+        for (q, weight) in self.weights.iter().enumerate() {
             let start = q * self.size;
             let end = start + self.size;
-            let bit = ((self.weights[q] as u32) >> p) % 2;
-            add_chosen(bit, &self.rows[start..end], acc);
+            add_chosen(bit.of(*weight), &self.rows[start..end], acc);
         }
     }
 
@@ -82,7 +75,7 @@ impl<'a> Planes<'a> {
         for p in 0..8 {
             let start = p * self.size;
             let end = start + self.size;
-            self.sum(p as u32, &mut acc[start..end]);
+            self.sum(Bit { place: p as u32 }, &mut acc[start..end]);
         }
     }
 

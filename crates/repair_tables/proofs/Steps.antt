@@ -1,7 +1,8 @@
 -- One turn of each loop, and the table of digits by two rows of sixteen.
-use mathlib.Core.Path.{◌≡◌, sym, ap, ◌∙◌}
-use mathlib.Core.Bool.{true, false}
-use mathlib.Core.List.{List}
+use mathlib.Core.Path.{◌≡◌, refl, sym, ap, ◌∙◌}
+use mathlib.Core.Bool.{Bool, ◌||◌}
+use mathlib.Core.List.{List, [], ◌∷◌}
+use mathlib.Core.Logic.{inl, inr}
 use Prim.Native.Nat.{ℕ, ◌+◌, ◌-◌, ◌*◌, ◌/◌, ◌%◌, ◌^◌, ◌≤◌, ◌<◌}
 use native.Mathlib.Nat.{sub-zero, zero-add, lt_of_lt_of_le, div-lt_iff_lt-mul, mod-lt, mul-le-mul}
 use native.Mathlib.Omega.{arith}
@@ -9,25 +10,30 @@ use lib.Dec.{eqb, lit<}
 use Rattle.lists.proofs.Cases.{by_test}
 use lib.Bits.{bit_xor, xor_zero_r, xor_comm, xor_lt, xor_mod}
 use lib.ListN.{length, get_or, drop, drop_of_length-le}
-use lib.Seq.{drop-length}
-use borrow.Author.Tests.{ne_eqb}
+use lib.Pow.{pow_mono}
+use Rattle.std.specs.List.{list_any}
 use Rattle.lists.specs.Rows.{from}
 use Rattle.lists.specs.Numbers.{is_in}
-use Rattle.lists.proofs.Front.{drop_next, drop_before}
-use Rattle.lists.proofs.Numbers.{place_is_in}
+use Rattle.lists.proofs.Front.{drop_next}
 use Rattle.lists.proofs.Rows.{sub_next, sub_end, from_ext, get_or_from}
 use Rattle.field.specs.Bytes.{product}
 use Rattle.field.specs.Fields.{size_of, mul}
+use Rattle.field.proofs.BothKinds.{arithmetic}
+use Rattle.field.proofs.Bounds.{one_below}
 use Rattle.field.proofs.Computed.{equal_at}
 use Rattle.field.proofs.Product.{product_byte, product_right, times_digit}
 use Rattle.field.proofs.Xor.{xor_assoc, digit}
 use Rattle.generator.specs.declared.Header.{Header}
-use Rattle.generator.specs.Records.{modulus_of}
+use Rattle.generator.specs.Records.{modulus_of, size, Sound}
 use Rattle.traces.specs.Traces.{TraceBits, squarings, trace_from, trace_of, element}
-use Rattle.traces.specs.Repairs.{erasing, eraser}
+use Rattle.traces.specs.Repairs.{bits, erasing, eraser}
+use Rattle.traces.proofs.Bounds.{erasing_below, eraser_below}
 use Rattle.traces.proofs.Bytes.{trace_additive}
-use Rattle.traces.proofs.Claims.{by_width}
+use Rattle.traces.proofs.Claims.{repairable}
 use Rattle.traces.proofs.Words.{byte_size}
+use Rattle.repair_tables.specs.declared.bits.Bits.{Bits}
+use Rattle.repair_tables.specs.declared.bits.Bits.TheVariants as B
+use Rattle.repair_tables.specs.Bits.{bit_count}
 
 pub mul_byte : (a b : ℕ) → a < 256 → mul 0 a b < 256
 unfolding mul
@@ -68,9 +74,29 @@ element_byte b v =
     (xor_lt 8 (v % 2) (146 * (v / 2 % 2)) low (digit_times 146 (v / 2) (lit< tt)))
     (xor_lt 8 (68 * (v / 4 % 2)) (152 * (v / 8 % 2)) (digit_times 68 (v / 4) (lit< tt)) (digit_times 152 (v / 8) (lit< tt))))))
 
--- a width is not 0, and its values are at most 16
-pub width_some : (b : ℕ) → TraceBits b → (0 < b) × (0 < 2 ^ b) × (2 ^ b ≤ 16)
-width_some b w = by_width (λ b. (0 < b) × (0 < 2 ^ b) × (2 ^ b ≤ 16)) (omega arith, omega arith, omega arith) (omega arith, omega arith, omega arith) (omega arith, omega arith, omega arith) b w
+-- the bits are a width, not 0 and at most 4, and their values are at most 16
+pub width_of : (b : Bits) → TraceBits (bit_count b)
+width_of B.One = inl refl
+width_of B.Two = inr (inl refl)
+width_of B.Four = inr (inr refl)
+
+pub width_some : (b : Bits) → (0 < bit_count b) × (bit_count b ≤ 4) × (0 < 2 ^ bit_count b) × (2 ^ bit_count b ≤ 16)
+width_some B.One = (omega arith, omega arith, omega arith, omega arith)
+width_some B.Two = (omega arith, omega arith, omega arith, omega arith)
+width_some B.Four = (omega arith, omega arith, omega arith, omega arith)
+
+-- 1 shifted
+pub needed_is : (b : Bits) → 1 * 2 ^ (8 - bit_count b) % 18446744073709551616 ≡ 2 ^ (8 - bit_count b)
+needed_is B.One = refl
+needed_is B.Two = refl
+needed_is B.Four = refl
+
+pub digit_place : (e : ℕ) → e < 4 → 1 * 2 ^ e % 4294967296 ≡ 2 ^ e
+digit_place e h = let three : e ≤ 3 = omega arith in omega (arith, pow_mono {j = 3} three)
+
+-- where there are bits the field has 256 elements
+pub binary_of : (h : Header) (m : ℕ) (b : Bits) → bit_count b ≡ bits h m → modulus_of h ≡ 0
+binary_of h m b e = (repairable h m (λ z. omega (arith, e, width_some b))).kind
 
 -- a product in the field that p names, where p is 0
 pub mul_kind : (p a b : ℕ) → p ≡ 0 → a < 256 → mul p a b < 256
@@ -104,34 +130,33 @@ table_is p b f low high e hf l u =
     rw (l, u, get_or_from (λ i. digit_of p b f (i * 1)) 0 16 (x % 16) 0 (omega arith), get_or_from (λ i. digit_of p b f (i * 16)) 0 16 (x / 16) 0 (omega arith), zero-add (x % 16), zero-add (x / 16))
     (sym (digit_sum p b f (x % 16 * 1) (x / 16 * 16) e hf (omega arith) (omega arith)) ∙ ap (digit_of p b f) (halves x (omega arith))))
 
--- the product over the missing nodes: over those from the end, and over one more
-pub eraser_end : (h : Header) (t u : ℕ) (missing : List ℕ) → eraser h t u (drop (length missing) missing) ≡ 1
-unfolding eraser
-eraser_end h t u missing = ap (eraser h t u) (drop-length missing)
+-- the product over the missing nodes: what is left of it before the first, one more node, after the last
+module _ (h : Header) (s : Sound h) (t u : ℕ) (low : u < size h) (missing : List ℕ) where
+  pub eraser_start : mul (modulus_of h) 1 (eraser h t u missing) ≡ eraser h t u missing
+  eraser_start =
+      let below = eraser_below h s t u missing low in
+      (arithmetic (modulus_of h) s.field).mul_comm 1 _ (one_below (modulus_of h) s.field) below ∙ (arithmetic (modulus_of h) s.field).mul-one _ below
 
-pub eraser_next : (h : Header) (t u : ℕ) (missing : List ℕ) (i : ℕ) → 0 < i → i ≤ length missing → eraser h t u (drop (i - 1) missing) ≡ mul (modulus_of h) (erasing h t u (get_or missing (i - 1) 0)) (eraser h t u (drop i missing))
-unfolding eraser
-eraser_next h t u missing i some l = ap (eraser h t u) (drop_before missing i 0 some l)
+  pub eraser_next : (i x : ℕ) → i < length missing → x < size h → mul (modulus_of h) (mul (modulus_of h) x (erasing h t u (get_or missing i 0))) (eraser h t u (drop (i + 1) missing)) ≡ mul (modulus_of h) x (eraser h t u (drop i missing))
+  unfolding eraser
+  eraser_next i x l few =
+      (arithmetic (modulus_of h) s.field).mul_assoc x _ _ few (erasing_below h s t u (get_or missing i 0) low) (eraser_below h s t u (drop (i + 1) missing) low)
+      ∙ ap (λ (js : List ℕ). mul (modulus_of h) x (eraser h t u js)) (sym (drop_next missing i 0 l))
 
--- a number in what is left of a list
-pub in_end : (x : ℕ) (l : List ℕ) (i : ℕ) → length l ≤ i → is_in x (drop i l) ≡ false
+  pub eraser_end : (i x : ℕ) → length missing ≤ i → x < size h → mul (modulus_of h) x (eraser h t u (drop i missing)) ≡ x
+  unfolding eraser
+  eraser_end i x l few = ap (λ (js : List ℕ). mul (modulus_of h) x (eraser h t u js)) (drop_of_length-le missing {i = i} l) ∙ (arithmetic (modulus_of h) s.field).mul-one x few
+
+-- a number in a list, by a search
+pub any_is_in : (x : ℕ) (l : List ℕ) → list_any (λ y. eqb x y) l ≡ is_in x l
 unfolding is_in
-in_end x l i h = ap (is_in x) (drop_of_length-le l {i = i} h)
-
-pub in_next : (x : ℕ) (l : List ℕ) (i : ℕ) → i < length l → (x ≡ get_or l i 0 → ⊥) → is_in x (drop i l) ≡ is_in x (drop (i + 1) l)
-unfolding is_in
-in_next x l i h d = ap (is_in x) (drop_next l i 0 h) ∙ rw (ne_eqb x (get_or l i 0) d)
-
-pub in_here : (x : ℕ) (l : List ℕ) (i : ℕ) → i < length l → x ≡ get_or l i 0 → is_in x l ≡ true
-in_here x l i h e = ap (λ (y : ℕ). is_in y l) e ∙ place_is_in l i h
+any_is_in x [] = refl
+any_is_in x (y ∷ l) = ap (λ (r : Bool). eqb x y || r) (any_is_in x l)
 
 -- the node and the bit of a number below m·b
-pub width_parts : (b q m : ℕ) → TraceBits b → q < m * b → (q / b < m) × (q % b < 4)
-width_parts b q m w l = (
-  (div-lt_iff_lt-mul (width_some b w).0).1 l,
-  lt_of_lt_of_le (mod-lt q (width_some b w).0) (by_width (λ b. b ≤ 4) (omega arith) (omega arith) (omega arith) b w),
-)
+pub width_parts : (b : Bits) (q m : ℕ) → q < m * bit_count b → (q / bit_count b < m) × (q % bit_count b < 4)
+width_parts b q m l = ((div-lt_iff_lt-mul (width_some b).0).1 l, lt_of_lt_of_le (mod-lt q (width_some b).0) (width_some b).1)
 
 -- 255 nodes have at most 1,020 bits
-pub bits_fit : (m b : ℕ) → m ≤ 255 → TraceBits b → m * b ≤ 1020
-bits_fit m b h w = mul-le-mul h (by_width (λ b. b ≤ 4) (omega arith) (omega arith) (omega arith) b w)
+pub bits_fit : (m : ℕ) (b : Bits) → m ≤ 255 → m * bit_count b ≤ 1020
+bits_fit m b h = mul-le-mul h (width_some b).1

@@ -1,2 +1,3 @@
--- What inner functions give.
+-- How many bits a node sends; what inner functions give.
+pub mod Bits
 pub mod Inner

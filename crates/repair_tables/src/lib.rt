@@ -1,10 +1,11 @@
 // Repair by traces, for one target and the nodes that are missing beside it: the nodes that send, the digit that a node sends for each symbol, and the weight of each bit that is sent.
 #![tactic(auto)]
 
+mod bits;
 mod nodes;
 mod senders;
 mod subfields;
 pub mod tables;
 
-pub use nodes::{bits, spare};
+pub use bits::Bits;
 pub use senders::{is_in, sends};

@@ -1,84 +1,36 @@
-// What a code says of repair by traces, and the numbers of one node and one target.
-ghost use Rattle.std.specs.Prelude.{◌≡◌, true, ◌-◌, ◌^◌, ◌<◌};
+// The numbers of one node and one target.
+ghost use Rattle.std.specs.Prelude.{◌≡◌, true, ◌<◌};
 ghost use Rattle.lists.specs.Numbers.{all_below};
 ghost use Rattle.lists.specs.Padded.{padded};
-ghost use Rattle.generator.specs.Records.{size};
+ghost use Rattle.generator.specs.Records.{modulus_of, size};
 ghost use Rattle.check_sums.specs.Inner.Powers.{powers_of};
-ghost use Rattle.traces.specs.Traces.{TraceBits};
-ghost use Rattle.traces.specs.Repairs.{bits_for, bits, spare, ratio, offset, erasing, eraser, factor};
+ghost use Rattle.traces.specs.Repairs.{ratio, offset, erasing, eraser, factor};
 
+use crate::bits::Bits;
 use field::lent::Arithmetic;
 use field::{Field, Tables};
 use generator::Code;
 
-// The bits that a node sends of a symbol, by n − k less the number of missing nodes; 0 where there is no repair by traces.
-fn bits_for(r: usize) -> u32
-    ensures { result ≡ bits_for r }
-{
-    if 128 <= r {
-        return 1;
-    }
-    if 64 <= r {
-        return 2;
-    }
-    if 16 <= r {
-        return 4;
-    }
-    0
-}
-
-// The bits for a code, with so many nodes missing beside the target.
-pub fn bits(code: Code, count: usize) -> u32
-    ensures { result ≡ bits code.header count }
-{
-    let r = (code.header.n - code.header.k) as usize;
-    match code.header.field {
-        Field::Prime(_) => 0,
-        Field::Binary(_) => bits_for(r.saturating_sub(count)),
-    }
-}
-
-// 2^(8 − b).
-fn needed(b: u32) -> usize
-    requires { TraceBits b }
-    ensures { result ≡ 2 ^ (8 - b) }
-{
-    if b == 1 {
-        return 128;
-    }
-    if b == 2 {
-        return 64;
-    }
-    16
-}
-
-// How many further nodes may be missing, with as few bits.
-pub fn spare(code: Code, count: usize) -> u32
-    requires { TraceBits (bits code.header count) }
-    ensures { result ≡ spare code.header count }
-{
-    let r = (code.header.n - code.header.k) as usize;
-    let b = bits(code, count);
-    r.saturating_sub(count).saturating_sub(needed(b)) as u32
-}
-
-// The target of a repair, and the field in which its code reckons.
+// The target of a repair, the bits that a node sends it of a symbol, and the field in which its code reckons.
 #[derive(Clone, Copy)]
 pub struct Target<'a> {
     pub code: Code,
+    pub bits: Bits,
     pub node: u32,
     pub field: Arithmetic<'a>,
     pub ghost inside: { node < code.header.n },
     pub ghost same: { field.field ≡ code.header.field },
+    pub ghost binary: { modulus_of code.header ≡ 0 },
 }
 
 impl<'a> Target<'a> {
-    pub fn new(code: Code, node: u32, tables: &'a Tables) -> Self
-        requires { node < code.header.n }
-        ensures { (result.code ≡ code) × (result.node ≡ node) }
+    pub fn new(code: Code, bits: Bits, node: u32, tables: &'a Tables) -> Self
+        requires { (modulus_of code.header ≡ 0) × (node < code.header.n) }
+        ensures { (result.code ≡ code) × (result.bits ≡ bits) × (result.node ≡ node) }
     {
         Self {
             code: code,
+            bits: bits,
             node: node,
             field: Arithmetic::new(code.header.field, tables),
         }
@@ -134,9 +86,9 @@ impl<'a> Target<'a> {
         ensures symbol { result < size self.entry.code.header }
     {
         let mut product = Field::ONE;
-        for i in (0..missing.len()).rev() {
-            let x = self.erasing(u, missing[i] as u32);
-            product = self.field.mul(x, product);
+        for &node in missing {
+            let x = self.erasing(u, node as u32);
+            product = self.field.mul(product, x);
         }
         product
     }

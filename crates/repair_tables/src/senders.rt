@@ -10,12 +10,7 @@ use arrayvec::ArrayVec;
 pub fn is_in(x: u32, list: &[u8]) -> bool
     ensures { result ≡ is_in x list.now }
 {
-    for &y in list {
-        if x == y as u32 {
-            return true;
-        }
-    }
-    false
+    list.iter().any(|y| x == *y as u32)
 }
 
 // Whether a node sends.

@@ -10,7 +10,6 @@ use Rattle.lists.specs.Rows.{from}
 use Rattle.lists.proofs.Rows.{length_from}
 use Rattle.lists.proofs.Padding.{take_padded}
 use Rattle.kernel.specs.Inner.Lanes.{lanewise}
-use Rattle.traces.specs.Traces.{TraceBits}
 use Rattle.traces.specs.Repairs.{bits, senders}
 use Rattle.repair_tables.specs.Inner.Weights.{bit_weight}
 use Rattle.traces.proofs.Claims.{repairable, senders_many}
@@ -20,61 +19,57 @@ use Rattle.repair.specs.Inner.Sums.{plane_sums, lane_byte}
 use Rattle.repair.proofs.Digits.{plane_small, plane_covers}
 use Rattle.repair.proofs.Adding.{table_long, share_is}
 use Rattle.repair.proofs.add_up.Goals as goal
-use Rattle.repair.proofs.add_up.Goals.{After-row_count-count, After-weights-weights}
+use Rattle.repair.proofs.add_up.Goals.{After-count}
 
--- b is a width, and the weights fit
-wide : (c : After-row_count-count) → TraceBits c.bits-b.result
-wide c =
-    let (r, d, few, out, rows) = c.requires in rw c.bits-b.ensures (repairable _ _ r.some).width
-
-fit : (c : After-row_count-count) → c.row_count-count.result * c.bits-b.result ≤ 1020
-fit c = bits_fit _ _ (omega (arith, c.row_count-count.ensures, c.args.repair.code.sound.byte)) (wide c)
+-- the weights fit
+fit : (c : After-count) → c.row_count-senders.result * c.count.result ≤ 1020
+fit c = rw c.count.ensures (bits_fit _ c.args.b (omega (arith, c.row_count-senders.ensures, c.args.repair.code.sound.byte)))
 
 pub weights-weights-requires : goal.weights-weights-requires
 weights-weights-requires c =
-    let (r, d, few, out, rows) = c.requires in
-    ((repairable _ _ r.some).kind, wide (goal.at.weights-weights-requires c).After-row_count-count, r.inside)
+    let (is, r, d, few, out, rows) = c.requires in
+    ((repairable _ _ r.some).kind, r.inside)
 
 pub overflow_mul-total : goal.overflow_mul-total
-overflow_mul-total c = omega (arith, fit (goal.at.overflow_mul-total c).After-row_count-count)
+overflow_mul-total c = omega (arith, fit (goal.at.overflow_mul-total c).After-count)
 
 -- the weights that are lent
-lent : (c : After-weights-weights) → let r = c.args.repair in
-    take (c.row_count-count.result * c.bits-b.result) c.weights-weights.result ≡ from (bit_weight r.code.header (bits r.code.header (length r.missing.now)) r.target (senders r.code.header r.target r.missing.now)) 0 (length (senders r.code.header r.target r.missing.now) * bits r.code.header (length r.missing.now))
+lent : (c : After-count) → let r = c.args.repair in
+    take (c.row_count-senders.result * c.count.result) c.weights-weights.result ≡ from (bit_weight r.code.header (bits r.code.header (length r.missing.now)) r.target (senders r.code.header r.target r.missing.now)) 0 (length (senders r.code.header r.target r.missing.now) * bits r.code.header (length r.missing.now))
 lent c =
-    let (r, d, few, out, rows) = c.requires in
-    let b = c.bits-b.ensures in
-    let count = c.row_count-count.ensures ∙ sym (senders_many _ _ _ r d) in
-    ap₂ (λ (n : ℕ) (ws : List ℕ). take n ws) (ap₂ ◌*◌ count b) (rw b at c.weights-weights.ensures) ∙ take_padded 1020 _ _ (length_from _ 0 _)
+    let (is, r, d, few, out, rows) = c.requires in
+    let b = c.count.ensures ∙ is in
+    let count = c.row_count-senders.ensures ∙ sym (senders_many _ _ _ r d) in
+    ap₂ (λ (n : ℕ) (ws : List ℕ). take n ws) (ap₂ ◌*◌ count b) (rw is at c.weights-weights.ensures) ∙ take_padded 1020 _ _ (length_from _ 0 _)
 
 pub slice_bounds-weights-end : goal.slice_bounds-weights-end
-slice_bounds-weights-end c = omega (arith, fit (goal.at.slice_bounds-weights-end c).After-row_count-count)
+slice_bounds-weights-end c = omega (arith, fit (goal.at.slice_bounds-weights-end c).After-count)
 
 pub slice_bounds-planes-end : goal.slice_bounds-planes-end
-slice_bounds-planes-end c = sym (length-take-le _ _ (omega (arith, fit (goal.at.slice_bounds-planes-end c).After-row_count-count)))
+slice_bounds-planes-end c = sym (length-take-le _ _ (omega (arith, fit (goal.at.slice_bounds-planes-end c).After-count)))
 
 pub invariant_of-planes : goal.invariant_of-planes
 unfolding packed_size
 invariant_of-planes c =
-    let (r, d, few, out, rows) = c.requires in
-    let long = length-take-le (c.row_count-count.result * c.bits-b.result) c.weights-weights.result (omega (arith, fit (goal.at.invariant_of-planes c).After-row_count-count)) in
+    let (is, r, d, few, out, rows) = c.requires in
+    let long = length-take-le (c.row_count-senders.result * c.count.result) c.weights-weights.result (omega (arith, fit (goal.at.invariant_of-planes c).After-count)) in
     let size = c.plane_size.ensures in
     record {
-      whole = rows ∙ rw (long, c.bits-b.ensures, size, c.row_count-count.ensures) (sym (mul_assoc _ _ _));
+      whole = rows ∙ rw (long, c.count.ensures, is, size, c.row_count-senders.ensures) (sym (mul_assoc _ _ _));
       small = rw size (plane_small _ few);
     }
 
 pub combine-requires : goal.combine-requires
 combine-requires c =
-    let (r, d, few, out, rows) = c.requires in
+    let (is, r, d, few, out, rows) = c.requires in
     rw (out, c.plane_size.ensures) (plane_covers _)
 
 pub returns : goal.returns
 returns c =
-    let (r, d, few, out, rows) = c.requires in
+    let (is, r, d, few, out, rows) = c.requires in
     let a = c.args in
-    let ws = take (c.row_count-count.result * c.bits-b.result) c.weights-weights.result in
-    let are = lent (goal.at.returns c).After-weights-weights in
+    let ws = take (c.row_count-senders.result * c.count.result) c.weights-weights.result in
+    let are = lent (goal.at.returns c).After-count in
     c.combine.ensures
     ∙ ap₂ (λ (n size : ℕ). lanewise (λ i y. lane_byte (plane_sums ws n size a.rows.now) size i) a.out.now) (table_long _ _ _ are) c.plane_size.ensures
     ∙ share_is a.repair.code.header a.repair.code.sound a.repair.lanes a.repair.target a.repair.missing.now a.rows.now ws r.some are a.out.now out

@@ -1,52 +1,50 @@
 -- `bits_accepted` meets its contract.
-use mathlib.Core.Path.{◌≡◌, sym, ap, ap₂, ◌∙◌}
+use mathlib.Core.Path.{sym, ap, ap₂, ◌∙◌}
 use Prim.Native.Nat.{ℕ, ◌<◌, ◌*◌}
 use mir.Syntax.{w8}
 use mir.Val.{Fits}
 use native.Mathlib.Omega.{arith}
 use lib.ListN.{length}
-use Rattle.traces.proofs.Claims.{repairable, bits_few}
 use Rattle.repair.specs.Packing.{plane_size, packed_size}
+use Rattle.repair.proofs.Judging.{found_number}
 use Rattle.repair.proofs.Accepts.{BitsAccepted, bits_accepts, bits_refuses, bits_done}
 use Rattle.repair.proofs.Adding.{sent_table}
 use Rattle.repair.proofs.bits_accepted.Goals as goal
-use Rattle.generator.proofs.Answered.{exit, done_is, refused_is}
-use Rattle.repair.proofs.bits_accepted.Goals.{After-bits-b}
+use Rattle.generator.proofs.Answered.{exit}
+use Rattle.repair.proofs.bits_accepted.Goals.{In_ok-b}
 
-pub returns-in_err-bits_fault : goal.returns-in_err-bits_fault
-returns-in_err-bits_fault c =
-    let met = refused_is _ _ c.in_err-bits_fault.ensures in
-    rw (exit _ c.from_residual.ensures.1, ← met.0) (bits_refuses _ _ met.1 _ _ _ _ _)
+pub returns-in_err-b : goal.returns-in_err-b
+returns-in_err-b c =
+    let met = c.in_err-b.ensures in
+    rw (exit _ c.from_residual.ensures.1, met) (bits_refuses _ _ (found_number _ _ met) _ _ _ _ _)
 
 byte : {x : ℕ} → Fits w8 x → x < 256
 byte h = omega arith
 
 -- what is known where no number was met
-accepted : (c : After-bits-b)
+accepted : (c : In_ok-b)
     → let a = c.args in
     BitsAccepted a.repair.code.header a.repair.lanes a.node a.repair.target a.repair.missing.now (length a.share.now) (length a.out.now)
-accepted c = bits_accepts _ _ _ _ _ _ _ (done_is _ c.in_ok-bits_fault.ensures)
+accepted c = bits_accepts _ _ _ _ _ _ _ c.in_ok-b.ensures.0
 
 pub sent_digits-table-requires : goal.sent_digits-table-requires
 sent_digits-table-requires c =
-    let is = accepted (goal.at.sent_digits-table-requires c).After-bits-b in
+    let is = accepted (goal.at.sent_digits-table-requires c).In_ok-b in
     let r = is.repairing in
-    let can = repairable _ _ r.some in
-    (can.kind, can.width, r.inside, r.nodes, is.node)
+    (c.in_ok-b.ensures.1, r.inside, r.nodes, is.node)
 
 pub pack-requires : goal.pack-requires
 unfolding packed_size
 pack-requires c =
     let a = c.args in
-    let is = accepted (goal.at.pack-requires c).After-bits-b in
+    let is = accepted (goal.at.pack-requires c).In_ok-b in
     let size = c.plane_size-size.ensures in
-    let long : length a.out.now ≡ c.bits-b.result * c.plane_size-size.result = is.out_long ∙ sym (ap₂ ◌*◌ c.bits-b.ensures size) in
-    (rw c.bits-b.ensures (bits_few _ _), rw is.share_long is.few, size ∙ ap plane_size (sym is.share_long), long)
+    (rw is.share_long is.few, size ∙ ap plane_size (sym is.share_long), is.out_long ∙ sym (ap₂ ◌*◌ c.in_ok-b.ensures.1 size))
 
 pub returns : goal.returns
 returns c =
     let a = c.args in
-    let none = done_is _ c.in_ok-bits_fault.ensures in
+    let none = c.in_ok-b.ensures.0 in
     bits_done _ _ none _ _ _ _ _ _
     (c.pack.ensures
-    ∙ sent_table a.repair.code.header a.repair.target a.repair.missing.now a.node c.bits-b.result c.sent_digits-table.result a.share.now c.bits-b.ensures c.sent_digits-table.ensures (λ i. byte (c.type_inv.share i)))
+    ∙ sent_table a.repair.code.header a.repair.target a.repair.missing.now a.node _ c.sent_digits-table.result a.share.now c.in_ok-b.ensures.1 c.sent_digits-table.ensures (λ i. byte (c.type_inv.share i)))

@@ -9,14 +9,8 @@ loop-i-init c = changed_none _ _
 pub gather-requires : goal.gather-requires
 gather-requires c = let p = c.requires in (omega (arith, p.1), p.0, p.2)
 
-pub bounds-out-i : goal.bounds-out-i
-bounds-out-i c = let l = c.loop-i.invariant.long in omega arith
-
 pub loop-i-preserved : goal.loop-i-preserved
 loop-i-preserved c = rw c.gather.ensures (changed_lane _ _ c.loop-i.invariant (omega arith))
-
-pub shape_of-out : goal.shape_of-out
-shape_of-out c = c.loop-i.invariant.long
 
 pub returns : goal.returns
 returns c = let long = c.loop-i.invariant.long in changed_all _ _ c.loop-i.invariant (omega arith)

@@ -10,16 +10,13 @@ pub loop-z-init : goal.loop-z-init
 loop-z-init c = byte_start _ _
 
 pub overflow_add-start : goal.overflow_add-start
-overflow_add-start c = omega (arith, c.requires.1)
-
-pub bit-requires : goal.bit-requires
-bit-requires c = c.requires.0
+overflow_add-start c = omega (arith, c.requires)
 
 -- the bit and the number of a turn are small
 small : (c : After-bit) → (c.bit.result < 2) × (c.loop-z.x < 256)
 small c =
-    let low = lane_bit_low c.args.e c.args.self.table.now c.args.self.share.now in
-    (rw c.bit.ensures (low (c.args.start + (c.loop-z.z - 1))), byte_small (lane_bit c.args.e c.args.self.table.now c.args.self.share.now) low _ _ _ c.loop-z.invariant)
+    let low = lane_bit_low c.args.bit.place c.args.self.table.now c.args.self.share.now in
+    (rw c.bit.ensures (low (c.args.start + (c.loop-z.z - 1))), byte_small (lane_bit c.args.bit.place c.args.self.table.now c.args.self.share.now) low _ _ _ c.loop-z.invariant)
 
 pub overflow_mul-x : goal.overflow_mul-x
 overflow_mul-x c = omega (arith, small c)
@@ -30,13 +27,13 @@ overflow_add-x c = omega (arith, small c)
 pub loop-z-preserved : goal.loop-z-preserved
 loop-z-preserved c =
     let l = c.loop-z in
-    rw c.bit.ensures (byte_turn (lane_bit c.args.e c.args.self.table.now c.args.self.share.now) c.args.start l.z l.x (omega arith) (omega arith) l.invariant)
+    rw c.bit.ensures (byte_turn (lane_bit c.args.bit.place c.args.self.table.now c.args.self.share.now) c.args.start l.z l.x (omega arith) (omega arith) l.invariant)
 
 pub overflow_cast-result : goal.overflow_cast-result
 overflow_cast-result c =
-    let low : c.loop-z.x < 256 = byte_small (lane_bit c.args.e c.args.self.table.now c.args.self.share.now) (lane_bit_low c.args.e c.args.self.table.now c.args.self.share.now) _ _ _ c.loop-z.invariant in
+    let low : c.loop-z.x < 256 = byte_small (lane_bit c.args.bit.place c.args.self.table.now c.args.self.share.now) (lane_bit_low c.args.bit.place c.args.self.table.now c.args.self.share.now) _ _ _ c.loop-z.invariant in
     omega arith
 
 pub returns : goal.returns
 returns c =
-    byte_done (lane_bit c.args.e c.args.self.table.now c.args.self.share.now) c.args.start c.loop-z.z c.loop-z.x (omega arith) c.loop-z.invariant
+    byte_done (lane_bit c.args.bit.place c.args.self.table.now c.args.self.share.now) c.args.start c.loop-z.z c.loop-z.x (omega arith) c.loop-z.invariant

@@ -6,4 +6,4 @@ use Rattle.repair.specs.Inner.Lanes.{lane_bit}
 use Rattle.repair.proofs.packing.Digits.byte.Given as goal
 
 abbrev pub invariant-loop-z : goal.invariant-loop-z
-invariant-loop-z l = l.x ≡ byte_from (8 - l.z) (lane_bit l.e l.self.table.now l.self.share.now) (l.start + l.z)
+invariant-loop-z l = l.x ≡ byte_from (8 - l.z) (lane_bit l.bit.place l.self.table.now l.self.share.now) (l.start + l.z)

@@ -7,16 +7,13 @@ pub loop-c-init : goal.loop-c-init
 loop-c-init c = changed_none _ _
 
 pub overflow_mul-c : goal.overflow_mul-c
-overflow_mul-c c = omega (arith, c.requires.1)
+overflow_mul-c c = omega (arith, c.requires)
 
 pub byte-requires : goal.byte-requires
-byte-requires c = let p = c.requires in (p.0, omega (arith, p.1))
+byte-requires c = omega (arith, c.requires)
 
 pub loop-c-preserved : goal.loop-c-preserved
 loop-c-preserved c = rw c.byte.ensures (changed_lane _ _ c.loop-c.invariant (omega arith))
-
-pub shape_of-out : goal.shape_of-out
-shape_of-out c = c.loop-c.invariant.long
 
 pub returns : goal.returns
 returns c = changed_all _ _ c.loop-c.invariant (omega arith)

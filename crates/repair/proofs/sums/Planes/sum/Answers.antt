@@ -1,6 +1,5 @@
 -- `Planes::sum` meets its contract.
-use Rattle.field.proofs.Xor.{digit}
-use mathlib.Core.Path.{◌≡◌, refl, sym, ap, ◌∙◌}
+use mathlib.Core.Path.{◌≡◌, sym, ap, ◌∙◌}
 use Prim.Native.Nat.{ℕ, ◌≤◌, ◌+◌, ◌*◌}
 use native.Mathlib.Omega.{arith}
 use lib.ListN.{length}
@@ -20,16 +19,13 @@ row_in c =
 
 pub loop-q-init : goal.loop-q-init
 unfolding zeros
-loop-q-init c = c.fill.ensures.after (λ y e. e) ∙ sum_none c.args.self.weights.now c.args.self.size c.args.self.rows.now c.args.p _ c.requires.1
+loop-q-init c = c.fill.ensures.after (λ y e. e) ∙ sum_none c.args.self.weights.now c.args.self.size c.args.self.rows.now c.args.bit.place _ c.requires
 
 pub overflow_mul-start : goal.overflow_mul-start
 overflow_mul-start c = omega (arith, row_in c)
 
 pub overflow_add-end : goal.overflow_add-end
 overflow_add-end c = omega (arith, row_in c)
-
-pub overflow_shr-bit : goal.overflow_shr-bit
-overflow_shr-bit c = omega (arith, c.requires.0)
 
 pub slice_bounds-add_chosen-end : goal.slice_bounds-add_chosen-end
 slice_bounds-add_chosen-end c = omega (arith, row_in (goal.at.slice_bounds-add_chosen-end c).In-loop-q)
@@ -40,17 +36,17 @@ add_chosen-requires c =
     let n = c.args.self.size in
     let whole = part_length (l.q * n) n c.args.self.rows.now (row_in (goal.at.add_chosen-requires c).In-loop-q) in
     let long : length l.acc ≡ n = ap length l.invariant ∙ length_sum _ _ _ _ _ in
-    (digit _, whole ∙ sym long)
+    (c.of.ensures.digit, whole ∙ sym long)
 
 pub loop-q-preserved : goal.loop-q-preserved
 loop-q-preserved c =
     let l = c.loop-q in
-    c.add_chosen.ensures ∙ sum_more c.args.self.weights.now c.args.self.size c.args.self.rows.now c.args.p l.q _ l.acc refl l.invariant
+    c.add_chosen.ensures ∙ sum_more c.args.self.weights.now c.args.self.size c.args.self.rows.now c.args.bit.place l.q _ l.acc c.of.ensures.value l.invariant
 
 pub shape_of-acc : goal.shape_of-acc
-shape_of-acc c = ap length c.loop-q.invariant ∙ length_sum _ _ _ _ _ ∙ sym c.requires.1
+shape_of-acc c = ap length c.loop-q.invariant ∙ length_sum _ _ _ _ _ ∙ sym c.requires
 
 pub returns : goal.returns
 returns c =
     let last : c.loop-q.q ≡ (length c.args.self.weights.now) = omega arith in
-    c.loop-q.invariant ∙ ap (λ (n : ℕ). plane_sum c.args.self.weights.now n c.args.self.size c.args.self.rows.now c.args.p) last
+    c.loop-q.invariant ∙ ap (λ (n : ℕ). plane_sum c.args.self.weights.now n c.args.self.size c.args.self.rows.now c.args.bit.place) last

@@ -33,7 +33,7 @@ slice_bounds-sum-end c = let l = c.loop-p.invariant.long in omega (arith, row_in
 pub sum-requires : goal.sum-requires
 sum-requires c =
     let l = c.loop-p in
-    (omega (arith, c.loop-p-test.true), part_length (l.p * c.args.self.size) c.args.self.size l.acc (omega (arith, l.invariant.long, row_in (goal.at.sum-requires c).In-loop-p)))
+    part_length (l.p * c.args.self.size) c.args.self.size l.acc (omega (arith, l.invariant.long, row_in (goal.at.sum-requires c).In-loop-p))
 
 pub loop-p-preserved : goal.loop-p-preserved
 loop-p-preserved c =

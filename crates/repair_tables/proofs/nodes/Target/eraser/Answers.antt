@@ -1,28 +1,29 @@
--- `eraser` meets its contract. Invariant: the product over the missing nodes from i on.
-use mathlib.Core.Path.{◌≡◌, sym, ◌∙◌}
-use native.Mathlib.Omega.{arith}
+-- `eraser` meets its contract. Invariant: the product so far, times that over the nodes that are left, is the whole.
+use mathlib.Core.Path.{sym, ◌∙◌}
+use Rattle.field.proofs.Bounds.{one_below}
 use Rattle.lists.proofs.Numbers.{below_at}
-use Rattle.traces.proofs.Bounds.{eraser_below}
-use Rattle.repair_tables.proofs.Steps.{eraser_end, eraser_next}
+use Rattle.repair_tables.proofs.Steps.{eraser_start, eraser_next, eraser_end}
 use Rattle.repair_tables.proofs.nodes.Target.eraser.Goals as goal
 
-pub loop-i-init : goal.loop-i-init
-loop-i-init c = sym (eraser_end _ _ _ c.args.missing.now)
+pub loop-node-init : goal.loop-node-init
+loop-node-init c = let sound = c.args.self.code.sound in (one_below _ sound.field, eraser_start _ sound _ _ c.requires.0 c.args.missing.now)
 
 pub erasing-x-requires : goal.erasing-x-requires
-erasing-x-requires c = (c.requires.0, below_at _ _ c.requires.1 _ (omega arith))
+erasing-x-requires c = (c.requires.0, below_at _ _ c.requires.1 _ c.loop-node-test.true)
 
 pub mul-product-requires : goal.mul-product-requires
-mul-product-requires c =
-    rw c.args.self.same (c.erasing-x.ensures.symbol, rw c.loop-i.invariant (eraser_below _ c.args.self.code.sound _ _ _ c.requires.0))
+mul-product-requires c = rw c.args.self.same (c.loop-node.invariant.0, c.erasing-x.ensures.symbol)
 
-pub loop-i-preserved : goal.loop-i-preserved
-loop-i-preserved c =
-    let l = c.loop-i in
-    c.mul-product.ensures.is ∙ rw (c.erasing-x.ensures.is, l.invariant, c.args.self.same) (sym (eraser_next _ _ _ c.args.missing.now l.i (omega arith) (omega arith)))
+pub loop-node-preserved : goal.loop-node-preserved
+loop-node-preserved c =
+    let t = c.args.self in
+    let l = c.loop-node in (
+      rw t.same at c.mul-product.ensures.symbol,
+      rw (c.mul-product.ensures.is, c.erasing-x.ensures.is, t.same) (eraser_next _ t.code.sound _ _ c.requires.0 c.args.missing.now l.node-index _ c.loop-node-test.true l.invariant.0 ∙ l.invariant.1),
+    )
 
 pub returns : goal.returns
 returns c =
-    let end : c.loop-i.i ≡ 0 = omega arith in
-    let all = rw end at c.loop-i.invariant in
-    record { is = all; symbol = rw all (eraser_below _ c.args.self.code.sound _ _ _ c.requires.0) }
+    let l = c.loop-node in
+    let end = eraser_end _ c.args.self.code.sound _ _ c.requires.0 c.args.missing.now l.node-index _ c.loop-node-test.false l.invariant.0 in
+    record { is = sym end ∙ l.invariant.1; symbol = l.invariant.0 }

@@ -1,8 +1,13 @@
--- `eraser` meets its contract. Invariant: the product over the missing nodes from i on.
+-- `eraser` meets its contract. Invariant: the product so far, times that over the nodes that are left, is the whole.
 use mathlib.Core.Path.{◌≡◌}
+use Prim.Native.Nat.{◌<◌}
 use lib.ListN.{drop}
+use Rattle.field.specs.Fields.{mul}
+use Rattle.generator.specs.Records.{modulus_of, size}
 use Rattle.traces.specs.Repairs.{eraser}
 use Rattle.repair_tables.proofs.nodes.Target.eraser.Given as goal
 
-abbrev pub invariant-loop-i : goal.invariant-loop-i
-invariant-loop-i l = l.product ≡ eraser l.self.code.header l.self.node l.u (drop l.i l.missing)
+abbrev pub invariant-loop-node : goal.invariant-loop-node
+invariant-loop-node l =
+    let h = l.self.code.header in
+    (l.product < size h) × (mul (modulus_of h) l.product (eraser h l.self.node l.u (drop l.node-index l.missing)) ≡ eraser h l.self.node l.u l.missing)
