@@ -1,7 +1,7 @@
 // What turns a call away: 18, 8, 11, in this order; and else what carries the bytes.
 ghost use Rattle.std.specs.Prelude.{◌≡◌};
 ghost use Rattle.carry.specs.Promise.{long_bad, carried_len_fault, carry_in_fault, carry_out_fault};
-ghost use Rattle.carry.specs.Inner.Kinds.{Judged};
+ghost use Rattle.carry.specs.Inner.Kinds.{Tested};
 
 use crate::kinds::Carrying;
 use generator::{Code, Refusal};
@@ -16,7 +16,7 @@ fn long_bad(n: usize) -> bool
 
 // carried_len: 18 before 8, for the record settles the lengths.
 pub fn carried_len_fault(code: Code, n: usize) -> Result<Carrying, Refusal>
-    ensures { Judged result code.header (carried_len_fault code.header n) }
+    ensures { Tested result code.header (carried_len_fault code.header n) }
 {
     let carrying = Carrying::of(code)?;
     Refusal::Length.when(long_bad(n))?;
@@ -25,7 +25,7 @@ pub fn carried_len_fault(code: Code, n: usize) -> Result<Carrying, Refusal>
 
 // carry_in
 pub fn carry_in_fault(code: Code, n: usize, long: usize) -> Result<Carrying, Refusal>
-    ensures { Judged result code.header (carry_in_fault code.header n long) }
+    ensures { Tested result code.header (carry_in_fault code.header n long) }
 {
     let carrying = carried_len_fault(code, n)?;
     Refusal::Length.when(length_bad(carrying.carried_length(n), long))?;
@@ -34,7 +34,7 @@ pub fn carry_in_fault(code: Code, n: usize, long: usize) -> Result<Carrying, Ref
 
 // carry_out
 pub fn carry_out_fault(code: Code, n: usize, symbols: &[u8]) -> Result<Carrying, Refusal>
-    ensures { Judged result code.header (carry_out_fault code.header n symbols.now) }
+    ensures { Tested result code.header (carry_out_fault code.header n symbols.now) }
 {
     let carrying = carry_in_fault(code, n, symbols.len())?;
     Refusal::Symbol.when(symbols_bad(code.header, symbols))?;

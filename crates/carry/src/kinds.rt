@@ -3,7 +3,7 @@ ghost use Rattle.std.specs.Prelude.{◌≡◌, ◌≤◌, length};
 ghost use Rattle.lists.specs.Choice.{when};
 ghost use Rattle.generator.specs.Records.{modulus_of};
 ghost use Rattle.carrying.specs.Carrying.{carries_none, carried_bytes, bytes_back, carried_length};
-ghost use Rattle.carry.specs.Inner.Kinds.{field_of, Judged};
+ghost use Rattle.carry.specs.Inner.Kinds.{field_of, Tested};
 
 use crate::prime::WordPrime;
 use field::Field;
@@ -18,7 +18,7 @@ pub enum Carrying {
 impl Carrying {
     // Number 18 over a prime with fewer than 34,816 symbols.
     pub fn of(code: Code) -> Result<Self, Refusal>
-        ensures { Judged result code.header (when (carries_none (modulus_of code.header)) 18) }
+        ensures { Tested result code.header (when (carries_none (modulus_of code.header)) 18) }
     {
         match code.header.field {
             Field::Binary(_) => Ok(Carrying::Bytes),
@@ -49,7 +49,7 @@ impl Carrying {
         }
     }
 
-    // The bytes that symbols carry, as many as there is room for.
+    // The bytes that symbols carry, as many as there is room for. The step differs in each arm: one function that takes it would be no plainer.
     pub fn read(self, symbols: &[u8], out: &mut [u8])
         requires { length symbols.now ≡ carried_length (field_of self) (length out.old) }
         ensures { out.new ≡ bytes_back (field_of self) (length out.old) symbols.now }

@@ -13,5 +13,5 @@ field_of Bytes = 0
 field_of (Words prime) = prime.p
 
 -- what carries the bytes of a record where the number f of a call is 0, or the refusal that has the number
-abbrev pub Judged : Result Carrying Refusal → Header → ℕ → Type 0
-Judged r h f = MatchResult r (λ c. (f ≡ 0) × (field_of c ≡ modulus_of h)) (λ e. Err (number e) ≡ outcome_of f)
+abbrev pub Tested : Result Carrying Refusal → Header → ℕ → Type 0
+Tested r h f = MatchResult r (λ c. (f ≡ 0) × (field_of c ≡ modulus_of h)) (λ e. Err (number e) ≡ outcome_of f)
