@@ -1,4 +1,4 @@
-// A prime of whose symbols, which have two bytes, words of 16 binary digits are made, and how many bytes carry so many there.
+// A prime that carries words of 16 binary digits: its field has at least 34,816 symbols, of two bytes. How many bytes carry so many there.
 ghost use Rattle.std.specs.Prelude.{◌≡◌, ◌≤◌, ◌<◌};
 ghost use Rattle.carrying.specs.Carrying.{group_words, words_length};
 
