@@ -18,6 +18,7 @@ fn asked_bad(n: u32, k: u32) -> bool
 }
 
 // Number 4, then 8 for the room.
+#[tactic(auto, using(generator::proofs::Answered::tests), unfolding(crate::specs::Promise::choose_fault))]
 fn choose_fault(n: u32, k: u32, room: usize) -> Result<(), Refusal>
     ensures { numbered result ≡ outcome_of (choose_fault n k room) }
 {
