@@ -51,7 +51,7 @@ pub fn plan_of(code: Code) -> Plan
     Plan {
         n,
         k,
-        d: records::distance_of(code.header),
+        d: records::distance_of(code),
         low: records::low_reads(code),
         high: records::high_reads(code),
         shifts,
