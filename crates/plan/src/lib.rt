@@ -44,7 +44,7 @@ pub fn plan_of(code: Code) -> Plan
     ensures { result ≡ plan_of code.header }
 {
     let Header { n, k, .. } = code.header;
-    let rows = shifts::place_rows(n, k);
+    let rows = shifts::place_rows(code);
     let shifts = rows.shifts;
     let firsts = rows.firsts;
     let base = base_word(code);

@@ -26,7 +26,7 @@ fn recover_accepted(
     fault::recover_fault(code, lanes, nodes, shares, out.len())?;
     let h = code.header;
     let k = h.k as usize;
-    let shifts = shifts::fill_shifts(h.n, h.k);
+    let shifts = shifts::fill_shifts(code);
     let setup = node_weights::prepare(code, nodes, &shifts[..k]);
     let inverse = Inverse {
         code,
