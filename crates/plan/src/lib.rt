@@ -14,10 +14,11 @@ mod entries;
 mod generator_rows;
 
 pub use base::fill_base;
-pub use entries::{entry, entry_at};
+pub use entries::entry_at;
 pub use generator_rows::Generator;
 
-// A plan. `low` and `high` are k·d / n rounded down and up.
+// A plan. `low` and `high` are k·d / n rounded down and up. The lists are as the interface for C gives them: 255 places each, zeros after
+// the last.
 #[derive(Clone, Copy)]
 pub struct Plan {
     pub n: u8,
