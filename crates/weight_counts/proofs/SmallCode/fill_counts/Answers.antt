@@ -1,12 +1,12 @@
--- `fill_counts` meets its contract: the powers, their differences, and each times its binomial.
+-- `SmallCode::fill_counts` meets its contract: the powers, their differences, and each times its binomial.
 use Rattle.std.proofs.Common.{ℕ, ◌*◌, ◌≤◌, List, length, get_or, ap, ◌∙◌, ap₂, le_trans, le_of_eq, arith}
 use Rattle.weight_counts.proofs.Table.{length_table, length_row, count_fits, product_is, counts_are}
-use Rattle.weight_counts.proofs.fill_counts.Goals as goal
+use Rattle.weight_counts.proofs.SmallCode.fill_counts.Goals as goal
 
 pub scale-requires : goal.scale-requires
 scale-requires c =
-    let h = c.args.h in
-    let small = c.requires.0 in
+    let h = c.args.self.code.header in
+    let small = c.args.self.small in
     let byte : h.n ≤ 255 = omega arith in
     let table = c.take_differences.ensures in
     let row = c.pascal_row-row.ensures in
@@ -17,8 +17,8 @@ scale-requires c =
 
 pub returns : goal.returns
 returns c =
-    let h = c.args.h in
+    let h = c.args.self.code.header in
     let byte : h.n ≤ 255 = omega arith in
     let table = c.take_differences.ensures in
     let row = c.pascal_row-row.ensures in
-    c.scale.ensures ∙ rw (table, row, length_table h h.n) (counts_are h c.requires.0 byte)
+    c.scale.ensures ∙ rw (table, row, length_table h h.n) (counts_are h c.args.self.small byte)
