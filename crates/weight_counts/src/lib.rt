@@ -112,6 +112,7 @@ fn messages_bad(code: Code) -> bool
 }
 
 // Numbers 8 and 16; `size` is the length of the written buffer.
+#[tactic(auto, using(generator::proofs::Answered::tests), unfolding(crate::specs::Weights::weights_fault))]
 fn weights_fault(code: Code, size: usize) -> Result<(), Refusal>
     ensures { numbered result ≡ outcome_of (weights_fault code.header size) }
 {
