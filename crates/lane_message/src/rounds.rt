@@ -9,7 +9,7 @@ ghost use Rattle.node_weights.specs.Inner.Rows.{row_points};
 ghost use Rattle.lane_message.specs.Inner.Rows.{InRounds, round_points, spaced_of};
 
 use crate::rows::GeneratorRows;
-use interpolation::polynomials;
+use interpolation::lagrange::Points;
 
 // How many of the shifts from the first on are 0, 1, 2, ..
 fn run(shifts: &[u8]) -> usize
@@ -109,7 +109,11 @@ impl GeneratorRows<'_> {
         let k = self.transform.code.header.k as usize;
         let count = k / g;
         let points = self.round_points(g);
-        let product = polynomials::product(self.transform.field, &points[..count]);
+        let product = Points {
+            field: self.transform.field,
+            points: &points[..count],
+        }
+        .product();
         spread(g, k + 1, &product)
     }
 
@@ -122,7 +126,8 @@ impl GeneratorRows<'_> {
         let k = h.k as usize;
         let rounds = rounds_of(h.n as usize, &self.shifts[..k]);
         if rounds == 0 {
-            return polynomials::product(self.transform.field, points);
+            let field = self.transform.field;
+            return Points { field, points }.product();
         }
         self.round_product(rounds)
     }

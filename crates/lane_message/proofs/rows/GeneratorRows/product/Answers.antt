@@ -23,8 +23,10 @@ slice_bounds-rounds_of-end c = sym (ap length (part (goal.at.slice_bounds-rounds
 pub rounds_of-rounds-requires : goal.rounds_of-rounds-requires
 rounds_of-rounds-requires c = (c.args.self.transform.code.sound.byte, rw (part (goal.at.rounds_of-rounds-requires c).Start, length_shifts c.args.self.transform.code.header c.args.self.transform.code.sound) (few (goal.at.rounds_of-rounds-requires c).Start))
 
-pub product-requires : goal.product-requires
-product-requires c = rw (c.args.self.transform.same, c.requires) (row_symbols c.args.self.transform.code.header c.args.self.transform.code.sound (few (goal.at.product-requires c).Start)).are
+pub invariant_of-product : goal.invariant_of-product
+invariant_of-product c =
+    let v = c.args.self.transform in
+    record { symbols = rw (v.same, c.requires) (row_symbols v.code.header v.code.sound (few (goal.at.invariant_of-product c).Start)).are }
 
 pub returns-then-rounds-eq0 : goal.returns-then-rounds-eq0
 returns-then-rounds-eq0 c = c.product.ensures ∙ rw (c.args.self.transform.same, c.requires)
