@@ -17,7 +17,7 @@ mod message;
 use block_products::{Product, Way};
 use field::lent::Arithmetic;
 use generator::Code;
-use interpolation::division;
+use interpolation::polynomials::Polynomial;
 use node_weights::Setup;
 
 // The inverse at listed nodes, by what was prepared for them.
@@ -58,12 +58,14 @@ impl Inverse<'_> {
         let k = h.k as usize;
         let end = k + 1;
         let coefficients = &self.setup.nodes.product[..];
-        let product = &coefficients[1..end];
         let t = field::constant_tables();
-        let field = Arithmetic::new(h.field, &t);
+        let product = Polynomial {
+            field: Arithmetic::new(h.field, &t),
+            coefficients: &coefficients[1..end],
+        };
         for i in 0..k {
             let point = self.setup.nodes.points[i] as u32;
-            let q = division::quotient(field, point, product);
+            let q = product.quotient(point);
             tile_products::prepare(h.field, codes, &q[..k], i, lists, counts);
         }
     }

@@ -7,9 +7,9 @@ use Rattle.lists.specs.Padded.{zeros}
 use Rattle.field.specs.Fields.{size_of}
 use Rattle.field.specs.Kinds.{modulus}
 use Rattle.interpolation.specs.Inner.Polynomials.{quotient_of}
-use Rattle.interpolation.proofs.division.quotient.Given as goal
+use Rattle.interpolation.proofs.polynomials.Polynomial.quotient.Given as goal
 
 abbrev pub invariant-loop-i : goal.invariant-loop-i
 invariant-loop-i l =
-    let rest = quotient_of (modulus l.field.field) l.a (drop l.i l.coefficients) in
-    (l.q < size_of (modulus l.field.field)) × (l.q ≡ get_or rest 0 0) × (l.out ≡ zeros l.i ++ (rest ++ zeros (255 - length l.coefficients)))
+    let rest = quotient_of (modulus l.self.field.field) l.a (drop l.i l.self.coefficients.now) in
+    (l.q < size_of (modulus l.self.field.field)) × (l.q ≡ get_or rest 0 0) × (l.out ≡ zeros l.i ++ (rest ++ zeros (255 - length l.self.coefficients.now)))

@@ -2,10 +2,10 @@
 use mathlib.Core.Path.{◌∙◌}
 use Rattle.lists.proofs.Numbers.{below_at}
 use Rattle.interpolation.specs.Inner.Lagrange.{scale_at}
-use Rattle.interpolation.proofs.lagrange.scale_at.Goals as goal
+use Rattle.interpolation.proofs.lagrange.Points.scale_at.Goals as goal
 
 pub others_at-others-requires : goal.others_at-others-requires
-others_at-others-requires c = let s = c.requires in (s.0, s.1, below_at _ _ s.0.below _ s.1)
+others_at-others-requires c = (c.requires, below_at _ _ c.args.self.symbols.below _ c.requires)
 
 pub returns : goal.returns
 unfolding scale_at

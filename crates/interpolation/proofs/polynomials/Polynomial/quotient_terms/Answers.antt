@@ -6,19 +6,19 @@ use Rattle.field.specs.Kinds.{modulus}
 use Rattle.field.proofs.KindLaws.{usable_field}
 use Rattle.interpolation.specs.Inner.Polynomials.{quotient_of}
 use Rattle.interpolation.proofs.Coefficients.{length_quotient_of, quotient_of_symbols}
-use Rattle.interpolation.proofs.division.quotient_terms.Goals as goal
-use Rattle.interpolation.proofs.division.quotient_terms.Goals.{After-quotient-q}
+use Rattle.interpolation.proofs.polynomials.Polynomial.quotient_terms.Goals as goal
+use Rattle.interpolation.proofs.polynomials.Polynomial.quotient_terms.Goals.{After-quotient-q}
 
 -- the quotient as it is lent
 part : (c : After-quotient-q)
     → let a = c.args in
-    take (length a.coefficients.now) c.quotient-q.result ≡ quotient_of (modulus a.field.field) a.a a.coefficients.now
+    take (length a.self.coefficients.now) c.quotient-q.result ≡ quotient_of (modulus a.self.field.field) a.a a.self.coefficients.now
 part c = rw c.quotient-q.ensures (take_padded 255 _ _ (length_quotient_of _ _ _))
 
 pub products-requires : goal.products-requires
 products-requires c =
-    let (coefficients, factors, same, low) = c.requires in
-    rw (part (goal.at.products-requires c).After-quotient-q) (quotient_of_symbols _ (usable_field _ c.args.field.usable) c.args.a coefficients low, factors, same ∙ sym (length_quotient_of _ _ _))
+    let (factors, same, low) = c.requires in
+    rw (part (goal.at.products-requires c).After-quotient-q) (quotient_of_symbols _ (usable_field _ c.args.self.field.usable) c.args.a c.args.self.symbols low, factors, same ∙ sym (length_quotient_of _ _ _))
 
 pub returns : goal.returns
 returns c = c.products.ensures ∙ rw (part (goal.at.returns c).After-quotient-q)

@@ -12,23 +12,23 @@ use Rattle.field.proofs.Bounds.{one_below}
 use Rattle.field.proofs.KindLaws.{usable_field}
 use Rattle.interpolation.specs.Inner.Lagrange.{product_at}
 use Rattle.interpolation.proofs.Values.{product_at_end, product_at_next}
-use Rattle.interpolation.proofs.lagrange.last_products.Goals as goal
+use Rattle.interpolation.proofs.lagrange.Points.last_products.Goals as goal
 
 pub loop-m-init : goal.loop-m-init
 unfolding zeros
 loop-m-init c =
-    let a = c.args in
-    (one_below _ (usable_field _ a.field.usable), rw sub-zero (sym (product_at_end (modulus a.field.field) a.points.now a.z)), filled_start 255 _ _ c.requires.0.short)
+    let v = c.args.self in
+    (one_below _ (usable_field _ v.field.usable), rw sub-zero (sym (product_at_end (modulus v.field.field) v.points.now c.args.z)), filled_start 255 _ _ v.symbols.short)
 
 pub sub-factor-requires : goal.sub-factor-requires
-sub-factor-requires c = (c.requires.1, below_at _ _ c.requires.0.below _ (omega (arith, c.loop-m-test.true)))
+sub-factor-requires c = (c.requires, below_at _ _ c.args.self.symbols.below _ (omega (arith, c.loop-m-test.true)))
 
 pub loop-m-preserved : goal.loop-m-preserved
 loop-m-preserved c =
     let a = c.args in
     let l = c.loop-m in
-    let xs = a.points.now in
-    let p = modulus a.field.field in
+    let xs = a.self.points.now in
+    let p = modulus a.self.field.field in
     let test = c.loop-m-test.true in
     let one : length xs - l.m - 1 ≡ length xs - (l.m + 1) = omega arith in (
       c.mul-product.ensures.symbol,

@@ -5,16 +5,15 @@ use Rattle.lists.proofs.Numbers.{below_at}
 use Rattle.field.proofs.Bounds.{one_below}
 use Rattle.field.proofs.KindLaws.{usable_field}
 use Rattle.interpolation.proofs.Values.{product_at_end, product_at_next}
-use Rattle.interpolation.proofs.lagrange.product_at.Goals as goal
+use Rattle.interpolation.proofs.lagrange.Points.product_at.Goals as goal
 
 pub loop-i-init : goal.loop-i-init
-loop-i-init c = let a = c.args in (one_below _ (usable_field _ a.field.usable), sym (product_at_end _ a.points.now a.z))
+loop-i-init c = let v = c.args.self in (one_below _ (usable_field _ v.field.usable), sym (product_at_end _ v.points.now c.args.z))
 
 pub sub-factor-requires : goal.sub-factor-requires
-sub-factor-requires c = (c.requires.1, below_at _ _ c.requires.0.below _ (omega arith))
+sub-factor-requires c = (c.requires, below_at _ _ c.args.self.symbols.below _ (omega arith))
 
 pub loop-i-preserved : goal.loop-i-preserved
 loop-i-preserved c =
-    let a = c.args in
     let l = c.loop-i in
-    (c.mul-product.ensures.symbol, c.mul-product.ensures.is ∙ rw (c.sub-factor.ensures.is, l.invariant.1) (sym (product_at_next _ a.points.now a.z l.i (omega arith) (omega arith))))
+    (c.mul-product.ensures.symbol, c.mul-product.ensures.is ∙ rw (c.sub-factor.ensures.is, l.invariant.1) (sym (product_at_next _ c.args.self.points.now c.args.z l.i (omega arith) (omega arith))))

@@ -6,8 +6,8 @@ use Rattle.lists.proofs.Fill.{Filled}
 use Rattle.field.specs.Fields.{size_of}
 use Rattle.field.specs.Kinds.{modulus}
 use Rattle.interpolation.specs.Inner.Lagrange.{product_at, basis_at}
-use Rattle.interpolation.proofs.lagrange.values.Given as goal
+use Rattle.interpolation.proofs.lagrange.Points.values.Given as goal
 
 abbrev pub invariant-loop-i : goal.invariant-loop-i
 invariant-loop-i l =
-    (l.before < size_of (modulus l.field.field)) × (l.before ≡ product_at (modulus l.field.field) (take l.i l.points) l.z) × Filled 255 (length l.points) (λ j. basis_at (modulus l.field.field) l.points j l.z) l.i l.out
+    (l.before < size_of (modulus l.self.field.field)) × (l.before ≡ product_at (modulus l.self.field.field) (take l.i l.self.points.now) l.z) × Filled 255 (length l.self.points.now) (λ j. basis_at (modulus l.self.field.field) l.self.points.now j l.z) l.i l.out

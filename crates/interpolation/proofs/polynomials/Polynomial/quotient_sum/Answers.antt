@@ -8,18 +8,18 @@ use Rattle.field.proofs.KindLaws.{usable_field}
 use Rattle.interpolation.specs.Inner.Polynomials.{quotient_of}
 use Rattle.interpolation.proofs.Coefficients.{length_quotient_of, quotient_of_symbols}
 use Rattle.interpolation.proofs.PaddedSums.{dot_padded}
-use Rattle.interpolation.proofs.division.quotient_sum.Goals as goal
+use Rattle.interpolation.proofs.polynomials.Polynomial.quotient_sum.Goals as goal
 
 pub weighted_sum-requires : goal.weighted_sum-requires
 weighted_sum-requires c =
-    let (coefficients, terms, same, low) = c.requires in
-    let v = usable_field _ c.args.field.usable in
-    let q = quotient_of_symbols _ v c.args.a coefficients low in
-    rw c.quotient-q.ensures (terms.below, below_padded _ 255 _ (size_pos _ v) q.below, omega (arith, terms.short, length_padded 255 (quotient_of (modulus c.args.field.field) c.args.a c.args.coefficients.now) q.short))
+    let (terms, same, low) = c.requires in
+    let v = usable_field _ c.args.self.field.usable in
+    let q = quotient_of_symbols _ v c.args.a c.args.self.symbols low in
+    rw c.quotient-q.ensures (terms.below, below_padded _ 255 _ (size_pos _ v) q.below, omega (arith, terms.short, length_padded 255 (quotient_of (modulus c.args.self.field.field) c.args.a c.args.self.coefficients.now) q.short))
 
 pub returns : goal.returns
 returns c =
     record {
-      is = c.weighted_sum.ensures.is ∙ rw c.quotient-q.ensures (dot_padded _ 255 c.args.terms.now _ (c.requires.2 ∙ sym (length_quotient_of _ _ _)));
+      is = c.weighted_sum.ensures.is ∙ rw c.quotient-q.ensures (dot_padded _ 255 c.args.terms.now _ (c.requires.1 ∙ sym (length_quotient_of _ _ _)));
       symbol = c.weighted_sum.ensures.symbol;
     }
