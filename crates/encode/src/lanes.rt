@@ -10,6 +10,9 @@ use crate::message::Message;
 use block_products::{Product, Way};
 use generator::Header;
 use plan::Generator;
+use tile_products::scratch::{
+    LARGE_COUNTS, LARGE_LISTS, MIDDLE_COUNTS, MIDDLE_LISTS, SMALL_COUNTS, SMALL_LISTS,
+};
 
 // Fills the node's column of the generator.
 fn fill_column(generator: &Generator, node: usize, column: &mut [u16])
@@ -83,10 +86,10 @@ pub fn fill_lanes(message: &Message, out: &mut [u8])
 {
     let n = message.generator.code.header.n;
     if n <= 16 {
-        fill_in::<512, 128>(message, out)
+        fill_in::<SMALL_LISTS, SMALL_COUNTS>(message, out)
     } else if n <= 64 {
-        fill_in::<8192, 512>(message, out)
+        fill_in::<MIDDLE_LISTS, MIDDLE_COUNTS>(message, out)
     } else {
-        fill_in::<130560, 2040>(message, out)
+        fill_in::<LARGE_LISTS, LARGE_COUNTS>(message, out)
     }
 }
