@@ -37,7 +37,8 @@ pub fn prepare(
     );
 }
 
-// Every output's lists are made.
+// Every output's lists are made. They stand in one lent buffer with their lengths beside it: vectors of fixed room would be as long for few
+// rows as for many, and clearing them takes longer than a small product.
 #[derive(Clone, Copy)]
 pub struct Matrix<'a> {
     pub shape: Shape,
