@@ -39,8 +39,8 @@ pub fn groups_of(rows: usize) -> usize
 }
 
 // What stands for each weight: made once for a call.
-pub fn fill_codes(field: Field, codes: &mut [u64])
-    requires { (usable field ≡ true) × (length codes.old ≡ 256) }
+pub fn fill_codes(field: Field, codes: &mut [u64; 256])
+    requires { usable field ≡ true }
     ensures { Codes (modulus field) codes.new }
 {
     match field {

@@ -5,7 +5,7 @@ use Rattle.tile_products.proofs.Arms.{byte_codes}
 use Rattle.tile_products.proofs.fill_codes.Goals as goal
 
 pub new-requires : goal.new-requires
-new-requires c = let k = usable_prime _ (rw c.in-Prime.is at c.requires.0) in record { prime = k.1; fits = k.0 }
+new-requires c = let k = usable_prime _ (rw c.in-Prime.is at c.requires) in record { prime = k.1; fits = k.0 }
 
 pub returns-in-Prime : goal.returns-in-Prime
 unfolding modulus

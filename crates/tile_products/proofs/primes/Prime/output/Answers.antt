@@ -7,18 +7,22 @@ use Rattle.tile_products.proofs.Lanes.{one_row, two_rows}
 use Rattle.tile_products.proofs.primes.Prime.output.Goals as goal
 use Rattle.tile_products.proofs.primes.Prime.output.Goals.{Else-has_bytes}
 
+pub new-requires : goal.new-requires
+new-requires c = let m = c.args.self in record { some = two≤prime m.p m.prime; fits = c.if-has_bytes.ensures }
+
 pub output-requires : goal.output-requires
 output-requires c =
     let m = c.args.self in
     let few = c.if-has_bytes.ensures in
     let one = prime_one m.p m.prime few in
     let long : length c.args.tile.now ≡ groups_of c.args.rows * (1 * 256) = c.requires.tile_long ∙ ap (λ (x : ℕ). groups_of c.args.rows * (x * 256)) one in
-    record { some = two≤prime m.p m.prime; fits = few; in_scale = c.requires.in_scale few; tile_long = omega (arith, long, groups_room c.args.rows); out_long = c.requires.out_long ∙ ap (λ (x : ℕ). x * 64) one }
+    rw c.new.ensures
+    record { in_scale = c.requires.in_scale few; tile_long = omega (arith, long, groups_room c.args.rows); out_long = c.requires.out_long ∙ ap (λ (x : ℕ). x * 64) one }
 
 pub returns-then-has_bytes : goal.returns-then-has_bytes
 returns-then-has_bytes c =
     let m = c.args.self in
-    one_row m.p c.args.rows c.args.list.now c.args.tile.now (prime_one m.p m.prime c.if-has_bytes.ensures) c.output.ensures
+    one_row m.p c.args.rows c.args.list.now c.args.tile.now (prime_one m.p m.prime c.if-has_bytes.ensures) (rw c.new.ensures at c.output.ensures)
 
 -- the rows lie in the tile
 room : (c : Else-has_bytes) → c.args.rows * 128 ≤ length c.args.tile.now

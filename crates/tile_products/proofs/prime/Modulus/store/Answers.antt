@@ -3,7 +3,7 @@ use Rattle.std.proofs.Common.{arith}
 use Rattle.lists.proofs.Rows.{from_next}
 use Rattle.lists.proofs.Fill.{fills_put}
 use Rattle.lists.proofs.Parts.{valued_all}
-use Rattle.tile_products.proofs.prime.Sums.store.Goals as goal
+use Rattle.tile_products.proofs.prime.Modulus.store.Goals as goal
 
 pub loop-t-preserved : goal.loop-t-preserved
 loop-t-preserved c =
