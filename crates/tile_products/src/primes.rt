@@ -73,6 +73,6 @@ impl Prime {
             return;
         }
         let size = rows * 128;
-        wide::combine(p, list, rows, 64, &tile[..size], out);
+        wide::combine(p, &list[..rows], 64, &tile[..size], out);
     }
 }

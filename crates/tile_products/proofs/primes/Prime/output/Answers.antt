@@ -1,6 +1,8 @@
 -- `output` meets its contract: symbols of two bytes are summed from the tile's first rows.
 use Rattle.std.proofs.Common.{◌≡◌, ℕ, ◌*◌, ◌≤◌, length, sym, ap, ◌∙◌, arith, length-take-le}
+use Rattle.layout.specs.Layout.{row_after_row}
 use Rattle.field.proofs.Primes.{two≤prime}
+use Rattle.row_sums.proofs.FirstWeights.{first_long, combined_front}
 use Rattle.tile_products.specs.Inner.Products.{groups_of}
 use Rattle.tile_products.proofs.Arms.{groups_room, prime_one, prime_two}
 use Rattle.tile_products.proofs.Lanes.{one_row, two_rows}
@@ -33,16 +35,23 @@ room c =
     omega (arith, long, groups_room c.args.rows)
 
 pub slice_bounds-combine-end : goal.slice_bounds-combine-end
-slice_bounds-combine-end c = sym (length-take-le _ _ (room c))
+slice_bounds-combine-end c = sym (length-take-le _ _ c.requires.weights)
+
+pub slice_bounds-combine-end-2 : goal.slice_bounds-combine-end-2
+slice_bounds-combine-end-2 c = sym (length-take-le _ _ (room (goal.at.slice_bounds-combine-end-2 c).Else-has_bytes))
 
 pub combine-requires : goal.combine-requires
 combine-requires c =
     let m = c.args.self in
     let two = prime_two m.p m.prime c.if-has_bytes.ensures in
+    let first = length-take-le c.args.rows c.args.list.now c.requires.weights in
     let size : length c.args.out.now ≡ 2 * 64 = c.requires.out_long ∙ ap (λ (x : ℕ). x * 64) two in
-    (omega (arith, two≤prime m.p m.prime), omega arith, record { few = c.requires.few; weights = c.requires.weights; long = length-take-le _ _ (room (goal.at.combine-requires c).Else-has_bytes) ∙ omega arith }, size)
+    (omega (arith, two≤prime m.p m.prime), omega arith, rw first (record { few = c.requires.few; weights = omega (arith, first); long = length-take-le _ _ (room (goal.at.combine-requires c).Else-has_bytes) ∙ omega arith }), size)
 
 pub returns : goal.returns
 returns c =
     let m = c.args.self in
-    two_rows m.p c.args.rows c.args.list.now c.args.tile.now (c.args.rows * 128) (omega arith) (prime_two m.p m.prime c.if-has_bytes.ensures) c.combine.ensures
+    let enough = c.requires.weights in
+    two_rows m.p c.args.rows c.args.list.now c.args.tile.now (c.args.rows * 128) (omega arith) (prime_two m.p m.prime c.if-has_bytes.ensures)
+    (c.combine.ensures
+    ∙ rw (first_long c.args.rows 64 c.args.list.now c.args.tile.now enough, combined_front c.args.rows 64 c.args.list.now c.args.tile.now enough row_after_row m.p _))
