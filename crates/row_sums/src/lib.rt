@@ -7,11 +7,13 @@ ghost use Rattle.row_sums.specs.Inner.Combined.{WeightedRows, combined_bytes};
 
 use field::Field;
 
+mod field_terms;
 mod gf256;
 mod prime;
 mod terms;
 pub mod wide;
 
+use field_terms::FieldTerms;
 use terms::Terms;
 
 // In each lane the sum of the rows' symbols times the weights, as symbols one after the other. A function, so that terms and what is known of
@@ -20,10 +22,10 @@ pub fn combine_symbols(field: Field, weights: &[u16], lanes: usize, rows: &[u8],
     requires { WeightedRows field (length weights.now) lanes weights.now rows.now (length out.old) }
     ensures { out.new ≡ combined_bytes (modulus field) (length weights.now) lanes weights.now rows.now }
 {
-    Terms {
+    let terms = Terms {
         weights,
         lanes,
         rows,
-    }
-    .combine_symbols(field, out);
+    };
+    FieldTerms { field, terms }.combine_symbols(out);
 }
