@@ -1,7 +1,7 @@
--- `move_slices` meets its contract. The loop's invariant: the slices before the index are moved.
+-- `place_slices` meets its contract. The loop's invariant: the slices before the index are moved.
 use native.Mathlib.Omega.{arith}
 use Rattle.kernel.proofs.Filling.{changed_none, changed_lane, changed_all}
-use Rattle.sliding_sums.proofs.bytes.move_slices.Goals as goal
+use Rattle.sliding_sums.proofs.bytes.place_slices.Goals as goal
 
 pub loop-slice-init : goal.loop-slice-init
 loop-slice-init c = changed_none _ _
