@@ -79,7 +79,8 @@ fn fill_in<const LISTS: usize, const COUNTS: usize>(message: &Message, out: &mut
     block_products::fill(product, message.width, &lists, &counts, message.bytes, out);
 }
 
-// The same in the smallest scratch that the record's nodes fit. Clearing the largest takes longer than the work of a small record.
+// The same in the smallest scratch that the record's nodes fit. Clearing the largest takes longer than the work of a small record. The arms
+// name const parameters: a choice written once would need a trait for what is done in the scratch.
 pub fn fill_lanes(message: &Message, out: &mut [u8])
     requires { length out.old ≡ share_bytes message.now }
     ensures { out.new ≡ encoded message.now }

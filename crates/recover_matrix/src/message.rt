@@ -33,7 +33,7 @@ impl Inverse<'_> {
         block_products::fill(self.product(lanes), w, &lists, &counts, shares, out);
     }
 
-    // The message of the nodes' shares, row after row, in the smallest scratch that the nodes fit: at most 16, at most 64, or any. Clearing the largest takes longer than the work of a small code.
+    // The message of the nodes' shares, row after row, in the smallest scratch that the nodes fit: at most 16, at most 64, or any. Clearing the largest takes longer than the work of a small code. The arms name const parameters: a choice written once would need a trait for what is done in the scratch.
     pub fn fill_message(self, lanes: usize, shares: &[u8], out: &mut [u8])
         requires { (lanes ≤ 4096) × (length shares.now ≡ width self.code.header * self.code.header.k * lanes) × (length out.old ≡ width self.code.header * self.code.header.k * lanes) }
         ensures { out.new ≡ inverse_product self.entry.code.header self.entry.nodes.now lanes shares.now }

@@ -10,6 +10,7 @@ use crate::prime::Modulus;
 use field::{Field, PrimeField};
 use row_sums::wide;
 
+// A field of its own type does not say that it is usable, so a prime and its bound are asked.
 #[derive(Clone, Copy)]
 pub struct Prime {
     p: u32,
