@@ -1,5 +1,5 @@
 // Sums over the field of 256 elements, by sums of all subsets of four symbols that stand side by side.
-ghost use Rattle.std.specs.Prelude.{◌≡◌, true, ℕ, ◌+◌, ◌*◌, ◌/◌, ◌%◌, ◌≤◌, ◌<◌, length, get_or, drop};
+ghost use Rattle.std.specs.Prelude.{◌≡◌, true, ℕ, ◌+◌, ◌*◌, ◌/◌, ◌%◌, ◌≤◌, length, get_or, drop};
 ghost use Rattle.std.specs.Int.Bits.{bit_xor};
 ghost use Rattle.lists.specs.Rows.{from};
 ghost use Rattle.lists.specs.Numbers.{all_below};
@@ -9,6 +9,7 @@ ghost use Rattle.subset_sums.specs.Inner.Lists.{Slices};
 ghost use Rattle.sliding_sums.specs.Inner.Windows.{window_sums, Windows};
 ghost use Rattle.sliding_sums.specs.Inner.Tables.{sliding_subset, sliding_table, place_of, Placed};
 
+use kernel::gf256::times_digit;
 use subset_sums::Listed;
 
 // The symbols as bytes.
@@ -19,14 +20,6 @@ fn fill_bytes(row: &[u16], out: &mut [u8])
     for (i, symbol) in row.iter().enumerate() {
         out[i] = *symbol as u8;
     }
-}
-
-// x where the digit is 1, and 0 where it is 0. A product: the mask that kernel makes of a digit is its own.
-fn times_digit(x: u8, digit: u8) -> u8
-    requires { digit < 2 }
-    ensures { result ≡ x * digit }
-{
-    x * digit
 }
 
 // The sum of subset v of four bytes.
