@@ -31,7 +31,7 @@ impl<'a> WeightCodes<'a> {
         WeightCodes { field, codes }
     }
 
-    // The lists for the weights of an output.
+    // The lists for the weights of an output, in parts of lent slices, whose lengths no type knows.
     fn list(self, weights: &[u16], list: &mut [u16], counts: &mut [u8])
         requires few { length weights.now ≤ 255 }
         requires below { all_below (size_of (modulus self.field)) weights.now ≡ true }
