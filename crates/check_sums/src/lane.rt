@@ -77,10 +77,8 @@ impl PowerRows<'_> {
         ensures { let h = self.entry.code.header in sums.new ≡ bytes_of (width h) (check_sums h lane.now) }
     {
         let h = self.code.header;
-        let field = h.field;
-        let n = h.n as usize;
         let checks = (h.n - h.k) as usize;
-        row_sums::combine_symbols(field, lane, n, checks, self.rows, sums);
+        row_sums::combine_symbols(h.field, lane, checks, self.rows, sums);
     }
 
     // The check sums of a lane, and zeros after them.

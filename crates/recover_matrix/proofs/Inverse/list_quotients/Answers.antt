@@ -46,9 +46,7 @@ prepare-requires c =
     let l = c.loop-i in
     let low = c.loop-i-test.true in
     let room = c.requires.1 in
-    rw (taken (goal.at.prepare-requires c).After-quotient-q, length_quotient _ s (few s) v.nodes.now v.different l.i) (
-      s.usable_field,
-      c.requires.0,
+    rw (c.requires.0, taken (goal.at.prepare-requires c).After-quotient-q, length_quotient _ s (few s) v.nodes.now v.different l.i) (
       few s,
       quotient_below _ s (few s) v.nodes.now v.different l.i low,
       omega (arith, low, few s),
@@ -61,5 +59,5 @@ loop-i-preserved c =
     let v = c.args.self in
     let s = v.code.sound in
     let l = c.loop-i in
-    let made = rw (taken (goal.at.loop-i-preserved c).After-quotient-q, length_quotient _ s (few s) v.nodes.now v.different l.i) at c.prepare.ensures in
+    let made = rw (c.requires.0, taken (goal.at.loop-i-preserved c).After-quotient-q, length_quotient _ s (few s) v.nodes.now v.different l.i) at c.prepare.ensures in
     (omega (arith, l.invariant.0), omega (arith, l.invariant.1), made (node_quotient v.code.header v.nodes.now) refl l.invariant.2)

@@ -57,9 +57,7 @@ prepare-requires c =
     let s = c.args.code.sound in
     let l = c.loop-e in
     let low = c.loop-e-test.true in
-    rw (taken (goal.at.prepare-requires c).After-check_weights-weights, length_check_row h s l.e) (
-      s.usable_field,
-      c.codes_of-codes.ensures,
+    rw (c.new-codes.ensures, taken (goal.at.prepare-requires c).After-check_weights-weights, length_check_row h s l.e) (
       s.byte,
       check_row_below h s l.e,
       omega (arith, s.byte, low),
@@ -71,7 +69,7 @@ pub loop-e-preserved : goal.loop-e-preserved
 loop-e-preserved c =
     let h = c.args.code.header in
     let l = c.loop-e in
-    let made = rw (taken (goal.at.loop-e-preserved c).After-check_weights-weights, length_check_row h c.args.code.sound l.e) at c.prepare.ensures in
+    let made = rw (c.new-codes.ensures, taken (goal.at.loop-e-preserved c).After-check_weights-weights, length_check_row h c.args.code.sound l.e) at c.prepare.ensures in
     (omega (arith, l.invariant.0), omega (arith, l.invariant.1), made (check_row h) refl l.invariant.2)
 
 pub returns : goal.returns
