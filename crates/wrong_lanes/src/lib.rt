@@ -1,8 +1,7 @@
 // Which lanes of a block are no words of the code: the smallest of them, by the marks of all lanes.
 #![tactic(auto)]
 
-ghost use Rattle.std.specs.Prelude.{◌≡◌, ◌≤◌, ◌<◌, eqb, length, get_or, MatchOption};
-ghost use Rattle.lists.specs.Search.{first_false};
+ghost use Rattle.std.specs.Prelude.{◌≡◌, ◌<◌, MatchOption};
 ghost use Rattle.layout.specs.Layout.{share_layout};
 ghost use Rattle.layout.specs.Width.{symbols_of};
 ghost use Rattle.generator.specs.Records.{width};
@@ -21,19 +20,6 @@ pub struct Block<'a> {
     pub lanes: usize,
     pub shares: &'a [u8],
     pub ghost symbols: { SymbolBuffer code.header code.header.n lanes shares.now },
-}
-
-// The first of so many places whose byte is not 0, or their number.
-pub fn first_nonzero(lanes: usize, marks: &[u8]) -> usize
-    requires { lanes ≤ length marks.now }
-    ensures { result ≡ first_false lanes 0 (λ t. eqb (get_or marks.now t 0) 0) }
-{
-    for t in 0..lanes {
-        if marks[t] != 0 {
-            return t;
-        }
-    }
-    lanes
 }
 
 impl Block<'_> {
