@@ -40,7 +40,8 @@ impl Weighted<'_> {
         row_sums::combine_symbols(self.code.header.field, &self.weights[..k], count, tile, out);
     }
 
-    // The sums of all lanes, tile by tile.
+    // The sums of all lanes, tile by tile. The lanes are counted here: how many a tile takes depends on how many are left, and `step_by` has
+    // one step.
     fn fill_share(self, tile: &mut [u8], out: &mut [u8])
         requires { (self.width * self.code.header.k ≤ length tile.old) × (length out.old ≡ self.width * self.lanes) }
         ensures { let v = self.entry in out.new ≡ sum_bytes v.code.header v.width v.lanes v.weights.now v.shares.now }

@@ -35,7 +35,8 @@ impl SmallPrime {
         }
     }
 
-    // The order of a root, which is n in every accepted record with this p and root, or 0 where there is none.
+    // The order of a root, which is n in every accepted record with this p and root, or 0 where there is none, as the definition gives it: 0
+    // and 1 both stand for no record, and an option would tell them apart.
     fn order(self, root: u8) -> u8
         requires { root < self.p }
         ensures order { result ≡ order_of self.p root }

@@ -1,4 +1,5 @@
-// Tiles of 64 lanes filled: row i of lane t stands at i·64 + t. Lanes from `count` on hold anything.
+// Tiles of 64 lanes filled: row i of lane t stands at i·64 + t. Lanes from `count` on hold anything. At most 64 lanes are asked for each
+// time: `Lanes` hold any number where they are cut into parts.
 ghost use Rattle.std.specs.Prelude.{◌≡◌, ℕ, ◌+◌, ◌*◌, ◌/◌, ◌≤◌, ◌<◌, length};
 ghost use Rattle.layout.specs.Layout.{row_after_row, lane_after_lane, lane_of};
 ghost use Rattle.tiles.specs.Inner.Tiles.{Read, BlockOf, LanesIn};
