@@ -1,7 +1,8 @@
 -- From the answers of the calls to what the functions of the C interface promise.
-use Rattle.std.specs.Prelude.{Option, Some, None, Ok, Err, unwrap_or}
-use Rattle.std.specs.Result.{result_unwrap_or}
-use Rattle.generator.specs.Answers.{Answer, outcome_of}
+use Rattle.std.specs.Prelude.{Option, Some, None, Result, Ok, Err, unwrap_or, MatchResult}
+use Rattle.std.specs.Result.{result_unwrap_or, result_map_both, IsOkAnd}
+use Rattle.generator.specs.declared.refusal.Refusal.{Refusal}
+use Rattle.generator.specs.Answers.{Answer, numbered, outcome_of}
 use mathlib.Core.Path.{◌≡◌, refl, sym, ap, ap₂, ◌∙◌}
 use mathlib.Core.List.{List}
 use Prim.Native.Nat.{ℕ, zero, suc}
@@ -61,6 +62,16 @@ weights_give rec counts counts' a r e says =
     let number = by_number a r (fault_of rec (λ h. weights_fault h (length counts))) e says.counted.promise.answer in
     record { number = number; says = record { counted = record { promise = record { answer = ap outcome_of number; written = says.counted.promise.written } }; claims = says.claims } }
 
+-- an answer with another value in its place
+abbrev pub with_value : {A B : Type 0} → (A → B) → Answer A → Answer B
+with_value h a = result_map_both h (λ (f : ℕ). f) a
+
+-- what `map` gives, by numbers
+pub mapped : {A B : Type 0} (P : A → B → Type 0) (h : A → B) (a : Result A Refusal) (b : Result B Refusal) → MatchResult a (λ x. IsOkAnd b (P x)) (λ e. b ≡ Err e) → ((x : A) (y : B) → P x y → y ≡ h x) → numbered b ≡ with_value h (numbered a)
+mapped P h (Ok x) (Ok y) given is = ap Ok (is x y given)
+mapped P h (Ok x) (Err e) given is = absurd given
+mapped P h (Err e) b given is = rw given refl
+
 -- an answer with a value: its number, what is handed over, and the same answer made of that
 module _ (count held : ℕ) where
   pub counted_number : (f : ℕ) → fault_in (update_of f count) ≡ f
@@ -114,10 +125,10 @@ module _ (rec : List ℕ) (l : ℕ) (shares : List ℕ) (first : ℕ) where
   named f None e = let (none, all) = yes_means f l wrong e in (none, sym all)
   named f (Some t) e = let (none, at, other) = no_means f l wrong t e in (none, sym at)
 
-  pub belongs_done : (w : Option ℕ) → BelongsSays rec l shares (Ok w) → BelongsGives rec l shares first (unwrap_or w l) 0
-  belongs_done w says = let (none, at) = named belongs_number w says.promise.answer in record { number = sym none; first_is = at }
-
-  pub belongs_refuses : (g : ℕ) → BelongsSays rec l shares (Err g) → BelongsGives rec l shares first first g
-  belongs_refuses g says =
+  pub belongs_gives : (a : Answer (Option ℕ)) (first' r : ℕ) → r ≡ fault_in (with_value (λ w. unwrap_or w l) a) → first' ≡ result_unwrap_or (with_value (λ w. unwrap_or w l) a) first → BelongsSays rec l shares a → BelongsGives rec l shares first first' r
+  belongs_gives (Ok w) first' r e v says =
+      let (none, at) = named belongs_number w says.promise.answer in
+      rw (e, v) record { number = sym none; first_is = at }
+  belongs_gives (Err g) first' r e v says =
       let (same, some) = refusal_means belongs_number l wrong g says.promise.answer in
-      record { number = same; first_is = sym (refused_value g _ first some) }
+      rw (e, v) record { number = same; first_is = sym (refused_value g _ first some) }

@@ -29,7 +29,7 @@ pub use rosters::{
 };
 pub use version::balanced_version;
 
-// The number that an answer stands for, 0 where the call was accepted.
+// The number that an answer stands for, 0 where the call was accepted. No `From`: neither `Result` nor `u8` is a type of this crate.
 fn number_of(answer: Result<(), Refusal>) -> u8
     ensures { result ≡ fault_in (numbered answer) }
 {
@@ -147,13 +147,8 @@ pub fn balanced_rebuild(
 pub fn balanced_belongs(rec: &[u8], lanes: u32, shares: &[u8], first_wrong: &mut u32) -> u8
     ensures { BelongsGives rec.now lanes shares.now first_wrong.old first_wrong.new result }
 {
-    match balanced::block_belongs(rec, lanes, shares) {
-        Ok(wrong) => {
-            *first_wrong = wrong.unwrap_or(lanes);
-            0
-        }
-        Err(refusal) => u8::from(refusal),
-    }
+    let answer = balanced::block_belongs(rec, lanes, shares);
+    hand_over(answer.map(|wrong| wrong.unwrap_or(lanes)), first_wrong)
 }
 
 // How many messages have a word with w nodes that are not zero, w from 0 to n.

@@ -5,7 +5,7 @@ ghost use Rattle.roster.specs.Events.{leaves, returns};
 ghost use Rattle.roster.specs.Rosters.{fault_in};
 ghost use Rattle.roster_bytes.specs.Calls.{told_of, StartGives, EventGives, LowestGives, JobGives};
 
-use crate::number_of;
+use crate::{hand_over, number_of};
 use generator::Refusal;
 use roster::Listing;
 
@@ -34,17 +34,10 @@ pub fn balanced_roster_rejoin(rec: &[u8], roster: &mut [u8], node: u32) -> u8
 fn tell(answer: Result<Listing, Refusal>, enough: &mut u32) -> u8
     ensures { (result ≡ fault_in (numbered answer)) × (enough.new ≡ told_of (numbered answer) enough.old) }
 {
-    match answer {
-        Ok(Listing::Written) => {
-            *enough = 1;
-            0
-        }
-        Ok(Listing::TooFew) => {
-            *enough = 0;
-            0
-        }
-        Err(refusal) => u8::from(refusal),
-    }
+    hand_over(
+        answer.map(|listing| u32::from(listing == Listing::Written)),
+        enough,
+    )
 }
 
 // The k lowest present nodes; `enough` receives 1 where they are written, 0 where fewer than k are present.

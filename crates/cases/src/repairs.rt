@@ -1,33 +1,33 @@
 // Calls of a repair by traces.
 use balanced::{Refusal, RepairPlan};
 use std::alloc::{AllocError, Global};
-use test_calls::{Refused, last_buffer, written};
+use test_calls::{Refused, written};
 use test_tools::MARK;
 use test_words::{Fault, Words};
 
 // What a node sends.
-pub fn bits(alloc: Global, words: &mut Words) -> Result<String, Fault> {
+pub fn bits(words: &mut Words) -> Result<String, Fault> {
     let record = words.record()?;
     let lanes = words.number("lanes")?;
     let node = words.number("node")?;
     let target = words.number("target")?;
     let missing = words.bytes("missing")?;
     let share = words.bytes("share")?;
-    let mut out = last_buffer(alloc, words, MARK)?;
-    let answer = balanced::repair_bits(&record, lanes, node, target, &missing, &share, &mut out);
-    written(alloc, answer, MARK, &out)
+    written(words, MARK, |out| {
+        balanced::repair_bits(&record, lanes, node, target, &missing, &share, out)
+    })
 }
 
 // The target's share.
-pub fn share(alloc: Global, words: &mut Words) -> Result<String, Fault> {
+pub fn share(words: &mut Words) -> Result<String, Fault> {
     let record = words.record()?;
     let lanes = words.number("lanes")?;
     let target = words.number("target")?;
     let missing = words.bytes("missing")?;
     let rows = words.bytes("rows")?;
-    let mut out = last_buffer(alloc, words, MARK)?;
-    let answer = balanced::repair_share(&record, lanes, target, &missing, &rows, &mut out);
-    written(alloc, answer, MARK, &out)
+    written(words, MARK, |out| {
+        balanced::repair_share(&record, lanes, target, &missing, &rows, out)
+    })
 }
 
 // How many bits each node sends and how many further nodes may be missing, or what turned the call away.
@@ -38,9 +38,9 @@ fn planned(alloc: Global, answer: Result<RepairPlan, Refusal>) -> Result<String,
     }
 }
 
-pub fn plan(alloc: Global, words: &mut Words) -> Result<String, Fault> {
+pub fn plan(words: &mut Words) -> Result<String, Fault> {
     let record = words.record()?;
     let count = words.number("count")?;
     words.end()?;
-    Ok(planned(alloc, balanced::repair_plan(&record, count))?)
+    Ok(planned(words.alloc(), balanced::repair_plan(&record, count))?)
 }

@@ -12,54 +12,52 @@ fn last_shares(words: &mut Words) -> Result<Vec<u8>, Fault> {
     Ok(shares)
 }
 
-// How many nodes or symbols were altered and the shares afterwards, or what turned the call away and whether the shares are as they were.
-fn altered(
-    alloc: Global,
-    answer: Result<u32, Refusal>,
-    after: &[u8],
-    kept: bool,
-) -> Result<String, Fault> {
-    match answer {
-        Ok(count) => Ok(format!(in alloc; "altered {count} shares{}", List(after))?),
-        Err(refusal) => turned_away(alloc, refusal, kept),
-    }
-}
-
-// Lends the shares of the last word to a call that may change them.
-fn alter<F: FnOnce(&mut [u8]) -> Result<u32, Refusal>>(
-    alloc: Global,
+// Lends the shares of the last word to a call that may change them: its answer, the shares afterwards, and whether they are as they were.
+fn lend<T: Copy, F: FnOnce(&mut [u8]) -> Result<T, Refusal>>(
     words: &mut Words,
     call: F,
-) -> Result<String, Fault>
+) -> Result<(Result<T, Refusal>, Vec<u8>, bool), Fault>
     requires { F.IsAlwaysCallable call }
 {
     let before = last_shares(words)?;
     let mut after = before.clone()?;
     let answer = call(&mut after);
     let kept = after == before;
-    altered(alloc, answer, &after, kept)
+    Ok((answer, after, kept))
 }
 
-pub fn update(alloc: Global, words: &mut Words) -> Result<String, Fault> {
+// How many nodes or symbols a call altered and the shares afterwards, or what turned it away and whether the shares are as they were.
+fn altered<F: FnOnce(&mut [u8]) -> Result<u32, Refusal>>(
+    words: &mut Words,
+    call: F,
+) -> Result<String, Fault>
+    requires { F.IsAlwaysCallable call }
+{
+    let (answer, after, kept) = lend(words, call)?;
+    match answer {
+        Ok(count) => Ok(format!(in words.alloc(); "altered {count} shares{}", List(&after))?),
+        Err(refusal) => turned_away(words.alloc(), refusal, kept),
+    }
+}
+
+pub fn update(words: &mut Words) -> Result<String, Fault> {
     let record = words.record()?;
     let lanes = words.number("lanes")?;
     let symbol = words.number("symbol")?;
     let lane = words.number("lane")?;
     let old = words.number("old")?;
     let new = words.number("new")?;
-    alter(alloc, words, |shares| {
+    altered(words, |shares| {
         balanced::update_lane(&record, lanes, symbol, lane, old, new, shares)
     })
 }
 
-pub fn correct(alloc: Global, words: &mut Words) -> Result<String, Fault> {
+pub fn correct(words: &mut Words) -> Result<String, Fault> {
     let record = words.record()?;
     let lanes = words.number("lanes")?;
-    alter(
-        alloc,
-        words,
-        |shares| balanced::correct_block(&record, lanes, shares),
-    )
+    altered(words, |shares| {
+        balanced::correct_block(&record, lanes, shares)
+    })
 }
 
 // Yes, the smallest lane that is no word, or what turned the call away.
@@ -71,22 +69,21 @@ fn membership(alloc: Global, answer: Result<Option<u32>, Refusal>) -> Result<Str
     }
 }
 
-pub fn belongs(alloc: Global, words: &mut Words) -> Result<String, Fault> {
+pub fn belongs(words: &mut Words) -> Result<String, Fault> {
     let record = words.record()?;
     let lanes = words.number("lanes")?;
     let shares = last_shares(words)?;
     let answer = balanced::block_belongs(&record, lanes, &shares);
-    Ok(membership(alloc, answer)?)
+    Ok(membership(words.alloc(), answer)?)
 }
 
 // A node's difference added to its share.
-pub fn add_share(alloc: Global, words: &mut Words) -> Result<String, Fault> {
+pub fn add_share(words: &mut Words) -> Result<String, Fault> {
     let record = words.record()?;
     let lanes = words.number("lanes")?;
     let difference = words.bytes("symbols")?;
-    let before = last_shares(words)?;
-    let mut after = before.clone()?;
-    let answer = balanced::add_share(&record, lanes, &difference, &mut after);
-    let kept = after == before;
-    done(alloc, answer, &after, kept)
+    let (answer, after, kept) = lend(words, |share| {
+        balanced::add_share(&record, lanes, &difference, share)
+    })?;
+    done(words.alloc(), answer, &after, kept)
 }

@@ -1,23 +1,14 @@
 -- The present nodes: rising, below n, marked.
 use mathlib.Core.Path.{◌≡◌}
-use mathlib.Core.Bool.{Bool, true, false}
+use mathlib.Core.Bool.{Bool, true}
 use mathlib.Core.List.{List}
 use Prim.Native.Nat.{ℕ, ◌+◌, ◌≤◌, ◌<◌}
 use native.Mathlib.Omega.{arith}
-use lib.ListN.{length, replicate, length-replicate}
 use Rattle.lists.specs.Counting.{passing_from}
 use Rattle.lists.proofs.All.{All, All-imp, Distinct}
 use Rattle.lists.proofs.Numbers.{StandsIn}
 use Rattle.lists.proofs.Passing.{passing_within, passing_pass, passing_place, Rises, passing_rises, rises_distinct}
 use Rattle.roster.specs.Rosters.{is_present, present_of}
-
--- n marks of absent nodes: shut, so that no goal writes them out
-unfoldable pub absent : ℕ → List Bool
-absent n = replicate n false
-
-pub length_absent : (n : ℕ) → length (absent n) ≡ n
-unfolding absent
-length_absent n = length-replicate n false
 
 module _ (n : ℕ) (marks : List Bool) where
   -- the present nodes rise, lie below n and are marked

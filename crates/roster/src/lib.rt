@@ -8,6 +8,7 @@ ghost use Rattle.roster.specs.Events.{leaves, returns};
 ghost use Rattle.roster.specs.Rosters.{Step, first_roster, start_of, step_by, step_of, lowest_of, lowest_list, job_of, job_list};
 
 use generator::Refusal;
+use std::array;
 
 mod events;
 mod jobs;
@@ -33,7 +34,7 @@ fn first_roster(n: u8) -> Roster
     ensures { result ≡ first_roster n }
 {
     Roster {
-        marks: present::first_marks(n),
+        marks: array::from_fn(|j| j < usize::from(n)),
         job: 0,
     }
 }

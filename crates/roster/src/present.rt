@@ -1,21 +1,10 @@
-// The marks of the nodes that are present, and the present nodes in a list.
+// The present nodes in a list.
 ghost use Rattle.std.specs.Prelude.{◌≡◌, ◌≤◌, ◌<◌, length};
 ghost use Rattle.lists.specs.Around.{around};
 ghost use Rattle.lists.specs.Rows.{from};
-ghost use Rattle.roster.specs.Rosters.{first_marks, present_of};
+ghost use Rattle.roster.specs.Rosters.{present_of};
 
 use arrayvec::ArrayVec;
-
-// The marks with the nodes below n present.
-pub fn first_marks(n: u8) -> [bool; 255]
-    ensures { result ≡ first_marks n }
-{
-    let mut marks = [false; 255];
-    for j in 0..255 {
-        marks[j as usize] = j < n;
-    }
-    marks
-}
 
 // The present nodes below n, rising.
 pub fn list_present(marks: &[bool; 255], n: u8) -> ArrayVec<u8, 255>

@@ -6,8 +6,8 @@ use Prim.Native.Nat.{ℕ, zero, suc, ◌<◌}
 use native.Mathlib.Nat.{zero-add}
 use native.Mathlib.Omega.{arith}
 use lib.Dec.{eqb}
-use lib.ListN.{length, get_or, set, drop, drop_of_length-le, get_or-append}
-use lib.Seq.{ext_get_or, set_at, get_or_at, drop-cons}
+use lib.ListN.{length, get_or, get_or-append}
+use lib.Seq.{ext_get_or, get_or_at}
 use borrow.Author.Tests.{ne_eqb}
 use Rattle.lists.specs.Choice.{pick}
 use Rattle.lists.specs.Rows.{from}
@@ -18,18 +18,10 @@ use Rattle.roster.specs.Events.{Event}
 use Rattle.roster.specs.Rosters.{step_of}
 use Rattle.roster.proofs.Stepping.{step_number, step_same, step_length}
 use Rattle.roster_bytes.specs.Bytes.{marks_of, roster_of, mark_bytes, roster_bytes, bytes_fault, event_bytes}
-use Rattle.roster_bytes.specs.Inner.Bytes.{marks_in}
 
 pub length_marks : (marks : List Bool) → length (mark_bytes marks) ≡ 255
 unfolding mark_bytes
 length_marks marks = length_from (λ j. pick (get_or marks j false) 1 0) 0 255
-
--- the job number behind the marks
-pub put_job : (r : Roster) (s : List ℕ) → length s ≡ 256 → set (marks_in r.marks s) 255 r.job ≡ roster_bytes r
-unfolding marks_in roster_bytes
-put_job r s long =
-    let last : drop 255 s ≡ get_or s 255 0 ∷ [] = drop-cons s 255 0 (omega arith) ∙ ap (λ l. get_or s 255 0 ∷ l) (drop_of_length-le s {i = 256} (omega arith)) in
-    rw last (set_at (mark_bytes r.marks) (get_or s 255 0) [] r.job 255 (length_marks r.marks))
 
 -- a mark that is written and read again
 mark_back : (b : Bool) → not (eqb (pick b 1 0) 0) ≡ b

@@ -2,4 +2,3 @@
 pub mod Bytes
 pub mod Calls
 pub mod Histories
-pub mod Inner

@@ -1,35 +1,36 @@
 // The calls of a roster on lent bytes.
-ghost use Rattle.std.specs.Prelude.{◌≡◌, ◌≢◌, ℕ, MatchResult};
+ghost use Rattle.std.specs.Prelude.{◌≡◌, ◌≢◌, ℕ, MatchResult, length};
 ghost use Rattle.lists.specs.Choice.{first_of};
 ghost use Rattle.generator.specs.Answers.{number, numbered};
 ghost use Rattle.generator.specs.Records.{record_fault};
 ghost use Rattle.roster.specs.Events.{Event, named, says, leaves, returns};
 ghost use Rattle.roster.specs.Rosters.{fault_in};
+ghost use Rattle.roster_bytes.specs.Bytes.{roster_of};
 ghost use Rattle.roster_bytes.specs.Calls.{told_of, StartGives, EventGives, LowestGives, JobGives};
 
-use crate::bytes::{read_roster, write_roster};
+use crate::bytes::{bytes_of, read_roster};
 use generator::Refusal;
 use roster::{Listing, Roster};
 
-// Bytes of another length than 256: the record's refusal, else number 8.
-fn length_fault(rec: &[u8], length: usize) -> Result<(), Refusal>
-    ensures { MatchResult result (λ _. length ≡ 256) (λ e. (length ≢ 256) × (number e ≡ first_of (record_fault rec.now) 8)) }
+// The roster that bytes hold. Bytes of another length than 256 meet the record's refusal, else number 8.
+fn lent_roster(rec: &[u8], bytes: &[u8]) -> Result<Roster, Refusal>
+    ensures { MatchResult result (λ r. (length bytes.now ≡ 256) × (r ≡ roster_of bytes.now)) (λ e. (length bytes.now ≢ 256) × (number e ≡ first_of (record_fault rec.now) 8)) }
 {
-    if length == 256 {
-        return Ok(());
-    }
-    Roster::start(rec)?;
-    Err(Refusal::Length)
+    let Ok(bytes) = <&[u8; 256]>::try_from(bytes) else {
+        Roster::start(rec)?;
+        return Err(Refusal::Length);
+    };
+    Ok(read_roster(bytes))
 }
 
-// All n nodes of the record present; beside the record's refusal no node is, and all bytes are 0.
+// All n nodes of the record present; beside the record's refusal no node is, and all bytes are 0. Of what the bytes held the length alone counts.
 pub fn start(rec: &[u8], bytes: &mut [u8]) -> Result<(), Refusal>
     ensures { StartGives rec.now bytes.old bytes.new (fault_in (numbered result)) }
 {
-    length_fault(rec, bytes.len())?;
+    lent_roster(rec, bytes)?;
     bytes.fill(0);
     let roster = Roster::start(rec)?;
-    write_roster(&roster, bytes);
+    bytes.copy_from_slice(&bytes_of(&roster));
     Ok(())
 }
 
@@ -37,9 +38,8 @@ pub fn start(rec: &[u8], bytes: &mut [u8]) -> Result<(), Refusal>
 fn mark(rec: &[u8], bytes: &mut [u8], node: u32, here: bool) -> Result<(), Refusal>
     ensures { (e : Event) → named e ≡ node → says e ≡ here → EventGives rec.now bytes.old e bytes.new (fault_in (numbered result)) }
 {
-    length_fault(rec, bytes.len())?;
-    let roster = read_roster(bytes).mark(rec, node, here)?;
-    write_roster(&roster, bytes);
+    let roster = lent_roster(rec, bytes)?.mark(rec, node, here)?;
+    bytes.copy_from_slice(&bytes_of(&roster));
     Ok(())
 }
 
@@ -61,19 +61,17 @@ pub fn rejoin(rec: &[u8], bytes: &mut [u8], node: u32) -> Result<(), Refusal>
 pub fn lowest(rec: &[u8], bytes: &[u8], list: &mut [u8]) -> Result<Listing, Refusal>
     ensures { (enough : ℕ) → LowestGives rec.now bytes.now list.old enough list.new (told_of (numbered result) enough) (fault_in (numbered result)) }
 {
-    length_fault(rec, bytes.len())?;
-    read_roster(bytes).lowest(rec, list)
+    lent_roster(rec, bytes)?.lowest(rec, list)
 }
 
 // Writes the nodes that the next job reads, and the roster after it.
 pub fn next_job(rec: &[u8], bytes: &mut [u8], list: &mut [u8]) -> Result<Listing, Refusal>
     ensures { (enough : ℕ) → JobGives rec.now bytes.old list.old enough bytes.new list.new (told_of (numbered result) enough) (fault_in (numbered result)) }
 {
-    length_fault(rec, bytes.len())?;
-    let mut roster = read_roster(bytes);
+    let mut roster = lent_roster(rec, bytes)?;
     let listing = roster.next_job(rec, list)?;
     if listing == Listing::Written {
-        write_roster(&roster, bytes);
+        bytes.copy_from_slice(&bytes_of(&roster));
     }
     Ok(listing)
 }

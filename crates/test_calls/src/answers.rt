@@ -3,10 +3,10 @@ use generator::Refusal;
 use std::alloc::Global;
 use std::fmt;
 use std::fmt::Display;
-use test_tools::{List, change, untouched};
+use test_tools::{List, change};
 use test_words::Fault;
 
-// A refusal, said by its number.
+// A refusal, said by its number. `Refusal` itself has no `Display`: the library has no texts, and each program says a refusal in its own.
 #[derive(Clone, Copy)]
 pub struct Refused(pub Refusal);
 
@@ -33,15 +33,4 @@ pub fn done<T: Display>(
         Ok(()) => Ok(format!(in alloc; "done{}", List(after))?),
         Err(refusal) => turned_away(alloc, refusal, kept),
     }
-}
-
-// The same of a buffer in which every place held the mark.
-pub fn written<T: Copy + Display + PartialEq>(
-    alloc: Global,
-    answer: Result<(), Refusal>,
-    mark: T,
-    after: &[T],
-) -> Result<String, Fault> {
-    let kept = untouched(mark, after);
-    done(alloc, answer, after, kept)
 }

@@ -16,13 +16,13 @@ fn finding(alloc: Global, answer: Result<Finding, Refusal>) -> Result<String, Al
     }
 }
 
-pub fn find(alloc: Global, words: &mut Words) -> Result<String, Fault> {
+pub fn find(words: &mut Words) -> Result<String, Fault> {
     let record = words.record()?;
     let before = words.bytes("before")?;
     let after = words.bytes("after")?;
     words.end()?;
     let answer = find_update::find_update(&record, &before, &after);
-    Ok(finding(alloc, answer)?)
+    Ok(finding(words.alloc(), answer)?)
 }
 
 // How many single changes there are and both lists, or what turned the call away and whether every byte of both is as it was.
@@ -46,11 +46,11 @@ fn mending(
 }
 
 // The lists are lent with room for so many nodes, and for so many bytes of symbols.
-pub fn mends(alloc: Global, words: &mut Words) -> Result<String, Fault> {
+pub fn mends(words: &mut Words) -> Result<String, Fault> {
     let record = words.record()?;
     let lane = words.bytes("symbols")?;
-    let mut nodes = buffer(alloc, words, MARK)?;
-    let mut symbols = last_buffer(alloc, words, MARK)?;
+    let mut nodes = buffer(words, MARK)?;
+    let mut symbols = last_buffer(words, MARK)?;
     let answer = mends::single_mends(&record, &lane, &mut nodes, &mut symbols);
-    mending(alloc, answer, &nodes, &symbols)
+    mending(words.alloc(), answer, &nodes, &symbols)
 }

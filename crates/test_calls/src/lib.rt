@@ -9,5 +9,5 @@ pub mod lanes;
 pub mod plans;
 pub mod rosters;
 
-pub use answers::{Refused, done, turned_away, written};
-pub use buffers::{buffer, last_buffer};
+pub use answers::{Refused, done, turned_away};
+pub use buffers::{buffer, last_buffer, written};

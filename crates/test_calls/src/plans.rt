@@ -32,7 +32,7 @@ impl fmt::Display for Front<'_> {
     }
 }
 
-// The bytes of symbols: one each, where 255 stands for any symbol that is no byte, or two, the high one first.
+// The bytes of symbols: two each where they are wide, the high one first, else one, which is 255 for a symbol that no byte holds.
 fn bytes_of(alloc: Global, symbols: &[u16], wide: bool) -> Result<Vec<u8>, AllocError> {
     let mut bytes = Vec::new(alloc);
     for x in symbols {
@@ -61,7 +61,7 @@ fn accepted(alloc: Global, plan: &Plan, wide: bool) -> Result<String, AllocError
     )
 }
 
-// A record that is turned away has no plan, and so nothing but 0 in the places of one.
+// The plan, or what turned the record away. Then there are no places: that all are 0 is what the reference writes of them.
 fn planned(alloc: Global, answer: Result<Plan, Refusal>, wide: bool) -> Result<String, AllocError> {
     match answer {
         Ok(plan) => accepted(alloc, &plan, wide),
@@ -70,9 +70,9 @@ fn planned(alloc: Global, answer: Result<Plan, Refusal>, wide: bool) -> Result<S
 }
 
 // A symbol has two bytes in a record of kind 3, and else one.
-pub fn plan(alloc: Global, words: &mut Words) -> Result<String, Fault> {
+pub fn plan(words: &mut Words) -> Result<String, Fault> {
     let record = words.record()?;
     words.end()?;
     let wide = record.first() == Some(&3);
-    Ok(planned(alloc, plan::build_plan(&record), wide)?)
+    Ok(planned(words.alloc(), plan::build_plan(&record), wide)?)
 }

@@ -41,18 +41,16 @@ fn stepped(alloc: Global, roster: &Roster, refusal: Option<Refusal>) -> Result<S
     Ok(text?)
 }
 
-// Every call in words takes the allocator and the words, these the roster too, which outlives the line: a value of the three would be made for each line and taken apart by the one call that it names.
-pub fn start(alloc: Global, words: &mut Words, roster: &mut Roster) -> Result<String, Fault> {
+pub fn start(words: &mut Words, roster: &mut Roster) -> Result<String, Fault> {
     let record = words.record()?;
     words.end()?;
     let started = Roster::start(&record);
     *roster = started.unwrap_or(nobody());
-    stepped(alloc, roster, started.err())
+    stepped(words.alloc(), roster, started.err())
 }
 
 // A node leaves or returns; where that is turned away the roster stays.
 pub fn event<F: FnOnce(Roster, &[u8], u32) -> Result<Roster, Refusal>>(
-    alloc: Global,
     words: &mut Words,
     roster: &mut Roster,
     call: F,
@@ -64,7 +62,7 @@ pub fn event<F: FnOnce(Roster, &[u8], u32) -> Result<Roster, Refusal>>(
     words.end()?;
     let answer = call(*roster, &record, node);
     *roster = answer.unwrap_or(*roster);
-    stepped(alloc, roster, answer.err())
+    stepped(words.alloc(), roster, answer.err())
 }
 
 // The list that was written, or why it was not and whether every byte is as it was.
@@ -77,18 +75,18 @@ fn listed(alloc: Global, answer: Result<Listing, Refusal>, out: &[u8]) -> Result
     }
 }
 
-pub fn lowest(alloc: Global, words: &mut Words, roster: &Roster) -> Result<String, Fault> {
+pub fn lowest(words: &mut Words, roster: &Roster) -> Result<String, Fault> {
     let record = words.record()?;
-    let mut out = last_buffer(alloc, words, MARK)?;
+    let mut out = last_buffer(words, MARK)?;
     let answer = roster.lowest(&record, &mut out);
-    listed(alloc, answer, &out)
+    listed(words.alloc(), answer, &out)
 }
 
 // The job's list, then the number of the next job.
-pub fn job(alloc: Global, words: &mut Words, roster: &mut Roster) -> Result<String, Fault> {
+pub fn job(words: &mut Words, roster: &mut Roster) -> Result<String, Fault> {
     let record = words.record()?;
-    let mut out = last_buffer(alloc, words, MARK)?;
+    let mut out = last_buffer(words, MARK)?;
     let answer = roster.next_job(&record, &mut out);
-    let list = listed(alloc, answer, &out)?;
-    Ok(format!(in alloc; "{list}, next job {}", roster.job)?)
+    let list = listed(words.alloc(), answer, &out)?;
+    Ok(format!(in words.alloc(); "{list}, next job {}", roster.job)?)
 }

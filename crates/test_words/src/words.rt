@@ -35,6 +35,11 @@ impl<'a> Words<'a> {
         }
     }
 
+    // Lends the memory in which the lists of the line lie, and the texts that are made of them.
+    pub fn alloc(&self) -> Global {
+        self.alloc
+    }
+
     // The first word of the line.
     pub fn name(&mut self) -> &'a str {
         self.rest.next().unwrap_or("")
@@ -49,7 +54,7 @@ impl<'a> Words<'a> {
     }
 
     // The next word, if it is a number.
-    fn digits(&mut self) -> Option<&'a str> {
+    fn numeral(&mut self) -> Option<&'a str> {
         self.rest.next_if(|word| is_number(word))
     }
 
@@ -61,13 +66,13 @@ impl<'a> Words<'a> {
     {
         let mut numbers = Vec::new(self.alloc);
         for _ in 0..most {
-            let Some(digits) = self.digits() else {
+            let Some(numeral) = self.numeral() else {
                 return Ok(numbers);
             };
-            let number = digits.parse().or(Err(Fault::LargeNumber))?;
+            let number = numeral.parse().or(Err(Fault::LargeNumber))?;
             numbers.push(number)?;
         }
-        match self.digits() {
+        match self.numeral() {
             None => Ok(numbers),
             Some(_) => Err(Fault::TooManyNumbers),
         }

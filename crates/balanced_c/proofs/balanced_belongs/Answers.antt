@@ -1,9 +1,13 @@
--- `balanced_belongs` meets its contract, in each arm of the match.
-use Rattle.balanced_c.proofs.Answers.{belongs_done, belongs_refuses}
+-- `balanced_belongs` meets its contract: the number of what `block_belongs` answers, and its lane or the number of lanes.
+use Rattle.std.proofs.Common.{rules}
+use Rattle.std.specs.Prelude.{unwrap_or}
+use mathlib.Core.Path.{ap, ◌∙◌}
+use Rattle.std.specs.Result.{result_unwrap_or}
+use Rattle.roster.specs.Rosters.{fault_in}
+use Rattle.balanced_c.proofs.Answers.{mapped, belongs_gives}
 use Rattle.balanced_c.proofs.balanced_belongs.Goals as goal
 
-pub returns-in-Ok : goal.returns-in-Ok
-returns-in-Ok c = rw c.unwrap_or.ensures (belongs_done _ _ _ _ _ c.in-Ok.ensures)
-
-pub returns-in-Err : goal.returns-in-Err
-returns-in-Err c = rw c.from.ensures (belongs_refuses _ _ _ _ _ c.in-Err.ensures)
+pub returns : goal.returns
+returns c =
+    let is = mapped _ (λ w. unwrap_or w c.args.lanes) c.block_belongs-answer.result c.map.result c.map.ensures.cases (λ w n given. search rules) in
+    belongs_gives _ _ _ _ _ _ _ (c.hand_over.ensures.0 ∙ ap fault_in is) (c.hand_over.ensures.1 ∙ ap (λ a. result_unwrap_or a c.args.first_wrong.now) is) c.block_belongs-answer.ensures

@@ -1,27 +1,32 @@
--- `tell` meets its contract, in each arm of the match.
-use Rattle.std.specs.Prelude.{Result, Ok}
-use mathlib.Core.Path.{◌≡◌, refl}
-use Prim.Native.Nat.{ℕ}
-use Rattle.generator.specs.declared.refusal.Refusal.{Refusal}
-use Rattle.generator.specs.Answers.{numbered}
+-- `tell` meets its contract.
+use Rattle.std.proofs.Common.{rules}
+use Rattle.std.specs.Prelude.{◌≡◌, Ok, Err, ℕ}
+use Rattle.std.specs.Result.{result_unwrap_or}
+use mathlib.Core.Path.{refl, ap, ◌∙◌}
+use mir.Val.{bool_byte}
+use denote.Enum.Bare.{sameb}
+use Rattle.generator.specs.Answers.{Answer, numbered}
+use Rattle.roster.specs.contracts.Listing.{the_type}
 use Rattle.roster.specs.declared.Listing.{Listing}
 use Rattle.roster.specs.declared.Listing.TheVariants.{Written, TooFew}
 use Rattle.roster.specs.Rosters.{fault_in}
 use Rattle.roster_bytes.specs.Calls.{told_of}
+use Rattle.balanced_c.proofs.Answers.{with_value, mapped}
 use Rattle.balanced_c.proofs.rosters.tell.Goals as goal
 
--- an answer with a listing
-told : (a : Result Listing Refusal) (l m : Listing) (enough : ℕ) → a ≡ Ok l → l ≡ m → (0 ≡ fault_in (numbered a)) × (told_of (Ok m) enough ≡ told_of (numbered a) enough)
-told a l m enough is same = rw (is, same) (refl, refl)
+-- 1 for a list that was written
+abbrev written : Listing → ℕ
+written l = bool_byte (sameb the_type l Written)
 
-pub returns-in-Ok-Written : goal.returns-in-Ok-Written
+told : (a : Answer Listing) (enough : ℕ) → (fault_in (with_value written a) ≡ fault_in a) × (result_unwrap_or (with_value written a) enough ≡ told_of a enough)
 unfolding told_of
-returns-in-Ok-Written c = told _ _ Written c.args.enough.now c.in-Ok-Written.is (rw c.in-Ok-Written.is at c.in-Ok-Written.field-0-is)
+told (Ok Written) enough = (refl, refl)
+told (Ok TooFew) enough = (refl, refl)
+told (Err f) enough = (refl, refl)
 
-pub returns-in-Ok-TooFew : goal.returns-in-Ok-TooFew
-unfolding told_of
-returns-in-Ok-TooFew c = told _ _ TooFew c.args.enough.now c.in-Ok-TooFew.is (rw c.in-Ok-TooFew.is at c.in-Ok-TooFew.field-0-is)
-
-pub returns-in-Err : goal.returns-in-Err
-unfolding told_of
-returns-in-Err c = rw c.in-Err.is (c.from.ensures, refl)
+pub returns : goal.returns
+returns c =
+    let is = mapped _ written c.args.answer c.map.result c.map.ensures.cases (λ l n given. search rules) in
+    let held = c.args.enough.now in
+    let (number, value) = told (numbered c.args.answer) held in
+    (c.hand_over.ensures.0 ∙ ap fault_in is ∙ number, c.hand_over.ensures.1 ∙ ap (λ a. result_unwrap_or a held) is ∙ value)

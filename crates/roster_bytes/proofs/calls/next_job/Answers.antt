@@ -11,10 +11,10 @@ use Rattle.roster_bytes.specs.Calls.{told_of}
 use Rattle.roster_bytes.proofs.Giving.{job_short, job_done}
 use Rattle.roster_bytes.proofs.calls.next_job.Goals as goal
 
-pub returns-in_err-length_fault : goal.returns-in_err-length_fault
+pub returns-in_err-roster : goal.returns-in_err-roster
 unfolding told_of
-returns-in_err-length_fault c =
-    let (short, number) = c.in_err-length_fault.ensures in
+returns-in_err-roster c =
+    let (short, number) = c.in_err-roster.ensures in
     rw (exit _ c.from_residual.ensures.1) (λ enough. job_short _ _ _ short number _ enough)
 
 -- only what was written is no other than `Written`
@@ -27,22 +27,22 @@ pub returns-in_err-listing : goal.returns-in_err-listing
 unfolding wrote
 returns-in_err-listing c =
     let done = c.in_err-listing.ensures in
-    let read = c.read_roster-roster.ensures in
+    let (long, read) = c.in_ok-roster.ensures in
     rw (exit _ c.from_residual-in_err-listing.ensures.1, done.list, read)
-    (λ enough. job_done _ _ c.in_ok-length_fault.ensures _ enough (Err _) _ (rw read at done.answer) refl)
+    (λ enough. job_done _ _ long _ enough (Err _) _ (rw read at done.answer) refl)
 
 pub returns-then-eq : goal.returns-then-eq
 returns-then-eq c =
     let done = c.in_ok-listing.ensures in
-    let read = c.read_roster-roster.ensures in
+    let (long, read) = c.in_ok-roster.ensures in
     let is = sym (told _) ∙ sym c.if-eq.ensures in
     rw (done.list, read)
-    (λ enough. job_done _ _ c.in_ok-length_fault.ensures _ enough (Ok _) _ (rw read at done.answer) (rw is (rw (done.roster, read) at c.write_roster.ensures)))
+    (λ enough. job_done _ _ long _ enough (Ok _) _ (rw read at done.answer) (rw is (rw (done.roster, read) at (c.copy_from_slice.ensures.after ∙ c.bytes_of.ensures))))
 
 pub returns-else-eq : goal.returns-else-eq
 returns-else-eq c =
     let done = c.in_ok-listing.ensures in
-    let read = c.read_roster-roster.ensures in
+    let (long, read) = c.in_ok-roster.ensures in
     let is = sym (told _) ∙ sym c.if-eq.ensures in
     rw (done.list, read)
-    (λ enough. job_done _ _ c.in_ok-length_fault.ensures _ enough (Ok _) _ (rw read at done.answer) (rw is refl))
+    (λ enough. job_done _ _ long _ enough (Ok _) _ (rw read at done.answer) (rw is refl))
