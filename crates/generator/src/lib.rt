@@ -1,11 +1,11 @@
-// What a record holds, the code that an accepted one stands for, and what turns a call away. Everything else here is theory: the
-// generator, its codewords, and what holds of every accepted record.
+// What a record holds, the code that an accepted one stands for, its length and dimension, and what turns a call away. Everything else
+// here is theory: the generator, its codewords, and what holds of every accepted record.
 #![tactic(auto)]
 
 mod code;
 mod refusal;
 
-pub use code::Code;
+pub use code::{Code, Dimensions};
 use field::Field;
 pub use refusal::Refusal;
 

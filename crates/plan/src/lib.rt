@@ -40,19 +40,20 @@ pub fn base_word(code: Code) -> [u16; 255]
 }
 
 // The plan of a code.
-#[tactic(auto, unfolding(crate::specs::Plans::plan_of))]
+#[tactic(auto, unfolding(crate::specs::Plans::plan_of, generator::specs::Records::distance))]
 pub fn plan_of(code: Code) -> Plan
     ensures { result ≡ plan_of code.header }
 {
     let Header { n, k, .. } = code.header;
-    let rows = shifts::place_rows(code);
+    let dimensions = code.dimensions();
+    let rows = shifts::place_rows(dimensions);
     let shifts = rows.shifts;
     let firsts = rows.firsts;
     let base = base_word(code);
     Plan {
         n,
         k,
-        d: records::distance_of(code),
+        d: records::distance_of(dimensions),
         low: records::low_reads(code),
         high: records::high_reads(code),
         shifts,

@@ -1,24 +1,24 @@
 // The numbers of a plan: d, and k·d / n rounded down and up.
-ghost use Rattle.std.specs.Prelude.{◌≡◌, ◌*◌, ◌/◌, ◌≤◌, ◌<◌};
+ghost use Rattle.std.specs.Prelude.{◌≡◌, ◌+◌, ◌-◌, ◌*◌, ◌/◌, ◌≤◌, ◌<◌};
 ghost use Rattle.generator.specs.Records.{distance, low_reads, high_reads};
 
-use generator::{Code, Header};
+use generator::{Code, Dimensions};
 
 // d, the number of nodes that a changed symbol writes.
-#[tactic(auto, unfolding(generator::specs::Records::distance))]
-pub fn distance_of(code: Code) -> u8
-    ensures { result ≡ distance code.header }
+pub fn distance_of(dimensions: Dimensions) -> u8
+    ensures { result ≡ dimensions.n - dimensions.k + 1 }
 {
-    let Header { n, k, .. } = code.header;
+    let Dimensions { n, k, .. } = dimensions;
     n - k + 1
 }
 
 // k·d, the number of entries of the generator that are not zero.
+#[tactic(auto, unfolding(generator::specs::Records::distance))]
 fn entries(code: Code) -> u32
     ensures { (result ≡ code.header.k * distance code.header) × (result ≤ code.header.n * 255) }
 {
     let k = code.header.k as u32;
-    let d = distance_of(code) as u32;
+    let d = distance_of(code.dimensions()) as u32;
     k * d
 }
 

@@ -4,7 +4,7 @@ ghost use Rattle.lists.specs.Padded.{padded};
 ghost use Rattle.generator.specs.Shifts.{shifts_from, even_shifts};
 
 use crate::gcd;
-use generator::{Code, Header};
+use generator::Dimensions;
 
 // The numbers below n on rounds that take and then skip so many, rising, and zeros after them.
 fn fill_rounds(n: u8, taken: u32, skipped: u32) -> [u8; 255]
@@ -23,10 +23,10 @@ fn fill_rounds(n: u8, taken: u32, skipped: u32) -> [u8; 255]
 }
 
 // The k shifts, rising, and zeros after them.
-pub fn fill_even(code: Code) -> [u8; 255]
-    ensures { result ≡ padded 255 (even_shifts code.header.n code.header.k) }
+pub fn fill_even(dimensions: Dimensions) -> [u8; 255]
+    ensures { result ≡ padded 255 (even_shifts dimensions.n dimensions.k) }
 {
-    let Header { n, k, .. } = code.header;
+    let Dimensions { n, k, .. } = dimensions;
     let g = gcd(k as u32, n as u32);
     let taken = k as u32 / g;
     let skipped = (n - k) as u32 / g;

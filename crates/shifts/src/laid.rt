@@ -4,7 +4,7 @@ ghost use Rattle.lists.specs.Padded.{padded};
 ghost use Rattle.generator.specs.Shifts.{period as period_of, laid_at, laid_shifts};
 
 use crate::{gcd, negative};
-use generator::{Code, Header};
+use generator::Dimensions;
 
 // The number of rows that are laid before they come round.
 fn period(n: u32, d: u32) -> u32
@@ -24,10 +24,10 @@ fn laid_at(n: u32, d: u32, m: u32, r: u32) -> u32
 }
 
 // The k shifts in the order of the rows, and zeros after them.
-pub fn fill_laid(code: Code) -> [u8; 255]
-    ensures { result ≡ padded 255 (laid_shifts code.header.n code.header.k) }
+pub fn fill_laid(dimensions: Dimensions) -> [u8; 255]
+    ensures { result ≡ padded 255 (laid_shifts dimensions.n dimensions.k) }
 {
-    let Header { n, k, .. } = code.header;
+    let Dimensions { n, k, .. } = dimensions;
     let nodes = n as u32;
     let d = nodes - k as u32 + 1;
     let m = period(nodes, d);

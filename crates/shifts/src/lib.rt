@@ -1,14 +1,14 @@
 // The shifts of the generator's rows, and the nodes at which the rows begin. The shifts are by the rule of Lemma 2 where n divides k·d, and else those of rows laid end to end.
 #![tactic(auto)]
 
-ghost use Rattle.std.specs.Prelude.{◌≡◌, ◌≤◌, ◌<◌};
+ghost use Rattle.std.specs.Prelude.{◌≡◌, ◌<◌};
 ghost use Rattle.lists.specs.Padded.{padded};
 ghost use Rattle.generator.specs.Shifts.{gcd as gcd_of, negative as negative_of, is_even, shifts_of, firsts_of};
 
 mod even;
 mod laid;
 
-use generator::{Code, Header};
+use generator::Dimensions;
 
 // Where the rows stand: for each its shift and its first node, as the interface for C gives them: 255 places each, zeros after the last.
 #[derive(Clone, Copy)]
@@ -42,31 +42,31 @@ fn negative(n: u32, x: u32) -> u32
 
 // Whether n divides k·d.
 #[tactic(auto, unfolding(generator::specs::Shifts::is_even))]
-fn is_even(code: Code) -> bool
-    ensures { result ≡ is_even code.header.n code.header.k }
+fn is_even(dimensions: Dimensions) -> bool
+    ensures { result ≡ is_even dimensions.n dimensions.k }
 {
-    let n = code.header.n as u32;
-    let k = code.header.k as u32;
+    let n = dimensions.n as u32;
+    let k = dimensions.k as u32;
     k * (n - k + 1) % n == 0
 }
 
 // The k shifts in the order of the rows, and zeros after them.
 #[tactic(auto, unfolding(generator::specs::Shifts::shifts_of))]
-pub fn fill_shifts(code: Code) -> [u8; 255]
-    ensures { result ≡ padded 255 (shifts_of code.header.n code.header.k) }
+pub fn fill_shifts(dimensions: Dimensions) -> [u8; 255]
+    ensures { result ≡ padded 255 (shifts_of dimensions.n dimensions.k) }
 {
-    if is_even(code) {
-        return even::fill_even(code);
+    if is_even(dimensions) {
+        return even::fill_even(dimensions);
     }
-    laid::fill_laid(code)
+    laid::fill_laid(dimensions)
 }
 
 // The k first nodes in the order of the rows, each the negative of its shift, and zeros after them.
-fn fill_firsts(code: Code, shifts: &[u8; 255]) -> [u8; 255]
-    requires { shifts.now ≡ padded 255 (shifts_of code.header.n code.header.k) }
-    ensures { result ≡ padded 255 (firsts_of code.header.n code.header.k) }
+fn fill_firsts(dimensions: Dimensions, shifts: &[u8; 255]) -> [u8; 255]
+    requires { shifts.now ≡ padded 255 (shifts_of dimensions.n dimensions.k) }
+    ensures { result ≡ padded 255 (firsts_of dimensions.n dimensions.k) }
 {
-    let Header { n, k, .. } = code.header;
+    let Dimensions { n, k, .. } = dimensions;
     let nodes = n as u32;
     let mut out = [0u8; 255];
     for r in 0..k {
@@ -78,10 +78,10 @@ fn fill_firsts(code: Code, shifts: &[u8; 255]) -> [u8; 255]
 }
 
 // The shifts and the first nodes of the k rows, and zeros after them.
-pub fn place_rows(code: Code) -> Rows
-    ensures { (result.shifts ≡ padded 255 (shifts_of code.header.n code.header.k)) × (result.firsts ≡ padded 255 (firsts_of code.header.n code.header.k)) }
+pub fn place_rows(dimensions: Dimensions) -> Rows
+    ensures { (result.shifts ≡ padded 255 (shifts_of dimensions.n dimensions.k)) × (result.firsts ≡ padded 255 (firsts_of dimensions.n dimensions.k)) }
 {
-    let shifts = fill_shifts(code);
-    let firsts = fill_firsts(code, &shifts);
+    let shifts = fill_shifts(dimensions);
+    let firsts = fill_firsts(dimensions, &shifts);
     Rows { shifts, firsts }
 }

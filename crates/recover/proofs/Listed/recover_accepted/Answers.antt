@@ -31,7 +31,7 @@ part : (c : After-fill_shifts-shifts)
     take v.code.header.k c.fill_shifts-shifts.result ≡ shifts v.code.header
 part c =
     let code = c.args.self.code in
-    ap (take code.header.k) c.fill_shifts-shifts.ensures ∙ shifts_part code.header code.sound
+    ap (take code.header.k) (rw (c.dimensions.ensures.0, c.dimensions.ensures.1) at c.fill_shifts-shifts.ensures) ∙ shifts_part code.header code.sound
 
 -- it has k places
 part_size : (c : After-fill_shifts-shifts)
