@@ -1,9 +1,6 @@
 -- `rebuild_fault` meets its contract: the tests are those of the definition, in its order.
-use native.Mathlib.Nat.{one-mul}
 use Rattle.std.proofs.Common.{sym, ◌∙◌}
-use Rattle.generator.proofs.Answered.{met, passed}
 use Rattle.refusals.proofs.NotMet.{length_good}
-use Rattle.recover.specs.Promise.{rebuild_fault}
 use Rattle.recover.proofs.Listed.rebuild_fault.Goals as goal
 
 pub list_fault-requires : goal.list_fault-requires

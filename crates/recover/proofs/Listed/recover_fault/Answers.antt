@@ -1,8 +1,6 @@
 -- `recover_fault` meets its contract: the tests are those of the definition, in its order.
 use Rattle.std.proofs.Common.{sym, ◌∙◌}
-use Rattle.generator.proofs.Answered.{met, passed}
 use Rattle.refusals.proofs.NotMet.{length_good}
-use Rattle.recover.specs.Promise.{recover_fault}
 use Rattle.recover.proofs.Listed.recover_fault.Goals as goal
 
 pub list_fault-requires : goal.list_fault-requires
