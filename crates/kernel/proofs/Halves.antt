@@ -2,7 +2,7 @@
 use Rattle.std.proofs.Common.{◌≡◌, ℕ, ◌+◌, ◌*◌, ◌%◌, ◌<◌, ◌≤◌, List, length, get_or, set, sym, ◌∙◌, add-zero, mod-eq_of_lt, mul-le-mul, arith, length-set}
 use Rattle.lists.specs.Padded.{zeros}
 use Rattle.lists.proofs.Fill.{length_zeros}
-use Rattle.lists.proofs.Numbers.{at_below, below_at, below_set}
+use Rattle.lists.proofs.Numbers.{below_at, below_set}
 use Rattle.lists.proofs.Padding.{below_zeros}
 use Rattle.kernel.specs.Inner.Halves.{wrapped, DigitSums}
 use Rattle.kernel.proofs.Lanes.{length_lanewise, get_or_lanewise, lanewise_same}

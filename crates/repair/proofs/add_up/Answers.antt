@@ -30,9 +30,6 @@ weights-weights-requires c =
     let (is, r, d, few, out, rows) = c.requires in
     ((repairable _ _ r.some).kind, r.inside)
 
-pub overflow_mul-total : goal.overflow_mul-total
-overflow_mul-total c = omega (arith, fit (goal.at.overflow_mul-total c).After-count)
-
 -- the weights that are lent
 lent : (c : After-count) → let r = c.args.repair in
     take (c.row_count-senders.result * c.count.result) c.weights-weights.result ≡ from (bit_weight r.code.header (bits r.code.header (length r.missing.now)) r.target (senders r.code.header r.target r.missing.now)) 0 (length (senders r.code.header r.target r.missing.now) * bits r.code.header (length r.missing.now))
@@ -41,12 +38,6 @@ lent c =
     let b = c.count.ensures ∙ is in
     let count = c.row_count-senders.ensures ∙ sym (senders_many _ _ _ r d) in
     ap₂ (λ (n : ℕ) (ws : List ℕ). take n ws) (ap₂ ◌*◌ count b) (rw is at c.weights-weights.ensures) ∙ take_padded 1020 _ _ (length_from _ 0 _)
-
-pub slice_bounds-weights-end : goal.slice_bounds-weights-end
-slice_bounds-weights-end c = omega (arith, fit (goal.at.slice_bounds-weights-end c).After-count)
-
-pub slice_bounds-planes-end : goal.slice_bounds-planes-end
-slice_bounds-planes-end c = sym (length-take-le _ _ (omega (arith, fit (goal.at.slice_bounds-planes-end c).After-count)))
 
 pub invariant_of-planes : goal.invariant_of-planes
 unfolding packed_size

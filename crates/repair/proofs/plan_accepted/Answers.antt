@@ -19,9 +19,6 @@ returns-in_err-b c =
 is : (c : In_ok-b) → bit_count c.in_ok-b.b ≡ bits c.args.code.header c.args.missing
 is c = bits_are _ _ _ _ _ c.new.ensures c.in_ok-b.ensures.value
 
-pub spare-spare-requires : goal.spare-spare-requires
-spare-spare-requires c = is (goal.at.spare-spare-requires c).In_ok-b
-
 pub returns : goal.returns
 unfolding repair_plan_fault repair_plan_of
 returns c =

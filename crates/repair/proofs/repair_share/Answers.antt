@@ -1,13 +1,9 @@
 -- `repair_share` meets its contract: the record's number, or what is promised over its header.
-use native.Mathlib.Omega.{arith}
 use Rattle.std.proofs.Common.{refl}
 use Rattle.generator.proofs.Answered.{exit}
 use Rattle.refusals.proofs.OnRecord.{on_held, on_met}
 use Rattle.repair.proofs.Accepts.{share_refuses}
 use Rattle.repair.proofs.repair_share.Goals as goal
-
-pub share_accepted-requires : goal.share_accepted-requires
-share_accepted-requires c = omega arith
 
 pub returns : goal.returns
 returns c = on_held c.in_ok-code.ensures refl c.share_accepted.ensures

@@ -1,14 +1,9 @@
 -- `buffer_bad` meets its contract, by the length over the bytes of a lane.
 use mathlib.Core.Path.{sym}
-use Prim.Native.Nat.{◌≤◌}
-use native.Mathlib.Nat.{mul-le-mul}
 use native.Mathlib.Omega.{arith}
 use borrow.Author.Tests.{ne_eqb}
 use Rattle.refusals.proofs.Lengths.{length_none, length_other, length_left}
 use Rattle.refusals.proofs.conditions.buffer_bad.Goals as goal
-
-pub overflow_mul-size : goal.overflow_mul-size
-overflow_mul-size c = let few : c.args.rows ≤ 255 = omega arith in omega (arith, mul-le-mul c.width_of-w.ensures.2 few)
 
 pub returns-then-size-eq0 : goal.returns-then-size-eq0
 returns-then-size-eq0 c = rw (sym c.width_of-w.ensures.0) (sym (length_none _ _ _ _ c.if-size-eq0.true))

@@ -1,8 +1,7 @@
 -- `shares_bad` meets its contract. Invariant: the answer for the buffer is the answer for the lanes from `lane` on.
 use Prim.Native.Nat.{ℕ, ◌+◌, ◌*◌, ◌≤◌}
 use mathlib.Core.Path.{◌≡◌, sym, ap, ◌∙◌}
-use native.Mathlib.Nat.{zero-mul, mul_comm, mul_assoc, mul-le-mul, le_refl}
-use native.Mathlib.Omega.{arith}
+use native.Mathlib.Nat.{mul_comm, mul_assoc, mul-le-mul, le_refl}
 use lib.ListN.{length}
 use Rattle.lists.proofs.Rows.{row_after, row_inside}
 use Rattle.generator.specs.Records.{width}
@@ -24,23 +23,6 @@ lane_in : (c : In-loop-lane) → let a = c.args in let size = a.nodes * c.width_
 lane_in c =
     let a = c.args in
     rw (long (goal.at.In-loop-lane c).After-width_of-w) (row_inside a.lanes c.loop-lane.lane (a.nodes * c.width_of-w.result) c.loop-lane-test.true)
-
-pub overflow_mul-size : goal.overflow_mul-size
-overflow_mul-size c =
-    let few : c.args.nodes ≤ 255 = omega arith in
-    omega (arith, mul-le-mul few c.width_of-w.ensures.2)
-
-pub loop-lane-init : goal.loop-lane-init
-loop-lane-init c = rw zero-mul
-
-pub overflow_mul-start : goal.overflow_mul-start
-overflow_mul-start c = omega (arith, lane_in c)
-
-pub overflow_add-end : goal.overflow_add-end
-overflow_add-end c = omega (arith, lane_in c)
-
-pub slice_bounds-symbols_bad-end : goal.slice_bounds-symbols_bad-end
-slice_bounds-symbols_bad-end c = omega (arith, lane_in c)
 
 -- a lane has a symbol for each node
 size_is : (c : After-width_of-w) → let a = c.args in a.nodes * c.width_of-w.result ≡ a.nodes * width a.h

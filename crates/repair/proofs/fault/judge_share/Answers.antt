@@ -1,7 +1,6 @@
 -- `judge_share` meets its contract: the tests are those of the definition, in its order.
-use Rattle.std.specs.Prelude.{◌≡◌, ◌-◌, ◌*◌, ◌≤◌, length}
-use native.Mathlib.Nat.{one-mul, mul-le-mul}
-use native.Mathlib.Omega.{arith}
+use Rattle.std.specs.Prelude.{◌≡◌, ◌-◌, ◌*◌, length}
+use native.Mathlib.Nat.{one-mul}
 use Rattle.generator.specs.Records.{width}
 use Rattle.refusals.specs.Conditions.{length_bad}
 use Rattle.traces.specs.Repairs.{bits}
@@ -10,15 +9,6 @@ use Rattle.repair.specs.Promise.{repair_share_fault}
 use Rattle.repair.proofs.Judging.{met_with, passed_with}
 use Rattle.repair.proofs.fault.judge_share.Goals as goal
 use Rattle.repair.proofs.fault.judge_share.Goals.{After-sent_size, After-length_bad, After-buffer_bad}
-
--- all rows together
-fit : (c : After-sent_size) → c.row_count-count.result * c.sent_size.result ≤ 255 * (4 * 536870912)
-fit c =
-    let few : c.row_count-count.result ≤ 255 = omega (arith, c.row_count-count.ensures, c.args.repair.code.sound.byte) in
-    mul-le-mul few c.sent_size.ensures.fits
-
-pub overflow_mul-count : goal.overflow_mul-count
-overflow_mul-count c = omega (arith, fit (goal.at.overflow_mul-count c).After-sent_size)
 
 -- the lengths
 read : (c : After-length_bad) → let r = c.args.repair in let h = r.code.header in c.length_bad.result ≡ length_bad ((h.n - 1 - length r.missing.now) * packed_size (bits h (length r.missing.now)) r.lanes) c.args.rows

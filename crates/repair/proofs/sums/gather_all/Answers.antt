@@ -6,9 +6,6 @@ use Rattle.repair.proofs.sums.gather_all.Goals as goal
 pub loop-i-init : goal.loop-i-init
 loop-i-init c = changed_none _ _
 
-pub gather-requires : goal.gather-requires
-gather-requires c = let p = c.requires in (omega (arith, p.1), p.0, p.2)
-
 pub loop-i-preserved : goal.loop-i-preserved
 loop-i-preserved c = rw c.gather.ensures (changed_lane _ _ c.loop-i.invariant (omega arith))
 

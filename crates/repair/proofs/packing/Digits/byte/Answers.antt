@@ -2,15 +2,12 @@
 use Prim.Native.Nat.{◌<◌, ◌+◌, ◌-◌}
 use native.Mathlib.Omega.{arith}
 use Rattle.repair.specs.Inner.Lanes.{lane_bit}
-use Rattle.repair.proofs.Digits.{lane_bit_low, byte_start, byte_turn, byte_done, byte_small}
+use Rattle.repair.proofs.Digits.{lane_bit_low, byte_start, byte_turn, byte_small}
 use Rattle.repair.proofs.packing.Digits.byte.Goals as goal
 use Rattle.repair.proofs.packing.Digits.byte.Goals.{After-bit}
 
 pub loop-z-init : goal.loop-z-init
 loop-z-init c = byte_start _ _
-
-pub overflow_add-start : goal.overflow_add-start
-overflow_add-start c = omega (arith, c.requires)
 
 -- the bit and the number of a turn are small
 small : (c : After-bit) → (c.bit.result < 2) × (c.loop-z.x < 256)
@@ -33,7 +30,3 @@ pub overflow_cast-result : goal.overflow_cast-result
 overflow_cast-result c =
     let low : c.loop-z.x < 256 = byte_small (lane_bit c.args.bit.place c.args.self.table.now c.args.self.share.now) (lane_bit_low c.args.bit.place c.args.self.table.now c.args.self.share.now) _ _ _ c.loop-z.invariant in
     omega arith
-
-pub returns : goal.returns
-returns c =
-    byte_done (lane_bit c.args.bit.place c.args.self.table.now c.args.self.share.now) c.args.start c.loop-z.z c.loop-z.x (omega arith) c.loop-z.invariant

@@ -6,7 +6,6 @@ use native.Mathlib.Omega.{arith}
 use lib.ListN.{length, get_or, take, drop}
 use Rattle.lists.proofs.Rows.{rows_next, rows_end, row_after, row_inside, part_size, part_length}
 use Rattle.lists.proofs.Fill.{fills_start, fills_part, fills_all}
-use Rattle.repair_tables.proofs.Steps.{width_some}
 use Rattle.repair.specs.Packing.{plane, planes}
 use Rattle.repair.proofs.Digits.{length_plane, plane_small}
 use Rattle.repair.proofs.Adding.{plane_table}
@@ -24,18 +23,6 @@ pub loop-e-init : goal.loop-e-init
 unfolding planes
 loop-e-init c = rw (sub-zero, zero-mul) (fills_start _ _)
 
-pub overflow_mul-start : goal.overflow_mul-start
-overflow_mul-start c = omega (arith, row_in c)
-
-pub overflow_add-end : goal.overflow_add-end
-overflow_add-end c = omega (arith, row_in c)
-
-pub overflow_cast-e : goal.overflow_cast-e
-overflow_cast-e c = omega (arith, c.count-count.ensures, width_some c.args.b)
-
-pub slice_bounds-pack_plane-end : goal.slice_bounds-pack_plane-end
-slice_bounds-pack_plane-end c = let l = c.loop-e.invariant.long in omega (arith, row_in c)
-
 pub pack_plane-requires : goal.pack_plane-requires
 pack_plane-requires c =
     let p = c.requires in
@@ -51,9 +38,6 @@ loop-e-preserved c =
     let part = part_length (l.e * a.size) a.size l.out (omega (arith, l.invariant.long, row_in (goal.at.loop-e-preserved c).In-loop-e)) in
     let whole = plane_table l.e a.self.table.now a.self.share.now (take (l.e * a.size + a.size - l.e * a.size) (drop (l.e * a.size) l.out)) (part ∙ c.requires.1) in rw (row_after, part_size, c.pack_plane.ensures ∙ whole)
     (fills_part (plane (length a.self.share.now) (λ i. get_or a.self.table.now (get_or a.self.share.now i 0) 0 / 2 ^ l.e % 2)) a.size (rw (rows_next _ c.count-count.result l.e c.loop-e-test.true) at l.invariant) (length_plane _ _ ∙ sym c.requires.1) (row_in (goal.at.loop-e-preserved c).In-loop-e))
-
-pub shape_of-out : goal.shape_of-out
-shape_of-out c = c.loop-e.invariant.long
 
 pub returns : goal.returns
 returns c =

@@ -6,12 +6,6 @@ use Rattle.repair.proofs.packing.Digits.pack_plane.Goals as goal
 pub loop-c-init : goal.loop-c-init
 loop-c-init c = changed_none _ _
 
-pub overflow_mul-c : goal.overflow_mul-c
-overflow_mul-c c = omega (arith, c.requires)
-
-pub byte-requires : goal.byte-requires
-byte-requires c = omega (arith, c.requires)
-
 pub loop-c-preserved : goal.loop-c-preserved
 loop-c-preserved c = rw c.byte.ensures (changed_lane _ _ c.loop-c.invariant (omega arith))
 

@@ -3,7 +3,7 @@ use Prim.Native.Nat.{◌≤◌, ◌<◌, ◌+◌, ◌*◌}
 use native.Mathlib.Nat.{zero-mul, mul-le-mul, le_refl}
 use native.Mathlib.Omega.{arith}
 use lib.ListN.{length}
-use Rattle.lists.proofs.Rows.{rows_next, rows_end, row_after, row_inside, part_size, part_length}
+use Rattle.lists.proofs.Rows.{rows_next, rows_end, row_after, row_inside, part_size}
 use Rattle.lists.proofs.Fill.{fills_start, fills_part, fills_all}
 use Rattle.repair.specs.Inner.Sums.{plane_sum, plane_sums}
 use Rattle.repair.proofs.Adding.{length_sum}
@@ -21,29 +21,12 @@ pub loop-p-init : goal.loop-p-init
 unfolding plane_sums
 loop-p-init c = rw zero-mul (fills_start _ _)
 
-pub overflow_mul-start : goal.overflow_mul-start
-overflow_mul-start c = omega (arith, row_in c)
-
-pub overflow_add-end : goal.overflow_add-end
-overflow_add-end c = omega (arith, row_in c)
-
-pub slice_bounds-sum-end : goal.slice_bounds-sum-end
-slice_bounds-sum-end c = let l = c.loop-p.invariant.long in omega (arith, row_in c)
-
-pub sum-requires : goal.sum-requires
-sum-requires c =
-    let l = c.loop-p in
-    part_length (l.p * c.args.self.size) c.args.self.size l.acc (omega (arith, l.invariant.long, row_in (goal.at.sum-requires c).In-loop-p))
-
 pub loop-p-preserved : goal.loop-p-preserved
 loop-p-preserved c =
     let l = c.loop-p in
     let a = c.args in
     let low : l.p < 8 = omega (arith, c.loop-p-test.true) in rw (row_after, part_size, c.sum.ensures)
     (fills_part (plane_sum a.self.weights.now (length a.self.weights.now) a.self.size a.self.rows.now l.p) a.self.size (rw (rows_next _ 8 l.p low) at l.invariant) (length_sum _ _ _ _ _) (row_in (goal.at.loop-p-preserved c).In-loop-p))
-
-pub shape_of-acc : goal.shape_of-acc
-shape_of-acc c = c.loop-p.invariant.long
 
 pub returns : goal.returns
 returns c =

@@ -3,16 +3,11 @@ use mathlib.Core.Path.{◌∙◌}
 use Prim.Native.Nat.{ℕ, ◌≤◌, ◌<◌}
 use native.Mathlib.Omega.{arith}
 use lib.ListN.{get_or}
-use Rattle.lists.proofs.Rows.{part_length}
 use Rattle.row_sums.proofs.WideSums.{held_none, held_row, held_all}
 use Rattle.row_sums.proofs.wide.WideTerms.block_sums.Goals as goal
 
 pub loop-i-init : goal.loop-i-init
 loop-i-init c = held_none _ _ _ _ _ c.none-sums.result c.none-sums.ensures.low c.none-sums.ensures.high
-
-pub add_products-requires : goal.add_products-requires
-add_products-requires c =
-    (part_length c.args.at 16 c.row-high.result.now (omega arith), part_length c.args.at 16 c.row-low.result.now (omega arith))
 
 pub loop-i-preserved : goal.loop-i-preserved
 loop-i-preserved c =

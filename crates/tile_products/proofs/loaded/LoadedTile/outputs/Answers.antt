@@ -1,21 +1,14 @@
 -- `outputs` meets its contract. The loop's invariant: the outputs below j are in their rows.
-use Rattle.std.proofs.Common.{◌≡◌, ℕ, ◌+◌, ◌*◌, ◌≤◌, length, sym, ap, ◌∙◌, mul_assoc, zero-mul, arith}
+use Rattle.std.proofs.Common.{◌≡◌, ℕ, ◌+◌, ◌*◌, ◌≤◌, length, sym, ap, ◌∙◌, mul_assoc, arith}
 use Rattle.lists.proofs.Rows.{part_length, part_size, row_inside, row_after}
 use Rattle.field.specs.Kinds.{modulus}
 use Rattle.field.specs.Widths.{bytes_for}
 use Rattle.field.proofs.Widths.{bytes_range}
-use Rattle.tiles.proofs.Gathered.{tile_none, tile_more}
-use Rattle.tile_products.proofs.Beginning.{lists_inside, counts_inside, part_made}
+use Rattle.tiles.proofs.Gathered.{tile_more}
+use Rattle.tile_products.proofs.Beginning.{part_made}
 use Rattle.tile_products.proofs.Lanes.{output_row}
 use Rattle.tile_products.proofs.loaded.LoadedTile.outputs.Goals as goal
 use Rattle.tile_products.proofs.loaded.LoadedTile.outputs.Goals.{In-loop-j}
-
--- part j lies in the lists
-fits : (c : In-loop-j) → c.loop-j.j * (8 * c.groups_of-size.result) + 8 * c.groups_of-size.result ≤ length c.args.self.matrix.lists.now
-fits c = rw c.groups_of-size.ensures.value (lists_inside c.args.self.matrix.made c.loop-j.j c.loop-j-test.true)
-
-counts_fit : (c : In-loop-j) → c.loop-j.j * 8 + 8 ≤ length c.args.self.matrix.counts.now
-counts_fit c = counts_inside c.args.self.matrix.made c.loop-j.j c.loop-j-test.true
 
 -- and among the rows
 rows_fit : (c : In-loop-j) → c.loop-j.j * (c.width-row.result * 64) + c.width-row.result * 64 ≤ length c.loop-j.out
@@ -25,9 +18,6 @@ rows_fit c =
 
 pub overflow_mul-row : goal.overflow_mul-row
 overflow_mul-row c = omega (arith, c.width-row.ensures, (bytes_range (modulus c.args.self.matrix.shape.field)).1)
-
-pub loop-j-init : goal.loop-j-init
-loop-j-init c = λ w b. rw (zero-mul (bytes_for (modulus c.args.self.matrix.shape.field))) (tile_none _ _ _ _)
 
 pub output-requires : goal.output-requires
 output-requires c =
@@ -55,10 +45,3 @@ loop-j-preserved c =
     let made = c.output.ensures (w l.j) (begun.size l.j) (rw c.groups_of-size.ensures.value (begun.each l.j low)) in
     rw (wide, at, part_size (l.j * b * 64) (b * 64), row_after l.j b)
     (tile_more (b * m.outputs) (l.j * b) b 64 _ l.out after (b * 64) size room (omega arith) (l.invariant w begun) (output_row (modulus m.field) m.rows m.outputs w s.tile.now l.j low made))
-
-pub returns : goal.returns
-returns c =
-    λ w begun.
-    let l = c.loop-j in
-    let all : l.j ≡ c.args.self.matrix.shape.outputs = omega arith in
-    rw all at (l.invariant w begun)

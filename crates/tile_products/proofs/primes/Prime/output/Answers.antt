@@ -34,9 +34,6 @@ room c =
     let long : length c.args.tile.now ≡ groups_of c.args.rows * (2 * 256) = c.requires.tile_long ∙ ap (λ (x : ℕ). groups_of c.args.rows * (x * 256)) two in
     omega (arith, long, groups_room c.args.rows)
 
-pub slice_bounds-combine-end : goal.slice_bounds-combine-end
-slice_bounds-combine-end c = sym (length-take-le _ _ c.requires.weights)
-
 pub slice_bounds-combine-end-2 : goal.slice_bounds-combine-end-2
 slice_bounds-combine-end-2 c = sym (length-take-le _ _ (room (goal.at.slice_bounds-combine-end-2 c).Else-has_bytes))
 
