@@ -8,6 +8,7 @@ use generator::{Header, Refusal};
 use refusals::{buffer_bad, lanes_bad, shares_bad};
 
 // Belongs.
+#[tactic(auto, using(generator::proofs::Answered::tests), unfolding(crate::specs::Promise::belongs_fault))]
 pub fn belongs_fault(h: Header, lanes: usize, shares: &[u8]) -> Result<(), Refusal>
     requires { usable h.field ≡ true }
     ensures { numbered result ≡ outcome_of (belongs_fault h lanes shares.now) }

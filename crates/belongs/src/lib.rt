@@ -22,11 +22,7 @@ fn test_accepted(code: Code, lanes: usize, shares: &[u8]) -> Result<Option<u32>,
         lanes,
         shares,
     };
-    let wrong = block.first_wrong();
-    if wrong == lanes {
-        return Ok(None);
-    }
-    Ok(Some(wrong as u32))
+    Ok(block.first_wrong().map(|lane| lane as u32))
 }
 
 // The smallest lane that is no word of the code, if there is one.

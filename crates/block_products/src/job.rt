@@ -12,7 +12,8 @@ use tile_products::scratch::{
 };
 use tile_products::{Matrix, Shape};
 
-// The lists of a matrix and the bytes of the lanes; a symbol has w bytes.
+// The lists of a matrix and the bytes of the lanes; a symbol has w bytes. No `Matrix`: what is said of a job goes by its outputs, rows and
+// lanes, which would stand two fields deeper, and a matrix is put together in one place.
 #[derive(Clone, Copy)]
 pub struct Job<'a> {
     pub m: Product,
@@ -101,6 +102,7 @@ impl Job<'_> {
     }
 
     // In scratch for at most 16 rows of bytes, for at most 64, or for any: clearing the largest takes longer than the work of a small product.
+    // The arms name const parameters: a choice written once would need a trait for what is done in the scratch.
     pub fn fill(self, out: &mut [u8])
         requires { length out.old ≡ out_bytes self.m.way self.w self.m.outputs self.m.lanes }
         ensures { let j = self.entry in (ws : ℕ → List ℕ) → Begun (modulus j.m.field) j.m.rows ws j.m.outputs j.lists.now j.counts.now → out.new ≡ result_bytes j.m.way j.w j.m.outputs j.m.lanes (lane_sum j.m j.w ws j.source.now) }

@@ -16,7 +16,8 @@ mod marking;
 mod storing;
 
 // From rows of symbols to lanes of sums, from lanes to rows, or from lanes to a mark for each lane with a sum that is not 0.
-// An enum, and no types with a trait: callers choose a way as a value, contracts go by its cases, and one match loads and one stores.
+// An enum, and no types with a trait: such types would each state where lanes stand and what is done so far, where one match loads and one
+// stores.
 #[derive(Clone, Copy)]
 pub enum Way {
     RowsToLanes,
@@ -24,7 +25,7 @@ pub enum Way {
     LanesToMarks,
 }
 
-// So many sums of the symbols in so many rows of each lane.
+// So many sums of the symbols in so many rows of each lane. Not over a `Shape`: callers and contracts name the fields one by one.
 #[derive(Clone, Copy)]
 pub struct Product {
     pub way: Way,

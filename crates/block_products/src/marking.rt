@@ -4,7 +4,7 @@ ghost use Rattle.lists.specs.Choice.{pick};
 ghost use Rattle.kernel.specs.Inner.Lanes.{lanewise};
 ghost use Rattle.block_products.specs.Inner.Marks.{zero_marks};
 
-// The mark of a lane after one byte more.
+// The mark of a lane after one byte more. A mark is a byte, since the sums of every way are written to lent bytes.
 fn marked(sum: u8, mark: u8) -> u8
     ensures { result ≡ pick (eqb sum 0) mark 1 }
 {

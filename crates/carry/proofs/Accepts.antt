@@ -1,30 +1,33 @@
 -- What holds where a call meets no number, and what it says beside one.
-use Rattle.std.specs.Prelude.{Result, Err}
-use Rattle.std.specs.Result.{IsErrAnd}
+use Rattle.std.specs.Prelude.{Err}
 use mathlib.Core.Path.{◌≡◌, refl, sym, ap, ◌∙◌}
-use mathlib.Core.Bool.{true, false}
+use mathlib.Core.Bool.{Bool, true, false}
 use mathlib.Core.List.{List}
 use Prim.Native.Nat.{ℕ, zero, suc, ◌≤◌, ◌<◌}
 use native.Mathlib.Omega.{arith}
-use borrow.Author.Tests.{leb-true, ltb-false}
+use borrow.Author.Tests.{lt-ltb, ltb-true, ltb-false, leb-true, ne_eqb}
+use lib.Dec.{eqb, ltb, leb}
 use lib.ListN.{length}
-use Rattle.lists.specs.Choice.{first_of}
-use Rattle.lists.proofs.Cases.{and_left, first_zero, when_zero}
+use Rattle.lists.specs.Choice.{first_of, when}
+use Rattle.lists.proofs.Cases.{and_left, not_both, first_zero, when_zero}
+use Rattle.field.specs.declared.prime.PrimeField.{PrimeField}
 use Rattle.field.specs.declared.Field.{Field}
 use Rattle.field.specs.declared.Field.TheVariants.{Prime, Binary}
 use Rattle.field.specs.Primes.{is_prime}
 use Rattle.field.specs.Kinds.{modulus, usable}
+use Rattle.field.proofs.KindLaws.{usable_prime}
 use Rattle.generator.specs.declared.Header.{Header}
 use Rattle.generator.specs.Records.{modulus_of}
 use Rattle.generator.specs.declared.refusal.Refusal.{Refusal}
-use Rattle.generator.specs.Answers.{number, numbered, outcome_of}
-use Rattle.generator.proofs.Answered.{exit, refused_is}
+use Rattle.generator.specs.Answers.{number, outcome_of}
+use Rattle.generator.proofs.Answered.{last, refused_is}
 use Rattle.refusals.specs.Conditions.{length_bad, symbols_bad}
 use Rattle.refusals.proofs.Accepts.{not_met}
 use Rattle.refusals.proofs.Order.{first_given}
 use Rattle.refusals.proofs.NotMet.{length_good}
 use Rattle.blocks.proofs.Refused.{outcome_refused, refused_value}
 use Rattle.carrying.specs.Carrying.{carries_none, carried_length}
+use Rattle.carry.specs.declared.prime.WordPrime.{WordPrime}
 use Rattle.carry.specs.Promise.{long_bad, carried_len_fault, carry_in_fault, carry_out_fault, carried_len_of, CarriedLenPromise, CarryInPromise, CarryOutPromise}
 
 -- the prime of a field is a word
@@ -32,6 +35,21 @@ pub modulus_word : (field : Field) → usable field ≡ true → modulus field <
 unfolding modulus usable
 modulus_word (Prime f) e = omega (arith, leb-true f.p 65521 (and_left _ (is_prime f.p) e))
 modulus_word (Binary g) e = omega arith
+
+-- a prime carries bytes where it has 34,816 symbols
+pub few_carry_none : (f : PrimeField) → usable (Prime f) ≡ true → f.p < 34816 → carries_none f.p ≡ true
+unfolding carries_none is_prime
+few_carry_none f good few =
+    let (_, prime, _) = usable_prime f good in
+    let least = leb-true 2 f.p (and_left (leb 2 f.p) _ prime) in
+    rw (ne_eqb f.p 0 (λ none. omega arith), lt-ltb f.p 34816 few)
+
+pub many_carry : (p : ℕ) → 34815 < p → carries_none p ≡ false
+unfolding carries_none
+many_carry p many = not_both {b = ltb p 34816} (λ some few. omega (arith, ltb-true p 34816 few))
+
+pub some_prime : (prime : WordPrime) → eqb prime.p 0 ≡ false
+some_prime prime = ne_eqb prime.p 0 (λ none. omega (arith, prime.large))
 
 -- n bytes that can be carried
 pub record Carriable (h : Header) (n : ℕ) : Type 0 where
@@ -56,11 +74,17 @@ out_accepts h n symbols e =
     let (before, last) = first_zero (carry_in_fault h n (length symbols)) _ e in
     (before, when_zero (symbols_bad h symbols) 10 last)
 
--- a call that an earlier one turned away gives its number
-pub turned_away : (r : Result (Unit {0}) Refusal) (e : Refusal) (f rest : ℕ) → Err (number e) ≡ outcome_of f → IsErrAnd r (λ y. y ≡ e) → numbered r ≡ outcome_of (first_of f rest)
-turned_away r e f rest refused left =
-    let (same, some) = refused_is f _ refused in
-    rw (exit r left) (refused ∙ ap outcome_of (sym (first_given f rest (λ z. some (same ∙ z)))))
+-- the number of a call after one test more: that of the tests before it, its own, or none
+pub before_it : (f rest g : ℕ) → Err g ≡ outcome_of f → Err g ≡ outcome_of (first_of f rest)
+before_it f rest g refused =
+    let (same, some) = refused_is f g refused in
+    refused ∙ ap outcome_of (sym (first_given f rest (λ z. some (same ∙ z))))
+
+pub its_own : {t bad : Bool} {f : ℕ} {e s : Refusal} → f ≡ 0 → t ≡ bad → (t ≡ true) × (e ≡ s) → Err (number e) ≡ outcome_of (first_of f (when bad (number s)))
+its_own {s = s} none test holds = rw (none, holds.1) (last (Err s) s test (holds.0, refl))
+
+pub not_its : {t bad : Bool} {f : ℕ} (n : ℕ) → f ≡ 0 → t ≡ bad → t ≡ false → first_of f (when bad n) ≡ 0
+not_its n none test fails = rw (none, sym test ∙ fails)
 
 -- beside a number g: nothing is written
 pub length_refuses : (h : Header) (g : ℕ) → (g ≡ 0 → ⊥) → (n : ℕ) → CarriedLenPromise n (Err g) h g

@@ -24,9 +24,6 @@ module _ (a k : ℕ) (fits : (a + 1) * 2 ^ k ≤ 65536) where
   pub whole_below : a * 2 ^ k < 65536
   whole_below = omega (arith, add-mul a 1 (2 ^ k), one-mul (2 ^ k), some_masks k)
 
-  pub digits_below : a < 65536
-  digits_below = omega (arith, mul-le-mul (le_refl (a + 1)) (some_masks k), mul-one (a + 1))
-
 module _ (a k m : ℕ) (one : k + 1 ≡ m) (fits : (a + 1) * 2 ^ m ≤ 65536) where
   pub digits_half : a < 32768
   digits_half = omega (arith, ap (λ (x : ℕ). (a + 1) * x) (twice k m one), mul_assoc (a + 1) (2 ^ k) 2, mul-le-mul (le_refl (a + 1)) (some_masks k), mul-one (a + 1))

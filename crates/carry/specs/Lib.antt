@@ -1,2 +1,3 @@
--- What the calls that carry bytes promise.
+-- What the calls that carry bytes promise. What callers see does not cite Inner.
 pub mod Promise
+pub mod Inner

@@ -1,24 +1,11 @@
-// What turns a call away: 18, 8, 11, in this order.
+// What turns a call away: 18, 8, 11, in this order; and else what carries the bytes.
 ghost use Rattle.std.specs.Prelude.{◌≡◌};
-ghost use Rattle.generator.specs.Records.{modulus_of};
-ghost use Rattle.generator.specs.Answers.{numbered, outcome_of};
 ghost use Rattle.carry.specs.Promise.{long_bad, carried_len_fault, carry_in_fault, carry_out_fault};
+ghost use Rattle.carry.specs.Inner.Kinds.{Tested};
 
-use crate::lengths::{carried_length, carries_none};
-use field::Field;
-use generator::{Code, Header, Refusal};
+use crate::kinds::Carrying;
+use generator::{Code, Refusal};
 use refusals::{length_bad, symbols_bad};
-
-// The prime of a record, or 0.
-pub fn modulus_of(h: Header) -> u32
-    ensures { result ≡ modulus_of h }
-{
-    let field = h.field;
-    match field {
-        Field::Prime(f) => f.p,
-        Field::Binary(_) => 0,
-    }
-}
 
 // More bytes than 2^62.
 fn long_bad(n: usize) -> bool
@@ -28,25 +15,28 @@ fn long_bad(n: usize) -> bool
 }
 
 // carried_len: 18 before 8, for the record settles the lengths.
-pub fn carried_len_fault(h: Header, n: usize) -> Result<(), Refusal>
-    ensures { numbered result ≡ outcome_of (carried_len_fault h n) }
+pub fn carried_len_fault(code: Code, n: usize) -> Result<Carrying, Refusal>
+    ensures { Tested result code.header (carried_len_fault code.header n) }
 {
-    Refusal::Carry.when(carries_none(modulus_of(h)))?;
-    Refusal::Length.when(long_bad(n))
+    let carrying = Carrying::of(code)?;
+    Refusal::Length.when(long_bad(n))?;
+    Ok(carrying)
 }
 
 // carry_in
-pub fn carry_in_fault(code: Code, n: usize, long: usize) -> Result<(), Refusal>
-    ensures { numbered result ≡ outcome_of (carry_in_fault code.header n long) }
+pub fn carry_in_fault(code: Code, n: usize, long: usize) -> Result<Carrying, Refusal>
+    ensures { Tested result code.header (carry_in_fault code.header n long) }
 {
-    carried_len_fault(code.header, n)?;
-    Refusal::Length.when(length_bad(carried_length(modulus_of(code.header), n), long))
+    let carrying = carried_len_fault(code, n)?;
+    Refusal::Length.when(length_bad(carrying.carried_length(n), long))?;
+    Ok(carrying)
 }
 
 // carry_out
-pub fn carry_out_fault(code: Code, n: usize, symbols: &[u8]) -> Result<(), Refusal>
-    ensures { numbered result ≡ outcome_of (carry_out_fault code.header n symbols.now) }
+pub fn carry_out_fault(code: Code, n: usize, symbols: &[u8]) -> Result<Carrying, Refusal>
+    ensures { Tested result code.header (carry_out_fault code.header n symbols.now) }
 {
-    carry_in_fault(code, n, symbols.len())?;
-    Refusal::Symbol.when(symbols_bad(code.header, symbols))
+    let carrying = carry_in_fault(code, n, symbols.len())?;
+    Refusal::Symbol.when(symbols_bad(code.header, symbols))?;
+    Ok(carrying)
 }

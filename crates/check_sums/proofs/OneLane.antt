@@ -9,6 +9,7 @@ use native.Mathlib.Omega.{arith}
 use borrow.Author.Tests.{ne_eqb, le-ltb}
 use lib.Dec.{eqb, ltb}
 use lib.ListN.{length, get_or}
+use Rattle.std.specs.List.{list_all}
 use Rattle.lists.specs.Choice.{pick}
 use Rattle.lists.specs.Numbers.{all_below}
 use Rattle.lists.specs.Rows.{from, rows_from}
@@ -158,6 +159,12 @@ module _ (h : Header) where
 below_one : (x : ℕ) → ltb x 1 ≡ eqb x 0
 below_one zero = refl
 below_one (suc x) = le-ltb (suc x) 1 (omega arith) ∙ sym (ne_eqb (suc x) 0 (λ e. omega arith))
+
+-- all are below 1 where all are 0
+pub all_below_one : (xs : List ℕ) → list_all (λ x. eqb x 0) xs ≡ all_below 1 xs
+unfolding all_below
+all_below_one [] = refl
+all_below_one (x ∷ xs) = ap₂ ◌&&◌ (sym (below_one x)) (all_below_one xs)
 
 and_swap : (a b c : Bool) → (a && (b && c)) ≡ (b && (a && c))
 and_swap true true c = refl

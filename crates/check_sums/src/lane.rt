@@ -22,15 +22,12 @@ pub fn stepped(i: usize, step: usize, n: usize) -> usize
     if next < n { next } else { next - n }
 }
 
-// The last byte of a symbol, or what is left before it.
+// The last byte of a symbol, or the one before it.
 fn byte_of(x: u16, last: bool) -> u8
     ensures { result ≡ pick last (x % 256) (x / 256) }
 {
-    if last {
-        (x % 256) as u8
-    } else {
-        (x / 256) as u8
-    }
+    let [high, low] = x.to_be_bytes();
+    if last { low } else { high }
 }
 
 // Byte v of the w bytes of node j's factors in check sums 1, 2, ..
@@ -42,8 +39,8 @@ fn fill_row(code: Code, w: usize, v: usize, powers: &[u16], j: usize, row: &mut 
     let n = h.n as usize;
     let last = v + 1 == w;
     let mut i = j;
-    for e in 0..row.len() {
-        row[e] = byte_of(powers[i], last);
+    for byte in row.iter_mut() {
+        *byte = byte_of(powers[i], last);
         i = stepped(i, j, n);
     }
 }
@@ -80,13 +77,12 @@ impl PowerRows<'_> {
         ensures { let h = self.entry.code.header in sums.new ≡ bytes_of (width h) (check_sums h lane.now) }
     {
         let h = self.code.header;
-        let field = h.field;
-        let n = h.n as usize;
         let checks = (h.n - h.k) as usize;
-        row_sums::combine_symbols(field, lane, n, checks, self.rows, sums);
+        row_sums::combine_symbols(h.field, lane, checks, self.rows, sums);
     }
 
     // The check sums of a lane, and zeros after them.
+    // An array with zeros after: it is as long as the code's n or n − k say, so no length stands beside it.
     pub fn sums(self, lane: &[u16]) -> [u16; 255]
         requires { (length lane.now ≡ self.code.header.n) × (all_below (size self.code.header) lane.now ≡ true) }
         ensures { result ≡ padded 255 (check_sums self.entry.code.header lane.now) }
@@ -133,12 +129,7 @@ pub fn sums(code: Code, lane: &[u16]) -> [u16; 255]
 pub fn all_zero(sums: &[u16]) -> bool
     ensures { result ≡ all_below 1 sums.now }
 {
-    for i in 0..sums.len() {
-        if sums[i] != 0 {
-            return false;
-        }
-    }
-    true
+    sums.iter().all(|sum| *sum == 0)
 }
 
 // Whether a lane is a word of the code.

@@ -18,6 +18,7 @@ fn asked_bad(n: u32, k: u32) -> bool
 }
 
 // Number 4, then 8 for the room.
+#[tactic(auto, using(generator::proofs::Answered::tests), unfolding(crate::specs::Promise::choose_fault))]
 fn choose_fault(n: u32, k: u32, room: usize) -> Result<(), Refusal>
     ensures { numbered result ≡ outcome_of (choose_fault n k room) }
 {
@@ -37,15 +38,9 @@ fn write_chosen(n: u8, k: u8, out: &mut [u8]) -> u8
         out[..4].copy_from_slice(&[2, root as u8, n, k]);
         return 4;
     }
-    out.copy_from_slice(&[
-        3,
-        (p / 256) as u8,
-        (p % 256) as u8,
-        (root / 256) as u8,
-        (root % 256) as u8,
-        n,
-        k,
-    ]);
+    let [p_high, p_low] = p.to_be_bytes();
+    let [root_high, root_low] = root.to_be_bytes();
+    out.copy_from_slice(&[3, p_high, p_low, root_high, root_low, n, k]);
     7
 }
 

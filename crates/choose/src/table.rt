@@ -23,7 +23,8 @@ pub fn entry_for(n: u8) -> Entry
     }
 }
 
-// At n − 2.
+// At n − 2. Two tables, as in the definitions, and 0 names the field of 256 elements as in `Field::new`: a table of pairs would have a line
+// for each number of nodes and be compared with both.
 const PRIMES: [u16; 254] = [
     65521, 0, 65521, 0, 65521, 65521, 65521, 65521, 65521, 65407, 65521, 65521, 65521, 0, 65521, 0,
     65521, 65437, 65521, 65521, 65407, 65413, 65521, 65101, 65521, 65449, 65521, 65309, 65521,

@@ -39,7 +39,7 @@ fn write_comparison(writer: &mut Writer, code: Code)
     ensures { Writes writer.old writer.new (comparison_for (Ok code.header)) }
 {
     let h = code.header;
-    let writes = distance_of(h);
+    let writes = distance_of(code);
     let high = high_reads(code);
     writer.line("compare", &[h.n, h.k]);
     write_cost(writer, "plain writes", writes, &[1, plain_greatest(h)]);

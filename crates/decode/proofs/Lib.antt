@@ -1,5 +1,6 @@
 -- Berlekamp and Massey's arrays, the roots of the locator, the errors there, and what the candidate decides.
 pub mod Arrays
+pub mod Differing
 pub mod Bridge
 pub mod Steps
 pub mod Values

@@ -7,7 +7,7 @@ ghost use Rattle.interpolation.specs.Inner.Points.{SymbolList, points_of};
 ghost use Rattle.decode.specs.Inner.Errors.{error_of, errors_from, errors_of};
 
 use field::lent::Arithmetic;
-use interpolation::division;
+use interpolation::polynomials::Polynomial;
 
 // The error at the point x: the sum of the check sums times the coefficients of the product over the other points, times the scale of x, over x.
 fn error_at(field: Arithmetic, x: u32, scale: u32, product: &[u16], sums: &[u16]) -> u32
@@ -15,7 +15,11 @@ fn error_at(field: Arithmetic, x: u32, scale: u32, product: &[u16], sums: &[u16]
     ensures is { result ≡ error_of (modulus field.entry.field) product.now sums.now x scale }
     ensures symbol { result < size_of (modulus field.entry.field) }
 {
-    let sum = division::quotient_sum(field, x, product, sums);
+    let sum = Polynomial {
+        field,
+        coefficients: product,
+    }
+    .quotient_sum(x, sums);
     let scaled = field.mul(sum, scale);
     let inverse = field.inverse(x);
     field.mul(scaled, inverse)

@@ -14,13 +14,7 @@ pub fn differing(a: &[u16], b: &[u16]) -> usize
     requires { length b.now ≡ length a.now }
     ensures { result ≡ differ a.now b.now }
 {
-    let mut count: usize = 0;
-    for i in 0..a.len() {
-        if a[i] != b[i] {
-            count += 1;
-        }
-    }
-    count
+    a.iter().zip(b).filter(|(x, y)| x != y).count()
 }
 
 // A lane less the errors at the listed nodes, and zeros after it.

@@ -27,6 +27,7 @@ use locator::locate;
 use roots::find_roots;
 
 // The word near enough to a lane, and zeros after it; and the number of symbols altered.
+// `altered` counts symbols that differ; how much of the lane is used the code's n says.
 #[derive(Clone, Copy)]
 pub struct Corrected {
     pub lane: [u16; 255],

@@ -17,9 +17,9 @@ fn value(field: Arithmetic, coefficients: &[u16], x: u32) -> u32
     ensures symbol { result < size_of (modulus field.entry.field) }
 {
     let mut sum = Field::ZERO;
-    for i in (0..coefficients.len()).rev() {
+    for c in coefficients.iter().rev() {
         let product = field.mul(x, sum);
-        sum = field.add(coefficients[i] as u32, product);
+        sum = field.add(u32::from(*c), product);
     }
     sum
 }

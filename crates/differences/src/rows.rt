@@ -48,7 +48,7 @@ impl Rows {
         let mut pair = [0u8; 16384];
         let pair = &mut pair[..2 * row.len()];
         self.load_pair(acc, row, pair);
-        row_sums::combine_symbols(self.code.header.field, &[1, 1], 2, self.lanes, pair, acc);
+        row_sums::combine_symbols(self.code.header.field, &[1, 1], self.lanes, pair, acc);
     }
 
     // A row less another, as a row.
@@ -61,7 +61,7 @@ impl Rows {
         let mut pair = [0u8; 16384];
         let pair = &mut pair[..2 * row.len()];
         self.load_pair(row, less, pair);
-        row_sums::combine_symbols(field, &[1, minus_one], 2, self.lanes, pair, out);
+        row_sums::combine_symbols(field, &[1, minus_one], self.lanes, pair, out);
     }
 
     // A row, as a tile, times a weight.
@@ -69,6 +69,6 @@ impl Rows {
         requires { SymbolTile self.code.header self.width 1 self.lanes tile.now × (weight < size self.code.header) × (length out.old ≡ self.width * self.lanes) }
         ensures { out.new ≡ bytes_of self.width (row_times self.code.header self.lanes (tile_symbols self.width 1 self.lanes tile.now) weight) }
     {
-        row_sums::combine_symbols(self.code.header.field, &[weight], 1, self.lanes, tile, out);
+        row_sums::combine_symbols(self.code.header.field, &[weight], self.lanes, tile, out);
     }
 }

@@ -1,7 +1,6 @@
 // The shares of all lanes: the nodes' columns as lists, and their products with the lanes.
 ghost use Rattle.std.specs.Prelude.{◌≡◌, ◌≤◌, ◌<◌, length};
 ghost use Rattle.generator.specs.Records.{modulus_of};
-ghost use Rattle.tile_products.specs.Inner.Products.{Codes};
 ghost use Rattle.tile_products.specs.Inner.Matrices.{Begun};
 ghost use Rattle.encode.specs.Inner.Columns.{ColumnRoom, column_of, column_product};
 ghost use Rattle.encode.specs.Inner.Encoded.{record_header, share_bytes, encoded};
@@ -10,6 +9,10 @@ use crate::message::Message;
 use block_products::{Product, Way};
 use generator::Header;
 use plan::Generator;
+use tile_products::WeightCodes;
+use tile_products::scratch::{
+    LARGE_COUNTS, LARGE_LISTS, MIDDLE_COUNTS, MIDDLE_LISTS, SMALL_COUNTS, SMALL_LISTS,
+};
 
 // Fills the node's column of the generator.
 fn fill_column(generator: &Generator, node: usize, column: &mut [u16])
@@ -24,31 +27,30 @@ fn fill_column(generator: &Generator, node: usize, column: &mut [u16])
 // The lists of every node's column; `column` is scratch.
 fn list_columns(
     generator: &Generator,
-    codes: &[u64],
+    codes: WeightCodes,
     column: &mut [u16],
     lists: &mut [u16],
     counts: &mut [u8],
 )
-    requires { Codes (modulus_of generator.now.code.header) codes.now × (length column.old ≡ generator.now.code.header.k) × ColumnRoom generator.now.code.header (length lists.old) (length counts.old) }
+    requires { (codes.field ≡ generator.now.code.header.field) × (length column.old ≡ generator.now.code.header.k) × ColumnRoom generator.now.code.header (length lists.old) (length counts.old) }
     ensures { Begun (modulus_of generator.now.code.header) generator.now.code.header.k (column_of generator.now.code.header) generator.now.code.header.n lists.new counts.new }
 {
-    let Header { field, n, .. } = generator.code.header;
-    for node in 0..n as usize {
+    for node in 0..generator.code.header.n as usize {
         fill_column(generator, node, column);
-        tile_products::prepare(field, codes, column, node, lists, counts);
+        codes.prepare(column, node, lists, counts);
     }
 }
 
-// The same in scratch of its own. The codes are filled in place: as the result of a call they would be copied.
+// The same in scratch of its own.
 fn fill_lists(generator: &Generator, lists: &mut [u16], counts: &mut [u8])
     requires { ColumnRoom generator.now.code.header (length lists.old) (length counts.old) }
     ensures { Begun (modulus_of generator.now.code.header) generator.now.code.header.k (column_of generator.now.code.header) generator.now.code.header.n lists.new counts.new }
 {
     let Header { field, k, .. } = generator.code.header;
     let mut codes: [u64; 256] = kernel::filled(0);
-    tile_products::fill_codes(field, &mut codes);
+    let codes = WeightCodes::new(field, &mut codes);
     let mut column = [0u16; 255];
-    list_columns(generator, &codes, &mut column[..k as usize], lists, counts);
+    list_columns(generator, codes, &mut column[..k as usize], lists, counts);
 }
 
 // The product of the generator's columns and so many lanes.
@@ -76,17 +78,18 @@ fn fill_in<const LISTS: usize, const COUNTS: usize>(message: &Message, out: &mut
     block_products::fill(product, message.width, &lists, &counts, message.bytes, out);
 }
 
-// The same in the smallest scratch that the record's nodes fit. Clearing the largest takes longer than the work of a small record.
+// The same in the smallest scratch that the record's nodes fit. Clearing the largest takes longer than the work of a small record. The arms
+// name const parameters: a choice written once would need a trait for what is done in the scratch.
 pub fn fill_lanes(message: &Message, out: &mut [u8])
     requires { length out.old ≡ share_bytes message.now }
     ensures { out.new ≡ encoded message.now }
 {
     let n = message.generator.code.header.n;
     if n <= 16 {
-        fill_in::<512, 128>(message, out)
+        fill_in::<SMALL_LISTS, SMALL_COUNTS>(message, out)
     } else if n <= 64 {
-        fill_in::<8192, 512>(message, out)
+        fill_in::<MIDDLE_LISTS, MIDDLE_COUNTS>(message, out)
     } else {
-        fill_in::<130560, 2040>(message, out)
+        fill_in::<LARGE_LISTS, LARGE_COUNTS>(message, out)
     }
 }

@@ -50,7 +50,8 @@ fn encode_accepted(code: Code, lanes: usize, message: &[u8], out: &mut [u8]) -> 
     Ok(())
 }
 
-// Writes the shares of all nodes, or says what turns the call away and writes nothing.
+// Writes the shares of all nodes, or says what turns the call away and writes nothing. It has the shape of `add_share` of differences, and
+// another promise: each call of the interface is a function of its own.
 pub fn encode_block(rec: &[u8], lanes: u32, message: &[u8], out: &mut [u8]) -> Result<(), Refusal>
     ensures { EncodeSays rec.now lanes message.now out.old out.new (numbered result) }
 {

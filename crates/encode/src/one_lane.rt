@@ -41,7 +41,8 @@ fn turn(sums: &mut [u16])
     sums[1..].reverse();
 }
 
-// What the nodes hold, as bytes; `sums` is scratch with a place for each node.
+// What the nodes hold, as bytes; `sums` is scratch with a place for each node. Two lists and where the sums go are handed on as they are, for
+// the reason at `window_sums`.
 fn write_nodes(
     field: Field,
     w: usize,

@@ -3,7 +3,6 @@ ghost use Rattle.std.specs.Prelude.{◌≡◌, ⊤, ◌%◌, ◌<◌};
 ghost use Rattle.field.specs.Fields.{mul};
 ghost use Rattle.field.specs.Kinds.{gf256};
 
-use crate::Field;
 use crate::kind::FieldKind;
 use crate::tables::Tables;
 
@@ -11,6 +10,11 @@ use crate::tables::Tables;
 pub struct Gf256 {}
 
 impl Gf256 {
+    // Each type of a field has its own two, which was asked for (docs/CLAIMS.md, "Forms of the code").
+    pub const ZERO: u32 = 0;
+
+    pub const ONE: u32 = 1;
+
     pub fn new() -> Self
         ensures { result ≡ gf256 }
     {
@@ -45,11 +49,11 @@ impl FieldKind for Gf256 {
 
     // The exponents add, modulo 255; 0 times a byte is 0.
     fn mul(self, tables: &Tables, a: u32, b: u32) -> u32 {
-        if a == Field::ZERO {
-            return Field::ZERO;
+        if a == Self::ZERO {
+            return Self::ZERO;
         }
-        if b == Field::ZERO {
-            return Field::ZERO;
+        if b == Self::ZERO {
+            return Self::ZERO;
         }
         let e = tables.logarithm(a) as u32 + tables.logarithm(b) as u32;
         tables.power(reduced(e)) as u32
@@ -57,12 +61,12 @@ impl FieldKind for Gf256 {
 
     // The power whose exponent is the negative of a's, modulo 255.
     fn inverse(self, tables: &Tables, a: u32) -> u32 {
-        if a == Field::ZERO {
-            return Field::ZERO;
+        if a == Self::ZERO {
+            return Self::ZERO;
         }
         let e = tables.logarithm(a) as u32;
         if e == 0 {
-            Field::ONE
+            Self::ONE
         } else {
             tables.power(255 - e) as u32
         }
@@ -70,7 +74,7 @@ impl FieldKind for Gf256 {
 
     // By n − 1 sums of exponents modulo 255: 1 is the power at 0. By products, as for a prime, each step would look up the same logarithm again.
     fn has_order(self, tables: &Tables, a: u32, n: u32) -> bool {
-        if a == Field::ZERO {
+        if a == Self::ZERO {
             return false;
         }
         let step = tables.logarithm(a) as u32;

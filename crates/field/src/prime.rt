@@ -4,7 +4,6 @@ ghost use Rattle.field.specs.Primes.{is_prime};
 ghost use Rattle.field.specs.Fields.{size_of};
 ghost use Rattle.field.specs.Kinds.{prime_of};
 
-use crate::Field;
 use crate::kind::FieldKind;
 use crate::tables::Tables;
 
@@ -14,6 +13,10 @@ pub struct PrimeField {
 }
 
 impl PrimeField {
+    pub const ZERO: u32 = 0;
+
+    pub const ONE: u32 = 1;
+
     pub fn new(p: u32) -> Self
         ensures { result ≡ prime_of p }
     {
@@ -42,17 +45,17 @@ impl FieldKind for PrimeField {
 
     // From t·a = x to a smaller x, at most half as large, down to 1: a division gives the next x, and no index is counted.
     fn inverse(self, tables: &Tables, a: u32) -> u32 {
-        if a == Field::ZERO {
-            return Field::ZERO;
+        if a == Self::ZERO {
+            return Self::ZERO;
         }
         let p = self.p;
         let mut x = a;
-        let mut t = Field::ONE;
-        while x != Field::ONE {
+        let mut t = Self::ONE;
+        while x != Self::ONE {
             let q = p / x;
             let r = p % x;
             if r <= x - r {
-                t = self.sub(Field::ZERO, self.mul(tables, q, t));
+                t = self.sub(Self::ZERO, self.mul(tables, q, t));
                 x = r;
             } else {
                 t = self.mul(tables, q + 1, t);
@@ -67,12 +70,12 @@ impl FieldKind for PrimeField {
     fn has_order(self, tables: &Tables, a: u32, n: u32) -> bool {
         let mut x = a;
         for _ in 1..n {
-            if x == Field::ONE {
+            if x == Self::ONE {
                 return false;
             }
             x = self.mul(tables, a, x);
         }
-        x == Field::ONE
+        x == Self::ONE
     }
 }
 

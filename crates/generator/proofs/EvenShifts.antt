@@ -15,19 +15,9 @@ use Rattle.lists.proofs.All.{All, All-imp}
 use Rattle.lists.proofs.Count.{count_add, count_all, count_none, count_period, count_periods}
 use Rattle.lists.proofs.Passing.{length_passing, count_list, count_passing, passing_within, passing_first, Rises, passing_rises, rises_distinct}
 use Rattle.lists.proofs.Places.{Places}
-use Rattle.lists.proofs.Rows.{sub_next, sub_end}
 use Rattle.generator.specs.Shifts.{gcd, next_place, shifts_from, even_shifts}
 use Rattle.generator.proofs.Gcd.{gcd_left, gcd_right, gcd_times, divides_cofactor}
 use Rattle.generator.proofs.Windows.{below_period, count_stretch}
-
--- one step, with what is left of n at i
-pub shifts_next : (n i t s place : ℕ) → i < n → shifts_from (n - i) i t s place ≡ pick (ltb place t) (i ∷ []) [] ++ shifts_from (n - (i + 1)) (i + 1) t s (next_place (t + s) place)
-unfolding shifts_from
-shifts_next n i t s place h = ap (λ (f : ℕ). shifts_from f i t s place) (sub_next n i h)
-
-pub shifts_end : (n i t s place : ℕ) → n ≤ i → shifts_from (n - i) i t s place ≡ []
-unfolding shifts_from
-shifts_end n i t s place h = ap (λ (f : ℕ). shifts_from f i t s place) (sub_end n i h)
 
 -- the place of i + 1 in a round of c is the one after that of i
 next_place_lem : (c i : ℕ) → 0 < c → next_place c (i % c) ≡ (i + 1) % c
@@ -39,7 +29,7 @@ next_place_lem c i pos =
     (eq-or-lt_of_le less)
 
 -- going round with t to take and s to skip chooses the numbers whose residue is below t
-shifts_chosen : (f i t s : ℕ) → 0 < t + s → shifts_from f i t s (i % (t + s)) ≡ passing_from f i (λ j. ltb (j % (t + s)) t)
+pub shifts_chosen : (f i t s : ℕ) → 0 < t + s → shifts_from f i t s (i % (t + s)) ≡ passing_from f i (λ j. ltb (j % (t + s)) t)
 unfolding shifts_from passing_from
 shifts_chosen zero i t s pos = refl
 shifts_chosen (suc f) i t s pos = ap (λ (l : List ℕ). pick (ltb (i % (t + s)) t) (i ∷ []) [] ++ l) (rw (next_place_lem (t + s) i pos) (shifts_chosen f (i + 1) t s pos))

@@ -2,26 +2,26 @@
 ghost use Rattle.std.specs.Prelude.{◌≡◌, true, false, MatchResult};
 ghost use Rattle.generator.specs.Answers.{number};
 
-// In the order of their numbers. Number 6 is given by no call.
+// With their numbers. Number 6 is given by no call.
 #[derive(Clone, Copy, Debug, PartialEq, Eq)]
 pub enum Refusal {
-    Kind,
-    Body,
-    Field,
-    Size,
-    Root,
-    Lanes,
-    Length,
-    Range,
-    Twice,
-    Symbol,
-    Word,
-    Stale,
-    Far,
-    Already,
-    Many,
-    Traces,
-    Carry,
+    Kind = 1,
+    Body = 2,
+    Field = 3,
+    Size = 4,
+    Root = 5,
+    Lanes = 7,
+    Length = 8,
+    Range = 9,
+    Twice = 10,
+    Symbol = 11,
+    Word = 12,
+    Stale = 13,
+    Far = 14,
+    Already = 15,
+    Many = 16,
+    Traces = 17,
+    Carry = 18,
 }
 
 impl Refusal {
@@ -37,24 +37,6 @@ impl From<Refusal> for u8 {
     ghost from_gives = { λ e n. n ≡ number e };
 
     fn from(refusal: Refusal) -> u8 {
-        match refusal {
-            Refusal::Kind => 1,
-            Refusal::Body => 2,
-            Refusal::Field => 3,
-            Refusal::Size => 4,
-            Refusal::Root => 5,
-            Refusal::Lanes => 7,
-            Refusal::Length => 8,
-            Refusal::Range => 9,
-            Refusal::Twice => 10,
-            Refusal::Symbol => 11,
-            Refusal::Word => 12,
-            Refusal::Stale => 13,
-            Refusal::Far => 14,
-            Refusal::Already => 15,
-            Refusal::Many => 16,
-            Refusal::Traces => 17,
-            Refusal::Carry => 18,
-        }
+        refusal as u8
     }
 }

@@ -7,6 +7,7 @@ ghost use Rattle.field.specs.Inner.Sums.{dot};
 ghost use Rattle.interpolation.specs.Inner.Points.{SymbolList};
 ghost use Rattle.interpolation.specs.Inner.Polynomials.{quotient_of, termwise};
 
+use crate::polynomials::Polynomial;
 use crate::sums::{products, weighted_sum};
 use field::Field;
 use field::lent::Arithmetic;
@@ -20,41 +21,38 @@ fn multiply_add(field: Arithmetic, a: u32, b: u32, c: u32) -> u32
     field.add(field.mul(a, b), c)
 }
 
-// The coefficients of the quotient by x − a, from the highest down, and zeros after them.
-pub fn quotient(field: Arithmetic, a: u32, coefficients: &[u16]) -> [u16; 255]
-    requires { SymbolList (modulus field.field) coefficients.now × (a < size_of (modulus field.field)) }
-    ensures { result ≡ padded 255 (quotient_of (modulus field.entry.field) a coefficients.now) }
-{
-    let mut out = [0u16; 255];
-    let mut q = Field::ZERO;
-    for i in (0..coefficients.len()).rev() {
-        q = multiply_add(field, a, q, coefficients[i] as u32);
-        out[i] = q as u16;
+impl Polynomial<'_, '_> {
+    // The coefficients of the quotient by x − a of x times the polynomial plus any constant, from the highest down, and zeros after them.
+    pub fn quotient(self, a: u32) -> [u16; 255]
+        requires { a < size_of (modulus self.field.field) }
+        ensures { result ≡ padded 255 (quotient_of (modulus self.entry.field.field) a self.entry.coefficients.now) }
+    {
+        let mut out = [0u16; 255];
+        let mut q = Field::ZERO;
+        for i in (0..self.coefficients.len()).rev() {
+            q = multiply_add(self.field, a, q, self.coefficients[i] as u32);
+            out[i] = q as u16;
+        }
+        out
     }
-    out
-}
 
-// The coefficients of the quotient, each times its factor, and zeros after them.
-pub fn quotient_terms(
-    field: Arithmetic,
-    a: u32,
-    coefficients: &[u16],
-    factors: &[u16],
-) -> [u16; 255]
-    requires { SymbolList (modulus field.field) coefficients.now × SymbolList (modulus field.field) factors.now × (length factors.now ≡ length coefficients.now) × (a < size_of (modulus field.field)) }
-    ensures { result ≡ padded 255 (termwise (modulus field.entry.field) (quotient_of (modulus field.entry.field) a coefficients.now) factors.now) }
-{
-    let size = coefficients.len();
-    let q = quotient(field, a, coefficients);
-    products(field, &q[..size], factors)
-}
+    // The coefficients of the quotient, each times its factor, and zeros after them.
+    pub fn quotient_terms(self, a: u32, factors: &[u16]) -> [u16; 255]
+        requires { SymbolList (modulus self.field.field) factors.now × (length factors.now ≡ length self.coefficients.now) × (a < size_of (modulus self.field.field)) }
+        ensures { let p = modulus self.entry.field.field in result ≡ padded 255 (termwise p (quotient_of p a self.entry.coefficients.now) factors.now) }
+    {
+        let size = self.coefficients.len();
+        let q = self.quotient(a);
+        products(self.field, &q[..size], factors)
+    }
 
-// The sum of the terms times the coefficients of the quotient.
-pub fn quotient_sum(field: Arithmetic, a: u32, coefficients: &[u16], terms: &[u16]) -> u32
-    requires { SymbolList (modulus field.field) coefficients.now × SymbolList (modulus field.field) terms.now × (length terms.now ≡ length coefficients.now) × (a < size_of (modulus field.field)) }
-    ensures is { result ≡ dot (modulus field.entry.field) terms.now (quotient_of (modulus field.entry.field) a coefficients.now) }
-    ensures symbol { result < size_of (modulus field.entry.field) }
-{
-    let q = quotient(field, a, coefficients);
-    weighted_sum(field, terms, &q)
+    // The sum of the terms times the coefficients of the quotient.
+    pub fn quotient_sum(self, a: u32, terms: &[u16]) -> u32
+        requires { SymbolList (modulus self.field.field) terms.now × (length terms.now ≡ length self.coefficients.now) × (a < size_of (modulus self.field.field)) }
+        ensures is { let p = modulus self.entry.field.field in result ≡ dot p terms.now (quotient_of p a self.entry.coefficients.now) }
+        ensures symbol { result < size_of (modulus self.entry.field.field) }
+    {
+        let q = self.quotient(a);
+        weighted_sum(self.field, terms, &q)
+    }
 }

@@ -10,84 +10,101 @@ ghost use Rattle.interpolation.specs.Inner.Lagrange.{product_at, others_at, scal
 use field::Field;
 use field::lent::Arithmetic;
 
-// The product of (z − x) over the points x.
-fn product_at(field: Arithmetic, points: &[u16], z: u32) -> u32
-    requires { SymbolList (modulus field.field) points.now × (z < size_of (modulus field.field)) }
-    ensures is { result ≡ product_at (modulus field.entry.field) points.now z }
-    ensures symbol { result < size_of (modulus field.entry.field) }
-{
-    let mut product = Field::ONE;
-    for i in (0..points.len()).rev() {
-        let factor = field.sub(z, points[i] as u32);
-        product = field.mul(factor, product);
+// At most 255 points, symbols of a field; each has a basis polynomial of Lagrange's.
+#[derive(Clone, Copy)]
+pub struct Points<'f, 'p> {
+    pub field: Arithmetic<'f>,
+    pub points: &'p [u16],
+    pub ghost symbols: { SymbolList (modulus field.field) points.now },
+}
+
+impl Points<'_, '_> {
+    // The product of (z − x) over the points x.
+    fn product_at(self, z: u32) -> u32
+        requires { z < size_of (modulus self.field.field) }
+        ensures is { result ≡ product_at (modulus self.entry.field.field) self.entry.points.now z }
+        ensures symbol { result < size_of (modulus self.entry.field.field) }
+    {
+        let mut product = Field::ONE;
+        for i in (0..self.points.len()).rev() {
+            let factor = self.field.sub(z, self.points[i] as u32);
+            product = self.field.mul(factor, product);
+        }
+        product
     }
-    product
-}
 
-// The product over the points but number i: over those before it, and over those after it.
-fn others_at(field: Arithmetic, points: &[u16], i: usize, z: u32) -> u32
-    requires { SymbolList (modulus field.field) points.now × (i < length points.now) × (z < size_of (modulus field.field)) }
-    ensures is { result ≡ others_at (modulus field.entry.field) points.now i z }
-    ensures symbol { result < size_of (modulus field.entry.field) }
-{
-    let next = i + 1;
-    let before = product_at(field, &points[..i], z);
-    let after = product_at(field, &points[next..], z);
-    field.mul(before, after)
-}
-
-// 1 over that product at point number i itself.
-pub fn scale_at(field: Arithmetic, points: &[u16], i: usize) -> u32
-    requires { SymbolList (modulus field.field) points.now × (i < length points.now) }
-    ensures is { result ≡ scale_at (modulus field.entry.field) points.now i }
-    ensures symbol { result < size_of (modulus field.entry.field) }
-{
-    let others = others_at(field, points, i, points[i] as u32);
-    field.inverse(others)
-}
-
-// The scales of all basis polynomials, and zeros after them.
-pub fn scales(field: Arithmetic, points: &[u16]) -> [u16; 255]
-    requires { SymbolList (modulus field.field) points.now }
-    ensures { result ≡ padded 255 (scales_of (modulus field.entry.field) points.now) }
-{
-    let mut out = [0u16; 255];
-    for i in 0..points.len() {
-        out[i] = scale_at(field, points, i) as u16;
+    // The product over the points but number i: over those before it, and over those after it.
+    fn others_at(self, i: usize, z: u32) -> u32
+        requires { (i < length self.points.now) × (z < size_of (modulus self.field.field)) }
+        ensures is { result ≡ others_at (modulus self.entry.field.field) self.entry.points.now i z }
+        ensures symbol { result < size_of (modulus self.entry.field.field) }
+    {
+        let field = self.field;
+        let next = i + 1;
+        let before = Points {
+            field,
+            points: &self.points[..i],
+        };
+        let after = Points {
+            field,
+            points: &self.points[next..],
+        };
+        field.mul(before.product_at(z), after.product_at(z))
     }
-    out
-}
 
-// The products of (z − x) over the last m points x, for m = 0, 1, .., and zeros after them.
-fn last_products(field: Arithmetic, points: &[u16], z: u32) -> [u16; 255]
-    requires { SymbolList (modulus field.field) points.now × (z < size_of (modulus field.field)) }
-    ensures { result ≡ padded 255 (from (λ m. product_at (modulus field.entry.field) (drop (length points.now - m) points.now) z) 0 (length points.now)) }
-{
-    let mut out = [0u16; 255];
-    let mut product = Field::ONE;
-    for m in 0..points.len() {
-        out[m] = product as u16;
-        let last = points.len() - m - 1;
-        let factor = field.sub(z, points[last] as u32);
-        product = field.mul(factor, product);
+    // 1 over that product at point number i itself.
+    pub fn scale_at(self, i: usize) -> u32
+        requires { i < length self.points.now }
+        ensures is { result ≡ scale_at (modulus self.entry.field.field) self.entry.points.now i }
+        ensures symbol { result < size_of (modulus self.entry.field.field) }
+    {
+        let others = self.others_at(i, self.points[i] as u32);
+        self.field.inverse(others)
     }
-    out
-}
 
-// The values at z of all basis polynomials from their scales, and zeros after them: four products for each point.
-pub fn values(field: Arithmetic, points: &[u16], scales: &[u16], z: u32) -> [u16; 255]
-    requires { SymbolList (modulus field.field) points.now × (scales.now ≡ scales_of (modulus field.field) points.now) × (z < size_of (modulus field.field)) }
-    ensures { result ≡ padded 255 (basis_values (modulus field.entry.field) points.now z) }
-{
-    let after = last_products(field, points, z);
-    let mut out = [0u16; 255];
-    let mut before = Field::ONE;
-    for i in 0..points.len() {
-        let rest = points.len() - i - 1;
-        let others = field.mul(before, after[rest] as u32);
-        out[i] = field.mul(scales[i] as u32, others) as u16;
-        let factor = field.sub(z, points[i] as u32);
-        before = field.mul(before, factor);
+    // The scales of all basis polynomials, and zeros after them.
+    pub fn scales(self) -> [u16; 255]
+        ensures { result ≡ padded 255 (scales_of (modulus self.entry.field.field) self.entry.points.now) }
+    {
+        let mut out = [0u16; 255];
+        for i in 0..self.points.len() {
+            out[i] = self.scale_at(i) as u16;
+        }
+        out
     }
-    out
+
+    // The products of (z − x) over the last m points x, for m = 0, 1, .., and zeros after them.
+    fn last_products(self, z: u32) -> [u16; 255]
+        requires { z < size_of (modulus self.field.field) }
+        ensures { let xs = self.entry.points.now in result ≡ padded 255 (from (λ m. product_at (modulus self.entry.field.field) (drop (length xs - m) xs) z) 0 (length xs)) }
+    {
+        let mut out = [0u16; 255];
+        let mut product = Field::ONE;
+        for m in 0..self.points.len() {
+            out[m] = product as u16;
+            let last = self.points.len() - m - 1;
+            let factor = self.field.sub(z, self.points[last] as u32);
+            product = self.field.mul(factor, product);
+        }
+        out
+    }
+
+    // The values at z of all basis polynomials from their scales, and zeros after them: four products for each point.
+    pub fn values(self, scales: &[u16], z: u32) -> [u16; 255]
+        requires { (scales.now ≡ scales_of (modulus self.field.field) self.points.now) × (z < size_of (modulus self.field.field)) }
+        ensures { result ≡ padded 255 (basis_values (modulus self.entry.field.field) self.entry.points.now z) }
+    {
+        let field = self.field;
+        let after = self.last_products(z);
+        let mut out = [0u16; 255];
+        let mut before = Field::ONE;
+        for i in 0..self.points.len() {
+            let rest = self.points.len() - i - 1;
+            let others = field.mul(before, after[rest] as u32);
+            out[i] = field.mul(scales[i] as u32, others) as u16;
+            let factor = field.sub(z, self.points[i] as u32);
+            before = field.mul(before, factor);
+        }
+        out
+    }
 }

@@ -7,8 +7,17 @@ ghost use Rattle.field.specs.Kinds.{modulus};
 ghost use Rattle.interpolation.specs.Inner.Points.{SymbolList};
 ghost use Rattle.interpolation.specs.Inner.Polynomials.{carried, product_of, base_of, inverses_of};
 
+use crate::lagrange::Points;
 use field::Field;
 use field::lent::Arithmetic;
+
+// A polynomial over a field, by at most 255 coefficients.
+#[derive(Clone, Copy)]
+pub struct Polynomial<'f, 'c> {
+    pub field: Arithmetic<'f>,
+    pub coefficients: &'c [u16],
+    pub ghost symbols: { SymbolList (modulus field.field) coefficients.now },
+}
 
 // (x − a) times the polynomial whose coefficients stand before the last place, which holds 0.
 fn times_linear(field: Arithmetic, a: u32, coefficients: &mut [u16])
@@ -16,27 +25,28 @@ fn times_linear(field: Arithmetic, a: u32, coefficients: &mut [u16])
     ensures { coefficients.new ≡ carried (modulus field.entry.field) a 0 coefficients.old }
 {
     let mut last = Field::ZERO;
-    for i in 0..coefficients.len() {
-        let c = coefficients[i] as u32;
-        let term = field.mul(a, c);
-        coefficients[i] = field.sub(last, term) as u16;
-        last = c;
+    for c in coefficients.iter_mut() {
+        let next = *c as u32;
+        let term = field.mul(a, next);
+        *c = field.sub(last, term) as u16;
+        last = next;
     }
 }
 
-// The product of (x − a) over the points a, and zeros after it.
-pub fn product(field: Arithmetic, points: &[u16]) -> [u16; 256]
-    requires { SymbolList (modulus field.field) points.now }
-    ensures { result ≡ padded 256 (product_of (modulus field.entry.field) points.now) }
-{
-    let mut out = [0u16; 256];
-    out[0] = 1;
-    let mut size: usize = 1;
-    for i in (0..points.len()).rev() {
-        size += 1;
-        times_linear(field, points[i] as u32, &mut out[..size]);
+impl Points<'_, '_> {
+    // The product of (x − a) over the points a, and zeros after it.
+    pub fn product(self) -> [u16; 256]
+        ensures { result ≡ padded 256 (product_of (modulus self.entry.field.field) self.entry.points.now) }
+    {
+        let mut out = [0u16; 256];
+        out[0] = 1;
+        let mut size: usize = 1;
+        for i in (0..self.points.len()).rev() {
+            size += 1;
+            times_linear(self.field, self.points[i] as u32, &mut out[..size]);
+        }
+        out
     }
-    out
 }
 
 // The base polynomial, the product of (x − root^i) for i below m, and zeros after it.
@@ -55,16 +65,15 @@ pub fn base(field: Arithmetic, root: u32, m: usize) -> [u16; 256]
     out
 }
 
-// 1 over each coefficient, and zeros after them.
-pub fn inverses(field: Arithmetic, coefficients: &[u16]) -> [u16; 255]
-    requires { SymbolList (modulus field.field) coefficients.now }
-    ensures { result ≡ padded 255 (inverses_of (modulus field.entry.field) coefficients.now) }
-{
-    let mut out = [0u16; 255];
-    for i in 0..coefficients.len() {
-        let c = coefficients[i] as u32;
-        let y = field.inverse(c);
-        out[i] = y as u16;
+impl Polynomial<'_, '_> {
+    // 1 over each coefficient, and zeros after them.
+    pub fn inverses(self) -> [u16; 255]
+        ensures { result ≡ padded 255 (inverses_of (modulus self.entry.field.field) self.entry.coefficients.now) }
+    {
+        let mut out = [0u16; 255];
+        for (i, &c) in self.coefficients.iter().enumerate() {
+            out[i] = self.field.inverse(c as u32) as u16;
+        }
+        out
     }
-    out
 }

@@ -61,7 +61,7 @@ pub fn times_x(a: u8) -> u8
 }
 
 // a where the digit is 1, and 0 where it is 0: the digit as a mask of eight digits.
-fn times_digit(a: u8, digit: u8) -> u8
+pub fn times_digit(a: u8, digit: u8) -> u8
     requires { digit < 2 }
     ensures { result ≡ a * digit }
 {

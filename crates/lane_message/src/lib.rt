@@ -18,7 +18,7 @@ use check_sums::{lane, powers};
 use field::Tables;
 use field::lent::Arithmetic;
 use generator::{Code, Refusal};
-use interpolation::lagrange;
+use interpolation::lagrange::Points;
 use rows::GeneratorRows;
 use spectrum::Transform;
 
@@ -36,7 +36,11 @@ impl GeneratorRows<'_> {
         let terms = self.terms(&points[..k], r);
         let coefficients = sums::coefficients(n, k, spectrum);
         let sum = interpolation::sums::weighted_sum(field, &terms[..k], &coefficients);
-        let scale = lagrange::scale_at(field, &points[..k], r);
+        let scale = Points {
+            field,
+            points: &points[..k],
+        }
+        .scale_at(r);
         let over = field.inverse(sums::ones(field, n));
         let part = field.mul(over, sum);
         field.mul(scale, part)

@@ -9,7 +9,7 @@ ghost use Rattle.node_weights.specs.Inner.Rows.{row_points};
 ghost use Rattle.lane_message.specs.Inner.Rows.{InRounds, round_points, spaced_of};
 
 use crate::rows::GeneratorRows;
-use interpolation::polynomials;
+use interpolation::lagrange::Points;
 
 // How many of the shifts from the first on are 0, 1, 2, .., where not all are.
 fn run(shifts: &[u8]) -> Option<usize>
@@ -96,7 +96,11 @@ impl GeneratorRows<'_> {
         let k = self.transform.code.header.k as usize;
         let count = k / g;
         let points = self.round_points(g);
-        let product = polynomials::product(self.transform.field, &points[..count]);
+        let product = Points {
+            field: self.transform.field,
+            points: &points[..count],
+        }
+        .product();
         spread(g, k + 1, &product)
     }
 
@@ -109,7 +113,10 @@ impl GeneratorRows<'_> {
         let k = h.k as usize;
         match rounds_of(h.n as usize, &self.shifts[..k]) {
             Some(rounds) => self.round_product(rounds),
-            None => polynomials::product(self.transform.field, points),
+            None => {
+                let field = self.transform.field;
+                Points { field, points }.product()
+            }
         }
     }
 }

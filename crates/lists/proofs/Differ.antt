@@ -1,17 +1,15 @@
--- The places at which two lists differ: none where they are equal, by way of a third list, and a loop that counts them.
+-- The places at which two lists differ: none where they are equal, and by way of a third list.
 use mathlib.Core.Path.{◌≡◌, refl, sym, ap, ◌∙◌}
 use mathlib.Core.Bool.{Bool, false, not}
 use mathlib.Core.List.{List}
-use Prim.Native.Nat.{ℕ, suc, ◌+◌, ◌≤◌}
-use native.Mathlib.Nat as Nat
+use Prim.Native.Nat.{ℕ, ◌+◌, ◌≤◌}
 use native.Mathlib.Omega.{arith}
-use borrow.Author.Tests.{eq-eqb, ne_eqb, eqb-true, not-false}
+use borrow.Author.Tests.{eq-eqb, eqb-true, not-false}
 use lib.Dec.{eqb}
 use lib.ListN.{length, get_or}
 use lib.Seq.{ext_get_or}
-use Rattle.lists.specs.Choice.{when}
-use Rattle.lists.specs.Counting.{count_from, differ}
-use Rattle.lists.proofs.Count.{count_below, count_either, count_none, count_not, none_pass}
+use Rattle.lists.specs.Counting.{differ}
+use Rattle.lists.proofs.Count.{count_either, count_none, count_not, none_pass}
 
 -- the lists differ at place i
 abbrev pub unlike : List ℕ → List ℕ → ℕ → Bool
@@ -43,14 +41,3 @@ differ_by n ws us vs lw lu =
 pub differ_most : (s t : List ℕ) → differ s t ≤ length s
 unfolding differ
 differ_most s t = omega (arith, count_not (length s) 0 (unlike s t))
-
--- a loop that counts them: the lists differ at place i, or they do not
-pub unlike_next : (s t : List ℕ) (i : ℕ) → (get_or s i 0 ≡ get_or t i 0 → ⊥) → count_from (i + 1) 0 (unlike s t) ≡ count_from i 0 (unlike s t) + 1
-unlike_next s t i e =
-    let n : i + 1 ≡ suc i = omega arith in
-    ap (λ (k : ℕ). count_from k 0 (unlike s t)) n ∙ count_below i (unlike s t) ∙ ap (λ (b : Bool). when (not b) 1 + count_from i 0 (unlike s t)) (ne_eqb (get_or s i 0) (get_or t i 0) e) ∙ Nat.add_comm 1 (count_from i 0 (unlike s t))
-
-pub unlike_same : (s t : List ℕ) (i : ℕ) → get_or s i 0 ≡ get_or t i 0 → count_from (i + 1) 0 (unlike s t) ≡ count_from i 0 (unlike s t)
-unlike_same s t i e =
-    let n : i + 1 ≡ suc i = omega arith in
-    ap (λ (k : ℕ). count_from k 0 (unlike s t)) n ∙ count_below i (unlike s t) ∙ ap (λ (b : Bool). when (not b) 1 + count_from i 0 (unlike s t)) (eq-eqb (get_or s i 0) (get_or t i 0) e) ∙ Nat.zero-add (count_from i 0 (unlike s t))

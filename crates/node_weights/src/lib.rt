@@ -16,7 +16,9 @@ ghost use Rattle.node_weights.specs.Inner.Rows.{basis_of, row_points, base_inver
 use field::Tables;
 use field::lent::Arithmetic;
 use generator::Code;
-use interpolation::{division, lagrange, polynomials, powers};
+use interpolation::lagrange::Points;
+use interpolation::polynomials::Polynomial;
+use interpolation::{polynomials, powers};
 
 // Lagrange's basis of listed points: the points, the scales of the basis polynomials, and the coefficients of the product polynomial; zeros after each list.
 #[derive(Clone, Copy)]
@@ -45,9 +47,13 @@ pub fn rebuild_weights(code: Code, nodes: &[u8], target: u32) -> [u16; 255]
     let tables = field::constant_tables();
     let field = Arithmetic::new(h.field, &tables);
     let z = field.power(root, target);
-    let points = powers::points(field, root, nodes, 0);
-    let scales = lagrange::scales(field, &points[..k]);
-    lagrange::values(field, &points[..k], &scales[..k], z)
+    let list = powers::points(field, root, nodes, 0);
+    let points = Points {
+        field,
+        points: &list[..k],
+    };
+    let scales = points.scales();
+    points.values(&scales[..k], z)
 }
 
 // The basis of the points root^(j + offset).
@@ -56,11 +62,15 @@ pub fn lagrange_basis(field: Arithmetic, root: u32, places: &[u8], offset: u32) 
     ensures { result ≡ basis_of (modulus field.entry.field) (points_of (modulus field.entry.field) root offset places.now) }
 {
     let count = places.len();
-    let points = powers::points(field, root, places, offset);
-    let scales = lagrange::scales(field, &points[..count]);
-    let product = polynomials::product(field, &points[..count]);
+    let list = powers::points(field, root, places, offset);
+    let points = Points {
+        field,
+        points: &list[..count],
+    };
+    let scales = points.scales();
+    let product = points.product();
     Basis {
-        points: points,
+        points: list,
         scales: scales,
         product: product,
     }
@@ -78,7 +88,11 @@ pub fn prepare(code: Code, nodes: &[u8], shifts: &[u8]) -> Setup
     let tables = field::constant_tables();
     let field = Arithmetic::new(h.field, &tables);
     let base = polynomials::base(field, root, m);
-    let inverses = polynomials::inverses(field, &base[..k]);
+    let inverses = Polynomial {
+        field,
+        coefficients: &base[..k],
+    }
+    .inverses();
     let own = lagrange_basis(field, root, nodes, 0);
     let rows = lagrange_basis(field, root, shifts, m as u32);
     Setup {
@@ -98,7 +112,11 @@ pub fn terms_at(code: Code, tables: &Tables, product: &[u16], base: &[u16], x: u
     let first: usize = 1;
     let end = k + 1;
     let field = Arithmetic::new(h.field, tables);
-    division::quotient_terms(field, x, &product[first..end], &base[..k])
+    Polynomial {
+        field,
+        coefficients: &product[first..end],
+    }
+    .quotient_terms(x, &base[..k])
 }
 
 // The terms of row r.

@@ -21,7 +21,7 @@ impl Generator {
     pub fn new(code: Code, tables: &Tables) -> Self
         ensures { result.code ≡ code }
     {
-        let shifts = shifts::fill_shifts(code.header.n, code.header.k);
+        let shifts = shifts::fill_shifts(code);
         let base = base::fill_base(code, tables);
         Self { code, shifts, base }
     }

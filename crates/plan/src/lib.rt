@@ -14,10 +14,11 @@ mod entries;
 mod generator_rows;
 
 pub use base::fill_base;
-pub use entries::{entry, entry_at};
+pub use entries::entry_at;
 pub use generator_rows::Generator;
 
-// A plan. `low` and `high` are k·d / n rounded down and up.
+// A plan. `low` and `high` are k·d / n rounded down and up. The lists are as the interface for C gives them: 255 places each, zeros after
+// the last.
 #[derive(Clone, Copy)]
 pub struct Plan {
     pub n: u8,
@@ -44,14 +45,14 @@ pub fn plan_of(code: Code) -> Plan
     ensures { result ≡ plan_of code.header }
 {
     let Header { n, k, .. } = code.header;
-    let rows = shifts::place_rows(n, k);
+    let rows = shifts::place_rows(code);
     let shifts = rows.shifts;
     let firsts = rows.firsts;
     let base = base_word(code);
     Plan {
         n,
         k,
-        d: records::distance_of(code.header),
+        d: records::distance_of(code),
         low: records::low_reads(code),
         high: records::high_reads(code),
         shifts,

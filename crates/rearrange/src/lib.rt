@@ -74,7 +74,8 @@ fn rearrange_shares(
     rearrange_accepted(code, rows, lanes as usize, order, source, out)
 }
 
-// Writes shares that stand node after node lane after lane, or gives what turns the call away and writes nothing.
+// Writes shares that stand node after node lane after lane, or gives what turns the call away and writes nothing. Each call of the interface
+// is a function of its own; what the four share is `rearrange_shares`.
 pub fn to_lanes(rec: &[u8], lanes: u32, by_node: &[u8], by_lane: &mut [u8]) -> Result<(), Refusal>
     ensures { ToLanesSays rec.now lanes by_node.now by_lane.old by_lane.new (numbered result) }
 {

@@ -1,8 +1,10 @@
 // Records as they are read: what one holds, or the lowest number that turns it away.
 #![tactic(auto)]
 
-ghost use Rattle.std.specs.Prelude.{◌≡◌, true, ◌+◌, ◌*◌, ◌≤◌, ◌<◌, length, get_or};
-ghost use Rattle.field.specs.Kinds.{usable};
+ghost use Rattle.std.specs.Prelude.{◌≡◌, true, false, ◌∷◌, ◌≤◌, MatchResult};
+ghost use Rattle.field.specs.declared.Field.TheVariants.{Prime};
+ghost use Rattle.field.specs.Kinds.{usable, prime_of};
+ghost use Rattle.generator.specs.declared.refusal.Refusal.TheVariants as R;
 ghost use Rattle.generator.specs.Records.{prime_in, size_bad, root_bad, header_fault, judged, record_of};
 ghost use Rattle.generator.specs.Reading.{read_of};
 
@@ -13,13 +15,15 @@ use generator::{Code, Header, Refusal};
 pub use sizes::{distance_of, high_reads, low_reads};
 
 // A prime from `low` to `high`.
+#[tactic(auto, unfolding(generator::specs::Records::prime_in))]
 fn prime_in(low: u32, high: u32, p: u32) -> bool
     ensures { result ≡ prime_in low high p }
 {
-    low <= p && p <= high && is_prime(p)
+    (low..=high).contains(&p) && is_prime(p)
 }
 
 // Number 4: n below 2, k zero, or k above n; n is a byte.
+#[tactic(auto, unfolding(generator::specs::Records::size_bad))]
 fn size_bad(h: Header) -> bool
     ensures { result ≡ size_bad h }
 {
@@ -29,6 +33,7 @@ fn size_bad(h: Header) -> bool
 }
 
 // Number 5: the root is no symbol of order exactly n.
+#[tactic(auto, unfolding(generator::specs::Records::root_bad))]
 fn root_bad(h: Header) -> bool
     requires { (usable h.field ≡ true) × (2 ≤ h.n) }
     ensures { result ≡ root_bad h }
@@ -49,73 +54,59 @@ fn judge(h: Header) -> Result<Code, Refusal>
     Ok(Code { header: h })
 }
 
-// Kind 1: p, the root, n, k.
-fn read_prime(rec: &[u8]) -> Result<Code, Refusal>
-    requires { (0 < length rec.now) × (get_or rec.now 0 0 ≡ 1) }
-    ensures { read_of result ≡ record_of rec.now }
+// Number 3: the field of p, where p is a prime from `low` to `high`.
+fn prime_field(low: u32, high: u32, p: u32) -> Result<Field, Refusal>
+    ensures { MatchResult result (λ f. (f ≡ Prime (prime_of p)) × (prime_in low high p ≡ true)) (λ e. (e ≡ R.Field) × (prime_in low high p ≡ false)) }
 {
-    if rec.len() != 5 {
+    Refusal::Field.when(!prime_in(low, high, p))?;
+    Ok(Field::Prime(PrimeField::new(p)))
+}
+
+// Kind 1: p, the root, n, k.
+fn read_prime(body: &[u8]) -> Result<Code, Refusal>
+    ensures { read_of result ≡ record_of (1 ∷ body.now) }
+{
+    let &[p, root, n, k] = body else {
         return Err(Refusal::Body);
-    }
-    let p = rec[1] as u32;
-    if !prime_in(3, 251, p) {
-        return Err(Refusal::Field);
-    }
-    judge(Header {
-        field: Field::Prime(PrimeField::new(p)),
-        root: rec[2] as u32,
-        n: rec[3],
-        k: rec[4],
-    })
+    };
+    let field = prime_field(3, 251, p as u32)?;
+    let root = root as u32;
+    judge(Header { field, root, n, k })
 }
 
 // Kind 2: the root, n, k.
-fn read_binary(rec: &[u8]) -> Result<Code, Refusal>
-    requires { (0 < length rec.now) × (get_or rec.now 0 0 ≡ 2) }
-    ensures { read_of result ≡ record_of rec.now }
+fn read_binary(body: &[u8]) -> Result<Code, Refusal>
+    ensures { read_of result ≡ record_of (2 ∷ body.now) }
 {
-    if rec.len() != 4 {
+    let &[root, n, k] = body else {
         return Err(Refusal::Body);
-    }
-    judge(Header {
-        field: Field::Binary(Gf256::new()),
-        root: rec[1] as u32,
-        n: rec[2],
-        k: rec[3],
-    })
+    };
+    let field = Field::Binary(Gf256::new());
+    let root = root as u32;
+    judge(Header { field, root, n, k })
 }
 
 // Kind 3: p and the root in two bytes each, n, k.
-fn read_wide(rec: &[u8]) -> Result<Code, Refusal>
-    requires { (0 < length rec.now) × (get_or rec.now 0 0 ≡ 3) }
-    ensures { read_of result ≡ record_of rec.now }
+fn read_wide(body: &[u8]) -> Result<Code, Refusal>
+    ensures { read_of result ≡ record_of (3 ∷ body.now) }
 {
-    if rec.len() != 7 {
+    let &[p_high, p_low, root_high, root_low, n, k] = body else {
         return Err(Refusal::Body);
-    }
-    let p = u16::from_be_bytes([rec[1], rec[2]]) as u32;
-    if !prime_in(257, 65521, p) {
-        return Err(Refusal::Field);
-    }
-    judge(Header {
-        field: Field::Prime(PrimeField::new(p)),
-        root: u16::from_be_bytes([rec[3], rec[4]]) as u32,
-        n: rec[5],
-        k: rec[6],
-    })
+    };
+    let p = u16::from_be_bytes([p_high, p_low]) as u32;
+    let root = u16::from_be_bytes([root_high, root_low]) as u32;
+    let field = prime_field(257, 65521, p)?;
+    judge(Header { field, root, n, k })
 }
 
 // The kind byte chooses the body's length and the field.
 pub fn read_record(rec: &[u8]) -> Result<Code, Refusal>
     ensures { read_of result ≡ record_of rec.now }
 {
-    if rec.is_empty() {
-        return Err(Refusal::Kind);
-    }
-    match rec[0] {
-        1 => read_prime(rec),
-        2 => read_binary(rec),
-        3 => read_wide(rec),
+    match rec {
+        [1, body @ ..] => read_prime(body),
+        [2, body @ ..] => read_binary(body),
+        [3, body @ ..] => read_wide(body),
         _ => Err(Refusal::Kind),
     }
 }

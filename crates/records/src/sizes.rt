@@ -5,12 +5,11 @@ ghost use Rattle.generator.specs.Records.{distance, low_reads, high_reads};
 use generator::{Code, Header};
 
 // d, the number of nodes that a changed symbol writes.
-pub fn distance_of(h: Header) -> u8
-    requires { (0 < h.k) × (h.k ≤ h.n) }
-    ensures { result ≡ distance h }
+#[tactic(auto, unfolding(generator::specs::Records::distance))]
+pub fn distance_of(code: Code) -> u8
+    ensures { result ≡ distance code.header }
 {
-    let n = h.n;
-    let k = h.k;
+    let Header { n, k, .. } = code.header;
     n - k + 1
 }
 
@@ -18,33 +17,33 @@ pub fn distance_of(h: Header) -> u8
 fn entries(code: Code) -> u32
     ensures { (result ≡ code.header.k * distance code.header) × (result ≤ code.header.n * 255) }
 {
-    let h = code.header;
-    let k = h.k as u32;
-    let d = distance_of(h) as u32;
+    let k = code.header.k as u32;
+    let d = distance_of(code) as u32;
     k * d
 }
 
 // A number over n, rounded down.
-fn over_nodes(h: Header, x: u32) -> u8
-    requires { (0 < h.n) × (x < 256 * h.n) }
-    ensures { result ≡ x / h.n }
+fn over_nodes(code: Code, x: u32) -> u8
+    requires { x < 256 * code.header.n }
+    ensures { result ≡ x / code.header.n }
 {
-    (x / h.n as u32) as u8
+    let n = code.header.n as u32;
+    (x / n) as u8
 }
 
 // The least number of symbols that a node depends on.
+#[tactic(auto, unfolding(generator::specs::Records::low_reads))]
 pub fn low_reads(code: Code) -> u8
     ensures { result ≡ low_reads code.header }
 {
-    let h = code.header;
-    over_nodes(h, entries(code))
+    over_nodes(code, entries(code))
 }
 
 // The greatest.
+#[tactic(auto, unfolding(generator::specs::Records::high_reads))]
 pub fn high_reads(code: Code) -> u8
     ensures { result ≡ high_reads code.header }
 {
-    let h = code.header;
-    let n = h.n as u32;
-    over_nodes(h, entries(code) + (n - 1))
+    let n = code.header.n as u32;
+    over_nodes(code, entries(code) + (n - 1))
 }

@@ -4,7 +4,7 @@ ghost use Rattle.recover.specs.Inner.OneRow.{share_product, sum_bytes};
 
 use crate::shares::Weighted;
 use block_products::{Product, Way};
-use tile_products::scratch;
+use tile_products::{WeightCodes, scratch};
 
 impl Weighted<'_> {
     // The product of one row of weights and the lanes.
@@ -29,10 +29,10 @@ impl Weighted<'_> {
         let field = self.code.header.field;
         let weights = &self.weights[..self.code.header.k as usize];
         let mut codes: [u64; 256] = kernel::filled(0);
-        tile_products::fill_codes(field, &mut codes);
+        let codes = WeightCodes::new(field, &mut codes);
         let mut lists: [u16; scratch::SMALL_LISTS] = kernel::filled(0);
         let mut counts: [u8; scratch::SMALL_COUNTS] = kernel::filled(0);
-        tile_products::prepare(field, &codes, weights, 0, &mut lists, &mut counts);
+        codes.prepare(weights, 0, &mut lists, &mut counts);
         block_products::fill(
             self.product(),
             self.width,

@@ -37,7 +37,7 @@ impl Weighted<'_> {
     {
         let k = self.code.header.k as usize;
         tiles::gather_lanes(self.width * k, self.lanes, first, count, self.shares, tile);
-        row_sums::combine_symbols(self.code.header.field, self.weights, k, count, tile, out);
+        row_sums::combine_symbols(self.code.header.field, &self.weights[..k], count, tile, out);
     }
 
     // The sums of all lanes, tile by tile.

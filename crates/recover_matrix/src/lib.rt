@@ -8,7 +8,6 @@ ghost use Rattle.layout.specs.Width.{bytes_of};
 ghost use Rattle.generator.specs.Records.{modulus_of, width};
 ghost use Rattle.generator.specs.Claims.{are_nodes};
 ghost use Rattle.node_weights.specs.Inner.Rows.{setup_of, row_terms};
-ghost use Rattle.tile_products.specs.Inner.Products.{Codes};
 ghost use Rattle.tile_products.specs.Inner.Matrices.{Begun};
 ghost use Rattle.recover_matrix.specs.Inner.Inverse.{inverse_row, inverse_sums, node_quotient, row_product, square_bytes, ListRoom};
 
@@ -17,8 +16,9 @@ mod message;
 use block_products::{Product, Way};
 use field::lent::Arithmetic;
 use generator::Code;
-use interpolation::division;
+use interpolation::polynomials::Polynomial;
 use node_weights::Setup;
+use tile_products::WeightCodes;
 
 // The inverse at listed nodes, by what was prepared for them.
 #[derive(Clone, Copy)]
@@ -50,21 +50,23 @@ impl Inverse<'_> {
     }
 
     // The lists of the quotients by the linear factors of the nodes' points.
-    fn list_quotients(self, codes: &[u64], lists: &mut [u16], counts: &mut [u8])
-        requires { Codes (modulus_of self.code.header) codes.now × ListRoom self.code.header.k (length lists.old) (length counts.old) }
+    fn list_quotients(self, codes: WeightCodes, lists: &mut [u16], counts: &mut [u8])
+        requires { (codes.field ≡ self.code.header.field) × ListRoom self.code.header.k (length lists.old) (length counts.old) }
         ensures { let h = self.entry.code.header in Begun (modulus_of h) h.k (node_quotient h self.entry.nodes.now) h.k lists.new counts.new }
     {
         let h = self.code.header;
         let k = h.k as usize;
         let end = k + 1;
         let coefficients = &self.setup.nodes.product[..];
-        let product = &coefficients[1..end];
         let t = field::constant_tables();
-        let field = Arithmetic::new(h.field, &t);
+        let product = Polynomial {
+            field: Arithmetic::new(h.field, &t),
+            coefficients: &coefficients[1..end],
+        };
         for i in 0..k {
             let point = self.setup.nodes.points[i] as u32;
-            let q = division::quotient(field, point, product);
-            tile_products::prepare(h.field, codes, &q[..k], i, lists, counts);
+            let q = product.quotient(point);
+            codes.prepare(&q[..k], i, lists, counts);
         }
     }
 
@@ -100,8 +102,8 @@ impl Inverse<'_> {
     }
 
     // The lists of all rows, from the sums.
-    fn list_from(self, sums: &[u8], codes: &[u64], lists: &mut [u16], counts: &mut [u8])
-        requires { (sums.now ≡ bytes_of (width self.code.header) (inverse_sums self.code.header self.nodes.now)) × Codes (modulus_of self.code.header) codes.now × ListRoom self.code.header.k (length lists.old) (length counts.old) }
+    fn list_from(self, sums: &[u8], codes: WeightCodes, lists: &mut [u16], counts: &mut [u8])
+        requires { (sums.now ≡ bytes_of (width self.code.header) (inverse_sums self.code.header self.nodes.now)) × (codes.field ≡ self.code.header.field) × ListRoom self.code.header.k (length lists.old) (length counts.old) }
         ensures { let h = self.entry.code.header in Begun (modulus_of h) h.k (inverse_row h self.entry.nodes.now) h.k lists.new counts.new }
     {
         let h = self.code.header;
@@ -110,7 +112,7 @@ impl Inverse<'_> {
         let field = Arithmetic::new(h.field, &t);
         for r in 0..k {
             let row = self.row(field, r, sums);
-            tile_products::prepare(h.field, codes, &row[..k], r, lists, counts);
+            codes.prepare(&row[..k], r, lists, counts);
         }
     }
 
@@ -122,14 +124,15 @@ impl Inverse<'_> {
         let k = self.code.header.k as usize;
         let w = symbols::width_of(self.code.header);
         let size = w * k * k;
-        let codes = tile_products::codes_of(self.code.header.field);
+        let mut codes: [u64; 256] = kernel::filled(0);
+        let codes = WeightCodes::new(self.code.header.field, &mut codes);
         let mut room = [0u8; SQUARE];
         let mut other_room = [0u8; SQUARE];
         let terms = &mut room[..size];
         let sums = &mut other_room[..size];
         self.fill_terms(terms);
-        self.list_quotients(&codes, lists, counts);
+        self.list_quotients(codes, lists, counts);
         block_products::fill(self.product(k), w, lists, counts, terms, sums);
-        self.list_from(sums, &codes, lists, counts);
+        self.list_from(sums, codes, lists, counts);
     }
 }

@@ -44,9 +44,6 @@ module _ (p rows l : ℕ) (ws s : List ℕ) (out : ℕ) (a : TileRows p rows l w
     pub wide_rows : WideRows rows l ws s
     wide_rows = record { few = a.weighted.few; weights = a.weighted.weights; long = a.bytes ∙ ap (λ (w : ℕ). w * rows * l) two }
 
-    pub wide_out : out ≡ 2 * l
-    wide_out = a.out_is_bytes ∙ ap (λ (w : ℕ). w * l) two
-
     pub wide_sums : tile_bytes 2 1 l (combined row_after_row p rows l ws (tile_symbols 2 rows l s)) ≡ combined_tile p rows l ws s
     unfolding combined_tile
     wide_sums = ap (λ (w : ℕ). tile_bytes w 1 l (combined row_after_row p rows l ws (tile_symbols w rows l s))) (sym two)

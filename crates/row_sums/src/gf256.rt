@@ -2,7 +2,7 @@
 // multiplied by x, and the rows whose weight has the digit are added.
 ghost use Rattle.std.specs.Prelude.{◌≡◌, ◌/◌, ◌%◌, ◌^◌, ◌≤◌, ◌<◌, length, take, slice_index};
 ghost use Rattle.row_sums.specs.Inner.Digits.{rows_with, xor_sum, rows_added, multiplied, ListedRows, Started};
-ghost use Rattle.row_sums.specs.Inner.Terms.{WeightedTerms, terms_combined};
+ghost use Rattle.row_sums.specs.Inner.Combined.{Weighted};
 
 use crate::terms::Terms;
 use kernel::gf256;
@@ -69,18 +69,8 @@ fn add_pairs(list: &[u8], terms: Terms, acc: &mut [u8])
     }
 }
 
-// One step of Horner's rule, by a list of the rows that are added.
-fn step_rows(digit: Digit, terms: Terms, list: &mut [u8], acc: &mut [u8])
-    requires { (length list.old ≡ length terms.weights.now) × WeightedTerms 256 terms (length acc.old) }
-    ensures { acc.new ≡ rows_added terms.entry.lanes terms.entry.rows.now (rows_with digit.place (length terms.entry.weights.now) terms.entry.weights.now) (multiplied acc.old) }
-{
-    let count = list_rows(digit, terms.weights, list);
-    let listed = &list[..count];
-    let first = multiply_x_first(listed, terms, acc);
-    add_pairs(&listed[first..], terms, acc);
-}
-
-// The sum of the symbols whose weight has the digit: all symbols are read, each times its digit, with no branch and no list.
+// The sum of the symbols whose weight has the digit: all symbols are read, each times its digit, with no branch and no list. The weights are
+// read by index: they go on where symbols end.
 fn digit_sum(digit: Digit, weights: &[u16], symbols: &[u8]) -> u8
     requires { (length symbols.now ≤ length weights.now) }
     ensures { result ≡ xor_sum (λ j. slice_index symbols.now j) (rows_with digit.place (length symbols.now) weights.now) }
@@ -101,27 +91,49 @@ fn step_lane(digit: Digit, weights: &[u16], symbols: &[u8], acc: &mut [u8])
     acc[0] ^= digit_sum(digit, weights, symbols);
 }
 
-// One step of Horner's rule; `list` has a place for each row. One lane takes less time without the list.
-fn step(digit: Digit, terms: Terms, list: &mut [u8], acc: &mut [u8])
-    requires { (length list.old ≡ length terms.weights.now) × WeightedTerms 256 terms (length acc.old) }
-    ensures { acc.new ≡ rows_added terms.entry.lanes terms.entry.rows.now (rows_with digit.place (length terms.entry.weights.now) terms.entry.weights.now) (multiplied acc.old) }
-{
-    if terms.lanes == 1 {
-        step_lane(digit, terms.weights, terms.rows, acc);
-    } else {
-        step_rows(digit, terms, list, acc);
-    }
+// Terms whose symbols and weights are bytes.
+#[derive(Clone, Copy)]
+pub struct ByteTerms<'a> {
+    pub terms: Terms<'a>,
+    pub ghost bytes: { Weighted 256 (length terms.weights.now) terms.lanes terms.weights.now terms.rows.now terms.lanes },
 }
 
-// In each lane the sum of the rows' symbols times the weights.
-pub fn combine(terms: Terms, acc: &mut [u8])
-    requires { WeightedTerms 256 terms (length acc.old) }
-    ensures { acc.new ≡ terms_combined 0 terms.entry }
-{
-    let mut list = [0u8; 255];
-    let count = terms.weights.len();
-    acc.fill(0);
-    for place in (0..8).rev() {
-        step(Digit { place }, terms, &mut list[..count], acc);
+impl ByteTerms<'_> {
+    ghost use Rattle.row_sums.specs.Inner.Terms.{terms_combined};
+
+    // One step of Horner's rule, by a list of the rows that are added.
+    fn step_rows(self, digit: Digit, list: &mut [u8], acc: &mut [u8])
+        requires { (length list.old ≡ length self.terms.weights.now) × (length acc.old ≡ self.terms.lanes) }
+        ensures { let t = self.entry.terms in acc.new ≡ rows_added t.lanes t.rows.now (rows_with digit.place (length t.weights.now) t.weights.now) (multiplied acc.old) }
+    {
+        let count = list_rows(digit, self.terms.weights, list);
+        let listed = &list[..count];
+        let first = multiply_x_first(listed, self.terms, acc);
+        add_pairs(&listed[first..], self.terms, acc);
+    }
+
+    // One step of Horner's rule; `list` has a place for each row. One lane takes less time without the list.
+    fn step(self, digit: Digit, list: &mut [u8], acc: &mut [u8])
+        requires { (length list.old ≡ length self.terms.weights.now) × (length acc.old ≡ self.terms.lanes) }
+        ensures { let t = self.entry.terms in acc.new ≡ rows_added t.lanes t.rows.now (rows_with digit.place (length t.weights.now) t.weights.now) (multiplied acc.old) }
+    {
+        if self.terms.lanes == 1 {
+            step_lane(digit, self.terms.weights, self.terms.rows, acc);
+        } else {
+            self.step_rows(digit, list, acc);
+        }
+    }
+
+    // In each lane the sum of the rows' symbols times the weights.
+    pub fn combine(self, acc: &mut [u8])
+        requires { length acc.old ≡ self.terms.lanes }
+        ensures { acc.new ≡ terms_combined 0 self.entry.terms }
+    {
+        let mut list = [0u8; 255];
+        let count = self.terms.weights.len();
+        acc.fill(0);
+        for place in (0..8).rev() {
+            self.step(Digit { place }, &mut list[..count], acc);
+        }
     }
 }

@@ -7,31 +7,25 @@ ghost use Rattle.row_sums.specs.Inner.Combined.{WeightedRows, combined_bytes};
 
 use field::Field;
 
+mod field_terms;
 mod gf256;
 mod prime;
 mod terms;
 pub mod wide;
 
+use field_terms::FieldTerms;
 use terms::Terms;
 
-// In each lane the sum of the rows' symbols times the first `count` weights, as symbols one after the other. `Terms` in place of the parameters would be no
-// plainer: what a caller proves of its rows is stated with their number, and weights that lie in a longer list would be cut at each call.
-pub fn combine_symbols(
-    field: Field,
-    weights: &[u16],
-    count: usize,
-    lanes: usize,
-    rows: &[u8],
-    out: &mut [u8],
-)
-    requires { WeightedRows field count lanes weights.now rows.now (length out.old) }
-    ensures { out.new ≡ combined_bytes (modulus field) count lanes weights.now rows.now }
+// In each lane the sum of the rows' symbols times the weights, as symbols one after the other. A function, so that terms and what is known of
+// them stay in this crate.
+pub fn combine_symbols(field: Field, weights: &[u16], lanes: usize, rows: &[u8], out: &mut [u8])
+    requires { WeightedRows field (length weights.now) lanes weights.now rows.now (length out.old) }
+    ensures { out.new ≡ combined_bytes (modulus field) (length weights.now) lanes weights.now rows.now }
 {
-    let weights = &weights[..count];
-    Terms {
+    let terms = Terms {
         weights,
         lanes,
         rows,
-    }
-    .combine_symbols(field, out);
+    };
+    FieldTerms { field, terms }.combine_symbols(out);
 }

@@ -108,12 +108,11 @@ fn put(lanes: usize, at: usize, symbols: &[u16], acc: &mut [u8])
     }
 }
 
-// In each lane the sum of the rows' symbols times the first `count` weights.
-pub fn combine(p: u16, weights: &[u16], count: usize, lanes: usize, rows: &[u8], acc: &mut [u8])
-    requires { (0 < p) × (lanes ≤ 4096) × WideRows count lanes weights.now rows.now × (length acc.old ≡ 2 * lanes) }
-    ensures { acc.new ≡ tile_bytes 2 1 lanes (combined row_after_row p count lanes weights.now (tile_symbols 2 count lanes rows.now)) }
+// In each lane the sum of the rows' symbols times the weights.
+pub fn combine(p: u16, weights: &[u16], lanes: usize, rows: &[u8], acc: &mut [u8])
+    requires { (0 < p) × (lanes ≤ 4096) × WideRows (length weights.now) lanes weights.now rows.now × (length acc.old ≡ 2 * lanes) }
+    ensures { acc.new ≡ tile_bytes 2 1 lanes (combined row_after_row p (length weights.now) lanes weights.now (tile_symbols 2 (length weights.now) lanes rows.now)) }
 {
-    let weights = &weights[..count];
     let terms = Terms {
         weights,
         lanes,

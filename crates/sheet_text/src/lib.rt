@@ -11,7 +11,7 @@ ghost use Rattle.text.specs.Inner.Writer.{room, Writes};
 ghost use Rattle.sheet_text.specs.Sheet.{numbers_line, row_line, sheet_for};
 ghost use Rattle.sheet_text.specs.Inner.Sheet.{sheet_of};
 
-use plan::{Plan, build_plan, entry};
+use plan::{Plan, build_plan};
 use text::Writer;
 pub use text::page;
 
@@ -45,12 +45,14 @@ impl PlanSheet {
 
     // The entries of row r, and the line feed.
     fn write_entries(&self, writer: &mut Writer, r: u8)
-        requires { 1531 ≤ room writer.old }
+        requires row { r < self.now.plan.k }
+        requires room { 1531 ≤ room writer.old }
         ensures text { Writes writer.old writer.new (fields (from (entry_in self.now.plan r) 0 self.now.plan.n)) }
         ensures room { room writer.old ≤ room writer.new + 1531 }
     {
         for j in 0..self.plan.n {
-            writer.field(entry(self.plan, u32::from(r), u32::from(j)));
+            let entry = self.plan.entry(u32::from(r), u32::from(j));
+            writer.field(entry.unwrap());
         }
         writer.byte(b'\n');
     }

@@ -1,20 +1,10 @@
 // The rule of Lemma 2.
 ghost use Rattle.std.specs.Prelude.{◌≡◌, ◌+◌, ◌≤◌, ◌<◌};
 ghost use Rattle.lists.specs.Padded.{padded};
-ghost use Rattle.generator.specs.Shifts.{next_place, shifts_from, even_shifts};
+ghost use Rattle.generator.specs.Shifts.{shifts_from, even_shifts};
 
 use crate::gcd;
-
-// The place after this one on a round of so many.
-fn next_place(round: u32, place: u32) -> u32
-    requires { place < round }
-    ensures { (result ≡ next_place round place) × (result < round) }
-{
-    if place + 1 == round {
-        return 0;
-    }
-    place + 1
-}
+use generator::{Code, Header};
 
 // The numbers below n on rounds that take and then skip so many, rising, and zeros after them.
 fn fill_rounds(n: u8, taken: u32, skipped: u32) -> [u8; 255]
@@ -23,22 +13,20 @@ fn fill_rounds(n: u8, taken: u32, skipped: u32) -> [u8; 255]
 {
     let mut out = [0u8; 255];
     let mut count: usize = 0;
-    let mut place: u32 = 0;
     for i in 0..n {
-        if place < taken {
+        if i as u32 % (taken + skipped) < taken {
             out[count] = i;
             count += 1;
         }
-        place = next_place(taken + skipped, place);
     }
     out
 }
 
 // The k shifts, rising, and zeros after them.
-pub fn fill_even(n: u8, k: u8) -> [u8; 255]
-    requires { (0 < k) × (k ≤ n) }
-    ensures { result ≡ padded 255 (even_shifts n k) }
+pub fn fill_even(code: Code) -> [u8; 255]
+    ensures { result ≡ padded 255 (even_shifts code.header.n code.header.k) }
 {
+    let Header { n, k, .. } = code.header;
     let g = gcd(k as u32, n as u32);
     let taken = k as u32 / g;
     let skipped = (n - k) as u32 / g;

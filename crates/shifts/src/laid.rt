@@ -4,6 +4,7 @@ ghost use Rattle.lists.specs.Padded.{padded};
 ghost use Rattle.generator.specs.Shifts.{period as period_of, laid_at, laid_shifts};
 
 use crate::{gcd, negative};
+use generator::{Code, Header};
 
 // The number of rows that are laid before they come round.
 fn period(n: u32, d: u32) -> u32
@@ -14,6 +15,7 @@ fn period(n: u32, d: u32) -> u32
 }
 
 // The node at which row r begins, where m rows come round.
+#[tactic(auto, unfolding(generator::specs::Shifts::laid_at))]
 fn laid_at(n: u32, d: u32, m: u32, r: u32) -> u32
     requires { (d ≤ n) × (n ≤ 255) × (m ≡ period_of n d) × (0 < m) × (r < n) }
     ensures { (result ≡ laid_at n d r) × (result < n) }
@@ -22,10 +24,10 @@ fn laid_at(n: u32, d: u32, m: u32, r: u32) -> u32
 }
 
 // The k shifts in the order of the rows, and zeros after them.
-pub fn fill_laid(n: u8, k: u8) -> [u8; 255]
-    requires { (0 < k) × (k ≤ n) }
-    ensures { result ≡ padded 255 (laid_shifts n k) }
+pub fn fill_laid(code: Code) -> [u8; 255]
+    ensures { result ≡ padded 255 (laid_shifts code.header.n code.header.k) }
 {
+    let Header { n, k, .. } = code.header;
     let nodes = n as u32;
     let d = nodes - k as u32 + 1;
     let m = period(nodes, d);

@@ -8,7 +8,9 @@ ghost use Rattle.generator.specs.Shifts.{gcd as gcd_of, negative as negative_of,
 mod even;
 mod laid;
 
-// Where the rows stand: for each its shift and its first node.
+use generator::{Code, Header};
+
+// Where the rows stand: for each its shift and its first node, as the interface for C gives them: 255 places each, zeros after the last.
 #[derive(Clone, Copy)]
 pub struct Rows {
     pub shifts: [u8; 255],
@@ -30,6 +32,7 @@ pub fn gcd(x: u32, y: u32) -> u32
 }
 
 // −x modulo n.
+#[tactic(auto, unfolding(generator::specs::Shifts::negative))]
 fn negative(n: u32, x: u32) -> u32
     requires { x < n }
     ensures { (result ≡ negative_of n x) × (result < n) }
@@ -38,29 +41,32 @@ fn negative(n: u32, x: u32) -> u32
 }
 
 // Whether n divides k·d.
-pub fn is_even(n: u32, k: u32) -> bool
-    requires { (0 < k) × (k ≤ n) × (n ≤ 255) }
-    ensures { result ≡ is_even n k }
+#[tactic(auto, unfolding(generator::specs::Shifts::is_even))]
+fn is_even(code: Code) -> bool
+    ensures { result ≡ is_even code.header.n code.header.k }
 {
+    let n = code.header.n as u32;
+    let k = code.header.k as u32;
     k * (n - k + 1) % n == 0
 }
 
 // The k shifts in the order of the rows, and zeros after them.
-pub fn fill_shifts(n: u8, k: u8) -> [u8; 255]
-    requires { (0 < k) × (k ≤ n) }
-    ensures { result ≡ padded 255 (shifts_of n k) }
+#[tactic(auto, unfolding(generator::specs::Shifts::shifts_of))]
+pub fn fill_shifts(code: Code) -> [u8; 255]
+    ensures { result ≡ padded 255 (shifts_of code.header.n code.header.k) }
 {
-    if is_even(n as u32, k as u32) {
-        return even::fill_even(n, k);
+    if is_even(code) {
+        return even::fill_even(code);
     }
-    laid::fill_laid(n, k)
+    laid::fill_laid(code)
 }
 
 // The k first nodes in the order of the rows, each the negative of its shift, and zeros after them.
-fn fill_firsts(n: u8, k: u8, shifts: &[u8; 255]) -> [u8; 255]
-    requires { (0 < k) × (k ≤ n) × (shifts.now ≡ padded 255 (shifts_of n k)) }
-    ensures { result ≡ padded 255 (firsts_of n k) }
+fn fill_firsts(code: Code, shifts: &[u8; 255]) -> [u8; 255]
+    requires { shifts.now ≡ padded 255 (shifts_of code.header.n code.header.k) }
+    ensures { result ≡ padded 255 (firsts_of code.header.n code.header.k) }
 {
+    let Header { n, k, .. } = code.header;
     let nodes = n as u32;
     let mut out = [0u8; 255];
     for r in 0..k {
@@ -72,14 +78,10 @@ fn fill_firsts(n: u8, k: u8, shifts: &[u8; 255]) -> [u8; 255]
 }
 
 // The shifts and the first nodes of the k rows, and zeros after them.
-pub fn place_rows(n: u8, k: u8) -> Rows
-    requires { (0 < k) × (k ≤ n) }
-    ensures { (result.shifts ≡ padded 255 (shifts_of n k)) × (result.firsts ≡ padded 255 (firsts_of n k)) }
+pub fn place_rows(code: Code) -> Rows
+    ensures { (result.shifts ≡ padded 255 (shifts_of code.header.n code.header.k)) × (result.firsts ≡ padded 255 (firsts_of code.header.n code.header.k)) }
 {
-    let shifts = fill_shifts(n, k);
-    let firsts = fill_firsts(n, k, &shifts);
-    Rows {
-        shifts: shifts,
-        firsts: firsts,
-    }
+    let shifts = fill_shifts(code);
+    let firsts = fill_firsts(code, &shifts);
+    Rows { shifts, firsts }
 }

@@ -1,5 +1,5 @@
 // Sums over the field of 256 elements, by sums of all subsets of four symbols that stand side by side.
-ghost use Rattle.std.specs.Prelude.{◌≡◌, true, ℕ, ◌+◌, ◌*◌, ◌/◌, ◌%◌, ◌≤◌, ◌<◌, length, get_or, drop};
+ghost use Rattle.std.specs.Prelude.{◌≡◌, true, ℕ, ◌+◌, ◌*◌, ◌/◌, ◌%◌, ◌≤◌, length, get_or, drop};
 ghost use Rattle.std.specs.Int.Bits.{bit_xor};
 ghost use Rattle.lists.specs.Rows.{from};
 ghost use Rattle.lists.specs.Numbers.{all_below};
@@ -9,6 +9,7 @@ ghost use Rattle.subset_sums.specs.Inner.Lists.{Slices};
 ghost use Rattle.sliding_sums.specs.Inner.Windows.{window_sums, Windows};
 ghost use Rattle.sliding_sums.specs.Inner.Tables.{sliding_subset, sliding_table, place_of, Placed};
 
+use kernel::gf256::times_digit;
 use subset_sums::Listed;
 
 // The symbols as bytes.
@@ -19,14 +20,6 @@ fn fill_bytes(row: &[u16], out: &mut [u8])
     for (i, symbol) in row.iter().enumerate() {
         out[i] = *symbol as u8;
     }
-}
-
-// x where the digit is 1, and 0 where it is 0.
-fn times_digit(x: u8, digit: u8) -> u8
-    requires { digit < 2 }
-    ensures { result ≡ x * digit }
-{
-    x * digit
 }
 
 // The sum of subset v of four bytes.
@@ -49,8 +42,8 @@ fn fill_subset(v: u8, row: &[u8], out: &mut [u8])
 }
 
 // The same for all subsets.
-fn fill_table(row: &[u8], tab: &mut [u8])
-    requires { (515 ≤ length row.now) × (length tab.old ≡ 8192) }
+fn fill_table(row: &[u8], tab: &mut [u8; 8192])
+    requires { 515 ≤ length row.now }
     ensures { tab.new ≡ sliding_table row.now }
 {
     for v in 0..16u8 {
@@ -66,7 +59,7 @@ fn place(o: u16) -> u16
 }
 
 // Slices of a table of rows become slices of this one.
-fn move_slices(list: &mut [u16])
+fn place_slices(list: &mut [u16])
     ensures { list.new ≡ lanewise (λ t o. place_of o) list.old }
 {
     for slice in list.iter_mut() {
@@ -75,14 +68,14 @@ fn move_slices(list: &mut [u16])
 }
 
 // The lists for the weights.
-fn prepare(weights: &[u16], groups: usize, list: &mut [u16], counts: &mut [u8])
-    requires { (all_below 256 weights.now ≡ true) × (groups ≤ 64) × (length list.old ≡ 8 * groups) × (length counts.old ≡ 8) }
+fn prepare(weights: &[u16], groups: usize, list: &mut [u16], counts: &mut [u8; 8])
+    requires { (all_below 256 weights.now ≡ true) × (groups ≤ 64) × (length list.old ≡ 8 * groups) }
     ensures { Placed groups weights.now list.new counts.new }
 {
     let mut codes = [0u64; 256];
     subset_sums::fill_spread(&mut codes);
     subset_sums::list_output(&codes, weights, groups, list, counts);
-    move_slices(list);
+    place_slices(list);
 }
 
 // Symbols of one byte as numbers.
@@ -96,8 +89,8 @@ fn widen(part: &[u8], out: &mut [u16])
 }
 
 // The table of a row of symbols.
-fn load(row: &[u16], tab: &mut [u8])
-    requires { (length row.now ≤ 510) × (all_below 256 row.now ≡ true) × (length tab.old ≡ 8192) }
+fn load(row: &[u16], tab: &mut [u8; 8192])
+    requires { (length row.now ≤ 510) × (all_below 256 row.now ≡ true) }
     ensures { tab.new ≡ sliding_table (padded 576 row.now) }
 {
     let mut bytes = [0u8; 576];
@@ -105,7 +98,8 @@ fn load(row: &[u16], tab: &mut [u8])
     fill_table(&bytes, tab);
 }
 
-// A table of a row, and the slices of it that the sums add.
+// A table of a row, and the slices of it that the sums add. The eight lists stand in one buffer with their lengths beside it, as `Listed` has
+// them.
 #[derive(Clone, Copy)]
 struct Sliding<'a> {
     groups: usize,

@@ -16,7 +16,8 @@ fn product_sum(weights: &[u16], row: &[u16]) -> u64
     sum
 }
 
-// The sums from each place that `sums` has room for.
+// The sums from each place that `sums` has room for. A number p, of which a prime and its bound are asked: a field of its own type does not say
+// that it is usable.
 pub fn window_sums(p: u32, weights: &[u16], row: &[u16], sums: &mut [u16])
     requires { (is_prime p ≡ true) × (p ≤ 65521) × Windows p weights.now row.now (length sums.old) }
     ensures { sums.new ≡ window_sums p weights.now row.now (length sums.old) }

@@ -1,17 +1,15 @@
 -- Spread digits, and the slices of a group listed.
 use Rattle.std.proofs.Common.{◌≡◌, refl, sym, ap, ◌∙◌, Bool, true, false, List, [], ◌∷◌, ◌++◌, append-nil, append_assoc, ℕ, zero, suc, ◌+◌, ◌-◌, ◌*◌, ◌/◌, ◌%◌, ◌^◌, ◌≤◌, ◌<◌, zero-add, add-zero, div-one, pow-suc, mul_comm, le_antisymm, add-one, arith, eqb-true, ltb-true, ltb-false, leb-true, lt-ltb, le-ltb, T, eqb, leb, ltb, length, get_or, take, drop, set, length-set, length-drop, take-suc-set, drop-set-lt, get_or-set_same, get_or-set_other}
-use native.Mathlib.Nat.{sub-zero, div-div-eq-div-mul}
+use native.Mathlib.Nat.{div-div-eq-div-mul}
 use borrow.Author.Tests.{eqb-false}
 use lib.Seq.{take-set-le, drop-set-add}
 use Rattle.lists.specs.Choice.{pick, when}
 use Rattle.lists.specs.Rows.{from}
-use Rattle.lists.specs.Padded.{zeros}
 use Rattle.lists.proofs.Cases.{by_test}
-use Rattle.lists.proofs.Fill.{fills_put, length_zeros}
+use Rattle.lists.proofs.Fill.{fills_put}
 use Rattle.lists.proofs.Rows.{from_next, get_or_from, length_from, row_inside, sub_next, sub_end}
 use Rattle.field.proofs.Computed.{at, equal_at}
 use Rattle.lists.proofs.Parts.{Valued, valued_start}
-use Rattle.lists.proofs.Padding.{get_or_zeros}
 use Rattle.subset_sums.specs.Inner.Lists.{subset_at, slices_from, Listing}
 use Rattle.subset_sums.specs.Inner.Spread.{spread_from, spread_of, spreads, Streams}
 

@@ -5,7 +5,8 @@ ghost use Rattle.subset_sums.specs.Inner.Lists.{slices_added, turns_of, Slices};
 use kernel::gf256;
 
 // A table of sums of subsets, and the slices of it that an output adds: for digit 7 − b of its weights those that `list` names from place
-// b·groups on, as many as `counts` says.
+// b·groups on, as many as `counts` says. The eight lists stand in one lent buffer with their lengths beside it: vectors of fixed room would
+// be as long for few rows as for many, and clearing them takes longer than a small product. Groups are counted by who lends the lists.
 #[derive(Clone, Copy)]
 pub struct Listed<'a> {
     pub groups: usize,
@@ -52,24 +53,11 @@ impl<'a> Listed<'a> {
 
 // The listed slices added to acc.
 fn add_listed(tab: &[u8], list: &[u16], acc: &mut [u8; 64])
-    requires { (length acc.old ≡ 64) × ((i : ℕ) → i < length list.now → get_or list.now i 0 + 64 ≤ length tab.now) }
+    requires { (i : ℕ) → i < length list.now → get_or list.now i 0 + 64 ≤ length tab.now }
     ensures { acc.new ≡ slices_added tab.now list.now acc.old }
 {
     for start in list {
         let start = *start as usize;
         gf256::add(&tab[start..start + 64], acc);
     }
-}
-
-pub fn output(groups: usize, tab: &[u8], list: &[u16], counts: &[u8], out: &mut [u8])
-    requires { (groups ≤ 64) × Slices groups tab.now list.now counts.now × (length out.old ≡ 64) }
-    ensures { out.new ≡ turns_of 8 groups tab.now list.now counts.now }
-{
-    let listed = Listed {
-        groups,
-        tab,
-        list,
-        counts,
-    };
-    listed.output(out);
 }

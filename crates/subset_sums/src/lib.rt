@@ -6,6 +6,6 @@ mod horner;
 mod slices;
 mod table;
 
-pub use horner::{Listed, output};
+pub use horner::Listed;
 pub use slices::{fill_spread, list_output};
 pub use table::fill_table;

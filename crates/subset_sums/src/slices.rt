@@ -6,8 +6,7 @@ ghost use Rattle.subset_sums.specs.Inner.Lists.{subset_at, Listing};
 ghost use Rattle.subset_sums.specs.Inner.Spread.{spread_of, spreads, Streams};
 
 // Byte c as a number whose byte b is binary digit b of c, for all c: the digits of 2·c are those of c, one place up.
-pub fn fill_spread(sp: &mut [u64])
-    requires { length sp.old ≡ 256 }
+pub fn fill_spread(sp: &mut [u64; 256])
     ensures { sp.new ≡ spreads }
 {
     sp[0] = 0;
@@ -29,7 +28,7 @@ struct Weights<'a> {
 }
 
 impl<'a> Weights<'a> {
-    // The digits of row i's weight, spread; 0 for the rows that fill the last group up.
+    // The digits of row i's weight, spread; 0 for the rows that fill the last group up. A closure for `map_or` would be longer than the match.
     fn digits(self, i: usize) -> u64
         ensures { (result ≡ spread_of (get_or self.entry.weights.now i 0)) × (result ≤ 72340172838076673) }
     {
@@ -74,7 +73,8 @@ fn entry(g: usize, v: u64) -> u16
     (g * 1024) as u16 + (v * 64) as u16
 }
 
-// The slices for the weights of an output: those of digit 7 − b from place b·groups on, and how many they are.
+// The slices for the weights of an output: those of digit 7 − b from place b·groups on, and how many they are. Groups are counted by who
+// lends the list.
 pub fn list_output(sp: &[u64], w: &[u16], groups: usize, list: &mut [u16], counts: &mut [u8])
     requires { (sp.now ≡ spreads) × (all_below 256 w.now ≡ true) × (groups ≤ 64) × (length list.old ≡ 8 * groups) × (length counts.old ≡ 8) }
     ensures { Listing groups w.now list.new counts.new }

@@ -1,7 +1,7 @@
 -- A symbol written as bytes, by the width.
 use mathlib.Core.Path.{◌≡◌, ap}
 use mathlib.Core.List.{List, [], ◌∷◌, ◌++◌}
-use Prim.Native.Nat.{ℕ, ◌+◌, ◌/◌, ◌%◌, ◌^◌, ◌<◌, ◌≤◌}
+use Prim.Native.Nat.{ℕ, ◌+◌, ◌/◌, ◌%◌, ◌<◌, ◌≤◌}
 use native.Mathlib.Omega.{arith}
 use lib.ListN.{length, get_or, set, drop, drop_of_length-le}
 use Rattle.lists.proofs.Front.{drop_next}
@@ -28,6 +28,3 @@ bytes_next w xs i h = ap (bytes_of w) (drop_next xs i 0 h)
 pub bytes_none : (w : ℕ) (xs : List ℕ) (i : ℕ) → length xs ≤ i → bytes_of w (drop i xs) ≡ []
 unfolding bytes_of
 bytes_none w xs i h = ap (bytes_of w) (drop_of_length-le xs h)
-
-pub byte_fits : (w x : ℕ) → w ≡ 1 → x < 256 ^ w → x < 256
-byte_fits w x one h = rw one at h

@@ -29,21 +29,7 @@ pub fn symbol_at(w: usize, s: &[u8], i: usize) -> u16
         return s[i] as u16;
     }
     let at = i * 2;
-    s[at] as u16 * 256 + s[at + 1] as u16
-}
-
-// Whether all symbols of a buffer are below a field's size.
-pub fn symbols_below(size: u32, w: usize, s: &[u8]) -> bool
-    requires { (1 ≤ w) × (w ≤ 2) }
-    ensures { result ≡ all_below size (symbols_of w s.now) }
-{
-    let count = s.len() / w;
-    for i in 0..count {
-        if size <= symbol_at(w, s, i) as u32 {
-            return false;
-        }
-    }
-    true
+    u16::from_be_bytes([s[at], s[at + 1]])
 }
 
 // The largest symbol of two bytes: all of them are below m where it is. Without a branch it takes less time than a search.
@@ -88,8 +74,9 @@ pub fn write_symbol(w: usize, x: u16, out: &mut [u8])
         out[0] = x as u8;
         return;
     }
-    out[0] = (x / 256) as u8;
-    out[1] = (x % 256) as u8;
+    let [high, low] = x.to_be_bytes();
+    out[0] = high;
+    out[1] = low;
 }
 
 // Symbols as bytes.

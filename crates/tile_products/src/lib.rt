@@ -2,23 +2,20 @@
 // once, and the lists are used for tile after tile.
 #![tactic(auto)]
 
-ghost use Rattle.std.specs.Prelude.{◌≡◌, ℕ, ◌*◌, ◌≤◌, true, List, length};
-ghost use Rattle.lists.specs.Numbers.{all_below};
-ghost use Rattle.field.specs.Fields.{size_of};
-ghost use Rattle.field.specs.Kinds.{modulus, usable};
-ghost use Rattle.field.specs.Widths.{bytes_for};
-ghost use Rattle.tile_products.specs.Inner.Products.{groups_of, Codes, Prepared, Lists, Loaded, OutputRows};
+ghost use Rattle.std.specs.Prelude.{◌≡◌, ◌*◌, ◌≤◌};
+ghost use Rattle.tile_products.specs.Inner.Products.{groups_of};
 
 use field::Field;
-use primes::Prime;
 
+mod codes;
 mod loaded;
 mod matrix;
 mod prime;
 mod primes;
 pub mod scratch;
 
-pub use matrix::{Matrix, prepare};
+pub use codes::WeightCodes;
+pub use matrix::Matrix;
 
 // The shape of a matrix: so many sums of the symbols in so many rows.
 #[derive(Clone, Copy)]
@@ -36,43 +33,4 @@ pub fn groups_of(rows: usize) -> usize
     ensures room { rows ≤ 4 * result }
 {
     (rows + 3) / 4
-}
-
-// What stands for each weight: made once for a call.
-pub fn fill_codes(field: Field, codes: &mut [u64])
-    requires { (usable field ≡ true) × (length codes.old ≡ 256) }
-    ensures { Codes (modulus field) codes.new }
-{
-    match field {
-        Field::Prime(f) => Prime::new(f.p).fill_codes(codes),
-        Field::Binary(_) => subset_sums::fill_spread(codes),
-    }
-}
-
-// The same as an array.
-pub fn codes_of(field: Field) -> [u64; 256]
-    requires { usable field ≡ true }
-    ensures { Codes (modulus field) result }
-{
-    let mut codes = kernel::filled(0);
-    fill_codes(field, &mut codes);
-    codes
-}
-
-// The lists for the weights of an output.
-fn list_weights(field: Field, codes: &[u64], weights: &[u16], list: &mut [u16], counts: &mut [u8])
-    requires usable_field { usable field ≡ true }
-    requires known { Codes (modulus field) codes.now }
-    requires few { length weights.now ≤ 255 }
-    requires below { all_below (size_of (modulus field)) weights.now ≡ true }
-    requires long { length list.old ≡ 8 * groups_of (length weights.now) }
-    requires counted { length counts.old ≡ 8 }
-    ensures { Prepared (modulus field) weights.now list.new counts.new }
-{
-    match field {
-        Field::Prime(f) => Prime::new(f.p).list_weights(codes, weights, list),
-        Field::Binary(_) => {
-            subset_sums::list_output(codes, weights, groups_of(weights.len()), list, counts)
-        }
-    }
 }

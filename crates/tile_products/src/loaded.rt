@@ -10,6 +10,7 @@ use crate::groups_of;
 use crate::matrix::Matrix;
 use crate::primes::Prime;
 use field::Field;
+use subset_sums::Listed;
 
 // Over 256 elements the table has the tile's sums of subsets, over a prime field nothing is made.
 #[derive(Clone, Copy)]
@@ -49,9 +50,13 @@ impl<'a> LoadedTile<'a> {
         let rows = self.matrix.shape.rows;
         match self.matrix.shape.field {
             Field::Prime(f) => Prime::new(f.p).output(rows, list, self.tile, out),
-            Field::Binary(_) => {
-                subset_sums::output(groups_of(rows), self.table, list, counts, out)
+            Field::Binary(_) => Listed {
+                groups: groups_of(rows),
+                tab: self.table,
+                list,
+                counts,
             }
+            .output(out),
         }
     }
 

@@ -1,43 +1,15 @@
 // A matrix of weights: the lists of all its outputs, one after the other, and its product with a tile.
-ghost use Rattle.std.specs.Prelude.{◌≡◌, ℕ, ◌+◌, ◌*◌, ◌≤◌, true, List, length};
-ghost use Rattle.lists.specs.Numbers.{all_below};
-ghost use Rattle.field.specs.Fields.{size_of};
+ghost use Rattle.std.specs.Prelude.{◌≡◌, ℕ, ◌*◌, ◌≤◌, true, List, length};
 ghost use Rattle.field.specs.Kinds.{modulus, usable};
 ghost use Rattle.field.specs.Widths.{bytes_for};
-ghost use Rattle.tile_products.specs.Inner.Products.{groups_of, Codes};
+ghost use Rattle.tile_products.specs.Inner.Products.{groups_of};
 ghost use Rattle.tile_products.specs.Inner.Matrices.{Begun, Made, Multiplied};
 
+use crate::Shape;
 use crate::loaded::LoadedTile;
-use crate::{Shape, groups_of};
-use field::Field;
 
-// The lists of output j, after those of the outputs before it.
-pub fn prepare(
-    field: Field,
-    codes: &[u64],
-    weights: &[u16],
-    j: usize,
-    lists: &mut [u16],
-    counts: &mut [u8],
-)
-    requires { (usable field ≡ true) × Codes (modulus field) codes.now × (length weights.now ≤ 255) × (all_below (size_of (modulus field)) weights.now ≡ true) × (j ≤ 255) × (j * (8 * groups_of (length weights.now)) + 8 * groups_of (length weights.now) ≤ length lists.old) × (j * 8 + 8 ≤ length counts.old) }
-    ensures { (w : ℕ → List ℕ) → w j ≡ weights.now → Begun (modulus field) (length weights.now) w j lists.old counts.old → Begun (modulus field) (length weights.now) w (j + 1) lists.new counts.new }
-{
-    let size = 8 * groups_of(weights.len());
-    let start = j * size;
-    let end = start + size;
-    let at = j * 8;
-    let at_end = at + 8;
-    crate::list_weights(
-        field,
-        codes,
-        weights,
-        &mut lists[start..end],
-        &mut counts[at..at_end],
-    );
-}
-
-// Every output's lists are made.
+// Every output's lists are made. They stand in one lent buffer with their lengths beside it: vectors of fixed room would be as long for few
+// rows as for many, and clearing them takes longer than a small product.
 #[derive(Clone, Copy)]
 pub struct Matrix<'a> {
     pub shape: Shape,

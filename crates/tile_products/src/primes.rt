@@ -6,9 +6,11 @@ ghost use Rattle.field.specs.Widths.{bytes_for};
 ghost use Rattle.tile_products.specs.Inner.Ratios.{InScale};
 ghost use Rattle.tile_products.specs.Inner.Products.{groups_of, Codes, Prepared, OutputRows};
 
-use crate::prime;
+use crate::prime::Modulus;
+use field::{Field, PrimeField};
 use row_sums::wide;
 
+// A field of its own type does not say that it is usable, so a prime and its bound are asked.
 #[derive(Clone, Copy)]
 pub struct Prime {
     p: u32,
@@ -25,21 +27,19 @@ impl Prime {
         Prime { p }
     }
 
-    // Whether a symbol is a byte, by the digits of p − 1: the compiler would compare p with 256 together with unused bytes before it.
+    // Whether a symbol is a byte.
     fn has_bytes(self) -> bool
         ensures { MatchBool result (self.p ≤ 256) (256 < self.p) }
     {
-        let top = self.p - 1;
-        top / 256 % 256 == 0
+        Field::Prime(PrimeField::new(self.p)).width() == 1
     }
 
     // What stands for each weight; a weight of two bytes stands for itself.
-    pub fn fill_codes(self, codes: &mut [u64])
-        requires { length codes.old ≡ 256 }
+    pub fn fill_codes(self, codes: &mut [u64; 256])
         ensures { Codes self.p codes.new }
     {
         if self.has_bytes() {
-            prime::fill_ratios(self.p as u16, codes);
+            Modulus::new(self.p as u16).fill_ratios(codes);
         }
     }
 
@@ -52,7 +52,7 @@ impl Prime {
         ensures { (counts : List ℕ) → length counts ≡ 8 → Prepared self.p weights.now list.new counts }
     {
         if self.has_bytes() {
-            prime::scale(self.p as u16, codes, weights, list);
+            Modulus::new(self.p as u16).scale(codes, weights, list);
             return;
         }
         let rows = weights.len();
@@ -70,10 +70,10 @@ impl Prime {
     {
         let p = self.p as u16;
         if self.has_bytes() {
-            prime::output(p, rows, list, tile, out);
+            Modulus::new(p).output(rows, list, tile, out);
             return;
         }
         let size = rows * 128;
-        wide::combine(p, list, rows, 64, &tile[..size], out);
+        wide::combine(p, &list[..rows], 64, &tile[..size], out);
     }
 }

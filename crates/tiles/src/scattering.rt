@@ -1,5 +1,6 @@
 // Lanes filled from a tile of rows of 64 lanes, through blocks of 64 lanes by 16 rows. Where the lanes go, n, count and out stand side by
-// side: of a struct with a `&mut` each clause would say what that leads to before and after.
+// side: of a struct with a `&mut` each clause would say what that leads to before and after, and one of n, count and the tile alone would be
+// taken apart in each function, whose steps take its bytes.
 ghost use Rattle.std.specs.Prelude.{◌≡◌, ◌+◌, ◌*◌, ◌/◌, ◌≤◌, ◌<◌, length};
 ghost use Rattle.lists.specs.Rows.{rows_from};
 ghost use Rattle.layout.specs.Layout.{row_after_row, lane_of};

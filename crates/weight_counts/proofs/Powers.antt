@@ -1,8 +1,7 @@
--- The number of messages, or 0 where there are too many; the powers that the difference table starts from.
-use Rattle.std.proofs.Common.{◌≡◌, ℕ, suc, ◌+◌, ◌-◌, ◌*◌, ◌^◌, ◌<◌, ◌≤◌, not, eqb, ltb, sym, refl, ap, ◌∙◌, pow-suc, arith, ltb-false, le-ltb, lt-ltb, eqb-true, ne_eqb, le-leb}
-use native.Mathlib.Nat.{pow-le-pow_right, one-le-pow}
-use native.Mathlib.Decide.{dec_le}
-use borrow.Author.Tests.{lt-leb, not-false}
+-- What no number leaves: few messages; the powers that the difference table starts from.
+use Rattle.std.proofs.Common.{◌≡◌, ℕ, suc, ◌+◌, ◌-◌, ◌*◌, ◌^◌, ◌<◌, ◌≤◌, not, eqb, ltb, sym, ap, ◌∙◌, pow-suc, arith, ltb-false, le-ltb, eqb-true}
+use native.Mathlib.Nat.{pow-le-pow_right}
+use borrow.Author.Tests.{not-false}
 use Rattle.lists.specs.Choice.{pick}
 use Rattle.lists.specs.Rows.{from}
 use Rattle.lists.proofs.Cases.{when_zero}
@@ -12,26 +11,7 @@ use Rattle.generator.specs.Records.{size, Sound}
 use Rattle.refusals.proofs.Accepts.{not_met}
 use Rattle.weight_distribution.specs.Inner.Prescribed.{prescribed}
 use Rattle.weight_counts.specs.Weights.{messages_bad, weights_fault}
-use Rattle.weight_counts.specs.Inner.Counting.{Small, message_count, differences_of}
-
-pub few_messages : (q k : ℕ) → q ^ k ≤ 65536 → q ^ k ≡ message_count q k
-unfolding message_count
-few_messages q k h = rw (le-leb (q ^ k) 65536 h)
-
-pub many_messages : (q k r : ℕ) → 0 < q → r < k → 65536 < q ^ r * q → 0 ≡ message_count q k
-unfolding message_count
-many_messages q k r p l h =
-    let more : q ^ suc r ≤ q ^ k = pow-le-pow_right p l in
-    rw (lt-leb (q ^ k) 65536 (omega (arith, pow-suc q r)))
-
--- number 16, from that number
-pub messages_tested : (h : Header) → 0 < size h → eqb (message_count (size h) h.k) 0 ≡ messages_bad h
-unfolding message_count messages_bad
-messages_tested h some = here (dec_le (size h ^ h.k) 65536)
-  where
-    here : Dec (size h ^ h.k ≤ 65536) → eqb (message_count (size h) h.k) 0 ≡ ltb 65536 (size h ^ h.k)
-    here (yes l) = rw (le-leb (size h ^ h.k) 65536 l, le-ltb 65536 (size h ^ h.k) l) (ne_eqb (size h ^ h.k) 0 (λ e. omega (arith, one-le-pow h.k (size h) some)))
-    here (no l) = rw (lt-leb (size h ^ h.k) 65536 (omega arith), lt-ltb 65536 (size h ^ h.k) (omega arith)) refl
+use Rattle.weight_counts.specs.Inner.Counting.{Small, differences_of}
 
 -- no number is met: the counts fill the buffer, whose length is `out`, and the messages are few
 pub accepts : (h : Header) → Sound h → (out : ℕ) → weights_fault h out ≡ 0 → Small h × (out ≡ h.n + 1)

@@ -6,42 +6,10 @@ ghost use Rattle.std.specs.Prelude.{◌≡◌, ℕ, ◌+◌, ◌-◌, ◌*◌, �
 ghost use Rattle.lists.specs.Rows.{from};
 ghost use Rattle.field.specs.Kinds.{usable};
 ghost use Rattle.generator.specs.Answers.{numbered, outcome_of};
-ghost use Rattle.weight_counts.specs.Weights.{weight_counts, weights_fault, WeightsPromise, WeightsSay};
-ghost use Rattle.weight_counts.specs.Inner.Counting.{Small, message_count, with_previous, differences_of, binomials};
+ghost use Rattle.weight_counts.specs.Weights.{weight_counts, messages_bad, weights_fault, WeightsPromise, WeightsSay};
+ghost use Rattle.weight_counts.specs.Inner.Counting.{Small, with_previous, differences_of, binomials};
 
-use generator::{Code, Header, Refusal};
-
-// q^k, or 0 where that is more than 65,536.
-fn message_count(q: u32, k: u8) -> u32
-    requires { (0 < q) × (q ≤ 65521) }
-    ensures { result ≡ message_count q k }
-{
-    let mut total: u32 = 1;
-    for _ in 0..k {
-        total = total * q;
-        if 65536 < total {
-            return 0;
-        }
-    }
-    total
-}
-
-// Puts at y how many words are zero at n − y given nodes: q^(k + y − n), and 1 where y is at most n − k.
-fn put_powers(h: Header, counts: &mut [u32])
-    requires { Small h × (length counts.old ≡ h.n + 1) }
-    ensures { counts.new ≡ differences_of h 0 }
-{
-    let field = h.field;
-    let q = field.size();
-    let fixed = (h.n - h.k) as usize;
-    let mut x: u32 = 1;
-    for y in 0..counts.len() {
-        counts[y] = x;
-        if fixed <= y {
-            x = x * q;
-        }
-    }
-}
+use generator::{Code, Refusal};
 
 // Takes from each place, from the last down to `first`, the place before it.
 fn subtract_previous(counts: &mut [u32], first: usize)
@@ -49,18 +17,7 @@ fn subtract_previous(counts: &mut [u32], first: usize)
     ensures { counts.new ≡ with_previous ◌-◌ first counts.old }
 {
     for y in (first..counts.len()).rev() {
-        counts[y] = counts[y] - counts[y - 1];
-    }
-}
-
-// The difference table: leaves at w how many words have a given support of w nodes.
-fn take_differences(h: Header, counts: &mut [u32])
-    requires { Small h × (counts.old ≡ differences_of h 0) }
-    ensures { counts.new ≡ differences_of h h.n }
-{
-    let n = h.n as usize;
-    for w in 0..n {
-        subtract_previous(counts, w + 1);
+        counts[y] -= counts[y - 1];
     }
 }
 
@@ -70,7 +27,7 @@ fn add_previous(row: &mut [u32])
     ensures { row.new ≡ with_previous (λ x y. (x + y) % 2 ^ 32) 1 row.old }
 {
     for b in (1..row.len()).rev() {
-        row[b] = std::num::wrapping_add_u32(row[b], row[b - 1]);
+        row[b] = row[b].wrapping_add(row[b - 1]);
     }
 }
 
@@ -91,30 +48,77 @@ fn scale(counts: &mut [u32], factors: &[u32])
     requires { (length counts.old ≤ length factors.now) × ((w : ℕ) → w < length counts.old → slice_index counts.old w * slice_index factors.now w ≤ 65536) }
     ensures { counts.new ≡ from (λ w. slice_index counts.old w * slice_index factors.now w) 0 (length counts.old) }
 {
-    for w in 0..counts.len() {
-        counts[w] = counts[w] * factors[w];
+    for (w, count) in counts.iter_mut().enumerate() {
+        *count *= factors[w];
     }
 }
 
-// Writes all counts.
-fn fill_counts(h: Header, counts: &mut [u32])
-    requires { Small h × (length counts.old ≡ h.n + 1) }
-    ensures { counts.new ≡ weight_counts h }
+// A code with at most 65,536 messages.
+#[derive(Clone, Copy)]
+struct SmallCode {
+    code: Code,
+    ghost small: { Small code.header },
+}
+
+impl SmallCode {
+    // Puts at y how many words are zero at n − y given nodes: q^(k + y − n), and 1 where y is at most n − k.
+    fn put_powers(self, counts: &mut [u32])
+        requires { length counts.old ≡ self.code.header.n + 1 }
+        ensures { counts.new ≡ differences_of self.code.header 0 }
+    {
+        let h = self.code.header;
+        let q = h.field.size();
+        let fixed = (h.n - h.k) as usize;
+        let mut x: u32 = 1;
+        for (y, count) in counts.iter_mut().enumerate() {
+            *count = x;
+            if fixed <= y {
+                x *= q;
+            }
+        }
+    }
+
+    // The difference table: leaves at w how many words have a given support of w nodes.
+    fn take_differences(self, counts: &mut [u32])
+        requires { counts.old ≡ differences_of self.code.header 0 }
+        ensures { counts.new ≡ differences_of self.code.header self.code.header.n }
+    {
+        let n = self.code.header.n as usize;
+        for w in 0..n {
+            subtract_previous(counts, w + 1);
+        }
+    }
+
+    // Writes all counts.
+    fn fill_counts(self, counts: &mut [u32])
+        requires { length counts.old ≡ self.code.header.n + 1 }
+        ensures { counts.new ≡ weight_counts self.code.header }
+    {
+        self.put_powers(counts);
+        self.take_differences(counts);
+        let row = pascal_row(self.code.header.n);
+        scale(counts, &row);
+    }
+}
+
+// Number 16: more than 65,536 messages.
+#[tactic(auto, unfolding(crate::specs::Weights::messages_bad))]
+fn messages_bad(code: Code) -> bool
+    ensures { result ≡ messages_bad code.header }
 {
-    put_powers(h, counts);
-    take_differences(h, counts);
-    let row = pascal_row(h.n);
-    scale(counts, &row);
+    let h = code.header;
+    let q = h.field.size();
+    q.checked_pow(h.k as u32).is_none_or(|count| 65536 < count)
 }
 
 // Numbers 8 and 16; `size` is the length of the written buffer.
+#[tactic(auto, using(generator::proofs::Answered::tests), unfolding(crate::specs::Weights::weights_fault))]
 fn weights_fault(code: Code, size: usize) -> Result<(), Refusal>
     ensures { numbered result ≡ outcome_of (weights_fault code.header size) }
 {
-    let h = code.header;
-    let n = h.n as usize;
+    let n = code.header.n as usize;
     Refusal::Length.when(size != n + 1)?;
-    Refusal::Many.when(message_count(h.field.size(), h.k) == 0)
+    Refusal::Many.when(messages_bad(code))
 }
 
 // Counts over a code.
@@ -122,7 +126,7 @@ pub fn counts_accepted(code: Code, counts: &mut [u32]) -> Result<(), Refusal>
     ensures { WeightsPromise counts.old counts.new (numbered result) code.header (weights_fault code.header (length counts.old)) }
 {
     weights_fault(code, counts.len())?;
-    fill_counts(code.header, counts);
+    SmallCode { code }.fill_counts(counts);
     Ok(())
 }
 

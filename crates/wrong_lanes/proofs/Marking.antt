@@ -1,25 +1,31 @@
 -- Marks of lanes that are no words.
 use mathlib.Core.Path.{◌≡◌, refl, sym, ap, ◌∙◌}
-use mathlib.Core.Bool.{Bool, true, false, ◌&&◌}
+use mathlib.Core.Bool.{Bool, true, false, ◌&&◌, not, cond}
 use mathlib.Core.List.{List}
 use Prim.Native.Nat.{ℕ, zero, suc, ◌+◌, ◌-◌, ◌*◌, ◌≤◌, ◌<◌}
 use native.Mathlib.Nat.{zero-add, zero-mul}
 use native.Mathlib.Numerals.{add-one}
 use native.Mathlib.Omega.{arith}
-use lib.Dec.{eqb}
+use borrow.Author.Tests.{ltb-true, ltb-false}
+use lib.Dec.{eqb, ltb}
 use lib.ListN.{length, get_or, take, drop}
+use Rattle.std.specs.Prelude.{Option, Some, None, MatchOption}
+use Rattle.std.specs.List.{position, position_or_len}
+use Rattle.std.proofs.lemmas.List.Sums.{position_or_len_is}
 use Rattle.lists.specs.Choice.{pick}
 use Rattle.lists.specs.Padded.{zeros}
 use Rattle.lists.specs.Search.{first_false}
 use Rattle.lists.proofs.Fill.{from_zeros}
 use Rattle.lists.proofs.Parts.{from_at}
 use Rattle.lists.proofs.Rows.{length_from, get_or_from}
-use Rattle.lists.proofs.Search.{search_ext}
+use Rattle.lists.proofs.Cases.{by_test}
+use Rattle.lists.proofs.Search.{search_ext, search_high, search_passes, search_fails}
 use Rattle.layout.specs.Layout.{Arrangement, lane_after_lane, lane_of}
 use Rattle.generator.specs.declared.Header.{Header}
 use Rattle.generator.specs.Codewords.{check_from, checks_from, is_word}
 use Rattle.tiles.proofs.Parts.{from_part}
 use Rattle.blocks.specs.Blocks.{first_wrong}
+use Rattle.blocks.proofs.Words.{wrong_most}
 use Rattle.block_products.specs.Inner.Marks.{all_zero}
 use Rattle.block_products.proofs.Lanes.{lane_is}
 use Rattle.wrong_lanes.specs.Inner.Marks.{word_marks}
@@ -72,6 +78,28 @@ module _ (y : Arrangement) (h : Header) (l : ℕ) (s : List ℕ) where
       unmarked : (b : Bool) → eqb (mark b) 0 ≡ b
       unmarked true = refl
       unmarked false = refl
+
+-- the first place of a number other than 0
+place_is : (xs : List ℕ) → position_or_len (λ x. not (eqb x 0)) xs ≡ first_false (length xs) 0 (λ t. eqb (get_or xs t 0) 0)
+place_is xs =
+    let none : ℕ → Bool = λ t. eqb (get_or xs t 0) 0 in
+    position_or_len_is (λ x. not (eqb x 0)) xs (first_false (length xs) 0 none) 0
+    (omega (arith, search_high (length xs) 0 none))
+    (λ t low. ap not (search_passes (length xs) 0 none t (omega arith) low))
+    (λ inside. ap not (search_fails (length xs) 0 none (omega (arith, inside))))
+
+-- a place below l, or none where it is l
+place_told : (l x : ℕ) (r : Option ℕ) → x ≤ l → r ≡ cond (ltb x l) (Some x) None → MatchOption r (x ≡ l) (λ t. (t ≡ x) × (t < l))
+place_told l x r most is =
+    rw is
+    (by_test (ltb x l) (λ e. let low : x < l = ltb-true x l e in rw e (refl, low)) (λ e. let high : l ≤ x = ltb-false x l e in let end : x ≡ l = omega arith in rw e end))
+
+-- the place of the first mark is the first wrong lane
+pub marked_place : (y : Arrangement) (h : Header) (l : ℕ) (s marks : List ℕ) (r : Option ℕ) → marks ≡ word_marks y h l s → r ≡ position (λ x. not (eqb x 0)) marks → MatchOption r (first_wrong y h l s ≡ l) (λ t. (t ≡ first_wrong y h l s) × (t < l))
+marked_place y h l s marks r are is =
+    let long : length marks ≡ l = ap length are ∙ length_marks y h l s in
+    let first : position_or_len (λ x. not (eqb x 0)) marks ≡ first_wrong y h l s = rw long at (place_is marks) ∙ first_marked y h l s marks are in
+    place_told l (first_wrong y h l s) r (wrong_most y h l s) (rw (first, long) at is)
 
 -- one lane
 pub one_mark : (h : Header) (s marks : List ℕ) → length s ≡ h.n → length marks ≡ 1 → get_or marks 0 0 ≡ mark (is_word h s) → marks ≡ word_marks lane_after_lane h 1 s

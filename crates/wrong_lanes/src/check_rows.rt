@@ -10,7 +10,8 @@ ghost use Rattle.wrong_lanes.specs.Inner.Checks.{first_points, first_weights, Ch
 use check_sums::powers;
 use field::lent::Arithmetic;
 use generator::Code;
-use interpolation::lagrange;
+use interpolation::lagrange::Points;
+use tile_products::WeightCodes;
 
 // The weights of check e: those by which the first k nodes give node k + e, −1 there, and zeros after them.
 fn check_weights(
@@ -26,7 +27,11 @@ fn check_weights(
     let k = code.header.k as usize;
     let at = k + e;
     let z = roots[at] as u32;
-    let mut weights = lagrange::values(field, &roots[..k], scales, z);
+    let points = Points {
+        field,
+        points: &roots[..k],
+    };
+    let mut weights = points.values(scales, z);
     weights[at] = field.sub(0, 1) as u16;
     weights
 }
@@ -40,14 +45,19 @@ fn list_nodes(code: Code, lists: &mut [u16], counts: &mut [u8])
     let n = h.n as usize;
     let k = h.k as usize;
     let checks = (h.n - h.k) as usize;
-    let codes = tile_products::codes_of(h.field);
+    let mut codes: [u64; 256] = kernel::filled(0);
+    let codes = WeightCodes::new(h.field, &mut codes);
     let t = field::constant_tables();
     let field = Arithmetic::new(h.field, &t);
     let roots = powers::powers(code);
-    let scales = lagrange::scales(field, &roots[..k]);
+    let points = Points {
+        field,
+        points: &roots[..k],
+    };
+    let scales = points.scales();
     for e in 0..checks {
         let weights = check_weights(code, field, &roots, &scales[..k], e);
-        tile_products::prepare(h.field, &codes, &weights[..n], e, lists, counts);
+        codes.prepare(&weights[..n], e, lists, counts);
     }
 }
 
@@ -59,11 +69,12 @@ fn list_sums(code: Code, lists: &mut [u16], counts: &mut [u8])
     let h = code.header;
     let n = h.n as usize;
     let checks = (h.n - h.k) as usize;
-    let codes = tile_products::codes_of(h.field);
+    let mut codes: [u64; 256] = kernel::filled(0);
+    let codes = WeightCodes::new(h.field, &mut codes);
     let table = powers::powers(code);
     for e in 0..checks {
         let weights = powers::factors(code, &table, e + 1);
-        tile_products::prepare(h.field, &codes, &weights[..n], e, lists, counts);
+        codes.prepare(&weights[..n], e, lists, counts);
     }
 }
 

@@ -1,8 +1,7 @@
 // Which lanes of a block are no words of the code: the smallest of them, by the marks of all lanes.
 #![tactic(auto)]
 
-ghost use Rattle.std.specs.Prelude.{◌≡◌, ◌≤◌, eqb, length, get_or};
-ghost use Rattle.lists.specs.Search.{first_false};
+ghost use Rattle.std.specs.Prelude.{◌≡◌, ◌<◌, MatchOption};
 ghost use Rattle.layout.specs.Layout.{share_layout};
 ghost use Rattle.layout.specs.Width.{symbols_of};
 ghost use Rattle.generator.specs.Records.{width};
@@ -23,27 +22,14 @@ pub struct Block<'a> {
     pub ghost symbols: { SymbolBuffer code.header code.header.n lanes shares.now },
 }
 
-// The first of so many places whose byte is not 0, or their number.
-pub fn first_nonzero(lanes: usize, marks: &[u8]) -> usize
-    requires { lanes ≤ length marks.now }
-    ensures { result ≡ first_false lanes 0 (λ t. eqb (get_or marks.now t 0) 0) }
-{
-    for t in 0..lanes {
-        if marks[t] != 0 {
-            return t;
-        }
-    }
-    lanes
-}
-
 impl Block<'_> {
-    // The smallest lane that is no word of the code, or the number of lanes.
-    pub fn first_wrong(self) -> usize
-        ensures { let b = self.entry in result ≡ first_wrong share_layout b.code.header b.lanes (symbols_of (width b.code.header) b.shares.now) }
+    // The smallest lane that is no word of the code, if there is one.
+    pub fn first_wrong(self) -> Option<usize>
+        ensures { let b = self.entry in let wrong = first_wrong share_layout b.code.header b.lanes (symbols_of (width b.code.header) b.shares.now) in MatchOption result (wrong ≡ b.lanes) (λ t. (t ≡ wrong) × (t < b.lanes)) }
     {
         let mut room = [0u8; 4096];
         let marks = &mut room[..self.lanes];
         self.mark_lanes(marks);
-        first_nonzero(self.lanes, marks)
+        marks.iter().position(|mark| *mark != 0)
     }
 }

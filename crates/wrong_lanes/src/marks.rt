@@ -1,6 +1,6 @@
 // Marks of the lanes that are no word of the code: one lane by its check sums, more as a product of matrices.
+// A mark is a byte, for the product writes the marks of 64 lanes as bytes.
 ghost use Rattle.std.specs.Prelude.{◌≡◌, ◌≤◌, length};
-ghost use Rattle.lists.specs.Choice.{pick};
 ghost use Rattle.lists.specs.Padded.{zeros};
 ghost use Rattle.layout.specs.Layout.{share_layout};
 ghost use Rattle.layout.specs.Width.{symbols_of};
@@ -12,13 +12,9 @@ use crate::Block;
 use crate::check_rows::list_checks;
 use block_products::{Product, Way};
 use check_sums::lane;
-
-// The mark of a lane.
-fn mark_of(word: bool) -> u8
-    ensures { result ≡ pick word 0 1 }
-{
-    if word { 0 } else { 1 }
-}
+use tile_products::scratch::{
+    LARGE_COUNTS, LARGE_LISTS, MIDDLE_COUNTS, MIDDLE_LISTS, SMALL_COUNTS, SMALL_LISTS,
+};
 
 impl Block<'_> {
     // One lane alone, for which a product would take a whole tile's time.
@@ -30,7 +26,7 @@ impl Block<'_> {
         let n = h.n as usize;
         let values = symbols::read_symbols(symbols::width_of(h), self.shares);
         let word = lane::is_word(self.code, &values[..n]);
-        marks[0] = mark_of(word);
+        marks[0] = u8::from(!word);
     }
 
     // The product of the checks and the lanes.
@@ -68,11 +64,11 @@ impl Block<'_> {
         if self.lanes == 1 {
             self.mark_lane(marks)
         } else if n <= 16 {
-            self.mark_in::<512, 128>(marks)
+            self.mark_in::<SMALL_LISTS, SMALL_COUNTS>(marks)
         } else if n <= 64 {
-            self.mark_in::<8192, 512>(marks)
+            self.mark_in::<MIDDLE_LISTS, MIDDLE_COUNTS>(marks)
         } else {
-            self.mark_in::<130560, 2040>(marks)
+            self.mark_in::<LARGE_LISTS, LARGE_COUNTS>(marks)
         }
     }
 }

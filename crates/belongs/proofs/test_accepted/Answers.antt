@@ -1,43 +1,36 @@
 -- `test_accepted` meets its contract: the call's number, or what the first wrong lane says.
-use Rattle.std.specs.Prelude.{Some, None, Ok}
-use mathlib.Core.Path.{◌≡◌}
+use Rattle.std.specs.Prelude.{Option, Some, None, Ok, MatchOption}
+use Rattle.std.specs.Option.{IsSomeAnd}
+use Rattle.std.proofs.Common.{rules, tests}
+use mathlib.Core.Path.{◌≡◌, ◌∙◌}
 use mathlib.Core.List.{List}
-use Prim.Native.Nat.{ℕ}
+use Prim.Native.Nat.{ℕ, ◌<◌}
 use native.Mathlib.Omega.{arith}
 use borrow.Author.Tests.{eq-eqb, ne_eqb}
 use Rattle.layout.specs.Layout.{share_layout}
 use Rattle.layout.specs.Width.{symbols_of}
 use Rattle.generator.specs.declared.Header.{Header}
 use Rattle.generator.specs.Records.{width}
-use Rattle.belongs.specs.Promise.{belongs_fault, BelongsPromise}
-use Rattle.refusals.specs.Accepted.{SymbolBuffer}
+use Rattle.belongs.specs.Promise.{BelongsPromise}
 use Rattle.generator.proofs.Answered.{exit, done_is, refused_is}
 use Rattle.belongs.proofs.Accepts.{belongs_accepts, belongs_refuses}
 use Rattle.blocks.specs.Blocks.{first_wrong}
 use Rattle.blocks.specs.Bytes.{wrong_lane}
 use Rattle.blocks.specs.Answers.{membership_of}
-use Rattle.blocks.proofs.Words.{wrong_most}
 use Rattle.belongs.proofs.test_accepted.Goals as goal
-use Rattle.belongs.proofs.test_accepted.Goals.{After-first_wrong-wrong}
 
-module _ (h : Header) (l : ℕ) (s : List ℕ) (number : ℕ) (none : number ≡ 0) (lane : ℕ) (lane_is : lane ≡ first_wrong share_layout h l (symbols_of (width h) s)) where
-  -- no number is met, and no lane is wrong
-  passed : lane ≡ l → BelongsPromise share_layout l s (Ok None) h number
+-- the smallest wrong lane, with no number met
+module _ (h : Header) (l : ℕ) (s : List ℕ) (number : ℕ) (none : number ≡ 0) where
+  abbrev first : ℕ
+  first = first_wrong share_layout h l (symbols_of (width h) s)
+
+  answered : (wrong gave : Option ℕ) (Gives : ℕ → ℕ → Type 0) → MatchOption wrong (first ≡ l) (λ t. (t ≡ first) × (t < l)) → MatchOption wrong (gave ≡ None) (λ t. IsSomeAnd gave (Gives t)) → ((t u : ℕ) → t < l → Gives t u → u ≡ t) → BelongsPromise share_layout l s (Ok gave) h number
   unfolding membership_of wrong_lane
-  passed end = record { answer = rw (none, ← lane_is, eq-eqb lane l end) }
-
-  -- none is met, and this lane is the first wrong one
-  failed : (lane ≡ l → ⊥) → BelongsPromise share_layout l s (Ok (Some lane)) h number
-  unfolding membership_of wrong_lane
-  failed inside = record { answer = rw (none, ← lane_is, ne_eqb lane l inside) }
-
--- no number is met
-none_met : (c : After-first_wrong-wrong) → let a = c.args in belongs_fault a.code.header a.lanes a.shares.now ≡ 0
-none_met c = done_is _ c.in_ok-belongs_fault.ensures
-
--- so the shares are a block
-block : (c : After-first_wrong-wrong) → let a = c.args in SymbolBuffer a.code.header a.code.header.n a.lanes a.shares.now
-block c = belongs_accepts _ c.args.code.sound _ _ (none_met c)
+  answered None gave Gives end is same = record { answer = rw (none, is, eq-eqb first l end) }
+  answered (Some t) None Gives found is same = absurd is
+  answered (Some t) (Some u) Gives found is same =
+      let this : u ≡ first = same t u found.1 is ∙ found.0 in
+      record { answer = rw (none, this, ne_eqb first l (λ e. omega (arith, found.0, found.1, e))) }
 
 pub returns-in_err-belongs_fault : goal.returns-in_err-belongs_fault
 returns-in_err-belongs_fault c =
@@ -47,13 +40,8 @@ returns-in_err-belongs_fault c =
 pub invariant_of-block : goal.invariant_of-block
 invariant_of-block c = record { symbols = belongs_accepts _ c.args.code.sound _ _ (done_is _ c.in_ok-belongs_fault.ensures) }
 
-pub returns-then-wrong-lanes : goal.returns-then-wrong-lanes
-returns-then-wrong-lanes c = passed _ _ _ _ (none_met (goal.at.returns-then-wrong-lanes c).After-first_wrong-wrong) _ c.first_wrong-wrong.ensures c.if-wrong-lanes.true
-
-pub overflow_cast-result : goal.overflow_cast-result
-overflow_cast-result c =
-    let a = c.args in
-    omega (arith, c.first_wrong-wrong.ensures, wrong_most share_layout a.code.header a.lanes (symbols_of (width a.code.header) a.shares.now), (block (goal.at.overflow_cast-result c).After-first_wrong-wrong).symbol_rows.few_lanes)
-
 pub returns : goal.returns
-returns c = failed _ _ _ _ (none_met (goal.at.returns c).After-first_wrong-wrong) _ c.first_wrong-wrong.ensures c.if-wrong-lanes.false
+returns c =
+    let a = c.args in
+    let met = done_is _ c.in_ok-belongs_fault.ensures in
+    answered a.code.header a.lanes a.shares.now _ met c.first_wrong.result c.map.result _ c.first_wrong.ensures c.map.ensures.cases (λ t u low k. search (rules, tests))

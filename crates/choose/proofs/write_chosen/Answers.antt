@@ -1,5 +1,5 @@
 -- `write_chosen` meets its contract, by the kind of record.
-use mathlib.Core.Path.{◌≡◌, refl, sym, ap, ap₂, ◌∙◌}
+use mathlib.Core.Path.{◌≡◌, refl, sym, ap, ◌∙◌}
 use mathlib.Core.List.{List, [], ◌∷◌, ◌++◌}
 use Prim.Native.Nat.{ℕ, ◌/◌, ◌%◌, ◌<◌}
 use native.Mathlib.Omega.{arith}
@@ -25,6 +25,9 @@ returns-then-p-eq0 c =
 pub returns : goal.returns
 unfolding chosen_record
 returns c =
-    let some = ne_eqb (prime_for c.args.n) 0 (λ e. c.if-p-eq0.false (c.entry_for-entry.ensures.prime ∙ e)) in
+    let entry = c.entry_for-entry in
+    let some = ne_eqb (prime_for c.args.n) 0 (λ e. c.if-p-eq0.false (entry.ensures.prime ∙ e)) in
     let none : drop 7 c.args.out.now ≡ [] = drop_of_length-le c.args.out.now {i = 7} (omega (arith, c.requires.1)) in
-    rw (some, none) (refl, c.copy_from_slice-2.ensures.after ∙ ap₂ (λ (x y : ℕ). 3 ∷ x / 256 ∷ x % 256 ∷ y / 256 ∷ y % 256 ∷ c.args.n ∷ c.args.k ∷ []) c.entry_for-entry.ensures.prime c.entry_for-entry.ensures.root)
+    let p_high : entry.result.prime / 256 % 256 ≡ entry.result.prime / 256 = omega arith in
+    let root_high : entry.result.root / 256 % 256 ≡ entry.result.root / 256 = omega arith in
+    rw (some, none, ← entry.ensures.prime, ← entry.ensures.root) (refl, rw (c.to_be_bytes.ensures, c.to_be_bytes-2.ensures, p_high, root_high) at c.copy_from_slice-2.ensures.after)

@@ -8,38 +8,28 @@ use Rattle.interpolation.specs.Inner.Points.{points_of}
 use Rattle.node_weights.specs.Inner.Rows.{basis_of}
 use Rattle.interpolation.proofs.Points.{length_points, points_symbols}
 use Rattle.node_weights.proofs.lagrange_basis.Goals as goal
-use Rattle.node_weights.proofs.lagrange_basis.Goals.{After-points-points}
+use Rattle.node_weights.proofs.lagrange_basis.Goals.{After-points-list}
 
 -- the part of the array that holds the points
-part : (c : After-points-points)
+part : (c : After-points-list)
     → let a = c.args in
-    take (length a.places.now) c.points-points.result ≡ points_of (modulus a.field.field) a.root a.offset a.places.now
+    take (length a.places.now) c.points-list.result ≡ points_of (modulus a.field.field) a.root a.offset a.places.now
 part c =
     let a = c.args in
-    rw c.points-points.ensures (take_padded 255 (length a.places.now) _ (length_points (modulus a.field.field) a.root a.offset a.places.now))
+    rw c.points-list.ensures (take_padded 255 (length a.places.now) _ (length_points (modulus a.field.field) a.root a.offset a.places.now))
 
-pub slice_bounds-scales-end : goal.slice_bounds-scales-end
-slice_bounds-scales-end c =
+pub slice_bounds-points-end : goal.slice_bounds-points-end
+slice_bounds-points-end c =
     let a = c.args in
-    rw (part (goal.at.slice_bounds-scales-end c).After-points-points) (sym (length_points (modulus a.field.field) a.root a.offset a.places.now))
+    rw (part (goal.at.slice_bounds-points-end c).After-points-list) (sym (length_points (modulus a.field.field) a.root a.offset a.places.now))
 
-pub scales-scales-requires : goal.scales-scales-requires
-scales-scales-requires c =
+pub invariant_of-points : goal.invariant_of-points
+invariant_of-points c =
     let s = c.requires in
-    rw (part (goal.at.scales-scales-requires c).After-points-points) (points_symbols _ _ _ _ (usable_field _ c.args.field.usable) s.0 s.1)
-
-pub slice_bounds-product-end : goal.slice_bounds-product-end
-slice_bounds-product-end c =
-    let a = c.args in
-    rw (part (goal.at.slice_bounds-product-end c).After-points-points) (sym (length_points (modulus a.field.field) a.root a.offset a.places.now))
-
-pub product-product-requires : goal.product-product-requires
-product-product-requires c =
-    let s = c.requires in
-    rw (part (goal.at.product-product-requires c).After-points-points) (points_symbols _ _ _ _ (usable_field _ c.args.field.usable) s.0 s.1)
+    rw (part (goal.at.invariant_of-points c).After-points-list) record { symbols = points_symbols _ _ _ _ (usable_field _ c.args.field.usable) s.0 s.1 }
 
 pub returns : goal.returns
 unfolding basis_of
 returns c =
-    let p = part (goal.at.returns c).After-points-points in
-    rw (c.scales-scales.ensures, c.product-product.ensures, p, c.points-points.ensures)
+    let p = part (goal.at.returns c).After-points-list in
+    rw (c.scales-scales.ensures, c.product-product.ensures, p, c.points-list.ensures)

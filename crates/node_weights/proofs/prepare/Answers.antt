@@ -27,11 +27,11 @@ part c =
 pub slice_bounds-inverses-end : goal.slice_bounds-inverses-end
 slice_bounds-inverses-end c = let t = part (goal.at.slice_bounds-inverses-end c).After-base-base in rw t.0 (sym t.1)
 
-pub inverses-inverses-requires : goal.inverses-inverses-requires
-inverses-inverses-requires c =
+pub invariant_of-inverses : goal.invariant_of-inverses
+invariant_of-inverses c =
     let s = c.args.code.sound in
-    let t = part (goal.at.inverses-inverses-requires c).After-base-base in
-    rw (c.new-field.ensures, t.0) record { below = base_of_below _ s.field _ _ s.root_below; short = omega (arith, t.1, t.2) }
+    let t = part (goal.at.invariant_of-inverses c).After-base-base in
+    rw (c.new-field.ensures, t.0) record { symbols = record { below = base_of_below _ s.field _ _ s.root_below; short = omega (arith, t.1, t.2) } }
 
 pub lagrange_basis-own-requires : goal.lagrange_basis-own-requires
 lagrange_basis-own-requires c =

@@ -45,12 +45,17 @@ slice_bounds-quotient_terms-end c = let w = (goal.at.slice_bounds-quotient_terms
 pub slice_bounds-quotient_terms-end-2 : goal.slice_bounds-quotient_terms-end-2
 slice_bounds-quotient_terms-end-2 c = let b = inverses-are (goal.at.slice_bounds-quotient_terms-end-2 c).Start in rw b.0 (sym b.1.size)
 
+pub invariant_of-quotient_terms : goal.invariant_of-quotient_terms
+invariant_of-quotient_terms c =
+    let q = product_is (goal.at.invariant_of-quotient_terms c).Start in
+    record { symbols = rw (c.new-field.ensures, q.0) q.1.are }
+
 pub quotient_terms-requires : goal.quotient_terms-requires
 quotient_terms-requires c =
     let s = c.requires in
     let q = product_is (goal.at.quotient_terms-requires c).Start in
     let b = inverses-are (goal.at.quotient_terms-requires c).Start in
-    (rw (c.new-field.ensures, q.0) q.1.are, rw (c.new-field.ensures, b.0) b.1.are, rw (q.0, b.0) (b.1.size ∙ sym q.1.size), rw c.new-field.ensures s.2)
+    (rw (c.new-field.ensures, b.0) b.1.are, rw (q.0, b.0) (b.1.size ∙ sym q.1.size), rw c.new-field.ensures s.2)
 
 pub returns : goal.returns
 returns c = c.quotient_terms.ensures ∙ rw (c.new-field.ensures, (product_is (goal.at.returns c).Start).0, (inverses-are (goal.at.returns c).Start).0)

@@ -1,19 +1,24 @@
 -- `read_prime` meets its contract.
-use mathlib.Core.Path.{sym, ◌∙◌}
+use mathlib.Core.Path.{◌∙◌}
 use native.Mathlib.Omega.{arith}
 use Rattle.generator.proofs.Accepts.{usable_in}
+use Rattle.generator.proofs.Answered.{exit}
 use Rattle.records.proofs.Reading.{prime_body, prime_field, prime_judged}
 use Rattle.records.proofs.read_prime.Goals as goal
 
-pub returns-then-rec-ne5 : goal.returns-then-rec-ne5
-returns-then-rec-ne5 c = prime_body _ c.requires.0 c.requires.1 c.if-rec-ne5.true
+pub returns-in_default : goal.returns-in_default
+returns-in_default c = prime_body _ (λ e. omega arith)
 
-pub returns-then-not-prime_in : goal.returns-then-not-prime_in
-returns-then-not-prime_in c = prime_field _ c.requires.0 c.requires.1 c.if-rec-ne5.false (sym c.prime_in.ensures ∙ c.if-not-prime_in.true)
+pub returns-in_default-2 : goal.returns-in_default-2
+returns-in_default-2 c = prime_body _ (λ e. omega arith)
+
+pub returns-in_err-field : goal.returns-in_err-field
+returns-in_err-field c =
+    rw (exit _ c.from_residual.ensures.1, c.in_err-field.ensures.0) (prime_field _ (omega arith) c.in_err-field.ensures.1)
 
 pub judge-requires : goal.judge-requires
-judge-requires c = rw c.new.ensures (usable_in 3 251 _ (omega arith) (sym c.prime_in.ensures ∙ c.if-not-prime_in.false))
+judge-requires c = rw c.in_ok-field.ensures.0 (usable_in 3 251 _ (omega arith) c.in_ok-field.ensures.1)
 
 pub returns : goal.returns
 returns c =
-    c.judge.ensures ∙ prime_judged _ c.requires.0 c.requires.1 c.if-rec-ne5.false (sym c.prime_in.ensures ∙ c.if-not-prime_in.false) _ (rw c.new.ensures)
+    c.judge.ensures ∙ prime_judged _ (omega arith) c.in_ok-field.ensures.1 _ (rw c.in_ok-field.ensures.0)

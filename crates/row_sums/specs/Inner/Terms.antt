@@ -1,23 +1,11 @@
--- The terms of sums as the code holds them: what is asked of them, and what their sums are.
+-- The sums of terms as the code holds them.
 use Rattle.std.specs.Prelude.{ℕ, List, length}
-use Rattle.field.specs.declared.Field.{Field}
 use Rattle.layout.specs.Layout.{row_after_row}
 use Rattle.layout.specs.Inner.Tiles.{tile_symbols, tile_bytes}
 use Rattle.row_sums.specs.declared.terms.Terms.{Terms}
-use Rattle.row_sums.specs.Inner.Combined.{Weighted, TileRows, WeightedRows, combined, combined_tile, combined_bytes}
+use Rattle.row_sums.specs.Inner.Combined.{combined, combined_tile, combined_bytes}
 use Rattle.row_sums.specs.declared.wide.WideTerms.{WideTerms}
 use Rattle.row_sums.specs.Inner.WideSums.{wide_sum}
-
--- rows of symbols below q, and a row of `out` lanes to write
-abbrev pub WeightedTerms : ℕ → Terms → ℕ → Type 0
-WeightedTerms q terms out = Weighted q (length terms.weights.now) terms.lanes terms.weights.now terms.rows.now out
-
--- the same in a tile over the field that p names
-abbrev pub TileTerms : ℕ → Terms → ℕ → Type 0
-TileTerms p terms out = TileRows p (length terms.weights.now) terms.lanes terms.weights.now terms.rows.now out
-
-abbrev pub FieldTerms : Field → Terms → ℕ → Type 0
-FieldTerms field terms out = WeightedRows field (length terms.weights.now) terms.lanes terms.weights.now terms.rows.now out
 
 -- the sum in each lane
 abbrev pub terms_combined : ℕ → Terms → List ℕ

@@ -19,9 +19,11 @@ shift_at n k r list some fits e row =
     rw (e, get_or_padded 255 (shifts_of n k) r many) (refl, shifts_below n k some fits r row)
 
 -- the shift that was read
-shift_of : (c : After-shift-1) → let x = get_or c.args.shifts.now c.loop-r.r 0 in (x ≡ get_or (shifts_of c.args.n c.args.k) c.loop-r.r 0) × (x < c.args.n)
+shift_of : (c : After-shift-1) → let h = c.args.code.header in let x = get_or c.args.shifts.now c.loop-r.r 0 in (x ≡ get_or (shifts_of h.n h.k) c.loop-r.r 0) × (x < h.n)
 shift_of c =
-    shift_at c.args.n c.args.k _ c.args.shifts.now c.requires.0 c.requires.1 c.requires.2 c.loop-r-test.true
+    let h = c.args.code.header in
+    let s = c.args.code.sound in
+    shift_at h.n h.k _ c.args.shifts.now s.some s.fits c.requires c.loop-r-test.true
 
 pub loop-r-init : goal.loop-r-init
 unfolding zeros

@@ -1,5 +1,8 @@
 -- `symbol_at` meets its contract: a symbol of one byte is the byte, one of two bytes has the high byte first.
-use mathlib.Core.Path.{◌≡◌, sym}
+use Prim.Native.Nat.{◌+◌, ◌*◌}
+use mathlib.Core.Path.{◌≡◌, sym, ◌∙◌}
+use native.Mathlib.Omega.{arith}
+use lib.ListN.{get_or}
 use Rattle.symbols.proofs.Sizes.{is_two, byte_is, pair_is}
 use Rattle.symbols.proofs.symbol_at.Goals as goal
 use Rattle.symbols.proofs.symbol_at.Goals.{Else-w-eq1}
@@ -12,4 +15,8 @@ pub returns-then-w-eq1 : goal.returns-then-w-eq1
 returns-then-w-eq1 c = sym (byte_is _ _ _ c.requires.2 c.if-w-eq1.true)
 
 pub returns : goal.returns
-returns c = sym (pair_is _ _ _ c.requires.2 (two (goal.at.returns c).Else-w-eq1))
+returns c =
+    let s = c.args.s.now in
+    let at = c.args.i * 2 in
+    let pair : c.from_be_bytes.result ≡ get_or s at 0 * 256 + get_or s (at + 1) 0 = omega (arith, c.from_be_bytes.ensures) in
+    pair ∙ sym (pair_is _ _ _ c.requires.2 (two (goal.at.returns c).Else-w-eq1))

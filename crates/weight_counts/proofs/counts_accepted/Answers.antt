@@ -10,9 +10,11 @@ returns-in_err-weights_fault c =
     let met = refused_is _ _ c.in_err-weights_fault.ensures in
     rw (exit _ c.from_residual.ensures.1, ← met.0) (weights_refuses _ _ met.1 _)
 
+pub invariant_of-fill_counts : goal.invariant_of-fill_counts
+invariant_of-fill_counts c = record { small = (accepts _ c.args.code.sound _ (done_is _ c.in_ok-weights_fault.ensures)).0 }
+
 pub fill_counts-requires : goal.fill_counts-requires
-fill_counts-requires c =
-    accepts c.args.code.header c.args.code.sound _ (done_is _ c.in_ok-weights_fault.ensures)
+fill_counts-requires c = (accepts _ c.args.code.sound _ (done_is _ c.in_ok-weights_fault.ensures)).1
 
 pub returns : goal.returns
 unfolding outcome_of

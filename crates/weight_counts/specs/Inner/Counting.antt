@@ -1,6 +1,6 @@
 -- What the functions behind the call rely on and give: a difference table and a row of Pascal's triangle, each made in place.
-use Rattle.std.specs.Prelude.{ℕ, ◌+◌, ◌-◌, ◌%◌, ◌^◌, ◌≤◌, List, length, nat_le, nat_lt, slice_index}
-use Rattle.lists.specs.Choice.{pick, when}
+use Rattle.std.specs.Prelude.{ℕ, ◌+◌, ◌-◌, ◌%◌, ◌^◌, ◌≤◌, List, length, nat_lt, slice_index}
+use Rattle.lists.specs.Choice.{pick}
 use Rattle.lists.specs.Rows.{from}
 use Rattle.generator.specs.declared.Header.{Header}
 use Rattle.generator.specs.Records.{size, Sound}
@@ -11,10 +11,6 @@ use Rattle.weight_distribution.specs.Inner.Prescribed.{prescribed}
 pub record Small (h : Header) : Type 0 where
   pub sound : Sound h
   pub few : size h ^ h.k ≤ 65536
-
--- q^k, or 0 where that is more than 65,536
-unfoldable pub message_count : ℕ → ℕ → ℕ
-message_count q k = when (nat_le (q ^ k) 65536) (q ^ k)
 
 -- the list with each place from `first` on replaced by `op` of it and of the place before it
 unfoldable pub with_previous : (ℕ → ℕ → ℕ) → ℕ → List ℕ → List ℕ

@@ -1,25 +1,33 @@
--- `carry_in_fault` meets its contract: the test before it, then its own.
-use Rattle.std.proofs.Common.{ap, ◌∙◌}
-use Rattle.std.specs.Prelude.{ℕ}
-use Rattle.generator.proofs.Answered.{done_is, last}
+-- `carry_in_fault` meets its contract: the tests before it, then its own.
+use mathlib.Core.Path.{◌≡◌, ap, ◌∙◌}
+use Prim.Native.Nat.{ℕ}
+use Rattle.generator.specs.Records.{modulus_of}
+use Rattle.generator.proofs.Answered.{exit}
 use Rattle.refusals.specs.Conditions.{length_bad}
 use Rattle.carrying.specs.Carrying.{carried_length}
 use Rattle.carry.specs.Promise.{carry_in_fault}
-use Rattle.carry.proofs.Accepts.{modulus_word, length_accepts, turned_away}
+use Rattle.carry.proofs.Accepts.{length_accepts, before_it, its_own, not_its}
 use Rattle.carry.proofs.fault.carry_in_fault.Goals as goal
+use Rattle.carry.proofs.fault.carry_in_fault.Goals.{After-length_bad}
 
-pub returns-in_err-carried_len_fault : goal.returns-in_err-carried_len_fault
+pub returns-in_err-carrying : goal.returns-in_err-carrying
 unfolding carry_in_fault
-returns-in_err-carried_len_fault c = turned_away _ _ _ _ c.in_err-carried_len_fault.ensures c.from_residual.ensures.1
+returns-in_err-carrying c = rw (exit _ c.from_residual.ensures.1) (before_it _ _ _ c.in_err-carrying.ensures)
 
 pub carried_length-requires : goal.carried_length-requires
-carried_length-requires c =
-    let h = c.args.code.header in
-    let good = length_accepts h c.args.n (done_is _ c.in_ok-carried_len_fault.ensures) in
-    rw c.modulus_of.ensures (modulus_word h.field c.args.code.sound.usable_field, good.carries, good.few)
+carried_length-requires c = (length_accepts _ _ c.in_ok-carrying.ensures.0).few
+
+-- what is tested of the lengths
+tested : (c : After-length_bad) → c.length_bad.result ≡ length_bad (carried_length (modulus_of c.args.code.header) c.args.n) c.args.long
+tested c = c.length_bad.ensures ∙ ap (λ (x : ℕ). length_bad x c.args.long) (c.carried_length.ensures ∙ ap (λ (p : ℕ). carried_length p c.args.n) c.in_ok-carrying.ensures.1)
+
+pub returns-in_err-when : goal.returns-in_err-when
+unfolding carry_in_fault
+returns-in_err-when c =
+    rw (exit _ c.from_residual-in_err-when.ensures.1) (its_own c.in_ok-carrying.ensures.0 (tested (goal.at.returns-in_err-when c).After-length_bad) c.in_err-when.ensures)
 
 pub returns : goal.returns
 unfolding carry_in_fault
 returns c =
-    rw (done_is _ c.in_ok-carried_len_fault.ensures)
-    (last _ _ (c.length_bad.ensures ∙ ap (λ (x : ℕ). length_bad x c.args.long) (c.carried_length.ensures ∙ ap (λ (p : ℕ). carried_length p c.args.n) c.modulus_of.ensures)) c.when.ensures)
+    let found = c.in_ok-carrying.ensures in
+    (not_its _ found.0 (tested (goal.at.returns c).After-length_bad) c.in_ok-when.ensures, found.1)

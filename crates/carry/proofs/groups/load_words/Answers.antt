@@ -1,8 +1,8 @@
 -- `load_words` meets its contract. The loop's invariant: the words below i are those of the bytes.
 use mathlib.Core.Path.{◌≡◌, sym, ◌∙◌}
-use Prim.Native.Nat.{◌/◌}
+use Prim.Native.Nat.{◌*◌, ◌/◌}
 use native.Mathlib.Omega.{arith}
-use lib.ListN.{length}
+use lib.ListN.{length, get_or}
 use Rattle.lists.proofs.Fill.{fills_copy, fills_copied}
 use Rattle.carrying.specs.Carrying.{word_count}
 use Rattle.carrying.proofs.Bytes.{length_words}
@@ -37,4 +37,5 @@ returns c =
     let long = length_words bytes in
     let at : c.loop-i.i ≡ length bytes / 2 = omega arith in
     let filled = fills_copy c.loop-i.invariant (omega arith) (omega arith) 0 in
-    rw (← last_word bytes c.if-s-eq0.false, ← at) (fills_copied filled (omega arith) (omega arith))
+    let last : c.from_be_bytes.result ≡ get_or bytes (length bytes / 2 * 2) 0 * 256 = omega (arith, c.from_be_bytes.ensures) in
+    rw (last, ← last_word bytes c.if-s-eq0.false, ← at) (fills_copied filled (omega arith) (omega arith))

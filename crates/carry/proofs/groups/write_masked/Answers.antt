@@ -1,7 +1,9 @@
 -- `write_masked` meets its contract. The loop's invariant: the bytes of the words below i are written.
 use mathlib.Core.Path.{◌≡◌}
-use Prim.Native.Nat.{◌/◌}
+use Prim.Native.Nat.{◌/◌, ◌%◌}
 use native.Mathlib.Omega.{arith}
+use Rattle.std.proofs.lemmas.Nat.{xor_of_16}
+use lib.Bits.{bit_xor}
 use lib.ListN.{length, get_or}
 use Rattle.lists.proofs.Fill.{fills_part, fills_put, fills_all}
 use Rattle.lists.proofs.Rows.{row_after, part_size}
@@ -32,4 +34,6 @@ returns c =
     let at : c.loop-i.i ≡ n / 2 = omega arith in
     let here = masked_at c.args.c words c.loop-i.i (omega arith) in
     let filled = fills_put (rw (bytes_last n ws c.loop-i.i (omega arith) (omega (arith, length_masked c.args.c words))) at c.loop-i.invariant) (omega arith) in
-    rw (← at, ← here) (fills_all filled (omega arith))
+    let x = bit_xor (get_or words c.loop-i.i 0) c.args.c in
+    let high : x / 256 % 256 ≡ x / 256 = omega (arith, xor_of_16 (get_or words c.loop-i.i 0) c.args.c (omega (arith, c.type_inv.words c.loop-i.i)) (omega arith)) in
+    rw (c.to_be_bytes.ensures, ← at, high, ← here) (fills_all filled (omega arith))

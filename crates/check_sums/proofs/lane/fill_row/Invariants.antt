@@ -13,5 +13,5 @@ use Rattle.check_sums.proofs.lane.fill_row.Given as goal
 abbrev pub read : List ℕ → ℕ → ℕ → Bool → ℕ → ℕ
 read powers j n last x = pick last (get_or powers (j * x % n) 0 % 256) (get_or powers (j * x % n) 0 / 256)
 
-abbrev pub invariant-loop-e : goal.invariant-loop-e
-invariant-loop-e l = (l.i ≡ l.j * (1 + l.e) % l.n) × Fills l.initial.row l.row l.e (from {A = ℕ} (read l.powers l.j l.n l.last) (1 + l.e) (length l.initial.row - l.e)) (from {A = ℕ} (read l.powers l.j l.n l.last) 1 (length l.initial.row))
+abbrev pub invariant-loop-byte : goal.invariant-loop-byte
+invariant-loop-byte l = (l.i ≡ l.j * (1 + l.byte-index) % l.n) × Fills l.initial.row l.row l.byte-index (from {A = ℕ} (read l.powers l.j l.n l.last) (1 + l.byte-index) (length l.initial.row - l.byte-index)) (from {A = ℕ} (read l.powers l.j l.n l.last) 1 (length l.initial.row))

@@ -21,9 +21,7 @@ prepare-requires c =
     let l = c.loop-node in
     let low = c.loop-node-test.true in
     let sound = c.args.generator.now.planned.sound in
-    rw (c.fill_column.ensures, length_column h l.node) (
-      sound.usable_field,
-      c.requires.0,
+    rw (c.requires.0, c.fill_column.ensures, length_column h l.node) (
       omega (arith, sound.fits, sound.byte),
       column_below h l.node sound,
       omega (arith, low, sound.byte),

@@ -34,9 +34,7 @@ prepare-requires c =
     let l = c.loop-r in
     let low = c.loop-r-test.true in
     let room = c.requires.2 in
-    rw (taken (goal.at.prepare-requires c).After-row-row, length_row _ s (few s) v.nodes.now v.different l.r) (
-      s.usable_field,
-      c.requires.1,
+    rw (c.requires.1, taken (goal.at.prepare-requires c).After-row-row, length_row _ s (few s) v.nodes.now v.different l.r) (
       few s,
       row_below _ s (few s) v.nodes.now v.different l.r low,
       omega (arith, low, few s),
@@ -49,5 +47,5 @@ loop-r-preserved c =
     let v = c.args.self in
     let s = v.code.sound in
     let l = c.loop-r in
-    let made = rw (taken (goal.at.loop-r-preserved c).After-row-row, length_row _ s (few s) v.nodes.now v.different l.r) at c.prepare.ensures in
+    let made = rw (c.requires.1, taken (goal.at.loop-r-preserved c).After-row-row, length_row _ s (few s) v.nodes.now v.different l.r) at c.prepare.ensures in
     (omega (arith, l.invariant.0), omega (arith, l.invariant.1), made (inverse_row v.code.header v.nodes.now) refl l.invariant.2)

@@ -19,12 +19,16 @@ loop-i-init c =
     let s = v.code.sound in
     (refl, refl, begun_none _ _ _ _ _ (length_quotient _ s (few s) v.nodes.now v.different))
 
+pub invariant_of-product : goal.invariant_of-product
+invariant_of-product c =
+    let v = c.args.self in
+    let own = own_parts v.code.sound v.nodes.now v.different v.prepared in
+    rw (c.new.ensures, own.product) record { symbols = own.some_product.are }
+
 pub quotient-q-requires : goal.quotient-q-requires
 quotient-q-requires c =
     let v = c.args.self in
-    let s = v.code.sound in
-    let own = own_parts s v.nodes.now v.different v.prepared in
-    rw (c.new-field.ensures, own.product) (own.some_product.are, point_below s v.nodes.now v.different v.prepared _ c.loop-i-test.true)
+    rw c.new.ensures (point_below v.code.sound v.nodes.now v.different v.prepared _ c.loop-i-test.true)
 
 -- the quotient as it is lent
 taken : (c : After-quotient-q) → let v = c.args.self in take v.code.header.k c.quotient-q.result ≡ node_quotient v.code.header v.nodes.now c.loop-i.i
@@ -32,7 +36,7 @@ taken c =
     let v = c.args.self in
     let s = v.code.sound in
     let own = own_parts s v.nodes.now v.different v.prepared in
-    rw (c.quotient-q.ensures, c.new-field.ensures, own.product, own.point c.loop-i.i c.loop-i-test.true) (take_padded 255 _ _ (length_quotient _ s (few s) v.nodes.now v.different c.loop-i.i))
+    rw (c.quotient-q.ensures, c.new.ensures, own.product, own.point c.loop-i.i c.loop-i-test.true) (take_padded 255 _ _ (length_quotient _ s (few s) v.nodes.now v.different c.loop-i.i))
 
 pub prepare-requires : goal.prepare-requires
 prepare-requires c =
@@ -42,9 +46,7 @@ prepare-requires c =
     let l = c.loop-i in
     let low = c.loop-i-test.true in
     let room = c.requires.1 in
-    rw (taken (goal.at.prepare-requires c).After-quotient-q, length_quotient _ s (few s) v.nodes.now v.different l.i) (
-      s.usable_field,
-      c.requires.0,
+    rw (c.requires.0, taken (goal.at.prepare-requires c).After-quotient-q, length_quotient _ s (few s) v.nodes.now v.different l.i) (
       few s,
       quotient_below _ s (few s) v.nodes.now v.different l.i low,
       omega (arith, low, few s),
@@ -57,5 +59,5 @@ loop-i-preserved c =
     let v = c.args.self in
     let s = v.code.sound in
     let l = c.loop-i in
-    let made = rw (taken (goal.at.loop-i-preserved c).After-quotient-q, length_quotient _ s (few s) v.nodes.now v.different l.i) at c.prepare.ensures in
+    let made = rw (c.requires.0, taken (goal.at.loop-i-preserved c).After-quotient-q, length_quotient _ s (few s) v.nodes.now v.different l.i) at c.prepare.ensures in
     (omega (arith, l.invariant.0), omega (arith, l.invariant.1), made (node_quotient v.code.header v.nodes.now) refl l.invariant.2)

@@ -29,4 +29,4 @@ list_from-requires g c =
     let v = c.args.self in
     let product = c.product.ensures in
     let made = rw product at (c.fill.ensures (node_quotient v.code.header v.nodes.now) (rw product c.list_quotients.ensures)) in
-    (sums_written v.code.header v.nodes.now c.width_of-w.ensures.0 c.fill_terms.ensures made, c.codes_of-codes.ensures, rw (c.list_quotients.auto.lists, c.list_quotients.auto.counts) c.requires.2)
+    (sums_written v.code.header v.nodes.now c.width_of-w.ensures.0 c.fill_terms.ensures made, c.new-codes.ensures, rw (c.list_quotients.auto.lists, c.list_quotients.auto.counts) c.requires.2)

@@ -7,17 +7,17 @@ use Rattle.generator.proofs.EvenShifts.{pos_around, around_within}
 use Rattle.shifts.proofs.even.fill_even.Goals as goal
 
 pub nonzero_div-taken : goal.nonzero_div-taken
-nonzero_div-taken c = let a = c.args in rw c.gcd-g.ensures (gcd_pos a.k a.n (omega arith))
+nonzero_div-taken c = let h = c.args.code.header in rw c.gcd-g.ensures (gcd_pos h.k h.n (omega arith))
 
 pub nonzero_div-skipped : goal.nonzero_div-skipped
-nonzero_div-skipped c = let a = c.args in rw c.gcd-g.ensures (gcd_pos a.k a.n (omega arith))
+nonzero_div-skipped c = let h = c.args.code.header in rw c.gcd-g.ensures (gcd_pos h.k h.n (omega arith))
 
 pub fill_rounds-requires : goal.fill_rounds-requires
 fill_rounds-requires c =
-    let a = c.args in
-    let p = c.requires in
-    let some = pos_around a.n a.k p.0 p.1 in
-    let within = around_within a.n a.k p.0 p.1 in
+    let h = c.args.code.header in
+    let s = c.args.code.sound in
+    let some = pos_around h.n h.k s.some s.fits in
+    let within = around_within h.n h.k s.some s.fits in
     rw c.gcd-g.ensures (omega arith, omega arith)
 
 pub returns : goal.returns

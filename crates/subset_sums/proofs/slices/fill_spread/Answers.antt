@@ -11,7 +11,7 @@ read : (c : In-loop-c) → let l = c.loop-c in (get_or l.sp l.c 0 ≡ spread_of 
 read c = let l = c.loop-c in (valued_at spread_of 256 l.invariant (omega arith) l.c (omega arith), spread_low l.c (omega arith))
 
 pub loop-c-init : goal.loop-c-init
-loop-c-init c = spread_start c.args.sp.now c.requires
+loop-c-init c = spread_start c.args.sp.now (omega arith)
 
 pub overflow_mul-up : goal.overflow_mul-up
 overflow_mul-up c = omega (arith, read (goal.at.overflow_mul-up c).In-loop-c)
@@ -22,7 +22,7 @@ overflow_add-sp c = omega (arith, read (goal.at.overflow_add-sp c).In-loop-c)
 pub loop-c-preserved : goal.loop-c-preserved
 loop-c-preserved c =
     let l = c.loop-c in
-    spread_turn l.c (get_or l.sp l.c 0) l.invariant (simp length-set c.requires) (omega arith) (read (goal.at.loop-c-preserved c).In-loop-c).0
+    spread_turn l.c (get_or l.sp l.c 0) l.invariant (simp length-set (omega arith)) (omega arith) (read (goal.at.loop-c-preserved c).In-loop-c).0
 
 pub returns : goal.returns
 unfolding spreads

@@ -1,5 +1,7 @@
 -- `mark_lane` meets its contract: the lane's symbols are the whole block.
-use mathlib.Core.Path.{◌≡◌, ap, ◌∙◌}
+use mathlib.Core.Path.{◌≡◌, refl, ap, ◌∙◌}
+use mathlib.Core.Bool.{Bool, true, false, not}
+use mir.Val.{bool_byte}
 use native.Mathlib.Nat.{mul-one, mul-le-mul, le_refl}
 use native.Mathlib.Omega.{arith}
 use lib.ListN.{length, take, set, length-set}
@@ -12,6 +14,11 @@ use Rattle.generator.specs.Records.{width}
 use Rattle.wrong_lanes.proofs.Marking.{one_mark}
 use Rattle.wrong_lanes.proofs.Block.mark_lane.Goals as goal
 use Rattle.wrong_lanes.proofs.Block.mark_lane.Goals.{After-read_symbols-values, Start}
+
+-- a word has the mark 0
+marked_byte : (word : Bool) → bool_byte (not word) ≡ pick word 0 1
+marked_byte true = refl
+marked_byte false = refl
 
 -- there is a symbol for each node
 long : (c : Start) → let h = c.args.self.code.header in length (symbols_of (width h) c.args.self.shares.now) ≡ h.n
@@ -37,8 +44,8 @@ pub returns : goal.returns
 returns c =
     let h = c.args.self.code.header in
     let marks = c.args.marks.now in
-    let x = c.mark_of.result in
+    let x = c.from.result in
     let told = rw (taken (goal.at.returns c).After-read_symbols-values) at c.is_word-word.ensures in
     rw (share_by_lane, c.requires.0)
     (one_mark h (symbols_of (width h) c.args.self.shares.now) (set marks 0 x) (long (goal.at.returns c).Start) (length-set marks 0 x ∙ c.requires.1)
-    (get_or-set_same marks 0 x 0 (omega (arith, c.requires.1)) ∙ c.mark_of.ensures ∙ ap (λ b. pick b 0 1) told))
+    (get_or-set_same marks 0 x 0 (omega (arith, c.requires.1)) ∙ c.from.ensures ∙ marked_byte c.is_word-word.result ∙ ap (λ b. pick b 0 1) told))

@@ -43,17 +43,21 @@ points_are c = rw c.requires.1 (first_points_lem c.args.code.header c.args.code.
 pub bounds-roots-at : goal.bounds-roots-at
 bounds-roots-at c = omega (arith, node (goal.at.bounds-roots-at c).Start, roots-long (goal.at.bounds-roots-at c).Start, c.args.code.sound.byte)
 
-pub slice_bounds-values-end : goal.slice_bounds-values-end
-slice_bounds-values-end c =
+pub slice_bounds-points-end : goal.slice_bounds-points-end
+slice_bounds-points-end c =
     let h = c.args.code.header in
-    rw (points_are (goal.at.slice_bounds-values-end c).Start) (sym (length_points (modulus_of h) h.root 0 (range 0 h.k) ∙ length_range 0 h.k))
+    rw (points_are (goal.at.slice_bounds-points-end c).Start) (sym (length_points (modulus_of h) h.root 0 (range 0 h.k) ∙ length_range 0 h.k))
 
-pub values-weights-requires : goal.values-weights-requires
-values-weights-requires c =
+pub invariant_of-points : goal.invariant_of-points
+invariant_of-points c =
     let h = c.args.code.header in
     let s = c.args.code.sound in
     let short : length (range 0 h.k) ≤ 255 = omega (arith, length_range 0 h.k, few h s 0) in
-    rw (c.requires.0, points_are (goal.at.values-weights-requires c).Start) (points_symbols (modulus_of h) h.root 0 (range 0 h.k) s.field s.root_below short, c.requires.2, power-low (goal.at.values-weights-requires c).Start)
+    rw (c.requires.0, points_are (goal.at.invariant_of-points c).Start) record { symbols = points_symbols (modulus_of h) h.root 0 (range 0 h.k) s.field s.root_below short }
+
+pub values-weights-requires : goal.values-weights-requires
+values-weights-requires c =
+    rw (c.requires.0, points_are (goal.at.values-weights-requires c).Start) (c.requires.2, power-low (goal.at.values-weights-requires c).Start)
 
 pub sub-requires : goal.sub-requires
 sub-requires c =

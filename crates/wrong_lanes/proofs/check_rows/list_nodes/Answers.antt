@@ -21,17 +21,17 @@ use Rattle.wrong_lanes.proofs.check_rows.list_nodes.Goals.{After-check_weights-w
 points_are : (c : After-powers-roots) → let h = c.args.code.header in take h.k c.powers-roots.result ≡ first_points h
 points_are c = rw c.powers-roots.ensures (first_points_lem c.args.code.header c.args.code.sound)
 
-pub slice_bounds-scales-end : goal.slice_bounds-scales-end
-slice_bounds-scales-end c =
+pub slice_bounds-points-end : goal.slice_bounds-points-end
+slice_bounds-points-end c =
     let h = c.args.code.header in
-    rw (points_are (goal.at.slice_bounds-scales-end c).After-powers-roots) (sym (length_points (modulus_of h) h.root 0 (range 0 h.k) ∙ length_range 0 h.k))
+    rw (points_are (goal.at.slice_bounds-points-end c).After-powers-roots) (sym (length_points (modulus_of h) h.root 0 (range 0 h.k) ∙ length_range 0 h.k))
 
-pub scales-scales-requires : goal.scales-scales-requires
-scales-scales-requires c =
+pub invariant_of-points : goal.invariant_of-points
+invariant_of-points c =
     let h = c.args.code.header in
     let s = c.args.code.sound in
-    rw (c.new-field.ensures, points_are (goal.at.scales-scales-requires c).After-powers-roots)
-    (points_symbols (modulus_of h) h.root 0 (range 0 h.k) s.field s.root_below (omega (arith, length_range 0 h.k, few h s 0)))
+    rw (c.new-field.ensures, points_are (goal.at.invariant_of-points c).After-powers-roots)
+    record { symbols = points_symbols (modulus_of h) h.root 0 (range 0 h.k) s.field s.root_below (omega (arith, length_range 0 h.k, few h s 0)) }
 
 pub loop-e-init : goal.loop-e-init
 loop-e-init c = (refl, refl, begun_none _ _ _ _ _ (λ i. length_check_row c.args.code.header c.args.code.sound i))
@@ -57,9 +57,7 @@ prepare-requires c =
     let s = c.args.code.sound in
     let l = c.loop-e in
     let low = c.loop-e-test.true in
-    rw (taken (goal.at.prepare-requires c).After-check_weights-weights, length_check_row h s l.e) (
-      s.usable_field,
-      c.codes_of-codes.ensures,
+    rw (c.new-codes.ensures, taken (goal.at.prepare-requires c).After-check_weights-weights, length_check_row h s l.e) (
       s.byte,
       check_row_below h s l.e,
       omega (arith, s.byte, low),
@@ -71,7 +69,7 @@ pub loop-e-preserved : goal.loop-e-preserved
 loop-e-preserved c =
     let h = c.args.code.header in
     let l = c.loop-e in
-    let made = rw (taken (goal.at.loop-e-preserved c).After-check_weights-weights, length_check_row h c.args.code.sound l.e) at c.prepare.ensures in
+    let made = rw (c.new-codes.ensures, taken (goal.at.loop-e-preserved c).After-check_weights-weights, length_check_row h c.args.code.sound l.e) at c.prepare.ensures in
     (omega (arith, l.invariant.0), omega (arith, l.invariant.1), made (check_row h) refl l.invariant.2)
 
 pub returns : goal.returns

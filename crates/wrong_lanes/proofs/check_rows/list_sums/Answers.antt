@@ -30,9 +30,7 @@ prepare-requires c =
     let s = c.args.code.sound in
     let l = c.loop-e in
     let low = c.loop-e-test.true in
-    rw (taken (goal.at.prepare-requires c).After-factors-weights, length_factors h (l.e + 1)) (
-      s.usable_field,
-      c.codes_of-codes.ensures,
+    rw (c.new-codes.ensures, taken (goal.at.prepare-requires c).After-factors-weights, length_factors h (l.e + 1)) (
       s.byte,
       factors_below h (l.e + 1) s,
       omega (arith, s.byte, low),
@@ -44,7 +42,7 @@ pub loop-e-preserved : goal.loop-e-preserved
 loop-e-preserved c =
     let h = c.args.code.header in
     let l = c.loop-e in
-    let made = rw (taken (goal.at.loop-e-preserved c).After-factors-weights, length_factors h (l.e + 1)) at c.prepare.ensures in
+    let made = rw (c.new-codes.ensures, taken (goal.at.loop-e-preserved c).After-factors-weights, length_factors h (l.e + 1)) at c.prepare.ensures in
     (omega (arith, l.invariant.0), omega (arith, l.invariant.1), made (λ i. factors_of h (i + 1)) refl l.invariant.2)
 
 pub returns : goal.returns

@@ -25,8 +25,10 @@ rounds_of-requires c =
     let sound = c.args.self.transform.code.sound in
     (omega (arith, sound.two), sound.byte, rw (part (goal.at.rounds_of-requires c).Start, length_shifts c.args.self.transform.code.header sound) (few (goal.at.rounds_of-requires c).Start))
 
-pub product-requires : goal.product-requires
-product-requires c = rw (c.args.self.transform.same, c.requires) (row_symbols c.args.self.transform.code.header c.args.self.transform.code.sound (few (goal.at.product-requires c).Start)).are
+pub invariant_of-product : goal.invariant_of-product
+invariant_of-product c =
+    let v = c.args.self.transform in
+    record { symbols = rw (v.same, c.requires) (row_symbols v.code.header v.code.sound (few (goal.at.invariant_of-product c).Start)).are }
 
 pub round_product-requires : goal.round_product-requires
 round_product-requires c =

@@ -27,8 +27,10 @@ slice_bounds-points-end c = rw (c.round_points-points.ensures, length_padded 255
 pub slice_bounds-product-end : goal.slice_bounds-product-end
 slice_bounds-product-end c = sym (ap length (part (goal.at.slice_bounds-product-end c).After-round_points-points) ∙ long (goal.at.slice_bounds-product-end c).After-round_points-points)
 
-pub product-product-requires : goal.product-product-requires
-product-product-requires c = rw (c.args.self.transform.same, part (goal.at.product-product-requires c).After-round_points-points) (round_symbols c.args.self.transform.code.header c.args.self.transform.code.sound c.args.g c.requires.0 (few (goal.at.product-product-requires c).Start))
+pub invariant_of-product : goal.invariant_of-product
+invariant_of-product c =
+    let v = c.args.self.transform in
+    record { symbols = rw (v.same, part (goal.at.invariant_of-product c).After-round_points-points) (round_symbols v.code.header v.code.sound c.args.g c.requires.0 (few (goal.at.invariant_of-product c).Start)) }
 
 pub returns : goal.returns
 returns c = c.spread.ensures ∙ ap (padded 256) (rw (c.product-product.ensures, c.args.self.transform.same, part (goal.at.returns c).After-round_points-points) (round_product c.args.self.transform.code.header c.args.self.transform.code.sound c.args.g c.requires.0 c.requires.2))

@@ -75,14 +75,15 @@ weighted_sum-sum-requires c =
     let k = coefficients (goal.at.weighted_sum-sum-requires c).After-coefficients-coefficients in
     (rw (c.args.self.transform.same, t.0) t.1.are.below, rw (c.args.self.transform.same, k.0) (below_padded _ 255 _ (size_pos _ c.args.self.transform.code.sound.field) k.1), omega (arith, ap length t.0, t.1.size, ap length k.0, length_padded 255 (coefficients_of c.args.self.transform.code.header c.args.spectrum.now) (omega (arith, length_coefficients c.args.self.transform.code.header c.args.spectrum.now, few (goal.at.weighted_sum-sum-requires c).Start)), few (goal.at.weighted_sum-sum-requires c).Start))
 
-pub slice_bounds-scale_at-end : goal.slice_bounds-scale_at-end
-slice_bounds-scale_at-end c =
-    let q = points (goal.at.slice_bounds-scale_at-end c).After-points-points in rw q.0 (sym q.1.size)
+pub invariant_of-scale_at : goal.invariant_of-scale_at
+invariant_of-scale_at c =
+    let q = points (goal.at.invariant_of-scale_at c).After-points-points in
+    record { symbols = rw (c.args.self.transform.same, q.0) q.1.are }
 
 pub scale_at-scale-requires : goal.scale_at-scale-requires
 scale_at-scale-requires c =
     let q = points (goal.at.scale_at-scale-requires c).After-points-points in
-    rw (c.args.self.transform.same, q.0) (q.1.are, rw q.1.size c.requires.2)
+    rw q.0 (rw q.1.size c.requires.2)
 
 pub inverse-over-requires : goal.inverse-over-requires
 inverse-over-requires c = c.ones.ensures.symbol

@@ -32,16 +32,11 @@ room : (c : Start) → 8 * groups_of c.args.self.code.header.k ≤ 512
 unfolding groups_of
 room c = omega (arith, few c)
 
-pub fill_codes-requires : goal.fill_codes-requires
-fill_codes-requires c = (c.args.self.code.sound.usable_field, search rules)
-
 pub prepare-requires : goal.prepare-requires
 prepare-requires c =
     let h = c.args.self.code.header in
     let start = (goal.at.prepare-requires c).Start in
-    rw (front start) (
-      c.args.self.code.sound.usable_field,
-      c.fill_codes.ensures,
+    rw (c.new-codes.ensures, front start) (
       few start,
       below_take (size h) h.k c.args.self.weights.now c.args.self.symbols,
       omega arith,
@@ -62,7 +57,7 @@ begun : (c : After-prepare)
     Begun (modulus_of h) h.k (λ i. take h.k c.args.self.weights.now) 1 c.prepare.new.lists c.prepare.new.counts
 begun c =
     let ws : List ℕ = take c.args.self.code.header.k c.args.self.weights.now in
-    rw (front (goal.at.After-prepare c).Start) at (c.prepare.ensures (λ i. ws) refl (begun_none _ (length ws) (λ i. ws) _ _ (λ i. refl)))
+    rw (c.new-codes.ensures, front (goal.at.After-prepare c).Start) at (c.prepare.ensures (λ i. ws) refl (begun_none _ (length ws) (λ i. ws) _ _ (λ i. refl)))
 
 made_row : (c : After-prepare) → let h = c.args.self.code.header in Made (modulus_of h) h.k 1 c.prepare.new.lists c.prepare.new.counts
 made_row c =

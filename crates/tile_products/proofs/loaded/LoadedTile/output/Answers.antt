@@ -17,13 +17,16 @@ output-requires c =
     let r = prime_ready _ (rw e at s.matrix.usable_field) (rw e at c.requires.made) in
     rw c.new.ensures record { few = s.matrix.few; weights = r.0; in_scale = r.1; tile_long = rw e at s.loaded.long; out_long = rw e at c.requires.out_long }
 
+pub invariant_of-output : goal.invariant_of-output
+invariant_of-output c =
+    let e = c.in-Binary.is in
+    let g = c.groups_of.ensures in
+    record { few = g.few; slices = byte_ready _ g.value (rw e at c.args.self.loaded) (rw e at c.requires.made) }
+
 pub output-requires-in-Binary : goal.output-requires-in-Binary
 output-requires-in-Binary c =
-    let e = c.in-Binary.is in
-    let s = c.args.self in
-    let g = c.groups_of.ensures in
-    let one : bytes_for (modulus s.matrix.shape.field) ≡ 1 = rw e (byte_one _) in
-    (g.few, byte_ready _ g.value (rw e at s.loaded) (rw e at c.requires.made), c.requires.out_long ∙ ap (λ (x : ℕ). x * 64) one)
+    let one : bytes_for (modulus c.args.self.matrix.shape.field) ≡ 1 = rw c.in-Binary.is (byte_one _) in
+    c.requires.out_long ∙ ap (λ (x : ℕ). x * 64) one
 
 pub returns-in-Prime : goal.returns-in-Prime
 returns-in-Prime c =

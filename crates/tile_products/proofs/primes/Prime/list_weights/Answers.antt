@@ -12,17 +12,21 @@ room c = omega (arith, c.requires.long, groups_room (length c.args.weights.now))
 fits : (c : Start) → length c.args.weights.now ≤ length c.args.list.now
 fits c = omega (arith, room c)
 
+pub new-requires : goal.new-requires
+new-requires c = let m = c.args.self in record { some = two≤prime m.p m.prime; fits = c.if-has_bytes.ensures }
+
 pub scale-requires : goal.scale-requires
 scale-requires c =
     let m = c.args.self in
     let few = c.if-has_bytes.ensures in
-    record { fits = few; known = c.requires.known.ratios (omega (arith, two≤prime m.p m.prime)) few; below = c.requires.below; few = c.requires.few; room = room (goal.at.scale-requires c).Start }
+    rw c.new.ensures
+    record { known = c.requires.known.ratios (omega (arith, two≤prime m.p m.prime)) few; below = c.requires.below; few = c.requires.few; room = room (goal.at.scale-requires c).Start }
 
 pub returns-then-has_bytes : goal.returns-then-has_bytes
 returns-then-has_bytes c =
     λ counts counted.
     let m = c.args.self in
-    lists_one m.p m.prime c.requires.few c.requires.below (c.scale.auto.list ∙ c.requires.long) counted c.if-has_bytes.ensures c.scale.ensures
+    lists_one m.p m.prime c.requires.few c.requires.below (c.scale.auto.list ∙ c.requires.long) counted c.if-has_bytes.ensures (rw c.new.ensures at c.scale.ensures)
 
 pub slice_bounds-copy_from_slice-end : goal.slice_bounds-copy_from_slice-end
 slice_bounds-copy_from_slice-end c = fits (goal.at.slice_bounds-copy_from_slice-end c).Start

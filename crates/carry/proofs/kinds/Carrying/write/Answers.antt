@@ -1,0 +1,21 @@
+-- `Carrying::write` meets its contract, by the kind of field.
+use Rattle.carrying.specs.Carrying.{carried_bytes, carried_length}
+use Rattle.carry.specs.Inner.Kinds.{field_of}
+use Rattle.carry.proofs.Accepts.{some_prime}
+use Rattle.carry.proofs.kinds.Carrying.write.Goals as goal
+
+pub copy_from_slice-requires : goal.copy_from_slice-requires
+unfolding carried_length field_of
+copy_from_slice-requires c = rw c.in-Bytes.is at c.requires
+
+pub returns-in-Bytes : goal.returns-in-Bytes
+unfolding carried_bytes field_of
+returns-in-Bytes c = rw c.in-Bytes.is c.copy_from_slice.ensures.after
+
+pub close_groups-requires : goal.close_groups-requires
+unfolding carried_length field_of
+close_groups-requires c = rw (c.in-Words.is, some_prime c.in-Words.prime) at c.requires
+
+pub returns-in-Words : goal.returns-in-Words
+unfolding carried_bytes field_of
+returns-in-Words c = rw (c.in-Words.is, some_prime c.in-Words.prime) c.close_groups.ensures

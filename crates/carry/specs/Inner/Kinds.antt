@@ -1,0 +1,17 @@
+-- What carries bytes, and the tests that find it.
+use Rattle.std.specs.Prelude.{◌≡◌, ℕ, Result, Err, MatchResult}
+use Rattle.generator.specs.declared.Header.{Header}
+use Rattle.generator.specs.declared.refusal.Refusal.{Refusal}
+use Rattle.generator.specs.Records.{modulus_of}
+use Rattle.generator.specs.Answers.{number, outcome_of}
+use Rattle.carry.specs.declared.kinds.Carrying.{Carrying}
+use Rattle.carry.specs.declared.kinds.Carrying.TheVariants.{Bytes, Words}
+
+-- its field: the prime, or 0 for the field of 256 elements
+unfoldable pub field_of : Carrying → ℕ
+field_of Bytes = 0
+field_of (Words prime) = prime.p
+
+-- what carries the bytes of a record where the number f of a call is 0, or the refusal that has the number
+abbrev pub Tested : Result Carrying Refusal → Header → ℕ → Type 0
+Tested r h f = MatchResult r (λ c. (f ≡ 0) × (field_of c ≡ modulus_of h)) (λ e. Err (number e) ≡ outcome_of f)

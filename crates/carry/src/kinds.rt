@@ -1,0 +1,62 @@
+// What carries the bytes of a record: its symbols, as they are or as words.
+ghost use Rattle.std.specs.Prelude.{◌≡◌, ◌≤◌, length};
+ghost use Rattle.lists.specs.Choice.{when};
+ghost use Rattle.generator.specs.Records.{modulus_of};
+ghost use Rattle.carrying.specs.Carrying.{carries_none, carried_bytes, bytes_back, carried_length};
+ghost use Rattle.carry.specs.Inner.Kinds.{field_of, Tested};
+
+use crate::prime::WordPrime;
+use field::Field;
+use generator::{Code, Refusal};
+
+#[derive(Clone, Copy)]
+pub enum Carrying {
+    Bytes,
+    Words(WordPrime),
+}
+
+impl Carrying {
+    // Number 18 over a prime with fewer than 34,816 symbols.
+    pub fn of(code: Code) -> Result<Self, Refusal>
+        ensures { Tested result code.header (when (carries_none (modulus_of code.header)) 18) }
+    {
+        match code.header.field {
+            Field::Binary(_) => Ok(Carrying::Bytes),
+            Field::Prime(f) if f.p < 34816 => Err(Refusal::Carry),
+            Field::Prime(f) => Ok(Carrying::Words(WordPrime { p: f.p })),
+        }
+    }
+
+    // How many bytes carry n.
+    pub fn carried_length(self, n: usize) -> usize
+        requires { n ≤ 4611686018427387904 }
+        ensures { result ≡ carried_length (field_of self) n }
+    {
+        match self {
+            Carrying::Bytes => n,
+            Carrying::Words(prime) => prime.words_length(n),
+        }
+    }
+
+    // Bytes as they are carried.
+    pub fn write(self, bytes: &[u8], out: &mut [u8])
+        requires { length out.old ≡ carried_length (field_of self) (length bytes.now) }
+        ensures { out.new ≡ carried_bytes (field_of self) bytes.now }
+    {
+        match self {
+            Carrying::Bytes => out.copy_from_slice(bytes),
+            Carrying::Words(prime) => prime.close_groups(bytes, out),
+        }
+    }
+
+    // The bytes that symbols carry, as many as there is room for. The step differs in each arm: one function that takes it would be no plainer.
+    pub fn read(self, symbols: &[u8], out: &mut [u8])
+        requires { length symbols.now ≡ carried_length (field_of self) (length out.old) }
+        ensures { out.new ≡ bytes_back (field_of self) (length out.old) symbols.now }
+    {
+        match self {
+            Carrying::Bytes => out.copy_from_slice(symbols),
+            Carrying::Words(prime) => prime.open_groups(symbols, out),
+        }
+    }
+}

@@ -1,7 +1,0 @@
-use Rattle.std.proofs.Common.{◌%◌, get_or}
-use Rattle.lists.proofs.Parts.{Valued}
-use Rattle.kernel.specs.Inner.Halves.{total_of}
-use Rattle.tile_products.proofs.prime.Sums.store.Given as goal
-
-abbrev pub invariant-loop-t : goal.invariant-loop-t
-invariant-loop-t l = Valued (λ t. total_of (get_or l.self.low t 0) (get_or l.self.up t 0) % l.modulus.p) 64 l.initial.out l.out l.t
