@@ -1,5 +1,5 @@
 -- `lagrange_basis` meets its contract: each part of the basis is made of the points.
-use mathlib.Core.Path.{◌≡◌, sym}
+use mathlib.Core.Path.{◌≡◌}
 use lib.ListN.{length, take}
 use Rattle.lists.proofs.Padding.{take_padded}
 use Rattle.field.specs.Kinds.{modulus}
@@ -17,11 +17,6 @@ part : (c : After-points-list)
 part c =
     let a = c.args in
     rw c.points-list.ensures (take_padded 255 (length a.places.now) _ (length_points (modulus a.field.field) a.root a.offset a.places.now))
-
-pub slice_bounds-points-end : goal.slice_bounds-points-end
-slice_bounds-points-end c =
-    let a = c.args in
-    rw (part (goal.at.slice_bounds-points-end c).After-points-list) (sym (length_points (modulus a.field.field) a.root a.offset a.places.now))
 
 pub invariant_of-points : goal.invariant_of-points
 invariant_of-points c =

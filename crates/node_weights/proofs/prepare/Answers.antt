@@ -1,5 +1,5 @@
 -- `prepare` meets its contract.
-use mathlib.Core.Path.{◌≡◌, sym}
+use mathlib.Core.Path.{◌≡◌}
 use Prim.Native.Nat.{◌-◌, ◌≤◌}
 use native.Mathlib.Omega.{arith}
 use lib.ListN.{length, take}
@@ -23,9 +23,6 @@ part c =
     let s = c.args.code.sound in
     let size : length (base_of (modulus_of h) h.root (h.k - 1)) ≡ h.k = omega (arith, length_base_of (modulus_of h) h.root (h.k - 1), s.some) in
     (rw (c.base-base.ensures, c.new-field.ensures) (take_padded 256 h.k _ size), size, omega (arith, s.fits, s.byte))
-
-pub slice_bounds-inverses-end : goal.slice_bounds-inverses-end
-slice_bounds-inverses-end c = let t = part (goal.at.slice_bounds-inverses-end c).After-base-base in rw t.0 (sym t.1)
 
 pub invariant_of-inverses : goal.invariant_of-inverses
 invariant_of-inverses c =

@@ -45,14 +45,8 @@ symbols c =
     let n = few (goal.at.After-points-list c).After-power-z in
     rw (part c) (points_symbols (modulus_of a.code.header) a.code.header.root 0 a.nodes.now s.field s.root_below (omega arith))
 
-pub slice_bounds-points-end : goal.slice_bounds-points-end
-slice_bounds-points-end c = many (goal.at.slice_bounds-points-end c).After-points-list
-
 pub invariant_of-points : goal.invariant_of-points
 invariant_of-points c = record { symbols = rw c.new-field.ensures (symbols (goal.at.invariant_of-points c).After-points-list) }
-
-pub invariant_of-points-2 : goal.invariant_of-points-2
-invariant_of-points-2 c = record { symbols = rw c.new-field.ensures (symbols (goal.at.invariant_of-points-2 c).After-points-list) }
 
 -- their scales as they are lent
 scales-are : (c : After-scales-scales) → let a = c.args in let xs = take a.code.header.k c.points-list.result in take a.code.header.k c.scales-scales.result ≡ scales_of (modulus_of a.code.header) xs
@@ -60,10 +54,6 @@ scales-are c =
     let a = c.args in
     let xs = take a.code.header.k c.points-list.result in
     rw (c.scales-scales.ensures, c.new-field.ensures) (take_padded 255 a.code.header.k _ (length_scales (modulus_of a.code.header) xs ∙ sym (many (goal.at.After-scales-scales c).After-points-list)))
-
-pub slice_bounds-values-end : goal.slice_bounds-values-end
-slice_bounds-values-end c =
-    rw (scales-are (goal.at.slice_bounds-values-end c).After-scales-scales) (many (goal.at.slice_bounds-values-end c).After-points-list ∙ sym (length_scales _ (take c.args.code.header.k c.points-list.result)))
 
 pub values-requires : goal.values-requires
 values-requires c =

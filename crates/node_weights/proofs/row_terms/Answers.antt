@@ -4,7 +4,6 @@ use Prim.Native.Nat.{◌<◌}
 use native.Mathlib.Omega.{arith}
 use lib.ListN.{get_or}
 use Rattle.lists.proofs.Numbers.{below_at}
-use Rattle.field.proofs.KindLaws.{size_fits}
 use Rattle.generator.specs.Records.{modulus_of, size}
 use Rattle.node_weights.specs.declared.Basis.{Basis}
 use Rattle.node_weights.specs.Inner.Rows.{basis_of, row_points, row_terms}
@@ -22,15 +21,6 @@ rows c = parts _ c.args.code.sound.field _ _ _ (points c) c.requires.0
 -- the row's point
 point : (c : Start) → get_or c.args.rows.points c.args.r 0 < size c.args.code.header
 point c = rw ((rows c).point c.args.r c.requires.2) (below_at _ _ (points c).are.below _ (omega (arith, (points c).size, c.requires.2)))
-
-pub offset_bounds-points-r : goal.offset_bounds-points-r
-offset_bounds-points-r c = let s = c.requires in omega (arith, s.2, c.args.code.sound.fits, c.args.code.sound.byte)
-
-pub bounds-points-r : goal.bounds-points-r
-bounds-points-r c = let s = c.requires in omega (arith, s.2, c.args.code.sound.fits, c.args.code.sound.byte)
-
-pub overflow_cast-points : goal.overflow_cast-points
-overflow_cast-points c = omega (arith, point (goal.at.overflow_cast-points c).Start, size_fits _ c.args.code.sound.usable_field)
 
 pub terms_at-requires : goal.terms_at-requires
 unfolding basis_of

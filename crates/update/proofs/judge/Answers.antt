@@ -1,5 +1,5 @@
 -- `judge` meets its contract: the lane is read as symbols.
-use mathlib.Core.Path.{◌≡◌, sym}
+use mathlib.Core.Path.{◌≡◌}
 use native.Mathlib.Nat.{mul_comm, mul-le-mul, le_refl}
 use lib.ListN.{take}
 use Rattle.lists.proofs.Padding.{take_padded}
@@ -19,10 +19,6 @@ read_symbols-symbols-requires c =
     let ready = c.requires in
     let range = width_range c.args.generator.now.code.header in
     (rw ready.wide range.0, rw ready.wide range.1, rw (ready.bytes, mul_comm 255 c.args.w) (mul-le-mul (le_refl c.args.w) ready.sound.byte))
-
-pub slice_bounds-stale_fault-end-2 : goal.slice_bounds-stale_fault-end-2
-slice_bounds-stale_fault-end-2 c =
-    rw (part (goal.at.slice_bounds-stale_fault-end-2 c).After-read_symbols-symbols) (sym (word_long c.requires))
 
 pub stale_fault-requires : goal.stale_fault-requires
 unfolding plan_of

@@ -1,7 +1,7 @@
 -- `rewrite` meets its contract: `RewritingBytes` is the invariant, and each way through a turn is one of its laws.
 use Prim.Native.Nat.{◌+◌, ◌*◌, ◌≤◌, ◌<◌}
 use mathlib.Core.Path.{◌≡◌, sym, ◌∙◌}
-use native.Mathlib.Nat.{mul_comm, lt_of_lt_of_le}
+use native.Mathlib.Nat.{lt_of_lt_of_le}
 use native.Mathlib.Omega.{arith}
 use lib.ListN.{length}
 use Rattle.lists.proofs.Numbers.{at_below, below_at}
@@ -12,16 +12,13 @@ use Rattle.generator.proofs.Bounds.{entry_below}
 use Rattle.generator.proofs.Widths.{width_range, size_fits_width}
 use Rattle.update.proofs.Lane.{word_long}
 use Rattle.update.proofs.Rewriting.{after}
-use Rattle.update.proofs.LaneBytes.{after_below, bytes_start, bytes_long, bytes_few, bytes_end, place_inside, bytes_inside, bytes_held, bytes_put, bytes_skip}
+use Rattle.update.proofs.LaneBytes.{after_below, bytes_start, bytes_end, place_inside, bytes_inside, bytes_held, bytes_put, bytes_skip}
 use Rattle.update.proofs.rewrite.Goals as goal
 use Rattle.update.proofs.rewrite.Goals.{After-renewed-after, In-loop-j, else-after-before, then-after-before}
 
 -- node j's bytes lie in the lane
 inside : (c : In-loop-j) → let a = c.args in c.loop-j.j * a.w + a.w ≤ length c.loop-j.lane
 inside c = bytes_inside c.requires.0 _ c.loop-j.invariant c.loop-j-test.true
-
-few : (c : In-loop-j) → length c.loop-j.lane ≤ 510
-few c = bytes_few c.requires.0 _ c.loop-j.invariant
 
 -- its symbol is one of the field
 held : (c : In-loop-j) → let a = c.args in symbol_at a.w c.loop-j.lane c.loop-j.j < size a.generator.now.code.header
@@ -40,9 +37,6 @@ pub loop-j-init : goal.loop-j-init
 loop-j-init c =
     bytes_start c.requires.0 _ (at_below 256 _ (λ i h. omega (arith, c.type_inv.lane i)))
 
-pub entry-entry-requires : goal.entry-entry-requires
-entry-entry-requires c = (c.requires.0.row, c.loop-j-test.true)
-
 pub symbol_at-before-requires : goal.symbol_at-before-requires
 symbol_at-before-requires c =
     let ready = c.requires.0 in
@@ -52,15 +46,6 @@ symbol_at-before-requires c =
 pub renewed-after-requires : goal.renewed-after-requires
 renewed-after-requires c =
     let (ready, factor) = c.requires in (factor, rw c.entry-entry.ensures (entry_below _ ready.sound _ _), rw c.symbol_at-before.ensures (held (goal.at.renewed-after-requires c).In-loop-j))
-
-pub overflow_mul-start : goal.overflow_mul-start
-overflow_mul-start c = omega (arith, inside (goal.at.overflow_mul-start c).In-loop-j, few (goal.at.overflow_mul-start c).In-loop-j)
-
-pub overflow_add-end : goal.overflow_add-end
-overflow_add-end c = omega (arith, inside (goal.at.overflow_add-end c).In-loop-j, few (goal.at.overflow_add-end c).In-loop-j)
-
-pub slice_bounds-write_symbol-end : goal.slice_bounds-write_symbol-end
-slice_bounds-write_symbol-end c = omega (arith, inside (goal.at.slice_bounds-write_symbol-end c).In-loop-j)
 
 pub write_symbol-requires : goal.write_symbol-requires
 write_symbol-requires c =
@@ -73,19 +58,12 @@ write_symbol-requires c =
       part_length (j * c.args.w) c.args.w _ (inside (goal.at.write_symbol-requires c).In-loop-j),
     )
 
-pub overflow_add-count : goal.overflow_add-count
-overflow_add-count c =
-    omega (arith, c.loop-j.invariant.symbols.few, c.loop-j-test.true)
-
 pub loop-j-preserved : goal.loop-j-preserved
 loop-j-preserved c =
     let (ready, factor) = c.requires in
     let turn = c.loop-j.invariant in
     let node = c.loop-j-test.true in
     elim c.if-after-before.branch [ then-after-before u ↦ rw (u.lane-is, u.count-is, u.write_symbol.ensures) (bytes_put ready _ turn node _ (becomes (goal.at.loop-j-preserved c).After-renewed-after) (λ e. u.if-after-before.true (e ∙ sym c.symbol_at-before.ensures))) | else-after-before u ↦ rw (u.lane-is, u.count-is) (bytes_skip ready _ turn node _ (becomes (goal.at.loop-j-preserved c).After-renewed-after) (u.if-after-before.false ∙ c.symbol_at-before.ensures)) ]
-
-pub shape_of-lane : goal.shape_of-lane
-shape_of-lane c = let ready = c.requires.0 in bytes_long ready _ c.loop-j.invariant ∙ sym (ready.bytes ∙ mul_comm _ _)
 
 pub returns : goal.returns
 returns c = bytes_end c.requires.0 _ c.loop-j.invariant c.loop-j-test.false

@@ -1,13 +1,12 @@
 -- `fill_power_rows` meets its contract. Invariant: the rows of bytes below i are written.
 use mathlib.Core.Path.{ap, ◌∙◌}
 use Prim.Native.Nat.{ℕ, ◌+◌, ◌-◌, ◌*◌, ◌/◌, ◌%◌, ◌≤◌}
-use native.Mathlib.Nat.{sub-zero, zero-mul, mul_comm, mul-le-mul, le_refl, mod-lt, div-lt_iff_lt-mul}
+use native.Mathlib.Nat.{mul-le-mul, le_refl}
 use native.Mathlib.Omega.{arith}
 use lib.ListN.{length}
 use Rattle.lists.proofs.Rows.{rows_next, rows_end, row_after, row_inside, part_size, part_length}
-use Rattle.lists.proofs.Fill.{fills_start, fills_part, fills_all}
+use Rattle.lists.proofs.Fill.{fills_part, fills_all}
 use Rattle.check_sums.specs.Inner.Sums.{power_bytes}
-use Rattle.check_sums.proofs.Sizes.{lane_small}
 use Rattle.check_sums.proofs.OneLane.{byte_row, length_power_bytes, power_tile}
 use Rattle.check_sums.proofs.lane.fill_power_rows.Goals as goal
 use Rattle.check_sums.proofs.lane.fill_power_rows.Goals.{In-loop-i}
@@ -18,36 +17,8 @@ row_in c =
     let width = c.width_of-w in
     rw (c.requires, ← width.ensures.0) (row_inside (width.result * c.args.code.header.n) c.loop-i.i (c.args.code.header.n - c.args.code.header.k) c.loop-i-test.true)
 
-pub width_of-w-requires : goal.width_of-w-requires
-width_of-w-requires c = c.args.code.sound.usable_field
-
-pub overflow_mul-count : goal.overflow_mul-count
-overflow_mul-count c = omega (arith, lane_small c.args.code.header c.args.code.sound _ c.width_of-w.ensures.0)
-
-pub loop-i-init : goal.loop-i-init
-loop-i-init c = rw (sub-zero, zero-mul) (fills_start _ _)
-
-pub overflow_mul-start : goal.overflow_mul-start
-overflow_mul-start c = omega (arith, row_in c)
-
-pub overflow_add-end : goal.overflow_add-end
-overflow_add-end c = omega (arith, row_in c)
-
-pub nonzero_rem-i : goal.nonzero_rem-i
-nonzero_rem-i c = omega (arith, c.width_of-w.ensures.1)
-
-pub nonzero_div-i : goal.nonzero_div-i
-nonzero_div-i c = omega (arith, c.width_of-w.ensures.1)
-
 pub slice_bounds-fill_row-end-in-loop-i : goal.slice_bounds-fill_row-end-in-loop-i
 slice_bounds-fill_row-end-in-loop-i c = omega (arith, row_in (goal.at.slice_bounds-fill_row-end-in-loop-i c).In-loop-i)
-
-pub fill_row-requires : goal.fill_row-requires
-fill_row-requires c =
-    let width = c.width_of-w in
-    let (wide, some, few) = width.ensures in
-    let test = c.loop-i-test.true in
-    (wide, mod-lt _ some, c.powers-table.ensures, (div-lt_iff_lt-mul some).1 (rw (mul_comm width.result c.args.code.header.n) at test))
 
 pub loop-i-preserved : goal.loop-i-preserved
 loop-i-preserved c =
@@ -59,9 +30,6 @@ loop-i-preserved c =
     (rw (rows_next _ _ _ c.loop-i-test.true) at l.invariant)
     (length_power_bytes a.code.header checks w (l.i % w) (l.i / w))
     (row_in (goal.at.loop-i-preserved c).In-loop-i))
-
-pub shape_of-rows : goal.shape_of-rows
-shape_of-rows c = c.loop-i.invariant.long
 
 pub returns : goal.returns
 returns c =

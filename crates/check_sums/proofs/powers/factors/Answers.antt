@@ -21,24 +21,14 @@ some c = omega (arith, c.args.code.sound.two)
 place : (c : In-loop-j) → c.loop-j.i < c.args.code.header.n
 place c = rw c.loop-j.invariant.0 (mod-lt _ (omega (arith, c.args.code.sound.two)))
 
-pub nonzero_rem-step : goal.nonzero_rem-step
-nonzero_rem-step c = omega (arith, some c)
-
 pub loop-j-init : goal.loop-j-init
 unfolding zeros
 loop-j-init c =
     let a = c.args in
     (sym (ap (λ (x : ℕ). x % a.code.header.n) (zero-mul a.e) ∙ mod-eq_of_lt (some c)), filled_start 255 _ _ (omega (arith, c.struct_known-1.given)))
 
-pub offset_bounds-powers-i : goal.offset_bounds-powers-i
-offset_bounds-powers-i c = omega (arith, place c, c.struct_known-1.given)
-
 pub bounds-powers-i : goal.bounds-powers-i
 bounds-powers-i c = rw c.requires.0 (power_place c.args.code.header _ (place (goal.at.bounds-powers-i c).In-loop-j))
-
-pub stepped-i-requires : goal.stepped-i-requires
-stepped-i-requires c =
-    (place (goal.at.stepped-i-requires c).In-loop-j, mod-lt _ (omega (arith, c.args.code.sound.two)), c.args.code.sound.byte)
 
 pub loop-j-preserved : goal.loop-j-preserved
 loop-j-preserved c =

@@ -28,12 +28,6 @@ fourth c =
     let v = usable_field _ c.new-field.result.usable in
     c.mul-fourth.ensures.is ∙ ap₂ (mul _) c.mul-square.ensures.is c.mul-square.ensures.is ∙ sym (power_four _ v _ (root-symbol (goal.at.After-mul-fourth c).After-new-field))
 
-pub mul-square-requires : goal.mul-square-requires
-mul-square-requires c = let w = (goal.at.mul-square-requires c).After-new-field in (root-symbol w, root-symbol w)
-
-pub mul-x3-requires : goal.mul-x3-requires
-mul-x3-requires c = (root-symbol (goal.at.mul-x3-requires c).After-new-field, c.mul-square.ensures.symbol)
-
 pub loop-i-init : goal.loop-i-init
 unfolding zeros power
 loop-i-init c =

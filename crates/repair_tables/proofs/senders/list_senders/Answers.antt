@@ -1,14 +1,10 @@
 -- `list_senders` meets its contract. Invariant: the nodes below j that send are listed, and those from j on are to come.
-use mathlib.Core.Path.{refl, sym, ◌∙◌}
+use mathlib.Core.Path.{sym, ◌∙◌}
 use mathlib.Core.List.{append-nil, append_assoc}
-use native.Mathlib.Nat.{sub-zero}
 use native.Mathlib.Omega.{arith}
 use Rattle.lists.proofs.Passing.{passing_next, passing_end}
 use Rattle.repair_tables.proofs.senders.list_senders.Goals as goal
 use Rattle.repair_tables.proofs.senders.list_senders.Goals.{else-sends, then-sends}
-
-pub loop-j-init : goal.loop-j-init
-loop-j-init c = rw (c.new-nodes.ensures, sub-zero) record { few = omega arith; listed = refl }
 
 pub loop-j-preserved : goal.loop-j-preserved
 loop-j-preserved c =

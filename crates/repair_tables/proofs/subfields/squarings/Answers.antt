@@ -1,14 +1,7 @@
 -- `subfields::squarings` meets its contract. Invariant: so many squarings are left.
 use mathlib.Core.Path.{sym, ◌∙◌}
-use native.Mathlib.Nat.{sub-zero}
 use Rattle.repair_tables.proofs.Steps.{mul_byte, squarings_next, squarings_end}
 use Rattle.repair_tables.proofs.subfields.squarings.Goals as goal
-
-pub loop-init : goal.loop-init
-loop-init c = (c.requires, rw sub-zero)
-
-pub mul_with-x-requires : goal.mul_with-x-requires
-mul_with-x-requires c = let x = c.loop.invariant.0 in (x, x)
 
 pub loop-preserved : goal.loop-preserved
 loop-preserved c =

@@ -10,9 +10,6 @@ use Rattle.repair_tables.proofs.tables.sent_digits.Goals.{After-factor-f}
 pub new-target-requires : goal.new-target-requires
 new-target-requires c = let (b, t, missing, j) = c.requires in (binary_of _ _ _ b, t)
 
-pub factor-f-requires : goal.factor-f-requires
-factor-f-requires c = let (b, t, missing, j) = c.requires in rw c.new-target.ensures.0 (j, missing)
-
 -- the factor is a byte
 low : (c : After-factor-f) → c.factor-f.result < 256
 low c = kind_symbol _ _ c.new-target.result.binary c.factor-f.ensures.symbol

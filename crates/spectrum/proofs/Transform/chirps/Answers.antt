@@ -25,12 +25,6 @@ pub loop-x-init : goal.loop-x-init
 unfolding zeros
 loop-x-init c = filled_start 510 510 (read c.args.self.powers.now c.args.exponents.now) (omega arith)
 
-pub overflow_cast-e : goal.overflow_cast-e
-overflow_cast-e c = let (is, low) = exponent (goal.at.overflow_cast-e c).In-loop-x in omega arith
-
-pub offset_bounds-self-e : goal.offset_bounds-self-e
-offset_bounds-self-e c = let (is, low) = exponent (goal.at.offset_bounds-self-e c).In-loop-x in omega arith
-
 pub bounds-self-e : goal.bounds-self-e
 bounds-self-e c =
     let (is, low) = exponent (goal.at.bounds-self-e c).In-loop-x in

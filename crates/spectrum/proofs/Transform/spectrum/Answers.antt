@@ -1,5 +1,5 @@
 -- `spectrum` meets its contract: the sums over the row of powers, with powers taken out before and after, are the spectrum.
-use mathlib.Core.Path.{◌≡◌, sym, ap, ◌∙◌}
+use mathlib.Core.Path.{◌≡◌, ap, ◌∙◌}
 use native.Mathlib.Omega.{arith}
 use lib.ListN.{length, take}
 use lib.Seq.{length-take-le}
@@ -12,7 +12,7 @@ use Rattle.generator.specs.Records.{modulus_of}
 use Rattle.sliding_sums.specs.Inner.Windows.{window_sums}
 use Rattle.sliding_sums.proofs.Tables.{length_windows}
 use Rattle.spectrum.specs.Inner.Spectrum.{chirp_at, unchirped}
-use Rattle.check_sums.proofs.Prefix.{whole_fits, whole_is, length_whole}
+use Rattle.check_sums.proofs.Prefix.{whole_is}
 use Rattle.spectrum.proofs.Lanes.{length_unchirped, chirps_below, unchirped_below, windows_below}
 use Rattle.spectrum.proofs.Chirped.{spectrum_is}
 use Rattle.spectrum.proofs.Transform.spectrum.Goals as goal
@@ -38,12 +38,6 @@ sums-of : (c : After-window_sums)
     ≡ window_sums (modulus_of a.self.code.header) (unchirped a.self.code.header a.lane.now) (from (chirp_at a.self.code.header) 0 510) a.self.code.header.n
 sums-of c = rw (weights-are (goal.at.After-window_sums c).After-unchirp-weights, c.chirps-row.ensures, room-size (goal.at.After-window_sums c).After-blank-sums)
 
-pub slice_bounds-window_sums-end : goal.slice_bounds-window_sums-end
-slice_bounds-window_sums-end c = sym (weights-size (goal.at.slice_bounds-window_sums-end c).After-unchirp-weights)
-
-pub slice_bounds-window_sums-end-3 : goal.slice_bounds-window_sums-end-3
-slice_bounds-window_sums-end-3 c = sym (room-size (goal.at.slice_bounds-window_sums-end-3 c).After-blank-sums)
-
 pub window_sums-requires : goal.window_sums-requires
 window_sums-requires c =
     let few = c.args.self.code.sound.byte in
@@ -60,12 +54,6 @@ window_sums-requires c =
         symbols = rw c.chirps-row.ensures (chirps_below _ c.args.self.code.sound);
       },
     )
-
-pub slice_bounds-sums-end-2 : goal.slice_bounds-sums-end-2
-slice_bounds-sums-end-2 c = whole_fits _ _ _ _ (c.window_sums.ensures ∙ sums-of (goal.at.slice_bounds-sums-end-2 c).After-window_sums) (length_windows _ _ _ _)
-
-pub slice_bounds-unchirp-end : goal.slice_bounds-unchirp-end
-slice_bounds-unchirp-end c = sym (length_whole _ _ _ _ (c.window_sums.ensures ∙ sums-of (goal.at.slice_bounds-unchirp-end c).After-window_sums) (length_windows _ _ _ _))
 
 pub unchirp-requires : goal.unchirp-requires
 unchirp-requires c =

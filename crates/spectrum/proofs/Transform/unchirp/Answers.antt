@@ -41,20 +41,8 @@ pub loop-j-init : goal.loop-j-init
 unfolding zeros
 loop-j-init c = filled_start 255 _ _ c.requires.1
 
-pub bounds-exponents-j : goal.bounds-exponents-j
-bounds-exponents-j c = omega (arith, c.requires.1)
-
-pub overflow_cast-exponents : goal.overflow_cast-exponents
-overflow_cast-exponents c = omega (arith, exponent (goal.at.overflow_cast-exponents c).In-loop-j)
-
 pub negative-e-requires : goal.negative-e-requires
 negative-e-requires c = exponent (goal.at.negative-e-requires c).In-loop-j
-
-pub overflow_cast-symbols : goal.overflow_cast-symbols
-overflow_cast-symbols c = omega (arith, c.type_inv.symbols c.loop-j.j)
-
-pub offset_bounds-self-e : goal.offset_bounds-self-e
-offset_bounds-self-e c = omega (arith, (power-is (goal.at.offset_bounds-self-e c).After-negative-e).0)
 
 pub bounds-self-e : goal.bounds-self-e
 bounds-self-e c = (power-is (goal.at.bounds-self-e c).After-negative-e).0
@@ -62,15 +50,6 @@ bounds-self-e c = (power-is (goal.at.bounds-self-e c).After-negative-e).0
 pub mul-requires : goal.mul-requires
 mul-requires c =
     (rw c.args.self.same (symbol (goal.at.mul-requires c).In-loop-j), rw c.args.self.same (power-is (goal.at.mul-requires c).After-negative-e).1)
-
-pub overflow_cast-out : goal.overflow_cast-out
-overflow_cast-out c = omega (arith, c.mul.ensures.symbol, c.args.self.field.small)
-
-pub offset_bounds-out-j : goal.offset_bounds-out-j
-offset_bounds-out-j c = omega (arith, c.requires.1)
-
-pub bounds-out-j : goal.bounds-out-j
-bounds-out-j c = omega (arith, c.requires.1)
 
 pub loop-j-preserved : goal.loop-j-preserved
 loop-j-preserved c =

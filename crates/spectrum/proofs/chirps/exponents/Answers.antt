@@ -1,7 +1,7 @@
 -- `exponents` meets its contract. Invariant: the exponents below x are written, and the next one and x are known modulo n.
 use mathlib.Core.Path.{sym, ◌∙◌}
-use Prim.Native.Nat.{◌%◌, ◌<◌}
-use native.Mathlib.Nat.{mod-lt, zero-mod}
+use Prim.Native.Nat.{◌%◌}
+use native.Mathlib.Nat.{zero-mod}
 use native.Mathlib.Omega.{arith}
 use Rattle.lists.specs.Padded.{zeros}
 use Rattle.lists.proofs.Fill.{filled_start, filled_put}
@@ -10,24 +10,9 @@ use Rattle.spectrum.proofs.Arrays.{all_filled, triangle_next, next_modulo}
 use Rattle.spectrum.proofs.chirps.exponents.Goals as goal
 use Rattle.spectrum.proofs.chirps.exponents.Goals.{In-loop-x}
 
--- both are below n
-low : (c : In-loop-x) → (c.loop-x.sum < c.args.n) × (c.loop-x.step < c.args.n)
-low c =
-    let l = c.loop-x in
-    (rw l.invariant.1 (mod-lt _ (omega arith)), rw l.invariant.2 (mod-lt _ (omega arith)))
-
 pub loop-x-init : goal.loop-x-init
 unfolding zeros triangle
 loop-x-init c = (filled_start 510 510 (λ x. triangle x % c.args.n) (omega arith), sym (zero-mod c.args.n), sym (zero-mod c.args.n))
-
-pub overflow_cast-out : goal.overflow_cast-out
-overflow_cast-out c = omega (arith, low c)
-
-pub stepped-sum-requires : goal.stepped-sum-requires
-stepped-sum-requires c = let (a, b) = low c in (a, b, omega arith)
-
-pub stepped-step-requires : goal.stepped-step-requires
-stepped-step-requires c = let (a, b) = low (goal.at.stepped-step-requires c).In-loop-x in (b, omega arith, omega arith)
 
 pub loop-x-preserved : goal.loop-x-preserved
 loop-x-preserved c =

@@ -1,8 +1,6 @@
 -- `input_fault` meets its contract: the tests are those of the definition, in its order.
 use mathlib.Core.Path.{sym, ◌∙◌}
-use Rattle.generator.proofs.Answered.{met, passed, last}
 use Rattle.refusals.proofs.NotMet.{length_good, number_good}
-use Rattle.update.specs.Promise.{input_fault}
 use Rattle.update.proofs.Update.input_fault.Goals as goal
 
 pub lane_bad-requires : goal.lane_bad-requires

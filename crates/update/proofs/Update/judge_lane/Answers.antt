@@ -1,16 +1,6 @@
 -- `judge_lane` meets its contract: the lane is a part of the shares.
-use native.Mathlib.Omega.{arith}
-use Rattle.update.proofs.Lane.{lane_inside, lane_few, lane_word, lane_is}
+use Rattle.update.proofs.Lane.{lane_inside, lane_word, lane_is}
 use Rattle.update.proofs.Update.judge_lane.Goals as goal
-
-pub overflow_mul-size : goal.overflow_mul-size
-overflow_mul-size c = omega (arith, lane_few c.requires _ c.width_of-w.ensures.0)
-
-pub overflow_mul-start : goal.overflow_mul-start
-overflow_mul-start c = omega (arith, lane_inside c.requires _ c.width_of-w.ensures.0)
-
-pub overflow_add-end : goal.overflow_add-end
-overflow_add-end c = omega (arith, lane_inside c.requires _ c.width_of-w.ensures.0)
 
 pub slice_bounds-lane-end : goal.slice_bounds-lane-end
 slice_bounds-lane-end c = lane_inside c.requires _ c.width_of-w.ensures.0

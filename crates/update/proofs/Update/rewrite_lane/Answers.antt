@@ -6,27 +6,13 @@ use Rattle.lists.specs.Numbers.{all_below}
 use Rattle.lists.proofs.Numbers.{at_below}
 use Rattle.field.proofs.Bounds.{sub_below}
 use Rattle.blocks.specs.Blocks.{updated}
-use Rattle.update.proofs.Lane.{lane_inside, lane_few, lane_word, lane_rewritten, lane_differs}
+use Rattle.update.proofs.Lane.{lane_inside, lane_word, lane_rewritten, lane_differs}
 use Rattle.update.proofs.Update.rewrite_lane.Goals as goal
 use Rattle.update.proofs.Update.rewrite_lane.Goals.{After-slice_known-1}
 
 -- the shares are bytes
 bytes : (c : After-slice_known-1) → all_below 256 c.args.shares.now ≡ true
 bytes c = at_below 256 _ (λ i h. omega (arith, c.type_inv.shares i))
-
-pub sub-x-requires : goal.sub-x-requires
-sub-x-requires c =
-    let (ready, old, new) = c.requires in
-    (ready.sound.usable_field, new, old)
-
-pub overflow_mul-size : goal.overflow_mul-size
-overflow_mul-size c = omega (arith, lane_few c.requires.0 _ c.width_of-w.ensures.0)
-
-pub overflow_mul-start : goal.overflow_mul-start
-overflow_mul-start c = omega (arith, lane_inside c.requires.0 _ c.width_of-w.ensures.0)
-
-pub overflow_add-end : goal.overflow_add-end
-overflow_add-end c = omega (arith, lane_inside c.requires.0 _ c.width_of-w.ensures.0)
 
 pub slice_bounds-lane-end : goal.slice_bounds-lane-end
 slice_bounds-lane-end c = lane_inside c.requires.0 _ c.width_of-w.ensures.0

@@ -3,17 +3,8 @@ use mathlib.Core.Path.{sym, ◌∙◌}
 use Prim.Native.Nat.{◌/◌}
 use Rattle.traces.specs.Traces.{trace_of}
 use Rattle.traces.proofs.Bytes.{squarings_byte}
-use Rattle.repair_tables.proofs.Steps.{trace_start, trace_next, trace_end, width_some}
+use Rattle.repair_tables.proofs.Steps.{trace_next, trace_end}
 use Rattle.repair_tables.proofs.bits.Bits.trace.Goals as goal
-
-pub nonzero_div-terms : goal.nonzero_div-terms
-nonzero_div-terms c = rw c.count-b.ensures (width_some c.args.self).0
-
-pub loop-init : goal.loop-init
-loop-init c = (c.requires, trace_start _ _ _)
-
-pub squarings-x-requires : goal.squarings-x-requires
-squarings-x-requires c = c.loop.invariant.0
 
 pub loop-preserved : goal.loop-preserved
 loop-preserved c =

@@ -11,9 +11,6 @@ loop-node-init c = let sound = c.args.self.code.sound in (one_below _ sound.fiel
 pub erasing-x-requires : goal.erasing-x-requires
 erasing-x-requires c = (c.requires.0, below_at _ _ c.requires.1 _ c.loop-node-test.true)
 
-pub mul-product-requires : goal.mul-product-requires
-mul-product-requires c = rw c.args.self.same (c.loop-node.invariant.0, c.erasing-x.ensures.symbol)
-
 pub loop-node-preserved : goal.loop-node-preserved
 loop-node-preserved c =
     let t = c.args.self in

@@ -3,9 +3,6 @@ use Rattle.field.proofs.Bounds.{one_below}
 use Rattle.traces.specs.Repairs.{erasing}
 use Rattle.repair_tables.proofs.nodes.Target.erasing.Goals as goal
 
-pub sub-over-requires : goal.sub-over-requires
-sub-over-requires c = rw c.args.self.same (c.requires.0, c.ratio-v.ensures.symbol)
-
 pub sub-requires : goal.sub-requires
 sub-requires c = rw c.args.self.same (one_below _ c.args.self.code.sound.field, c.ratio-v.ensures.symbol)
 

@@ -2,18 +2,6 @@
 use Rattle.traces.specs.Repairs.{factor}
 use Rattle.repair_tables.proofs.nodes.Target.factor.Goals as goal
 
-pub inverse-y-requires : goal.inverse-y-requires
-inverse-y-requires c = rw c.args.self.same c.offset.ensures.symbol
-
-pub mul-x-requires : goal.mul-x-requires
-mul-x-requires c = (rw c.args.self.same c.ratio-u.ensures.symbol, c.inverse-y.ensures.symbol)
-
-pub eraser-z-requires : goal.eraser-z-requires
-eraser-z-requires c = (c.ratio-u.ensures.symbol, c.requires.1)
-
-pub mul-requires : goal.mul-requires
-mul-requires c = (c.mul-x.ensures.symbol, rw c.args.self.same c.eraser-z.ensures.symbol)
-
 pub returns : goal.returns
 unfolding factor
 returns c =

@@ -1,22 +1,12 @@
 -- `Target::list_weights` meets its contract.
-use native.Mathlib.Omega.{arith}
 use Rattle.lists.specs.Padded.{zeros}
 use Rattle.lists.proofs.Fill.{filled_start, filled_put, filled_end}
 use Rattle.repair_tables.proofs.Steps.{bits_fit}
 use Rattle.repair_tables.proofs.nodes.Target.list_weights.Goals as goal
 
-pub overflow_mul-count : goal.overflow_mul-count
-overflow_mul-count c = omega (arith, rw (← c.count.ensures) at (bits_fit _ c.args.self.bits c.requires.1))
-
 pub loop-q-init : goal.loop-q-init
 unfolding zeros
 loop-q-init c = filled_start 1020 _ _ (rw (← c.count.ensures) at (bits_fit _ c.args.self.bits c.requires.1))
-
-pub weight-requires : goal.weight-requires
-weight-requires c = (c.requires.0, rw (← c.count.ensures) c.loop-q-test.true, c.powers_with-powers.ensures)
-
-pub bounds-table-q : goal.bounds-table-q
-bounds-table-q c = omega (arith, c.loop-q.invariant.fits)
 
 pub loop-q-preserved : goal.loop-q-preserved
 loop-q-preserved c = filled_put c.loop-q.invariant c.loop-q-test.true c.weight.ensures

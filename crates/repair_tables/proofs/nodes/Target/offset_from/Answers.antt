@@ -2,7 +2,6 @@
 use mathlib.Core.Path.{◌≡◌}
 use Prim.Native.Nat.{◌+◌, ◌-◌, ◌%◌, ◌<◌}
 use native.Mathlib.Nat.{mod-lt}
-use native.Mathlib.Omega.{arith}
 use borrow.Author.Rules.{rules}
 use lib.ListN.{get_or}
 use Rattle.field.proofs.Bounds.{one_below}
@@ -23,14 +22,8 @@ read : (c : After-shared_slice_known-1) → let a = c.args in get_or a.powers.no
 unfolding ratio
 read c = rw c.requires.1 (power_at _ _ (place c))
 
-pub offset_bounds-powers-node : goal.offset_bounds-powers-node
-offset_bounds-powers-node c = omega (arith, place c, c.args.self.code.sound.byte)
-
 pub bounds-powers-node : goal.bounds-powers-node
 bounds-powers-node c = rw c.requires.1 (power_place _ _ (place (goal.at.bounds-powers-node c).After-shared_slice_known-1))
-
-pub overflow_cast-u : goal.overflow_cast-u
-overflow_cast-u c = let a = c.args in omega (arith, c.type_inv.powers ((a.node + (a.self.code.header.n - a.self.node)) % a.self.code.header.n))
 
 pub sub-requires : goal.sub-requires
 sub-requires c =

@@ -2,9 +2,6 @@
 use Rattle.traces.specs.Repairs.{ratio}
 use Rattle.repair_tables.proofs.nodes.Target.ratio.Goals as goal
 
-pub power-requires : goal.power-requires
-power-requires c = rw c.args.self.same c.args.self.code.sound.root_below
-
 pub returns : goal.returns
 unfolding ratio
 returns c =
