@@ -87,7 +87,8 @@ impl Job<'_> {
         }
     }
 
-    // The same in scratch of its own: so many bytes for rows, so many for a table.
+    // The same in scratch of its own: so many bytes for rows, so many for a table. A bound of a const parameter stands in the clause: no value
+    // holds it.
     fn fill_in<const ROWS: usize, const TABLE: usize>(self, out: &mut [u8])
         requires out_long { length out.old ≡ out_bytes self.m.way self.w self.m.outputs self.m.lanes }
         requires room { Room self.w self.m.outputs self.m.rows ROWS TABLE ROWS }

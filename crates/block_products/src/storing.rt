@@ -19,7 +19,7 @@ fn join(count: usize, part: &[u8], out: &mut [u8])
     }
 }
 
-// The symbols of an output's rows of bytes. With `copy_from_slice`, a call for each 64 bytes, lanes took 7 % longer to become rows.
+// The symbols of an output's rows of bytes; their width w is a number here too: see symbols/src/lib.rt. With `copy_from_slice`, a call for each 64 bytes, lanes took 7 % longer to become rows.
 fn store_row(w: usize, count: usize, part: &[u8], out: &mut [u8])
     requires some { 1 ≤ w }
     requires few_bytes { w ≤ 2 }

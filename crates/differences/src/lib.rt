@@ -71,7 +71,8 @@ fn add_accepted(
     Ok(())
 }
 
-// Adds a node's difference to its share, or says what turns the call away and alters nothing.
+// Adds a node's difference to its share, or says what turns the call away and alters nothing. It has the shape of `encode_block` and another
+// promise: each call of the interface is a function of its own.
 pub fn add_share(rec: &[u8], lanes: u32, difference: &[u8], share: &mut [u8]) -> Result<(), Refusal>
     ensures { AddSays rec.now lanes difference.now share.old share.new (numbered result) }
 {

@@ -66,7 +66,8 @@ fn product_of(h: Header, lanes: usize) -> Product
     }
 }
 
-// Fills all lanes, as a product of matrices, in scratch for lists of so many elements and so many counts.
+// Fills all lanes, as a product of matrices, in scratch for lists of so many elements and so many counts. A bound of a const parameter stands
+// in the clause: no value holds it.
 fn fill_in<const LISTS: usize, const COUNTS: usize>(message: &Message, out: &mut [u8])
     requires { (LISTS ≤ 130560) × (COUNTS ≤ 2040) × ColumnRoom (record_header message.now) LISTS COUNTS × (length out.old ≡ share_bytes message.now) }
     ensures { out.new ≡ encoded message.now }

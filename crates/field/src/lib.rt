@@ -26,7 +26,7 @@ pub enum Field {
 
 // The operations on symbols have the same arms: one function that takes the operation would make each call longer, and no plainer.
 // Each asks that the field is usable: headers that are still to be judged hold fields too. Whoever has judged one holds a `Code` or an
-// `Arithmetic`, of which nothing is asked.
+// `Arithmetic`, of which nothing is asked. A symbol is a plain number: a type for it would hold the field whose size it is below.
 impl Field {
     pub const ZERO: u32 = 0;
 

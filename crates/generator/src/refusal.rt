@@ -33,6 +33,7 @@ impl Refusal {
     }
 }
 
+// The number itself is asked for by the interface for C and by the texts: this conversion gives it.
 impl From<Refusal> for u8 {
     ghost from_gives = { λ e n. n ≡ number e };
 

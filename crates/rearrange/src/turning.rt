@@ -1,4 +1,4 @@
-// A table of symbols of either width turned: its columns one after the other.
+// A table of symbols of either width turned: its columns one after the other. The width w is a number here too: see symbols/src/lib.rt.
 ghost use Rattle.std.specs.Prelude.{◌≡◌, ◌*◌, ◌≤◌, ◌<◌, length};
 ghost use Rattle.layout.specs.Layout.{row_after_row, lane_after_lane, lane_of, rearranged};
 ghost use Rattle.layout.specs.Width.{symbols_of, bytes_of};

@@ -32,7 +32,8 @@ fn size_bad(h: Header) -> bool
     n < 2 || k == 0 || n < k
 }
 
-// Number 5: the root is no symbol of order exactly n.
+// Number 5: the root is no symbol of order exactly n. The header is still to be judged, here and below: no more is known than that its field
+// is usable.
 #[tactic(auto, unfolding(generator::specs::Records::root_bad))]
 fn root_bad(h: Header) -> bool
     requires { (usable h.field ≡ true) × (2 ≤ h.n) }

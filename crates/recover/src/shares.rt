@@ -58,7 +58,7 @@ impl Weighted<'_> {
         }
     }
 
-    // The same in scratch of its own, of so many bytes.
+    // The same in scratch of its own, of so many bytes, a bound of which stands in the clause: no value holds it.
     fn fill_in<const TILE: usize>(self, out: &mut [u8])
         requires { (510 ≤ TILE) × (TILE ≤ 32768) × (length out.old ≡ self.width * self.lanes) }
         ensures { let v = self.entry in out.new ≡ sum_bytes v.code.header v.width v.lanes v.weights.now v.shares.now }

@@ -16,7 +16,8 @@ const MIDDLE_SQUARE: usize = 8192;
 const LARGE_SQUARE: usize = 130050;
 
 impl Inverse<'_> {
-    // The message in scratch for lists of so many elements, so many counts, and square matrices of so many bytes.
+    // The message in scratch for lists of so many elements, so many counts, and square matrices of so many bytes. A bound of a const parameter
+    // stands in the clause: no value holds it.
     fn fill_in<const LISTS: usize, const COUNTS: usize, const SQUARE: usize>(
         self,
         lanes: usize,

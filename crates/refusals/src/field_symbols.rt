@@ -29,7 +29,8 @@ pub fn symbols_bad(h: Header, s: &[u8]) -> bool
     !symbols::pairs_below(size, s)
 }
 
-// The same for the shares of some nodes, lane by lane: each lane is handed on as the part from its start to the next one's.
+// The same for the shares of some nodes, lane by lane: each lane is handed on as the part from its start to the next one's, which was asked
+// for (docs/CLAIMS.md, "Forms of the code").
 pub fn shares_bad(h: Header, nodes: u8, lanes: usize, shares: &[u8]) -> bool
     requires { (usable h.field ≡ true) × (length shares.now ≡ nodes * lanes * width h) }
     ensures { result ≡ symbols_bad h shares.now }

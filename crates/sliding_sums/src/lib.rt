@@ -11,7 +11,7 @@ mod prime;
 
 use field::Field;
 
-// The sums from each place that `sums` has room for. A value of the weights and the row could not hold `Windows`, which counts the sums too, and of sums that are lent within it the caller would not know what was written.
+// The sums from each place that `sums` has room for. A usable field, and no `Arithmetic`, which would hold tables that no sum here reads. A value of the weights and the row could not hold `Windows`, which counts the sums too, and of sums that are lent within it the caller would not know what was written.
 pub fn window_sums(field: Field, weights: &[u16], row: &[u16], sums: &mut [u16])
     requires { (usable field ≡ true) × Windows (size_of (modulus field)) weights.now row.now (length sums.old) }
     ensures { sums.new ≡ window_sums (modulus field) weights.now row.now (length sums.old) }

@@ -1,5 +1,5 @@
-// Copies whose size the compiler knows, each by one vector: one load and one store. By `copy_from_slice`, which asks first whether the two
-// overlap, squares take two to four times as long.
+// Copies whose size the compiler knows, each by one vector: one load and one store. By `copy_from_slice`, a call that asks first whether the
+// two overlap, a copy of 16 bytes takes two to four times as long.
 ghost use Rattle.std.specs.Prelude.{◌≡◌, ◌+◌, ◌≤◌, ◌<◌, length, take};
 ghost use Rattle.tiles.specs.Inner.Words.{patched};
 

@@ -43,7 +43,8 @@ impl Block<'_> {
         }
     }
 
-    // Marks of several lanes as a product of matrices, in scratch for lists of so many elements and so many counts.
+    // Marks of several lanes as a product of matrices, in scratch for lists of so many elements and so many counts. A bound of a const parameter
+    // stands in the clause: no value holds it.
     fn mark_in<const LISTS: usize, const COUNTS: usize>(self, marks: &mut [u8])
         requires { (LISTS ≤ 130560) × (COUNTS ≤ 2040) × CheckRoom self.code.header LISTS COUNTS × (length marks.old ≡ self.lanes) }
         ensures { let b = self.entry in marks.new ≡ word_marks share_layout b.code.header b.lanes (symbols_of (width b.code.header) b.shares.now) }
@@ -56,6 +57,7 @@ impl Block<'_> {
     }
 
     // Marks all lanes, which have the mark 0 before, in the smallest scratch that the record's nodes fit: clearing the largest takes longer than the work of a small record.
+    // The arms name const parameters: a choice written once would need a trait for what is done in the scratch.
     pub fn mark_lanes(self, marks: &mut [u8])
         requires { marks.old ≡ zeros self.lanes }
         ensures { let b = self.entry in marks.new ≡ word_marks share_layout b.code.header b.lanes (symbols_of (width b.code.header) b.shares.now) }
