@@ -197,9 +197,5 @@ module _ (h : Header) (ws : List ℕ) where
   unfolding check_sums
   length_sums = length_from (λ e. check_from h e 0 ws) 1 (h.n - h.k)
 
-  -- in bytes
-  pub length_sum_bytes : (w : ℕ) → w ≡ width h → length (bytes_of (width h) (check_sums h ws)) ≡ w * (h.n - h.k)
-  length_sum_bytes w wide = length_bytes (width h) (check_sums h ws) ∙ ap (λ (x : ℕ). x * width h) length_sums ∙ mul_comm (h.n - h.k) (width h) ∙ ap (λ (x : ℕ). x * (h.n - h.k)) (sym wide)
-
   pub sums_read : (w : ℕ) → w ≡ width h → symbols_of w (bytes_of (width h) (check_sums h ws)) ≡ check_sums h ws
   sums_read w wide = rw wide (symbols_bytes (width h) (check_sums h ws) (width_some h))

@@ -8,11 +8,5 @@ use lib.Seq.{take_at}
 
 -- with a list of l elements
 module _ (l : ℕ) (new old whole : List ℕ) (filled : new ≡ whole) (long : length whole ≡ l) where
-  pub whole_fits : l ≤ length (new ++ drop l old)
-  whole_fits = omega (arith, ap length filled, long, length-append new (drop l old))
-
   pub whole_is : take l (new ++ drop l old) ≡ whole
   whole_is = take_at new (drop l old) l (ap length filled ∙ long) ∙ filled
-
-  pub length_whole : length (take l (new ++ drop l old)) ≡ l
-  length_whole = ap length whole_is ∙ long

@@ -16,11 +16,5 @@ module _ (h : Header) (s : Sound h) (w : ℕ) (wide : w ≡ width h) where
   pub lane_small : w * h.n ≤ 510
   lane_small = mul-le-mul (width_two h w wide) s.byte
 
-  -- its check sums, and the rows of powers
-  pub sums_small : w * (h.n - h.k) ≤ 510
-  sums_small =
-      let few : h.n - h.k ≤ 255 = omega (arith, s.byte) in
-      mul-le-mul (width_two h w wide) few
-
   pub rows_small : w * h.n * (h.n - h.k) ≤ 130050
   rows_small = let few : h.n - h.k ≤ 255 = omega (arith, s.byte) in mul-le-mul lane_small few

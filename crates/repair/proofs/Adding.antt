@@ -31,10 +31,6 @@ use Rattle.repair.specs.Inner.Lanes.{lane_bit}
 use Rattle.repair.proofs.Digits.{byte_ext, byte_inside}
 use Rattle.repair.proofs.Bits.{bit_sum, byte_sum, repaired_bits}
 
--- a row that is added where the bit is 1
-pub chosen_one : (bit : ℕ) (row acc : List ℕ) → bit ≡ 1 → lanewise (λ c y. bit_xor y (get_or row c 0)) acc ≡ lanewise (λ c y. bit_xor y (bit * get_or row c 0)) acc
-chosen_one bit row acc e = lanewise_ext _ _ acc (λ c l. ap (bit_xor (get_or acc c 0)) (sym (ap (λ (b : ℕ). b * get_or row c 0) e ∙ Nat.one-mul (get_or row c 0))))
-
 pub chosen_none : (bit : ℕ) (row acc : List ℕ) → bit < 2 → (bit ≡ 1 → ⊥) → acc ≡ lanewise (λ c y. bit_xor y (bit * get_or row c 0)) acc
 chosen_none bit row acc l n =
     let e : bit ≡ 0 = omega arith in

@@ -55,9 +55,6 @@ pub trace_end : (n i b s x : ℕ) → n ≤ i → bit_xor s (trace_from (n - i) 
 unfolding trace_from
 trace_end n i b s x h = ap (λ (f : ℕ). bit_xor s (trace_from f b x)) (sub_end n i h) ∙ xor_zero_r s
 
-pub trace_start : (n b x : ℕ) → bit_xor 0 (trace_from (n - 0) b x) ≡ trace_from n b x
-trace_start n b x = rw sub-zero (xor_comm 0 (trace_from n b x) ∙ xor_zero_r (trace_from n b x))
-
 -- an element of a subfield is a byte
 digit_times : (m v : ℕ) → m < 256 → m * (v % 2) < 256
 digit_times m v h = times_digit m (v % 2) h (digit v)

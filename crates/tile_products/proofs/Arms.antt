@@ -37,12 +37,6 @@ module _ (p : ℕ) (prime : is_prime p ≡ true) where
   pub prime_two : 256 < p → bytes_for p ≡ 2
   prime_two many = two_bytes p (rw (prime_size p prime) many)
 
-  pub codes_one : {codes : List ℕ} → Ratios p codes → Codes p codes
-  codes_one r = record { digits = λ e. absurd (omega (arith, two≤prime p prime)); ratios = λ h few. r }
-
-  pub codes_two : {codes : List ℕ} → 256 < p → Codes p codes
-  codes_two many = record { digits = λ e. absurd (omega arith); ratios = λ h few. absurd (omega arith) }
-
   module _ {ws list counts : List ℕ} (few : length ws ≤ 255) (below : all_below p ws ≡ true) (long : length list ≡ 8 * groups_of (length ws)) (counted : length counts ≡ 8) where
     pub lists_one : p ≤ 256 → Scaled p ws list → Prepared p ws list counts
     lists_one low s =

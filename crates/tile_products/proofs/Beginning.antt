@@ -58,11 +58,5 @@ begun_made {p} {rows} {w} few lists_room counts_room b =
 
 -- what is known of the parts where the weights are not named
 module _ {p rows outputs : ℕ} {lists counts : List ℕ} (made : ∥ Made p rows outputs lists counts ∥₁) where
-  pub lists_inside : (j : ℕ) → j < outputs → j * (8 * groups_of rows) + 8 * groups_of rows ≤ length lists
-  lists_inside j low = ∥∥₁_elim made (hlevel props) (λ m. omega (arith, m.lists_room, row_inside outputs j (8 * groups_of rows) low))
-
-  pub counts_inside : (j : ℕ) → j < outputs → j * 8 + 8 ≤ length counts
-  counts_inside j low = ∥∥₁_elim made (hlevel props) (λ m. omega (arith, m.counts_room, row_inside outputs j 8 low))
-
   pub part_made : (j : ℕ) → j < outputs → ∥ Lists p rows (part_of (8 * groups_of rows) j lists) (part_of 8 j counts) ∥₁
   part_made j low = ∥∥₁_elim made ∥∥₁_prop (λ m. merely (m.each j low))

@@ -55,9 +55,6 @@ module _ {h : Header} {l r t : ℕ} {shares : List ℕ} (ready : UpdatableLane h
   pub lane_inside : t * size + size ≤ length shares
   lane_inside = Parts.lane_inside w h.n l t shares long ready.lane
 
-  pub lane_few : size ≤ 510
-  lane_few = let two : w ≤ 2 = rw wide (width_range h).1 in mul-le-mul two ready.sound.byte
-
   abbrev part : List ℕ
   part = take (t * size + size - t * size) (drop (t * size) shares)
 

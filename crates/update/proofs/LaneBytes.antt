@@ -52,9 +52,6 @@ module _ {h : Header} {w r : ℕ} {start : List ℕ} (ready : UpdatableWord h w 
     pub bytes_long : length now ≡ h.n * w
     bytes_long = ap length s.whole ∙ length_bytes w (symbols_of w now) ∙ ap (λ (n : ℕ). n * w) symbols_long
 
-    pub bytes_few : length now ≤ 510
-    bytes_few = let two : w ≤ 2 = rw ready.wide (width_range h).1 in omega (arith, bytes_long, mul-le-mul ready.sound.byte two)
-
     -- every node is done
     pub bytes_end : h.n ≤ j → (now ≡ bytes_of w (word_added h r x (symbols_of w start))) × (count ≡ differ (symbols_of w start) (word_added h r x (symbols_of w start)))
     bytes_end all =
