@@ -24,7 +24,7 @@ use Rattle.layout.proofs.Buffers.{lane_buffer, length_buffer, held_buffer, held_
 use Rattle.layout.proofs.Places.{held_by_row, buffer_by_row}
 use Rattle.layout.proofs.Tiles.{length_tile_symbols, length_tile_bytes, held_tile_bytes}
 use Rattle.layout.proofs.TileLanes.{tile_read}
-use Rattle.layout.proofs.Widths.{length_bytes, symbols_bytes}
+use Rattle.layout.proofs.Widths.{symbols_bytes}
 use Rattle.field.specs.Fields.{add, power}
 use Rattle.field.specs.Inner.Sums.{dot}
 use Rattle.field.proofs.BothKinds.{arithmetic}

@@ -17,7 +17,7 @@ use Rattle.field.proofs.Xor.{digit as low_digit}
 use Rattle.generator.specs.declared.Header.{Header}
 use Rattle.generator.specs.Records.{modulus_of, Sound}
 use Rattle.kernel.specs.Inner.Lanes.{lanewise}
-use Rattle.kernel.proofs.Lanes.{lanewise_ext, lanewise_same, lanewise_from}
+use Rattle.kernel.proofs.Lanes.{lanewise_same, lanewise_from}
 use Rattle.traces.specs.Traces.{xor_below}
 use Rattle.traces.specs.Repairs.{bits, senders, sent_digit, part, repaired}
 use Rattle.repair_tables.specs.Inner.Weights.{bit_weight}

@@ -4,11 +4,11 @@ use mathlib.Core.Bool.{Bool, ◌||◌}
 use mathlib.Core.List.{List, [], ◌∷◌}
 use mathlib.Core.Logic.{inl, inr}
 use Prim.Native.Nat.{ℕ, ◌+◌, ◌-◌, ◌*◌, ◌/◌, ◌%◌, ◌^◌, ◌≤◌, ◌<◌}
-use native.Mathlib.Nat.{sub-zero, zero-add, lt_of_lt_of_le, div-lt_iff_lt-mul, mod-lt, mul-le-mul}
+use native.Mathlib.Nat.{zero-add, lt_of_lt_of_le, div-lt_iff_lt-mul, mod-lt, mul-le-mul}
 use native.Mathlib.Omega.{arith}
 use lib.Dec.{eqb, lit<}
 use Rattle.lists.proofs.Cases.{by_test}
-use lib.Bits.{bit_xor, xor_zero_r, xor_comm, xor_lt, xor_mod}
+use lib.Bits.{bit_xor, xor_zero_r, xor_lt, xor_mod}
 use lib.ListN.{length, get_or, drop, drop_of_length-le}
 use lib.Pow.{pow_mono}
 use Rattle.std.specs.List.{list_any}

@@ -20,7 +20,7 @@ use Rattle.subset_sums.specs.Inner.Subsets.{table_of}
 use Rattle.subset_sums.specs.Inner.Lists.{turns_of, Slices, Listing, Grouped}
 use Rattle.subset_sums.specs.Inner.Spread.{spreads}
 use Rattle.subset_sums.proofs.Right.{output_right, listing_slices}
-use Rattle.tile_products.specs.Inner.Ratios.{Ratios, Scaled, InScale}
+use Rattle.tile_products.specs.Inner.Ratios.{Scaled, InScale}
 use Rattle.tile_products.specs.Inner.Products.{groups_of, Codes, InFrontOf, Prepared, Lists, Loaded, OutputRows}
 use Rattle.tile_products.proofs.Scaling.{scaled_alone}
 use Rattle.tile_products.proofs.Lanes.{output_front, one_row}

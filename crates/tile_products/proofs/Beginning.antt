@@ -1,6 +1,5 @@
 -- The lists of a matrix while they are made, output after output, and the outputs of a tile.
 use Rattle.std.proofs.Common.{◌≡◌, ℕ, ◌+◌, ◌*◌, ◌<◌, ◌≤◌, List, ◌++◌, length, take, drop, sym, ap, ◌∙◌, arith, ext_get_or}
-use Rattle.std.proofs.Props.{props}
 use mathlib.Core.Logic.{by_cases, ∥∥₁_elim, ∥∥₁_prop}
 use Rattle.std.proofs.lemmas.Grind.{merely}
 use native.Mathlib.Decide.{ℕ_discrete}

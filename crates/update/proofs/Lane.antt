@@ -3,7 +3,7 @@ use mathlib.Core.Path.{◌≡◌, sym, ap, ap₂, ◌∙◌}
 use mathlib.Core.Bool.{true}
 use mathlib.Core.List.{List, [], ◌∷◌, ◌++◌, append-nil}
 use Prim.Native.Nat.{ℕ, ◌+◌, ◌-◌, ◌*◌, ◌≤◌, ◌<◌}
-use native.Mathlib.Nat.{mul_comm, mul_assoc, one-mul, mul-le-mul}
+use native.Mathlib.Nat.{mul_comm, mul_assoc, one-mul}
 use native.Mathlib.Numerals.{add-one}
 use lib.ListN.{length, set, take, drop}
 use lib.Seq.{drop-drop, set_split}
@@ -18,7 +18,7 @@ use Rattle.layout.proofs.LaneParts as Parts
 use Rattle.layout.proofs.Runs as Runs
 use Rattle.generator.specs.declared.Header.{Header}
 use Rattle.generator.specs.Records.{width}
-use Rattle.generator.proofs.Widths.{width_some, width_range}
+use Rattle.generator.proofs.Widths.{width_some}
 use Rattle.refusals.specs.Accepted.{UpdatableLane}
 use Rattle.blocks.specs.Blocks.{row_added, word_added}
 use Rattle.blocks.proofs.Updates.{added_part, differ_part}

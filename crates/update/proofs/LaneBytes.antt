@@ -3,7 +3,7 @@ use mathlib.Core.Path.{◌≡◌, sym, ap, ◌∙◌}
 use mathlib.Core.Bool.{true}
 use mathlib.Core.List.{List, ◌++◌}
 use Prim.Native.Nat.{ℕ, ◌+◌, ◌-◌, ◌*◌, ◌/◌, ◌≤◌, ◌<◌}
-use native.Mathlib.Nat.{mul_comm, mul-le-mul}
+use native.Mathlib.Nat.{mul_comm}
 use native.Mathlib.Omega.{arith}
 use lib.ListN.{length, get_or, take, drop}
 use Rattle.lists.specs.Counting.{differ}
@@ -17,7 +17,7 @@ use Rattle.field.proofs.Bounds.{add_below, mul_below}
 use Rattle.generator.specs.declared.Header.{Header}
 use Rattle.generator.specs.Records.{modulus_of, size}
 use Rattle.generator.proofs.Bounds.{entry_below}
-use Rattle.generator.proofs.Widths.{width_some, width_range}
+use Rattle.generator.proofs.Widths.{width_some}
 use Rattle.blocks.specs.Blocks.{word_added}
 use Rattle.update.specs.Inner.Words.{UpdatableWord}
 use Rattle.update.proofs.Lane.{symbol_written, word_long}
