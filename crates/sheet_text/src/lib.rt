@@ -45,14 +45,12 @@ impl PlanSheet {
 
     // The entries of row r, and the line feed.
     fn write_entries(&self, writer: &mut Writer, r: u8)
-        requires row { r < self.now.plan.k }
-        requires room { 1531 ≤ room writer.old }
+        requires { 1531 ≤ room writer.old }
         ensures text { Writes writer.old writer.new (fields (from (entry_in self.now.plan r) 0 self.now.plan.n)) }
         ensures room { room writer.old ≤ room writer.new + 1531 }
     {
         for j in 0..self.plan.n {
-            let entry = self.plan.entry(u32::from(r), u32::from(j));
-            writer.field(entry.unwrap());
+            writer.field(self.plan.entry(u32::from(r), u32::from(j)));
         }
         writer.byte(b'\n');
     }

@@ -3,7 +3,7 @@
 
 ghost use Rattle.std.specs.Prelude.{◌≡◌, true, length};
 ghost use Rattle.lists.specs.Numbers.{all_below};
-ghost use Rattle.lists.specs.Padded.{zeros, padded};
+ghost use Rattle.lists.specs.Padded.{padded};
 ghost use Rattle.generator.specs.Records.{size};
 ghost use Rattle.check_sums.specs.Inner.Powers.{powers_of};
 ghost use Rattle.spectrum.specs.Inner.Spectrum.{spectrum_of};
@@ -23,13 +23,6 @@ pub struct Transform<'a> {
     pub ghost powers_are: { powers.now ≡ padded 255 (powers_of code.header) },
 }
 
-// Room for the sums.
-fn blank() -> [u16; 255]
-    ensures { result ≡ zeros 255 }
-{
-    [0u16; 255]
-}
-
 impl Transform<'_> {
     // The spectrum of a lane, and zeros after it.
     // An array with zeros after: it is as long as the list that it is made from, so no length stands beside it.
@@ -42,7 +35,7 @@ impl Transform<'_> {
         let exponents = chirps::exponents(n);
         let row = self.chirps(&exponents);
         let weights = self.unchirp(&exponents, lane);
-        let mut sums = blank();
+        let mut sums: [u16; 255] = kernel::filled(0);
         sliding_sums::window_sums(h.field, &weights[..n], &row, &mut sums[..n]);
         self.unchirp(&exponents, &sums[..n])
     }

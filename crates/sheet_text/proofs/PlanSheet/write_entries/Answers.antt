@@ -1,8 +1,6 @@
 -- `write_entries` meets its contract. Invariant: the entries before j are written; the others and the line feed are to come.
-use mathlib.Core.Path.{◌≡◌}
 use native.Mathlib.Nat.{sub-zero}
 use native.Mathlib.Omega.{arith}
-use Rattle.std.proofs.lemmas.Grind.{common_steps}
 use Rattle.lists.proofs.Rows.{from_next, from_end}
 use Rattle.plan.specs.Plans.{entry_in}
 use Rattle.text.specs.Text.{fields}
@@ -18,8 +16,7 @@ loop-j-preserved c =
     let p = c.args.self.now.plan in
     let l = c.loop-j in
     let todo = rw (from_next (entry_in p c.args.r) p.n l.j c.loop-j-test.true) at l.invariant.text in
-    let entry : c.unwrap.result ≡ entry_in p c.args.r l.j = grind (arith, common_steps) in
-    record { text = writing_next todo (rw entry at c.field.ensures.text); room = omega arith }
+    record { text = writing_next todo (rw (c.entry.ensures, c.from.ensures, c.from-in-loop-j.ensures) at c.field.ensures.text); room = omega arith }
 
 pub returns-clause-text : goal.returns-clause-text
 unfolding fields
