@@ -7,7 +7,8 @@ use lib.ListN.{length, get_or, length-map}
 use lib.Seq.{ext_get_or}
 use Rattle.lists.specs.Rows.{from}
 use Rattle.lists.proofs.Rows.{length_from}
-use Rattle.lists.proofs.All.{Distinct, ExactlyOne, agree_map, get_d_map}
+use Rattle.std.proofs.lemmas.List.{get_or-map}
+use Rattle.lists.proofs.All.{Distinct, ExactlyOne, agree_map}
 use Rattle.algebra.specs.Field.{Field}
 use Rattle.algebra.proofs.Poly.{eval, unique}
 use Rattle.algebra.proofs.Coefficients.{eval_from}
@@ -32,7 +33,7 @@ module _ (F : Field) where
       let s = length-map xs (eval F (interpolate xs ys)) in
       ext_get_or 0f (map (eval F (interpolate xs ys)) xs) ys (s ∙ l)
       (λ j h.
-      get_d_map (eval F (interpolate xs ys)) 0f 0f xs j (omega arith)
+      get_or-map (eval F (interpolate xs ys)) xs j 0f 0f (omega arith)
       ∙ eval_from F (combined F xs (λ i. get_or ys i 0f)) (length xs) (get_or xs j 0f)
       ∙ combined_point F xs u (λ i. get_or ys i 0f) j (omega arith))
 

@@ -5,7 +5,7 @@ use Prim.Native.Nat.{ℕ, suc, ◌<◌}
 use native.Mathlib.Omega.{arith}
 use lib.ListN.{length, get_or, take, drop}
 use lib.Seq.{split_at}
-use Rattle.lists.proofs.All.{get_d_map}
+use Rattle.std.proofs.lemmas.List.{get_or-map}
 use Rattle.algebra.specs.Field.{Field}
 use Rattle.algebra.proofs.Ring.{mul-zero, zero-mul, mul_left_comm, one-mul, neg_mul, mul_neg, neg_neg}
 use Rattle.algebra.proofs.Sums.{sum, sum_agree, sum_scale}
@@ -87,7 +87,7 @@ module _ (F : Field) where
   -- coefficient c of a basis polynomial
   get_or_basis : (xs : List Carrier) (x : Carrier) (c : ℕ) → c < length xs → get_or (basis F xs x) c 0f ≡ inv (eval F (others F xs x) x) ⊗ get_or (others F xs x) c 0f
   unfolding basis
-  get_or_basis xs x c l = get_d_map (λ y. inv (eval F (others F xs x) x) ⊗ y) 0f 0f (others F xs x) c (omega (arith, length_others F xs x))
+  get_or_basis xs x c l = get_or-map (λ y. inv (eval F (others F xs x) x) ⊗ y) (others F xs x) c 0f 0f (omega (arith, length_others F xs x))
 
   -- the scales of two basis polynomials taken out of a term ..
   scales_out : (a u q b v : Carrier) → a ⊗ u ⊗ q ⊗ (b ⊗ v) ≡ a ⊗ b ⊗ (u ⊗ q ⊗ v)

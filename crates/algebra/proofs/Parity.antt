@@ -8,7 +8,7 @@ use native.Mathlib.Omega.{arith}
 use lib.ListN.{length, get_or, take, drop, length-map, take-append-drop, length-drop}
 use lib.Seq.{length-take-le, ext_get_or}
 use Rattle.lists.specs.Rows.{range}
-use Rattle.lists.proofs.All.{get_d_map}
+use Rattle.std.proofs.lemmas.List.{get_or-map}
 use Rattle.lists.proofs.Places.{Places, Places-range, length_range, range_append}
 use Rattle.algebra.specs.Field.{Field}
 use Rattle.algebra.specs.Powers.{pow, Order}
@@ -74,7 +74,7 @@ module _ (F : Field) where
 
     -- the points of nodes are not zero
     point_nonzero : (js : List ℕ) (s : ℕ) → s < length js → get_or (map (pow F a) js) s 0f ≡ 0f → ⊥
-    point_nonzero js s l z = pow_nonzero F a (order_nonzero F a n o) (get_or js s 0) (sym (get_d_map (pow F a) 0 0f js s l) ∙ z)
+    point_nonzero js s l z = pow_nonzero F a (order_nonzero F a n o) (get_or js s 0) (sym (get_or-map (pow F a) js s 0 0f l) ∙ z)
 
     -- symbols at r distinct nodes are determined by r checks
     pub checks_determine : (r : ℕ) (js : List ℕ) (vs us : List Carrier) → Places n r js → length vs ≡ r → length us ≡ r → ((e : ℕ) → 0 < e → e ≤ r → check a e vs js ≡ check a e us js) → vs ≡ us

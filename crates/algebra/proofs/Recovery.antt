@@ -4,7 +4,7 @@ use mathlib.Core.List.{List, map}
 use Prim.Native.Nat.{ℕ, ◌≤◌, ◌<◌}
 use native.Mathlib.Omega.{arith}
 use lib.ListN.{length, get_or, length-map}
-use Rattle.lists.proofs.All.{get_d_map}
+use Rattle.std.proofs.lemmas.List.{get_or-map}
 use Rattle.lists.proofs.Places.{Places}
 use Rattle.algebra.specs.Field.{Field}
 use Rattle.algebra.specs.Powers.{pow}
@@ -41,7 +41,7 @@ module _ (F : Field) where
     symbol_value : (i : ℕ) → i < k → eval F (message F a m e ss ms) (pow F a (get_or js i 0)) ≡ get_or ys i 0f
     symbol_value i l =
         sym (node_value F a m e ss ms (get_or js i 0))
-        ∙ sym (get_d_map (node F a m e ss ms) 0 0f js i (omega (arith, nodes.size)))
+        ∙ sym (get_or-map (node F a m e ss ms) js i 0 0f (omega (arith, nodes.size)))
         ∙ ap (λ l. get_or l i 0f) held
 
     -- a sum over the points of the nodes, in terms of what they hold
@@ -52,7 +52,7 @@ module _ (F : Field) where
         ap (λ n. sum F n (λ i. eval F f (get_or xs i 0f) ⊗ g (get_or xs i 0f))) (length-map js (pow F a) ∙ nodes.size)
         ∙ sum_agree F k (λ i. eval F f (get_or xs i 0f) ⊗ g (get_or xs i 0f)) (λ i. get_or ys i 0f ⊗ g (pow F a (get_or js i 0)))
         (λ i l.
-        ap (λ x. eval F f x ⊗ g x) (get_d_map (pow F a) 0 0f js i (omega (arith, nodes.size))) ∙ ap (λ y. y ⊗ g (pow F a (get_or js i 0))) (symbol_value i l))
+        ap (λ x. eval F f x ⊗ g x) (get_or-map (pow F a) js i 0 0f (omega (arith, nodes.size))) ∙ ap (λ y. y ⊗ g (pow F a (get_or js i 0))) (symbol_value i l))
 
     short : length (message F a m e ss ms) ≤ length (map (pow F a) js)
     short = omega (arith, length_message F code e ms, length-map js (pow F a), nodes.size)
@@ -78,7 +78,7 @@ module _ (F : Field) where
         let w : length ts ≡ k = size_shifted F code (pow F a e) in
         ap (λ l. get_or l r 0f) (sym (unmix_mix F p ts (node_spread F code e) ms (long ∙ sym (size_base F code))))
         ∙ get_or_weights F ts (λ c. inv (get_or p c 0f) ⊗ get_or f c 0f) r (omega arith)
-        ∙ ap₂ (λ n x. sum F n (λ c. get_or (basis F ts x) c 0f ⊗ (inv (get_or p c 0f) ⊗ get_or f c 0f))) w (get_d_map (λ s. pow F a s ⊗ pow F a e) 0 0f ss r (omega (arith, code.shifts.size)))
+        ∙ ap₂ (λ n x. sum F n (λ c. get_or (basis F ts x) c 0f ⊗ (inv (get_or p c 0f) ⊗ get_or f c 0f))) w (get_or-map (λ s. pow F a s ⊗ pow F a e) ss r 0 0f (omega (arith, code.shifts.size)))
         ∙ ap (sum F k)
         (fun_ext
         (λ c.

@@ -8,7 +8,7 @@ use Prim.Native.Nat.{ℕ, zero, suc}
 use lib.Dec.{eqb}
 use lib.ListN.{length}
 use borrow.Author.Tests.{eqb-true, not-false}
-use Rattle.lists.proofs.Cases.{and_left, and_right}
+use Rattle.std.proofs.lemmas.Bool.{and_parts}
 use Rattle.generator.specs.Records.{record_of, record_fault, header_of, judged}
 use Rattle.plan.specs.declared.Plan.{Plan}
 use Rattle.plan.specs.Plans.{plan_of, plan_for, PlanSays}
@@ -21,12 +21,12 @@ use Rattle.balanced_c.specs.Calls.{plan_room_bad, plan_room_fault, numbers_of, P
 pub lengths : (numbers shifts firsts base : ℕ) → plan_room_bad numbers shifts firsts base ≡ false → (numbers ≡ 5) × (shifts ≡ 255) × (firsts ≡ 255) × (base ≡ 255)
 lengths numbers shifts firsts base e =
     let all : (eqb numbers 5 && (eqb shifts 255 && (eqb firsts 255 && eqb base 255))) ≡ true = not-false _ e in
-    let three : (eqb shifts 255 && (eqb firsts 255 && eqb base 255)) ≡ true = and_right (eqb numbers 5) _ all in
-    let two : (eqb firsts 255 && eqb base 255) ≡ true = and_right (eqb shifts 255) _ three in (
-      eqb-true numbers 5 (and_left _ _ all),
-      eqb-true shifts 255 (and_left _ _ three),
-      eqb-true firsts 255 (and_left _ (eqb base 255) two),
-      eqb-true base 255 (and_right (eqb firsts 255) _ two),
+    let three : (eqb shifts 255 && (eqb firsts 255 && eqb base 255)) ≡ true = (and_parts (eqb numbers 5) _ all).1 in
+    let two : (eqb firsts 255 && eqb base 255) ≡ true = (and_parts (eqb shifts 255) _ three).1 in (
+      eqb-true numbers 5 (and_parts _ _ all).0,
+      eqb-true shifts 255 (and_parts _ _ three).0,
+      eqb-true firsts 255 (and_parts _ (eqb base 255) two).0,
+      eqb-true base 255 (and_parts (eqb firsts 255) _ two).1,
     )
 
 -- a record that gives no plan has the number of the answer, and one that gives a plan has none

@@ -5,7 +5,7 @@ use mathlib.Core.List.{List}
 use mathlib.Core.Logic.{by_cases}
 use Prim.Native.Nat.{ℕ, ◌+◌, ◌-◌, ◌*◌, ◌/◌, ◌≤◌, ◌<◌}
 use native.Mathlib.Decide.{ℕ_discrete}
-use native.Mathlib.Nat.{add-mul, mul_comm, mul_assoc, mul-le-mul, le_refl}
+use native.Mathlib.Nat.{add-mul, mul_comm, mul_assoc, mul-le-mul, mul-le-mul_right, le_refl}
 use native.Mathlib.Omega.{arith}
 use lib.ListN.{length, get_or, take, drop}
 use Rattle.lists.specs.Numbers.{all_below}
@@ -61,10 +61,7 @@ module _ (w rows l : ℕ) (s : List ℕ) (some : 1 ≤ w) (long : length s ≡ w
   row_part r t c row fits =
       let inside : r * l + t + c ≤ rows * l = omega (arith, row_inside rows r l row) in
       let all : rows * l * w ≡ length s = lanes_long w rows l ∙ sym long in
-      omega (arith, mul_mono (r * l + t + c) (rows * l) inside, add-mul (r * l + t) c w, all)
-    where
-      mul_mono : (a b : ℕ) → a ≤ b → a * w ≤ b * w
-      mul_mono a b le = let d : ℕ = b - a in let e : b ≡ a + d = omega arith in rw e (omega (arith, add-mul a d w))
+      omega (arith, mul-le-mul_right w inside, add-mul (r * l + t) c w, all)
 
   -- what a loaded row holds
   pub row_loaded : all_below 256 s ≡ true → (r t c : ℕ) → r < rows → t + c ≤ l → c ≤ 64 → (xs : List ℕ) → TileOf w w c (λ v q. get_or (take ((r * l + t) * w + c * w - (r * l + t) * w) (drop ((r * l + t) * w) s)) (q * w + v) 0) xs → (v q : ℕ) → v < w → r * w + v < w * rows → q < c → (v * 64 + q < w * 64) × (get_or xs (v * 64 + q) 0 ≡ get_or (bytes_of w (lane_of row_after_row rows l (t + q) (symbols_of w s))) (r * w + v) 0)

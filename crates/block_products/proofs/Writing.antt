@@ -12,6 +12,7 @@ use Rattle.lists.specs.Rows.{from, rows_from}
 use Rattle.lists.proofs.Images.{from_self}
 use Rattle.lists.proofs.Lanes.{get_d_rows, length_rows}
 use Rattle.lists.proofs.Parts.{from_at}
+use Rattle.std.proofs.lemmas.Nat.{mul-add-lt}
 use Rattle.lists.proofs.Rows.{length_from, get_or_from, row_inside, rows_ext}
 use Rattle.layout.specs.Layout.{row_after_row, lane_after_lane, lane_of}
 use Rattle.layout.specs.Width.{symbol_bytes, bytes_of}
@@ -21,7 +22,6 @@ use Rattle.layout.proofs.Places.{held_by_row, held_by_lane, buffer_by_row, buffe
 use Rattle.layout.proofs.Readings.{get_or_bytes}
 use Rattle.layout.proofs.Runs.{replaced, length_replaced, replaced_before, replaced_inside}
 use Rattle.layout.proofs.Stretches.{rows_start, rows_end}
-use Rattle.layout.proofs.Tiles.{byte_row_lem}
 use Rattle.layout.proofs.Widths.{length_bytes}
 use Rattle.block_products.specs.declared.Way.{Way}
 use Rattle.block_products.specs.declared.Way.TheVariants.{RowsToLanes, LanesToRows, LanesToMarks}
@@ -42,7 +42,7 @@ module _ (w outputs l first count : ℕ) (f : ℕ → ℕ → ℕ) (words : List
   -- byte v of sum i of lane q
   word_byte : (i v q : ℕ) → i < outputs → v < w → q < count → get_or words ((i * w + v) * 64 + q) 0 ≡ get_or (symbol_bytes w (f i (first + q))) v 0
   word_byte i v q output byte lane =
-      sym (get_or_lane row_after_row (w * outputs) 64 q words (i * w + v) (byte_row_lem w outputs i v output byte) ∙ held_by_row (w * outputs) 64 words (i * w + v) q)
+      sym (get_or_lane row_after_row (w * outputs) 64 q words (i * w + v) (mul-add-lt i w v outputs output byte) ∙ held_by_row (w * outputs) 64 words (i * w + v) q)
       ∙ ap (λ (u : List ℕ). get_or u (i * w + v) 0) (sums q lane)
       ∙ sum_byte w outputs (λ i. f i (first + q)) i v output byte
 

@@ -21,7 +21,7 @@ pub fn pick_bytes<const W: usize, const V: usize>(part: &[u8], out: &mut [u8])
     }
 }
 
-// The same where neither is a constant.
+// The same where or_from _ _ is a constant.
 fn copy_bytes(w: usize, v: usize, part: &[u8], out: &mut [u8])
     requires few { w ≤ 2 }
     requires byte { v < w }

@@ -3,14 +3,14 @@ use mathlib.Core.Path.{◌≡◌, sym, ap, ap₂, ◌∙◌}
 use mathlib.Core.Bool.{true, not}
 use mathlib.Core.List.{List, ◌++◌}
 use Prim.Native.Nat.{ℕ, ◌+◌, ◌-◌, ◌*◌, ◌≤◌, ◌<◌}
-use native.Mathlib.Nat.{zero-add, mul_comm}
+use native.Mathlib.Nat.{zero-add, mul_comm, add-sub_cancel_left}
 use native.Mathlib.Omega.{arith}
 use lib.Dec.{eqb}
 use lib.ListN.{length, get_or, take, drop, set}
 use Rattle.lists.specs.Counting.{count_from, differ}
 use Rattle.lists.proofs.Count.{count_ext}
 use Rattle.lists.specs.Rows.{from}
-use Rattle.lists.proofs.Rows.{from_ext, get_or_from, length_from, part_size, part_length, row_inside}
+use Rattle.lists.proofs.Rows.{from_ext, get_or_from, length_from, part_length, row_inside}
 use Rattle.layout.specs.Layout.{Arrangement, lane_after_lane, held, lane_of}
 use Rattle.layout.proofs.Lawful.{Lawful, by_lane}
 use Rattle.layout.proofs.Runs.{lane_part, with_lane_part}
@@ -50,7 +50,7 @@ module _ (h : Header) (l r t x : ℕ) (shares : List ℕ) (long : length shares 
   -- a row added through the lane's part is added to the lane
   pub added_part : take (t * h.n) shares ++ (word_added h r x part ++ drop (t * h.n + h.n - t * h.n) (drop (t * h.n) shares)) ≡ row_added lane_after_lane h l r t x shares
   unfolding row_added
-  added_part = rw (part_added, part_size) (with_lane_part h.n l t (added_at lane_after_lane h l r t x shares) shares long inside)
+  added_part = rw (part_added, add-sub_cancel_left) (with_lane_part h.n l t (added_at lane_after_lane h l r t x shares) shares long inside)
 
   -- and as many symbols differ in the buffer as in the part
   pub differ_part : differ part (word_added h r x part) ≡ differ shares (row_added lane_after_lane h l r t x shares)

@@ -9,7 +9,8 @@ use borrow.Author.Tests.{lt-ltb, ltb-true, ltb-false, leb-true, ne_eqb}
 use lib.Dec.{eqb, ltb, leb}
 use lib.ListN.{length}
 use Rattle.lists.specs.Choice.{first_of, when}
-use Rattle.lists.proofs.Cases.{and_left, not_both, first_zero, when_zero}
+use Rattle.std.proofs.lemmas.Bool.{and_parts}
+use Rattle.lists.proofs.Cases.{not_both, first_zero, when_zero}
 use Rattle.field.specs.declared.prime.PrimeField.{PrimeField}
 use Rattle.field.specs.declared.Field.{Field}
 use Rattle.field.specs.declared.Field.TheVariants.{Prime, Binary}
@@ -33,7 +34,7 @@ use Rattle.carry.specs.Promise.{long_bad, carried_len_fault, carry_in_fault, car
 -- the prime of a field is a word
 pub modulus_word : (field : Field) → usable field ≡ true → modulus field < 65536
 unfolding modulus usable
-modulus_word (Prime f) e = omega (arith, leb-true f.p 65521 (and_left _ (is_prime f.p) e))
+modulus_word (Prime f) e = omega (arith, leb-true f.p 65521 (and_parts _ (is_prime f.p) e).0)
 modulus_word (Binary g) e = omega arith
 
 -- a prime carries bytes where it has 34,816 symbols
@@ -41,7 +42,7 @@ pub few_carry_none : (f : PrimeField) → usable (Prime f) ≡ true → f.p < 34
 unfolding carries_none is_prime
 few_carry_none f good few =
     let (_, prime, _) = usable_prime f good in
-    let least = leb-true 2 f.p (and_left (leb 2 f.p) _ prime) in
+    let least = leb-true 2 f.p (and_parts (leb 2 f.p) _ prime).0 in
     rw (ne_eqb f.p 0 (λ none. omega arith), lt-ltb f.p 34816 few)
 
 pub many_carry : (p : ℕ) → 34815 < p → carries_none p ≡ false

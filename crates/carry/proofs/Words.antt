@@ -8,7 +8,7 @@ use lib.ListN.{length, get_or, take, drop, take-append-drop, length-append, drop
 use lib.Seq.{length-take-le, take-take, take-append-add, take_at, drop_at}
 use Rattle.lists.specs.Padded.{zeros, padded}
 use Rattle.lists.specs.Rows.{from}
-use Rattle.lists.proofs.All.{get_d_map}
+use Rattle.std.proofs.lemmas.List.{get_or-map}
 use Rattle.lists.proofs.Front.{drop_next}
 use Rattle.lists.proofs.Padding.{get_or_padded, padded_past}
 use Rattle.layout.specs.Width.{value_from, symbol_at, symbols_of, symbol_bytes, bytes_of}
@@ -68,7 +68,7 @@ first_word s h =
 -- a word under a mask
 pub masked_at : (c : ℕ) (ws : List ℕ) (i : ℕ) → i < length ws → get_or (masked c ws) i 0 ≡ bit_xor (get_or ws i 0) c
 unfolding masked
-masked_at c ws i h = get_d_map (λ w. bit_xor w c) 0 0 ws i h
+masked_at c ws i h = get_or-map (λ w. bit_xor w c) ws i 0 0 h
 
 -- as many bytes of words as there is room for: what is left at word i
 module _ (n : ℕ) (ws : List ℕ) (i : ℕ) where

@@ -6,7 +6,7 @@ use Prim.Native.Nat.{ℕ, ◌/◌, ◌%◌, ◌≤◌, ◌<◌}
 use native.Mathlib.Nat.{div-add-mod'}
 use native.Mathlib.Omega.{arith}
 use borrow.Author.Tests.{eq-eqb, ne_eqb, lt-ltb, le-ltb, le-leb}
-use Rattle.lists.proofs.Cases.{both_true}
+use Rattle.std.proofs.lemmas.Bool.{and_from}
 use Rattle.field.specs.declared.Field.TheVariants.{Prime, Binary}
 use Rattle.field.specs.Fields.{size_of, order_of}
 use Rattle.field.specs.Kinds.{prime_of, gf256, modulus}
@@ -24,7 +24,7 @@ size_good h two byte some fits = rw (le-ltb h.n 2 two, le-ltb 255 h.n byte, ne_e
 
 root_good : (h : Header) (q : ℕ) → size_of (modulus_of h) ≡ q → h.root < q → order_of (modulus_of h) h.root ≡ h.n → root_bad h ≡ false
 unfolding root_bad
-root_good h q size below order = ap not (both_true (lt-ltb h.root (size_of (modulus_of h)) (rw size below)) (eq-eqb _ h.n order))
+root_good h q size below order = ap not (and_from _ _ (lt-ltb h.root (size_of (modulus_of h)) (rw size below)) (eq-eqb _ h.n order))
 
 module _ (n k : ℕ) (two : 2 ≤ n) (byte : n ≤ 255) (some : 0 < k) (fits : k ≤ n) where
   -- kind 2
@@ -54,7 +54,7 @@ module _ (n k : ℕ) (two : 2 ≤ n) (byte : n ≤ 255) (some : 0 < k) (fits : k
   unfolding field_bad prime_in
   wide_field p r e =
       ap (λ (x : ℕ). not (prime_in 257 65521 x)) (div-add-mod' p 256)
-      ∙ ap not (both_true (le-leb 257 p (omega (arith, e.large))) (both_true (le-leb p 65521 e.small) e.prime))
+      ∙ ap not (and_from _ _ (le-leb 257 p (omega (arith, e.large))) (and_from _ _ (le-leb p 65521 e.small) e.prime))
 
   wide_size : (p r : ℕ) → PrimeEntry n p r → size_of (modulus_of (wide p r)) ≡ p
   unfolding modulus size_of

@@ -8,7 +8,8 @@ use borrow.Author.Tests.{eqb-true, eqb-false, leb-true, leb-false, eq-eqb, le-le
 use lib.Dec.{T, eqb, ltb, leb, eqb→eq, ltb→lt}
 use lib.ListN.{get_or}
 use Rattle.lists.specs.Choice.{pick}
-use Rattle.lists.proofs.Cases.{by_test, and_left, and_right, both_true, or_left_false, or_right_false}
+use Rattle.std.proofs.lemmas.Bool.{and_from, and_parts, or_parts}
+use Rattle.lists.proofs.Cases.{by_test}
 use Rattle.field.specs.Bytes.{times_x, product_from, product}
 use Rattle.field.specs.Primes.{divides_some, is_prime}
 use Rattle.field.specs.Fields.{mul, order_from, order_of}
@@ -57,15 +58,15 @@ no_small (suc d) p h k high low e =
     let same = eqb-true k (suc d) q in
     let here : eqb (p % suc d) 0 ≡ true = eq-eqb (p % suc d) 0 (rw same at e) in
     let two : leb 2 (suc d) ≡ true = le-leb 2 (suc d) (omega arith) in
-    true≢false (sym (both_true two here) ∙ or_left_false (leb 2 (suc d) && eqb (p % suc d) 0) (divides_some d p) h))
-    (λ q. no_small d p (or_right_false (leb 2 (suc d) && eqb (p % suc d) 0) (divides_some d p) h) k (omega (arith, eqb-false k (suc d) q)) low e)
+    true≢false (sym (and_from _ _ two here) ∙ (or_parts (leb 2 (suc d) && eqb (p % suc d) 0) (divides_some d p) h).0))
+    (λ q. no_small d p (or_parts (leb 2 (suc d) && eqb (p % suc d) 0) (divides_some d p) h).1 k (omega (arith, eqb-false k (suc d) q)) low e)
 
 some_small : (d p : ℕ) → d < p → T (divides_some d p) → is_prime p ≡ false
 unfolding divides_some
 some_small zero p h t = absurd t
 some_small (suc d) p h t =
     by_test (leb 2 (suc d) && eqb (p % suc d) 0)
-    (λ q. composite p (suc d) (leb-true 2 (suc d) (and_left _ (eqb (p % suc d) 0) q)) h (eqb-true (p % suc d) 0 (and_right (leb 2 (suc d)) _ q)))
+    (λ q. composite p (suc d) (leb-true 2 (suc d) (and_parts _ (eqb (p % suc d) 0) q).0) h (eqb-true (p % suc d) 0 (and_parts (leb 2 (suc d)) _ q).1))
     (λ q. some_small d p (omega arith) (rw q at t))
 
 -- a number that is in range is tested

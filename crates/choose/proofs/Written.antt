@@ -8,7 +8,8 @@ use native.Mathlib.Omega.{arith}
 use borrow.Author.Tests.{eqb-false, ltb-false}
 use lib.Dec.{eqb, ltb}
 use lib.ListN.{length}
-use Rattle.lists.proofs.Cases.{or_left_false, or_right_false, when_zero}
+use Rattle.std.proofs.lemmas.Bool.{or_parts}
+use Rattle.lists.proofs.Cases.{when_zero}
 use Rattle.refusals.specs.Conditions.{length_bad}
 use Rattle.refusals.proofs.Accepts.{not_met}
 use Rattle.refusals.proofs.NotMet.{length_good}
@@ -27,14 +28,14 @@ pub choose_accepts : (n k : ℕ) (out : List ℕ) → choose_fault n k (length o
 unfolding choose_fault asked_bad
 choose_accepts n k out e =
     let (four, last) = not_met (asked_bad n k) 3 _ e in
-    let first = or_left_false ((ltb n 2 || ltb 255 n) || eqb k 0) (ltb n k) four in
-    let range = or_left_false (ltb n 2 || ltb 255 n) (eqb k 0) first in
-    let none : k ≡ 0 → ⊥ = eqb-false k 0 (or_right_false (ltb n 2 || ltb 255 n) (eqb k 0) first) in
+    let first = (or_parts ((ltb n 2 || ltb 255 n) || eqb k 0) (ltb n k) four).0 in
+    let range = (or_parts (ltb n 2 || ltb 255 n) (eqb k 0) first).0 in
+    let none : k ≡ 0 → ⊥ = eqb-false k 0 (or_parts (ltb n 2 || ltb 255 n) (eqb k 0) first).1 in
     record {
-      two = ltb-false n 2 (or_left_false (ltb n 2) (ltb 255 n) range);
-      byte = ltb-false 255 n (or_right_false (ltb n 2) (ltb 255 n) range);
+      two = ltb-false n 2 (or_parts (ltb n 2) (ltb 255 n) range).0;
+      byte = ltb-false 255 n (or_parts (ltb n 2) (ltb 255 n) range).1;
       some = omega arith;
-      fits = ltb-false n k (or_right_false ((ltb n 2 || ltb 255 n) || eqb k 0) (ltb n k) four);
+      fits = ltb-false n k (or_parts ((ltb n 2 || ltb 255 n) || eqb k 0) (ltb n k) four).1;
       room = length_good 7 (length out) (when_zero (length_bad 7 (length out)) 7 last);
     }
 

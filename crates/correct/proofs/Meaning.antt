@@ -9,7 +9,7 @@ use lib.Dec.{leb}
 use lib.ListN.{length}
 use Rattle.lists.specs.Counting.{differ}
 use Rattle.lists.specs.Numbers.{all_below}
-use Rattle.lists.proofs.Cases.{both_true}
+use Rattle.std.proofs.lemmas.Bool.{and_from}
 use Rattle.lists.proofs.Search.{search_passes, search_fails, search_high}
 use Rattle.layout.specs.Layout.{Arrangement, lane_of}
 use Rattle.layout.proofs.Lawful.{Lawful}
@@ -48,7 +48,7 @@ module _ (h : Header) (s : Sound h) where
         record {
           long = n.long;
           below = n.symbols;
-          passes = both_true (word_test us n.long n.symbols n.word) (le-leb (differ ws us) (radius h) n.close);
+          passes = and_from _ _ (word_test us n.long n.symbols n.word) (le-leb (differ ws us) (radius h) n.close);
         }
 
     passes_near : (us : List ℕ) → Near h s ws us → NearWord h ws us

@@ -15,7 +15,8 @@ use Rattle.lists.specs.Counting.{passing_from}
 use Rattle.lists.specs.Rows.{from, range}
 use Rattle.lists.specs.Numbers.{all_below}
 use Rattle.lists.specs.Padded.{padded}
-use Rattle.lists.proofs.All.{All, All-at, All-imp, get_d_map}
+use Rattle.std.proofs.lemmas.List.{get_or-map}
+use Rattle.lists.proofs.All.{All, All-at, All-imp}
 use Rattle.lists.proofs.Rows.{get_or_from, length_from}
 use Rattle.lists.proofs.Padding.{get_or_padded}
 use Rattle.lists.proofs.Passing.{passing_pass, passing_place}
@@ -66,7 +67,7 @@ all_terms {B} d g ws n l =
     ∙ ext_get_or d (from f 0 n) (map g ws) (length_from f 0 n ∙ sym (length-map ws g ∙ l))
     (λ j b.
     let c : j < n = omega (arith, length_from f 0 n) in
-    get_or_from f 0 n j d c ∙ ap f (Nat.zero-add j) ∙ sym (get_d_map g 0 d ws j (omega arith)))
+    get_or_from f 0 n j d c ∙ ap f (Nat.zero-add j) ∙ sym (get_or-map g ws j 0 d (omega arith)))
 
 module _ (h : Header) (s : Sound h) where
   abbrev F : Field
@@ -136,7 +137,7 @@ module _ (h : Header) (s : Sound h) where
         go (yes b) =
             sym (Nat.mod-eq_of_lt (loc.below x))
             ∙ ap (λ (z : ℕ). (residue (size h) (size_pos p s.field) z).0) (sym (get_or-take (t + 1) locator x 0 b))
-            ∙ ap (λ (z : Symbol (size h)). z.0) (sym (get_d_map (residue (size h) (size_pos p s.field)) 0 F.0f front x (omega (arith, front_long))))
+            ∙ ap (λ (z : Symbol (size h)). z.0) (sym (get_or-map (residue (size h) (size_pos p s.field)) front x 0 F.0f (omega (arith, front_long))))
         go (no b) = loc.short x (omega arith) ∙ ap (λ (z : Symbol (size h)). z.0) (sym (get_or-eq_default L F.0f {n = x} (omega (arith, length_lifted h s front, front_long))))
 
     -- the check sums are the syndromes
@@ -242,7 +243,7 @@ module _ (h : Header) (s : Sound h) where
         in_bs = omega (arith, length-map js (pow F a))
 
         point_at : get_or bs i F.0f ≡ pow F a j
-        point_at = get_d_map (pow F a) 0 F.0f js i low
+        point_at = get_or-map (pow F a) js i 0 F.0f low
 
         x_number : get_or xs i 0 ≡ (pow F a j).0
         x_number = ap (λ (l : List ℕ). get_or l i 0) xs_points ∙ get_or_numbers (size h) (size_pos p s.field) bs i ∙ ap (λ (x : Symbol (size h)). x.0) point_at

@@ -1,6 +1,6 @@
 -- The candidate decides: it is the nearest word, or there is none.
 use mathlib.Core.Path.{◌≡◌, refl, sym, ap, ◌∙◌}
-use mathlib.Core.Bool.{Bool, true, false, ◌&&◌}
+use mathlib.Core.Bool.{Bool, true, false, ◌&&◌, and-false}
 use mathlib.Core.List.{List}
 use Prim.Native.Nat.{ℕ, ◌≤◌, ◌<◌}
 use borrow.Author.Tests.{le-leb, lt-leb}
@@ -13,10 +13,6 @@ use Rattle.nearest_word.specs.Nearest.{radius, is_near, has_near, nearest, corre
 use Rattle.nearest_word.proofs.Near.{judged}
 use Rattle.nearest_word.proofs.Corrected.{corrected_near}
 use Rattle.decode.specs.Inner.Candidates.{SoundLane, Candidate}
-
-and-false : (b : Bool) → (b && false) ≡ false
-and-false true = refl
-and-false false = refl
 
 module _ (h : Header) (ws array : List ℕ) (lane : SoundLane h ws) (c : Candidate h ws array) where
   abbrev word : List ℕ

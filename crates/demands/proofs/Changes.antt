@@ -15,7 +15,8 @@ use Rattle.lists.specs.Counting.{count_from, differ}
 use Rattle.lists.specs.Numbers.{all_below, is_in, distinct}
 use Rattle.lists.specs.Rows.{from}
 use Rattle.lists.proofs.All.{Distinct, Distinct-at, Distinct-of}
-use Rattle.lists.proofs.Cases.{by_test, both_true, or_left_false, or_right_false}
+use Rattle.std.proofs.lemmas.Bool.{and_from, or_parts}
+use Rattle.lists.proofs.Cases.{by_test}
 use Rattle.lists.proofs.Chosen.{Chosen, choose}
 use Rattle.lists.proofs.Count.{count_ext, count_none, count_not, count_either, count_below}
 use Rattle.lists.proofs.Differ.{differ_same}
@@ -35,8 +36,8 @@ use Rattle.generator.proofs.SchemeOf.{map_is_in}
 not_in : (t : ℕ) (js : List ℕ) → is_in t js ≡ false → (i : ℕ) → i < length js → get_or js i 0 ≡ t → ⊥
 unfolding is_in
 not_in t [] e i l q = omega arith
-not_in t (j ∷ js) e zero l q = eqb-false t j (or_left_false (eqb t j) (is_in t js) e) (sym q)
-not_in t (j ∷ js) e (suc i) l q = not_in t js (or_right_false (eqb t j) (is_in t js) e) i (omega arith) q
+not_in t (j ∷ js) e zero l q = eqb-false t j (or_parts (eqb t j) (is_in t js) e).0 (sym q)
+not_in t (j ∷ js) e (suc i) l q = not_in t js (or_parts (eqb t j) (is_in t js) e).1 i (omega arith) q
 
 -- different numbers stay so where one is replaced by a number that is not among them
 distinct_set : (js : List ℕ) (i t : ℕ) → Distinct js → is_in t js ≡ false → Distinct (set js i t)
@@ -100,7 +101,7 @@ module _ (h : Header) (s : Sound h) where
   -- k nodes that pass the tests of a list of nodes
   nodes_are : (js : List ℕ) → length js ≡ h.k → all_below h.n js ≡ true → distinct js ≡ true → are_nodes h js ≡ true
   unfolding are_nodes
-  nodes_are js size_is below different = both_true (eq-eqb (length js) h.k size_is) (both_true below different)
+  nodes_are js size_is below different = and_from _ _ (eq-eqb (length js) h.k size_is) (and_from _ _ below different)
 
   -- The replaced node in the place of the list's node i: k nodes that would fix the message.
   elsewhere : (js ms us : List ℕ) (i x t : ℕ) → are_nodes h js ≡ true → is_message h ms ≡ true → is_message h us ≡ true → i < h.k → (x ≡ get_or (at_nodes h ms js) i 0 → ⊥) → at_nodes h us js ≡ set (at_nodes h ms js) i x → t < h.n → is_in t js ≡ false → node_of h us t ≡ node_of h ms t → ⊥

@@ -9,7 +9,7 @@ use native.Mathlib.Omega.{arith}
 use borrow.Author.Tests.{leb-true}
 use lib.Dec.{leb}
 use Rattle.lists.specs.Choice.{first_of, when}
-use Rattle.lists.proofs.Cases.{and_left, and_right}
+use Rattle.std.proofs.lemmas.Bool.{and_parts}
 use Rattle.demands.specs.Judging.{Table, Met, Judged, Returns}
 
 -- the number is the lowest that is met, or 0 where none is
@@ -28,13 +28,13 @@ all_up_to high (x ∷ xs) = leb x.0 high && all_up_to high xs
 
 met_from : (low : ℕ) (table : Table) → all_from low table ≡ true → (f : ℕ) → Met table f → low ≤ f
 met_from low [] e f m = absurd m
-met_from low (x ∷ xs) e f (inl here) = omega (arith, leb-true low x.0 (and_left _ (all_from low xs) e), here.0)
-met_from low (x ∷ xs) e f (inr there) = met_from low xs (and_right (leb low x.0) _ e) f there
+met_from low (x ∷ xs) e f (inl here) = omega (arith, leb-true low x.0 (and_parts _ (all_from low xs) e).0, here.0)
+met_from low (x ∷ xs) e f (inr there) = met_from low xs (and_parts (leb low x.0) _ e).1 f there
 
 met_up_to : (high : ℕ) (table : Table) → all_up_to high table ≡ true → (f : ℕ) → Met table f → f ≤ high
 met_up_to high [] e f m = absurd m
-met_up_to high (x ∷ xs) e f (inl here) = omega (arith, leb-true x.0 high (and_left _ (all_up_to high xs) e), here.0)
-met_up_to high (x ∷ xs) e f (inr there) = met_up_to high xs (and_right (leb x.0 high) _ e) f there
+met_up_to high (x ∷ xs) e f (inl here) = omega (arith, leb-true x.0 high (and_parts _ (all_up_to high xs) e).0, here.0)
+met_up_to high (x ∷ xs) e f (inr there) = met_up_to high xs (and_parts (leb x.0 high) _ e).1 f there
 
 -- a table behind a table
 met_left : (a b : Table) (f : ℕ) → Met a f → Met (a ++ b) f

@@ -9,7 +9,8 @@ use borrow.Author.Tests.{eqb-true, eqb-false}
 use lib.Dec.{eqb, ltb}
 use lib.ListN.{length, get_or}
 use Rattle.lists.specs.Choice.{first_of}
-use Rattle.lists.proofs.Cases.{by_test, or_right_false}
+use Rattle.std.proofs.lemmas.Bool.{or_parts}
+use Rattle.lists.proofs.Cases.{by_test}
 use Rattle.generator.specs.declared.Header.{Header}
 use Rattle.generator.specs.Records.{header_of, modulus_of, size, pair_at, kind_bad, body_bad, prime_in, field_bad, size_bad, root_bad, header_fault, record_fault}
 use Rattle.generator.proofs.Accepts.{field_usable}
@@ -39,12 +40,12 @@ module _ (rec : List ℕ) where
   unfolding kind_bad
   kind_means = or_test (eqb (length rec) 0) _ (equal_test (length rec) 0) (none_of_three first 1 2 3)
 
-  -- a kind that is neither 1 nor 3 is 2
+  -- a kind that is or_from _ _ 1 nor 3 is 2
   two_left : kind_bad rec ≡ false → eqb first 1 ≡ false → eqb first 3 ≡ false → first ≡ 2
   unfolding kind_bad
   two_left good one three =
       by_test (eqb first 2) (eqb-true first 2)
-      (λ t. absurd (true≢false (or_right_false (eqb (length rec) 0) _ (rw (one, three, t) at good))))
+      (λ t. absurd (true≢false (or_parts (eqb (length rec) 0) _ (rw (one, three, t) at good)).1))
 
   body_means : kind_bad rec ≡ false → (body_bad rec ≡ true) ↔ (((first ≡ 1) × (length rec ≢ 5)) ⊎ ((first ≡ 2) × (length rec ≢ 4)) ⊎ ((first ≡ 3) × (length rec ≢ 7)))
   unfolding body_bad

@@ -10,6 +10,7 @@ use lib.ListN.{length, get_or, set}
 use Rattle.lists.specs.Rows.{from}
 use Rattle.lists.specs.Numbers.{all_below}
 use Rattle.lists.proofs.All.{All-at}
+use Rattle.std.proofs.lemmas.Nat.{mul-add-lt}
 use Rattle.lists.proofs.Rows.{from_ext, length_from, get_or_from}
 use Rattle.layout.specs.Layout.{row_after_row, held, lane_of, buffer, share_layout}
 use Rattle.layout.specs.Width.{symbol_bytes, bytes_of}
@@ -17,7 +18,6 @@ use Rattle.layout.proofs.Buffers.{length_buffer, length_lane, get_or_lane, held_
 use Rattle.layout.proofs.Places.{share_lawful, held_share, held_by_row}
 use Rattle.layout.proofs.Readings.{count_symbols, bytes_symbols, get_or_bytes}
 use Rattle.layout.proofs.Widths.{length_bytes, symbols_bytes}
-use Rattle.layout.proofs.Tiles.{lane_place}
 use Rattle.generator.specs.declared.Header.{Header}
 use Rattle.generator.specs.Records.{header_of, width, Sound}
 use Rattle.generator.specs.Codewords.{encoding}
@@ -85,13 +85,13 @@ unfolding cut_of
 cut_byte h l nodes shares i t v place inside low =
     let f : ℕ → ℕ → ℕ = λ i t. held share_layout h.n l (read h shares) (get_or nodes i 0) t in
     let xs = buffer share_layout (length nodes) l f in
-    get_or_bytes (width h) xs (t * length nodes + i) v (rw (length_buffer share_layout (length nodes) l f) (lane_place (length nodes) l i t place inside)) low
+    get_or_bytes (width h) xs (t * length nodes + i) v (rw (length_buffer share_layout (length nodes) l f) (mul-add-lt t (length nodes) i l inside place)) low
     ∙ ap (λ (x : ℕ). get_or (symbol_bytes (width h) x) v 0) (sym (held_share (length nodes) l xs i t) ∙ held_buffer share_lawful (length nodes) l f i t place inside ∙ held_share h.n l (read h shares) (get_or nodes i 0) t)
 
 -- .. and so is a byte of the shares
 share_byte : (h : Header) (l : ℕ) (shares : List ℕ) → Full h h.n l shares → all_below 256 shares ≡ true → (j t v : ℕ) → j < h.n → t < l → v < width h → get_or (symbol_bytes (width h) (get_or (read h shares) (t * h.n + j) 0)) v 0 ≡ get_or shares ((t * h.n + j) * width h + v) 0
 share_byte h l shares full bytes j t v node inside low =
-    sym (get_or_bytes (width h) (read h shares) (t * h.n + j) v (rw (count_symbols (width h) (h.n * l) shares (width_some h) full) (lane_place h.n l j t node inside)) low)
+    sym (get_or_bytes (width h) (read h shares) (t * h.n + j) v (rw (count_symbols (width h) (h.n * l) shares (width_some h) full) (mul-add-lt t h.n j l inside node)) low)
     ∙ ap (λ (s : List ℕ). get_or s ((t * h.n + j) * width h + v) 0) (bytes_symbols (width h) (h.n * l) shares (width_some h) full bytes)
 
 -- a buffer of one row is that row

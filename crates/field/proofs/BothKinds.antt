@@ -5,7 +5,7 @@ use Prim.Native.Nat.{ℕ, ◌+◌, ◌-◌, ◌*◌, ◌%◌, ◌<◌}
 use native.Mathlib.Omega.{arith}
 use native.Mathlib.Nat as N
 use lib.Dec.{eqb}
-use lib.Bits.{bit_xor, xor_lt, xor_comm, xor_zero_r}
+use lib.Bits.{bit_xor, xor_lt, xor_comm, xor_zero_r, xor_assoc}
 use Rattle.lists.specs.Choice.{pick}
 use Rattle.field.specs.Primes.{is_prime}
 use Rattle.field.specs.Bytes.{product}
@@ -13,7 +13,7 @@ use Rattle.field.specs.Fields.{is_field, size_of, add, sub, mul}
 use Rattle.field.proofs.Modular.{mul_mod_mod, mod_mul_mod, mul_one_mod}
 use Rattle.field.proofs.Primes.{two≤prime}
 use Rattle.field.proofs.PrimeInverse.{prime_invertible}
-use Rattle.field.proofs.Xor.{xor_assoc, xor_cancel}
+use Rattle.field.proofs.Xor.{xor_cancel}
 use Rattle.field.proofs.Product.{product_byte, product_right, product_one, product_comm, product_assoc}
 use Rattle.field.proofs.ByteInverse.{squares, squares_byte, product_squares}
 use Rattle.field.proofs.Arithmetic.{Arithmetic}

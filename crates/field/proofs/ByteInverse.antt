@@ -5,10 +5,10 @@ use mathlib.Core.Bool.{not}
 use Prim.Native.Nat.{ℕ, zero, suc, ◌^◌, ◌<◌}
 use native.Mathlib.Omega.{arith}
 use lib.Dec.{eqb, eqb_refl, T_not}
-use lib.Bits.{bit_xor}
+use lib.Bits.{bit_xor, xor_assoc}
 use Rattle.field.specs.Bytes.{times_x, product_from, product}
 use Rattle.field.proofs.Computed.{at, equal_at}
-use Rattle.field.proofs.Xor.{xor_assoc, xor_cancel}
+use Rattle.field.proofs.Xor.{xor_cancel}
 use Rattle.field.proofs.Additive.{Additive, agree}
 use Rattle.field.proofs.Product.{product_byte, product_left, product_right, product_zero, product_one, product_comm, product_assoc}
 

@@ -5,7 +5,7 @@ use Prim.Native.Nat.{ℕ, ◌≤◌, ◌<◌}
 use native.Mathlib.Omega.{arith}
 use borrow.Author.Tests.{leb-true}
 use lib.Dec.{leb}
-use Rattle.lists.proofs.Cases.{and_left, and_right}
+use Rattle.std.proofs.lemmas.Bool.{and_parts}
 use Rattle.field.specs.declared.prime.PrimeField.{PrimeField}
 use Rattle.field.specs.declared.Field.{Field}
 use Rattle.field.specs.declared.Field.TheVariants.{Prime, Binary}
@@ -20,8 +20,8 @@ use Rattle.field.proofs.Inverse.{inverse_below}
 pub usable_prime : (f : PrimeField) → usable (Prime f) ≡ true → (f.p ≤ 65521) × (is_prime f.p ≡ true) × (size_of f.p ≡ f.p)
 unfolding usable
 usable_prime f h =
-    let prime = and_right (leb f.p 65521) (is_prime f.p) h in
-    (leb-true f.p 65521 (and_left (leb f.p 65521) (is_prime f.p) h), prime, prime_size f.p prime)
+    let prime = (and_parts (leb f.p 65521) (is_prime f.p) h).1 in
+    (leb-true f.p 65521 (and_parts (leb f.p 65521) (is_prime f.p) h).0, prime, prime_size f.p prime)
 
 -- what its arithmetic asks
 pub prime_fits : (f : PrimeField) → usable (Prime f) ≡ true → (size_of f.p ≡ f.p) × (f.p ≤ 65521)

@@ -11,7 +11,8 @@ use lib.ListN.{length, get_or}
 use Rattle.std.specs.Bool.{MatchBool}
 use Rattle.std.specs.List.{range_with_len, AllWithin, HoldsAt}
 use Rattle.std.proofs.lemmas.List.FromFn.{length-range_with_len, get_or-range_with_len}
-use Rattle.lists.proofs.Cases.{by_test, and_left, and_right, both_true, not_both, or_left_false, or_right_false, neither}
+use Rattle.std.proofs.lemmas.Bool.{and_from, or_from, and_parts, or_parts}
+use Rattle.lists.proofs.Cases.{by_test, not_both}
 use Rattle.field.specs.Primes.{divides_some, is_prime}
 
 -- where nothing from 2 to n divides p, no d from 2 to n does
@@ -21,9 +22,9 @@ no_divisor zero p h d low high e = omega arith
 no_divisor (suc n) p h d low high e =
     let here : Bool = leb 2 (suc n) && eqb (p % suc n) 0 in
     ⊎_elim
-    (λ l. no_divisor n p (or_right_false here _ h) d low l e)
+    (λ l. no_divisor n p (or_parts here _ h).1 d low l e)
     (λ q. true≢false
-    (sym (both_true (le-leb 2 (suc n) (omega arith)) (eq-eqb (p % suc n) 0 (rw q at e))) ∙ or_left_false here _ h))
+    (sym (and_from _ _ (le-leb 2 (suc n) (omega arith)) (eq-eqb (p % suc n) 0 (rw q at e))) ∙ (or_parts here _ h).0))
     (le-suc_iff.0 high)
 
 -- where no d from 2 to n divides p, the test says so
@@ -31,7 +32,7 @@ none_divides : (n p : ℕ) → ((d : ℕ) → 2 ≤ d → d ≤ n → p % d ≡ 
 unfolding divides_some
 none_divides zero p h = refl
 none_divides (suc n) p h =
-    neither
+    or_from _ _
     (not_both (λ low e. h (suc n) (leb-true 2 (suc n) low) (le_refl (suc n)) (eqb-true (p % suc n) 0 e)))
     (none_divides n p (λ d low high. h d low (le_step high)))
 
@@ -49,7 +50,7 @@ composite p d low high e =
 -- where p / d < d and no k from 2 on below d divides p, p is a prime
 pub trial : (p d : ℕ) → 2 ≤ p → p / d < d → ((k : ℕ) → k < d → 2 ≤ k → p % k ≡ 0 → ⊥) → is_prime p ≡ true
 unfolding is_prime
-trial p d two root none = both_true (le-leb 2 p two) (ap not (none_divides (p - 1) p refute))
+trial p d two root none = and_from _ _ (le-leb 2 p two) (ap not (none_divides (p - 1) p refute))
   where
     refute : (e : ℕ) → 2 ≤ e → e ≤ p - 1 → p % e ≡ 0 → ⊥
     refute e low high divides =
@@ -78,9 +79,9 @@ tried p r two square next false (k, inside, divides) =
 module _ (p : ℕ) (prime : is_prime p ≡ true) where
   pub two≤prime : 2 ≤ p
   unfolding is_prime
-  two≤prime = leb-true 2 p (and_left _ _ prime)
+  two≤prime = leb-true 2 p (and_parts _ _ prime).0
 
   -- no d from 2 to p − 1 divides a prime p
   pub prime_no_divisor : (d : ℕ) → 2 ≤ d → d < p → p % d ≡ 0 → ⊥
   unfolding is_prime
-  prime_no_divisor d low high = no_divisor (p - 1) p (not-true _ (and_right (leb 2 p) _ prime)) d low (omega arith)
+  prime_no_divisor d low high = no_divisor (p - 1) p (not-true _ (and_parts (leb 2 p) _ prime).1) d low (omega arith)

@@ -5,24 +5,12 @@ use native.Mathlib.Nat.{mod-lt, mul-zero, mul-one, add-zero}
 use native.Mathlib.Omega.{arith}
 use lib.Dec.{lit<}
 use lib.Arith.{bin_ind}
-use lib.Bits.{bit_xor, differ, xor_step, xor_shr, xor_mod, xor_comm, xor_self, xor_zero_r, xor_block}
+use lib.Bits.{bit_xor, differ, xor_step, xor_shr, xor_mod, xor_comm, xor_self, xor_zero_r, xor_block, xor_assoc}
 use Rattle.field.proofs.Computed.{equal_at₃}
 
 -- the lowest digit of a number
 pub digit : (n : ℕ) → n % 2 < 2
 digit n = mod-lt n (lit< tt)
-
-digits_assoc : (x y z : ℕ) → x < 2 → y < 2 → z < 2 → differ (bit_xor x y) z ≡ differ x (bit_xor y z)
-digits_assoc = equal_at₃ 2 2 2 (λ x y z. differ (bit_xor x y) z) (λ x y z. differ x (bit_xor y z)) tt
-
-pub xor_assoc : (a b c : ℕ) → bit_xor (bit_xor a b) c ≡ bit_xor a (bit_xor b c)
-xor_assoc a =
-    bin_ind (λ (n : ℕ). (b c : ℕ) → bit_xor (bit_xor n b) c ≡ bit_xor n (bit_xor b c)) (λ b c. refl)
-    (λ n ih b c. xor_step (bit_xor n b) c
-    ∙ ap₂ (λ (x y : ℕ). bit_xor x (c / 2) * 2 + differ y (c % 2)) (xor_shr n b 1) (xor_mod n b 1)
-    ∙ ap₂ (λ (x y : ℕ). x * 2 + y) (ih (b / 2) (c / 2)) (digits_assoc (n % 2) (b % 2) (c % 2) (digit n) (digit b) (digit c))
-    ∙ ap₂ (λ (x y : ℕ). bit_xor (n / 2) x * 2 + differ (n % 2) y) (sym (xor_shr b c 1)) (sym (xor_mod b c 1))
-    ∙ sym (xor_step n (bit_xor b c))) a
 
 -- what is added twice is gone
 pub xor_cancel : (a b : ℕ) → bit_xor (bit_xor a b) b ≡ a

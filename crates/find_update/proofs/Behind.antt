@@ -9,7 +9,8 @@ use borrow.Author.Tests.{eq-eqb, eqb-true, ltb-true, lt-ltb}
 use lib.Dec.{eqb, ltb}
 use lib.ListN.{length, get_or}
 use lib.Seq.{ext_get_or}
-use Rattle.lists.proofs.Cases.{by_test, and_left, and_right, both_true}
+use Rattle.std.proofs.lemmas.Bool.{and_from, and_parts}
+use Rattle.lists.proofs.Cases.{by_test}
 use Rattle.lists.proofs.Numbers.{below_at, at_below}
 use Rattle.lists.proofs.Rows.{length_from, get_or_from}
 use Rattle.lists.proofs.Search.{search_none, search_passes}
@@ -138,7 +139,7 @@ module _ (h : Header) (s : Sound h) where
       unfolding is_multiple
       passes r x low small e =
           let (same, amount) = behind r x low small e in
-          rw (same, amount) (both_true (lt-ltb r h.k low) (eq-eqb _ h.n (all_same ws r x (leads_multiple r x small e))))
+          rw (same, amount) (and_from _ _ (lt-ltb r h.k low) (eq-eqb _ h.n (all_same ws r x (leads_multiple r x small e))))
 
       -- so the finding is the update in the difference
       pub update_found : finding_of h us vs ≡ update_in h ws
@@ -146,7 +147,7 @@ module _ (h : Header) (s : Sound h) where
       update_found =
           by_test (ltb row h.k && is_multiple h ws row (amount_in h ws row))
           (λ t.
-          let low = ltb-true row h.k (and_left (ltb row h.k) _ t) in
-          let same = same_all_lem ws row (amount_in h ws row) (eqb-true _ h.n (and_right (ltb row h.k) _ t)) in
+          let low = ltb-true row h.k (and_parts (ltb row h.k) _ t).0 in
+          let same = same_all_lem ws row (amount_in h ws row) (eqb-true _ h.n (and_parts (ltb row h.k) _ t).1) in
           rw t (finding_added h s us vs before after apart row (amount_in h ws row) low (amount_symbol ws differences_lane row low) (multiple_leads row (amount_in h ws row) same)))
           (λ t. rw t ((finds h s us vs before after).none.1 (apart, λ r x low small e. true≢false (sym (passes r x low small e) ∙ t))))

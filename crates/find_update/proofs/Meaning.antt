@@ -1,7 +1,7 @@
 -- What the answer means.
 use mathlib.Core.Path.{◌≡◌, sym, ap, ap₂, ◌∙◌}
 use mathlib.Core.Logic.{◌⊎◌, inl, inr, ⊎_elim}
-use mathlib.Core.Bool.{true, false, not}
+use mathlib.Core.Bool.{true, false, not, not-not}
 use mathlib.Core.List.{List}
 use Prim.Native.Nat.{ℕ, ◌≤◌, ◌<◌}
 use native.Mathlib.Nat.{zero-add}
@@ -10,7 +10,7 @@ use borrow.Author.Tests.{eq-eqb, eqb-true, eqb-false, ltb-true, ltb-false, ne_eq
 use lib.Dec.{eqb, ltb}
 use Rattle.lists.specs.Counting.{differ}
 use Rattle.lists.specs.Search.{first_false}
-use Rattle.lists.proofs.Cases.{by_test, not_not}
+use Rattle.lists.proofs.Cases.{by_test}
 use Rattle.lists.proofs.Differ.{differ_same, same_lists}
 use Rattle.lists.proofs.Search.{search_high, search_fails, search_within}
 use Rattle.generator.specs.declared.Header.{Header}
@@ -39,7 +39,7 @@ module _ (h : Header) (s : Sound h) (us vs : List ℕ) (before : IsLane h us) (a
   -- and what is found leads there
   amount_leads : (r : ℕ) → amount_at h us vs r < size h → word_added h r (amount_at h us vs r) us ≡ vs
   unfolding amount_at
-  amount_leads r low = leads_is r _ (sym (not_not _) ∙ ap not (search_fails (size h) 0 (λ x. not (leads h us vs r x)) (omega arith)))
+  amount_leads r low = leads_is r _ (sym (not-not _) ∙ ap not (search_fails (size h) 0 (λ x. not (leads h us vs r x)) (omega arith)))
 
   amount_high : (r : ℕ) → amount_at h us vs r ≤ size h
   unfolding amount_at

@@ -1,6 +1,6 @@
 -- A multiple of a row begins with that row alone.
 use mathlib.Core.Path.{◌≡◌, sym, ap, ◌∙◌}
-use mathlib.Core.Bool.{Bool, true, not, true≢false}
+use mathlib.Core.Bool.{Bool, true, not, true≢false, not-not}
 use mathlib.Core.List.{List}
 use Prim.Native.Nat.{ℕ, ◌+◌, ◌-◌, ◌%◌, ◌≤◌, ◌<◌}
 use native.Mathlib.Nat.{mod-lt, mod-eq_of_lt, mod-add-mod, add-mod_right, mod_self, add_assoc}
@@ -10,7 +10,8 @@ use lib.Dec.{eqb, ltb}
 use lib.ListN.{length, get_or}
 use Rattle.lists.specs.Search.{first_false}
 use Rattle.lists.proofs.All.{Distinct-at}
-use Rattle.lists.proofs.Cases.{by_test, not_not, and_left, and_right, both_true}
+use Rattle.std.proofs.lemmas.Bool.{and_from, and_parts}
+use Rattle.lists.proofs.Cases.{by_test}
 use Rattle.lists.proofs.Search.{search_fails, search_within}
 use Rattle.field.specs.Fields.{mul}
 use Rattle.field.proofs.Arithmetic.{mul-zero, no_divisors}
@@ -104,8 +105,8 @@ module _ (h : Header) (s : Sound h) where
     begins_own =
         let first = get_or (firsts h) r 0 in
         rw m.long
-        (both_true
-        (ap not (zero_where first (first_node r m.row)) ∙ not_not _ ∙ lt-ltb _ (distance h) (rw (first_place r m.row) some_node))
+        (and_from _ _
+        (ap not (zero_where first (first_node r m.row)) ∙ not-not _ ∙ lt-ltb _ (distance h) (rw (first_place r m.row) some_node))
         (by_test (eqb h.k 1)
         (λ e. rw e)
         (λ e. rw e (zero_where (node_before h.n first) (node_before_lem first) ∙ ap not (le-ltb _ (distance h) (rw (place_before r m.row) (not_all (eqb-false h.k 1 e))))))))
@@ -115,9 +116,9 @@ module _ (h : Header) (s : Sound h) where
     unfolding begins_at
     begins_only q row e =
         let first = get_or (firsts h) q 0 in
-        let here = and_left (not (eqb (get_or ws first 0) 0)) _ e in
-        let next = and_right (not (eqb (get_or ws first 0) 0)) _ e in
-        let low : (first + get_or (shifts h) r 0) % h.n < distance h = ltb-true _ _ (sym (not_not _) ∙ ap not (sym (zero_where first (first_node q row))) ∙ here) in
+        let here = (and_parts (not (eqb (get_or ws first 0) 0)) _ e).0 in
+        let next = (and_parts (not (eqb (get_or ws first 0) 0)) _ e).1 in
+        let low : (first + get_or (shifts h) r 0) % h.n < distance h = ltb-true _ _ (sym (not-not _) ∙ ap not (sym (zero_where first (first_node q row))) ∙ here) in
         by_test (eqb h.k 1)
         (λ t. let one = eqb-true h.k 1 t in omega (arith, m.row))
         (λ t.
@@ -131,4 +132,4 @@ module _ (h : Header) (s : Sound h) where
     row_is =
         let test : ℕ → Bool = λ q. not (begins_at h.k ws (get_or (firsts h) q 0)) in
         let found = search_within h.k 0 test r (omega arith) (omega (arith, m.row)) (ap not begins_own) in
-        begins_only (first_false h.k 0 test) (omega (arith, m.row)) (sym (not_not _) ∙ ap not (search_fails h.k 0 test (omega (arith, m.row))))
+        begins_only (first_false h.k 0 test) (omega (arith, m.row)) (sym (not-not _) ∙ ap not (search_fails h.k 0 test (omega (arith, m.row))))

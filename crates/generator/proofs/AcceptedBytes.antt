@@ -9,7 +9,8 @@ use lib.Dec.{eqb, ltb, leb}
 use lib.ListN.{length, get_or}
 use Rattle.lists.specs.Choice.{pick, when}
 use Rattle.lists.specs.Numbers.{all_below}
-use Rattle.lists.proofs.Cases.{by_test, and_left, and_right, or_right_false, first_zero, when_zero}
+use Rattle.std.proofs.lemmas.Bool.{and_parts, or_parts}
+use Rattle.lists.proofs.Cases.{by_test, first_zero, when_zero}
 use Rattle.lists.proofs.Numbers.{at_below}
 use Rattle.field.specs.Fields as F
 use Rattle.field.proofs.Agreement.{rest, size_of, is_prime, order_of, size_of_agrees, is_prime_agrees, order_of_agrees}
@@ -62,14 +63,14 @@ passed s e =
     let (five, six) = first_zero (when (not (low && found)) 5) (when (not (eqb (rest (h.k * weight h) h.n) 0)) 6) after_four in
     let sizes : (ltb h.n 2 || (eqb h.k 0 || ltb h.n h.k)) ≡ false = when_zero _ 3 four in
     let both : (low && found) ≡ true = not-false _ (when_zero _ 4 five) in
-    let below : h.root < F.size_of h.p = rw (size_of_agrees h.p) at (ltb-true h.root (size_of h.p) (and_left low found both)) in
+    let below : h.root < F.size_of h.p = rw (size_of_agrees h.p) at (ltb-true h.root (size_of h.p) (and_parts low found both).0) in
     record {
       kind = when_zero _ 0 one;
       body = eqb-true _ _ (not-false _ (when_zero _ 1 two));
       field = when_zero _ 2 three;
-      k_fits = ltb-false h.n h.k (or_right_false (eqb h.k 0) _ (or_right_false (ltb h.n 2) _ sizes));
+      k_fits = ltb-false h.n h.k (or_parts (eqb h.k 0) _ (or_parts (ltb h.n 2) _ sizes).1).1;
       root_low = below;
-      order = sym (order_of_agrees h.p h.root below) ∙ eqb-true _ _ (and_right low found both);
+      order = sym (order_of_agrees h.p h.root below) ∙ eqb-true _ _ (and_parts low found both).1;
     }
 
 -- n is below the field's size
@@ -84,9 +85,9 @@ module _ (s : List ℕ) (e : record_fault s ≡ 0) where
       let p = get_or s 1 0 in
       let a : Passed s (record { p = p; root = get_or s 2 0; n = get_or s 3 0; k = get_or s 4 0 }) = rw t at (passed s e) in
       let three : (leb 3 p && (leb p 251 && is_prime p)) ≡ true = not-false _ (rw t at a.field) in
-      let inside : (leb p 251 && is_prime p) ≡ true = and_right (leb 3 p) _ three in
-      let most : p ≤ 251 = leb-true p 251 (and_left _ (is_prime p) inside) in
-      let prime = sym (is_prime_agrees p) ∙ and_right (leb p 251) _ inside in
+      let inside : (leb p 251 && is_prime p) ≡ true = (and_parts (leb 3 p) _ three).1 in
+      let most : p ≤ 251 = leb-true p 251 (and_parts _ (is_prime p) inside).0 in
+      let prime = sym (is_prime_agrees p) ∙ (and_parts (leb p 251) _ inside).1 in
       let size = prime_size p prime in
       let nodes = nodes_below a (prime_field p prime) in
       let one : get_or s 0 0 ≡ 1 = eqb-true (get_or s 0 0) 1 t in
@@ -98,7 +99,7 @@ module _ (s : List ℕ) (e : record_fault s ≡ 0) where
   binary_bytes t =
       let a : Passed s (record { p = 0; root = get_or s 1 0; n = get_or s 2 0; k = get_or s 3 0 }) = rw t at (passed s e) in
       let nodes = nodes_below a byte_field in
-      let two : get_or s 0 0 ≡ 2 = eqb-true (get_or s 0 0) 2 (not-false _ (or_right_false (eqb (length s) 0) _ (rw t at a.kind))) in
+      let two : get_or s 0 0 ≡ 2 = eqb-true (get_or s 0 0) 2 (not-false _ (or_parts (eqb (length s) 0) _ (rw t at a.kind)).1) in
       four_bytes s (rw t at a.body) (omega arith) a.root_low nodes (omega (arith, a.k_fits, nodes))
 
   -- no list of kind 3 is accepted

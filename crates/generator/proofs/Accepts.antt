@@ -9,7 +9,8 @@ use borrow.Author.Tests.{ltb-true, leb-true, le-leb, eqb-true, not-false}
 use lib.Dec.{eqb, ltb, leb}
 use lib.ListN.{get_or}
 use Rattle.lists.specs.Choice.{first_of, when}
-use Rattle.lists.proofs.Cases.{by_test, and_left, and_right, both_true, first_zero, when_zero}
+use Rattle.std.proofs.lemmas.Bool.{and_from, and_parts}
+use Rattle.lists.proofs.Cases.{by_test, first_zero, when_zero}
 use Rattle.field.specs.declared.Field.TheVariants.{Prime}
 use Rattle.field.specs.Primes.{is_prime}
 use Rattle.field.specs.Fields.{order_of}
@@ -33,17 +34,17 @@ header_sound h u e =
       byte = byte;
       some = some;
       fits = fits;
-      root_below = ltb-true h.root (size h) (and_left _ (eqb (order_of (modulus_of h) h.root) h.n) root);
-      order = eqb-true (order_of (modulus_of h) h.root) h.n (and_right (ltb h.root (size h)) _ root);
+      root_below = ltb-true h.root (size h) (and_parts _ (eqb (order_of (modulus_of h) h.root) h.n) root).0;
+      order = eqb-true (order_of (modulus_of h) h.root) h.n (and_parts (ltb h.root (size h)) _ root).1;
     }
 
 -- a prime up to 65,521 names a usable field
 pub usable_in : (low high p : ℕ) → high ≤ 65521 → prime_in low high p ≡ true → usable (Prime (prime_of p)) ≡ true
 unfolding usable prime_in
 usable_in low high p most e =
-    let below : (leb p high && is_prime p) ≡ true = and_right (leb low p) _ e in
-    let bound : p ≤ high = leb-true p high (and_left _ (is_prime p) below) in
-    both_true (le-leb p 65521 (omega arith)) (and_right (leb p high) _ below)
+    let below : (leb p high && is_prime p) ≡ true = (and_parts (leb low p) _ e).1 in
+    let bound : p ≤ high = leb-true p high (and_parts _ (is_prime p) below).0 in
+    and_from _ _ (le-leb p 65521 (omega arith)) (and_parts (leb p high) _ below).1
 
 -- a field that number 3 passes is usable
 pub field_usable : (rec : List ℕ) → field_bad rec ≡ false → usable (header_of rec).field ≡ true

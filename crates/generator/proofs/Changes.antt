@@ -1,6 +1,6 @@
 -- Changing one symbol of a message: what each node then holds, and how many nodes are altered.
 use mathlib.Core.Path.{◌≡◌, refl, sym, ap, ap₂, ◌∙◌}
-use mathlib.Core.Bool.{true, not}
+use mathlib.Core.Bool.{true, not, not-not}
 use mathlib.Core.List.{List, [], ◌∷◌, map}
 use Prim.Native.Nat.{ℕ, zero, suc, ◌+◌, ◌-◌, ◌%◌, ◌<◌}
 use native.Mathlib.Omega.{arith}
@@ -11,7 +11,7 @@ use lib.ListN.{length, get_or, set, length-set}
 use Rattle.lists.specs.Rows.{from}
 use Rattle.lists.specs.Counting.{count_from, differ}
 use Rattle.lists.proofs.All.{All-at}
-use Rattle.lists.proofs.Cases.{by_test, not_not}
+use Rattle.lists.proofs.Cases.{by_test}
 use Rattle.lists.proofs.Count.{count_ext}
 use Rattle.lists.proofs.Numbers.{below_all, below_set}
 use Rattle.lists.proofs.Rows.{get_or_from, length_from}
@@ -144,7 +144,7 @@ module _ (h : Header) (s : Sound h) where
       alters =
           ap (λ (f : ℕ). count_from f 0 (λ i. not (eqb (get_or (from (node_of h ms) 0 h.n) i 0) (get_or (from (node_of h (set ms r x)) 0 h.n) i 0)))) (length_from (node_of h ms) 0 h.n)
           ∙ count_ext h.n 0 _ (λ j. ltb ((j + get_or (shifts h) r 0) % h.n) (distance h))
-          (λ j l u. ap not (ap₂ eqb (at ms j (omega arith)) (at (set ms r x) j (omega arith)) ∙ altered_entry j ∙ row_weight h s r j) ∙ not_not (ltb ((j + get_or (shifts h) r 0) % h.n) (distance h)))
+          (λ j l u. ap not (ap₂ eqb (at ms j (omega arith)) (at (set ms r x) j (omega arith)) ∙ altered_entry j ∙ row_weight h s r j) ∙ not-not (ltb ((j + get_or (shifts h) r 0) % h.n) (distance h)))
           ∙ row_nodes h.n (distance h) (get_or (shifts h) r 0) (omega (arith, s.two)) (weight_fits h s)
         where
           at : (us : List ℕ) (j : ℕ) → j < h.n → get_or (from (node_of h us) 0 h.n) j 0 ≡ node_of h us j

@@ -1,7 +1,7 @@
 -- How many symbols a node depends on, and what that means.
 use mathlib.Core.Path.{◌≡◌, sym, ap, ◌∙◌}
 use mathlib.Core.Logic.{◌↔◌, ◌⊎◌}
-use mathlib.Core.Bool.{true, false, not, true≢false}
+use mathlib.Core.Bool.{true, false, not, true≢false, not-not}
 use mathlib.Core.List.{List}
 use Prim.Native.Nat.{ℕ, ◌+◌, ◌*◌, ◌%◌, ◌<◌}
 use native.Mathlib.Omega.{arith}
@@ -12,7 +12,7 @@ use lib.ListN.{get_or, set, replicate, length-replicate, get_or-replicate}
 use lib.Seq.{set-get_or}
 use Rattle.lists.specs.Counting.{count_from}
 use Rattle.lists.proofs.All.{All-replicate}
-use Rattle.lists.proofs.Cases.{by_test, not_not}
+use Rattle.lists.proofs.Cases.{by_test}
 use Rattle.lists.proofs.Count.{count_ext}
 use Rattle.lists.proofs.Numbers.{all_below_lem}
 use Rattle.field.proofs.Bounds.{one_below}
@@ -35,7 +35,7 @@ use Rattle.generator.proofs.Changes.{altered_entry}
 module _ (h : Header) (s : Sound h) where
   -- an entry that is not zero, by its place
   inside : (r j : ℕ) → not (eqb (entry h r j) 0) ≡ ltb ((j + get_or (shifts h) r 0) % h.n) (distance h)
-  inside r j = ap not (row_weight h s r j) ∙ not_not (ltb ((j + get_or (shifts h) r 0) % h.n) (distance h))
+  inside r j = ap not (row_weight h s r j) ∙ not-not (ltb ((j + get_or (shifts h) r 0) % h.n) (distance h))
 
   -- row r lies on d nodes
   pub row_count : (r : ℕ) → count_from h.n 0 (λ j. not (eqb (entry h r j) 0)) ≡ distance h

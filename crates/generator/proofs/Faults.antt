@@ -6,7 +6,7 @@ use Prim.Native.Nat.{◌≤◌, ◌<◌}
 use native.Mathlib.Omega.{arith}
 use borrow.Author.Tests.{ltb-false, eqb-false}
 use lib.Dec.{eqb, ltb}
-use Rattle.lists.proofs.Cases.{or_left_false, or_right_false}
+use Rattle.std.proofs.lemmas.Bool.{or_parts}
 use Rattle.generator.specs.declared.Header.{Header}
 use Rattle.generator.specs.Records.{size_bad, root_bad, header_fault, judged}
 
@@ -31,11 +31,11 @@ module _ (h : Header) where
   pub sizes : size_bad h ≡ false → (2 ≤ h.n) × (h.n ≤ 255) × (0 < h.k) × (h.k ≤ h.n)
   unfolding size_bad
   sizes e =
-      let a : (ltb 255 h.n || (eqb h.k 0 || ltb h.n h.k)) ≡ false = or_right_false (ltb h.n 2) _ e in
-      let b : (eqb h.k 0 || ltb h.n h.k) ≡ false = or_right_false (ltb 255 h.n) _ a in
-      let some : h.k ≡ 0 → ⊥ = eqb-false h.k 0 (or_left_false _ (ltb h.n h.k) b) in (
-        ltb-false h.n 2 (or_left_false _ (ltb 255 h.n || (eqb h.k 0 || ltb h.n h.k)) e),
-        ltb-false 255 h.n (or_left_false _ (eqb h.k 0 || ltb h.n h.k) a),
+      let a : (ltb 255 h.n || (eqb h.k 0 || ltb h.n h.k)) ≡ false = (or_parts (ltb h.n 2) _ e).1 in
+      let b : (eqb h.k 0 || ltb h.n h.k) ≡ false = (or_parts (ltb 255 h.n) _ a).1 in
+      let some : h.k ≡ 0 → ⊥ = eqb-false h.k 0 (or_parts _ (ltb h.n h.k) b).0 in (
+        ltb-false h.n 2 (or_parts _ (ltb 255 h.n || (eqb h.k 0 || ltb h.n h.k)) e).0,
+        ltb-false 255 h.n (or_parts _ (eqb h.k 0 || ltb h.n h.k) a).0,
         omega arith,
-        ltb-false h.n h.k (or_right_false (eqb h.k 0) _ b),
+        ltb-false h.n h.k (or_parts (eqb h.k 0) _ b).1,
       )

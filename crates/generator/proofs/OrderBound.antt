@@ -9,7 +9,8 @@ use lib.ListN.{length, get_or}
 use Rattle.lists.specs.Numbers.{all_below, is_in, distinct}
 use Rattle.lists.specs.Rows.{from}
 use Rattle.lists.proofs.All.{Distinct-of}
-use Rattle.lists.proofs.Cases.{by_test, both_true}
+use Rattle.std.proofs.lemmas.Bool.{and_from}
+use Rattle.lists.proofs.Cases.{by_test}
 use Rattle.lists.proofs.Chosen.{count_most}
 use Rattle.lists.proofs.Count.{count_all}
 use Rattle.lists.proofs.Numbers.{at_below, all_distinct, cons_below, is_in_place}
@@ -54,7 +55,7 @@ module _ (p : ℕ) (v : is_field p ≡ true) (a : Symbol (size_of p)) (n : ℕ) 
   pub order_below : n < size_of p
   unfolding distinct
   order_below =
-      let most = count_most (size_of p) (λ x. true) (0 ∷ powers) (cons_below (size_of p) 0 powers (size_pos p v) powers_below) (both_true (ap not none_zero) powers_distinct) (λ i m. refl) in
+      let most = count_most (size_of p) (λ x. true) (0 ∷ powers) (cons_below (size_of p) 0 powers (size_pos p v) powers_below) (and_from _ _ (ap not none_zero) powers_distinct) (λ i m. refl) in
       omega (arith, most, length_from number 0 n, count_all (size_of p) 0 (λ x. true) (λ j b c. refl))
 
 -- so what is found as an order is

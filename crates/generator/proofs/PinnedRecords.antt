@@ -9,7 +9,8 @@ use native.Mathlib.Omega.{arith}
 use borrow.Author.Tests.{ltb-true, lt-ltb, leb-true, le-leb, eqb-true, eq-eqb, not-false}
 use lib.Dec.{eqb, ltb, leb}
 use Rattle.lists.specs.Choice.{first_of, when}
-use Rattle.lists.proofs.Cases.{by_test, and_left, and_right, both_true}
+use Rattle.std.proofs.lemmas.Bool.{and_from, and_parts}
+use Rattle.lists.proofs.Cases.{by_test}
 use Rattle.field.specs.Primes.{is_prime}
 use Rattle.field.specs.Fields.{power, order_of}
 use Rattle.field.specs.Kinds.{modulus, usable}
@@ -27,11 +28,11 @@ module _ (low high p : ℕ) (two : 2 ≤ low) where
   pub prime_test : prime_in low high p ≡ true → PrimeFrom low high p
   unfolding prime_in
   prime_test e =
-      let rest : (leb p high && is_prime p) ≡ true = and_right (leb low p) _ e in
-      let prime : is_prime p ≡ true = and_right (leb p high) _ rest in
+      let rest : (leb p high && is_prime p) ≡ true = (and_parts (leb low p) _ e).1 in
+      let prime : is_prime p ≡ true = (and_parts (leb p high) _ rest).1 in
       record {
-        above = leb-true low p (and_left _ (leb p high && is_prime p) e);
-        below = leb-true p high (and_left _ (is_prime p) rest);
+        above = leb-true low p (and_parts _ (leb p high && is_prime p) e).0;
+        below = leb-true p high (and_parts _ (is_prime p) rest).0;
         no_product = λ a b la lb is. prime_no_divisor p prime a la (omega (arith, is, mul-le-mul_left a lb)) (ap (λ (x : ℕ). x % a) (sym is) ∙ mul-mod_right a b);
       }
 
@@ -46,7 +47,7 @@ module _ (low high p : ℕ) (two : 2 ≤ low) where
   test_prime f =
       let above = f.above in
       let one : p / p < p = rw (div_self {n = p} (omega arith)) (omega arith) in
-      both_true (le-leb low p above) (both_true (le-leb p high f.below) (trial p p (omega arith) one (factor f)))
+      and_from _ _ (le-leb low p above) (and_from _ _ (le-leb p high f.below) (trial p p (omega arith) one (factor f)))
 
   -- so a number after the test is 3 just where p is none
   pub three : (others : ℕ) → (others ≡ 3 → ⊥) → (first_of (when (not (prime_in low high p)) 3) others ≡ 3) ↔ (PrimeFrom low high p → ⊥)
@@ -89,8 +90,8 @@ module _ (h : Header) (usable : usable h.field ≡ true) (size_good : size_bad h
   unfolding root_bad order_of
   root_test e =
       let both : (ltb h.root (size h) && eqb (order_of (modulus_of h) h.root) h.n) ≡ true = not-false _ e in
-      let low = ltb-true h.root (size h) (and_left _ (eqb (order_of (modulus_of h) h.root) h.n) both) in
-      let order = eqb-true (order_of (modulus_of h) h.root) h.n (and_right (ltb h.root (size h)) _ both) in
+      let low = ltb-true h.root (size h) (and_parts _ (eqb (order_of (modulus_of h) h.root) h.n) both).0 in
+      let order = eqb-true (order_of (modulus_of h) h.root) h.n (and_parts (ltb h.root (size h)) _ both).1 in
       let first = order_from_lem (modulus_of h) h.root 256 1 h.root h.n (first_power low) (omega (arith, (sizes h size_good).0)) order in
       record { symbol = low; returns = first.one; least = first.before }
 
@@ -99,7 +100,7 @@ module _ (h : Header) (usable : usable h.field ≡ true) (size_good : size_bad h
   test_root o =
       let first : FirstFrom (modulus_of h) h.root 1 h.n = record { from = omega (arith, (sizes h size_good).0); one = o.returns; before = o.least } in
       let order : order_of (modulus_of h) h.root ≡ h.n = order_finds (modulus_of h) h.root 256 1 h.root h.n (first_power o.symbol) (omega (arith, (sizes h size_good).1)) first in
-      ap not (both_true (lt-ltb h.root (size h) o.symbol) (eq-eqb _ h.n order))
+      ap not (and_from _ _ (lt-ltb h.root (size h) o.symbol) (eq-eqb _ h.n order))
 
   pub root : (header_fault h ≡ 5) ↔ (HasOrder (size h) (modulus_of h) h.root h.n → ⊥)
   unfolding header_fault

@@ -11,7 +11,7 @@ use lib.ListN.{length, get_or}
 use lib.Seq.{ext_get_or}
 use Rattle.lists.specs.Numbers.{all_below, is_in, distinct}
 use Rattle.lists.specs.Rows.{from, range}
-use Rattle.lists.proofs.Cases.{both_true}
+use Rattle.std.proofs.lemmas.Bool.{and_from}
 use Rattle.lists.proofs.Numbers.{is_in_below, all_below_lem, all_distinct, at_below}
 use Rattle.lists.proofs.Places.{Places-range, map_range}
 use Rattle.lists.proofs.Rows.{length_from, get_or_from}
@@ -43,7 +43,7 @@ module _ (h : Header) (s : Sound h) where
   unfolding are_nodes
   first_nodes =
       let p = Places-range h.n 0 h.k (omega (arith, s.fits)) in
-      both_true (eq-eqb _ h.k p.size) (both_true (all_below_lem h.n (range 0 h.k) p.low) (all_distinct (range 0 h.k) p.distinct))
+      and_from _ _ (eq-eqb _ h.k p.size) (and_from _ _ (all_below_lem h.n (range 0 h.k) p.low) (all_distinct (range 0 h.k) p.distinct))
 
   module _ (m : Message (Symbol (size h)) h.k) where
     -- the message of the plan whose word has m at these nodes
@@ -95,7 +95,7 @@ module _ (h : Header) (s : Sound h) where
   unfolding are_nodes held
   fixes m u js size_is low different e =
       same_word m u
-      (one_message h s js (behind m).0 (behind u).0 (both_true (eq-eqb (length js) h.k size_is) (both_true low different)) (behind m).1 (behind u).1
+      (one_message h s js (behind m).0 (behind u).0 (and_from _ _ (eq-eqb (length js) h.k size_is) (and_from _ _ low different)) (behind m).1 (behind u).1
       (map_is_in (held m) (held u) js (λ j i. e (j, is_in_below h.n j js low i) i)))
 
   -- node j holds what the word holds at j

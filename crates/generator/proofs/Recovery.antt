@@ -8,7 +8,7 @@ use borrow.Author.Tests.{eqb-true, eq-eqb}
 use lib.Dec.{eqb}
 use lib.ListN.{length, length-map}
 use Rattle.lists.specs.Numbers.{all_below, distinct}
-use Rattle.lists.proofs.Cases.{and_left, and_right, both_true}
+use Rattle.std.proofs.lemmas.Bool.{and_from, and_parts}
 use Rattle.lists.proofs.All.{ExactlyOne}
 use Rattle.lists.proofs.Places.{Places}
 use Rattle.lists.proofs.Numbers.{places}
@@ -28,22 +28,22 @@ use Rattle.generator.proofs.Bridge.{nodes_are}
 -- the two parts of a message's test
 pub message_size : (h : Header) (ms : List ℕ) → is_message h ms ≡ true → length ms ≡ h.k
 unfolding is_message
-message_size h ms e = eqb-true (length ms) h.k (and_left _ (all_below (size h) ms) e)
+message_size h ms e = eqb-true (length ms) h.k (and_parts _ (all_below (size h) ms) e).0
 
 pub message_below : (h : Header) (ms : List ℕ) → is_message h ms ≡ true → all_below (size h) ms ≡ true
 unfolding is_message
-message_below h ms e = and_right (eqb (length ms) h.k) _ e
+message_below h ms e = (and_parts (eqb (length ms) h.k) _ e).1
 
 pub message_is : (h : Header) (ms : List ℕ) → length ms ≡ h.k → all_below (size h) ms ≡ true → is_message h ms ≡ true
 unfolding is_message
-message_is h ms l b = both_true (eq-eqb (length ms) h.k l) b
+message_is h ms l b = and_from _ _ (eq-eqb (length ms) h.k l) b
 
 -- k different nodes are places
 pub nodes_places : (h : Header) (js : List ℕ) → are_nodes h js ≡ true → Places h.n h.k js
 unfolding are_nodes
 nodes_places h js e =
-    let rest : (all_below h.n js && distinct js) ≡ true = and_right (eqb (length js) h.k) _ e in
-    places h.n h.k js (eqb-true (length js) h.k (and_left _ (all_below h.n js && distinct js) e)) (and_left _ (distinct js) rest) (and_right (all_below h.n js) _ rest)
+    let rest : (all_below h.n js && distinct js) ≡ true = (and_parts (eqb (length js) h.k) _ e).1 in
+    places h.n h.k js (eqb-true (length js) h.k (and_parts _ (all_below h.n js && distinct js) e).0) (and_parts _ (distinct js) rest).0 (and_parts (all_below h.n js) _ rest).1
 
 module _ (h : Header) (s : Sound h) where
   pub shifts_are_places : Places h.n h.k (shifts h)

@@ -10,7 +10,7 @@ use borrow.Author.Tests.{eq-eqb, ne_eqb, eqb-false, not-true}
 use lib.Dec.{eqb}
 use lib.ListN.{length, get_or, set}
 use Rattle.lists.specs.Numbers.{all_below, is_in, distinct}
-use Rattle.lists.proofs.Cases.{both_true}
+use Rattle.std.proofs.lemmas.Bool.{and_from}
 use Rattle.lists.proofs.Numbers.{is_in_below}
 use Rattle.field.specs.Symbols.{Symbol, numbers}
 use Rattle.field.proofs.Symbols.{symbol, symbol_below, symbol_path, get_or_numbers, numbers_path}
@@ -42,7 +42,7 @@ module _ (h : Header) (s : Sound h) where
   unfolding are_nodes
   fixes ms us js lm lu size_is below different e =
       numbers_path (size h) (size_pos (modulus_of h) s.field) ms us
-      (one_message h s js (numbers (size h) ms) (numbers (size h) us) (both_true (eq-eqb (length js) h.k size_is) (both_true below different)) (numbers_message h s ms lm) (numbers_message h s us lu)
+      (one_message h s js (numbers (size h) ms) (numbers (size h) us) (and_from _ _ (eq-eqb (length js) h.k size_is) (and_from _ _ below different)) (numbers_message h s ms lm) (numbers_message h s us lu)
       (map_is_in (node_of h (numbers (size h) ms)) (node_of h (numbers (size h) us)) js (λ j m. e (j, is_in_below h.n j js below m) m)))
 
   -- node j holds the sum of symbol r times entry (r, j)

@@ -12,7 +12,7 @@ use lib.Dec.{eqb}
 use lib.ListN.{length}
 use Rattle.lists.specs.Rows.{range}
 use Rattle.lists.specs.Numbers.{all_below}
-use Rattle.lists.proofs.Cases.{and_left, and_right, both_true}
+use Rattle.std.proofs.lemmas.Bool.{and_from, and_parts}
 use Rattle.lists.proofs.Numbers.{at_below}
 use Rattle.lists.proofs.Rows.{length_from, get_or_from}
 use Rattle.algebra.proofs.Poly.{values}
@@ -37,14 +37,14 @@ unfolding checks_from
 checks_zero zero h ws t i pos low = absurd (omega arith)
 checks_zero (suc e) h ws t i pos low =
     ⊎_elim
-    (λ l. checks_zero e h ws (and_right (eqb (check_from h (suc e) 0 ws) 0) _ t) i pos l)
-    (λ q. rw q (eqb-true _ 0 (and_left _ (checks_from e h ws) t)))
+    (λ l. checks_zero e h ws (and_parts (eqb (check_from h (suc e) 0 ws) 0) _ t).1 i pos l)
+    (λ q. rw q (eqb-true _ 0 (and_parts _ (checks_from e h ws) t).0))
     (le-suc_iff.0 low)
 
 pub zero_checks : (e : ℕ) (h : Header) (ws : List ℕ) → ((i : ℕ) → 0 < i → i ≤ e → check_from h i 0 ws ≡ 0) → checks_from e h ws ≡ true
 unfolding checks_from
 zero_checks zero h ws z = refl
-zero_checks (suc e) h ws z = both_true (eq-eqb _ 0 (z (suc e) (omega arith) (omega arith))) (zero_checks e h ws (λ i p l. z i p (omega arith)))
+zero_checks (suc e) h ws z = and_from _ _ (eq-eqb _ 0 (z (suc e) (omega arith) (omega arith))) (zero_checks e h ws (λ i p l. z i p (omega arith)))
 
 module _ (h : Header) (s : Sound h) where
   -- the polynomial's values, in the algebra's terms

@@ -6,7 +6,7 @@ use native.Mathlib.Nat.{mod-eq_of_lt}
 use native.Mathlib.Omega.{arith}
 use lib.ListN.{length, get_or, drop, set, drop_of_length-le}
 use Rattle.lists.specs.Padded.{zeros, padded}
-use Rattle.lists.proofs.All.{get_d_map}
+use Rattle.std.proofs.lemmas.List.{get_or-map}
 use Rattle.lists.proofs.Numbers.{below_get_or}
 use Rattle.lists.proofs.Fill.{back_start, back_put}
 use Rattle.lists.proofs.Front.{drop_next}
@@ -48,7 +48,7 @@ module _ (h : Header) (s : Sound h) where
   inverse_at : (c : ℕ) → c < h.k → get_or (base_inverses h) c 0 ≡ ((field_for h s).inv (coefficient c)).0
   unfolding base_inverses inverses_of
   inverse_at c inside =
-      get_d_map (inverse p) 0 0 (base_of p h.root (h.k - 1)) c (omega (arith, length_base_of p h.root (h.k - 1)))
+      get_or-map (inverse p) (base_of p h.root (h.k - 1)) c 0 0 (omega (arith, length_base_of p h.root (h.k - 1)))
       ∙ ap (inverse p) (ap (λ (l : List ℕ). get_or l c 0) (base_of_is p s.field (root_for h s) (h.k - 1)) ∙ get_or_numbers (size h) (size_pos p s.field) (base (field_for h s) (root_for h s) (h.k - 1)) c)
 
   -- the highest is 1

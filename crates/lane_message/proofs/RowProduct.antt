@@ -9,7 +9,8 @@ use lib.Dec.{eqb}
 use lib.ListN.{length, get_or, length-map}
 use Rattle.lists.specs.Choice.{pick}
 use Rattle.lists.specs.Rows.{from}
-use Rattle.lists.proofs.All.{All, All-at, All-of, get_d_map}
+use Rattle.std.proofs.lemmas.List.{get_or-map}
+use Rattle.lists.proofs.All.{All, All-at, All-of}
 use Rattle.lists.specs.Padded.{padded}
 use Rattle.lists.proofs.Numbers.{at_below}
 use Rattle.lists.proofs.Padding.{get_or_padded}
@@ -115,7 +116,7 @@ module _ (h : Header) (s : Sound h) (m : ℕ) (r : InRounds h.n (shifts h) (suc 
       let F = field_for h s in
       let a = root_for h s in
       let x = get_or (shifts h) i 0 in
-      ap (λ y. pow F y g) (get_d_map (λ i. F.mul (pow F a i) (pow F a e)) 0 F.0f (shifts h) i inside ∙ sym (pow_add F a x e))
+      ap (λ y. pow F y g) (get_or-map (λ i. F.mul (pow F a i) (pow F a e)) (shifts h) i 0 F.0f inside ∙ sym (pow_add F a x e))
       ∙ sym (pow_mul F a (x + e) g)
       ∙ ap (pow F a) (turned x)
       ∙ pow_add F a (h.n * (x / r.around)) ((x % r.around + e) * g)

@@ -9,13 +9,14 @@ use lib.ListN.{length, get_or, take, drop}
 use lib.Seq.{take-nil, take-append-add}
 use Rattle.lists.specs.Numbers.{all_below}
 use Rattle.lists.specs.Rows.{from, rows_from}
+use Rattle.std.proofs.lemmas.Nat.{mul-add-lt}
 use Rattle.lists.proofs.Rows.{from_ext, row_inside, part_length, get_d_part}
 use Rattle.layout.specs.Layout.{lane_after_lane, lane_of}
 use Rattle.layout.specs.Width.{value_from, symbol_at, symbols_of, symbol_bytes, bytes_of}
 use Rattle.layout.proofs.Places.{held_by_lane}
 use Rattle.layout.proofs.Widths.{get_or_symbols, length_symbol, drop_bytes, symbols_bytes}
 use Rattle.layout.proofs.Readings.{symbol_inside, symbol_digits, bytes_symbols}
-use Rattle.layout.proofs.Tiles.{byte_place, byte_row_lem, lane_place, many_symbols}
+use Rattle.layout.proofs.Tiles.{byte_place, many_symbols}
 
 -- the bytes of the lanes, counted as the conditions of length do
 pub lanes_long : (w rows l : ℕ) → rows * l * w ≡ w * rows * l
@@ -38,12 +39,12 @@ module _ (w rows l t : ℕ) (s : List ℕ) (long : length s ≡ w * rows * l) (i
       ∙ from_ext (symbol_at w part) _ 0 rows
       (λ i low high.
       let hi : i < rows = omega arith in
-      let less : t * rows + i < length s / w = rw (many_symbols w rows l s some long) (lane_place rows l i t hi inside) in
+      let less : t * rows + i < length s / w = rw (many_symbols w rows l s some long) (mul-add-lt t rows i l inside hi) in
       symbol_digits w part i (rw size (rw (mul_comm w rows) (row_inside rows i w hi)))
       ∙ ap (value_from 0)
       (from_ext _ _ 0 w
       (λ v low' high'.
-      get_d_part a (w * rows) s (i * w + v) (byte_row_lem w rows i v hi (omega arith))
+      get_d_part a (w * rows) s (i * w + v) (mul-add-lt i w v rows hi (omega arith))
       ∙ ap (λ (x : ℕ). get_or s x 0) (sym (byte_place w rows i t v))))
       ∙ sym (symbol_digits w s (t * rows + i) (symbol_inside w s (t * rows + i) some less))
       ∙ sym (get_or_symbols w s (t * rows + i) less)

@@ -3,12 +3,12 @@ use mathlib.Core.Path.{◌≡◌, sym, ap, ap₂, ◌∙◌}
 use mathlib.Core.Bool.{true}
 use mathlib.Core.List.{List}
 use Prim.Native.Nat.{ℕ, ◌+◌, ◌-◌, ◌*◌, ◌≤◌, ◌<◌}
-use native.Mathlib.Nat.{mul_assoc, mul_comm}
+use native.Mathlib.Nat.{mul_assoc, mul_comm, add-sub_cancel_left}
 use native.Mathlib.Omega.{arith}
 use lib.ListN.{length, take, drop}
 use Rattle.lists.specs.Numbers.{all_below}
 use Rattle.lists.proofs.Numbers.{below_take, below_drop}
-use Rattle.lists.proofs.Rows.{part_size, part_length}
+use Rattle.lists.proofs.Rows.{part_length}
 use Rattle.layout.specs.Layout.{row_after_row, lane_after_lane, held, rearranged}
 use Rattle.layout.specs.Inner.Parts.{some_lanes}
 use Rattle.layout.specs.Width.{symbols_of, bytes_of}
@@ -62,11 +62,11 @@ module _ (w rows l : ℕ) (s : List ℕ) (some : 0 < w) (long : length s ≡ w *
       let size : length part ≡ w * rows * c = part_length a k s inside ∙ mul_comm c (w * rows) in
       let bytes : all_below 256 part ≡ true = below_take 256 (a + k - a) (drop a s) (below_drop 256 a s low) in
       let at : a ≡ t * rows * w = ap (λ (x : ℕ). t * x) (mul_comm w rows) ∙ sym (mul_assoc t rows w) in
-      let many : a + k - a ≡ c * rows * w = part_size a k ∙ ap (λ (x : ℕ). c * x) (mul_comm w rows) ∙ sym (mul_assoc c rows w) in
+      let many : a + k - a ≡ c * rows * w = add-sub_cancel_left a k ∙ ap (λ (x : ℕ). c * x) (mul_comm w rows) ∙ sym (mul_assoc c rows w) in
       let symbols : symbols_of w part ≡ take (t * rows + c * rows - t * rows) (drop (t * rows) (symbols_of w s)) =
       ap₂ (λ (x y : ℕ). symbols_of w (take x (drop y s))) many at
       ∙ symbols_part w (rows * l) s some total low (t * rows) (c * rows)
-      ∙ ap (λ (x : ℕ). take x (drop (t * rows) (symbols_of w s))) (sym (part_size (t * rows) (c * rows))) in
+      ∙ ap (λ (x : ℕ). take x (drop (t * rows) (symbols_of w s))) (sym (add-sub_cancel_left (t * rows) (c * rows))) in
       sym (rearranged_part (w * rows) l s long by_row t c)
       ∙ sym (tile_written w rows c some (rearranged lane_after_lane row_after_row (w * rows) c part) (length_rearranged_rows (w * rows) c part) (bytes_rearranged (w * rows) c part size bytes))
       ∙ ap (tile_bytes w rows c)

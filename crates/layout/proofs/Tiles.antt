@@ -9,6 +9,7 @@ use native.Mathlib.Omega.{arith}
 use lib.Arith.{digits_lt}
 use lib.ListN.{length, get_or, length-append, get_or-append}
 use lib.Seq.{get_or-append-add}
+use Rattle.std.proofs.lemmas.Nat.{mul-add-lt}
 use Rattle.lists.specs.Rows.{from, rows_from}
 use Rattle.lists.proofs.Rows.{from_ext, length_from, get_or_from}
 use Rattle.lists.proofs.Lanes.{get_d_rows, length_rows}
@@ -46,12 +47,6 @@ byte_place w rows i t v =
     let f : t * rows * w ≡ t * (w * rows) = mul_assoc t rows w ∙ ap (λ (x : ℕ). t * x) (mul_comm rows w) in
     omega (arith, e, f)
 
-pub byte_row_lem : (w rows i v : ℕ) → i < rows → v < w → i * w + v < w * rows
-byte_row_lem w rows i v hi hv = rw (mul_comm w rows) (digits_lt hi hv)
-
-pub lane_place : (rows l i t : ℕ) → i < rows → t < l → t * rows + i < rows * l
-lane_place rows l i t hi ht = rw (mul_comm rows l) (digits_lt ht hi)
-
 -- w times so many bytes are so many symbols
 pub many_symbols : (w rows l : ℕ) (s : List ℕ) → 0 < w → length s ≡ w * rows * l → length s / w ≡ rows * l
 many_symbols w rows l s some long =
@@ -74,7 +69,7 @@ module _ (w rows l : ℕ) where
       let P = rearranged row_after_row lane_after_lane (w * rows) l s in
       let long = length_rearranged_lanes (w * rows) l s in
       let count = many_symbols w rows l P some long in
-      let less : t * rows + i < length P / w = rw count (lane_place rows l i t hi ht) in
+      let less : t * rows + i < length P / w = rw count (mul-add-lt t rows i l ht hi) in
       held_to_rows rows l (symbols_of w P) i t hi ht
       ∙ get_or_symbols w P (t * rows + i) less
       ∙ symbol_digits w P (t * rows + i) (symbol_inside w P (t * rows + i) some less)
@@ -82,15 +77,15 @@ module _ (w rows l : ℕ) where
       (from_ext _ _ 0 w
       (λ v low high.
       ap (λ (x : ℕ). get_or P x 0) (byte_place w rows i t v)
-      ∙ held_to_lanes (w * rows) l s (i * w + v) t (byte_row_lem w rows i v hi (omega arith)) ht))
+      ∙ held_to_lanes (w * rows) l s (i * w + v) t (mul-add-lt i w v rows hi (omega arith)) ht))
 
   -- and a tile's rows are the bytes of its symbols
   pub held_tile_bytes : (xs : List ℕ) (i v t : ℕ) → i < rows → v < w → t < l → held row_after_row (w * rows) l (tile_bytes w rows l xs) (i * w + v) t ≡ get_or (symbol_bytes w (held row_after_row rows l xs i t)) v 0
   unfolding tile_bytes
   held_tile_bytes xs i v t hi hv ht =
       let X = rearranged row_after_row lane_after_lane rows l xs in
-      let less : t * rows + i < length X = rw (length_rearranged_lanes rows l xs) (lane_place rows l i t hi ht) in
-      held_to_rows (w * rows) l (bytes_of w X) (i * w + v) t (byte_row_lem w rows i v hi hv) ht
+      let less : t * rows + i < length X = rw (length_rearranged_lanes rows l xs) (mul-add-lt t rows i l ht hi) in
+      held_to_rows (w * rows) l (bytes_of w X) (i * w + v) t (mul-add-lt i w v rows hi hv) ht
       ∙ ap (λ (x : ℕ). get_or (bytes_of w X) x 0) (sym (byte_place w rows i t v))
       ∙ get_or_bytes w X (t * rows + i) v less hv
       ∙ ap (λ (x : ℕ). get_or (symbol_bytes w x) v 0) (held_to_lanes rows l xs i t hi ht)

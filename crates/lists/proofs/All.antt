@@ -116,12 +116,6 @@ module _ {A B : Type 0} where
   agree_map f g [] e = tt
   agree_map f g (x ∷ xs) e = (cc, agree_map f g xs (cc))
 
-  -- The image at an index.
-  pub get_d_map : (f : A → B) (d : A) (e : B) (xs : List A) (i : ℕ) → i < length xs → get_or (map f xs) i e ≡ f (get_or xs i d)
-  get_d_map f d e [] i l = absurd (omega arith)
-  get_d_map f d e (x ∷ xs) zero l = refl
-  get_d_map f d e (x ∷ xs) (suc i) l = get_d_map f d e xs i (omega arith)
-
   -- the images of a part
   pub map_take : (f : A → B) (i : ℕ) (xs : List A) → map f (take i xs) ≡ take i (map f xs)
   map_take f zero xs = refl

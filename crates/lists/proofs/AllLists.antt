@@ -1,6 +1,6 @@
 -- The search through all lists of n numbers below q finds one that passes, where there is one.
 use mathlib.Core.Path.{◌≡◌, refl, sym, ap, ◌∙◌}
-use mathlib.Core.Bool.{Bool, true, not, true≢false}
+use mathlib.Core.Bool.{Bool, true, not, true≢false, not-not}
 use mathlib.Core.List.{List, [], ◌∷◌}
 use Prim.Native.Nat.{ℕ, zero, suc, ◌<◌}
 use native.Mathlib.Decide.{dec_lt}
@@ -10,7 +10,6 @@ use lib.ListN.{length}
 use Rattle.lists.specs.Numbers.{all_below}
 use Rattle.lists.specs.Search.{first_false}
 use Rattle.lists.specs.AllLists.{any_list, first_list}
-use Rattle.lists.proofs.Cases.{not_not}
 use Rattle.lists.proofs.Numbers.{below_cons, cons_below}
 use Rattle.lists.proofs.Search.{search_passes, search_fails}
 
@@ -30,7 +29,7 @@ found q p x low e = go (dec_lt (first_false q 0 (λ x. not (p x))) q)
 
 -- and what is found passes
 passing : (q : ℕ) (p : ℕ → Bool) → first_false q 0 (λ x. not (p x)) < q → p (first_false q 0 (λ x. not (p x))) ≡ true
-passing q p h = let x = first_false q 0 (λ x. not (p x)) in sym (not_not (p x)) ∙ ap not (search_fails q 0 (λ x. not (p x)) (omega arith))
+passing q p h = let x = first_false q 0 (λ x. not (p x)) in sym (not-not (p x)) ∙ ap not (search_fails q 0 (λ x. not (p x)) (omega arith))
 
 -- a list that passes is found
 pub any_list_lem : (q n : ℕ) (p : List ℕ → Bool) (l : List ℕ) → Passes q n p l → any_list q n p ≡ true

@@ -9,7 +9,8 @@ use native.Mathlib.Omega.{arith}
 use borrow.Author.Tests.{eq-eqb}
 use lib.Dec.{eqb}
 use Rattle.lists.specs.Counting.{count_from}
-use Rattle.lists.proofs.Cases.{by_test, and_left}
+use Rattle.std.proofs.lemmas.Bool.{and_parts}
+use Rattle.lists.proofs.Cases.{by_test}
 use Rattle.lists.proofs.Count.{count_ext, count_none, count_below}
 use Rattle.lists.proofs.Chosen.{without, without_other, count_without}
 
@@ -61,7 +62,7 @@ count_along n (suc m) f p a only =
     (λ last.
     along_passes n m f p a only last
     (count_along n m f (without (f m) p) (fewer n m f p a only)
-    (λ x h e. other n m f p a only x h (and_left (p x) (not (eqb x (f m))) e) (λ s. without_same (f m) p (rw s at e)))))
+    (λ x h e. other n m f p a only x h (and_parts (p x) (not (eqb x (f m))) e).0 (λ s. without_same (f m) p (rw s at e)))))
     (λ none.
     along_fails n m f p a only none
     (count_along n m f p (fewer n m f p a only)

@@ -10,40 +10,11 @@ pub by_test {ℓ} : {A : Type ℓ} (b : Bool) → (b ≡ true → A) → (b ≡ 
 by_test true yes_case no_case = yes_case refl
 by_test false yes_case no_case = no_case refl
 
--- both parts of a conjunction
-pub and_left : (a b : Bool) → (a && b) ≡ true → a ≡ true
-and_left true b h = refl
-and_left false b h = h
-
-pub and_right : (a b : Bool) → (a && b) ≡ true → b ≡ true
-and_right true b h = h
-and_right false b h = absurd (true≢false (sym h))
-
-pub both_true : {a b : Bool} → a ≡ true → b ≡ true → (a && b) ≡ true
-both_true p q = simp (p, q)
-
 -- where not both hold, the conjunction fails
 pub not_both : {a b : Bool} → (a ≡ true → b ≡ true → ⊥) → (a && b) ≡ false
 not_both {a = true} {b = true} h = absurd (h refl refl)
 not_both {a = true} {b = false} h = refl
 not_both {a = false} h = refl
-
--- both parts of a disjunction that fails
-pub or_left_false : (a b : Bool) → (a || b) ≡ false → a ≡ false
-or_left_false true b h = h
-or_left_false false b h = refl
-
-pub or_right_false : (a b : Bool) → (a || b) ≡ false → b ≡ false
-or_right_false true b h = absurd (true≢false h)
-or_right_false false b h = h
-
-pub neither : {a b : Bool} → a ≡ false → b ≡ false → (a || b) ≡ false
-neither p q = simp (p, q)
-
--- a test refused twice
-pub not_not : (t : Bool) → not (not t) ≡ t
-not_not true = refl
-not_not false = refl
 
 -- the parts of a first number that is 0
 pub first_zero : (a b : ℕ) → first_of a b ≡ 0 → (a ≡ 0) × (b ≡ 0)

@@ -7,7 +7,7 @@ use native.Mathlib.Omega.{arith}
 use lib.ListN.{length, get_or, length-map}
 use lib.Seq.{ext_get_or}
 use Rattle.lists.specs.Rows.{from}
-use Rattle.lists.proofs.All.{get_d_map}
+use Rattle.std.proofs.lemmas.List.{get_or-map}
 use Rattle.lists.proofs.Rows.{length_from, get_or_from}
 
 module _ (xs : List ℕ) (n : ℕ) (long : length xs ≡ n) where
@@ -21,4 +21,4 @@ module _ (xs : List ℕ) (n : ℕ) (long : length xs ≡ n) where
       ext_get_or 0 _ (map f xs) (length_from (λ i. f (get_or xs i 0)) 0 n ∙ sym (length-map xs f ∙ long))
       (λ i h.
       let low : i < n = omega (arith, length_from (λ i. f (get_or xs i 0)) 0 n) in
-      rw zero-add at (get_or_from (λ i. f (get_or xs i 0)) 0 n i 0 low) ∙ sym (get_d_map f 0 0 xs i (omega arith)))
+      rw zero-add at (get_or_from (λ i. f (get_or xs i 0)) 0 n i 0 low) ∙ sym (get_or-map f xs i 0 0 (omega arith)))

@@ -11,7 +11,8 @@ use borrow.Author.Tests.{lt-ltb, ne_eqb, eq-eqb, ltb-true, eqb-true, not-true}
 use Rattle.lists.specs.Numbers.{all_below, is_in, distinct}
 use Rattle.lists.proofs.All.{All, All-at, All-of, Distinct}
 use Rattle.lists.proofs.Places.{Places}
-use Rattle.lists.proofs.Cases.{by_test, or_right_false}
+use Rattle.std.proofs.lemmas.Bool.{or_parts}
+use Rattle.lists.proofs.Cases.{by_test}
 
 -- a list whose first number and rest are below n, taken apart
 pub below_cons : (n i : ℕ) (is : List ℕ) → all_below n (i ∷ is) ≡ true → (i < n) × (all_below n is ≡ true)
@@ -129,7 +130,7 @@ unfolding is_in
 not_in_all j [] h = tt
 not_in_all j (i ∷ js) h = (
   λ e. true≢false (sym (rw (eq-eqb j i e) refl) ∙ h),
-  not_in_all j js (or_right_false (eqb j i) (is_in j js) h),
+  not_in_all j js (or_parts (eqb j i) (is_in j js) h).1,
 )
 
 -- and the other way round

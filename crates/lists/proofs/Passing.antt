@@ -4,7 +4,7 @@ use mathlib.Core.Bool.{Bool, true, false, ◌&&◌, true≢false}
 use mathlib.Core.List.{List, [], ◌∷◌, ◌++◌}
 use mathlib.Core.Logic.{⊎_elim, by_cases}
 use Prim.Native.Nat.{ℕ, zero, suc, ◌+◌, ◌-◌, ◌≤◌, ◌<◌}
-use native.Mathlib.Nat.{not-suc-le-zero, eq-or-lt_of_le}
+use native.Mathlib.Nat.{not-suc-le-zero, eq-or-lt_of_le, sub-eq-zero_of_le}
 use native.Mathlib.Decide.{dec_lt}
 use native.Mathlib.Numerals.{add-one}
 use native.Mathlib.Omega.{arith}
@@ -12,7 +12,7 @@ use lib.ListN.{length, get_or}
 use Rattle.lists.specs.Choice.{pick, when}
 use Rattle.lists.specs.Counting.{count_from, passing_from}
 use Rattle.lists.proofs.Count.{count_move, count_not}
-use Rattle.lists.proofs.Rows.{sub_next, sub_end}
+use Rattle.lists.proofs.Rows.{sub_next}
 use Rattle.lists.proofs.All.{All, All-imp, All-at, Distinct, Distinct-of}
 use Rattle.lists.proofs.Numbers.{StandsIn}
 
@@ -41,7 +41,7 @@ passing_next n i p h = ap (λ (f : ℕ). passing_from f i p) (sub_next n i h)
 
 pub passing_end : (n i : ℕ) (p : ℕ → Bool) → n ≤ i → passing_from (n - i) i p ≡ []
 unfolding passing_from
-passing_end n i p h = ap (λ (f : ℕ). passing_from f i p) (sub_end n i h)
+passing_end n i p h = ap (λ (f : ℕ). passing_from f i p) (sub-eq-zero_of_le h)
 
 -- tests that agree on a stretch pass the same numbers
 pub passing_ext : (f i : ℕ) (p q : ℕ → Bool) → ((j : ℕ) → i ≤ j → j < i + f → p j ≡ q j) → passing_from f i p ≡ passing_from f i q

@@ -8,7 +8,8 @@ use native.Mathlib.Omega.{arith}
 use lib.ListN.{length, get_or, length-map}
 use lib.Seq.{ext_get_or}
 use Rattle.lists.specs.Rows.{from, range}
-use Rattle.lists.proofs.All.{All, Distinct, get_d_map}
+use Rattle.std.proofs.lemmas.List.{get_or-map}
+use Rattle.lists.proofs.All.{All, Distinct}
 use Rattle.lists.proofs.Rows.{length_from, get_or_from, from_append}
 
 -- k distinct numbers below n
@@ -29,7 +30,7 @@ map_from f xs =
     ext_get_or 0 (map f xs) (from (λ i. f (get_or xs i 0)) 0 (length xs)) (length-map xs f ∙ sym (length_from (λ i. f (get_or xs i 0)) 0 (length xs)))
     (λ i h.
     let inside : i < length xs = omega (arith, length-map xs f) in
-    get_d_map f 0 0 xs i inside ∙ sym (get_or_from (λ i. f (get_or xs i 0)) 0 (length xs) i 0 inside ∙ ap (λ (j : ℕ). f (get_or xs j 0)) (zero-add i)))
+    get_or-map f xs i 0 0 inside ∙ sym (get_or_from (λ i. f (get_or xs i 0)) 0 (length xs) i 0 inside ∙ ap (λ (j : ℕ). f (get_or xs j 0)) (zero-add i)))
 
 pub length_range : (i n : ℕ) → length (range i n) ≡ n
 length_range i n = length_from (λ x. x) i n

@@ -3,13 +3,13 @@ use mathlib.Core.Path.{◌≡◌, refl, sym, ap, ap₂, ◌∙◌}
 use mathlib.Core.Logic.{⊎_elim}
 use mathlib.Core.Bool.{Bool, true, false, true≢false}
 use Prim.Native.Nat.{ℕ, zero, suc, ◌+◌, ◌-◌, ◌≤◌, ◌<◌}
-use native.Mathlib.Nat.{eq-or-lt_of_le}
+use native.Mathlib.Nat.{eq-or-lt_of_le, sub-eq-zero_of_le}
 use native.Mathlib.Omega.{arith}
 use borrow.Author.Tests.{ltb-true, ltb-false}
 use lib.Dec.{ltb}
 use Rattle.lists.specs.Choice.{pick}
 use Rattle.lists.proofs.Cases.{by_test}
-use Rattle.lists.proofs.Rows.{sub_next, sub_end}
+use Rattle.lists.proofs.Rows.{sub_next}
 use Rattle.lists.specs.Search.{first_false}
 
 pub search_high : (f t : ℕ) (p : ℕ → Bool) → first_false f t p ≤ t + f
@@ -43,7 +43,7 @@ module _ (n t : ℕ) (p : ℕ → Bool) where
 
   pub search_end : n ≤ t → first_false (n - t) t p ≡ t
   unfolding first_false
-  search_end h = ap (λ (f : ℕ). first_false f t p) (sub_end n t h)
+  search_end h = ap (λ (f : ℕ). first_false f t p) (sub-eq-zero_of_le h)
 
 -- the numbers before it pass
 pub search_passes : (f t : ℕ) (p : ℕ → Bool) (i : ℕ) → t ≤ i → i < first_false f t p → p i ≡ true

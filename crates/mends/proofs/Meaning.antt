@@ -13,7 +13,8 @@ use Rattle.lists.specs.Counting.{passing_from}
 use Rattle.lists.specs.Numbers.{is_in}
 use Rattle.lists.specs.Rows.{from, range}
 use Rattle.lists.specs.Search.{first_false}
-use Rattle.lists.proofs.All.{All-at, get_d_map}
+use Rattle.std.proofs.lemmas.List.{get_or-map}
+use Rattle.lists.proofs.All.{All-at}
 use Rattle.lists.proofs.Cases.{by_test}
 use Rattle.lists.proofs.Numbers.{below_at, below_set, is_in_place, place_is_in}
 use Rattle.lists.proofs.Passing.{Rises, passing_within, passing_pass, passing_place, passing_rises, passing_most}
@@ -187,7 +188,7 @@ module _ (h : Header) (s : Sound h) (ws : List ℕ) (lane : IsLane h ws) where
   -- symbol i of the list is that of node i
   symbol_at_lem : (i : ℕ) → i < length (mend_nodes h ws) → get_or (mend_symbols h ws) i 0 ≡ mend_at h ws (get_or (mend_nodes h ws) i 0)
   unfolding mend_symbols
-  symbol_at_lem i inside = get_d_map (mend_at h ws) 0 0 (mend_nodes h ws) i inside
+  symbol_at_lem i inside = get_or-map (mend_at h ws) (mend_nodes h ws) i 0 0 inside
 
   symbols_long : length (mend_symbols h ws) ≡ length (mend_nodes h ws)
   unfolding mend_symbols

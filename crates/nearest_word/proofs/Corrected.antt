@@ -1,6 +1,6 @@
 -- What setting a lane right does: a word stays, and where a word is near enough the lane becomes it.
 use mathlib.Core.Path.{◌≡◌, refl, sym, ap, ◌∙◌}
-use mathlib.Core.Bool.{Bool, true, false, ◌&&◌}
+use mathlib.Core.Bool.{Bool, true, false, ◌&&◌, and-true}
 use mathlib.Core.List.{List}
 use Prim.Native.Nat.{ℕ, ◌+◌, ◌≤◌}
 use native.Mathlib.Omega.{arith}
@@ -15,10 +15,6 @@ use Rattle.generator.specs.Records.{size, Sound}
 use Rattle.generator.specs.Codewords.{is_word}
 use Rattle.nearest_word.specs.Nearest.{radius, is_near, has_near, nearest, corrected}
 use Rattle.nearest_word.proofs.Near.{Near, near_word, near_close, nearest_is, nearest_near, judged}
-
-and-true : (b : Bool) → (b && true) ≡ b
-and-true true = refl
-and-true false = refl
 
 -- the lane set right, where a word is near enough and where none is
 pub corrected_near : (h : Header) (ws : List ℕ) → has_near h ws ≡ true → corrected h ws ≡ nearest h ws

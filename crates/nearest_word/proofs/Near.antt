@@ -13,7 +13,8 @@ use Rattle.lists.specs.Rows.{from, range}
 use Rattle.lists.specs.Counting.{count_from, differ}
 use Rattle.lists.specs.Numbers.{all_below}
 use Rattle.lists.proofs.All.{All-map}
-use Rattle.lists.proofs.Cases.{by_test, and_left, and_right}
+use Rattle.std.proofs.lemmas.Bool.{and_parts}
+use Rattle.lists.proofs.Cases.{by_test}
 use Rattle.lists.proofs.Differ.{differ_by}
 use Rattle.lists.proofs.Numbers.{below_at}
 use Rattle.lists.proofs.Count.{count_ext}
@@ -126,11 +127,11 @@ module _ (h : Header) (s : Sound h) where
   module _ (ws : List ℕ) (size_is : length ws ≡ h.n) where
     pub near_word : (us : List ℕ) → Near ws us → is_word h us ≡ true
     unfolding is_near
-    near_word us m = and_left (is_word h us) (leb (differ ws us) (radius h)) m.passes
+    near_word us m = (and_parts (is_word h us) (leb (differ ws us) (radius h)) m.passes).0
 
     pub near_close : (us : List ℕ) → Near ws us → differ ws us ≤ radius h
     unfolding is_near
-    near_close us m = leb-true (differ ws us) (radius h) (and_right (is_word h us) (leb (differ ws us) (radius h)) m.passes)
+    near_close us m = leb-true (differ ws us) (radius h) (and_parts (is_word h us) (leb (differ ws us) (radius h)) m.passes).1
 
     -- at most one word is that near
     pub at_most_one : (us vs : List ℕ) → Near ws us → Near ws vs → us ≡ vs

@@ -6,7 +6,8 @@ use Prim.Native.Nat.{ℕ, suc, ◌+◌, ◌≤◌, ◌<◌}
 use native.Mathlib.Omega.{arith}
 use lib.ListN.{length, get_or, length-map}
 use Rattle.lists.specs.Rows.{range}
-use Rattle.lists.proofs.All.{All, All-imp, Distinct, get_d_map}
+use Rattle.std.proofs.lemmas.List.{get_or-map}
+use Rattle.lists.proofs.All.{All, All-imp, Distinct}
 use Rattle.lists.proofs.Places.{Places, Places-range, length_range}
 use Rattle.algebra.specs.Field.{Field}
 use Rattle.algebra.specs.Powers.{pow, Order}
@@ -81,7 +82,7 @@ module _ (F : Field) where
     index : (j : ℕ) → j < n → P j → (i : ℕ) × (i < length bs) × (get_or bs i 0f ≡ pow F a j)
     index j b z =
         let (i, l, e) = range_at (λ x. P x → (i : ℕ) × (i < length js) × (get_or js i 0 ≡ x)) 0 n (All-unkeep P d (λ x. (i : ℕ) × (i < length js) × (get_or js i 0 ≡ x)) (range 0 n) (all_indexed js)) j (omega arith) (omega arith) z in
-        (i, omega (arith, length-map js (pow F a)), get_d_map (pow F a) 0 0f js i l ∙ ap (pow F a) e)
+        (i, omega (arith, length-map js (pow F a)), get_or-map (pow F a) js i 0 0f l ∙ ap (pow F a) e)
 
     -- where the locator does not vanish, the lane is right
     pub right : (j : ℕ) → j < n → (P j → ⊥) → y j ≡ value F a f j

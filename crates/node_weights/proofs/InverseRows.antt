@@ -6,8 +6,8 @@ use Prim.Native.Nat.{ℕ, ◌<◌}
 use native.Mathlib.Nat.{zero-add}
 use native.Mathlib.Omega.{arith}
 use lib.ListN.{length, get_or, drop}
+use Rattle.std.proofs.lemmas.List.{get_or-map}
 use Rattle.lists.proofs.Rows.{length_from, get_or_from}
-use Rattle.lists.proofs.All.{get_d_map}
 use Rattle.algebra.proofs.Sums.{sum}
 use Rattle.algebra.proofs.Poly.{eval}
 use Rattle.algebra.proofs.LagrangeBasis.{others, basis, length_others}
@@ -65,7 +65,7 @@ module _ (p : ℕ) (v : is_field p ≡ true) (k : ℕ) (bs cs xs : List (Symbol 
   -- 1 over a coefficient of the base polynomial
   inverse_is : (c : ℕ) → c < k → get_or (inverses_of p (nums cs)) c 0 ≡ ((field_of p v).inv (at cs c)).0
   unfolding inverses_of
-  inverse_is c b = get_d_map (inverse p) 0 0 (nums cs) c (omega (arith, length_numbers (size_of p) cs)) ∙ ap (inverse p) (number_at cs c)
+  inverse_is c b = get_or-map (inverse p) (nums cs) c 0 0 (omega (arith, length_numbers (size_of p) cs)) ∙ ap (inverse p) (number_at cs c)
 
   -- term c
   abbrev term : ℕ → Symbol (size_of p)

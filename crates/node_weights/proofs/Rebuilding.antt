@@ -6,8 +6,8 @@ use Prim.Native.Nat.{ℕ, ◌-◌, ◌≤◌, ◌<◌}
 use native.Mathlib.Nat.{add-zero, le_of_eq}
 use native.Mathlib.Omega.{arith}
 use lib.ListN.{length, get_or, length-map}
+use Rattle.std.proofs.lemmas.List.{get_or-map}
 use Rattle.lists.specs.Padded.{padded}
-use Rattle.lists.proofs.All.{get_d_map}
 use Rattle.algebra.specs.Powers.{pow}
 use Rattle.algebra.proofs.Poly.{eval}
 use Rattle.algebra.proofs.LagrangeBasis.{basis}
@@ -61,7 +61,7 @@ module _ (h : Header) (s : Sound h) (js : List ℕ) (nodes : are_nodes h js ≡ 
         ∙ ap (λ (z : ℕ). basis_at (modulus_of h) points i z) (sym (number_pow (modulus_of h) s.field a t))
         ∙ ap (λ (l : List ℕ). basis_at (modulus_of h) l i (pow F a t).0) node_points_lem
         ∙ basis_at_is (modulus_of h) s.field xs i (pow F a t) (omega (arith, length-map js (pow F a)))
-        ∙ ap (λ (x : Symbol (size h)). (eval F (basis F xs x) (pow F a t)).0) (get_d_map (pow F a) 0 F.0f js i (omega arith))
+        ∙ ap (λ (x : Symbol (size h)). (eval F (basis F xs x) (pow F a t)).0) (get_or-map (pow F a) js i 0 F.0f (omega arith))
 
     -- the weights
     pub rebuilds : h.k ≤ 255 → Rebuilds h js t (padded 255 values)

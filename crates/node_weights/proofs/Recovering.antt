@@ -5,8 +5,8 @@ use mathlib.Core.List.{List, map}
 use Prim.Native.Nat.{ℕ, ◌-◌, ◌≤◌, ◌<◌}
 use native.Mathlib.Omega.{arith}
 use lib.ListN.{length, get_or, drop, length-map}
+use Rattle.std.proofs.lemmas.List.{get_or-map}
 use Rattle.lists.specs.Padded.{padded}
-use Rattle.lists.proofs.All.{get_d_map}
 use Rattle.algebra.specs.Powers.{pow}
 use Rattle.algebra.proofs.Sums.{sum}
 use Rattle.algebra.proofs.Powers.{pow_add}
@@ -76,8 +76,8 @@ module _ (h : Header) (s : Sound h) where
         ∙ ap (λ (l : List ℕ). weight_of p (get_or (scales_of p (nums bs)) r 0) (terms_of p (nums bs) (nums cs) r) (drop 1 (product_of p l)) (get_or l i 0) (get_or (scales_of p l) i 0)) (node_points_lem h s js nodes)
         ∙ weight_is p s.field h.k bs cs xs (size_shifted F (the_code h s) (pow F a e)) (size_base F (the_code h s)) (length-map js (pow F a) ∙ (nodes_places h js nodes).size) r i row l
         ∙ ap₂ (λ (b x : Symbol (size h)). (sum F h.k (λ c. F.mul (F.mul (get_or (basis F bs b) c F.0f) (F.inv (get_or cs c F.0f))) (get_or (basis F xs x) c F.0f))).0)
-        (get_d_map (λ t. F.mul (pow F a t) (pow F a e)) 0 F.0f (shifts h) r (omega (arith, (shifts_are_places h s).size)))
-        (get_d_map (pow F a) 0 F.0f js i (omega (arith, (nodes_places h js nodes).size)))
+        (get_or-map (λ t. F.mul (pow F a t) (pow F a e)) (shifts h) r 0 F.0f (omega (arith, (shifts_are_places h s).size)))
+        (get_or-map (pow F a) js i 0 F.0f (omega (arith, (nodes_places h js nodes).size)))
 
     -- the weights
     pub recovers : h.k ≤ 255 → Recovers h js r (padded 255 weights)

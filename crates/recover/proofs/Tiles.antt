@@ -2,10 +2,10 @@
 use mathlib.Core.Path.{◌≡◌, refl, sym, ap, ◌∙◌}
 use mathlib.Core.List.{List}
 use Prim.Native.Nat.{ℕ, ◌+◌, ◌-◌, ◌*◌, ◌≤◌, ◌<◌}
-use native.Mathlib.Nat.{add-zero, mul_comm, mul-le-mul, le_trans}
+use native.Mathlib.Nat.{add-zero, mul_comm, mul-le-mul, le_trans, add-sub_cancel_left}
 use native.Mathlib.Omega.{arith}
 use lib.ListN.{length, take, drop}
-use Rattle.lists.proofs.Rows.{from_ext, from_move, length_from, part_size}
+use Rattle.lists.proofs.Rows.{from_ext, from_move, length_from}
 use Rattle.layout.specs.Layout.{Arrangement, row_after_row, lane_after_lane, lane_of, share_layout}
 use Rattle.layout.specs.Inner.Parts.{some_lanes}
 use Rattle.layout.specs.Width.{symbols_of, bytes_of}
@@ -43,9 +43,9 @@ module _ (p rows l : ℕ) (s : List ℕ) (t c : ℕ) where
   -- the same of bytes
   pub combined_part : (w : ℕ) (ws : List ℕ) → t + c ≤ l → bytes_of w (combined row_after_row p rows c ws (some_lanes lane_after_lane row_after_row rows l t c s)) ≡ take (t * w + c * w - t * w) (drop (t * w) (bytes_of w (combined lane_after_lane p rows l ws s)))
   combined_part w ws fits =
-      ap (bytes_of w) (combined_tile_lem ws fits ∙ ap (λ (x : ℕ). take x (drop t (combined lane_after_lane p rows l ws s))) (part_size t c))
+      ap (bytes_of w) (combined_tile_lem ws fits ∙ ap (λ (x : ℕ). take x (drop t (combined lane_after_lane p rows l ws s))) (add-sub_cancel_left t c))
       ∙ sym (bytes_part w t c (combined lane_after_lane p rows l ws s))
-      ∙ ap (λ (x : ℕ). take x (drop (t * w) (bytes_of w (combined lane_after_lane p rows l ws s)))) (sym (part_size (t * w) (c * w)))
+      ∙ ap (λ (x : ℕ). take x (drop (t * w) (bytes_of w (combined lane_after_lane p rows l ws s)))) (sym (add-sub_cancel_left (t * w) (c * w)))
 
 -- a row of sums has a place for each lane
 pub length_combined : (y : Arrangement) (p rows c : ℕ) (ws s : List ℕ) → length (combined y p rows c ws s) ≡ c

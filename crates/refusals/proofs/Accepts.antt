@@ -6,7 +6,8 @@ use Prim.Native.Nat.{ℕ, suc, ◌*◌}
 use borrow.Author.Tests.{eq-eqb}
 use lib.ListN.{length}
 use Rattle.lists.specs.Choice.{first_of, when}
-use Rattle.lists.proofs.Cases.{both_true, first_zero, when_zero}
+use Rattle.std.proofs.lemmas.Bool.{and_from}
+use Rattle.lists.proofs.Cases.{first_zero, when_zero}
 use Rattle.layout.specs.Width.{symbols_of}
 use Rattle.layout.proofs.Readings.{count_symbols}
 use Rattle.generator.specs.declared.Header.{Header}
@@ -56,5 +57,5 @@ module _ (h : Header) (sound : Sound h) (l : ℕ) where
         let (ten, last) = not_met (twice_bad nodes) 9 _ after in
         record {
           buffer = rows_good h.k shares seven long (when_zero (symbols_bad h shares) 10 last);
-          different = both_true (eq-eqb (length nodes) h.k (length_good h.k (length nodes) count)) (both_true (nodes_good h nodes nine) (twice_good nodes ten));
+          different = and_from _ _ (eq-eqb (length nodes) h.k (length_good h.k (length nodes) count)) (and_from _ _ (nodes_good h nodes nine) (twice_good nodes ten));
         }

@@ -8,7 +8,7 @@ use borrow.Author.Tests.{eqb-true, eqb-false, ltb-false, leb-false, not-false}
 use lib.Dec.{eqb, ltb}
 use lib.ListN.{get_or}
 use Rattle.lists.specs.Numbers.{all_below, distinct}
-use Rattle.lists.proofs.Cases.{or_left_false, or_right_false}
+use Rattle.std.proofs.lemmas.Bool.{or_parts}
 use Rattle.layout.specs.Layout.{Arrangement, lane_of}
 use Rattle.layout.specs.Width.{symbols_of}
 use Rattle.generator.specs.declared.Header.{Header}
@@ -21,8 +21,8 @@ use Rattle.refusals.specs.Conditions.{lanes_bad, length_bad, number_bad, nodes_b
 pub lanes_good : (l : ℕ) → lanes_bad l ≡ false → (0 < l) × (l ≤ 4096)
 unfolding lanes_bad
 lanes_good l e =
-    let some : l ≡ 0 → ⊥ = eqb-false l 0 (or_left_false (eqb l 0) (ltb 4096 l) e) in
-    (omega arith, ltb-false 4096 l (or_right_false (eqb l 0) (ltb 4096 l) e))
+    let some : l ≡ 0 → ⊥ = eqb-false l 0 (or_parts (eqb l 0) (ltb 4096 l) e).0 in
+    (omega arith, ltb-false 4096 l (or_parts (eqb l 0) (ltb 4096 l) e).1)
 
 -- number 8
 pub length_good : (stated long : ℕ) → length_bad stated long ≡ false → long ≡ stated

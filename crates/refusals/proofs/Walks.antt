@@ -3,14 +3,14 @@ use mathlib.Core.Path.{◌≡◌, refl, sym, ap, ◌∙◌}
 use mathlib.Core.Bool.{true, false, ◌&&◌, not, and_assoc}
 use mathlib.Core.List.{List, [], ◌∷◌, ◌++◌}
 use Prim.Native.Nat.{ℕ, ◌+◌, ◌-◌, ◌*◌, ◌≤◌, ◌<◌}
-use native.Mathlib.Nat.{zero-div}
+use native.Mathlib.Nat.{zero-div, add-sub_cancel_left}
 use borrow.Author.Tests.{not-true, not-false}
 use lib.Dec.{ltb}
 use lib.ListN.{length, take, drop, take-append-drop, drop_of_length-le}
 use lib.Seq.{drop-drop}
 use Rattle.lists.specs.Numbers.{all_below}
 use Rattle.lists.specs.Rows.{from}
-use Rattle.lists.proofs.Rows.{part_size, part_length}
+use Rattle.lists.proofs.Rows.{part_length}
 use Rattle.layout.specs.Layout.{share_layout}
 use Rattle.layout.specs.Width.{symbols_of}
 use Rattle.layout.proofs.Places.{share_by_lane}
@@ -30,7 +30,7 @@ below_both q (x ∷ s) u = ap (λ b. ltb x q && b) (below_both q s u) ∙ sym (a
 module _ (h : Header) (s : List ℕ) (a count l : ℕ) (is : l ≡ count * width h) (inside : a + l ≤ length s) where
   -- the part of l bytes from a on, and the rest
   apart : drop a s ≡ take (a + l - a) (drop a s) ++ drop (a + l) s
-  apart = rw part_size (sym (take-append-drop l (drop a s)) ∙ ap (λ (u : List ℕ). take l (drop a s) ++ u) (drop-drop l a s))
+  apart = rw add-sub_cancel_left (sym (take-append-drop l (drop a s)) ∙ ap (λ (u : List ℕ). take l (drop a s) ++ u) (drop-drop l a s))
 
   -- so is the bound of their symbols
   bound : all_below (size h) (symbols_of (width h) (drop a s)) ≡ (all_below (size h) (symbols_of (width h) (take (a + l - a) (drop a s))) && all_below (size h) (symbols_of (width h) (drop (a + l) s)))

@@ -7,11 +7,11 @@ use native.Mathlib.Omega.{arith}
 use lib.Dec.{lit<}
 use lib.Pow as Pow
 use lib.ListN.{length, get_or}
-use lib.Bits.{bit_xor, xor_lt, xor_shr, xor_mod, xor_block, xor_zero_r}
+use lib.Bits.{bit_xor, xor_lt, xor_shr, xor_mod, xor_block, xor_zero_r, xor_assoc}
 use Rattle.field.specs.Bytes.{product}
 use Rattle.field.specs.Fields.{mul}
 use Rattle.field.proofs.Computed.{equal_at}
-use Rattle.field.proofs.Xor.{digit, xor_assoc}
+use Rattle.field.proofs.Xor.{digit}
 use Rattle.field.proofs.Product.{product_right, product_zero, times_digit}
 use Rattle.generator.specs.declared.Header.{Header}
 use Rattle.generator.specs.Records.{modulus_of}

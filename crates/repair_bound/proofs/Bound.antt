@@ -15,7 +15,8 @@ use Rattle.lists.specs.Choice.{pick, when}
 use Rattle.lists.specs.Counting.{count_from}
 use Rattle.lists.specs.Numbers.{is_in}
 use Rattle.lists.proofs.All.{All-of, All-at, map_agree}
-use Rattle.lists.proofs.Cases.{by_test, and_left, and_right}
+use Rattle.std.proofs.lemmas.Bool.{and_parts}
+use Rattle.lists.proofs.Cases.{by_test}
 use Rattle.lists.proofs.Chosen.{without, count_without}
 use Rattle.lists.proofs.Count.{count_not}
 use Rattle.lists.proofs.Numbers.{place_is_in, all_below_lem, all_distinct}
@@ -100,11 +101,11 @@ module _ (h : Header) (s : Sound h) (kind : modulus_of h ≡ 0) (t : ℕ) (bits 
         let count = count_not h.n 0 idle in
         let less = count_without h.n t idle target (across_none c (R t) ((shape t target).0 ∙ rw (eq-eqb t t refl) refl)) in
         let (ms, m, held) = given_message h s (without t idle) (λ j. pick (eqb j t) x 0) (omega (arith, count, less, s.fits)) (λ j. rw (bytes h s kind) (either (eqb j t) x byte)) in
-        let at : node_of h ms t ≡ x = ⊎_elim (λ e. absurd (true≢false (sym (and_right (idle t) _ e) ∙ ap not (eq-eqb t t refl)))) (λ e. e ∙ rw (eq-eqb t t refl) refl) (held t target) in
+        let at : node_of h ms t ≡ x = ⊎_elim (λ e. absurd (true≢false (sym (and_parts (idle t) _ e).1 ∙ ap not (eq-eqb t t refl)))) (λ e. e ∙ rw (eq-eqb t t refl) refl) (held t target) in
         let none : pairing c (xors h.n (λ j. comb (R j) (sends j ms))) ≡ 0 =
         pairing_xors c h.n (λ j. comb (R j) (sends j ms)) (λ j node. comb_byte (R j) (sends j ms) (shape j node).1)
         (λ j node.
-        ⊎_elim (λ e. across_comb c (R j) (sends j ms) (shape j node).1 (and_left _ (not (eqb j t)) e))
+        ⊎_elim (λ e. across_comb c (R j) (sends j ms) (shape j node).1 (and_parts _ (not (eqb j t)) e).0)
         (λ e. ap (pairing c) (ap (comb (R j)) (silent x ms j node e) ∙ comb_zero (R j)) ∙ pairing_zero c) (held j node)) in
         let z : pairing c x ≡ 0 = ap (pairing c) (sym at ∙ is ms m) ∙ none in
         absurd (omega arith))

@@ -10,11 +10,11 @@ use native.Mathlib.Omega.{arith}
 use lib.Arith.{lt-one}
 use lib.Dec.{lit<}
 use lib.Pow.{shr_lt, split}
-use lib.Bits.{bit_xor, xor_lt, xor_shr, xor_mod, xor_self, xor_comm}
+use lib.Bits.{bit_xor, xor_lt, xor_shr, xor_mod, xor_self, xor_comm, xor_assoc}
 use lib.ListN.{length}
 use Rattle.lists.proofs.All.{All}
 use Rattle.field.proofs.Product.{times_digit}
-use Rattle.field.proofs.Xor.{digit, xor_assoc, xor_cancel, xor_swap, times_xor}
+use Rattle.field.proofs.Xor.{digit, xor_cancel, xor_swap, times_xor}
 
 -- the sum of those r whose digit of y is 1, the lowest digit first
 unfoldable pub comb : List ℕ → ℕ → ℕ

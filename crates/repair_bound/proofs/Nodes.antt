@@ -10,7 +10,8 @@ use lib.ListN.{length, length-map}
 use Rattle.lists.specs.Counting.{count_from, passing_from}
 use Rattle.lists.specs.Numbers.{all_below, is_in}
 use Rattle.lists.proofs.All.{All-imp, All-at, All-map, agree_map}
-use Rattle.lists.proofs.Cases.{by_test, both_true}
+use Rattle.std.proofs.lemmas.Bool.{and_from}
+use Rattle.lists.proofs.Cases.{by_test}
 use Rattle.lists.proofs.Chosen.{choose}
 use Rattle.lists.proofs.Numbers.{StandsIn, all_below_lem, all_distinct}
 use Rattle.lists.proofs.Places.{Places}
@@ -44,7 +45,7 @@ given_message h s p f many low = go (keep h.n h.k p s.fits many)
   where
     go : (js : List ℕ) × Places h.n h.k js × ((j : ℕ) → j < h.n → (p j ≡ true) ⊎ StandsIn j js) → (ms : List ℕ) × (is_message h ms ≡ true) × ((j : ℕ) → j < h.n → (p j ≡ true) ⊎ (node_of h ms j ≡ f j))
     go (js, places, each) =
-        let nodes : are_nodes h js ≡ true = both_true (eq-eqb (length js) h.k places.size) (both_true (all_below_lem h.n js places.low) (all_distinct js places.distinct)) in
+        let nodes : are_nodes h js ≡ true = and_from _ _ (eq-eqb (length js) h.k places.size) (and_from _ _ (all_below_lem h.n js places.low) (all_distinct js places.distinct)) in
         let symbols : all_below (size h) (map f js) ≡ true = all_below_lem (size h) (map f js) (All-map (λ x. x < size h) f js (All-imp (λ j. j < h.n) (λ j. f j < size h) (λ j l. low j) js places.low)) in
         let (ms, m, at) = some_message h s js (map f js) nodes (length-map js f ∙ places.size) symbols in
         let held = agree_map (node_of h ms) f js at in

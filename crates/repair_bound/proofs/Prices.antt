@@ -15,7 +15,7 @@ use Rattle.lists.specs.Choice.{pick, when}
 use Rattle.lists.specs.Counting.{count_from, passing_from}
 use Rattle.lists.specs.Numbers.{is_in, distinct}
 use Rattle.lists.proofs.All.{All-at}
-use Rattle.lists.proofs.Cases.{or_left_false, or_right_false}
+use Rattle.std.proofs.lemmas.Bool.{or_parts}
 use Rattle.lists.proofs.Count.{count_below}
 use Rattle.lists.proofs.Passing.{passing_pass, length_passing}
 use Rattle.field.specs.Bytes.{product}
@@ -78,7 +78,7 @@ module _ (h : Header) (s : Sound h) (kind : modulus_of h ≡ 0) (t : ℕ) (missi
   sending i l =
       let j = get_or (passing_from h.n 0 (sends t missing)) i 0 in
       let out : (eqb j t || is_in j missing) ≡ false = not-true _ (All-at (λ j. sends t missing j ≡ true) 0 (passing_from h.n 0 (sends t missing)) (passing_pass h.n 0 (sends t missing)) i l) in
-      (or_right_false (eqb j t) (is_in j missing) out, λ e. true≢false (sym (eq-eqb j t e) ∙ or_left_false (eqb j t) (is_in j missing) out))
+      ((or_parts (eqb j t) (is_in j missing) out).1, λ e. true≢false (sym (eq-eqb j t e) ∙ (or_parts (eqb j t) (is_in j missing) out).0))
 
   settled : (ms us : List ℕ) → is_message h ms ≡ true → is_message h us ≡ true → ((j : ℕ) → j < h.n → (j ≡ t → ⊥) → trace_sent h t missing j (node_of h ms j) ≡ trace_sent h t missing j (node_of h us j)) → node_of h ms t ≡ node_of h us t
   unfolding repaired

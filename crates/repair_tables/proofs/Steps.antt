@@ -4,25 +4,25 @@ use mathlib.Core.Bool.{Bool, ◌||◌}
 use mathlib.Core.List.{List, [], ◌∷◌}
 use mathlib.Core.Logic.{inl, inr}
 use Prim.Native.Nat.{ℕ, ◌+◌, ◌-◌, ◌*◌, ◌/◌, ◌%◌, ◌^◌, ◌≤◌, ◌<◌}
-use native.Mathlib.Nat.{zero-add, lt_of_lt_of_le, div-lt_iff_lt-mul, mod-lt, mul-le-mul}
+use native.Mathlib.Nat.{zero-add, lt_of_lt_of_le, div-lt_iff_lt-mul, mod-lt, mul-le-mul, sub-eq-zero_of_le}
 use native.Mathlib.Omega.{arith}
 use lib.Dec.{eqb, lit<}
 use Rattle.lists.proofs.Cases.{by_test}
-use lib.Bits.{bit_xor, xor_zero_r, xor_lt, xor_mod}
+use lib.Bits.{bit_xor, xor_zero_r, xor_lt, xor_mod, xor_assoc}
 use lib.ListN.{length, get_or, drop, drop_of_length-le}
 use lib.Pow.{pow_mono}
 use Rattle.std.specs.List.{list_any}
 use Rattle.lists.specs.Rows.{from}
 use Rattle.lists.specs.Numbers.{is_in}
 use Rattle.lists.proofs.Front.{drop_next}
-use Rattle.lists.proofs.Rows.{sub_next, sub_end, from_ext, get_or_from}
+use Rattle.lists.proofs.Rows.{sub_next, from_ext, get_or_from}
 use Rattle.field.specs.Bytes.{product}
 use Rattle.field.specs.Fields.{size_of, mul}
 use Rattle.field.proofs.BothKinds.{arithmetic}
 use Rattle.field.proofs.Bounds.{one_below}
 use Rattle.field.proofs.Computed.{equal_at}
 use Rattle.field.proofs.Product.{product_byte, product_right, times_digit}
-use Rattle.field.proofs.Xor.{xor_assoc, digit}
+use Rattle.field.proofs.Xor.{digit}
 use Rattle.generator.specs.declared.Header.{Header}
 use Rattle.generator.specs.Records.{modulus_of, size, Sound}
 use Rattle.traces.specs.Traces.{TraceBits, squarings, trace_from, trace_of, element}
@@ -45,7 +45,7 @@ squarings_next n i x h = ap (λ (f : ℕ). squarings f x) (sub_next n i h)
 
 pub squarings_end : (n i x : ℕ) → n ≤ i → squarings (n - i) x ≡ x
 unfolding squarings
-squarings_end n i x h = ap (λ (f : ℕ). squarings f x) (sub_end n i h)
+squarings_end n i x h = ap (λ (f : ℕ). squarings f x) (sub-eq-zero_of_le h)
 
 pub trace_next : (n i b s x : ℕ) → i < n → bit_xor s (trace_from (n - i) b x) ≡ bit_xor (bit_xor s x) (trace_from (n - (i + 1)) b (squarings b x))
 unfolding trace_from
@@ -53,7 +53,7 @@ trace_next n i b s x h = ap (λ (f : ℕ). bit_xor s (trace_from f b x)) (sub_ne
 
 pub trace_end : (n i b s x : ℕ) → n ≤ i → bit_xor s (trace_from (n - i) b x) ≡ s
 unfolding trace_from
-trace_end n i b s x h = ap (λ (f : ℕ). bit_xor s (trace_from f b x)) (sub_end n i h) ∙ xor_zero_r s
+trace_end n i b s x h = ap (λ (f : ℕ). bit_xor s (trace_from f b x)) (sub-eq-zero_of_le h) ∙ xor_zero_r s
 
 -- an element of a subfield is a byte
 digit_times : (m v : ℕ) → m < 256 → m * (v % 2) < 256

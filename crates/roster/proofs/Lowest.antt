@@ -16,7 +16,8 @@ use Rattle.lists.specs.Choice.{first_of, when}
 use Rattle.lists.specs.Rows.{from}
 use Rattle.lists.specs.Around.{around}
 use Rattle.lists.specs.Numbers.{is_in}
-use Rattle.lists.proofs.Cases.{by_test, both_true, never}
+use Rattle.std.proofs.lemmas.Bool.{and_from}
+use Rattle.lists.proofs.Cases.{by_test, never}
 use Rattle.lists.proofs.All.{All-at}
 use Rattle.lists.proofs.Numbers.{is_in_place, place_is_in, all_below_lem, all_distinct}
 use Rattle.lists.proofs.Passing.{passing_ext}
@@ -38,8 +39,8 @@ module _ (h : Header) (marks : List Bool) (some : 0 < h.k) (enough : h.k ≤ len
   unfolding are_nodes
   around_nodes =
       let ps = present_of h.n marks in
-      both_true (eq-eqb _ h.k (length_from (around ps) x h.k))
-      (both_true (all_below_lem h.n _ (around_all ps x h.k (λ j. j < h.n) (omega arith) (present_low h.n marks)))
+      and_from _ _ (eq-eqb _ h.k (length_from (around ps) x h.k))
+      (and_from _ _ (all_below_lem h.n _ (around_all ps x h.k (λ j. j < h.n) (omega arith) (present_low h.n marks)))
       (all_distinct _ (around_distinct ps x h.k enough (present_distinct h.n marks))))
 
   pub around_here : (j : ℕ) → is_in j (from (around (present_of h.n marks)) x h.k) ≡ true → is_present marks j ≡ true

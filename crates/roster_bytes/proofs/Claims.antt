@@ -14,7 +14,8 @@ use Rattle.lists.specs.Choice.{pick, when}
 use Rattle.lists.specs.Rows.{from}
 use Rattle.lists.specs.Around.{around}
 use Rattle.lists.specs.Counting.{occurrences}
-use Rattle.lists.proofs.Cases.{by_test, when_zero, and_right}
+use Rattle.std.proofs.lemmas.Bool.{and_parts}
+use Rattle.lists.proofs.Cases.{by_test, when_zero}
 use Rattle.lists.proofs.Passing.{passing_ext}
 use Rattle.lists.proofs.Rows.{length_from, get_or_from}
 use Rattle.generator.specs.declared.Header.{Header}
@@ -161,7 +162,7 @@ module _ (rec : List ℕ) (none : record_fault rec ≡ 0) where
       unfolding is_enough listing_fault lowest_list lowest_of listing listing_of lowest_nodes listed
       query list list' enough enough' q =
           let fits : (eqb (length t) 256 && eqb (length list) h.k) ≡ true = not-false _ (when_zero (not (eqb (length t) 256 && eqb (length list) h.k)) 7 (sym (rw none at q.number))) in
-          let whole : eqb (length list) h.k ≡ true = and_right (eqb (length t) 256) _ fits in
+          let whole : eqb (length list) h.k ≡ true = (and_parts (eqb (length t) 256) _ fits).1 in
           let is : list' ≡ lowest_list (Ok h) (roster_of t) list = rw holds at q.list_is in
           let ps = present_by h.n (events_in cs) in (
             q.enough_is ∙ rw present_by_lem,

@@ -3,13 +3,12 @@ use mathlib.Core.Path.{◌≡◌, sym, ap, ap₂, ◌∙◌}
 use mathlib.Core.List.{List}
 use Prim.Native.Nat.{ℕ, ◌+◌, ◌-◌, ◌*◌, ◌/◌, ◌<◌}
 use native.Mathlib.Omega.{arith}
-use lib.Bits.{bit_xor, xor_zero_r}
+use lib.Bits.{bit_xor, xor_zero_r, xor_assoc}
 use lib.ListN.{length, get_or, take, drop}
 use lib.Seq.{drop-length}
 use Rattle.lists.proofs.Front.{drop_next}
 use Rattle.lists.proofs.Rows.{get_d_part}
 use Rattle.layout.proofs.Places.{held_by_row}
-use Rattle.field.proofs.Xor.{xor_assoc}
 use Rattle.kernel.specs.Inner.Lanes.{lanewise}
 use Rattle.kernel.proofs.Lanes.{lanewise_same, lanewise_ext, lanewise_twice}
 use Rattle.row_sums.specs.Inner.Digits.{row_at, xor_sum, rows_added}

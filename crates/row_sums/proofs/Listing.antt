@@ -3,7 +3,7 @@ use mathlib.Core.Path.{◌≡◌, ◌∙◌}
 use mathlib.Core.Bool.{Bool}
 use mathlib.Core.List.{List, [], ◌∷◌, ◌++◌, append-nil, append_assoc}
 use Prim.Native.Nat.{ℕ, zero, suc, ◌+◌, ◌-◌, ◌/◌, ◌%◌, ◌^◌, ◌≤◌, ◌<◌}
-use native.Mathlib.Nat.{add-zero, sub-zero}
+use native.Mathlib.Nat.{add-zero, sub-zero, sub-eq-zero_of_le}
 use native.Mathlib.Numerals.{add-one}
 use native.Mathlib.Omega.{arith}
 use lib.Dec.{eqb}
@@ -13,7 +13,7 @@ use Rattle.lists.specs.Choice.{pick}
 use Rattle.lists.specs.Counting.{passing_from}
 use Rattle.lists.proofs.All.{All-at}
 use Rattle.lists.proofs.Passing.{passing_within}
-use Rattle.lists.proofs.Rows.{sub_next, sub_end, row_inside}
+use Rattle.lists.proofs.Rows.{sub_next, row_inside}
 use Rattle.row_sums.specs.Inner.Combined.{Weighted}
 use Rattle.row_sums.specs.Inner.Digits.{rows_with, ListedRows}
 
@@ -45,7 +45,7 @@ module _ (digit rows : ℕ) (ws : List ℕ) where
   pub listed_all : (list : List ℕ) (count i : ℕ) → rows ≤ i → ListedBelow list count i → take count list ≡ rows_with digit rows ws
   unfolding passing_from
   listed_all list count i end e =
-      rw (append-nil) at (rw (sub_end rows i end) at e)
+      rw (append-nil) at (rw (sub-eq-zero_of_le end) at e)
 
   -- every listed row lies within the buffer
   pub listed_rows : {q l : ℕ} {s : List ℕ} {n : ℕ} → Weighted q rows l ws s n → (out : ℕ) → out ≡ l → ListedRows l (rows_with digit rows ws) s out

@@ -2,15 +2,14 @@
 use mathlib.Core.Path.{◌≡◌, refl, sym, ap, ap₂, ◌∙◌}
 use mathlib.Core.List.{List, [], ◌∷◌}
 use Prim.Native.Nat.{ℕ, ◌+◌, ◌-◌, ◌*◌, ◌/◌, ◌%◌, ◌^◌, ◌≤◌, ◌<◌}
-use native.Mathlib.Nat.{sub-zero}
+use native.Mathlib.Nat.{sub-zero, sub-eq-zero_of_le}
 use native.Mathlib.Omega.{arith}
-use lib.Bits.{bit_xor, xor_zero_l, xor_zero_r}
+use lib.Bits.{bit_xor, xor_zero_l, xor_zero_r, xor_assoc}
 use lib.ListN.{length, get_or, set}
 use Rattle.lists.specs.Counting.{passing_from}
 use Rattle.lists.specs.Rows.{from}
-use Rattle.lists.proofs.Rows.{sub_next, sub_end}
+use Rattle.lists.proofs.Rows.{sub_next}
 use Rattle.layout.proofs.Places.{held_by_row}
-use Rattle.field.proofs.Xor.{xor_assoc}
 use Rattle.kernel.specs.Inner.Lanes.{lanewise}
 use Rattle.row_sums.specs.Inner.Digits.{rows_with, row_at, xor_sum, rows_added}
 use Rattle.row_sums.proofs.Horner.{sum_front}
@@ -32,7 +31,7 @@ module _ (digit rows : ℕ) (ws : List ℕ) (x : ℕ → ℕ) where
 
   pub summed_all : (sum i : ℕ) → rows ≤ i → SummedBelow sum i → sum ≡ xor_sum x (rows_with digit rows ws)
   unfolding passing_from xor_sum
-  summed_all sum i end e = sym (xor_zero_r sum) ∙ (rw (sub_end rows i end) at e)
+  summed_all sum i end e = sym (xor_zero_r sum) ∙ (rw (sub-eq-zero_of_le end) at e)
 
 -- sums of equal values
 sum_ext : (f g : ℕ → ℕ) → ((j : ℕ) → f j ≡ g j) → (js : List ℕ) → xor_sum f js ≡ xor_sum g js

@@ -7,7 +7,8 @@ use native.Mathlib.Omega.{arith}
 use borrow.Author.Tests.{leb-true, le-leb, lt-ltb, le-ltb, eq-eqb, ne_eqb}
 use lib.Dec.{leb}
 use Rattle.lists.specs.Rows.{rows_from}
-use Rattle.lists.proofs.Cases.{by_test, and_left, and_right}
+use Rattle.std.proofs.lemmas.Bool.{and_parts}
+use Rattle.lists.proofs.Cases.{by_test}
 use Rattle.field.specs.Primes.{is_prime}
 use Rattle.field.specs.Fields.{size_of, order_of}
 use Rattle.field.specs.Kinds.{modulus}
@@ -47,11 +48,11 @@ module _ (p root n k : ℕ) where
   unfolding header_of modulus
   accepted_asked none =
       let s = faultless_sound (record_with p root n k) none in
-      let low : (leb p 251 && is_prime p) ≡ true = and_right (leb 3 p) _ (field_good none) in
-      let prime_p : is_prime p ≡ true = and_right (leb p 251) _ low in
+      let low : (leb p 251 && is_prime p) ≡ true = (and_parts (leb 3 p) _ (field_good none)).1 in
+      let prime_p : is_prime p ≡ true = (and_parts (leb p 251) _ low).1 in
       let symbol : root < size_of p = s.root_below in
       record {
-        least = leb-true 3 p (and_left _ (leb p 251 && is_prime p) (field_good none));
+        least = leb-true 3 p (and_parts _ (leb p 251 && is_prime p) (field_good none)).0;
         prime = prime_p;
         below = rw (prime_size p prime_p) at symbol;
         order = s.order;

@@ -7,7 +7,7 @@ use native.Mathlib.Decide.{dec_lt, ℕ_discrete}
 use native.Mathlib.Omega.{arith}
 use lib.ListN.{length, get_or, length-map}
 use Rattle.lists.specs.Rows.{range}
-use Rattle.lists.proofs.All.{get_d_map}
+use Rattle.std.proofs.lemmas.List.{get_or-map}
 use Rattle.lists.proofs.Places.{Places-range, length_range}
 use Rattle.algebra.specs.Field.{Field}
 use Rattle.algebra.specs.Powers.{pow, Order}
@@ -98,7 +98,7 @@ module _ (F : Field) where
     pub times_nonzero : times n ≡ 0f → ⊥
     times_nonzero z =
         one_not_zero
-        (sym (get_d_map (λ (j : ℕ). 1f) 0 0f (range 0 n) 0 some) ∙ ap (λ l. get_or l 0 0f) same ∙ get_d_map (λ (j : ℕ). 0f) 0 0f (range 0 n) 0 some)
+        (sym (get_or-map (λ (j : ℕ). 1f) (range 0 n) 0 0 0f some) ∙ ap (λ l. get_or l 0 0f) same ∙ get_or-map (λ (j : ℕ). 0f) (range 0 n) 0 0 0f some)
       where
         some : 0 < length (range 0 n)
         some = omega (arith, length_range 0 n, o.positive)

@@ -4,8 +4,8 @@ use mathlib.Core.List.{List, map}
 use Prim.Native.Nat.{ℕ, ◌-◌, ◌<◌}
 use native.Mathlib.Omega.{arith}
 use lib.ListN.{length, get_or}
+use Rattle.std.proofs.lemmas.List.{get_or-map}
 use Rattle.lists.specs.Rows.{range}
-use Rattle.lists.proofs.All.{get_d_map}
 use Rattle.algebra.specs.Field.{Field}
 use Rattle.algebra.specs.Powers.{pow}
 use Rattle.algebra.proofs.Ring.{mul_left_comm, inv_mul_left}
@@ -65,7 +65,7 @@ module _ (F : Field) where
         ∙ ap (λ n. sum F n (λ c. get_or (basis F points x) c 0f ⊗ (inv (get_or p c 0f) ⊗ get_or f c 0f))) w
         ∙ sum_agree F k (λ c. get_or (basis F points x) c 0f ⊗ (inv (get_or p c 0f) ⊗ get_or f c 0f)) (λ c. s ⊗ (i ⊗ term c))
         (λ c l.
-        ap₂ (λ u v. u ⊗ (inv (get_or p c 0f) ⊗ v)) (get_d_map (λ y. s ⊗ y) 0f 0f (others F points x) c (omega (arith, length_others F points x))) (coefficient c l)
+        ap₂ (λ u v. u ⊗ (inv (get_or p c 0f) ⊗ v)) (get_or-map (λ y. s ⊗ y) (others F points x) c 0f 0f (omega (arith, length_others F points x))) (coefficient c l)
         ∙ scales_out s (get_or (others F points x) c 0f) (inv (get_or p c 0f)) i (sum_at c))
         ∙ sum_scale F k s (λ c. i ⊗ term c)
         ∙ ap (λ y. s ⊗ y) (sum_scale F k i term)

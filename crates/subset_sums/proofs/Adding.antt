@@ -1,12 +1,11 @@
 -- Listed slices, added one after the other.
 use Rattle.std.proofs.Common.{◌≡◌, ap, ◌∙◌, List, ℕ, zero, suc, ◌+◌, ◌-◌, ◌*◌, ◌<◌, arith, add-one, bit_xor, length, get_or, take, drop}
-use lib.Bits.{xor_zero_r}
+use lib.Bits.{xor_zero_r, xor_assoc}
 use lib.Seq.{drop-length}
 use Rattle.lists.proofs.Fill.{length_zeros}
 use Rattle.lists.proofs.Front.{drop_next}
 use Rattle.lists.proofs.Rows.{get_d_part}
 use Rattle.field.specs.Bytes.{times_x}
-use Rattle.field.proofs.Xor.{xor_assoc}
 use Rattle.kernel.specs.Inner.Lanes.{lanewise}
 use Rattle.kernel.proofs.Lanes.{lanewise_same, lanewise_ext, lanewise_twice, length_lanewise}
 use Rattle.row_sums.specs.Inner.Digits.{xor_sum, multiplied}

@@ -2,7 +2,7 @@
 -- the sum of the rows times the weights.
 use Rattle.std.proofs.Common.{◌≡◌, refl, sym, ap, ap₂, ◌∙◌, List, ℕ, zero, suc, ◌+◌, ◌-◌, ◌*◌, ◌/◌, ◌%◌, ◌^◌, ◌≤◌, ◌<◌, add-zero, zero-add, mul-zero, suc-add, arith, eqb-true, bit_xor, eqb, length, get_or, take, drop, length-take, length-drop, get_or-take, get_or-drop, length-take-le}
 use native.Mathlib.Nat.{zero-div}
-use lib.Bits.{xor_zero_l, xor_zero_r}
+use lib.Bits.{xor_zero_l, xor_zero_r, xor_assoc}
 use lib.ListN.{get_or-eq_default}
 use Rattle.lists.specs.Counting.{passing_from}
 use Rattle.lists.proofs.All.{All, All-at}
@@ -10,7 +10,6 @@ use Rattle.lists.proofs.Cases.{by_test}
 use Rattle.lists.proofs.Numbers.{below_take}
 use Rattle.lists.proofs.Rows.{get_or_from, length_from, from_ext, row_inside}
 use Rattle.field.specs.Inner.Sums.{dot}
-use Rattle.field.proofs.Xor.{xor_assoc}
 use Rattle.kernel.proofs.Lanes.{lanewise_ext}
 use Rattle.layout.specs.Layout.{row_after_row, held, lane_of}
 use Rattle.row_sums.specs.Inner.Combined.{combined, Weighted}

@@ -1,13 +1,13 @@
 -- Spread digits, and the slices of a group listed.
 use Rattle.std.proofs.Common.{◌≡◌, refl, sym, ap, ◌∙◌, Bool, true, false, List, [], ◌∷◌, ◌++◌, append-nil, append_assoc, ℕ, zero, suc, ◌+◌, ◌-◌, ◌*◌, ◌/◌, ◌%◌, ◌^◌, ◌≤◌, ◌<◌, zero-add, add-zero, div-one, pow-suc, mul_comm, le_antisymm, add-one, arith, eqb-true, ltb-true, ltb-false, leb-true, lt-ltb, le-ltb, T, eqb, leb, ltb, length, get_or, take, drop, set, length-set, length-drop, take-suc-set, drop-set-lt, get_or-set_same, get_or-set_other}
-use native.Mathlib.Nat.{div-div-eq-div-mul}
+use native.Mathlib.Nat.{div-div-eq-div-mul, sub-eq-zero_of_le}
 use borrow.Author.Tests.{eqb-false}
 use lib.Seq.{take-set-le, drop-set-add}
 use Rattle.lists.specs.Choice.{pick, when}
 use Rattle.lists.specs.Rows.{from}
 use Rattle.lists.proofs.Cases.{by_test}
 use Rattle.lists.proofs.Fill.{fills_put}
-use Rattle.lists.proofs.Rows.{from_next, get_or_from, length_from, row_inside, sub_next, sub_end}
+use Rattle.lists.proofs.Rows.{from_next, get_or_from, length_from, row_inside, sub_next}
 use Rattle.field.proofs.Computed.{at, equal_at}
 use Rattle.lists.proofs.Parts.{Valued, valued_start}
 use Rattle.subset_sums.specs.Inner.Lists.{subset_at, slices_from, Listing}
@@ -214,5 +214,5 @@ streams_all groups g ws list counts low high s =
       long = s.long;
       counted = s.counted;
       few = λ b h. omega (arith, s.few b h);
-      listed = λ b h. rw append-nil at (rw (sub_end groups g high) at (s.listed b h));
+      listed = λ b h. rw append-nil at (rw (sub-eq-zero_of_le high) at (s.listed b h));
     }

@@ -1,12 +1,12 @@
 -- Sums of subsets: a row more, the slices of a group, and the groups of a table.
 use Rattle.std.proofs.Common.{length-take-le, get_or-take, pow_mono, ◌≡◌, refl, sym, ap, ap₂, ◌∙◌, List, ◌++◌, ℕ, zero, suc, ◌+◌, ◌-◌, ◌*◌, ◌/◌, ◌%◌, ◌^◌, ◌≤◌, ◌<◌, add-zero, zero-add, mul-zero, mul-one, pow-suc, arith, bit_xor, length, get_or, take, drop, length-append, length-drop}
-use lib.Bits.{xor_zero_r}
+use lib.Bits.{xor_zero_r, xor_assoc}
 use Rattle.std.proofs.Math.ListN.{get_or-append}
 use Rattle.lists.specs.Rows.{from}
 use Rattle.lists.specs.Padded.{zeros}
-use Rattle.lists.proofs.Rows.{length_from, get_or_from, from_ext, part_length, part_size, get_d_part, from_append}
+use native.Mathlib.Nat.{add-sub_cancel_left}
+use Rattle.lists.proofs.Rows.{length_from, get_or_from, from_ext, part_length, get_d_part, from_append}
 use Rattle.lists.proofs.Fill.{length_zeros}
-use Rattle.field.proofs.Xor.{xor_assoc}
 use Rattle.kernel.specs.Inner.Lanes.{lanewise}
 use Rattle.lists.proofs.Parts.{Valued, valued_part, valued_at, from_at}
 use Rattle.lists.proofs.Padding.{get_or_zeros}
@@ -100,7 +100,7 @@ module _ (rows : List ℕ) where
       let next : (u + (w + 1)) * 64 ≡ (u + w) * 64 + 64 = omega arith in
       let few : u ≤ 8 = rw u_is (power_low i room) in
       rw next
-      (valued_part (group_byte rows) 1024 (from (λ t. bit_xor (get_or now (w * 64 + t) 0) (get_or (take (i * 64 + 64 - i * 64) (drop (i * 64) rows)) t 0)) 0 64) 64 ((u + w) * 64 + 64 - (u + w) * 64) a (omega arith) (omega arith) (part_size ((u + w) * 64) 64)
+      (valued_part (group_byte rows) 1024 (from (λ t. bit_xor (get_or now (w * 64 + t) 0) (get_or (take (i * 64 + 64 - i * 64) (drop (i * 64) rows)) t 0)) 0 64) 64 ((u + w) * 64 + 64 - (u + w) * 64) a (omega arith) (omega arith) (add-sub_cancel_left ((u + w) * 64) 64)
       (length_from _ 0 64)
       (λ t lane.
       get_or_from _ 0 64 t 0 lane

@@ -2,6 +2,7 @@
 use Rattle.std.proofs.Common.{◌≡◌, ℕ, suc, ◌+◌, ◌*◌, ◌/◌, ◌<◌, ◌≤◌, List, [], ◌∷◌, length, get_or, take, sym, refl, ap, ◌∙◌, mul_comm, one-mul, zero-add, mul-div_cancel, arith, get_or-take}
 use Rattle.lists.specs.Rows.{from}
 use Rattle.lists.proofs.Images.{from_self}
+use Rattle.std.proofs.lemmas.Nat.{mul-add-lt}
 use Rattle.lists.proofs.Rows.{from_ext, length_from, get_or_from, row_inside}
 use Rattle.layout.specs.Layout.{row_after_row, held, lane_of}
 use Rattle.layout.specs.Width.{value_from, symbol_at, symbols_of, symbol_bytes}
@@ -10,7 +11,7 @@ use Rattle.layout.proofs.Buffers.{length_lane, get_or_lane}
 use Rattle.layout.proofs.Places.{held_by_row}
 use Rattle.layout.proofs.Widths.{symbols_one, length_bytes}
 use Rattle.layout.proofs.Readings.{count_symbols, symbol_digits, get_or_bytes}
-use Rattle.layout.proofs.Tiles.{byte_row_lem, held_tile_symbols, held_tile_bytes}
+use Rattle.layout.proofs.Tiles.{held_tile_symbols, held_tile_bytes}
 use Rattle.field.specs.Fields.{add, mul}
 use Rattle.field.specs.Inner.Sums.{dot}
 use Rattle.field.specs.Widths.{bytes_for}
@@ -43,7 +44,7 @@ lane_values w rows t tile some lane =
     let inside : i * w + w ≤ length bytes = rw (length_lane row_after_row (w * rows) 64 t tile, mul_comm w rows) (row_inside rows i w row) in
     held_tile_symbols w rows 64 tile i t some row lane
     ∙ ap (value_from 0)
-    (from_ext _ _ 0 w (λ v low' high'. sym (get_or_lane row_after_row (w * rows) 64 t tile (i * w + v) (byte_row_lem w rows i v row (omega arith)))))
+    (from_ext _ _ 0 w (λ v low' high'. sym (get_or_lane row_after_row (w * rows) 64 t tile (i * w + v) (mul-add-lt i w v rows row (omega arith)))))
     ∙ sym (symbol_digits w bytes i inside))
 
 pub lane_symbols : (w rows t : ℕ) (tile : List ℕ) → 0 < w → t < 64 → lane_of row_after_row rows 64 t (tile_symbols w rows 64 tile) ≡ symbols_of w (lane_of row_after_row (w * rows) 64 t tile)

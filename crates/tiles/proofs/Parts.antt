@@ -3,14 +3,15 @@ use Rattle.std.proofs.Common.{◌≡◌, sym, ap, ◌∙◌, List, ◌++◌, ℕ
 use Rattle.lists.specs.Rows.{from}
 use Rattle.lists.proofs.Fill.{Fills, fills_part, fills_all}
 use Rattle.lists.specs.Rows.{rows_from}
-use Rattle.lists.proofs.Rows.{length_from, get_or_from, get_d_part, part_length, part_size, row_after, row_inside, rows_next, rows_end}
+use native.Mathlib.Nat.{add-sub_cancel_left}
+use Rattle.lists.proofs.Rows.{length_from, get_or_from, get_d_part, part_length, row_after, row_inside, rows_next, rows_end}
 
 module _ {start now : List ℕ} (whole : List ℕ) (a : ℕ) where
   -- the next k places of the whole are written
   pub fills_stretch : (xs : List ℕ) (k : ℕ) → Fills start now a (drop a whole) whole → xs ≡ take (a + k - a) (drop a whole) → length whole ≡ length start → a + k ≤ length start → Fills start (take a now ++ (xs ++ drop (a + k - a) (drop a now))) (a + k) (drop (a + k) whole) whole
   fills_stretch xs k f e long fits =
-      let apart : drop a whole ≡ xs ++ drop (a + k) whole = rw (e, part_size) (sym (take-append-drop k (drop a whole)) ∙ ap (λ (u : List ℕ). take k (drop a whole) ++ u) (drop-drop k a whole)) in
-      rw part_size (fills_part xs k (rw apart at f) (ap length e ∙ part_length a k whole (omega arith)) fits)
+      let apart : drop a whole ≡ xs ++ drop (a + k) whole = rw (e, add-sub_cancel_left) (sym (take-append-drop k (drop a whole)) ∙ ap (λ (u : List ℕ). take k (drop a whole) ++ u) (drop-drop k a whole)) in
+      rw add-sub_cancel_left (fills_part xs k (rw apart at f) (ap length e ∙ part_length a k whole (omega arith)) fits)
 
   -- nothing is left
   pub fills_whole : Fills start now a (drop a whole) whole → length whole ≤ a → length start ≤ a → now ≡ whole
@@ -39,7 +40,7 @@ module _ (f : ℕ → List ℕ) (n count : ℕ) {start now : List ℕ} (t : ℕ)
 
   -- one lane more
   pub lane_more : t < count → length (f t) ≡ n → LanesFilled f n count start (take (t * n) now ++ (f t ++ drop (t * n + n - t * n) (drop (t * n) now))) (t + 1)
-  lane_more h size = rw (row_after, part_size) (fills_part (f t) n (rw (rows_next _ _ _ h) at filled) size (lane_in h))
+  lane_more h size = rw (row_after, add-sub_cancel_left) (fills_part (f t) n (rw (rows_next _ _ _ h) at filled) size (lane_in h))
 
   -- all lanes
   pub lanes_all : count ≤ t → now ≡ rows_from f 0 count

@@ -3,7 +3,8 @@ use Rattle.std.proofs.Common.{◌≡◌, refl, sym, ap, ◌∙◌, List, ◌++�
 use lib.Lanes.{chunk}
 use Rattle.std.proofs.lemmas.Simd.{length-chunk, get_or-chunk}
 use Rattle.lists.proofs.Cases.{by_test}
-use Rattle.lists.proofs.Rows.{part_length, part_size, get_d_part}
+use native.Mathlib.Nat.{add-sub_cancel_left}
+use Rattle.lists.proofs.Rows.{part_length, get_d_part}
 use Rattle.tiles.specs.Inner.Squares.{placed, lane_at}
 use Rattle.tiles.specs.Inner.Words.{patched}
 use Rattle.tiles.proofs.Shuffles.{length_placed}
@@ -14,19 +15,19 @@ module _ (a k : ℕ) (s t : List ℕ) (s_fits : a + k ≤ length s) (t_fits : a 
   pub length_patched : length (patched a k s t) ≡ length t
   unfolding patched
   length_patched =
-      rw (part_size a k) (length_replaced t (take k (drop a s)) a k (rw (part_size a k) at (part_length a k s s_fits)) t_fits)
+      rw (add-sub_cancel_left a k) (length_replaced t (take k (drop a s)) a k (rw (add-sub_cancel_left a k) at (part_length a k s s_fits)) t_fits)
 
   patched_inside : (p : ℕ) → p < k → get_or (patched a k s t) (a + p) 0 ≡ get_or s (a + p) 0
   unfolding patched
   patched_inside p h =
-      rw (part_size a k)
-      (replaced_inside t (take k (drop a s)) a k (rw (part_size a k) at (part_length a k s s_fits)) t_fits p h
-      ∙ rw (part_size a k) at (get_d_part a k s p h))
+      rw (add-sub_cancel_left a k)
+      (replaced_inside t (take k (drop a s)) a k (rw (add-sub_cancel_left a k) at (part_length a k s s_fits)) t_fits p h
+      ∙ rw (add-sub_cancel_left a k) at (get_d_part a k s p h))
 
   patched_before : (p : ℕ) → p < a → get_or (patched a k s t) p 0 ≡ get_or t p 0
   unfolding patched
   patched_before p h =
-      rw (part_size a k) (replaced_before t (take k (drop a s)) a k (rw (part_size a k) at (part_length a k s s_fits)) t_fits p h)
+      rw (add-sub_cancel_left a k) (replaced_before t (take k (drop a s)) a k (rw (add-sub_cancel_left a k) at (part_length a k s s_fits)) t_fits p h)
 
 -- two parts of k that cover n places
 pub patched_twice : (k n : ℕ) (s t : List ℕ) → length t ≡ n → k ≤ n → n ≤ k + k → n ≤ length s → patched (n - k) k s (patched 0 k s t) ≡ take n s
@@ -71,7 +72,7 @@ lane_rest blocks t n b {start} {now} a long some few inside =
     let part : List ℕ = chunk (b * 1024 + t * 16) 16 blocks in
     let part_long : length part ≡ 16 = length-chunk (b * 1024 + t * 16) 16 blocks inside in
     let all : j + (n - j) ≡ n = omega arith in
-    rw (rest, part_size (b * 1024 + t * 16) 16)
+    rw (rest, add-sub_cancel_left (b * 1024 + t * 16) 16)
     (valued_all (lane_byte blocks t) n
     (valued_part (lane_byte blocks t) n (take (n - j) part) (n - j) (n - j) a (omega arith) (omega arith) refl
     (length-take-le (n - j) part (omega arith))

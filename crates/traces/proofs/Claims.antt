@@ -14,7 +14,8 @@ use Rattle.lists.specs.Choice.{pick}
 use Rattle.lists.specs.Counting.{count_from, passing_from}
 use Rattle.lists.specs.Numbers.{all_below, is_in, distinct}
 use Rattle.lists.proofs.All.{All-at}
-use Rattle.lists.proofs.Cases.{by_test, and_left, and_right, both_true}
+use Rattle.std.proofs.lemmas.Bool.{and_from, and_parts}
+use Rattle.lists.proofs.Cases.{by_test}
 use Rattle.lists.proofs.Chosen.{without, count_without}
 use Rattle.lists.proofs.Count.{count_ext, count_all}
 use Rattle.lists.proofs.Passing.{passing_within, length_passing}
@@ -131,9 +132,9 @@ count_others n [] low d = omega (arith, count_all n 0 (λ j. true) (λ j a b. re
 count_others n (x ∷ l) low d =
     let p : ℕ → Bool = λ j. not (is_in j l) in
     let (here, later) = below_cons n x l low in
-    let one : count_from n 0 p ≡ suc (count_from n 0 (without x p)) = count_without n x p here (and_left _ (distinct l) d) in
+    let one : count_from n 0 p ≡ suc (count_from n 0 (without x p)) = count_without n x p here (and_parts _ (distinct l) d).0 in
     let same : count_from n 0 (without x p) ≡ count_from n 0 (λ j. not (eqb j x || is_in j l)) = count_ext n 0 _ _ (λ j a b. apart (is_in j l) (eqb j x)) in
-    omega (arith, one, same, count_others n l later (and_right (not (is_in x l)) _ d))
+    omega (arith, one, same, count_others n l later (and_parts (not (is_in x l)) _ d).1)
   where
     apart : (a b : Bool) → (not a && not b) ≡ not (b || a)
     apart true true = refl
@@ -145,7 +146,7 @@ count_others n (x ∷ l) low d =
 pub senders_many : (h : Header) (t : ℕ) (missing : List ℕ) → Repairing h t missing → distinct missing ≡ true → length (senders h t missing) ≡ h.n - 1 - length missing
 unfolding senders sends distinct
 senders_many h t missing r d =
-    let count = count_others h.n (t ∷ missing) (cons_below h.n t missing r.inside r.nodes) (both_true (ap not r.others) d) in
+    let count = count_others h.n (t ∷ missing) (cons_below h.n t missing r.inside r.nodes) (and_from _ _ (ap not r.others) d) in
     omega (arith, count, length_passing h.n 0 (sends t missing))
 
 module _ (h : Header) (s : Sound h) where

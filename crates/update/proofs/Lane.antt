@@ -3,13 +3,13 @@ use mathlib.Core.Path.{◌≡◌, sym, ap, ap₂, ◌∙◌}
 use mathlib.Core.Bool.{true}
 use mathlib.Core.List.{List, [], ◌∷◌, ◌++◌, append-nil}
 use Prim.Native.Nat.{ℕ, ◌+◌, ◌-◌, ◌*◌, ◌≤◌, ◌<◌}
-use native.Mathlib.Nat.{mul_comm, mul_assoc, one-mul}
+use native.Mathlib.Nat.{mul_comm, mul_assoc, one-mul, add-sub_cancel_left}
 use native.Mathlib.Numerals.{add-one}
 use lib.ListN.{length, set, take, drop}
 use lib.Seq.{drop-drop, set_split}
 use Rattle.lists.specs.Counting.{differ}
 use Rattle.lists.specs.Numbers.{all_below}
-use Rattle.lists.proofs.Rows.{part_size, part_length}
+use Rattle.lists.proofs.Rows.{part_length}
 use Rattle.layout.specs.Layout.{lane_of, share_layout}
 use Rattle.layout.specs.Width.{symbols_of, symbol_bytes, bytes_of}
 use Rattle.layout.proofs.Places.{share_by_lane}
@@ -30,7 +30,7 @@ unfolding bytes_of
 symbol_written w s j v whole inside =
     let xs = symbols_of w s in
     ap₂ (λ (b u : List ℕ). take (j * w) u ++ (b ++ drop (j * w + w - j * w) (drop (j * w) u))) (sym (append-nil (symbol_bytes w v))) whole
-    ∙ ap (λ (k : ℕ). take (j * w) (bytes_of w xs) ++ (bytes_of w (v ∷ []) ++ drop k (drop (j * w) (bytes_of w xs)))) (part_size (j * w) w ∙ sym (one-mul w))
+    ∙ ap (λ (k : ℕ). take (j * w) (bytes_of w xs) ++ (bytes_of w (v ∷ []) ++ drop k (drop (j * w) (bytes_of w xs)))) (add-sub_cancel_left (j * w) w ∙ sym (one-mul w))
     ∙ Parts.bytes_replaced w j 1 (v ∷ []) xs
     ∙ ap (bytes_of w) (ap (λ (u : List ℕ). take j xs ++ (v ∷ u)) (drop-drop 1 j xs ∙ ap (λ (x : ℕ). drop x xs) (add-one j)) ∙ sym (set_split xs j v inside))
 
@@ -86,11 +86,11 @@ module _ {h : Header} {l r t : ℕ} {shares : List ℕ} (ready : UpdatableLane h
     lane_rewritten =
         let xs = symbols_of w shares in
         let new = word_added h r x (symbols_of w part) in
-        ap₂ (λ (a k : ℕ). take a shares ++ (lane ++ drop k (drop a shares))) place (part_size (t * size) size ∙ mul_comm w h.n)
+        ap₂ (λ (a k : ℕ). take a shares ++ (lane ++ drop k (drop a shares))) place (add-sub_cancel_left (t * size) size ∙ mul_comm w h.n)
         ∙ ap (λ (u : List ℕ). take (t * h.n * w) shares ++ (u ++ drop (h.n * w) (drop (t * h.n * w) shares))) is
         ∙ Parts.symbols_replaced w (h.n * l) shares some (ready.bytes ∙ rw wide) low (t * h.n) h.n new
         ∙ ap (bytes_of w)
-        (ap₂ (λ (u : List ℕ) (k : ℕ). take (t * h.n) xs ++ (word_added h r x u ++ drop k (drop (t * h.n) xs))) symbols_part (sym (part_size (t * h.n) h.n))
+        (ap₂ (λ (u : List ℕ) (k : ℕ). take (t * h.n) xs ++ (word_added h r x u ++ drop k (drop (t * h.n) xs))) symbols_part (sym (add-sub_cancel_left (t * h.n) h.n))
         ∙ added_part h l r t x xs symbols_long ready.lane
         ∙ rw share_by_lane)
 

@@ -2,7 +2,7 @@
 use Rattle.std.specs.Prelude.{Ok, Err}
 use Rattle.generator.specs.Answers.{Answer}
 use Rattle.std.proofs.Common.{◌≡◌, ℕ, zero, suc, ◌+◌, true, List, length, replicate, sym, refl, ◌∙◌, eq-eqb}
-use Rattle.lists.proofs.Cases.{both_true}
+use Rattle.std.proofs.lemmas.Bool.{and_from}
 use Rattle.lists.proofs.Numbers.{below_all, all_below_lem, all_distinct}
 use Rattle.lists.proofs.Places.{Places}
 use Rattle.field.proofs.Arithmetic.{zero-mul}
@@ -31,7 +31,7 @@ passes_message h m e = record { size = message_size h m e; below = below_all (si
 
 places_pass : (h : Header) (js : List ℕ) → Places h.n h.k js → are_nodes h js ≡ true
 unfolding are_nodes
-places_pass h js p = both_true (eq-eqb (length js) h.k p.size) (both_true (all_below_lem h.n js p.low) (all_distinct js p.distinct))
+places_pass h js p = and_from _ _ (eq-eqb (length js) h.k p.size) (and_from _ _ (all_below_lem h.n js p.low) (all_distinct js p.distinct))
 
 module _ (h : Header) (s : Sound h) where
   -- the message of zeros has zero at every node

@@ -7,7 +7,8 @@ use native.Mathlib.Decide.{ℕ_discrete}
 use native.Mathlib.Omega.{arith}
 use lib.ListN.{length, get_or, take, length-append, length-map, get_or-append}
 use lib.Seq.{take-suc, get_or-take, length-take-le, get_or_at, get_or-append-add, take_at, take_all}
-use Rattle.lists.proofs.All.{All, All-at, All-imp, All-map, Distinct, Distinct-at, Distinct-map, get_d_map}
+use Rattle.std.proofs.lemmas.List.{get_or-map}
+use Rattle.lists.proofs.All.{All, All-at, All-imp, All-map, Distinct, Distinct-at, Distinct-map}
 use Rattle.weight_distribution.specs.Counts.{binomial}
 use Rattle.weight_distribution.specs.Choosing.{Rising, choices, Choosing}
 use Rattle.weight_distribution.proofs.Sums.{All-append}
@@ -23,7 +24,7 @@ stands_right : (js : List ℕ) (xs ys : List (List ℕ)) → StandsAt js ys → 
 stands_right js xs ys (i, low, is) = (length xs + i, omega (arith, length-append xs ys), get_or-append-add xs ys i [] ∙ is)
 
 stands_map : (f : List ℕ → List ℕ) (js : List ℕ) (xs : List (List ℕ)) → StandsAt js xs → StandsAt (f js) (map f xs)
-stands_map f js xs (i, low, is) = (i, omega (arith, length-map xs f), get_d_map f [] [] xs i low ∙ ap f is)
+stands_map f js xs (i, low, is) = (i, omega (arith, length-map xs f), get_or-map f xs i [] [] low ∙ ap f is)
 
 -- two lists of lists end to end
 Distinct-append : (P Q : List ℕ → Type 0) → ((x y : List ℕ) → P x → Q y → x ≡ y → ⊥) → (xs ys : List (List ℕ)) → All P xs → All Q ys → Distinct xs → Distinct ys → Distinct (xs ++ ys)

@@ -9,10 +9,11 @@ use native.Mathlib.Omega.{arith}
 use lib.Dec.{eqb}
 use lib.ListN.{length, take}
 use borrow.Author.Tests.{eqb-true, eq-eqb, ne_eqb}
+use Rattle.std.proofs.lemmas.Nat.{mod-mul-add, div-mul-add}
 use Rattle.lists.specs.Choice.{when}
 use Rattle.lists.specs.Rows.{from, range}
 use Rattle.lists.proofs.All.{All, All-imp, All-map, ExactlyOne}
-use Rattle.lists.proofs.Cases.{and_left, and_right}
+use Rattle.std.proofs.lemmas.Bool.{and_parts}
 use Rattle.lists.proofs.Places.{All-range, range_append, length_range}
 use Rattle.weight_distribution.specs.Counts.{sum_of, message_at}
 use Rattle.weight_distribution.proofs.Sums.{all_pass, sum_ext, sum_const, sum_when, sum_append, sum_map, sum_pick, sum_swap}
@@ -70,7 +71,7 @@ pub same_list_lem : (xs ys : List ℕ) → same_list xs ys ≡ true → xs ≡ y
 same_list_lem [] [] e = refl
 same_list_lem [] (y ∷ ys) e = cc
 same_list_lem (x ∷ xs) [] e = cc
-same_list_lem (x ∷ xs) (y ∷ ys) e = ap₂ ◌∷◌ (eqb-true x y (and_left (eqb x y) (same_list xs ys) e)) (same_list_lem xs ys (and_right (eqb x y) (same_list xs ys) e))
+same_list_lem (x ∷ xs) (y ∷ ys) e = ap₂ ◌∷◌ (eqb-true x y (and_parts (eqb x y) (same_list xs ys) e).0) (same_list_lem xs ys (and_parts (eqb x y) (same_list xs ys) e).1)
 
 pub list_same : (xs : List ℕ) → same_list xs xs ≡ true
 list_same [] = refl
@@ -138,15 +139,9 @@ sum_blocks (suc c) t q g =
     ∙ ap₂ ◌+◌ (ap (λ s. sum_of (range s q) g) (sym (add-zero (t * q))) ∙ sum_shift q (t * q) 0 g) (ap (λ s. sum_of (range s (c * q)) g) next ∙ sum_blocks c (t + 1) q g)
 
 -- the digits of b·q + a
-last_digit : (q a b : ℕ) → a < q → (b * q + a) % q ≡ a
-last_digit q a b h = mul-add-mod_self_right b q a ∙ mod-eq_of_lt h
-
-other_digits : (q a b : ℕ) → a < q → (b * q + a) / q ≡ b
-other_digits q a b h = ap (λ x. x / q) (add_comm (b * q) a) ∙ add-mul-div_right a b (omega arith) ∙ ap (λ x. x + b) (div-eq_of_lt h) ∙ zero-add b
-
 digits_next : (k q a b : ℕ) → a < q → message_at (suc k) q (b * q + a) ≡ a ∷ message_at k q b
 unfolding message_at
-digits_next k q a b h = rw (last_digit q a b h, other_digits q a b h)
+digits_next k q a b h = rw (mod-mul-add b q a h, div-mul-add b q a h)
 
 -- The messages by their numbers are all messages.
 pub sum_numbered : (q k : ℕ) (f : List ℕ → ℕ) → sum_of (range 0 (q ^ k)) (λ x. f (message_at k q x)) ≡ sum_of (messages q k) f
@@ -185,7 +180,7 @@ message_number q zero [] h = refl
 message_number q zero (y ∷ m) h = absurd (omega (arith, h.size))
 message_number q (suc k) [] h = absurd (omega (arith, h.size))
 message_number q (suc k) (a ∷ m) h =
-    rw (last_digit q a (number_of q m) h.below.0, other_digits q a (number_of q m) h.below.0, message_number q k m (record { size = omega (arith, h.size); below = h.below.1 }))
+    rw (mod-mul-add (number_of q m) q a h.below.0, div-mul-add (number_of q m) q a h.below.0, message_number q k m (record { size = omega (arith, h.size); below = h.below.1 }))
 
 number_message : (q k x : ℕ) → 0 < q → x < q ^ k → number_of q (message_at k q x) ≡ x
 unfolding message_at

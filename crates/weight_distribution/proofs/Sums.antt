@@ -10,7 +10,8 @@ use Rattle.lists.specs.Choice.{when}
 use Rattle.lists.specs.Counting.{count_from}
 use Rattle.lists.specs.Rows.{from, range}
 use Rattle.lists.proofs.All.{All}
-use Rattle.lists.proofs.Cases.{and_left, and_right, same_test}
+use Rattle.std.proofs.lemmas.Bool.{and_parts}
+use Rattle.lists.proofs.Cases.{same_test}
 use Rattle.weight_distribution.specs.Counts.{sum_of}
 
 module _ {A : Type 0} where
@@ -21,7 +22,7 @@ module _ {A : Type 0} where
 
   pub pass_all : (p : A → Bool) (xs : List A) → all_pass p xs ≡ true → All (λ x. p x ≡ true) xs
   pass_all p [] e = tt
-  pass_all p (x ∷ xs) e = (and_left (p x) (all_pass p xs) e, pass_all p xs (and_right (p x) (all_pass p xs) e))
+  pass_all p (x ∷ xs) e = ((and_parts (p x) (all_pass p xs) e).0, pass_all p xs (and_parts (p x) (all_pass p xs) e).1)
 
   pub all_pass_lem : (p : A → Bool) (xs : List A) → All (λ x. p x ≡ true) xs → all_pass p xs ≡ true
   all_pass_lem p [] h = refl

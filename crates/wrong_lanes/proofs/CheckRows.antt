@@ -13,7 +13,8 @@ use lib.Seq.{ext_get_or, get_or-drop, get_or-take, length-take-le}
 use Rattle.lists.specs.Numbers.{all_below}
 use Rattle.lists.specs.Padded.{zeros, padded}
 use Rattle.lists.specs.Rows.{from, range}
-use Rattle.lists.proofs.Cases.{and_left, and_right, both_true, same_test}
+use Rattle.std.proofs.lemmas.Bool.{and_from, and_parts}
+use Rattle.lists.proofs.Cases.{same_test}
 use Rattle.lists.proofs.Numbers.{below_cons, below_take, below_set, below_at}
 use Rattle.lists.proofs.Padding.{length_padded}
 use Rattle.lists.proofs.Places.{length_range, map_range}
@@ -103,13 +104,13 @@ unfolding all_zero
 zero_each zero f t i low = absurd (omega arith)
 zero_each (suc m) f t i low =
     by_cases (ℕ_discrete i m)
-    (λ q. rw q (eqb-true _ 0 (and_left _ (all_zero m f) t)))
-    (λ n. zero_each m f (and_right (eqb (f m) 0) _ t) i (omega arith))
+    (λ q. rw q (eqb-true _ 0 (and_parts _ (all_zero m f) t).0))
+    (λ n. zero_each m f (and_parts (eqb (f m) 0) _ t).1 i (omega arith))
 
 each_zero : (m : ℕ) (f : ℕ → ℕ) → ((i : ℕ) → i < m → f i ≡ 0) → all_zero m f ≡ true
 unfolding all_zero
 each_zero zero f z = refl
-each_zero (suc m) f z = both_true (eq-eqb _ 0 (z m (omega arith))) (each_zero m f (λ i l. z i (omega arith)))
+each_zero (suc m) f z = and_from _ _ (eq-eqb _ 0 (z m (omega arith))) (each_zero m f (λ i l. z i (omega arith)))
 
 pub length_first : (h : Header) (i : ℕ) → length (first_weights h i) ≡ h.k
 unfolding basis_values

@@ -1,11 +1,11 @@
 -- `write_symbols` meets its contract. The loop's invariant: the bytes of the symbols below i are written.
 use Prim.Native.Nat.{◌+◌, ◌*◌, ◌≤◌}
-use native.Mathlib.Nat.{mul-le-mul, le_refl}
+use native.Mathlib.Nat.{mul-le-mul, le_refl, add-sub_cancel_left}
 use native.Mathlib.Omega.{arith}
 use lib.ListN.{length, get_or}
 use Rattle.lists.proofs.Fill.{fills_part, fills_all}
 use Rattle.lists.proofs.Numbers.{below_at}
-use Rattle.lists.proofs.Rows.{row_after, row_inside, part_size, part_length}
+use Rattle.lists.proofs.Rows.{row_after, row_inside, part_length}
 use Rattle.layout.specs.Width.{symbol_bytes}
 use Rattle.layout.proofs.Widths.{length_symbol}
 use Rattle.symbols.proofs.Written.{bytes_next, bytes_none}
@@ -30,7 +30,7 @@ write_symbol-requires c =
 pub loop-i-preserved : goal.loop-i-preserved
 loop-i-preserved c =
     let a = c.args in
-    let x = get_or a.symbols.now c.loop-i.i 0 in rw (row_after, part_size, c.write_symbol.ensures)
+    let x = get_or a.symbols.now c.loop-i.i 0 in rw (row_after, add-sub_cancel_left, c.write_symbol.ensures)
     (fills_part (symbol_bytes a.w x) a.w
     (rw (bytes_next _ _ _ c.loop-i-test.true) at c.loop-i.invariant)
     (length_symbol a.w x)

@@ -1,7 +1,8 @@
 -- `load_row` meets its contract: one row of bytes more.
 use Rattle.std.proofs.Common.{◌≡◌, ℕ, ◌+◌, ◌*◌, ◌<◌, ◌≤◌, List, length, get_or, ap, ◌∙◌, zero-add, arith}
 use Rattle.lists.specs.Rows.{from}
-use Rattle.lists.proofs.Rows.{part_size, part_length, row_inside, length_from, get_or_from}
+use native.Mathlib.Nat.{add-sub_cancel_left}
+use Rattle.lists.proofs.Rows.{part_length, row_inside, length_from, get_or_from}
 use Rattle.tiles.proofs.Gathered.{tile_more}
 use Rattle.block_products.proofs.loading.load_row.Goals as goal
 use Rattle.block_products.proofs.loading.load_row.Goals.{In-loop-v}
@@ -25,4 +26,4 @@ loop-v-preserved c =
     let fits = row_in (goal.at.loop-v-preserved c).In-loop-v in
     let xs = from (λ q. get_or a.part.now (q * a.w + l.v) 0) 0 a.count in
     let made = c.copy_bytes.ensures ∙ ap (from (λ q. get_or a.part.now (q * a.w + l.v) 0) 0) (part_length (l.v * 64) a.count l.rows fits) in
-    rw (made, part_size (l.v * 64) a.count) (tile_more a.w l.v 1 a.count _ l.rows xs a.count (length_from _ 0 a.count) fits c.requires.few l.invariant (held a.w a.count l.v a.part.now))
+    rw (made, add-sub_cancel_left (l.v * 64) a.count) (tile_more a.w l.v 1 a.count _ l.rows xs a.count (length_from _ 0 a.count) fits c.requires.few l.invariant (held a.w a.count l.v a.part.now))

@@ -6,7 +6,8 @@ use Rattle.std.proofs.lemmas.Nat.{xor_of_16}
 use lib.Bits.{bit_xor}
 use lib.ListN.{length, get_or}
 use Rattle.lists.proofs.Fill.{fills_part, fills_put, fills_all}
-use Rattle.lists.proofs.Rows.{row_after, part_size}
+use native.Mathlib.Nat.{add-sub_cancel_left}
+use Rattle.lists.proofs.Rows.{row_after}
 use Rattle.layout.specs.Width.{symbol_bytes}
 use Rattle.layout.proofs.Widths.{length_symbol}
 use Rattle.carrying.specs.Masks.{masked}
@@ -20,7 +21,7 @@ loop-i-preserved c =
     let ws = masked c.args.c c.args.words.now in
     let n = length c.args.out.now in
     let long = length_masked c.args.c c.args.words.now in
-    let here = masked_at c.args.c c.args.words.now c.loop-i.i (omega arith) in rw (row_after, part_size, c.write_symbol.ensures, ← here)
+    let here = masked_at c.args.c c.args.words.now c.loop-i.i (omega arith) in rw (row_after, add-sub_cancel_left, c.write_symbol.ensures, ← here)
     (fills_part (symbol_bytes 2 (get_or ws c.loop-i.i 0)) 2
     (rw (bytes_next n ws c.loop-i.i c.loop-i-test.true (omega arith)) at c.loop-i.invariant)
     (length_symbol 2 _)

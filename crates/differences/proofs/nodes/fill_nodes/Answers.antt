@@ -1,10 +1,10 @@
 -- `fill_nodes` meets its contract. The loop's invariant: the rows of the nodes below `node` are written, and the others are to come.
 use mathlib.Core.Path.{◌≡◌, sym, ap, ◌∙◌}
 use Prim.Native.Nat.{ℕ, ◌+◌, ◌*◌, ◌≤◌}
-use native.Mathlib.Nat.{mul-one, mul-le-mul, le_refl}
+use native.Mathlib.Nat.{mul-one, mul-le-mul, le_refl, add-sub_cancel_left}
 use native.Mathlib.Omega.{arith}
 use lib.ListN.{length}
-use Rattle.lists.proofs.Rows.{rows_next, rows_end, row_after, row_inside, part_size, part_length}
+use Rattle.lists.proofs.Rows.{rows_next, rows_end, row_after, row_inside, part_length}
 use Rattle.lists.proofs.Fill.{fills_part, fills_all}
 use Rattle.layout.specs.Inner.Tiles.{tile_symbols}
 use Rattle.generator.specs.Generator.{entry}
@@ -38,7 +38,7 @@ loop-node-preserved c =
     let rows = change.rows in
     let tile = c.args.tile.now in
     let now = c.loop-node in
-    rw (row_after, part_size, c.multiply.ensures, c.entry-weight.ensures, ← change.same_code)
+    rw (row_after, add-sub_cancel_left, c.multiply.ensures, c.entry-weight.ensures, ← change.same_code)
     (fills_part (told rows change.symbol tile now.node) (length tile)
     (rw (rows_next _ _ _ c.loop-node-test.true) at now.invariant)
     (length_times rows.code.header rows.width rows.lanes (tile_symbols rows.width 1 rows.lanes tile) (entry rows.code.header change.symbol now.node) ∙ sym (row-size (goal.at.loop-node-preserved c).Start))

@@ -1,11 +1,11 @@
 -- `fill_each` meets its contract. The loop's invariant: the lanes below t are filled, and the others are to come.
 use mathlib.Core.Path.{◌≡◌, ap, ◌∙◌}
 use Prim.Native.Nat.{ℕ, ◌+◌, ◌*◌, ◌≤◌}
-use native.Mathlib.Nat.{mul_comm, mul-le-mul, le_refl}
+use native.Mathlib.Nat.{mul_comm, mul-le-mul, le_refl, add-sub_cancel_left}
 use native.Mathlib.Omega.{arith}
 use lib.ListN.{length, take}
 use Rattle.lists.proofs.Padding.{take_padded}
-use Rattle.lists.proofs.Rows.{rows_next, rows_end, row_after, row_inside, part_size, part_length}
+use Rattle.lists.proofs.Rows.{rows_next, rows_end, row_after, row_inside, part_length}
 use Rattle.lists.proofs.Fill.{fills_part, fills_all}
 use Rattle.layout.specs.Layout.{row_after_row, lane_after_lane, lane_of}
 use Rattle.layout.specs.Width.{bytes_of}
@@ -46,7 +46,7 @@ loop-t-preserved c =
     let h = record_header m in
     let l = c.loop-t in
     let lane = lane_of lane_after_lane h.n m.lanes l.t (shares_of lane_after_lane h m.lanes (message_symbols m)) in
-    rw (row_after, part_size, c.fill_lane.ensures, taken (goal.at.loop-t-preserved c).After-lane_symbols-symbols, ← lane_encodes h m.lanes (message_symbols m) by_lane l.t c.loop-t-test.true)
+    rw (row_after, add-sub_cancel_left, c.fill_lane.ensures, taken (goal.at.loop-t-preserved c).After-lane_symbols-symbols, ← lane_encodes h m.lanes (message_symbols m) by_lane l.t c.loop-t-test.true)
     (fills_part (bytes_of m.width lane) (m.width * h.n) (rw (rows_next _ _ _ c.loop-t-test.true) at l.invariant) (length_bytes m.width lane ∙ ap (λ (x : ℕ). x * m.width) (length_lane lane_after_lane h.n m.lanes l.t _) ∙ mul_comm h.n m.width) (lane_in (goal.at.loop-t-preserved c).In-loop-t))
 
 pub returns : goal.returns

@@ -2,13 +2,13 @@
 use mathlib.Core.Path.{◌≡◌}
 use mathlib.Core.Bool.{true}
 use Prim.Native.Nat.{◌+◌, ◌*◌, ◌/◌, ◌≤◌, ◌<◌}
-use native.Mathlib.Nat.{sub-zero, zero-mul, mul-le-mul, le_refl}
+use native.Mathlib.Nat.{sub-zero, zero-mul, mul-le-mul, le_refl, add-sub_cancel_left}
 use native.Mathlib.Omega.{arith}
 use lib.ListN.{length}
 use Rattle.lists.specs.Numbers.{all_below}
 use Rattle.lists.proofs.Fill.{fills_start, fills_part, fills_all}
 use Rattle.lists.proofs.Numbers.{at_below}
-use Rattle.lists.proofs.Rows.{row_after, row_inside, part_size, part_length}
+use Rattle.lists.proofs.Rows.{row_after, row_inside, part_length}
 use Rattle.layout.specs.Layout.{lane_of}
 use Rattle.layout.specs.Width.{symbol_at, symbol_bytes}
 use Rattle.layout.proofs.Widths.{length_symbol}
@@ -75,7 +75,7 @@ pub loop-i-preserved : goal.loop-i-preserved
 loop-i-preserved c =
     let a = c.args in
     let now = c.loop-i in
-    let x = symbol_at a.w a.table.now (now.i * a.width + a.t) in rw (row_after, part_size, c.write_symbol.ensures, c.symbol_at-symbol.ensures)
+    let x = symbol_at a.w a.table.now (now.i * a.width + a.t) in rw (row_after, add-sub_cancel_left, c.write_symbol.ensures, c.symbol_at-symbol.ensures)
     (fills_part (symbol_bytes a.w x) a.w
     (rw (column_next a.w a.rows a.width a.t a.table.now c.requires.0 c.requires.3 c.requires.2 now.i c.loop-i-test.true) at now.invariant)
     (length_symbol a.w x)

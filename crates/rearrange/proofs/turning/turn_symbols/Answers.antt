@@ -1,10 +1,10 @@
 -- `turn_symbols` meets its contract. The loop's invariant: the lanes below t are written, and the others are to come.
 use mathlib.Core.Path.{◌≡◌, sym, ap, ◌∙◌}
 use Prim.Native.Nat.{ℕ, ◌+◌, ◌*◌, ◌≤◌}
-use native.Mathlib.Nat.{sub-zero, zero-mul, mul_comm, mul_assoc, mul-le-mul, le_refl}
+use native.Mathlib.Nat.{sub-zero, zero-mul, mul_comm, mul_assoc, mul-le-mul, le_refl, add-sub_cancel_left}
 use native.Mathlib.Omega.{arith}
 use lib.ListN.{length}
-use Rattle.lists.proofs.Rows.{rows_next, rows_end, row_after, row_inside, part_size, part_length}
+use Rattle.lists.proofs.Rows.{rows_next, rows_end, row_after, row_inside, part_length}
 use Rattle.lists.proofs.Fill.{fills_start, fills_part, fills_all}
 use Rattle.layout.specs.Layout.{row_after_row, held, lane_of, rearranged}
 use Rattle.layout.specs.Width.{symbols_of, bytes_of}
@@ -49,7 +49,7 @@ fill_lane-requires c =
 pub loop-t-preserved : goal.loop-t-preserved
 loop-t-preserved c =
     let a = c.args in
-    let now = c.loop-t in rw (row_after, part_size, c.fill_lane.ensures)
+    let now = c.loop-t in rw (row_after, add-sub_cancel_left, c.fill_lane.ensures)
     (fills_part (column a.w a.rows a.lanes a.source.now now.t) (a.rows * a.w)
     (rw (rows_next _ _ _ c.loop-t-test.true) at now.invariant)
     (length_column a.w a.rows a.lanes now.t a.source.now)

@@ -1,11 +1,11 @@
 -- `fill_terms` meets its contract. The loop's invariant: the terms of the rows below r are written, and the others are to come.
 use mathlib.Core.Path.{◌≡◌, sym, ap, ◌∙◌}
 use Prim.Native.Nat.{ℕ, ◌+◌, ◌*◌, ◌≤◌}
-use native.Mathlib.Nat.{mul_comm, mul-le-mul, le_refl}
+use native.Mathlib.Nat.{mul_comm, mul-le-mul, le_refl, add-sub_cancel_left}
 use native.Mathlib.Omega.{arith}
 use lib.ListN.{length, take}
 use Rattle.lists.proofs.Padding.{take_padded}
-use Rattle.lists.proofs.Rows.{rows_next, rows_end, row_after, row_inside, part_size, part_length}
+use Rattle.lists.proofs.Rows.{rows_next, rows_end, row_after, row_inside, part_length}
 use Rattle.lists.proofs.Fill.{fills_part, fills_all}
 use Rattle.layout.specs.Width.{bytes_of}
 use Rattle.layout.proofs.LaneParts.{bytes_rows}
@@ -55,7 +55,7 @@ loop-r-preserved c =
     let l = c.loop-r in
     let row = row_terms h l.r in
     let size = (terms (goal.at.loop-r-preserved c).In-loop-r).size in
-    rw (c.write_symbols.ensures, taken (goal.at.loop-r-preserved c).After-row_terms-row, c.width_of-w.ensures.0, row_after, part_size)
+    rw (c.write_symbols.ensures, taken (goal.at.loop-r-preserved c).After-row_terms-row, c.width_of-w.ensures.0, row_after, add-sub_cancel_left)
     (fills_part (bytes_of w row) (w * h.k) (rw (rows_next _ _ _ c.loop-r-test.true) at l.invariant) (length_bytes w row ∙ ap (λ (x : ℕ). x * w) size ∙ mul_comm h.k w) (row_in (goal.at.loop-r-preserved c).In-loop-r))
 
 pub returns : goal.returns

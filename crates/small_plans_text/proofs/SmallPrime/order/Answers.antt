@@ -5,7 +5,7 @@ use Prim.Native.Nat.{◌+◌, ◌≤◌, ◌<◌}
 use native.Mathlib.Omega.{arith}
 use borrow.Author.Tests.{le-leb, eqb-true, eqb-false}
 use lib.Dec.{eqb}
-use Rattle.lists.proofs.Cases.{both_true}
+use Rattle.std.proofs.lemmas.Bool.{and_from}
 use Rattle.field.specs.Fields.{order_of}
 use Rattle.field.proofs.Meanings.{prime_field, prime_size}
 use Rattle.small_plans_text.proofs.OrderBound.{order_fits}
@@ -20,7 +20,7 @@ pub has_order-requires : goal.has_order-requires
 has_order-requires c =
     let s = c.args.self in
     let made = c.new-field.ensures in (
-      made.1 ∙ rw c.from.ensures (both_true (le-leb s.p 65521 (omega arith)) (prime_field s.p s.prime)),
+      made.1 ∙ rw c.from.ensures (and_from _ _ (le-leb s.p 65521 (omega arith)) (prime_field s.p s.prime)),
       rw (c.from-in-loop-n.ensures, made.0, c.from.ensures, prime_size s.p s.prime) c.requires,
       omega arith,
       omega arith,

@@ -1,7 +1,7 @@
 use Rattle.std.proofs.Common.{◌≡◌, length, arith}
 use lib.Lanes.{chunk}
 use Rattle.std.proofs.lemmas.Simd.{put_chunk_is, length-chunk}
-use Rattle.lists.proofs.Rows.{part_size}
+use native.Mathlib.Nat.{add-sub_cancel_left}
 use Rattle.tiles.specs.Inner.Words.{patched}
 use Rattle.tiles.proofs.moves.move_at.Goals as goal
 
@@ -11,4 +11,4 @@ returns g c =
     let a = c.args in
     let xs = chunk a.at g.row.N a.from.now in
     let size : length xs ≡ g.row.N = length-chunk a.at g.row.N a.from.now c.requires.0 in
-    rw (part_size a.at g.row.N, put_chunk_is a.at a.to.now xs (omega arith), size)
+    rw (add-sub_cancel_left a.at g.row.N, put_chunk_is a.at a.to.now xs (omega arith), size)

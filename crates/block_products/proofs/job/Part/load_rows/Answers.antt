@@ -1,7 +1,8 @@
 -- `load_rows` meets its contract: one row of symbols more.
 use Rattle.std.proofs.Common.{◌≡◌, ℕ, ◌+◌, ◌*◌, ◌≤◌, length, sym, ap, ◌∙◌, zero-mul, mul_assoc, mul_comm, arith}
 use Rattle.lists.proofs.Images.{from_self}
-use Rattle.lists.proofs.Rows.{part_size, part_length, row_inside, row_after}
+use native.Mathlib.Nat.{add-sub_cancel_left}
+use Rattle.lists.proofs.Rows.{part_length, row_inside, row_after}
 use Rattle.layout.specs.Layout.{row_after_row}
 use Rattle.layout.proofs.Buffers.{length_lane}
 use Rattle.layout.proofs.Widths.{length_bytes}
@@ -39,7 +40,7 @@ loop-r-preserved c =
     let at : l.r * (j.w * 64) ≡ l.r * j.w * 64 = sym (mul_assoc l.r j.w 64) in
     let fits : l.r * j.w * 64 + j.w * 64 ≤ length l.tile = rw (← at) within in
     let size : length after ≡ j.w * 64 = omega (arith, part_length (l.r * (j.w * 64)) (j.w * 64) l.tile within) in
-    rw (at, part_size (l.r * j.w * 64) (j.w * 64), row_after l.r j.w)
+    rw (at, add-sub_cancel_left (l.r * j.w * 64) (j.w * 64), row_after l.r j.w)
     (tile_more (j.w * j.m.rows) (l.r * j.w) j.w p.count _ l.tile after (j.w * 64) size fits p.few l.invariant
     (row_loaded j.w j.m.rows j.m.lanes j.source.now j.some j.source_long j.bytes l.r p.first p.count row p.inside p.few after c.load_row.ensures))
 

@@ -1,6 +1,6 @@
 -- `store_lanes` meets its contract: the lanes are scattered to their part.
 use Rattle.std.proofs.Common.{◌+◌, ◌*◌, ◌/◌, take, ◌∙◌, arith}
-use Rattle.lists.proofs.Rows.{part_size}
+use native.Mathlib.Nat.{add-sub_cancel_left}
 use Rattle.layout.proofs.Runs.{lanes_inside}
 use Rattle.tile_products.proofs.Lanes.{lane_prefix}
 use Rattle.block_products.specs.Inner.Ways.{Sums}
@@ -20,4 +20,4 @@ returns c =
     let size = (n + 15) / 16 * 1024 in
     let words = c.args.words.now in
     let prefix : Sums j.w j.m.outputs p.first p.count f (take size words) = λ q lane. lane_prefix n size q words (rows_inside j.w j.m.outputs) (omega arith) ∙ sums q lane in
-    rw (c.scatter64.ensures, part_size (p.first * n) (p.count * n)) (lanes_step j.w j.m.outputs j.m.lanes p.first p.count f (take size words) prefix p.inside base)
+    rw (c.scatter64.ensures, add-sub_cancel_left (p.first * n) (p.count * n)) (lanes_step j.w j.m.outputs j.m.lanes p.first p.count f (take size words) prefix p.inside base)

@@ -1,6 +1,7 @@
 -- `store_rows` meets its contract: one row more is written up to the tile's last lane.
 use Rattle.std.proofs.Common.{◌≡◌, ◌+◌, ◌-◌, ◌*◌, ◌≤◌, length, take, drop, sym, ◌∙◌, add-mul, mul_assoc, mul-le-mul, le_refl, arith}
-use Rattle.lists.proofs.Rows.{part_size, part_length, get_d_part, row_inside}
+use native.Mathlib.Nat.{add-sub_cancel_left}
+use Rattle.lists.proofs.Rows.{part_length, get_d_part, row_inside}
 use Rattle.layout.proofs.LaneParts.{lanes_long}
 use Rattle.layout.proofs.Stretches.{stretch_start, stretch_end, stretch_row}
 use Rattle.block_products.proofs.Writing.{row_sums}
@@ -38,7 +39,7 @@ loop-i-preserved c =
     let after = c.store_row.new.out in
     let size : length after ≡ p.count * j.w = omega (arith, part_length start (p.count * j.w) l.out (out-in (goal.at.loop-i-preserved c).In-loop-i)) in
     λ f sums base.
-    rw (part_size start (p.count * j.w))
+    rw (add-sub_cancel_left start (p.count * j.w))
     (stretch_row (p.first * j.w) (p.count * j.w) l.i c.loop-i-test.true (row_fits (goal.at.loop-i-preserved c).Start) (l.invariant f sums base) after size
     (row_sums j.w j.m.outputs j.m.lanes p.first p.count f words sums p.inside j.some l.i c.loop-i-test.true row after (λ y inside. get_d_part (l.i * (j.w * 64)) (j.w * 64) words y inside) p.few c.store_row.ensures))
 

@@ -1,10 +1,10 @@
 -- `Digits::pack` meets its contract.
 use mathlib.Core.Path.{sym, ◌∙◌}
 use Prim.Native.Nat.{◌≤◌, ◌+◌, ◌-◌, ◌*◌, ◌/◌, ◌%◌, ◌^◌}
-use native.Mathlib.Nat.{sub-zero, zero-mul, mul-le-mul, le_refl}
+use native.Mathlib.Nat.{sub-zero, zero-mul, mul-le-mul, le_refl, add-sub_cancel_left}
 use native.Mathlib.Omega.{arith}
 use lib.ListN.{length, get_or, take, drop}
-use Rattle.lists.proofs.Rows.{rows_next, rows_end, row_after, row_inside, part_size, part_length}
+use Rattle.lists.proofs.Rows.{rows_next, rows_end, row_after, row_inside, part_length}
 use Rattle.lists.proofs.Fill.{fills_start, fills_part, fills_all}
 use Rattle.repair.specs.Packing.{plane, planes}
 use Rattle.repair.proofs.Digits.{length_plane, plane_small}
@@ -36,7 +36,7 @@ loop-e-preserved c =
     let l = c.loop-e in
     let a = c.args in
     let part = part_length (l.e * a.size) a.size l.out (omega (arith, l.invariant.long, row_in (goal.at.loop-e-preserved c).In-loop-e)) in
-    let whole = plane_table l.e a.self.table.now a.self.share.now (take (l.e * a.size + a.size - l.e * a.size) (drop (l.e * a.size) l.out)) (part ∙ c.requires.1) in rw (row_after, part_size, c.pack_plane.ensures ∙ whole)
+    let whole = plane_table l.e a.self.table.now a.self.share.now (take (l.e * a.size + a.size - l.e * a.size) (drop (l.e * a.size) l.out)) (part ∙ c.requires.1) in rw (row_after, add-sub_cancel_left, c.pack_plane.ensures ∙ whole)
     (fills_part (plane (length a.self.share.now) (λ i. get_or a.self.table.now (get_or a.self.share.now i 0) 0 / 2 ^ l.e % 2)) a.size (rw (rows_next _ c.count-count.result l.e c.loop-e-test.true) at l.invariant) (length_plane _ _ ∙ sym c.requires.1) (row_in (goal.at.loop-e-preserved c).In-loop-e))
 
 pub returns : goal.returns

@@ -1,9 +1,9 @@
 -- `Planes::sums` meets its contract.
 use Prim.Native.Nat.{◌≤◌, ◌<◌, ◌+◌, ◌*◌}
-use native.Mathlib.Nat.{zero-mul, mul-le-mul, le_refl}
+use native.Mathlib.Nat.{zero-mul, mul-le-mul, le_refl, add-sub_cancel_left}
 use native.Mathlib.Omega.{arith}
 use lib.ListN.{length}
-use Rattle.lists.proofs.Rows.{rows_next, rows_end, row_after, row_inside, part_size}
+use Rattle.lists.proofs.Rows.{rows_next, rows_end, row_after, row_inside}
 use Rattle.lists.proofs.Fill.{fills_start, fills_part, fills_all}
 use Rattle.repair.specs.Inner.Sums.{plane_sum, plane_sums}
 use Rattle.repair.proofs.Adding.{length_sum}
@@ -25,7 +25,7 @@ pub loop-p-preserved : goal.loop-p-preserved
 loop-p-preserved c =
     let l = c.loop-p in
     let a = c.args in
-    let low : l.p < 8 = omega (arith, c.loop-p-test.true) in rw (row_after, part_size, c.sum.ensures)
+    let low : l.p < 8 = omega (arith, c.loop-p-test.true) in rw (row_after, add-sub_cancel_left, c.sum.ensures)
     (fills_part (plane_sum a.self.weights.now (length a.self.weights.now) a.self.size a.self.rows.now l.p) a.self.size (rw (rows_next _ 8 l.p low) at l.invariant) (length_sum _ _ _ _ _) (row_in (goal.at.loop-p-preserved c).In-loop-p))
 
 pub returns : goal.returns

@@ -1,6 +1,7 @@
 -- `outputs` meets its contract. The loop's invariant: the outputs below j are in their rows.
 use Rattle.std.proofs.Common.{◌≡◌, ℕ, ◌+◌, ◌*◌, ◌≤◌, length, sym, ap, ◌∙◌, mul_assoc, arith}
-use Rattle.lists.proofs.Rows.{part_length, part_size, row_inside, row_after}
+use native.Mathlib.Nat.{add-sub_cancel_left}
+use Rattle.lists.proofs.Rows.{part_length, row_inside, row_after}
 use Rattle.field.specs.Kinds.{modulus}
 use Rattle.field.specs.Widths.{bytes_for}
 use Rattle.field.proofs.Widths.{bytes_range}
@@ -43,5 +44,5 @@ loop-j-preserved c =
     let size : length after ≡ b * 64 = omega (arith, wide, part_length from (c.width-row.result * 64) l.out within) in
     λ w begun.
     let made = c.output.ensures (w l.j) (begun.size l.j) (rw c.groups_of-size.ensures.value (begun.each l.j low)) in
-    rw (wide, at, part_size (l.j * b * 64) (b * 64), row_after l.j b)
+    rw (wide, at, add-sub_cancel_left (l.j * b * 64) (b * 64), row_after l.j b)
     (tile_more (b * m.outputs) (l.j * b) b 64 _ l.out after (b * 64) size room (omega arith) (l.invariant w begun) (output_row (modulus m.field) m.rows m.outputs w s.tile.now l.j low made))

@@ -3,7 +3,7 @@ use Rattle.std.proofs.Common.{◌≡◌, ap, ◌∙◌, arith}
 use mathlib.Core.Logic.{by_cases}
 use native.Mathlib.Decide.{dec_lt}
 use borrow.Author.Tests.{le-leb}
-use Rattle.lists.proofs.Cases.{both_true}
+use Rattle.std.proofs.lemmas.Bool.{and_from}
 use Rattle.field.specs.declared.prime.PrimeField.{PrimeField}
 use Rattle.field.specs.declared.Field.TheVariants.{Prime}
 use Rattle.field.specs.Kinds.{modulus, usable}
@@ -14,7 +14,7 @@ use Rattle.tile_products.proofs.primes.Prime.has_bytes.Goals.{After-width}
 
 pub width-requires : goal.width-requires
 unfolding usable
-width-requires c = let m = c.args.self in rw c.new.ensures (both_true (le-leb m.p 65521 m.fits) m.prime)
+width-requires c = let m = c.args.self in rw c.new.ensures (and_from _ _ (le-leb m.p 65521 m.fits) m.prime)
 
 width_is : (c : After-width) → c.width.result ≡ bytes_for c.args.self.p
 unfolding modulus
