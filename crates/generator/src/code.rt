@@ -3,6 +3,8 @@ ghost use Rattle.std.specs.Prelude.{◌≡◌, ◌≤◌, ◌<◌};
 ghost use Rattle.generator.specs.Records.{Sound};
 
 use crate::Header;
+use field::Tables;
+use field::lent::Arithmetic;
 
 // What the record holds, and that it is sound.
 #[derive(Clone, Copy)]
@@ -27,5 +29,24 @@ impl Code {
     {
         let Header { n, k, .. } = self.header;
         Dimensions { n, k }
+    }
+}
+
+// A code and the arithmetic of its field, with the tables that were lent for products: what reckons over a code takes it.
+#[derive(Clone, Copy)]
+pub struct Codec<'a> {
+    pub code: Code,
+    pub field: Arithmetic<'a>,
+    ghost same: { field.field ≡ code.header.field },
+}
+
+impl<'a> Codec<'a> {
+    pub fn new(code: Code, tables: &'a Tables) -> Self
+        ensures { result.code ≡ code }
+    {
+        Self {
+            code,
+            field: Arithmetic::new(code.header.field, tables),
+        }
     }
 }

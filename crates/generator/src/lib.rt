@@ -5,7 +5,7 @@
 mod code;
 mod refusal;
 
-pub use code::{Code, Dimensions};
+pub use code::{Code, Codec, Dimensions};
 use field::Field;
 pub use refusal::Refusal;
 
