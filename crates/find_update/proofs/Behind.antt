@@ -5,17 +5,19 @@ use mathlib.Core.List.{List}
 use Prim.Native.Nat.{ℕ, ◌<◌}
 use native.Mathlib.Nat.{zero-add}
 use native.Mathlib.Omega.{arith}
-use borrow.Author.Tests.{eq-eqb, eqb-true, ltb-true, lt-ltb}
+use borrow.Author.Tests.{eq-eqb, eqb-true, eqb-false, ltb-true, lt-ltb}
 use lib.Dec.{eqb, ltb}
 use lib.ListN.{length, get_or}
 use lib.Seq.{ext_get_or}
 use Rattle.std.proofs.lemmas.Bool.{and_from, and_parts}
+use Rattle.lists.specs.Choice.{pick}
+use Rattle.lists.specs.Search.{first_false}
 use Rattle.lists.proofs.Cases.{by_test}
 use Rattle.lists.proofs.Numbers.{below_at, at_below}
 use Rattle.lists.proofs.Rows.{length_from, get_or_from}
 use Rattle.lists.proofs.Search.{search_none, search_passes}
 use Rattle.field.specs.Fields.{add, sub, mul, inverse}
-use Rattle.field.proofs.Arithmetic.{Arithmetic, add_back, sub_is}
+use Rattle.field.proofs.Arithmetic.{Arithmetic, add_back, add_neg, sub_is}
 use Rattle.field.proofs.BothKinds.{arithmetic}
 use Rattle.field.proofs.Bounds.{mul_below}
 use Rattle.field.proofs.Inverse.{mul_inverse, inverse_below}
@@ -25,6 +27,7 @@ use Rattle.generator.specs.Shifts.{firsts}
 use Rattle.generator.specs.Generator.{entry}
 use Rattle.generator.proofs.Bounds.{entry_below}
 use Rattle.refusals.specs.Accepted.{IsLane}
+use Rattle.find_update.specs.declared.Finding.TheVariants.{Unchanged}
 use Rattle.find_update.specs.Finding.{finding_of}
 use Rattle.find_update.specs.Inner.Starts.{differences, row_starting, first_other, is_multiple, amount_in, update_in}
 use Rattle.find_update.proofs.Multiples.{Multiple, first_node, first_entry, row_is}
@@ -117,6 +120,25 @@ module _ (h : Header) (s : Sound h) where
         ∙ ap (λ (v : ℕ). sub p v (get_or us j 0)) (ap (λ (l : List ℕ). get_or l j 0) (sym e) ∙ get_or_added h s us before r x j node)
         ∙ difference_add (get_or us j 0) (mul p x (entry h r j)) (first_symbol j node) (mul_below p s.field low (entry_below h s r j))
 
+    -- the lanes are equal just where the difference is zero at every node
+    zero_equal : first_false h.n 0 (λ j. eqb (get_or ws j 0) 0) ≡ h.n → us ≡ vs
+    zero_equal e =
+        ext_get_or 0 us vs (before.long ∙ sym after.long)
+        (λ j l.
+        let node : j < h.n = omega (arith, before.long) in
+        let zero = eqb-true _ _ (search_passes h.n 0 (λ j. eqb (get_or ws j 0) 0) j (omega arith) (omega arith)) in
+        sym (laws.add-zero (get_or us j 0) (first_symbol j node))
+        ∙ ap (add p (get_or us j 0)) (sym zero ∙ get_or_differences j node)
+        ∙ add_difference (get_or us j 0) (get_or vs j 0) (first_symbol j node) (second_symbol j node))
+
+    equal_zero : us ≡ vs → first_false h.n 0 (λ j. eqb (get_or ws j 0) 0) ≡ h.n
+    equal_zero e =
+        search_none h.n 0 _
+        (λ j low high.
+        let node : j < h.n = omega arith in
+        eq-eqb _ 0 (get_or_differences j node ∙ ap (λ (l : List ℕ). sub p (get_or l j 0) (get_or us j 0)) (sym e) ∙ sub_is laws _ _ (first_symbol j node) (first_symbol j node) ∙ add_neg laws _ (first_symbol j node)))
+        ∙ zero-add h.n
+
     -- the row that it begins with
     abbrev row : ℕ
     row = row_starting h ws
@@ -151,3 +173,10 @@ module _ (h : Header) (s : Sound h) where
           let same = same_all_lem ws row (amount_in h ws row) (eqb-true _ h.n (and_parts (ltb row h.k) _ t).1) in
           rw t (finding_added h s us vs before after apart row (amount_in h ws row) low (amount_symbol ws differences_lane row low) (multiple_leads row (amount_in h ws row) same)))
           (λ t. rw t ((finds h s us vs before after).none.1 (apart, λ r x low small e. true≢false (sym (passes r x low small e) ∙ t))))
+
+    -- the finding, from the difference alone
+    pub finding_is : finding_of h us vs ≡ pick (eqb (first_false h.n 0 (λ j. eqb (get_or ws j 0) 0)) h.n) Unchanged (update_in h ws)
+    finding_is =
+        by_test (eqb (first_false h.n 0 (λ j. eqb (get_or ws j 0) 0)) h.n)
+        (λ t. rw t ((finds h s us vs before after).unchanged.1 (zero_equal (eqb-true _ h.n t))))
+        (λ t. rw t (update_found (λ e. eqb-false _ h.n t (equal_zero e))))

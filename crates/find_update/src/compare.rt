@@ -6,8 +6,7 @@ ghost use Rattle.plan.specs.Plans.{plan_of};
 ghost use Rattle.refusals.specs.Accepted.{IsLane};
 ghost use Rattle.find_update.specs.Inner.Starts.{amount_in, differences, is_multiple};
 
-use field::lent::Arithmetic;
-use generator::Code;
+use generator::{Code, Codec};
 use plan::Plan;
 
 // What was added at each node: after less before.
@@ -23,39 +22,37 @@ pub fn difference(code: Code, before: &[u16], after: &[u16]) -> [u16; 255]
     out
 }
 
-// A difference of two lanes, the field in which its code reckons, and the plan with whose rows it is compared.
+// A difference of two lanes of a code, and the plan with whose rows it is compared.
 #[derive(Clone, Copy)]
 pub struct LaneDifference<'a> {
-    pub code: Code,
-    pub field: Arithmetic<'a>,
+    pub codec: Codec<'a>,
     pub plan: &'a Plan,
     pub symbols: &'a [u16],
-    pub ghost same: { field.field ≡ code.header.field },
-    pub ghost planned: { plan.now ≡ plan_of code.header },
-    pub ghost lane: { IsLane code.header symbols.now },
+    pub ghost planned: { plan.now ≡ plan_of codec.code.header },
+    pub ghost lane: { IsLane codec.code.header symbols.now },
 }
 
 impl LaneDifference<'_> {
     // What was added at the first node of a row, over the row's entry there, which is the first of the base word.
     pub fn amount(self, row: usize) -> u32
-        requires { row < self.code.header.k }
-        ensures { result ≡ amount_in self.entry.code.header self.entry.symbols.now row }
+        requires { row < self.codec.code.header.k }
+        ensures { result ≡ amount_in self.entry.codec.code.header self.entry.symbols.now row }
     {
         let first = self.plan.firsts[row] as usize;
-        let over = self.field.inverse(self.plan.base[0] as u32);
-        self.field.mul(self.symbols[first] as u32, over)
+        let over = self.codec.field.inverse(self.plan.base[0] as u32);
+        self.codec.field.mul(self.symbols[first] as u32, over)
     }
 
     // Whether the difference is x times the row.
     pub fn is_multiple(self, row: usize, x: u32) -> bool
-        requires { (row < self.code.header.k) × (x < size self.code.header) }
-        ensures { result ≡ is_multiple self.entry.code.header self.entry.symbols.now row x }
+        requires { (row < self.codec.code.header.k) × (x < size self.codec.code.header) }
+        ensures { result ≡ is_multiple self.entry.codec.code.header self.entry.symbols.now row x }
     {
-        let n = self.code.header.n as usize;
+        let n = self.codec.code.header.n as usize;
         let shift = self.plan.shifts[row] as usize;
         for j in 0..n {
             let entry = plan::entry_at(n, shift, &self.plan.base, j);
-            if !self.field.is_product(x, entry, self.symbols[j]) {
+            if !self.codec.field.is_product(x, entry, self.symbols[j]) {
                 return false;
             }
         }

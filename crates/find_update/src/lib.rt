@@ -9,8 +9,7 @@ ghost use Rattle.find_update.specs.Inner.Starts.{update_in};
 ghost use Rattle.find_update.specs.Promise.{find_fault, FindPromise, FindSays};
 
 use compare::LaneDifference;
-use field::lent::Arithmetic;
-use generator::{Code, Refusal};
+use generator::{Code, Codec, Refusal};
 use refusals::{lane_length_bad, symbols_bad};
 
 mod compare;
@@ -27,7 +26,7 @@ pub enum Finding {
 impl LaneDifference<'_> {
     // The update that the difference is of, where it is not zero at some node.
     fn update(self) -> Finding
-        ensures { result ≡ update_in self.entry.code.header self.entry.symbols.now }
+        ensures { result ≡ update_in self.entry.codec.code.header self.entry.symbols.now }
     {
         let Some(row) = self.row() else {
             return Finding::NoSingleUpdate;
@@ -51,12 +50,10 @@ fn find(code: Code, before: &[u16], after: &[u16]) -> Finding
     }
     let n = code.header.n as usize;
     let tables = field::constant_tables();
-    let field = Arithmetic::new(code.header.field, &tables);
     let symbols = compare::difference(code, before, after);
     let plan = plan::plan_of(code);
     let difference = LaneDifference {
-        code,
-        field,
+        codec: Codec::new(code, &tables),
         plan: &plan,
         symbols: &symbols[..n],
     };

@@ -17,9 +17,9 @@ fn begins_at(k: u8, first: usize, difference: &[u16]) -> bool
 impl LaneDifference<'_> {
     // The least row that the difference begins with.
     pub(crate) fn row(self) -> Option<usize>
-        ensures { let h = self.entry.code.header in MatchOption result (row_starting h self.entry.symbols.now ≡ h.k) (λ r. (r < h.k) × (row_starting h self.entry.symbols.now ≡ r)) }
+        ensures { let h = self.entry.codec.code.header in MatchOption result (row_starting h self.entry.symbols.now ≡ h.k) (λ r. (r < h.k) × (row_starting h self.entry.symbols.now ≡ r)) }
     {
-        let k = self.code.header.k;
+        let k = self.codec.code.header.k;
         for r in 0..k as usize {
             let first = self.plan.firsts[r] as usize;
             if begins_at(k, first, self.symbols) {

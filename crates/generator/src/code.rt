@@ -37,7 +37,7 @@ impl Code {
 pub struct Codec<'a> {
     pub code: Code,
     pub field: Arithmetic<'a>,
-    ghost same: { field.field ≡ code.header.field },
+    pub ghost same: { field.field ≡ code.header.field },
 }
 
 impl<'a> Codec<'a> {

@@ -31,10 +31,10 @@ slice_bounds-difference-end c =
 pub invariant_of-difference-clause-lane : goal.invariant_of-difference-clause-lane
 invariant_of-difference-clause-lane c =
     let (us, vs) = c.requires in
-    rw (part (goal.at.invariant_of-difference-clause-lane c).After-difference-symbols) (differences_lane _ c.args.code.sound _ _ us vs)
+    rw (c.new.ensures, part (goal.at.invariant_of-difference-clause-lane c).After-difference-symbols) (differences_lane _ c.args.code.sound _ _ us vs)
 
 pub returns : goal.returns
 returns c =
     let (us, vs) = c.requires in
     let apart : c.args.before.now ≡ c.args.after.now → ⊥ = λ e. true≢false (sym ((bytes_decides _ _).1 e) ∙ sym c.eq.ensures ∙ c.if-eq.false) in
-    c.update.ensures ∙ rw (part (goal.at.returns c).After-difference-symbols) (sym (update_found _ c.args.code.sound _ _ us vs apart))
+    c.update.ensures ∙ rw (c.new.ensures, part (goal.at.returns c).After-difference-symbols) (sym (update_found _ c.args.code.sound _ _ us vs apart))

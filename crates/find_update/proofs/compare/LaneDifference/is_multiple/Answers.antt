@@ -19,19 +19,19 @@ use Rattle.find_update.proofs.compare.LaneDifference.is_multiple.Goals.{After-en
 
 -- the entry that is read is the generator's
 read : (c : After-entry_at-entry)
-    → c.entry_at-entry.result ≡ entry c.args.self.code.header c.args.row c.loop-j.j
+    → c.entry_at-entry.result ≡ entry c.args.self.codec.code.header c.args.row c.loop-j.j
 read c =
-    let sound = c.args.self.code.sound in
+    let sound = c.args.self.codec.code.sound in
     let (row, factor) = c.requires in
     c.entry_at-entry.ensures ∙ rw c.args.self.planned (entry_read _ sound _ _ row c.loop-j-test.true)
 
 -- so the test is the comparison
 compared : (c : After-is_product)
     → let a = c.args in
-    c.is_product.result ≡ same a.self.code.header a.self.symbols.now a.row a.x c.loop-j.j
+    c.is_product.result ≡ same a.self.codec.code.header a.self.symbols.now a.row a.x c.loop-j.j
 compared c =
     let a = c.args in
-    c.is_product.ensures ∙ rw c.args.self.same (ap (λ (e : ℕ). eqb (get_or a.self.symbols.now c.loop-j.j 0) (mul (modulus_of a.self.code.header) a.x e)) (read (goal.at.After-is_product c).After-entry_at-entry))
+    c.is_product.ensures ∙ rw c.args.self.codec.same (ap (λ (e : ℕ). eqb (get_or a.self.symbols.now c.loop-j.j 0) (mul (modulus_of a.self.codec.code.header) a.x e)) (read (goal.at.After-is_product c).After-entry_at-entry))
 
 pub loop-j-init : goal.loop-j-init
 unfolding first_other
@@ -39,15 +39,15 @@ loop-j-init c = rw sub-zero
 
 pub entry_at-entry-requires : goal.entry_at-entry-requires
 entry_at-entry-requires c =
-    let sound = c.args.self.code.sound in
+    let sound = c.args.self.codec.code.sound in
     let (row, factor) = c.requires in
     (omega arith, rw c.args.self.planned (shift_below _ sound _ row), c.loop-j-test.true, rw c.args.self.planned (base_room _))
 
 pub is_product-requires : goal.is_product-requires
 is_product-requires c =
-    let sound = c.args.self.code.sound in
+    let sound = c.args.self.codec.code.sound in
     let (row, factor) = c.requires in
-    rw c.args.self.same (factor, rw (read (goal.at.is_product-requires c).After-entry_at-entry) (entry_below _ sound _ _))
+    rw c.args.self.codec.same (factor, rw (read (goal.at.is_product-requires c).After-entry_at-entry) (entry_below _ sound _ _))
 
 pub returns-then-not-is_product : goal.returns-then-not-is_product
 unfolding is_multiple
@@ -62,5 +62,5 @@ loop-j-preserved c =
 pub returns : goal.returns
 unfolding is_multiple
 returns c =
-    let end : c.args.self.code.header.n ≡ c.loop-j.j = omega (arith, c.loop-j.auto.j-end, c.loop-j-test.false) in
+    let end : c.args.self.codec.code.header.n ≡ c.loop-j.j = omega (arith, c.loop-j.auto.j-end, c.loop-j-test.false) in
     sym (eq-eqb _ _ (c.loop-j.invariant ∙ search_end _ _ _ c.loop-j-test.false ∙ sym end))

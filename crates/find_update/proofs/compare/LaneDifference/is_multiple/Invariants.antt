@@ -19,5 +19,5 @@ same h difference row x j = eqb (get_or difference j 0) (mul (modulus_of h) x (e
 
 abbrev pub invariant-loop-j : goal.invariant-loop-j
 invariant-loop-j l =
-    let h = l.fn.self.code.header in
+    let h = l.fn.self.codec.code.header in
     first_other h l.self.symbols.now l.row l.x ≡ first_false (l.n - l.j) l.j (same h l.self.symbols.now l.row l.x)

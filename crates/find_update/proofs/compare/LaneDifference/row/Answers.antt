@@ -15,9 +15,9 @@ use Rattle.find_update.proofs.compare.LaneDifference.row.Goals.{In-loop-r}
 -- the first node of row r
 first : (c : In-loop-r)
     → let a = c.args in
-    get_or a.self.plan.now.firsts c.loop-r.r 0 ≡ get_or (firsts a.self.code.header) c.loop-r.r 0
+    get_or a.self.plan.now.firsts c.loop-r.r 0 ≡ get_or (firsts a.self.codec.code.header) c.loop-r.r 0
 first c =
-    let sound = c.args.self.code.sound in
+    let sound = c.args.self.codec.code.sound in
     rw c.args.self.planned (first_in _ sound _ c.loop-r-test.true)
 
 pub loop-r-init : goal.loop-r-init
@@ -26,7 +26,7 @@ loop-r-init c = rw sub-zero
 
 pub begins_at-requires : goal.begins_at-requires
 begins_at-requires c =
-    let sound = c.args.self.code.sound in
+    let sound = c.args.self.codec.code.sound in
     rw (first (goal.at.begins_at-requires c).In-loop-r, c.args.self.lane.long) (first_node _ sound _ c.loop-r-test.true)
 
 pub returns-then-begins_at : goal.returns-then-begins_at
@@ -41,5 +41,5 @@ loop-r-preserved c =
 
 pub returns : goal.returns
 returns c =
-    let end : c.loop-r.r ≡ c.args.self.code.header.k = omega (arith, c.loop-r.auto.r-end, c.loop-r-test.false) in
+    let end : c.loop-r.r ≡ c.args.self.codec.code.header.k = omega (arith, c.loop-r.auto.r-end, c.loop-r-test.false) in
     c.loop-r.invariant ∙ search_end _ _ _ c.loop-r-test.false ∙ end

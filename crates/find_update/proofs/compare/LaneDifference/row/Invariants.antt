@@ -15,5 +15,5 @@ other h difference r = not (begins_at h.k difference (get_or (firsts h) r 0))
 
 abbrev pub invariant-loop-r : goal.invariant-loop-r
 invariant-loop-r l =
-    let h = l.fn.self.code.header in
+    let h = l.fn.self.codec.code.header in
     row_starting h l.self.symbols.now ≡ first_false (h.k - l.r) l.r (other h l.self.symbols.now)
