@@ -1,6 +1,5 @@
 -- The laws of the check sums, and of the powers of the root.
 pub mod FirstPowers
 pub mod Sums
-pub mod Sizes
 pub mod Prefix
 pub mod OneLane

@@ -7,10 +7,9 @@ ghost use Rattle.lists.specs.Padded.{padded};
 ghost use Rattle.layout.specs.Width.{bytes_of};
 ghost use Rattle.generator.specs.Records.{size, width};
 ghost use Rattle.generator.specs.Codewords.{is_word};
-ghost use Rattle.check_sums.specs.Inner.Powers.{powers_of};
 ghost use Rattle.check_sums.specs.Inner.Sums.{check_sums, power_bytes, power_rows};
 
-use crate::powers;
+use crate::powers::{self, RootPowers};
 use generator::Code;
 
 // The place of the next power: (i + step) modulo n.
@@ -30,23 +29,26 @@ fn byte_of(x: u16, last: bool) -> u8
     if last { low } else { high }
 }
 
-// Byte v of the w bytes of node j's factors in check sums 1, 2, ..
-fn fill_row(code: Code, w: usize, v: usize, powers: &[u16], j: usize, row: &mut [u8])
-    requires { (w ≡ width code.header) × (v < w) × (powers.now ≡ padded 255 (powers_of code.header)) × (j < code.header.n) }
-    ensures { row.new ≡ power_bytes code.header (length row.old) w v j }
-{
-    let h = code.header;
-    let n = h.n as usize;
-    let last = v + 1 == w;
-    let mut i = j;
-    for byte in row.iter_mut() {
-        *byte = byte_of(powers[i], last);
-        i = stepped(i, j, n);
+impl RootPowers<'_> {
+    // Byte v of the w bytes of node j's factors in check sums 1, 2, ..
+    fn fill_row(self, w: usize, v: usize, j: usize, row: &mut [u8])
+        requires { (w ≡ width self.code.header) × (v < w) × (j < self.code.header.n) }
+        ensures { row.new ≡ power_bytes self.entry.code.header (length row.old) w v j }
+    {
+        let h = self.code.header;
+        let powers = self.list;
+        let n = h.n as usize;
+        let last = v + 1 == w;
+        let mut i = j;
+        for byte in row.iter_mut() {
+            *byte = byte_of(powers[i], last);
+            i = stepped(i, j, n);
+        }
     }
 }
 
 // The rows of all nodes.
-pub fn fill_power_rows(code: Code, rows: &mut [u8])
+fn fill_power_rows(code: Code, rows: &mut [u8])
     requires { length rows.old ≡ width code.header * code.header.n * (code.header.n - code.header.k) }
     ensures { rows.new ≡ power_rows code.header }
 {
@@ -54,13 +56,17 @@ pub fn fill_power_rows(code: Code, rows: &mut [u8])
     let w = symbols::width_of(h);
     let count = w * h.n as usize;
     let checks = (h.n - h.k) as usize;
-    let table = powers::powers(code);
+    let list = powers::powers(code);
+    let powers = RootPowers { code, list: &list };
     for i in 0..count {
         let start = i * checks;
         let end = start + checks;
-        fill_row(code, w, i % w, &table, i / w, &mut rows[start..end]);
+        powers.fill_row(w, i % w, i / w, &mut rows[start..end]);
     }
 }
+
+// Room for the rows of powers of every code.
+pub const ROOM: usize = 130050;
 
 // A code and the rows of powers by which the check sums of its lanes are made.
 #[derive(Clone, Copy)]
@@ -70,59 +76,62 @@ pub struct PowerRows<'a> {
     pub ghost made: { rows.now ≡ power_rows code.header },
 }
 
-impl PowerRows<'_> {
-    // The check sums of a lane.
-    fn fill_sums(self, lane: &[u16], sums: &mut [u8])
-        requires { let h = self.code.header in (length lane.now ≡ h.n) × (all_below (size h) lane.now ≡ true) × (length sums.old ≡ width h * (h.n - h.k)) }
-        ensures { let h = self.entry.code.header in sums.new ≡ bytes_of (width h) (check_sums h lane.now) }
+impl<'a> PowerRows<'a> {
+    // Made in lent room: as the result of a call they would be copied.
+    pub fn new(code: Code, room: &'a mut [u8; ROOM]) -> PowerRows<'a>
+        ensures { result.code ≡ code }
     {
-        let h = self.code.header;
+        let h = code.header;
+        let size = symbols::width_of(h) * h.n as usize * (h.n - h.k) as usize;
+        let rows = &mut room[..size];
+        fill_power_rows(code, rows);
+        PowerRows { code, rows }
+    }
+}
+
+// A lane that was received: n symbols of the code, with the rows of powers by which its check sums are made.
+#[derive(Clone, Copy)]
+pub struct Lane<'r, 'l> {
+    pub rows: PowerRows<'r>,
+    pub symbols: &'l [u16],
+    pub ghost long: { length symbols.now ≡ rows.code.header.n },
+    pub ghost below: { all_below (size rows.code.header) symbols.now ≡ true },
+}
+
+impl Lane<'_, '_> {
+    // The check sums as bytes.
+    fn fill_sums(self, sums: &mut [u8])
+        requires { let h = self.rows.code.header in length sums.old ≡ width h * (h.n - h.k) }
+        ensures { let h = self.entry.rows.code.header in sums.new ≡ bytes_of (width h) (check_sums h self.entry.symbols.now) }
+    {
+        let h = self.rows.code.header;
         let checks = (h.n - h.k) as usize;
-        row_sums::combine_symbols(h.field, lane, checks, self.rows, sums);
+        row_sums::combine_symbols(h.field, self.symbols, checks, self.rows.rows, sums);
     }
 
-    // The check sums of a lane, and zeros after them.
-    // An array with zeros after: it is as long as the code's n or n − k say, so no length stands beside it.
-    pub fn sums(self, lane: &[u16]) -> [u16; 255]
-        requires { (length lane.now ≡ self.code.header.n) × (all_below (size self.code.header) lane.now ≡ true) }
-        ensures { result ≡ padded 255 (check_sums self.entry.code.header lane.now) }
+    // The check sums, and zeros after them.
+    // An array with zeros after: it is as long as the code's n − k says, so no length stands beside it.
+    pub fn sums(self) -> [u16; 255]
+        ensures { result ≡ padded 255 (check_sums self.entry.rows.code.header self.entry.symbols.now) }
     {
-        let h = self.code.header;
+        let h = self.rows.code.header;
         let w = symbols::width_of(h);
         let size = w * (h.n - h.k) as usize;
         let mut room = [0u8; 510];
         let sums = &mut room[..size];
-        self.fill_sums(lane, sums);
+        self.fill_sums(sums);
         symbols::read_symbols(w, sums)
     }
 
-    // Whether a lane is a word of the code.
-    pub fn is_word(self, lane: &[u16]) -> bool
-        requires { (length lane.now ≡ self.code.header.n) × (all_below (size self.code.header) lane.now ≡ true) }
-        ensures { result ≡ is_word self.entry.code.header lane.now }
+    // Whether the lane is a word of the code.
+    pub fn is_word(self) -> bool
+        ensures { result ≡ is_word self.entry.rows.code.header self.entry.symbols.now }
     {
-        let h = self.code.header;
+        let h = self.rows.code.header;
         let checks = (h.n - h.k) as usize;
-        let found = self.sums(lane);
+        let found = self.sums();
         all_zero(&found[..checks])
     }
-}
-
-// Room for the rows of powers of every code.
-pub const ROOM: usize = 130050;
-
-// The check sums of a lane, and zeros after them.
-pub fn sums(code: Code, lane: &[u16]) -> [u16; 255]
-    requires { (length lane.now ≡ code.header.n) × (all_below (size code.header) lane.now ≡ true) }
-    ensures { result ≡ padded 255 (check_sums code.header lane.now) }
-{
-    let h = code.header;
-    let w = symbols::width_of(h);
-    let size = w * h.n as usize * (h.n - h.k) as usize;
-    let mut room: [u8; ROOM] = kernel::filled(0);
-    let rows = &mut room[..size];
-    fill_power_rows(code, rows);
-    PowerRows { code, rows }.sums(lane)
 }
 
 // Whether every sum is 0.
@@ -130,15 +139,4 @@ pub fn all_zero(sums: &[u16]) -> bool
     ensures { result ≡ all_below 1 sums.now }
 {
     sums.iter().all(|sum| *sum == 0)
-}
-
-// Whether a lane is a word of the code.
-pub fn is_word(code: Code, lane: &[u16]) -> bool
-    requires { (length lane.now ≡ code.header.n) × (all_below (size code.header) lane.now ≡ true) }
-    ensures { result ≡ is_word code.header lane.now }
-{
-    let h = code.header;
-    let checks = (h.n - h.k) as usize;
-    let found = sums(code, lane);
-    all_zero(&found[..checks])
 }

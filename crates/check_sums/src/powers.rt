@@ -8,7 +8,8 @@ use field::Tables;
 use field::lent::Arithmetic;
 use generator::Code;
 
-// The powers of the root below its order, and zeros after them.
+// The powers of the root below its order, and zeros after them. The caller lends them to `RootPowers`.
+// An array with zeros after: it is as long as the code's n says, so no length stands beside it.
 pub fn powers(code: Code) -> [u16; 255]
     ensures { result ≡ padded 255 (powers_of code.header) }
 {
@@ -42,19 +43,31 @@ pub fn powers_with(code: Code, tables: &Tables) -> [u16; 255]
     out
 }
 
-// The nodes' factors in check sum e, root^(j·e) with the exponent modulo n, and zeros after them.
-pub fn factors(code: Code, powers: &[u16], e: usize) -> [u16; 255]
-    requires { (powers.now ≡ padded 255 (powers_of code.header)) × (e ≤ 255) }
-    ensures { result ≡ padded 255 (factors_of code.header e) }
-{
-    let h = code.header;
-    let n = h.n as usize;
-    let step = e % n;
-    let mut out = [0u16; 255];
-    let mut i: usize = 0;
-    for j in 0..n {
-        out[j] = powers[i];
-        i = stepped(i, step, n);
+// The powers of a code's root below its order, with zeros after them.
+#[derive(Clone, Copy)]
+pub struct RootPowers<'a> {
+    pub code: Code,
+    pub list: &'a [u16],
+    pub ghost are: { list.now ≡ padded 255 (powers_of code.header) },
+}
+
+impl RootPowers<'_> {
+    // The nodes' factors in check sum e, root^(j·e) with the exponent modulo n, and zeros after them.
+    // An array with zeros after: there is one for each node, so no length stands beside it.
+    pub fn factors(self, e: usize) -> [u16; 255]
+        requires { e ≤ 255 }
+        ensures { result ≡ padded 255 (factors_of self.entry.code.header e) }
+    {
+        let h = self.code.header;
+        let powers = self.list;
+        let n = h.n as usize;
+        let step = e % n;
+        let mut out = [0u16; 255];
+        let mut i: usize = 0;
+        for j in 0..n {
+            out[j] = powers[i];
+            i = stepped(i, step, n);
+        }
+        out
     }
-    out
 }

@@ -10,7 +10,7 @@ ghost use Rattle.correct.specs.Blocks.{corrected_bytes, corrected_count, far_bad
 ghost use Rattle.correct.specs.Promise.{correct_fault, CorrectPromise, CorrectSays};
 ghost use Rattle.correct.specs.Inner.Marked.{MarkedShares};
 
-use check_sums::lane::PowerRows;
+use check_sums::lane::{PowerRows, ROOM};
 use generator::{Code, Refusal};
 use wrong_lanes::Block;
 
@@ -67,12 +67,8 @@ fn correct_wrong(code: Code, marks: &[u8], shares: &mut [u8]) -> Result<u32, Ref
     requires { MarkedShares code.header (length marks.now) marks.now shares.old }
     ensures { CorrectPromise share_layout (length marks.now) shares.old shares.new (numbered result) code.header (when (far_bad share_layout code.header (length marks.now) shares.old) 14) }
 {
-    let h = code.header;
-    let size = symbols::width_of(h) * h.n as usize * (h.n - h.k) as usize;
-    let mut room: [u8; check_sums::lane::ROOM] = kernel::filled(0);
-    let rows = &mut room[..size];
-    check_sums::lane::fill_power_rows(code, rows);
-    let rows = PowerRows { code, rows };
+    let mut room: [u8; ROOM] = kernel::filled(0);
+    let rows = PowerRows::new(code, &mut room);
     Marked { rows, marks }.correct(shares)
 }
 

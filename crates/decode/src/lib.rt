@@ -11,7 +11,7 @@ ghost use Rattle.decode.specs.Inner.Locating.{Below};
 ghost use Rattle.decode.specs.Inner.Candidates.{SoundLane, WrongNodes, Candidate};
 
 use arrayvec::ArrayVec;
-use check_sums::lane::PowerRows;
+use check_sums::lane::{Lane, PowerRows};
 use field::Tables;
 use field::lent::Arithmetic;
 use generator::Code;
@@ -71,14 +71,22 @@ pub fn correct_lane(rows: PowerRows, lane: &[u16]) -> Option<Corrected>
     let h = rows.code.header;
     let n = h.n as usize;
     let t = ((h.n - h.k) / 2) as usize;
-    let sums = rows.sums(lane);
+    let sums = Lane {
+        rows,
+        symbols: lane,
+    }
+    .sums();
     let tables = field::constant_tables();
     let word = candidate(rows.code, &tables, lane, sums);
     let altered = differing(lane, &word[..n]);
     if t < altered {
         return None;
     }
-    if rows.is_word(&word[..n]) {
+    let nearest = Lane {
+        rows,
+        symbols: &word[..n],
+    };
+    if nearest.is_word() {
         return Some(Corrected {
             lane: word,
             altered,

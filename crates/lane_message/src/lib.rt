@@ -14,7 +14,8 @@ mod rounds;
 mod rows;
 mod sums;
 
-use check_sums::{lane, powers};
+use check_sums::lane;
+use check_sums::powers::{self, RootPowers};
 use field::Tables;
 use field::lent::Arithmetic;
 use generator::{Code, Refusal};
@@ -22,13 +23,13 @@ use interpolation::lagrange::Points;
 use rows::GeneratorRows;
 use spectrum::Transform;
 
-impl GeneratorRows<'_> {
+impl GeneratorRows<'_, '_> {
     // Symbol r of a word's message: the sum of the coefficients of its polynomial times the row's terms, times the row's scale. The spectrum has n times each coefficient.
     fn symbol(self, spectrum: &[u16], r: usize) -> u32
-        requires { (length spectrum.now ≡ self.transform.code.header.n) × (all_below (size self.transform.code.header) spectrum.now ≡ true) × (r < self.transform.code.header.k) }
-        ensures { let h = self.entry.transform.code.header in result ≡ symbol_from h r (coefficients_of h spectrum.now) }
+        requires { (length spectrum.now ≡ self.transform.powers.code.header.n) × (all_below (size self.transform.powers.code.header) spectrum.now ≡ true) × (r < self.transform.powers.code.header.k) }
+        ensures { let h = self.entry.transform.powers.code.header in result ≡ symbol_from h r (coefficients_of h spectrum.now) }
     {
-        let h = self.transform.code.header;
+        let h = self.transform.powers.code.header;
         let field = self.transform.field;
         let n = h.n as usize;
         let k = h.k as usize;
@@ -46,16 +47,16 @@ impl GeneratorRows<'_> {
         field.mul(scale, part)
     }
 
-    // Judges a lane for an update of symbol r from `old`.
-    fn judge(self, lane: &[u16], r: usize, old: u32) -> Result<(), Refusal>
-        requires { (length lane.now ≡ self.transform.code.header.n) × (all_below (size self.transform.code.header) lane.now ≡ true) × (r < self.transform.code.header.k) }
-        ensures { numbered result ≡ outcome_of (stale_fault self.entry.transform.code.header lane.now r old) }
+    // Judges the lane for an update of symbol r from `old`.
+    fn judge(self, r: usize, old: u32) -> Result<(), Refusal>
+        requires { r < self.transform.powers.code.header.k }
+        ensures { let t = self.entry.transform in numbered result ≡ outcome_of (stale_fault t.powers.code.header t.lane.now r old) }
     {
-        let h = self.transform.code.header;
+        let h = self.transform.powers.code.header;
         let n = h.n as usize;
         let first: usize = 1;
         let end = (h.n - h.k) as usize + 1;
-        let spectrum = self.transform.spectrum(lane);
+        let spectrum = self.transform.spectrum();
         let word = lane::all_zero(&spectrum[first..end]);
         let symbol = self.symbol(&spectrum[..n], r);
         Refusal::Word.when(!word)?;
@@ -68,7 +69,7 @@ pub fn stale_fault<'a>(
     code: Code,
     tables: &'a Tables,
     shifts: &'a [u8],
-    lane: &[u16],
+    lane: &'a [u16],
     r: usize,
     old: u32,
 ) -> Result<(), Refusal>
@@ -76,11 +77,12 @@ pub fn stale_fault<'a>(
     ensures { numbered result ≡ outcome_of (stale_fault code.header lane.now r old) }
 {
     let field = Arithmetic::new(code.header.field, tables);
-    let powers = powers::powers_with(code, tables);
+    let list = powers::powers_with(code, tables);
+    let powers = RootPowers { code, list: &list };
     let transform = Transform {
-        code,
+        powers,
         field,
-        powers: &powers,
+        lane,
     };
-    GeneratorRows { transform, shifts }.judge(lane, r, old)
+    GeneratorRows { transform, shifts }.judge(r, old)
 }

@@ -14,10 +14,10 @@ use spectrum::Transform;
 
 // The rows by their shifts, with zeros after them, over the transform of their code.
 #[derive(Clone, Copy)]
-pub struct GeneratorRows<'a> {
-    pub transform: Transform<'a>,
+pub struct GeneratorRows<'p, 'a> {
+    pub transform: Transform<'p, 'a>,
     pub shifts: &'a [u8],
-    pub ghost shifts_are: { shifts.now ≡ padded 255 (shifts_of transform.code.header.n transform.code.header.k) },
+    pub ghost shifts_are: { shifts.now ≡ padded 255 (shifts_of transform.powers.code.header.n transform.powers.code.header.k) },
 }
 
 // The step from a coefficient's inverse to that of the one below it: (root^k − y) / (root^(k−1)·(1 − y)), where y is root^c for coefficient c.
@@ -31,14 +31,14 @@ fn step_ratio(field: Arithmetic, top: u32, scale: u32, y: u32) -> u32
     field.mul(field.sub(top, y), over)
 }
 
-impl GeneratorRows<'_> {
+impl GeneratorRows<'_, '_> {
     // The points root^(shift + k − 1) of the rows, and zeros after them.
     // An array with zeros after: there is one for each row, so no length stands beside it.
     pub fn points(self) -> [u16; 255]
-        ensures { result ≡ padded 255 (row_points self.entry.transform.code.header) }
+        ensures { result ≡ padded 255 (row_points self.entry.transform.powers.code.header) }
     {
-        let h = self.transform.code.header;
-        let powers = self.transform.powers;
+        let h = self.transform.powers.code.header;
+        let powers = self.transform.powers.list;
         let n = h.n as usize;
         let k = h.k as usize;
         let mut out = [0u16; 255];
@@ -51,11 +51,11 @@ impl GeneratorRows<'_> {
 
     // 1 over the coefficients of the base polynomial, from the highest down, and zeros after them.
     fn base_inverses(self) -> [u16; 255]
-        ensures { result ≡ padded 255 (base_inverses self.entry.transform.code.header) }
+        ensures { result ≡ padded 255 (base_inverses self.entry.transform.powers.code.header) }
     {
-        let h = self.transform.code.header;
+        let h = self.transform.powers.code.header;
         let field = self.transform.field;
-        let powers = self.transform.powers;
+        let powers = self.transform.powers.list;
         let top = powers[h.k as usize % h.n as usize] as u32;
         let mut out = [0u16; 255];
         let highest = h.k as usize - 1;
@@ -72,14 +72,14 @@ impl GeneratorRows<'_> {
 
     // The terms of row r: the coefficients of the product over the points of the other rows, each over that of the base polynomial; and zeros after them.
     pub fn terms(self, points: &[u16], r: usize) -> [u16; 255]
-        requires { (points.now ≡ row_points self.transform.code.header) × (r < self.transform.code.header.k) }
-        ensures { result ≡ padded 255 (row_terms self.entry.transform.code.header r) }
+        requires { (points.now ≡ row_points self.transform.powers.code.header) × (r < self.transform.powers.code.header.k) }
+        ensures { result ≡ padded 255 (row_terms self.entry.transform.powers.code.header r) }
     {
         let product = self.product(points);
         let base = self.base_inverses();
         let tables = self.transform.field.tables;
         node_weights::terms_at(
-            self.transform.code,
+            self.transform.powers.code,
             tables,
             &product,
             &base,

@@ -5,32 +5,30 @@ ghost use Rattle.lists.specs.Numbers.{all_below};
 ghost use Rattle.lists.specs.Padded.{padded};
 ghost use Rattle.layout.specs.Width.{bytes_of};
 ghost use Rattle.generator.specs.Records.{modulus_of, size, width};
-ghost use Rattle.check_sums.specs.Inner.Powers.{powers_of};
 ghost use Rattle.mends.specs.Inner.BySums.{LaneSums, goes_up, up_nodes, mended_at};
 ghost use Rattle.mends.specs.Promise.{in_front};
 
 use arrayvec::ArrayVec;
+use check_sums::powers::{self, RootPowers};
 use field::lent::Arithmetic;
 use generator::Code;
 
-// A lane that was received and is no word: its check sums, the field in which its code reckons, and the powers of the root below its order, with zeros after them.
+// A lane that was received and is no word: the powers of the code's root, the field in which the code reckons, and the lane with its check sums.
 #[derive(Clone, Copy)]
 struct Received<'a, 'b> {
-    code: Code,
+    powers: RootPowers<'a>,
     field: Arithmetic<'a>,
-    powers: &'a [u16],
     lane: &'b [u16],
     sums: &'b [u16],
-    ghost same: { field.field ≡ code.header.field },
-    ghost powers_are: { powers.now ≡ padded 255 (powers_of code.header) },
-    ghost summed: { LaneSums code.header lane.now sums.now },
+    ghost same: { field.field ≡ powers.code.header.field },
+    ghost summed: { LaneSums powers.code.header lane.now sums.now },
 }
 
 impl Received<'_, '_> {
     // Whether each check sum is c times the one before it. By a `for`: `all` over a range left two goals here, whose proofs were no shorter.
     fn goes_up(self, c: u32) -> bool
-        requires { c < size self.code.header }
-        ensures { result ≡ goes_up (modulus_of self.entry.code.header) c self.entry.sums.now }
+        requires { c < size self.powers.code.header }
+        ensures { result ≡ goes_up (modulus_of self.entry.powers.code.header) c self.entry.sums.now }
     {
         let sums = self.sums;
         let last = sums.len() - 1;
@@ -44,12 +42,12 @@ impl Received<'_, '_> {
 
     // The nodes j for which the check sums go up by root^j, rising.
     fn up_nodes(self) -> ArrayVec<u8, 255>
-        ensures { result.items ≡ up_nodes self.entry.code.header self.entry.sums.now }
+        ensures { result.items ≡ up_nodes self.entry.powers.code.header self.entry.sums.now }
     {
-        let n = self.code.header.n;
+        let n = self.powers.code.header.n;
         let mut nodes = ArrayVec::new();
         for j in 0..n {
-            if self.goes_up(self.powers[j as usize] as u32) {
+            if self.goes_up(self.powers.list[j as usize] as u32) {
                 nodes.push(j);
             }
         }
@@ -58,12 +56,12 @@ impl Received<'_, '_> {
 
     // The new symbol of node j: what it holds less the first check sum over root^j.
     fn mended(self, j: usize) -> u16
-        requires { j < self.code.header.n }
-        ensures { result ≡ mended_at self.entry.code.header self.entry.lane.now self.entry.sums.now j }
+        requires { j < self.powers.code.header.n }
+        ensures { result ≡ mended_at self.entry.powers.code.header self.entry.lane.now self.entry.sums.now j }
     {
-        let n = self.code.header.n as usize;
+        let n = self.powers.code.header.n as usize;
         let back = (n - j) % n;
-        let over = self.powers[back] as u32;
+        let over = self.powers.list[back] as u32;
         let amount = self.field.mul(self.sums[0] as u32, over);
         self.field.sub(self.lane[j] as u32, amount) as u16
     }
@@ -71,8 +69,8 @@ impl Received<'_, '_> {
     // The new symbols of the listed nodes, and zeros after them.
     // An array with zeros after: it is as long as the list that it is made from, so no length stands beside it.
     fn new_symbols(self, nodes: &[u8]) -> [u16; 255]
-        requires { (all_below self.code.header.n nodes.now ≡ true) × (length nodes.now ≤ 255) }
-        ensures { result ≡ padded 255 (map (mended_at self.entry.code.header self.entry.lane.now self.entry.sums.now) nodes.now) }
+        requires { (all_below self.powers.code.header.n nodes.now ≡ true) × (length nodes.now ≤ 255) }
+        ensures { result ≡ padded 255 (map (mended_at self.entry.powers.code.header self.entry.lane.now self.entry.sums.now) nodes.now) }
     {
         let mut out = [0u16; 255];
         for i in 0..nodes.len() {
@@ -106,11 +104,11 @@ pub fn list<'a>(
 {
     let tables = field::constant_tables();
     let field = Arithmetic::new(code.header.field, &tables);
-    let powers = check_sums::powers::powers_with(code, &tables);
+    let list = powers::powers_with(code, &tables);
+    let powers = RootPowers { code, list: &list };
     let received = Received {
-        code,
+        powers,
         field,
-        powers: &powers,
         lane,
         sums,
     };

@@ -9,6 +9,7 @@ ghost use Rattle.refusals.specs.Accepted.{IsLane};
 ghost use Rattle.mends.specs.Mends.{mend_nodes, mend_symbols};
 ghost use Rattle.mends.specs.Promise.{in_front, mends_fault, MendsPromise, MendsSay};
 
+use check_sums::lane::{self, Lane, PowerRows, ROOM};
 use generator::{Code, Refusal};
 use refusals::{lane_length_bad, length_bad, symbols_bad};
 
@@ -20,8 +21,14 @@ fn list_mends(code: Code, lane: &[u16], nodes: &mut [u8], symbols: &mut [u8]) ->
     ensures { (result ≡ length (mend_nodes code.header lane.now)) × (nodes.new ≡ in_front (mend_nodes code.header lane.now) nodes.old) × (symbols.new ≡ in_front (bytes_of (width code.header) (mend_symbols code.header lane.now)) symbols.old) }
 {
     let checks = (code.header.n - code.header.k) as usize;
-    let sums = check_sums::lane::sums(code, lane);
-    if check_sums::lane::all_zero(&sums[..checks]) {
+    let mut room: [u8; ROOM] = kernel::filled(0);
+    let rows = PowerRows::new(code, &mut room);
+    let sums = Lane {
+        rows,
+        symbols: lane,
+    }
+    .sums();
+    if lane::all_zero(&sums[..checks]) {
         return 0;
     }
     changes::list(code, lane, &sums[..checks], nodes, symbols)

@@ -1,12 +1,11 @@
 // The numbers of one node and one target.
 ghost use Rattle.std.specs.Prelude.{◌≡◌, true, ◌<◌};
 ghost use Rattle.lists.specs.Numbers.{all_below};
-ghost use Rattle.lists.specs.Padded.{padded};
 ghost use Rattle.generator.specs.Records.{modulus_of, size};
-ghost use Rattle.check_sums.specs.Inner.Powers.{powers_of};
 ghost use Rattle.traces.specs.Repairs.{ratio, offset, erasing, eraser, factor};
 
 use crate::bits::Bits;
+use check_sums::powers::RootPowers;
 use field::lent::Arithmetic;
 use field::{Field, Tables};
 use generator::Code;
@@ -58,12 +57,12 @@ impl<'a> Target<'a> {
     }
 
     // The same by the powers of the root, for many nodes.
-    pub fn offset_from(self, powers: &[u16], node: usize) -> u32
-        requires { (node < self.code.header.n) × (powers.now ≡ padded 255 (powers_of self.code.header)) }
+    pub fn offset_from(self, powers: RootPowers, node: usize) -> u32
+        requires { (powers.code ≡ self.code) × (node < self.code.header.n) }
         ensures { result ≡ offset self.entry.code.header self.entry.node node }
     {
         let n = self.code.header.n as usize;
-        let u = powers[(node + (n - self.node as usize)) % n] as u32;
+        let u = powers.list[(node + (n - self.node as usize)) % n] as u32;
         self.field.sub(u, 1)
     }
 

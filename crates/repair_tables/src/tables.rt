@@ -6,7 +6,6 @@ ghost use Rattle.lists.specs.Numbers.{all_below};
 ghost use Rattle.lists.specs.Padded.{padded};
 ghost use Rattle.field.specs.Fields.{mul};
 ghost use Rattle.generator.specs.Records.{modulus_of};
-ghost use Rattle.check_sums.specs.Inner.Powers.{powers_of};
 ghost use Rattle.traces.specs.Traces.{trace_of};
 ghost use Rattle.traces.specs.Repairs.{bits, senders, sent_digit};
 ghost use Rattle.repair_tables.specs.Bits.{bit_count};
@@ -15,6 +14,7 @@ ghost use Rattle.repair_tables.specs.Inner.Weights.{bit_weight};
 use crate::bits::Bits;
 use crate::nodes::Target;
 use crate::senders::list_senders;
+use check_sums::powers::{self, RootPowers};
 use generator::Code;
 
 // The sums of two rows of 16: of the entry for the lower four bits and the entry for the upper four.
@@ -52,8 +52,8 @@ impl Target<'_> {
     }
 
     // The weight of bit q of all senders' digits.
-    fn weight(self, powers: &[u16], senders: &[u8], q: usize) -> u8
-        requires { (all_below self.code.header.n senders.now ≡ true) × (q < length senders.now * bit_count self.bits) × (powers.now ≡ padded 255 (powers_of self.code.header)) }
+    fn weight(self, powers: RootPowers, senders: &[u8], q: usize) -> u8
+        requires { (powers.code ≡ self.code) × (all_below self.code.header.n senders.now ≡ true) × (q < length senders.now * bit_count self.bits) }
         ensures { result ≡ bit_weight self.entry.code.header (bit_count self.entry.bits) self.entry.node senders.now q }
     {
         let b = self.bits.count() as usize;
@@ -64,15 +64,20 @@ impl Target<'_> {
     }
 
     // The weights of the bits of all senders' digits, with zeros after the last.
+    // An array with zeros after: there is a weight for each bit, so no length stands beside it.
     fn list_weights(self, senders: &[u8]) -> [u8; 1020]
         requires { (all_below self.code.header.n senders.now ≡ true) × (length senders.now ≤ 255) }
         ensures { result ≡ padded 1020 (from (bit_weight self.entry.code.header (bit_count self.entry.bits) self.entry.node senders.now) 0 (length senders.now * bit_count self.entry.bits)) }
     {
-        let powers = check_sums::powers::powers_with(self.code, self.field.tables);
+        let list = powers::powers_with(self.code, self.field.tables);
+        let powers = RootPowers {
+            code: self.code,
+            list: &list,
+        };
         let count = senders.len() * self.bits.count() as usize;
         let mut table = [0u8; 1020];
         for q in 0..count {
-            table[q] = self.weight(&powers, senders, q);
+            table[q] = self.weight(powers, senders, q);
         }
         table
     }

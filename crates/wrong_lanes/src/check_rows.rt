@@ -4,27 +4,22 @@ ghost use Rattle.lists.specs.Padded.{padded};
 ghost use Rattle.field.specs.Fields.{sub};
 ghost use Rattle.generator.specs.Records.{modulus_of};
 ghost use Rattle.interpolation.specs.Inner.Lagrange.{scales_of};
-ghost use Rattle.check_sums.specs.Inner.Powers.{powers_of};
 ghost use Rattle.wrong_lanes.specs.Inner.Checks.{first_points, first_weights, CheckLists, CheckRoom};
 
-use check_sums::powers;
+use check_sums::powers::{self, RootPowers};
 use field::lent::Arithmetic;
 use generator::Code;
 use interpolation::lagrange::Points;
 use tile_products::WeightCodes;
 
 // The weights of check e: those by which the first k nodes give node k + e, −1 there, and zeros after them.
-fn check_weights(
-    code: Code,
-    field: Arithmetic,
-    roots: &[u16],
-    scales: &[u16],
-    e: usize,
-) -> [u16; 255]
-    requires { (field.field ≡ code.header.field) × (roots.now ≡ padded 255 (powers_of code.header)) × (scales.now ≡ scales_of (modulus_of code.header) (first_points code.header)) × (e < code.header.n - code.header.k) }
-    ensures { result ≡ set (padded 255 (first_weights code.header e)) (code.header.k + e) (sub (modulus_of code.header) 0 1) }
+// An array with zeros after: there is one for each node, so no length stands beside it.
+fn check_weights(powers: RootPowers, field: Arithmetic, scales: &[u16], e: usize) -> [u16; 255]
+    requires { let h = powers.code.header in (field.field ≡ h.field) × (scales.now ≡ scales_of (modulus_of h) (first_points h)) × (e < h.n - h.k) }
+    ensures { let h = powers.entry.code.header in result ≡ set (padded 255 (first_weights h e)) (h.k + e) (sub (modulus_of h) 0 1) }
 {
-    let k = code.header.k as usize;
+    let roots = powers.list;
+    let k = powers.code.header.k as usize;
     let at = k + e;
     let z = roots[at] as u32;
     let points = Points {
@@ -50,13 +45,14 @@ fn list_nodes(code: Code, lists: &mut [u16], counts: &mut [u8])
     let t = field::constant_tables();
     let field = Arithmetic::new(h.field, &t);
     let roots = powers::powers(code);
+    let powers = RootPowers { code, list: &roots };
     let points = Points {
         field,
         points: &roots[..k],
     };
     let scales = points.scales();
     for e in 0..checks {
-        let weights = check_weights(code, field, &roots, &scales[..k], e);
+        let weights = check_weights(powers, field, &scales[..k], e);
         codes.prepare(&weights[..n], e, lists, counts);
     }
 }
@@ -71,9 +67,10 @@ fn list_sums(code: Code, lists: &mut [u16], counts: &mut [u8])
     let checks = (h.n - h.k) as usize;
     let mut codes: [u64; 256] = kernel::filled(0);
     let codes = WeightCodes::new(h.field, &mut codes);
-    let table = powers::powers(code);
+    let list = powers::powers(code);
+    let powers = RootPowers { code, list: &list };
     for e in 0..checks {
-        let weights = powers::factors(code, &table, e + 1);
+        let weights = powers.factors(e + 1);
         codes.prepare(&weights[..n], e, lists, counts);
     }
 }

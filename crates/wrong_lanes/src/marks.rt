@@ -11,7 +11,7 @@ ghost use Rattle.wrong_lanes.specs.Inner.Checks.{check_product, CheckRoom};
 use crate::Block;
 use crate::check_rows::list_checks;
 use block_products::{Product, Way};
-use check_sums::lane;
+use check_sums::lane::{Lane, PowerRows, ROOM};
 use tile_products::scratch::{
     LARGE_COUNTS, LARGE_LISTS, MIDDLE_COUNTS, MIDDLE_LISTS, SMALL_COUNTS, SMALL_LISTS,
 };
@@ -25,8 +25,13 @@ impl Block<'_> {
         let h = self.code.header;
         let n = h.n as usize;
         let values = symbols::read_symbols(symbols::width_of(h), self.shares);
-        let word = lane::is_word(self.code, &values[..n]);
-        marks[0] = u8::from(!word);
+        let mut room: [u8; ROOM] = kernel::filled(0);
+        let rows = PowerRows::new(self.code, &mut room);
+        let lane = Lane {
+            rows,
+            symbols: &values[..n],
+        };
+        marks[0] = u8::from(!lane.is_word());
     }
 
     // The product of the checks and the lanes.

@@ -16,8 +16,8 @@ word c = let k = c.candidate-word.ensures in rw k.array_is (take_padded 255 _ k.
 word_long : (c : After-candidate-word) → c.args.rows.code.header.n ≡ length (take c.args.rows.code.header.n c.candidate-word.result)
 word_long c = sym (ap length (word c) ∙ c.candidate-word.ensures.long)
 
-pub sums-sums-requires : goal.sums-sums-requires
-sums-sums-requires c = (c.requires.long, c.requires.below)
+pub invariant_of-sums : goal.invariant_of-sums
+invariant_of-sums c = record { long = c.requires.long; below = c.requires.below }
 
 pub candidate-word-requires : goal.candidate-word-requires
 candidate-word-requires c = (c.requires, c.sums-sums.ensures)
@@ -41,10 +41,10 @@ returns-then-t-altered c =
     let k = c.candidate-word in
     says_far c.args.rows.code.header c.args.lane.now k.result c.requires k.ensures (rw (← distance (goal.at.returns-then-t-altered c).After-differing-altered) c.if-t-altered.true)
 
-pub is_word-requires : goal.is_word-requires
-is_word-requires c =
+pub invariant_of-nearest : goal.invariant_of-nearest
+invariant_of-nearest c =
     let k = c.candidate-word.ensures in
-    rw (word (goal.at.is_word-requires c).After-candidate-word) (k.long, k.below)
+    rw (word (goal.at.invariant_of-nearest c).After-candidate-word) record { long = k.long; below = k.below }
 
 pub returns-then-is_word : goal.returns-then-is_word
 unfolding radius

@@ -16,7 +16,7 @@ use Rattle.mends.proofs.list_mends.Goals.{After-all_zero, After-sums-sums}
 part : (c : After-sums-sums)
     → let a = c.args in
     take (a.code.header.n - a.code.header.k) c.sums-sums.result ≡ check_sums a.code.header a.lane.now
-part c = rw c.sums-sums.ensures (take_padded 255 _ _ (length_sums _ _))
+part c = rw (c.sums-sums.ensures, c.new-rows.ensures) (take_padded 255 _ _ (length_sums _ _))
 
 length_part : (c : After-sums-sums) → let a = c.args in length (take (a.code.header.n - a.code.header.k) c.sums-sums.result) ≡ a.code.header.n - a.code.header.k
 length_part c = ap length (part c) ∙ length_sums _ _
@@ -25,11 +25,8 @@ length_part c = ap length (part c) ∙ length_sums _ _
 tested : (c : After-all_zero) → let a = c.args in c.all_zero.result ≡ is_word a.code.header a.lane.now
 tested c = c.all_zero.ensures ∙ ap (all_below 1) (part (goal.at.After-all_zero c).After-sums-sums) ∙ word_sums _ _
 
-pub sums-sums-requires : goal.sums-sums-requires
-sums-sums-requires c =
-    let sound = c.args.code.sound in
-    let (lane, nodes, symbols) = c.requires in
-    (lane.long, lane.symbols)
+pub invariant_of-sums : goal.invariant_of-sums
+invariant_of-sums c = let (lane, nodes, symbols) = c.requires in rw c.new-rows.ensures record { long = lane.long; below = lane.symbols }
 
 pub slice_bounds-all_zero-end : goal.slice_bounds-all_zero-end
 slice_bounds-all_zero-end c = sym (length_part (goal.at.slice_bounds-all_zero-end c).After-sums-sums)

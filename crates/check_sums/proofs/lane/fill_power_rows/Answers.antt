@@ -17,8 +17,8 @@ row_in c =
     let width = c.width_of-w in
     rw (c.requires, ← width.ensures.0) (row_inside (width.result * c.args.code.header.n) c.loop-i.i (c.args.code.header.n - c.args.code.header.k) c.loop-i-test.true)
 
-pub slice_bounds-fill_row-end-in-loop-i : goal.slice_bounds-fill_row-end-in-loop-i
-slice_bounds-fill_row-end-in-loop-i c = omega (arith, row_in (goal.at.slice_bounds-fill_row-end-in-loop-i c).In-loop-i)
+pub slice_bounds-fill_row-end : goal.slice_bounds-fill_row-end
+slice_bounds-fill_row-end c = omega (arith, row_in (goal.at.slice_bounds-fill_row-end c).In-loop-i)
 
 pub loop-i-preserved : goal.loop-i-preserved
 loop-i-preserved c =

@@ -10,4 +10,4 @@ abbrev pub read : List ℕ → List ℕ → ℕ → ℕ
 read powers exponents x = get_or powers (get_or exponents x 0) 0
 
 abbrev pub invariant-loop-x : goal.invariant-loop-x
-invariant-loop-x l = Filled 510 510 (read l.self.powers.now l.exponents) l.x l.out
+invariant-loop-x l = Filled 510 510 (read l.powers l.exponents) l.x l.out

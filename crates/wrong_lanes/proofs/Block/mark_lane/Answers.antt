@@ -37,15 +37,15 @@ read_symbols-values-requires c =
     let few = mul-le-mul c.args.self.code.sound.byte (le_refl (width h)) in
     (wide.1, wide.2, rw wide.0 (omega (arith, rw c.requires.0 at c.args.self.symbols.bytes, mul-one h.n, few)))
 
-pub is_word-word-requires : goal.is_word-word-requires
-is_word-word-requires c = rw (taken (goal.at.is_word-word-requires c).After-read_symbols-values) (long (goal.at.is_word-word-requires c).Start, c.args.self.symbols.symbol_rows.symbols)
+pub invariant_of-lane : goal.invariant_of-lane
+invariant_of-lane c = rw (c.new-rows.ensures, taken (goal.at.invariant_of-lane c).After-read_symbols-values) record { long = long (goal.at.invariant_of-lane c).Start; below = c.args.self.symbols.symbol_rows.symbols }
 
 pub returns : goal.returns
 returns c =
     let h = c.args.self.code.header in
     let marks = c.args.marks.now in
     let x = c.from.result in
-    let told = rw (taken (goal.at.returns c).After-read_symbols-values) at c.is_word-word.ensures in
+    let told = rw (c.new-rows.ensures, taken (goal.at.returns c).After-read_symbols-values) at c.is_word.ensures in
     rw (share_by_lane, c.requires.0)
     (one_mark h (symbols_of (width h) c.args.self.shares.now) (set marks 0 x) (long (goal.at.returns c).Start) (length-set marks 0 x ∙ c.requires.1)
-    (get_or-set_same marks 0 x 0 (omega (arith, c.requires.1)) ∙ c.from.ensures ∙ marked_byte c.is_word-word.result ∙ ap (λ b. pick b 0 1) told))
+    (get_or-set_same marks 0 x 0 (omega (arith, c.requires.1)) ∙ c.from.ensures ∙ marked_byte c.is_word.result ∙ ap (λ b. pick b 0 1) told))

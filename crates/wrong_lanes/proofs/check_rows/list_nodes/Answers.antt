@@ -40,12 +40,12 @@ loop-e-init c = (refl, refl, begun_none _ _ _ _ _ (λ i. length_check_row c.args
 scales-are : (c : In-loop-e) → let h = c.args.code.header in take h.k c.scales-scales.result ≡ scales_of (modulus_of h) (first_points h)
 scales-are c = rw (c.scales-scales.ensures, c.new-field.ensures, points_are (goal.at.In-loop-e c).After-powers-roots) (take_padded 255 _ _ (length_scales c.args.code.header))
 
-pub slice_bounds-check_weights-end-in-loop-e : goal.slice_bounds-check_weights-end-in-loop-e
-slice_bounds-check_weights-end-in-loop-e c = rw (scales-are (goal.at.slice_bounds-check_weights-end-in-loop-e c).In-loop-e) (sym (length_scales c.args.code.header))
+pub slice_bounds-check_weights-end : goal.slice_bounds-check_weights-end
+slice_bounds-check_weights-end c = rw (scales-are (goal.at.slice_bounds-check_weights-end c).In-loop-e) (sym (length_scales c.args.code.header))
 
 pub check_weights-weights-requires : goal.check_weights-weights-requires
 check_weights-weights-requires c =
-    (c.new-field.ensures, c.powers-roots.ensures, scales-are (goal.at.check_weights-weights-requires c).In-loop-e, c.loop-e-test.true)
+    (c.new-field.ensures, scales-are (goal.at.check_weights-weights-requires c).In-loop-e, c.loop-e-test.true)
 
 -- the weights as they are lent
 taken : (c : After-check_weights-weights) → let h = c.args.code.header in take h.n c.check_weights-weights.result ≡ check_row h c.loop-e.e

@@ -10,4 +10,4 @@ abbrev pub invariant-loop-e : goal.invariant-loop-e
 invariant-loop-e l =
     (length l.lists ≡ length l.initial.lists)
     × (length l.counts ≡ length l.initial.counts)
-    × Begun (modulus_of l.code.header) l.code.header.n (check_row l.code.header) l.e l.lists l.counts
+    × Begun (modulus_of l.fn.code.header) l.fn.code.header.n (check_row l.fn.code.header) l.e l.lists l.counts

@@ -18,7 +18,7 @@ loop-e-init c =
 
 pub factors-weights-requires : goal.factors-weights-requires
 factors-weights-requires c =
-    let s = c.args.code.sound in (c.powers-table.ensures, omega (arith, s.byte, c.loop-e-test.true))
+    let s = c.args.code.sound in omega (arith, s.byte, c.loop-e-test.true)
 
 -- the weights as they are lent
 taken : (c : After-factors-weights) → let h = c.args.code.header in take h.n c.factors-weights.result ≡ factors_of h (c.loop-e.e + 1)

@@ -20,24 +20,24 @@ inside n j node = mod-lt (n - j) (omega arith)
 -- what is read there
 read : (c : Start)
     → let a = c.args in
-    get_or a.self.powers.now ((a.self.code.header.n - a.j) % a.self.code.header.n) 0 ≡ power (modulus_of a.self.code.header) a.self.code.header.root ((a.self.code.header.n - a.j) % a.self.code.header.n)
+    get_or a.self.powers.list.now ((a.self.powers.code.header.n - a.j) % a.self.powers.code.header.n) 0 ≡ power (modulus_of a.self.powers.code.header) a.self.powers.code.header.root ((a.self.powers.code.header.n - a.j) % a.self.powers.code.header.n)
 read c =
-    rw c.args.self.powers_are (power_at _ _ (inside _ _ c.requires))
+    rw c.args.self.powers.are (power_at _ _ (inside _ _ c.requires))
 
 -- and the first check sum are symbols
 read_below : (c : Start)
     → let a = c.args in
-    get_or a.self.powers.now ((a.self.code.header.n - a.j) % a.self.code.header.n) 0 < size a.self.code.header
+    get_or a.self.powers.list.now ((a.self.powers.code.header.n - a.j) % a.self.powers.code.header.n) 0 < size a.self.powers.code.header
 read_below c =
-    let s = c.args.self.code.sound in
+    let s = c.args.self.powers.code.sound in
     rw (read c) (power_below _ s.field _ s.root_below)
 
-sum_below : (c : Start) → let a = c.args in get_or a.self.sums.now 0 0 < size a.self.code.header
+sum_below : (c : Start) → let a = c.args in get_or a.self.sums.now 0 0 < size a.self.powers.code.header
 sum_below c =
     let has = c.args.self.summed.has in
     below_at _ _ has.symbols 0 has.some
 
-held_below : (c : Start) → let a = c.args in get_or a.self.lane.now a.j 0 < size a.self.code.header
+held_below : (c : Start) → let a = c.args in get_or a.self.lane.now a.j 0 < size a.self.powers.code.header
 held_below c =
     let lane = c.args.self.summed.lane in
     below_at _ _ lane.symbols _ (omega (arith, lane.long))
@@ -50,7 +50,7 @@ offset_bounds-self-back c = omega (arith, inside _ _ c.requires)
 
 pub bounds-self-back : goal.bounds-self-back
 bounds-self-back c =
-    rw c.args.self.powers_are (power_place _ _ (inside _ _ c.requires))
+    rw c.args.self.powers.are (power_place _ _ (inside _ _ c.requires))
 
 pub mul-amount-requires : goal.mul-amount-requires
 mul-amount-requires c =
@@ -74,4 +74,4 @@ returns c =
     let a = c.args in
     c.sub.ensures.is
     ∙ rw c.args.self.same
-    (ap (sub (modulus_of a.self.code.header) (get_or a.self.lane.now a.j 0)) (c.mul-amount.ensures.is ∙ rw c.args.self.same (ap (mul (modulus_of a.self.code.header) (get_or a.self.sums.now 0 0)) (read (goal.at.returns c).Start))))
+    (ap (sub (modulus_of a.self.powers.code.header) (get_or a.self.lane.now a.j 0)) (c.mul-amount.ensures.is ∙ rw c.args.self.same (ap (mul (modulus_of a.self.powers.code.header) (get_or a.self.sums.now 0 0)) (read (goal.at.returns c).Start))))

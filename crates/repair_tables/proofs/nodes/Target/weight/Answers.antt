@@ -11,8 +11,8 @@ use Rattle.repair_tables.proofs.nodes.Target.weight.Goals.{After-offset_from-y}
 
 pub offset_from-y-requires : goal.offset_from-y-requires
 offset_from-y-requires c =
-    let (js, q, powers) = c.requires in
-    (below_at _ _ js _ (rw (← c.count-b.ensures) at (width_parts c.args.self.bits _ _ q).0), powers)
+    let (same, js, q) = c.requires in
+    (same, below_at _ _ js _ (rw (← c.count-b.ensures) at (width_parts c.args.self.bits _ _ q).0))
 
 -- the offset is a byte
 low : (c : After-offset_from-y) → c.offset_from-y.result < 256
@@ -32,6 +32,6 @@ overflow_cast-result c =
 pub returns : goal.returns
 unfolding bit_weight part
 returns c =
-    let (js, q, powers) = c.requires in
+    let (same, js, q) = c.requires in
     let place = (width_parts c.args.self.bits _ _ q).1 in
     rw (c.mul.ensures.is, c.args.self.same, c.element-e.ensures, c.offset_from-y.ensures, c.count-b.ensures, digit_place _ place)

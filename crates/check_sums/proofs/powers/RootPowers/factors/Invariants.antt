@@ -4,7 +4,7 @@ use mathlib.Core.List.{List}
 use Prim.Native.Nat.{ℕ, ◌*◌, ◌%◌}
 use lib.ListN.{get_or}
 use Rattle.lists.proofs.Fill.{Filled}
-use Rattle.check_sums.proofs.powers.factors.Given as goal
+use Rattle.check_sums.proofs.powers.RootPowers.factors.Given as goal
 
 -- node j's factor, as it is read
 abbrev pub read : List ℕ → ℕ → ℕ → ℕ → ℕ

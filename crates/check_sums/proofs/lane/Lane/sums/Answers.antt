@@ -2,11 +2,10 @@
 use mathlib.Core.Path.{ap, ◌∙◌}
 use Rattle.lists.specs.Padded.{padded}
 use Rattle.check_sums.proofs.OneLane.{sums_read}
-use Rattle.check_sums.proofs.lane.PowerRows.sums.Goals as goal
-use Rattle.check_sums.proofs.lane.PowerRows.sums.Goals.{After-struct_known-1}
+use Rattle.check_sums.proofs.lane.Lane.sums.Goals as goal
 
 pub returns : goal.returns
 returns c =
     let a = c.args in
     c.read_symbols.ensures
-    ∙ rw c.fill_sums.ensures (ap (padded 255) (sums_read a.self.code.header a.lane.now _ c.width_of-w.ensures.0))
+    ∙ rw c.fill_sums.ensures (ap (padded 255) (sums_read a.self.rows.code.header a.self.symbols.now _ c.width_of-w.ensures.0))

@@ -3,7 +3,7 @@ use mathlib.Core.Path.{ap, ◌∙◌}
 use Rattle.lists.specs.Numbers.{all_below}
 use Rattle.lists.proofs.Padding.{take_padded}
 use Rattle.check_sums.proofs.OneLane.{word_sums, length_sums}
-use Rattle.check_sums.proofs.lane.PowerRows.is_word.Goals as goal
+use Rattle.check_sums.proofs.lane.Lane.is_word.Goals as goal
 
 pub returns : goal.returns
 returns c =

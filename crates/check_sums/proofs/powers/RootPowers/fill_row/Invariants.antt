@@ -7,7 +7,7 @@ use lib.ListN.{length, get_or}
 use Rattle.lists.specs.Choice.{pick}
 use Rattle.lists.specs.Rows.{from}
 use Rattle.lists.proofs.Fill.{Fills}
-use Rattle.check_sums.proofs.lane.fill_row.Given as goal
+use Rattle.check_sums.proofs.powers.RootPowers.fill_row.Given as goal
 
 -- the byte for check sum x, as it is read
 abbrev pub read : List ℕ → ℕ → ℕ → Bool → ℕ → ℕ
