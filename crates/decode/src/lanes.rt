@@ -18,6 +18,7 @@ pub fn differing(a: &[u16], b: &[u16]) -> usize
 }
 
 // A lane less the errors at the listed nodes, and zeros after it.
+// An array with zeros after: it is as long as the lane, so no length stands beside it.
 pub fn removed(field: Arithmetic, lane: &[u16], nodes: &[u8], errors: &[u16]) -> [u16; 255]
     requires { SymbolList (modulus field.field) lane.now × SymbolList (modulus field.field) errors.now × (all_below (length lane.now) nodes.now ≡ true) × (length errors.now ≡ length nodes.now) }
     ensures { result ≡ padded 255 (removed_from (modulus field.entry.field) nodes.now errors.now lane.now) }

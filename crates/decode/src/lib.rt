@@ -15,6 +15,7 @@ use check_sums::lane::{Lane, PowerRows};
 use field::Tables;
 use field::lent::Arithmetic;
 use generator::Code;
+use interpolation::polynomials::Polynomial;
 
 mod errors;
 mod lanes;
@@ -44,7 +45,11 @@ fn candidate(code: Code, tables: &Tables, lane: &[u16], sums: [u16; 255]) -> [u1
     let found = wrong_nodes(code, tables, &sums);
     let nodes = found.as_slice();
     let count = nodes.len();
-    let wrong = errors(field, h.root, nodes, &sums[..count]);
+    let taken = Polynomial {
+        field,
+        coefficients: &sums[..count],
+    };
+    let wrong = errors(taken, h.root, nodes);
     removed(field, lane, nodes, &wrong[..count])
 }
 
@@ -60,7 +65,11 @@ fn wrong_nodes(code: Code, tables: &Tables, sums: &[u16; 255]) -> ArrayVec<u8, 2
     let t = ((h.n - h.k) / 2) as usize;
     let size = t + 1;
     let locator = locate(field, sums, t);
-    find_roots(field, root, &locator[..size], n)
+    let polynomial = Polynomial {
+        field,
+        coefficients: &locator[..size],
+    };
+    find_roots(polynomial, root, n)
 }
 
 // The word near enough to a lane, if there is one.

@@ -63,15 +63,6 @@ module _ (p : ℕ) where
   length_times_linear a c [] = refl
   length_times_linear a c (q ∷ qs) = ap suc (length_times_linear a q qs)
 
-  -- a product, the last factor first
-  pub product_of_end : (xs : List ℕ) → product_of p (drop (length xs) xs) ≡ 1 ∷ []
-  unfolding product_of
-  product_of_end xs = ap (product_of p) (drop-length xs)
-
-  pub product_of_next : (xs : List ℕ) (i : ℕ) → 0 < i → i ≤ length xs → product_of p (drop (i - 1) xs) ≡ times_linear p (get_or xs (i - 1) 0) 0 (product_of p (drop i xs))
-  unfolding product_of
-  product_of_next xs i pos h = ap (product_of p) (drop_before xs i 0 pos h)
-
   pub length_product_of : (xs : List ℕ) → length (product_of p xs) ≡ suc (length xs)
   unfolding product_of
   length_product_of [] = refl

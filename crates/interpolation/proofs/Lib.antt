@@ -8,3 +8,5 @@ pub mod Bridge
 -- Sums of products.
 pub mod Dots
 pub mod PaddedSums
+-- Lists that are read from their end.
+pub mod FromEnd

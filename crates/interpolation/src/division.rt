@@ -35,24 +35,35 @@ impl Polynomial<'_, '_> {
         }
         out
     }
+}
 
-    // The coefficients of the quotient, each times its factor, and zeros after them.
-    pub fn quotient_terms(self, a: u32, factors: &[u16]) -> [u16; 255]
-        requires { SymbolList (modulus self.field.field) factors.now × (length factors.now ≡ length self.coefficients.now) × (a < size_of (modulus self.field.field)) }
-        ensures { let p = modulus self.entry.field.field in result ≡ padded 255 (termwise p (quotient_of p a self.entry.coefficients.now) factors.now) }
+// A polynomial that is divided by linear factors, and as many symbols, by which the coefficients of the quotients are multiplied.
+#[derive(Clone, Copy)]
+pub struct Dividend<'f, 'c, 'w> {
+    pub polynomial: Polynomial<'f, 'c>,
+    pub weights: &'w [u16],
+    pub ghost symbols: { SymbolList (modulus polynomial.field.field) weights.now },
+    pub ghost as_many: { length weights.now ≡ length polynomial.coefficients.now },
+}
+
+impl Dividend<'_, '_, '_> {
+    // The coefficients of the quotient, each times its weight, and zeros after them.
+    pub fn quotient_terms(self, a: u32) -> [u16; 255]
+        requires { a < size_of (modulus self.polynomial.field.field) }
+        ensures { let p = modulus self.entry.polynomial.field.field in result ≡ padded 255 (termwise p (quotient_of p a self.entry.polynomial.coefficients.now) self.entry.weights.now) }
     {
-        let size = self.coefficients.len();
-        let q = self.quotient(a);
-        products(self.field, &q[..size], factors)
+        let size = self.weights.len();
+        let q = self.polynomial.quotient(a);
+        products(self.polynomial.field, &q[..size], self.weights)
     }
 
-    // The sum of the terms times the coefficients of the quotient.
-    pub fn quotient_sum(self, a: u32, terms: &[u16]) -> u32
-        requires { SymbolList (modulus self.field.field) terms.now × (length terms.now ≡ length self.coefficients.now) × (a < size_of (modulus self.field.field)) }
-        ensures is { let p = modulus self.entry.field.field in result ≡ dot p terms.now (quotient_of p a self.entry.coefficients.now) }
-        ensures symbol { result < size_of (modulus self.entry.field.field) }
+    // The sum of the weights times the coefficients of the quotient.
+    pub fn quotient_sum(self, a: u32) -> u32
+        requires { a < size_of (modulus self.polynomial.field.field) }
+        ensures is { let p = modulus self.entry.polynomial.field.field in result ≡ dot p self.entry.weights.now (quotient_of p a self.entry.polynomial.coefficients.now) }
+        ensures symbol { result < size_of (modulus self.entry.polynomial.field.field) }
     {
-        let q = self.quotient(a);
-        weighted_sum(self.field, terms, &q)
+        let q = self.polynomial.quotient(a);
+        weighted_sum(self.polynomial.field, self.weights, &q)
     }
 }

@@ -26,8 +26,8 @@ impl Points<'_, '_> {
         ensures symbol { result < size_of (modulus self.entry.field.field) }
     {
         let mut product = Field::ONE;
-        for i in (0..self.points.len()).rev() {
-            let factor = self.field.sub(z, self.points[i] as u32);
+        for x in self.points.iter().rev() {
+            let factor = self.field.sub(z, u32::from(*x));
             product = self.field.mul(factor, product);
         }
         product

@@ -1,7 +1,7 @@
 // Interpolation at powers of the root: points, Lagrange's basis polynomials, products of linear factors and division by one.
 // A list is an array with zeros after it: it is as long as the one that it is made from, which each caller has, and a vector would hold its length a second time.
 // A symbol is a plain number: a type for it would hold the field whose size it is below, once for each number of a list.
-// A list is read from its end by index: of an iterator that is turned round a proof knows what it gave so far, and no index.
+// Where a loop from the end needs places too, a list is read by index, and not by `iter().enumerate().rev()` or by `iter().zip(..).rev()`, which would want lists of one length: of an iterator that is turned round a proof knows what it gave so far, and no place.
 #![tactic(auto)]
 
 pub mod division;

@@ -41,9 +41,9 @@ impl Points<'_, '_> {
         let mut out = [0u16; 256];
         out[0] = 1;
         let mut size: usize = 1;
-        for i in (0..self.points.len()).rev() {
+        for a in self.points.iter().rev() {
             size += 1;
-            times_linear(self.field, self.points[i] as u32, &mut out[..size]);
+            times_linear(self.field, u32::from(*a), &mut out[..size]);
         }
         out
     }

@@ -16,6 +16,7 @@ ghost use Rattle.node_weights.specs.Inner.Rows.{basis_of, row_points, base_inver
 use field::Tables;
 use field::lent::Arithmetic;
 use generator::Code;
+use interpolation::division::Dividend;
 use interpolation::lagrange::Points;
 use interpolation::polynomials::Polynomial;
 use interpolation::{polynomials, powers};
@@ -112,11 +113,15 @@ pub fn terms_at(code: Code, tables: &Tables, product: &[u16], base: &[u16], x: u
     let first: usize = 1;
     let end = k + 1;
     let field = Arithmetic::new(h.field, tables);
-    Polynomial {
+    let polynomial = Polynomial {
         field,
         coefficients: &product[first..end],
+    };
+    Dividend {
+        polynomial,
+        weights: &base[..k],
     }
-    .quotient_terms(x, &base[..k])
+    .quotient_terms(x)
 }
 
 // The terms of row r.

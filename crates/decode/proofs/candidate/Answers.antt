@@ -26,10 +26,15 @@ errors-part c =
 pub wrong_nodes-found-requires : goal.wrong_nodes-found-requires
 wrong_nodes-found-requires c = sums_symbols c.args.code.header c.args.lane.now c.requires.0 c.args.sums c.requires.1
 
+pub invariant_of-taken : goal.invariant_of-taken
+invariant_of-taken c =
+    let f = facts (goal.at.invariant_of-taken c).After-as_slice-nodes in
+    record { symbols = rw c.new-field.ensures f.terms_symbols }
+
 pub errors-wrong-requires : goal.errors-wrong-requires
 errors-wrong-requires c =
     let f = facts (goal.at.errors-wrong-requires c).After-as_slice-nodes in
-    rw c.new-field.ensures (f.terms_symbols, f.terms_long, c.requires.0.sound.root_below)
+    rw c.new-field.ensures (f.terms_long, c.requires.0.sound.root_below)
 
 pub removed-requires : goal.removed-requires
 removed-requires c =

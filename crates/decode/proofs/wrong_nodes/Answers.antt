@@ -27,13 +27,16 @@ locate-locator-requires c = (omega (arith, c.args.code.sound.byte), rw c.new-fie
 pub slice_bounds-locator-end : goal.slice_bounds-locator-end
 slice_bounds-locator-end c = omega (arith, c.locate-locator.ensures.long, c.args.code.sound.byte)
 
-pub slice_bounds-find_roots-end : goal.slice_bounds-find_roots-end
-slice_bounds-find_roots-end c = sym (front_long (goal.at.slice_bounds-find_roots-end c).After-locate-locator)
+pub slice_bounds-polynomial-end : goal.slice_bounds-polynomial-end
+slice_bounds-polynomial-end c = sym (front_long (goal.at.slice_bounds-polynomial-end c).After-locate-locator)
+
+pub invariant_of-polynomial : goal.invariant_of-polynomial
+invariant_of-polynomial c =
+    let w = (goal.at.invariant_of-polynomial c).After-locate-locator in
+    record { symbols = rw c.new-field.ensures (record { below = front_below w; short = omega (arith, front_long w, c.args.code.sound.byte) }) }
 
 pub find_roots-requires : goal.find_roots-requires
-find_roots-requires c =
-    let s = c.requires in
-    rw c.new-field.ensures (record { below = front_below (goal.at.find_roots-requires c).After-locate-locator; short = omega (arith, front_long (goal.at.find_roots-requires c).After-locate-locator, c.args.code.sound.byte) }, c.args.code.sound.root_below, omega (arith, c.args.code.sound.byte))
+find_roots-requires c = rw c.new-field.ensures (c.args.code.sound.root_below, omega (arith, c.args.code.sound.byte))
 
 pub returns : goal.returns
 unfolding radius

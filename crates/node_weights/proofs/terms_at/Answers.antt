@@ -39,23 +39,25 @@ inverses-are c =
     let b = base_symbols c.args.code.header c.args.code.sound (few c) in
     (rw c.requires.1 (take_padded 255 _ _ b.size), b)
 
-pub slice_bounds-quotient_terms-end : goal.slice_bounds-quotient_terms-end
-slice_bounds-quotient_terms-end c = let w = (goal.at.slice_bounds-quotient_terms-end c).Start in omega (arith, whole w, few w)
+pub slice_bounds-polynomial-end : goal.slice_bounds-polynomial-end
+slice_bounds-polynomial-end c = let w = (goal.at.slice_bounds-polynomial-end c).Start in omega (arith, whole w, few w)
 
-pub slice_bounds-quotient_terms-end-2 : goal.slice_bounds-quotient_terms-end-2
-slice_bounds-quotient_terms-end-2 c = let b = inverses-are (goal.at.slice_bounds-quotient_terms-end-2 c).Start in rw b.0 (sym b.1.size)
+pub invariant_of-polynomial : goal.invariant_of-polynomial
+invariant_of-polynomial c =
+    let q = product_is (goal.at.invariant_of-polynomial c).Start in
+    record { symbols = rw (c.new-field.ensures, q.0) q.1.are }
+
+pub slice_bounds-quotient_terms-end : goal.slice_bounds-quotient_terms-end
+slice_bounds-quotient_terms-end c = let b = inverses-are (goal.at.slice_bounds-quotient_terms-end c).Start in rw b.0 (sym b.1.size)
 
 pub invariant_of-quotient_terms : goal.invariant_of-quotient_terms
 invariant_of-quotient_terms c =
     let q = product_is (goal.at.invariant_of-quotient_terms c).Start in
-    record { symbols = rw (c.new-field.ensures, q.0) q.1.are }
+    let b = inverses-are (goal.at.invariant_of-quotient_terms c).Start in
+    record { symbols = rw (c.new-field.ensures, b.0) b.1.are; as_many = rw (q.0, b.0) (b.1.size ∙ sym q.1.size) }
 
 pub quotient_terms-requires : goal.quotient_terms-requires
-quotient_terms-requires c =
-    let s = c.requires in
-    let q = product_is (goal.at.quotient_terms-requires c).Start in
-    let b = inverses-are (goal.at.quotient_terms-requires c).Start in
-    (rw (c.new-field.ensures, b.0) b.1.are, rw (q.0, b.0) (b.1.size ∙ sym q.1.size), rw c.new-field.ensures s.2)
+quotient_terms-requires c = rw c.new-field.ensures c.requires.2
 
 pub returns : goal.returns
 returns c = c.quotient_terms.ensures ∙ rw (c.new-field.ensures, (product_is (goal.at.returns c).Start).0, (inverses-are (goal.at.returns c).Start).0)

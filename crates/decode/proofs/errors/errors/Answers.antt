@@ -1,54 +1,50 @@
--- `errors` meets its contract: the parts of the basis of the nodes' points give the errors.
-use mathlib.Core.Path.{sym, ◌∙◌}
+-- `errors` meets its contract: the nodes' points and the product over them, lent as parts, give the errors.
+use mathlib.Core.Path.{◌≡◌, refl, ◌∙◌}
+use Prim.Native.Nat.{◌+◌, ◌-◌}
 use native.Mathlib.Omega.{arith}
-use lib.ListN.{length}
+use lib.ListN.{length, take, drop}
+use Rattle.lists.proofs.Padding.{take_padded, part_padded}
 use Rattle.field.specs.Kinds.{modulus}
 use Rattle.field.proofs.KindLaws.{usable_field}
 use Rattle.interpolation.specs.Inner.Points.{points_of}
+use Rattle.interpolation.specs.Inner.Polynomials.{product_of}
 use Rattle.interpolation.proofs.Points.{length_points, points_symbols}
-use Rattle.node_weights.proofs.Parts.{Symbols, Parts, parts}
+use Rattle.interpolation.proofs.Coefficients.{length_product_of}
+use Rattle.node_weights.specs.Inner.Rows.{basis_of}
+use Rattle.node_weights.proofs.Parts.{Symbols, parts}
 use Rattle.decode.specs.Inner.Errors.{errors_of}
 use Rattle.decode.proofs.errors.errors.Goals as goal
-use Rattle.decode.proofs.errors.errors.Goals.{After-lagrange_basis-basis, Start}
+use Rattle.decode.proofs.errors.errors.Goals.{After-points-list, After-product-product, Start}
 
--- the nodes' points are symbols
-points_are : (c : Start) → let a = c.args in Symbols (modulus a.field.field) (length a.nodes.now) (points_of (modulus a.field.field) a.root 0 a.nodes.now)
+-- the nodes' points are symbols, as many as there are nodes
+points_are : (c : Start) → let a = c.args in Symbols (modulus a.sums.field.field) (length a.nodes.now) (points_of (modulus a.sums.field.field) a.root 0 a.nodes.now)
 points_are c =
     let a = c.args in
     let s = c.requires in
-    record { are = points_symbols _ a.root 0 a.nodes.now (usable_field _ a.field.usable) s.2 (omega (arith, s.0.short, s.1)); size = length_points _ a.root 0 a.nodes.now }
+    record { are = points_symbols _ a.root 0 a.nodes.now (usable_field _ a.sums.field.usable) s.1 (omega (arith, a.sums.symbols.short, s.0)); size = length_points _ a.root 0 a.nodes.now }
 
--- so the parts of the basis are what they should be
-basis : (c : After-lagrange_basis-basis) → let a = c.args in Parts (modulus a.field.field) (length a.nodes.now) (points_of (modulus a.field.field) a.root 0 a.nodes.now) c.lagrange_basis-basis.result
-basis c = let a = c.args in parts _ (usable_field _ a.field.usable) (length a.nodes.now) _ c.lagrange_basis-basis.result (points_are (goal.at.After-lagrange_basis-basis c).Start) c.lagrange_basis-basis.ensures
+-- the points as they are lent
+points-part : (c : After-points-list) → let a = c.args in take (length a.nodes.now) c.points-list.result ≡ points_of (modulus a.sums.field.field) a.root 0 a.nodes.now
+points-part c = rw c.points-list.ensures (take_padded 255 _ _ (points_are (goal.at.After-points-list c).Start).size)
 
-pub lagrange_basis-basis-requires : goal.lagrange_basis-basis-requires
-lagrange_basis-basis-requires c = let s = c.requires in (s.2, omega (arith, s.0.short, s.1), omega arith)
+-- and the product over them, without its constant
+product-part : (c : After-product-product)
+    → let a = c.args in
+    let q = drop 1 (product_of (modulus a.sums.field.field) (points_of (modulus a.sums.field.field) a.root 0 a.nodes.now)) in
+    (take (length a.nodes.now + 1 - 1) (drop 1 c.product-product.result) ≡ q) × Symbols (modulus a.sums.field.field) (length a.nodes.now) q
+product-part c =
+    let a = c.args in
+    let p = modulus a.sums.field.field in
+    let xs = points_of p a.root 0 a.nodes.now in
+    let s = points_are (goal.at.After-product-product c).Start in
+    (rw (c.product-product.ensures, points-part (goal.at.After-product-product c).After-points-list) (part_padded 256 (length a.nodes.now + 1) 1 (product_of p xs) (omega (arith, length_product_of p xs, s.size)) (omega arith)), (parts p (usable_field _ a.sums.field.usable) (length a.nodes.now) xs (basis_of p xs) s refl).some_product)
 
-pub slice_bounds-points-end : goal.slice_bounds-points-end
-slice_bounds-points-end c = omega (arith, (basis (goal.at.slice_bounds-points-end c).After-lagrange_basis-basis).long_points, c.requires.0.short, c.requires.1)
+pub invariant_of-points : goal.invariant_of-points
+invariant_of-points c = record { symbols = rw (points-part (goal.at.invariant_of-points c).After-points-list) (points_are (goal.at.invariant_of-points c).Start).are }
 
-pub slice_bounds-errors_from-end : goal.slice_bounds-errors_from-end
-slice_bounds-errors_from-end c = rw (basis (goal.at.slice_bounds-errors_from-end c).After-lagrange_basis-basis).points (sym (points_are (goal.at.slice_bounds-errors_from-end c).Start).size)
-
-pub slice_bounds-scales-end : goal.slice_bounds-scales-end
-slice_bounds-scales-end c = omega (arith, (basis (goal.at.slice_bounds-scales-end c).After-lagrange_basis-basis).long_scales, c.requires.0.short, c.requires.1)
-
-pub slice_bounds-errors_from-end-2 : goal.slice_bounds-errors_from-end-2
-slice_bounds-errors_from-end-2 c = rw (basis (goal.at.slice_bounds-errors_from-end-2 c).After-lagrange_basis-basis).scales (sym (basis (goal.at.slice_bounds-errors_from-end-2 c).After-lagrange_basis-basis).some_scales.size)
-
-pub slice_bounds-errors_from-end-3 : goal.slice_bounds-errors_from-end-3
-slice_bounds-errors_from-end-3 c =
-    omega (arith, (basis (goal.at.slice_bounds-errors_from-end-3 c).After-lagrange_basis-basis).long_product, c.requires.0.short, c.requires.1)
-
-pub errors_from-requires : goal.errors_from-requires
-errors_from-requires c =
-    let s = c.requires in
-    let b = basis (goal.at.errors_from-requires c).After-lagrange_basis-basis in
-    rw (b.points, b.scales, b.product) ((points_are (goal.at.errors_from-requires c).Start).are, b.some_scales.are, b.some_product.are, s.0, b.some_scales.size ∙ sym (points_are (goal.at.errors_from-requires c).Start).size, s.1 ∙ sym b.some_product.size)
+pub invariant_of-polynomial : goal.invariant_of-polynomial
+invariant_of-polynomial c = let q = product-part (goal.at.invariant_of-polynomial c).After-product-product in record { symbols = rw q.0 q.1.are }
 
 pub returns : goal.returns
 unfolding errors_of
-returns c =
-    let b = basis (goal.at.returns c).After-lagrange_basis-basis in
-    c.errors_from.ensures ∙ rw (b.points, b.scales, b.product)
+returns c = c.errors_from.ensures ∙ rw (points-part (goal.at.returns c).After-points-list, (product-part (goal.at.returns c).After-product-product).0)

@@ -1,21 +1,29 @@
 -- `errors_from` meets its contract. Invariant: the errors at the first i points are written.
-use native.Mathlib.Omega.{arith}
+use mathlib.Core.Path.{sym, ap, ◌∙◌}
 use Rattle.lists.specs.Padded.{zeros}
 use Rattle.lists.proofs.Fill.{filled_start, filled_put, filled_end}
 use Rattle.lists.proofs.Numbers.{below_at}
-use Rattle.decode.specs.Inner.Errors.{errors_from}
+use Rattle.field.specs.Kinds.{modulus}
+use Rattle.interpolation.proofs.Values.{get_or_scales}
+use Rattle.decode.specs.Inner.Errors.{error_of, errors_from}
 use Rattle.decode.proofs.errors.errors_from.Goals as goal
 
 pub loop-i-init : goal.loop-i-init
 unfolding zeros
-loop-i-init c = filled_start 255 _ _ c.requires.0.short
+loop-i-init c = filled_start 255 _ _ c.args.points.symbols.short
 
 pub error_at-requires : goal.error_at-requires
 error_at-requires c =
-    let s = c.requires in (s.2, s.3, s.5, below_at _ _ s.0.below _ (omega arith), below_at _ _ s.1.below _ (omega (arith, s.4)))
+    rw c.requires (below_at _ _ c.args.points.symbols.below _ c.loop-i-test.true, c.scale_at.ensures.symbol)
 
 pub loop-i-preserved : goal.loop-i-preserved
-loop-i-preserved c = filled_put c.loop-i.invariant c.loop-i-test.true c.error_at.ensures.is
+loop-i-preserved c =
+    let a = c.args in
+    let p = modulus a.points.field.field in
+    let xs = a.points.points.now in
+    let scale = c.scale_at.ensures.is ∙ sym (get_or_scales p xs c.loop-i.i c.loop-i-test.true) in
+    let is = rw c.requires at c.error_at.ensures.is in
+    filled_put c.loop-i.invariant c.loop-i-test.true (is ∙ ap (error_of p _ _ _) scale)
 
 pub returns : goal.returns
 unfolding errors_from

@@ -33,9 +33,13 @@ pub loop-r-init : goal.loop-r-init
 unfolding zeros
 loop-r-init c = record { low = omega arith; long_w = length_zeros 255; long_v = length_zeros 255; held = held_start (modulus c.args.field.field) (usable_field _ c.args.field.usable) c.args.s.now 254 255 }
 
+pub invariant_of-held : goal.invariant_of-held
+invariant_of-held c =
+    let turn = (goal.at.invariant_of-held c).In-loop-r in
+    record { sequence = c.requires.1; at_hand = below-w turn; before = below-v turn }
+
 pub discrepancy-d-requires : goal.discrepancy-d-requires
-discrepancy-d-requires c =
-    (omega (arith, steps (goal.at.discrepancy-d-requires c).In-loop-r, c.loop-r.invariant.low), below-w (goal.at.discrepancy-d-requires c).In-loop-r, c.requires.1)
+discrepancy-d-requires c = omega (arith, steps (goal.at.discrepancy-d-requires c).In-loop-r, c.loop-r.invariant.low)
 
 pub loop-r-preserved-then-d-eq-ZERO : goal.loop-r-preserved-then-d-eq-ZERO
 loop-r-preserved-then-d-eq-ZERO c =
@@ -47,7 +51,7 @@ loop-r-preserved-then-d-eq-ZERO c =
 pub amended-u-requires : goal.amended-u-requires
 amended-u-requires c =
     let turn = (goal.at.amended-u-requires c).In-loop-r in
-    (c.discrepancy-d.ensures.symbol, below-w turn, below-v turn, omega (arith, steps turn, c.loop-r.invariant.low))
+    (c.discrepancy-d.ensures.symbol, omega (arith, steps turn, c.loop-r.invariant.low))
 
 pub loop-r-preserved-then-q-l : goal.loop-r-preserved-then-q-l
 loop-r-preserved-then-q-l c =
@@ -66,12 +70,12 @@ loop-r-preserved-then-q-l c =
 pub amended-u-requires-in-loop-r : goal.amended-u-requires-in-loop-r
 amended-u-requires-in-loop-r c =
     let turn = (goal.at.amended-u-requires-in-loop-r c).In-loop-r in
-    (c.discrepancy-d.ensures.symbol, below-w turn, below-v turn, omega (arith, steps turn))
+    (c.discrepancy-d.ensures.symbol, omega (arith, steps turn))
 
 pub scaled-z-requires : goal.scaled-z-requires
 scaled-z-requires c =
     let turn = (goal.at.scaled-z-requires c).In-loop-r in
-    (c.inverse-e.ensures.symbol, below-w turn, omega (arith, steps turn, c.loop-r.invariant.low))
+    (c.inverse-e.ensures.symbol, omega (arith, steps turn, c.loop-r.invariant.low))
 
 pub loop-r-preserved : goal.loop-r-preserved
 loop-r-preserved c =

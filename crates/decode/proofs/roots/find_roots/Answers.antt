@@ -16,18 +16,18 @@ use Rattle.decode.proofs.roots.find_roots.Goals as goal
 use Rattle.decode.proofs.roots.find_roots.Goals.{After-mul-x, else-y-eq-ZERO, then-y-eq-ZERO}
 
 -- what the value says of node j
-value_is : (c : After-mul-x) → c.value-y.result ≡ poly_at (modulus c.args.field.field) c.args.coefficients.now (power (modulus c.args.field.field) c.args.root c.loop-j.j)
-value_is c = c.value-y.ensures.is ∙ ap (poly_at _ c.args.coefficients.now) c.loop-j.invariant.point
+value_is : (c : After-mul-x) → c.value-y.result ≡ poly_at (modulus c.args.polynomial.field.field) c.args.polynomial.coefficients.now (power (modulus c.args.polynomial.field.field) c.args.root c.loop-j.j)
+value_is c = c.value-y.ensures.is ∙ ap (poly_at _ c.args.polynomial.coefficients.now) c.loop-j.invariant.point
 
 pub loop-j-init : goal.loop-j-init
 unfolding power
-loop-j-init c = rw (c.new-nodes.ensures, sub-zero) record { few = omega arith; symbol = one_below _ (usable_field _ c.args.field.usable); point = refl; listed = refl }
+loop-j-init c = rw (c.new-nodes.ensures, sub-zero) record { few = omega arith; symbol = one_below _ (usable_field _ c.args.polynomial.field.usable); point = refl; listed = refl }
 
 pub value-y-requires : goal.value-y-requires
-value-y-requires c = (c.requires.0, c.loop-j.invariant.symbol)
+value-y-requires c = c.loop-j.invariant.symbol
 
 pub mul-x-requires : goal.mul-x-requires
-mul-x-requires c = (c.requires.1, c.loop-j.invariant.symbol)
+mul-x-requires c = (c.requires.0, c.loop-j.invariant.symbol)
 
 pub loop-j-preserved : goal.loop-j-preserved
 loop-j-preserved c =

@@ -1,42 +1,47 @@
--- `product` meets its contract. Invariant: the product over the points from i on, of as many coefficients as `size` says.
-use mathlib.Core.Path.{◌≡◌, sym, ap, ◌∙◌}
-use Prim.Native.Nat.{◌-◌}
+-- `product` meets its contract. Invariant: the product over the points that are done, of as many coefficients as `size` says.
+use mathlib.Core.Path.{◌≡◌, refl}
 use native.Mathlib.Omega.{arith}
-use lib.ListN.{length, get_or, drop, length-drop}
-use Rattle.lists.specs.Padded.{zeros, padded}
-use Rattle.lists.proofs.Numbers.{below_at, below_drop}
+use lib.ListN.{length}
+use Rattle.lists.specs.Padded.{zeros}
 use Rattle.field.specs.Kinds.{modulus}
 use Rattle.field.proofs.KindLaws.{usable_field}
 use Rattle.interpolation.specs.Inner.Polynomials.{product_of}
-use Rattle.interpolation.proofs.Coefficients.{Grows, grows, one_padded, product_of_end, product_of_next, length_product_of, product_of_below}
+use Rattle.interpolation.proofs.Coefficients.{Grows, grows, one_padded, length_product_of, product_of_below}
+use Rattle.interpolation.proofs.FromEnd.{from_end_start, next_below, done_below, done_short, from_end_next, from_end_all}
 use Rattle.interpolation.proofs.lagrange.Points.product.Goals as goal
-use Rattle.interpolation.proofs.lagrange.Points.product.Goals.{In-loop-i}
+use Rattle.interpolation.proofs.lagrange.Points.product.Goals.{In-Some}
 
 -- one factor more
-more : (c : In-loop-i)
+more : (c : In-Some)
     → let a = c.args in
-    let l = c.loop-i in
-    Grows (modulus a.self.field.field) (get_or a.self.points.now (l.i - 1) 0) l.size (product_of (modulus a.self.field.field) (drop l.i a.self.points.now)) l.out
+    let l = c.loop-a in
+    Grows (modulus a.self.field.field) c.in-Some.a.now l.size (product_of (modulus a.self.field.field) l.invariant.done) l.out
 more c =
     let a = c.args in
-    let l = c.loop-i in
-    let s = c.args.self.symbols in
+    let l = c.loop-a in
+    let s = a.self.symbols in
     let v = usable_field _ a.self.field.usable in
-    let cs = product_of (modulus a.self.field.field) (drop l.i a.self.points.now) in
-    let size : length cs ≡ l.size = omega (arith, length_product_of (modulus a.self.field.field) (drop l.i a.self.points.now), length-drop l.i a.self.points.now) in
-    grows _ v _ _ cs l.out l.invariant.1 size (omega (arith, s.short)) (product_of_below _ v _ (below_drop _ l.i _ s.below)) (below_at _ _ s.below _ (omega arith))
+    let steps = c.in-Some.ensures.steps in
+    let size : length (product_of (modulus a.self.field.field) l.invariant.done) ≡ l.size = omega (arith, length_product_of (modulus a.self.field.field) l.invariant.done, l.invariant.holds.0) in
+    grows _ v _ _ _ l.out l.invariant.holds.1 size (omega (arith, s.short, l.invariant.holds.0, done_short _ _ steps l.invariant)) (product_of_below _ v _ (done_below _ _ steps l.invariant _ s.below)) (next_below _ _ steps l.invariant _ s.below)
 
-pub loop-i-init : goal.loop-i-init
-unfolding zeros
-loop-i-init c = (omega arith, one_padded ∙ sym (ap (padded 256) (product_of_end _ c.args.self.points.now)))
+pub loop-a-init : goal.loop-a-init
+unfolding zeros product_of
+loop-a-init c =
+    let start : c.into_iter-a-iterator.result.iter.rest.now ≡ c.args.self.points.now = cc in
+    rw start (from_end_start c.args.self.points.now _ (refl, one_padded))
 
 pub times_linear-requires : goal.times_linear-requires
 times_linear-requires c =
-    let s = c.args.self.symbols in
-    ((more (goal.at.times_linear-requires c).In-loop-i).symbols, below_at _ _ s.below _ (omega arith))
+    ((more (goal.at.times_linear-requires c).In-Some).symbols, rw c.from.ensures (next_below _ _ c.in-Some.ensures.steps c.loop-a.invariant _ c.args.self.symbols.below))
 
-pub loop-i-preserved : goal.loop-i-preserved
-loop-i-preserved c =
-    let a = c.args in
-    let l = c.loop-i in
-    (omega arith, (more (goal.at.loop-i-preserved c).In-loop-i).whole _ c.times_linear.ensures ∙ ap (padded 256) (sym (product_of_next _ a.self.points.now l.i (omega arith) (omega arith))))
+pub loop-a-preserved : goal.loop-a-preserved
+unfolding product_of
+loop-a-preserved c =
+    let l = c.loop-a in
+    let p = modulus c.args.self.field.field in
+    let whole = (more (goal.at.loop-a-preserved c).In-Some).whole _ (rw c.from.ensures at c.times_linear.ensures) in
+    from_end_next _ _ c.in-Some.ensures.steps l.invariant _ (omega (arith, l.invariant.holds.0), whole)
+
+pub returns : goal.returns
+returns c = (from_end_all _ c.in-None.ensures.steps.0 c.loop-a.invariant).1

@@ -1,19 +1,34 @@
--- `product_at` meets its contract. Invariant: the product over the points from i on, a symbol.
-use mathlib.Core.Path.{sym, ◌∙◌}
-use native.Mathlib.Omega.{arith}
-use Rattle.lists.proofs.Numbers.{below_at}
+-- `product_at` meets its contract. Invariant: the product over the points that are done, a symbol.
+use mathlib.Core.Path.{◌≡◌, refl, ap, ◌∙◌}
+use Rattle.field.specs.Fields.{mul}
+use Rattle.field.specs.Kinds.{modulus}
 use Rattle.field.proofs.Bounds.{one_below}
 use Rattle.field.proofs.KindLaws.{usable_field}
-use Rattle.interpolation.proofs.Values.{product_at_end, product_at_next}
+use Rattle.interpolation.specs.Inner.Lagrange.{product_at}
+use Rattle.interpolation.proofs.FromEnd.{from_end_start, next_below, from_end_next, from_end_all}
 use Rattle.interpolation.proofs.lagrange.Points.product_at.Goals as goal
 
-pub loop-i-init : goal.loop-i-init
-loop-i-init c = let v = c.args.self in (one_below _ (usable_field _ v.field.usable), sym (product_at_end _ v.points.now c.args.z))
+pub loop-x-init : goal.loop-x-init
+unfolding product_at
+loop-x-init c =
+    let v = c.args.self in
+    let start : c.into_iter-x-iterator.result.iter.rest.now ≡ v.points.now = cc in
+    (one_below _ (usable_field _ v.field.usable), rw start (from_end_start v.points.now _ refl))
 
 pub sub-factor-requires : goal.sub-factor-requires
-sub-factor-requires c = (c.requires, below_at _ _ c.args.self.symbols.below _ (omega arith))
+sub-factor-requires c =
+    (c.requires, rw c.from.ensures (next_below _ _ c.in-Some.ensures.steps c.loop-x.invariant.1 _ c.args.self.symbols.below))
 
-pub loop-i-preserved : goal.loop-i-preserved
-loop-i-preserved c =
-    let l = c.loop-i in
-    (c.mul-product.ensures.symbol, c.mul-product.ensures.is ∙ rw (c.sub-factor.ensures.is, l.invariant.1) (sym (product_at_next _ c.args.self.points.now c.args.z l.i (omega arith) (omega arith))))
+pub loop-x-preserved : goal.loop-x-preserved
+unfolding product_at
+loop-x-preserved c =
+    let l = c.loop-x in
+    let p = modulus c.args.self.field.field in
+    let is = c.mul-product.ensures.is ∙ rw (c.sub-factor.ensures.is, c.from.ensures) (ap (mul p _) l.invariant.1.holds) in
+    (c.mul-product.ensures.symbol, from_end_next _ _ c.in-Some.ensures.steps l.invariant.1 (λ xs. c.mul-product.result ≡ product_at p xs c.args.z) is)
+
+pub returns-clause-is : goal.returns-clause-is
+returns-clause-is c = from_end_all _ c.in-None.ensures.steps.0 c.loop-x.invariant.1
+
+pub returns-clause-symbol : goal.returns-clause-symbol
+returns-clause-symbol c = c.loop-x.invariant.0

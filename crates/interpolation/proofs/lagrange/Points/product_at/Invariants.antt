@@ -1,11 +1,13 @@
--- `product_at` meets its contract. Invariant: the product over the points from i on, a symbol.
+-- `product_at` meets its contract. Invariant: the product over the points that are done, a symbol.
 use mathlib.Core.Path.{◌≡◌}
 use Prim.Native.Nat.{◌<◌}
-use lib.ListN.{drop}
 use Rattle.field.specs.Fields.{size_of}
 use Rattle.field.specs.Kinds.{modulus}
 use Rattle.interpolation.specs.Inner.Lagrange.{product_at}
+use Rattle.interpolation.proofs.FromEnd.{FromEnd}
 use Rattle.interpolation.proofs.lagrange.Points.product_at.Given as goal
 
-abbrev pub invariant-loop-i : goal.invariant-loop-i
-invariant-loop-i l = (l.product < size_of (modulus l.self.field.field)) × (l.product ≡ product_at (modulus l.self.field.field) (drop l.i l.self.points.now) l.z)
+abbrev pub invariant-loop-x : goal.invariant-loop-x
+invariant-loop-x l =
+    let p = modulus l.self.field.field in
+    (l.product < size_of p) × FromEnd l.self.points.now l.x-iterator.iter.rest.now (λ xs. l.product ≡ product_at p xs l.z)

@@ -8,24 +8,24 @@ use Rattle.field.specs.Kinds.{modulus}
 use Rattle.field.proofs.FieldOf.{size_pos}
 use Rattle.field.proofs.KindLaws.{usable_field}
 use Rattle.decode.specs.Inner.Locating.{partial}
-use Rattle.decode.proofs.locator.discrepancy.Goals as goal
+use Rattle.decode.proofs.locator.Registers.discrepancy.Goals as goal
 
 pub loop-i-init : goal.loop-i-init
 unfolding partial
-loop-i-init c = (size_pos _ (usable_field _ c.args.field.usable), refl)
+loop-i-init c = (size_pos _ (usable_field _ c.args.self.field.usable), refl)
 
 pub mul-term-requires : goal.mul-term-requires
-mul-term-requires c = (rw c.entry.ensures (c.requires.1 c.loop-i.i), rw c.entry-in-loop-i.ensures (c.requires.2 (c.args.e + c.loop-i.i)))
+mul-term-requires c = (rw c.entry.ensures (c.args.self.at_hand c.loop-i.i), rw c.entry-in-loop-i.ensures (c.args.self.sequence (c.args.e + c.loop-i.i)))
 
 pub loop-i-preserved : goal.loop-i-preserved
 unfolding partial
 loop-i-preserved c =
     let l = c.loop-i in
-    let p = modulus c.args.field.field in (
+    let p = modulus c.args.self.field.field in (
       c.add-sum.ensures.symbol,
       c.add-sum.ensures.is
           ∙ ap₂ (add p) l.invariant.1 (c.mul-term.ensures.is ∙ ap₂ (mul p) c.entry.ensures c.entry-in-loop-i.ensures)
-          ∙ sym (ap (partial p c.args.v.now c.args.s.now c.args.e) (add-one l.i)),
+          ∙ sym (ap (partial p c.args.self.w.now c.args.self.s.now c.args.e) (add-one l.i)),
     )
 
 pub returns : goal.returns
@@ -33,4 +33,4 @@ returns c =
     let s = c.args in
     let l = c.loop-i in
     let e : l.i ≡ s.m = omega arith in
-    record { is = l.invariant.1 ∙ ap (partial (modulus s.field.field) s.v.now s.s.now s.e) e; symbol = l.invariant.0 }
+    record { is = l.invariant.1 ∙ ap (partial (modulus s.self.field.field) s.self.w.now s.self.s.now s.e) e; symbol = l.invariant.0 }

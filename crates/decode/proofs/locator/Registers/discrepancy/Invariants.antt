@@ -4,7 +4,7 @@ use Prim.Native.Nat.{◌<◌}
 use Rattle.field.specs.Fields.{size_of}
 use Rattle.field.specs.Kinds.{modulus}
 use Rattle.decode.specs.Inner.Locating.{partial}
-use Rattle.decode.proofs.locator.discrepancy.Given as goal
+use Rattle.decode.proofs.locator.Registers.discrepancy.Given as goal
 
 abbrev pub invariant-loop-i : goal.invariant-loop-i
-invariant-loop-i l = (l.sum < size_of (modulus l.field.field)) × (l.sum ≡ partial (modulus l.field.field) l.v l.s l.e l.i)
+invariant-loop-i l = (l.sum < size_of (modulus l.self.field.field)) × (l.sum ≡ partial (modulus l.self.field.field) l.self.w.now l.self.s.now l.e l.i)

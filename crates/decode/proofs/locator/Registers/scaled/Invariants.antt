@@ -3,7 +3,7 @@ use lib.ListN.{get_or}
 use Rattle.lists.proofs.Fill.{Filled}
 use Rattle.field.specs.Fields.{mul}
 use Rattle.field.specs.Kinds.{modulus}
-use Rattle.decode.proofs.locator.scaled.Given as goal
+use Rattle.decode.proofs.locator.Registers.scaled.Given as goal
 
 abbrev pub invariant-loop-x : goal.invariant-loop-x
-invariant-loop-x l = Filled 255 l.size (λ y. mul (modulus l.field.field) l.d (get_or l.w y 0)) l.x l.out
+invariant-loop-x l = Filled 255 l.size (λ y. mul (modulus l.self.field.field) l.d (get_or l.self.w.now y 0)) l.x l.out

@@ -9,33 +9,33 @@ use Rattle.field.proofs.FieldOf.{size_pos}
 use Rattle.field.proofs.KindLaws.{usable_field}
 use Rattle.decode.specs.Inner.Locating.{amended_at}
 use Rattle.decode.proofs.Arrays.{shifted_below}
-use Rattle.decode.proofs.locator.amended.Goals as goal
+use Rattle.decode.proofs.locator.Registers.amended.Goals as goal
 
 pub loop-x-init : goal.loop-x-init
 unfolding zeros
-loop-x-init c = filled_start 255 _ _ c.requires.3
+loop-x-init c = filled_start 255 _ _ c.requires.1
 
 pub at-requires : goal.at-requires
-at-requires c = omega (arith, c.requires.3)
+at-requires c = omega (arith, c.requires.1)
 
 pub mul-product-requires : goal.mul-product-requires
 mul-product-requires c =
     let a = c.args in
-    (c.requires.0, rw c.at.ensures (shifted_below _ a.v.now a.j c.loop-x.x (size_pos _ (usable_field _ a.field.usable)) c.requires.2))
+    (c.requires.0, rw c.at.ensures (shifted_below _ a.self.v.now a.j c.loop-x.x (size_pos _ (usable_field _ a.self.field.usable)) a.self.before))
 
 pub at-requires-in-loop-x : goal.at-requires-in-loop-x
-at-requires-in-loop-x c = omega (arith, c.requires.3, c.loop-x-test.true)
+at-requires-in-loop-x c = omega (arith, c.requires.1, c.loop-x-test.true)
 
 pub sub-requires : goal.sub-requires
 sub-requires c =
     let a = c.args in
-    (rw c.at-in-loop-x.ensures (shifted_below _ a.w.now a.i c.loop-x.x (size_pos _ (usable_field _ a.field.usable)) c.requires.1), c.mul-product.ensures.symbol)
+    (rw c.at-in-loop-x.ensures (shifted_below _ a.self.w.now a.i c.loop-x.x (size_pos _ (usable_field _ a.self.field.usable)) a.self.at_hand), c.mul-product.ensures.symbol)
 
 pub loop-x-preserved : goal.loop-x-preserved
 unfolding amended_at
 loop-x-preserved c =
     let a = c.args in
-    let p = modulus a.field.field in
+    let p = modulus a.self.field.field in
     filled_put c.loop-x.invariant c.loop-x-test.true
     (c.sub.ensures.is ∙ ap₂ (sub p) c.at-in-loop-x.ensures (c.mul-product.ensures.is ∙ ap (mul p a.d) c.at.ensures))
 

@@ -1,0 +1,47 @@
+-- A list that is read from its end: the last of it are done, and the rest is to come.
+use mathlib.Core.Path.{◌≡◌, sym, ap, ◌∙◌}
+use mathlib.Core.Bool.{true}
+use mathlib.Core.List.{List, [], ◌∷◌, ◌++◌, append-nil, append_assoc}
+use Prim.Native.Nat.{ℕ, ◌+◌, ◌<◌}
+use native.Mathlib.Omega.{arith}
+use lib.ListN.{length, length-append}
+use Rattle.std.specs.List.{push}
+use Rattle.lists.specs.Numbers.{all_below}
+use Rattle.lists.proofs.Numbers.{below_cons}
+
+pub record FromEnd (xs rest : List ℕ) (Holds : List ℕ → Type 0) : Type 0 where
+  pub done : List ℕ
+  pub parts : rest ++ done ≡ xs
+  pub holds : Holds done
+
+pub from_end_start : (xs : List ℕ) (Holds : List ℕ → Type 0) → Holds [] → FromEnd xs xs Holds
+from_end_start xs Holds h = record { done = []; parts = append-nil xs; holds = h }
+
+-- the numbers of a part after others are below what all are below
+below_after : (q : ℕ) (front back : List ℕ) → all_below q (front ++ back) ≡ true → all_below q back ≡ true
+below_after q [] back b = b
+below_after q (x ∷ front) back b = below_after q front back (below_cons q x (front ++ back) b).1
+
+module _ {xs before : List ℕ} (after : List ℕ) (x : ℕ) {Holds : List ℕ → Type 0} (last : before ≡ push after x) (now : FromEnd xs before Holds) where
+  -- the number that comes next
+  parts_next : after ++ (x ∷ now.done) ≡ xs
+  parts_next = sym (append_assoc after (x ∷ []) now.done) ∙ ap (λ (ys : List ℕ). ys ++ now.done) (sym last) ∙ now.parts
+
+  both_below : (q : ℕ) → all_below q xs ≡ true → (x < q) × (all_below q now.done ≡ true)
+  both_below q below = below_cons q x now.done (below_after q after (x ∷ now.done) (rw parts_next below))
+
+  pub next_below : (q : ℕ) → all_below q xs ≡ true → x < q
+  next_below q below = (both_below q below).0
+
+  pub done_below : (q : ℕ) → all_below q xs ≡ true → all_below q now.done ≡ true
+  done_below q below = (both_below q below).1
+
+  pub done_short : length now.done + 1 + length after ≡ length xs
+  done_short = omega (arith, ap length parts_next, length-append after (x ∷ now.done))
+
+  pub from_end_next : (Next : List ℕ → Type 0) → Next (x ∷ now.done) → FromEnd xs after Next
+  from_end_next Next h = record { done = x ∷ now.done; parts = parts_next; holds = h }
+
+pub from_end_all : {xs : List ℕ} (rest : List ℕ) {Holds : List ℕ → Type 0} → length rest ≡ 0 → FromEnd xs rest Holds → Holds xs
+from_end_all [] {Holds} none now = rw (← now.parts) now.holds
+from_end_all (y ∷ ys) none now = absurd (omega arith)
