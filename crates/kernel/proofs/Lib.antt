@@ -5,3 +5,4 @@ pub mod Digits
 pub mod Ratio
 pub mod Maximum
 pub mod Halves
+pub mod Chunks

@@ -1,5 +1,6 @@
 // Rows over the field of 256 elements: the steps of Horner's rule over the digits of the coefficients. Each step is one pass over acc.
 // None, one or two rows have a function each: one with a list of rows needs a loop over it inside the loop over lanes, and is no plainer.
+// Rows are read by the index: after `for (sum, symbol) in acc.iter_mut().zip(row)` a proof knows nothing about acc.
 ghost use Rattle.std.specs.Prelude.{◌≡◌, ◌*◌, ◌<◌, length, bit_xor, slice_index};
 ghost use Rattle.field.specs.Bytes.{times_x};
 ghost use Rattle.kernel.specs.Inner.Lanes.{lanewise};

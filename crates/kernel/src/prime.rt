@@ -1,4 +1,5 @@
-// Rows over a prime field whose symbols are bytes: products of bytes in 16 bits, and one division for all lanes.
+// Rows over a prime field whose symbols are bytes: products of bytes in 16 bits, and one division for all lanes. A row is read
+// by the index: after `for (sum, x) in acc.iter_mut().zip(row)` a proof knows nothing about acc.
 ghost use Rattle.std.specs.Prelude.{◌≡◌, ◌*◌, ◌/◌, ◌%◌, ◌<◌, ◌≤◌, true, length};
 ghost use Rattle.lists.specs.Numbers.{all_below};
 ghost use Rattle.field.specs.Fields.{add, mul};

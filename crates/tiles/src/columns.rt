@@ -19,25 +19,25 @@ fn fill_lane(width: usize, t: usize, table: &[u8], lane: &mut [u8])
     }
 }
 
-// Fills every lane through its own part.
-fn turn(rows: usize, lanes: usize, table: &[u8], out: &mut [u8])
-    requires { (length table.now ≡ rows * lanes) × (length out.old ≡ rows * lanes) }
-    ensures { out.new ≡ rearranged row_after_row lane_after_lane rows lanes table.now }
+// The lanes of a tile, one after the other: each is filled through its own part.
+pub fn scatter(rows: usize, lanes: usize, tile: &[u8], part: &mut [u8])
+    requires { (length tile.now ≡ rows * lanes) × (length part.old ≡ rows * lanes) }
+    ensures { part.new ≡ rearranged row_after_row lane_after_lane rows lanes tile.now }
 {
     for t in 0..lanes {
         let start = t * rows;
         let end = start + rows;
-        fill_lane(lanes, t, table, &mut out[start..end]);
+        fill_lane(lanes, t, tile, &mut part[start..end]);
     }
 }
 
-// The rows of a tile, from lanes that stand side by side: few lanes, or many rows, byte by byte, as the rows of a table whose columns are the tile's rows.
+// The rows of a tile, from lanes that stand side by side: few lanes, or many rows, byte by byte, as the rows of a tile whose lanes are the rows here.
 fn gather(lanes: Lanes, tile: &mut [u8])
     requires { length tile.old ≡ lanes.rows * lanes.count }
     ensures { tile.new ≡ rearranged lane_after_lane row_after_row lanes.entry.rows lanes.entry.count lanes.entry.bytes.now }
 {
     if lanes.count < FEW || 512 < lanes.rows {
-        return turn(lanes.count, lanes.rows, lanes.bytes, tile);
+        return scatter(lanes.count, lanes.rows, lanes.bytes, tile);
     }
     if lanes.rows <= 64 {
         return many_lanes::gather_blocks(lanes, &mut kernel::filled::<u8, 4096>(0), tile);
@@ -63,12 +63,4 @@ pub fn gather_lanes(
         bytes: source,
     };
     gather(all.part(first, count), tile);
-}
-
-// The lanes of a tile, one after the other.
-pub fn scatter(rows: usize, lanes: usize, tile: &[u8], part: &mut [u8])
-    requires { (length tile.now ≡ rows * lanes) × (length part.old ≡ rows * lanes) }
-    ensures { part.new ≡ rearranged row_after_row lane_after_lane rows lanes tile.now }
-{
-    turn(rows, lanes, tile, part);
 }

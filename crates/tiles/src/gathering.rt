@@ -23,8 +23,8 @@ fn read16(part: &[u8], at: usize, to: usize, block: &mut [u8])
 }
 
 // 16 rows of each lane, from row j on, as lanes of 16.
-fn fill_block(lanes: Lanes, j: usize, block: &mut [u8])
-    requires { (lanes.count ≤ 64) × (j < lanes.rows) × (length block.old ≡ 1024) }
+fn fill_block(lanes: Lanes, j: usize, block: &mut [u8; 1024])
+    requires { (lanes.count ≤ 64) × (j < lanes.rows) }
     ensures { BlockOf lanes.entry.rows j lanes.entry.count lanes.entry.bytes.now block.new }
 {
     for t in 0..lanes.count {

@@ -2,8 +2,9 @@
 use Prim.Native.Nat.{◌/◌, ◌%◌}
 use mathlib.Core.Path.{◌≡◌}
 use native.Mathlib.Omega.{arith}
+use Rattle.layout.specs.Width.{symbol_bytes}
 use Rattle.symbols.proofs.Sizes.{is_two}
-use Rattle.symbols.proofs.Written.{one_written, two_written}
+use Rattle.symbols.proofs.Written.{one_written}
 use Rattle.symbols.proofs.write_symbol.Goals as goal
 use Rattle.symbols.proofs.write_symbol.Goals.{Else-w-eq1}
 
@@ -15,6 +16,7 @@ pub returns-then-w-eq1 : goal.returns-then-w-eq1
 returns-then-w-eq1 c = one_written _ _ c.args.out.now c.if-w-eq1.true c.requires.3
 
 pub returns : goal.returns
+unfolding symbol_bytes
 returns c =
     let high : c.args.x / 256 % 256 ≡ c.args.x / 256 = omega (arith, c.ranges.x) in
-    rw (c.to_be_bytes.ensures, high) (two_written _ _ c.args.out.now (two (goal.at.returns c).Else-w-eq1) c.requires.3)
+    rw (two (goal.at.returns c).Else-w-eq1, c.copy_from_slice.ensures.after, c.to_be_bytes.ensures, high)

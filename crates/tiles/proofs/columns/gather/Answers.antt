@@ -5,4 +5,4 @@ use Rattle.tiles.proofs.columns.gather.Goals as goal
 
 pub returns-then-lanes-lt-FEW : goal.returns-then-lanes-lt-FEW
 returns-then-lanes-lt-FEW c =
-    let a = c.args.lanes in c.turn.ensures ∙ turned a.rows a.count a.bytes.now
+    let a = c.args.lanes in c.scatter.ensures ∙ turned a.rows a.count a.bytes.now
