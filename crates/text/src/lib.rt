@@ -54,8 +54,9 @@ impl<'a> Writer<'a> {
         self.bytes(&[b]);
     }
 
+    // Any bytes.
     #[tactic(auto, unfolding(crate::specs::Inner::Writer::room))]
-    fn bytes(&mut self, bytes: &[u8])
+    pub fn bytes(&mut self, bytes: &[u8])
         requires { length bytes.now ≤ room self.old }
         ensures { Writes self.old self.new bytes.now }
     {
@@ -111,6 +112,17 @@ impl<'a> Writer<'a> {
         self.number(x);
     }
 
+    // A space and any number below 100,000.
+    pub fn decimal_field(&mut self, x: u32)
+        requires small { x < 100000 }
+        requires room { 6 ≤ room self.old }
+        ensures text { Writes self.old self.new (field x) }
+        ensures room { room self.old ≤ room self.new + 6 }
+    {
+        self.word(" ");
+        self.decimal(x);
+    }
+
     // The fields of a line, and its line feed.
     pub fn fields<N: Number>(&mut self, xs: &[N])
         requires { (N.digits + 1) * length xs.now + 1 ≤ room self.old }
@@ -130,7 +142,17 @@ impl<'a> Writer<'a> {
         ensures room { room self.old
             ≤ room self.new + length word.now + (N.digits + 1) * length xs.now + 1 }
     {
-        self.word(word);
+        self.bytes_line(word.as_bytes(), xs);
+    }
+
+    // The same with any bytes for the word.
+    pub fn bytes_line<N: Number>(&mut self, bytes: &[u8], xs: &[N])
+        requires { length bytes.now + (N.digits + 1) * length xs.now + 1 ≤ room self.old }
+        ensures text { Writes self.old self.new (line bytes.now (map N.value xs.now)) }
+        ensures room { room self.old
+            ≤ room self.new + length bytes.now + (N.digits + 1) * length xs.now + 1 }
+    {
+        self.bytes(bytes);
         self.fields(xs);
     }
 }

@@ -25,8 +25,7 @@ fn write_count(writer: &mut Writer, w: u32, count: u32)
     ensures room { room writer.old ≤ room writer.new + 12 }
 {
     writer.decimal(w);
-    writer.byte(b' ');
-    writer.decimal(count);
+    writer.decimal_field(count);
     writer.byte(b'\n');
 }
 
