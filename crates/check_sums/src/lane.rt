@@ -10,7 +10,7 @@ ghost use Rattle.generator.specs.Codewords.{is_word};
 ghost use Rattle.check_sums.specs.Inner.Sums.{check_sums, power_bytes, power_rows};
 
 use crate::powers::{self, RootPowers};
-use generator::Code;
+use generator::{Code, Codec};
 
 // The place of the next power: (i + step) modulo n.
 pub fn stepped(i: usize, step: usize, n: usize) -> usize
@@ -32,10 +32,10 @@ fn byte_of(x: u16, last: bool) -> u8
 impl RootPowers<'_> {
     // Byte v of the w bytes of node j's factors in check sums 1, 2, ..
     fn fill_row(self, w: usize, v: usize, j: usize, row: &mut [u8])
-        requires { (w ≡ width self.code.header) × (v < w) × (j < self.code.header.n) }
-        ensures { row.new ≡ power_bytes self.entry.code.header (length row.old) w v j }
+        requires { (w ≡ width self.codec.code.header) × (v < w) × (j < self.codec.code.header.n) }
+        ensures { row.new ≡ power_bytes self.entry.codec.code.header (length row.old) w v j }
     {
-        let h = self.code.header;
+        let h = self.codec.code.header;
         let powers = self.list;
         let n = h.n as usize;
         let last = v + 1 == w;
@@ -56,8 +56,10 @@ fn fill_power_rows(code: Code, rows: &mut [u8])
     let w = symbols::width_of(h);
     let count = w * h.n as usize;
     let checks = (h.n - h.k) as usize;
-    let list = powers::powers(code);
-    let powers = RootPowers { code, list: &list };
+    let tables = field::constant_tables();
+    let codec = Codec::new(code, &tables);
+    let list = powers::powers(codec);
+    let powers = RootPowers { codec, list: &list };
     for i in 0..count {
         let start = i * checks;
         let end = start + checks;

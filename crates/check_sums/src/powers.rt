@@ -4,25 +4,15 @@ ghost use Rattle.lists.specs.Padded.{padded};
 ghost use Rattle.check_sums.specs.Inner.Powers.{powers_of, factors_of};
 
 use crate::lane::stepped;
-use field::Tables;
-use field::lent::Arithmetic;
-use generator::Code;
+use generator::Codec;
 
-// The powers of the root below its order, and zeros after them. The caller lends them to `RootPowers`.
+// The powers of the root below its order, and zeros after them. The caller lends them to `RootPowers`. Four are held at a time, each the fourth after the last one's: so a product need not wait for the one before it.
 // An array with zeros after: it is as long as the code's n says, so no length stands beside it.
-pub fn powers(code: Code) -> [u16; 255]
-    ensures { result ≡ padded 255 (powers_of code.header) }
+pub fn powers(codec: Codec) -> [u16; 255]
+    ensures { result ≡ padded 255 (powers_of codec.entry.code.header) }
 {
-    let tables = field::constant_tables();
-    powers_with(code, &tables)
-}
-
-// The same with lent tables. Four powers are held at a time, each the fourth after the last one's: so a product need not wait for the one before it.
-pub fn powers_with(code: Code, tables: &Tables) -> [u16; 255]
-    ensures { result ≡ padded 255 (powers_of code.header) }
-{
-    let h = code.header;
-    let field = Arithmetic::new(h.field, tables);
+    let h = codec.code.header;
+    let field = codec.field;
     let root = h.root;
     let n = h.n as usize;
     let square = field.mul(root, root);
@@ -46,9 +36,9 @@ pub fn powers_with(code: Code, tables: &Tables) -> [u16; 255]
 // The powers of a code's root below its order, with zeros after them.
 #[derive(Clone, Copy)]
 pub struct RootPowers<'a> {
-    pub code: Code,
+    pub codec: Codec<'a>,
     pub list: &'a [u16],
-    pub ghost are: { list.now ≡ padded 255 (powers_of code.header) },
+    pub ghost are: { list.now ≡ padded 255 (powers_of codec.code.header) },
 }
 
 impl RootPowers<'_> {
@@ -56,9 +46,9 @@ impl RootPowers<'_> {
     // An array with zeros after: there is one for each node, so no length stands beside it.
     pub fn factors(self, e: usize) -> [u16; 255]
         requires { e ≤ 255 }
-        ensures { result ≡ padded 255 (factors_of self.entry.code.header e) }
+        ensures { result ≡ padded 255 (factors_of self.entry.codec.code.header e) }
     {
-        let h = self.code.header;
+        let h = self.codec.code.header;
         let powers = self.list;
         let n = h.n as usize;
         let step = e % n;

@@ -37,8 +37,8 @@ pub fn exponents(n: usize) -> [u8; 510]
 impl Transform<'_, '_> {
     // root^T(x).
     pub fn chirps(self, exponents: &[u8; 510]) -> [u16; 510]
-        requires { exponents.now ≡ from (λ x. triangle x % self.powers.code.header.n) 0 510 }
-        ensures { result ≡ from (chirp_at self.entry.powers.code.header) 0 510 }
+        requires { exponents.now ≡ from (λ x. triangle x % self.powers.codec.code.header.n) 0 510 }
+        ensures { result ≡ from (chirp_at self.entry.powers.codec.code.header) 0 510 }
     {
         let powers = self.powers.list;
         let mut out = [0u16; 510];
@@ -51,15 +51,15 @@ impl Transform<'_, '_> {
 
     // Each symbol over root^T(j), and zeros after them.
     pub fn unchirp(self, exponents: &[u8; 510], symbols: &[u16]) -> [u16; 255]
-        requires { (exponents.now ≡ from (λ x. triangle x % self.powers.code.header.n) 0 510) × (length symbols.now ≤ 255) × (all_below (size self.powers.code.header) symbols.now ≡ true) }
-        ensures { result ≡ padded 255 (unchirped self.entry.powers.code.header symbols.now) }
+        requires { (exponents.now ≡ from (λ x. triangle x % self.powers.codec.code.header.n) 0 510) × (length symbols.now ≤ 255) × (all_below (size self.powers.codec.code.header) symbols.now ≡ true) }
+        ensures { result ≡ padded 255 (unchirped self.entry.powers.codec.code.header symbols.now) }
     {
-        let n = self.powers.code.header.n as usize;
+        let n = self.powers.codec.code.header.n as usize;
         let powers = self.powers.list;
         let mut out = [0u16; 255];
         for j in 0..symbols.len() {
             let e = negative(n, exponents[j] as usize);
-            out[j] = self.field.mul(symbols[j] as u32, powers[e] as u32) as u16;
+            out[j] = self.powers.codec.field.mul(symbols[j] as u32, powers[e] as u32) as u16;
         }
         out
     }

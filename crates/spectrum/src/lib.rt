@@ -10,26 +10,23 @@ ghost use Rattle.spectrum.specs.Inner.Spectrum.{spectrum_of};
 mod chirps;
 
 use check_sums::powers::RootPowers;
-use field::lent::Arithmetic;
 
-// The Fourier transform of a lane over a code's field: the powers of the code's root, the field in which the code reckons, and the lane, n symbols of the code.
+// The Fourier transform of a lane over a code's field: the powers of the code's root, and the lane, n symbols of the code.
 #[derive(Clone, Copy)]
 pub struct Transform<'p, 'a> {
     pub powers: RootPowers<'p>,
-    pub field: Arithmetic<'a>,
     pub lane: &'a [u16],
-    pub ghost same: { field.field ≡ powers.code.header.field },
-    pub ghost long: { length lane.now ≡ powers.code.header.n },
-    pub ghost below: { all_below (size powers.code.header) lane.now ≡ true },
+    pub ghost long: { length lane.now ≡ powers.codec.code.header.n },
+    pub ghost below: { all_below (size powers.codec.code.header) lane.now ≡ true },
 }
 
 impl Transform<'_, '_> {
     // The spectrum of the lane, and zeros after it.
     // An array with zeros after: it is as long as the list that it is made from, so no length stands beside it.
     pub fn spectrum(self) -> [u16; 255]
-        ensures { result ≡ padded 255 (spectrum_of self.entry.powers.code.header self.entry.lane.now) }
+        ensures { result ≡ padded 255 (spectrum_of self.entry.powers.codec.code.header self.entry.lane.now) }
     {
-        let h = self.powers.code.header;
+        let h = self.powers.codec.code.header;
         let n = h.n as usize;
         let exponents = chirps::exponents(n);
         let row = self.chirps(&exponents);

@@ -25,7 +25,7 @@ loop-i-preserved c =
     let a = c.args in
     let w = c.width_of-w.result in
     let checks = a.code.header.n - a.code.header.k in
-    let l = c.loop-i in rw (row_after, add-sub_cancel_left, c.fill_row.ensures ∙ ap (λ (x : ℕ). power_bytes a.code.header x w (l.i % w) (l.i / w)) (part_length (l.i * checks) checks l.rows (omega (arith, l.invariant.long, row_in (goal.at.loop-i-preserved c).In-loop-i))))
+    let l = c.loop-i in rw (row_after, add-sub_cancel_left, c.fill_row.ensures, c.new-codec.ensures, part_length (l.i * checks) checks l.rows (omega (arith, l.invariant.long, row_in (goal.at.loop-i-preserved c).In-loop-i)))
     (fills_part (byte_row a.code.header w l.i) checks
     (rw (rows_next _ _ _ c.loop-i-test.true) at l.invariant)
     (length_power_bytes a.code.header checks w (l.i % w) (l.i / w))

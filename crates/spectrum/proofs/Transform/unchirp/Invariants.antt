@@ -13,4 +13,4 @@ abbrev pub read : ℕ → ℕ → List ℕ → List ℕ → List ℕ → ℕ →
 read p n powers exponents symbols j = mul p (get_or symbols j 0) (get_or powers (negative n (get_or exponents j 0)) 0)
 
 abbrev pub invariant-loop-j : goal.invariant-loop-j
-invariant-loop-j l = Filled 255 (length l.symbols) (read (modulus l.self.field.field) l.n l.powers l.exponents l.symbols) l.j l.out
+invariant-loop-j l = Filled 255 (length l.symbols) (read (modulus l.self.powers.codec.field.field) l.n l.powers l.exponents l.symbols) l.j l.out

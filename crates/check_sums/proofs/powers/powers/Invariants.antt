@@ -1,10 +1,10 @@
--- `powers_with` meets its contract. Invariant: x to x3 are the powers of the root from i on, and the powers below i are written.
+-- `powers` meets its contract. Invariant: x to x3 are the powers of the root from i on, and the powers below i are written.
 use mathlib.Core.Path.{◌≡◌}
 use Prim.Native.Nat.{◌+◌}
 use Rattle.lists.proofs.Fill.{Filled}
 use Rattle.field.specs.Fields.{power}
 use Rattle.field.specs.Kinds.{modulus}
-use Rattle.check_sums.proofs.powers.powers_with.Given as goal
+use Rattle.check_sums.proofs.powers.powers.Given as goal
 
 abbrev pub invariant-loop-i : goal.invariant-loop-i
 invariant-loop-i l =
