@@ -72,8 +72,8 @@ pub fn lagrange_basis(field: Arithmetic, root: u32, places: &[u8], offset: u32) 
     let product = points.product();
     Basis {
         points: list,
-        scales: scales,
-        product: product,
+        scales,
+        product,
     }
 }
 
@@ -110,12 +110,10 @@ pub fn terms_at(code: Code, tables: &Tables, product: &[u16], base: &[u16], x: u
 {
     let h = code.header;
     let k = h.k as usize;
-    let first: usize = 1;
-    let end = k + 1;
     let field = Arithmetic::new(h.field, tables);
     let polynomial = Polynomial {
         field,
-        coefficients: &product[first..end],
+        coefficients: &product[1..=k],
     };
     Dividend {
         polynomial,
@@ -124,12 +122,13 @@ pub fn terms_at(code: Code, tables: &Tables, product: &[u16], base: &[u16], x: u
     .quotient_terms(x)
 }
 
-// The terms of row r.
-pub fn row_terms(code: Code, tables: &Tables, rows: Basis, base: [u16; 255], r: usize) -> [u16; 255]
-    requires { (rows ≡ basis_of (modulus_of code.header) (row_points code.header)) × (base ≡ padded 255 (base_inverses code.header)) × (r < code.header.k) }
-    ensures { result ≡ padded 255 (row_terms code.header r) }
-{
-    let points = rows.points;
-    let product = rows.product;
-    terms_at(code, tables, &product, &base, points[r] as u32)
+impl Setup {
+    // The terms of row r.
+    pub fn row_terms(&self, code: Code, tables: &Tables, r: usize) -> [u16; 255]
+        requires { (self.now.shifts ≡ basis_of (modulus_of code.header) (row_points code.header)) × (self.now.base ≡ padded 255 (base_inverses code.header)) × (r < code.header.k) }
+        ensures { result ≡ padded 255 (row_terms code.header r) }
+    {
+        let x = self.shifts.points[r] as u32;
+        terms_at(code, tables, &self.shifts.product, &self.base, x)
+    }
 }

@@ -9,55 +9,85 @@ use field::lent::Arithmetic;
 use field::{Field, Tables};
 use generator::Code;
 
-// Entry 0, factor by factor; y is root^i.
-fn first_entry(code: Code, tables: &Tables) -> u32
-    ensures { result ≡ entry_at code.header 0 0 }
-{
-    let field = Arithmetic::new(code.header.field, tables);
-    let root = code.header.root;
-    let count = code.header.k - 1;
-    let x = field.power(root, count as u32);
-    let mut product = Field::ONE;
-    let mut y = Field::ONE;
-    for _ in 0..count {
-        product = field.mul(field.sub(x, y), product);
-        y = field.mul(root, y);
+// What leads from one entry to the next: p(root·x)·(x − pole) = p(x)·(scale·x − pole), where scale is root^(k−1) and pole is root^(k−2).
+#[derive(Clone, Copy)]
+struct Recurrence<'a> {
+    code: Code,
+    field: Arithmetic<'a>,
+    scale: u32,
+    pole: u32,
+    ghost same: { field.field ≡ code.header.field },
+    ghost scale_is: { scale ≡ power (modulus_of code.header) code.header.root (code.header.k - 1) },
+    ghost pole_is: { pole ≡ power (modulus_of code.header) code.header.root (code.header.n + code.header.k - 2) },
+}
+
+impl Recurrence<'_> {
+    // Entry 0, which is p(scale), factor by factor; y is root^i.
+    fn first(self) -> u32
+        ensures { result ≡ entry_at self.entry.code.header 0 0 }
+    {
+        let Recurrence {
+            code,
+            field,
+            scale,
+            ..
+        } = self;
+        let root = code.header.root;
+        let mut product = Field::ONE;
+        let mut y = Field::ONE;
+        for _ in 0..code.header.k - 1 {
+            product = field.mul(field.sub(scale, y), product);
+            y = field.mul(root, y);
+        }
+        product
     }
-    product
+
+    // p(root·x) from p(x), which is `entry`.
+    fn next(self, x: u32, entry: u32) -> u32
+        requires { (x < size self.code.header) × (x ≡ self.pole → ⊥) × (entry ≡ base_at self.code.header x) }
+        ensures { result ≡ base_at self.entry.code.header (mul (modulus_of self.entry.code.header) self.entry.code.header.root x) }
+    {
+        let field = self.field;
+        let above = field.sub(field.mul(self.scale, x), self.pole);
+        let below = field.sub(x, self.pole);
+        let ratio = field.mul(above, field.inverse(below));
+        field.mul(entry, ratio)
+    }
+
+    // The n − k + 1 entries that are not 0, each from the one before it, and zeros after them.
+    fn word(self) -> [u16; 255]
+        ensures { result ≡ padded 255 (base_word self.entry.code.header) }
+    {
+        let h = self.code.header;
+        let last = (h.n - h.k) as usize;
+        let mut out = [0u16; 255];
+        let mut x = self.scale;
+        let mut entry = self.first();
+        out[0] = entry as u16;
+        for place in &mut out[1..=last] {
+            entry = self.next(x, entry);
+            x = self.field.mul(h.root, x);
+            *place = entry as u16;
+        }
+        out
+    }
 }
 
-// p(root·x) from p(x), which is `entry`: p(root·x)·(x − pole) = p(x)·(scale·x − pole), where scale is root^(k−1) and pole is root^(k−2).
-fn next_entry(code: Code, tables: &Tables, scale: u32, pole: u32, x: u32, entry: u32) -> u32
-    requires { (scale ≡ power (modulus_of code.header) code.header.root (code.header.k - 1)) × (pole ≡ power (modulus_of code.header) code.header.root (code.header.n + code.header.k - 2)) × (x < size code.header) × (x ≡ pole → ⊥) × (entry ≡ base_at code.header x) }
-    ensures { result ≡ base_at code.header (mul (modulus_of code.header) code.header.root x) }
-{
-    let field = Arithmetic::new(code.header.field, tables);
-    let above = field.sub(field.mul(scale, x), pole);
-    let below = field.sub(x, pole);
-    let ratio = field.mul(above, field.inverse(below));
-    field.mul(entry, ratio)
-}
-
-// The n − k + 1 entries that are not 0, each from the one before it, and zeros after them.
-pub fn fill_base(code: Code, tables: &Tables) -> [u16; 255]
+// The base word of a code, and zeros after it.
+pub fn base_word(code: Code, tables: &Tables) -> [u16; 255]
     ensures { result ≡ padded 255 (base_word code.header) }
 {
     let h = code.header;
     let field = Arithmetic::new(h.field, tables);
-    let root = h.root;
     let n = h.n as u32;
     let k = h.k as u32;
-    let scale = field.power(root, k - 1);
-    let pole = field.power(root, n + k - 2);
-    let last = (n - k) as usize;
-    let mut out = [0u16; 255];
-    let mut x = scale;
-    let mut entry = first_entry(code, tables);
-    out[0] = entry as u16;
-    for j in 0..last {
-        entry = next_entry(code, tables, scale, pole, x, entry);
-        x = field.mul(root, x);
-        out[j + 1] = entry as u16;
+    let scale = field.power(h.root, k - 1);
+    let pole = field.power(h.root, n + k - 2);
+    Recurrence {
+        code,
+        field,
+        scale,
+        pole,
     }
-    out
+    .word()
 }

@@ -21,8 +21,8 @@ impl Generator {
     pub fn new(code: Code, tables: &Tables) -> Self
         ensures { result.code ≡ code }
     {
-        let shifts = shifts::fill_shifts(code.dimensions());
-        let base = base::fill_base(code, tables);
+        let shifts = shifts::shifts_of(code.dimensions());
+        let base = base::base_word(code, tables);
         Self { code, shifts, base }
     }
 

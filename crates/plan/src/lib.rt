@@ -2,18 +2,17 @@
 #![tactic(auto)]
 
 ghost use Rattle.std.specs.Prelude.{◌≡◌};
-ghost use Rattle.lists.specs.Padded.{padded};
 ghost use Rattle.generator.specs.Answers.{numbered};
-ghost use Rattle.generator.specs.Generator.{base_word};
 ghost use Rattle.plan.specs.Plans.{plan_of, plan_for, PlanSays};
 
 use generator::{Code, Header, Refusal};
+use shifts::Rows;
 
 mod base;
 mod entries;
 mod generator_rows;
 
-pub use base::fill_base;
+pub use base::base_word;
 pub use entries::entry_at;
 pub use generator_rows::Generator;
 
@@ -31,14 +30,6 @@ pub struct Plan {
     pub base: [u16; 255],
 }
 
-// The base word of a code, and zeros after it.
-pub fn base_word(code: Code) -> [u16; 255]
-    ensures { result ≡ padded 255 (base_word code.header) }
-{
-    let tables = field::constant_tables();
-    base::fill_base(code, &tables)
-}
-
 // The plan of a code.
 #[tactic(auto, unfolding(crate::specs::Plans::plan_of, generator::specs::Records::distance))]
 pub fn plan_of(code: Code) -> Plan
@@ -46,10 +37,9 @@ pub fn plan_of(code: Code) -> Plan
 {
     let Header { n, k, .. } = code.header;
     let dimensions = code.dimensions();
-    let rows = shifts::place_rows(dimensions);
-    let shifts = rows.shifts;
-    let firsts = rows.firsts;
-    let base = base_word(code);
+    let Rows { shifts, firsts } = shifts::place_rows(dimensions);
+    let tables = field::constant_tables();
+    let base = base_word(code, &tables);
     Plan {
         n,
         k,

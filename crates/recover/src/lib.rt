@@ -33,7 +33,7 @@ impl Listed<'_> {
         self.recover_fault(out.len())?;
         let h = self.code.header;
         let k = h.k as usize;
-        let shifts = shifts::fill_shifts(self.code.dimensions());
+        let shifts = shifts::shifts_of(self.code.dimensions());
         let setup = node_weights::prepare(self.code, self.nodes, &shifts[..k]);
         let inverse = Inverse {
             code: self.code,

@@ -42,7 +42,7 @@ impl Inverse<'_> {
         let size = w * k;
         let t = field::constant_tables();
         for r in 0..k {
-            let row = node_weights::row_terms(self.code, &t, self.setup.shifts, self.setup.base, r);
+            let row = self.setup.row_terms(self.code, &t, r);
             let start = r * size;
             let end = start + size;
             symbols::write_symbols(w, &row[..k], &mut out[start..end]);

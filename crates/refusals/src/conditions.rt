@@ -30,7 +30,7 @@ pub fn buffer_bad(h: Header, rows: u8, lanes: usize, length: usize) -> bool
     if size == 0 {
         return length != 0;
     }
-    length / size != lanes || length % size != 0
+    length / size != lanes || !length.is_multiple_of(size)
 }
 
 // Number 8 of one lane.

@@ -7,7 +7,8 @@ use crate::gcd;
 use generator::Dimensions;
 
 // The numbers below n on rounds that take and then skip so many, rising, and zeros after them.
-fn fill_rounds(n: u8, taken: u32, skipped: u32) -> [u8; 255]
+// An `ArrayVec` would count for itself, and want two lines more: one that makes it, and `out[..chosen.len()].copy_from_slice(&chosen)`.
+fn rounds(n: u8, taken: u32, skipped: u32) -> [u8; 255]
     requires { (0 < taken + skipped) × (taken + skipped ≤ 255) }
     ensures { result ≡ padded 255 (shifts_from n 0 taken skipped 0) }
 {
@@ -23,12 +24,12 @@ fn fill_rounds(n: u8, taken: u32, skipped: u32) -> [u8; 255]
 }
 
 // The k shifts, rising, and zeros after them.
-pub fn fill_even(dimensions: Dimensions) -> [u8; 255]
+pub fn even_shifts(dimensions: Dimensions) -> [u8; 255]
     ensures { result ≡ padded 255 (even_shifts dimensions.n dimensions.k) }
 {
     let Dimensions { n, k, .. } = dimensions;
     let g = gcd(k as u32, n as u32);
     let taken = k as u32 / g;
     let skipped = (n - k) as u32 / g;
-    fill_rounds(n, taken, skipped)
+    rounds(n, taken, skipped)
 }

@@ -24,7 +24,7 @@ fn laid_at(n: u32, d: u32, m: u32, r: u32) -> u32
 }
 
 // The k shifts in the order of the rows, and zeros after them.
-pub fn fill_laid(dimensions: Dimensions) -> [u8; 255]
+pub fn laid_shifts(dimensions: Dimensions) -> [u8; 255]
     ensures { result ≡ padded 255 (laid_shifts dimensions.n dimensions.k) }
 {
     let Dimensions { n, k, .. } = dimensions;
@@ -32,9 +32,9 @@ pub fn fill_laid(dimensions: Dimensions) -> [u8; 255]
     let d = nodes - k as u32 + 1;
     let m = period(nodes, d);
     let mut out = [0u8; 255];
-    for r in 0..k {
+    for (r, shift) in out[..k as usize].iter_mut().enumerate() {
         let first = laid_at(nodes, d, m, r as u32);
-        out[r as usize] = negative(nodes, first) as u8;
+        *shift = negative(n as usize, first as usize) as u8;
     }
     out
 }

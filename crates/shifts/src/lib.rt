@@ -32,12 +32,11 @@ pub fn gcd(x: u32, y: u32) -> u32
 }
 
 // −x modulo n.
-#[tactic(auto, unfolding(generator::specs::Shifts::negative))]
-fn negative(n: u32, x: u32) -> u32
+pub fn negative(n: usize, x: usize) -> usize
     requires { x < n }
     ensures { (result ≡ negative_of n x) × (result < n) }
 {
-    (n - x) % n
+    if x == 0 { 0 } else { n - x }
 }
 
 // Whether n divides k·d.
@@ -47,41 +46,34 @@ fn is_even(dimensions: Dimensions) -> bool
 {
     let n = dimensions.n as u32;
     let k = dimensions.k as u32;
-    k * (n - k + 1) % n == 0
+    (k * (n - k + 1)).is_multiple_of(n)
 }
 
 // The k shifts in the order of the rows, and zeros after them.
 #[tactic(auto, unfolding(generator::specs::Shifts::shifts_of))]
-pub fn fill_shifts(dimensions: Dimensions) -> [u8; 255]
+pub fn shifts_of(dimensions: Dimensions) -> [u8; 255]
     ensures { result ≡ padded 255 (shifts_of dimensions.n dimensions.k) }
 {
     if is_even(dimensions) {
-        return even::fill_even(dimensions);
+        return even::even_shifts(dimensions);
     }
-    laid::fill_laid(dimensions)
+    laid::laid_shifts(dimensions)
 }
 
-// The k first nodes in the order of the rows, each the negative of its shift, and zeros after them.
-fn fill_firsts(dimensions: Dimensions, shifts: &[u8; 255]) -> [u8; 255]
-    requires { shifts.now ≡ padded 255 (shifts_of dimensions.n dimensions.k) }
+// The k first nodes in the order of the rows, each the negative of its shift, and zeros after them, for the negative of 0 is 0.
+fn firsts_of(dimensions: Dimensions, shifts: [u8; 255]) -> [u8; 255]
+    requires { shifts ≡ padded 255 (shifts_of dimensions.n dimensions.k) }
     ensures { result ≡ padded 255 (firsts_of dimensions.n dimensions.k) }
 {
-    let Dimensions { n, k, .. } = dimensions;
-    let nodes = n as u32;
-    let mut out = [0u8; 255];
-    for r in 0..k {
-        let shift = shifts[r as usize] as u32;
-        let first = negative(nodes, shift);
-        out[r as usize] = first as u8;
-    }
-    out
+    let n = dimensions.n as usize;
+    shifts.map(|shift| negative(n, shift as usize) as u8)
 }
 
 // The shifts and the first nodes of the k rows, and zeros after them.
 pub fn place_rows(dimensions: Dimensions) -> Rows
     ensures { (result.shifts ≡ padded 255 (shifts_of dimensions.n dimensions.k)) × (result.firsts ≡ padded 255 (firsts_of dimensions.n dimensions.k)) }
 {
-    let shifts = fill_shifts(dimensions);
-    let firsts = fill_firsts(dimensions, &shifts);
+    let shifts = shifts_of(dimensions);
+    let firsts = firsts_of(dimensions, shifts);
     Rows { shifts, firsts }
 }

@@ -3,6 +3,7 @@
 
 use std::io;
 
+// Each program has a `main` of its own; the text is written by `small_plans_text`.
 fn main(rt: HostRuntime) -> io::Result<()> {
     let mut page = small_plans_text::page();
     let end = small_plans_text::small_plans(&mut page);

@@ -8,6 +8,7 @@ mod tables_text;
 
 use std::io;
 
+// Each program has a `main` of its own; the text is written by `tables_text`.
 fn main(rt: HostRuntime) -> io::Result<()> {
     let mut page = text::page();
     let end = tables_text::tables(&mut page);

@@ -38,15 +38,17 @@ pub struct Powers {
     ghost each: { powers ≡ from (power 0 2) 0 255 },
 }
 
-impl Powers {
-    pub fn new() -> Self {
+impl Default for Powers {
+    fn default() -> Self {
         let mut powers = [1; 255];
         for e in 1..255 {
             powers[e] = next(powers[e - 1]);
         }
         Powers { powers }
     }
+}
 
+impl Powers {
     // The exponent at which the powers come to a, or 255: no Option, for a line holds a number, and that each a from 1 to 255 has an exponent
     // need then not be proved (`logarithm_of`).
     pub fn logarithm(&self, a: u16) -> u16

@@ -12,7 +12,7 @@ use text::Writer;
 pub fn tables(out: &mut [u8; 3060]) -> usize
     ensures { OnPage out.old out.new result tables_text }
 {
-    let powers = Powers::new();
+    let powers = Powers::default();
     let mut writer = Writer::new(out);
     powers.write(&mut writer);
     write_logarithms(&mut writer, &powers);

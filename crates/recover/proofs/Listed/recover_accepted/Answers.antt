@@ -14,7 +14,7 @@ use Rattle.generator.specs.Answers.{answer_of}
 use Rattle.recover.proofs.Recovering.{shifts_part}
 use Rattle.recover.proofs.Products.{recovered_lanes}
 use Rattle.recover.proofs.Listed.recover_accepted.Goals as goal
-use Rattle.recover.proofs.Listed.recover_accepted.Goals.{After-fill_shifts-shifts, In_ok-recover_fault}
+use Rattle.recover.proofs.Listed.recover_accepted.Goals.{After-shifts_of-shifts, In_ok-recover_fault}
 
 -- what is known where no number was met
 accepted : (c : In_ok-recover_fault)
@@ -26,17 +26,17 @@ accepted c =
     (done_is _ _ c.in_ok-recover_fault.ensures)
 
 -- the lent part of the shifts
-part : (c : After-fill_shifts-shifts)
+part : (c : After-shifts_of-shifts)
     → let v = c.args.self in
-    take v.code.header.k c.fill_shifts-shifts.result ≡ shifts v.code.header
+    take v.code.header.k c.shifts_of-shifts.result ≡ shifts v.code.header
 part c =
     let code = c.args.self.code in
-    ap (take code.header.k) (rw (c.dimensions.ensures.0, c.dimensions.ensures.1) at c.fill_shifts-shifts.ensures) ∙ shifts_part code.header code.sound
+    ap (take code.header.k) (rw (c.dimensions.ensures.0, c.dimensions.ensures.1) at c.shifts_of-shifts.ensures) ∙ shifts_part code.header code.sound
 
 -- it has k places
-part_size : (c : After-fill_shifts-shifts)
+part_size : (c : After-shifts_of-shifts)
     → let v = c.args.self in
-    length (take v.code.header.k c.fill_shifts-shifts.result) ≡ v.code.header.k
+    length (take v.code.header.k c.shifts_of-shifts.result) ≡ v.code.header.k
 part_size c =
     let code = c.args.self.code in
     ap length (part c) ∙ shifts_length code.header.n code.header.k code.sound.some code.sound.fits
@@ -49,15 +49,15 @@ returns-in_err-recover_fault c =
 pub slice_bounds-shifts-end : goal.slice_bounds-shifts-end
 slice_bounds-shifts-end c =
     let k = c.args.self.code.header.k in
-    omega (arith, length-take k c.fill_shifts-shifts.result, part_size (goal.at.slice_bounds-shifts-end c).After-fill_shifts-shifts)
+    omega (arith, length-take k c.shifts_of-shifts.result, part_size (goal.at.slice_bounds-shifts-end c).After-shifts_of-shifts)
 
 pub slice_bounds-prepare-end : goal.slice_bounds-prepare-end
-slice_bounds-prepare-end c = sym (part_size (goal.at.slice_bounds-prepare-end c).After-fill_shifts-shifts)
+slice_bounds-prepare-end c = sym (part_size (goal.at.slice_bounds-prepare-end c).After-shifts_of-shifts)
 
 pub prepare-setup-requires : goal.prepare-setup-requires
 prepare-setup-requires c =
     let listed = (accepted (goal.at.prepare-setup-requires c).In_ok-recover_fault).0 in
-    (listed.different, part (goal.at.prepare-setup-requires c).After-fill_shifts-shifts)
+    (listed.different, part (goal.at.prepare-setup-requires c).After-shifts_of-shifts)
 
 pub invariant_of-inverse : goal.invariant_of-inverse
 invariant_of-inverse c =

@@ -1,4 +1,4 @@
--- `new` meets its contract. Invariant: the powers at exponents below e are made.
+-- `default` meets its contract. Invariant: the powers at exponents below e are made.
 use mathlib.Core.Path.{◌≡◌, refl, ap, ◌∙◌}
 use Prim.Native.Nat.{◌+◌, ◌-◌, ◌<◌}
 use native.Mathlib.Omega.{arith}
@@ -8,7 +8,7 @@ use Rattle.lists.proofs.Parts.{from_at}
 use Rattle.field.specs.Bytes.{times_x}
 use Rattle.field.specs.Fields.{power}
 use Rattle.tables.proofs.TwoPowers.{power_byte, next_power}
-use Rattle.tables.proofs.powers.Powers.new.Goals as goal
+use Rattle.tables.proofs.powers.PowersDefault.default.Goals as goal
 
 pub loop-e-init : goal.loop-e-init
 unfolding power

@@ -1,9 +1,9 @@
--- `fill_rounds` meets its contract. Invariant: the first `count` places are written, and the chosen numbers from i on are to come.
+-- `rounds` meets its contract. Invariant: the first `count` places are written, and the chosen numbers from i on are to come.
 use Rattle.std.specs.Prelude.{Bool, ℕ, ◌+◌, ◌-◌, ◌%◌, ◌≤◌, ltb}
 use Rattle.lists.specs.Counting.{passing_from}
 use Rattle.lists.specs.Padded.{zeros}
 use Rattle.lists.proofs.Fill.{Fills}
-use Rattle.shifts.proofs.even.fill_rounds.Given as goal
+use Rattle.shifts.proofs.even.rounds.Given as goal
 
 -- a round's first numbers
 abbrev pub chosen : ℕ → ℕ → ℕ → Bool

@@ -1,20 +1,25 @@
--- `first_entry` meets its contract. Invariant: y is root^i after i turns, and the product has the factors below i.
+-- `Recurrence::first` meets its contract. Invariant: y is root^i after i turns, and the product has the factors below i.
 use mathlib.Core.Path.{◌≡◌, refl, sym, ap, ◌∙◌}
 use Prim.Native.Nat.{◌-◌}
 use native.Mathlib.Nat.{zero-add}
 use native.Mathlib.Omega.{arith}
 use Rattle.field.specs.Fields.{mul, power}
-use Rattle.field.proofs.Bounds.{one_below}
+use Rattle.field.proofs.Bounds.{one_below, power_below}
 use Rattle.field.proofs.KindLaws.{usable_field}
 use Rattle.generator.specs.Generator.{base_from, base_at}
 use Rattle.field.proofs.Powers.{power_next}
 use Rattle.generator.proofs.BaseWord.{base_from_next, entry_is}
-use Rattle.plan.proofs.base.first_entry.Goals as goal
+use Rattle.plan.proofs.base.Recurrence.first.Goals as goal
 
 pub loop-init : goal.loop-init
 unfolding power base_from
 loop-init c =
-    let one = one_below _ (usable_field _ c.new-field.result.usable) in (one, one, refl, λ h f r. refl)
+    let one = one_below _ (usable_field _ c.args.self.field.usable) in (one, one, refl, λ h f r. refl)
+
+pub sub-requires : goal.sub-requires
+sub-requires c =
+    let r = c.args.self in
+    let s = r.code.sound in (rw (r.same, r.scale_is) (power_below _ s.field _ s.root_below), c.loop.invariant.1)
 
 pub loop-preserved : goal.loop-preserved
 loop-preserved c =
@@ -22,13 +27,14 @@ loop-preserved c =
       c.mul-product.ensures.symbol,
       c.mul-y.ensures.symbol,
       c.mul-y.ensures.is ∙ ap (mul _ _) l.invariant.2 ∙ sym (power_next _ _ l.counter),
-      λ h f r. rw (base_from_next l.counter h c.power-x.result, ← l.invariant.3 h f r, c.mul-product.ensures.is, c.sub.ensures.is, l.invariant.2, f, r),
+      λ h f r. rw (base_from_next l.counter h c.args.self.scale, ← l.invariant.3 h f r, c.mul-product.ensures.is, c.sub.ensures.is, l.invariant.2, f, r),
     )
 
 pub returns : goal.returns
 unfolding base_at
 returns c =
-    let h = c.args.code.header in
+    let r = c.args.self in
+    let h = r.code.header in
     let l = c.loop in
     let end : l.counter ≡ h.k - 1 = omega arith in
-    l.invariant.3 h (sym c.new-field.ensures) refl ∙ rw (end, c.power-x.ensures.is, c.new-field.ensures, entry_is h c.args.code.sound 0, zero-add)
+    l.invariant.3 h (sym r.same) refl ∙ rw (end, r.scale_is, entry_is h r.code.sound 0, zero-add)

@@ -1,4 +1,4 @@
--- `fill_rounds` meets its contract. Invariant: the first `count` places are written, and the chosen numbers from i on are to come.
+-- `rounds` meets its contract. Invariant: the first `count` places are written, and the chosen numbers from i on are to come.
 use Prim.Native.Nat.{◌+◌, ◌%◌}
 use mathlib.Core.Path.{ap, sym, ◌∙◌}
 use native.Mathlib.Nat.{sub-zero, zero-mod}
@@ -8,8 +8,8 @@ use Rattle.lists.specs.Padded.{zeros, padded}
 use Rattle.lists.proofs.Fill.{fills_start, fills_put, fills_padded, length_zeros}
 use Rattle.lists.proofs.Passing.{passing_next, passing_end}
 use Rattle.generator.proofs.EvenShifts.{shifts_chosen}
-use Rattle.shifts.proofs.even.fill_rounds.Goals as goal
-use Rattle.shifts.proofs.even.fill_rounds.Goals.{else-i-taken, then-i-taken}
+use Rattle.shifts.proofs.even.rounds.Goals as goal
+use Rattle.shifts.proofs.even.rounds.Goals.{else-i-taken, then-i-taken}
 
 pub loop-i-init : goal.loop-i-init
 unfolding zeros
