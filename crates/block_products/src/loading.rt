@@ -1,4 +1,4 @@
-// Lanes of a block as rows of bytes of a tile of 64 lanes.
+// Lanes of a block as rows of bytes of a tile of 64 lanes. The width w is a number here too: see symbols/src/lib.rt.
 ghost use Rattle.std.specs.Prelude.{◌≡◌, ℕ, ◌+◌, ◌*◌, ◌/◌, ◌≤◌, ◌<◌, length, get_or};
 ghost use Rattle.lists.specs.Rows.{from};
 ghost use Rattle.layout.specs.Layout.{row_after_row, lane_after_lane, lane_of};

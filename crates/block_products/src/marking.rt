@@ -27,9 +27,7 @@ pub fn mark_rows(rows: usize, words: &[u8], marks: &mut [u8])
     ensures { marks.new ≡ zero_marks rows (length marks.old) (λ i t. get_or words.now (i * 64 + t) 0) }
 {
     marks.fill(0);
-    for i in 0..rows {
-        let start = i * 64;
-        let end = start + 64;
-        add_marks(&words[start..end], marks);
+    for row in words[..rows * 64].chunks(64) {
+        add_marks(row, marks);
     }
 }

@@ -19,17 +19,16 @@ mod lane;
 use lane::Marked;
 
 impl Marked<'_, '_> {
-    // Whether there is a lane that no word is near enough to.
+    // Whether there is a lane that no word is near enough to. By a `for`: of `any` over the chunks two goals stayed open, that each is a lane
+    // and that the answer speaks of them all.
     fn has_far(self, shares: &[u8]) -> bool
         requires { MarkedShares self.rows.code.header (length self.marks.now) self.marks.now shares.now }
         ensures { result ≡ far_bad share_layout self.entry.rows.code.header (length self.entry.marks.now) shares.now }
     {
         let h = self.rows.code.header;
         let size = symbols::width_of(h) * h.n as usize;
-        for t in 0..self.marks.len() {
-            let start = t * size;
-            let end = start + size;
-            if !self.is_near(t, &shares[start..end]) {
+        for (t, lane) in shares.chunks(size).enumerate() {
+            if !self.is_near(t, lane) {
                 return true;
             }
         }

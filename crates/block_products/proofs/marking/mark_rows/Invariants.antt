@@ -1,7 +1,13 @@
--- `mark_rows` meets its contract. The loop's invariant: the marks by the first i rows.
-use Rattle.std.proofs.Common.{◌≡◌, ◌+◌, ◌*◌, length, get_or}
-use Rattle.block_products.specs.Inner.Marks.{zero_marks}
+-- `mark_rows` meets its contract. The loop's invariant: the marks by the rows that are gone.
+use mathlib.Core.Path.{◌≡◌}
+use lib.ListN.{length}
+use Rattle.std.specs.Slice.Iter.{chunks_rest, chunks_size}
+use Rattle.block_products.proofs.MarkedRows.{Marking}
 use Rattle.block_products.proofs.marking.mark_rows.Given as goal
 
-abbrev pub invariant-loop-i : goal.invariant-loop-i
-invariant-loop-i l = l.marks ≡ zero_marks l.i (length l.fn.marks) (λ i t. get_or l.words (i * 64 + t) 0)
+abbrev pub invariant-loop-row : goal.invariant-loop-row
+invariant-loop-row l =
+    goal.iterator-loop-row.can_next l.row-iterator
+    × goal.iterator-loop-row.is_finite l.row-iterator
+    × (chunks_size l.row-iterator ≡ 64)
+    × Marking l.rows (length l.fn.marks) l.words (chunks_rest l.row-iterator) l.marks
