@@ -22,73 +22,42 @@ impl Digit {
     {
         (weight >> self.place) % 2
     }
-}
 
-// Lists the rows whose weight has the digit, and gives how many they are. Each row is written after those listed, and counted or not:
-// no branch.
-fn list_rows(digit: Digit, weights: &[u16], list: &mut [u8]) -> usize
-    requires { (length list.old ≤ 255) × (length list.old ≡ length weights.now) }
-    ensures { (result ≤ length list.old) × (take result list.new ≡ rows_with digit.place (length weights.now) weights.now) }
-{
-    let mut count = 0;
-    for (i, weight) in weights.iter().enumerate() {
-        list[count] = i as u8;
-        count += digit.of(*weight) as usize;
+    // Lists the rows whose weight has the digit, and gives how many they are. Each row is written after those listed, and counted or not:
+    // no branch.
+    fn list_rows(self, weights: &[u16], list: &mut [u8]) -> usize
+        requires { (length list.old ≤ 255) × (length list.old ≡ length weights.now) }
+        ensures { (result ≤ length list.old) × (take result list.new ≡ rows_with self.place (length weights.now) weights.now) }
+    {
+        let mut count = 0;
+        for (i, weight) in weights.iter().enumerate() {
+            list[count] = i as u8;
+            count += self.of(*weight) as usize;
+        }
+        count
     }
-    count
-}
 
-// Multiplies acc by x and adds the first one or two listed rows, so that an even number is left; gives how many it added.
-fn multiply_x_first(list: &[u8], terms: Terms, acc: &mut [u8]) -> usize
-    requires { ListedRows terms.lanes list.now terms.rows.now (length acc.old) }
-    ensures { Started terms.entry.lanes list.now terms.entry.rows.now acc.old acc.new result }
-{
-    if list.is_empty() {
+    // The sum of the symbols whose weight has the digit: all symbols are read, each times its digit, with no branch and no list. The weights
+    // are read by the index: `for (symbol, weight) in symbols.iter().zip(weights)` takes a sixth more time for 10 and for 51 symbols.
+    fn sum(self, weights: &[u16], symbols: &[u8]) -> u8
+        requires { (length symbols.now ≤ length weights.now) }
+        ensures { result ≡ xor_sum (λ j. slice_index symbols.now j) (rows_with self.place (length symbols.now) weights.now) }
+    {
+        let mut sum = 0;
+        for (i, symbol) in symbols.iter().enumerate() {
+            sum ^= *symbol * self.of(weights[i]) as u8;
+        }
+        sum
+    }
+
+    // One step of Horner's rule for one lane.
+    fn step_lane(self, weights: &[u16], symbols: &[u8], acc: &mut [u8])
+        requires { (length symbols.now ≤ length weights.now) × (length acc.old ≡ 1) }
+        ensures { acc.new ≡ rows_added 1 symbols.now (rows_with self.place (length symbols.now) weights.now) (multiplied acc.old) }
+    {
         gf256::multiply_x(acc);
-        return 0;
+        acc[0] ^= self.sum(weights, symbols);
     }
-    let first = terms.row(list[0] as usize);
-    if list.len() % 2 == 1 {
-        gf256::multiply_x_add(first, acc);
-        return 1;
-    }
-    let second = terms.row(list[1] as usize);
-    gf256::multiply_x_add_two(first, second, acc);
-    2
-}
-
-// Adds the listed rows, which are even in number, two at a time.
-fn add_pairs(list: &[u8], terms: Terms, acc: &mut [u8])
-    requires { ListedRows terms.lanes list.now terms.rows.now (length acc.old) × (length list.now % 2 ≡ 0) }
-    ensures { acc.new ≡ rows_added terms.entry.lanes terms.entry.rows.now list.now acc.old }
-{
-    for i in 0..list.len() / 2 {
-        let one = terms.row(list[2 * i] as usize);
-        let other = terms.row(list[2 * i + 1] as usize);
-        gf256::add_two(one, other, acc);
-    }
-}
-
-// The sum of the symbols whose weight has the digit: all symbols are read, each times its digit, with no branch and no list. The weights are
-// read by index: they go on where symbols end.
-fn digit_sum(digit: Digit, weights: &[u16], symbols: &[u8]) -> u8
-    requires { (length symbols.now ≤ length weights.now) }
-    ensures { result ≡ xor_sum (λ j. slice_index symbols.now j) (rows_with digit.place (length symbols.now) weights.now) }
-{
-    let mut sum = 0;
-    for (i, symbol) in symbols.iter().enumerate() {
-        sum ^= *symbol * digit.of(weights[i]) as u8;
-    }
-    sum
-}
-
-// One step of Horner's rule for one lane.
-fn step_lane(digit: Digit, weights: &[u16], symbols: &[u8], acc: &mut [u8])
-    requires { (length symbols.now ≤ length weights.now) × (length acc.old ≡ 1) }
-    ensures { acc.new ≡ rows_added 1 symbols.now (rows_with digit.place (length symbols.now) weights.now) (multiplied acc.old) }
-{
-    gf256::multiply_x(acc);
-    acc[0] ^= digit_sum(digit, weights, symbols);
 }
 
 // Terms whose symbols and weights are bytes.
@@ -101,15 +70,50 @@ pub struct ByteTerms<'a> {
 impl ByteTerms<'_> {
     ghost use Rattle.row_sums.specs.Inner.Terms.{terms_combined};
 
+    // Multiplies acc by x and adds the first one or two listed rows; gives the others, which are even in number.
+    fn multiply_x_first<'l>(self, list: &'l [u8], acc: &mut [u8]) -> &'l [u8]
+        requires { ListedRows self.terms.lanes list.now self.terms.rows.now (length acc.old) }
+        ensures { Started self.entry.terms.lanes list.now self.entry.terms.rows.now acc.old acc.new result.now }
+    {
+        match list {
+            [first, second, rest @ ..] if rest.len() % 2 == 0 => {
+                let first = self.terms.row(*first as usize);
+                let second = self.terms.row(*second as usize);
+                gf256::multiply_x_add_two(first, second, acc);
+                rest
+            }
+            [first, rest @ ..] => {
+                gf256::multiply_x_add(self.terms.row(*first as usize), acc);
+                rest
+            }
+            [] => {
+                gf256::multiply_x(acc);
+                list
+            }
+        }
+    }
+
+    // Adds the listed rows, which are even in number, two at a time.
+    fn add_pairs(self, list: &[u8], acc: &mut [u8])
+        requires { ListedRows self.terms.lanes list.now self.terms.rows.now (length acc.old) × (length list.now % 2 ≡ 0) }
+        ensures { acc.new ≡ rows_added self.entry.terms.lanes self.entry.terms.rows.now list.now acc.old }
+    {
+        let (pairs, _) = list.as_chunks::<2>();
+        for [one, other] in pairs {
+            let one = self.terms.row(*one as usize);
+            let other = self.terms.row(*other as usize);
+            gf256::add_two(one, other, acc);
+        }
+    }
+
     // One step of Horner's rule, by a list of the rows that are added.
     fn step_rows(self, digit: Digit, list: &mut [u8], acc: &mut [u8])
         requires { (length list.old ≡ length self.terms.weights.now) × (length acc.old ≡ self.terms.lanes) }
         ensures { let t = self.entry.terms in acc.new ≡ rows_added t.lanes t.rows.now (rows_with digit.place (length t.weights.now) t.weights.now) (multiplied acc.old) }
     {
-        let count = list_rows(digit, self.terms.weights, list);
-        let listed = &list[..count];
-        let first = multiply_x_first(listed, self.terms, acc);
-        add_pairs(&listed[first..], self.terms, acc);
+        let count = digit.list_rows(self.terms.weights, list);
+        let others = self.multiply_x_first(&list[..count], acc);
+        self.add_pairs(others, acc);
     }
 
     // One step of Horner's rule; `list` has a place for each row. One lane takes less time without the list.
@@ -118,7 +122,7 @@ impl ByteTerms<'_> {
         ensures { let t = self.entry.terms in acc.new ≡ rows_added t.lanes t.rows.now (rows_with digit.place (length t.weights.now) t.weights.now) (multiplied acc.old) }
     {
         if self.terms.lanes == 1 {
-            step_lane(digit, self.terms.weights, self.terms.rows, acc);
+            digit.step_lane(self.terms.weights, self.terms.rows, acc);
         } else {
             self.step_rows(digit, list, acc);
         }

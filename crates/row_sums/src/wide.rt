@@ -19,7 +19,7 @@ pub(crate) struct WideTerms<'a> {
     ghost two_rows: { WideRows (length terms.weights.now) terms.lanes terms.weights.now terms.rows.now },
 }
 
-impl<'a> WideTerms<'a> {
+impl WideTerms<'_> {
     ghost use Rattle.row_sums.specs.Inner.Terms.{wide_sum_at, wide_sums};
 
     // The sums of 16 lanes, from lane `at` on.

@@ -1,5 +1,5 @@
 -- The rows whose weight has a binary digit, and their sum over the field of 256 elements.
-use Rattle.std.specs.Prelude.{◌≡◌, List, [], ◌∷◌, ℕ, ◌+◌, ◌-◌, ◌*◌, ◌/◌, ◌%◌, ◌^◌, ◌≤◌, ◌<◌, eqb, length, get_or, drop}
+use Rattle.std.specs.Prelude.{◌≡◌, List, [], ◌∷◌, ℕ, ◌+◌, ◌*◌, ◌/◌, ◌%◌, ◌^◌, ◌≤◌, ◌<◌, eqb, length, get_or}
 use Rattle.std.specs.Int.Bits.{bit_xor}
 use Rattle.lists.specs.Counting.{passing_from}
 use Rattle.layout.specs.Layout.{row_after_row, held}
@@ -32,8 +32,8 @@ pub record ListedRows (l : ℕ) (js s : List ℕ) (out : ℕ) : Type 0 where
   pub within : (i : ℕ) → i < length js → get_or js i 0 * l + l ≤ length s
   pub out_long : out ≡ l
 
--- acc was multiplied and the first r listed rows were added: with the others, an even number, it makes the multiplied acc with all
-pub record Started (l : ℕ) (js s acc acc' : List ℕ) (r : ℕ) : Type 0 where
-  pub few : r ≤ length js
-  pub even : (length js - r) % 2 ≡ 0
-  pub rest : rows_added l s (drop r js) acc' ≡ rows_added l s js (multiplied acc)
+-- acc was multiplied and the first listed rows were added: with the others, an even number, it makes the multiplied acc with all
+pub record Started (l : ℕ) (js s acc acc' others : List ℕ) : Type 0 where
+  pub listed : ListedRows l others s (length acc')
+  pub even : length others % 2 ≡ 0
+  pub rest : rows_added l s others acc' ≡ rows_added l s js (multiplied acc)

@@ -1,7 +1,7 @@
--- `digit_sum` meets its contract. The loop's invariant: the symbols below i whose weight has the digit are added.
+-- `sum` meets its contract. The loop's invariant: the symbols below i whose weight has the digit are added.
 use native.Mathlib.Omega.{arith}
 use Rattle.row_sums.proofs.OneLane.{summed_none, summed_row, summed_all}
-use Rattle.row_sums.proofs.gf256.digit_sum.Goals as goal
+use Rattle.row_sums.proofs.gf256.Digit.sum.Goals as goal
 
 pub loop-i-init : goal.loop-i-init
 loop-i-init c = summed_none _ _ _ _

@@ -1,7 +1,7 @@
 -- `list_rows` meets its contract. The loop's invariant: the rows below i whose weight has the digit are listed.
 use native.Mathlib.Omega.{arith}
 use Rattle.row_sums.proofs.Listing.{listed_none, listed_row, listed_all}
-use Rattle.row_sums.proofs.gf256.list_rows.Goals as goal
+use Rattle.row_sums.proofs.gf256.Digit.list_rows.Goals as goal
 
 pub loop-i-init : goal.loop-i-init
 loop-i-init c = (omega arith, listed_none _ _ _ c.args.list.now)

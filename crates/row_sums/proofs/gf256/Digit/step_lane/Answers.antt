@@ -3,10 +3,10 @@ use mathlib.Core.Path.{◌∙◌}
 use Rattle.kernel.proofs.Lanes.{length_lanewise}
 use Rattle.row_sums.specs.Inner.Digits.{multiplied}
 use Rattle.row_sums.proofs.OneLane.{lane_added}
-use Rattle.row_sums.proofs.gf256.step_lane.Goals as goal
+use Rattle.row_sums.proofs.gf256.Digit.step_lane.Goals as goal
 
 pub returns : goal.returns
 unfolding multiplied
 returns c =
-    rw (c.digit_sum.ensures, c.multiply_x.ensures)
+    rw (c.sum.ensures, c.multiply_x.ensures)
     (lane_added c.args.symbols.now _ _ (length_lanewise _ c.args.acc.now ∙ c.requires.1))

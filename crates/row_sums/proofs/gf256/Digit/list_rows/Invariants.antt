@@ -2,7 +2,7 @@
 use Prim.Native.Nat.{◌≤◌}
 use lib.ListN.{length}
 use Rattle.row_sums.proofs.Listing.{ListedBelow}
-use Rattle.row_sums.proofs.gf256.list_rows.Given as goal
+use Rattle.row_sums.proofs.gf256.Digit.list_rows.Given as goal
 
 abbrev pub invariant-loop-i : goal.invariant-loop-i
-invariant-loop-i l = (l.count ≤ l.i) × ListedBelow l.digit.place (length l.weights) l.weights l.list l.count l.i
+invariant-loop-i l = (l.count ≤ l.i) × ListedBelow l.self.place (length l.weights) l.weights l.list l.count l.i
