@@ -7,7 +7,7 @@ use Rattle.field.specs.Kinds.{modulus}
 use Rattle.field.proofs.KindLaws.{usable_field}
 use Rattle.interpolation.specs.Inner.Polynomials.{product_of}
 use Rattle.interpolation.proofs.Coefficients.{Grows, grows, one_padded, length_product_of, product_of_below}
-use Rattle.interpolation.proofs.FromEnd.{from_end_start, next_below, done_below, done_short, from_end_next, from_end_all}
+use Rattle.interpolation.proofs.FromEnd.{from_end_start, next_below, done_below, done_short, from_end_next}
 use Rattle.interpolation.proofs.lagrange.Points.product.Goals as goal
 use Rattle.interpolation.proofs.lagrange.Points.product.Goals.{In-Some}
 
@@ -42,6 +42,3 @@ loop-a-preserved c =
     let p = modulus c.args.self.field.field in
     let whole = (more (goal.at.loop-a-preserved c).In-Some).whole _ (rw c.from.ensures at c.times_linear.ensures) in
     from_end_next _ _ c.in-Some.ensures.steps l.invariant _ (omega (arith, l.invariant.holds.0), whole)
-
-pub returns : goal.returns
-returns c = (from_end_all _ c.in-None.ensures.steps.0 c.loop-a.invariant).1

@@ -5,7 +5,7 @@ use Rattle.field.specs.Kinds.{modulus}
 use Rattle.field.proofs.Bounds.{one_below}
 use Rattle.field.proofs.KindLaws.{usable_field}
 use Rattle.interpolation.specs.Inner.Lagrange.{product_at}
-use Rattle.interpolation.proofs.FromEnd.{from_end_start, next_below, from_end_next, from_end_all}
+use Rattle.interpolation.proofs.FromEnd.{from_end_start, next_below, from_end_next}
 use Rattle.interpolation.proofs.lagrange.Points.product_at.Goals as goal
 
 pub loop-x-init : goal.loop-x-init
@@ -26,9 +26,3 @@ loop-x-preserved c =
     let p = modulus c.args.self.field.field in
     let is = c.mul-product.ensures.is ∙ rw (c.sub-factor.ensures.is, c.from.ensures) (ap (mul p _) l.invariant.1.holds) in
     (c.mul-product.ensures.symbol, from_end_next _ _ c.in-Some.ensures.steps l.invariant.1 (λ xs. c.mul-product.result ≡ product_at p xs c.args.z) is)
-
-pub returns-clause-is : goal.returns-clause-is
-returns-clause-is c = from_end_all _ c.in-None.ensures.steps.0 c.loop-x.invariant.1
-
-pub returns-clause-symbol : goal.returns-clause-symbol
-returns-clause-symbol c = c.loop-x.invariant.0
