@@ -4,9 +4,10 @@ ghost use Rattle.traces.specs.Traces.{squarings, trace_of, element};
 ghost use Rattle.repair_tables.specs.Bits.{bit_count};
 
 use crate::bits::Bits;
-use field::{Gf256, Tables};
+use field::{FieldKind, Gf256, Tables};
 
 // a^(2^count).
+#[tactic(auto, unfolding(field::specs::Fields::size_of))]
 fn squarings(tables: &Tables, count: u32, a: u32) -> u32
     requires { a < 256 }
     ensures { result ≡ squarings count a }
@@ -14,7 +15,7 @@ fn squarings(tables: &Tables, count: u32, a: u32) -> u32
     let field = Gf256::new();
     let mut x = a;
     for _ in 0..count {
-        x = field.mul_with(tables, x, x);
+        x = field.mul(tables, x, x);
     }
     x
 }
