@@ -21,9 +21,3 @@ pub loop-j-preserved : goal.loop-j-preserved
 loop-j-preserved c =
     let l = c.loop-j in
     record { count = omega (arith, c.push.ensures.len, l.invariant.count); listed = c.push.ensures.items ∙ rw l.invariant.listed (sym (range_last l.j)) }
-
-pub invariant_of-result : goal.invariant_of-result
-invariant_of-result c =
-    let l = c.loop-j in
-    let all : l.j ≡ c.args.code.header.k = omega (arith, c.loop-j-test.false, l.auto.j-end) in
-    record { listed = rw all at l.invariant.listed }
