@@ -25,6 +25,7 @@ fn fill_column(generator: &Generator, node: usize, column: &mut [u16])
 }
 
 // The lists of every node's column; `column` is scratch.
+#[tactic(auto, using(lists::proofs::Rows::row_inside, tile_products::proofs::Beginning::begun_none, crate::proofs::Words::length_column, crate::proofs::Words::column_below))]
 fn list_columns(
     generator: &Generator,
     codes: WeightCodes,

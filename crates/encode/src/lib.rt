@@ -34,6 +34,7 @@ fn encode_lanes(message: &Message, out: &mut [u8])
 }
 
 // Encodes over an accepted record's code. Everything is judged before the first byte is written.
+#[tactic(auto, using(layout::proofs::LaneParts::lanes_long, generator::proofs::Answered::tests, crate::proofs::Accepts::encode_accepts, crate::proofs::Accepts::encode_refuses, crate::proofs::Shares::encoded_lanes))]
 fn encode_accepted(code: Code, lanes: usize, message: &[u8], out: &mut [u8]) -> Result<(), Refusal>
     ensures { EncodePromise share_layout lanes message.now out.old out.new (numbered result) code.header (encode_fault code.header lanes (length out.old) message.now) }
 {

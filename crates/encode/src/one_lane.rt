@@ -19,6 +19,7 @@ use generator::Header;
 use plan::Generator;
 
 // The symbols at the places of their rows' shifts, two times round, and zeros elsewhere.
+#[tactic(auto, using(lists::proofs::Front::drop_next, plan::proofs::Plans::shift_below), unfolding(lists::specs::Padded::zeros, crate::specs::Inner::OneLane::placed_from))]
 fn placed(generator: &Generator, symbols: &[u16]) -> [u16; 510]
     requires { length symbols.now ≡ generator.now.code.header.k }
     ensures { result ≡ placed_from generator.now.code.header.n 0 generator.now.shifts symbols.now (zeros 510) }
@@ -34,6 +35,7 @@ fn placed(generator: &Generator, symbols: &[u16]) -> [u16; 510]
 }
 
 // The sums from each place, turned into the order of the nodes: node j's is the one from place −j on, modulo n.
+#[tactic(auto, using(crate::proofs::OneLane::turned))]
 fn turn(sums: &mut [u16])
     requires { 0 < length sums.old }
     ensures { sums.new ≡ by_node sums.old }
@@ -79,6 +81,7 @@ fn fill_lane(generator: &Generator, w: usize, symbols: &[u16], out: &mut [u8])
 }
 
 // The symbols of lane t of a message, and zeros after them.
+#[tactic(auto, using(lists::proofs::Fill::filled_start, lists::proofs::Fill::filled_end), unfolding(lists::specs::Padded::zeros, layout::specs::Layout::lane_of))]
 fn lane_symbols(message: &Message, t: usize) -> [u16; 255]
     requires { t < message.now.lanes }
     ensures { result ≡ padded 255 (lane_of row_after_row (record_header message.now).k message.now.lanes t (message_symbols message.now)) }

@@ -24,6 +24,7 @@ struct PlainLayout {
 }
 
 impl PlainLayout {
+    #[tactic(auto, using(lists::proofs::Places::range_append), unfolding(lists::specs::Rows::from))]
     fn new(code: Code) -> Self
         ensures { result.code ≡ code }
     {
@@ -49,6 +50,7 @@ impl PlainLayout {
     }
 
     // The first line has at most 14 bytes, and each of at most 255 nodes has at most 1,539.
+    #[tactic(auto, using(text::proofs::Written::writing_start, text::proofs::Written::writing_row))]
     fn write(&self, writer: &mut Writer)
         requires { 392459 ≤ room writer.old }
         ensures { Writes writer.old writer.new (plain_for (Ok self.now.code.header)) }

@@ -41,6 +41,7 @@ fn first_roster(n: u8) -> Roster
 
 impl Roster {
     // All n nodes of the record present.
+    #[tactic(auto, using(generator::proofs::Answered::tests), unfolding(crate::specs::Rosters::start_of))]
     pub fn start(rec: &[u8]) -> Result<Roster, Refusal>
         ensures { MatchResult result (λ r. start_of (record_of rec.now) ≡ record { roster = r; number = 0 }) (λ e. (start_of (record_of rec.now)).number ≡ number e) }
     {
@@ -49,6 +50,7 @@ impl Roster {
     }
 
     // The next roster: a node returns where it is to be here, else it leaves.
+    #[tactic(auto, using(generator::proofs::Answered::tests), unfolding(crate::specs::Rosters::step_by))]
     pub fn mark(self, rec: &[u8], node: u32, here: bool) -> Result<Roster, Refusal>
         ensures { MatchResult result (λ r. step_by (record_of rec.now) node here self ≡ record { roster = r; number = 0 }) (λ e. step_by (record_of rec.now) node here self ≡ record { roster = self; number = number e }) }
     {
@@ -71,6 +73,7 @@ impl Roster {
     }
 
     // Writes the k lowest present nodes, rising.
+    #[tactic(auto, using(generator::proofs::Answered::tests), unfolding(crate::specs::Rosters::lowest_of, crate::specs::Rosters::lowest_list))]
     pub fn lowest(&self, rec: &[u8], list: &mut [u8]) -> Result<Listing, Refusal>
         ensures answer { numbered result ≡ lowest_of (record_of rec.now) self.now list.old }
         ensures list { list.new ≡ lowest_list (record_of rec.now) self.now list.old }
@@ -80,6 +83,7 @@ impl Roster {
     }
 
     // Writes the nodes that the next job reads, and moves the job number on.
+    #[tactic(auto, using(generator::proofs::Answered::tests), unfolding(crate::specs::Rosters::job_of, crate::specs::Rosters::job_list))]
     pub fn next_job(&mut self, rec: &[u8], list: &mut [u8]) -> Result<Listing, Refusal>
         ensures answer { numbered result ≡ (job_of (record_of rec.now) self.old list.old).listing }
         ensures roster { self.new ≡ (job_of (record_of rec.now) self.old list.old).roster }

@@ -20,6 +20,7 @@ pub fn list_present(marks: &[bool; 255], n: u8) -> ArrayVec<u8, 255>
 }
 
 // Writes the nodes at the places from `first` on, going round.
+#[tactic(auto, using(lists::proofs::Rows::from_end_at, lists::proofs::Fill::fills_start, lists::proofs::Fill::fills_all))]
 pub fn write_nodes(nodes: &[u8], first: usize, list: &mut [u8])
     requires { (0 < length nodes.now) × (first ≤ 65535) × (length list.old ≤ 255) }
     ensures { list.new ≡ from (around nodes.now) first (length list.old) }

@@ -23,6 +23,7 @@ struct PlanSheet {
 
 impl PlanSheet {
     // n, k, d and the two roundings of k·d / n, or the one where they are equal.
+    #[tactic(auto, using(lists::proofs::Tests::tests), unfolding(crate::specs::Sheet::roundings, crate::specs::Sheet::numbers_line, text::specs::Text::ascii))]
     fn write_numbers(&self, writer: &mut Writer)
         requires { 25 ≤ room writer.old }
         ensures text { Writes writer.old writer.new (numbers_line self.now.plan) }
@@ -44,6 +45,7 @@ impl PlanSheet {
     }
 
     // The entries of row r, and the line feed.
+    #[tactic(auto, using(lists::proofs::Rows::from_next, text::proofs::Written::writing_start, text::proofs::Written::writing_next), unfolding(text::specs::Text::fields))]
     fn write_entries(&self, writer: &mut Writer, r: u8)
         requires { 1531 ≤ room writer.old }
         ensures text { Writes writer.old writer.new (fields (from (entry_in self.now.plan r) 0 self.now.plan.n)) }
@@ -71,6 +73,7 @@ impl PlanSheet {
     }
 
     // The first line has at most 25 bytes, and each of at most 255 rows has at most 1,546.
+    #[tactic(auto, using(text::proofs::Written::writing_start, text::proofs::Written::writing_row))]
     fn write(&self, writer: &mut Writer)
         requires { 394255 ≤ room writer.old }
         ensures { Writes writer.old writer.new (sheet_of self.now.plan) }

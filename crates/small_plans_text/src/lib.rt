@@ -37,6 +37,7 @@ impl SmallPrime {
 
     // The order of a root, which is n in every accepted record with this p and root, or 0 where there is none, as the definition gives it: 0
     // and 1 both stand for no record, and an option would tell them apart.
+    #[tactic(auto, using(lists::proofs::Tests::tests, std::proofs::lemmas::Bool::and_from, field::proofs::Meanings::prime_field, field::proofs::Meanings::prime_size, crate::proofs::OrderBound::order_fits))]
     fn order(self, root: u8) -> u8
         requires { root < self.p }
         ensures order { result ≡ order_of self.p root }
@@ -52,6 +53,7 @@ impl SmallPrime {
     }
 
     // The lines with one root: k from 1 to n.
+    #[tactic(auto, using(text::proofs::Written::writes_none, text::proofs::Written::writing_start, text::proofs::Written::writing_row, crate::proofs::Lines::line_with, crate::proofs::Lines::root_none))]
     fn write_root(self, writer: &mut Writer, root: u8)
         requires below { root < self.p }
         requires room { 558 ≤ room writer.old }
@@ -69,6 +71,7 @@ impl SmallPrime {
     }
 
     // The lines of all roots, which are below p.
+    #[tactic(auto, using(text::proofs::Written::writing_start, text::proofs::Written::writing_row))]
     fn write_roots(self, writer: &mut Writer)
         requires { 17298 ≤ room writer.old }
         ensures text { Writes writer.old writer.new (field_lines self.p) }
@@ -92,6 +95,7 @@ fn write_plan(writer: &mut Writer, p: u8, root: u8, n: u8, k: u8)
 }
 
 // The lines with one p: none where p is no prime.
+#[tactic(auto, using(text::proofs::Written::writes_none, crate::proofs::Lines::field_none))]
 fn write_field(writer: &mut Writer, p: u8)
     requires least { 3 ≤ p }
     requires most { p ≤ 31 }
@@ -105,6 +109,7 @@ fn write_field(writer: &mut Writer, p: u8)
 }
 
 // All lines: p from 3 to 31, for each at most 31 roots with at most 31 lines of at most 18 bytes.
+#[tactic(auto, using(text::proofs::Written::writing_start, text::proofs::Written::writing_row))]
 fn write_plans(writer: &mut Writer)
     requires { 501642 ≤ room writer.old }
     ensures { Writes writer.old writer.new small_plans }

@@ -7,6 +7,7 @@ use crate::powers::{Powers, write_line};
 use text::Writer;
 
 // The logarithms of 1 to 255.
+#[tactic(auto, using(text::proofs::Written::writing_start, text::proofs::Written::writing_row), unfolding(crate::specs::Tables::logarithm_lines))]
 pub fn write_logarithms(writer: &mut Writer, powers: &Powers)
     requires { 1530 ≤ room writer.old }
     ensures { Writes writer.old writer.new logarithm_lines }

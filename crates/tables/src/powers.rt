@@ -9,6 +9,7 @@ ghost use Rattle.tables.specs.Tables.{number_line, power_lines, logarithm_of};
 use text::Writer;
 
 // The next power of 2: shifted, and 0x11D taken away where the eighth power of x appears.
+#[tactic(auto, using(field::proofs::ByteSteps::times_x_low, field::proofs::ByteSteps::times_x_high))]
 fn next(x: u16) -> u16
     requires { x < 256 }
     ensures { result ≡ times_x x }
@@ -39,6 +40,7 @@ pub struct Powers {
 }
 
 impl Default for Powers {
+    #[tactic(auto, using(lists::proofs::Parts::from_at, crate::proofs::TwoPowers::power_byte), unfolding(field::specs::Fields::power))]
     fn default() -> Self {
         let mut powers = [1; 255];
         for e in 1..255 {
@@ -62,6 +64,7 @@ impl Powers {
     }
 
     // The powers, a line for each.
+    #[tactic(auto, using(lists::proofs::Rows::get_or_from, text::proofs::Written::writing_start, text::proofs::Written::writing_row, crate::proofs::TwoPowers::power_line), unfolding(crate::specs::Tables::power_lines))]
     pub fn write(&self, writer: &mut Writer)
         requires { 1530 ≤ room writer.old }
         ensures text { Writes writer.old writer.new power_lines }

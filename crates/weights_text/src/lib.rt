@@ -30,6 +30,7 @@ fn write_count(writer: &mut Writer, w: u32, count: u32)
 }
 
 // The lines of all weights.
+#[tactic(auto, using(lists::proofs::Numbers::below_at, text::proofs::Written::writing_start, text::proofs::Written::writing_row), unfolding(crate::specs::Weights::count_lines))]
 fn write_counts(writer: &mut Writer, counts: &[u32])
     requires below { all_below 100000 counts.now ≡ true }
     requires few { length counts.now ≤ 256 }

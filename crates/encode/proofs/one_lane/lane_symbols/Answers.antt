@@ -3,10 +3,8 @@ use mathlib.Core.Path.{sym, ◌∙◌}
 use Prim.Native.Nat.{◌+◌, ◌*◌, ◌/◌, ◌≤◌, ◌<◌}
 use native.Mathlib.Omega.{arith}
 use lib.ListN.{length}
-use Rattle.lists.specs.Padded.{zeros}
-use Rattle.lists.proofs.Fill.{filled_start, filled_put, filled_end}
+use Rattle.lists.proofs.Fill.{filled_put}
 use Rattle.lists.proofs.Rows.{row_inside}
-use Rattle.layout.specs.Layout.{lane_of}
 use Rattle.layout.proofs.Places.{held_by_row}
 use Rattle.layout.proofs.Tiles.{many_symbols}
 use Rattle.layout.proofs.Widths.{get_or_symbols}
@@ -25,10 +23,6 @@ inside c =
     let h = record_header m in
     rw (many_symbols m.width h.k m.lanes m.bytes.now (width_of (goal.at.In-loop-r c).Start).0 m.rows.bytes) (omega (arith, row_inside h.k c.loop-r.r m.lanes c.loop-r-test.true, c.requires))
 
-pub loop-r-init : goal.loop-r-init
-unfolding zeros
-loop-r-init c = let sound = c.args.message.now.generator.now.planned.sound in filled_start 255 _ _ (omega (arith, sound.fits, sound.byte))
-
 pub symbol_at-requires : goal.symbol_at-requires
 symbol_at-requires c = ((width_of (goal.at.symbol_at-requires c).Start).0, (width_of (goal.at.symbol_at-requires c).Start).1, inside (goal.at.symbol_at-requires c).In-loop-r)
 
@@ -38,7 +32,3 @@ loop-r-preserved c =
     let r = c.loop-r.r in
     filled_put c.loop-r.invariant c.loop-r-test.true
     (c.symbol_at.ensures ∙ sym (get_or_symbols m.width m.bytes.now (r * m.lanes + c.args.t) (inside (goal.at.loop-r-preserved c).In-loop-r)) ∙ sym (held_by_row (record_header m).k m.lanes (message_symbols m) r c.args.t))
-
-pub returns : goal.returns
-unfolding lane_of
-returns c = filled_end c.loop-r.invariant c.loop-r-test.false

@@ -1,19 +1,8 @@
 -- `write` meets its contract. Invariant: the lines of the nodes before j are written, and the others are to come.
-use native.Mathlib.Nat.{sub-zero}
-use native.Mathlib.Omega.{arith}
 use Rattle.text.specs.Text.{ascii}
-use Rattle.text.proofs.Written.{writes_then, writing_start, writing_row, writing_rows_done}
+use Rattle.text.proofs.Written.{writes_then, writing_rows_done}
 use Rattle.plain_text.specs.Plain.{node_line, plain_for}
 use Rattle.plain_text.proofs.PlainLayout.write.Goals as goal
-
-pub loop-j-init : goal.loop-j-init
-loop-j-init c = record { text = rw sub-zero (writing_start _ _); room = omega arith }
-
-pub loop-j-preserved : goal.loop-j-preserved
-loop-j-preserved c =
-    let h = c.args.self.now.code.header in
-    let l = c.loop-j in
-    record { text = writing_row (node_line h) h.n l.j c.loop-j-test.true l.invariant.text c.write_node.ensures.text; room = omega arith }
 
 pub returns : goal.returns
 unfolding plain_for ascii

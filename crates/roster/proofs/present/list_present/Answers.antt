@@ -1,15 +1,11 @@
 -- `list_present` meets its contract. Invariant: the present nodes below j are listed, and those from j on are to come.
-use mathlib.Core.Path.{refl, sym, ◌∙◌}
+use mathlib.Core.Path.{sym, ◌∙◌}
 use mathlib.Core.List.{append-nil, append_assoc}
-use native.Mathlib.Nat.{sub-zero}
 use native.Mathlib.Omega.{arith}
 use Rattle.lists.proofs.Passing.{passing_next, passing_end}
 use Rattle.roster.specs.Rosters.{present_of}
 use Rattle.roster.proofs.present.list_present.Goals as goal
 use Rattle.roster.proofs.present.list_present.Goals.{else-marks-j, then-marks-j}
-
-pub loop-j-init : goal.loop-j-init
-loop-j-init c = rw (c.new-nodes.ensures, sub-zero) record { few = omega arith; listed = refl }
 
 pub loop-j-preserved : goal.loop-j-preserved
 loop-j-preserved c =

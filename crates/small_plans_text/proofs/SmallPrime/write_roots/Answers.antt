@@ -1,18 +1,8 @@
 -- `write_roots` meets its contract. Invariant: the lines of the roots below `root` are written, and the others are to come.
-use native.Mathlib.Omega.{arith}
-use Rattle.text.proofs.Written.{writing_start, writing_row, writing_rows_done}
+use Rattle.text.proofs.Written.{writing_rows_done}
 use Rattle.small_plans_text.specs.SmallPlans.{root_lines}
 use Rattle.small_plans_text.proofs.Lines.{field_lines_lem}
 use Rattle.small_plans_text.proofs.SmallPrime.write_roots.Goals as goal
-
-pub loop-root-init : goal.loop-root-init
-loop-root-init c = record { text = writing_start _ _; room = omega arith }
-
-pub loop-root-preserved : goal.loop-root-preserved
-loop-root-preserved c =
-    let l = c.loop-root in
-    let p = c.args.self.p in
-    record { text = writing_row (root_lines p) p l.root c.loop-root-test.true l.invariant.text c.write_root.ensures.text; room = omega arith }
 
 pub returns-clause-text : goal.returns-clause-text
 returns-clause-text c =

@@ -1,21 +1,13 @@
 -- `default` meets its contract. Invariant: the powers at exponents below e are made.
-use mathlib.Core.Path.{◌≡◌, refl, ap, ◌∙◌}
+use mathlib.Core.Path.{◌≡◌, ap, ◌∙◌}
 use Prim.Native.Nat.{◌+◌, ◌-◌, ◌<◌}
 use native.Mathlib.Omega.{arith}
 use lib.ListN.{length, length-set}
 use Rattle.std.proofs.Common.{◌≢◌, below_more, get_or-set_same, get_or-set_other}
-use Rattle.lists.proofs.Parts.{from_at}
 use Rattle.field.specs.Bytes.{times_x}
 use Rattle.field.specs.Fields.{power}
 use Rattle.tables.proofs.TwoPowers.{power_byte, next_power}
 use Rattle.tables.proofs.powers.PowersDefault.default.Goals as goal
-
-pub loop-e-init : goal.loop-e-init
-unfolding power
-loop-e-init c = record { size = refl; made = λ k h. (let first : k ≡ 0 = omega arith in rw first) }
-
-pub next-requires : goal.next-requires
-next-requires c = rw (c.loop-e.invariant.made (c.loop-e.e - 1) (omega arith)) (power_byte (c.loop-e.e - 1))
 
 pub loop-e-preserved : goal.loop-e-preserved
 loop-e-preserved c =
@@ -29,6 +21,3 @@ loop-e-preserved c =
           (λ k h. let other : k ≢ l.e = omega arith in rw get_or-set_other (l.invariant.made k h))
           (let inside : l.e < length l.powers = omega arith in rw get_or-set_same next);
     }
-
-pub invariant_of-result : goal.invariant_of-result
-invariant_of-result c = record { each = from_at (power 0 2) c.loop-e.powers 255 c.loop-e.invariant.size (λ k h. c.loop-e.invariant.made k (omega arith)) }
