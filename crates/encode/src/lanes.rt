@@ -16,8 +16,8 @@ use tile_products::scratch::{
 
 // Fills the node's column of the generator.
 fn fill_column(generator: &Generator, node: usize, column: &mut [u16])
-    requires { (node < generator.now.code.header.n) × (length column.old ≡ generator.now.code.header.k) }
-    ensures { column.new ≡ column_of generator.now.code.header node }
+    requires { (node < generator.now.codec.code.header.n) × (length column.old ≡ generator.now.codec.code.header.k) }
+    ensures { column.new ≡ column_of generator.now.codec.code.header node }
 {
     for (r, entry) in column.iter_mut().enumerate() {
         *entry = generator.entry(r, node);
@@ -33,10 +33,10 @@ fn list_columns(
     lists: &mut [u16],
     counts: &mut [u8],
 )
-    requires { (codes.field ≡ generator.now.code.header.field) × (length column.old ≡ generator.now.code.header.k) × ColumnRoom generator.now.code.header (length lists.old) (length counts.old) }
-    ensures { Begun (modulus_of generator.now.code.header) generator.now.code.header.k (column_of generator.now.code.header) generator.now.code.header.n lists.new counts.new }
+    requires { (codes.field ≡ generator.now.codec.code.header.field) × (length column.old ≡ generator.now.codec.code.header.k) × ColumnRoom generator.now.codec.code.header (length lists.old) (length counts.old) }
+    ensures { Begun (modulus_of generator.now.codec.code.header) generator.now.codec.code.header.k (column_of generator.now.codec.code.header) generator.now.codec.code.header.n lists.new counts.new }
 {
-    for node in 0..generator.code.header.n as usize {
+    for node in 0..generator.codec.code.header.n as usize {
         fill_column(generator, node, column);
         codes.prepare(column, node, lists, counts);
     }
@@ -44,10 +44,10 @@ fn list_columns(
 
 // The same in scratch of its own.
 fn fill_lists(generator: &Generator, lists: &mut [u16], counts: &mut [u8])
-    requires { ColumnRoom generator.now.code.header (length lists.old) (length counts.old) }
-    ensures { Begun (modulus_of generator.now.code.header) generator.now.code.header.k (column_of generator.now.code.header) generator.now.code.header.n lists.new counts.new }
+    requires { ColumnRoom generator.now.codec.code.header (length lists.old) (length counts.old) }
+    ensures { Begun (modulus_of generator.now.codec.code.header) generator.now.codec.code.header.k (column_of generator.now.codec.code.header) generator.now.codec.code.header.n lists.new counts.new }
 {
-    let Header { field, k, .. } = generator.code.header;
+    let Header { field, k, .. } = generator.codec.code.header;
     let mut codes: [u64; 256] = kernel::filled(0);
     let codes = WeightCodes::new(field, &mut codes);
     let mut column = [0u16; 255];
@@ -73,7 +73,7 @@ fn fill_in<const LISTS: usize, const COUNTS: usize>(message: &Message, out: &mut
     requires { (LISTS ≤ 130560) × (COUNTS ≤ 2040) × ColumnRoom (record_header message.now) LISTS COUNTS × (length out.old ≡ share_bytes message.now) }
     ensures { out.new ≡ encoded message.now }
 {
-    let product = product_of(message.generator.code.header, message.lanes);
+    let product = product_of(message.generator.codec.code.header, message.lanes);
     let mut lists = [0u16; LISTS];
     let mut counts = [0u8; COUNTS];
     fill_lists(message.generator, &mut lists, &mut counts);
@@ -86,7 +86,7 @@ pub fn fill_lanes(message: &Message, out: &mut [u8])
     requires { length out.old ≡ share_bytes message.now }
     ensures { out.new ≡ encoded message.now }
 {
-    let n = message.generator.code.header.n;
+    let n = message.generator.codec.code.header.n;
     if n <= 16 {
         fill_in::<SMALL_LISTS, SMALL_COUNTS>(message, out)
     } else if n <= 64 {

@@ -7,7 +7,7 @@ ghost use Rattle.generator.specs.Answers.{numbered};
 ghost use Rattle.encode.specs.Promise.{encode_fault, EncodePromise, EncodeSays};
 ghost use Rattle.encode.specs.Inner.Encoded.{share_bytes, encoded};
 
-use generator::{Code, Refusal};
+use generator::{Code, Codec, Refusal};
 use message::Message;
 use plan::Generator;
 
@@ -26,7 +26,7 @@ fn encode_lanes(message: &Message, out: &mut [u8])
     requires { length out.old ≡ share_bytes message.now }
     ensures { out.new ≡ encoded message.now }
 {
-    if are_few(message.lanes, message.generator.code.header.n as usize) {
+    if are_few(message.lanes, message.generator.codec.code.header.n as usize) {
         one_lane::fill_each(message, out);
     } else {
         lanes::fill_lanes(message, out);
@@ -40,7 +40,7 @@ fn encode_accepted(code: Code, lanes: usize, message: &[u8], out: &mut [u8]) -> 
 {
     fault::encode_fault(code, lanes, message, out.len())?;
     let tables = field::constant_tables();
-    let generator = Generator::new(code, &tables);
+    let generator = Generator::new(Codec::new(code, &tables));
     let message = Message {
         generator: &generator,
         width: symbols::width_of(code.header),

@@ -21,10 +21,10 @@ use plan::Generator;
 // The symbols at the places of their rows' shifts, two times round, and zeros elsewhere.
 #[tactic(auto, using(lists::proofs::Front::drop_next, plan::proofs::Plans::shift_below), unfolding(lists::specs::Padded::zeros, crate::specs::Inner::OneLane::placed_from))]
 fn placed(generator: &Generator, symbols: &[u16]) -> [u16; 510]
-    requires { length symbols.now ≡ generator.now.code.header.k }
-    ensures { result ≡ placed_from generator.now.code.header.n 0 generator.now.shifts symbols.now (zeros 510) }
+    requires { length symbols.now ≡ generator.now.codec.code.header.k }
+    ensures { result ≡ placed_from generator.now.codec.code.header.n 0 generator.now.shifts symbols.now (zeros 510) }
 {
-    let n = generator.code.header.n as usize;
+    let n = generator.codec.code.header.n as usize;
     let mut out = [0u16; 510];
     for (r, symbol) in symbols.iter().enumerate() {
         let place = generator.shifts[r] as usize;
@@ -63,10 +63,10 @@ fn write_nodes(
 
 // Fills a lane with the encoding of its k symbols. Of the base word the first d entries are not zero.
 fn fill_lane(generator: &Generator, w: usize, symbols: &[u16], out: &mut [u8])
-    requires { (w ≡ width generator.now.code.header) × (length symbols.now ≡ generator.now.code.header.k) × (all_below (size generator.now.code.header) symbols.now ≡ true) × (length out.old ≡ w * generator.now.code.header.n) }
-    ensures { out.new ≡ bytes_of w (encoding generator.now.code.header symbols.now) }
+    requires { (w ≡ width generator.now.codec.code.header) × (length symbols.now ≡ generator.now.codec.code.header.k) × (all_below (size generator.now.codec.code.header) symbols.now ≡ true) × (length out.old ≡ w * generator.now.codec.code.header.n) }
+    ensures { out.new ≡ bytes_of w (encoding generator.now.codec.code.header symbols.now) }
 {
-    let Header { field, n, k, .. } = generator.code.header;
+    let Header { field, n, k, .. } = generator.codec.code.header;
     let d = (n - k) as usize + 1;
     let row = placed(generator, symbols);
     let mut sums = [0u16; 255];
@@ -86,7 +86,7 @@ fn lane_symbols(message: &Message, t: usize) -> [u16; 255]
     requires { t < message.now.lanes }
     ensures { result ≡ padded 255 (lane_of row_after_row (record_header message.now).k message.now.lanes t (message_symbols message.now)) }
 {
-    let k = message.generator.code.header.k as usize;
+    let k = message.generator.codec.code.header.k as usize;
     let mut out = [0u16; 255];
     for r in 0..k {
         out[r] = symbols::symbol_at(message.width, message.bytes, r * message.lanes + t);
@@ -99,7 +99,7 @@ pub fn fill_each(message: &Message, out: &mut [u8])
     requires { length out.old ≡ share_bytes message.now }
     ensures { out.new ≡ encoded message.now }
 {
-    let Header { n, k, .. } = message.generator.code.header;
+    let Header { n, k, .. } = message.generator.codec.code.header;
     let size = message.width * n as usize;
     for t in 0..message.lanes {
         let symbols = lane_symbols(message, t);

@@ -16,9 +16,7 @@ mod sums;
 
 use check_sums::lane;
 use check_sums::powers::{self, RootPowers};
-use field::Tables;
-use field::lent::Arithmetic;
-use generator::{Code, Refusal};
+use generator::{Codec, Refusal};
 use interpolation::lagrange::Points;
 use rows::GeneratorRows;
 use spectrum::Transform;
@@ -26,11 +24,11 @@ use spectrum::Transform;
 impl GeneratorRows<'_, '_> {
     // Symbol r of a word's message: the sum of the coefficients of its polynomial times the row's terms, times the row's scale. The spectrum has n times each coefficient.
     fn symbol(self, spectrum: &[u16], r: usize) -> u32
-        requires { (length spectrum.now ≡ self.transform.powers.code.header.n) × (all_below (size self.transform.powers.code.header) spectrum.now ≡ true) × (r < self.transform.powers.code.header.k) }
-        ensures { let h = self.entry.transform.powers.code.header in result ≡ symbol_from h r (coefficients_of h spectrum.now) }
+        requires { (length spectrum.now ≡ self.transform.powers.codec.code.header.n) × (all_below (size self.transform.powers.codec.code.header) spectrum.now ≡ true) × (r < self.transform.powers.codec.code.header.k) }
+        ensures { let h = self.entry.transform.powers.codec.code.header in result ≡ symbol_from h r (coefficients_of h spectrum.now) }
     {
-        let h = self.transform.powers.code.header;
-        let field = self.transform.field;
+        let h = self.transform.powers.codec.code.header;
+        let field = self.transform.powers.codec.field;
         let n = h.n as usize;
         let k = h.k as usize;
         let points = self.points();
@@ -49,10 +47,10 @@ impl GeneratorRows<'_, '_> {
 
     // Judges the lane for an update of symbol r from `old`.
     fn judge(self, r: usize, old: u32) -> Result<(), Refusal>
-        requires { r < self.transform.powers.code.header.k }
-        ensures { let t = self.entry.transform in numbered result ≡ outcome_of (stale_fault t.powers.code.header t.lane.now r old) }
+        requires { r < self.transform.powers.codec.code.header.k }
+        ensures { let t = self.entry.transform in numbered result ≡ outcome_of (stale_fault t.powers.codec.code.header t.lane.now r old) }
     {
-        let h = self.transform.powers.code.header;
+        let h = self.transform.powers.codec.code.header;
         let n = h.n as usize;
         let first: usize = 1;
         let end = (h.n - h.k) as usize + 1;
@@ -64,25 +62,19 @@ impl GeneratorRows<'_, '_> {
     }
 }
 
-// Whether a lane is no word of the code, or a word whose message holds another symbol than `old` at number r. The tables and the rows' shifts are the caller's, who has them for the lane's update too.
+// Whether a lane is no word of the code, or a word whose message holds another symbol than `old` at number r. The codec and the rows' shifts are the caller's, who has them for the lane's update too.
 pub fn stale_fault<'a>(
-    code: Code,
-    tables: &'a Tables,
+    codec: Codec<'a>,
     shifts: &'a [u8],
     lane: &'a [u16],
     r: usize,
     old: u32,
 ) -> Result<(), Refusal>
-    requires { (length lane.now ≡ code.header.n) × (all_below (size code.header) lane.now ≡ true) × (r < code.header.k) × (shifts.now ≡ padded 255 (shifts_of code.header.n code.header.k)) }
-    ensures { numbered result ≡ outcome_of (stale_fault code.header lane.now r old) }
+    requires { (length lane.now ≡ codec.code.header.n) × (all_below (size codec.code.header) lane.now ≡ true) × (r < codec.code.header.k) × (shifts.now ≡ padded 255 (shifts_of codec.code.header.n codec.code.header.k)) }
+    ensures { numbered result ≡ outcome_of (stale_fault codec.entry.code.header lane.now r old) }
 {
-    let field = Arithmetic::new(code.header.field, tables);
-    let list = powers::powers_with(code, tables);
-    let powers = RootPowers { code, list: &list };
-    let transform = Transform {
-        powers,
-        field,
-        lane,
-    };
+    let list = powers::powers(codec);
+    let powers = RootPowers { codec, list: &list };
+    let transform = Transform { powers, lane };
     GeneratorRows { transform, shifts }.judge(r, old)
 }

@@ -73,9 +73,9 @@ impl GeneratorRows<'_, '_> {
     // The points of one round to the power g, and zeros after them.
     fn round_points(self, g: usize) -> [u16; 255]
         requires { (0 < g) × (g ≤ 255) }
-        ensures { result ≡ padded 255 (round_points self.entry.transform.powers.code.header g) }
+        ensures { result ≡ padded 255 (round_points self.entry.transform.powers.codec.code.header g) }
     {
-        let h = self.transform.powers.code.header;
+        let h = self.transform.powers.codec.code.header;
         let powers = self.transform.powers.list;
         let n = h.n as usize;
         let k = h.k as usize;
@@ -90,14 +90,14 @@ impl GeneratorRows<'_, '_> {
 
     // The product over the points of the rows, where their shifts come in g rounds.
     fn round_product(self, g: usize) -> [u16; 256]
-        requires { (0 < g) × (g ≤ 255) × InRounds self.transform.powers.code.header.n (shifts_for self.transform.powers.code.header) g }
-        ensures { let h = self.entry.transform.powers.code.header in result ≡ padded 256 (product_of (modulus_of h) (row_points h)) }
+        requires { (0 < g) × (g ≤ 255) × InRounds self.transform.powers.codec.code.header.n (shifts_for self.transform.powers.codec.code.header) g }
+        ensures { let h = self.entry.transform.powers.codec.code.header in result ≡ padded 256 (product_of (modulus_of h) (row_points h)) }
     {
-        let k = self.transform.powers.code.header.k as usize;
+        let k = self.transform.powers.codec.code.header.k as usize;
         let count = k / g;
         let points = self.round_points(g);
         let product = Points {
-            field: self.transform.field,
+            field: self.transform.powers.codec.field,
             points: &points[..count],
         }
         .product();
@@ -106,15 +106,15 @@ impl GeneratorRows<'_, '_> {
 
     // The product over the points of the rows, and zeros after it.
     pub fn product(self, points: &[u16]) -> [u16; 256]
-        requires { points.now ≡ row_points self.transform.powers.code.header }
-        ensures { let h = self.entry.transform.powers.code.header in result ≡ padded 256 (product_of (modulus_of h) (row_points h)) }
+        requires { points.now ≡ row_points self.transform.powers.codec.code.header }
+        ensures { let h = self.entry.transform.powers.codec.code.header in result ≡ padded 256 (product_of (modulus_of h) (row_points h)) }
     {
-        let h = self.transform.powers.code.header;
+        let h = self.transform.powers.codec.code.header;
         let k = h.k as usize;
         match rounds_of(h.n as usize, &self.shifts[..k]) {
             Some(rounds) => self.round_product(rounds),
             None => {
-                let field = self.transform.field;
+                let field = self.transform.powers.codec.field;
                 Points { field, points }.product()
             }
         }

@@ -17,7 +17,7 @@ use spectrum::Transform;
 pub struct GeneratorRows<'p, 'a> {
     pub transform: Transform<'p, 'a>,
     pub shifts: &'a [u8],
-    pub ghost shifts_are: { shifts.now ≡ padded 255 (shifts_of transform.powers.code.header.n transform.powers.code.header.k) },
+    pub ghost shifts_are: { shifts.now ≡ padded 255 (shifts_of transform.powers.codec.code.header.n transform.powers.codec.code.header.k) },
 }
 
 // The step from a coefficient's inverse to that of the one below it: (root^k − y) / (root^(k−1)·(1 − y)), where y is root^c for coefficient c.
@@ -35,9 +35,9 @@ impl GeneratorRows<'_, '_> {
     // The points root^(shift + k − 1) of the rows, and zeros after them.
     // An array with zeros after: there is one for each row, so no length stands beside it.
     pub fn points(self) -> [u16; 255]
-        ensures { result ≡ padded 255 (row_points self.entry.transform.powers.code.header) }
+        ensures { result ≡ padded 255 (row_points self.entry.transform.powers.codec.code.header) }
     {
-        let h = self.transform.powers.code.header;
+        let h = self.transform.powers.codec.code.header;
         let powers = self.transform.powers.list;
         let n = h.n as usize;
         let k = h.k as usize;
@@ -51,10 +51,10 @@ impl GeneratorRows<'_, '_> {
 
     // 1 over the coefficients of the base polynomial, from the highest down, and zeros after them.
     fn base_inverses(self) -> [u16; 255]
-        ensures { result ≡ padded 255 (base_inverses self.entry.transform.powers.code.header) }
+        ensures { result ≡ padded 255 (base_inverses self.entry.transform.powers.codec.code.header) }
     {
-        let h = self.transform.powers.code.header;
-        let field = self.transform.field;
+        let h = self.transform.powers.codec.code.header;
+        let field = self.transform.powers.codec.field;
         let powers = self.transform.powers.list;
         let top = powers[h.k as usize % h.n as usize] as u32;
         let mut out = [0u16; 255];
@@ -72,15 +72,13 @@ impl GeneratorRows<'_, '_> {
 
     // The terms of row r: the coefficients of the product over the points of the other rows, each over that of the base polynomial; and zeros after them.
     pub fn terms(self, points: &[u16], r: usize) -> [u16; 255]
-        requires { (points.now ≡ row_points self.transform.powers.code.header) × (r < self.transform.powers.code.header.k) }
-        ensures { result ≡ padded 255 (row_terms self.entry.transform.powers.code.header r) }
+        requires { (points.now ≡ row_points self.transform.powers.codec.code.header) × (r < self.transform.powers.codec.code.header.k) }
+        ensures { result ≡ padded 255 (row_terms self.entry.transform.powers.codec.code.header r) }
     {
         let product = self.product(points);
         let base = self.base_inverses();
-        let tables = self.transform.field.tables;
         node_weights::terms_at(
-            self.transform.powers.code,
-            tables,
+            self.transform.powers.codec,
             &product,
             &base,
             points[r] as u32,

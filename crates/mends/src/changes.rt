@@ -10,30 +10,27 @@ ghost use Rattle.mends.specs.Promise.{in_front};
 
 use arrayvec::ArrayVec;
 use check_sums::powers::{self, RootPowers};
-use field::lent::Arithmetic;
-use generator::Code;
+use generator::{Code, Codec};
 
-// A lane that was received and is no word: the powers of the code's root, the field in which the code reckons, and the lane with its check sums.
+// A lane that was received and is no word: the powers of the code's root, and the lane with its check sums.
 #[derive(Clone, Copy)]
 struct Received<'a, 'b> {
     powers: RootPowers<'a>,
-    field: Arithmetic<'a>,
     lane: &'b [u16],
     sums: &'b [u16],
-    ghost same: { field.field ≡ powers.code.header.field },
-    ghost summed: { LaneSums powers.code.header lane.now sums.now },
+    ghost summed: { LaneSums powers.codec.code.header lane.now sums.now },
 }
 
 impl Received<'_, '_> {
     // Whether each check sum is c times the one before it. By a `for`: `all` over a range left two goals here, whose proofs were no shorter.
     fn goes_up(self, c: u32) -> bool
-        requires { c < size self.powers.code.header }
-        ensures { result ≡ goes_up (modulus_of self.entry.powers.code.header) c self.entry.sums.now }
+        requires { c < size self.powers.codec.code.header }
+        ensures { result ≡ goes_up (modulus_of self.entry.powers.codec.code.header) c self.entry.sums.now }
     {
         let sums = self.sums;
         let last = sums.len() - 1;
         for e in 0..last {
-            if !self.field.is_product(c, sums[e], sums[e + 1]) {
+            if !self.powers.codec.field.is_product(c, sums[e], sums[e + 1]) {
                 return false;
             }
         }
@@ -42,9 +39,9 @@ impl Received<'_, '_> {
 
     // The nodes j for which the check sums go up by root^j, rising.
     fn up_nodes(self) -> ArrayVec<u8, 255>
-        ensures { result.items ≡ up_nodes self.entry.powers.code.header self.entry.sums.now }
+        ensures { result.items ≡ up_nodes self.entry.powers.codec.code.header self.entry.sums.now }
     {
-        let n = self.powers.code.header.n;
+        let n = self.powers.codec.code.header.n;
         let mut nodes = ArrayVec::new();
         for j in 0..n {
             if self.goes_up(self.powers.list[j as usize] as u32) {
@@ -56,21 +53,21 @@ impl Received<'_, '_> {
 
     // The new symbol of node j: what it holds less the first check sum over root^j.
     fn mended(self, j: usize) -> u16
-        requires { j < self.powers.code.header.n }
-        ensures { result ≡ mended_at self.entry.powers.code.header self.entry.lane.now self.entry.sums.now j }
+        requires { j < self.powers.codec.code.header.n }
+        ensures { result ≡ mended_at self.entry.powers.codec.code.header self.entry.lane.now self.entry.sums.now j }
     {
-        let n = self.powers.code.header.n as usize;
+        let n = self.powers.codec.code.header.n as usize;
         let back = (n - j) % n;
         let over = self.powers.list[back] as u32;
-        let amount = self.field.mul(self.sums[0] as u32, over);
-        self.field.sub(self.lane[j] as u32, amount) as u16
+        let amount = self.powers.codec.field.mul(self.sums[0] as u32, over);
+        self.powers.codec.field.sub(self.lane[j] as u32, amount) as u16
     }
 
     // The new symbols of the listed nodes, and zeros after them.
     // An array with zeros after: it is as long as the list that it is made from, so no length stands beside it.
     fn new_symbols(self, nodes: &[u8]) -> [u16; 255]
-        requires { (all_below self.powers.code.header.n nodes.now ≡ true) × (length nodes.now ≤ 255) }
-        ensures { result ≡ padded 255 (map (mended_at self.entry.powers.code.header self.entry.lane.now self.entry.sums.now) nodes.now) }
+        requires { (all_below self.powers.codec.code.header.n nodes.now ≡ true) × (length nodes.now ≤ 255) }
+        ensures { result ≡ padded 255 (map (mended_at self.entry.powers.codec.code.header self.entry.lane.now self.entry.sums.now) nodes.now) }
     {
         let mut out = [0u16; 255];
         for i in 0..nodes.len() {
@@ -103,15 +100,10 @@ pub fn list<'a>(
     ensures { (result ≡ length (up_nodes code.header sums.now)) × (nodes.new ≡ in_front (up_nodes code.header sums.now) nodes.old) × (symbols.new ≡ in_front (bytes_of (width code.header) (map (mended_at code.header lane.now sums.now) (up_nodes code.header sums.now))) symbols.old) }
 {
     let tables = field::constant_tables();
-    let field = Arithmetic::new(code.header.field, &tables);
-    let list = powers::powers_with(code, &tables);
-    let powers = RootPowers { code, list: &list };
-    let received = Received {
-        powers,
-        field,
-        lane,
-        sums,
-    };
+    let codec = Codec::new(code, &tables);
+    let list = powers::powers(codec);
+    let powers = RootPowers { codec, list: &list };
+    let received = Received { powers, lane, sums };
     let listed = received.up_nodes();
     let up = listed.as_slice();
     let count = up.len();

@@ -13,9 +13,8 @@ ghost use Rattle.interpolation.specs.Inner.Points.{points_of};
 ghost use Rattle.interpolation.specs.Inner.Polynomials.{product_of};
 ghost use Rattle.node_weights.specs.Inner.Rows.{basis_of, row_points, base_inverses, setup_of, terms_at, row_terms};
 
-use field::Tables;
 use field::lent::Arithmetic;
-use generator::Code;
+use generator::{Code, Codec};
 use interpolation::division::Dividend;
 use interpolation::lagrange::Points;
 use interpolation::polynomials::Polynomial;
@@ -104,13 +103,13 @@ pub fn prepare(code: Code, nodes: &[u8], shifts: &[u8]) -> Setup
 }
 
 // The terms of the row with the point x: the coefficients of the product over the points of the other rows, each over that of the base polynomial; and zeros after them.
-pub fn terms_at(code: Code, tables: &Tables, product: &[u16], base: &[u16], x: u32) -> [u16; 255]
-    requires { (product.now ≡ padded 256 (product_of (modulus_of code.header) (row_points code.header))) × (base.now ≡ padded 255 (base_inverses code.header)) × (x < size code.header) }
-    ensures { result ≡ padded 255 (terms_at code.header x) }
+pub fn terms_at(codec: Codec, product: &[u16], base: &[u16], x: u32) -> [u16; 255]
+    requires { (product.now ≡ padded 256 (product_of (modulus_of codec.code.header) (row_points codec.code.header))) × (base.now ≡ padded 255 (base_inverses codec.code.header)) × (x < size codec.code.header) }
+    ensures { result ≡ padded 255 (terms_at codec.entry.code.header x) }
 {
-    let h = code.header;
+    let h = codec.code.header;
     let k = h.k as usize;
-    let field = Arithmetic::new(h.field, tables);
+    let field = codec.field;
     let polynomial = Polynomial {
         field,
         coefficients: &product[1..=k],
@@ -124,11 +123,11 @@ pub fn terms_at(code: Code, tables: &Tables, product: &[u16], base: &[u16], x: u
 
 impl Setup {
     // The terms of row r.
-    pub fn row_terms(&self, code: Code, tables: &Tables, r: usize) -> [u16; 255]
-        requires { (self.now.shifts ≡ basis_of (modulus_of code.header) (row_points code.header)) × (self.now.base ≡ padded 255 (base_inverses code.header)) × (r < code.header.k) }
-        ensures { result ≡ padded 255 (row_terms code.header r) }
+    pub fn row_terms(&self, codec: Codec, r: usize) -> [u16; 255]
+        requires { (self.now.shifts ≡ basis_of (modulus_of codec.code.header) (row_points codec.code.header)) × (self.now.base ≡ padded 255 (base_inverses codec.code.header)) × (r < codec.code.header.k) }
+        ensures { result ≡ padded 255 (row_terms codec.entry.code.header r) }
     {
         let x = self.shifts.points[r] as u32;
-        terms_at(code, tables, &self.shifts.product, &self.base, x)
+        terms_at(codec, &self.shifts.product, &self.base, x)
     }
 }

@@ -5,33 +5,26 @@ ghost use Rattle.field.specs.Fields.{mul, power};
 ghost use Rattle.generator.specs.Records.{modulus_of, size};
 ghost use Rattle.generator.specs.Generator.{base_at, entry_at, base_word};
 
-use field::lent::Arithmetic;
-use field::{Field, Tables};
-use generator::Code;
+use field::Field;
+use generator::Codec;
 
 // What leads from one entry to the next: p(root·x)·(x − pole) = p(x)·(scale·x − pole), where scale is root^(k−1) and pole is root^(k−2).
 #[derive(Clone, Copy)]
 struct Recurrence<'a> {
-    code: Code,
-    field: Arithmetic<'a>,
+    codec: Codec<'a>,
     scale: u32,
     pole: u32,
-    ghost same: { field.field ≡ code.header.field },
-    ghost scale_is: { scale ≡ power (modulus_of code.header) code.header.root (code.header.k - 1) },
-    ghost pole_is: { pole ≡ power (modulus_of code.header) code.header.root (code.header.n + code.header.k - 2) },
+    ghost scale_is: { scale ≡ power (modulus_of codec.code.header) codec.code.header.root (codec.code.header.k - 1) },
+    ghost pole_is: { pole ≡ power (modulus_of codec.code.header) codec.code.header.root (codec.code.header.n + codec.code.header.k - 2) },
 }
 
 impl Recurrence<'_> {
     // Entry 0, which is p(scale), factor by factor; y is root^i.
     fn first(self) -> u32
-        ensures { result ≡ entry_at self.entry.code.header 0 0 }
+        ensures { result ≡ entry_at self.entry.codec.code.header 0 0 }
     {
-        let Recurrence {
-            code,
-            field,
-            scale,
-            ..
-        } = self;
+        let Recurrence { codec, scale, .. } = self;
+        let Codec { code, field, .. } = codec;
         let root = code.header.root;
         let mut product = Field::ONE;
         let mut y = Field::ONE;
@@ -44,10 +37,10 @@ impl Recurrence<'_> {
 
     // p(root·x) from p(x), which is `entry`.
     fn next(self, x: u32, entry: u32) -> u32
-        requires { (x < size self.code.header) × (x ≡ self.pole → ⊥) × (entry ≡ base_at self.code.header x) }
-        ensures { result ≡ base_at self.entry.code.header (mul (modulus_of self.entry.code.header) self.entry.code.header.root x) }
+        requires { (x < size self.codec.code.header) × (x ≡ self.pole → ⊥) × (entry ≡ base_at self.codec.code.header x) }
+        ensures { result ≡ base_at self.entry.codec.code.header (mul (modulus_of self.entry.codec.code.header) self.entry.codec.code.header.root x) }
     {
-        let field = self.field;
+        let field = self.codec.field;
         let above = field.sub(field.mul(self.scale, x), self.pole);
         let below = field.sub(x, self.pole);
         let ratio = field.mul(above, field.inverse(below));
@@ -56,9 +49,9 @@ impl Recurrence<'_> {
 
     // The n − k + 1 entries that are not 0, each from the one before it, and zeros after them.
     fn word(self) -> [u16; 255]
-        ensures { result ≡ padded 255 (base_word self.entry.code.header) }
+        ensures { result ≡ padded 255 (base_word self.entry.codec.code.header) }
     {
-        let h = self.code.header;
+        let h = self.codec.code.header;
         let last = (h.n - h.k) as usize;
         let mut out = [0u16; 255];
         let mut x = self.scale;
@@ -66,7 +59,7 @@ impl Recurrence<'_> {
         out[0] = entry as u16;
         for place in &mut out[1..=last] {
             entry = self.next(x, entry);
-            x = self.field.mul(h.root, x);
+            x = self.codec.field.mul(h.root, x);
             *place = entry as u16;
         }
         out
@@ -74,20 +67,13 @@ impl Recurrence<'_> {
 }
 
 // The base word of a code, and zeros after it.
-pub fn base_word(code: Code, tables: &Tables) -> [u16; 255]
-    ensures { result ≡ padded 255 (base_word code.header) }
+pub fn base_word(codec: Codec) -> [u16; 255]
+    ensures { result ≡ padded 255 (base_word codec.entry.code.header) }
 {
-    let h = code.header;
-    let field = Arithmetic::new(h.field, tables);
+    let h = codec.code.header;
     let n = h.n as u32;
     let k = h.k as u32;
-    let scale = field.power(h.root, k - 1);
-    let pole = field.power(h.root, n + k - 2);
-    Recurrence {
-        code,
-        field,
-        scale,
-        pole,
-    }
-    .word()
+    let scale = codec.field.power(h.root, k - 1);
+    let pole = codec.field.power(h.root, n + k - 2);
+    Recurrence { codec, scale, pole }.word()
 }

@@ -5,7 +5,7 @@ ghost use Rattle.std.specs.Prelude.{◌≡◌};
 ghost use Rattle.generator.specs.Answers.{numbered};
 ghost use Rattle.plan.specs.Plans.{plan_of, plan_for, PlanSays};
 
-use generator::{Code, Header, Refusal};
+use generator::{Code, Codec, Header, Refusal};
 use shifts::Rows;
 
 mod base;
@@ -39,7 +39,7 @@ pub fn plan_of(code: Code) -> Plan
     let dimensions = code.dimensions();
     let Rows { shifts, firsts } = shifts::place_rows(dimensions);
     let tables = field::constant_tables();
-    let base = base_word(code, &tables);
+    let base = base_word(Codec::new(code, &tables));
     Plan {
         n,
         k,

@@ -15,7 +15,7 @@ mod message;
 
 use block_products::{Product, Way};
 use field::lent::Arithmetic;
-use generator::Code;
+use generator::{Code, Codec};
 use interpolation::polynomials::Polynomial;
 use node_weights::Setup;
 use tile_products::WeightCodes;
@@ -40,9 +40,10 @@ impl Inverse<'_> {
         let k = h.k as usize;
         let w = symbols::width_of(h);
         let size = w * k;
-        let t = field::constant_tables();
+        let tables = field::constant_tables();
+        let codec = Codec::new(self.code, &tables);
         for r in 0..k {
-            let row = self.setup.row_terms(self.code, &t, r);
+            let row = self.setup.row_terms(codec, r);
             let start = r * size;
             let end = start + size;
             symbols::write_symbols(w, &row[..k], &mut out[start..end]);

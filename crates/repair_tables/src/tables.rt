@@ -15,7 +15,7 @@ use crate::bits::Bits;
 use crate::nodes::Target;
 use crate::senders::list_senders;
 use check_sums::powers::{self, RootPowers};
-use generator::Code;
+use generator::{Code, Codec};
 
 // The sums of two rows of 16: of the entry for the lower four bits and the entry for the upper four.
 fn sums(low: &[u8; 16], high: &[u8; 16]) -> [u8; 256]
@@ -32,17 +32,17 @@ impl Target<'_> {
     // The trace of a product, by its lowest bits.
     fn low_trace(self, f: u32, x: u32) -> u8
         requires { (f < 256) × (x < 256) }
-        ensures { result ≡ trace_of (bit_count self.entry.bits) (mul (modulus_of self.entry.code.header) f x) % 2 ^ bit_count self.entry.bits }
+        ensures { result ≡ trace_of (bit_count self.entry.bits) (mul (modulus_of self.entry.codec.code.header) f x) % 2 ^ bit_count self.entry.bits }
     {
-        let y = self.field.mul(f, x);
-        let t = self.bits.trace(self.field.tables, y);
+        let y = self.codec.field.mul(f, x);
+        let t = self.bits.trace(self.codec.field.tables, y);
         (t % (1 << self.bits.count())) as u8
     }
 
     // The digits of the multiples of `step`, 1 or 16.
     fn sixteen(self, f: u32, step: u32) -> [u8; 16]
         requires { (f < 256) × (step ≤ 16) }
-        ensures { result ≡ from (λ i. trace_of (bit_count self.entry.bits) (mul (modulus_of self.entry.code.header) f (i * step)) % 2 ^ bit_count self.entry.bits) 0 16 }
+        ensures { result ≡ from (λ i. trace_of (bit_count self.entry.bits) (mul (modulus_of self.entry.codec.code.header) f (i * step)) % 2 ^ bit_count self.entry.bits) 0 16 }
     {
         let mut row = [0u8; 16];
         for i in 0..16 {
@@ -53,25 +53,25 @@ impl Target<'_> {
 
     // The weight of bit q of all senders' digits.
     fn weight(self, powers: RootPowers, senders: &[u8], q: usize) -> u8
-        requires { (powers.code ≡ self.code) × (all_below self.code.header.n senders.now ≡ true) × (q < length senders.now * bit_count self.bits) }
-        ensures { result ≡ bit_weight self.entry.code.header (bit_count self.entry.bits) self.entry.node senders.now q }
+        requires { (powers.codec.code ≡ self.codec.code) × (all_below self.codec.code.header.n senders.now ≡ true) × (q < length senders.now * bit_count self.bits) }
+        ensures { result ≡ bit_weight self.entry.codec.code.header (bit_count self.entry.bits) self.entry.node senders.now q }
     {
         let b = self.bits.count() as usize;
         let node = senders[q / b] as usize;
         let y = self.offset_from(powers, node);
         let e = self.bits.element(1 << (q % b));
-        self.field.mul(y, e) as u8
+        self.codec.field.mul(y, e) as u8
     }
 
     // The weights of the bits of all senders' digits, with zeros after the last.
     // An array with zeros after: there is a weight for each bit, so no length stands beside it.
     fn list_weights(self, senders: &[u8]) -> [u8; 1020]
-        requires { (all_below self.code.header.n senders.now ≡ true) × (length senders.now ≤ 255) }
-        ensures { result ≡ padded 1020 (from (bit_weight self.entry.code.header (bit_count self.entry.bits) self.entry.node senders.now) 0 (length senders.now * bit_count self.entry.bits)) }
+        requires { (all_below self.codec.code.header.n senders.now ≡ true) × (length senders.now ≤ 255) }
+        ensures { result ≡ padded 1020 (from (bit_weight self.entry.codec.code.header (bit_count self.entry.bits) self.entry.node senders.now) 0 (length senders.now * bit_count self.entry.bits)) }
     {
-        let list = powers::powers_with(self.code, self.field.tables);
+        let list = powers::powers(self.codec);
         let powers = RootPowers {
-            code: self.code,
+            codec: self.codec,
             list: &list,
         };
         let count = senders.len() * self.bits.count() as usize;
@@ -89,7 +89,7 @@ pub fn sent_digits(code: Code, b: Bits, target: u32, missing: &[u8], node: u32) 
     ensures { result ≡ from (sent_digit code.header target missing.now node) 0 256 }
 {
     let tables = field::constant_tables();
-    let target = Target::new(code, b, target, &tables);
+    let target = Target::new(Codec::new(code, &tables), b, target);
     let f = target.factor(missing, node);
     let low = target.sixteen(f, 1);
     let high = target.sixteen(f, 16);
@@ -103,6 +103,6 @@ pub fn weights(code: Code, b: Bits, target: u32, missing: &[u8]) -> [u8; 1020]
 {
     let nodes = list_senders(code.header.n, target, missing);
     let tables = field::constant_tables();
-    let target = Target::new(code, b, target, &tables);
+    let target = Target::new(Codec::new(code, &tables), b, target);
     target.list_weights(nodes.as_slice())
 }

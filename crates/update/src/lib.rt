@@ -14,9 +14,7 @@ ghost use Rattle.refusals.specs.Accepted.{UpdatableLane};
 ghost use Rattle.blocks.specs.Blocks.{updated, word_added};
 ghost use Rattle.update.specs.Inner.Words.{UpdatableWord};
 
-use field::Tables;
-use field::lent::Arithmetic;
-use generator::{Code, Refusal};
+use generator::{Code, Codec, Refusal};
 use plan::Generator;
 
 mod fault;
@@ -32,33 +30,26 @@ pub struct Update {
 }
 
 // What a node holds after x times its entry is added to what it held.
-fn renewed(code: Code, tables: &Tables, x: u32, entry: u16, before: u16) -> u16
-    requires { (x < size code.header) × (entry < size code.header) × (before < size code.header) }
-    ensures { result ≡ add (modulus_of code.header) before (mul (modulus_of code.header) x entry) }
+fn renewed(codec: Codec, x: u32, entry: u16, before: u16) -> u16
+    requires { (x < size codec.code.header) × (entry < size codec.code.header) × (before < size codec.code.header) }
+    ensures { result ≡ add (modulus_of codec.entry.code.header) before (mul (modulus_of codec.entry.code.header) x entry) }
 {
-    let field = Arithmetic::new(code.header.field, tables);
+    let field = codec.field;
     let term = field.mul(x, entry as u32);
     field.add(before as u32, term) as u16
 }
 
 // Adds x times a row of the generator to a lane: rewrites the nodes whose symbol becomes another one, and counts them.
-fn rewrite(
-    generator: &Generator,
-    tables: &Tables,
-    w: usize,
-    which: usize,
-    x: u32,
-    lane: &mut [u8],
-) -> u32
-    requires { UpdatableWord generator.now.code.header w which lane.old × (x < size generator.now.code.header) }
-    ensures { let added = word_added generator.now.code.header which x (symbols_of w lane.old) in (lane.new ≡ bytes_of w added) × (result ≡ differ (symbols_of w lane.old) added) }
+fn rewrite(generator: &Generator, w: usize, which: usize, x: u32, lane: &mut [u8]) -> u32
+    requires { UpdatableWord generator.now.codec.code.header w which lane.old × (x < size generator.now.codec.code.header) }
+    ensures { let added = word_added generator.now.codec.code.header which x (symbols_of w lane.old) in (lane.new ≡ bytes_of w added) × (result ≡ differ (symbols_of w lane.old) added) }
 {
-    let n = generator.code.header.n as usize;
+    let n = generator.codec.code.header.n as usize;
     let mut count: u32 = 0;
     for j in 0..n {
         let entry = generator.entry(which, j);
         let before = symbols::symbol_at(w, lane, j);
-        let after = renewed(generator.code, tables, x, entry, before);
+        let after = renewed(generator.codec, x, entry, before);
         if after != before {
             let start = j * w;
             let end = start + w;
@@ -72,20 +63,18 @@ fn rewrite(
 // Whether a lane is no word of the code, or one whose message holds another symbol than `old`.
 fn judge(
     generator: &Generator,
-    tables: &Tables,
     w: usize,
     which: usize,
     old: u32,
     lane: &[u8],
 ) -> Result<(), Refusal>
-    requires { UpdatableWord generator.now.code.header w which lane.now }
-    ensures { numbered result ≡ outcome_of (stale_fault generator.now.code.header (symbols_of w lane.now) which old) }
+    requires { UpdatableWord generator.now.codec.code.header w which lane.now }
+    ensures { numbered result ≡ outcome_of (stale_fault generator.now.codec.code.header (symbols_of w lane.now) which old) }
 {
-    let n = generator.code.header.n as usize;
+    let n = generator.codec.code.header.n as usize;
     let symbols = symbols::read_symbols(w, lane);
     lane_message::stale_fault(
-        generator.code,
-        tables,
+        generator.codec,
         &generator.shifts,
         &symbols[..n],
         which,
@@ -98,33 +87,32 @@ impl Update {
     fn judge_lane(
         self,
         generator: &Generator,
-        tables: &Tables,
         shares: &[u8],
     ) -> Result<(), Refusal>
-        requires { UpdatableLane generator.now.code.header self.lanes self.which self.lane shares.now }
-        ensures { let h = generator.now.code.header in numbered result ≡ outcome_of (stale_fault h (lane_of share_layout h.n self.lanes self.lane (symbols_of (width h) shares.now)) self.which self.old) }
+        requires { UpdatableLane generator.now.codec.code.header self.lanes self.which self.lane shares.now }
+        ensures { let h = generator.now.codec.code.header in numbered result ≡ outcome_of (stale_fault h (lane_of share_layout h.n self.lanes self.lane (symbols_of (width h) shares.now)) self.which self.old) }
     {
-        let w = symbols::width_of(generator.code.header);
-        let size = w * generator.code.header.n as usize;
+        let w = symbols::width_of(generator.codec.code.header);
+        let size = w * generator.codec.code.header.n as usize;
         let start = self.lane * size;
         let end = start + size;
         let lane = &shares[start..end];
-        judge(generator, tables, w, self.which, self.old, lane)
+        judge(generator, w, self.which, self.old, lane)
     }
 
     // Rewrites the lane, which is handed on likewise, and counts the nodes whose symbol becomes another one.
-    fn rewrite_lane(self, generator: &Generator, tables: &Tables, shares: &mut [u8]) -> u32
-        requires { let h = generator.now.code.header in UpdatableLane h self.lanes self.which self.lane shares.old × (self.old < size h) × (self.new < size h) }
-        ensures { let h = generator.now.code.header in let s = symbols_of (width h) shares.old in let added = updated share_layout h self.lanes self.which self.lane self.old self.new s in (shares.new ≡ bytes_of (width h) added) × (result ≡ differ s added) }
+    fn rewrite_lane(self, generator: &Generator, shares: &mut [u8]) -> u32
+        requires { let h = generator.now.codec.code.header in UpdatableLane h self.lanes self.which self.lane shares.old × (self.old < size h) × (self.new < size h) }
+        ensures { let h = generator.now.codec.code.header in let s = symbols_of (width h) shares.old in let added = updated share_layout h self.lanes self.which self.lane self.old self.new s in (shares.new ≡ bytes_of (width h) added) × (result ≡ differ s added) }
     {
-        let h = generator.code.header;
+        let h = generator.codec.code.header;
         let x = h.field.sub(self.new, self.old);
         let w = symbols::width_of(h);
         let size = w * h.n as usize;
         let start = self.lane * size;
         let end = start + size;
         let lane = &mut shares[start..end];
-        rewrite(generator, tables, w, self.which, x, lane)
+        rewrite(generator, w, self.which, x, lane)
     }
 }
 
@@ -134,9 +122,9 @@ fn update_accepted(code: Code, update: Update, shares: &mut [u8]) -> Result<u32,
 {
     update.input_fault(code, shares)?;
     let tables = field::constant_tables();
-    let generator = Generator::new(code, &tables);
-    update.judge_lane(&generator, &tables, shares)?;
-    Ok(update.rewrite_lane(&generator, &tables, shares))
+    let generator = Generator::new(Codec::new(code, &tables));
+    update.judge_lane(&generator, shares)?;
+    Ok(update.rewrite_lane(&generator, shares))
 }
 
 // Adds (new − old) times row `which` of the generator to a lane of the shares and gives how many nodes it altered, or says what turns the call away and writes nothing.

@@ -7,19 +7,19 @@ ghost use Rattle.interpolation.specs.Inner.Lagrange.{scales_of};
 ghost use Rattle.wrong_lanes.specs.Inner.Checks.{first_points, first_weights, CheckLists, CheckRoom};
 
 use check_sums::powers::{self, RootPowers};
-use field::lent::Arithmetic;
-use generator::Code;
+use generator::{Code, Codec};
 use interpolation::lagrange::Points;
 use tile_products::WeightCodes;
 
 // The weights of check e: those by which the first k nodes give node k + e, −1 there, and zeros after them.
 // An array with zeros after: there is one for each node, so no length stands beside it.
-fn check_weights(powers: RootPowers, field: Arithmetic, scales: &[u16], e: usize) -> [u16; 255]
-    requires { let h = powers.code.header in (field.field ≡ h.field) × (scales.now ≡ scales_of (modulus_of h) (first_points h)) × (e < h.n - h.k) }
-    ensures { let h = powers.entry.code.header in result ≡ set (padded 255 (first_weights h e)) (h.k + e) (sub (modulus_of h) 0 1) }
+fn check_weights(powers: RootPowers, scales: &[u16], e: usize) -> [u16; 255]
+    requires { let h = powers.codec.code.header in (scales.now ≡ scales_of (modulus_of h) (first_points h)) × (e < h.n - h.k) }
+    ensures { let h = powers.entry.codec.code.header in result ≡ set (padded 255 (first_weights h e)) (h.k + e) (sub (modulus_of h) 0 1) }
 {
     let roots = powers.list;
-    let k = powers.code.header.k as usize;
+    let field = powers.codec.field;
+    let k = powers.codec.code.header.k as usize;
     let at = k + e;
     let z = roots[at] as u32;
     let points = Points {
@@ -42,17 +42,20 @@ fn list_nodes(code: Code, lists: &mut [u16], counts: &mut [u8])
     let checks = (h.n - h.k) as usize;
     let mut codes: [u64; 256] = kernel::filled(0);
     let codes = WeightCodes::new(h.field, &mut codes);
-    let t = field::constant_tables();
-    let field = Arithmetic::new(h.field, &t);
-    let roots = powers::powers(code);
-    let powers = RootPowers { code, list: &roots };
+    let tables = field::constant_tables();
+    let codec = Codec::new(code, &tables);
+    let roots = powers::powers(codec);
+    let powers = RootPowers {
+        codec,
+        list: &roots,
+    };
     let points = Points {
-        field,
+        field: codec.field,
         points: &roots[..k],
     };
     let scales = points.scales();
     for e in 0..checks {
-        let weights = check_weights(powers, field, &scales[..k], e);
+        let weights = check_weights(powers, &scales[..k], e);
         codes.prepare(&weights[..n], e, lists, counts);
     }
 }
@@ -67,8 +70,10 @@ fn list_sums(code: Code, lists: &mut [u16], counts: &mut [u8])
     let checks = (h.n - h.k) as usize;
     let mut codes: [u64; 256] = kernel::filled(0);
     let codes = WeightCodes::new(h.field, &mut codes);
-    let list = powers::powers(code);
-    let powers = RootPowers { code, list: &list };
+    let tables = field::constant_tables();
+    let codec = Codec::new(code, &tables);
+    let list = powers::powers(codec);
+    let powers = RootPowers { codec, list: &list };
     for e in 0..checks {
         let weights = powers.factors(e + 1);
         codes.prepare(&weights[..n], e, lists, counts);

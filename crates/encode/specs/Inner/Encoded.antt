@@ -8,7 +8,7 @@ use Rattle.encode.specs.declared.message.Message.{Message}
 
 -- what the record holds by which a message is encoded
 abbrev pub record_header : Message → Header
-record_header m = m.generator.now.code.header
+record_header m = m.generator.now.codec.code.header
 
 -- its symbols
 abbrev pub message_symbols : Message → List ℕ

@@ -12,21 +12,21 @@ use Rattle.node_weights.proofs.Parts.{Symbols, parts, row_symbols, base_symbols}
 use Rattle.node_weights.proofs.terms_at.Goals as goal
 use Rattle.node_weights.proofs.terms_at.Goals.{Start}
 
-few : (c : Start) → c.args.code.header.k ≤ 255
-few c = let s = c.args.code.sound in omega (arith, s.fits, s.byte)
+few : (c : Start) → c.args.codec.code.header.k ≤ 255
+few c = let s = c.args.codec.code.sound in omega (arith, s.fits, s.byte)
 
 -- the coefficients of the product, without the constant
-product-size : (c : Start) → let h = c.args.code.header in length (product_of (modulus_of h) (row_points h)) ≡ h.k + 1
+product-size : (c : Start) → let h = c.args.codec.code.header in length (product_of (modulus_of h) (row_points h)) ≡ h.k + 1
 product-size c =
-    omega (arith, length_product_of (modulus_of c.args.code.header) (row_points c.args.code.header), (row_symbols c.args.code.header c.args.code.sound (few c)).size)
+    omega (arith, length_product_of (modulus_of c.args.codec.code.header) (row_points c.args.codec.code.header), (row_symbols c.args.codec.code.header c.args.codec.code.sound (few c)).size)
 
 product_is : (c : Start)
     → let a = c.args in
-    let q = drop 1 (product_of (modulus_of a.code.header) (row_points a.code.header)) in
-    (take (a.code.header.k + 1 - 1) (drop 1 a.product.now) ≡ q) × Symbols (modulus_of a.code.header) a.code.header.k q
+    let q = drop 1 (product_of (modulus_of a.codec.code.header) (row_points a.codec.code.header)) in
+    (take (a.codec.code.header.k + 1 - 1) (drop 1 a.product.now) ≡ q) × Symbols (modulus_of a.codec.code.header) a.codec.code.header.k q
 product_is c =
-    let h = c.args.code.header in
-    (rw c.requires.0 (part_padded 256 (h.k + 1) 1 (product_of (modulus_of h) (row_points h)) (product-size c) (omega arith)), (parts (modulus_of h) c.args.code.sound.field h.k (row_points h) (basis_of (modulus_of h) (row_points h)) (row_symbols h c.args.code.sound (few c)) refl).some_product)
+    let h = c.args.codec.code.header in
+    (rw c.requires.0 (part_padded 256 (h.k + 1) 1 (product_of (modulus_of h) (row_points h)) (product-size c) (omega arith)), (parts (modulus_of h) c.args.codec.code.sound.field h.k (row_points h) (basis_of (modulus_of h) (row_points h)) (row_symbols h c.args.codec.code.sound (few c)) refl).some_product)
 
 whole : (c : Start) → length c.args.product.now ≡ 256
 whole c = rw c.requires.0 (length_padded 256 _ (omega (arith, product-size c, few c)))
@@ -34,9 +34,9 @@ whole c = rw c.requires.0 (length_padded 256 _ (omega (arith, product-size c, fe
 -- the inverses
 inverses-are : (c : Start)
     → let a = c.args in
-    (take a.code.header.k a.base.now ≡ base_inverses a.code.header) × Symbols (modulus_of a.code.header) a.code.header.k (base_inverses a.code.header)
+    (take a.codec.code.header.k a.base.now ≡ base_inverses a.codec.code.header) × Symbols (modulus_of a.codec.code.header) a.codec.code.header.k (base_inverses a.codec.code.header)
 inverses-are c =
-    let b = base_symbols c.args.code.header c.args.code.sound (few c) in
+    let b = base_symbols c.args.codec.code.header c.args.codec.code.sound (few c) in
     (rw c.requires.1 (take_padded 255 _ _ b.size), b)
 
 pub slice_bounds-polynomial-end : goal.slice_bounds-polynomial-end
@@ -45,7 +45,7 @@ slice_bounds-polynomial-end c = let w = (goal.at.slice_bounds-polynomial-end c).
 pub invariant_of-polynomial : goal.invariant_of-polynomial
 invariant_of-polynomial c =
     let q = product_is (goal.at.invariant_of-polynomial c).Start in
-    record { symbols = rw (c.new-field.ensures, q.0) q.1.are }
+    record { symbols = rw (c.args.codec.same, q.0) q.1.are }
 
 pub slice_bounds-quotient_terms-end : goal.slice_bounds-quotient_terms-end
 slice_bounds-quotient_terms-end c = let b = inverses-are (goal.at.slice_bounds-quotient_terms-end c).Start in rw b.0 (sym b.1.size)
@@ -54,10 +54,10 @@ pub invariant_of-quotient_terms : goal.invariant_of-quotient_terms
 invariant_of-quotient_terms c =
     let q = product_is (goal.at.invariant_of-quotient_terms c).Start in
     let b = inverses-are (goal.at.invariant_of-quotient_terms c).Start in
-    record { symbols = rw (c.new-field.ensures, b.0) b.1.are; as_many = rw (q.0, b.0) (b.1.size ∙ sym q.1.size) }
+    record { symbols = rw (c.args.codec.same, b.0) b.1.are; as_many = rw (q.0, b.0) (b.1.size ∙ sym q.1.size) }
 
 pub quotient_terms-requires : goal.quotient_terms-requires
-quotient_terms-requires c = rw c.new-field.ensures c.requires.2
+quotient_terms-requires c = rw c.args.codec.same c.requires.2
 
 pub returns : goal.returns
-returns c = c.quotient_terms.ensures ∙ rw (c.new-field.ensures, (product_is (goal.at.returns c).Start).0, (inverses-are (goal.at.returns c).Start).0)
+returns c = c.quotient_terms.ensures ∙ rw (c.args.codec.same, (product_is (goal.at.returns c).Start).0, (inverses-are (goal.at.returns c).Start).0)

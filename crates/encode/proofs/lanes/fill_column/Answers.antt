@@ -10,7 +10,7 @@ use Rattle.encode.proofs.lanes.fill_column.Goals as goal
 pub loop-r-preserved : goal.loop-r-preserved
 loop-r-preserved c =
     let inv = c.loop-r.invariant in
-    let low : c.loop-r.r < c.args.generator.now.code.header.k = omega (arith, c.requires.1) in
+    let low : c.loop-r.r < c.args.generator.now.codec.code.header.k = omega (arith, c.requires.1) in
     rw c.entry.ensures (fills_put (rw (from_next _ _ _ low) at inv) (omega (arith, inv.long)))
 
 pub returns : goal.returns

@@ -8,7 +8,7 @@ use Rattle.encode.proofs.lanes.list_columns.Given as goal
 
 abbrev pub invariant-loop-node : goal.invariant-loop-node
 invariant-loop-node l =
-    let h = l.generator.code.header in
+    let h = l.generator.codec.code.header in
     (length l.column ≡ h.k)
     × (length l.lists ≡ length l.initial.lists)
     × (length l.counts ≡ length l.initial.counts)

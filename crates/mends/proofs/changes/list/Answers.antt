@@ -17,7 +17,7 @@ use Rattle.mends.proofs.changes.list.Goals.{After-as_slice-up, After-new_symbols
 
 -- the listed nodes, and how many they are
 up-is : (c : After-as_slice-up) → c.as_slice-up.result.now ≡ up_nodes c.args.code.header c.args.sums.now
-up-is c = c.as_slice-up.ensures.value ∙ c.up_nodes-listed.ensures
+up-is c = c.as_slice-up.ensures.value ∙ rw c.new-codec.ensures at c.up_nodes-listed.ensures
 
 few : (c : After-as_slice-up) → length c.as_slice-up.result.now ≤ c.args.code.header.n
 few c = rw (up-is c) (up_few c.args.code.header c.args.sums.now)
@@ -37,7 +37,7 @@ copy_from_slice-requires c = length-take-le _ _ (room (goal.at.copy_from_slice-r
 pub new_symbols-new-requires : goal.new_symbols-new-requires
 new_symbols-new-requires c =
     let is = up-is (goal.at.new_symbols-new-requires c).After-as_slice-up in
-    (rw is (up_below _ _), omega (arith, few (goal.at.new_symbols-new-requires c).After-as_slice-up, c.args.code.sound.byte))
+    (rw (c.new-codec.ensures, is) (up_below _ _), omega (arith, few (goal.at.new_symbols-new-requires c).After-as_slice-up, c.args.code.sound.byte))
 
 -- the part of the new symbols that is written
 new-part : (c : After-new_symbols-new)
@@ -45,7 +45,7 @@ new-part : (c : After-new_symbols-new)
     take (length c.as_slice-up.result.now) c.new_symbols-new.result ≡ map (mended_at a.code.header a.lane.now a.sums.now) (up_nodes a.code.header a.sums.now)
 new-part c =
     let a = c.args in
-    rw (c.new_symbols-new.ensures, up-is (goal.at.After-new_symbols-new c).After-as_slice-up)
+    rw (c.new_symbols-new.ensures, c.new-codec.ensures, up-is (goal.at.After-new_symbols-new c).After-as_slice-up)
     (take_padded 255 _ _ (length-map (up_nodes a.code.header a.sums.now) (mended_at a.code.header a.lane.now a.sums.now)))
 
 pub slice_bounds-put_symbols-end : goal.slice_bounds-put_symbols-end

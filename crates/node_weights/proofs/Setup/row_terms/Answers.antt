@@ -12,14 +12,14 @@ use Rattle.node_weights.proofs.Setup.row_terms.Goals as goal
 use Rattle.node_weights.proofs.Setup.row_terms.Goals.{Start}
 
 -- the rows' points, and what their basis holds
-points : (c : Start) → let h = c.args.code.header in Symbols (modulus_of h) h.k (row_points h)
-points c = row_symbols c.args.code.header c.args.code.sound (omega (arith, c.args.code.sound.fits, c.args.code.sound.byte))
+points : (c : Start) → let h = c.args.codec.code.header in Symbols (modulus_of h) h.k (row_points h)
+points c = row_symbols c.args.codec.code.header c.args.codec.code.sound (omega (arith, c.args.codec.code.sound.fits, c.args.codec.code.sound.byte))
 
-rows : (c : Start) → let h = c.args.code.header in Parts (modulus_of h) h.k (row_points h) c.args.self.now.shifts
-rows c = parts _ c.args.code.sound.field _ _ _ (points c) c.requires.0
+rows : (c : Start) → let h = c.args.codec.code.header in Parts (modulus_of h) h.k (row_points h) c.args.self.now.shifts
+rows c = parts _ c.args.codec.code.sound.field _ _ _ (points c) c.requires.0
 
 -- the row's point
-point : (c : Start) → get_or c.args.self.now.shifts.points c.args.r 0 < size c.args.code.header
+point : (c : Start) → get_or c.args.self.now.shifts.points c.args.r 0 < size c.args.codec.code.header
 point c = rw ((rows c).point c.args.r c.requires.2) (below_at _ _ (points c).are.below _ (omega (arith, (points c).size, c.requires.2)))
 
 pub terms_at-requires : goal.terms_at-requires

@@ -19,7 +19,7 @@ use Rattle.wrong_lanes.proofs.check_rows.list_nodes.Goals.{After-check_weights-w
 
 -- the points as they are lent
 points_are : (c : After-powers-roots) → let h = c.args.code.header in take h.k c.powers-roots.result ≡ first_points h
-points_are c = rw c.powers-roots.ensures (first_points_lem c.args.code.header c.args.code.sound)
+points_are c = rw (c.powers-roots.ensures, c.new-codec.ensures) (first_points_lem c.args.code.header c.args.code.sound)
 
 pub slice_bounds-points-end : goal.slice_bounds-points-end
 slice_bounds-points-end c =
@@ -30,7 +30,7 @@ pub invariant_of-points : goal.invariant_of-points
 invariant_of-points c =
     let h = c.args.code.header in
     let s = c.args.code.sound in
-    rw (c.new-field.ensures, points_are (goal.at.invariant_of-points c).After-powers-roots)
+    rw (c.new-codec.result.same, c.new-codec.ensures, points_are (goal.at.invariant_of-points c).After-powers-roots)
     record { symbols = points_symbols (modulus_of h) h.root 0 (range 0 h.k) s.field s.root_below (omega (arith, length_range 0 h.k, few h s 0)) }
 
 pub loop-e-init : goal.loop-e-init
@@ -38,18 +38,18 @@ loop-e-init c = (refl, refl, begun_none _ _ _ _ _ (λ i. length_check_row c.args
 
 -- the scales as they are lent
 scales-are : (c : In-loop-e) → let h = c.args.code.header in take h.k c.scales-scales.result ≡ scales_of (modulus_of h) (first_points h)
-scales-are c = rw (c.scales-scales.ensures, c.new-field.ensures, points_are (goal.at.In-loop-e c).After-powers-roots) (take_padded 255 _ _ (length_scales c.args.code.header))
+scales-are c = rw (c.scales-scales.ensures, c.new-codec.result.same, c.new-codec.ensures, points_are (goal.at.In-loop-e c).After-powers-roots) (take_padded 255 _ _ (length_scales c.args.code.header))
 
 pub slice_bounds-check_weights-end : goal.slice_bounds-check_weights-end
 slice_bounds-check_weights-end c = rw (scales-are (goal.at.slice_bounds-check_weights-end c).In-loop-e) (sym (length_scales c.args.code.header))
 
 pub check_weights-weights-requires : goal.check_weights-weights-requires
 check_weights-weights-requires c =
-    (c.new-field.ensures, scales-are (goal.at.check_weights-weights-requires c).In-loop-e, c.loop-e-test.true)
+    rw c.new-codec.ensures (scales-are (goal.at.check_weights-weights-requires c).In-loop-e, c.loop-e-test.true)
 
 -- the weights as they are lent
 taken : (c : After-check_weights-weights) → let h = c.args.code.header in take h.n c.check_weights-weights.result ≡ check_row h c.loop-e.e
-taken c = rw c.check_weights-weights.ensures (row_taken c.args.code.header c.loop-e.e)
+taken c = rw (c.check_weights-weights.ensures, c.new-codec.ensures) (row_taken c.args.code.header c.loop-e.e)
 
 pub prepare-requires : goal.prepare-requires
 prepare-requires c =

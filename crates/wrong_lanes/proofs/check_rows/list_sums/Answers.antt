@@ -22,7 +22,7 @@ factors-weights-requires c =
 
 -- the weights as they are lent
 taken : (c : After-factors-weights) → let h = c.args.code.header in take h.n c.factors-weights.result ≡ factors_of h (c.loop-e.e + 1)
-taken c = rw c.factors-weights.ensures (take_padded 255 _ _ (length_factors _ _))
+taken c = rw (c.factors-weights.ensures, c.new-codec.ensures) (take_padded 255 _ _ (length_factors _ _))
 
 pub prepare-requires : goal.prepare-requires
 prepare-requires c =

@@ -4,4 +4,4 @@ use Rattle.lane_message.proofs.rows.GeneratorRows.base_inverses.Given as goal
 
 abbrev pub invariant-loop-c : goal.invariant-loop-c
 invariant-loop-c l =
-    Written l.fn.self.transform.powers.code.header l.c l.value l.out
+    Written l.fn.self.transform.powers.codec.code.header l.c l.value l.out

@@ -18,35 +18,35 @@ use Rattle.lane_message.proofs.rows.GeneratorRows.judge.Goals as goal
 use Rattle.lane_message.proofs.rows.GeneratorRows.judge.Goals.{After-all_zero-word, After-spectrum-spectrum, After-symbol-symbol}
 
 -- the word test
-test : (c : After-all_zero-word) → let a = c.args in c.all_zero-word.result ≡ is_word a.self.transform.powers.code.header a.self.transform.lane.now
+test : (c : After-all_zero-word) → let a = c.args in c.all_zero-word.result ≡ is_word a.self.transform.powers.codec.code.header a.self.transform.lane.now
 test c =
-    let h = c.args.self.transform.powers.code.header in
+    let h = c.args.self.transform.powers.codec.code.header in
     c.all_zero-word.ensures
-    ∙ ap (all_below 1) (rw c.spectrum-spectrum.ensures (check_part h c.args.self.transform.lane.now c.args.self.transform.powers.code.sound c.args.self.transform.powers.code.sound.byte))
+    ∙ ap (all_below 1) (rw c.spectrum-spectrum.ensures (check_part h c.args.self.transform.lane.now c.args.self.transform.powers.codec.code.sound c.args.self.transform.powers.codec.code.sound.byte))
     ∙ word_sums h c.args.self.transform.lane.now
 
 -- the spectrum, lent as a part
-part : (c : After-spectrum-spectrum) → let a = c.args in take a.self.transform.powers.code.header.n c.spectrum-spectrum.result ≡ spectrum_of a.self.transform.powers.code.header a.self.transform.lane.now
+part : (c : After-spectrum-spectrum) → let a = c.args in take a.self.transform.powers.codec.code.header.n c.spectrum-spectrum.result ≡ spectrum_of a.self.transform.powers.codec.code.header a.self.transform.lane.now
 part c =
     let a = c.args in
-    rw c.spectrum-spectrum.ensures (take_padded 255 _ _ (length_spectrum a.self.transform.powers.code.header a.self.transform.lane.now))
+    rw c.spectrum-spectrum.ensures (take_padded 255 _ _ (length_spectrum a.self.transform.powers.codec.code.header a.self.transform.lane.now))
 
 -- the symbol of a word's message
 symbol : (c : After-symbol-symbol)
     → let a = c.args in
-    is_word a.self.transform.powers.code.header a.self.transform.lane.now ≡ true → c.symbol-symbol.result ≡ get_or (message_of a.self.transform.powers.code.header a.self.transform.lane.now) a.r 0
+    is_word a.self.transform.powers.codec.code.header a.self.transform.lane.now ≡ true → c.symbol-symbol.result ≡ get_or (message_of a.self.transform.powers.codec.code.header a.self.transform.lane.now) a.r 0
 symbol c word =
-    let h = c.args.self.transform.powers.code.header in
+    let h = c.args.self.transform.powers.codec.code.header in
     let ws = c.args.self.transform.lane.now in
-    c.symbol-symbol.ensures ∙ rw (part (goal.at.After-symbol-symbol c).After-spectrum-spectrum, coefficients_are h c.args.self.transform.powers.code.sound ws) (word_symbol h c.args.self.transform.powers.code.sound ws c.args.self.transform.long c.args.self.transform.below word c.args.r c.requires)
+    c.symbol-symbol.ensures ∙ rw (part (goal.at.After-symbol-symbol c).After-spectrum-spectrum, coefficients_are h c.args.self.transform.powers.codec.code.sound ws) (word_symbol h c.args.self.transform.powers.codec.code.sound ws c.args.self.transform.long c.args.self.transform.below word c.args.r c.requires)
 
 pub slice_bounds-symbol-end : goal.slice_bounds-symbol-end
 slice_bounds-symbol-end c = rw (part (goal.at.slice_bounds-symbol-end c).After-spectrum-spectrum) (sym (length_spectrum _ _))
 
 pub symbol-symbol-requires : goal.symbol-symbol-requires
 symbol-symbol-requires c =
-    let h = c.args.self.transform.powers.code.header in
-    (rw (part (goal.at.symbol-symbol-requires c).After-spectrum-spectrum) (length_spectrum h c.args.self.transform.lane.now), rw (part (goal.at.symbol-symbol-requires c).After-spectrum-spectrum) (spectrum_below h c.args.self.transform.powers.code.sound c.args.self.transform.lane.now c.args.self.transform.below), c.requires)
+    let h = c.args.self.transform.powers.codec.code.header in
+    (rw (part (goal.at.symbol-symbol-requires c).After-spectrum-spectrum) (length_spectrum h c.args.self.transform.lane.now), rw (part (goal.at.symbol-symbol-requires c).After-spectrum-spectrum) (spectrum_below h c.args.self.transform.powers.codec.code.sound c.args.self.transform.lane.now c.args.self.transform.below), c.requires)
 
 pub returns-in_err-when : goal.returns-in_err-when
 unfolding stale_fault

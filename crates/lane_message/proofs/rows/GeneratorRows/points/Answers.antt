@@ -15,19 +15,19 @@ use Rattle.lane_message.proofs.rows.GeneratorRows.points.Invariants.{read}
 use Rattle.lane_message.proofs.rows.GeneratorRows.points.Goals as goal
 use Rattle.lane_message.proofs.rows.GeneratorRows.points.Goals.{After-stepped-e, In-loop-r, Start}
 
-few : (c : Start) → c.args.self.transform.powers.code.header.k ≤ 255
-few c = omega (arith, c.args.self.transform.powers.code.sound.fits, c.args.self.transform.powers.code.sound.byte)
+few : (c : Start) → c.args.self.transform.powers.codec.code.header.k ≤ 255
+few c = omega (arith, c.args.self.transform.powers.codec.code.sound.fits, c.args.self.transform.powers.codec.code.sound.byte)
 
 -- the shift is below n
 low : (c : In-loop-r)
     → let a = c.args in
-    get_or a.self.shifts.now c.loop-r.r 0 < a.self.transform.powers.code.header.n
+    get_or a.self.shifts.now c.loop-r.r 0 < a.self.transform.powers.codec.code.header.n
 low c =
-    rw c.args.self.shifts_are (shift_at c.args.self.transform.powers.code.header c.args.self.transform.powers.code.sound c.loop-r.r c.loop-r-test.true).1
+    rw c.args.self.shifts_are (shift_at c.args.self.transform.powers.codec.code.header c.args.self.transform.powers.codec.code.sound c.loop-r.r c.loop-r-test.true).1
 
 -- where the power is read
-inside : (c : After-stepped-e) → c.stepped-e.result < c.args.self.transform.powers.code.header.n
-inside c = rw c.stepped-e.ensures (mod-lt _ (omega (arith, c.args.self.transform.powers.code.sound.two)))
+inside : (c : After-stepped-e) → c.stepped-e.result < c.args.self.transform.powers.codec.code.header.n
+inside c = rw c.stepped-e.ensures (mod-lt _ (omega (arith, c.args.self.transform.powers.codec.code.sound.two)))
 
 pub loop-r-init : goal.loop-r-init
 unfolding zeros
@@ -35,26 +35,26 @@ loop-r-init c = filled_start 255 _ _ (few (goal.at.loop-r-init c).Start)
 
 pub bounds-self-r : goal.bounds-self-r
 bounds-self-r c =
-    rw c.args.self.shifts_are (in_padded 255 (shifts_of c.args.self.transform.powers.code.header.n c.args.self.transform.powers.code.header.k) _ (omega (arith, length_shifts c.args.self.transform.powers.code.header c.args.self.transform.powers.code.sound, c.loop-r-test.true)))
+    rw c.args.self.shifts_are (in_padded 255 (shifts_of c.args.self.transform.powers.codec.code.header.n c.args.self.transform.powers.codec.code.header.k) _ (omega (arith, length_shifts c.args.self.transform.powers.codec.code.header c.args.self.transform.powers.codec.code.sound, c.loop-r-test.true)))
 
 pub overflow_cast-self : goal.overflow_cast-self
 overflow_cast-self c =
-    omega (arith, low (goal.at.overflow_cast-self c).In-loop-r, c.args.self.transform.powers.code.sound.byte)
+    omega (arith, low (goal.at.overflow_cast-self c).In-loop-r, c.args.self.transform.powers.codec.code.sound.byte)
 
 pub overflow_sub-k : goal.overflow_sub-k
-overflow_sub-k c = omega (arith, c.args.self.transform.powers.code.sound.some)
+overflow_sub-k c = omega (arith, c.args.self.transform.powers.codec.code.sound.some)
 
 pub stepped-e-requires : goal.stepped-e-requires
 stepped-e-requires c =
-    (low (goal.at.stepped-e-requires c).In-loop-r, omega (arith, c.args.self.transform.powers.code.sound.some, c.args.self.transform.powers.code.sound.fits), c.args.self.transform.powers.code.sound.byte)
+    (low (goal.at.stepped-e-requires c).In-loop-r, omega (arith, c.args.self.transform.powers.codec.code.sound.some, c.args.self.transform.powers.codec.code.sound.fits), c.args.self.transform.powers.codec.code.sound.byte)
 
 pub offset_bounds-powers-e : goal.offset_bounds-powers-e
 offset_bounds-powers-e c =
-    omega (arith, inside c, c.args.self.transform.powers.code.sound.byte)
+    omega (arith, inside c, c.args.self.transform.powers.codec.code.sound.byte)
 
 pub bounds-powers-e : goal.bounds-powers-e
 bounds-powers-e c =
-    rw c.args.self.transform.powers.are (power_place c.args.self.transform.powers.code.header _ (inside (goal.at.bounds-powers-e c).After-stepped-e))
+    rw c.args.self.transform.powers.are (power_place c.args.self.transform.powers.codec.code.header _ (inside (goal.at.bounds-powers-e c).After-stepped-e))
 
 pub offset_bounds-out-r : goal.offset_bounds-out-r
 offset_bounds-out-r c = omega (arith, few (goal.at.offset_bounds-out-r c).Start)
@@ -68,9 +68,9 @@ loop-r-preserved c =
 
 pub returns : goal.returns
 returns c =
-    let h = c.args.self.transform.powers.code.header in
+    let h = c.args.self.transform.powers.codec.code.header in
     filled_end c.loop-r.invariant c.loop-r-test.false
     ∙ ap (padded 255)
     (from_ext (read c.args.self.transform.powers.list.now c.args.self.shifts.now h.n h.k) _ 0 h.k
-    (λ r above below. rw (c.args.self.transform.powers.are, c.args.self.shifts_are, (shift_at h c.args.self.transform.powers.code.sound r (omega arith)).0) (power_at h _ (mod-lt _ (omega (arith, c.args.self.transform.powers.code.sound.two))) ∙ point_at h c.args.self.transform.powers.code.sound r))
-    ∙ points_from h c.args.self.transform.powers.code.sound)
+    (λ r above below. rw (c.args.self.transform.powers.are, c.args.self.shifts_are, (shift_at h c.args.self.transform.powers.codec.code.sound r (omega arith)).0) (power_at h _ (mod-lt _ (omega (arith, c.args.self.transform.powers.codec.code.sound.two))) ∙ point_at h c.args.self.transform.powers.codec.code.sound r))
+    ∙ points_from h c.args.self.transform.powers.codec.code.sound)

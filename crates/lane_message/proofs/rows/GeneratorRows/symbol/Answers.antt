@@ -19,44 +19,44 @@ use Rattle.lane_message.proofs.Reading.{length_coefficients, coefficients_below}
 use Rattle.lane_message.proofs.rows.GeneratorRows.symbol.Goals as goal
 use Rattle.lane_message.proofs.rows.GeneratorRows.symbol.Goals.{After-coefficients-coefficients, After-points-points, After-terms-terms, After-weighted_sum-sum, Start}
 
-few : (c : Start) → c.args.self.transform.powers.code.header.k ≤ 255
-few c = omega (arith, c.args.self.transform.powers.code.sound.fits, c.args.self.transform.powers.code.sound.byte)
+few : (c : Start) → c.args.self.transform.powers.codec.code.header.k ≤ 255
+few c = omega (arith, c.args.self.transform.powers.codec.code.sound.fits, c.args.self.transform.powers.codec.code.sound.byte)
 
 -- the points of the rows, lent as a part
 points : (c : After-points-points)
-    → let h = c.args.self.transform.powers.code.header in
+    → let h = c.args.self.transform.powers.codec.code.header in
     (take h.k c.points-points.result ≡ row_points h) × Symbols (modulus_of h) h.k (row_points h)
 points c =
-    let s = row_symbols c.args.self.transform.powers.code.header c.args.self.transform.powers.code.sound (few (goal.at.After-points-points c).Start) in
+    let s = row_symbols c.args.self.transform.powers.codec.code.header c.args.self.transform.powers.codec.code.sound (few (goal.at.After-points-points c).Start) in
     (rw c.points-points.ensures (take_padded 255 _ _ s.size), s)
 
 -- the terms of the row
 terms : (c : After-terms-terms)
     → let a = c.args in
-    (take a.self.transform.powers.code.header.k c.terms-terms.result ≡ row_terms a.self.transform.powers.code.header a.r) × Symbols (modulus_of a.self.transform.powers.code.header) a.self.transform.powers.code.header.k (row_terms a.self.transform.powers.code.header a.r)
+    (take a.self.transform.powers.codec.code.header.k c.terms-terms.result ≡ row_terms a.self.transform.powers.codec.code.header a.r) × Symbols (modulus_of a.self.transform.powers.codec.code.header) a.self.transform.powers.codec.code.header.k (row_terms a.self.transform.powers.codec.code.header a.r)
 terms c =
-    let s = term_symbols c.args.self.transform.powers.code.header c.args.self.transform.powers.code.sound (few (goal.at.After-terms-terms c).Start) c.args.r c.requires.2 in
+    let s = term_symbols c.args.self.transform.powers.codec.code.header c.args.self.transform.powers.codec.code.sound (few (goal.at.After-terms-terms c).Start) c.args.r c.requires.2 in
     (rw c.terms-terms.ensures (take_padded 255 _ _ s.size), s)
 
 -- the coefficients
 coefficients : (c : After-coefficients-coefficients)
     → let a = c.args in
-    (c.coefficients-coefficients.result ≡ padded 255 (coefficients_of a.self.transform.powers.code.header a.spectrum.now)) × (all_below (size a.self.transform.powers.code.header) (coefficients_of a.self.transform.powers.code.header a.spectrum.now) ≡ true)
+    (c.coefficients-coefficients.result ≡ padded 255 (coefficients_of a.self.transform.powers.codec.code.header a.spectrum.now)) × (all_below (size a.self.transform.powers.codec.code.header) (coefficients_of a.self.transform.powers.codec.code.header a.spectrum.now) ≡ true)
 unfolding coefficients_of
 coefficients c =
-    (c.coefficients-coefficients.ensures, coefficients_below c.args.self.transform.powers.code.header c.args.self.transform.powers.code.sound c.args.spectrum.now c.requires.0 c.requires.1)
+    (c.coefficients-coefficients.ensures, coefficients_below c.args.self.transform.powers.codec.code.header c.args.self.transform.powers.codec.code.sound c.args.spectrum.now c.requires.0 c.requires.1)
 
 -- their sum with the terms
 sum : (c : After-weighted_sum-sum)
     → let a = c.args in
-    c.weighted_sum-sum.result ≡ dot (modulus_of a.self.transform.powers.code.header) (row_terms a.self.transform.powers.code.header a.r) (coefficients_of a.self.transform.powers.code.header a.spectrum.now)
+    c.weighted_sum-sum.result ≡ dot (modulus_of a.self.transform.powers.codec.code.header) (row_terms a.self.transform.powers.codec.code.header a.r) (coefficients_of a.self.transform.powers.codec.code.header a.spectrum.now)
 sum c =
     let t = terms (goal.at.After-weighted_sum-sum c).After-terms-terms in
     let k = coefficients (goal.at.After-weighted_sum-sum c).After-coefficients-coefficients in
-    let h = c.args.self.transform.powers.code.header in
+    let h = c.args.self.transform.powers.codec.code.header in
     let cs = coefficients_of h c.args.spectrum.now in
     c.weighted_sum-sum.ensures.is
-    ∙ rw c.args.self.transform.same
+    ∙ rw c.args.self.transform.powers.codec.same
     (ap₂ (dot (modulus_of h)) t.0 k.0 ∙ dot_padded (modulus_of h) 255 (row_terms h c.args.r) cs (t.1.size ∙ sym (length_coefficients h c.args.spectrum.now)))
 
 pub slice_bounds-terms-end : goal.slice_bounds-terms-end
@@ -73,12 +73,12 @@ pub weighted_sum-sum-requires : goal.weighted_sum-sum-requires
 weighted_sum-sum-requires c =
     let t = terms (goal.at.weighted_sum-sum-requires c).After-terms-terms in
     let k = coefficients (goal.at.weighted_sum-sum-requires c).After-coefficients-coefficients in
-    (rw (c.args.self.transform.same, t.0) t.1.are.below, rw (c.args.self.transform.same, k.0) (below_padded _ 255 _ (size_pos _ c.args.self.transform.powers.code.sound.field) k.1), omega (arith, ap length t.0, t.1.size, ap length k.0, length_padded 255 (coefficients_of c.args.self.transform.powers.code.header c.args.spectrum.now) (omega (arith, length_coefficients c.args.self.transform.powers.code.header c.args.spectrum.now, few (goal.at.weighted_sum-sum-requires c).Start)), few (goal.at.weighted_sum-sum-requires c).Start))
+    (rw (c.args.self.transform.powers.codec.same, t.0) t.1.are.below, rw (c.args.self.transform.powers.codec.same, k.0) (below_padded _ 255 _ (size_pos _ c.args.self.transform.powers.codec.code.sound.field) k.1), omega (arith, ap length t.0, t.1.size, ap length k.0, length_padded 255 (coefficients_of c.args.self.transform.powers.codec.code.header c.args.spectrum.now) (omega (arith, length_coefficients c.args.self.transform.powers.codec.code.header c.args.spectrum.now, few (goal.at.weighted_sum-sum-requires c).Start)), few (goal.at.weighted_sum-sum-requires c).Start))
 
 pub invariant_of-scale_at : goal.invariant_of-scale_at
 invariant_of-scale_at c =
     let q = points (goal.at.invariant_of-scale_at c).After-points-points in
-    record { symbols = rw (c.args.self.transform.same, q.0) q.1.are }
+    record { symbols = rw (c.args.self.transform.powers.codec.same, q.0) q.1.are }
 
 pub scale_at-scale-requires : goal.scale_at-scale-requires
 scale_at-scale-requires c =
@@ -93,8 +93,8 @@ unfolding symbol_from
 returns c =
     let q = points (goal.at.returns c).After-points-points in
     c.mul.ensures.is
-    ∙ rw c.args.self.transform.same
-    (ap₂ (mul _) (c.scale_at-scale.ensures.is ∙ rw (c.args.self.transform.same, q.0))
+    ∙ rw c.args.self.transform.powers.codec.same
+    (ap₂ (mul _) (c.scale_at-scale.ensures.is ∙ rw (c.args.self.transform.powers.codec.same, q.0))
     (c.mul-part.ensures.is
-    ∙ rw c.args.self.transform.same
-    (ap₂ (mul _) (c.inverse-over.ensures.is ∙ rw c.args.self.transform.same (ap (inverse _) (c.ones.ensures.is ∙ rw c.args.self.transform.same))) (sum (goal.at.returns c).After-weighted_sum-sum))))
+    ∙ rw c.args.self.transform.powers.codec.same
+    (ap₂ (mul _) (c.inverse-over.ensures.is ∙ rw c.args.self.transform.powers.codec.same (ap (inverse _) (c.ones.ensures.is ∙ rw c.args.self.transform.powers.codec.same))) (sum (goal.at.returns c).After-weighted_sum-sum))))

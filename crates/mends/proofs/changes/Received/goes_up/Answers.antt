@@ -20,12 +20,12 @@ loop-e-init c = rw sub-zero
 
 pub is_product-requires : goal.is_product-requires
 is_product-requires c =
-    rw c.args.self.same (c.requires, below_at _ _ c.args.self.summed.has.symbols c.loop-e.e (omega arith))
+    rw c.args.self.powers.codec.same (c.requires, below_at _ _ c.args.self.summed.has.symbols c.loop-e.e (omega arith))
 
 pub returns-then-not-is_product : goal.returns-then-not-is_product
 unfolding goes_up
 returns-then-not-is_product c =
-    let found = rw c.args.self.same at (c.loop-e.invariant ∙ search_found _ _ _ c.loop-e-test.true (sym c.is_product.ensures ∙ not-true _ c.if-not-is_product.true-raw)) in
+    let found = rw c.args.self.powers.codec.same at (c.loop-e.invariant ∙ search_found _ _ _ c.loop-e-test.true (sym c.is_product.ensures ∙ not-true _ c.if-not-is_product.true-raw)) in
     sym (ap (λ (e : ℕ). eqb e (length c.args.self.sums.now - 1)) found ∙ ne_eqb _ _ (omega (arith, c.loop-e-test.true)))
 
 pub loop-e-preserved : goal.loop-e-preserved
@@ -36,4 +36,4 @@ pub returns : goal.returns
 unfolding goes_up
 returns c =
     let end : c.loop-e.e ≡ length c.args.self.sums.now - 1 = omega (arith, c.loop-e.auto.e-end, c.loop-e-test.false) in
-    sym (eq-eqb _ _ (rw c.args.self.same at (c.loop-e.invariant ∙ search_end _ _ _ c.loop-e-test.false) ∙ end))
+    sym (eq-eqb _ _ (rw c.args.self.powers.codec.same at (c.loop-e.invariant ∙ search_end _ _ _ c.loop-e-test.false) ∙ end))

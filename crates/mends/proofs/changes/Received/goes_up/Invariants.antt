@@ -16,4 +16,4 @@ abbrev pub step : ℕ → ℕ → List ℕ → ℕ → Bool
 step p c sums e = eqb (get_or sums (e + 1) 0) (mul p c (get_or sums e 0))
 
 abbrev pub invariant-loop-e : goal.invariant-loop-e
-invariant-loop-e l = first_off (modulus l.self.field.field) l.c l.sums ≡ first_false (length l.sums - 1 - l.e) l.e (step (modulus l.self.field.field) l.c l.sums)
+invariant-loop-e l = first_off (modulus l.self.powers.codec.field.field) l.c l.sums ≡ first_false (length l.sums - 1 - l.e) l.e (step (modulus l.self.powers.codec.field.field) l.c l.sums)

@@ -20,24 +20,24 @@ inside n j node = mod-lt (n - j) (omega arith)
 -- what is read there
 read : (c : Start)
     → let a = c.args in
-    get_or a.self.powers.list.now ((a.self.powers.code.header.n - a.j) % a.self.powers.code.header.n) 0 ≡ power (modulus_of a.self.powers.code.header) a.self.powers.code.header.root ((a.self.powers.code.header.n - a.j) % a.self.powers.code.header.n)
+    get_or a.self.powers.list.now ((a.self.powers.codec.code.header.n - a.j) % a.self.powers.codec.code.header.n) 0 ≡ power (modulus_of a.self.powers.codec.code.header) a.self.powers.codec.code.header.root ((a.self.powers.codec.code.header.n - a.j) % a.self.powers.codec.code.header.n)
 read c =
     rw c.args.self.powers.are (power_at _ _ (inside _ _ c.requires))
 
 -- and the first check sum are symbols
 read_below : (c : Start)
     → let a = c.args in
-    get_or a.self.powers.list.now ((a.self.powers.code.header.n - a.j) % a.self.powers.code.header.n) 0 < size a.self.powers.code.header
+    get_or a.self.powers.list.now ((a.self.powers.codec.code.header.n - a.j) % a.self.powers.codec.code.header.n) 0 < size a.self.powers.codec.code.header
 read_below c =
-    let s = c.args.self.powers.code.sound in
+    let s = c.args.self.powers.codec.code.sound in
     rw (read c) (power_below _ s.field _ s.root_below)
 
-sum_below : (c : Start) → let a = c.args in get_or a.self.sums.now 0 0 < size a.self.powers.code.header
+sum_below : (c : Start) → let a = c.args in get_or a.self.sums.now 0 0 < size a.self.powers.codec.code.header
 sum_below c =
     let has = c.args.self.summed.has in
     below_at _ _ has.symbols 0 has.some
 
-held_below : (c : Start) → let a = c.args in get_or a.self.lane.now a.j 0 < size a.self.powers.code.header
+held_below : (c : Start) → let a = c.args in get_or a.self.lane.now a.j 0 < size a.self.powers.codec.code.header
 held_below c =
     let lane = c.args.self.summed.lane in
     below_at _ _ lane.symbols _ (omega (arith, lane.long))
@@ -55,7 +55,7 @@ bounds-self-back c =
 pub mul-amount-requires : goal.mul-amount-requires
 mul-amount-requires c =
     let start = (goal.at.mul-amount-requires c).Start in
-    rw c.args.self.same (sum_below start, read_below start)
+    rw c.args.self.powers.codec.same (sum_below start, read_below start)
 
 pub bounds-self-j : goal.bounds-self-j
 bounds-self-j c =
@@ -63,15 +63,15 @@ bounds-self-j c =
 
 pub sub-requires : goal.sub-requires
 sub-requires c =
-    (rw c.args.self.same (held_below (goal.at.sub-requires c).Start), c.mul-amount.ensures.symbol)
+    (rw c.args.self.powers.codec.same (held_below (goal.at.sub-requires c).Start), c.mul-amount.ensures.symbol)
 
 pub overflow_cast-result : goal.overflow_cast-result
-overflow_cast-result c = omega (arith, c.sub.ensures.symbol, c.args.self.field.small)
+overflow_cast-result c = omega (arith, c.sub.ensures.symbol, c.args.self.powers.codec.field.small)
 
 pub returns : goal.returns
 unfolding mended_at
 returns c =
     let a = c.args in
     c.sub.ensures.is
-    ∙ rw c.args.self.same
-    (ap (sub (modulus_of a.self.powers.code.header) (get_or a.self.lane.now a.j 0)) (c.mul-amount.ensures.is ∙ rw c.args.self.same (ap (mul (modulus_of a.self.powers.code.header) (get_or a.self.sums.now 0 0)) (read (goal.at.returns c).Start))))
+    ∙ rw c.args.self.powers.codec.same
+    (ap (sub (modulus_of a.self.powers.codec.code.header) (get_or a.self.lane.now a.j 0)) (c.mul-amount.ensures.is ∙ rw c.args.self.powers.codec.same (ap (mul (modulus_of a.self.powers.codec.code.header) (get_or a.self.sums.now 0 0)) (read (goal.at.returns c).Start))))

@@ -34,4 +34,4 @@ loop-i-preserved c = filled_put c.loop-i.invariant c.loop-i-test.true c.mended.e
 pub returns : goal.returns
 returns c =
     let a = c.args in
-    filled_end c.loop-i.invariant c.loop-i-test.false ∙ ap (padded 255) (sym (map_from (mended_at a.self.powers.code.header a.self.lane.now a.self.sums.now) a.nodes.now))
+    filled_end c.loop-i.invariant c.loop-i-test.false ∙ ap (padded 255) (sym (map_from (mended_at a.self.powers.codec.code.header a.self.lane.now a.self.sums.now) a.nodes.now))

@@ -18,15 +18,15 @@ use Rattle.mends.proofs.changes.Received.up_nodes.Goals.{After-goes_up, In-loop-
 -- the power of node j
 read : (c : In-loop-j)
     → let a = c.args in
-    get_or a.self.powers.list.now c.loop-j.j 0 ≡ power (modulus_of a.self.powers.code.header) a.self.powers.code.header.root c.loop-j.j
+    get_or a.self.powers.list.now c.loop-j.j 0 ≡ power (modulus_of a.self.powers.codec.code.header) a.self.powers.codec.code.header.root c.loop-j.j
 read c =
     rw c.args.self.powers.are (power_at _ _ c.loop-j-test.true)
 
 -- so it is the node's test
-tested : (c : After-goes_up) → let a = c.args in c.goes_up.result ≡ up a.self.powers.code.header a.self.sums.now c.loop-j.j
+tested : (c : After-goes_up) → let a = c.args in c.goes_up.result ≡ up a.self.powers.codec.code.header a.self.sums.now c.loop-j.j
 tested c =
     let a = c.args in
-    c.goes_up.ensures ∙ ap (λ (x : ℕ). goes_up (modulus_of a.self.powers.code.header) x a.self.sums.now) (read (goal.at.After-goes_up c).In-loop-j)
+    c.goes_up.ensures ∙ ap (λ (x : ℕ). goes_up (modulus_of a.self.powers.codec.code.header) x a.self.sums.now) (read (goal.at.After-goes_up c).In-loop-j)
 
 pub loop-j-init : goal.loop-j-init
 unfolding up_nodes
@@ -38,7 +38,7 @@ bounds-self-j c =
 
 pub goes_up-requires : goal.goes_up-requires
 goes_up-requires c =
-    let s = c.args.self.powers.code.sound in
+    let s = c.args.self.powers.codec.code.sound in
     rw (read (goal.at.goes_up-requires c).In-loop-j) (power_below _ s.field _ s.root_below)
 
 pub loop-j-preserved : goal.loop-j-preserved

@@ -17,7 +17,7 @@ up h sums j = goes_up (modulus_of h) (power (modulus_of h) h.root j) sums
 
 abbrev pub invariant-loop-j : goal.invariant-loop-j
 invariant-loop-j l =
-    let h = l.self.powers.code.header in
+    let h = l.self.powers.codec.code.header in
     record {
       few : length l.nodes.items ≤ l.j;
       listed : l.nodes.items ++ passing_from (l.n - l.j) l.j (up h l.self.sums.now) ≡ up_nodes h l.self.sums.now;

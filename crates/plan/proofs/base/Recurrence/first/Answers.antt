@@ -14,12 +14,12 @@ use Rattle.plan.proofs.base.Recurrence.first.Goals as goal
 pub loop-init : goal.loop-init
 unfolding power base_from
 loop-init c =
-    let one = one_below _ (usable_field _ c.args.self.field.usable) in (one, one, refl, λ h f r. refl)
+    let one = one_below _ (usable_field _ c.args.self.codec.field.usable) in (one, one, refl, λ h f r. refl)
 
 pub sub-requires : goal.sub-requires
 sub-requires c =
     let r = c.args.self in
-    let s = r.code.sound in (rw (r.same, r.scale_is) (power_below _ s.field _ s.root_below), c.loop.invariant.1)
+    let s = r.codec.code.sound in (rw (r.codec.same, r.scale_is) (power_below _ s.field _ s.root_below), c.loop.invariant.1)
 
 pub loop-preserved : goal.loop-preserved
 loop-preserved c =
@@ -34,7 +34,7 @@ pub returns : goal.returns
 unfolding base_at
 returns c =
     let r = c.args.self in
-    let h = r.code.header in
+    let h = r.codec.code.header in
     let l = c.loop in
     let end : l.counter ≡ h.k - 1 = omega arith in
-    l.invariant.3 h (sym r.same) refl ∙ rw (end, r.scale_is, entry_is h r.code.sound 0, zero-add)
+    l.invariant.3 h (sym r.codec.same) refl ∙ rw (end, r.scale_is, entry_is h r.codec.code.sound 0, zero-add)

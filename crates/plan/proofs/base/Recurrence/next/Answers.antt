@@ -15,12 +15,12 @@ use Rattle.plan.proofs.base.Recurrence.next.Goals as goal
 use Rattle.plan.specs.declared.base.Recurrence.{Recurrence}
 
 -- the arguments are symbols
-symbols : (r : Recurrence) → (x entry : ℕ) → x < size r.code.header → entry ≡ base_at r.code.header x
-    → let q = size_of (modulus r.field.field) in
+symbols : (r : Recurrence) → (x entry : ℕ) → x < size r.codec.code.header → entry ≡ base_at r.codec.code.header x
+    → let q = size_of (modulus r.codec.field.field) in
     (r.scale < q) × (r.pole < q) × (x < q) × (entry < q)
 symbols r x entry low is =
-    let s = r.code.sound in
-    rw r.same (rw r.scale_is (power_below _ s.field _ s.root_below), rw r.pole_is (power_below _ s.field _ s.root_below), low, rw is (base_at_below _ s low))
+    let s = r.codec.code.sound in
+    rw r.codec.same (rw r.scale_is (power_below _ s.field _ s.root_below), rw r.pole_is (power_below _ s.field _ s.root_below), low, rw is (base_at_below _ s low))
 
 pub mul-requires : goal.mul-requires
 mul-requires c = let t = symbols c.args.self _ _ c.requires.0 c.requires.2 in (t.0, t.2)
@@ -38,7 +38,7 @@ pub returns : goal.returns
 returns c =
     let r = c.args.self in
     let (low, apart, entry) = c.requires in
-    let v = usable_field _ r.field.usable in
+    let v = usable_field _ r.codec.field.usable in
     c.mul-2.ensures.is
     ∙ ap (mul _ c.args.entry) c.mul-ratio.ensures.is
     ∙ sym ((arithmetic _ v).mul_assoc c.args.entry _ _ (symbols r _ _ low entry).3 c.sub-above.ensures.symbol c.inverse.ensures.symbol)
@@ -47,8 +47,8 @@ returns c =
       c.sub-below.ensures.is,
       c.sub-above.ensures.is,
       c.mul.ensures.is,
-      r.same,
+      r.codec.same,
       r.scale_is,
       r.pole_is,
       entry,
-    ) (sym (base_at_next r.code.header r.code.sound c.args.x low (λ q. apart (q ∙ sym r.pole_is))))
+    ) (sym (base_at_next r.codec.code.header r.codec.code.sound c.args.x low (λ q. apart (q ∙ sym r.pole_is))))

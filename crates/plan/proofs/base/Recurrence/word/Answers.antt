@@ -35,58 +35,58 @@ ended m room i x f now same first fills all =
 
 pub overflow_cast-out : goal.overflow_cast-out
 overflow_cast-out c =
-    let s = c.args.self.code.sound in
+    let s = c.args.self.codec.code.sound in
     omega (arith, c.first-entry.ensures, entry_at_below _ s 0 0, size_fits _ s.usable_field)
 
 pub loop-place-init : goal.loop-place-init
 unfolding zeros distance
 loop-place-init c =
     let r = c.args.self in
-    let h = r.code.header in (
+    let h = r.codec.code.header in (
       rw zero-add r.scale_is,
-      c.first-entry.ensures ∙ rw (entry_is h r.code.sound 0, zero-add, r.scale_is),
+      c.first-entry.ensures ∙ rw (entry_is h r.codec.code.sound 0, zero-add, r.scale_is),
       rw add-sub_cancel (begun (h.n - h.k) (entry_at h 0) (omega arith)),
     )
 
 pub next-entry-requires : goal.next-entry-requires
 next-entry-requires c =
     let r = c.args.self in
-    let h = r.code.header in
-    let s = r.code.sound in
+    let h = r.codec.code.header in
+    let s = r.codec.code.sound in
     let l = c.loop-place in
     (rw l.invariant.0 (power_below _ s.field _ s.root_below), λ q. pole_apart h s l.place-index (omega (arith, s.some)) (sym l.invariant.0 ∙ q ∙ r.pole_is), l.invariant.1)
 
 pub mul-x-requires : goal.mul-x-requires
 mul-x-requires c =
     let r = c.args.self in
-    let s = r.code.sound in
-    rw r.same (s.root_below, rw c.loop-place.invariant.0 (power_below _ s.field _ s.root_below))
+    let s = r.codec.code.sound in
+    rw r.codec.same (s.root_below, rw c.loop-place.invariant.0 (power_below _ s.field _ s.root_below))
 
 -- after a turn, x and the entry are those of the next place
 turn : (c : After-mul-x)
-    → let h = c.args.self.code.header in
+    → let h = c.args.self.codec.code.header in
     (c.mul-x.result ≡ power (modulus_of h) h.root (c.loop-place.place-index + 1 + (h.k - 1)))
     × (c.next-entry.result ≡ base_at h c.mul-x.result)
     × (c.next-entry.result ≡ entry_at h 0 (c.loop-place.place-index + 1))
 turn c =
     let r = c.args.self in
-    let h = r.code.header in
-    let s = r.code.sound in
+    let h = r.codec.code.header in
+    let s = r.codec.code.sound in
     let l = c.loop-place in
-    let product = rw r.same at c.mul-x.ensures.is in
+    let product = rw r.codec.same at c.mul-x.ensures.is in
     let next = product ∙ power_turn _ _ _ l.place-index (h.k - 1) l.invariant.0 in
     let value : c.next-entry.result ≡ base_at h c.mul-x.result = rw product c.next-entry.ensures in
     (next, value, value ∙ ap (base_at h) next ∙ sym (entry_is h s (l.place-index + 1)))
 
 pub overflow_cast-place : goal.overflow_cast-place
 overflow_cast-place c =
-    let s = c.args.self.code.sound in
+    let s = c.args.self.codec.code.sound in
     omega (arith, (turn c).2, entry_at_below _ s 0 (c.loop-place.place-index + 1), size_fits _ s.usable_field)
 
 pub loop-place-preserved : goal.loop-place-preserved
 unfolding distance
 loop-place-preserved c =
-    let h = c.args.self.code.header in
+    let h = c.args.self.codec.code.header in
     let l = c.loop-place in
     let t = turn c in
     let more : l.place-index + 1 < distance h = omega (arith, l.invariant.2.long, length_zeros (h.n - h.k)) in
@@ -100,7 +100,7 @@ pub returns : goal.returns
 unfolding distance zeros
 returns c =
     let r = c.args.self in
-    let h = r.code.header in
+    let h = r.codec.code.header in
     let l = c.loop-place in
     ended (h.n - h.k) _ _ _ (entry_at h 0) _ (add-sub_cancel _ _) c.first-entry.ensures l.invariant.2 (omega (arith, l.invariant.2.long, length_zeros (h.n - h.k)))
-    ∙ sym (base_padded h r.code.sound 255 (omega arith))
+    ∙ sym (base_padded h r.codec.code.sound 255 (omega arith))

@@ -11,7 +11,7 @@ use Rattle.plan.proofs.base.Recurrence.word.Given as goal
 
 abbrev pub invariant-loop-place : goal.invariant-loop-place
 invariant-loop-place l =
-    let h = l.self.code.header in
+    let h = l.self.codec.code.header in
     (l.x ≡ power (modulus_of h) h.root (l.place-index + (h.k - 1)))
     × (l.entry ≡ base_at h l.x)
     × Fills (zeros l.last) l.place-items l.place-index (from (entry_at h 0) (l.place-index + 1) (distance h - (l.place-index + 1))) (from (entry_at h 0) 1 (distance h - 1))

@@ -7,7 +7,7 @@ pub entry_at-requires : goal.entry_at-requires
 entry_at-requires c =
     let g = c.args.self.now in
     let p = g.planned in
-    (p.sound.byte, rw p.shifts_are (shift_below _ p.sound _ c.requires.0), c.requires.1, rw p.base_is (base_room g.code.header))
+    (p.sound.byte, rw p.shifts_are (shift_below _ p.sound _ c.requires.0), c.requires.1, rw p.base_is (base_room g.codec.code.header))
 
 pub returns : goal.returns
 returns c =

@@ -6,7 +6,7 @@ use Rattle.repair_tables.proofs.Steps.{eraser_start, eraser_next, eraser_end}
 use Rattle.repair_tables.proofs.nodes.Target.eraser.Goals as goal
 
 pub loop-node-init : goal.loop-node-init
-loop-node-init c = let sound = c.args.self.code.sound in (one_below _ sound.field, eraser_start _ sound _ _ c.requires.0 c.args.missing.now)
+loop-node-init c = let sound = c.args.self.codec.code.sound in (one_below _ sound.field, eraser_start _ sound _ _ c.requires.0 c.args.missing.now)
 
 pub erasing-x-requires : goal.erasing-x-requires
 erasing-x-requires c = (c.requires.0, below_at _ _ c.requires.1 _ c.loop-node-test.true)
@@ -22,5 +22,5 @@ loop-node-preserved c =
 pub returns : goal.returns
 returns c =
     let l = c.loop-node in
-    let end = eraser_end _ c.args.self.code.sound _ _ c.requires.0 c.args.missing.now l.node-index _ c.loop-node-test.false l.invariant.0 in
+    let end = eraser_end _ c.args.self.codec.code.sound _ _ c.requires.0 c.args.missing.now l.node-index _ c.loop-node-test.false l.invariant.0 in
     record { is = sym end ∙ l.invariant.1; symbol = l.invariant.0 }

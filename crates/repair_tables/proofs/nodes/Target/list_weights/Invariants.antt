@@ -5,4 +5,4 @@ use Rattle.repair_tables.specs.Inner.Weights.{bit_weight}
 use Rattle.repair_tables.proofs.nodes.Target.list_weights.Given as goal
 
 abbrev pub invariant-loop-q : goal.invariant-loop-q
-invariant-loop-q l = Filled 1020 l.count (bit_weight l.self.code.header (bit_count l.self.bits) l.self.node l.senders) l.q l.table
+invariant-loop-q l = Filled 1020 l.count (bit_weight l.self.codec.code.header (bit_count l.self.bits) l.self.node l.senders) l.q l.table

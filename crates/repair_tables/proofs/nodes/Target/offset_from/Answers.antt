@@ -16,10 +16,10 @@ pub nonzero_rem-u : goal.nonzero_rem-u
 nonzero_rem-u c = search rules
 
 -- the place of the power, and what stands there
-place : (c : Start) → let a = c.args in (a.node + (a.self.code.header.n - a.self.node)) % a.self.code.header.n < a.self.code.header.n
-place c = mod-lt _ (omega (arith, c.args.self.code.sound.two))
+place : (c : Start) → let a = c.args in (a.node + (a.self.codec.code.header.n - a.self.node)) % a.self.codec.code.header.n < a.self.codec.code.header.n
+place c = mod-lt _ (omega (arith, c.args.self.codec.code.sound.two))
 
-read : (c : Start) → let a = c.args in get_or a.powers.list.now ((a.node + (a.self.code.header.n - a.self.node)) % a.self.code.header.n) 0 ≡ ratio a.self.code.header a.self.node a.node
+read : (c : Start) → let a = c.args in get_or a.powers.list.now ((a.node + (a.self.codec.code.header.n - a.self.node)) % a.self.codec.code.header.n) 0 ≡ ratio a.self.codec.code.header a.self.node a.node
 unfolding ratio
 read c = rw (c.args.powers.are, c.requires.0) (power_at _ _ (place c))
 
@@ -28,9 +28,9 @@ bounds-powers-node c = rw (c.args.powers.are, c.requires.0) (power_place _ _ (pl
 
 pub sub-requires : goal.sub-requires
 sub-requires c =
-    let sound = c.args.self.code.sound in
-    rw c.args.self.same (rw (read (goal.at.sub-requires c).Start) (ratio_below _ sound _ _), one_below _ sound.field)
+    let sound = c.args.self.codec.code.sound in
+    rw c.args.self.codec.same (rw (read (goal.at.sub-requires c).Start) (ratio_below _ sound _ _), one_below _ sound.field)
 
 pub returns : goal.returns
 unfolding offset
-returns c = rw (read (goal.at.returns c).Start, c.args.self.same) at c.sub.ensures.is
+returns c = rw (read (goal.at.returns c).Start, c.args.self.codec.same) at c.sub.ensures.is

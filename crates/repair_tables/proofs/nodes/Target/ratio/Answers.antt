@@ -5,5 +5,5 @@ use Rattle.repair_tables.proofs.nodes.Target.ratio.Goals as goal
 pub returns : goal.returns
 unfolding ratio
 returns c =
-    let same = c.args.self.same in
+    let same = c.args.self.codec.same in
     record { is = rw same at c.power.ensures.is; symbol = rw same at c.power.ensures.symbol }

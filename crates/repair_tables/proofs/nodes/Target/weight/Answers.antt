@@ -34,4 +34,4 @@ unfolding bit_weight part
 returns c =
     let (same, js, q) = c.requires in
     let place = (width_parts c.args.self.bits _ _ q).1 in
-    rw (c.mul.ensures.is, c.args.self.same, c.element-e.ensures, c.offset_from-y.ensures, c.count-b.ensures, digit_place _ place)
+    rw (c.mul.ensures.is, c.args.self.codec.same, c.element-e.ensures, c.offset_from-y.ensures, c.count-b.ensures, digit_place _ place)
