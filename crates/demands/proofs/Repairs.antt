@@ -108,7 +108,7 @@ module _ (rec : List ℕ) where
     bits_number = own_after rec _ (λ h. repair_bits_fault h l j target missing (length share) (length out)) refl (λ none. bits_tells h l j target missing (length share) (length out))
 
     bits_judged : (r : Answer (Unit {0})) → RepairBitsSays rec l j target missing share out out' r → Judged (record_numbers rec ++ repair_bits_numbers h l j target missing (length share) (length out)) (λ f. r ≡ Err f) (out' ≡ out)
-    bits_judged r says = by_outcome bits_number says.promise.answer (λ some. rw (ne_eqb _ 0 some) at says.promise.written)
+    bits_judged r says = by_outcome _ bits_number says.promise.answer (λ some. rw (ne_eqb _ 0 some) at says.promise.written)
 
     bits_returns : (r : ℕ) → RepairBitsGives rec l j target missing share out out' r → Judged (record_numbers rec ++ repair_bits_numbers h l j target missing (length share) (length out)) (Returns r) (out' ≡ out)
     bits_returns r g = by_number g.number bits_number (λ some. rw (← g.number, ne_eqb r 0 some) at g.says.promise.written)
@@ -118,7 +118,7 @@ module _ (rec : List ℕ) where
     share_number = own_after rec _ (λ h. repair_share_fault h l target missing (length rows) (length out)) refl (λ none. share_tells h l target missing (length rows) (length out))
 
     share_judged : (r : Answer (Unit {0})) → RepairShareSays rec l target missing rows out out' r → Judged (record_numbers rec ++ repair_share_numbers h l target missing (length rows) (length out)) (λ f. r ≡ Err f) (out' ≡ out)
-    share_judged r says = by_outcome share_number says.promise.answer (λ some. rw (ne_eqb _ 0 some) at says.promise.written)
+    share_judged r says = by_outcome _ share_number says.promise.answer (λ some. rw (ne_eqb _ 0 some) at says.promise.written)
 
     share_returns : (r : ℕ) → RepairShareGives rec l target missing rows out out' r → Judged (record_numbers rec ++ repair_share_numbers h l target missing (length rows) (length out)) (Returns r) (out' ≡ out)
     share_returns r g = by_number g.number share_number (λ some. rw (← g.number, ne_eqb r 0 some) at g.says.promise.written)
@@ -128,7 +128,7 @@ module _ (rec : List ℕ) where
     plan_number = own_after rec _ (λ h. repair_plan_fault h count) refl (λ none. plan_tells h count)
 
     plan_judged : (r : Answer RepairPlan) → RepairPlanSays rec count r → Judged (record_numbers rec ++ repair_plan_numbers h count) (λ f. r ≡ Err f) (Unit {0})
-    plan_judged r says = by_outcome plan_number says.promise.answer (λ some. tt)
+    plan_judged r says = by_outcome _ plan_number says.promise.answer (λ some. tt)
 
     plan_returns : (b more b' more' r : ℕ) → RepairPlanGives rec count b more b' more' r → Judged (record_numbers rec ++ repair_plan_numbers h count) (Returns r) ((b' ≡ b) × (more' ≡ more))
     plan_returns b more b' more' r g = by_number g.number plan_number (λ some. (rw (ne_eqb r 0 some) at g.bits_are, rw (ne_eqb r 0 some) at g.spare_is))
