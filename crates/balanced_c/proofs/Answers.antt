@@ -2,7 +2,7 @@
 use Rattle.std.specs.Prelude.{Option, Some, None, Result, Ok, Err, unwrap_or, MatchResult}
 use Rattle.std.specs.Result.{result_unwrap_or, result_map_both, IsOkAnd}
 use Rattle.generator.specs.declared.refusal.Refusal.{Refusal}
-use Rattle.generator.specs.Answers.{Answer, numbered, outcome_of}
+use Rattle.generator.specs.Answers.{Answer, numbered, answer_of, outcome_of, fault_in}
 use mathlib.Core.Path.{◌≡◌, refl, sym, ap, ap₂, ◌∙◌}
 use mathlib.Core.List.{List}
 use Prim.Native.Nat.{ℕ, zero, suc}
@@ -12,30 +12,24 @@ use Rattle.lists.specs.Choice.{pick}
 use Rattle.layout.specs.Layout.{Arrangement, share_layout}
 use Rattle.generator.specs.declared.Header.{Header}
 use Rattle.generator.specs.Records.{header_of}
+use Rattle.generator.proofs.Answered.{refused_is, answer_number}
 use Rattle.blocks.specs.Bytes.{altered_count, wrong_lane}
 use Rattle.refusals.specs.Faults.{fault_of}
 use Rattle.belongs.specs.Promise.{belongs_fault, BelongsSays}
 use Rattle.recover.specs.Promise.{recover_fault, rebuild_fault, RecoverSays, RebuildSays}
 use Rattle.update.specs.Promise.{update_fault, UpdateSays}
 use Rattle.encode.specs.Promise.{encode_fault, EncodeSays}
-use Rattle.blocks.specs.Answers.{update_of, membership_of}
-use Rattle.blocks.proofs.Answered.{yes_means, no_means, refusal_means}
+use Rattle.blocks.specs.Answers.{membership_of}
+use Rattle.blocks.proofs.Answered.{yes_means, no_means}
 use Rattle.blocks.proofs.Bytes.{altered_symbols}
 use Rattle.blocks.proofs.Refused.{refused_value}
 use Rattle.rearrange.specs.Promise.{RearrangeSays, rearrange_fault}
 use Rattle.weight_counts.specs.Weights.{weights_fault, WeightsSay}
-use Rattle.roster.specs.Rosters.{fault_in}
 use Rattle.balanced_c.specs.Calls.{EncodeGives, UpdateGives, RecoverGives, RebuildGives, BelongsGives, RearrangeGives, WeightsGive}
-
--- the number of an answer is the one that it was made of
-number_lem : (f : ℕ) → fault_in (outcome_of f) ≡ f
-unfolding outcome_of
-number_lem zero = refl
-number_lem (suc f) = refl
 
 -- an outcome that a call says, by its number
 pub by_number : (a : Answer (Unit {0})) (r f : ℕ) → r ≡ fault_in a → a ≡ outcome_of f → r ≡ f
-by_number a r f e answer = e ∙ ap fault_in answer ∙ number_lem f
+by_number a r f e answer = e ∙ ap fault_in answer ∙ answer_number f tt
 
 pub encode_gives : (rec : List ℕ) (l : ℕ) (message shares shares' : List ℕ) (a : Answer (Unit {0})) (r : ℕ) → r ≡ fault_in a → EncodeSays rec l message shares shares' a → EncodeGives rec l message shares shares' r
 encode_gives rec l message shares shares' a r e says =
@@ -72,20 +66,15 @@ mapped P h (Ok x) (Ok y) given is = ap Ok (is x y given)
 mapped P h (Ok x) (Err e) given is = absurd given
 mapped P h (Err e) b given is = rw given refl
 
--- an answer with a value: its number, what is handed over, and the same answer made of that
+-- an answer with a value: what is handed over, and the same answer made of that
 module _ (count held : ℕ) where
-  pub counted_number : (f : ℕ) → fault_in (update_of f count) ≡ f
-  unfolding update_of
-  counted_number zero = refl
-  counted_number (suc f) = refl
-
-  pub counted_value : (f : ℕ) → result_unwrap_or (update_of f count) held ≡ pick (eqb f 0) count held
-  unfolding update_of
+  pub counted_value : (f : ℕ) → result_unwrap_or (answer_of f count) held ≡ pick (eqb f 0) count held
+  unfolding answer_of
   counted_value zero = refl
   counted_value (suc f) = sym (refused_value (suc f) count held (λ z. absurd cc))
 
-  pub counted_again : (f : ℕ) → update_of f (pick (eqb f 0) count held) ≡ update_of f count
-  unfolding update_of
+  pub counted_again : (f : ℕ) → answer_of f (pick (eqb f 0) count held) ≡ answer_of f count
+  unfolding answer_of
   counted_again zero = refl
   counted_again (suc f) = refl
 
@@ -105,11 +94,11 @@ module _ (rec : List ℕ) (l symbol lane old new : ℕ) (shares : List ℕ) (alt
 
   pub update_gives : (altered' r : ℕ) → r ≡ fault_in a → altered' ≡ result_unwrap_or a altered → UpdateSays rec l symbol lane old new shares shares' a → UpdateGives rec l symbol lane old new shares altered shares' altered' r
   update_gives altered' r e v says =
-      let number : r ≡ update_number = e ∙ ap fault_in says.promise.answer ∙ counted_number count altered update_number in
+      let number : r ≡ update_number = e ∙ ap fault_in says.promise.answer ∙ answer_number update_number count in
       let value : altered' ≡ pick (eqb update_number 0) count altered = v ∙ ap (λ (x : Answer ℕ). result_unwrap_or x altered) says.promise.answer ∙ counted_value count altered update_number in
       record {
         number = number;
-        says = record { promise = record { answer = ap₂ update_of number value ∙ counted_again count altered update_number; written = says.promise.written } };
+        says = record { promise = record { answer = ap₂ answer_of number value ∙ counted_again count altered update_number; written = says.promise.written } };
         altered_is = rw number (value ∙ handed update_number altered (λ none. altered_symbols (header_of rec) share_layout l symbol lane old new shares shares' (rw none at says.promise.written)));
       }
 
@@ -130,5 +119,5 @@ module _ (rec : List ℕ) (l : ℕ) (shares : List ℕ) (first : ℕ) where
       let (none, at) = named belongs_number w says.promise.answer in
       rw (e, v) record { number = sym none; first_is = at }
   belongs_gives (Err g) first' r e v says =
-      let (same, some) = refusal_means belongs_number l wrong g says.promise.answer in
+      let (same, some) = refused_is belongs_number _ g says.promise.answer in
       rw (e, v) record { number = same; first_is = sym (refused_value g _ first some) }

@@ -1,18 +1,15 @@
 -- From the answers of a repair's calls to what the functions of the C interface promise.
 use Rattle.std.specs.Prelude.{Ok, Err}
-use Rattle.generator.specs.Answers.{Answer, outcome_of}
+use Rattle.generator.specs.Answers.{Answer, outcome_of, fault_in}
 use mathlib.Core.Path.{◌≡◌, sym, ap}
 use mathlib.Core.List.{List}
 use Prim.Native.Nat.{ℕ}
 use lib.ListN.{length}
-use Rattle.generator.specs.Records.{header_of}
+use Rattle.generator.proofs.Answered.{done_is, value_is, refused_is}
 use Rattle.refusals.specs.Faults.{fault_of}
 use Rattle.blocks.proofs.Refused.{refused_value}
-use Rattle.traces.specs.Repairs.{bits, spare}
 use Rattle.repair.specs.declared.RepairPlan.{RepairPlan}
 use Rattle.repair.specs.Promise.{repair_bits_fault, repair_share_fault, repair_plan_fault, RepairBitsSays, RepairShareSays, RepairPlanSays}
-use Rattle.repair.proofs.Accepts.{planned_means, refused_plan}
-use Rattle.roster.specs.Rosters.{fault_in}
 use Rattle.balanced_c.specs.Repairs.{RepairPlanGives, RepairBitsGives, RepairShareGives}
 use Rattle.balanced_c.proofs.Answers.{by_number}
 
@@ -33,11 +30,11 @@ module _ (rec : List ℕ) (count b more : ℕ) where
   -- the plan
   pub plan_sends : (p : RepairPlan) → RepairPlanSays rec count (Ok p) → RepairPlanGives rec count b more p.bits p.spare 0
   plan_sends p says =
-      let (none, same, rest) = planned_means fault (bits (header_of rec) count) (spare (header_of rec) count) p.bits p.spare says.promise.answer in
-      record { number = sym none; bits_are = same; spare_is = rest }
+      let plan = value_is _ _ says.promise.answer in
+      record { number = sym (done_is fault _ says.promise.answer); bits_are = ap (λ (q : RepairPlan). q.bits) plan; spare_is = ap (λ (q : RepairPlan). q.spare) plan }
 
   -- the number: both are as they were
   pub plan_refuses : (g : ℕ) → RepairPlanSays rec count (Err g) → RepairPlanGives rec count b more b more g
   plan_refuses g says =
-      let (same, some) = refused_plan fault (bits (header_of rec) count) (spare (header_of rec) count) g says.promise.answer in
+      let (same, some) = refused_is fault _ g says.promise.answer in
       record { number = same; bits_are = sym (refused_value g _ b some); spare_is = sym (refused_value g _ more some) }

@@ -1,12 +1,11 @@
 -- From the answers of the calls for a changed row to what their functions for C promise.
-use Rattle.generator.specs.Answers.{Answer, outcome_of}
+use Rattle.generator.specs.Answers.{Answer, outcome_of, fault_in}
 use mathlib.Core.Path.{◌≡◌, ap}
 use mathlib.Core.List.{List}
 use Prim.Native.Nat.{ℕ}
 use lib.ListN.{length}
 use Rattle.refusals.specs.Faults.{fault_of}
 use Rattle.differences.specs.Promise.{differences_fault, add_fault, DifferencesSays, AddSays}
-use Rattle.roster.specs.Rosters.{fault_in}
 use Rattle.balanced_c.specs.RowChanges.{DifferencesGives, AddGives}
 use Rattle.balanced_c.proofs.Answers.{by_number}
 

@@ -15,8 +15,7 @@ use Rattle.belongs.specs.Promise.{belongs_fault}
 use Rattle.recover.specs.Promise.{recover_fault, rebuild_fault, RecoverSays, RebuildSays}
 use Rattle.update.specs.Promise.{update_fault, UpdateSays}
 use Rattle.encode.specs.Promise.{encode_fault, EncodeSays}
-use Rattle.blocks.specs.Answers.{update_of}
-use Rattle.generator.specs.Answers.{outcome_of}
+use Rattle.generator.specs.Answers.{answer_of, outcome_of}
 use Rattle.rearrange.specs.Promise.{RearrangeSays, rearrange_fault}
 use Rattle.weight_counts.specs.Weights.{weights_fault, WeightsSay}
 
@@ -48,7 +47,7 @@ pub record EncodeGives (rec : List ℕ) (l : ℕ) (message shares shares' : List
 -- `balanced_update`: the number, what Update says of the shares, and how many of their symbols differ afterwards
 pub record UpdateGives (rec : List ℕ) (l symbol lane old new : ℕ) (shares : List ℕ) (altered : ℕ) (shares' : List ℕ) (altered' r : ℕ) : Type 0 where
   pub number : r ≡ fault_of rec (λ h. update_fault share_layout h l symbol lane old new shares)
-  pub says : UpdateSays rec l symbol lane old new shares shares' (update_of r altered')
+  pub says : UpdateSays rec l symbol lane old new shares shares' (answer_of r altered')
   pub altered_is : altered' ≡ pick (eqb r 0) (let w = width (header_of rec) in differ (symbols_of w shares) (symbols_of w shares')) altered
 
 -- `balanced_recover`: the number, and what Recover says of the message

@@ -5,11 +5,12 @@ use Rattle.lists.specs.Counting.{differ}
 use Rattle.layout.specs.Layout.{share_layout}
 use Rattle.layout.specs.Width.{symbols_of}
 use Rattle.generator.specs.Records.{header_of, width}
+use Rattle.generator.specs.Answers.{answer_of}
 use Rattle.refusals.specs.Faults.{fault_of}
-use Rattle.correct.specs.Promise.{correct_fault, correction_of, CorrectSays}
+use Rattle.correct.specs.Promise.{correct_fault, CorrectSays}
 
 -- `balanced_correct`: the number, what the call says of the shares, and how many of their symbols differ afterwards
 pub record CorrectGives (rec : List ℕ) (l : ℕ) (shares : List ℕ) (altered : ℕ) (shares' : List ℕ) (altered' r : ℕ) : Type 0 where
   pub number : r ≡ fault_of rec (λ h. correct_fault share_layout h l shares)
-  pub says : CorrectSays rec l shares shares' (correction_of r altered')
+  pub says : CorrectSays rec l shares shares' (answer_of r altered')
   pub altered_is : altered' ≡ pick (eqb r 0) (let w = width (header_of rec) in differ (symbols_of w shares) (symbols_of w shares')) altered

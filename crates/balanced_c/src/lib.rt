@@ -3,8 +3,7 @@
 
 ghost use Rattle.std.specs.Prelude.{◌≡◌};
 ghost use Rattle.std.specs.Result.{result_unwrap_or};
-ghost use Rattle.generator.specs.Answers.{numbered};
-ghost use Rattle.roster.specs.Rosters.{fault_in};
+ghost use Rattle.generator.specs.Answers.{numbered, fault_in};
 ghost use Rattle.balanced_c.specs.Calls.{plan_room_bad, PlanGives, EncodeGives, UpdateGives, RecoverGives, RebuildGives, BelongsGives, WeightsGive};
 
 mod changes;

@@ -1,8 +1,7 @@
 // The calls of a roster, which is 256 bytes that the caller keeps: the marks of the nodes 0 to 254, then the job number.
 ghost use Rattle.std.specs.Prelude.{◌≡◌};
-ghost use Rattle.generator.specs.Answers.{numbered};
+ghost use Rattle.generator.specs.Answers.{numbered, fault_in};
 ghost use Rattle.roster.specs.Events.{leaves, returns};
-ghost use Rattle.roster.specs.Rosters.{fault_in};
 ghost use Rattle.roster_bytes.specs.Calls.{told_of, StartGives, EventGives, LowestGives, JobGives};
 
 use crate::{hand_over, number_of};

@@ -8,10 +8,10 @@ use Rattle.lists.proofs.Cases.{when_zero}
 use Rattle.layout.specs.Layout.{Arrangement}
 use Rattle.generator.specs.declared.Header.{Header}
 use Rattle.generator.specs.Records.{width, Sound}
+use Rattle.generator.proofs.Answered.{answer_refused}
 use Rattle.refusals.specs.Conditions.{lanes_bad, length_bad, symbols_bad}
 use Rattle.refusals.specs.Accepted.{SymbolBuffer}
 use Rattle.refusals.proofs.Accepts.{not_met, rows_good}
-use Rattle.blocks.proofs.Refused.{membership_refused}
 use Rattle.belongs.specs.Promise.{belongs_fault, BelongsPromise}
 
 module _ (h : Header) (sound : Sound h) (l : ℕ) where
@@ -26,4 +26,4 @@ module _ (h : Header) (sound : Sound h) (l : ℕ) where
 -- beside a number g: the number, and nothing is written
 module _ {y : Arrangement} (h : Header) (g : ℕ) (some : g ≡ 0 → ⊥) (l : ℕ) where
   pub belongs_refuses : (shares : List ℕ) → BelongsPromise y l shares (Err g) h g
-  belongs_refuses shares = record { answer = sym (membership_refused g l _ some) }
+  belongs_refuses shares = record { answer = sym (answer_refused g _ some) }

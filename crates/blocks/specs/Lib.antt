@@ -2,4 +2,3 @@
 pub mod Blocks
 pub mod Bytes
 pub mod Answers
-pub mod Inner

@@ -1,14 +1,13 @@
 -- What holds where a call meets no number, and what it says beside one.
 use Rattle.std.specs.Prelude.{Err}
-use mathlib.Core.Path.{◌≡◌, refl, sym, ap, ◌∙◌}
-use mathlib.Core.Bool.{Bool, true, false}
+use mathlib.Core.Path.{◌≡◌, sym}
+use mathlib.Core.Bool.{true, false}
 use mathlib.Core.List.{List}
-use Prim.Native.Nat.{ℕ, zero, suc, ◌≤◌, ◌<◌}
+use Prim.Native.Nat.{ℕ, ◌≤◌, ◌<◌}
 use native.Mathlib.Omega.{arith}
 use borrow.Author.Tests.{lt-ltb, ltb-true, ltb-false, leb-true, ne_eqb}
 use lib.Dec.{eqb, ltb, leb}
 use lib.ListN.{length}
-use Rattle.lists.specs.Choice.{first_of, when}
 use Rattle.lists.proofs.Cases.{and_left, not_both, first_zero, when_zero}
 use Rattle.field.specs.declared.prime.PrimeField.{PrimeField}
 use Rattle.field.specs.declared.Field.{Field}
@@ -18,17 +17,14 @@ use Rattle.field.specs.Kinds.{modulus, usable}
 use Rattle.field.proofs.KindLaws.{usable_prime}
 use Rattle.generator.specs.declared.Header.{Header}
 use Rattle.generator.specs.Records.{modulus_of}
-use Rattle.generator.specs.declared.refusal.Refusal.{Refusal}
-use Rattle.generator.specs.Answers.{number, outcome_of}
-use Rattle.generator.proofs.Answered.{last, refused_is}
+use Rattle.generator.proofs.Answered.{answer_refused}
 use Rattle.refusals.specs.Conditions.{length_bad, symbols_bad}
 use Rattle.refusals.proofs.Accepts.{not_met}
-use Rattle.refusals.proofs.Order.{first_given}
 use Rattle.refusals.proofs.NotMet.{length_good}
-use Rattle.blocks.proofs.Refused.{outcome_refused, refused_value}
+use Rattle.blocks.proofs.Refused.{refused_value}
 use Rattle.carrying.specs.Carrying.{carries_none, carried_length}
 use Rattle.carry.specs.declared.prime.WordPrime.{WordPrime}
-use Rattle.carry.specs.Promise.{long_bad, carried_len_fault, carry_in_fault, carry_out_fault, carried_len_of, CarriedLenPromise, CarryInPromise, CarryOutPromise}
+use Rattle.carry.specs.Promise.{long_bad, carried_len_fault, carry_in_fault, carry_out_fault, CarriedLenPromise, CarryInPromise, CarryOutPromise}
 
 -- the prime of a field is a word
 pub modulus_word : (field : Field) → usable field ≡ true → modulus field < 65536
@@ -74,26 +70,12 @@ out_accepts h n symbols e =
     let (before, last) = first_zero (carry_in_fault h n (length symbols)) _ e in
     (before, when_zero (symbols_bad h symbols) 10 last)
 
--- the number of a call after one test more: that of the tests before it, its own, or none
-pub before_it : (f rest g : ℕ) → Err g ≡ outcome_of f → Err g ≡ outcome_of (first_of f rest)
-before_it f rest g refused =
-    let (same, some) = refused_is f g refused in
-    refused ∙ ap outcome_of (sym (first_given f rest (λ z. some (same ∙ z))))
-
-pub its_own : {t bad : Bool} {f : ℕ} {e s : Refusal} → f ≡ 0 → t ≡ bad → (t ≡ true) × (e ≡ s) → Err (number e) ≡ outcome_of (first_of f (when bad (number s)))
-its_own {s = s} none test holds = rw (none, holds.1) (last (Err s) s test (holds.0, refl))
-
-pub not_its : {t bad : Bool} {f : ℕ} (n : ℕ) → f ≡ 0 → t ≡ bad → t ≡ false → first_of f (when bad n) ≡ 0
-not_its n none test fails = rw (none, sym test ∙ fails)
-
 -- beside a number g: nothing is written
 pub length_refuses : (h : Header) (g : ℕ) → (g ≡ 0 → ⊥) → (n : ℕ) → CarriedLenPromise n (Err g) h g
-unfolding carried_len_of
-length_refuses h zero some n = absurd (some refl)
-length_refuses h (suc g) some n = record { answered = refl }
+length_refuses h g some n = record { answered = sym (answer_refused g _ some) }
 
 pub in_refuses : (h : Header) (g : ℕ) → (g ≡ 0 → ⊥) → (bytes out : List ℕ) → CarryInPromise bytes out out (Err g) h g
-in_refuses h g some bytes out = record { answered = sym (outcome_refused g some); written = sym (refused_value g _ out some) }
+in_refuses h g some bytes out = record { answered = sym (answer_refused g _ some); written = sym (refused_value g _ out some) }
 
 pub out_refuses : (h : Header) (g : ℕ) → (g ≡ 0 → ⊥) → (symbols out : List ℕ) → CarryOutPromise symbols out out (Err g) h g
-out_refuses h g some symbols out = record { answered = sym (outcome_refused g some); written = sym (refused_value g _ out some) }
+out_refuses h g some symbols out = record { answered = sym (answer_refused g _ some); written = sym (refused_value g _ out some) }

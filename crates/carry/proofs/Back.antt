@@ -1,6 +1,6 @@
 -- What one call carries the other reads, from the promises of both alone.
 use Rattle.std.specs.Prelude.{Ok}
-use Rattle.generator.specs.Answers.{Answer, outcome_of}
+use Rattle.generator.specs.Answers.{Answer, answer_of, outcome_of}
 use mathlib.Core.Path.{◌≡◌, ap, ◌∙◌}
 use mathlib.Core.Bool.{true, false, not}
 use mathlib.Core.List.{List}
@@ -13,10 +13,10 @@ use Rattle.lists.specs.Numbers.{all_below}
 use Rattle.lists.proofs.Cases.{first_zero}
 use Rattle.generator.specs.declared.Header.{Header}
 use Rattle.generator.specs.Records.{header_of, modulus_of, width, record_fault, Sound}
+use Rattle.generator.proofs.Answered.{done_is}
 use Rattle.refusals.specs.Conditions.{length_bad, symbols_bad}
 use Rattle.refusals.specs.Faults.{fault_of}
 use Rattle.refusals.proofs.OnRecord.{none_met}
-use Rattle.blocks.proofs.Answered.{done_means}
 use Rattle.carrying.specs.Carrying.{carries_none, carried_bytes, bytes_back, carried_length}
 use Rattle.carrying.proofs.BothKinds.{bytes_back_lem, length_carried, carried_below}
 use Rattle.carry.specs.Promise.{long_bad, carried_len_fault, carry_in_fault, carry_out_fault, CarryInSays, Carries}
@@ -29,7 +29,7 @@ in_none h n long good fits = rw (good.carries, le-ltb 4611686018427387904 n good
 
 -- a record that carries, no more than 2^62 bytes and the room for them: the call is done, whatever the bytes
 pub always_done : (rec bytes out out' : List ℕ) (answer : Answer (Unit {0})) → record_fault rec ≡ 0 → carries_none (modulus_of (header_of rec)) ≡ false → length bytes ≤ 4611686018427387904 → length out ≡ carried_length (modulus_of (header_of rec)) (length bytes) → CarryInSays rec bytes out out' answer → answer ≡ Ok tt
-unfolding outcome_of fault_of
+unfolding answer_of fault_of
 always_done rec bytes out out' answer accepted carries few fits says =
     let zero : fault_of rec (λ h. carry_in_fault h (length bytes) (length out)) ≡ 0 = rw accepted (in_none (header_of rec) (length bytes) (length out) (record { carries = carries; few = few }) fits) in
     says.promise.answered ∙ ap outcome_of zero
@@ -49,7 +49,7 @@ module _ (rec bytes : List ℕ) (sound : Sound (header_of rec)) (accepted : reco
       rw (accepted, inside, symbols_good)
 
   carried_carries : Carries rec bytes (carried_bytes (modulus_of (header_of rec)) bytes)
-  unfolding outcome_of
+  unfolding answer_of
   carried_carries = record {
     symbols_good = symbols_good;
     back = λ out out' answer fits says. (
@@ -64,7 +64,7 @@ module _ (rec bytes : List ℕ) (sound : Sound (header_of rec)) (accepted : reco
 pub carries : (rec bytes out out' : List ℕ) → all_below 256 bytes ≡ true → CarryInSays rec bytes out out' (Ok tt) → Carries rec bytes out'
 unfolding fault_of
 carries rec bytes out out' low says =
-    let zero = done_means _ says.promise.answered in
+    let zero = done_is _ _ says.promise.answered in
     let (sound, call) = none_met rec (λ h. carry_in_fault h (length bytes) (length out)) zero in
     let (good, fits) = in_accepts (header_of rec) (length bytes) (length out) call in
     let accepted = (first_zero (record_fault rec) (carry_in_fault (header_of rec) (length bytes) (length out)) zero).0 in

@@ -1,7 +1,7 @@
 -- Bytes carried in the symbols of a record, and read again: the numbers that turn the calls away, and what they promise.
-use Rattle.std.specs.Prelude.{Ok, Err}
-use Rattle.generator.specs.Answers.{Answer, outcome_of}
-use Rattle.std.specs.Prelude.{◌≡◌, Bool, false, List, ℕ, zero, suc, eqb, ltb, length}
+use Rattle.std.specs.Prelude.{Ok}
+use Rattle.generator.specs.Answers.{Answer, answer_of, outcome_of}
+use Rattle.std.specs.Prelude.{◌≡◌, Bool, false, List, ℕ, eqb, ltb, length}
 use Rattle.lists.specs.Choice.{pick, first_of, when}
 use Rattle.generator.specs.declared.Header.{Header}
 use Rattle.generator.specs.Records.{header_of, modulus_of}
@@ -25,13 +25,9 @@ carry_in_fault h n long = first_of (carried_len_fault h n) (when (length_bad (ca
 unfoldable pub carry_out_fault : Header → ℕ → List ℕ → ℕ
 carry_out_fault h n symbols = first_of (carry_in_fault h n (length symbols)) (when (symbols_bad h symbols) 11)
 
--- the answer of the first call: so many bytes, or the number
-unfoldable pub carried_len_of : ℕ → ℕ → Answer ℕ
-carried_len_of zero n = Ok n
-carried_len_of (suc f) n = Err (suc f)
-
+-- so many bytes, or the number
 pub record CarriedLenPromise (n : ℕ) (answer : Answer ℕ) (h : Header) (f : ℕ) : Type 0 where
-  pub answered : answer ≡ carried_len_of f (carried_length (modulus_of h) n)
+  pub answered : answer ≡ answer_of f (carried_length (modulus_of h) n)
 
 -- the bytes as they are carried; nothing is written beside a number
 pub record CarryInPromise (bytes out out' : List ℕ) (answer : Answer (Unit {0})) (h : Header) (f : ℕ) : Type 0 where

@@ -8,6 +8,7 @@ use generator::{Code, Refusal};
 use refusals::{length_bad, symbols_bad};
 
 // More bytes than 2^62.
+#[tactic(auto, unfolding(crate::specs::Promise::long_bad))]
 fn long_bad(n: usize) -> bool
     ensures { result ≡ long_bad n }
 {
@@ -15,6 +16,7 @@ fn long_bad(n: usize) -> bool
 }
 
 // carried_len: 18 before 8, for the record settles the lengths.
+#[tactic(auto, using(generator::proofs::Answered::giving_tests), unfolding(crate::specs::Promise::carried_len_fault))]
 pub fn carried_len_fault(code: Code, n: usize) -> Result<Carrying, Refusal>
     ensures { Tested result code.header (carried_len_fault code.header n) }
 {
@@ -24,6 +26,7 @@ pub fn carried_len_fault(code: Code, n: usize) -> Result<Carrying, Refusal>
 }
 
 // carry_in
+#[tactic(auto, using(generator::proofs::Answered::giving_tests), unfolding(crate::specs::Promise::carry_in_fault))]
 pub fn carry_in_fault(code: Code, n: usize, long: usize) -> Result<Carrying, Refusal>
     ensures { Tested result code.header (carry_in_fault code.header n long) }
 {
@@ -33,6 +36,7 @@ pub fn carry_in_fault(code: Code, n: usize, long: usize) -> Result<Carrying, Ref
 }
 
 // carry_out
+#[tactic(auto, using(generator::proofs::Answered::giving_tests), unfolding(crate::specs::Promise::carry_out_fault))]
 pub fn carry_out_fault(code: Code, n: usize, symbols: &[u8]) -> Result<Carrying, Refusal>
     ensures { Tested result code.header (carry_out_fault code.header n symbols.now) }
 {

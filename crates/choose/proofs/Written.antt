@@ -1,19 +1,20 @@
 -- What is known where no number is met, and beside one.
 use Rattle.std.specs.Prelude.{Err}
-use mathlib.Core.Path.{◌≡◌, refl, sym}
+use mathlib.Core.Path.{◌≡◌, sym}
 use mathlib.Core.Bool.{◌||◌}
 use mathlib.Core.List.{List}
-use Prim.Native.Nat.{ℕ, zero, suc, ◌≤◌, ◌<◌}
+use Prim.Native.Nat.{ℕ, ◌≤◌, ◌<◌}
 use native.Mathlib.Omega.{arith}
 use borrow.Author.Tests.{eqb-false, ltb-false}
 use lib.Dec.{eqb, ltb}
 use lib.ListN.{length}
 use Rattle.lists.proofs.Cases.{or_left_false, or_right_false, when_zero}
+use Rattle.generator.proofs.Answered.{answer_refused}
 use Rattle.refusals.specs.Conditions.{length_bad}
 use Rattle.refusals.proofs.Accepts.{not_met}
 use Rattle.refusals.proofs.NotMet.{length_good}
 use Rattle.blocks.proofs.Refused.{refused_value}
-use Rattle.choose.specs.Promise.{asked_bad, choose_fault, chosen_of, ChoosePromise}
+use Rattle.choose.specs.Promise.{asked_bad, choose_fault, ChoosePromise}
 
 -- what is asked for can be had
 pub record Asked (n k : ℕ) (out : List ℕ) : Type 0 where
@@ -40,6 +41,4 @@ choose_accepts n k out e =
 
 -- beside a number nothing is written
 pub choose_refuses : (n k : ℕ) (out : List ℕ) (g : ℕ) → (g ≡ 0 → ⊥) → ChoosePromise n k out out (Err g) g
-unfolding chosen_of
-choose_refuses n k out zero some = absurd (some refl)
-choose_refuses n k out (suc g) some = record { answered = refl; written = sym (refused_value (suc g) _ out some) }
+choose_refuses n k out g some = record { answered = sym (answer_refused g _ some); written = sym (refused_value g _ out some) }

@@ -1,7 +1,6 @@
 -- A record for n nodes of which k are needed that carries bytes: the numbers that turn the call away, what it promises, and what holds of the record.
-use Rattle.std.specs.Prelude.{Ok, Err}
-use Rattle.generator.specs.Answers.{Answer}
-use Rattle.std.specs.Prelude.{◌≡◌, Bool, true, false, ◌||◌, List, [], ◌∷◌, ◌++◌, ℕ, zero, suc, ◌/◌, ◌%◌, ◌≤◌, ◌<◌, eqb, ltb, length, drop}
+use Rattle.generator.specs.Answers.{Answer, answer_of}
+use Rattle.std.specs.Prelude.{◌≡◌, Bool, true, false, ◌||◌, List, [], ◌∷◌, ◌++◌, ℕ, ◌/◌, ◌%◌, ◌≤◌, ◌<◌, eqb, ltb, length, drop}
 use Rattle.lists.specs.Choice.{pick, first_of, when}
 use Rattle.field.specs.Primes.{is_prime}
 use Rattle.generator.specs.Records.{header_of, modulus_of, record_fault}
@@ -24,14 +23,9 @@ asked_bad n k = ((ltb n 2 || ltb 255 n) || eqb k 0) || ltb n k
 unfoldable pub choose_fault : ℕ → ℕ → ℕ → ℕ
 choose_fault n k room = first_of (when (asked_bad n k) 4) (when (length_bad 7 room) 8)
 
--- the answer: how many bytes the record has, or the number
-unfoldable pub chosen_of : ℕ → ℕ → Answer ℕ
-chosen_of zero size = Ok size
-chosen_of (suc f) size = Err (suc f)
-
--- the record, at the front of the room; nothing is written beside a number
+-- how many bytes the record has, or the number; the record, at the front of the room, and nothing is written beside a number
 pub record ChoosePromise (n k : ℕ) (out out' : List ℕ) (answer : Answer ℕ) (f : ℕ) : Type 0 where
-  pub answered : answer ≡ chosen_of f (length (chosen_record n k))
+  pub answered : answer ≡ answer_of f (length (chosen_record n k))
   pub written : out' ≡ pick (eqb f 0) (chosen_record n k ++ drop (length (chosen_record n k)) out) out
 
 abbrev pub ChooseSays : ℕ → ℕ → List ℕ → List ℕ → Answer ℕ → Type 0

@@ -11,20 +11,21 @@ use Rattle.layout.specs.Layout.{Arrangement}
 use Rattle.layout.specs.Width.{symbols_of}
 use Rattle.generator.specs.declared.Header.{Header}
 use Rattle.generator.specs.Records.{width}
+use Rattle.generator.specs.Answers.{answer_of}
+use Rattle.generator.proofs.Answered.{answer_refused}
 use Rattle.belongs.specs.Promise.{belongs_fault}
 use Rattle.blocks.proofs.Refused.{refused_value}
-use Rattle.correct.proofs.Answered.{means_refused}
 use Rattle.correct.specs.Blocks.{first_far, corrected_bytes, corrected_count, far_bad}
-use Rattle.correct.specs.Promise.{correct_fault, correction_of, CorrectPromise}
+use Rattle.correct.specs.Promise.{correct_fault, CorrectPromise}
 
 module _ (y : Arrangement) (h : Header) (l : ℕ) (shares : List ℕ) where
   -- a number turns the call away, and nothing is written
   pub correct_refuses : (g : ℕ) → (g ≡ 0 → ⊥) → CorrectPromise y l shares shares (Err g) h g
-  correct_refuses g some = record { answer = sym (means_refused g _ some); written = sym (refused_value g _ shares some) }
+  correct_refuses g some = record { answer = sym (answer_refused g _ some); written = sym (refused_value g _ shares some) }
 
   -- no number does
   pub correct_done : (count : ℕ) (shares' : List ℕ) → shares' ≡ corrected_bytes y h l shares → count ≡ corrected_count y h l shares → CorrectPromise y l shares shares' (Ok count) h 0
-  unfolding correction_of
+  unfolding answer_of
   correct_done count shares' is number = record { answer = ap Ok number; written = is }
 
   -- no lane is too far from every word, or one is

@@ -1,7 +1,6 @@
 -- What turns the call away, and what it promises: the answer, and every lent byte afterwards.
-use Rattle.std.specs.Prelude.{Ok, Err}
-use Rattle.generator.specs.Answers.{Answer}
-use Rattle.std.specs.Prelude.{◌≡◌, List, ℕ, zero, suc, eqb}
+use Rattle.generator.specs.Answers.{Answer, answer_of}
+use Rattle.std.specs.Prelude.{◌≡◌, List, ℕ, eqb}
 use Rattle.lists.specs.Choice.{pick, first_of, when}
 use Rattle.layout.specs.Layout.{Arrangement, share_layout}
 use Rattle.generator.specs.declared.Header.{Header}
@@ -13,14 +12,9 @@ use Rattle.correct.specs.Blocks.{corrected_bytes, corrected_count, far_bad}
 unfoldable pub correct_fault : Arrangement → Header → ℕ → List ℕ → ℕ
 correct_fault y h l shares = first_of (belongs_fault h l shares) (when (far_bad y h l shares) 14)
 
--- the answer, from the number that turned the call away (0 for none) and the count of altered symbols
-unfoldable pub correction_of : ℕ → ℕ → Answer ℕ
-correction_of zero count = Ok count
-correction_of (suc f) count = Err (suc f)
-
 -- every lane as the word nearest to it, and how many symbols differ afterwards; beside a number nothing is written
 pub record CorrectPromise (y : Arrangement) (l : ℕ) (shares shares' : List ℕ) (r : Answer ℕ) (h : Header) (f : ℕ) : Type 0 where
-  pub answer : r ≡ correction_of f (corrected_count y h l shares)
+  pub answer : r ≡ answer_of f (corrected_count y h l shares)
   pub written : shares' ≡ pick (eqb f 0) (corrected_bytes y h l shares) shares
 
 abbrev pub CorrectSaysIn : Arrangement → List ℕ → ℕ → List ℕ → List ℕ → Answer ℕ → Type 0

@@ -12,6 +12,7 @@ use Rattle.layout.proofs.Widths.{symbols_bytes}
 use Rattle.generator.specs.declared.Header.{Header}
 use Rattle.generator.specs.Records.{header_of, width}
 use Rattle.generator.proofs.Widths.{width_some}
+use Rattle.generator.proofs.Answered.{done_is, value_is}
 use Rattle.refusals.specs.Faults.{fault_of}
 use Rattle.belongs.specs.Promise.{belongs_fault, BelongsSays}
 use Rattle.recover.specs.Promise.{recover_fault, rebuild_fault, RecoverSays, RebuildSays}
@@ -24,7 +25,7 @@ use Rattle.encode.proofs.Accepts.{encode_accepts}
 use Rattle.refusals.proofs.OnRecord.{none_met}
 use Rattle.blocks.specs.Blocks.{share_of, shares_of, updated, first_wrong, MessageFor}
 use Rattle.blocks.specs.Bytes.{encoded_bytes, updated_bytes, RecoveredBytes, RebuiltBytes, wrong_lane}
-use Rattle.blocks.proofs.Answered.{done_means, altered_means, yes_means, no_means}
+use Rattle.blocks.proofs.Answered.{yes_means, no_means}
 use Rattle.blocks.proofs.Bytes.{altered_symbols}
 use Rattle.recover.proofs.Laws.{recover_law, rebuild_law}
 use Rattle.blocks.proofs.Shares.{length_share}
@@ -50,7 +51,7 @@ module _ (rec : List ℕ) (l : ℕ) where
   encode : (message out out' : List ℕ) → EncodeSays rec l message out out' (Ok tt) → EncodeDone h l message out'
   unfolding encoded_bytes
   encode message out out' says =
-      let none = done_means (fault_of rec (λ h. encode_fault h l (length out) message)) says.promise.answer in
+      let none = done_is (fault_of rec (λ h. encode_fault h l (length out) message)) _ says.promise.answer in
       let (sound, own) = none_met rec (λ h. encode_fault h l (length out) message) none in
       let (rows, long) = encode_accepts h sound l (length out) message own in
       let now : read h out' ≡ shares_of share_layout h l (read h message) = read_written h out' _ (rw none at says.promise.written) in
@@ -64,7 +65,7 @@ module _ (rec : List ℕ) (l : ℕ) where
     recover : (out out' : List ℕ) → RecoverSays rec l nodes shares out out' (Ok tt) → RecoverDone h l nodes shares out'
     unfolding RecoveredBytes
     recover out out' says =
-        let none = done_means (fault_of rec (λ h. recover_fault h l nodes shares (length out))) says.promise.answer in
+        let none = done_is (fault_of rec (λ h. recover_fault h l nodes shares (length out))) _ says.promise.answer in
         let (sound, own) = none_met rec (λ h. recover_fault h l nodes shares (length out)) none in
         let (listed, long) = recover_accepts h sound l nodes shares (length out) own in
         let (m, is, written) = rw none at (recover_law share_lawful rec l nodes shares out out' (Ok tt) says) in
@@ -79,7 +80,7 @@ module _ (rec : List ℕ) (l : ℕ) where
     rebuild : (target : ℕ) (out out' : List ℕ) → RebuildSays rec l nodes shares target out out' (Ok tt) → RebuildDone h l nodes shares target out'
     unfolding RebuiltBytes
     rebuild target out out' says =
-        let none = done_means (fault_of rec (λ h. rebuild_fault h l nodes shares target (length out))) says.promise.answer in
+        let none = done_is (fault_of rec (λ h. rebuild_fault h l nodes shares target (length out))) _ says.promise.answer in
         let (sound, own) = none_met rec (λ h. rebuild_fault h l nodes shares target (length out)) none in
         let (listed, node, long) = rebuild_accepts h sound l nodes shares target (length out) own in
         let (m, is, written) = rw none at (rebuild_law share_lawful rec l nodes shares out out' (Ok tt) target says) in
@@ -120,13 +121,13 @@ module _ (rec : List ℕ) (l : ℕ) where
   update : (r t old new : ℕ) (shares shares' : List ℕ) (count : ℕ) → UpdateSays rec l r t old new shares shares' (Ok count) → UpdateDone h shares shares' l r t old new count
   unfolding updated_bytes
   update r t old new shares shares' count says =
-      let (none, same) = altered_means (fault_of rec (λ h. update_fault share_layout h l r t old new shares)) _ count says.promise.answer in
+      let none = done_is (fault_of rec (λ h. update_fault share_layout h l r t old new shares)) _ says.promise.answer in
       let (sound, own) = none_met rec (λ h. update_fault share_layout h l r t old new shares) none in
       let written = rw none at says.promise.written in
       let now : read h shares' ≡ updated share_layout h l r t old new (read h shares) = read_written h shares' _ written in
       record {
         change = rw now ((update_demands h sound).updates shares l r t old new own);
-        reports = same ∙ altered_symbols h share_layout l r t old new shares shares' written;
+        reports = value_is _ _ says.promise.answer ∙ altered_symbols h share_layout l r t old new shares shares' written;
       }
 
 pub call_demands : CallDemands

@@ -32,11 +32,11 @@ use Rattle.generator.specs.Codewords.{node_of}
 use Rattle.generator.proofs.Changes.{node_change}
 use Rattle.generator.proofs.Claims.{ours}
 use Rattle.generator.proofs.Widths.{width_some}
+use Rattle.generator.proofs.Answered.{done_is}
 use Rattle.refusals.specs.Accepted.{SymbolBuffer}
 use Rattle.refusals.specs.Faults.{fault_of}
 use Rattle.refusals.proofs.OnRecord.{none_met}
 use Rattle.blocks.specs.Blocks.{share_at, share_of}
-use Rattle.blocks.proofs.Answered.{done_means}
 use Rattle.blocks.proofs.Messages.{lane_message}
 use Rattle.differences.specs.Differences.{difference_at, difference_bytes, added_symbols, added_bytes}
 use Rattle.differences.specs.Promise.{differences_fault, add_fault, DifferencesSays}
@@ -70,7 +70,7 @@ record Told (h : Header) (l r : ℕ) (old new s : List ℕ) : Type 0 where
 told : (rec : List ℕ) (l r : ℕ) (old new room s : List ℕ) → DifferencesSays rec l r old new room s (Ok tt) → Told (header_of rec) l r old new s
 unfolding difference_bytes
 told rec l r old new room s says =
-    let none = done_means (fault_of rec (λ h. differences_fault h l r old new (length room))) says.promise.answered in
+    let none = done_is (fault_of rec (λ h. differences_fault h l r old new (length room))) _ says.promise.answered in
     let (sound, own) = none_met rec (λ h. differences_fault h l r old new (length room)) none in
     let accepted = differences_accepts (header_of rec) sound l r old new (length room) own in
     record { sound = sound; old_row = accepted.old_row; new_row = accepted.new_row; row = accepted.row; written = rw none at says.promise.written }
@@ -155,7 +155,7 @@ pub row_changes : RowChanges
 row_changes =
     record {
       adds = λ rec l r old new message changed out shares again shares' room s c says later tells j node share done.
-          let none = done_means (fault_of rec (λ h. add_fault h l (stretch_of (header_of rec) l j s) (cut_of (header_of rec) l (j ∷ []) shares))) done.promise.answered in
+          let none = done_is (fault_of rec (λ h. add_fault h l (stretch_of (header_of rec) l j s) (cut_of (header_of rec) l (j ∷ []) shares))) _ done.promise.answered in
           rw none at done.promise.written
           ∙ share_added (told rec l r old new room s tells) j node (encoded rec l message out shares says) (encoded rec l changed again shares' later) c;
       outside = λ rec l r old new room s tells j node apart t lane.

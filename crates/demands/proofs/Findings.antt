@@ -18,6 +18,7 @@ use Rattle.field.proofs.BothKinds.{arithmetic}
 use Rattle.generator.specs.declared.Header.{Header}
 use Rattle.generator.specs.Records.{header_of, modulus_of, size, Sound}
 use Rattle.generator.proofs.Accepts.{faultless_sound}
+use Rattle.generator.proofs.Answered.{done_is, value_is}
 use Rattle.refusals.specs.Faults.{fault_of}
 use Rattle.refusals.proofs.OnRecord.{none_met}
 use Rattle.blocks.specs.Blocks.{updated}
@@ -27,7 +28,7 @@ use Rattle.refusals.specs.Accepted.{IsLane}
 use Rattle.find_update.specs.Finding.{finding_of, Finds}
 use Rattle.find_update.specs.Promise.{find_fault, FindSays}
 use Rattle.find_update.specs.Numbers.{case_of, found_symbol, found_amount}
-use Rattle.find_update.proofs.Accepts.{find_accepts, found_means}
+use Rattle.find_update.proofs.Accepts.{find_accepts}
 use Rattle.find_update.proofs.Applied.{update_adds, finds_again}
 use Rattle.find_update.proofs.Meaning.{finds}
 use Rattle.demands.specs.Calls.{read}
@@ -37,10 +38,10 @@ call : (rec before after : List ℕ) (r : Answer Finding) → FindSays rec befor
 call rec before after (Err g) says never = absurd (never g refl)
 call rec before after (Ok r) says never =
     let h = header_of rec in
-    let (none, same) = found_means (fault_of rec (λ h. find_fault h before after)) (finding_of h (read h before) (read h after)) r says.found.promise.answer in
+    let none = done_is (fault_of rec (λ h. find_fault h before after)) _ says.found.promise.answer in
     let (sound, own) = none_met rec (λ h. find_fault h before after) none in
     let lanes = find_accepts h before after own in
-    (ap Ok (sym same), finds h sound (read h before) (read h after) lanes.first lanes.second)
+    (ap Ok (value_is _ _ says.found.promise.answer), finds h sound (read h before) (read h after) lanes.first lanes.second)
 
 -- a difference that is zero is of equal symbols
 same_symbols : (h : Header) → Sound h → (a b : ℕ) → a < size h → b < size h → sub (modulus_of h) a b ≡ 0 → a ≡ b

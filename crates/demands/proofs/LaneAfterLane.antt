@@ -1,6 +1,6 @@
 -- With shares rearranged, each call gives the old results, and share buffers are the old ones rearranged.
 use Rattle.std.specs.Prelude.{Option, Ok}
-use Rattle.generator.specs.Answers.{Answer, outcome_of}
+use Rattle.generator.specs.Answers.{Answer, answer_of, outcome_of}
 use mathlib.Core.Path.{◌≡◌, sym, ap, ap₂, ◌∙◌}
 use mathlib.Core.Bool.{true}
 use mathlib.Core.List.{List}
@@ -16,6 +16,7 @@ use Rattle.layout.specs.Layout.{Arrangement, share_layout}
 use Rattle.layout.proofs.Lawful.{Lawful, by_row, by_lane}
 use Rattle.generator.specs.declared.Header.{Header}
 use Rattle.generator.specs.Records.{header_of, record_fault}
+use Rattle.generator.proofs.Answered.{done_is, answer_refused}
 use Rattle.refusals.specs.Faults.{fault_of}
 use Rattle.belongs.specs.Promise.{belongs_fault, BelongsSaysIn}
 use Rattle.recover.specs.Promise.{recover_fault, rebuild_fault, RecoverSaysIn, RebuildSaysIn}
@@ -23,10 +24,9 @@ use Rattle.update.specs.Promise.{input_fault, update_fault, UpdateSaysIn}
 use Rattle.encode.specs.Promise.{encode_fault, EncodeSaysIn}
 use Rattle.rearrange.proofs.Accepts.{rearrange_accepts}
 use Rattle.refusals.proofs.OnRecord.{none_met}
-use Rattle.blocks.specs.Answers.{update_of, membership_of}
+use Rattle.blocks.specs.Answers.{membership_of}
 use Rattle.blocks.specs.Bytes.{altered_count, rearranged_bytes}
-use Rattle.blocks.proofs.Answered.{done_means}
-use Rattle.blocks.proofs.Refused.{update_refused, refused_value}
+use Rattle.blocks.proofs.Refused.{refused_value}
 use Rattle.rearrange.specs.Promise.{RearrangeSays, rearrange_fault}
 use Rattle.demands.specs.LaneAfterLane.{Full, LaneAfterLane}
 use Rattle.demands.proofs.TurnedBytes.{input_inside, turned_back, encoded_turned, belongs_turned, wrong_turned, update_turned, updated_turned, altered_turned, recover_turned, rebuild_turned, recovered_turned, rebuilt_turned}
@@ -52,7 +52,7 @@ module _ {y z : Arrangement} (a : Lawful y) (b : Lawful z) (rec : List ℕ) (l :
       let answer : u ≡ r = now.promise.answer ∙ ap outcome_of same ∙ sym old.promise.answer in (
         answer,
         λ done.
-            let none = done_means (fault_of rec (λ h. encode_fault h l (length new) message)) (sym done ∙ now.promise.answer) in
+            let none = done_is (fault_of rec (λ h. encode_fault h l (length new) message)) _ (sym done ∙ now.promise.answer) in
             let before = sym same ∙ none in
             rw none at now.promise.written ∙ encoded_turned a b h l message ∙ ap (rearranged_bytes y z h h.n l) (sym (rw before at old.promise.written)),
       )
@@ -67,16 +67,16 @@ module _ {y z : Arrangement} (a : Lawful y) (b : Lawful z) (rec : List ℕ) (l :
         by_cases (ℕ_discrete number 0)
         (λ none.
         let inside = update_inside y h l r t old new shares (none_met rec (λ h. update_fault y h l r t old new shares) none).1 in (
-          is.promise.answer ∙ ap₂ update_of same (altered_turned a b h l shares full r t old new inside) ∙ sym was.promise.answer,
+          is.promise.answer ∙ ap₂ answer_of same (altered_turned a b h l shares full r t old new inside) ∙ sym was.promise.answer,
           rw (same ∙ none) at is.promise.written
               ∙ updated_turned a b h l shares full r t old new inside
               ∙ ap (rearranged_bytes y z h h.n l) (sym (rw none at was.promise.written)),
         ))
         (λ some. (
           is.promise.answer
-              ∙ ap (λ (f : ℕ). update_of f (altered_count z h l r t old new turned)) same
-              ∙ update_refused number _ some
-              ∙ sym (was.promise.answer ∙ update_refused number _ some),
+              ∙ ap (λ (f : ℕ). answer_of f (altered_count z h l r t old new turned)) same
+              ∙ answer_refused number _ some
+              ∙ sym (was.promise.answer ∙ answer_refused number _ some),
           (rw same at is.promise.written) ∙ refused_value number _ turned some ∙ ap (rearranged_bytes y z h h.n l) (sym (was.promise.written ∙ refused_value number _ shares some)),
         ))
       where
@@ -114,8 +114,8 @@ module _ {y z : Arrangement} (a : Lawful y) (b : Lawful z) (rec : List ℕ) (l :
   -- the two calls, of all nodes or of listed ones
   calls : (rows : Header → ℕ) (s out out' end end' : List ℕ) → all_below 256 s ≡ true → RearrangeSays y z rows rec l s out out' (Ok tt) → RearrangeSays z y rows rec l out' end end' (Ok tt) → end' ≡ s
   calls rows s out out' end end' bytes first second =
-      let none = done_means (fault_of rec (λ h. rearrange_fault h (rows h) l (length s) (length out))) first.promise.answered in
-      let after = done_means (fault_of rec (λ h. rearrange_fault h (rows h) l (length out') (length end))) second.promise.answered in
+      let none = done_is (fault_of rec (λ h. rearrange_fault h (rows h) l (length s) (length out))) _ first.promise.answered in
+      let after = done_is (fault_of rec (λ h. rearrange_fault h (rows h) l (length out') (length end))) _ second.promise.answered in
       let (sound, own) = none_met rec (λ h. rearrange_fault h (rows h) l (length s) (length out)) none in
       let (long, room) = rearrange_accepts h sound l (rows h) (length s) (length out) own in
       rw after at second.promise.written
@@ -125,7 +125,7 @@ module _ {y z : Arrangement} (a : Lawful y) (b : Lawful z) (rec : List ℕ) (l :
   -- Recover of shares that the call rearranged
   listed_recover : (nodes s moved moved' out out' now : List ℕ) (r u : Answer (Unit {0})) → RearrangeSays y z (λ h. h.k) rec l s moved moved' (Ok tt) → RecoverSaysIn y rec l nodes s out out' r → RecoverSaysIn z rec l nodes moved' out now u → (u ≡ r) × (now ≡ out')
   listed_recover nodes s moved moved' out out' now r u done was is =
-      let none = done_means (fault_of rec (λ h. rearrange_fault h h.k l (length s) (length moved))) done.promise.answered in
+      let none = done_is (fault_of rec (λ h. rearrange_fault h h.k l (length s) (length moved))) _ done.promise.answered in
       let (sound, own) = none_met rec (λ h. rearrange_fault h h.k l (length s) (length moved)) none in
       let (long, room) = rearrange_accepts h sound l h.k (length s) (length moved) own in
       let turned : moved' ≡ rearranged_bytes y z h h.k l s = rw none at done.promise.written in

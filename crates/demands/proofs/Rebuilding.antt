@@ -22,13 +22,13 @@ use Rattle.generator.specs.Records.{header_of, width, Sound}
 use Rattle.generator.specs.Codewords.{node_of}
 use Rattle.generator.specs.Claims.{is_message, are_nodes, at_nodes}
 use Rattle.generator.proofs.Recovery.{one_message}
+use Rattle.generator.proofs.Answered.{done_is}
 use Rattle.refusals.specs.Faults.{fault_of}
 use Rattle.recover.specs.Promise.{rebuild_fault, RebuildSays}
 use Rattle.recover.proofs.Accepts.{rebuild_accepts}
 use Rattle.refusals.proofs.OnRecord.{none_met}
 use Rattle.blocks.specs.Blocks.{share_at, share_of, MessageFor}
 use Rattle.blocks.specs.Bytes.{RebuiltBytes}
-use Rattle.blocks.proofs.Answered.{done_means}
 use Rattle.blocks.proofs.Messages.{lane_message}
 use Rattle.recover.proofs.Laws.{rebuild_law}
 use Rattle.demands.specs.Rebuilding.{read_at, OneOff, rebuilt_at, BadRead}
@@ -93,7 +93,7 @@ module _ (h : Header) (l i t : ℕ) (shares wrong : List ℕ) (off : OneOff h l 
 -- what a call that is done relied on and gave
 done_call : (rec : List ℕ) (l : ℕ) (nodes shares : List ℕ) (target : ℕ) (out out' : List ℕ) → RebuildSays rec l nodes shares target out out' (Ok tt) → Sound (header_of rec) × (are_nodes (header_of rec) nodes ≡ true) × (target < (header_of rec).n) × RebuiltBytes share_layout (header_of rec) l nodes shares target out'
 done_call rec l nodes shares target out out' says =
-    let none = done_means (fault_of rec (λ h. rebuild_fault h l nodes shares target (length out))) says.promise.answer in
+    let none = done_is (fault_of rec (λ h. rebuild_fault h l nodes shares target (length out))) _ says.promise.answer in
     let (s, own) = none_met rec (λ h. rebuild_fault h l nodes shares target (length out)) none in
     let (listed, low, size_is) = rebuild_accepts (header_of rec) s l nodes shares target (length out) own in
     (s, listed.different, low, rw none at (rebuild_law share_lawful rec l nodes shares out out' (Ok tt) target says))

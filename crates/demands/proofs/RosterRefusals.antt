@@ -1,6 +1,6 @@
 -- Demand 1 of the calls of a roster, proved.
 use Rattle.std.specs.Prelude.{Ok, Err}
-use Rattle.generator.specs.Answers.{Answer}
+use Rattle.generator.specs.Answers.{Answer, fault_in}
 use mathlib.Core.Path.{◌≡◌, refl, sym, ap, ◌∙◌}
 use mathlib.Core.Logic.Iff
 use mathlib.Core.Logic.{◌↔◌, by_cases}
@@ -21,7 +21,7 @@ use Rattle.generator.proofs.Accepts.{faultless_sound}
 use Rattle.roster.specs.declared.Roster.{Roster}
 use Rattle.roster.specs.declared.Listing.{Listing}
 use Rattle.roster.specs.Events.{Event, leaves, returns, named, says}
-use Rattle.roster.specs.Rosters.{fault_in, is_present, first_roster, start_of, event_fault, step_of, wrote, lowest_of, lowest_list, job_of, job_list}
+use Rattle.roster.specs.Rosters.{is_present, first_roster, start_of, event_fault, step_of, wrote, lowest_of, lowest_list, job_of, job_list}
 use Rattle.roster.proofs.Stepping.{start_number, step_number, step_same, turned_away}
 use Rattle.roster.proofs.Lowest.{lowest_number, lowest_kept, lowest_refused}
 use Rattle.roster.proofs.OneJob.{job_listing, job_kept}

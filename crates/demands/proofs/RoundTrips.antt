@@ -27,6 +27,7 @@ use Rattle.generator.proofs.Messages.{message_back}
 use Rattle.generator.proofs.Recovery.{nodes_places}
 use Rattle.generator.proofs.Widths.{width_some}
 use Rattle.generator.proofs.Words.{encoding_symbols, encoding_word}
+use Rattle.generator.proofs.Answered.{done_is}
 use Rattle.refusals.specs.Accepted.{SymbolBuffer}
 use Rattle.refusals.specs.Faults.{fault_of}
 use Rattle.recover.specs.Promise.{recover_fault, rebuild_fault, RecoverSays, RebuildSays}
@@ -38,7 +39,6 @@ use Rattle.encode.proofs.Accepts.{encode_accepts}
 use Rattle.refusals.proofs.OnRecord.{none_met}
 use Rattle.blocks.specs.Blocks.{share_at, share_of, shares_of, gathered, recovered, updated}
 use Rattle.blocks.specs.Bytes.{encoded_bytes, updated_bytes, recovered_bytes, rebuilt_bytes}
-use Rattle.blocks.proofs.Answered.{done_means, altered_means}
 use Rattle.blocks.proofs.Messages.{lane_message, gathered_message}
 use Rattle.blocks.proofs.OneSymbol.{updated_shares}
 use Rattle.blocks.proofs.Recovered.{recovered_only}
@@ -47,7 +47,6 @@ use Rattle.demands.specs.LaneAfterLane.{Full}
 use Rattle.correct.specs.Blocks.{corrected_shares, corrected_bytes}
 use Rattle.correct.specs.Promise.{correct_fault, CorrectSays}
 use Rattle.correct.specs.Meaning.{NearWord, lane_in}
-use Rattle.correct.proofs.Answered as Corrected
 use Rattle.demands.proofs.Corrections.{corrections}
 use Rattle.demands.specs.Calls.{read}
 use Rattle.demands.specs.RoundTrips.{cut_of, with_symbol, FewWrong, RoundTrips}
@@ -64,7 +63,7 @@ pub encoded : (rec : List ℕ) (l : ℕ) (message out shares : List ℕ) → Enc
 unfolding encoded_bytes
 encoded rec l message out shares says =
     let h = header_of rec in
-    let none = done_means (fault_of rec (λ h. encode_fault h l (length out) message)) says.promise.answer in
+    let none = done_is (fault_of rec (λ h. encode_fault h l (length out) message)) _ says.promise.answer in
     let (sound, own) = none_met rec (λ h. encode_fault h l (length out) message) none in
     let (rows, long) = encode_accepts h sound l (length out) message own in
     let written : shares ≡ bytes_of (width h) (shares_of share_layout h l (read h message)) = rw none at says.promise.written in
@@ -177,7 +176,7 @@ module _ (rec : List ℕ) (l : ℕ) (message out shares : List ℕ) (says : Enco
   unfolding recovered_bytes
   recover nodes back back' done =
       let listed = cut_of h l nodes shares in
-      let none = done_means (fault_of rec (λ h. recover_fault h l nodes listed (length back))) done.promise.answer in
+      let none = done_is (fault_of rec (λ h. recover_fault h l nodes listed (length back))) _ done.promise.answer in
       let (sound, own) = none_met rec (λ h. recover_fault h l nodes listed (length back)) none in
       let different = (recover_accepts h sound l nodes listed (length back) own).0.different in
       rw none at done.promise.written ∙ ap (bytes_of (width h)) (recovered_back e nodes different)
@@ -187,7 +186,7 @@ module _ (rec : List ℕ) (l : ℕ) (message out shares : List ℕ) (says : Enco
   unfolding rebuilt_bytes
   rebuild nodes target back back' done =
       let listed = cut_of h l nodes shares in
-      let none = done_means (fault_of rec (λ h. rebuild_fault h l nodes listed target (length back))) done.promise.answer in
+      let none = done_is (fault_of rec (λ h. rebuild_fault h l nodes listed target (length back))) _ done.promise.answer in
       let (sound, own) = none_met rec (λ h. rebuild_fault h l nodes listed target (length back)) none in
       let (is, node, long) = rebuild_accepts h sound l nodes listed target (length back) own in
       (node, rw none at done.promise.written ∙ ap (λ (u : List ℕ). bytes_of (width h) (share_of h l u target)) (recovered_back e nodes is.different))
@@ -196,7 +195,7 @@ module _ (rec : List ℕ) (l : ℕ) (message out shares : List ℕ) (says : Enco
   correct : (wrong wrong' : List ℕ) (count : ℕ) → FewWrong h l shares wrong → CorrectSays rec l wrong wrong' (Ok count) → wrong' ≡ shares
   unfolding corrected_bytes corrected_shares
   correct wrong wrong' count few done =
-      let none = (Corrected.altered_means (fault_of rec (λ h. correct_fault share_layout h l wrong)) _ count done.promise.answer).0 in
+      let none = done_is (fault_of rec (λ h. correct_fault share_layout h l wrong)) _ done.promise.answer in
       let written = rw none at done.promise.written in
       let now = read_written h wrong' _ written in
       let same : read h wrong' ≡ read h shares =
@@ -210,7 +209,7 @@ module _ (rec : List ℕ) (l : ℕ) (message out shares : List ℕ) (says : Enco
   update : (r t old new : ℕ) (shares' : List ℕ) (count : ℕ) → UpdateSays rec l r t old new shares shares' (Ok count) → shares' ≡ bytes_of (width h) (shares_of share_layout h l (set (read h message) (r * l + t) new))
   unfolding updated_bytes
   update r t old new shares' count done =
-      let none = (altered_means (fault_of rec (λ h. update_fault share_layout h l r t old new shares)) _ count done.promise.answer).0 in
+      let none = done_is (fault_of rec (λ h. update_fault share_layout h l r t old new shares)) _ done.promise.answer in
       let (sound, own) = none_met rec (λ h. update_fault share_layout h l r t old new shares) none in
       let (lane, old_symbol, new_symbol, fresh) = update_accepts h sound l r t old new shares own in
       let rows = e.buffer_is.symbol_rows in

@@ -9,9 +9,9 @@ use lib.ListN.{length, get_or}
 use Rattle.lists.proofs.Rows.{length_from, get_or_from}
 use Rattle.generator.specs.Records.{header_of}
 use Rattle.generator.proofs.Accepts.{faultless_sound}
+use Rattle.generator.proofs.Answered.{done_is}
 use Rattle.refusals.specs.Faults.{fault_of}
 use Rattle.refusals.proofs.OnRecord.{none_met}
-use Rattle.blocks.proofs.Answered.{done_means}
 use Rattle.weight_distribution.proofs.Choosing.{choosing}
 use Rattle.weight_counts.specs.Weights.{weight_count_of, weight_counts, weights_fault, Distribution, WeightsSay}
 use Rattle.weight_counts.proofs.Sample.{sample_counts}
@@ -23,7 +23,7 @@ unfolding weight_counts
 call rec counts counts' says =
     let h = header_of rec in
     let promise = says.counted.promise in
-    let none = done_means (fault_of rec (λ h. weights_fault h (length counts))) promise.answer in
+    let none = done_is (fault_of rec (λ h. weights_fault h (length counts))) _ promise.answer in
     let is : counts' ≡ weight_counts h = rw none at promise.written in (
       ap length is ∙ length_from (weight_count_of h) 0 (h.n + 1),
       λ w low. ap (λ (x : List ℕ). get_or x w 0) is ∙ get_or_from (weight_count_of h) 0 (h.n + 1) w 0 (omega arith) ∙ ap (weight_count_of h) (zero-add w),

@@ -8,11 +8,12 @@ use lib.ListN.{length}
 use Rattle.lists.proofs.Cases.{when_zero}
 use Rattle.generator.specs.declared.Header.{Header}
 use Rattle.generator.specs.Records.{width, Sound}
+use Rattle.generator.proofs.Answered.{answer_refused}
 use Rattle.refusals.specs.Accepted.{SymbolBuffer}
 use Rattle.refusals.specs.Conditions.{lanes_bad, length_bad, number_bad, symbols_bad}
 use Rattle.refusals.proofs.NotMet.{length_good, number_good}
 use Rattle.refusals.proofs.Accepts.{not_met, rows_good}
-use Rattle.blocks.proofs.Refused.{outcome_refused, refused_value}
+use Rattle.blocks.proofs.Refused.{refused_value}
 use Rattle.differences.specs.Promise.{differences_fault, add_fault, DifferencesPromise, AddPromise}
 
 -- both rows are rows of symbols, there is such a row in a message, and the written buffer has a row for each node
@@ -51,7 +52,7 @@ module _ (h : Header) (sound : Sound h) (l : ℕ) where
 -- beside a number g: the number, and nothing is written
 module _ (h : Header) (g : ℕ) (some : g ≡ 0 → ⊥) (l : ℕ) where
   pub differences_refuses : (r : ℕ) (old new out : List ℕ) → DifferencesPromise l r old new out out (Err g) h g
-  differences_refuses r old new out = record { answered = sym (outcome_refused g some); written = sym (refused_value g _ out some) }
+  differences_refuses r old new out = record { answered = sym (answer_refused g _ some); written = sym (refused_value g _ out some) }
 
   pub add_refuses : (difference share : List ℕ) → AddPromise l difference share share (Err g) h g
-  add_refuses difference share = record { answered = sym (outcome_refused g some); written = sym (refused_value g _ share some) }
+  add_refuses difference share = record { answered = sym (answer_refused g _ some); written = sym (refused_value g _ share some) }

@@ -8,11 +8,12 @@ use Rattle.lists.proofs.Cases.{when_zero}
 use Rattle.layout.specs.Layout.{Arrangement}
 use Rattle.generator.specs.declared.Header.{Header}
 use Rattle.generator.specs.Records.{width, Sound}
+use Rattle.generator.proofs.Answered.{answer_refused}
 use Rattle.refusals.specs.Conditions.{lanes_bad, length_bad, symbols_bad}
 use Rattle.refusals.specs.Accepted.{SymbolBuffer}
 use Rattle.refusals.proofs.NotMet.{length_good}
 use Rattle.refusals.proofs.Accepts.{not_met, rows_good}
-use Rattle.blocks.proofs.Refused.{outcome_refused, refused_value}
+use Rattle.blocks.proofs.Refused.{refused_value}
 use Rattle.encode.specs.Promise.{encode_fault, EncodePromise}
 
 module _ (h : Header) (sound : Sound h) (l : ℕ) where
@@ -28,4 +29,4 @@ module _ (h : Header) (sound : Sound h) (l : ℕ) where
 -- beside a number g: the number, and nothing is written
 module _ {y : Arrangement} (h : Header) (g : ℕ) (some : g ≡ 0 → ⊥) (l : ℕ) where
   pub encode_refuses : (message out : List ℕ) → EncodePromise y l message out out (Err g) h g
-  encode_refuses message out = record { answer = sym (outcome_refused g some); written = sym (refused_value g _ out some) }
+  encode_refuses message out = record { answer = sym (answer_refused g _ some); written = sym (refused_value g _ out some) }

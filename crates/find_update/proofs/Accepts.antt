@@ -1,21 +1,20 @@
 -- What holds where no number is met: each lane has n symbols; and what the call says beside a number.
 use Rattle.std.specs.Prelude.{Ok, Err}
 use Rattle.generator.specs.Answers.{Answer}
-use mathlib.Core.Path.{◌≡◌, refl, sym}
+use mathlib.Core.Path.{◌≡◌, sym}
 use mathlib.Core.List.{List}
-use Prim.Native.Nat.{ℕ, zero, suc, ◌*◌}
-use native.Mathlib.Omega.{arith}
+use Prim.Native.Nat.{ℕ, ◌*◌}
 use lib.ListN.{length}
-use Rattle.lists.proofs.Cases.{when_zero, never}
+use Rattle.lists.proofs.Cases.{when_zero}
 use Rattle.layout.specs.Width.{symbols_of}
 use Rattle.generator.specs.declared.Header.{Header}
 use Rattle.generator.specs.Records.{record_of, width}
 use Rattle.generator.proofs.Accepts.{accepted_sound}
+use Rattle.generator.proofs.Answered.{answer_refused}
 use Rattle.refusals.specs.Conditions.{length_bad, symbols_bad}
 use Rattle.refusals.proofs.Accepts.{not_met, lane_accepts}
-use Rattle.find_update.specs.declared.Finding.{Finding}
 use Rattle.refusals.specs.Accepted.{IsLane}
-use Rattle.find_update.specs.Promise.{find_fault, answer_of, Found, FindPromise}
+use Rattle.find_update.specs.Promise.{find_fault, Found, FindPromise}
 use Rattle.find_update.proofs.Meaning.{finds}
 
 -- both lanes have n symbols, and as many bytes as these take
@@ -36,25 +35,8 @@ find_accepts h before after e =
     record { first = first; second = second; first_long = first_long; second_long = second_long }
 
 -- beside a number
-pub answer_refused : (g : ℕ) (found : Finding) → (g ≡ 0 → ⊥) → answer_of g found ≡ Err g
-unfolding answer_of
-answer_refused zero found some = absurd (some refl)
-answer_refused (suc g) found some = refl
-
 pub find_refuses : (h : Header) (g : ℕ) → (g ≡ 0 → ⊥) → (before after : List ℕ) → FindPromise before after (Err g) h g
 find_refuses h g some before after = record { answer = sym (answer_refused g _ some) }
-
--- a finding met no number, and is what was found
-pub found_means : (f : ℕ) (found r : Finding) → Ok r ≡ answer_of f found → (f ≡ 0) × (found ≡ r)
-unfolding answer_of
-found_means zero found r e = (refl, cc)
-found_means (suc f) found r e = never cc
-
--- a refusal met its number
-pub refused_means : (f : ℕ) (found : Finding) (g : ℕ) → Err g ≡ answer_of f found → (g ≡ f) × (g ≡ 0 → ⊥)
-unfolding answer_of
-refused_means zero found g e = never cc
-refused_means (suc f) found g e = let same : g ≡ suc f = cc in (same, λ z. omega arith)
 
 -- what holds of every two lanes of a record
 pub found_lanes : (rec : List ℕ) (r : Answer Header) → record_of rec ≡ r → Found r

@@ -1,7 +1,7 @@
 -- What the call promises: the finding for two lanes, or the number that turns it away.
 use Rattle.std.specs.Prelude.{Ok, Err}
-use Rattle.generator.specs.Answers.{Answer}
-use Rattle.std.specs.Prelude.{◌≡◌, List, ℕ, zero, suc, ◌*◌, length}
+use Rattle.generator.specs.Answers.{Answer, answer_of}
+use Rattle.std.specs.Prelude.{◌≡◌, List, ℕ, ◌*◌, length}
 use Rattle.lists.specs.Choice.{first_of, when}
 use Rattle.layout.specs.Width.{symbols_of}
 use Rattle.generator.specs.declared.Header.{Header}
@@ -19,11 +19,6 @@ find_fault h before after =
     (first_of (when (length_bad (h.n * width h) (length after)) 8)
     (first_of (when (symbols_bad h before) 11)
     (when (symbols_bad h after) 11)))
-
--- the answer for each number, and for what was found where there is none
-unfoldable pub answer_of : ℕ → Finding → Answer Finding
-answer_of zero found = Ok found
-answer_of (suc f) found = Err (suc f)
 
 -- what holds of every two lanes of a record that was read
 unfoldable pub Found : Answer Header → Type 0

@@ -32,7 +32,21 @@ abbrev pub numbered : {A : Type 0} → Result A Refusal → Answer A
 numbered (Ok v) = Ok v
 numbered (Err e) = Err (number e)
 
--- the answer of a call that only writes, by the number that turned it away, 0 for none
-unfoldable pub outcome_of : ℕ → Answer (Unit {0})
-outcome_of zero = Ok tt
-outcome_of (suc f) = Err (suc f)
+-- the same with what g gives of the value
+abbrev pub numbered_by : {A B : Type 0} → (A → B) → Result A Refusal → Answer B
+numbered_by g (Ok v) = Ok (g v)
+numbered_by g (Err e) = Err (number e)
+
+-- the answer of a call: its value, or the number that turned it away where that is not 0
+unfoldable pub answer_of : {A : Type 0} → ℕ → A → Answer A
+answer_of zero v = Ok v
+answer_of (suc f) v = Err (suc f)
+
+-- the answer of a call that only writes
+abbrev pub outcome_of : ℕ → Answer (Unit {0})
+outcome_of f = answer_of f tt
+
+-- the number of an answer, 0 where the call was accepted
+abbrev pub fault_in : {A : Type 0} → Answer A → ℕ
+fault_in (Ok v) = 0
+fault_in (Err f) = f

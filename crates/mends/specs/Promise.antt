@@ -1,7 +1,7 @@
 -- What the call promises: the list of a lane in two lent buffers, or the number that turns it away.
 use Rattle.std.specs.Prelude.{Ok, Err}
-use Rattle.generator.specs.Answers.{Answer}
-use Rattle.std.specs.Prelude.{◌≡◌, List, ◌++◌, ℕ, zero, suc, ◌*◌, eqb, length, drop}
+use Rattle.generator.specs.Answers.{Answer, answer_of}
+use Rattle.std.specs.Prelude.{◌≡◌, List, ◌++◌, ℕ, ◌*◌, eqb, length, drop}
 use Rattle.lists.specs.Choice.{pick, first_of, when}
 use Rattle.layout.specs.Width.{symbols_of, bytes_of}
 use Rattle.generator.specs.declared.Header.{Header}
@@ -19,11 +19,6 @@ mends_fault h lane nodes symbols =
     (first_of (when (length_bad (h.n * width h) symbols) 8)
     (when (symbols_bad h lane) 11)))
 
--- the answer for each number, and for the count where there is none
-unfoldable pub mending_of : ℕ → ℕ → Answer ℕ
-mending_of zero count = Ok count
-mending_of (suc f) count = Err (suc f)
-
 -- a buffer with a list at its front: the places after it hold what they held
 unfoldable pub in_front : List ℕ → List ℕ → List ℕ
 in_front xs s = xs ++ drop (length xs) s
@@ -35,7 +30,7 @@ Mended (Err f) = Unit {0}
 
 -- over a header and the number that turns the call away, 0 where none does: the answer, and both buffers afterwards
 pub record MendsPromise (lane nodes symbols nodes' symbols' : List ℕ) (r : Answer ℕ) (h : Header) (f : ℕ) : Type 0 where
-  pub answer : r ≡ mending_of f (length (mend_nodes h (symbols_of (width h) lane)))
+  pub answer : r ≡ answer_of f (length (mend_nodes h (symbols_of (width h) lane)))
   pub nodes_written : nodes' ≡ pick (eqb f 0) (in_front (mend_nodes h (symbols_of (width h) lane)) nodes) nodes
   pub symbols_written : symbols' ≡ pick (eqb f 0) (in_front (bytes_of (width h) (mend_symbols h (symbols_of (width h) lane))) symbols) symbols
 

@@ -7,11 +7,12 @@ use lib.ListN.{length}
 use Rattle.layout.specs.Layout.{Arrangement}
 use Rattle.generator.specs.declared.Header.{Header}
 use Rattle.generator.specs.Records.{width, Sound}
+use Rattle.generator.proofs.Answered.{answer_refused}
 use Rattle.refusals.specs.Conditions.{lanes_bad, length_bad, number_bad}
 use Rattle.refusals.specs.Accepted.{ListedShares}
 use Rattle.refusals.proofs.NotMet.{length_good, number_good}
 use Rattle.refusals.proofs.Accepts.{not_met, list_accepts}
-use Rattle.blocks.proofs.Refused.{outcome_refused, refused_value}
+use Rattle.blocks.proofs.Refused.{refused_value}
 use Rattle.recover.specs.Promise.{recover_fault, rebuild_fault, RecoverPromise, RebuildPromise}
 
 module _ (h : Header) (sound : Sound h) (l : ℕ) (nodes shares : List ℕ) where
@@ -39,7 +40,7 @@ module _ (h : Header) (sound : Sound h) (l : ℕ) (nodes shares : List ℕ) wher
 -- beside a number g: the number, and nothing is written
 module _ {y : Arrangement} (h : Header) (g : ℕ) (some : g ≡ 0 → ⊥) (l : ℕ) where
   pub recover_refuses : (nodes shares out : List ℕ) → RecoverPromise y l nodes shares out out (Err g) h g
-  recover_refuses nodes shares out = record { answer = sym (outcome_refused g some); written = sym (refused_value g _ out some) }
+  recover_refuses nodes shares out = record { answer = sym (answer_refused g _ some); written = sym (refused_value g _ out some) }
 
   pub rebuild_refuses : (nodes shares : List ℕ) (target : ℕ) (out : List ℕ) → RebuildPromise y l nodes shares target out out (Err g) h g
-  rebuild_refuses nodes shares target out = record { answer = sym (outcome_refused g some); written = sym (refused_value g _ out some) }
+  rebuild_refuses nodes shares target out = record { answer = sym (answer_refused g _ some); written = sym (refused_value g _ out some) }

@@ -1,30 +1,29 @@
 -- What holds where neither call meets a number, and what each says beside one.
 use Rattle.std.specs.Prelude.{Ok, Err}
-use mathlib.Core.Path.{◌≡◌, refl, sym, ap, ◌∙◌}
+use mathlib.Core.Path.{◌≡◌, sym, ◌∙◌}
 use mathlib.Core.Bool.{true, false, not}
 use mathlib.Core.List.{List}
-use Prim.Native.Nat.{ℕ, zero, suc, ◌-◌, ◌*◌, ◌≤◌, ◌<◌}
-use native.Mathlib.Omega.{arith}
+use Prim.Native.Nat.{ℕ, ◌-◌, ◌*◌, ◌≤◌, ◌<◌}
 use borrow.Author.Tests.{eqb-false}
 use lib.Dec.{eqb}
 use lib.ListN.{length}
 use Rattle.lists.specs.Numbers.{is_in, distinct}
-use Rattle.lists.proofs.Cases.{when_zero, never}
+use Rattle.lists.proofs.Cases.{when_zero}
 use Rattle.generator.specs.declared.Header.{Header}
 use Rattle.generator.specs.Records.{width}
 use Rattle.refusals.specs.Conditions.{lanes_bad, length_bad, number_bad, nodes_bad, twice_bad}
 use Rattle.refusals.proofs.NotMet.{lanes_good, length_good, number_good, nodes_good, twice_good}
 use Rattle.refusals.proofs.Accepts.{not_met}
 use Rattle.refusals.proofs.OneByte.{times_width}
-use Rattle.generator.specs.Answers.{outcome_of}
-use Rattle.blocks.proofs.Refused.{outcome_refused, refused_value}
+use Rattle.generator.specs.Answers.{answer_of}
+use Rattle.generator.proofs.Answered.{answer_refused}
+use Rattle.blocks.proofs.Refused.{refused_value}
 use Rattle.traces.specs.Repairs.{bits, sends}
 use Rattle.traces.specs.Claims.{Repairing}
 use Rattle.traces.proofs.Claims.{repairable}
-use Rattle.repair.specs.declared.RepairPlan.{RepairPlan}
 use Rattle.repair.specs.Packing.{packed_size}
 use Rattle.repair.specs.Sent.{sent, repaired_share}
-use Rattle.repair.specs.Promise.{traces_bad, target_fault, repair_bits_fault, repair_share_fault, repair_plan_of, RepairBitsPromise, RepairSharePromise, RepairPlanPromise}
+use Rattle.repair.specs.Promise.{traces_bad, target_fault, repair_bits_fault, repair_share_fault, RepairBitsPromise, RepairSharePromise, RepairPlanPromise}
 use Rattle.repair.proofs.Sending.{one_byte}
 
 -- a node may send
@@ -94,38 +93,20 @@ module _ (h : Header) where
   -- beside a number
   module _ (g : ℕ) (some : g ≡ 0 → ⊥) where
     pub bits_refuses : (j t : ℕ) (missing share out : List ℕ) → RepairBitsPromise j t missing share out out (Err g) h g
-    bits_refuses j t missing share out = record { answer = sym (outcome_refused g some); written = sym (refused_value g _ out some) }
+    bits_refuses j t missing share out = record { answer = sym (answer_refused g _ some); written = sym (refused_value g _ out some) }
 
     pub share_refuses : (l t : ℕ) (missing rows out : List ℕ) → RepairSharePromise l t missing rows out out (Err g) h g
-    share_refuses l t missing rows out = record { answer = sym (outcome_refused g some); written = sym (refused_value g _ out some) }
+    share_refuses l t missing rows out = record { answer = sym (answer_refused g _ some); written = sym (refused_value g _ out some) }
 
   -- where none is met
   pub bits_done : (f : ℕ) → f ≡ 0 → (j t : ℕ) (missing share out out' : List ℕ) → out' ≡ sent h t missing j share → RepairBitsPromise j t missing share out out' (Ok tt) h f
-  unfolding outcome_of
+  unfolding answer_of
   bits_done f none j t missing share out out' e = record { answer = rw none; written = rw none e }
 
   pub share_done : (f : ℕ) → f ≡ 0 → (l t : ℕ) (missing rows out out' : List ℕ) → out' ≡ repaired_share h l t missing rows → RepairSharePromise l t missing rows out out' (Ok tt) h f
-  unfolding outcome_of
+  unfolding answer_of
   share_done f none l t missing rows out out' e = record { answer = rw none; written = rw none e }
-
--- the plan's answer, by its number
-pub planned_means : (f b more x y : ℕ) → Ok (record { bits = x; spare = y }) ≡ repair_plan_of f b more → (f ≡ 0) × (x ≡ b) × (y ≡ more)
-unfolding repair_plan_of
-planned_means zero b more x y e =
-    let same : ◌≡◌ {A = RepairPlan} (record { bits = x; spare = y }) (record { bits = b; spare = more }) = cc in
-    (refl, ap (λ (plan : RepairPlan). plan.bits) same, ap (λ (plan : RepairPlan). plan.spare) same)
-planned_means (suc f) b more x y e = never cc
-
-pub refused_plan : (f b more g : ℕ) → Err g ≡ repair_plan_of f b more → (g ≡ f) × (g ≡ 0 → ⊥)
-unfolding repair_plan_of
-refused_plan zero b more g e = never cc
-refused_plan (suc f) b more g e = let same : g ≡ suc f = cc in (same, λ z. omega arith)
-
-pub plan_refused : (f b more : ℕ) → (f ≡ 0 → ⊥) → repair_plan_of f b more ≡ Err f
-unfolding repair_plan_of
-plan_refused zero b more some = absurd (some refl)
-plan_refused (suc f) b more some = refl
 
 -- beside a number the plan gives that number
 pub plan_refuses : (h : Header) (f : ℕ) → (f ≡ 0 → ⊥) → (count : ℕ) → RepairPlanPromise count (Err f) h f
-plan_refuses h f some count = record { answer = sym (plan_refused f _ _ some) }
+plan_refuses h f some count = record { answer = sym (answer_refused f _ some) }

@@ -1,6 +1,6 @@
 -- What the calls of a repair by traces promise: the numbers that turn them away, the answer and every lent byte afterwards, and the same over a record.
-use Rattle.generator.specs.Answers.{Answer, outcome_of}
-use Rattle.std.specs.Prelude.{◌≡◌, Ok, Err, Bool, not, List, ℕ, zero, suc, ◌-◌, ◌*◌, eqb, length}
+use Rattle.generator.specs.Answers.{Answer, outcome_of, answer_of}
+use Rattle.std.specs.Prelude.{◌≡◌, Bool, not, List, ℕ, ◌-◌, ◌*◌, eqb, length}
 use Rattle.lists.specs.Choice.{pick, first_of, when}
 use Rattle.lists.specs.Numbers.{is_in}
 use Rattle.generator.specs.declared.Header.{Header}
@@ -47,11 +47,6 @@ repair_share_fault h l target missing rows out =
 unfoldable pub repair_plan_fault : Header → ℕ → ℕ
 repair_plan_fault h count = when (traces_bad h count) 17
 
--- its answer: the bits of a symbol that each node sends, and how many further nodes may be missing
-unfoldable pub repair_plan_of : ℕ → ℕ → ℕ → Answer RepairPlan
-repair_plan_of zero b more = Ok (record { bits = b; spare = more })
-repair_plan_of (suc f) b more = Err (suc f)
-
 -- what a node sends of its share: a digit of b bits for each lane, as b planes
 pub record RepairBitsPromise (j target : ℕ) (missing share out out' : List ℕ) (r : Answer (Unit {0})) (h : Header) (f : ℕ) : Type 0 where
   pub answer : r ≡ outcome_of f
@@ -62,9 +57,9 @@ pub record RepairSharePromise (l target : ℕ) (missing rows out out' : List ℕ
   pub answer : r ≡ outcome_of f
   pub written : out' ≡ pick (eqb f 0) (repaired_share h l target missing rows) out
 
--- the plan of a repair
+-- the plan of a repair: the bits of a symbol that each node sends, and how many further nodes may be missing
 pub record RepairPlanPromise (count : ℕ) (r : Answer RepairPlan) (h : Header) (f : ℕ) : Type 0 where
-  pub answer : r ≡ repair_plan_of f (bits h count) (spare h count)
+  pub answer : r ≡ answer_of f (record { bits = bits h count; spare = spare h count })
 
 abbrev pub RepairBitsSays : List ℕ → ℕ → ℕ → ℕ → List ℕ → List ℕ → List ℕ → List ℕ → Answer (Unit {0}) → Type 0
 RepairBitsSays rec l j target missing share out out' r = OnRecord rec (λ h. repair_bits_fault h l j target missing (length share) (length out)) (RepairBitsPromise j target missing share out out' r)

@@ -1,6 +1,6 @@
 // What turns a call away, the lowest of numbers 7 to 17 first; else the bits that each node sends of a symbol.
-ghost use Rattle.std.specs.Prelude.{◌≡◌, ◌-◌, ◌*◌, ◌≤◌, MatchResult, length};
-ghost use Rattle.generator.specs.Answers.{number};
+ghost use Rattle.std.specs.Prelude.{◌≡◌, ◌-◌, ◌*◌, ◌≤◌, length};
+ghost use Rattle.generator.specs.Answers.{numbered_by, answer_of};
 ghost use Rattle.traces.specs.Repairs.{bits};
 ghost use Rattle.repair.specs.Packing.{packed_size};
 ghost use Rattle.repair_tables.specs.Bits.{bit_count};
@@ -12,8 +12,9 @@ use refusals::{buffer_bad, lanes_bad, length_bad, nodes_bad, number_bad, twice_b
 use repair_tables::Bits;
 
 // A target and the nodes that are missing beside it.
+#[tactic(auto, using(generator::proofs::Answered::giving_tests), unfolding(crate::specs::Promise::target_fault))]
 fn judge_target(repair: Repair) -> Result<Bits, Refusal>
-    ensures { let h = repair.entry.code.header in let missing = repair.entry.missing.now in let f = target_fault h repair.entry.target missing in MatchResult result (λ b. (f ≡ 0) × (bit_count b ≡ bits h (length missing))) (λ e. number e ≡ f) }
+    ensures { let h = repair.entry.code.header in let missing = repair.entry.missing.now in numbered_by bit_count result ≡ answer_of (target_fault h repair.entry.target missing) (bits h (length missing)) }
 {
     let h = repair.code.header;
     Refusal::Range.when(number_bad(h.n as usize, repair.target as usize))?;
@@ -35,8 +36,9 @@ fn sent_size(repair: Repair) -> usize
 }
 
 // A node that sends; `share` and `size` are lengths.
+#[tactic(auto, using(generator::proofs::Answered::giving_tests), unfolding(crate::specs::Promise::repair_bits_fault))]
 pub fn judge_bits(repair: Repair, node: u32, share: usize, size: usize) -> Result<Bits, Refusal>
-    ensures { let h = repair.entry.code.header in let missing = repair.entry.missing.now in let f = repair_bits_fault h repair.entry.lanes node repair.entry.target missing share size in MatchResult result (λ b. (f ≡ 0) × (bit_count b ≡ bits h (length missing))) (λ e. number e ≡ f) }
+    ensures { let h = repair.entry.code.header in let missing = repair.entry.missing.now in numbered_by bit_count result ≡ answer_of (repair_bits_fault h repair.entry.lanes node repair.entry.target missing share size) (bits h (length missing)) }
 {
     let h = repair.code.header;
     Refusal::Lanes.when(lanes_bad(repair.lanes))?;
@@ -55,8 +57,9 @@ pub fn row_count(n: usize, missing: usize) -> usize
 }
 
 // The target; `rows` and `size` are lengths.
+#[tactic(auto, using(generator::proofs::Answered::giving_tests), unfolding(crate::specs::Promise::repair_share_fault))]
 pub fn judge_share(repair: Repair, rows: usize, size: usize) -> Result<Bits, Refusal>
-    ensures { let h = repair.entry.code.header in let missing = repair.entry.missing.now in let f = repair_share_fault h repair.entry.lanes repair.entry.target missing rows size in MatchResult result (λ b. (f ≡ 0) × (bit_count b ≡ bits h (length missing))) (λ e. number e ≡ f) }
+    ensures { let h = repair.entry.code.header in let missing = repair.entry.missing.now in numbered_by bit_count result ≡ answer_of (repair_share_fault h repair.entry.lanes repair.entry.target missing rows size) (bits h (length missing)) }
 {
     let h = repair.code.header;
     let count = row_count(h.n as usize, repair.missing.len());

@@ -1,6 +1,6 @@
 -- The query: the list it writes, and when too few are present.
 use Rattle.std.specs.Prelude.{Ok, Err}
-use Rattle.generator.specs.Answers.{Answer}
+use Rattle.generator.specs.Answers.{Answer, answer_of, fault_in}
 use mathlib.Core.Path.{◌≡◌, refl, sym, ◌∙◌}
 use mathlib.Core.Bool.{Bool, true, false, not, true≢false}
 use mathlib.Core.List.{List}
@@ -12,7 +12,7 @@ use lib.Dec.{eqb, leb}
 use lib.ListN.{length, get_or, take}
 use lib.Seq.{get_or-take, length-take-le}
 use borrow.Author.Tests.{eq-eqb, lt-leb, leb-true, leb-false}
-use Rattle.lists.specs.Choice.{first_of, when}
+use Rattle.lists.specs.Choice.{pick, first_of, when}
 use Rattle.lists.specs.Rows.{from}
 use Rattle.lists.specs.Around.{around}
 use Rattle.lists.specs.Numbers.{is_in}
@@ -25,10 +25,11 @@ use Rattle.lists.proofs.Around.{around_first, around_all, around_distinct}
 use Rattle.generator.specs.declared.Header.{Header}
 use Rattle.generator.specs.Records.{header_of, record_fault, judged, record_of}
 use Rattle.generator.specs.Claims.{are_nodes}
+use Rattle.generator.proofs.Answered.{refused_is, answer_number}
 use Rattle.roster.specs.declared.Roster.{Roster}
 use Rattle.roster.specs.declared.Listing.{Listing}
 use Rattle.roster.specs.declared.Listing.TheVariants.{Written, TooFew}
-use Rattle.roster.specs.Rosters.{fault_in, is_present, present_of, listing_of, wrote, listing, listed, lowest_nodes, lowest_of, lowest_list}
+use Rattle.roster.specs.Rosters.{is_present, present_of, wrote, listing, listed, lowest_nodes, lowest_of, lowest_list}
 use Rattle.roster.specs.Claims.{IsIn, present_count, Lowest}
 use Rattle.roster.proofs.Nodes.{present_rises, present_distinct, present_low, present_marked, present_place}
 
@@ -50,7 +51,7 @@ module _ (h : Header) (marks : List Bool) (some : 0 < h.k) (enough : h.k ≤ len
 
 -- where the list is written, at least k nodes are present
 pub written_enough : (k s l : ℕ) → listing k s l ≡ Ok Written → k ≤ s
-unfolding listing listing_of
+unfolding listing answer_of
 written_enough k s l e =
     by_test (eqb l k)
     (λ a. by_test (leb k s) (leb-true k s) (λ b. let w : ◌≡◌ {A = Answer Listing} (Ok TooFew) (Ok Written) = rw (a, b) at e in never cc))
@@ -58,31 +59,18 @@ written_enough k s l e =
 
 -- too few, for a list of k bytes
 few_means : (k s l : ℕ) → l ≡ k → listing k s l ≡ Ok TooFew → s < k
-unfolding listing listing_of
+unfolding listing answer_of
 few_means k s l long e = by_test (leb k s) (λ b. let w : ◌≡◌ {A = Answer Listing} (Ok Written) (Ok TooFew) = rw (eq-eqb l k long, b) at e in never cc) (leb-false k s)
 
 few_given : (k s l : ℕ) → l ≡ k → s < k → listing k s l ≡ Ok TooFew
-unfolding listing listing_of
+unfolding listing answer_of
 few_given k s l long few = rw (eq-eqb l k long, lt-leb k s few)
 
--- the number of an answer; where it is 0 the list was written or too few are present
-answer_number : (f : ℕ) (enough : Bool) → fault_in (listing_of f enough) ≡ f
-unfolding listing_of
-answer_number zero true = refl
-answer_number zero false = refl
-answer_number (suc f) enough = refl
-
-answer_wrote : (f : ℕ) (enough : Bool) → fault_in (listing_of f enough) ≡ 0 → wrote (listing_of f enough) ≡ enough
-unfolding wrote listing_of
-answer_wrote zero true z = refl
-answer_wrote zero false z = refl
-answer_wrote (suc f) enough z = absurd (omega arith)
-
-answer_refused : (f : ℕ) (enough : Bool) (g : ℕ) → listing_of f enough ≡ Err g → g ≡ 0 → ⊥
-unfolding listing_of
-answer_refused zero true g e z = never cc
-answer_refused zero false g e z = never cc
-answer_refused (suc f) enough g e z = let same : suc f ≡ g = cc in omega arith
+-- where no number is met the list was written or too few are present
+answer_wrote : (f : ℕ) (enough : Bool) → f ≡ 0 → wrote (answer_of f (pick enough Written TooFew)) ≡ enough
+unfolding wrote answer_of
+answer_wrote f true none = rw none refl
+answer_wrote f false none = rw none refl
 
 module _ (r : Roster) (list : List ℕ) where
   -- a refused query gives a number that is not 0
@@ -91,8 +79,8 @@ module _ (r : Roster) (list : List ℕ) where
   lowest_refused rec = go (record_fault rec)
     where
       go : (f g : ℕ) → lowest_of (judged f (header_of rec)) r list ≡ Err g → g ≡ 0 → ⊥
-      go zero g e z = answer_refused (when (not (eqb (length list) (header_of rec).k)) 8) (leb (header_of rec).k (present_count (header_of rec) r)) g e z
-      go (suc f) g e z = let same : suc f ≡ g = cc in omega arith
+      go zero g e = (refused_is (when (not (eqb (length list) (header_of rec).k)) 8) _ g (sym e)).1
+      go (suc f) g e = λ z. let same : suc f ≡ g = cc in omega arith
 
   -- the query meets the record's number, then 8 for another length than k
   pub lowest_number : (rec : List ℕ) → fault_in (lowest_of (record_of rec) r list) ≡ first_of (record_fault rec) (when (not (eqb (length list) (header_of rec).k)) 8)
@@ -100,7 +88,7 @@ module _ (r : Roster) (list : List ℕ) where
   lowest_number rec = go (record_fault rec)
     where
       go : (f : ℕ) → fault_in (lowest_of (judged f (header_of rec)) r list) ≡ first_of f (when (not (eqb (length list) (header_of rec).k)) 8)
-      go zero = answer_number (when (not (eqb (length list) (header_of rec).k)) 8) (leb (header_of rec).k (present_count (header_of rec) r))
+      go zero = answer_number (when (not (eqb (length list) (header_of rec).k)) 8) _
       go (suc f) = refl
 
   -- where it meets none, the list is written exactly if k are present
@@ -109,7 +97,7 @@ module _ (r : Roster) (list : List ℕ) where
   lowest_wrote rec = go (record_fault rec)
     where
       go : (f : ℕ) → fault_in (lowest_of (judged f (header_of rec)) r list) ≡ 0 → wrote (lowest_of (judged f (header_of rec)) r list) ≡ leb (header_of rec).k (present_count (header_of rec) r)
-      go zero z = answer_wrote (when (not (eqb (length list) (header_of rec).k)) 8) (leb (header_of rec).k (present_count (header_of rec) r)) z
+      go zero z = answer_wrote (when (not (eqb (length list) (header_of rec).k)) 8) (leb (header_of rec).k (present_count (header_of rec) r)) (sym (answer_number _ _) ∙ z)
       go (suc f) z = absurd (omega arith)
 
   -- beside a number the list is as it was

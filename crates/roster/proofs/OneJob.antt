@@ -1,6 +1,6 @@
 -- One job on any roster: what it writes, and the roster afterwards.
 use Rattle.std.specs.Prelude.{Ok, Err}
-use Rattle.generator.specs.Answers.{Answer}
+use Rattle.generator.specs.Answers.{Answer, fault_in}
 use mathlib.Core.Path.{◌≡◌, refl, ap}
 use mathlib.Core.List.{List}
 use Prim.Native.Nat.{ℕ, ◌+◌, ◌*◌, ◌%◌, ◌<◌}
@@ -12,7 +12,7 @@ use Rattle.generator.specs.declared.Header.{Header}
 use Rattle.roster.specs.declared.Roster.{Roster}
 use Rattle.roster.specs.declared.Listing.{Listing}
 use Rattle.roster.specs.declared.Listing.TheVariants.{Written, TooFew}
-use Rattle.roster.specs.Rosters.{fault_in, present_of, listed, nodes_at, job_nodes, moved_on, after, lowest_of, job_of, job_list}
+use Rattle.roster.specs.Rosters.{present_of, listed, nodes_at, job_nodes, moved_on, after, lowest_of, job_of, job_list}
 use Rattle.roster.specs.Claims.{present_count, Jobs}
 use Rattle.roster.proofs.Lowest.{around_nodes, around_here, enough_are, same_present}
 

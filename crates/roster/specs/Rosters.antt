@@ -1,10 +1,10 @@
 -- Rosters: the present nodes, events, the query and the jobs.
 use Rattle.std.specs.Prelude.{Ok, Err}
-use Rattle.generator.specs.Answers.{Answer}
+use Rattle.generator.specs.Answers.{Answer, answer_of}
 use Rattle.generator.specs.declared.Header.{Header}
 use Rattle.std.specs.Prelude.{Bool, true, false, not, List, ℕ, zero, suc, ◌+◌, ◌*◌, ◌%◌, eqb, ltb, leb, length, get_or, set, take}
 use Rattle.std.specs.Bool.{beq}
-use Rattle.lists.specs.Choice.{first_of, when}
+use Rattle.lists.specs.Choice.{pick, first_of, when}
 use Rattle.lists.specs.Rows.{from}
 use Rattle.lists.specs.Around.{around}
 use Rattle.lists.specs.Counting.{passing_from}
@@ -22,11 +22,6 @@ pub record Step : Type 0 where
 pub record Job : Type 0 where
   pub roster : Roster
   pub listing : Answer Listing
-
--- the number that turned a call away, 0 for none
-abbrev pub fault_in : {A : Type 0} → Answer A → ℕ
-fault_in (Ok v) = 0
-fault_in (Err f) = f
 
 -- the marks at first: the nodes below n are present
 unfoldable pub first_marks : ℕ → List Bool
@@ -70,12 +65,6 @@ step_by (Ok h) node here r = step_with h.n node here r
 abbrev pub step_of : Answer Header → Event → Roster → Step
 step_of rec e r = step_by rec (named e) (says e) r
 
--- the answer by its number, 0 where the call was accepted, and whether enough nodes are present
-unfoldable pub listing_of : ℕ → Bool → Answer Listing
-listing_of zero true = Ok Written
-listing_of zero false = Ok TooFew
-listing_of (suc f) enough = Err (suc f)
-
 unfoldable pub wrote : Answer Listing → Bool
 wrote (Ok Written) = true
 wrote (Ok TooFew) = false
@@ -83,7 +72,7 @@ wrote (Err f) = false
 
 -- what becomes of a list of l bytes where s nodes are present: number 8 for another length than k, too few for s below k
 unfoldable pub listing : ℕ → ℕ → ℕ → Answer Listing
-listing k s l = listing_of (when (not (eqb l k)) 8) (leb k s)
+listing k s l = answer_of (when (not (eqb l k)) 8) (pick (leb k s) Written TooFew)
 
 -- the list afterwards: the nodes where they are written, else the list as it was
 unfoldable pub listed : Answer Listing → List ℕ → List ℕ → List ℕ

@@ -1,6 +1,6 @@
 -- What holds of calls one after the other on the bytes of a roster of an accepted record.
 use Rattle.std.specs.Prelude.{Ok}
-use Rattle.generator.specs.Answers.{Answer}
+use Rattle.generator.specs.Answers.{Answer, answer_of}
 use mathlib.Core.Path.{◌≡◌, refl, sym, ap, ap₂, subst, ◌∙◌}
 use mathlib.Core.Bool.{Bool, true, false, ◌&&◌, not}
 use mathlib.Core.List.{List, [], ◌∷◌}
@@ -21,7 +21,7 @@ use Rattle.generator.specs.declared.Header.{Header}
 use Rattle.generator.specs.Records.{header_of, record_fault, record_of, judged, Sound}
 use Rattle.generator.proofs.Accepts.{faultless_sound}
 use Rattle.roster.specs.declared.Roster.{Roster}
-use Rattle.roster.specs.Rosters.{is_present, present_of, start_of, listing_of, listing, listed, lowest_nodes, lowest_of, lowest_list}
+use Rattle.roster.specs.Rosters.{is_present, present_of, start_of, listing, listed, lowest_nodes, lowest_of, lowest_list}
 use Rattle.roster.specs.Histories.{last_says, present_by}
 use Rattle.roster.specs.Runs.{Call, events_in, after_calls}
 use Rattle.roster.specs.Claims.{IsIn, present_count, RosterSays}
@@ -158,7 +158,7 @@ module _ (rec : List ℕ) (none : record_fault rec ≡ 0) where
       present_by_lem = passing_ext h.n 0 _ _ (λ j low high. node_is j (omega arith))
 
       query : (list list' : List ℕ) (enough enough' : ℕ) → LowestGives rec t list enough list' enough' 0 → (enough' ≡ when (leb h.k (length (present_by h.n (events_in cs)))) 1) × (list' ≡ pick (leb h.k (length (present_by h.n (events_in cs)))) (take h.k (present_by h.n (events_in cs))) list)
-      unfolding is_enough listing_fault lowest_list lowest_of listing listing_of lowest_nodes listed
+      unfolding is_enough listing_fault lowest_list lowest_of listing answer_of lowest_nodes listed
       query list list' enough enough' q =
           let fits : (eqb (length t) 256 && eqb (length list) h.k) ≡ true = not-false _ (when_zero (not (eqb (length t) 256 && eqb (length list) h.k)) 7 (sym (rw none at q.number))) in
           let whole : eqb (length list) h.k ≡ true = and_right (eqb (length t) 256) _ fits in

@@ -12,13 +12,13 @@ use Rattle.lists.specs.Choice.{pick, first_of, when}
 use Rattle.lists.specs.Rows.{from}
 use Rattle.lists.proofs.Cases.{by_test}
 use Rattle.generator.specs.declared.refusal.Refusal.{Refusal}
-use Rattle.generator.specs.Answers.{Answer, number}
+use Rattle.generator.specs.Answers.{Answer, number, fault_in}
 use Rattle.generator.specs.Records.{header_of, record_fault, judged, record_of}
 use Rattle.generator.proofs.Answered.{refused_is, last}
 use Rattle.roster.specs.declared.Listing.{Listing}
 use Rattle.roster.specs.declared.Listing.TheVariants.{Written, TooFew}
 use Rattle.roster.specs.Events.{Event}
-use Rattle.roster.specs.Rosters.{Step, fault_in, first_marks, first_roster, start_of, step_of, wrote, lowest_of, lowest_list, job_of, job_list}
+use Rattle.roster.specs.Rosters.{Step, first_marks, first_roster, start_of, step_of, wrote, lowest_of, lowest_list, job_of, job_list}
 use Rattle.roster.proofs.Stepping.{start_number, step_number}
 use Rattle.roster.proofs.Lowest.{lowest_number, lowest_wrote, lowest_kept, lowest_refused}
 use Rattle.roster.proofs.OneJob.{job_listing, job_kept}
@@ -37,7 +37,7 @@ number_some (suc f) e = omega arith
 
 -- the number of a refusal is not 0
 pub some : (s : Refusal) → number s ≡ 0 → ⊥
-some s = (refused_is _ _ (last {t = true} (Err s) s refl (refl, refl))).1
+some s = (refused_is _ _ _ (last {t = true} (Err s) s refl (refl, refl))).1
 
 -- beside a number nothing is written
 unwritten : (a : Answer Listing) → (fault_in a ≡ 0 → ⊥) → wrote a ≡ false

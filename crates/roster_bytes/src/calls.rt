@@ -1,10 +1,9 @@
 // The calls of a roster on lent bytes.
 ghost use Rattle.std.specs.Prelude.{◌≡◌, ◌≢◌, ℕ, MatchResult, length};
 ghost use Rattle.lists.specs.Choice.{first_of};
-ghost use Rattle.generator.specs.Answers.{number, numbered};
+ghost use Rattle.generator.specs.Answers.{number, numbered, fault_in};
 ghost use Rattle.generator.specs.Records.{record_fault};
 ghost use Rattle.roster.specs.Events.{Event, named, says, leaves, returns};
-ghost use Rattle.roster.specs.Rosters.{fault_in};
 ghost use Rattle.roster_bytes.specs.Bytes.{roster_of};
 ghost use Rattle.roster_bytes.specs.Calls.{told_of, StartGives, EventGives, LowestGives, JobGives};
 

@@ -9,12 +9,13 @@ use Rattle.layout.specs.Layout.{lane_of, share_layout, Arrangement}
 use Rattle.layout.specs.Width.{symbols_of}
 use Rattle.generator.specs.declared.Header.{Header}
 use Rattle.generator.specs.Records.{size, width, Sound}
+use Rattle.generator.proofs.Answered.{answer_refused}
 use Rattle.refusals.specs.Conditions.{lanes_bad, length_bad, number_bad, symbol_bad, lane_bad, no_word, other_symbol}
 use Rattle.refusals.specs.Faults.{stale_fault}
 use Rattle.refusals.specs.Accepted.{UpdatableLane, FreshLane}
 use Rattle.refusals.proofs.NotMet.{lanes_good, length_good, number_good, symbol_good, lane_good, word_good, held_good}
 use Rattle.refusals.proofs.Accepts.{not_met}
-use Rattle.blocks.proofs.Refused.{update_refused, refused_value}
+use Rattle.blocks.proofs.Refused.{refused_value}
 use Rattle.update.specs.Promise.{input_fault, update_fault, UpdatePromise}
 
 module _ (h : Header) (sound : Sound h) (l : ℕ) where
@@ -59,4 +60,4 @@ module _ (h : Header) (sound : Sound h) (l : ℕ) where
 -- beside a number g: the number, and nothing is written
 module _ {y : Arrangement} (h : Header) (g : ℕ) (some : g ≡ 0 → ⊥) (l : ℕ) where
   pub update_refuses : (r t old new : ℕ) (shares : List ℕ) → UpdatePromise y l r t old new shares shares (Err g) h g
-  update_refuses r t old new shares = record { answer = sym (update_refused g _ some); written = sym (refused_value g _ shares some) }
+  update_refuses r t old new shares = record { answer = sym (answer_refused g _ some); written = sym (refused_value g _ shares some) }

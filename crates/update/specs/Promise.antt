@@ -1,5 +1,5 @@
 -- What Update promises: the numbers that turn it away, the answer and every lent byte afterwards, and the same over a record.
-use Rattle.generator.specs.Answers.{Answer}
+use Rattle.generator.specs.Answers.{Answer, answer_of}
 use Rattle.std.specs.Prelude.{List, ◌≡◌, ℕ, ◌*◌, length, eqb}
 use Rattle.lists.specs.Choice.{first_of, when, pick}
 use Rattle.layout.specs.Layout.{Arrangement, lane_of, share_layout}
@@ -10,7 +10,6 @@ use Rattle.refusals.specs.Conditions.{lanes_bad, length_bad, number_bad, symbol_
 use Rattle.refusals.specs.Faults.{stale_fault}
 use Rattle.refusals.specs.Promise.{OnRecord}
 use Rattle.blocks.specs.Bytes.{updated_bytes, altered_count}
-use Rattle.blocks.specs.Answers.{update_of}
 
 -- Update takes the number of a symbol and of a lane, and reads the two symbols and its lane of shares that are arranged as y says: numbers 7 to 11 of what it is given
 unfoldable pub input_fault : Arrangement → Header → ℕ → ℕ → ℕ → ℕ → ℕ → List ℕ → ℕ
@@ -29,7 +28,7 @@ update_fault y h l r t old new shares = first_of (input_fault y h l r t old new 
 
 -- Update: the row added to the lane, and how many symbols differ afterwards
 pub record UpdatePromise (y : Arrangement) (l r t old new : ℕ) (shares shares' : List ℕ) (a : Answer ℕ) (h : Header) (f : ℕ) : Type 0 where
-  pub answer : a ≡ update_of f (altered_count y h l r t old new shares)
+  pub answer : a ≡ answer_of f (altered_count y h l r t old new shares)
   pub written : shares' ≡ pick (eqb f 0) (updated_bytes y h l r t old new shares) shares
 
 abbrev pub UpdateSaysIn : Arrangement → List ℕ → ℕ → ℕ → ℕ → ℕ → ℕ → List ℕ → List ℕ → Answer ℕ → Type 0

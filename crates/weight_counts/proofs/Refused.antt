@@ -2,8 +2,9 @@
 use Rattle.std.specs.Prelude.{Err}
 use Rattle.std.proofs.Common.{◌≡◌, ℕ, List, sym}
 use Rattle.generator.specs.declared.Header.{Header}
-use Rattle.blocks.proofs.Refused.{outcome_refused, refused_value}
+use Rattle.generator.proofs.Answered.{answer_refused}
+use Rattle.blocks.proofs.Refused.{refused_value}
 use Rattle.weight_counts.specs.Weights.{WeightsPromise}
 
 pub weights_refuses : (h : Header) (g : ℕ) → (g ≡ 0 → ⊥) → (counts : List ℕ) → WeightsPromise counts counts (Err g) h g
-weights_refuses h g some counts = record { answer = sym (outcome_refused g some); written = sym (refused_value g _ counts some) }
+weights_refuses h g some counts = record { answer = sym (answer_refused g _ some); written = sym (refused_value g _ counts some) }

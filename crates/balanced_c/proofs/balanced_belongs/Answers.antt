@@ -3,7 +3,7 @@ use Rattle.std.proofs.Common.{rules}
 use Rattle.std.specs.Prelude.{unwrap_or}
 use mathlib.Core.Path.{ap, ◌∙◌}
 use Rattle.std.specs.Result.{result_unwrap_or}
-use Rattle.roster.specs.Rosters.{fault_in}
+use Rattle.generator.specs.Answers.{fault_in}
 use Rattle.balanced_c.proofs.Answers.{mapped, belongs_gives}
 use Rattle.balanced_c.proofs.balanced_belongs.Goals as goal
 

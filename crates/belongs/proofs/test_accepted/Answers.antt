@@ -13,10 +13,10 @@ use Rattle.generator.specs.declared.Header.{Header}
 use Rattle.generator.specs.Records.{width}
 use Rattle.belongs.specs.Promise.{BelongsPromise}
 use Rattle.generator.proofs.Answered.{exit, done_is, refused_is}
+use Rattle.generator.specs.Answers.{answer_of}
 use Rattle.belongs.proofs.Accepts.{belongs_accepts, belongs_refuses}
 use Rattle.blocks.specs.Blocks.{first_wrong}
 use Rattle.blocks.specs.Bytes.{wrong_lane}
-use Rattle.blocks.specs.Answers.{membership_of}
 use Rattle.belongs.proofs.test_accepted.Goals as goal
 
 -- the smallest wrong lane, with no number met
@@ -25,7 +25,7 @@ module _ (h : Header) (l : ℕ) (s : List ℕ) (number : ℕ) (none : number ≡
   first = first_wrong share_layout h l (symbols_of (width h) s)
 
   answered : (wrong gave : Option ℕ) (Gives : ℕ → ℕ → Type 0) → MatchOption wrong (first ≡ l) (λ t. (t ≡ first) × (t < l)) → MatchOption wrong (gave ≡ None) (λ t. IsSomeAnd gave (Gives t)) → ((t u : ℕ) → t < l → Gives t u → u ≡ t) → BelongsPromise share_layout l s (Ok gave) h number
-  unfolding membership_of wrong_lane
+  unfolding answer_of wrong_lane
   answered None gave Gives end is same = record { answer = rw (none, is, eq-eqb first l end) }
   answered (Some t) None Gives found is same = absurd is
   answered (Some t) (Some u) Gives found is same =
@@ -34,14 +34,14 @@ module _ (h : Header) (l : ℕ) (s : List ℕ) (number : ℕ) (none : number ≡
 
 pub returns-in_err-belongs_fault : goal.returns-in_err-belongs_fault
 returns-in_err-belongs_fault c =
-    let met = refused_is _ _ c.in_err-belongs_fault.ensures in
+    let met = refused_is _ _ _ c.in_err-belongs_fault.ensures in
     rw (exit _ c.from_residual.ensures.1, ← met.0) (belongs_refuses _ _ met.1 _ _)
 
 pub invariant_of-block : goal.invariant_of-block
-invariant_of-block c = record { symbols = belongs_accepts _ c.args.code.sound _ _ (done_is _ c.in_ok-belongs_fault.ensures) }
+invariant_of-block c = record { symbols = belongs_accepts _ c.args.code.sound _ _ (done_is _ _ c.in_ok-belongs_fault.ensures) }
 
 pub returns : goal.returns
 returns c =
     let a = c.args in
-    let met = done_is _ c.in_ok-belongs_fault.ensures in
+    let met = done_is _ _ c.in_ok-belongs_fault.ensures in
     answered a.code.header a.lanes a.shares.now _ met c.first_wrong.result c.map.result _ c.first_wrong.ensures c.map.ensures.cases (λ t u low k. search (rules, tests))

@@ -1,22 +1,22 @@
 -- `read_accepted` meets its contract: it writes only where no number is met.
 use Rattle.std.proofs.Common.{refl}
-use Rattle.generator.specs.Answers.{outcome_of}
-use Rattle.generator.proofs.Answered.{exit, refused_is}
+use Rattle.generator.specs.Answers.{answer_of}
+use Rattle.generator.proofs.Answered.{exit, done_is, value_is, refused_is}
 use Rattle.carry.proofs.Accepts.{in_accepts, out_accepts, out_refuses}
 use Rattle.carry.proofs.read_accepted.Goals as goal
 
 pub returns-in_err-carrying : goal.returns-in_err-carrying
 returns-in_err-carrying c =
-    let met = refused_is _ _ c.in_err-carrying.ensures in
+    let met = refused_is _ _ _ c.in_err-carrying.ensures in
     rw (exit _ c.from_residual.ensures.1, ← met.0) (out_refuses _ _ met.1 _ _)
 
 pub read-requires : goal.read-requires
 read-requires c =
     let found = c.in_ok-carrying.ensures in
-    rw found.1 (in_accepts _ _ _ (out_accepts _ _ _ found.0).0).1
+    rw (value_is _ _ found) (in_accepts _ _ _ (out_accepts _ _ _ (done_is _ _ found)).0).1
 
 pub returns : goal.returns
-unfolding outcome_of
+unfolding answer_of
 returns c =
     let found = c.in_ok-carrying.ensures in
-    rw found.0 (record { answered = refl; written = rw found.1 at c.read.ensures })
+    rw (done_is _ _ found) (record { answered = refl; written = rw (value_is _ _ found) at c.read.ensures })

@@ -10,12 +10,12 @@ use Rattle.correct.proofs.correct_accepted.Goals.{In_ok-belongs_fault}
 
 -- no number is met so far
 none_met : (c : In_ok-belongs_fault) → let a = c.args in belongs_fault a.code.header a.lanes a.shares.now ≡ 0
-none_met c = done_is _ c.in_ok-belongs_fault.ensures
+none_met c = done_is _ _ c.in_ok-belongs_fault.ensures
 
 pub returns-in_err-belongs_fault : goal.returns-in_err-belongs_fault
 returns-in_err-belongs_fault c =
     let a = c.args in
-    let met = refused_is _ _ c.in_err-belongs_fault.ensures in
+    let met = refused_is _ _ _ c.in_err-belongs_fault.ensures in
     rw (exit _ c.from_residual.ensures.1, fault_first share_layout a.code.header a.lanes a.shares.now _ met.0 met.1) (correct_refuses share_layout a.code.header a.lanes a.shares.now _ met.1)
 
 pub correct_symbols-requires : goal.correct_symbols-requires

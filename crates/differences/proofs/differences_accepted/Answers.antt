@@ -11,13 +11,13 @@ use Rattle.differences.proofs.differences_accepted.Goals as goal
 
 pub returns-in_err-differences_fault : goal.returns-in_err-differences_fault
 returns-in_err-differences_fault c =
-    let (same, some) = refused_is _ _ c.in_err-differences_fault.ensures in
+    let (same, some) = refused_is _ _ _ c.in_err-differences_fault.ensures in
     rw (exit _ c.from_residual.ensures.1, ← same) (differences_refuses _ _ some _ _ _ _ _)
 
 pub invariant_of-change : goal.invariant_of-change
 invariant_of-change c =
     let a = c.args in
-    let is = differences_accepts a.code.header a.code.sound a.lanes a.symbol a.old.now a.new.now _ (done_is _ c.in_ok-differences_fault.ensures) in
+    let is = differences_accepts a.code.header a.code.sound a.lanes a.symbol a.old.now a.new.now _ (done_is _ _ c.in_ok-differences_fault.ensures) in
     let wide = c.width_of-width.ensures.0 in
     record {
       same_code = sym c.new-generator.ensures;
@@ -30,11 +30,11 @@ pub fill_differences-requires : goal.fill_differences-requires
 fill_differences-requires c =
     let a = c.args in
     let h = a.code.header in
-    let is = differences_accepts h a.code.sound a.lanes a.symbol a.old.now a.new.now _ (done_is _ c.in_ok-differences_fault.ensures) in
+    let is = differences_accepts h a.code.sound a.lanes a.symbol a.old.now a.new.now _ (done_is _ _ c.in_ok-differences_fault.ensures) in
     rw c.width_of-width.ensures.0 (is.room ∙ mul_assoc h.n a.lanes (width h) ∙ ap (λ (x : ℕ). h.n * x) (mul_comm a.lanes (width h)))
 
 pub returns : goal.returns
 unfolding difference_bytes
 returns c =
-    let none = done_is _ c.in_ok-differences_fault.ensures in
+    let none = done_is _ _ c.in_ok-differences_fault.ensures in
     record { answered = c.in_ok-differences_fault.ensures; written = rw none (rw c.width_of-width.ensures.0 at c.fill_differences.ensures) }

@@ -9,24 +9,24 @@ use Rattle.encode.proofs.encode_accepted.Goals as goal
 
 pub returns-in_err-encode_fault : goal.returns-in_err-encode_fault
 returns-in_err-encode_fault c =
-    let (same, some) = refused_is _ _ c.in_err-encode_fault.ensures in
+    let (same, some) = refused_is _ _ _ c.in_err-encode_fault.ensures in
     rw (exit _ c.from_residual.ensures.1, ← same) (encode_refuses _ _ some _ _ _)
 
 pub invariant_of-message : goal.invariant_of-message
 invariant_of-message c =
     let h = c.args.code.header in
-    let none = done_is _ c.in_ok-encode_fault.ensures in
+    let none = done_is _ _ c.in_ok-encode_fault.ensures in
     let message = (encode_accepts h c.args.code.sound c.args.lanes _ c.args.message.now none).0 in
     rw (c.new-generator.ensures, c.width_of.ensures.0) record { rows = record { wide = refl; bytes = message.bytes ∙ lanes_long (width h) h.k c.args.lanes; symbol_rows = message.symbol_rows } }
 
 pub encode_lanes-requires : goal.encode_lanes-requires
 encode_lanes-requires c =
     let h = c.args.code.header in
-    let none = done_is _ c.in_ok-encode_fault.ensures in
+    let none = done_is _ _ c.in_ok-encode_fault.ensures in
     rw (c.new-generator.ensures, c.width_of.ensures.0) ((encode_accepts h c.args.code.sound c.args.lanes _ c.args.message.now none).1 ∙ lanes_long (width h) h.n c.args.lanes)
 
 pub returns : goal.returns
 returns c =
-    let none = done_is _ c.in_ok-encode_fault.ensures in
+    let none = done_is _ _ c.in_ok-encode_fault.ensures in
     let written = rw (c.new-generator.ensures, c.width_of.ensures.0) at c.encode_lanes.ensures in
     record { answer = c.in_ok-encode_fault.ensures; written = rw none (written ∙ sym (encoded_lanes _ _ _ _ refl)) }

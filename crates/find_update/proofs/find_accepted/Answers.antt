@@ -7,8 +7,8 @@ use lib.ListN.{take}
 use Rattle.layout.specs.Width.{symbols_of}
 use Rattle.generator.specs.Records.{width}
 use Rattle.generator.proofs.Answered.{exit, done_is, refused_is}
+use Rattle.generator.specs.Answers.{answer_of}
 use Rattle.find_update.specs.Finding.{finding_of}
-use Rattle.find_update.specs.Promise.{answer_of}
 use Rattle.refusals.proofs.LaneSymbols.{few_bytes, lane_read}
 use Rattle.find_update.proofs.Accepts.{Lanes, find_accepts, find_refuses}
 use Rattle.find_update.proofs.find_accepted.Goals as goal
@@ -16,7 +16,7 @@ use Rattle.find_update.proofs.find_accepted.Goals.{After-read_symbols-us, After-
 
 -- no number turns the call away
 lanes : (c : In_ok-find_fault) → let a = c.args in Lanes a.code.header a.before.now a.after.now
-lanes c = find_accepts _ _ _ (done_is _ c.in_ok-find_fault.ensures)
+lanes c = find_accepts _ _ _ (done_is _ _ c.in_ok-find_fault.ensures)
 
 -- the lanes as they are read
 first : (c : After-read_symbols-us)
@@ -31,7 +31,7 @@ second c = lane_read _ _ _ _ (lanes (goal.at.After-read_symbols-vs c).In_ok-find
 
 pub returns-in_err-find_fault : goal.returns-in_err-find_fault
 returns-in_err-find_fault c =
-    let (same, some) = refused_is _ _ c.in_err-find_fault.ensures in
+    let (same, some) = refused_is _ _ _ c.in_err-find_fault.ensures in
     rw (exit _ c.from_residual.ensures.1, ← same) (find_refuses _ _ some _ _)
 
 pub read_symbols-us-requires : goal.read_symbols-us-requires
@@ -60,5 +60,5 @@ find-requires c =
 pub returns : goal.returns
 unfolding answer_of
 returns c =
-    let none = done_is _ c.in_ok-find_fault.ensures in
+    let none = done_is _ _ c.in_ok-find_fault.ensures in
     record { answer = rw none (ap Ok (c.find.ensures ∙ ap₂ (finding_of _) (first (goal.at.returns c).After-read_symbols-us) (second (goal.at.returns c).After-read_symbols-vs))) }

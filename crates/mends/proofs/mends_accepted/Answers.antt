@@ -8,7 +8,7 @@ use Rattle.layout.specs.Width.{symbols_of}
 use Rattle.generator.specs.Records.{width}
 use Rattle.generator.proofs.Answered.{exit, done_is, refused_is}
 use Rattle.refusals.proofs.LaneSymbols.{few_bytes, lane_read}
-use Rattle.mends.specs.Promise.{mending_of}
+use Rattle.generator.specs.Answers.{answer_of}
 use Rattle.mends.proofs.Meaning.{mends_few}
 use Rattle.mends.proofs.Accepts.{Given, mends_accepts, mends_refuses}
 use Rattle.mends.proofs.mends_accepted.Goals as goal
@@ -16,7 +16,7 @@ use Rattle.mends.proofs.mends_accepted.Goals.{After-read_symbols-ws, In_ok-mends
 
 -- no number turns the call away
 given : (c : In_ok-mends_fault) → let a = c.args in Given a.code.header a.lane.now (length a.nodes.now) (length a.symbols.now)
-given c = mends_accepts _ _ _ _ (done_is _ c.in_ok-mends_fault.ensures)
+given c = mends_accepts _ _ _ _ (done_is _ _ c.in_ok-mends_fault.ensures)
 
 -- the lane as it is read
 part : (c : After-read_symbols-ws)
@@ -26,7 +26,7 @@ part c = lane_read _ _ _ _ (given (goal.at.After-read_symbols-ws c).In_ok-mends_
 
 pub returns-in_err-mends_fault : goal.returns-in_err-mends_fault
 returns-in_err-mends_fault c =
-    let (same, some) = refused_is _ _ c.in_err-mends_fault.ensures in
+    let (same, some) = refused_is _ _ _ c.in_err-mends_fault.ensures in
     rw (exit _ c.from_residual.ensures.1, ← same) (mends_refuses _ _ some _ _ _)
 
 pub read_symbols-ws-requires : goal.read_symbols-ws-requires
@@ -49,8 +49,8 @@ overflow_cast-count c =
     omega (arith, c.list_mends-count.ensures.0, mends_few c.args.code.header (take c.args.code.header.n c.read_symbols-ws.result))
 
 pub returns : goal.returns
-unfolding mending_of
+unfolding answer_of
 returns c =
-    let none = done_is _ c.in_ok-mends_fault.ensures in
+    let none = done_is _ _ c.in_ok-mends_fault.ensures in
     let e = rw (part (goal.at.returns c).After-read_symbols-ws) at c.list_mends-count.ensures in
     record { answer = rw none (ap Ok e.0); nodes_written = rw none e.1; symbols_written = rw none e.2 }

@@ -8,7 +8,7 @@ use Rattle.generator.specs.Records.{width}
 use Rattle.rearrange.specs.Promise.{rearrange_fault}
 use Rattle.generator.proofs.Answered.{exit, done_is, refused_is}
 use Rattle.rearrange.proofs.Accepts.{rearrange_accepts}
-use Rattle.generator.specs.Answers.{outcome_of}
+use Rattle.generator.specs.Answers.{answer_of}
 use Rattle.blocks.specs.Bytes.{rearranged_bytes}
 use Rattle.rearrange.proofs.Refused.{rearrange_refuses}
 use Rattle.rearrange.proofs.rearrange_accepted.Goals as goal
@@ -16,11 +16,11 @@ use Rattle.rearrange.proofs.rearrange_accepted.Goals.{After-width_of-w}
 
 -- no number is met
 none : (c : After-width_of-w) → let a = c.args in rearrange_fault a.code.header a.rows a.lanes (length a.source.now) (length a.out.now) ≡ 0
-none c = done_is _ c.in_ok-rearrange_fault.ensures
+none c = done_is _ _ c.in_ok-rearrange_fault.ensures
 
 pub returns-in_err-rearrange_fault : goal.returns-in_err-rearrange_fault
 returns-in_err-rearrange_fault c =
-    let met = refused_is _ _ c.in_err-rearrange_fault.ensures in
+    let met = refused_is _ _ _ c.in_err-rearrange_fault.ensures in
     rw (exit _ c.from_residual.ensures.1, ← met.0) (rearrange_refuses _ _ met.1 _ _ _ _)
 
 pub turn-requires : goal.turn-requires
@@ -30,7 +30,7 @@ turn-requires c =
     (width.1, width.2, rw width.0 read, rw width.0 room)
 
 pub returns-in-ByNode : goal.returns-in-ByNode
-unfolding outcome_of rearranged_bytes
+unfolding answer_of rearranged_bytes
 returns-in-ByNode c =
     let zero = none (goal.at.returns-in-ByNode c).After-width_of-w in
     let written = rw c.width_of-w.ensures.0 at c.turn.ensures in
@@ -43,7 +43,7 @@ turn-requires-in-ByLane c =
     (width.1, width.2, rw (width.0, mul_comm c.args.lanes c.args.rows) read, rw (width.0, mul_comm c.args.lanes c.args.rows) room)
 
 pub returns-in-ByLane : goal.returns-in-ByLane
-unfolding outcome_of rearranged_bytes
+unfolding answer_of rearranged_bytes
 returns-in-ByLane c =
     let zero = none (goal.at.returns-in-ByLane c).After-width_of-w in
     let written = rw c.width_of-w.ensures.0 at c.turn-in-ByLane.ensures ∙ ap (bytes_of (width c.args.code.header)) (turned _ _ _) in

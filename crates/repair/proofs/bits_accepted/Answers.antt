@@ -6,17 +6,16 @@ use mir.Val.{Fits}
 use native.Mathlib.Omega.{arith}
 use lib.ListN.{length}
 use Rattle.repair.specs.Packing.{plane_size, packed_size}
-use Rattle.repair.proofs.Judging.{found_number}
 use Rattle.repair.proofs.Accepts.{BitsAccepted, bits_accepts, bits_refuses, bits_done}
 use Rattle.repair.proofs.Adding.{sent_table}
 use Rattle.repair.proofs.bits_accepted.Goals as goal
-use Rattle.generator.proofs.Answered.{exit}
+use Rattle.generator.proofs.Answered.{exit, done_is, value_is, refused_is}
 use Rattle.repair.proofs.bits_accepted.Goals.{In_ok-b}
 
 pub returns-in_err-b : goal.returns-in_err-b
 returns-in_err-b c =
-    let met = c.in_err-b.ensures in
-    rw (exit _ c.from_residual.ensures.1, met) (bits_refuses _ _ (found_number _ _ met) _ _ _ _ _)
+    let met = refused_is _ _ _ c.in_err-b.ensures in
+    rw (exit _ c.from_residual.ensures.1, ← met.0) (bits_refuses _ _ met.1 _ _ _ _ _)
 
 byte : {x : ℕ} → Fits w8 x → x < 256
 byte h = omega arith
@@ -25,13 +24,13 @@ byte h = omega arith
 accepted : (c : In_ok-b)
     → let a = c.args in
     BitsAccepted a.repair.code.header a.repair.lanes a.node a.repair.target a.repair.missing.now (length a.share.now) (length a.out.now)
-accepted c = bits_accepts _ _ _ _ _ _ _ c.in_ok-b.ensures.0
+accepted c = bits_accepts _ _ _ _ _ _ _ (done_is _ _ c.in_ok-b.ensures)
 
 pub sent_digits-table-requires : goal.sent_digits-table-requires
 sent_digits-table-requires c =
     let is = accepted (goal.at.sent_digits-table-requires c).In_ok-b in
     let r = is.repairing in
-    (c.in_ok-b.ensures.1, r.inside, r.nodes, is.node)
+    (value_is _ _ c.in_ok-b.ensures, r.inside, r.nodes, is.node)
 
 pub pack-requires : goal.pack-requires
 unfolding packed_size
@@ -39,12 +38,12 @@ pack-requires c =
     let a = c.args in
     let is = accepted (goal.at.pack-requires c).In_ok-b in
     let size = c.plane_size-size.ensures in
-    (rw is.share_long is.few, size ∙ ap plane_size (sym is.share_long), is.out_long ∙ sym (ap₂ ◌*◌ c.in_ok-b.ensures.1 size))
+    (rw is.share_long is.few, size ∙ ap plane_size (sym is.share_long), is.out_long ∙ sym (ap₂ ◌*◌ (value_is _ _ c.in_ok-b.ensures) size))
 
 pub returns : goal.returns
 returns c =
     let a = c.args in
-    let none = c.in_ok-b.ensures.0 in
+    let none = done_is _ _ c.in_ok-b.ensures in
     bits_done _ _ none _ _ _ _ _ _
     (c.pack.ensures
-    ∙ sent_table a.repair.code.header a.repair.target a.repair.missing.now a.node _ c.sent_digits-table.result a.share.now c.in_ok-b.ensures.1 c.sent_digits-table.ensures (λ i. byte (c.type_inv.share i)))
+    ∙ sent_table a.repair.code.header a.repair.target a.repair.missing.now a.node _ c.sent_digits-table.result a.share.now (value_is _ _ c.in_ok-b.ensures) c.sent_digits-table.ensures (λ i. byte (c.type_inv.share i)))

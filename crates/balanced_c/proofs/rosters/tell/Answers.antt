@@ -5,11 +5,10 @@ use Rattle.std.specs.Result.{result_unwrap_or}
 use mathlib.Core.Path.{refl, ap, ◌∙◌}
 use mir.Val.{bool_byte}
 use denote.Enum.Bare.{sameb}
-use Rattle.generator.specs.Answers.{Answer, numbered}
+use Rattle.generator.specs.Answers.{Answer, numbered, fault_in}
 use Rattle.roster.specs.contracts.Listing.{the_type}
 use Rattle.roster.specs.declared.Listing.{Listing}
 use Rattle.roster.specs.declared.Listing.TheVariants.{Written, TooFew}
-use Rattle.roster.specs.Rosters.{fault_in}
 use Rattle.roster_bytes.specs.Calls.{told_of}
 use Rattle.balanced_c.proofs.Answers.{with_value, mapped}
 use Rattle.balanced_c.proofs.rosters.tell.Goals as goal

@@ -8,7 +8,7 @@ use Rattle.generator.specs.Records.{width}
 use Rattle.generator.proofs.Answered.{exit, done_is, refused_is}
 use Rattle.refusals.specs.Accepted.{ListedShares}
 use Rattle.recover.proofs.Accepts.{rebuild_accepts, rebuild_refuses}
-use Rattle.generator.specs.Answers.{outcome_of}
+use Rattle.generator.specs.Answers.{answer_of}
 use Rattle.recover.proofs.Tiles.{listed_bytes, rebuilt_lanes}
 use Rattle.recover.proofs.Listed.rebuild_accepted.Goals as goal
 use Rattle.recover.proofs.Listed.rebuild_accepted.Goals.{In_ok-rebuild_fault}
@@ -20,11 +20,11 @@ accepted : (c : In_ok-rebuild_fault)
 accepted c =
     let v = c.args.self in
     rebuild_accepts v.code.header v.code.sound v.lanes v.nodes.now v.shares.now c.args.target (length c.args.out.now)
-    (done_is _ c.in_ok-rebuild_fault.ensures)
+    (done_is _ _ c.in_ok-rebuild_fault.ensures)
 
 pub returns-in_err-rebuild_fault : goal.returns-in_err-rebuild_fault
 returns-in_err-rebuild_fault c =
-    let met = refused_is _ _ c.in_err-rebuild_fault.ensures in
+    let met = refused_is _ _ _ c.in_err-rebuild_fault.ensures in
     rw (exit _ c.from_residual.ensures.1, ← met.0) (rebuild_refuses _ _ met.1 _ _ _ _ _)
 
 pub rebuild_weights-weights-requires : goal.rebuild_weights-weights-requires
@@ -50,11 +50,11 @@ fill-requires c =
     out ∙ mul_comm v.lanes (width v.code.header) ∙ ap (λ (w : ℕ). w * v.lanes) (sym wide)
 
 pub returns : goal.returns
-unfolding outcome_of
+unfolding answer_of
 returns c =
     let wide = c.width_of-width.ensures.0 in
     let v = c.args.self in
-    let none = done_is _ c.in_ok-rebuild_fault.ensures in
+    let none = done_is _ _ c.in_ok-rebuild_fault.ensures in
     record {
       answer = rw none refl;
       written = rw none (rebuilt_lanes (accepted (goal.at.returns c).In_ok-rebuild_fault).0 c.args.target _ c.rebuild_weights-weights.ensures (rw wide at c.fill.ensures));

@@ -10,7 +10,7 @@ use Rattle.generator.proofs.Shifts.{shifts_length}
 use Rattle.generator.proofs.Answered.{exit, done_is, refused_is}
 use Rattle.refusals.specs.Accepted.{ListedShares}
 use Rattle.recover.proofs.Accepts.{recover_accepts, recover_refuses}
-use Rattle.generator.specs.Answers.{outcome_of}
+use Rattle.generator.specs.Answers.{answer_of}
 use Rattle.recover.proofs.Recovering.{shifts_part}
 use Rattle.recover.proofs.Products.{recovered_lanes}
 use Rattle.recover.proofs.Listed.recover_accepted.Goals as goal
@@ -23,7 +23,7 @@ accepted : (c : In_ok-recover_fault)
 accepted c =
     let v = c.args.self in
     recover_accepts v.code.header v.code.sound v.lanes v.nodes.now v.shares.now (length c.args.out.now)
-    (done_is _ c.in_ok-recover_fault.ensures)
+    (done_is _ _ c.in_ok-recover_fault.ensures)
 
 -- the lent part of the shifts
 part : (c : After-fill_shifts-shifts)
@@ -43,7 +43,7 @@ part_size c =
 
 pub returns-in_err-recover_fault : goal.returns-in_err-recover_fault
 returns-in_err-recover_fault c =
-    let met = refused_is _ _ c.in_err-recover_fault.ensures in
+    let met = refused_is _ _ _ c.in_err-recover_fault.ensures in
     rw (exit _ c.from_residual.ensures.1, ← met.0) (recover_refuses _ _ met.1 _ _ _ _)
 
 pub slice_bounds-shifts-end : goal.slice_bounds-shifts-end
@@ -72,9 +72,9 @@ fill_message-requires c =
     (listed.buffer.symbol_rows.few_lanes, listed.buffer.bytes ∙ lanes_long (width h) h.k v.lanes, out ∙ lanes_long (width h) h.k v.lanes)
 
 pub returns : goal.returns
-unfolding outcome_of
+unfolding answer_of
 returns c =
-    let none = done_is _ c.in_ok-recover_fault.ensures in
+    let none = done_is _ _ c.in_ok-recover_fault.ensures in
     record {
       answer = rw none refl;
       written = rw none (recovered_lanes (accepted (goal.at.returns c).In_ok-recover_fault).0 c.fill_message.ensures);
