@@ -16,6 +16,7 @@ mod nodes;
 mod rows;
 
 // Over the code of an accepted record. Everything is judged before the first byte is written.
+#[tactic(auto, using(generator::proofs::Answered::tests, crate::proofs::Accepts::differences_accepts, crate::proofs::Accepts::differences_refuses, crate::proofs::Tiles::judged_row), unfolding(crate::specs::Differences::difference_bytes))]
 fn differences_accepted(
     code: Code,
     lanes: usize,
@@ -57,6 +58,7 @@ pub fn differences(
 }
 
 // Adds over the code of an accepted record.
+#[tactic(auto, using(generator::proofs::Answered::tests, crate::proofs::Accepts::add_accepts, crate::proofs::Accepts::add_refuses, crate::proofs::Tiles::judged_row), unfolding(crate::specs::Differences::added_bytes))]
 fn add_accepted(
     code: Code,
     lanes: usize,

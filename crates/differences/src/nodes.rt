@@ -25,6 +25,7 @@ fn fill_nodes(change: &Change, tile: &[u8], out: &mut [u8])
 }
 
 // Node after node.
+#[tactic(auto, using(crate::proofs::Tiles::row_bytes_long, crate::proofs::Tiles::row_few, crate::proofs::Tiles::length_less_bytes, crate::proofs::Tiles::less_tile))]
 pub fn fill_differences(change: &Change, out: &mut [u8])
     requires { let rows = change.now.rows in length out.old ≡ rows.code.header.n * (rows.width * rows.lanes) }
     ensures { let rows = change.now.rows in out.new ≡ bytes_of rows.width (buffer row_after_row rows.code.header.n rows.lanes (difference_at rows.code.header change.now.symbol (symbols_of rows.width change.now.old.now) (symbols_of rows.width change.now.new.now))) }

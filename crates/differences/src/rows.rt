@@ -19,6 +19,7 @@ pub struct Rows {
 
 impl Rows {
     // The tile of a row.
+    #[tactic(auto, using(layout::proofs::Runs::turned, layout::proofs::Tiles::one_row))]
     pub fn load(self, row: &[u8], tile: &mut [u8])
         requires { (length row.now ≡ self.width * self.lanes) × (length tile.old ≡ self.width * self.lanes) }
         ensures { tile.new ≡ row_tile self.width self.lanes row.now }
@@ -41,6 +42,7 @@ impl Rows {
     }
 
     // Adds a row to another.
+    #[tactic(auto, using(crate::proofs::Tiles::row_few, crate::proofs::Tiles::pair_added))]
     pub fn add(self, row: &[u8], acc: &mut [u8])
         requires { SymbolBytes self.code.header self.width 1 self.lanes row.now × SymbolBytes self.code.header self.width 1 self.lanes acc.old }
         ensures { acc.new ≡ bytes_of self.width (added_symbols self.code.header self.lanes (symbols_of self.width row.now) (symbols_of self.width acc.old)) }
@@ -52,6 +54,7 @@ impl Rows {
     }
 
     // A row less another, as a row.
+    #[tactic(auto, using(field::proofs::Arithmetic::zero_below, field::proofs::BothKinds::arithmetic, field::proofs::KindLaws::size_fits, crate::proofs::Sums::minus_below, crate::proofs::Tiles::row_few, crate::proofs::Tiles::pair_less))]
     pub fn subtract(self, row: &[u8], less: &[u8], out: &mut [u8])
         requires { SymbolBytes self.code.header self.width 1 self.lanes row.now × SymbolBytes self.code.header self.width 1 self.lanes less.now × (length out.old ≡ self.width * self.lanes) }
         ensures { out.new ≡ bytes_of self.width (row_less self.code.header self.lanes (symbols_of self.width row.now) (symbols_of self.width less.now)) }

@@ -3,39 +3,21 @@ use mathlib.Core.Path.{sym, ap, ◌∙◌}
 use mathlib.Core.List.{List}
 use Prim.Native.Nat.{ℕ}
 use native.Mathlib.Omega.{arith}
-use lib.ListN.{length}
 use lib.Seq.{length-take-le}
 use Rattle.lists.specs.Rows.{rows_from}
 use Rattle.differences.specs.Inner.Rows.{row_tile}
 use Rattle.differences.specs.Inner.Changes.{told}
-use Rattle.differences.proofs.Tiles.{row_bytes_long, row_few, length_less_bytes, less_tile, less_times}
+use Rattle.differences.proofs.Tiles.{row_bytes_long, row_few, less_times}
 use Rattle.differences.proofs.nodes.fill_differences.Goals as goal
-
-pub slice_bounds-row-end : goal.slice_bounds-row-end
-slice_bounds-row-end c = omega (arith, row_few c.args.change.now.new_row)
 
 pub slice_bounds-row-end-2 : goal.slice_bounds-row-end-2
 slice_bounds-row-end-2 c = sym (length-take-le _ _ (omega (arith, row_few c.args.change.now.new_row)))
-
-pub slice_bounds-tile-end : goal.slice_bounds-tile-end
-slice_bounds-tile-end c = omega (arith, row_few c.args.change.now.new_row)
 
 pub slice_bounds-tile-end-2 : goal.slice_bounds-tile-end-2
 slice_bounds-tile-end-2 c = sym (length-take-le _ _ (omega (arith, row_few c.args.change.now.new_row)))
 
 pub subtract-requires : goal.subtract-requires
 subtract-requires c = let change = c.args.change.now in (change.new_row, change.old_row, length-take-le _ _ (omega (arith, row_few change.new_row)) ∙ row_bytes_long change.new_row)
-
-pub load-requires : goal.load-requires
-load-requires c =
-    let change = c.args.change.now in
-    let rows = change.rows in
-    (ap length c.subtract.ensures ∙ length_less_bytes rows.code.header rows.width rows.lanes _ _, length-take-le _ _ (omega (arith, row_few change.new_row)) ∙ row_bytes_long change.new_row)
-
-pub fill_nodes-requires : goal.fill_nodes-requires
-fill_nodes-requires c =
-    let change = c.args.change.now in
-    (rw (c.load.ensures, c.subtract.ensures) (less_tile change.new_row change.old_row), c.requires)
 
 pub returns : goal.returns
 returns c =

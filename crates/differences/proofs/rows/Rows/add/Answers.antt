@@ -3,13 +3,8 @@ use mathlib.Core.Path.{refl, sym, ap, ◌∙◌}
 use Prim.Native.Nat.{ℕ, ◌*◌}
 use native.Mathlib.Omega.{arith}
 use lib.Seq.{length-take-le}
-use Rattle.generator.specs.Records.{modulus_of}
-use Rattle.row_sums.specs.Inner.Combined.{combined_bytes}
-use Rattle.differences.proofs.Tiles.{row_bytes_long, row_few, pair_ready, pair_added, ones_below}
+use Rattle.differences.proofs.Tiles.{row_bytes_long, row_few, pair_ready, ones_below}
 use Rattle.differences.proofs.rows.Rows.add.Goals as goal
-
-pub slice_bounds-pair-end : goal.slice_bounds-pair-end
-slice_bounds-pair-end c = omega (arith, row_few c.requires.0)
 
 pub slice_bounds-pair-end-2 : goal.slice_bounds-pair-end-2
 slice_bounds-pair-end-2 c = sym (length-take-le _ _ (omega (arith, row_few c.requires.0)))
@@ -21,10 +16,3 @@ load_pair-requires c =
 pub combine_symbols-requires : goal.combine_symbols-requires
 combine_symbols-requires c =
     rw c.load_pair.ensures (pair_ready c.requires.1 c.requires.0 refl (ones_below _ c.requires.0.symbol_rows.sound) (row_bytes_long c.requires.1))
-
-pub returns : goal.returns
-returns c =
-    let rows = c.args.self in
-    c.combine_symbols.ensures
-    ∙ ap (combined_bytes (modulus_of rows.code.header) 2 rows.lanes _) c.load_pair.ensures
-    ∙ pair_added c.requires.1 c.requires.0
