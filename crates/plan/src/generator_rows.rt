@@ -18,7 +18,7 @@ pub struct Generator<'t> {
 impl<'t> Generator<'t> {
     #[tactic(auto, unfolding(crate::specs::Plans::plan_of))]
     pub fn new(codec: Codec<'t>) -> Self
-        ensures { result.codec ≡ codec }
+        ensures { result.codec ≡ codec.entry }
     {
         let shifts = shifts::shifts_of(codec.code.dimensions());
         let base = base::base_word(codec);

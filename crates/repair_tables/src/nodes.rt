@@ -22,7 +22,7 @@ pub struct Target<'a> {
 impl<'a> Target<'a> {
     pub fn new(codec: Codec<'a>, bits: Bits, node: u32) -> Self
         requires { (modulus_of codec.code.header ≡ 0) × (node < codec.code.header.n) }
-        ensures { (result.codec ≡ codec) × (result.bits ≡ bits) × (result.node ≡ node) }
+        ensures { (result.codec ≡ codec.entry) × (result.bits ≡ bits) × (result.node ≡ node) }
     {
         Self { codec, bits, node }
     }
