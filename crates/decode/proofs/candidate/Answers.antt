@@ -31,11 +31,6 @@ invariant_of-taken c =
     let f = facts (goal.at.invariant_of-taken c).After-as_slice-nodes in
     record { symbols = rw c.new-field.ensures f.terms_symbols }
 
-pub errors-wrong-requires : goal.errors-wrong-requires
-errors-wrong-requires c =
-    let f = facts (goal.at.errors-wrong-requires c).After-as_slice-nodes in
-    rw c.new-field.ensures (f.terms_long, c.requires.0.sound.root_below)
-
 pub removed-requires : goal.removed-requires
 removed-requires c =
     let f = facts (goal.at.removed-requires c).After-as_slice-nodes in

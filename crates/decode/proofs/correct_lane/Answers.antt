@@ -1,6 +1,6 @@
 -- `correct_lane` meets its contract: the candidate is near enough and a word, or no word is.
-use mathlib.Core.Path.{◌≡◌, sym, ap, ◌∙◌}
-use lib.ListN.{length, take}
+use mathlib.Core.Path.{◌≡◌, sym, ◌∙◌}
+use lib.ListN.{take}
 use Rattle.lists.proofs.Padding.{take_padded}
 use Rattle.lists.specs.Counting.{differ}
 use Rattle.generator.specs.Codewords.{is_word}
@@ -12,21 +12,6 @@ use Rattle.decode.proofs.correct_lane.Goals.{After-candidate-word, After-differi
 -- the first n places of the candidate are its word
 word : (c : After-candidate-word) → take c.args.rows.code.header.n c.candidate-word.result ≡ c.candidate-word.ensures.word
 word c = let k = c.candidate-word.ensures in rw k.array_is (take_padded 255 _ k.word k.long)
-
-word_long : (c : After-candidate-word) → c.args.rows.code.header.n ≡ length (take c.args.rows.code.header.n c.candidate-word.result)
-word_long c = sym (ap length (word c) ∙ c.candidate-word.ensures.long)
-
-pub sums-sums-requires : goal.sums-sums-requires
-sums-sums-requires c = (c.requires.long, c.requires.below)
-
-pub candidate-word-requires : goal.candidate-word-requires
-candidate-word-requires c = (c.requires, c.sums-sums.ensures)
-
-pub slice_bounds-differing-end : goal.slice_bounds-differing-end
-slice_bounds-differing-end c = word_long (goal.at.slice_bounds-differing-end c).After-candidate-word
-
-pub differing-altered-requires : goal.differing-altered-requires
-differing-altered-requires c = sym (word_long (goal.at.differing-altered-requires c).After-candidate-word) ∙ sym c.requires.long
 
 -- at how many nodes the candidate differs, and whether it is a word
 distance : (c : After-differing-altered) → c.differing-altered.result ≡ differ c.args.lane.now c.candidate-word.ensures.word

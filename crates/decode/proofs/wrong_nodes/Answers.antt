@@ -1,5 +1,5 @@
 -- `wrong_nodes` meets its contract: the roots of the locator that was found.
-use mathlib.Core.Path.{◌≡◌, sym}
+use mathlib.Core.Path.{◌≡◌}
 use mathlib.Core.Bool.{true}
 use Prim.Native.Nat.{◌+◌, ◌-◌, ◌/◌}
 use native.Mathlib.Omega.{arith}
@@ -21,22 +21,10 @@ front_below c =
     let h = c.args.code.header in
     at_below _ _ (λ i b. rw (get_or-take ((h.n - h.k) / 2 + 1) c.locate-locator.result i 0 (omega (arith, front_long c))) (rw c.new-field.ensures at (c.locate-locator.ensures.below i)))
 
-pub locate-locator-requires : goal.locate-locator-requires
-locate-locator-requires c = (omega (arith, c.args.code.sound.byte), rw c.new-field.ensures c.requires)
-
-pub slice_bounds-locator-end : goal.slice_bounds-locator-end
-slice_bounds-locator-end c = omega (arith, c.locate-locator.ensures.long, c.args.code.sound.byte)
-
-pub slice_bounds-polynomial-end : goal.slice_bounds-polynomial-end
-slice_bounds-polynomial-end c = sym (front_long (goal.at.slice_bounds-polynomial-end c).After-locate-locator)
-
 pub invariant_of-polynomial : goal.invariant_of-polynomial
 invariant_of-polynomial c =
     let w = (goal.at.invariant_of-polynomial c).After-locate-locator in
     record { symbols = rw c.new-field.ensures (record { below = front_below w; short = omega (arith, front_long w, c.args.code.sound.byte) }) }
-
-pub find_roots-requires : goal.find_roots-requires
-find_roots-requires c = rw c.new-field.ensures (c.args.code.sound.root_below, omega (arith, c.args.code.sound.byte))
 
 pub returns : goal.returns
 unfolding radius

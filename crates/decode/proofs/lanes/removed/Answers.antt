@@ -22,17 +22,8 @@ loop-i-init c =
     rw (c.copy_from_slice.ensures.after, copied_is 255 c.args.lane.now)
     (length_padded 255 _ s.0.short, below_padded _ 255 _ (size_pos _ (usable_field _ c.args.field.usable)) s.0.below, refl)
 
-pub overflow_cast-j : goal.overflow_cast-j
-overflow_cast-j c = omega (arith, node (goal.at.overflow_cast-j c).In-loop-i)
-
-pub offset_bounds-out-j : goal.offset_bounds-out-j
-offset_bounds-out-j c = omega (arith, node (goal.at.offset_bounds-out-j c).In-loop-i)
-
 pub bounds-out-j : goal.bounds-out-j
 bounds-out-j c = omega (arith, node (goal.at.bounds-out-j c).In-loop-i, c.loop-i.invariant.0)
-
-pub bounds-errors-i : goal.bounds-errors-i
-bounds-errors-i c = omega (arith, c.requires.3, c.loop-i-test.true)
 
 pub sub-requires : goal.sub-requires
 sub-requires c =

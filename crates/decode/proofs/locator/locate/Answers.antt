@@ -4,22 +4,12 @@ use Prim.Native.Nat.{◌+◌, ◌-◌, ◌≤◌}
 use native.Mathlib.Omega.{arith}
 use Rattle.lists.specs.Padded.{zeros}
 use Rattle.lists.proofs.Fill.{length_zeros}
-use Rattle.field.specs.Fields.{size_of}
 use Rattle.field.specs.Kinds.{modulus}
 use Rattle.field.proofs.KindLaws.{usable_field}
-use Rattle.decode.specs.Inner.Locating.{Below}
 use Rattle.decode.proofs.Arrays.{length_filled}
-use Rattle.decode.proofs.Bridge.{holds_below}
 use Rattle.decode.proofs.Steps.{held_start, held_kept, held_mended, held_grown, held_now, held_past}
 use Rattle.decode.proofs.locator.locate.Goals as goal
 use Rattle.decode.proofs.locator.locate.Goals.{In-loop-r}
-
--- what the arrays hold are symbols
-below-w : (c : In-loop-r) → Below (size_of (modulus c.args.field.field)) c.loop-r.w
-below-w c = let h = c.loop-r.invariant.held in holds_below _ (usable_field _ c.args.field.usable) c.loop-r.w h.now_list h.holds_now
-
-below-v : (c : In-loop-r) → Below (size_of (modulus c.args.field.field)) c.loop-r.v
-below-v c = let h = c.loop-r.invariant.held in holds_below _ (usable_field _ c.args.field.usable) c.loop-r.v h.past_list h.holds_past
 
 -- in the loop at least one of the 2t steps, 254 at most, is left
 steps : (c : In-loop-r) → c.loop-r.r + 1 ≤ 254
@@ -33,25 +23,12 @@ pub loop-r-init : goal.loop-r-init
 unfolding zeros
 loop-r-init c = record { low = omega arith; long_w = length_zeros 255; long_v = length_zeros 255; held = held_start (modulus c.args.field.field) (usable_field _ c.args.field.usable) c.args.s.now 254 255 }
 
-pub invariant_of-held : goal.invariant_of-held
-invariant_of-held c =
-    let turn = (goal.at.invariant_of-held c).In-loop-r in
-    record { sequence = c.requires.1; at_hand = below-w turn; before = below-v turn }
-
-pub discrepancy-d-requires : goal.discrepancy-d-requires
-discrepancy-d-requires c = omega (arith, steps (goal.at.discrepancy-d-requires c).In-loop-r, c.loop-r.invariant.low)
-
 pub loop-r-preserved-then-d-eq-ZERO : goal.loop-r-preserved-then-d-eq-ZERO
 loop-r-preserved-then-d-eq-ZERO c =
     let i = c.args in
     let l = c.loop-r in
     let kept = held_kept (modulus i.field.field) (usable_field _ i.field.usable) i.s.now c.requires.1 l.w l.v l.l (l.r - l.l) l.invariant.held (sym c.discrepancy-d.ensures.is ∙ c.if-d-eq-ZERO.true) in
     record { low = omega (arith, l.invariant.low); long_w = l.invariant.long_w; long_v = l.invariant.long_v; held = rw (next (goal.at.loop-r-preserved-then-d-eq-ZERO c).In-loop-r) at kept }
-
-pub amended-u-requires : goal.amended-u-requires
-amended-u-requires c =
-    let turn = (goal.at.amended-u-requires c).In-loop-r in
-    (c.discrepancy-d.ensures.symbol, omega (arith, steps turn, c.loop-r.invariant.low))
 
 pub loop-r-preserved-then-q-l : goal.loop-r-preserved-then-q-l
 loop-r-preserved-then-q-l c =
@@ -66,16 +43,6 @@ loop-r-preserved-then-q-l c =
       long_v = l.invariant.long_v;
       held = rw (next turn) at mended;
     }
-
-pub amended-u-requires-in-loop-r : goal.amended-u-requires-in-loop-r
-amended-u-requires-in-loop-r c =
-    let turn = (goal.at.amended-u-requires-in-loop-r c).In-loop-r in
-    (c.discrepancy-d.ensures.symbol, omega (arith, steps turn))
-
-pub scaled-z-requires : goal.scaled-z-requires
-scaled-z-requires c =
-    let turn = (goal.at.scaled-z-requires c).In-loop-r in
-    (c.inverse-e.ensures.symbol, omega (arith, steps turn, c.loop-r.invariant.low))
 
 pub loop-r-preserved : goal.loop-r-preserved
 loop-r-preserved c =

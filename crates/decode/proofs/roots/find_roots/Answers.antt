@@ -23,12 +23,6 @@ pub loop-j-init : goal.loop-j-init
 unfolding power
 loop-j-init c = rw (c.new-nodes.ensures, sub-zero) record { few = omega arith; symbol = one_below _ (usable_field _ c.args.polynomial.field.usable); point = refl; listed = refl }
 
-pub value-y-requires : goal.value-y-requires
-value-y-requires c = c.loop-j.invariant.symbol
-
-pub mul-x-requires : goal.mul-x-requires
-mul-x-requires c = (c.requires.0, c.loop-j.invariant.symbol)
-
 pub loop-j-preserved : goal.loop-j-preserved
 loop-j-preserved c =
     let l = c.loop-j in

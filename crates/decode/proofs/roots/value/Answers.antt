@@ -2,7 +2,7 @@
 use mathlib.Core.Path.{◌≡◌}
 use Rattle.field.proofs.FieldOf.{size_pos}
 use Rattle.field.proofs.KindLaws.{usable_field}
-use Rattle.interpolation.proofs.FromEnd.{from_end_start, next_below, from_end_next, from_end_all}
+use Rattle.interpolation.proofs.FromEnd.{from_end_start, next_below, from_end_next}
 use Rattle.decode.proofs.Values.{horner_none, horner_next}
 use Rattle.decode.proofs.roots.value.Goals as goal
 
@@ -12,9 +12,6 @@ loop-c-init c =
     let start : c.into_iter-c-iterator.result.iter.rest.now ≡ a.polynomial.coefficients.now = cc in
     (size_pos _ (usable_field _ a.polynomial.field.usable), rw start (from_end_start _ _ (horner_none _ _)))
 
-pub mul-product-requires : goal.mul-product-requires
-mul-product-requires c = (c.requires, c.loop-c.invariant.0)
-
 pub add-sum-requires : goal.add-sum-requires
 add-sum-requires c =
     (rw c.from.ensures (next_below _ _ c.in-Some.ensures.steps c.loop-c.invariant.1 _ c.args.polynomial.symbols.below), c.mul-product.ensures.symbol)
@@ -23,9 +20,3 @@ pub loop-c-preserved : goal.loop-c-preserved
 loop-c-preserved c =
     let now = c.loop-c.invariant.1 in
     (c.add-sum.ensures.symbol, from_end_next _ _ c.in-Some.ensures.steps now _ (rw (c.add-sum.ensures.is, c.from.ensures, c.mul-product.ensures.is) (horner_next _ _ _ now.done _ now.holds)))
-
-pub returns-clause-is : goal.returns-clause-is
-returns-clause-is c = from_end_all _ c.in-None.ensures.steps.0 c.loop-c.invariant.1
-
-pub returns-clause-symbol : goal.returns-clause-symbol
-returns-clause-symbol c = c.loop-c.invariant.0

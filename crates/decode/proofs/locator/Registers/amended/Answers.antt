@@ -1,6 +1,5 @@
 -- `amended` meets its contract. Invariant: the first x coefficients are written.
 use mathlib.Core.Path.{ap, ap₂, ◌∙◌}
-use native.Mathlib.Omega.{arith}
 use Rattle.lists.specs.Padded.{zeros}
 use Rattle.lists.proofs.Fill.{filled_start, filled_put, filled_end}
 use Rattle.field.specs.Fields.{mul, sub}
@@ -15,16 +14,10 @@ pub loop-x-init : goal.loop-x-init
 unfolding zeros
 loop-x-init c = filled_start 255 _ _ c.requires.1
 
-pub at-requires : goal.at-requires
-at-requires c = omega (arith, c.requires.1)
-
 pub mul-product-requires : goal.mul-product-requires
 mul-product-requires c =
     let a = c.args in
     (c.requires.0, rw c.at.ensures (shifted_below _ a.self.v.now a.j c.loop-x.x (size_pos _ (usable_field _ a.self.field.usable)) a.self.before))
-
-pub at-requires-in-loop-x : goal.at-requires-in-loop-x
-at-requires-in-loop-x c = omega (arith, c.requires.1, c.loop-x-test.true)
 
 pub sub-requires : goal.sub-requires
 sub-requires c =

@@ -1,6 +1,5 @@
 -- `scaled` meets its contract. Invariant: the first x coefficients are written.
 use mathlib.Core.Path.{ap, ◌∙◌}
-use native.Mathlib.Omega.{arith}
 use Rattle.lists.specs.Padded.{zeros}
 use Rattle.lists.proofs.Fill.{filled_start, filled_put, filled_end}
 use Rattle.field.specs.Fields.{mul}
@@ -9,12 +8,6 @@ use Rattle.decode.proofs.locator.Registers.scaled.Goals as goal
 pub loop-x-init : goal.loop-x-init
 unfolding zeros
 loop-x-init c = filled_start 255 _ _ c.requires.1
-
-pub entry-requires : goal.entry-requires
-entry-requires c = omega (arith, c.requires.1)
-
-pub mul-requires : goal.mul-requires
-mul-requires c = (c.requires.0, rw c.entry.ensures (c.args.self.at_hand c.loop-x.x))
 
 pub loop-x-preserved : goal.loop-x-preserved
 loop-x-preserved c = filled_put c.loop-x.invariant c.loop-x-test.true (c.mul.ensures.is ∙ ap (mul _ _) c.entry.ensures)
