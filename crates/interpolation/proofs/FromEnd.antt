@@ -41,7 +41,3 @@ module _ {xs before : List ℕ} (after : List ℕ) (x : ℕ) {Holds : List ℕ �
 
   pub from_end_next : (Next : List ℕ → Type 0) → Next (x ∷ now.done) → FromEnd xs after Next
   from_end_next Next h = record { done = x ∷ now.done; parts = parts_next; holds = h }
-
-pub from_end_all : {xs : List ℕ} (rest : List ℕ) {Holds : List ℕ → Type 0} → length rest ≡ 0 → FromEnd xs rest Holds → Holds xs
-from_end_all [] {Holds} none now = rw (← now.parts) now.holds
-from_end_all (y ∷ ys) none now = absurd (omega arith)
