@@ -3,6 +3,10 @@ use Rattle.std.proofs.Common.{◌≡◌, refl, sym, ap, ◌∙◌, Bool, true, f
 use native.Mathlib.Nat.{div-div-eq-div-mul}
 use borrow.Author.Tests.{eqb-false}
 use lib.Seq.{take-set-le, drop-set-add}
+use Rattle.std.specs.Prelude.{Option, None, Some, MatchOption}
+use Rattle.std.specs.Option.{unwrap_or, option_map}
+use Rattle.lists.specs.Numbers.{all_below}
+use Rattle.lists.proofs.Numbers.{below_get_or}
 use Rattle.lists.specs.Choice.{pick, when}
 use Rattle.lists.specs.Rows.{from}
 use Rattle.lists.proofs.Cases.{by_test}
@@ -64,6 +68,15 @@ length_spreads = length_from spread_of 0 256
 pub spread_at : (x : ℕ) → x < 256 → get_or spreads x 0 ≡ spread_of x
 unfolding spreads
 spread_at x h = rw zero-add at (get_or_from spread_of 0 256 x 0 h)
+
+-- the entry of a table for a weight that may be there, or 0
+pub digits_told : {X : Type 0} (now : X → ℕ) (ws sp : List ℕ) (i r : ℕ) (o : Option X) → sp ≡ spreads → all_below 256 ws ≡ true → unwrap_or (option_map now o) 0 ≡ get_or ws i 0 → MatchOption o (r ≡ 0) (λ x. r ≡ get_or sp (now x) 0) → (r ≡ spread_of (get_or ws i 0)) × (r ≤ 72340172838076673)
+unfolding spread_of spread_from
+digits_told now ws sp i r None table low is none = rw (none, ← is) (refl, omega arith)
+digits_told now ws sp i r (Some x) table low is told =
+    let byte = below_get_or 256 ws (omega arith) low i in
+    let entry : r ≡ spread_of (get_or ws i 0) = told ∙ ap (λ (t : List ℕ). get_or t (now x) 0) table ∙ ap (λ (v : ℕ). get_or spreads v 0) is ∙ spread_at _ byte in
+    (entry, rw entry (spread_small _ byte))
 
 -- four bytes packed
 abbrev packed : ℕ → ℕ → ℕ → ℕ → ℕ → ℕ

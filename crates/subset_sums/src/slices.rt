@@ -27,15 +27,14 @@ struct Weights<'a> {
     ghost byte_weights: { all_below 256 weights.now ≡ true },
 }
 
-impl<'a> Weights<'a> {
-    // The digits of row i's weight, spread; 0 for the rows that fill the last group up. A closure for `map_or` would be longer than the match.
+impl Weights<'_> {
+    // The digits of row i's weight, spread; 0 for the rows that fill the last group up.
     fn digits(self, i: usize) -> u64
         ensures { (result ≡ spread_of (get_or self.entry.weights.now i 0)) × (result ≤ 72340172838076673) }
     {
-        match self.weights.get(i) {
-            Some(weight) => self.spread[*weight as usize],
-            None => 0,
-        }
+        self.weights
+            .get(i)
+            .map_or(0, |weight| self.spread[*weight as usize])
     }
 
     // Byte d is the subset of the four rows of group g whose weight has binary digit d.
@@ -56,11 +55,10 @@ impl<'a> Weights<'a> {
         if subsets == 0 {
             return;
         }
-        for b in 0..8 {
+        for (b, count) in counts.iter_mut().enumerate() {
             let v = (subsets >> (56 - 8 * b)) % 16;
-            let count = counts[b];
-            list[b * groups + count as usize] = entry(g, v);
-            counts[b] = count + u8::from(v != 0);
+            list[b * groups + *count as usize] = entry(g, v);
+            *count += u8::from(v != 0);
         }
     }
 }

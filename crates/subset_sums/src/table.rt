@@ -5,7 +5,8 @@ ghost use Rattle.subset_sums.specs.Inner.Subsets.{group_of, table_of, summed, Fi
 
 use kernel::gf256;
 
-// The slice at `to` becomes the sum of that at `a` and a row.
+// The slice at `to` becomes the sum of that at `a` and a row. Where `tab.copy_within(a..a + 64, to)` puts that slice there first, this takes
+// nine times as long.
 fn sum(row: &[u8], a: usize, to: usize, tab: &mut [u8])
     requires { (length row.now ≡ 64) × (a + 64 ≤ length tab.old) × (to + 64 ≤ length tab.old) }
     ensures { tab.new ≡ summed row.now a to tab.old }
