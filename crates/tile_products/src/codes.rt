@@ -31,7 +31,8 @@ impl<'a> WeightCodes<'a> {
         WeightCodes { field, codes }
     }
 
-    // The lists for the weights of an output, in parts of lent slices, whose lengths no type knows.
+    // The lists for the weights of an output, in parts of lent slices, whose lengths no type knows. Few weights, below the field's size, are
+    // asked at each call: a value `Weights { p, weights }` would be made by each caller of `prepare` for every output, and be read once.
     fn list(self, weights: &[u16], list: &mut [u16], counts: &mut [u8])
         requires few { length weights.now ≤ 255 }
         requires below { all_below (size_of (modulus self.field)) weights.now ≡ true }

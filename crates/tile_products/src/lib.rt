@@ -32,5 +32,5 @@ pub fn groups_of(rows: usize) -> usize
     ensures few { result ≤ 64 }
     ensures room { rows ≤ 4 * result }
 {
-    (rows + 3) / 4
+    rows.div_ceil(4)
 }

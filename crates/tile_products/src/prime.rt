@@ -49,7 +49,7 @@ impl Modulus {
         self.rest(sum)
     }
 
-    // The sums modulo p.
+    // The sums modulo p. By the index: where a loop over `out.iter_mut().enumerate()` stores them, an output of 125 rows takes a sixth more time.
     fn store(self, sums: &Sums<64>, out: &mut [u8])
         requires { length out.old ≡ 64 }
         ensures { out.new ≡ from (λ t. total_of (slice_index sums.now.rest t) (slice_index sums.now.upper t) % self.p) 0 64 }
@@ -59,7 +59,7 @@ impl Modulus {
         }
     }
 
-    // The ratios of all weights.
+    // The ratios of all weights. By the index: `codes[..p].iter_mut().enumerate()` takes a tenth more time.
     pub fn fill_ratios(self, codes: &mut [u64; 256])
         ensures { Ratios self.p codes.new }
     {
@@ -105,7 +105,7 @@ impl Modulus {
     }
 }
 
-// A row times c added: a product fits 16 binary digits.
+// A row times c added: a product fits 16 binary digits. By the index: with `row.iter().enumerate()` and AVX2 an output takes a sixth more time.
 fn add_product(c: u16, row: &[u8], sums: &mut Sums<64>)
     requires small { c ≤ 256 }
     requires long { length row.now ≡ 64 }

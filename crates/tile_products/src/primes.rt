@@ -13,7 +13,7 @@ use row_sums::wide;
 // A field of its own type does not say that it is usable, so a prime and its bound are asked.
 #[derive(Clone, Copy)]
 pub struct Prime {
-    p: u32,
+    p: u16,
     ghost prime: { is_prime p ≡ true },
     ghost fits: { p ≤ 65521 },
 }
@@ -24,14 +24,14 @@ impl Prime {
         requires fits { p ≤ 65521 }
         ensures { result.p ≡ p }
     {
-        Prime { p }
+        Prime { p: p as u16 }
     }
 
     // Whether a symbol is a byte.
     fn has_bytes(self) -> bool
         ensures { MatchBool result (self.p ≤ 256) (256 < self.p) }
     {
-        Field::Prime(PrimeField::new(self.p)).width() == 1
+        Field::Prime(PrimeField::new(self.p as u32)).width() == 1
     }
 
     // What stands for each weight; a weight of two bytes stands for itself.
@@ -39,7 +39,7 @@ impl Prime {
         ensures { Codes self.p codes.new }
     {
         if self.has_bytes() {
-            Modulus::new(self.p as u16).fill_ratios(codes);
+            Modulus::new(self.p).fill_ratios(codes);
         }
     }
 
@@ -52,7 +52,7 @@ impl Prime {
         ensures { (counts : List ℕ) → length counts ≡ 8 → Prepared self.p weights.now list.new counts }
     {
         if self.has_bytes() {
-            Modulus::new(self.p as u16).scale(codes, weights, list);
+            Modulus::new(self.p).scale(codes, weights, list);
             return;
         }
         let rows = weights.len();
@@ -68,12 +68,11 @@ impl Prime {
         requires out_long { length out.old ≡ bytes_for self.p * 64 }
         ensures { OutputRows self.p rows list.now tile.now out.new }
     {
-        let p = self.p as u16;
         if self.has_bytes() {
-            Modulus::new(p).output(rows, list, tile, out);
+            Modulus::new(self.p).output(rows, list, tile, out);
             return;
         }
         let size = rows * 128;
-        wide::combine(p, &list[..rows], 64, &tile[..size], out);
+        wide::combine(self.p, &list[..rows], 64, &tile[..size], out);
     }
 }
