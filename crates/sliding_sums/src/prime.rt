@@ -4,7 +4,8 @@ ghost use Rattle.field.specs.Primes.{is_prime};
 ghost use Rattle.sliding_sums.specs.Inner.Windows.{window_sums, Windows};
 ghost use Rattle.row_sums.specs.Inner.WideSums.{product_sum};
 
-// The sum of the products as a number.
+// The sum of the products as a number. The row is read by the index: by `weights.iter().zip(row).map(..).sum()` the sums of 10 weights take a
+// fifth more time, those of 51 up to a sixth.
 fn product_sum(weights: &[u16], row: &[u16]) -> u64
     requires { (length weights.now ≤ 255) × (length weights.now ≤ length row.now) }
     ensures { result ≡ product_sum weights.now row.now }
