@@ -44,7 +44,7 @@ fn turn(sums: &mut [u16])
 }
 
 // What the nodes hold, as bytes; `sums` is scratch with a place for each node. Two lists and where the sums go are handed on as they are, for
-// the reason at `window_sums`.
+// the reason at `window_sums`. The width w is a number here too: see symbols/src/lib.rt.
 fn write_nodes(
     field: Field,
     w: usize,
@@ -81,6 +81,7 @@ fn fill_lane(generator: &Generator, w: usize, symbols: &[u16], out: &mut [u8])
 }
 
 // The symbols of lane t of a message, and zeros after them.
+// An array with zeros after: there are k of them, as the code says, so no length stands beside them.
 #[tactic(auto, using(lists::proofs::Fill::filled_start, lists::proofs::Fill::filled_end), unfolding(lists::specs::Padded::zeros, layout::specs::Layout::lane_of))]
 fn lane_symbols(message: &Message, t: usize) -> [u16; 255]
     requires { t < message.now.lanes }

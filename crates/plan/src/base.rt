@@ -67,6 +67,7 @@ impl Recurrence<'_> {
 }
 
 // The base word of a code, and zeros after it.
+// An array with zeros after: so a plan hands it to C, and the code tells how much of it counts.
 pub fn base_word(codec: Codec) -> [u16; 255]
     ensures { result ≡ padded 255 (base_word codec.entry.code.header) }
 {

