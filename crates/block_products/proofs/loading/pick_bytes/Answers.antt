@@ -2,11 +2,8 @@
 use Rattle.std.proofs.Common.{length, arith}
 use Rattle.lists.proofs.Rows.{from_next}
 use Rattle.lists.proofs.Fill.{fills_put}
-use Rattle.lists.proofs.Parts.{valued_start, valued_all}
+use Rattle.lists.proofs.Parts.{valued_all}
 use Rattle.block_products.proofs.loading.pick_bytes.Goals as goal
-
-pub loop-q-init : goal.loop-q-init
-loop-q-init g c = valued_start _ _ _
 
 pub loop-q-preserved : goal.loop-q-preserved
 loop-q-preserved g c =

@@ -3,7 +3,7 @@ use Rattle.std.proofs.Common.{◌+◌, ◌*◌, length, get_or, ap, ◌∙◌, a
 use Rattle.lists.specs.Padded.{zeros}
 use Rattle.kernel.specs.Inner.Lanes.{lanewise}
 use Rattle.block_products.proofs.Marks.{zero_none, zero_more}
-use Rattle.block_products.proofs.MarkedRows.{marking_byte, marking_next, marking_all}
+use Rattle.block_products.proofs.MarkedRows.{marking_byte, marking_next}
 use Rattle.block_products.proofs.marking.mark_rows.Goals as goal
 
 pub loop-row-init : goal.loop-row-init
@@ -31,6 +31,3 @@ loop-row-preserved c =
           ∙ ap (lanewise _) g.marked
           ∙ zero_more (length c.args.marks.now) (λ i t. get_or c.args.words.now (i * 64 + t) 0) g.i c.in-Some.row.now (λ t lane. byte t (omega (arith, c.requires.few)))),
     )
-
-pub returns : goal.returns
-returns c = marking_all c.requires.words_long c.loop-row.invariant.3 c.in-None.ensures.steps.1.0

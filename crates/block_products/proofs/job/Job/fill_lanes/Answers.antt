@@ -1,16 +1,11 @@
 -- `fill_lanes` meets its contract: one part more, until all lanes are written.
-use Rattle.std.proofs.Common.{◌≡◌, ◌+◌, arith}
+use Rattle.std.proofs.Common.{◌+◌, arith}
 use Rattle.block_products.proofs.Writing.{done_start, done_end}
 use Rattle.block_products.proofs.job.Job.fill_lanes.Goals as goal
 
 pub loop-first-init : goal.loop-first-init
 loop-first-init c =
     let j = c.args.self in λ ws begun. done_start j.m.way j.w j.m.outputs j.m.lanes _ c.args.out.now c.requires.out_long
-
-pub loop-first-preserved : goal.loop-first-preserved
-loop-first-preserved c =
-    let whole : c.min.result ≡ 64 = omega arith in
-    λ ws begun. rw (← whole) (c.fill_tile.ensures ws begun (c.loop-first.invariant ws begun))
 
 pub returns : goal.returns
 returns c =

@@ -1,11 +1,11 @@
 -- `load_rows` meets its contract: one row of symbols more.
-use Rattle.std.proofs.Common.{◌≡◌, ℕ, ◌+◌, ◌*◌, ◌≤◌, length, sym, ap, ◌∙◌, zero-mul, mul_assoc, mul_comm, arith}
+use Rattle.std.proofs.Common.{◌≡◌, ℕ, ◌+◌, ◌*◌, ◌≤◌, length, sym, ap, ◌∙◌, mul_assoc, mul_comm, arith}
 use Rattle.lists.proofs.Images.{from_self}
 use Rattle.lists.proofs.Rows.{part_size, part_length, row_inside, row_after}
 use Rattle.layout.specs.Layout.{row_after_row}
 use Rattle.layout.proofs.Buffers.{length_lane}
 use Rattle.layout.proofs.Widths.{length_bytes}
-use Rattle.tiles.proofs.Gathered.{tile_none, tile_more, tile_lane}
+use Rattle.tiles.proofs.Gathered.{tile_more, tile_lane}
 use Rattle.block_products.proofs.Lanes.{row_part, row_loaded}
 use Rattle.block_products.proofs.job.Part.load_rows.Invariants.{lane_bytes}
 use Rattle.block_products.proofs.job.Part.load_rows.Goals as goal
@@ -21,9 +21,6 @@ tile-in c =
     let j = c.args.self.job in
     let e : j.w * j.m.rows * 64 ≡ j.m.rows * (j.w * 64) = ap (λ (x : ℕ). x * 64) (mul_comm j.w j.m.rows) ∙ mul_assoc j.m.rows j.w 64 in
     omega (arith, e, c.loop-r.auto.tile, c.requires, row_inside j.m.rows c.loop-r.r (j.w * 64) c.loop-r-test.true)
-
-pub loop-r-init : goal.loop-r-init
-loop-r-init c = rw (zero-mul c.args.self.job.w) (tile_none _ _ _ _)
 
 pub slice_bounds-load_row-end : goal.slice_bounds-load_row-end
 slice_bounds-load_row-end c = source_in (goal.at.slice_bounds-load_row-end c).In-loop-r

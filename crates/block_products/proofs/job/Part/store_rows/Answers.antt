@@ -2,7 +2,7 @@
 use Rattle.std.proofs.Common.{◌≡◌, ◌+◌, ◌-◌, ◌*◌, ◌≤◌, length, take, drop, sym, ◌∙◌, add-mul, mul_assoc, mul-le-mul, le_refl, arith}
 use Rattle.lists.proofs.Rows.{part_size, part_length, get_d_part, row_inside}
 use Rattle.layout.proofs.LaneParts.{lanes_long}
-use Rattle.layout.proofs.Stretches.{stretch_start, stretch_end, stretch_row}
+use Rattle.layout.proofs.Stretches.{stretch_end, stretch_row}
 use Rattle.block_products.proofs.Writing.{row_sums}
 use Rattle.block_products.proofs.job.Part.store_rows.Goals as goal
 use Rattle.block_products.proofs.job.Part.store_rows.Goals.{In-loop-i, Start}
@@ -20,9 +20,6 @@ out-in c =
     let j = c.args.self.job in
     let start = (goal.at.In-loop-i c).Start in
     omega (arith, c.loop-i.auto.out, out_long start, row_fits start, row_inside j.m.outputs c.loop-i.i (j.m.lanes * j.w) c.loop-i-test.true)
-
-pub loop-i-init : goal.loop-i-init
-loop-i-init c = λ f sums base. stretch_start _ _ base
 
 pub slice_bounds-store_row-end-in-loop-i : goal.slice_bounds-store_row-end-in-loop-i
 slice_bounds-store_row-end-in-loop-i c = out-in (goal.at.slice_bounds-store_row-end-in-loop-i c).In-loop-i
