@@ -43,8 +43,3 @@ module _ {rows m : ℕ} {words rows_left marks : List ℕ} (long : rows * 64 ≤
           left = rw (e, ← drop-drop, ← g.left, parts) (sym (drop_at row rows_left' 64 marking_long));
           marked = marked;
         }
-
-  pub marking_all : length rows_left ≡ 0 → marks ≡ zero_marks rows m (λ i t. get_or words (i * 64 + t) 0)
-  marking_all none =
-      let all : g.i ≡ rows = omega (arith, none, rows_long, g.few) in
-      g.marked ∙ ap (λ (n : ℕ). zero_marks n m (λ i t. get_or words (i * 64 + t) 0)) all
