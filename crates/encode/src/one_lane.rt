@@ -42,7 +42,7 @@ fn turn(sums: &mut [u16])
 }
 
 // What the nodes hold, as bytes; `sums` is scratch with a place for each node. Two lists and where the sums go are handed on as they are, for
-// the reason at `window_sums`.
+// the reason at `window_sums`. The width w is a number here too: see symbols/src/lib.rt.
 fn write_nodes(
     field: Field,
     w: usize,
@@ -79,6 +79,7 @@ fn fill_lane(generator: &Generator, w: usize, symbols: &[u16], out: &mut [u8])
 }
 
 // The symbols of lane t of a message, and zeros after them.
+// An array with zeros after: there are k of them, as the code says, so no length stands beside them.
 fn lane_symbols(message: &Message, t: usize) -> [u16; 255]
     requires { t < message.now.lanes }
     ensures { result ≡ padded 255 (lane_of row_after_row (record_header message.now).k message.now.lanes t (message_symbols message.now)) }

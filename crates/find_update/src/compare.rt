@@ -10,7 +10,8 @@ use field::lent::Arithmetic;
 use generator::Code;
 use plan::Plan;
 
-// What was added at each node: after less before.
+// What was added at each node: after less before, and zeros after it.
+// An array with zeros after: it is as long as the lanes, so no length stands beside it.
 pub fn difference(code: Code, before: &[u16], after: &[u16]) -> [u16; 255]
     requires { IsLane code.header before.now × IsLane code.header after.now }
     ensures { result ≡ padded 255 (differences code.header before.now after.now) }
@@ -46,7 +47,8 @@ impl LaneDifference<'_> {
         self.field.mul(self.symbols[first] as u32, over)
     }
 
-    // Whether the difference is x times the row.
+    // Whether the difference is x times the row. By a `for`: for `(0..n).all(|j| ..)` it would be shown of all nodes at once what `entry_at` and
+    // `is_product` ask and what the answer means, which the invariant says node by node.
     pub fn is_multiple(self, row: usize, x: u32) -> bool
         requires { (row < self.code.header.k) × (x < size self.code.header) }
         ensures { result ≡ is_multiple self.entry.code.header self.entry.symbols.now row x }

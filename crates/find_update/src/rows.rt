@@ -15,7 +15,8 @@ fn begins_at(k: u8, first: usize, difference: &[u16]) -> bool
 }
 
 impl LaneDifference<'_> {
-    // The least row that the difference begins with.
+    // The least row that the difference begins with. By a `for`, as in `is_multiple`: `firsts[..k].iter().position(..)` asks of all rows at once that
+    // their first nodes are below n.
     pub(crate) fn row(self) -> Option<usize>
         ensures { let h = self.entry.code.header in MatchOption result (row_starting h self.entry.symbols.now ≡ h.k) (λ r. (r < h.k) × (row_starting h self.entry.symbols.now ≡ r)) }
     {

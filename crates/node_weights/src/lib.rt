@@ -1,4 +1,5 @@
 // The weights by which listed nodes give back a symbol of the message or another node.
+// A list is an array with zeros after: the listed nodes or rows, which each caller has, tell how long it is, so no length stands beside it.
 #![tactic(auto)]
 
 ghost use Rattle.std.specs.Prelude.{◌≡◌, true, ◌<◌, ◌≤◌, length};

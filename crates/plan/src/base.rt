@@ -39,6 +39,7 @@ fn next_entry(code: Code, tables: &Tables, scale: u32, pole: u32, x: u32, entry:
 }
 
 // The n − k + 1 entries that are not 0, each from the one before it, and zeros after them.
+// An array with zeros after: so a plan hands it to C, and the code tells how much of it counts.
 pub fn fill_base(code: Code, tables: &Tables) -> [u16; 255]
     ensures { result ≡ padded 255 (base_word code.header) }
 {

@@ -85,6 +85,7 @@ impl Inverse<'_> {
     }
 
     // Row r: column r of the sums, each times the scale of the row and that of its node, and zeros after it.
+    // An array with zeros after: it has k entries, as the code says, so no length stands beside it.
     fn row(self, field: Arithmetic, r: usize, sums: &[u8]) -> [u16; 255]
         requires { (field.field ≡ self.code.header.field) × (r < self.code.header.k) × (sums.now ≡ bytes_of (width self.code.header) (inverse_sums self.code.header self.nodes.now)) }
         ensures { result ≡ padded 255 (inverse_row self.entry.code.header self.entry.nodes.now r) }

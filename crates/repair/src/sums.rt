@@ -54,7 +54,8 @@ pub struct Planes<'a> {
 }
 
 impl<'a> Planes<'a> {
-    // The sum of the planes whose weight has the bit.
+    // The sum of the planes whose weight has the bit. By place: `chunks(self.size)` takes no 0, so `Planes` and what makes it would have to be
+    // told that a plane has a byte.
     fn sum(self, bit: Bit, acc: &mut [u8])
         requires { length acc.old ≡ self.size }
         ensures { acc.new ≡ plane_sum self.entry.weights.now (length self.entry.weights.now) self.entry.size self.entry.rows.now bit.place }

@@ -67,7 +67,7 @@ fn place_slices(list: &mut [u16])
     }
 }
 
-// The lists for the weights.
+// The lists for the weights. How many groups is a number here too: see subset_sums/src/table.rt.
 fn prepare(weights: &[u16], groups: usize, list: &mut [u16], counts: &mut [u8; 8])
     requires { (all_below 256 weights.now ≡ true) × (groups ≤ 64) × (length list.old ≡ 8 * groups) }
     ensures { Placed groups weights.now list.new counts.new }

@@ -39,7 +39,8 @@ fn fill_group(rows: &[u8], tab: &mut [u8])
     }
 }
 
-// The same for group after group of rows.
+// The same for group after group of rows. `groups` is a number, at most 64: a type for it would be made from the number of rows by each caller,
+// and be turned into a number at each length and place.
 pub fn fill_table(rows: &[u8], groups: usize, tab: &mut [u8])
     requires { (groups ≤ 64) × (length rows.now ≡ groups * 256) × (length tab.old ≡ groups * 1024) }
     ensures { tab.new ≡ table_of groups rows.now }

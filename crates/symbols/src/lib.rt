@@ -52,7 +52,8 @@ pub fn pairs_below(size: u32, s: &[u8]) -> bool
     (largest_pair(s) as u32) < size
 }
 
-// The symbols of a buffer that holds at most 255.
+// The symbols of a buffer that holds at most 255, and zeros after them.
+// An array with zeros after: the buffer tells how many symbols there are, so no length stands beside them.
 pub fn read_symbols(w: usize, s: &[u8]) -> [u16; 255]
     requires { (1 ≤ w) × (w ≤ 2) × (length s.now ≤ 255 * w) }
     ensures { result ≡ padded 255 (symbols_of w s.now) }

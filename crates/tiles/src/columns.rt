@@ -32,6 +32,7 @@ fn turn(rows: usize, lanes: usize, table: &[u8], out: &mut [u8])
 }
 
 // The rows of a tile, from lanes that stand side by side: few lanes, or many rows, byte by byte, as the rows of a table whose columns are the tile's rows.
+// Two sizes of scratch, as an array's size is a constant: clearing the larger takes 0.19 µs in place of 0.03, longer than turning few rows.
 fn gather(lanes: Lanes, tile: &mut [u8])
     requires { length tile.old ≡ lanes.rows * lanes.count }
     ensures { tile.new ≡ rearranged lane_after_lane row_after_row lanes.entry.rows lanes.entry.count lanes.entry.bytes.now }
