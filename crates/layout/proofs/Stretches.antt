@@ -27,9 +27,6 @@ module _ {rows l : ℕ} {f : ℕ → ℕ → ℕ} where
   rows_start now long = record { long = long; done = λ i t row lane none. absurd (omega arith) }
 
   module _ (t c : ℕ) {now : List ℕ} where
-    pub stretch_start : RowsFilled rows l f (λ i. t) now → RowsFilled rows l f (stretch t c 0) now
-    stretch_start s = record { long = s.long; done = λ i q row lane low. s.done i q row lane (rw (le-ltb i 0 (omega arith)) at low) }
-
     -- after its last row
     pub stretch_end : (r : ℕ) → rows ≤ r → RowsFilled rows l f (stretch t c r) now → RowsFilled rows l f (λ i. t + c) now
     stretch_end r all s = record { long = s.long; done = λ i q row lane low. s.done i q row lane (rw (lt-ltb i r (omega arith)) low) }

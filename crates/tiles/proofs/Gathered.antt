@@ -23,10 +23,6 @@ read_chunk part start at to inside room =
       kept = λ x low. get_or-put_chunk_below to start (chunk at 16 part) x 0 low;
     }
 
--- a tile that is filled from its first row on
-pub tile_none : (rows count : ℕ) (f : ℕ → ℕ → ℕ) (tile : List ℕ) → TileOf rows 0 count f tile
-tile_none rows count f tile = record { holds = λ i t row none lane. absurd (omega arith) }
-
 -- d rows more, written through their part
 pub tile_more : (rows r d count : ℕ) (f : ℕ → ℕ → ℕ) (tile xs : List ℕ) (k : ℕ) → length xs ≡ k → r * 64 + k ≤ length tile → count ≤ 64 → TileOf rows r count f tile → ((i t : ℕ) → i < d → r + i < rows → t < count → (i * 64 + t < k) × (get_or xs (i * 64 + t) 0 ≡ f (r + i) t)) → TileOf rows (r + d) count f (take (r * 64) tile ++ (xs ++ drop k (drop (r * 64) tile)))
 tile_more rows r d count f tile xs k size fits few held same =
