@@ -11,19 +11,20 @@ use refusals::length_bad;
 mod table;
 
 // Number 4: n below 2 or no byte, k zero, or k above n.
+#[tactic(auto, unfolding(crate::specs::Promise::asked_bad))]
 fn asked_bad(n: u32, k: u32) -> bool
     ensures { result ≡ asked_bad n k }
 {
-    (n < 2) | (255 < n) | (k == 0) | (n < k)
+    n < 2 || 255 < n || k == 0 || n < k
 }
 
-// Number 4, then 8 for the room.
+// Number 4, then 8; `size` is the length of the written buffer.
 #[tactic(auto, using(generator::proofs::Answered::tests), unfolding(crate::specs::Promise::choose_fault))]
-fn choose_fault(n: u32, k: u32, room: usize) -> Result<(), Refusal>
-    ensures { numbered result ≡ outcome_of (choose_fault n k room) }
+fn choose_fault(n: u32, k: u32, size: usize) -> Result<(), Refusal>
+    ensures { numbered result ≡ outcome_of (choose_fault n k size) }
 {
     Refusal::Size.when(asked_bad(n, k))?;
-    Refusal::Length.when(length_bad(7, room))
+    Refusal::Length.when(length_bad(7, size))
 }
 
 // The record, of kind 2 or 3, and how many bytes it has.

@@ -3,6 +3,7 @@ ghost use Rattle.std.specs.Prelude.{◌≡◌, ◌≤◌};
 ghost use Rattle.choose.specs.Table.{prime_for, root_for};
 
 // The largest prime below 65,536 that leaves 1 modulo a number of nodes, or 0 where that divides 255, and a symbol of this order there.
+// An enum, `Bytes { root: u8 }` or `Words { prime: u16, root: u16 }`, would be made by a test of the same 0, and its clause be a choice where each field is now its table's.
 #[derive(Clone, Copy)]
 pub struct Entry {
     pub prime: u16,
