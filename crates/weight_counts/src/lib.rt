@@ -11,7 +11,8 @@ ghost use Rattle.weight_counts.specs.Inner.Counting.{Small, with_previous, diffe
 
 use generator::{Code, Refusal};
 
-// Takes from each place, from the last down to `first`, the place before it.
+// Takes from each place, from the last down to `first`, the place before it. One function for this and the next, `with_previous(counts, first, |x, y| x - y)`,
+// would save a loop of one line and have three clauses more: where the closure may be called, and what it gives.
 fn subtract_previous(counts: &mut [u32], first: usize)
     requires { (0 < first) × (first ≤ length counts.old) × ((y : ℕ) → first ≤ y → y < length counts.old → slice_index counts.old (y - 1) ≤ slice_index counts.old y) }
     ensures { counts.new ≡ with_previous ◌-◌ first counts.old }
