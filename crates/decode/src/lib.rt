@@ -12,9 +12,7 @@ ghost use Rattle.decode.specs.Inner.Candidates.{SoundLane, WrongNodes, Candidate
 
 use arrayvec::ArrayVec;
 use check_sums::lane::{Lane, PowerRows};
-use field::Tables;
-use field::lent::Arithmetic;
-use generator::Code;
+use generator::Codec;
 use interpolation::polynomials::Polynomial;
 
 mod errors;
@@ -36,13 +34,13 @@ pub struct Corrected {
 }
 
 // The only symbols that may be a word near enough, and zeros after them.
-fn candidate(code: Code, tables: &Tables, lane: &[u16], sums: [u16; 255]) -> [u16; 255]
-    requires { SoundLane code.header lane.now × (sums ≡ padded 255 (check_sums code.header lane.now)) }
-    ensures { Candidate code.header lane.now result }
+fn candidate(codec: Codec, lane: &[u16], sums: [u16; 255]) -> [u16; 255]
+    requires { let h = codec.code.header in SoundLane h lane.now × (sums ≡ padded 255 (check_sums h lane.now)) }
+    ensures { Candidate codec.entry.code.header lane.now result }
 {
-    let h = code.header;
-    let field = Arithmetic::new(h.field, tables);
-    let found = wrong_nodes(code, tables, &sums);
+    let h = codec.code.header;
+    let field = codec.field;
+    let found = wrong_nodes(codec, &sums);
     let nodes = found.as_slice();
     let count = nodes.len();
     let taken = Polynomial {
@@ -54,12 +52,12 @@ fn candidate(code: Code, tables: &Tables, lane: &[u16], sums: [u16; 255]) -> [u1
 }
 
 // The nodes at which the locator of the check sums vanishes: all wrong ones, if a word is near enough.
-fn wrong_nodes(code: Code, tables: &Tables, sums: &[u16; 255]) -> ArrayVec<u8, 255>
-    requires { Below (size code.header) sums.now }
-    ensures { WrongNodes code.header sums.now result.items }
+fn wrong_nodes(codec: Codec, sums: &[u16; 255]) -> ArrayVec<u8, 255>
+    requires { Below (size codec.code.header) sums.now }
+    ensures { WrongNodes codec.entry.code.header sums.now result.items }
 {
-    let h = code.header;
-    let field = Arithmetic::new(h.field, tables);
+    let h = codec.code.header;
+    let field = codec.field;
     let root = h.root;
     let n = h.n as usize;
     let t = ((h.n - h.k) / 2) as usize;
@@ -86,7 +84,8 @@ pub fn correct_lane(rows: PowerRows, lane: &[u16]) -> Option<Corrected>
     }
     .sums();
     let tables = field::constant_tables();
-    let word = candidate(rows.code, &tables, lane, sums);
+    let codec = Codec::new(rows.code, &tables);
+    let word = candidate(codec, lane, sums);
     let altered = differing(lane, &word[..n]);
     if t < altered {
         return None;

@@ -10,34 +10,34 @@ use Rattle.decode.proofs.candidate.Goals as goal
 use Rattle.decode.proofs.candidate.Goals.{After-as_slice-nodes, After-errors-wrong}
 
 -- what is known once the nodes are found
-facts : (c : After-as_slice-nodes) → let a = c.args in CandidateParts a.code.header a.lane.now a.sums c.as_slice-nodes.result.now
-facts c = candidate_parts c.args.code.header c.args.lane.now c.requires.0 c.args.sums c.requires.1 _ (rw c.as_slice-nodes.ensures.value c.wrong_nodes-found.ensures)
+facts : (c : After-as_slice-nodes) → let a = c.args in CandidateParts a.codec.code.header a.lane.now a.sums c.as_slice-nodes.result.now
+facts c = candidate_parts c.args.codec.code.header c.args.lane.now c.requires.0 c.args.sums c.requires.1 _ (rw c.as_slice-nodes.ensures.value c.wrong_nodes-found.ensures)
 
 -- and once the errors are
 errors-part : (c : After-errors-wrong)
     → let nodes : List ℕ = c.as_slice-nodes.result.now in
-    take (length nodes) c.errors-wrong.result ≡ errors_at c.args.code.header nodes c.args.sums
+    take (length nodes) c.errors-wrong.result ≡ errors_at c.args.codec.code.header nodes c.args.sums
 errors-part c =
     let nodes : List ℕ = c.as_slice-nodes.result.now in
     let wrong : List ℕ = c.errors-wrong.result in
-    let is : wrong ≡ padded 255 (errors_at c.args.code.header nodes c.args.sums) = rw c.new-field.ensures at c.errors-wrong.ensures in
+    let is : wrong ≡ padded 255 (errors_at c.args.codec.code.header nodes c.args.sums) = rw c.args.codec.same at c.errors-wrong.ensures in
     ap (take (length nodes)) is ∙ take_padded 255 (length nodes) _ (facts (goal.at.After-errors-wrong c).After-as_slice-nodes).errors_count
 
 pub wrong_nodes-found-requires : goal.wrong_nodes-found-requires
-wrong_nodes-found-requires c = sums_symbols c.args.code.header c.args.lane.now c.requires.0 c.args.sums c.requires.1
+wrong_nodes-found-requires c = sums_symbols c.args.codec.code.header c.args.lane.now c.requires.0 c.args.sums c.requires.1
 
 pub invariant_of-taken : goal.invariant_of-taken
 invariant_of-taken c =
     let f = facts (goal.at.invariant_of-taken c).After-as_slice-nodes in
-    record { symbols = rw c.new-field.ensures f.terms_symbols }
+    record { symbols = rw c.args.codec.same f.terms_symbols }
 
 pub removed-requires : goal.removed-requires
 removed-requires c =
     let f = facts (goal.at.removed-requires c).After-as_slice-nodes in
-    rw (c.new-field.ensures, errors-part (goal.at.removed-requires c).After-errors-wrong) (f.lane_symbols, f.errors_symbols, f.nodes_low, f.errors_count)
+    rw (c.args.codec.same, errors-part (goal.at.removed-requires c).After-errors-wrong) (f.lane_symbols, f.errors_symbols, f.nodes_low, f.errors_count)
 
 pub returns : goal.returns
 returns c =
     let f = facts (goal.at.returns c).After-as_slice-nodes in
-    let is = rw c.new-field.ensures at c.removed.ensures in
+    let is = rw c.args.codec.same at c.removed.ensures in
     f.candidate _ (is ∙ rw (errors-part (goal.at.returns c).After-errors-wrong))

@@ -13,25 +13,25 @@ use Rattle.decode.proofs.wrong_nodes.Goals as goal
 use Rattle.decode.proofs.wrong_nodes.Goals.{After-locate-locator}
 
 -- the locator's coefficients
-front_long : (c : After-locate-locator) → let h = c.args.code.header in length (take ((h.n - h.k) / 2 + 1) c.locate-locator.result) ≡ (h.n - h.k) / 2 + 1
-front_long c = length-take-le _ c.locate-locator.result (omega (arith, c.locate-locator.ensures.long, c.args.code.sound.byte))
+front_long : (c : After-locate-locator) → let h = c.args.codec.code.header in length (take ((h.n - h.k) / 2 + 1) c.locate-locator.result) ≡ (h.n - h.k) / 2 + 1
+front_long c = length-take-le _ c.locate-locator.result (omega (arith, c.locate-locator.ensures.long, c.args.codec.code.sound.byte))
 
-front_below : (c : After-locate-locator) → let h = c.args.code.header in all_below (size h) (take ((h.n - h.k) / 2 + 1) c.locate-locator.result) ≡ true
+front_below : (c : After-locate-locator) → let h = c.args.codec.code.header in all_below (size h) (take ((h.n - h.k) / 2 + 1) c.locate-locator.result) ≡ true
 front_below c =
-    let h = c.args.code.header in
-    at_below _ _ (λ i b. rw (get_or-take ((h.n - h.k) / 2 + 1) c.locate-locator.result i 0 (omega (arith, front_long c))) (rw c.new-field.ensures at (c.locate-locator.ensures.below i)))
+    let h = c.args.codec.code.header in
+    at_below _ _ (λ i b. rw (get_or-take ((h.n - h.k) / 2 + 1) c.locate-locator.result i 0 (omega (arith, front_long c))) (rw c.args.codec.same at (c.locate-locator.ensures.below i)))
 
 pub invariant_of-polynomial : goal.invariant_of-polynomial
 invariant_of-polynomial c =
     let w = (goal.at.invariant_of-polynomial c).After-locate-locator in
-    record { symbols = rw c.new-field.ensures (record { below = front_below w; short = omega (arith, front_long w, c.args.code.sound.byte) }) }
+    record { symbols = rw c.args.codec.same (record { below = front_below w; short = omega (arith, front_long w, c.args.codec.code.sound.byte) }) }
 
 pub returns : goal.returns
 unfolding radius
 returns c =
     record {
-      few = omega (arith, c.args.code.sound.byte);
+      few = omega (arith, c.args.codec.code.sound.byte);
       locator = c.locate-locator.result;
-      locates = rw c.new-field.ensures at c.locate-locator.ensures;
-      listed = rw c.new-field.ensures at c.find_roots.ensures;
+      locates = rw c.args.codec.same at c.locate-locator.ensures;
+      listed = rw c.args.codec.same at c.find_roots.ensures;
     }
