@@ -6,7 +6,7 @@ ghost use Rattle.generator.specs.Answers.{numbered};
 ghost use Rattle.differences.specs.Promise.{differences_fault, add_fault, DifferencesPromise, AddPromise, DifferencesSays, AddSays};
 
 use change::Change;
-use generator::{Code, Codec, Refusal};
+use generator::{Code, Refusal};
 use plan::Generator;
 use rows::Rows;
 
@@ -29,7 +29,7 @@ fn differences_accepted(
 {
     fault::differences_fault(code, lanes, symbol, old, new, out.len())?;
     let tables = field::constant_tables();
-    let generator = Generator::new(Codec::new(code, &tables));
+    let generator = Generator::new(code, &tables);
     let width = symbols::width_of(code.header);
     let change = Change {
         generator: &generator,

@@ -7,7 +7,7 @@ ghost use Rattle.generator.specs.Answers.{numbered};
 ghost use Rattle.encode.specs.Promise.{encode_fault, EncodePromise, EncodeSays};
 ghost use Rattle.encode.specs.Inner.Encoded.{share_bytes, encoded};
 
-use generator::{Code, Codec, Refusal};
+use generator::{Code, Refusal};
 use message::Message;
 use plan::Generator;
 
@@ -40,7 +40,7 @@ fn encode_accepted(code: Code, lanes: usize, message: &[u8], out: &mut [u8]) -> 
 {
     fault::encode_fault(code, lanes, message, out.len())?;
     let tables = field::constant_tables();
-    let generator = Generator::new(Codec::new(code, &tables));
+    let generator = Generator::new(code, &tables);
     let message = Message {
         generator: &generator,
         width: symbols::width_of(code.header),

@@ -4,7 +4,8 @@ ghost use Rattle.generator.specs.Generator.{entry};
 ghost use Rattle.plan.specs.Inner.Planned.{Planned};
 
 use crate::{base, entries};
-use generator::Codec;
+use field::Tables;
+use generator::{Code, Codec};
 
 // The code with the arithmetic of its field, the shifts of its rows, and its base word, with zeros after them.
 #[derive(Clone, Copy)]
@@ -17,10 +18,11 @@ pub struct Generator<'t> {
 
 impl<'t> Generator<'t> {
     #[tactic(auto, unfolding(crate::specs::Plans::plan_of))]
-    pub fn new(codec: Codec<'t>) -> Self
-        ensures { result.codec ≡ codec.entry }
+    pub fn new(code: Code, tables: &'t Tables) -> Self
+        ensures { result.codec.code ≡ code }
     {
-        let shifts = shifts::shifts_of(codec.code.dimensions());
+        let codec = Codec::new(code, tables);
+        let shifts = shifts::shifts_of(code.dimensions());
         let base = base::base_word(codec);
         Self {
             codec,

@@ -6,8 +6,8 @@ ghost use Rattle.traces.specs.Repairs.{ratio, offset, erasing, eraser, factor};
 
 use crate::bits::Bits;
 use check_sums::powers::RootPowers;
-use field::Field;
-use generator::Codec;
+use field::{Field, Tables};
+use generator::{Code, Codec};
 
 // The target of a repair, its code, and the bits that a node sends it of a symbol.
 #[derive(Clone, Copy)]
@@ -20,10 +20,11 @@ pub struct Target<'a> {
 }
 
 impl<'a> Target<'a> {
-    pub fn new(codec: Codec<'a>, bits: Bits, node: u32) -> Self
-        requires { (modulus_of codec.code.header ≡ 0) × (node < codec.code.header.n) }
-        ensures { (result.codec ≡ codec.entry) × (result.bits ≡ bits) × (result.node ≡ node) }
+    pub fn new(code: Code, bits: Bits, node: u32, tables: &'a Tables) -> Self
+        requires { (modulus_of code.header ≡ 0) × (node < code.header.n) }
+        ensures { (result.codec.code ≡ code) × (result.bits ≡ bits) × (result.node ≡ node) }
     {
+        let codec = Codec::new(code, tables);
         Self { codec, bits, node }
     }
 

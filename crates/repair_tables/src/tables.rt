@@ -15,7 +15,7 @@ use crate::bits::Bits;
 use crate::nodes::Target;
 use crate::senders::list_senders;
 use check_sums::powers::{self, RootPowers};
-use generator::{Code, Codec};
+use generator::Code;
 
 // The sums of two rows of 16: of the entry for the lower four bits and the entry for the upper four.
 fn sums(low: &[u8; 16], high: &[u8; 16]) -> [u8; 256]
@@ -89,7 +89,7 @@ pub fn sent_digits(code: Code, b: Bits, target: u32, missing: &[u8], node: u32) 
     ensures { result ≡ from (sent_digit code.header target missing.now node) 0 256 }
 {
     let tables = field::constant_tables();
-    let target = Target::new(Codec::new(code, &tables), b, target);
+    let target = Target::new(code, b, target, &tables);
     let f = target.factor(missing, node);
     let low = target.sixteen(f, 1);
     let high = target.sixteen(f, 16);
@@ -103,6 +103,6 @@ pub fn weights(code: Code, b: Bits, target: u32, missing: &[u8]) -> [u8; 1020]
 {
     let nodes = list_senders(code.header.n, target, missing);
     let tables = field::constant_tables();
-    let target = Target::new(Codec::new(code, &tables), b, target);
+    let target = Target::new(code, b, target, &tables);
     target.list_weights(nodes.as_slice())
 }

@@ -122,7 +122,7 @@ fn update_accepted(code: Code, update: Update, shares: &mut [u8]) -> Result<u32,
 {
     update.input_fault(code, shares)?;
     let tables = field::constant_tables();
-    let generator = Generator::new(Codec::new(code, &tables));
+    let generator = Generator::new(code, &tables);
     update.judge_lane(&generator, shares)?;
     Ok(update.rewrite_lane(&generator, shares))
 }

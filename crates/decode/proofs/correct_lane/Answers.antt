@@ -1,5 +1,5 @@
 -- `correct_lane` meets its contract: the candidate is near enough and a word, or no word is.
-use mathlib.Core.Path.{◌≡◌, sym, ◌∙◌}
+use mathlib.Core.Path.{◌≡◌, sym, ap, ◌∙◌}
 use lib.ListN.{take}
 use Rattle.lists.proofs.Padding.{take_padded}
 use Rattle.lists.specs.Counting.{differ}
@@ -16,7 +16,7 @@ near c = rw c.new-codec.ensures at c.candidate-word.ensures
 
 -- the first n places of the candidate are its word
 word : (c : After-candidate-word) → take c.args.rows.code.header.n c.candidate-word.result ≡ (near c).word
-word c = let k = near c in rw k.array_is (take_padded 255 _ k.word k.long)
+word c = let k = near c in ap (take c.args.rows.code.header.n) k.array_is ∙ take_padded 255 _ k.word k.long
 
 pub invariant_of-sums : goal.invariant_of-sums
 invariant_of-sums c = record { long = c.requires.long; below = c.requires.below }

@@ -8,7 +8,7 @@ use Rattle.repair_tables.proofs.tables.sent_digits.Goals as goal
 use Rattle.repair_tables.proofs.tables.sent_digits.Goals.{After-factor-f}
 
 pub new-target-requires : goal.new-target-requires
-new-target-requires c = let (b, t, missing, j) = c.requires in rw c.new.ensures (binary_of _ _ _ b, t)
+new-target-requires c = let (b, t, missing, j) = c.requires in (binary_of _ _ _ b, t)
 
 -- the factor is a byte
 low : (c : After-factor-f) → c.factor-f.result < 256
@@ -23,7 +23,7 @@ sixteen-high-requires c = (low (goal.at.sixteen-high-requires c).After-factor-f,
 pub returns : goal.returns
 unfolding sent_digit
 returns c =
-    let (codec, bits, node) = c.new-target.ensures in
+    let (code, bits, node) = c.new-target.ensures in
     c.sums.ensures
     ∙ table_is _ _ _ _ _ c.new-target.result.binary (low (goal.at.returns c).After-factor-f) c.sixteen-low.ensures c.sixteen-high.ensures
-    ∙ rw (c.factor-f.ensures.is, codec, c.new.ensures, bits, node, c.requires.0)
+    ∙ rw (c.factor-f.ensures.is, code, bits, node, c.requires.0)

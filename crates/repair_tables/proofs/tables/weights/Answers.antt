@@ -22,9 +22,9 @@ few c =
 
 pub list_weights-requires : goal.list_weights-requires
 list_weights-requires c =
-    rw (listed (goal.at.list_weights-requires c).After-as_slice, c.new-target.ensures.0, c.new.ensures) (senders_below _ _ _, few (goal.at.list_weights-requires c).After-as_slice)
+    rw (listed (goal.at.list_weights-requires c).After-as_slice, c.new-target.ensures.0) (senders_below _ _ _, few (goal.at.list_weights-requires c).After-as_slice)
 
 pub returns : goal.returns
 returns c =
-    let (codec, bits, node) = c.new-target.ensures in
-    c.list_weights.ensures ∙ rw (listed (goal.at.returns c).After-as_slice, codec, c.new.ensures, bits, node)
+    let (code, bits, node) = c.new-target.ensures in
+    c.list_weights.ensures ∙ rw (listed (goal.at.returns c).After-as_slice, code, bits, node)
