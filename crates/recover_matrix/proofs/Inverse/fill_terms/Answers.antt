@@ -31,13 +31,13 @@ terms c = let s = c.args.self.code.sound in term_symbols c.args.self.code.header
 
 -- they are what is lent
 taken : (c : After-row_terms-row) → let h = c.args.self.code.header in take h.k c.row_terms-row.result ≡ row_terms h c.loop-r.r
-taken c = rw c.row_terms-row.ensures (take_padded 255 _ _ (terms (goal.at.After-row_terms-row c).In-loop-r).size)
+taken c = rw (c.row_terms-row.ensures, c.new-codec.ensures) (take_padded 255 _ _ (terms (goal.at.After-row_terms-row c).In-loop-r).size)
 
 pub row_terms-row-requires : goal.row_terms-row-requires
 unfolding setup_of
 row_terms-row-requires c =
     let v = c.args.self in
-    (ap (λ (t : Setup). t.shifts) v.prepared, ap (λ (t : Setup). t.base) v.prepared, c.loop-r-test.true)
+    rw c.new-codec.ensures (ap (λ (t : Setup). t.shifts) v.prepared, ap (λ (t : Setup). t.base) v.prepared, c.loop-r-test.true)
 
 pub write_symbols-requires : goal.write_symbols-requires
 write_symbols-requires c =

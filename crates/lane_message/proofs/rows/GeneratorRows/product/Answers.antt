@@ -28,7 +28,7 @@ rounds_of-requires c =
 pub invariant_of-product : goal.invariant_of-product
 invariant_of-product c =
     let v = c.args.self.transform in
-    record { symbols = rw (v.same, c.requires) (row_symbols v.powers.code.header v.powers.code.sound (few (goal.at.invariant_of-product c).Start)).are }
+    record { symbols = rw (v.powers.codec.same, c.requires) (row_symbols v.powers.codec.code.header v.powers.codec.code.sound (few (goal.at.invariant_of-product c).Start)).are }
 
 pub round_product-requires : goal.round_product-requires
 round_product-requires c =

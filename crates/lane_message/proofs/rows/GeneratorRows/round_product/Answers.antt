@@ -30,7 +30,7 @@ slice_bounds-product-end c = sym (ap length (part (goal.at.slice_bounds-product-
 pub invariant_of-product : goal.invariant_of-product
 invariant_of-product c =
     let v = c.args.self.transform in
-    record { symbols = rw (v.same, part (goal.at.invariant_of-product c).After-round_points-points) (round_symbols v.powers.code.header v.powers.code.sound c.args.g c.requires.0 (few (goal.at.invariant_of-product c).Start)) }
+    record { symbols = rw (v.powers.codec.same, part (goal.at.invariant_of-product c).After-round_points-points) (round_symbols v.powers.codec.code.header v.powers.codec.code.sound c.args.g c.requires.0 (few (goal.at.invariant_of-product c).Start)) }
 
 pub returns : goal.returns
 returns c = c.spread.ensures ∙ ap (padded 256) (rw (c.product-product.ensures, c.args.self.transform.powers.codec.same, part (goal.at.returns c).After-round_points-points) (round_product c.args.self.transform.powers.codec.code.header c.args.self.transform.powers.codec.code.sound c.args.g c.requires.0 c.requires.2))

@@ -15,8 +15,8 @@ pub loop-node-preserved : goal.loop-node-preserved
 loop-node-preserved c =
     let t = c.args.self in
     let l = c.loop-node in (
-      rw t.same at c.mul-product.ensures.symbol,
-      rw (c.mul-product.ensures.is, c.erasing-x.ensures.is, t.same) (eraser_next _ t.code.sound _ _ c.requires.0 c.args.missing.now l.node-index _ c.loop-node-test.true l.invariant.0 ∙ l.invariant.1),
+      rw t.codec.same at c.mul-product.ensures.symbol,
+      rw (c.mul-product.ensures.is, c.erasing-x.ensures.is, t.codec.same) (eraser_next _ t.codec.code.sound _ _ c.requires.0 c.args.missing.now l.node-index _ c.loop-node-test.true l.invariant.0 ∙ l.invariant.1),
     )
 
 pub returns : goal.returns
