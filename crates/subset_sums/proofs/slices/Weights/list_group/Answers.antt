@@ -1,5 +1,5 @@
 -- `Weights::list_group` meets its contract. The loop's invariant: the digits before b are a group further.
-use Rattle.std.proofs.Common.{◌≡◌, ℕ, ◌+◌, ◌-◌, ◌*◌, ◌/◌, ◌%◌, ◌^◌, ◌<◌, eqb, get_or, sym, add-zero, arith}
+use Rattle.std.proofs.Common.{◌≡◌, ℕ, ◌+◌, ◌-◌, ◌*◌, ◌/◌, ◌%◌, ◌^◌, eqb, get_or, sym, add-zero}
 use native.Mathlib.Nat.{zero-div}
 use Rattle.lists.specs.Choice.{pick}
 use Rattle.lists.proofs.Cases.{by_test}
@@ -18,5 +18,4 @@ loop-b-preserved c =
     let v : ℕ = c.subsets-subsets.result / 2 ^ (56 - 8 * l.b) % 16 in
     let n : ℕ = get_or l.counts l.b 0 in
     let count : n + c.from.result ≡ pick (eqb v 0) n (n + 1) = by_test (eqb v 0) (λ e. rw (c.from.ensures, e, add-zero)) (λ e. rw (c.from.ensures, e)) in
-    let digit : l.b < 8 = omega (arith, c.requires.2.counted) in
-    rw (c.entry.ensures, count) (streams_turn a.groups a.self.weights.now a.g c.requires.1 l.b v digit (c.subsets-subsets.ensures l.b digit) l.invariant)
+    rw (c.entry.ensures, count) (streams_turn a.groups a.self.weights.now a.g c.requires.1 l.b v c.loop-b-test.true (c.subsets-subsets.ensures l.b c.loop-b-test.true) l.invariant)
