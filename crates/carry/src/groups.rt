@@ -1,24 +1,33 @@
 // Groups of words behind their masks, in symbols of two bytes, and read again.
-ghost use Rattle.std.specs.Prelude.{◌≡◌, ◌+◌, ◌*◌, ◌%◌, ◌≤◌, ◌<◌, length, take};
+ghost use Rattle.std.specs.Prelude.{◌≡◌, ◌+◌, ◌*◌, ◌%◌, ◌≤◌, ◌<◌, length, take, slice_index_or};
 ghost use Rattle.layout.specs.Width.{symbols_of, bytes_of};
 ghost use Rattle.carrying.specs.Masks.{masked, closed, opened};
 ghost use Rattle.carrying.specs.Carrying.{word_count, words_of, carried_words, word_bytes_back, words_length};
 
 use crate::prime::WordPrime;
+use arrayvec::ArrayVec;
 
-// The words of bytes, the last of an odd number with a zero behind it.
-fn load_words(s: &[u8], words: &mut [u16])
-    requires { length words.old ≡ word_count (length s.now) }
-    ensures { words.new ≡ words_of s.now }
+// Word i of bytes; behind an odd number of them stands a zero.
+fn word_at(s: &[u8], i: usize) -> u16
+    requires { i < word_count (length s.now) }
+    ensures { result ≡ slice_index_or (words_of s.now) i 0 }
 {
-    let count = s.len() / 2;
-    for i in 0..count {
-        words[i] = symbols::symbol_at(2, s, i);
+    if i == s.len() / 2 {
+        return u16::from_be_bytes([s[i * 2], 0]);
     }
-    if s.len() % 2 == 0 {
-        return;
+    symbols::symbol_at(2, s, i)
+}
+
+// The words of bytes.
+fn load_words(s: &[u8]) -> ArrayVec<u16, 255>
+    requires { word_count (length s.now) ≤ 255 }
+    ensures { result.items ≡ words_of s.now }
+{
+    let mut words = ArrayVec::new();
+    for i in 0..s.len().div_ceil(2) {
+        words.push(word_at(s, i));
     }
-    words[count] = u16::from_be_bytes([s[count * 2], 0]);
+    words
 }
 
 // As many bytes of the words under a mask as there is room for.
@@ -47,46 +56,26 @@ fn write_all(c: u16, words: &[u16], out: &mut [u8])
     write_masked(c, words, out);
 }
 
-// As many bytes of one group as there is room for: its mask stands first, its words are under it.
-fn open_words(group: &[u8], words: &mut [u16], out: &mut [u8])
-    requires { (length group.now ≡ length words.old * 2 + 2) × (length out.old ≤ length words.old * 2) }
-    ensures { out.new ≡ take (length out.old) (bytes_of 2 (opened (symbols_of 2 group.now))) }
-{
-    let c = symbols::symbol_at(2, group, 0);
-    load_words(&group[2..], words);
-    write_masked(c, words, out);
-}
-
-// The same, of a group of at most 255 words.
+// As many bytes of one group of at most 255 words as there is room for: its mask stands first, its words are under it.
 fn open_group(group: &[u8], out: &mut [u8])
     requires { (length group.now % 2 ≡ 0) × (2 ≤ length group.now) × (length group.now ≤ 512) × (length out.old + 2 ≤ length group.now) }
     ensures { out.new ≡ take (length out.old) (bytes_of 2 (opened (symbols_of 2 group.now))) }
 {
-    let mut words = [0u16; 255];
-    let count = group.len() / 2 - 1;
-    open_words(group, &mut words[..count], out);
+    let c = symbols::symbol_at(2, group, 0);
+    let words = load_words(&group[2..]);
+    write_masked(c, &words, out);
 }
 
 impl WordPrime {
-    // One group, with room for its words: its mask, and its words under it.
-    fn close_words(self, s: &[u8], words: &mut [u16], out: &mut [u8])
-        requires { (length words.old ≡ word_count (length s.now)) × (length words.old ≤ 255) × (length out.old ≡ length words.old * 2 + 2) }
-        ensures { out.new ≡ bytes_of 2 (closed self.p (words_of s.now)) }
-    {
-        load_words(s, words);
-        let c = self.find_mask(words);
-        symbols::write_symbol(2, c, &mut out[..2]);
-        write_all(c, words, &mut out[2..]);
-    }
-
-    // One group of at most 255 words.
-    #[tactic(auto, unfolding(carrying::specs::Carrying::word_count))]
+    // One group of at most 255 words: its mask, and its words under it.
     fn close_group(self, s: &[u8], out: &mut [u8])
         requires { (word_count (length s.now) ≤ 255) × (length out.old ≡ word_count (length s.now) * 2 + 2) }
         ensures { out.new ≡ bytes_of 2 (closed self.p (words_of s.now)) }
     {
-        let mut words = [0u16; 255];
-        self.close_words(s, &mut words[..s.len().div_ceil(2)], out);
+        let words = load_words(s);
+        let c = self.find_mask(&words);
+        symbols::write_symbol(2, c, &mut out[..2]);
+        write_all(c, &words, &mut out[2..]);
     }
 
     // All groups of bytes.

@@ -49,7 +49,8 @@ impl Carrying {
         }
     }
 
-    // The bytes that symbols carry, as many as there is room for. The step differs in each arm: one function that takes it would be no plainer.
+    // The bytes that symbols carry, as many as there is room for. The step differs in each arm: one function for this and `write` would be
+    // `fn pass(self, from, out, words: F)`, called with `|prime, from, out| prime.open_groups(from, out)`, and no plainer.
     pub fn read(self, symbols: &[u8], out: &mut [u8])
         requires { length symbols.now ≡ carried_length (field_of self) (length out.old) }
         ensures { out.new ≡ bytes_back (field_of self) (length out.old) symbols.now }

@@ -1,41 +1,40 @@
--- `load_words` meets its contract. The loop's invariant: the words below i are those of the bytes.
-use mathlib.Core.Path.{◌≡◌, sym, ◌∙◌}
-use Prim.Native.Nat.{◌*◌, ◌/◌}
+-- `load_words` meets its contract. Invariant: the words below i are listed, and those from i on are to come.
+use mathlib.Core.List.{append-nil, append_assoc}
+use mathlib.Core.Path.{refl, sym, ◌∙◌}
+use Prim.Native.Nat.{◌≤◌, ◌<◌}
 use native.Mathlib.Omega.{arith}
-use lib.ListN.{length, get_or}
-use Rattle.lists.proofs.Fill.{fills_copy, fills_copied}
-use Rattle.carrying.specs.Carrying.{word_count}
+use lib.ListN.{length, drop_of_length-le}
+use Rattle.lists.proofs.Front.{drop_next}
+use Rattle.carrying.specs.Carrying.{word_count, words_of}
 use Rattle.carrying.proofs.Bytes.{length_words}
-use Rattle.carry.proofs.Words.{word_at, last_word}
 use Rattle.carry.proofs.groups.load_words.Goals as goal
-use Rattle.carry.proofs.groups.load_words.Goals.{After-shared_slice_known-2-1}
 
-pub bounds-words-i : goal.bounds-words-i
+pub loop-i-init : goal.loop-i-init
+loop-i-init c = rw c.new-words.ensures record { few = refl; listed = refl }
+
+pub word_at-requires : goal.word_at-requires
 unfolding word_count
-bounds-words-i c = omega (arith, c.loop-i.invariant.long)
+word_at-requires c = omega (arith, c.div_ceil-i-end.ensures)
+
+pub push-requires : goal.push-requires
+unfolding word_count
+push-requires c = omega (arith, c.div_ceil-i-end.ensures, c.loop-i.invariant.few, c.requires)
 
 pub loop-i-preserved : goal.loop-i-preserved
 unfolding word_count
 loop-i-preserved c =
-    let long = length_words c.args.s.now in
-    rw (c.symbol_at.ensures ∙ sym (word_at c.args.s.now c.loop-i.i c.loop-i-test.true)) (fills_copy c.loop-i.invariant (omega arith) (omega arith) 0)
-
-pub returns-then-s-eq0 : goal.returns-then-s-eq0
-unfolding word_count
-returns-then-s-eq0 c =
-    let long = length_words c.args.s.now in
-    fills_copied c.loop-i.invariant (omega arith) (omega arith)
-
-pub bounds-words-count : goal.bounds-words-count
-unfolding word_count
-bounds-words-count c = omega (arith, c.loop-i.invariant.long)
+    let bytes = c.args.s.now in
+    let l = c.loop-i in
+    let inside : l.i < length (words_of bytes) = omega (arith, c.div_ceil-i-end.ensures, length_words bytes) in
+    record {
+      few = omega (arith, c.push.ensures.len, l.invariant.few);
+      listed = rw (c.push.ensures.items, append_assoc, c.word_at.ensures) (rw (drop_next _ l.i 0 inside) at l.invariant.listed);
+    }
 
 pub returns : goal.returns
 unfolding word_count
 returns c =
     let bytes = c.args.s.now in
-    let long = length_words bytes in
-    let at : c.loop-i.i ≡ length bytes / 2 = omega arith in
-    let filled = fills_copy c.loop-i.invariant (omega arith) (omega arith) 0 in
-    let last : c.from_be_bytes.result ≡ get_or bytes (length bytes / 2 * 2) 0 * 256 = omega (arith, c.from_be_bytes.ensures) in
-    rw (last, ← last_word bytes c.if-s-eq0.false, ← at) (fills_copied filled (omega arith) (omega arith))
+    let l = c.loop-i in
+    let end : length (words_of bytes) ≤ l.i = omega (arith, c.div_ceil-i-end.ensures, length_words bytes) in
+    sym (append-nil _) ∙ rw (drop_of_length-le _ end) at l.invariant.listed
