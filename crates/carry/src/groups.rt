@@ -30,7 +30,8 @@ fn load_words(s: &[u8]) -> ArrayVec<u16, 255>
     words
 }
 
-// As many bytes of the words under a mask as there is room for.
+// As many bytes of the words under a mask as there is room for. Byte by byte, `*byte = group[i + 2] ^ group[i % 2]`, opening would need no words; that the
+// bytes of words under a mask are these is a law of ⊕ on the digits of base 256 which is not there.
 fn write_masked(c: u16, words: &[u16], out: &mut [u8])
     requires { length out.old ≤ length words.now * 2 }
     ensures { out.new ≡ take (length out.old) (bytes_of 2 (masked c words.now)) }
