@@ -1,11 +1,11 @@
 -- `turn_symbols` meets its contract. The loop's invariant: the lanes below t are written, and the others are to come.
 use mathlib.Core.Path.{◌≡◌, sym, ap, ◌∙◌}
 use Prim.Native.Nat.{ℕ, ◌+◌, ◌*◌, ◌≤◌}
-use native.Mathlib.Nat.{sub-zero, zero-mul, mul_comm, mul_assoc, mul-le-mul, le_refl}
+use native.Mathlib.Nat.{mul_comm, mul_assoc, mul-le-mul, le_refl}
 use native.Mathlib.Omega.{arith}
 use lib.ListN.{length}
 use Rattle.lists.proofs.Rows.{rows_next, rows_end, row_after, row_inside, part_size, part_length}
-use Rattle.lists.proofs.Fill.{fills_start, fills_part, fills_all}
+use Rattle.lists.proofs.Fill.{fills_part, fills_all}
 use Rattle.layout.specs.Layout.{row_after_row, held, lane_of, rearranged}
 use Rattle.layout.specs.Width.{symbols_of, bytes_of}
 use Rattle.layout.proofs.LaneParts.{bytes_rows}
@@ -25,21 +25,6 @@ lane_in c =
     let a = c.args in
     rw (c.requires.3, all_bytes a.w a.rows a.lanes) (row_inside a.lanes c.loop-t.t (a.rows * a.w) c.loop-t-test.true)
 
-pub loop-t-init : goal.loop-t-init
-loop-t-init c = rw (sub-zero, zero-mul) (fills_start _ _)
-
-pub overflow_mul-size : goal.overflow_mul-size
-overflow_mul-size c = omega (arith, lane_in c)
-
-pub overflow_mul-start : goal.overflow_mul-start
-overflow_mul-start c = omega (arith, lane_in c)
-
-pub overflow_add-end : goal.overflow_add-end
-overflow_add-end c = omega (arith, lane_in c)
-
-pub slice_bounds-fill_lane-end : goal.slice_bounds-fill_lane-end
-slice_bounds-fill_lane-end c = omega (arith, lane_in c)
-
 pub fill_lane-requires : goal.fill_lane-requires
 fill_lane-requires c =
     let a = c.args in
@@ -54,9 +39,6 @@ loop-t-preserved c =
     (rw (rows_next _ _ _ c.loop-t-test.true) at now.invariant)
     (length_column a.w a.rows a.lanes now.t a.source.now)
     (lane_in (goal.at.loop-t-preserved c).In-loop-t))
-
-pub shape_of-out : goal.shape_of-out
-shape_of-out c = c.loop-t.invariant.long
 
 pub returns : goal.returns
 unfolding rearranged lane_of
