@@ -11,6 +11,7 @@ use plan::Plan;
 
 // What was added at each node: after less before, and zeros after it.
 // An array with zeros after: it is as long as the lanes, so no length stands beside it.
+#[tactic(auto, using(lists::proofs::Fill::filled_start, lists::proofs::Numbers::below_at, field::proofs::Bounds::sub_below, field::proofs::KindLaws::size_fits), unfolding(lists::specs::Padded::zeros))]
 pub fn difference(code: Code, before: &[u16], after: &[u16]) -> [u16; 255]
     requires { IsLane code.header before.now × IsLane code.header after.now }
     ensures { result ≡ padded 255 (differences code.header before.now after.now) }

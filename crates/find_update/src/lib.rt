@@ -73,6 +73,7 @@ fn find_fault(code: Code, before: &[u8], after: &[u8]) -> Result<(), Refusal>
 }
 
 // Finds over a code.
+#[tactic(auto, using(generator::proofs::Answered::tests, refusals::proofs::LaneSymbols::few_bytes, refusals::proofs::LaneSymbols::lane_read, crate::proofs::Accepts::find_accepts, crate::proofs::Accepts::find_refuses))]
 fn find_accepted(code: Code, before: &[u8], after: &[u8]) -> Result<Finding, Refusal>
     ensures { FindPromise before.now after.now (numbered result) code.header (find_fault code.header before.now after.now) }
 {

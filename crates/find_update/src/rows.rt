@@ -5,6 +5,7 @@ ghost use Rattle.find_update.specs.Inner.Starts.{begins_at, row_starting};
 use crate::compare::LaneDifference;
 
 // Whether the difference is not zero at a row's first node, and zero at the node before it, going round; with k = 1 a row lies on every node.
+#[tactic(auto, using(lists::proofs::Tests::tests), unfolding(crate::specs::Inner::Starts::begins_at, crate::specs::Inner::Starts::node_before))]
 fn begins_at(k: u8, first: usize, difference: &[u16]) -> bool
     requires { first < length difference.now }
     ensures { result ≡ begins_at k difference.now first }

@@ -38,6 +38,7 @@ enum Order {
 }
 
 // Over a code: row j's symbol of lane t goes from j·lanes + t to t·rows + j, or back.
+#[tactic(auto, using(layout::proofs::Runs::turned, generator::proofs::Answered::tests, crate::proofs::Accepts::rearrange_accepts, crate::proofs::Refused::rearrange_refuses), unfolding(generator::specs::Answers::outcome_of, blocks::specs::Bytes::rearranged_bytes))]
 fn rearrange_accepted(
     code: Code,
     rows: u8,

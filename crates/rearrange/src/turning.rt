@@ -4,6 +4,7 @@ ghost use Rattle.layout.specs.Layout.{row_after_row, lane_after_lane, lane_of, r
 ghost use Rattle.layout.specs.Width.{symbols_of, bytes_of};
 
 // Fills one lane: column t of a table whose rows have `width` symbols.
+#[tactic(auto, using(lists::proofs::Fill::fills_start, lists::proofs::Rows::row_inside), unfolding(layout::specs::Layout::lane_of))]
 fn fill_lane(w: usize, rows: usize, width: usize, t: usize, table: &[u8], lane: &mut [u8])
     requires { (1 ≤ w) × (w ≤ 2) × (t < width) × (length table.now ≡ rows * width * w) × (length lane.old ≡ rows * w) }
     ensures { lane.new ≡ bytes_of w (lane_of row_after_row rows width t (symbols_of w table.now)) }
@@ -17,6 +18,7 @@ fn fill_lane(w: usize, rows: usize, width: usize, t: usize, table: &[u8], lane: 
 }
 
 // Fills every lane through its own part.
+#[tactic(auto, using(lists::proofs::Rows::row_inside, lists::proofs::Fill::fills_start))]
 fn turn_symbols(w: usize, rows: usize, lanes: usize, source: &[u8], out: &mut [u8])
     requires { (1 ≤ w) × (w ≤ 2) × (length source.now ≡ rows * lanes * w) × (length out.old ≡ rows * lanes * w) }
     ensures { out.new ≡ bytes_of w (rearranged row_after_row lane_after_lane rows lanes (symbols_of w source.now)) }
@@ -30,6 +32,7 @@ fn turn_symbols(w: usize, rows: usize, lanes: usize, source: &[u8], out: &mut [u
 }
 
 // The same; bytes are turned faster.
+#[tactic(auto, using(layout::proofs::Widths::symbols_one, layout::proofs::Widths::bytes_one))]
 pub fn turn(w: usize, rows: usize, lanes: usize, source: &[u8], out: &mut [u8])
     requires { (1 ≤ w) × (w ≤ 2) × (length source.now ≡ rows * lanes * w) × (length out.old ≡ rows * lanes * w) }
     ensures { out.new ≡ bytes_of w (rearranged row_after_row lane_after_lane rows lanes (symbols_of w source.now)) }

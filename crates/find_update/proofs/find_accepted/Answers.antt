@@ -1,8 +1,6 @@
 -- `find_accepted` meets its contract: the lanes are compared only where no number is met.
 use Rattle.std.specs.Prelude.{Ok}
-use mathlib.Core.Path.{◌≡◌, sym, ap, ap₂, ◌∙◌}
-use Prim.Native.Nat.{◌≤◌}
-use native.Mathlib.Omega.{arith}
+use mathlib.Core.Path.{◌≡◌, ap, ap₂, ◌∙◌}
 use lib.ListN.{take}
 use Rattle.layout.specs.Width.{symbols_of}
 use Rattle.generator.specs.Records.{width}
@@ -28,34 +26,6 @@ second : (c : After-read_symbols-vs)
     → let a = c.args in
     take a.code.header.n c.read_symbols-vs.result ≡ symbols_of (width a.code.header) a.after.now
 second c = lane_read _ _ _ _ (lanes (goal.at.After-read_symbols-vs c).In_ok-find_fault).second c.width_of-w.ensures.0 c.read_symbols-vs.ensures
-
-pub returns-in_err-find_fault : goal.returns-in_err-find_fault
-returns-in_err-find_fault c =
-    let (same, some) = refused_is _ _ _ c.in_err-find_fault.ensures in
-    rw (exit _ c.from_residual.ensures.1, ← same) (find_refuses _ _ some _ _)
-
-pub read_symbols-us-requires : goal.read_symbols-us-requires
-read_symbols-us-requires c =
-    let few : c.args.code.header.n ≤ 255 = omega arith in
-    let (is, some, two) = c.width_of-w.ensures in
-    (some, two, few_bytes _ _ _ few (rw is (lanes (goal.at.read_symbols-us-requires c).In_ok-find_fault).first_long))
-
-pub read_symbols-vs-requires : goal.read_symbols-vs-requires
-read_symbols-vs-requires c =
-    let few : c.args.code.header.n ≤ 255 = omega arith in
-    let (is, some, two) = c.width_of-w.ensures in
-    (some, two, few_bytes _ _ _ few (rw is (lanes (goal.at.read_symbols-vs-requires c).In_ok-find_fault).second_long))
-
-pub slice_bounds-find-end : goal.slice_bounds-find-end
-slice_bounds-find-end c = rw (first (goal.at.slice_bounds-find-end c).After-read_symbols-us) (sym (lanes (goal.at.slice_bounds-find-end c).In_ok-find_fault).first.long)
-
-pub slice_bounds-find-end-2 : goal.slice_bounds-find-end-2
-slice_bounds-find-end-2 c = rw (second (goal.at.slice_bounds-find-end-2 c).After-read_symbols-vs) (sym (lanes (goal.at.slice_bounds-find-end-2 c).In_ok-find_fault).second.long)
-
-pub find-requires : goal.find-requires
-find-requires c =
-    let both = lanes (goal.at.find-requires c).In_ok-find_fault in
-    (rw (first (goal.at.find-requires c).After-read_symbols-us) both.first, rw (second (goal.at.find-requires c).After-read_symbols-vs) both.second)
 
 pub returns : goal.returns
 unfolding answer_of

@@ -6,7 +6,7 @@ use native.Mathlib.Nat.{sub-zero, zero-mul, mul-le-mul, le_refl, add-sub_cancel_
 use native.Mathlib.Omega.{arith}
 use lib.ListN.{length}
 use Rattle.lists.specs.Numbers.{all_below}
-use Rattle.lists.proofs.Fill.{fills_start, fills_part, fills_all}
+use Rattle.lists.proofs.Fill.{fills_part, fills_all}
 use Rattle.lists.proofs.Numbers.{at_below}
 use Rattle.lists.proofs.Rows.{row_after, row_inside, part_length}
 use Rattle.layout.specs.Layout.{lane_of}
@@ -37,16 +37,6 @@ write-in : (c : In-loop-i) → let a = c.args in c.loop-i.i * a.w + a.w ≤ leng
 write-in c =
     rw c.requires.4 (row_inside c.args.rows c.loop-i.i c.args.w c.loop-i-test.true)
 
-pub loop-i-init : goal.loop-i-init
-unfolding lane_of
-loop-i-init c = rw (sub-zero, zero-mul) (fills_start _ _)
-
-pub overflow_mul-start : goal.overflow_mul-start
-overflow_mul-start c = omega (arith, write-in c)
-
-pub overflow_add-end : goal.overflow_add-end
-overflow_add-end c = omega (arith, write-in c)
-
 pub overflow_mul-i : goal.overflow_mul-i
 overflow_mul-i c = omega (arith, read-place c)
 
@@ -55,9 +45,6 @@ overflow_add-i c = omega (arith, read-place c)
 
 pub symbol_at-symbol-requires : goal.symbol_at-symbol-requires
 symbol_at-symbol-requires c = (c.requires.0, c.requires.1, read-in c)
-
-pub slice_bounds-write_symbol-end : goal.slice_bounds-write_symbol-end
-slice_bounds-write_symbol-end c = omega (arith, write-in (goal.at.slice_bounds-write_symbol-end c).In-loop-i, c.loop-i.invariant.long)
 
 pub write_symbol-requires : goal.write_symbol-requires
 write_symbol-requires c =
@@ -80,9 +67,6 @@ loop-i-preserved c =
     (rw (column_next a.w a.rows a.width a.t a.table.now c.requires.0 c.requires.3 c.requires.2 now.i c.loop-i-test.true) at now.invariant)
     (length_symbol a.w x)
     (write-in (goal.at.loop-i-preserved c).In-loop-i))
-
-pub shape_of-lane : goal.shape_of-lane
-shape_of-lane c = c.loop-i.invariant.long
 
 pub returns : goal.returns
 returns c =

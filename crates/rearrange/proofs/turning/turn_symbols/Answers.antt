@@ -25,21 +25,6 @@ lane_in c =
     let a = c.args in
     rw (c.requires.3, all_bytes a.w a.rows a.lanes) (row_inside a.lanes c.loop-t.t (a.rows * a.w) c.loop-t-test.true)
 
-pub loop-t-init : goal.loop-t-init
-loop-t-init c = rw (sub-zero, zero-mul) (fills_start _ _)
-
-pub overflow_mul-size : goal.overflow_mul-size
-overflow_mul-size c = omega (arith, lane_in c)
-
-pub overflow_mul-start : goal.overflow_mul-start
-overflow_mul-start c = omega (arith, lane_in c)
-
-pub overflow_add-end : goal.overflow_add-end
-overflow_add-end c = omega (arith, lane_in c)
-
-pub slice_bounds-fill_lane-end : goal.slice_bounds-fill_lane-end
-slice_bounds-fill_lane-end c = omega (arith, lane_in c)
-
 pub fill_lane-requires : goal.fill_lane-requires
 fill_lane-requires c =
     let a = c.args in
@@ -54,9 +39,6 @@ loop-t-preserved c =
     (rw (rows_next _ _ _ c.loop-t-test.true) at now.invariant)
     (length_column a.w a.rows a.lanes now.t a.source.now)
     (lane_in (goal.at.loop-t-preserved c).In-loop-t))
-
-pub shape_of-out : goal.shape_of-out
-shape_of-out c = c.loop-t.invariant.long
 
 pub returns : goal.returns
 unfolding rearranged lane_of

@@ -1,9 +1,0 @@
--- `inverse` is safe: bytes are symbols of the field of 256 elements.
-use Rattle.std.proofs.Common.{refl, arith}
-use Rattle.field.specs.Fields.{size_of}
-use Rattle.field.specs.Kinds.{modulus, usable}
-use Rattle.field_tables.proofs.inverse.Goals as goal
-
-pub inverse-requires : goal.inverse-requires
-unfolding size_of modulus usable
-inverse-requires c = (refl, omega arith)
