@@ -43,9 +43,6 @@ equal_at n f g t k h = eqb→eq (f k) (g k) (at n (λ k. eqb (f k) (g k)) t k h)
 pub equal_at₂ : (n m : ℕ) (f g : ℕ → ℕ → ℕ) → T (every n (λ i. every m (λ j. eqb (f i j) (g i j)))) → (i j : ℕ) → i < n → j < m → f i j ≡ g i j
 equal_at₂ n m f g t i j hi hj = equal_at m (f i) (g i) (at n (λ i. every m (λ j. eqb (f i j) (g i j))) t i hi) j hj
 
-pub equal_at₃ : (n m l : ℕ) (f g : ℕ → ℕ → ℕ → ℕ) → T (every n (λ i. every m (λ j. every l (λ k. eqb (f i j k) (g i j k))))) → (i j k : ℕ) → i < n → j < m → k < l → f i j k ≡ g i j k
-equal_at₃ n m l f g t i j k hi hj hk = equal_at₂ m l (f i) (g i) (at n (λ i. every m (λ j. every l (λ k. eqb (f i j k) (g i j k)))) t i hi) j k hj hk
-
 -- the test f passes at every entry of a list, told its place, the first being i
 abbrev pub every_entry : (ℕ → ℕ → Bool) → ℕ → List ℕ → Bool
 every_entry f i [] = true
