@@ -6,7 +6,6 @@ use native.Mathlib.Omega.{arith}
 use lib.Dec.{lit<}
 use lib.Arith.{bin_ind}
 use lib.Bits.{bit_xor, differ, xor_step, xor_shr, xor_mod, xor_comm, xor_self, xor_zero_r, xor_block, xor_assoc}
-use Rattle.field.proofs.Computed.{equal_at₃}
 
 -- the lowest digit of a number
 pub digit : (n : ℕ) → n % 2 < 2
