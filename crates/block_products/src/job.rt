@@ -1,4 +1,6 @@
-// A product of a matrix and lanes, and the part of it that is one tile.
+// A product of a matrix and lanes, and the part of it that is one tile. The width w stands beside the field that gives it: what loops do is stated
+// in it, and nothing is rewritten there (docs/PROOF-NOTES.md). The buffer for the sums is lent to each function, so its length, `out_bytes`,
+// stands in their clauses: no field of a job can hold it.
 ghost use Rattle.std.specs.Prelude.{◌≡◌, true, List, ℕ, ◌+◌, ◌*◌, ◌^◌, ◌≤◌, ◌<◌, length};
 ghost use Rattle.lists.specs.Numbers.{all_below};
 ghost use Rattle.field.specs.Kinds.{modulus, usable};
@@ -45,6 +47,8 @@ pub struct Part<'a> {
 
 impl Part<'_> {
     // The sums of these lanes; `tile`, `table` and `words` are scratch: the rows of a tile, its table or its blocks, the rows of the product.
+    // Three slices: a value of the three arrays, `&mut Scratch<ROWS, TABLE>`, would make this function and `fill_lanes` generic in two sizes, with
+    // the bounds that stand at `fill_in` in each.
     fn fill_tile(self, tile: &mut [u8], table: &mut [u8], words: &mut [u8], out: &mut [u8])
         requires out_long { length out.old ≡ out_bytes self.job.m.way self.job.w self.job.m.outputs self.job.m.lanes }
         requires room { Room self.job.w self.job.m.outputs self.job.m.rows (length tile.old) (length table.old) (length words.old) }

@@ -25,7 +25,8 @@ pub enum Way {
     LanesToMarks,
 }
 
-// So many sums of the symbols in so many rows of each lane. Not over a `Shape`: callers and contracts name the fields one by one.
+// So many sums of the symbols in so many rows of each lane. Not over a `Shape`: `j.m.shape.outputs` would stand for `j.m.outputs` in nearly each
+// clause, and one place, `fill_tile`, puts a `Shape` together.
 #[derive(Clone, Copy)]
 pub struct Product {
     pub way: Way,

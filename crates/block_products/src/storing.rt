@@ -1,4 +1,5 @@
 // The products of a tile's lanes written where they belong: `words` has as many rows of bytes for each output as a symbol has bytes.
+// A part that is written is cut by its place: after `chunks_mut` a proof knows the length alone (docs/PROOF-NOTES.md).
 ghost use Rattle.std.specs.Prelude.{◌≡◌, ℕ, ◌+◌, ◌*◌, ◌/◌, ◌≤◌, ◌<◌, length, get_or};
 ghost use Rattle.block_products.specs.Inner.Ways.{out_bytes, Sums, LanesDone, RowsDone, MarksDone, Done};
 

@@ -92,7 +92,8 @@ impl WordPrime {
         }
     }
 
-    // As many bytes as there is room for, of all groups.
+    // As many bytes as there is room for, of all groups. Here and above the part that is written is cut by its place: after `chunks_mut` a proof
+    // knows the length alone (docs/PROOF-NOTES.md).
     pub fn open_groups(self, symbols: &[u8], out: &mut [u8])
         requires { length symbols.now ≡ words_length self.p (length out.old) }
         ensures { out.new ≡ word_bytes_back self.p (length out.old) symbols.now }

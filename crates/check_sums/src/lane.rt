@@ -12,7 +12,8 @@ ghost use Rattle.check_sums.specs.Inner.Sums.{check_sums, power_bytes, power_row
 use crate::powers::{self, RootPowers};
 use generator::{Code, Codec};
 
-// The place of the next power: (i + step) modulo n.
+// The place of the next power: (i + step) modulo n. The three are added and compared as one type: `n: u8`, which would say n ≤ 255, would be cast
+// here, and i and step would keep their clauses.
 pub fn stepped(i: usize, step: usize, n: usize) -> usize
     requires { (i < n) × (step < n) × (n ≤ 255) }
     ensures { result ≡ (i + step) % n }
@@ -30,7 +31,8 @@ fn byte_of(x: u16, last: bool) -> u8
 }
 
 impl RootPowers<'_> {
-    // Byte v of the w bytes of node j's factors in check sums 1, 2, ..
+    // Byte v of the w bytes of node j's factors in check sums 1, 2, .. The width w stands beside the code that gives it: the caller's loop counts
+    // by it, and rows are stated in it (docs/PROOF-NOTES.md).
     fn fill_row(self, w: usize, v: usize, j: usize, row: &mut [u8])
         requires { (w ≡ width self.codec.code.header) × (v < w) × (j < self.codec.code.header.n) }
         ensures { row.new ≡ power_bytes self.entry.codec.code.header (length row.old) w v j }
@@ -47,7 +49,7 @@ impl RootPowers<'_> {
     }
 }
 
-// The rows of all nodes.
+// The rows of all nodes. Each is cut by its place: after `chunks_mut` a proof knows the length alone (docs/PROOF-NOTES.md).
 fn fill_power_rows(code: Code, rows: &mut [u8])
     requires { length rows.old ≡ width code.header * code.header.n * (code.header.n - code.header.k) }
     ensures { rows.new ≡ power_rows code.header }

@@ -18,6 +18,8 @@ mod lane;
 
 use lane::Marked;
 
+// That the marks are those of the shares stands in each clause, here and in two functions below: the shares are lent to be written, so no ghost
+// field of `Marked` can hold it.
 impl Marked<'_, '_> {
     // Whether there is a lane that no word is near enough to. By a `for`: of `any` over the chunks two goals stayed open, that each is a lane
     // and that the answer speaks of them all.
@@ -35,7 +37,8 @@ impl Marked<'_, '_> {
         false
     }
 
-    // Sets every lane right, and gives the number of symbols altered.
+    // Sets every lane right, and gives the number of symbols altered. Each lane is cut by its place: after `chunks_mut` a proof knows the
+    // length alone (docs/PROOF-NOTES.md).
     fn correct_lanes(self, shares: &mut [u8]) -> u32
         requires { MarkedShares self.rows.code.header (length self.marks.now) self.marks.now shares.old }
         ensures { let h = self.entry.rows.code.header in let l = length self.entry.marks.now in (shares.new ≡ corrected_bytes share_layout h l shares.old) × (result ≡ corrected_count share_layout h l shares.old) }

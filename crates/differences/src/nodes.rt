@@ -9,7 +9,8 @@ ghost use Rattle.differences.specs.Inner.Changes.{told};
 
 use crate::change::Change;
 
-// A row, as a tile, times each node's entry.
+// A row, as a tile, times each node's entry. Each node's part is cut by its place: after `chunks_mut` a proof knows the length alone
+// (docs/PROOF-NOTES.md).
 fn fill_nodes(change: &Change, tile: &[u8], out: &mut [u8])
     requires { let rows = change.now.rows in SymbolTile rows.code.header rows.width 1 rows.lanes tile.now × (length out.old ≡ rows.code.header.n * (rows.width * rows.lanes)) }
     ensures { out.new ≡ rows_from (told change.now.rows change.now.symbol tile.now) 0 change.now.rows.code.header.n }

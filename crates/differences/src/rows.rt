@@ -9,7 +9,8 @@ ghost use Rattle.differences.specs.Inner.Rows.{row_tile, pair_tile, row_less, ro
 
 use generator::Code;
 
-// Rows in so many lanes, of symbols of `width` bytes each.
+// Rows in so many lanes, of symbols of `width` bytes each. The width stands beside the code that gives it: rows are stated in it, and nothing is
+// rewritten (docs/PROOF-NOTES.md).
 #[derive(Clone, Copy)]
 pub struct Rows {
     pub code: Code,

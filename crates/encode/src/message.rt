@@ -1,4 +1,6 @@
-// A message, and the generator that encodes it.
+// A message, and the generator that encodes it. The width stands beside the code that gives it: what loops do is stated in it, and nothing is
+// rewritten there (docs/PROOF-NOTES.md). The buffer for the shares is lent to each function, so its length, `share_bytes`, stands in their
+// clauses: no field of a message can hold it.
 ghost use Rattle.encode.specs.Inner.Columns.{MessageBytes};
 
 use plan::Generator;

@@ -95,7 +95,7 @@ fn lane_symbols(message: &Message, t: usize) -> [u16; 255]
     out
 }
 
-// Fills all lanes, each through its own part.
+// Fills all lanes, each through its own part, which is cut by its place: after `chunks_mut` a proof knows the length alone (docs/PROOF-NOTES.md).
 pub fn fill_each(message: &Message, out: &mut [u8])
     requires { length out.old ≡ share_bytes message.now }
     ensures { out.new ≡ encoded message.now }

@@ -29,7 +29,7 @@ fn in_rounds(around: usize, taken: usize, shifts: &[u8]) -> bool
     shifts.iter().all(|&shift| shift as usize % around < taken)
 }
 
-// The number of rounds, where the shifts come in rounds.
+// The number of rounds, where the shifts come in rounds. `n: u8` would say n ≤ 255, and be cast where it is divided and compared.
 fn rounds_of(n: usize, shifts: &[u8]) -> Option<usize>
     requires { (0 < n) × (n ≤ 255) × (length shifts.now ≤ 255) }
     ensures { IfSome result (λ g. (0 < g) × (g ≤ n) × InRounds n shifts.now g) }

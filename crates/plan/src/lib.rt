@@ -17,7 +17,7 @@ pub use entries::entry_at;
 pub use generator_rows::Generator;
 
 // A plan. `low` and `high` are k·d / n rounded down and up. The lists are as the interface for C gives them: 255 places each, zeros after
-// the last.
+// the last. Nothing compares or prints a plan as a whole, so no more is derived: each derive is one more function to check.
 #[derive(Clone, Copy)]
 pub struct Plan {
     pub n: u8,

@@ -50,7 +50,9 @@ impl Inverse<'_> {
         }
     }
 
-    // The lists of the quotients by the linear factors of the nodes' points.
+    // The lists of the quotients by the linear factors of the nodes' points. Here and below, lists and counts are lent side by side: a value of both
+    // arrays, `&mut WeightLists<LISTS, COUNTS>`, would make each function down to `prepare` generic in two sizes, and of a struct of two slices each
+    // clause would say what they lead to before and after (tiles/src/scattering.rt).
     fn list_quotients(self, codes: WeightCodes, lists: &mut [u16], counts: &mut [u8])
         requires { (codes.field ≡ self.code.header.field) × ListRoom self.code.header.k (length lists.old) (length counts.old) }
         ensures { let h = self.entry.code.header in Begun (modulus_of h) h.k (node_quotient h self.entry.nodes.now) h.k lists.new counts.new }

@@ -28,7 +28,8 @@ pub struct RepairPlan {
     pub spare: u32,
 }
 
-// A repair in so many lanes of a code: its target, and the nodes that are missing beside it.
+// A repair in so many lanes of a code: its target, and the nodes that are missing beside it. Lanes are a `usize`, as the tests of refusals take
+// them: with `lanes: u32` their bound would not be said, and each of the four tests in `judge_bits` and `judge_share` would cast them.
 #[derive(Clone, Copy)]
 struct Repair<'a> {
     code: Code,

@@ -59,7 +59,8 @@ impl<'a> Digits<'a> {
         }
     }
 
-    // The byte of the bits of the 8 lanes from `start` on. The same loop as in `gather`: a closure for the bit would be no shorter.
+    // The byte of the bits of the 8 lanes from `start` on. The same loop as in `gather`: `byte_of(|z| self.bit(bit, start + z))` would be a line in
+    // both, and `byte_of<F: Fn(usize) -> u32>` this loop once more, with a bound and with clauses of what F asks and gives.
     fn byte(self, bit: Bit, start: usize) -> u8
         requires { start ≤ 65536 }
         ensures { result ≡ byte_from 8 (lane_bit bit.place self.entry.table.now self.entry.share.now) start }

@@ -6,7 +6,8 @@ ghost use Rattle.repair_tables.specs.Bits.{bit_count};
 use field::Field;
 use generator::Code;
 
-// The bits by which a subfield's elements are named.
+// The bits by which a subfield's elements are named. Nothing compares or prints them, so no more is derived: each
+// derive is one more function to check.
 #[derive(Clone, Copy)]
 pub enum Bits {
     One,

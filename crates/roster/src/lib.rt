@@ -15,7 +15,8 @@ mod jobs;
 mod present;
 mod queries;
 
-// The marks of the nodes 0 to 254, true for a present one, and the number of the next job.
+// The marks of the nodes 0 to 254, true for a present one, and the number of the next job. Nothing compares or prints a roster as a whole, so
+// no more is derived: each derive is one more function to check.
 #[derive(Clone, Copy)]
 pub struct Roster {
     pub marks: [bool; 255],
@@ -49,7 +50,8 @@ impl Roster {
         Ok(first_roster(code.header.n))
     }
 
-    // The next roster: a node returns where it is to be here, else it leaves.
+    // The next roster: a node returns where it is to be here, else it leaves. `here` is the mark that the node gets: an enum of leaving and
+    // returning would be turned into it first, `let here = event == Event::Returns`.
     #[tactic(auto, using(generator::proofs::Answered::tests), unfolding(crate::specs::Rosters::step_by))]
     pub fn mark(self, rec: &[u8], node: u32, here: bool) -> Result<Roster, Refusal>
         ensures { MatchResult result (λ r. step_by (record_of rec.now) node here self ≡ record { roster = r; number = 0 }) (λ e. step_by (record_of rec.now) node here self ≡ record { roster = self; number = number e }) }

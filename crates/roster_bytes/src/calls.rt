@@ -33,7 +33,8 @@ pub fn start(rec: &[u8], bytes: &mut [u8]) -> Result<(), Refusal>
     Ok(())
 }
 
-// A node returns where it is to be here, else it leaves. Record, bytes and node come one by one, as callers from C lend them.
+// A node returns where it is to be here, else it leaves. Record, bytes and node come one by one, as callers from C lend them; `here` is the
+// mark: see `Roster::mark`.
 fn mark(rec: &[u8], bytes: &mut [u8], node: u32, here: bool) -> Result<(), Refusal>
     ensures { (e : Event) → named e ≡ node → says e ≡ here → EventGives rec.now bytes.old e bytes.new (fault_in (numbered result)) }
 {

@@ -14,7 +14,8 @@ fn period(n: u32, d: u32) -> u32
     n / gcd(n, d)
 }
 
-// The node at which row r begins, where m rows come round.
+// The node at which row r begins, where m rows come round. The four are reckoned with as one type: `n: u8`, which would say n ≤ 255, would be
+// cast here, and d, m and r would keep their clauses.
 #[tactic(auto, unfolding(generator::specs::Shifts::laid_at))]
 fn laid_at(n: u32, d: u32, m: u32, r: u32) -> u32
     requires { (d ≤ n) × (n ≤ 255) × (m ≡ period_of n d) × (0 < m) × (r < n) }

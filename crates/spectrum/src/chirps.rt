@@ -18,7 +18,7 @@ fn negative(n: usize, i: usize) -> usize
     if i == 0 { 0 } else { n - i }
 }
 
-// T(x) modulo n.
+// T(x) modulo n. `n: u8` would say n ≤ 255, and be cast at both uses, which take it beside places; 2 ≤ n would stay.
 pub fn exponents(n: usize) -> [u8; 510]
     requires { (2 ≤ n) × (n ≤ 255) }
     ensures { result ≡ from (λ x. triangle x % n) 0 510 }

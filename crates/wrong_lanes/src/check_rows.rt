@@ -31,7 +31,9 @@ fn check_weights(powers: RootPowers, scales: &[u16], e: usize) -> [u16; 255]
     weights
 }
 
-// The lists of the checks of the other nodes: k weights each, which take k products each to make.
+// The lists of the checks of the other nodes: k weights each, which take k products each to make. Here and below, lists and counts are lent side
+// by side: a value of both arrays, `&mut WeightLists<LISTS, COUNTS>`, would make each function down to `prepare` generic in two sizes, and of a
+// struct of two slices each clause would say what they lead to before and after (tiles/src/scattering.rt).
 fn list_nodes(code: Code, lists: &mut [u16], counts: &mut [u8])
     requires { CheckRoom code.header (length lists.old) (length counts.old) }
     ensures { CheckLists code.header lists.new counts.new }
