@@ -1,4 +1,5 @@
-// The static library for callers from C: each function of `balanced_c` under its own name, with its clauses.
+// The static library for callers from C: each function of `balanced_c` under its own name, with its clauses. Each stands twice, for a crate
+// that exports names to C is no library for other crates, and `demands` proves its theorems over the functions of `balanced_c`.
 #![tactic(auto)]
 
 ghost use Rattle.std.specs.Prelude.{◌≡◌};
