@@ -1,8 +1,22 @@
 // The calls on single lanes.
+ghost use Rattle.std.specs.Prelude.{◌≡◌};
+ghost use Rattle.find_update.specs.Numbers.{case_of, found_symbol, found_amount};
 ghost use Rattle.balanced_c.specs.Lanes.{FindGives, MendsGive};
 
 use crate::hand_over;
 use balanced::Finding;
+
+// What was found in numbers: the case, and the symbol and the amount, 0 where there are none.
+#[tactic(auto, unfolding(find_update::specs::Numbers::case_of, find_update::specs::Numbers::found_symbol, find_update::specs::Numbers::found_amount))]
+fn numbers_of(finding: Finding) -> (u32, u32, u32)
+    ensures { (result.0 ≡ case_of finding) × (result.1 ≡ found_symbol finding) × (result.2 ≡ found_amount finding) }
+{
+    match finding {
+        Finding::Unchanged => (0, 0, 0),
+        Finding::Added { symbol, amount } => (1, symbol, amount),
+        Finding::NoSingleUpdate => (2, 0, 0),
+    }
+}
 
 // Which update it was: `answer` receives 0 where the lanes are equal, 1 where an update was found and 2 where there is none; `symbol` and `amount` receive what was found, and 0 otherwise.
 pub fn balanced_find_update(
@@ -16,22 +30,11 @@ pub fn balanced_find_update(
     ensures { FindGives rec.now before.now after.now answer.old symbol.old amount.old answer.new symbol.new amount.new result }
 {
     match balanced::find_update(rec, before, after) {
-        Ok(Finding::Unchanged) => {
-            *answer = 0;
-            *symbol = 0;
-            *amount = 0;
-            0
-        }
-        Ok(Finding::Added(which, x)) => {
-            *answer = 1;
-            *symbol = which;
-            *amount = x;
-            0
-        }
-        Ok(Finding::NoSingleUpdate) => {
-            *answer = 2;
-            *symbol = 0;
-            *amount = 0;
+        Ok(finding) => {
+            let (found, row, added) = numbers_of(finding);
+            *answer = found;
+            *symbol = row;
+            *amount = added;
             0
         }
         Err(refusal) => u8::from(refusal),

@@ -1,4 +1,5 @@
 // Shares of a block put in another order: those that stand node after node lane after lane, or back.
+use crate::block_words::block;
 use balanced::Refusal;
 use test_calls::written;
 use test_tools::MARK;
@@ -10,8 +11,7 @@ pub fn arrange<F: FnOnce(&[u8], u32, &[u8], &mut [u8]) -> Result<(), Refusal>>(
 ) -> Result<String, Fault>
     requires { F.IsAlwaysCallable call }
 {
-    let record = words.record()?;
-    let lanes = words.number("lanes")?;
+    let (record, lanes) = block(words)?;
     let shares = words.bytes("shares")?;
     written(words, MARK, |out| call(&record, lanes, &shares, out))
 }

@@ -1,11 +1,11 @@
 // Calls that write shares, a message or differences of a block.
+use crate::block_words::block;
 use test_calls::written;
 use test_tools::MARK;
 use test_words::{Fault, Words};
 
 pub fn encode(words: &mut Words) -> Result<String, Fault> {
-    let record = words.record()?;
-    let lanes = words.number("lanes")?;
+    let (record, lanes) = block(words)?;
     let message = words.bytes("message")?;
     written(words, MARK, |out| {
         balanced::encode_block(&record, lanes, &message, out)
@@ -13,8 +13,7 @@ pub fn encode(words: &mut Words) -> Result<String, Fault> {
 }
 
 pub fn recover(words: &mut Words) -> Result<String, Fault> {
-    let record = words.record()?;
-    let lanes = words.number("lanes")?;
+    let (record, lanes) = block(words)?;
     let nodes = words.bytes("nodes")?;
     let shares = words.bytes("shares")?;
     written(words, MARK, |out| {
@@ -23,8 +22,7 @@ pub fn recover(words: &mut Words) -> Result<String, Fault> {
 }
 
 pub fn rebuild(words: &mut Words) -> Result<String, Fault> {
-    let record = words.record()?;
-    let lanes = words.number("lanes")?;
+    let (record, lanes) = block(words)?;
     let nodes = words.bytes("nodes")?;
     let shares = words.bytes("shares")?;
     let target = words.number("target")?;
@@ -34,8 +32,7 @@ pub fn rebuild(words: &mut Words) -> Result<String, Fault> {
 }
 
 pub fn differences(words: &mut Words) -> Result<String, Fault> {
-    let record = words.record()?;
-    let lanes = words.number("lanes")?;
+    let (record, lanes) = block(words)?;
     let symbol = words.number("symbol")?;
     let before = words.bytes("before")?;
     let after = words.bytes("after")?;

@@ -11,6 +11,7 @@ use test_words::is_comment;
 
 mod arranging;
 mod block_calls;
+mod block_words;
 mod calls;
 mod repairs;
 mod shares;

@@ -1,4 +1,5 @@
 // Calls of a repair by traces.
+use crate::block_words::block;
 use balanced::{Refusal, RepairPlan};
 use std::alloc::{AllocError, Global};
 use test_calls::{Refused, written};
@@ -7,8 +8,7 @@ use test_words::{Fault, Words};
 
 // What a node sends.
 pub fn bits(words: &mut Words) -> Result<String, Fault> {
-    let record = words.record()?;
-    let lanes = words.number("lanes")?;
+    let (record, lanes) = block(words)?;
     let node = words.number("node")?;
     let target = words.number("target")?;
     let missing = words.bytes("missing")?;
@@ -20,8 +20,7 @@ pub fn bits(words: &mut Words) -> Result<String, Fault> {
 
 // The target's share.
 pub fn share(words: &mut Words) -> Result<String, Fault> {
-    let record = words.record()?;
-    let lanes = words.number("lanes")?;
+    let (record, lanes) = block(words)?;
     let target = words.number("target")?;
     let missing = words.bytes("missing")?;
     let rows = words.bytes("rows")?;

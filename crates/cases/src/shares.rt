@@ -1,4 +1,5 @@
 // Calls that test shares, or change them in place.
+use crate::block_words::block;
 use balanced::Refusal;
 use std::alloc::{AllocError, Global};
 use test_calls::{Refused, done, turned_away};
@@ -13,6 +14,7 @@ fn last_shares(words: &mut Words) -> Result<Vec<u8>, Fault> {
 }
 
 // Lends the shares of the last word to a call that may change them: its answer, the shares afterwards, and whether they are as they were.
+// A struct of these three would be made here and taken apart at once in both callers, `let Lent { answer, after, kept } = lend(words, call)?`.
 fn lend<T: Copy, F: FnOnce(&mut [u8]) -> Result<T, Refusal>>(
     words: &mut Words,
     call: F,
@@ -41,8 +43,7 @@ fn altered<F: FnOnce(&mut [u8]) -> Result<u32, Refusal>>(
 }
 
 pub fn update(words: &mut Words) -> Result<String, Fault> {
-    let record = words.record()?;
-    let lanes = words.number("lanes")?;
+    let (record, lanes) = block(words)?;
     let symbol = words.number("symbol")?;
     let lane = words.number("lane")?;
     let old = words.number("old")?;
@@ -53,8 +54,7 @@ pub fn update(words: &mut Words) -> Result<String, Fault> {
 }
 
 pub fn correct(words: &mut Words) -> Result<String, Fault> {
-    let record = words.record()?;
-    let lanes = words.number("lanes")?;
+    let (record, lanes) = block(words)?;
     altered(words, |shares| {
         balanced::correct_block(&record, lanes, shares)
     })
@@ -70,8 +70,7 @@ fn membership(alloc: Global, answer: Result<Option<u32>, Refusal>) -> Result<Str
 }
 
 pub fn belongs(words: &mut Words) -> Result<String, Fault> {
-    let record = words.record()?;
-    let lanes = words.number("lanes")?;
+    let (record, lanes) = block(words)?;
     let shares = last_shares(words)?;
     let answer = balanced::block_belongs(&record, lanes, &shares);
     Ok(membership(words.alloc(), answer)?)
@@ -79,8 +78,7 @@ pub fn belongs(words: &mut Words) -> Result<String, Fault> {
 
 // A node's difference added to its share.
 pub fn add_share(words: &mut Words) -> Result<String, Fault> {
-    let record = words.record()?;
-    let lanes = words.number("lanes")?;
+    let (record, lanes) = block(words)?;
     let difference = words.bytes("symbols")?;
     let (answer, after, kept) = lend(words, |share| {
         balanced::add_share(&record, lanes, &difference, share)

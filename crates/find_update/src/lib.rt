@@ -19,7 +19,7 @@ mod rows;
 #[derive(Clone, Copy, Debug, PartialEq, Eq)]
 pub enum Finding {
     Unchanged,
-    Added(u32, u32),
+    Added { symbol: u32, amount: u32 },
     NoSingleUpdate,
 }
 
@@ -33,7 +33,10 @@ impl LaneDifference<'_> {
         };
         let amount = self.amount(row);
         if self.is_multiple(row, amount) {
-            Finding::Added(row as u32, amount)
+            Finding::Added {
+                symbol: row as u32,
+                amount,
+            }
         } else {
             Finding::NoSingleUpdate
         }

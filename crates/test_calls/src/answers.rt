@@ -17,7 +17,8 @@ impl Display for Refused {
     }
 }
 
-// What turned the call away, and whether everything that was lent is as it was.
+// What turned the call away, and whether everything that was lent is as it was. Where nothing is lent the last arm of a match says the number:
+// `answered(alloc, answer, |found| match found { .. })` would take that arm away, and bring a closure, its bound and its clause.
 pub fn turned_away(alloc: Global, refusal: Refusal, kept: bool) -> Result<String, Fault> {
     Ok(format!(in alloc; "{}, {}", Refused(refusal), change(kept))?)
 }

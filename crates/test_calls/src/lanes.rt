@@ -10,7 +10,9 @@ use test_words::{Fault, Words};
 fn finding(alloc: Global, answer: Result<Finding, Refusal>) -> Result<String, AllocError> {
     match answer {
         Ok(Finding::Unchanged) => format!(in alloc; "unchanged"),
-        Ok(Finding::Added(symbol, amount)) => format!(in alloc; "symbol {symbol} amount {amount}"),
+        Ok(Finding::Added { symbol, amount }) => {
+            format!(in alloc; "symbol {symbol} amount {amount}")
+        }
         Ok(Finding::NoSingleUpdate) => format!(in alloc; "no single update"),
         Err(refusal) => format!(in alloc; "{}", Refused(refusal)),
     }

@@ -33,6 +33,7 @@ impl fmt::Display for Front<'_> {
 }
 
 // The bytes of symbols: two each where they are wide, the high one first, else one, which is 255 for a symbol that no byte holds.
+// A width in place of the bool would be made of the same test of the first byte, and be taken apart again by `if width == 2`.
 fn bytes_of(alloc: Global, symbols: &[u16], wide: bool) -> Result<Vec<u8>, AllocError> {
     let mut bytes = Vec::new(alloc);
     for x in symbols {
@@ -47,7 +48,14 @@ fn bytes_of(alloc: Global, symbols: &[u16], wide: bool) -> Result<Vec<u8>, Alloc
 
 // The numbers, the shifts, the first nodes and the base word.
 fn accepted(alloc: Global, plan: &Plan, wide: bool) -> Result<String, AllocError> {
-    let (n, k, d, low, high) = (plan.n, plan.k, plan.d, plan.low, plan.high);
+    let Plan {
+        n,
+        k,
+        d,
+        low,
+        high,
+        ..
+    } = *plan;
     let (word, rest) = plan.base.split_at(n as usize);
     let bytes = bytes_of(alloc, word, wide)?;
     let shifts = Front::new(&plan.shifts, k);
