@@ -5,6 +5,10 @@ ghost use Rattle.carrying.specs.Masks.{masked, closed, opened};
 ghost use Rattle.carrying.specs.Carrying.{word_count, words_of, carried_words, word_bytes_back, words_length};
 
 use crate::prime::WordPrime;
+use symbols::Width;
+
+// A word has two bytes.
+const PAIR: Width = Width { bytes: 2 };
 
 // The words of bytes, the last of an odd number with a zero behind it.
 fn load_words(s: &[u8], words: &mut [u16])
@@ -13,7 +17,7 @@ fn load_words(s: &[u8], words: &mut [u16])
 {
     let count = s.len() / 2;
     for i in 0..count {
-        words[i] = symbols::symbol_at(2, s, i);
+        words[i] = PAIR.symbol_at(s, i);
     }
     if s.len() % 2 == 0 {
         return;
@@ -30,7 +34,7 @@ fn write_masked(c: u16, words: &[u16], out: &mut [u8])
     for i in 0..count {
         let start = i * 2;
         let end = start + 2;
-        symbols::write_symbol(2, words[i] ^ c, &mut out[start..end]);
+        PAIR.write_symbol(words[i] ^ c, &mut out[start..end]);
     }
     if out.len() % 2 == 0 {
         return;
@@ -52,7 +56,7 @@ fn open_words(group: &[u8], words: &mut [u16], out: &mut [u8])
     requires { (length group.now ≡ length words.old * 2 + 2) × (length out.old ≤ length words.old * 2) }
     ensures { out.new ≡ take (length out.old) (bytes_of 2 (opened (symbols_of 2 group.now))) }
 {
-    let c = symbols::symbol_at(2, group, 0);
+    let c = PAIR.symbol_at(group, 0);
     load_words(&group[2..], words);
     write_masked(c, words, out);
 }
@@ -75,7 +79,7 @@ impl WordPrime {
     {
         load_words(s, words);
         let c = self.find_mask(words);
-        symbols::write_symbol(2, c, &mut out[..2]);
+        PAIR.write_symbol(c, &mut out[..2]);
         write_all(c, words, &mut out[2..]);
     }
 

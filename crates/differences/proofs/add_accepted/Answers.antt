@@ -14,11 +14,11 @@ pub add-requires : goal.add-requires
 add-requires c =
     let none = done_is _ _ c.in_ok-add_fault.ensures in
     let (difference, share) = add_accepts c.args.code.header c.args.code.sound c.args.lanes c.args.difference.now c.args.share.now none in
-    let wide = c.width_of-width.ensures.0 in
+    let wide = c.width_of-width.ensures in
     (judged_row difference _ wide, judged_row share _ wide)
 
 pub returns : goal.returns
 unfolding added_bytes
 returns c =
     let none = done_is _ _ c.in_ok-add_fault.ensures in
-    record { answered = c.in_ok-add_fault.ensures; written = rw none (rw c.width_of-width.ensures.0 at c.add.ensures) }
+    record { answered = c.in_ok-add_fault.ensures; written = rw none (rw c.width_of-width.ensures at c.add.ensures) }

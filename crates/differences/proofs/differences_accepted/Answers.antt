@@ -18,7 +18,7 @@ pub invariant_of-change : goal.invariant_of-change
 invariant_of-change c =
     let a = c.args in
     let is = differences_accepts a.code.header a.code.sound a.lanes a.symbol a.old.now a.new.now _ (done_is _ _ c.in_ok-differences_fault.ensures) in
-    let wide = c.width_of-width.ensures.0 in
+    let wide = c.width_of-width.ensures in
     record {
       same_code = sym c.new-generator.ensures;
       row = is.row;
@@ -31,10 +31,10 @@ fill_differences-requires c =
     let a = c.args in
     let h = a.code.header in
     let is = differences_accepts h a.code.sound a.lanes a.symbol a.old.now a.new.now _ (done_is _ _ c.in_ok-differences_fault.ensures) in
-    rw c.width_of-width.ensures.0 (is.room ∙ mul_assoc h.n a.lanes (width h) ∙ ap (λ (x : ℕ). h.n * x) (mul_comm a.lanes (width h)))
+    rw c.width_of-width.ensures (is.room ∙ mul_assoc h.n a.lanes (width h) ∙ ap (λ (x : ℕ). h.n * x) (mul_comm a.lanes (width h)))
 
 pub returns : goal.returns
 unfolding difference_bytes
 returns c =
     let none = done_is _ _ c.in_ok-differences_fault.ensures in
-    record { answered = c.in_ok-differences_fault.ensures; written = rw none (rw c.width_of-width.ensures.0 at c.fill_differences.ensures) }
+    record { answered = c.in_ok-differences_fault.ensures; written = rw none (rw c.width_of-width.ensures at c.fill_differences.ensures) }

@@ -17,16 +17,16 @@ invariant_of-message c =
     let h = c.args.code.header in
     let none = done_is _ _ c.in_ok-encode_fault.ensures in
     let message = (encode_accepts h c.args.code.sound c.args.lanes _ c.args.message.now none).0 in
-    rw (c.new-generator.ensures, c.width_of.ensures.0) record { rows = record { wide = refl; bytes = message.bytes ∙ lanes_long (width h) h.k c.args.lanes; symbol_rows = message.symbol_rows } }
+    rw (c.new-generator.ensures, c.width_of.ensures) record { rows = record { wide = refl; bytes = message.bytes ∙ lanes_long (width h) h.k c.args.lanes; symbol_rows = message.symbol_rows } }
 
 pub encode_lanes-requires : goal.encode_lanes-requires
 encode_lanes-requires c =
     let h = c.args.code.header in
     let none = done_is _ _ c.in_ok-encode_fault.ensures in
-    rw (c.new-generator.ensures, c.width_of.ensures.0) ((encode_accepts h c.args.code.sound c.args.lanes _ c.args.message.now none).1 ∙ lanes_long (width h) h.n c.args.lanes)
+    rw (c.new-generator.ensures, c.width_of.ensures) ((encode_accepts h c.args.code.sound c.args.lanes _ c.args.message.now none).1 ∙ lanes_long (width h) h.n c.args.lanes)
 
 pub returns : goal.returns
 returns c =
     let none = done_is _ _ c.in_ok-encode_fault.ensures in
-    let written = rw (c.new-generator.ensures, c.width_of.ensures.0) at c.encode_lanes.ensures in
+    let written = rw (c.new-generator.ensures, c.width_of.ensures) at c.encode_lanes.ensures in
     record { answer = c.in_ok-encode_fault.ensures; written = rw none (written ∙ sym (encoded_lanes _ _ _ _ refl)) }

@@ -22,12 +22,12 @@ lanes c = find_accepts _ _ _ (done_is _ _ c.in_ok-find_fault.ensures)
 first : (c : After-read_symbols-us)
     → let a = c.args in
     take a.code.header.n c.read_symbols-us.result ≡ symbols_of (width a.code.header) a.before.now
-first c = lane_read _ _ _ _ (lanes (goal.at.After-read_symbols-us c).In_ok-find_fault).first c.width_of-w.ensures.0 c.read_symbols-us.ensures
+first c = lane_read _ _ _ _ (lanes (goal.at.After-read_symbols-us c).In_ok-find_fault).first c.width_of-w.ensures c.read_symbols-us.ensures
 
 second : (c : After-read_symbols-vs)
     → let a = c.args in
     take a.code.header.n c.read_symbols-vs.result ≡ symbols_of (width a.code.header) a.after.now
-second c = lane_read _ _ _ _ (lanes (goal.at.After-read_symbols-vs c).In_ok-find_fault).second c.width_of-w.ensures.0 c.read_symbols-vs.ensures
+second c = lane_read _ _ _ _ (lanes (goal.at.After-read_symbols-vs c).In_ok-find_fault).second c.width_of-w.ensures c.read_symbols-vs.ensures
 
 pub returns-in_err-find_fault : goal.returns-in_err-find_fault
 returns-in_err-find_fault c =
@@ -37,14 +37,12 @@ returns-in_err-find_fault c =
 pub read_symbols-us-requires : goal.read_symbols-us-requires
 read_symbols-us-requires c =
     let few : c.args.code.header.n ≤ 255 = omega arith in
-    let (is, some, two) = c.width_of-w.ensures in
-    (some, two, few_bytes _ _ _ few (rw is (lanes (goal.at.read_symbols-us-requires c).In_ok-find_fault).first_long))
+    few_bytes _ _ _ few (rw c.width_of-w.ensures (lanes (goal.at.read_symbols-us-requires c).In_ok-find_fault).first_long)
 
 pub read_symbols-vs-requires : goal.read_symbols-vs-requires
 read_symbols-vs-requires c =
     let few : c.args.code.header.n ≤ 255 = omega arith in
-    let (is, some, two) = c.width_of-w.ensures in
-    (some, two, few_bytes _ _ _ few (rw is (lanes (goal.at.read_symbols-vs-requires c).In_ok-find_fault).second_long))
+    few_bytes _ _ _ few (rw c.width_of-w.ensures (lanes (goal.at.read_symbols-vs-requires c).In_ok-find_fault).second_long)
 
 pub slice_bounds-find-end : goal.slice_bounds-find-end
 slice_bounds-find-end c = rw (first (goal.at.slice_bounds-find-end c).After-read_symbols-us) (sym (lanes (goal.at.slice_bounds-find-end c).In_ok-find_fault).first.long)

@@ -27,24 +27,24 @@ pub turn-requires : goal.turn-requires
 turn-requires c =
     let width = c.width_of-w.ensures in
     let (read, room) = rearrange_accepts c.args.code.header c.args.code.sound c.args.lanes c.args.rows _ _ (none (goal.at.turn-requires c).After-width_of-w) in
-    (width.1, width.2, rw width.0 read, rw width.0 room)
+    (rw width read, rw width room)
 
 pub returns-in-ByNode : goal.returns-in-ByNode
 unfolding answer_of rearranged_bytes
 returns-in-ByNode c =
     let zero = none (goal.at.returns-in-ByNode c).After-width_of-w in
-    let written = rw c.width_of-w.ensures.0 at c.turn.ensures in
+    let written = rw c.width_of-w.ensures at c.turn.ensures in
     rw c.in-ByNode.is (record { answered = rw zero; written = rw zero written })
 
 pub turn-requires-in-ByLane : goal.turn-requires-in-ByLane
 turn-requires-in-ByLane c =
     let width = c.width_of-w.ensures in
     let (read, room) = rearrange_accepts c.args.code.header c.args.code.sound c.args.lanes c.args.rows _ _ (none (goal.at.turn-requires-in-ByLane c).After-width_of-w) in
-    (width.1, width.2, rw (width.0, mul_comm c.args.lanes c.args.rows) read, rw (width.0, mul_comm c.args.lanes c.args.rows) room)
+    (rw (width, mul_comm c.args.lanes c.args.rows) read, rw (width, mul_comm c.args.lanes c.args.rows) room)
 
 pub returns-in-ByLane : goal.returns-in-ByLane
 unfolding answer_of rearranged_bytes
 returns-in-ByLane c =
     let zero = none (goal.at.returns-in-ByLane c).After-width_of-w in
-    let written = rw c.width_of-w.ensures.0 at c.turn-in-ByLane.ensures ∙ ap (bytes_of (width c.args.code.header)) (turned _ _ _) in
+    let written = rw c.width_of-w.ensures at c.turn-in-ByLane.ensures ∙ ap (bytes_of (width c.args.code.header)) (turned _ _ _) in
     rw c.in-ByLane.is (record { answered = rw zero; written = rw zero written })

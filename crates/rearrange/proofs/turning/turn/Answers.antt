@@ -13,7 +13,7 @@ bytes_turned w rows lanes table one =
     sym (ap (λ (v : ℕ). bytes_of v (rearranged row_after_row lane_after_lane rows lanes (symbols_of v table))) one ∙ bytes_one _ ∙ ap (rearranged row_after_row lane_after_lane rows lanes) (symbols_one table))
 
 pub scatter-requires : goal.scatter-requires
-scatter-requires c = (rw (c.if-w-eq1.true, mul-one) at c.requires.2, rw (c.if-w-eq1.true, mul-one) at c.requires.3)
+scatter-requires c = (rw (c.if-w-eq1.true, mul-one) at c.requires.0, rw (c.if-w-eq1.true, mul-one) at c.requires.1)
 
 pub returns-then-w-eq1 : goal.returns-then-w-eq1
 returns-then-w-eq1 c = c.scatter.ensures ∙ bytes_turned _ _ _ _ c.if-w-eq1.true

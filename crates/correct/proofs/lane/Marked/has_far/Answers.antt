@@ -15,14 +15,14 @@ use Rattle.correct.proofs.lane.Marked.has_far.Goals as goal
 use Rattle.correct.proofs.lane.Marked.has_far.Goals.{After-is_near, In-loop-t}
 
 -- the bytes of lane t
-inside : (c : In-loop-t) → let n = c.args.self.rows.code.header.n in c.loop-t.t * (c.width_of.result * n) + c.width_of.result * n ≤ length c.args.shares.now
-inside c = rw c.width_of.ensures.0 (part_inside c.requires (width_some _) c.loop-t.t c.loop-t-test.true)
+inside : (c : In-loop-t) → let n = c.args.self.rows.code.header.n in c.loop-t.t * (c.width_of.result.bytes * n) + c.width_of.result.bytes * n ≤ length c.args.shares.now
+inside c = rw c.width_of.ensures (part_inside c.requires (width_some _) c.loop-t.t c.loop-t-test.true)
 
 -- lane t has a word near enough, or not
 near-is : (c : After-is_near) → let v = c.args.self in c.is_near.result ≡ near v.rows.code.header (length v.marks.now) c.args.shares.now c.loop-t.t
 near-is c =
     let bytes = part_lane c.requires (width_some _) c.loop-t.t c.loop-t-test.true in
-    rw bytes at (rw c.width_of.ensures.0 at c.is_near.ensures)
+    rw bytes at (rw c.width_of.ensures at c.is_near.ensures)
 
 pub loop-t-init : goal.loop-t-init
 loop-t-init c = rw sub-zero
@@ -37,7 +37,7 @@ pub slice_bounds-is_near-end : goal.slice_bounds-is_near-end
 slice_bounds-is_near-end c = omega (arith, inside (goal.at.slice_bounds-is_near-end c).In-loop-t)
 
 pub is_near-requires : goal.is_near-requires
-is_near-requires c = (c.loop-t-test.true, rw c.width_of.ensures.0 (part_marked c.requires (width_some _) c.loop-t.t c.loop-t-test.true))
+is_near-requires c = (c.loop-t-test.true, rw c.width_of.ensures (part_marked c.requires (width_some _) c.loop-t.t c.loop-t-test.true))
 
 pub returns-then-not-is_near : goal.returns-then-not-is_near
 unfolding first_far
