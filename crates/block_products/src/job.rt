@@ -9,30 +9,29 @@ ghost use Rattle.tile_products.specs.Inner.Matrices.{Begun, Made};
 ghost use Rattle.block_products.specs.Inner.Ways.{out_bytes, result_bytes, lane_sum, Done, Room};
 
 use crate::Product;
+use symbols::Width;
 use tile_products::scratch::{
     LARGE_ROWS, LARGE_TABLE, MIDDLE_ROWS, MIDDLE_TABLE, SMALL_ROWS, SMALL_TABLE,
 };
 use tile_products::{Matrix, Shape};
 
-// The lists of a matrix and the bytes of the lanes; a symbol has w bytes. No `Matrix`: what is said of a job goes by its outputs, rows and
+// The lists of a matrix and the bytes of the lanes. No `Matrix`: what is said of a job goes by its outputs, rows and
 // lanes, which would stand two fields deeper, and a matrix is put together in one place.
 #[derive(Clone, Copy)]
 pub struct Job<'a> {
     pub m: Product,
-    pub w: usize,
+    pub w: Width,
     pub lists: &'a [u16],
     pub counts: &'a [u8],
     pub source: &'a [u8],
     pub ghost usable_field: { usable m.field ≡ true },
-    pub ghost wide: { w ≡ bytes_for (modulus m.field) },
-    pub ghost some: { 1 ≤ w },
-    pub ghost few_bytes: { w ≤ 2 },
+    pub ghost wide: { w.bytes ≡ bytes_for (modulus m.field) },
     pub ghost few_rows: { m.rows ≤ 255 },
     pub ghost few_outputs: { m.outputs ≤ 255 },
     pub ghost few_lanes: { m.lanes ≤ 4096 },
     pub ghost made: { ∥ Made (modulus m.field) m.rows m.outputs lists.now counts.now ∥₁ },
     pub ghost bytes: { all_below 256 source.now ≡ true },
-    pub ghost source_long: { length source.now ≡ w * m.rows * m.lanes },
+    pub ghost source_long: { length source.now ≡ w.bytes * m.rows * m.lanes },
 }
 
 // At most 64 lanes, from lane `first` on.
@@ -50,9 +49,9 @@ impl Part<'_> {
     // Three slices: a value of the three arrays, `&mut Scratch<ROWS, TABLE>`, would make this function and `fill_lanes` generic in two sizes, with
     // the bounds that stand at `fill_in` in each.
     fn fill_tile(self, tile: &mut [u8], table: &mut [u8], words: &mut [u8], out: &mut [u8])
-        requires out_long { length out.old ≡ out_bytes self.job.m.way self.job.w self.job.m.outputs self.job.m.lanes }
-        requires room { Room self.job.w self.job.m.outputs self.job.m.rows (length tile.old) (length table.old) (length words.old) }
-        ensures { let p = self.entry in let j = p.job in (ws : ℕ → List ℕ) → Begun (modulus j.m.field) j.m.rows ws j.m.outputs j.lists.now j.counts.now → Done j.m.way j.w j.m.outputs j.m.lanes (lane_sum j.m j.w ws j.source.now) p.first out.old → Done j.m.way j.w j.m.outputs j.m.lanes (lane_sum j.m j.w ws j.source.now) (p.first + p.count) out.new }
+        requires out_long { length out.old ≡ out_bytes self.job.m.way self.job.w.bytes self.job.m.outputs self.job.m.lanes }
+        requires room { Room self.job.w.bytes self.job.m.outputs self.job.m.rows (length tile.old) (length table.old) (length words.old) }
+        ensures { let p = self.entry in let j = p.job in (ws : ℕ → List ℕ) → Begun (modulus j.m.field) j.m.rows ws j.m.outputs j.lists.now j.counts.now → Done j.m.way j.w.bytes j.m.outputs j.m.lanes (lane_sum j.m j.w.bytes ws j.source.now) p.first out.old → Done j.m.way j.w.bytes j.m.outputs j.m.lanes (lane_sum j.m j.w.bytes ws j.source.now) (p.first + p.count) out.new }
     {
         let job = self.job;
         let matrix = Matrix {
@@ -65,7 +64,7 @@ impl Part<'_> {
             counts: job.counts,
         };
         let groups = tile_products::groups_of(job.m.rows);
-        let size = groups * (job.w * 256);
+        let size = groups * (job.w.bytes * 256);
         let sums = groups * 1024;
         self.load(tile);
         matrix.apply(&tile[..size], &mut table[..sums], words);
@@ -76,9 +75,9 @@ impl Part<'_> {
 impl Job<'_> {
     // The sums of all lanes, a part after the other, in that scratch.
     fn fill_lanes(self, tile: &mut [u8], table: &mut [u8], words: &mut [u8], out: &mut [u8])
-        requires out_long { length out.old ≡ out_bytes self.m.way self.w self.m.outputs self.m.lanes }
-        requires room { Room self.w self.m.outputs self.m.rows (length tile.old) (length table.old) (length words.old) }
-        ensures { let j = self.entry in (ws : ℕ → List ℕ) → Begun (modulus j.m.field) j.m.rows ws j.m.outputs j.lists.now j.counts.now → out.new ≡ result_bytes j.m.way j.w j.m.outputs j.m.lanes (lane_sum j.m j.w ws j.source.now) }
+        requires out_long { length out.old ≡ out_bytes self.m.way self.w.bytes self.m.outputs self.m.lanes }
+        requires room { Room self.w.bytes self.m.outputs self.m.rows (length tile.old) (length table.old) (length words.old) }
+        ensures { let j = self.entry in (ws : ℕ → List ℕ) → Begun (modulus j.m.field) j.m.rows ws j.m.outputs j.lists.now j.counts.now → out.new ≡ result_bytes j.m.way j.w.bytes j.m.outputs j.m.lanes (lane_sum j.m j.w.bytes ws j.source.now) }
     {
         let lanes = self.m.lanes;
         for first in (0..lanes).step_by(64) {
@@ -94,11 +93,11 @@ impl Job<'_> {
     // The same in scratch of its own: so many bytes for rows, so many for a table. A bound of a const parameter stands in the clause: no value
     // holds it.
     fn fill_in<const ROWS: usize, const TABLE: usize>(self, out: &mut [u8])
-        requires out_long { length out.old ≡ out_bytes self.m.way self.w self.m.outputs self.m.lanes }
-        requires room { Room self.w self.m.outputs self.m.rows ROWS TABLE ROWS }
+        requires out_long { length out.old ≡ out_bytes self.m.way self.w.bytes self.m.outputs self.m.lanes }
+        requires room { Room self.w.bytes self.m.outputs self.m.rows ROWS TABLE ROWS }
         requires rows_fit { ROWS < 2 ^ 63 }
         requires table_fits { TABLE < 2 ^ 63 }
-        ensures { let j = self.entry in (ws : ℕ → List ℕ) → Begun (modulus j.m.field) j.m.rows ws j.m.outputs j.lists.now j.counts.now → out.new ≡ result_bytes j.m.way j.w j.m.outputs j.m.lanes (lane_sum j.m j.w ws j.source.now) }
+        ensures { let j = self.entry in (ws : ℕ → List ℕ) → Begun (modulus j.m.field) j.m.rows ws j.m.outputs j.lists.now j.counts.now → out.new ≡ result_bytes j.m.way j.w.bytes j.m.outputs j.m.lanes (lane_sum j.m j.w.bytes ws j.source.now) }
     {
         let mut tile = [0u8; ROWS];
         let mut table = [0u8; TABLE];
@@ -109,10 +108,10 @@ impl Job<'_> {
     // In scratch for at most 16 rows of bytes, for at most 64, or for any: clearing the largest takes longer than the work of a small product.
     // The arms name const parameters: a choice written once would need a trait for what is done in the scratch.
     pub fn fill(self, out: &mut [u8])
-        requires { length out.old ≡ out_bytes self.m.way self.w self.m.outputs self.m.lanes }
-        ensures { let j = self.entry in (ws : ℕ → List ℕ) → Begun (modulus j.m.field) j.m.rows ws j.m.outputs j.lists.now j.counts.now → out.new ≡ result_bytes j.m.way j.w j.m.outputs j.m.lanes (lane_sum j.m j.w ws j.source.now) }
+        requires { length out.old ≡ out_bytes self.m.way self.w.bytes self.m.outputs self.m.lanes }
+        ensures { let j = self.entry in (ws : ℕ → List ℕ) → Begun (modulus j.m.field) j.m.rows ws j.m.outputs j.lists.now j.counts.now → out.new ≡ result_bytes j.m.way j.w.bytes j.m.outputs j.m.lanes (lane_sum j.m j.w.bytes ws j.source.now) }
     {
-        let most = self.w * self.m.outputs.max(self.m.rows);
+        let most = self.w.bytes * self.m.outputs.max(self.m.rows);
         if most <= 16 {
             return self.fill_in::<SMALL_ROWS, SMALL_TABLE>(out);
         }

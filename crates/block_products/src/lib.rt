@@ -9,6 +9,7 @@ ghost use Rattle.block_products.specs.Inner.Ways.{result_bytes, lane_sum, Ready}
 
 use field::Field;
 use job::Job;
+use symbols::Width;
 
 mod job;
 mod loading;
@@ -36,10 +37,10 @@ pub struct Product {
     pub lanes: usize,
 }
 
-// The sums of all lanes with the weights that the lists were made for; a symbol has w bytes.
-pub fn fill(m: Product, w: usize, lists: &[u16], counts: &[u8], source: &[u8], out: &mut [u8])
-    requires { Ready m w lists.now counts.now source.now (length out.old) }
-    ensures { (ws : ℕ → List ℕ) → Begun (modulus m.field) m.rows ws m.outputs lists.now counts.now → out.new ≡ result_bytes m.way w m.outputs m.lanes (lane_sum m w ws source.now) }
+// The sums of all lanes with the weights that the lists were made for.
+pub fn fill(m: Product, w: Width, lists: &[u16], counts: &[u8], source: &[u8], out: &mut [u8])
+    requires { Ready m w.bytes lists.now counts.now source.now (length out.old) }
+    ensures { (ws : ℕ → List ℕ) → Begun (modulus m.field) m.rows ws m.outputs lists.now counts.now → out.new ≡ result_bytes m.way w.bytes m.outputs m.lanes (lane_sum m w.bytes ws source.now) }
 {
     let job = Job {
         m,

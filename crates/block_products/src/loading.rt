@@ -9,6 +9,7 @@ ghost use Rattle.block_products.specs.Inner.Ways.{side_of};
 
 use crate::Way;
 use crate::job::Part;
+use symbols::Width;
 
 // Byte V of each symbol of W bytes. Both are constants, so that the lanes become vector instructions.
 pub fn pick_bytes<const W: usize, const V: usize>(part: &[u8], out: &mut [u8])
@@ -23,13 +24,12 @@ pub fn pick_bytes<const W: usize, const V: usize>(part: &[u8], out: &mut [u8])
 }
 
 // The same where or_from _ _ is a constant.
-fn copy_bytes(w: usize, v: usize, part: &[u8], out: &mut [u8])
-    requires few { w ≤ 2 }
-    requires byte { v < w }
-    requires long { length part.now ≡ length out.old * w }
-    ensures { out.new ≡ from (λ q. get_or part.now (q * w + v) 0) 0 (length out.old) }
+fn copy_bytes(w: Width, v: usize, part: &[u8], out: &mut [u8])
+    requires byte { v < w.bytes }
+    requires long { length part.now ≡ length out.old * w.bytes }
+    ensures { out.new ≡ from (λ q. get_or part.now (q * w.bytes + v) 0) 0 (length out.old) }
 {
-    match (w, v) {
+    match (w.bytes, v) {
         (1, _) => pick_bytes::<1, 0>(part, out),
         (_, 0) => pick_bytes::<2, 0>(part, out),
         (_, _) => pick_bytes::<2, 1>(part, out),
@@ -37,14 +37,13 @@ fn copy_bytes(w: usize, v: usize, part: &[u8], out: &mut [u8])
 }
 
 // The bytes of `count` symbols as rows of a tile, those of the high bytes first.
-fn load_row(w: usize, count: usize, part: &[u8], rows: &mut [u8])
-    requires few_bytes { w ≤ 2 }
+fn load_row(w: Width, count: usize, part: &[u8], rows: &mut [u8])
     requires few { count ≤ 64 }
-    requires part_long { length part.now ≡ count * w }
-    requires rows_long { length rows.old ≡ w * 64 }
-    ensures { TileOf w w count (λ v q. get_or part.now (q * w + v) 0) rows.new }
+    requires part_long { length part.now ≡ count * w.bytes }
+    requires rows_long { length rows.old ≡ w.bytes * 64 }
+    ensures { TileOf w.bytes w.bytes count (λ v q. get_or part.now (q * w.bytes + v) 0) rows.new }
 {
-    for v in 0..w {
+    for v in 0..w.bytes {
         let start = v * 64;
         let end = start + count;
         copy_bytes(w, v, part, &mut rows[start..end]);
@@ -54,16 +53,16 @@ fn load_row(w: usize, count: usize, part: &[u8], rows: &mut [u8])
 impl Part<'_> {
     // The lanes of rows of symbols that stand one after the other.
     fn load_rows(self, tile: &mut [u8])
-        requires { self.job.w * self.job.m.rows * 64 ≤ length tile.old }
-        ensures { let p = self.entry in let j = p.job in (t : ℕ) → t < p.count → lane_of row_after_row (j.w * j.m.rows) 64 t tile.new ≡ bytes_of j.w (lane_of row_after_row j.m.rows j.m.lanes (p.first + t) (symbols_of j.w j.source.now)) }
+        requires { self.job.w.bytes * self.job.m.rows * 64 ≤ length tile.old }
+        ensures { let p = self.entry in let j = p.job in (t : ℕ) → t < p.count → lane_of row_after_row (j.w.bytes * j.m.rows) 64 t tile.new ≡ bytes_of j.w.bytes (lane_of row_after_row j.m.rows j.m.lanes (p.first + t) (symbols_of j.w.bytes j.source.now)) }
     {
         let job = self.job;
         let w = job.w;
         let lanes = job.m.lanes;
-        let size = w * 64;
+        let size = w.bytes * 64;
         for r in 0..job.m.rows {
-            let from = (r * lanes + self.first) * w;
-            let to = from + self.count * w;
+            let from = (r * lanes + self.first) * w.bytes;
+            let to = from + self.count * w.bytes;
             let start = r * size;
             let end = start + size;
             load_row(w, self.count, &job.source[from..to], &mut tile[start..end]);
@@ -72,11 +71,11 @@ impl Part<'_> {
 
     // The same of lanes that stand one after the other.
     fn load_lanes(self, tile: &mut [u8])
-        requires { (self.job.w * self.job.m.rows + 15) / 16 * 1024 ≤ length tile.old }
-        ensures { let p = self.entry in let j = p.job in (t : ℕ) → t < p.count → symbols_of j.w (lane_of row_after_row (j.w * j.m.rows) 64 t tile.new) ≡ lane_of lane_after_lane j.m.rows j.m.lanes (p.first + t) (symbols_of j.w j.source.now) }
+        requires { (self.job.w.bytes * self.job.m.rows + 15) / 16 * 1024 ≤ length tile.old }
+        ensures { let p = self.entry in let j = p.job in (t : ℕ) → t < p.count → symbols_of j.w.bytes (lane_of row_after_row (j.w.bytes * j.m.rows) 64 t tile.new) ≡ lane_of lane_after_lane j.m.rows j.m.lanes (p.first + t) (symbols_of j.w.bytes j.source.now) }
     {
         let job = self.job;
-        let lane = job.w * job.m.rows;
+        let lane = job.w.bytes * job.m.rows;
         let start = self.first * lane;
         let end = start + self.count * lane;
         tiles::gather64(lane, self.count, &job.source[start..end], tile);
@@ -84,8 +83,8 @@ impl Part<'_> {
 
     // The lanes as they stand in the block.
     pub fn load(self, tile: &mut [u8])
-        requires { (self.job.w * self.job.m.rows + 15) / 16 * 1024 ≤ length tile.old }
-        ensures { let p = self.entry in let j = p.job in (t : ℕ) → t < p.count → symbols_of j.w (lane_of row_after_row (j.w * j.m.rows) 64 t tile.new) ≡ lane_of (side_of j.m.way) j.m.rows j.m.lanes (p.first + t) (symbols_of j.w j.source.now) }
+        requires { (self.job.w.bytes * self.job.m.rows + 15) / 16 * 1024 ≤ length tile.old }
+        ensures { let p = self.entry in let j = p.job in (t : ℕ) → t < p.count → symbols_of j.w.bytes (lane_of row_after_row (j.w.bytes * j.m.rows) 64 t tile.new) ≡ lane_of (side_of j.m.way) j.m.rows j.m.lanes (p.first + t) (symbols_of j.w.bytes j.source.now) }
     {
         match self.job.m.way {
             Way::RowsToLanes => self.load_rows(tile),

@@ -6,6 +6,7 @@ ghost use Rattle.block_products.specs.Inner.Ways.{out_bytes, Sums, LanesDone, Ro
 use crate::job::Part;
 use crate::loading::pick_bytes;
 use crate::{Way, marking};
+use symbols::Width;
 
 // The symbols of a row of high bytes and a row of low bytes.
 fn join(count: usize, part: &[u8], out: &mut [u8])
@@ -20,16 +21,14 @@ fn join(count: usize, part: &[u8], out: &mut [u8])
     }
 }
 
-// The symbols of an output's rows of bytes; their width w is a number here too: see symbols/src/lib.rt. With `copy_from_slice`, a call for each 64 bytes, lanes took 7 % longer to become rows.
-fn store_row(w: usize, count: usize, part: &[u8], out: &mut [u8])
-    requires some { 1 ≤ w }
-    requires few_bytes { w ≤ 2 }
+// The symbols of an output's rows of bytes. With `copy_from_slice`, a call for each 64 bytes, lanes took 7 % longer to become rows.
+fn store_row(w: Width, count: usize, part: &[u8], out: &mut [u8])
     requires few { count ≤ 64 }
-    requires part_long { length part.now ≡ w * 64 }
-    requires out_long { length out.old ≡ count * w }
-    ensures { (q v : ℕ) → q < count → v < w → get_or out.new (q * w + v) 0 ≡ get_or part.now (v * 64 + q) 0 }
+    requires part_long { length part.now ≡ w.bytes * 64 }
+    requires out_long { length out.old ≡ count * w.bytes }
+    ensures { (q v : ℕ) → q < count → v < w.bytes → get_or out.new (q * w.bytes + v) 0 ≡ get_or part.now (v * 64 + q) 0 }
 {
-    if w == 1 {
+    if w.bytes == 1 {
         pick_bytes::<1, 0>(&part[..count], out);
         return;
     }
@@ -39,15 +38,15 @@ fn store_row(w: usize, count: usize, part: &[u8], out: &mut [u8])
 impl Part<'_> {
     // These lanes of the rows of a buffer.
     fn store_rows(self, words: &[u8], out: &mut [u8])
-        requires words_long { self.job.w * self.job.m.outputs * 64 ≤ length words.now }
-        requires out_long { length out.old ≡ self.job.w * self.job.m.outputs * self.job.m.lanes }
-        ensures { let p = self.entry in let j = p.job in (f : ℕ → ℕ → ℕ) → Sums j.w j.m.outputs p.first p.count f words.now → RowsDone j.w j.m.outputs j.m.lanes f p.first out.old → RowsDone j.w j.m.outputs j.m.lanes f (p.first + p.count) out.new }
+        requires words_long { self.job.w.bytes * self.job.m.outputs * 64 ≤ length words.now }
+        requires out_long { length out.old ≡ self.job.w.bytes * self.job.m.outputs * self.job.m.lanes }
+        ensures { let p = self.entry in let j = p.job in (f : ℕ → ℕ → ℕ) → Sums j.w.bytes j.m.outputs p.first p.count f words.now → RowsDone j.w.bytes j.m.outputs j.m.lanes f p.first out.old → RowsDone j.w.bytes j.m.outputs j.m.lanes f (p.first + p.count) out.new }
     {
         let w = self.job.w;
-        let size = w * 64;
-        let row = self.job.m.lanes * w;
-        let at = self.first * w;
-        let part = self.count * w;
+        let size = w.bytes * 64;
+        let row = self.job.m.lanes * w.bytes;
+        let at = self.first * w.bytes;
+        let part = self.count * w.bytes;
         for i in 0..self.job.m.outputs {
             let from = i * size;
             let to = from + size;
@@ -59,12 +58,12 @@ impl Part<'_> {
 
     // The same of lanes that stand one after the other.
     fn store_lanes(self, words: &[u8], blocks: &mut [u8], out: &mut [u8])
-        requires words_long { (self.job.w * self.job.m.outputs + 15) / 16 * 1024 ≤ length words.now }
-        requires blocks_long { (self.job.w * self.job.m.outputs + 15) / 16 * 1024 ≤ length blocks.old }
-        requires out_long { length out.old ≡ self.job.w * self.job.m.outputs * self.job.m.lanes }
-        ensures { let p = self.entry in let j = p.job in (f : ℕ → ℕ → ℕ) → Sums j.w j.m.outputs p.first p.count f words.now → LanesDone j.w j.m.outputs j.m.lanes f p.first out.old → LanesDone j.w j.m.outputs j.m.lanes f (p.first + p.count) out.new }
+        requires words_long { (self.job.w.bytes * self.job.m.outputs + 15) / 16 * 1024 ≤ length words.now }
+        requires blocks_long { (self.job.w.bytes * self.job.m.outputs + 15) / 16 * 1024 ≤ length blocks.old }
+        requires out_long { length out.old ≡ self.job.w.bytes * self.job.m.outputs * self.job.m.lanes }
+        ensures { let p = self.entry in let j = p.job in (f : ℕ → ℕ → ℕ) → Sums j.w.bytes j.m.outputs p.first p.count f words.now → LanesDone j.w.bytes j.m.outputs j.m.lanes f p.first out.old → LanesDone j.w.bytes j.m.outputs j.m.lanes f (p.first + p.count) out.new }
     {
-        let n = self.job.w * self.job.m.outputs;
+        let n = self.job.w.bytes * self.job.m.outputs;
         let size = (n + 15) / 16 * 1024;
         let start = self.first * n;
         let end = start + self.count * n;
@@ -79,22 +78,22 @@ impl Part<'_> {
 
     // The marks of these lanes.
     fn store_marks(self, words: &[u8], out: &mut [u8])
-        requires words_long { self.job.w * self.job.m.outputs * 64 ≤ length words.now }
+        requires words_long { self.job.w.bytes * self.job.m.outputs * 64 ≤ length words.now }
         requires out_long { length out.old ≡ self.job.m.lanes }
-        ensures { let p = self.entry in let j = p.job in (f : ℕ → ℕ → ℕ) → Sums j.w j.m.outputs p.first p.count f words.now → MarksDone j.m.outputs j.m.lanes f p.first out.old → MarksDone j.m.outputs j.m.lanes f (p.first + p.count) out.new }
+        ensures { let p = self.entry in let j = p.job in (f : ℕ → ℕ → ℕ) → Sums j.w.bytes j.m.outputs p.first p.count f words.now → MarksDone j.m.outputs j.m.lanes f p.first out.old → MarksDone j.m.outputs j.m.lanes f (p.first + p.count) out.new }
     {
         let first = self.first;
         let last = first + self.count;
-        let rows = self.job.w * self.job.m.outputs;
+        let rows = self.job.w.bytes * self.job.m.outputs;
         marking::mark_rows(rows, words, &mut out[first..last]);
     }
 
     // As the way says; `blocks` is scratch.
     pub fn store(self, words: &[u8], blocks: &mut [u8], out: &mut [u8])
-        requires words_long { (self.job.w * self.job.m.outputs + 15) / 16 * 1024 ≤ length words.now }
-        requires blocks_long { (self.job.w * self.job.m.outputs + 15) / 16 * 1024 ≤ length blocks.old }
-        requires out_long { length out.old ≡ out_bytes self.job.m.way self.job.w self.job.m.outputs self.job.m.lanes }
-        ensures { let p = self.entry in let j = p.job in (f : ℕ → ℕ → ℕ) → Sums j.w j.m.outputs p.first p.count f words.now → Done j.m.way j.w j.m.outputs j.m.lanes f p.first out.old → Done j.m.way j.w j.m.outputs j.m.lanes f (p.first + p.count) out.new }
+        requires words_long { (self.job.w.bytes * self.job.m.outputs + 15) / 16 * 1024 ≤ length words.now }
+        requires blocks_long { (self.job.w.bytes * self.job.m.outputs + 15) / 16 * 1024 ≤ length blocks.old }
+        requires out_long { length out.old ≡ out_bytes self.job.m.way self.job.w.bytes self.job.m.outputs self.job.m.lanes }
+        ensures { let p = self.entry in let j = p.job in (f : ℕ → ℕ → ℕ) → Sums j.w.bytes j.m.outputs p.first p.count f words.now → Done j.m.way j.w.bytes j.m.outputs j.m.lanes f p.first out.old → Done j.m.way j.w.bytes j.m.outputs j.m.lanes f (p.first + p.count) out.new }
     {
         match self.job.m.way {
             Way::RowsToLanes => self.store_lanes(words, blocks, out),

@@ -6,6 +6,10 @@ ghost use Rattle.carrying.specs.Carrying.{word_count, words_of, carried_words, w
 
 use crate::prime::WordPrime;
 use arrayvec::ArrayVec;
+use symbols::Width;
+
+// A word has two bytes.
+const PAIR: Width = Width { bytes: 2 };
 
 // Word i of bytes; behind an odd number of them stands a zero.
 fn word_at(s: &[u8], i: usize) -> u16
@@ -15,7 +19,7 @@ fn word_at(s: &[u8], i: usize) -> u16
     if i == s.len() / 2 {
         return u16::from_be_bytes([s[i * 2], 0]);
     }
-    symbols::symbol_at(2, s, i)
+    PAIR.symbol_at(s, i)
 }
 
 // The words of bytes.
@@ -40,7 +44,7 @@ fn write_masked(c: u16, words: &[u16], out: &mut [u8])
     for i in 0..count {
         let start = i * 2;
         let end = start + 2;
-        symbols::write_symbol(2, words[i] ^ c, &mut out[start..end]);
+        PAIR.write_symbol(words[i] ^ c, &mut out[start..end]);
     }
     if out.len() % 2 == 0 {
         return;
@@ -62,7 +66,7 @@ fn open_group(group: &[u8], out: &mut [u8])
     requires { (length group.now % 2 ≡ 0) × (2 ≤ length group.now) × (length group.now ≤ 512) × (length out.old + 2 ≤ length group.now) }
     ensures { out.new ≡ take (length out.old) (bytes_of 2 (opened (symbols_of 2 group.now))) }
 {
-    let c = symbols::symbol_at(2, group, 0);
+    let c = PAIR.symbol_at(group, 0);
     let words = load_words(&group[2..]);
     write_masked(c, &words, out);
 }
@@ -75,7 +79,7 @@ impl WordPrime {
     {
         let words = load_words(s);
         let c = self.find_mask(&words);
-        symbols::write_symbol(2, c, &mut out[..2]);
+        PAIR.write_symbol(c, &mut out[..2]);
         write_all(c, &words, &mut out[2..]);
     }
 

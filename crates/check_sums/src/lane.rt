@@ -55,7 +55,7 @@ fn fill_power_rows(code: Code, rows: &mut [u8])
     ensures { rows.new ≡ power_rows code.header }
 {
     let h = code.header;
-    let w = symbols::width_of(h);
+    let w = symbols::width_of(h).bytes;
     let count = w * h.n as usize;
     let checks = (h.n - h.k) as usize;
     let tables = field::constant_tables();
@@ -86,7 +86,7 @@ impl<'a> PowerRows<'a> {
         ensures { result.code ≡ code }
     {
         let h = code.header;
-        let size = symbols::width_of(h) * h.n as usize * (h.n - h.k) as usize;
+        let size = symbols::width_of(h).bytes * h.n as usize * (h.n - h.k) as usize;
         let rows = &mut room[..size];
         fill_power_rows(code, rows);
         PowerRows { code, rows }
@@ -120,11 +120,11 @@ impl Lane<'_, '_> {
     {
         let h = self.rows.code.header;
         let w = symbols::width_of(h);
-        let size = w * (h.n - h.k) as usize;
+        let size = w.bytes * (h.n - h.k) as usize;
         let mut room = [0u8; 510];
         let sums = &mut room[..size];
         self.fill_sums(sums);
-        symbols::read_symbols(w, sums)
+        w.read_symbols(sums)
     }
 
     // Whether the lane is a word of the code.

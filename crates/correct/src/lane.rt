@@ -27,7 +27,7 @@ impl Marked<'_, '_> {
         }
         let h = self.rows.code.header;
         let n = h.n as usize;
-        let held = symbols::read_symbols(symbols::width_of(h), lane);
+        let held = symbols::width_of(h).read_symbols(lane);
         decode::correct_lane(self.rows, &held[..n]).is_some()
     }
 
@@ -42,11 +42,11 @@ impl Marked<'_, '_> {
         let h = self.rows.code.header;
         let n = h.n as usize;
         let w = symbols::width_of(h);
-        let held = symbols::read_symbols(w, lane);
+        let held = w.read_symbols(lane);
         match decode::correct_lane(self.rows, &held[..n]) {
             None => 0,
             Some(found) => {
-                symbols::write_symbols(w, &found.lane[..n], lane);
+                w.write_symbols(&found.lane[..n], lane);
                 found.altered as u32
             }
         }

@@ -28,7 +28,7 @@ impl Marked<'_, '_> {
         ensures { result ≡ far_bad share_layout self.entry.rows.code.header (length self.entry.marks.now) shares.now }
     {
         let h = self.rows.code.header;
-        let size = symbols::width_of(h) * h.n as usize;
+        let size = symbols::width_of(h).bytes * h.n as usize;
         for (t, lane) in shares.chunks(size).enumerate() {
             if !self.is_near(t, lane) {
                 return true;
@@ -44,7 +44,7 @@ impl Marked<'_, '_> {
         ensures { let h = self.entry.rows.code.header in let l = length self.entry.marks.now in (shares.new ≡ corrected_bytes share_layout h l shares.old) × (result ≡ corrected_count share_layout h l shares.old) }
     {
         let h = self.rows.code.header;
-        let size = symbols::width_of(h) * h.n as usize;
+        let size = symbols::width_of(h).bytes * h.n as usize;
         let mut count: u32 = 0;
         for t in 0..self.marks.len() {
             let start = t * size;

@@ -30,7 +30,7 @@ fn differences_accepted(
     fault::differences_fault(code, lanes, symbol, old, new, out.len())?;
     let tables = field::constant_tables();
     let generator = Generator::new(code, &tables);
-    let width = symbols::width_of(code.header);
+    let width = symbols::width_of(code.header).bytes;
     let change = Change {
         generator: &generator,
         rows: Rows { code, width, lanes },
@@ -68,7 +68,7 @@ fn add_accepted(
     ensures { AddPromise lanes difference.now share.old share.new (numbered result) code.header (add_fault code.header lanes difference.now share.old) }
 {
     fault::add_fault(code, lanes, difference, share)?;
-    let width = symbols::width_of(code.header);
+    let width = symbols::width_of(code.header).bytes;
     Rows { code, width, lanes }.add(difference, share);
     Ok(())
 }

@@ -4,13 +4,14 @@
 ghost use Rattle.encode.specs.Inner.Columns.{MessageBytes};
 
 use plan::Generator;
+use symbols::Width;
 
-// Its symbols have `width` bytes each, and stand row after row.
+// Its symbols are that wide, and stand row after row.
 #[derive(Clone, Copy)]
 pub struct Message<'a> {
     pub generator: &'a Generator<'a>,
-    pub width: usize,
+    pub width: Width,
     pub lanes: usize,
     pub bytes: &'a [u8],
-    ghost rows: { MessageBytes generator.now.codec.code.header width lanes bytes.now },
+    ghost rows: { MessageBytes generator.now.codec.code.header width.bytes lanes bytes.now },
 }

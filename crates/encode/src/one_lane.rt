@@ -17,6 +17,7 @@ use crate::message::Message;
 use field::Field;
 use generator::Header;
 use plan::Generator;
+use symbols::Width;
 
 // The symbols at the places of their rows' shifts, two times round, and zeros elsewhere.
 #[tactic(auto, using(lists::proofs::Front::drop_next, plan::proofs::Plans::shift_below), unfolding(lists::specs::Padded::zeros, crate::specs::Inner::OneLane::placed_from))]
@@ -47,24 +48,24 @@ fn turn(sums: &mut [u16])
 // the reason at `window_sums`. The width w is a number here too: see symbols/src/lib.rt.
 fn write_nodes(
     field: Field,
-    w: usize,
+    w: Width,
     weights: &[u16],
     row: &[u16],
     sums: &mut [u16],
     out: &mut [u8],
 )
-    requires { (usable field ≡ true) × Windows (size_of (modulus field)) weights.now row.now (length sums.old) × (0 < length sums.old) × (1 ≤ w) × (w ≤ 2) × (size_of (modulus field) ≤ 256 ^ w) × (length out.old ≡ length sums.old * w) }
-    ensures { out.new ≡ bytes_of w (by_node (window_sums (modulus field) weights.now row.now (length sums.old))) }
+    requires { (usable field ≡ true) × Windows (size_of (modulus field)) weights.now row.now (length sums.old) × (0 < length sums.old) × (size_of (modulus field) ≤ 256 ^ w.bytes) × (length out.old ≡ length sums.old * w.bytes) }
+    ensures { out.new ≡ bytes_of w.bytes (by_node (window_sums (modulus field) weights.now row.now (length sums.old))) }
 {
     sliding_sums::window_sums(field, weights, row, sums);
     turn(sums);
-    symbols::write_symbols(w, sums, out);
+    w.write_symbols(sums, out);
 }
 
 // Fills a lane with the encoding of its k symbols. Of the base word the first d entries are not zero.
-fn fill_lane(generator: &Generator, w: usize, symbols: &[u16], out: &mut [u8])
-    requires { (w ≡ width generator.now.codec.code.header) × (length symbols.now ≡ generator.now.codec.code.header.k) × (all_below (size generator.now.codec.code.header) symbols.now ≡ true) × (length out.old ≡ w * generator.now.codec.code.header.n) }
-    ensures { out.new ≡ bytes_of w (encoding generator.now.codec.code.header symbols.now) }
+fn fill_lane(generator: &Generator, w: Width, symbols: &[u16], out: &mut [u8])
+    requires { (w.bytes ≡ width generator.now.codec.code.header) × (length symbols.now ≡ generator.now.codec.code.header.k) × (all_below (size generator.now.codec.code.header) symbols.now ≡ true) × (length out.old ≡ w.bytes * generator.now.codec.code.header.n) }
+    ensures { out.new ≡ bytes_of w.bytes (encoding generator.now.codec.code.header symbols.now) }
 {
     let Header { field, n, k, .. } = generator.codec.code.header;
     let d = (n - k) as usize + 1;
@@ -90,7 +91,9 @@ fn lane_symbols(message: &Message, t: usize) -> [u16; 255]
     let k = message.generator.codec.code.header.k as usize;
     let mut out = [0u16; 255];
     for r in 0..k {
-        out[r] = symbols::symbol_at(message.width, message.bytes, r * message.lanes + t);
+        out[r] = message
+            .width
+            .symbol_at(message.bytes, r * message.lanes + t);
     }
     out
 }
@@ -101,7 +104,7 @@ pub fn fill_each(message: &Message, out: &mut [u8])
     ensures { out.new ≡ encoded message.now }
 {
     let Header { n, k, .. } = message.generator.codec.code.header;
-    let size = message.width * n as usize;
+    let size = message.width.bytes * n as usize;
     for t in 0..message.lanes {
         let symbols = lane_symbols(message, t);
         let start = t * size;

@@ -83,8 +83,8 @@ fn find_accepted(code: Code, before: &[u8], after: &[u8]) -> Result<Finding, Ref
     find_fault(code, before, after)?;
     let n = code.header.n as usize;
     let w = symbols::width_of(code.header);
-    let us = symbols::read_symbols(w, before);
-    let vs = symbols::read_symbols(w, after);
+    let us = w.read_symbols(before);
+    let vs = w.read_symbols(after);
     Ok(find(code, &us[..n], &vs[..n]))
 }
 

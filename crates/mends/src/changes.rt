@@ -84,8 +84,8 @@ fn put_symbols(code: Code, new: &[u16], symbols: &mut [u8])
 {
     let count = new.len();
     let w = symbols::width_of(code.header);
-    let end = count * w;
-    symbols::write_symbols(w, new, &mut symbols[..end]);
+    let end = count * w.bytes;
+    w.write_symbols(new, &mut symbols[..end]);
 }
 
 // Lists the nodes and their new symbols; gives how many.

@@ -58,7 +58,7 @@ fn mends_accepted(
     mends_fault(code, lane, nodes.len(), symbols.len())?;
     let n = code.header.n as usize;
     let w = symbols::width_of(code.header);
-    let ws = symbols::read_symbols(w, lane);
+    let ws = w.read_symbols(lane);
     let count = list_mends(code, &ws[..n], nodes, symbols) as u32;
     Ok(count)
 }

@@ -23,8 +23,8 @@ impl Weighted<'_> {
 
     // The sums of all lanes. The lists of one row fit the smallest scratch.
     pub fn fill_row(self, out: &mut [u8])
-        requires { length out.old ≡ self.width * self.lanes }
-        ensures { let v = self.entry in out.new ≡ sum_bytes v.code.header v.width v.lanes v.weights.now v.shares.now }
+        requires { length out.old ≡ self.width.bytes * self.lanes }
+        ensures { let v = self.entry in out.new ≡ sum_bytes v.code.header v.width.bytes v.lanes v.weights.now v.shares.now }
     {
         let field = self.code.header.field;
         let weights = &self.weights[..self.code.header.k as usize];

@@ -10,17 +10,18 @@ ghost use Rattle.row_sums.specs.Inner.Combined.{combined};
 ghost use Rattle.recover.specs.Inner.OneRow.{sum_bytes};
 
 use generator::Code;
+use symbols::Width;
 use tile_products::scratch;
 
-// Listed shares, whose symbols have `width` bytes each, and a weight for each of them; what follows the weights counts for nothing.
+// Listed shares, whose symbols are that wide, and a weight for each of them; what follows the weights counts for nothing.
 #[derive(Clone, Copy)]
 pub struct Weighted<'a> {
     pub code: Code,
-    pub width: usize,
+    pub width: Width,
     pub lanes: usize,
     pub weights: &'a [u16],
     pub shares: &'a [u8],
-    pub ghost listed: { SymbolBytes code.header width code.header.k lanes shares.now },
+    pub ghost listed: { SymbolBytes code.header width.bytes code.header.k lanes shares.now },
     pub ghost bytes: { all_below 256 shares.now ≡ true },
     pub ghost long: { length weights.now ≡ 255 },
     pub ghost symbols: { all_below (size code.header) weights.now ≡ true },
@@ -32,27 +33,28 @@ const MANY: usize = 128;
 impl Weighted<'_> {
     // The sums of `count` lanes, from lane `first` on.
     fn fill_tile(self, first: usize, count: usize, tile: &mut [u8], out: &mut [u8])
-        requires { (0 < count) × (first + count ≤ self.lanes) × (length tile.old ≡ self.width * self.code.header.k * count) × (length out.old ≡ self.width * count) }
-        ensures { let v = self.entry in let h = v.code.header in out.new ≡ bytes_of v.width (combined row_after_row (modulus_of h) h.k count v.weights.now (some_lanes lane_after_lane row_after_row h.k v.lanes first count (symbols_of v.width v.shares.now))) }
+        requires { (0 < count) × (first + count ≤ self.lanes) × (length tile.old ≡ self.width.bytes * self.code.header.k * count) × (length out.old ≡ self.width.bytes * count) }
+        ensures { let v = self.entry in let h = v.code.header in out.new ≡ bytes_of v.width.bytes (combined row_after_row (modulus_of h) h.k count v.weights.now (some_lanes lane_after_lane row_after_row h.k v.lanes first count (symbols_of v.width.bytes v.shares.now))) }
     {
         let k = self.code.header.k as usize;
-        tiles::gather_lanes(self.width * k, self.lanes, first, count, self.shares, tile);
+        let rows = self.width.bytes * k;
+        tiles::gather_lanes(rows, self.lanes, first, count, self.shares, tile);
         row_sums::combine_symbols(self.code.header.field, &self.weights[..k], count, tile, out);
     }
 
     // The sums of all lanes, tile by tile. The lanes are counted here: how many a tile takes depends on how many are left, and `step_by` has
     // one step.
     fn fill_share(self, tile: &mut [u8], out: &mut [u8])
-        requires { (self.width * self.code.header.k ≤ length tile.old) × (length out.old ≡ self.width * self.lanes) }
-        ensures { let v = self.entry in out.new ≡ sum_bytes v.code.header v.width v.lanes v.weights.now v.shares.now }
+        requires { (self.width.bytes * self.code.header.k ≤ length tile.old) × (length out.old ≡ self.width.bytes * self.lanes) }
+        ensures { let v = self.entry in out.new ≡ sum_bytes v.code.header v.width.bytes v.lanes v.weights.now v.shares.now }
     {
-        let rows = self.width * self.code.header.k as usize;
+        let rows = self.width.bytes * self.code.header.k as usize;
         let mut first: usize = 0;
         while first < self.lanes {
             let count = tiles::tile_lanes(rows, tile.len(), self.lanes - first);
             let size = rows * count;
-            let start = first * self.width;
-            let end = start + count * self.width;
+            let start = first * self.width.bytes;
+            let end = start + count * self.width.bytes;
             self.fill_tile(first, count, &mut tile[..size], &mut out[start..end]);
             first += count;
         }
@@ -60,8 +62,8 @@ impl Weighted<'_> {
 
     // The same in scratch of its own, of so many bytes, a bound of which stands in the clause: no value holds it.
     fn fill_in<const TILE: usize>(self, out: &mut [u8])
-        requires { (510 ≤ TILE) × (TILE ≤ 32768) × (length out.old ≡ self.width * self.lanes) }
-        ensures { let v = self.entry in out.new ≡ sum_bytes v.code.header v.width v.lanes v.weights.now v.shares.now }
+        requires { (510 ≤ TILE) × (TILE ≤ 32768) × (length out.old ≡ self.width.bytes * self.lanes) }
+        ensures { let v = self.entry in out.new ≡ sum_bytes v.code.header v.width.bytes v.lanes v.weights.now v.shares.now }
     {
         let mut tile: [u8; TILE] = kernel::filled(0);
         self.fill_share(&mut tile, out);
@@ -70,8 +72,8 @@ impl Weighted<'_> {
     // The sums of all lanes: as a product where they are many, and else in little scratch where the block is small. Clearing more would take
     // longer than the work.
     pub fn fill(self, out: &mut [u8])
-        requires { length out.old ≡ self.width * self.lanes }
-        ensures { let v = self.entry in out.new ≡ sum_bytes v.code.header v.width v.lanes v.weights.now v.shares.now }
+        requires { length out.old ≡ self.width.bytes * self.lanes }
+        ensures { let v = self.entry in out.new ≡ sum_bytes v.code.header v.width.bytes v.lanes v.weights.now v.shares.now }
     {
         if MANY <= self.lanes {
             self.fill_row(out)

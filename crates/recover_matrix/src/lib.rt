@@ -39,14 +39,14 @@ impl Inverse<'_> {
         let h = self.code.header;
         let k = h.k as usize;
         let w = symbols::width_of(h);
-        let size = w * k;
+        let size = w.bytes * k;
         let tables = field::constant_tables();
         let codec = Codec::new(self.code, &tables);
         for r in 0..k {
             let row = self.setup.row_terms(codec, r);
             let start = r * size;
             let end = start + size;
-            symbols::write_symbols(w, &row[..k], &mut out[start..end]);
+            w.write_symbols(&row[..k], &mut out[start..end]);
         }
     }
 
@@ -99,7 +99,7 @@ impl Inverse<'_> {
         let mut out = [0u16; 255];
         for i in 0..k {
             let own = field.mul(scale, self.setup.nodes.scales[i] as u32);
-            let sum = symbols::symbol_at(w, sums, i * k + r) as u32;
+            let sum = w.symbol_at(sums, i * k + r) as u32;
             out[i] = field.mul(own, sum) as u16;
         }
         out
@@ -127,7 +127,7 @@ impl Inverse<'_> {
     {
         let k = self.code.header.k as usize;
         let w = symbols::width_of(self.code.header);
-        let size = w * k * k;
+        let size = w.bytes * k * k;
         let mut codes: [u64; 256] = kernel::filled(0);
         let codes = WeightCodes::new(self.code.header.field, &mut codes);
         let mut room = [0u8; SQUARE];

@@ -26,7 +26,7 @@ pub fn buffer_bad(h: Header, rows: u8, lanes: usize, length: usize) -> bool
     ensures { result ≡ length_bad (rows * lanes * width h) length }
 {
     let w = symbols::width_of(h);
-    let size = w * rows as usize;
+    let size = w.bytes * rows as usize;
     if size == 0 {
         return length != 0;
     }

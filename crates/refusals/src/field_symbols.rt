@@ -36,7 +36,7 @@ pub fn shares_bad(h: Header, nodes: u8, lanes: usize, shares: &[u8]) -> bool
     ensures { result ≡ symbols_bad h shares.now }
 {
     let w = symbols::width_of(h);
-    let size = nodes as usize * w;
+    let size = nodes as usize * w.bytes;
     for lane in 0..lanes {
         let start = lane * size;
         let end = start + size;
@@ -53,7 +53,7 @@ pub fn lane_bad(h: Header, lanes: usize, lane: usize, shares: &[u8]) -> bool
     ensures { result ≡ lane_bad share_layout h lanes lane shares.now }
 {
     let w = symbols::width_of(h);
-    let size = w * h.n as usize;
+    let size = w.bytes * h.n as usize;
     let start = lane * size;
     let end = start + size;
     symbols_bad(h, &shares[start..end])

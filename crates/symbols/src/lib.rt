@@ -1,5 +1,4 @@
-// Lists of symbols in a lent buffer, of one byte or of two bytes each, the high byte first. How many is the number w: it is a factor of
-// lengths and places wherever it stands, and a type for 1 and 2 would be turned into its number each time.
+// Lists of symbols in a lent buffer, of one byte or of two bytes each, the high byte first.
 #![tactic(auto)]
 
 ghost use Rattle.std.specs.Prelude.{◌≡◌, true, ℕ, ◌*◌, ◌/◌, ◌^◌, ◌≤◌, ◌<◌, ltb, length};
@@ -11,25 +10,75 @@ ghost use Rattle.generator.specs.Records.{width};
 
 use generator::Header;
 
-// The bytes of a symbol. A usable field is enough: a `Code` would ask for more.
-pub fn width_of(h: Header) -> usize
-    requires { usable h.field ≡ true }
-    ensures { (result ≡ width h) × (1 ≤ result) × (result ≤ 2) }
-{
-    let field = h.field;
-    field.width()
+// The bytes of a symbol: 1 or 2. The number is a factor of lengths and places.
+#[derive(Clone, Copy)]
+pub struct Width {
+    pub bytes: usize,
+    pub ghost some: { 1 ≤ bytes },
+    pub ghost most: { bytes ≤ 2 },
 }
 
-// Symbol i of a buffer.
-pub fn symbol_at(w: usize, s: &[u8], i: usize) -> u16
-    requires { (1 ≤ w) × (w ≤ 2) × (i < length s.now / w) }
-    ensures { result ≡ symbol_at w s.now i }
+// The width of a record's symbols. A usable field is enough: a `Code` would ask for more.
+pub fn width_of(h: Header) -> Width
+    requires { usable h.field ≡ true }
+    ensures { result.bytes ≡ width h }
 {
-    if w == 1 {
-        return s[i] as u16;
+    let field = h.field;
+    Width {
+        bytes: field.width(),
     }
-    let at = i * 2;
-    u16::from_be_bytes([s[at], s[at + 1]])
+}
+
+impl Width {
+    // Symbol i of a buffer.
+    pub fn symbol_at(self, s: &[u8], i: usize) -> u16
+        requires { i < length s.now / self.bytes }
+        ensures { result ≡ symbol_at self.bytes s.now i }
+    {
+        if self.bytes == 1 {
+            return s[i] as u16;
+        }
+        let at = i * 2;
+        u16::from_be_bytes([s[at], s[at + 1]])
+    }
+
+    // The symbols of a buffer that holds at most 255, and zeros after them.
+    // An array with zeros after: the buffer tells how many symbols there are, so no length stands beside them.
+    pub fn read_symbols(self, s: &[u8]) -> [u16; 255]
+        requires { length s.now ≤ 255 * self.bytes }
+        ensures { result ≡ padded 255 (symbols_of self.bytes s.now) }
+    {
+        let count = s.len() / self.bytes;
+        let mut symbols: [u16; 255] = [0; 255];
+        for i in 0..count {
+            symbols[i] = self.symbol_at(s, i);
+        }
+        symbols
+    }
+
+    // One symbol as bytes.
+    pub fn write_symbol(self, x: u16, out: &mut [u8])
+        requires { (x < 256 ^ self.bytes) × (length out.old ≡ self.bytes) }
+        ensures { out.new ≡ symbol_bytes self.bytes x }
+    {
+        if self.bytes == 1 {
+            out[0] = x as u8;
+            return;
+        }
+        out.copy_from_slice(&x.to_be_bytes());
+    }
+
+    // Symbols as bytes.
+    pub fn write_symbols(self, symbols: &[u16], out: &mut [u8])
+        requires { (all_below (256 ^ self.bytes) symbols.now ≡ true) × (length out.old ≡ length symbols.now * self.bytes) }
+        ensures { out.new ≡ bytes_of self.bytes symbols.now }
+    {
+        for (i, symbol) in symbols.iter().enumerate() {
+            let start = i * self.bytes;
+            let end = start + self.bytes;
+            self.write_symbol(*symbol, &mut out[start..end]);
+        }
+    }
 }
 
 // The largest symbol of two bytes: all of them are below m where it is. Without a branch it takes less time than a search;
@@ -51,42 +100,4 @@ pub fn pairs_below(size: u32, s: &[u8]) -> bool
     ensures { result ≡ all_below size (symbols_of 2 s.now) }
 {
     (largest_pair(s) as u32) < size
-}
-
-// The symbols of a buffer that holds at most 255, and zeros after them.
-// An array with zeros after: the buffer tells how many symbols there are, so no length stands beside them.
-pub fn read_symbols(w: usize, s: &[u8]) -> [u16; 255]
-    requires { (1 ≤ w) × (w ≤ 2) × (length s.now ≤ 255 * w) }
-    ensures { result ≡ padded 255 (symbols_of w s.now) }
-{
-    let count = s.len() / w;
-    let mut symbols: [u16; 255] = [0; 255];
-    for i in 0..count {
-        symbols[i] = symbol_at(w, s, i);
-    }
-    symbols
-}
-
-// One symbol as bytes.
-pub fn write_symbol(w: usize, x: u16, out: &mut [u8])
-    requires { (1 ≤ w) × (w ≤ 2) × (x < 256 ^ w) × (length out.old ≡ w) }
-    ensures { out.new ≡ symbol_bytes w x }
-{
-    if w == 1 {
-        out[0] = x as u8;
-        return;
-    }
-    out.copy_from_slice(&x.to_be_bytes());
-}
-
-// Symbols as bytes.
-pub fn write_symbols(w: usize, symbols: &[u16], out: &mut [u8])
-    requires { (1 ≤ w) × (w ≤ 2) × (all_below (256 ^ w) symbols.now ≡ true) × (length out.old ≡ length symbols.now * w) }
-    ensures { out.new ≡ bytes_of w symbols.now }
-{
-    for (i, symbol) in symbols.iter().enumerate() {
-        let start = i * w;
-        let end = start + w;
-        write_symbol(w, *symbol, &mut out[start..end]);
-    }
 }

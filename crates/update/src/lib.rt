@@ -16,6 +16,7 @@ ghost use Rattle.update.specs.Inner.Words.{UpdatableWord};
 
 use generator::{Code, Codec, Refusal};
 use plan::Generator;
+use symbols::Width;
 
 mod fault;
 
@@ -40,20 +41,20 @@ fn renewed(codec: Codec, x: u32, entry: u16, before: u16) -> u16
 }
 
 // Adds x times a row of the generator to a lane: rewrites the nodes whose symbol becomes another one, and counts them.
-fn rewrite(generator: &Generator, w: usize, which: usize, x: u32, lane: &mut [u8]) -> u32
-    requires { UpdatableWord generator.now.codec.code.header w which lane.old × (x < size generator.now.codec.code.header) }
-    ensures { let added = word_added generator.now.codec.code.header which x (symbols_of w lane.old) in (lane.new ≡ bytes_of w added) × (result ≡ differ (symbols_of w lane.old) added) }
+fn rewrite(generator: &Generator, w: Width, which: usize, x: u32, lane: &mut [u8]) -> u32
+    requires { UpdatableWord generator.now.codec.code.header w.bytes which lane.old × (x < size generator.now.codec.code.header) }
+    ensures { let added = word_added generator.now.codec.code.header which x (symbols_of w.bytes lane.old) in (lane.new ≡ bytes_of w.bytes added) × (result ≡ differ (symbols_of w.bytes lane.old) added) }
 {
     let n = generator.codec.code.header.n as usize;
     let mut count: u32 = 0;
     for j in 0..n {
         let entry = generator.entry(which, j);
-        let before = symbols::symbol_at(w, lane, j);
+        let before = w.symbol_at(lane, j);
         let after = renewed(generator.codec, x, entry, before);
         if after != before {
-            let start = j * w;
-            let end = start + w;
-            symbols::write_symbol(w, after, &mut lane[start..end]);
+            let start = j * w.bytes;
+            let end = start + w.bytes;
+            w.write_symbol(after, &mut lane[start..end]);
             count += 1;
         }
     }
@@ -63,16 +64,16 @@ fn rewrite(generator: &Generator, w: usize, which: usize, x: u32, lane: &mut [u8
 // Whether a lane is no word of the code, or one whose message holds another symbol than `old`.
 fn judge(
     generator: &Generator,
-    w: usize,
+    w: Width,
     which: usize,
     old: u32,
     lane: &[u8],
 ) -> Result<(), Refusal>
-    requires { UpdatableWord generator.now.codec.code.header w which lane.now }
-    ensures { numbered result ≡ outcome_of (stale_fault generator.now.codec.code.header (symbols_of w lane.now) which old) }
+    requires { UpdatableWord generator.now.codec.code.header w.bytes which lane.now }
+    ensures { numbered result ≡ outcome_of (stale_fault generator.now.codec.code.header (symbols_of w.bytes lane.now) which old) }
 {
     let n = generator.codec.code.header.n as usize;
-    let symbols = symbols::read_symbols(w, lane);
+    let symbols = w.read_symbols(lane);
     lane_message::stale_fault(
         generator.codec,
         &generator.shifts,
@@ -93,7 +94,7 @@ impl Update {
         ensures { let h = generator.now.codec.code.header in numbered result ≡ outcome_of (stale_fault h (lane_of share_layout h.n self.lanes self.lane (symbols_of (width h) shares.now)) self.which self.old) }
     {
         let w = symbols::width_of(generator.codec.code.header);
-        let size = w * generator.codec.code.header.n as usize;
+        let size = w.bytes * generator.codec.code.header.n as usize;
         let start = self.lane * size;
         let end = start + size;
         let lane = &shares[start..end];
@@ -108,7 +109,7 @@ impl Update {
         let h = generator.codec.code.header;
         let x = h.field.sub(self.new, self.old);
         let w = symbols::width_of(h);
-        let size = w * h.n as usize;
+        let size = w.bytes * h.n as usize;
         let start = self.lane * size;
         let end = start + size;
         let lane = &mut shares[start..end];

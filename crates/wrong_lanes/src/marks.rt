@@ -24,7 +24,7 @@ impl Block<'_> {
     {
         let h = self.code.header;
         let n = h.n as usize;
-        let values = symbols::read_symbols(symbols::width_of(h), self.shares);
+        let values = symbols::width_of(h).read_symbols(self.shares);
         let mut room: [u8; ROOM] = kernel::filled(0);
         let rows = PowerRows::new(self.code, &mut room);
         let lane = Lane {

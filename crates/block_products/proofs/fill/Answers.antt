@@ -1,20 +1,15 @@
 -- `fill` meets its contract: what is ready is a job.
-use Rattle.std.proofs.Common.{◌≤◌, arith}
+use Rattle.std.proofs.Common.{arith}
 use Rattle.std.proofs.lemmas.Grind.{merely}
 use Rattle.lists.proofs.Numbers.{at_below}
-use Rattle.field.specs.Kinds.{modulus}
-use Rattle.field.proofs.Widths.{bytes_range}
 use Rattle.block_products.proofs.fill.Goals as goal
 
 pub invariant_of-job : goal.invariant_of-job
 invariant_of-job c =
     let r = c.requires in
-    let width : (1 ≤ c.args.w) × (c.args.w ≤ 2) = rw r.wide (bytes_range (modulus c.args.m.field)) in
     record {
       usable_field = r.usable_field;
       wide = r.wide;
-      some = width.0;
-      few_bytes = width.1;
       few_rows = r.few;
       few_outputs = r.made.few;
       few_lanes = r.few_lanes;

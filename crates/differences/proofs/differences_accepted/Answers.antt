@@ -9,7 +9,7 @@ pub invariant_of-change : goal.invariant_of-change
 invariant_of-change c =
     let a = c.args in
     let is = differences_accepts a.code.header a.code.sound a.lanes a.symbol a.old.now a.new.now _ (done_is _ _ c.in_ok-differences_fault.ensures) in
-    let wide = c.width_of-width.ensures.0 in
+    let wide = c.width_of-width.ensures in
     record {
       same_code = sym c.new-generator.ensures;
       row = is.row;

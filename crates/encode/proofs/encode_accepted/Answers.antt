@@ -11,4 +11,4 @@ invariant_of-message c =
     let h = c.args.code.header in
     let none = done_is _ _ c.in_ok-encode_fault.ensures in
     let message = (encode_accepts h c.args.code.sound c.args.lanes _ c.args.message.now none).0 in
-    rw (c.new-generator.ensures, c.width_of.ensures.0) record { rows = record { wide = refl; bytes = message.bytes ∙ lanes_long (width h) h.k c.args.lanes; symbol_rows = message.symbol_rows } }
+    rw (c.new-generator.ensures, c.width_of.ensures) record { rows = record { wide = refl; bytes = message.bytes ∙ lanes_long (width h) h.k c.args.lanes; symbol_rows = message.symbol_rows } }

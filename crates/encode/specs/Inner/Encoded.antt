@@ -12,12 +12,12 @@ record_header m = m.generator.now.codec.code.header
 
 -- its symbols
 abbrev pub message_symbols : Message → List ℕ
-message_symbols m = symbols_of m.width m.bytes.now
+message_symbols m = symbols_of m.width.bytes m.bytes.now
 
 -- how many bytes its shares have
 abbrev pub share_bytes : Message → ℕ
-share_bytes m = m.width * (record_header m).n * m.lanes
+share_bytes m = m.width.bytes * (record_header m).n * m.lanes
 
 -- and which they are
 abbrev pub encoded : Message → List ℕ
-encoded m = bytes_of m.width (shares_of lane_after_lane (record_header m) m.lanes (message_symbols m))
+encoded m = bytes_of m.width.bytes (shares_of lane_after_lane (record_header m) m.lanes (message_symbols m))

@@ -20,12 +20,12 @@ lanes c = find_accepts _ _ _ (done_is _ _ c.in_ok-find_fault.ensures)
 first : (c : After-read_symbols-us)
     → let a = c.args in
     take a.code.header.n c.read_symbols-us.result ≡ symbols_of (width a.code.header) a.before.now
-first c = lane_read _ _ _ _ (lanes (goal.at.After-read_symbols-us c).In_ok-find_fault).first c.width_of-w.ensures.0 c.read_symbols-us.ensures
+first c = lane_read _ _ _ _ (lanes (goal.at.After-read_symbols-us c).In_ok-find_fault).first c.width_of-w.ensures c.read_symbols-us.ensures
 
 second : (c : After-read_symbols-vs)
     → let a = c.args in
     take a.code.header.n c.read_symbols-vs.result ≡ symbols_of (width a.code.header) a.after.now
-second c = lane_read _ _ _ _ (lanes (goal.at.After-read_symbols-vs c).In_ok-find_fault).second c.width_of-w.ensures.0 c.read_symbols-vs.ensures
+second c = lane_read _ _ _ _ (lanes (goal.at.After-read_symbols-vs c).In_ok-find_fault).second c.width_of-w.ensures c.read_symbols-vs.ensures
 
 pub returns : goal.returns
 unfolding answer_of

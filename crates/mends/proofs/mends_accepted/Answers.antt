@@ -22,7 +22,7 @@ given c = mends_accepts _ _ _ _ (done_is _ _ c.in_ok-mends_fault.ensures)
 part : (c : After-read_symbols-ws)
     → let a = c.args in
     take a.code.header.n c.read_symbols-ws.result ≡ symbols_of (width a.code.header) a.lane.now
-part c = lane_read _ _ _ _ (given (goal.at.After-read_symbols-ws c).In_ok-mends_fault).lane_is c.width_of-w.ensures.0 c.read_symbols-ws.ensures
+part c = lane_read _ _ _ _ (given (goal.at.After-read_symbols-ws c).In_ok-mends_fault).lane_is c.width_of-w.ensures c.read_symbols-ws.ensures
 
 pub returns-in_err-mends_fault : goal.returns-in_err-mends_fault
 returns-in_err-mends_fault c =
@@ -32,8 +32,7 @@ returns-in_err-mends_fault c =
 pub read_symbols-ws-requires : goal.read_symbols-ws-requires
 read_symbols-ws-requires c =
     let few : c.args.code.header.n ≤ 255 = omega arith in
-    let (is, some, two) = c.width_of-w.ensures in
-    (some, two, few_bytes _ _ _ few (rw is (given (goal.at.read_symbols-ws-requires c).In_ok-mends_fault).lane_long))
+    few_bytes _ _ _ few (rw c.width_of-w.ensures (given (goal.at.read_symbols-ws-requires c).In_ok-mends_fault).lane_long)
 
 pub slice_bounds-list_mends-end : goal.slice_bounds-list_mends-end
 slice_bounds-list_mends-end c = rw (part (goal.at.slice_bounds-list_mends-end c).After-read_symbols-ws) (sym (given (goal.at.slice_bounds-list_mends-end c).In_ok-mends_fault).lane_is.long)

@@ -3,6 +3,9 @@ use Rattle.field.proofs.Widths.{bytes_range}
 use Rattle.generator.specs.Records.{modulus_of, width}
 use Rattle.symbols.proofs.width_of.Goals as goal
 
+pub invariant_of-result : goal.invariant_of-result
+invariant_of-result c = let range = bytes_range (modulus_of c.args.h) in record { some = rw c.width.ensures range.0; most = rw c.width.ensures range.1 }
+
 pub returns : goal.returns
 unfolding width
-returns c = let range = bytes_range (modulus_of c.args.h) in (c.width.ensures, rw c.width.ensures range.0, rw c.width.ensures range.1)
+returns c = c.width.ensures

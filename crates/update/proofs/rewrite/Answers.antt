@@ -9,7 +9,7 @@ use Rattle.lists.proofs.Rows.{part_length}
 use Rattle.layout.specs.Width.{symbol_at, symbols_of}
 use Rattle.generator.specs.Records.{size}
 use Rattle.generator.proofs.Bounds.{entry_below}
-use Rattle.generator.proofs.Widths.{width_range, size_fits_width}
+use Rattle.generator.proofs.Widths.{size_fits_width}
 use Rattle.update.proofs.Lane.{word_long}
 use Rattle.update.proofs.Rewriting.{after}
 use Rattle.update.proofs.LaneBytes.{after_below, bytes_start, bytes_end, place_inside, bytes_inside, bytes_held, bytes_put, bytes_skip}
@@ -17,17 +17,17 @@ use Rattle.update.proofs.rewrite.Goals as goal
 use Rattle.update.proofs.rewrite.Goals.{After-renewed-after, In-loop-j, else-after-before, then-after-before}
 
 -- node j's bytes lie in the lane
-inside : (c : In-loop-j) → let a = c.args in c.loop-j.j * a.w + a.w ≤ length c.loop-j.lane
+inside : (c : In-loop-j) → let a = c.args in c.loop-j.j * a.w.bytes + a.w.bytes ≤ length c.loop-j.lane
 inside c = bytes_inside c.requires.0 _ c.loop-j.invariant c.loop-j-test.true
 
 -- its symbol is one of the field
-held : (c : In-loop-j) → let a = c.args in symbol_at a.w c.loop-j.lane c.loop-j.j < size a.generator.now.codec.code.header
+held : (c : In-loop-j) → let a = c.args in symbol_at a.w.bytes c.loop-j.lane c.loop-j.j < size a.generator.now.codec.code.header
 held c =
     let ready = c.requires.0 in
     rw (bytes_held ready _ c.loop-j.invariant c.loop-j-test.true) (below_at _ _ ready.symbols _ (omega (arith, word_long ready, c.loop-j-test.true)))
 
 -- and becomes what the update says
-becomes : (c : After-renewed-after) → let a = c.args in c.renewed-after.result ≡ after a.generator.now.codec.code.header a.which a.x (symbols_of a.w a.lane.now) c.loop-j.j
+becomes : (c : After-renewed-after) → let a = c.args in c.renewed-after.result ≡ after a.generator.now.codec.code.header a.which a.x (symbols_of a.w.bytes a.lane.now) c.loop-j.j
 becomes c =
     let (ready, factor) = c.requires in
     let node = c.loop-j-test.true in
@@ -39,9 +39,7 @@ loop-j-init c =
 
 pub symbol_at-before-requires : goal.symbol_at-before-requires
 symbol_at-before-requires c =
-    let ready = c.requires.0 in
-    let range = width_range c.args.generator.now.codec.code.header in
-    (rw ready.wide range.0, rw ready.wide range.1, place_inside ready _ c.loop-j.invariant c.loop-j-test.true)
+    let ready = c.requires.0 in place_inside ready _ c.loop-j.invariant c.loop-j-test.true
 
 pub renewed-after-requires : goal.renewed-after-requires
 renewed-after-requires c =
@@ -50,12 +48,9 @@ renewed-after-requires c =
 pub write_symbol-requires : goal.write_symbol-requires
 write_symbol-requires c =
     let (ready, factor) = c.requires in
-    let range = width_range c.args.generator.now.codec.code.header in
     let j = c.loop-j.j in (
-      rw ready.wide range.0,
-      rw ready.wide range.1,
       rw (ready.wide, becomes (goal.at.write_symbol-requires c).After-renewed-after) (lt_of_lt_of_le (after_below ready c.args.x factor j c.loop-j-test.true) (size_fits_width c.args.generator.now.codec.code.header ready.sound)),
-      part_length (j * c.args.w) c.args.w _ (inside (goal.at.write_symbol-requires c).In-loop-j),
+      part_length (j * c.args.w.bytes) c.args.w.bytes _ (inside (goal.at.write_symbol-requires c).In-loop-j),
     )
 
 pub loop-j-preserved : goal.loop-j-preserved

@@ -3,4 +3,4 @@ use Rattle.update.proofs.LaneBytes.{RewritingBytes}
 use Rattle.update.proofs.rewrite.Given as goal
 
 abbrev pub invariant-loop-j : goal.invariant-loop-j
-invariant-loop-j l = RewritingBytes l.generator.codec.code.header l.w l.which l.x l.initial.lane l.lane l.count l.j
+invariant-loop-j l = RewritingBytes l.generator.codec.code.header l.w.bytes l.which l.x l.initial.lane l.lane l.count l.j

@@ -9,7 +9,7 @@ use Rattle.block_products.proofs.loading.load_row.Goals.{In-loop-v}
 
 -- the row lies among the rows
 row_in : (c : In-loop-v) → c.loop-v.v * 64 + c.args.count ≤ length c.loop-v.rows
-row_in c = omega (arith, c.loop-v.auto.rows, c.requires.few, c.requires.rows_long, row_inside c.args.w c.loop-v.v 64 c.loop-v-test.true)
+row_in c = omega (arith, c.loop-v.auto.rows, c.requires.few, c.requires.rows_long, row_inside c.args.w.bytes c.loop-v.v 64 c.loop-v-test.true)
 
 -- what it holds
 held : (w count v : ℕ) (part : List ℕ) (i t : ℕ) → i < 1 → v + i < w → t < count → (i * 64 + t < count) × (get_or (from (λ q. get_or part (q * w + v) 0) 0 count) (i * 64 + t) 0 ≡ get_or part (t * w + (v + i)) 0)
@@ -24,6 +24,6 @@ loop-v-preserved c =
     let a = c.args in
     let l = c.loop-v in
     let fits = row_in (goal.at.loop-v-preserved c).In-loop-v in
-    let xs = from (λ q. get_or a.part.now (q * a.w + l.v) 0) 0 a.count in
-    let made = c.copy_bytes.ensures ∙ ap (from (λ q. get_or a.part.now (q * a.w + l.v) 0) 0) (part_length (l.v * 64) a.count l.rows fits) in
-    rw (made, add-sub_cancel_left (l.v * 64) a.count) (tile_more a.w l.v 1 a.count _ l.rows xs a.count (length_from _ 0 a.count) fits c.requires.few l.invariant (held a.w a.count l.v a.part.now))
+    let xs = from (λ q. get_or a.part.now (q * a.w.bytes + l.v) 0) 0 a.count in
+    let made = c.copy_bytes.ensures ∙ ap (from (λ q. get_or a.part.now (q * a.w.bytes + l.v) 0) 0) (part_length (l.v * 64) a.count l.rows fits) in
+    rw (made, add-sub_cancel_left (l.v * 64) a.count) (tile_more a.w.bytes l.v 1 a.count _ l.rows xs a.count (length_from _ 0 a.count) fits c.requires.few l.invariant (held a.w.bytes a.count l.v a.part.now))

@@ -4,4 +4,4 @@ use Rattle.tiles.specs.Inner.Tiles.{TileOf}
 use Rattle.block_products.proofs.loading.load_row.Given as goal
 
 abbrev pub invariant-loop-v : goal.invariant-loop-v
-invariant-loop-v l = TileOf l.w l.v l.count (λ v q. get_or l.part (q * l.w + v) 0) l.rows
+invariant-loop-v l = TileOf l.w.bytes l.v l.count (λ v q. get_or l.part (q * l.w.bytes + v) 0) l.rows

@@ -15,7 +15,7 @@ use Rattle.check_sums.proofs.lane.fill_power_rows.Goals.{In-loop-i}
 row_in : (c : In-loop-i) → let a = c.args in c.loop-i.i * (a.code.header.n - a.code.header.k) + (a.code.header.n - a.code.header.k) ≤ length a.rows.now
 row_in c =
     let width = c.width_of-w in
-    rw (c.requires, ← width.ensures.0) (row_inside (width.result * c.args.code.header.n) c.loop-i.i (c.args.code.header.n - c.args.code.header.k) c.loop-i-test.true)
+    rw (c.requires, ← width.ensures) (row_inside (width.result.bytes * c.args.code.header.n) c.loop-i.i (c.args.code.header.n - c.args.code.header.k) c.loop-i-test.true)
 
 pub slice_bounds-fill_row-end : goal.slice_bounds-fill_row-end
 slice_bounds-fill_row-end c = omega (arith, row_in (goal.at.slice_bounds-fill_row-end c).In-loop-i)
@@ -23,7 +23,7 @@ slice_bounds-fill_row-end c = omega (arith, row_in (goal.at.slice_bounds-fill_ro
 pub loop-i-preserved : goal.loop-i-preserved
 loop-i-preserved c =
     let a = c.args in
-    let w = c.width_of-w.result in
+    let w = c.width_of-w.result.bytes in
     let checks = a.code.header.n - a.code.header.k in
     let l = c.loop-i in rw (row_after, add-sub_cancel_left, c.fill_row.ensures, c.new-codec.ensures, part_length (l.i * checks) checks l.rows (omega (arith, l.invariant.long, row_in (goal.at.loop-i-preserved c).In-loop-i)))
     (fills_part (byte_row a.code.header w l.i) checks
@@ -33,7 +33,7 @@ loop-i-preserved c =
 
 pub returns : goal.returns
 returns c =
-    let wide = c.width_of-w.ensures.0 in
+    let wide = c.width_of-w.ensures in
     fills_all (rw (rows_end _ _ _ c.loop-i-test.false) at c.loop-i.invariant)
     (rw (c.requires, ← wide) (mul-le-mul c.loop-i-test.false (le_refl _)))
     ∙ power_tile c.args.code.header _ wide

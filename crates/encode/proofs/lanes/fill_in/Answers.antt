@@ -17,4 +17,4 @@ pub returns : goal.returns
 returns g c =
     let m = c.args.message.now in
     let product = c.product_of-product.ensures in
-    rw product at (c.fill.ensures (column_of (record_header m)) (rw product c.fill_lists.ensures)) ∙ product_shares (record_header m) m.width m.lanes m.bytes.now _ refl
+    rw product at (c.fill.ensures (column_of (record_header m)) (rw product c.fill_lists.ensures)) ∙ product_shares (record_header m) m.width.bytes m.lanes m.bytes.now _ refl

@@ -13,5 +13,5 @@ abbrev pub invariant-loop-t : goal.invariant-loop-t
 invariant-loop-t l =
     let m = l.message in
     let h = record_header m in
-    let lane : ℕ → List ℕ = λ q. bytes_of m.width (lane_of lane_after_lane h.n m.lanes q (shares_of lane_after_lane h m.lanes (message_symbols m))) in
-    Fills l.initial.out l.out (l.t * (m.width * h.n)) (rows_from lane l.t (m.lanes - l.t)) (rows_from lane 0 m.lanes)
+    let lane : ℕ → List ℕ = λ q. bytes_of m.width.bytes (lane_of lane_after_lane h.n m.lanes q (shares_of lane_after_lane h m.lanes (message_symbols m))) in
+    Fills l.initial.out l.out (l.t * (m.width.bytes * h.n)) (rows_from lane l.t (m.lanes - l.t)) (rows_from lane 0 m.lanes)

@@ -18,7 +18,7 @@ use Rattle.field.proofs.FieldOf.{size_pos}
 use Rattle.generator.specs.declared.Header.{Header}
 use Rattle.generator.specs.Records.{modulus_of, size, width, distance}
 use Rattle.generator.specs.Codewords.{encoding}
-use Rattle.generator.proofs.Widths.{width_range, size_fits_width}
+use Rattle.generator.proofs.Widths.{size_fits_width}
 use Rattle.plan.specs.Inner.Planned.{Planned}
 use Rattle.plan.proofs.Plans.{base_room}
 use Rattle.sliding_sums.specs.Inner.Windows.{window_sums, Windows}
@@ -50,16 +50,16 @@ module _ (h : Header) (shifts base ms row sums : List ℕ) (p : Planned h shifts
   unfolding distance
   encodes = rw (placed, places, p.shifts_are, p.base_is) (lane_sums h p.sound ms long symbols)
 
-  ready : (w : ℕ) (out : List ℕ) → w ≡ width h → length out ≡ w * h.n → (usable h.field ≡ true) × Windows (size h) (take (h.n - h.k + 1) base) row (length sums) × (0 < length sums) × (1 ≤ w) × (w ≤ 2) × (size h ≤ 256 ^ w) × (length out ≡ length sums * w)
+  ready : (w : ℕ) (out : List ℕ) → w ≡ width h → length out ≡ w * h.n → (usable h.field ≡ true) × Windows (size h) (take (h.n - h.k + 1) base) row (length sums) × (0 < length sums) × (size h ≤ 256 ^ w) × (length out ≡ length sums * w)
   ready w out wide room =
       let sound = p.sound in
-      (sound.usable_field, windows, omega (arith, sound.two), rw wide (width_range h).0, rw wide (width_range h).1, rw wide (size_fits_width h sound), room ∙ mul_comm w h.n ∙ ap (λ (x : ℕ). x * w) (sym places))
+      (sound.usable_field, windows, omega (arith, sound.two), rw wide (size_fits_width h sound), room ∙ mul_comm w h.n ∙ ap (λ (x : ℕ). x * w) (sym places))
 
 pub write_nodes-requires : goal.write_nodes-requires
 write_nodes-requires c =
-    ready _ _ _ _ _ _ c.args.generator.now.planned c.requires.1 c.requires.2 c.placed-row.ensures (length-take-le _ _ (search rules)) c.args.w c.args.out.now c.requires.0 c.requires.3
+    ready _ _ _ _ _ _ c.args.generator.now.planned c.requires.1 c.requires.2 c.placed-row.ensures (length-take-le _ _ (search rules)) c.args.w.bytes c.args.out.now c.requires.0 c.requires.3
 
 pub returns : goal.returns
 returns c =
     c.write_nodes.ensures
-    ∙ ap (bytes_of c.args.w) (encodes _ _ _ _ _ _ c.args.generator.now.planned c.requires.1 c.requires.2 c.placed-row.ensures (length-take-le _ _ (search rules)))
+    ∙ ap (bytes_of c.args.w.bytes) (encodes _ _ _ _ _ _ c.args.generator.now.planned c.requires.1 c.requires.2 c.placed-row.ensures (length-take-le _ _ (search rules)))

@@ -1,6 +1,6 @@
 -- `lane_symbols` meets its contract. The loop's invariant: the symbols of the rows below r are read.
 use mathlib.Core.Path.{sym, ◌∙◌}
-use Prim.Native.Nat.{◌+◌, ◌*◌, ◌/◌, ◌≤◌, ◌<◌}
+use Prim.Native.Nat.{◌+◌, ◌*◌, ◌/◌, ◌<◌}
 use native.Mathlib.Omega.{arith}
 use lib.ListN.{length}
 use Rattle.lists.proofs.Fill.{filled_put}
@@ -8,27 +8,23 @@ use Rattle.lists.proofs.Rows.{row_inside}
 use Rattle.layout.proofs.Places.{held_by_row}
 use Rattle.layout.proofs.Tiles.{many_symbols}
 use Rattle.layout.proofs.Widths.{get_or_symbols}
-use Rattle.generator.proofs.Widths.{width_range}
 use Rattle.encode.specs.Inner.Encoded.{record_header, message_symbols}
 use Rattle.encode.proofs.one_lane.lane_symbols.Goals as goal
-use Rattle.encode.proofs.one_lane.lane_symbols.Goals.{In-loop-r, Start}
-
-width_of : (c : Start) → let m = c.args.message.now in (1 ≤ m.width) × (m.width ≤ 2)
-width_of c = let m = c.args.message.now in rw m.rows.wide (width_range (record_header m))
+use Rattle.encode.proofs.one_lane.lane_symbols.Goals.{In-loop-r}
 
 -- the symbol that is read is one of the message
-inside : (c : In-loop-r) → let m = c.args.message.now in c.loop-r.r * m.lanes + c.args.t < length m.bytes.now / m.width
+inside : (c : In-loop-r) → let m = c.args.message.now in c.loop-r.r * m.lanes + c.args.t < length m.bytes.now / m.width.bytes
 inside c =
     let m = c.args.message.now in
     let h = record_header m in
-    rw (many_symbols m.width h.k m.lanes m.bytes.now (width_of (goal.at.In-loop-r c).Start).0 m.rows.bytes) (omega (arith, row_inside h.k c.loop-r.r m.lanes c.loop-r-test.true, c.requires))
+    rw (many_symbols m.width.bytes h.k m.lanes m.bytes.now m.width.some m.rows.bytes) (omega (arith, row_inside h.k c.loop-r.r m.lanes c.loop-r-test.true, c.requires))
 
 pub symbol_at-requires : goal.symbol_at-requires
-symbol_at-requires c = ((width_of (goal.at.symbol_at-requires c).Start).0, (width_of (goal.at.symbol_at-requires c).Start).1, inside (goal.at.symbol_at-requires c).In-loop-r)
+symbol_at-requires c = inside (goal.at.symbol_at-requires c).In-loop-r
 
 pub loop-r-preserved : goal.loop-r-preserved
 loop-r-preserved c =
     let m = c.args.message.now in
     let r = c.loop-r.r in
     filled_put c.loop-r.invariant c.loop-r-test.true
-    (c.symbol_at.ensures ∙ sym (get_or_symbols m.width m.bytes.now (r * m.lanes + c.args.t) (inside (goal.at.loop-r-preserved c).In-loop-r)) ∙ sym (held_by_row (record_header m).k m.lanes (message_symbols m) r c.args.t))
+    (c.symbol_at.ensures ∙ sym (get_or_symbols m.width.bytes m.bytes.now (r * m.lanes + c.args.t) (inside (goal.at.loop-r-preserved c).In-loop-r)) ∙ sym (held_by_row (record_header m).k m.lanes (message_symbols m) r c.args.t))

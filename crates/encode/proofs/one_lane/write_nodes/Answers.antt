@@ -15,4 +15,4 @@ write_symbols-requires c =
     let windows = c.requires.1 in
     let low = nodes_below _ (usable_field _ c.requires.0) a.weights.now a.row.now (length a.sums.now) windows.weights windows.symbols in
     rw (c.turn.ensures, c.window_sums.ensures)
-    (c.requires.3, c.requires.4, at_below (256 ^ a.w) _ (λ i inside. lt_of_lt_of_le (below_at _ _ low i inside) c.requires.5), c.requires.6 ∙ ap (λ (x : ℕ). x * a.w) (sym (length_by_node _ ∙ length_windows _ _ _ _)))
+    (at_below (256 ^ a.w.bytes) _ (λ i inside. lt_of_lt_of_le (below_at _ _ low i inside) c.requires.3), c.requires.4 ∙ ap (λ (x : ℕ). x * a.w.bytes) (sym (length_by_node _ ∙ length_windows _ _ _ _)))

@@ -7,4 +7,4 @@ use Rattle.rearrange.proofs.Columns.{column_from}
 use Rattle.rearrange.proofs.turning.fill_lane.Given as goal
 
 abbrev pub invariant-loop-i : goal.invariant-loop-i
-invariant-loop-i l = Fills l.initial.lane l.lane (l.i * l.w) (column_from l.w l.rows l.width l.t l.table l.i) (bytes_of l.w (lane_of row_after_row l.rows l.width l.t (symbols_of l.w l.table)))
+invariant-loop-i l = Fills l.initial.lane l.lane (l.i * l.w.bytes) (column_from l.w.bytes l.rows l.width l.t l.table l.i) (bytes_of l.w.bytes (lane_of row_after_row l.rows l.width l.t (symbols_of l.w.bytes l.table)))

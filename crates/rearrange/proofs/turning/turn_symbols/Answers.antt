@@ -20,24 +20,24 @@ all_bytes : (w rows lanes : ℕ) → rows * lanes * w ≡ lanes * (rows * w)
 all_bytes w rows lanes = ap (λ (x : ℕ). x * w) (mul_comm rows lanes) ∙ mul_assoc lanes rows w
 
 -- a lane lies within the buffer
-lane_in : (c : In-loop-t) → let a = c.args in c.loop-t.t * (a.rows * a.w) + a.rows * a.w ≤ length a.out.now
+lane_in : (c : In-loop-t) → let a = c.args in c.loop-t.t * (a.rows * a.w.bytes) + a.rows * a.w.bytes ≤ length a.out.now
 lane_in c =
     let a = c.args in
-    rw (c.requires.3, all_bytes a.w a.rows a.lanes) (row_inside a.lanes c.loop-t.t (a.rows * a.w) c.loop-t-test.true)
+    rw (c.requires.1, all_bytes a.w.bytes a.rows a.lanes) (row_inside a.lanes c.loop-t.t (a.rows * a.w.bytes) c.loop-t-test.true)
 
 pub fill_lane-requires : goal.fill_lane-requires
 fill_lane-requires c =
     let a = c.args in
     let now = c.loop-t in
-    (c.requires.0, c.requires.1, c.loop-t-test.true, c.requires.2, part_length (now.t * (a.rows * a.w)) (a.rows * a.w) now.out (omega (arith, now.invariant.long, lane_in (goal.at.fill_lane-requires c).In-loop-t)))
+    (c.loop-t-test.true, c.requires.0, part_length (now.t * (a.rows * a.w.bytes)) (a.rows * a.w.bytes) now.out (omega (arith, now.invariant.long, lane_in (goal.at.fill_lane-requires c).In-loop-t)))
 
 pub loop-t-preserved : goal.loop-t-preserved
 loop-t-preserved c =
     let a = c.args in
     let now = c.loop-t in rw (row_after, add-sub_cancel_left, c.fill_lane.ensures)
-    (fills_part (column a.w a.rows a.lanes a.source.now now.t) (a.rows * a.w)
+    (fills_part (column a.w.bytes a.rows a.lanes a.source.now now.t) (a.rows * a.w.bytes)
     (rw (rows_next _ _ _ c.loop-t-test.true) at now.invariant)
-    (length_column a.w a.rows a.lanes now.t a.source.now)
+    (length_column a.w.bytes a.rows a.lanes now.t a.source.now)
     (lane_in (goal.at.loop-t-preserved c).In-loop-t))
 
 pub returns : goal.returns
@@ -45,6 +45,6 @@ unfolding rearranged lane_of
 returns c =
     let a = c.args in
     fills_all (rw (rows_end _ _ _ c.loop-t-test.false) at c.loop-t.invariant)
-    (rw (c.requires.3, all_bytes a.w a.rows a.lanes) (mul-le-mul c.loop-t-test.false (le_refl _)))
-    ∙ bytes_rows a.w (λ q. lane_of row_after_row a.rows a.lanes q (symbols_of a.w a.source.now)) 0 a.lanes
-    ∙ sym (ap (bytes_of a.w) (buffer_by_lane a.rows a.lanes (held row_after_row a.rows a.lanes (symbols_of a.w a.source.now))))
+    (rw (c.requires.1, all_bytes a.w.bytes a.rows a.lanes) (mul-le-mul c.loop-t-test.false (le_refl _)))
+    ∙ bytes_rows a.w.bytes (λ q. lane_of row_after_row a.rows a.lanes q (symbols_of a.w.bytes a.source.now)) 0 a.lanes
+    ∙ sym (ap (bytes_of a.w.bytes) (buffer_by_lane a.rows a.lanes (held row_after_row a.rows a.lanes (symbols_of a.w.bytes a.source.now))))

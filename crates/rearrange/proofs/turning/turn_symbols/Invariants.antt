@@ -12,4 +12,4 @@ abbrev pub column : ℕ → ℕ → ℕ → List ℕ → ℕ → List ℕ
 column w rows lanes table q = bytes_of w (lane_of row_after_row rows lanes q (symbols_of w table))
 
 abbrev pub invariant-loop-t : goal.invariant-loop-t
-invariant-loop-t l = Fills l.initial.out l.out (l.t * (l.rows * l.w)) (rows_from (column l.w l.rows l.lanes l.source) l.t (l.lanes - l.t)) (rows_from (column l.w l.rows l.lanes l.source) 0 l.lanes)
+invariant-loop-t l = Fills l.initial.out l.out (l.t * (l.rows * l.w.bytes)) (rows_from (column l.w.bytes l.rows l.lanes l.source) l.t (l.lanes - l.t)) (rows_from (column l.w.bytes l.rows l.lanes l.source) 0 l.lanes)

@@ -36,7 +36,7 @@ pub invariant_of-sums : goal.invariant_of-sums
 invariant_of-sums c =
     let (listed, node, out) = accepted (goal.at.invariant_of-sums c).In_ok-rebuild_fault in
     record {
-      listed = listed_bytes _ c.width_of-width.ensures.0 listed;
+      listed = listed_bytes _ c.width_of-width.ensures listed;
       bytes = c.args.self.bytes;
       long = search rules;
       symbols = c.rebuild_weights-weights.ensures.symbols;
@@ -45,14 +45,14 @@ invariant_of-sums c =
 pub fill-requires : goal.fill-requires
 fill-requires c =
     let v = c.args.self in
-    let wide = c.width_of-width.ensures.0 in
+    let wide = c.width_of-width.ensures in
     let (listed, node, out) = accepted (goal.at.fill-requires c).In_ok-rebuild_fault in
     out ∙ mul_comm v.lanes (width v.code.header) ∙ ap (λ (w : ℕ). w * v.lanes) (sym wide)
 
 pub returns : goal.returns
 unfolding answer_of
 returns c =
-    let wide = c.width_of-width.ensures.0 in
+    let wide = c.width_of-width.ensures in
     let v = c.args.self in
     let none = done_is _ _ c.in_ok-rebuild_fault.ensures in
     record {

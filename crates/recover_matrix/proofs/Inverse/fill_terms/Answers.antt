@@ -45,8 +45,8 @@ write_symbols-requires c =
     let wide = c.width_of-w.ensures in
     let l = c.loop-r in
     let row = terms (goal.at.write_symbols-requires c).In-loop-r in
-    rw (taken (goal.at.write_symbols-requires c).After-row_terms-row, wide.0)
-    (rw wide.0 at wide.1, rw wide.0 at wide.2, symbols_fit h c.args.self.code.sound (row_terms h l.r) row.are.below, part_length (l.r * (width h * h.k)) (width h * h.k) l.out (omega (arith, l.invariant.long, row_in (goal.at.write_symbols-requires c).In-loop-r)) ∙ mul_comm (width h) h.k ∙ ap (λ (x : ℕ). x * width h) (sym row.size))
+    rw (taken (goal.at.write_symbols-requires c).After-row_terms-row, wide)
+    (symbols_fit h c.args.self.code.sound (row_terms h l.r) row.are.below, part_length (l.r * (width h * h.k)) (width h * h.k) l.out (omega (arith, l.invariant.long, row_in (goal.at.write_symbols-requires c).In-loop-r)) ∙ mul_comm (width h) h.k ∙ ap (λ (x : ℕ). x * width h) (sym row.size))
 
 pub loop-r-preserved : goal.loop-r-preserved
 loop-r-preserved c =
@@ -55,7 +55,7 @@ loop-r-preserved c =
     let l = c.loop-r in
     let row = row_terms h l.r in
     let size = (terms (goal.at.loop-r-preserved c).In-loop-r).size in
-    rw (c.write_symbols.ensures, taken (goal.at.loop-r-preserved c).After-row_terms-row, c.width_of-w.ensures.0, row_after, add-sub_cancel_left)
+    rw (c.write_symbols.ensures, taken (goal.at.loop-r-preserved c).After-row_terms-row, c.width_of-w.ensures, row_after, add-sub_cancel_left)
     (fills_part (bytes_of w row) (w * h.k) (rw (rows_next _ _ _ c.loop-r-test.true) at l.invariant) (length_bytes w row ∙ ap (λ (x : ℕ). x * w) size ∙ mul_comm h.k w) (row_in (goal.at.loop-r-preserved c).In-loop-r))
 
 pub returns : goal.returns

@@ -19,8 +19,8 @@ pub fill-requires : goal.fill-requires
 fill-requires g c =
     let h = c.args.self.code.header in
     let s = c.args.self.code.sound in
-    let wide = c.width_of-w.ensures.0 in
-    let part = square h c.width_of-w.result g.row.SQUARE wide c.requires.1 in
+    let wide = c.width_of-w.ensures in
+    let part = square h c.width_of-w.result.bytes g.row.SQUARE wide c.requires.1 in
     rw c.product.ensures
     (rows_ready s wide (omega (arith, few s)) (omega (arith, c.fill_terms.auto.out, part)) part (rw (c.list_quotients.auto.lists, c.list_quotients.auto.counts) c.requires.2) c.list_quotients.ensures)
 
@@ -29,4 +29,4 @@ list_from-requires g c =
     let v = c.args.self in
     let product = c.product.ensures in
     let made = rw product at (c.fill.ensures (node_quotient v.code.header v.nodes.now) (rw product c.list_quotients.ensures)) in
-    (sums_written v.code.header v.nodes.now c.width_of-w.ensures.0 c.fill_terms.ensures made, c.new-codes.ensures, rw (c.list_quotients.auto.lists, c.list_quotients.auto.counts) c.requires.2)
+    (sums_written v.code.header v.nodes.now c.width_of-w.ensures c.fill_terms.ensures made, c.new-codes.ensures, rw (c.list_quotients.auto.lists, c.list_quotients.auto.counts) c.requires.2)

@@ -22,12 +22,12 @@ pub symbol_at-sum-requires : goal.symbol_at-sum-requires
 symbol_at-sum-requires c =
     let v = c.args.self in
     let wide = c.width_of-w.ensures in
-    (wide.1, wide.2, sum_inside v.code.sound _ v.different _ wide.0 c.requires.2 _ _ c.loop-i-test.true c.requires.1)
+    sum_inside v.code.sound _ v.different _ wide c.requires.2 _ _ c.loop-i-test.true c.requires.1
 
 pub mul-requires : goal.mul-requires
 mul-requires c =
     let v = c.args.self in
-    (c.mul-own.ensures.symbol, rw (c.requires.0, c.symbol_at-sum.ensures) (sum_below v.code.sound _ v.different _ c.width_of-w.ensures.0 c.requires.2 _ _ c.loop-i-test.true c.requires.1))
+    (c.mul-own.ensures.symbol, rw (c.requires.0, c.symbol_at-sum.ensures) (sum_below v.code.sound _ v.different _ c.width_of-w.ensures c.requires.2 _ _ c.loop-i-test.true c.requires.1))
 
 pub loop-i-preserved : goal.loop-i-preserved
 loop-i-preserved c =
@@ -39,7 +39,7 @@ loop-i-preserved c =
     let own = rw c.requires.0 at c.mul-own.ensures.is in
     let last = rw c.requires.0 at c.mul.ensures.is in
     let scales = ap₂ m (row_scale s _ v.different v.prepared _ row) (own_scale s _ v.different v.prepared _ low) in
-    let sum = c.symbol_at-sum.ensures ∙ sum_is s _ v.different _ c.width_of-w.ensures.0 c.requires.2 _ _ low row in
+    let sum = c.symbol_at-sum.ensures ∙ sum_is s _ v.different _ c.width_of-w.ensures c.requires.2 _ _ low row in
     filled_put c.loop-i.invariant low (last ∙ ap₂ m (own ∙ scales) sum)
 
 pub returns : goal.returns

@@ -15,17 +15,17 @@ bytes : (c : After-slice_known-1) → all_below 256 c.args.shares.now ≡ true
 bytes c = at_below 256 _ (λ i h. omega (arith, c.type_inv.shares i))
 
 pub slice_bounds-lane-end : goal.slice_bounds-lane-end
-slice_bounds-lane-end c = lane_inside c.requires.0 _ c.width_of-w.ensures.0
+slice_bounds-lane-end c = lane_inside c.requires.0 _ c.width_of-w.ensures
 
 pub rewrite-requires : goal.rewrite-requires
 rewrite-requires c =
     let (ready, old, new) = c.requires in
-    (lane_word ready _ c.width_of-w.ensures.0, rw c.sub-x.ensures (sub_below _ ready.sound.field new old))
+    (lane_word ready _ c.width_of-w.ensures, rw c.sub-x.ensures (sub_below _ ready.sound.field new old))
 
 pub returns : goal.returns
 unfolding updated
 returns c =
-    let wide = c.width_of-w.ensures.0 in
+    let wide = c.width_of-w.ensures in
     let (ready, old, new) = c.requires in
     let (added, counted) = rw c.sub-x.ensures at c.rewrite.ensures in
     let low = bytes (goal.at.returns c).After-slice_known-1 in

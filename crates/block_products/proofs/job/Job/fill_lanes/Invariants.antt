@@ -8,4 +8,4 @@ use Rattle.block_products.proofs.job.Job.fill_lanes.Given as goal
 abbrev pub invariant-loop-first : goal.invariant-loop-first
 invariant-loop-first l =
     let j = l.self in
-    (ws : ℕ → List ℕ) → Begun (modulus j.m.field) j.m.rows ws j.m.outputs j.lists.now j.counts.now → Done j.m.way j.w j.m.outputs j.m.lanes (lane_sum j.m j.w ws j.source.now) l.first l.out
+    (ws : ℕ → List ℕ) → Begun (modulus j.m.field) j.m.rows ws j.m.outputs j.lists.now j.counts.now → Done j.m.way j.w.bytes j.m.outputs j.m.lanes (lane_sum j.m j.w.bytes ws j.source.now) l.first l.out

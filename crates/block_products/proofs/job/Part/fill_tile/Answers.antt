@@ -6,10 +6,10 @@ use Rattle.block_products.proofs.job.Part.fill_tile.Goals as goal
 use Rattle.block_products.proofs.job.Part.fill_tile.Goals.{After-load}
 
 -- the groups' rows lie in the tile
-tile-in : (c : After-load) → c.groups_of-groups.result * (c.args.self.job.w * 256) ≤ length c.load.new.tile
+tile-in : (c : After-load) → c.groups_of-groups.result * (c.args.self.job.w.bytes * 256) ≤ length c.load.new.tile
 tile-in c =
     let j = c.args.self.job in
-    rw c.groups_of-groups.ensures.value (omega (arith, groups_inside j.w j.m.rows j.some j.few_bytes, c.load.auto.tile, c.requires.room.lanes))
+    rw c.groups_of-groups.ensures.value (omega (arith, groups_inside j.w.bytes j.m.rows j.w.some j.w.most, c.load.auto.tile, c.requires.room.lanes))
 
 pub slice_bounds-apply-end : goal.slice_bounds-apply-end
 slice_bounds-apply-end c = tile-in (goal.at.slice_bounds-apply-end c).After-load
@@ -22,8 +22,8 @@ apply-requires c =
     let j = c.args.self.job in
     let g = c.groups_of-groups.ensures.value in
     let words = length c.args.words.now in
-    let e : j.m.outputs * (j.w * 64) ≡ j.w * j.m.outputs * 64 = sym (mul_assoc j.m.outputs j.w 64) ∙ ap (λ (x : ℕ). x * 64) (mul_comm j.m.outputs j.w) in
-    let rows : j.m.outputs * (j.w * 64) ≤ words = omega (arith, e, rows_inside j.w j.m.outputs, c.requires.room.products) in
+    let e : j.m.outputs * (j.w.bytes * 64) ≡ j.w.bytes * j.m.outputs * 64 = sym (mul_assoc j.m.outputs j.w.bytes 64) ∙ ap (λ (x : ℕ). x * 64) (mul_comm j.m.outputs j.w.bytes) in
+    let rows : j.m.outputs * (j.w.bytes * 64) ≤ words = omega (arith, e, rows_inside j.w.bytes j.m.outputs, c.requires.room.products) in
     record {
       tile_long = length-take-le _ _ (tile-in (goal.at.apply-requires c).After-load) ∙ rw (g, j.wide);
       table_long = length-take-le _ _ (omega (arith, g, c.requires.room.sums)) ∙ ap (λ (x : ℕ). x * 1024) g;
@@ -36,8 +36,8 @@ returns c =
     let p = c.args.self in
     let j = p.job in
     let g = c.groups_of-groups in
-    let size = g.result * (j.w * 256) in
-    let inside : j.w * j.m.rows * 64 ≤ size = rw g.ensures.value (rows_grouped j.w j.m.rows) in
+    let size = g.result * (j.w.bytes * 256) in
+    let inside : j.w.bytes * j.m.rows * 64 ≤ size = rw g.ensures.value (rows_grouped j.w.bytes j.m.rows) in
     c.store.ensures _
-    (λ q lane. product_lane (modulus j.m.field) j.w j.m.outputs j.m.rows size q ws _ _ _ j.wide inside (omega arith) (c.load.ensures q lane) (c.apply.ensures ws begun q (omega arith)))
+    (λ q lane. product_lane (modulus j.m.field) j.w.bytes j.m.outputs j.m.rows size q ws _ _ _ j.wide inside (omega arith) (c.load.ensures q lane) (c.apply.ensures ws begun q (omega arith)))
     base

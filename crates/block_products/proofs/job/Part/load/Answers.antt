@@ -9,7 +9,7 @@ pub returns-in-RowsToLanes : goal.returns-in-RowsToLanes
 unfolding side_of
 returns-in-RowsToLanes c =
     let j = c.args.self.job in
-    rw c.in-RowsToLanes.is (λ t lane. ap (symbols_of j.w) (c.load_rows.ensures t lane) ∙ symbols_bytes j.w _ j.some)
+    rw c.in-RowsToLanes.is (λ t lane. ap (symbols_of j.w.bytes) (c.load_rows.ensures t lane) ∙ symbols_bytes j.w.bytes _ j.w.some)
 
 pub returns-in-LanesToRows : goal.returns-in-LanesToRows
 unfolding side_of

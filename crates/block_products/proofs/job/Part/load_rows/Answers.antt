@@ -13,15 +13,15 @@ use Rattle.block_products.proofs.job.Part.load_rows.Goals as goal
 use Rattle.block_products.proofs.job.Part.load_rows.Goals.{In-loop-r}
 
 -- the row's symbols lie in the source
-source_in : (c : In-loop-r) → let p = c.args.self in (c.loop-r.r * p.job.m.lanes + p.first) * p.job.w + p.count * p.job.w ≤ length p.job.source.now
-source_in c = let p = c.args.self in let j = p.job in row_part j.w j.m.rows j.m.lanes j.source.now j.some j.source_long c.loop-r.r p.first p.count c.loop-r-test.true p.inside
+source_in : (c : In-loop-r) → let p = c.args.self in (c.loop-r.r * p.job.m.lanes + p.first) * p.job.w.bytes + p.count * p.job.w.bytes ≤ length p.job.source.now
+source_in c = let p = c.args.self in let j = p.job in row_part j.w.bytes j.m.rows j.m.lanes j.source.now j.w.some j.source_long c.loop-r.r p.first p.count c.loop-r-test.true p.inside
 
 -- its rows of bytes in the tile
-tile-in : (c : In-loop-r) → let w = c.args.self.job.w in c.loop-r.r * (w * 64) + w * 64 ≤ length c.loop-r.tile
+tile-in : (c : In-loop-r) → let w = c.args.self.job.w.bytes in c.loop-r.r * (w * 64) + w * 64 ≤ length c.loop-r.tile
 tile-in c =
     let j = c.args.self.job in
-    let e : j.w * j.m.rows * 64 ≡ j.m.rows * (j.w * 64) = ap (λ (x : ℕ). x * 64) (mul_comm j.w j.m.rows) ∙ mul_assoc j.m.rows j.w 64 in
-    omega (arith, e, c.loop-r.auto.tile, c.requires, row_inside j.m.rows c.loop-r.r (j.w * 64) c.loop-r-test.true)
+    let e : j.w.bytes * j.m.rows * 64 ≡ j.m.rows * (j.w.bytes * 64) = ap (λ (x : ℕ). x * 64) (mul_comm j.w.bytes j.m.rows) ∙ mul_assoc j.m.rows j.w.bytes 64 in
+    omega (arith, e, c.loop-r.auto.tile, c.requires, row_inside j.m.rows c.loop-r.r (j.w.bytes * 64) c.loop-r-test.true)
 
 pub slice_bounds-load_row-end : goal.slice_bounds-load_row-end
 slice_bounds-load_row-end c = source_in (goal.at.slice_bounds-load_row-end c).In-loop-r
@@ -34,12 +34,12 @@ loop-r-preserved c =
     let row = c.loop-r-test.true in
     let after = c.load_row.new.rows in
     let within = tile-in (goal.at.loop-r-preserved c).In-loop-r in
-    let at : l.r * (j.w * 64) ≡ l.r * j.w * 64 = sym (mul_assoc l.r j.w 64) in
-    let fits : l.r * j.w * 64 + j.w * 64 ≤ length l.tile = rw (← at) within in
-    let size : length after ≡ j.w * 64 = omega (arith, part_length (l.r * (j.w * 64)) (j.w * 64) l.tile within) in
-    rw (at, add-sub_cancel_left (l.r * j.w * 64) (j.w * 64), row_after l.r j.w)
-    (tile_more (j.w * j.m.rows) (l.r * j.w) j.w p.count _ l.tile after (j.w * 64) size fits p.few l.invariant
-    (row_loaded j.w j.m.rows j.m.lanes j.source.now j.some j.source_long j.bytes l.r p.first p.count row p.inside p.few after c.load_row.ensures))
+    let at : l.r * (j.w.bytes * 64) ≡ l.r * j.w.bytes * 64 = sym (mul_assoc l.r j.w.bytes 64) in
+    let fits : l.r * j.w.bytes * 64 + j.w.bytes * 64 ≤ length l.tile = rw (← at) within in
+    let size : length after ≡ j.w.bytes * 64 = omega (arith, part_length (l.r * (j.w.bytes * 64)) (j.w.bytes * 64) l.tile within) in
+    rw (at, add-sub_cancel_left (l.r * j.w.bytes * 64) (j.w.bytes * 64), row_after l.r j.w.bytes)
+    (tile_more (j.w.bytes * j.m.rows) (l.r * j.w.bytes) j.w.bytes p.count _ l.tile after (j.w.bytes * 64) size fits p.few l.invariant
+    (row_loaded j.w.bytes j.m.rows j.m.lanes j.source.now j.w.some j.source_long j.bytes l.r p.first p.count row p.inside p.few after c.load_row.ensures))
 
 pub returns : goal.returns
 returns c =
@@ -48,6 +48,6 @@ returns c =
     let j = p.job in
     let l = c.loop-r in
     let all : l.r ≡ j.m.rows = omega arith in
-    let bytes = lane_bytes j.w j.m.rows j.m.lanes p.first j.source.now t in
-    let long : length bytes ≡ j.w * j.m.rows = length_bytes j.w _ ∙ ap (λ (x : ℕ). x * j.w) (length_lane row_after_row j.m.rows j.m.lanes (p.first + t) _) ∙ mul_comm j.m.rows j.w in
-    tile_lane (j.w * j.m.rows) (l.r * j.w) p.count _ l.tile l.invariant (rw all (omega (arith, mul_comm j.w j.m.rows))) t lane ∙ from_self bytes (j.w * j.m.rows) long
+    let bytes = lane_bytes j.w.bytes j.m.rows j.m.lanes p.first j.source.now t in
+    let long : length bytes ≡ j.w.bytes * j.m.rows = length_bytes j.w.bytes _ ∙ ap (λ (x : ℕ). x * j.w.bytes) (length_lane row_after_row j.m.rows j.m.lanes (p.first + t) _) ∙ mul_comm j.m.rows j.w.bytes in
+    tile_lane (j.w.bytes * j.m.rows) (l.r * j.w.bytes) p.count _ l.tile l.invariant (rw all (omega (arith, mul_comm j.w.bytes j.m.rows))) t lane ∙ from_self bytes (j.w.bytes * j.m.rows) long

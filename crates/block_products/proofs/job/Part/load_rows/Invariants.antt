@@ -11,4 +11,4 @@ lane_bytes w rows lanes first source t = bytes_of w (lane_of row_after_row rows 
 abbrev pub invariant-loop-r : goal.invariant-loop-r
 invariant-loop-r l =
     let j = l.job in
-    TileOf (j.w * j.m.rows) (l.r * j.w) l.self.count (λ x t. get_or (lane_bytes j.w j.m.rows j.m.lanes l.self.first j.source.now t) x 0) l.tile
+    TileOf (j.w.bytes * j.m.rows) (l.r * j.w.bytes) l.self.count (λ x t. get_or (lane_bytes j.w.bytes j.m.rows j.m.lanes l.self.first j.source.now t) x 0) l.tile

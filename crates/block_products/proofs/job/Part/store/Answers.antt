@@ -5,8 +5,8 @@ use Rattle.block_products.proofs.Lanes.{rows_inside}
 use Rattle.block_products.proofs.job.Part.store.Goals as goal
 use Rattle.block_products.proofs.job.Part.store.Goals.{Start}
 
-room : (c : Start) → let j = c.args.self.job in j.w * j.m.outputs * 64 ≤ length c.args.words.now
-room c = let j = c.args.self.job in omega (arith, rows_inside j.w j.m.outputs, c.requires.words_long)
+room : (c : Start) → let j = c.args.self.job in j.w.bytes * j.m.outputs * 64 ≤ length c.args.words.now
+room c = let j = c.args.self.job in omega (arith, rows_inside j.w.bytes j.m.outputs, c.requires.words_long)
 
 pub store_lanes-requires : goal.store_lanes-requires
 unfolding out_bytes

@@ -9,15 +9,15 @@ use Rattle.block_products.proofs.Writing.{lanes_step}
 use Rattle.block_products.proofs.job.Part.store_lanes.Goals as goal
 
 pub slice_bounds-scatter64-end-4 : goal.slice_bounds-scatter64-end-4
-slice_bounds-scatter64-end-4 c = let p = c.args.self in let j = p.job in lanes_inside (j.w * j.m.outputs) j.m.lanes c.args.out.now c.requires.out_long p.first p.count p.inside
+slice_bounds-scatter64-end-4 c = let p = c.args.self in let j = p.job in lanes_inside (j.w.bytes * j.m.outputs) j.m.lanes c.args.out.now c.requires.out_long p.first p.count p.inside
 
 pub returns : goal.returns
 returns c =
     λ f sums base.
     let p = c.args.self in
     let j = p.job in
-    let n = j.w * j.m.outputs in
+    let n = j.w.bytes * j.m.outputs in
     let size = (n + 15) / 16 * 1024 in
     let words = c.args.words.now in
-    let prefix : Sums j.w j.m.outputs p.first p.count f (take size words) = λ q lane. lane_prefix n size q words (rows_inside j.w j.m.outputs) (omega arith) ∙ sums q lane in
-    rw (c.scatter64.ensures, add-sub_cancel_left (p.first * n) (p.count * n)) (lanes_step j.w j.m.outputs j.m.lanes p.first p.count f (take size words) prefix p.inside base)
+    let prefix : Sums j.w.bytes j.m.outputs p.first p.count f (take size words) = λ q lane. lane_prefix n size q words (rows_inside j.w.bytes j.m.outputs) (omega arith) ∙ sums q lane in
+    rw (c.scatter64.ensures, add-sub_cancel_left (p.first * n) (p.count * n)) (lanes_step j.w.bytes j.m.outputs j.m.lanes p.first p.count f (take size words) prefix p.inside base)

@@ -13,5 +13,5 @@ returns c =
     let j = p.job in
     let words = c.args.words.now in
     let count = part_length p.first p.count c.args.out.now (omega (arith, p.inside, c.requires.out_long)) in
-    let made = c.mark_rows.ensures ∙ ap (λ (x : ℕ). zero_marks (j.w * j.m.outputs) x (λ i t. get_or words (i * 64 + t) 0)) count in
-    rw (made, add-sub_cancel_left p.first p.count) (marks_step j.w j.m.outputs j.m.lanes p.first p.count f words sums p.inside j.some j.few_bytes base)
+    let made = c.mark_rows.ensures ∙ ap (λ (x : ℕ). zero_marks (j.w.bytes * j.m.outputs) x (λ i t. get_or words (i * 64 + t) 0)) count in
+    rw (made, add-sub_cancel_left p.first p.count) (marks_step j.w.bytes j.m.outputs j.m.lanes p.first p.count f words sums p.inside j.w.some j.w.most base)

@@ -8,4 +8,4 @@ pub returns : goal.returns
 returns c =
     let a = c.args in
     c.read_symbols.ensures
-    ∙ rw c.fill_sums.ensures (ap (padded 255) (sums_read a.self.rows.code.header a.self.symbols.now _ c.width_of-w.ensures.0))
+    ∙ rw c.fill_sums.ensures (ap (padded 255) (sums_read a.self.rows.code.header a.self.symbols.now _ c.width_of-w.ensures))

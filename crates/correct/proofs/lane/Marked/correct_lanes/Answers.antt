@@ -32,8 +32,8 @@ abbrev new_lane : Header → ℕ → List ℕ → ℕ → List ℕ
 new_lane h l shares t = lane_of share_layout h.n l t (after h l shares)
 
 -- the bytes of lane t, which are as they were
-inside : (c : In-loop-t) → let n = c.args.self.rows.code.header.n in c.loop-t.t * (c.width_of.result * n) + c.width_of.result * n ≤ length c.args.shares.now
-inside c = rw c.width_of.ensures.0 (part_inside c.requires (width_some _) c.loop-t.t c.loop-t-test.true)
+inside : (c : In-loop-t) → let n = c.args.self.rows.code.header.n in c.loop-t.t * (c.width_of.result.bytes * n) + c.width_of.result.bytes * n ≤ length c.args.shares.now
+inside c = rw c.width_of.ensures (part_inside c.requires (width_some _) c.loop-t.t c.loop-t-test.true)
 
 untouched : (c : In-loop-t) → let h = c.args.self.rows.code.header in let a = c.loop-t.t * (width h * h.n) in drop a c.loop-t.shares ≡ drop a c.args.shares.now
 untouched c = c.loop-t.invariant.2.kept
@@ -55,7 +55,7 @@ slice_bounds-write_nearest-end c = omega (arith, inside (goal.at.slice_bounds-wr
 
 pub write_nearest-count-requires : goal.write_nearest-count-requires
 write_nearest-count-requires c =
-    (c.loop-t-test.true, rw (c.width_of.ensures.0, untouched (goal.at.write_nearest-count-requires c).In-loop-t) (part_marked c.requires (width_some _) c.loop-t.t c.loop-t-test.true))
+    (c.loop-t-test.true, rw (c.width_of.ensures, untouched (goal.at.write_nearest-count-requires c).In-loop-t) (part_marked c.requires (width_some _) c.loop-t.t c.loop-t-test.true))
 
 -- how many symbols of lane t differ
 altered : (c : After-write_nearest-count)
@@ -67,7 +67,7 @@ altered c =
     let m = c.requires in
     let lane = part_lane m (width_some _) c.loop-t.t c.loop-t-test.true in
     let right = lane_corrected share_lawful h m.sound (length c.args.self.marks.now) (before h c.args.shares.now) (symbols_long m (width_some _)) m.symbols c.loop-t.t c.loop-t-test.true in
-    rw (lane, ← right) at (rw (c.width_of.ensures.0, untouched (goal.at.After-write_nearest-count c).In-loop-t) at c.write_nearest-count.ensures.1)
+    rw (lane, ← right) at (rw (c.width_of.ensures, untouched (goal.at.After-write_nearest-count c).In-loop-t) at c.write_nearest-count.ensures.1)
 
 few : (c : After-write_nearest-count) → c.write_nearest-count.result ≤ 255
 few c =
@@ -95,8 +95,8 @@ loop-t-preserved c =
     ap₂ (λ (x z : ℕ). x + z) l.invariant.1 (altered (goal.at.loop-t-preserved c).After-write_nearest-count) ∙ sym (apart_lane h.n lanes (before h shares) (after h lanes shares) l.t) in (
       omega (arith, few (goal.at.loop-t-preserved c).After-write_nearest-count, l.invariant.0),
       count,
-      rw (row_after l.t k, c.width_of.ensures.0)
-          (fills_stretch whole (l.t * k) _ k l.invariant.2 (rw (c.width_of.ensures.0, untouched (goal.at.loop-t-preserved c).In-loop-t) at c.write_nearest-count.ensures.0 ∙ part_corrected m (width_some _) l.t taken) (corrected_size m (width_some _)) (part_inside m (width_some _) l.t taken)),
+      rw (row_after l.t k, c.width_of.ensures)
+          (fills_stretch whole (l.t * k) _ k l.invariant.2 (rw (c.width_of.ensures, untouched (goal.at.loop-t-preserved c).In-loop-t) at c.write_nearest-count.ensures.0 ∙ part_corrected m (width_some _) l.t taken) (corrected_size m (width_some _)) (part_inside m (width_some _) l.t taken)),
     )
 
 pub returns : goal.returns

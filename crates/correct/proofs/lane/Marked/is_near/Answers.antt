@@ -9,15 +9,14 @@ use Rattle.correct.proofs.lane.Marked.is_near.Goals.{After-read_symbols-held}
 
 -- the first n places of the array are the lane
 front : (c : After-read_symbols-held) → let h = c.args.self.rows.code.header in take h.n c.read_symbols-held.result ≡ symbols_of (width h) c.args.lane.now
-front c = held_front c.requires.1 _ (rw c.width_of.ensures.0 at c.read_symbols-held.ensures)
+front c = held_front c.requires.1 _ (rw c.width_of.ensures at c.read_symbols-held.ensures)
 
 pub returns-then-self-t-eq0 : goal.returns-then-self-t-eq0
 returns-then-self-t-eq0 c = sym (marked_near c.requires.1 c.if-self-t-eq0.true)
 
 pub read_symbols-held-requires : goal.read_symbols-held-requires
 read_symbols-held-requires c =
-    let w = c.width_of.ensures in
-    (w.1, w.2, rw w.0 (lane_short c.requires.1 c.args.self.rows.code.sound.byte))
+    rw c.width_of.ensures (lane_short c.requires.1 c.args.self.rows.code.sound.byte)
 
 pub correct_lane-requires : goal.correct_lane-requires
 correct_lane-requires c = rw (front (goal.at.correct_lane-requires c).After-read_symbols-held) c.requires.1.symbols

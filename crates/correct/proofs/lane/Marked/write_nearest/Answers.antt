@@ -15,7 +15,7 @@ use Rattle.correct.proofs.lane.Marked.write_nearest.Goals.{After-read_symbols-he
 
 -- the first n places of the array are the lane
 front : (c : After-read_symbols-held) → let h = c.args.self.rows.code.header in take h.n c.read_symbols-held.result ≡ symbols_of (width h) c.args.lane.now
-front c = held_front c.requires.1 _ (rw c.width_of-w.ensures.0 at c.read_symbols-held.ensures)
+front c = held_front c.requires.1 _ (rw c.width_of-w.ensures at c.read_symbols-held.ensures)
 
 pub returns-then-self-t-eq0 : goal.returns-then-self-t-eq0
 returns-then-self-t-eq0 c =
@@ -25,8 +25,7 @@ returns-then-self-t-eq0 c =
 
 pub read_symbols-held-requires : goal.read_symbols-held-requires
 read_symbols-held-requires c =
-    let w = c.width_of-w.ensures in
-    (w.1, w.2, rw w.0 (lane_short c.requires.1 c.args.self.rows.code.sound.byte))
+    rw c.width_of-w.ensures (lane_short c.requires.1 c.args.self.rows.code.sound.byte)
 
 pub correct_lane-requires : goal.correct_lane-requires
 correct_lane-requires c = rw (front (goal.at.correct_lane-requires c).After-read_symbols-held) c.requires.1.symbols
@@ -44,7 +43,7 @@ word c = word_front c.requires.1 _ (decoded c).0
 pub write_symbols-requires : goal.write_symbols-requires
 write_symbols-requires c =
     let w = c.width_of-w.ensures in
-    rw (word (goal.at.write_symbols-requires c).In-Some) (w.1, w.2, rw w.0 (word_fits c.requires.1), rw w.0 (word_bytes c.requires.1))
+    rw (word (goal.at.write_symbols-requires c).In-Some) (rw w (word_fits c.requires.1), rw w (word_bytes c.requires.1))
 
 pub overflow_cast-result : goal.overflow_cast-result
 overflow_cast-result c =
@@ -61,4 +60,4 @@ returns-in-None c =
 
 pub returns-in-Some : goal.returns-in-Some
 returns-in-Some c =
-    (c.write_symbols.ensures ∙ rw (word (goal.at.returns-in-Some c).In-Some, c.width_of-w.ensures.0), (decoded (goal.at.returns-in-Some c).In-Some).1)
+    (c.write_symbols.ensures ∙ rw (word (goal.at.returns-in-Some c).In-Some, c.width_of-w.ensures), (decoded (goal.at.returns-in-Some c).In-Some).1)

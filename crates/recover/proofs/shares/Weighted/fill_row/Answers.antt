@@ -75,7 +75,7 @@ fill-requires c =
       few_lanes = v.listed.symbol_rows.few_lanes;
       made = made_row (goal.at.fill-requires c).After-prepare;
       source_long = v.listed.bytes;
-      out_long = c.requires ∙ ap (λ (x : ℕ). x * v.lanes) (sym (mul-one v.width));
+      out_long = c.requires ∙ ap (λ (x : ℕ). x * v.lanes) (sym (mul-one v.width.bytes));
     }
 
 pub returns : goal.returns
@@ -86,5 +86,5 @@ returns c =
     let m = c.product.ensures in
     let ws : List ℕ = take h.k v.weights.now in
     rw m at (c.fill.ensures (λ i. ws) (rw m (begun (goal.at.returns c).After-prepare)))
-    ∙ row_combined (modulus_of h) v.width h.k v.lanes ws _
-    ∙ combined_front (modulus_of h) h.k v.weights.now (enough (goal.at.returns c).Start) v.width v.lanes _
+    ∙ row_combined (modulus_of h) v.width.bytes h.k v.lanes ws _
+    ∙ combined_front (modulus_of h) h.k v.weights.now (enough (goal.at.returns c).Start) v.width.bytes v.lanes _

@@ -20,14 +20,14 @@ use Rattle.recover.proofs.shares.Weighted.fill_share.Goals.{After-tile_lanes-cou
 next : (c : After-tile_lanes-count) → c.loop-first.first + c.tile_lanes-count.result ≤ c.args.self.lanes
 next c = omega (arith, c.tile_lanes-count.ensures.1, c.loop-first-test.true)
 
-symbols-in : (c : After-tile_lanes-count) → let v = c.args.self in v.width * v.code.header.k * c.tile_lanes-count.result ≤ length c.loop-first.tile
+symbols-in : (c : After-tile_lanes-count) → let v = c.args.self in v.width.bytes * v.code.header.k * c.tile_lanes-count.result ≤ length c.loop-first.tile
 symbols-in c = c.tile_lanes-count.ensures.2
 
 -- and their sums within the buffer
-sums-in : (c : After-tile_lanes-count) → let w = c.args.self.width in c.loop-first.first * w + c.tile_lanes-count.result * w ≤ length c.args.out.now
+sums-in : (c : After-tile_lanes-count) → let w = c.args.self.width.bytes in c.loop-first.first * w + c.tile_lanes-count.result * w ≤ length c.args.out.now
 sums-in c =
     let v = c.args.self in
-    rw (c.requires.1 ∙ mul_comm v.width v.lanes, ← add-mul c.loop-first.first c.tile_lanes-count.result v.width) (mul-le-mul (next c) (le_refl v.width))
+    rw (c.requires.1 ∙ mul_comm v.width.bytes v.lanes, ← add-mul c.loop-first.first c.tile_lanes-count.result v.width.bytes) (mul-le-mul (next c) (le_refl v.width.bytes))
 
 pub overflow_mul-rows : goal.overflow_mul-rows
 overflow_mul-rows c = omega (arith, c.requires.0)
@@ -38,8 +38,8 @@ loop-first-init c = (omega arith, refl, rw zero-mul (fills_start _ _))
 pub tile_lanes-count-requires : goal.tile_lanes-count-requires
 tile_lanes-count-requires c =
     let v = c.args.self in
-    let some : 1 ≤ v.width = rw v.listed.wide (width_some v.code.header) in
-    let unit : 1 ≤ v.width * v.code.header.k = mul-le-mul some v.code.sound.some in
+    let some : 1 ≤ v.width.bytes = rw v.listed.wide (width_some v.code.header) in
+    let unit : 1 ≤ v.width.bytes * v.code.header.k = mul-le-mul some v.code.sound.some in
     (omega arith, omega (arith, c.requires.0, c.loop-first.invariant.1), omega (arith, c.loop-first-test.true))
 
 pub overflow_mul-size : goal.overflow_mul-size
@@ -61,7 +61,7 @@ pub fill_tile-requires : goal.fill_tile-requires
 fill_tile-requires c =
     let now = c.loop-first in
     let count = c.tile_lanes-count.result in
-    let w = c.args.self.width in (
+    let w = c.args.self.width.bytes in (
       c.tile_lanes-count.ensures.0,
       next (goal.at.fill_tile-requires c).After-tile_lanes-count,
       length-take-le _ _ (symbols-in (goal.at.fill_tile-requires c).After-tile_lanes-count),
@@ -78,7 +78,7 @@ pub loop-first-preserved : goal.loop-first-preserved
 loop-first-preserved c =
     let v = c.args.self in
     let h = v.code.header in
-    let w = v.width in
+    let w = v.width.bytes in
     let now = c.loop-first in
     let count = c.tile_lanes-count.result in
     let inside = next (goal.at.loop-first-preserved c).After-tile_lanes-count in
@@ -94,7 +94,7 @@ loop-first-preserved c =
 pub returns : goal.returns
 returns c =
     let v = c.args.self in
-    let w = v.width in
+    let w = v.width.bytes in
     let long = length_sums v.code.header w v.lanes v.weights.now (symbols_of w v.shares.now) in
     let end : w * v.lanes ≤ c.loop-first.first * w = rw (mul_comm w v.lanes) (mul-le-mul c.loop-first-test.false (le_refl w)) in
     fills_whole _ (c.loop-first.first * w) c.loop-first.invariant.2 (omega (arith, long)) (omega (arith, c.requires.1))

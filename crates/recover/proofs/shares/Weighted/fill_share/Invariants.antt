@@ -9,8 +9,8 @@ use Rattle.recover.proofs.shares.Weighted.fill_share.Given as goal
 abbrev pub invariant-loop-first : goal.invariant-loop-first
 invariant-loop-first l =
     let v = l.self in
-    let whole = sum_bytes v.code.header v.width v.lanes v.weights.now v.shares.now in
-    (l.first ≤ v.lanes) × (length l.tile ≡ length l.initial.tile) × Fills l.initial.out l.out (l.first * v.width) (drop (l.first * v.width) whole) whole
+    let whole = sum_bytes v.code.header v.width.bytes v.lanes v.weights.now v.shares.now in
+    (l.first ≤ v.lanes) × (length l.tile ≡ length l.initial.tile) × Fills l.initial.out l.out (l.first * v.width.bytes) (drop (l.first * v.width.bytes) whole) whole
 
 abbrev pub decreases-loop-first : goal.decreases-loop-first
 decreases-loop-first l = l.self.lanes - l.first

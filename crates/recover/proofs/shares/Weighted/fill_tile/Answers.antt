@@ -14,10 +14,10 @@ use Rattle.row_sums.proofs.Columns.{rows_ready, combined_symbols}
 use Rattle.row_sums.proofs.FirstWeights.{weighted_front, bytes_front}
 use Rattle.recover.proofs.shares.Weighted.fill_tile.Goals as goal
 
-pub overflow_mul-self : goal.overflow_mul-self
-overflow_mul-self c =
+pub overflow_mul-rows : goal.overflow_mul-rows
+overflow_mul-rows c =
     let (some, fits, tile, out) = c.requires in
-    let unit = c.args.self.width * c.args.self.code.header.k in
+    let unit = c.args.self.width.bytes * c.args.self.code.header.k in
     let least : unit * 1 ≤ unit * c.args.count = mul-le-mul (le_refl unit) some in
     omega (arith, tile, mul-one unit)
 
@@ -29,7 +29,7 @@ combine_symbols-requires c =
     let v = c.args.self in
     let h = v.code.header in
     let (some, fits, tile, out) = c.requires in
-    let rows = lanes_tile h v.width h.k v.lanes c.args.first c.args.count v.shares.now v.listed v.bytes fits some in
+    let rows = lanes_tile h v.width.bytes h.k v.lanes c.args.first c.args.count v.shares.now v.listed v.bytes fits some in
     let sound = v.code.sound in
     rw c.gather_lanes.ensures
     (weighted_front (rows_ready sound (omega (arith, sound.byte, sound.fits)) rows.symbol_rows.few_lanes v.long v.symbols (rw (← v.listed.wide) rows.bytes) (rw (← v.listed.wide) rows.symbol_rows.symbols) (rw (← v.listed.wide) out)))
@@ -42,6 +42,6 @@ returns c =
     let (some, fits, tile, out) = c.requires in
     c.combine_symbols.ensures
     ∙ bytes_front h.k count v.weights.now _ (omega (arith, v.long, v.code.sound.byte, v.code.sound.fits)) (modulus_of h)
-    ∙ combined_symbols h v.width h.k count v.weights.now _ v.listed.wide
-    ∙ ap (λ (u : List ℕ). bytes_of v.width (combined row_after_row (modulus_of h) h.k count v.weights.now u))
-    (ap (tile_symbols v.width h.k count) c.gather_lanes.ensures ∙ lanes_symbols h v.width h.k v.lanes c.args.first count v.shares.now v.listed v.bytes fits)
+    ∙ combined_symbols h v.width.bytes h.k count v.weights.now _ v.listed.wide
+    ∙ ap (λ (u : List ℕ). bytes_of v.width.bytes (combined row_after_row (modulus_of h) h.k count v.weights.now u))
+    (ap (tile_symbols v.width.bytes h.k count) c.gather_lanes.ensures ∙ lanes_symbols h v.width.bytes h.k v.lanes c.args.first count v.shares.now v.listed v.bytes fits)

@@ -3,7 +3,7 @@ use Prim.Native.Nat.{◌*◌}
 use lib.ListN.{drop}
 use Rattle.lists.proofs.Fill.{Fills}
 use Rattle.layout.specs.Width.{bytes_of}
-use Rattle.symbols.proofs.write_symbols.Given as goal
+use Rattle.symbols.proofs.Width.write_symbols.Given as goal
 
 abbrev pub invariant-loop-i : goal.invariant-loop-i
-invariant-loop-i l = Fills l.initial.out l.out (l.i * l.w) (bytes_of l.w (drop l.i l.symbols)) (bytes_of l.w l.symbols)
+invariant-loop-i l = Fills l.initial.out l.out (l.i * l.self.bytes) (bytes_of l.self.bytes (drop l.i l.symbols)) (bytes_of l.self.bytes l.symbols)
