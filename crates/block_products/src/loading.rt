@@ -1,4 +1,4 @@
-// Lanes of a block as rows of bytes of a tile of 64 lanes. The width w is a number here too: see symbols/src/lib.rt.
+// Lanes of a block as rows of bytes of a tile of 64 lanes.
 // A part that is written is cut by its place: after `chunks_mut` a proof knows the length alone (docs/PROOF-NOTES.md).
 ghost use Rattle.std.specs.Prelude.{◌≡◌, ℕ, ◌+◌, ◌*◌, ◌/◌, ◌≤◌, ◌<◌, length, get_or};
 ghost use Rattle.lists.specs.Rows.{from};

@@ -45,7 +45,7 @@ fn turn(sums: &mut [u16])
 }
 
 // What the nodes hold, as bytes; `sums` is scratch with a place for each node. Two lists and where the sums go are handed on as they are, for
-// the reason at `window_sums`. The width w is a number here too: see symbols/src/lib.rt.
+// the reason at `window_sums`.
 fn write_nodes(
     field: Field,
     w: Width,
