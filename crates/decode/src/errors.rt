@@ -46,7 +46,6 @@ pub fn errors(sums: Polynomial, root: u32, nodes: &[u8]) -> [u16; 255]
 {
     let field = sums.field;
     let count = nodes.len();
-    let end = count + 1;
     let list = powers::points(field, root, nodes, 0);
     let points = Points {
         field,
@@ -55,7 +54,7 @@ pub fn errors(sums: Polynomial, root: u32, nodes: &[u8]) -> [u16; 255]
     let product = points.product();
     let polynomial = Polynomial {
         field,
-        coefficients: &product[1..end],
+        coefficients: &product[1..=count],
     };
     let dividend = Dividend {
         polynomial,

@@ -25,9 +25,9 @@ pub fn removed(field: Arithmetic, lane: &[u16], nodes: &[u8], errors: &[u16]) ->
 {
     let mut out = [0u16; 255];
     out[..lane.len()].copy_from_slice(lane);
-    for i in 0..nodes.len() {
-        let j = nodes[i] as usize;
-        out[j] = field.sub(out[j] as u32, errors[i] as u32) as u16;
+    for (&node, &error) in nodes.iter().zip(errors) {
+        let j = node as usize;
+        out[j] = field.sub(out[j] as u32, error as u32) as u16;
     }
     out
 }

@@ -87,18 +87,12 @@ pub fn correct_lane(rows: PowerRows, lane: &[u16]) -> Option<Corrected>
     let codec = Codec::new(rows.code, &tables);
     let word = candidate(codec, lane, sums);
     let altered = differing(lane, &word[..n]);
-    if t < altered {
-        return None;
-    }
     let nearest = Lane {
         rows,
         symbols: &word[..n],
     };
-    if nearest.is_word() {
-        return Some(Corrected {
-            lane: word,
-            altered,
-        });
-    }
-    None
+    (altered <= t && nearest.is_word()).then_some(Corrected {
+        lane: word,
+        altered,
+    })
 }

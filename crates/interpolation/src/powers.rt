@@ -13,8 +13,8 @@ pub fn points(field: Arithmetic, root: u32, places: &[u8], offset: u32) -> [u16;
     ensures { result ≡ padded 255 (points_of (modulus field.entry.field) root offset places.now) }
 {
     let mut out = [0u16; 255];
-    for i in 0..places.len() {
-        out[i] = field.power(root, places[i] as u32 + offset) as u16;
+    for (i, &place) in places.iter().enumerate() {
+        out[i] = field.power(root, place as u32 + offset) as u16;
     }
     out
 }
