@@ -13,6 +13,7 @@ mod fault;
 pub use fault::belongs_fault;
 
 // Tests a block over a code.
+#[tactic(auto, using(lists::proofs::Tests::tests, generator::proofs::Answered::tests, crate::proofs::Accepts::belongs_accepts, crate::proofs::Accepts::belongs_refuses), unfolding(generator::specs::Answers::answer_of, blocks::specs::Bytes::wrong_lane))]
 fn test_accepted(code: Code, lanes: usize, shares: &[u8]) -> Result<Option<u32>, Refusal>
     ensures { BelongsPromise share_layout lanes shares.now (numbered result) code.header (belongs_fault code.header lanes shares.now) }
 {

@@ -1,8 +1,6 @@
 -- `belongs_fault` meets its contract: the tests are those of the definition, in its order.
 use Rattle.std.proofs.Common.{sym, ◌∙◌}
-use Rattle.generator.proofs.Answered.{met, passed, last}
 use Rattle.refusals.proofs.NotMet.{length_good}
-use Rattle.belongs.specs.Promise.{belongs_fault}
 use Rattle.belongs.proofs.fault.belongs_fault.Goals as goal
 
 pub shares_bad-requires : goal.shares_bad-requires
