@@ -2,7 +2,6 @@
 // sum over root^j is taken away.
 ghost use Rattle.std.specs.Prelude.{◌≡◌, true, map, ◌*◌, ◌≤◌, ◌<◌, length};
 ghost use Rattle.lists.specs.Numbers.{all_below};
-ghost use Rattle.lists.specs.Padded.{padded};
 ghost use Rattle.layout.specs.Width.{bytes_of};
 ghost use Rattle.generator.specs.Records.{modulus_of, size, width};
 ghost use Rattle.mends.specs.Inner.BySums.{LaneSums, goes_up, up_nodes, mended_at};
@@ -11,6 +10,7 @@ ghost use Rattle.mends.specs.Promise.{in_front};
 use arrayvec::ArrayVec;
 use check_sums::powers::{self, RootPowers};
 use generator::{Code, Codec};
+use shifts::negative;
 
 // A lane that was received and is no word: the powers of the code's root, and the lane with its check sums.
 #[derive(Clone, Copy)]
@@ -57,23 +57,22 @@ impl Received<'_, '_> {
         ensures { result ≡ mended_at self.entry.powers.codec.code.header self.entry.lane.now self.entry.sums.now j }
     {
         let n = self.powers.codec.code.header.n as usize;
-        let back = (n - j) % n;
+        let back = negative(n, j);
         let over = self.powers.list[back] as u32;
         let amount = self.powers.codec.field.mul(self.sums[0] as u32, over);
         self.powers.codec.field.sub(self.lane[j] as u32, amount) as u16
     }
 
-    // The new symbols of the listed nodes, and zeros after them.
-    // An array with zeros after: it is as long as the list that it is made from, so no length stands beside it.
-    fn new_symbols(self, nodes: &[u8]) -> [u16; 255]
+    // The new symbols of the listed nodes.
+    fn new_symbols(self, nodes: &[u8]) -> ArrayVec<u16, 255>
         requires { (all_below self.powers.codec.code.header.n nodes.now ≡ true) × (length nodes.now ≤ 255) }
-        ensures { result ≡ padded 255 (map (mended_at self.entry.powers.codec.code.header self.entry.lane.now self.entry.sums.now) nodes.now) }
+        ensures { result.items ≡ map (mended_at self.entry.powers.codec.code.header self.entry.lane.now self.entry.sums.now) nodes.now }
     {
-        let mut out = [0u16; 255];
-        for i in 0..nodes.len() {
-            out[i] = self.mended(nodes[i] as usize);
+        let mut symbols = ArrayVec::new();
+        for &node in nodes {
+            symbols.push(self.mended(usize::from(node)));
         }
-        out
+        symbols
     }
 }
 
@@ -109,6 +108,6 @@ pub fn list<'a>(
     let count = up.len();
     nodes[..count].copy_from_slice(up);
     let new = received.new_symbols(up);
-    put_symbols(code, &new[..count], symbols);
+    put_symbols(code, new.as_slice(), symbols);
     count
 }

@@ -1,22 +1,14 @@
 // Powers of the root whose exponents are T(x) = 0 + 1 + .. + (x − 1).
-ghost use Rattle.std.specs.Prelude.{◌≡◌, true, ◌%◌, ◌≤◌, ◌<◌, length};
+ghost use Rattle.std.specs.Prelude.{◌≡◌, true, ◌%◌, ◌≤◌, length};
 ghost use Rattle.lists.specs.Rows.{from};
 ghost use Rattle.lists.specs.Numbers.{all_below};
 ghost use Rattle.lists.specs.Padded.{padded};
 ghost use Rattle.generator.specs.Records.{size};
-ghost use Rattle.generator.specs.Shifts.{negative as negative_of};
 ghost use Rattle.spectrum.specs.Inner.Spectrum.{triangle, chirp_at, unchirped};
 
 use crate::Transform;
 use check_sums::lane::stepped;
-
-// −i modulo n.
-fn negative(n: usize, i: usize) -> usize
-    requires { i < n }
-    ensures { (result ≡ negative_of n i) × (result < n) }
-{
-    if i == 0 { 0 } else { n - i }
-}
+use shifts::negative;
 
 // T(x) modulo n. `n: u8` would say n ≤ 255, and be cast at both uses, which take it beside places; 2 ≤ n would stay.
 pub fn exponents(n: usize) -> [u8; 510]
@@ -26,8 +18,8 @@ pub fn exponents(n: usize) -> [u8; 510]
     let mut out = [0u8; 510];
     let mut sum: usize = 0;
     let mut step: usize = 0;
-    for x in 0..510 {
-        out[x] = sum as u8;
+    for exponent in out.iter_mut() {
+        *exponent = sum as u8;
         sum = stepped(sum, step, n);
         step = stepped(step, 1, n);
     }
@@ -41,12 +33,7 @@ impl Transform<'_, '_> {
         ensures { result ≡ from (chirp_at self.entry.powers.codec.code.header) 0 510 }
     {
         let powers = self.powers.list;
-        let mut out = [0u16; 510];
-        for x in 0..510 {
-            let e = exponents[x] as usize;
-            out[x] = powers[e];
-        }
-        out
+        exponents.map(|e| powers[usize::from(e)])
     }
 
     // Each symbol over root^T(j), and zeros after them.
@@ -59,7 +46,11 @@ impl Transform<'_, '_> {
         let mut out = [0u16; 255];
         for j in 0..symbols.len() {
             let e = negative(n, exponents[j] as usize);
-            out[j] = self.powers.codec.field.mul(symbols[j] as u32, powers[e] as u32) as u16;
+            out[j] = self
+                .powers
+                .codec
+                .field
+                .mul(symbols[j] as u32, powers[e] as u32) as u16;
         }
         out
     }

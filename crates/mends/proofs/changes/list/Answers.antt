@@ -3,9 +3,8 @@ use mathlib.Core.Path.{◌≡◌, sym, ap, ◌∙◌}
 use mathlib.Core.List.{List, map}
 use Prim.Native.Nat.{ℕ, ◌≤◌}
 use native.Mathlib.Omega.{arith}
-use lib.ListN.{length, take, length-map}
+use lib.ListN.{length, length-map}
 use lib.Seq.{length-take-le}
-use Rattle.lists.proofs.Padding.{take_padded}
 use Rattle.layout.specs.Width.{bytes_of}
 use Rattle.generator.specs.Records.{width}
 use Rattle.mends.specs.Inner.BySums.{up_nodes, mended_at}
@@ -13,7 +12,7 @@ use Rattle.mends.specs.Promise.{in_front}
 use Rattle.mends.proofs.BySums.{up_few, up_below}
 use Rattle.mends.proofs.Front.{new_below}
 use Rattle.mends.proofs.changes.list.Goals as goal
-use Rattle.mends.proofs.changes.list.Goals.{After-as_slice-up, After-new_symbols-new}
+use Rattle.mends.proofs.changes.list.Goals.{After-as_slice, After-as_slice-up}
 
 -- the listed nodes, and how many they are
 up-is : (c : After-as_slice-up) → c.as_slice-up.result.now ≡ up_nodes c.args.code.header c.args.sums.now
@@ -39,32 +38,23 @@ new_symbols-new-requires c =
     let is = up-is (goal.at.new_symbols-new-requires c).After-as_slice-up in
     (rw (c.new-codec.ensures, is) (up_below _ _), omega (arith, few (goal.at.new_symbols-new-requires c).After-as_slice-up, c.args.code.sound.byte))
 
--- the part of the new symbols that is written
-new-part : (c : After-new_symbols-new)
+-- the new symbols
+new-is : (c : After-as_slice)
     → let a = c.args in
-    take (length c.as_slice-up.result.now) c.new_symbols-new.result ≡ map (mended_at a.code.header a.lane.now a.sums.now) (up_nodes a.code.header a.sums.now)
-new-part c =
-    let a = c.args in
-    rw (c.new_symbols-new.ensures, c.new-codec.ensures, up-is (goal.at.After-new_symbols-new c).After-as_slice-up)
-    (take_padded 255 _ _ (length-map (up_nodes a.code.header a.sums.now) (mended_at a.code.header a.lane.now a.sums.now)))
-
-pub slice_bounds-put_symbols-end : goal.slice_bounds-put_symbols-end
-slice_bounds-put_symbols-end c =
-    let a = c.args in
-    rw (new-part (goal.at.slice_bounds-put_symbols-end c).After-new_symbols-new)
-    (ap length (up-is (goal.at.slice_bounds-put_symbols-end c).After-as_slice-up) ∙ sym (length-map (up_nodes a.code.header a.sums.now) (mended_at a.code.header a.lane.now a.sums.now)))
+    c.as_slice.result.now ≡ map (mended_at a.code.header a.lane.now a.sums.now) (up_nodes a.code.header a.sums.now)
+new-is c = c.as_slice.ensures.value ∙ rw (c.new-codec.ensures, up-is (goal.at.After-as_slice c).After-as_slice-up) at c.new_symbols-new.ensures
 
 pub put_symbols-requires : goal.put_symbols-requires
 put_symbols-requires c =
     let a = c.args in
     let (has, nodes, symbols) = c.requires in
     let many = length-map (up_nodes a.code.header a.sums.now) (mended_at a.code.header a.lane.now a.sums.now) in
-    rw (new-part (goal.at.put_symbols-requires c).After-new_symbols-new) (new_below _ a.code.sound _ _ has _ (up_below _ _), omega (arith, many, up_few a.code.header a.sums.now), symbols)
+    rw (new-is (goal.at.put_symbols-requires c).After-as_slice) (new_below _ a.code.sound _ _ has _ (up_below _ _), omega (arith, many, up_few a.code.header a.sums.now), symbols)
 
 pub returns : goal.returns
 unfolding in_front
 returns c =
     let a = c.args in
     let is = up-is (goal.at.returns c).After-as_slice-up in
-    let symbols = ap (λ (l : List ℕ). in_front (bytes_of (width a.code.header) l) a.symbols.now) (new-part (goal.at.returns c).After-new_symbols-new) in
+    let symbols = ap (λ (l : List ℕ). in_front (bytes_of (width a.code.header) l) a.symbols.now) (new-is (goal.at.returns c).After-as_slice) in
     (ap length is, rw (c.copy_from_slice.ensures.after, is), c.put_symbols.ensures ∙ symbols)

@@ -5,5 +5,6 @@ use Rattle.lists.proofs.Fill.{Filled}
 use Rattle.spectrum.specs.Inner.Spectrum.{triangle}
 use Rattle.spectrum.proofs.chirps.exponents.Given as goal
 
-abbrev pub invariant-loop-x : goal.invariant-loop-x
-invariant-loop-x l = Filled 510 510 (λ x. triangle x % l.n) l.x l.out × (l.sum ≡ triangle l.x % l.n) × (l.step ≡ l.x % l.n)
+abbrev pub invariant-loop-exponent : goal.invariant-loop-exponent
+invariant-loop-exponent l =
+    let x = l.exponent-index in Filled 510 510 (λ x. triangle x % l.n) x l.exponent-items × (l.sum ≡ triangle x % l.n) × (l.step ≡ x % l.n)

@@ -1,33 +1,29 @@
 -- `mended` meets its contract: the power at place (n − j) modulo n is 1 over root^j.
 use mathlib.Core.Path.{◌≡◌, ap, ◌∙◌}
-use Prim.Native.Nat.{ℕ, ◌-◌, ◌%◌, ◌<◌}
-use native.Mathlib.Nat.{mod-lt}
+use Prim.Native.Nat.{◌-◌, ◌%◌, ◌<◌}
 use native.Mathlib.Omega.{arith}
 use lib.ListN.{get_or}
 use Rattle.lists.proofs.Numbers.{below_at}
 use Rattle.field.specs.Fields.{sub, mul, power}
 use Rattle.field.proofs.Bounds.{power_below}
 use Rattle.generator.specs.Records.{modulus_of, size}
+use Rattle.generator.specs.Shifts.{negative}
 use Rattle.check_sums.proofs.Sums.{power_place, power_at}
 use Rattle.mends.specs.Inner.BySums.{mended_at}
 use Rattle.mends.proofs.changes.Received.mended.Goals as goal
-use Rattle.mends.proofs.changes.Received.mended.Goals.{Start}
-
--- the place is one of the table
-inside : (n j : ℕ) → j < n → (n - j) % n < n
-inside n j node = mod-lt (n - j) (omega arith)
+use Rattle.mends.proofs.changes.Received.mended.Goals.{After-negative-back, Start}
 
 -- what is read there
-read : (c : Start)
+read : (c : After-negative-back)
     → let a = c.args in
-    get_or a.self.powers.list.now ((a.self.powers.codec.code.header.n - a.j) % a.self.powers.codec.code.header.n) 0 ≡ power (modulus_of a.self.powers.codec.code.header) a.self.powers.codec.code.header.root ((a.self.powers.codec.code.header.n - a.j) % a.self.powers.codec.code.header.n)
+    get_or a.self.powers.list.now c.negative-back.result 0 ≡ power (modulus_of a.self.powers.codec.code.header) a.self.powers.codec.code.header.root ((a.self.powers.codec.code.header.n - a.j) % a.self.powers.codec.code.header.n)
+unfolding negative
 read c =
-    rw c.args.self.powers.are (power_at _ _ (inside _ _ c.requires))
+    let (is, low) = c.negative-back.ensures in
+    rw (c.args.self.powers.are, power_at c.args.self.powers.codec.code.header _ low, is)
 
 -- and the first check sum are symbols
-read_below : (c : Start)
-    → let a = c.args in
-    get_or a.self.powers.list.now ((a.self.powers.codec.code.header.n - a.j) % a.self.powers.codec.code.header.n) 0 < size a.self.powers.codec.code.header
+read_below : (c : After-negative-back) → let a = c.args in get_or a.self.powers.list.now c.negative-back.result 0 < size a.self.powers.codec.code.header
 read_below c =
     let s = c.args.self.powers.codec.code.sound in
     rw (read c) (power_below _ s.field _ s.root_below)
@@ -46,16 +42,16 @@ pub bounds-self-0 : goal.bounds-self-0
 bounds-self-0 c = c.args.self.summed.has.some
 
 pub offset_bounds-self-back : goal.offset_bounds-self-back
-offset_bounds-self-back c = omega (arith, inside _ _ c.requires)
+offset_bounds-self-back c = omega (arith, c.negative-back.ensures.1)
 
 pub bounds-self-back : goal.bounds-self-back
 bounds-self-back c =
-    rw c.args.self.powers.are (power_place _ _ (inside _ _ c.requires))
+    rw c.args.self.powers.are (power_place _ _ c.negative-back.ensures.1)
 
 pub mul-amount-requires : goal.mul-amount-requires
 mul-amount-requires c =
-    let start = (goal.at.mul-amount-requires c).Start in
-    rw c.args.self.powers.codec.same (sum_below start, read_below start)
+    let at = goal.at.mul-amount-requires c in
+    rw c.args.self.powers.codec.same (sum_below at.Start, read_below at.After-negative-back)
 
 pub bounds-self-j : goal.bounds-self-j
 bounds-self-j c =
@@ -74,4 +70,4 @@ returns c =
     let a = c.args in
     c.sub.ensures.is
     ∙ rw c.args.self.powers.codec.same
-    (ap (sub (modulus_of a.self.powers.codec.code.header) (get_or a.self.lane.now a.j 0)) (c.mul-amount.ensures.is ∙ rw c.args.self.powers.codec.same (ap (mul (modulus_of a.self.powers.codec.code.header) (get_or a.self.sums.now 0 0)) (read (goal.at.returns c).Start))))
+    (ap (sub (modulus_of a.self.powers.codec.code.header) (get_or a.self.lane.now a.j 0)) (c.mul-amount.ensures.is ∙ rw c.args.self.powers.codec.same (ap (mul (modulus_of a.self.powers.codec.code.header) (get_or a.self.sums.now 0 0)) (read (goal.at.returns c).After-negative-back))))

@@ -1,37 +1,28 @@
--- `new_symbols` meets its contract. Invariant: the symbols of the nodes below place i are written.
-use mathlib.Core.Path.{ap, ◌∙◌, sym}
+-- `new_symbols` meets its contract. Invariant: the symbols that are listed, with those of the nodes to come, are all.
+use mathlib.Core.Path.{refl, sym, ◌∙◌}
+use mathlib.Core.List.{append-nil, append_assoc}
 use native.Mathlib.Omega.{arith}
-use Rattle.lists.specs.Padded.{zeros, padded}
-use Rattle.lists.proofs.Fill.{filled_start, filled_put, filled_end}
+use lib.ListN.{drop_of_length-le}
+use Rattle.lists.proofs.Front.{drop_next}
 use Rattle.lists.proofs.Numbers.{below_at}
-use Rattle.lists.proofs.Places.{map_from}
-use Rattle.mends.specs.Inner.BySums.{mended_at}
 use Rattle.mends.proofs.changes.Received.new_symbols.Goals as goal
 
-pub loop-i-init : goal.loop-i-init
-unfolding zeros
-loop-i-init c = let (nodes, few) = c.requires in filled_start 255 _ _ few
-
-pub overflow_cast-nodes : goal.overflow_cast-nodes
-overflow_cast-nodes c = omega (arith, c.type_inv.nodes c.loop-i.i)
+pub loop-node-init : goal.loop-node-init
+loop-node-init c = rw c.new-symbols.ensures record { long = refl; listed = refl }
 
 pub mended-requires : goal.mended-requires
-mended-requires c =
-    let (nodes, few) = c.requires in
-    below_at _ _ nodes _ c.loop-i-test.true
+mended-requires c = rw c.from.ensures (below_at _ _ c.requires.0 _ c.loop-node-test.true)
 
-pub offset_bounds-out-i : goal.offset_bounds-out-i
-offset_bounds-out-i c =
-    let (nodes, few) = c.requires in omega arith
-
-pub bounds-out-i : goal.bounds-out-i
-bounds-out-i c =
-    let (nodes, few) = c.requires in omega arith
-
-pub loop-i-preserved : goal.loop-i-preserved
-loop-i-preserved c = filled_put c.loop-i.invariant c.loop-i-test.true c.mended.ensures
+pub loop-node-preserved : goal.loop-node-preserved
+loop-node-preserved c =
+    let l = c.loop-node in
+    let next = drop_next c.args.nodes.now l.node-index 0 c.loop-node-test.true in
+    record {
+      long = omega (arith, l.invariant.long, c.push.ensures.len);
+      listed = rw (c.push.ensures.items, append_assoc, c.mended.ensures, c.from.ensures) (rw next at l.invariant.listed);
+    }
 
 pub returns : goal.returns
 returns c =
-    let a = c.args in
-    filled_end c.loop-i.invariant c.loop-i-test.false ∙ ap (padded 255) (sym (map_from (mended_at a.self.powers.codec.code.header a.self.lane.now a.self.sums.now) a.nodes.now))
+    let l = c.loop-node in
+    sym (append-nil l.symbols.items) ∙ rw (drop_of_length-le c.args.nodes.now {i = l.node-index} c.loop-node-test.false) at l.invariant.listed

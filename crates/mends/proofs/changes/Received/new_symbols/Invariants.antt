@@ -1,8 +1,14 @@
--- `new_symbols` meets its contract. Invariant: the symbols of the nodes below place i are written.
-use lib.ListN.{length, get_or}
-use Rattle.lists.proofs.Fill.{Filled}
+-- `new_symbols` meets its contract. Invariant: the symbols that are listed, with those of the nodes to come, are all.
+use mathlib.Core.Path.{◌≡◌}
+use mathlib.Core.List.{◌++◌, map}
+use lib.ListN.{length, drop}
 use Rattle.mends.specs.Inner.BySums.{mended_at}
 use Rattle.mends.proofs.changes.Received.new_symbols.Given as goal
 
-abbrev pub invariant-loop-i : goal.invariant-loop-i
-invariant-loop-i l = Filled 255 (length l.nodes) (λ t. mended_at l.self.powers.codec.code.header l.self.lane.now l.self.sums.now (get_or l.nodes t 0)) l.i l.out
+abbrev pub invariant-loop-node : goal.invariant-loop-node
+invariant-loop-node l =
+    let mended = mended_at l.self.powers.codec.code.header l.self.lane.now l.self.sums.now in
+    record {
+      long : length l.symbols.items ≡ l.node-index;
+      listed : l.symbols.items ++ map mended (drop l.node-index l.nodes) ≡ map mended l.nodes;
+    }
