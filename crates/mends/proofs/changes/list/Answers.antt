@@ -48,12 +48,6 @@ new-part c =
     rw (c.new_symbols-new.ensures, c.new-codec.ensures, up-is (goal.at.After-new_symbols-new c).After-as_slice-up)
     (take_padded 255 _ _ (length-map (up_nodes a.code.header a.sums.now) (mended_at a.code.header a.lane.now a.sums.now)))
 
-pub slice_bounds-put_symbols-end : goal.slice_bounds-put_symbols-end
-slice_bounds-put_symbols-end c =
-    let a = c.args in
-    rw (new-part (goal.at.slice_bounds-put_symbols-end c).After-new_symbols-new)
-    (ap length (up-is (goal.at.slice_bounds-put_symbols-end c).After-as_slice-up) ∙ sym (length-map (up_nodes a.code.header a.sums.now) (mended_at a.code.header a.lane.now a.sums.now)))
-
 pub put_symbols-requires : goal.put_symbols-requires
 put_symbols-requires c =
     let a = c.args in

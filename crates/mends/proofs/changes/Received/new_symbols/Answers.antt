@@ -1,6 +1,5 @@
 -- `new_symbols` meets its contract. Invariant: the symbols of the nodes below place i are written.
 use mathlib.Core.Path.{ap, ◌∙◌, sym}
-use native.Mathlib.Omega.{arith}
 use Rattle.lists.specs.Padded.{zeros, padded}
 use Rattle.lists.proofs.Fill.{filled_start, filled_put, filled_end}
 use Rattle.lists.proofs.Numbers.{below_at}
@@ -12,21 +11,10 @@ pub loop-i-init : goal.loop-i-init
 unfolding zeros
 loop-i-init c = let (nodes, few) = c.requires in filled_start 255 _ _ few
 
-pub overflow_cast-nodes : goal.overflow_cast-nodes
-overflow_cast-nodes c = omega (arith, c.type_inv.nodes c.loop-i.i)
-
 pub mended-requires : goal.mended-requires
 mended-requires c =
     let (nodes, few) = c.requires in
     below_at _ _ nodes _ c.loop-i-test.true
-
-pub offset_bounds-out-i : goal.offset_bounds-out-i
-offset_bounds-out-i c =
-    let (nodes, few) = c.requires in omega arith
-
-pub bounds-out-i : goal.bounds-out-i
-bounds-out-i c =
-    let (nodes, few) = c.requires in omega arith
 
 pub loop-i-preserved : goal.loop-i-preserved
 loop-i-preserved c = filled_put c.loop-i.invariant c.loop-i-test.true c.mended.ensures
