@@ -1,7 +1,7 @@
 -- `list_mends` meets its contract: a word has no entry, and the list of another lane comes from its check sums.
 use mathlib.Core.Path.{◌≡◌, sym, ap, ◌∙◌}
 use Prim.Native.Nat.{◌-◌}
-use lib.ListN.{length, take}
+use lib.ListN.{take}
 use Rattle.lists.specs.Numbers.{all_below}
 use Rattle.lists.proofs.Padding.{take_padded}
 use Rattle.generator.specs.Codewords.{is_word}
@@ -18,24 +18,12 @@ part : (c : After-sums-sums)
     take (a.code.header.n - a.code.header.k) c.sums-sums.result ≡ check_sums a.code.header a.lane.now
 part c = rw (c.sums-sums.ensures, c.new-rows.ensures) (take_padded 255 _ _ (length_sums _ _))
 
-length_part : (c : After-sums-sums) → let a = c.args in length (take (a.code.header.n - a.code.header.k) c.sums-sums.result) ≡ a.code.header.n - a.code.header.k
-length_part c = ap length (part c) ∙ length_sums _ _
-
 -- they tell a word
 tested : (c : After-all_zero) → let a = c.args in c.all_zero.result ≡ is_word a.code.header a.lane.now
 tested c = c.all_zero.ensures ∙ ap (all_below 1) (part (goal.at.After-all_zero c).After-sums-sums) ∙ word_sums _ _
 
-pub invariant_of-sums : goal.invariant_of-sums
-invariant_of-sums c = let (lane, nodes, symbols) = c.requires in rw c.new-rows.ensures record { long = lane.long; below = lane.symbols }
-
-pub slice_bounds-all_zero-end : goal.slice_bounds-all_zero-end
-slice_bounds-all_zero-end c = sym (length_part (goal.at.slice_bounds-all_zero-end c).After-sums-sums)
-
 pub returns-then-all_zero : goal.returns-then-all_zero
 returns-then-all_zero c = word_lists _ _ (sym (tested (goal.at.returns-then-all_zero c).After-all_zero) ∙ c.if-all_zero.true) _ _
-
-pub slice_bounds-list-end : goal.slice_bounds-list-end
-slice_bounds-list-end c = sym (length_part (goal.at.slice_bounds-list-end c).After-sums-sums)
 
 pub list-requires : goal.list-requires
 list-requires c =

@@ -1,6 +1,6 @@
 -- `mends_accepted` meets its contract: the lane is read and the list made only where no number is met.
 use Rattle.std.specs.Prelude.{Ok}
-use mathlib.Core.Path.{◌≡◌, sym, ap}
+use mathlib.Core.Path.{◌≡◌, ap}
 use Prim.Native.Nat.{◌≤◌}
 use native.Mathlib.Omega.{arith}
 use lib.ListN.{length, take}
@@ -33,9 +33,6 @@ pub read_symbols-ws-requires : goal.read_symbols-ws-requires
 read_symbols-ws-requires c =
     let few : c.args.code.header.n ≤ 255 = omega arith in
     few_bytes _ _ _ few (rw c.width_of-w.ensures (given (goal.at.read_symbols-ws-requires c).In_ok-mends_fault).lane_long)
-
-pub slice_bounds-list_mends-end : goal.slice_bounds-list_mends-end
-slice_bounds-list_mends-end c = rw (part (goal.at.slice_bounds-list_mends-end c).After-read_symbols-ws) (sym (given (goal.at.slice_bounds-list_mends-end c).In_ok-mends_fault).lane_is.long)
 
 pub list_mends-count-requires : goal.list_mends-count-requires
 list_mends-count-requires c =

@@ -1,8 +1,7 @@
 -- `put_symbols` meets its contract: the new symbols as bytes, at the front of the buffer.
-use mathlib.Core.Path.{refl, sym}
+use mathlib.Core.Path.{refl}
 use Prim.Native.Nat.{◌*◌, ◌≤◌}
-use native.Mathlib.Nat.{mul-le-mul, mul-le-mul_right}
-use native.Mathlib.Omega.{arith}
+use native.Mathlib.Nat.{mul-le-mul_right}
 use lib.ListN.{length}
 use lib.Seq.{length-take-le}
 use Rattle.generator.specs.Records.{width}
@@ -16,21 +15,6 @@ room : (c : After-width_of-w) → let a = c.args in length a.new.now * c.width_o
 room c =
     let (low, few, long) = c.requires in
     rw (c.width_of-w.ensures, long) (mul-le-mul_right _ few)
-
-pub width_of-w-requires : goal.width_of-w-requires
-width_of-w-requires c = c.args.code.sound.usable_field
-
-pub overflow_mul-end : goal.overflow_mul-end
-overflow_mul-end c =
-    let (low, few, long) = c.requires in
-    let most : length c.args.new.now ≤ 255 = omega (arith, few, c.args.code.sound.byte) in
-    omega (arith, mul-le-mul most c.width_of-w.result.most)
-
-pub slice_bounds-write_symbols-end : goal.slice_bounds-write_symbols-end
-slice_bounds-write_symbols-end c = room (goal.at.slice_bounds-write_symbols-end c).After-width_of-w
-
-pub slice_bounds-write_symbols-end-2 : goal.slice_bounds-write_symbols-end-2
-slice_bounds-write_symbols-end-2 c = sym (length-take-le _ _ (room (goal.at.slice_bounds-write_symbols-end-2 c).After-width_of-w))
 
 pub write_symbols-requires : goal.write_symbols-requires
 write_symbols-requires c =

@@ -2,7 +2,7 @@
 use mathlib.Core.Path.{◌≡◌, refl, ap, ◌∙◌}
 use mathlib.Core.Bool.{Bool, true, false, not}
 use mir.Val.{bool_byte}
-use native.Mathlib.Nat.{mul-one, mul-le-mul, le_refl}
+use native.Mathlib.Nat.{mul-one}
 use native.Mathlib.Omega.{arith}
 use lib.ListN.{length, take, set, length-set}
 use lib.Seq.{get_or-set_same}
@@ -29,13 +29,6 @@ long c =
 -- they are what is lent
 taken : (c : After-read_symbols-values) → let h = c.args.self.code.header in take h.n c.read_symbols-values.result ≡ symbols_of (width h) c.args.self.shares.now
 taken c = rw (c.read_symbols-values.ensures, c.width_of.ensures) (take_padded 255 _ _ (long (goal.at.After-read_symbols-values c).Start))
-
-pub read_symbols-values-requires : goal.read_symbols-values-requires
-read_symbols-values-requires c =
-    let h = c.args.self.code.header in
-    let wide = c.width_of.ensures in
-    let few = mul-le-mul c.args.self.code.sound.byte (le_refl (width h)) in
-    rw wide (omega (arith, rw c.requires.0 at c.args.self.symbols.bytes, mul-one h.n, few))
 
 pub invariant_of-lane : goal.invariant_of-lane
 invariant_of-lane c = rw (c.new-rows.ensures, taken (goal.at.invariant_of-lane c).After-read_symbols-values) record { long = long (goal.at.invariant_of-lane c).Start; below = c.args.self.symbols.symbol_rows.symbols }

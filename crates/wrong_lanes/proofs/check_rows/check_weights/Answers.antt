@@ -65,9 +65,6 @@ sub-requires c =
     let v = c.args.powers.codec.code.sound.field in
     rw c.args.powers.codec.same (zero_below (arithmetic (modulus_of h) v), one_below (modulus_of h) v)
 
-pub bounds-weights-at : goal.bounds-weights-at
-bounds-weights-at c = omega (arith, node (goal.at.bounds-weights-at c).Start, c.args.powers.codec.code.sound.byte)
-
 pub returns : goal.returns
 returns c =
     rw (c.sub.ensures.is, c.values-weights.ensures, c.args.powers.codec.same, points_are (goal.at.returns c).Start, power-is (goal.at.returns c).Start)

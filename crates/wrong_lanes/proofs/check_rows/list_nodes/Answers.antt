@@ -1,5 +1,5 @@
 -- `list_nodes` meets its contract. The loop's invariant: the checks below e have their lists.
-use mathlib.Core.Path.{◌≡◌, refl, sym, ◌∙◌}
+use mathlib.Core.Path.{◌≡◌, refl}
 use Prim.Native.Nat.{◌-◌, ◌*◌}
 use native.Mathlib.Omega.{arith}
 use lib.ListN.{take}
@@ -9,7 +9,7 @@ use Rattle.lists.proofs.Places.{length_range}
 use Rattle.lists.proofs.Rows.{row_inside}
 use Rattle.generator.specs.Records.{modulus_of}
 use Rattle.interpolation.specs.Inner.Lagrange.{scales_of}
-use Rattle.interpolation.proofs.Points.{length_points, points_symbols}
+use Rattle.interpolation.proofs.Points.{points_symbols}
 use Rattle.tile_products.specs.Inner.Products.{groups_of}
 use Rattle.tile_products.proofs.Beginning.{begun_none}
 use Rattle.wrong_lanes.specs.Inner.Checks.{first_points, check_row}
@@ -20,11 +20,6 @@ use Rattle.wrong_lanes.proofs.check_rows.list_nodes.Goals.{After-check_weights-w
 -- the points as they are lent
 points_are : (c : After-powers-roots) → let h = c.args.code.header in take h.k c.powers-roots.result ≡ first_points h
 points_are c = rw (c.powers-roots.ensures, c.new-codec.ensures) (first_points_lem c.args.code.header c.args.code.sound)
-
-pub slice_bounds-points-end : goal.slice_bounds-points-end
-slice_bounds-points-end c =
-    let h = c.args.code.header in
-    rw (points_are (goal.at.slice_bounds-points-end c).After-powers-roots) (sym (length_points (modulus_of h) h.root 0 (range 0 h.k) ∙ length_range 0 h.k))
 
 pub invariant_of-points : goal.invariant_of-points
 invariant_of-points c =
@@ -39,9 +34,6 @@ loop-e-init c = (refl, refl, begun_none _ _ _ _ _ (λ i. length_check_row c.args
 -- the scales as they are lent
 scales-are : (c : In-loop-e) → let h = c.args.code.header in take h.k c.scales-scales.result ≡ scales_of (modulus_of h) (first_points h)
 scales-are c = rw (c.scales-scales.ensures, c.new-codec.result.same, c.new-codec.ensures, points_are (goal.at.In-loop-e c).After-powers-roots) (take_padded 255 _ _ (length_scales c.args.code.header))
-
-pub slice_bounds-check_weights-end : goal.slice_bounds-check_weights-end
-slice_bounds-check_weights-end c = rw (scales-are (goal.at.slice_bounds-check_weights-end c).In-loop-e) (sym (length_scales c.args.code.header))
 
 pub check_weights-weights-requires : goal.check_weights-weights-requires
 check_weights-weights-requires c =

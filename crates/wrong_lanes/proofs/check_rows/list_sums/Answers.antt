@@ -16,10 +16,6 @@ pub loop-e-init : goal.loop-e-init
 loop-e-init c =
     let h = c.args.code.header in (refl, refl, begun_none _ _ _ _ _ (λ i. length_factors h (i + 1)))
 
-pub factors-weights-requires : goal.factors-weights-requires
-factors-weights-requires c =
-    let s = c.args.code.sound in omega (arith, s.byte, c.loop-e-test.true)
-
 -- the weights as they are lent
 taken : (c : After-factors-weights) → let h = c.args.code.header in take h.n c.factors-weights.result ≡ factors_of h (c.loop-e.e + 1)
 taken c = rw (c.factors-weights.ensures, c.new-codec.ensures) (take_padded 255 _ _ (length_factors _ _))

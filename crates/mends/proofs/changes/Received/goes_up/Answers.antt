@@ -11,9 +11,6 @@ use Rattle.lists.proofs.Search.{search_next, search_found, search_end}
 use Rattle.mends.specs.Inner.BySums.{first_off, goes_up}
 use Rattle.mends.proofs.changes.Received.goes_up.Goals as goal
 
-pub overflow_sub-last : goal.overflow_sub-last
-overflow_sub-last c = omega (arith, c.args.self.summed.has.some)
-
 pub loop-e-init : goal.loop-e-init
 unfolding first_off
 loop-e-init c = rw sub-zero

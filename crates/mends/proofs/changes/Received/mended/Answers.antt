@@ -38,9 +38,6 @@ held_below c =
     let lane = c.args.self.summed.lane in
     below_at _ _ lane.symbols _ (omega (arith, lane.long))
 
-pub bounds-self-0 : goal.bounds-self-0
-bounds-self-0 c = c.args.self.summed.has.some
-
 pub offset_bounds-self-back : goal.offset_bounds-self-back
 offset_bounds-self-back c = omega (arith, c.negative-back.ensures.1)
 
@@ -53,16 +50,9 @@ mul-amount-requires c =
     let at = goal.at.mul-amount-requires c in
     rw c.args.self.powers.codec.same (sum_below at.Start, read_below at.After-negative-back)
 
-pub bounds-self-j : goal.bounds-self-j
-bounds-self-j c =
-    omega (arith, c.args.self.summed.lane.long)
-
 pub sub-requires : goal.sub-requires
 sub-requires c =
     (rw c.args.self.powers.codec.same (held_below (goal.at.sub-requires c).Start), c.mul-amount.ensures.symbol)
-
-pub overflow_cast-result : goal.overflow_cast-result
-overflow_cast-result c = omega (arith, c.sub.ensures.symbol, c.args.self.powers.codec.field.small)
 
 pub returns : goal.returns
 unfolding mended_at
