@@ -8,7 +8,7 @@ use crate::{Listing, Roster};
 use generator::{Code, Refusal};
 
 // The job over an accepted record: the nodes from place job·k on, the job number taken modulo the number of present nodes.
-#[tactic(auto, using(lists::proofs::Tests::tests, generator::proofs::Answered::tests), unfolding(crate::specs::Rosters::lowest_of, crate::specs::Rosters::job_of, crate::specs::Rosters::job_list, crate::specs::Rosters::listing, crate::specs::Rosters::listing_of, crate::specs::Rosters::listed, crate::specs::Rosters::after, crate::specs::Rosters::moved_on, crate::specs::Rosters::job_nodes, crate::specs::Rosters::nodes_at))]
+#[tactic(auto, using(lists::proofs::Tests::tests, generator::proofs::Answered::tests), unfolding(crate::specs::Rosters::lowest_of, crate::specs::Rosters::job_of, crate::specs::Rosters::job_list, crate::specs::Rosters::listing, generator::specs::Answers::answer_of, crate::specs::Rosters::listed, crate::specs::Rosters::after, crate::specs::Rosters::moved_on, crate::specs::Rosters::job_nodes, crate::specs::Rosters::nodes_at))]
 pub fn write_job(roster: &mut Roster, code: Code, list: &mut [u8]) -> Result<Listing, Refusal>
     ensures answer { numbered result ≡ (job_of (Ok code.header) roster.old list.old).listing }
     ensures roster { roster.new ≡ (job_of (Ok code.header) roster.old list.old).roster }

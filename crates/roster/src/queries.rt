@@ -8,7 +8,7 @@ use crate::{Listing, Roster};
 use generator::{Code, Refusal};
 
 // The query over an accepted record.
-#[tactic(auto, using(lists::proofs::Tests::tests, generator::proofs::Answered::tests), unfolding(crate::specs::Rosters::lowest_of, crate::specs::Rosters::lowest_list, crate::specs::Rosters::listing, crate::specs::Rosters::listing_of, crate::specs::Rosters::listed, crate::specs::Rosters::lowest_nodes))]
+#[tactic(auto, using(lists::proofs::Tests::tests, generator::proofs::Answered::tests), unfolding(crate::specs::Rosters::lowest_of, crate::specs::Rosters::lowest_list, crate::specs::Rosters::listing, generator::specs::Answers::answer_of, crate::specs::Rosters::listed, crate::specs::Rosters::lowest_nodes))]
 pub fn write_lowest(roster: &Roster, code: Code, list: &mut [u8]) -> Result<Listing, Refusal>
     ensures answer { numbered result ≡ lowest_of (Ok code.header) roster.now list.old }
     ensures list { list.new ≡ lowest_list (Ok code.header) roster.now list.old }
