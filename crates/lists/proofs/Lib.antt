@@ -8,6 +8,7 @@ pub mod Rows  -- `from` and `rows_from`: length, elements, steps; parts of a buf
 pub mod Lanes  -- rows of one length end to end: length, and place t of row j
 pub mod Images  -- a list and its images by `from`
 pub mod Fill  -- a loop that fills a list, by elements or parts; zeros
+pub mod Made  -- an array that calls of a closure make
 pub mod Parts  -- a loop that fills a list of values by parts
 pub mod Padding  -- lists padded with zeros
 -- Numbers of a stretch

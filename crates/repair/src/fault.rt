@@ -11,60 +11,63 @@ use generator::Refusal;
 use refusals::{buffer_bad, lanes_bad, length_bad, nodes_bad, number_bad, twice_bad};
 use repair_tables::Bits;
 
-// A target and the nodes that are missing beside it.
-#[tactic(auto, using(generator::proofs::Answered::giving_tests), unfolding(crate::specs::Promise::target_fault))]
-fn judge_target(repair: Repair) -> Result<Bits, Refusal>
-    ensures { let h = repair.entry.code.header in let missing = repair.entry.missing.now in numbered_by bit_count result ≡ answer_of (target_fault h repair.entry.target missing) (bits h (length missing)) }
-{
-    let h = repair.code.header;
-    Refusal::Range.when(number_bad(h.n as usize, repair.target as usize))?;
-    Refusal::Range.when(nodes_bad(h, repair.missing))?;
-    Refusal::Range.when(repair_tables::is_in(repair.target, repair.missing))?;
-    Refusal::Twice.when(twice_bad(repair.missing))?;
-    Bits::new(repair.code, repair.missing.len()).ok_or(Refusal::Traces)
-}
-
-// How many bytes a node sends; none where there is no repair by traces.
-fn sent_size(repair: Repair) -> usize
-    ensures size { result ≡ packed_size (bits repair.entry.code.header (length repair.entry.missing.now)) repair.entry.lanes }
-    ensures fits { result ≤ 4 * 536870912 }
-{
-    match Bits::new(repair.code, repair.missing.len()) {
-        Some(b) => packing::packed_size(b, repair.lanes),
-        None => 0,
+impl Repair<'_> {
+    // A target and the nodes that are missing beside it.
+    #[tactic(auto, using(generator::proofs::Answered::giving_tests), unfolding(crate::specs::Promise::target_fault))]
+    fn judge_target(self) -> Result<Bits, Refusal>
+        ensures { let h = self.entry.code.header in let missing = self.entry.missing.now in numbered_by bit_count result ≡ answer_of (target_fault h self.entry.target missing) (bits h (length missing)) }
+    {
+        let h = self.code.header;
+        Refusal::Range.when(number_bad(h.n as usize, self.target as usize))?;
+        Refusal::Range.when(nodes_bad(h, self.missing))?;
+        Refusal::Range.when(repair_tables::is_in(self.target, self.missing))?;
+        Refusal::Twice.when(twice_bad(self.missing))?;
+        Bits::new(self.code, self.missing.len()).ok_or(Refusal::Traces)
     }
-}
 
-// A node that sends; `share` and `size` are lengths.
-#[tactic(auto, using(generator::proofs::Answered::giving_tests), unfolding(crate::specs::Promise::repair_bits_fault))]
-pub fn judge_bits(repair: Repair, node: u32, share: usize, size: usize) -> Result<Bits, Refusal>
-    ensures { let h = repair.entry.code.header in let missing = repair.entry.missing.now in numbered_by bit_count result ≡ answer_of (repair_bits_fault h repair.entry.lanes node repair.entry.target missing share size) (bits h (length missing)) }
-{
-    let h = repair.code.header;
-    Refusal::Lanes.when(lanes_bad(repair.lanes))?;
-    Refusal::Length.when(buffer_bad(h, 1, repair.lanes, share))?;
-    Refusal::Length.when(length_bad(sent_size(repair), size))?;
-    Refusal::Range.when(number_bad(h.n as usize, node as usize))?;
-    Refusal::Range.when(!repair_tables::sends(repair.target, repair.missing, node))?;
-    judge_target(repair)
-}
+    // How many bytes a node sends; none where there is no repair by traces.
+    fn sent_size(self) -> usize
+        ensures size { result ≡ packed_size (bits self.entry.code.header (length self.entry.missing.now)) self.entry.lanes }
+        ensures fits { result ≤ 4 * 536870912 }
+    {
+        match Bits::new(self.code, self.missing.len()) {
+            Some(b) => packing::packed_size(b, self.lanes),
+            None => 0,
+        }
+    }
 
-// How many nodes send where no number is met.
-pub fn row_count(n: usize, missing: usize) -> usize
-    ensures { result ≡ n - 1 - missing }
-{
-    n.saturating_sub(1).saturating_sub(missing)
-}
+    // A node that sends; `share` and `size` are lengths.
+    #[tactic(auto, using(generator::proofs::Answered::giving_tests), unfolding(crate::specs::Promise::repair_bits_fault))]
+    pub fn judge_bits(self, node: u32, share: usize, size: usize) -> Result<Bits, Refusal>
+        ensures { let h = self.entry.code.header in let missing = self.entry.missing.now in numbered_by bit_count result ≡ answer_of (repair_bits_fault h self.entry.lanes node self.entry.target missing share size) (bits h (length missing)) }
+    {
+        let h = self.code.header;
+        Refusal::Lanes.when(lanes_bad(self.lanes))?;
+        Refusal::Length.when(buffer_bad(h, 1, self.lanes, share))?;
+        Refusal::Length.when(length_bad(self.sent_size(), size))?;
+        Refusal::Range.when(number_bad(h.n as usize, node as usize))?;
+        Refusal::Range.when(!repair_tables::sends(self.target, self.missing, node))?;
+        self.judge_target()
+    }
 
-// The target; `rows` and `size` are lengths.
-#[tactic(auto, using(generator::proofs::Answered::giving_tests), unfolding(crate::specs::Promise::repair_share_fault))]
-pub fn judge_share(repair: Repair, rows: usize, size: usize) -> Result<Bits, Refusal>
-    ensures { let h = repair.entry.code.header in let missing = repair.entry.missing.now in numbered_by bit_count result ≡ answer_of (repair_share_fault h repair.entry.lanes repair.entry.target missing rows size) (bits h (length missing)) }
-{
-    let h = repair.code.header;
-    let count = row_count(h.n as usize, repair.missing.len());
-    Refusal::Lanes.when(lanes_bad(repair.lanes))?;
-    Refusal::Length.when(length_bad(count * sent_size(repair), rows))?;
-    Refusal::Length.when(buffer_bad(h, 1, repair.lanes, size))?;
-    judge_target(repair)
+    // How many nodes send where no number is met.
+    pub fn senders(self) -> usize
+        ensures { result ≡ self.entry.code.header.n - 1 - length self.entry.missing.now }
+    {
+        let n = self.code.header.n as usize;
+        n.saturating_sub(1).saturating_sub(self.missing.len())
+    }
+
+    // The target; `rows` and `size` are lengths.
+    #[tactic(auto, using(generator::proofs::Answered::giving_tests), unfolding(crate::specs::Promise::repair_share_fault))]
+    pub fn judge_share(self, rows: usize, size: usize) -> Result<Bits, Refusal>
+        ensures { let h = self.entry.code.header in let missing = self.entry.missing.now in numbered_by bit_count result ≡ answer_of (repair_share_fault h self.entry.lanes self.entry.target missing rows size) (bits h (length missing)) }
+    {
+        let h = self.code.header;
+        let count = self.senders();
+        Refusal::Lanes.when(lanes_bad(self.lanes))?;
+        Refusal::Length.when(length_bad(count * self.sent_size(), rows))?;
+        Refusal::Length.when(buffer_bad(h, 1, self.lanes, size))?;
+        self.judge_target()
+    }
 }

@@ -39,19 +39,45 @@ struct Repair<'a> {
     ghost counted: { lanes ≤ 4294967295 },
 }
 
-// Sends what a node has for the target.
-fn bits_accepted(repair: Repair, node: u32, share: &[u8], out: &mut [u8]) -> Result<(), Refusal>
-    ensures { RepairBitsPromise node repair.entry.target repair.entry.missing.now share.now out.old out.new (numbered result) repair.entry.code.header (repair_bits_fault repair.entry.code.header repair.entry.lanes node repair.entry.target repair.entry.missing.now (length share.now) (length out.old)) }
-{
-    let b = fault::judge_bits(repair, node, share.len(), out.len())?;
-    let size = packing::plane_size(repair.lanes);
-    let table = sent_digits(repair.code, b, repair.target, repair.missing, node);
-    let digits = Digits {
-        table: &table,
-        share,
-    };
-    digits.pack(b, size, out);
-    Ok(())
+impl Repair<'_> {
+    // Sends what a node has for the target.
+    fn bits_accepted(self, node: u32, share: &[u8], out: &mut [u8]) -> Result<(), Refusal>
+        ensures { RepairBitsPromise node self.entry.target self.entry.missing.now share.now out.old out.new (numbered result) self.entry.code.header (repair_bits_fault self.entry.code.header self.entry.lanes node self.entry.target self.entry.missing.now (length share.now) (length out.old)) }
+    {
+        let b = self.judge_bits(node, share.len(), out.len())?;
+        let table = sent_digits(self.code, b, self.target, self.missing, node);
+        let digits = Digits {
+            table: &table,
+            share,
+        };
+        digits.pack(b, out);
+        Ok(())
+    }
+
+    // The target's share from the planes of the nodes that send.
+    fn add_up(self, b: Bits, rows: &[u8], out: &mut [u8])
+        requires { (bit_count b ≡ bits self.code.header (length self.missing.now)) × Repairing self.code.header self.target self.missing.now × (distinct self.missing.now ≡ true) × (self.lanes ≤ 4096) × (length out.old ≡ self.lanes) × (length rows.now ≡ (self.code.header.n - 1 - length self.missing.now) * packed_size (bits self.code.header (length self.missing.now)) self.lanes) }
+        ensures { out.new ≡ repaired_share self.entry.code.header self.entry.lanes self.entry.target self.entry.missing.now rows.now }
+    {
+        let senders = self.senders();
+        let weights = weights(self.code, b, self.target, self.missing);
+        let total = senders * b.count() as usize;
+        let planes = Planes {
+            weights: &weights[..total],
+            size: packing::plane_size(self.lanes),
+            rows,
+        };
+        planes.combine(out);
+    }
+
+    // Repairs the target's share.
+    fn share_accepted(self, rows: &[u8], out: &mut [u8]) -> Result<(), Refusal>
+        ensures { RepairSharePromise self.entry.lanes self.entry.target self.entry.missing.now rows.now out.old out.new (numbered result) self.entry.code.header (repair_share_fault self.entry.code.header self.entry.lanes self.entry.target self.entry.missing.now (length rows.now) (length out.old)) }
+    {
+        let b = self.judge_share(rows.len(), out.len())?;
+        self.add_up(b, rows, out);
+        Ok(())
+    }
 }
 
 // Writes what a node sends of its share to the target: b planes of a bit for each lane. `missing` lists the nodes that are missing beside the target. Or gives what turns the call away and writes nothing.
@@ -73,32 +99,7 @@ pub fn repair_bits(
         target,
         missing,
     };
-    bits_accepted(repair, node, share, out)
-}
-
-// The target's share from the planes of the nodes that send.
-fn add_up(repair: Repair, b: Bits, rows: &[u8], out: &mut [u8])
-    requires { (bit_count b ≡ bits repair.code.header (length repair.missing.now)) × Repairing repair.code.header repair.target repair.missing.now × (distinct repair.missing.now ≡ true) × (repair.lanes ≤ 4096) × (length out.old ≡ repair.lanes) × (length rows.now ≡ (repair.code.header.n - 1 - length repair.missing.now) * packed_size (bits repair.code.header (length repair.missing.now)) repair.lanes) }
-    ensures { out.new ≡ repaired_share repair.entry.code.header repair.entry.lanes repair.entry.target repair.entry.missing.now rows.now }
-{
-    let senders = fault::row_count(repair.code.header.n as usize, repair.missing.len());
-    let weights = weights(repair.code, b, repair.target, repair.missing);
-    let total = senders * b.count() as usize;
-    let planes = Planes {
-        weights: &weights[..total],
-        size: packing::plane_size(repair.lanes),
-        rows,
-    };
-    planes.combine(out);
-}
-
-// Repairs the target's share.
-fn share_accepted(repair: Repair, rows: &[u8], out: &mut [u8]) -> Result<(), Refusal>
-    ensures { RepairSharePromise repair.entry.lanes repair.entry.target repair.entry.missing.now rows.now out.old out.new (numbered result) repair.entry.code.header (repair_share_fault repair.entry.code.header repair.entry.lanes repair.entry.target repair.entry.missing.now (length rows.now) (length out.old)) }
-{
-    let b = fault::judge_share(repair, rows.len(), out.len())?;
-    add_up(repair, b, rows, out);
-    Ok(())
+    repair.bits_accepted(node, share, out)
 }
 
 // Writes the target's share from what the other nodes sent, in their order. `missing` lists the nodes that are missing beside the target. Or gives what turns the call away and writes nothing.
@@ -119,7 +120,7 @@ pub fn repair_share(
         target,
         missing,
     };
-    share_accepted(repair, rows, out)
+    repair.share_accepted(rows, out)
 }
 
 // Plans over a code.

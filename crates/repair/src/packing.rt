@@ -47,7 +47,7 @@ pub struct Digits<'a> {
     pub share: &'a [u8],
 }
 
-impl<'a> Digits<'a> {
+impl Digits<'_> {
     // The bit of the digit of one lane; 0 after the last lane.
     fn bit(self, bit: Bit, i: usize) -> u32
         ensures { result ≡ lane_bit bit.place self.entry.table.now self.entry.share.now i }
@@ -83,11 +83,12 @@ impl<'a> Digits<'a> {
     }
 
     // The planes of all b bits.
-    pub fn pack(self, b: Bits, size: usize, out: &mut [u8])
-        requires { (length self.share.now ≤ 4096) × (size ≡ plane_size (length self.share.now)) × (length out.old ≡ bit_count b * size) }
+    pub fn pack(self, b: Bits, out: &mut [u8])
+        requires { (length self.share.now ≤ 4096) × (length out.old ≡ packed_size (bit_count b) (length self.share.now)) }
         ensures { out.new ≡ planes (bit_count b) (length self.entry.share.now) (λ i. get_or self.entry.table.now (get_or self.entry.share.now i 0) 0) }
     {
         let count = b.count() as usize;
+        let size = plane_size(self.share.len());
         for e in 0..count {
             let start = e * size;
             let end = start + size;

@@ -53,7 +53,7 @@ pub struct Planes<'a> {
     pub ghost small: { size ≤ 512 },
 }
 
-impl<'a> Planes<'a> {
+impl Planes<'_> {
     // The sum of the planes whose weight has the bit. By place: `chunks(self.size)` takes no 0, so `Planes` and what makes it would have to be
     // told that a plane has a byte.
     fn sum(self, bit: Bit, acc: &mut [u8])

@@ -10,25 +10,21 @@ use generator::Code;
 // derive is one more function to check.
 #[derive(Clone, Copy)]
 pub enum Bits {
-    One,
-    Two,
-    Four,
+    One = 1,
+    Two = 2,
+    Four = 4,
 }
 
 // By n − k less the number of missing nodes.
 fn bits_for(r: usize) -> Option<Bits>
     ensures { MatchOption result (bits_for r ≡ 0) (λ b. bit_count b ≡ bits_for r) }
 {
-    if 128 <= r {
-        return Some(Bits::One);
+    match r {
+        128.. => Some(Bits::One),
+        64..=127 => Some(Bits::Two),
+        16..=63 => Some(Bits::Four),
+        _ => None,
     }
-    if 64 <= r {
-        return Some(Bits::Two);
-    }
-    if 16 <= r {
-        return Some(Bits::Four);
-    }
-    None
 }
 
 impl Bits {
@@ -47,11 +43,7 @@ impl Bits {
     pub fn count(self) -> u32
         ensures { result ≡ bit_count self }
     {
-        match self {
-            Bits::One => 1,
-            Bits::Two => 2,
-            Bits::Four => 4,
-        }
+        self as u32
     }
 
     // How many further nodes may be missing, with as few bits.

@@ -16,16 +16,13 @@ use crate::nodes::Target;
 use crate::senders::list_senders;
 use check_sums::powers::{self, RootPowers};
 use generator::Code;
+use std::array;
 
 // The sums of two rows of 16: of the entry for the lower four bits and the entry for the upper four.
 fn sums(low: &[u8; 16], high: &[u8; 16]) -> [u8; 256]
     ensures { result ≡ from (λ x. bit_xor (get_or low.now (x % 16) 0) (get_or high.now (x / 16) 0)) 0 256 }
 {
-    let mut table = [0u8; 256];
-    for x in 0..256 {
-        table[x] = low[x % 16] ^ high[x / 16];
-    }
-    table
+    array::from_fn(|x| low[x % 16] ^ high[x / 16])
 }
 
 impl Target<'_> {
@@ -44,11 +41,7 @@ impl Target<'_> {
         requires { (f < 256) × (step ≤ 16) }
         ensures { result ≡ from (λ i. trace_of (bit_count self.entry.bits) (mul (modulus_of self.entry.codec.code.header) f (i * step)) % 2 ^ bit_count self.entry.bits) 0 16 }
     {
-        let mut row = [0u8; 16];
-        for i in 0..16 {
-            row[i] = self.low_trace(f, i as u32 * step);
-        }
-        row
+        array::from_fn(|i| self.low_trace(f, i as u32 * step))
     }
 
     // The weight of bit q of all senders' digits.

@@ -1,5 +1,4 @@
 -- Laws of rosters, events and jobs, and what holds of every accepted record's rosters.
-pub mod Made
 pub mod Nodes
 pub mod Stepping
 pub mod Lowest

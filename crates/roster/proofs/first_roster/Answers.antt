@@ -3,7 +3,7 @@ use Rattle.std.proofs.Common.{rules}
 use Rattle.std.specs.Prelude.{◌≡◌, false, ltb}
 use mathlib.Core.Path.{refl}
 use Rattle.roster.specs.Rosters.{first_roster, first_marks}
-use Rattle.roster.proofs.Made.{made_by_index}
+use Rattle.lists.proofs.Made.{made_by_index}
 use Rattle.roster.proofs.first_roster.Goals as goal
 
 pub returns : goal.returns

@@ -1,20 +1,21 @@
 -- `bits_for` meets its contract.
-use Rattle.lists.proofs.Tests.{tests}
+use native.Mathlib.Omega.{arith}
+use borrow.Author.Tests.{le-leb, lt-leb}
 use Rattle.traces.specs.Repairs.{bits_for}
 use Rattle.repair_tables.proofs.bits.bits_for.Goals as goal
 
-pub returns-then-r-ge128 : goal.returns-then-r-ge128
+pub returns-in-128-to-max : goal.returns-in-128-to-max
 unfolding bits_for
-returns-then-r-ge128 c = search tests
+returns-in-128-to-max c = rw (le-leb 128 c.args.r (omega arith))
 
-pub returns-then-r-ge64 : goal.returns-then-r-ge64
+pub returns-in-64-to-127 : goal.returns-in-64-to-127
 unfolding bits_for
-returns-then-r-ge64 c = search tests
+returns-in-64-to-127 c = rw (lt-leb 128 c.args.r (omega arith), le-leb 64 c.args.r (omega arith))
 
-pub returns-then-r-ge16 : goal.returns-then-r-ge16
+pub returns-in-16-to-63 : goal.returns-in-16-to-63
 unfolding bits_for
-returns-then-r-ge16 c = search tests
+returns-in-16-to-63 c = rw (lt-leb 128 c.args.r (omega arith), lt-leb 64 c.args.r (omega arith), le-leb 16 c.args.r (omega arith))
 
-pub returns : goal.returns
+pub returns-in_default : goal.returns-in_default
 unfolding bits_for
-returns c = search tests
+returns-in_default c = rw (lt-leb 128 c.args.r (omega arith), lt-leb 64 c.args.r (omega arith), lt-leb 16 c.args.r (omega arith))

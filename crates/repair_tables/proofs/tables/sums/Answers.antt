@@ -1,17 +1,14 @@
 -- `sums` meets its contract.
-use mathlib.Core.Path.{refl}
-use native.Mathlib.Omega.{arith}
-use Rattle.lists.specs.Padded.{zeros}
-use Rattle.lists.proofs.Fill.{filled_start, filled_put, fills_all, length_zeros}
-use Rattle.lists.proofs.Rows.{from_end}
+use mathlib.Core.Path.{◌≡◌, refl}
+use Prim.Native.Nat.{◌/◌, ◌%◌}
+use lib.Bits.{bit_xor}
+use lib.ListN.{get_or}
+use Rattle.std.proofs.Common.{rules}
+use Rattle.lists.proofs.Made.{made_by_index}
 use Rattle.repair_tables.proofs.tables.sums.Goals as goal
 
-pub loop-x-init : goal.loop-x-init
-unfolding zeros
-loop-x-init c = filled_start 256 256 _ (omega arith)
-
-pub loop-x-preserved : goal.loop-x-preserved
-loop-x-preserved c = filled_put c.loop-x.invariant c.loop-x-test.true refl
-
 pub returns : goal.returns
-returns c = let filled = c.loop-x.invariant in fills_all (rw (from_end _ 256 _ c.loop-x-test.false) at filled.fills) (omega (arith, length_zeros 256))
+returns c =
+    let low = c.args.low.now in
+    let high = c.args.high.now in
+    made_by_index _ (λ f. (f.0.now ≡ low) × (f.1.now ≡ high)) (λ x. bit_xor (get_or low (x % 16) 0) (get_or high (x / 16) 0)) (λ f q i y held called. let (l, h) = held in (search rules, (search rules, search rules))) _ _ 256 0 (refl, refl) c.from_fn.ensures.items

@@ -5,7 +5,7 @@ use mathlib.Core.Path.{refl, ap, ◌∙◌}
 use mathlib.Core.List.{[], ◌∷◌, ◌++◌}
 use mir.Val.{bool_byte}
 use Rattle.lists.specs.Choice.{pick}
-use Rattle.roster.proofs.Made.{made_by_element}
+use Rattle.lists.proofs.Made.{made_by_element}
 use Rattle.roster_bytes.specs.Bytes.{mark_bytes, roster_bytes}
 use Rattle.roster_bytes.proofs.bytes.bytes_of.Goals as goal
 

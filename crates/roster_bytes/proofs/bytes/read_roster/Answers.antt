@@ -2,7 +2,7 @@
 use Rattle.std.proofs.Common.{rules}
 use Rattle.std.specs.Prelude.{◌≡◌, false, not, eqb, get_or}
 use mathlib.Core.Path.{refl}
-use Rattle.roster.proofs.Made.{made_by_index}
+use Rattle.lists.proofs.Made.{made_by_index}
 use Rattle.roster_bytes.specs.Bytes.{roster_of, marks_of}
 use Rattle.roster_bytes.proofs.bytes.read_roster.Goals as goal
 

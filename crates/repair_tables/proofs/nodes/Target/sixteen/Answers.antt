@@ -1,17 +1,14 @@
 -- `Target::sixteen` meets its contract.
-use native.Mathlib.Omega.{arith}
-use Rattle.lists.specs.Padded.{zeros}
-use Rattle.lists.proofs.Fill.{filled_start, filled_put, fills_all, length_zeros}
-use Rattle.lists.proofs.Rows.{from_end}
+use mathlib.Core.Path.{◌≡◌, refl}
+use Prim.Native.Nat.{◌*◌}
+use Rattle.std.proofs.Common.{rules}
+use Rattle.lists.proofs.Made.{made_by_index}
+use Rattle.generator.specs.Records.{modulus_of}
+use Rattle.repair_tables.specs.Bits.{bit_count}
+use Rattle.repair_tables.proofs.Steps.{digit_of}
 use Rattle.repair_tables.proofs.nodes.Target.sixteen.Goals as goal
-use Rattle.repair_tables.proofs.nodes.Target.sixteen.Goals.{In-loop-i}
-
-pub loop-i-init : goal.loop-i-init
-unfolding zeros
-loop-i-init c = filled_start 16 16 _ (omega arith)
-
-pub loop-i-preserved : goal.loop-i-preserved
-loop-i-preserved c = filled_put c.loop-i.invariant c.loop-i-test.true c.low_trace.ensures
 
 pub returns : goal.returns
-returns c = let filled = c.loop-i.invariant in fills_all (rw (from_end _ 16 _ c.loop-i-test.false) at filled.fills) (omega (arith, length_zeros 16))
+returns c =
+    let a = c.args in
+    made_by_index _ (λ f. (f.0.now ≡ a.self) × (f.1.now ≡ a.f) × (f.2.now ≡ a.step)) (λ i. digit_of (modulus_of a.self.codec.code.header) (bit_count a.self.bits) a.f (i * a.step)) (λ f q i y held called. let (s, t, u) = held in (search rules, (search rules, search rules, search rules))) _ _ 16 0 (refl, refl, refl) c.from_fn.ensures.items

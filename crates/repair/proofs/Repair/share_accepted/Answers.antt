@@ -1,9 +1,9 @@
--- `share_accepted` meets its contract.
+-- `Repair::share_accepted` meets its contract.
 use lib.ListN.{length}
 use Rattle.repair.proofs.Accepts.{ShareAccepted, share_accepts, share_refuses, share_done}
-use Rattle.repair.proofs.share_accepted.Goals as goal
+use Rattle.repair.proofs.Repair.share_accepted.Goals as goal
 use Rattle.generator.proofs.Answered.{exit, done_is, value_is, refused_is}
-use Rattle.repair.proofs.share_accepted.Goals.{In_ok-b}
+use Rattle.repair.proofs.Repair.share_accepted.Goals.{In_ok-b}
 
 pub returns-in_err-b : goal.returns-in_err-b
 returns-in_err-b c =
@@ -13,7 +13,7 @@ returns-in_err-b c =
 -- what is known where no number was met
 accepted : (c : In_ok-b)
     → let a = c.args in
-    ShareAccepted a.repair.code.header a.repair.lanes a.repair.target a.repair.missing.now (length a.rows.now) (length a.out.now)
+    ShareAccepted a.self.code.header a.self.lanes a.self.target a.self.missing.now (length a.rows.now) (length a.out.now)
 accepted c = share_accepts _ _ _ _ _ _ (done_is _ _ c.in_ok-b.ensures)
 
 pub add_up-requires : goal.add_up-requires

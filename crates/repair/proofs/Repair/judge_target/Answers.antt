@@ -3,7 +3,7 @@ use native.Mathlib.Omega.{arith}
 use Rattle.generator.proofs.Answered.{giving_tests}
 use Rattle.repair.specs.Promise.{target_fault}
 use Rattle.repair.proofs.Judging.{judged}
-use Rattle.repair.proofs.fault.judge_target.Goals as goal
+use Rattle.repair.proofs.Repair.judge_target.Goals as goal
 
 pub returns : goal.returns
 unfolding target_fault

@@ -1,16 +1,16 @@
--- `bits_accepted` meets its contract.
-use mathlib.Core.Path.{sym, ap, ap₂, ◌∙◌}
-use Prim.Native.Nat.{ℕ, ◌<◌, ◌*◌}
+-- `Repair::bits_accepted` meets its contract.
+use mathlib.Core.Path.{sym, ap₂, ◌∙◌}
+use Prim.Native.Nat.{ℕ, ◌<◌}
 use mir.Syntax.{w8}
 use mir.Val.{Fits}
 use native.Mathlib.Omega.{arith}
 use lib.ListN.{length}
-use Rattle.repair.specs.Packing.{plane_size, packed_size}
+use Rattle.repair.specs.Packing.{packed_size}
 use Rattle.repair.proofs.Accepts.{BitsAccepted, bits_accepts, bits_refuses, bits_done}
 use Rattle.repair.proofs.Adding.{sent_table}
-use Rattle.repair.proofs.bits_accepted.Goals as goal
+use Rattle.repair.proofs.Repair.bits_accepted.Goals as goal
 use Rattle.generator.proofs.Answered.{exit, done_is, value_is, refused_is}
-use Rattle.repair.proofs.bits_accepted.Goals.{In_ok-b}
+use Rattle.repair.proofs.Repair.bits_accepted.Goals.{In_ok-b}
 
 pub returns-in_err-b : goal.returns-in_err-b
 returns-in_err-b c =
@@ -23,7 +23,7 @@ byte h = omega arith
 -- what is known where no number was met
 accepted : (c : In_ok-b)
     → let a = c.args in
-    BitsAccepted a.repair.code.header a.repair.lanes a.node a.repair.target a.repair.missing.now (length a.share.now) (length a.out.now)
+    BitsAccepted a.self.code.header a.self.lanes a.node a.self.target a.self.missing.now (length a.share.now) (length a.out.now)
 accepted c = bits_accepts _ _ _ _ _ _ _ (done_is _ _ c.in_ok-b.ensures)
 
 pub sent_digits-table-requires : goal.sent_digits-table-requires
@@ -33,12 +33,9 @@ sent_digits-table-requires c =
     (value_is _ _ c.in_ok-b.ensures, r.inside, r.nodes, is.node)
 
 pub pack-requires : goal.pack-requires
-unfolding packed_size
 pack-requires c =
-    let a = c.args in
     let is = accepted (goal.at.pack-requires c).In_ok-b in
-    let size = c.plane_size-size.ensures in
-    (rw is.share_long is.few, size ∙ ap plane_size (sym is.share_long), is.out_long ∙ sym (ap₂ ◌*◌ (value_is _ _ c.in_ok-b.ensures) size))
+    (rw is.share_long is.few, is.out_long ∙ sym (ap₂ packed_size (value_is _ _ c.in_ok-b.ensures) is.share_long))
 
 pub returns : goal.returns
 returns c =
@@ -46,4 +43,4 @@ returns c =
     let none = done_is _ _ c.in_ok-b.ensures in
     bits_done _ _ none _ _ _ _ _ _
     (c.pack.ensures
-    ∙ sent_table a.repair.code.header a.repair.target a.repair.missing.now a.node _ c.sent_digits-table.result a.share.now (value_is _ _ c.in_ok-b.ensures) c.sent_digits-table.ensures (λ i. byte (c.type_inv.share i)))
+    ∙ sent_table a.self.code.header a.self.target a.self.missing.now a.node _ c.sent_digits-table.result a.share.now (value_is _ _ c.in_ok-b.ensures) c.sent_digits-table.ensures (λ i. byte (c.type_inv.share i)))

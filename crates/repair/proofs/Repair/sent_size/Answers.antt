@@ -1,13 +1,13 @@
--- `sent_size` meets its contract.
+-- `Repair::sent_size` meets its contract.
 use mathlib.Core.Path.{sym}
 use native.Mathlib.Nat.{zero-mul}
 use Rattle.repair_tables.proofs.Steps.{width_some}
 use Rattle.repair.specs.Packing.{packed_size}
 use Rattle.repair.proofs.Digits.{size_fits}
-use Rattle.repair.proofs.fault.sent_size.Goals as goal
+use Rattle.repair.proofs.Repair.sent_size.Goals as goal
 
 pub returns-in-Some-clause-fits : goal.returns-in-Some-clause-fits
-returns-in-Some-clause-fits c = rw c.packed_size.ensures (size_fits _ _ (width_some c.in-Some.b).1 c.args.repair.counted)
+returns-in-Some-clause-fits c = rw c.packed_size.ensures (size_fits _ _ (width_some c.in-Some.b).1 c.args.self.counted)
 
 pub returns-in-None-clause-size : goal.returns-in-None-clause-size
 unfolding packed_size
