@@ -33,7 +33,7 @@ impl GeneratorRows<'_, '_> {
         let k = h.k as usize;
         let points = self.points();
         let terms = self.terms(&points[..k], r);
-        let coefficients = sums::coefficients(n, k, spectrum);
+        let coefficients = sums::coefficients(k, spectrum);
         let sum = interpolation::sums::weighted_sum(field, &terms[..k], &coefficients);
         let scale = Points {
             field,
@@ -52,10 +52,9 @@ impl GeneratorRows<'_, '_> {
     {
         let h = self.transform.powers.codec.code.header;
         let n = h.n as usize;
-        let first: usize = 1;
-        let end = (h.n - h.k) as usize + 1;
+        let checks = (h.n - h.k) as usize;
         let spectrum = self.transform.spectrum();
-        let word = lane::all_zero(&spectrum[first..end]);
+        let word = lane::all_zero(&spectrum[1..=checks]);
         let symbol = self.symbol(&spectrum[..n], r);
         Refusal::Word.when(!word)?;
         Refusal::Stale.when(symbol != old)

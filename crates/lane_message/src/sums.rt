@@ -4,11 +4,12 @@ ghost use Rattle.lists.specs.Rows.{from};
 ghost use Rattle.lists.specs.Padded.{padded};
 ghost use Rattle.field.specs.Fields.{size_of};
 ghost use Rattle.field.specs.Kinds.{modulus};
-ghost use Rattle.generator.specs.Shifts.{negative};
+ghost use Rattle.generator.specs.Shifts.{negative as negative_of};
 ghost use Rattle.lane_message.specs.Inner.Symbols.{ones_of};
 
 use field::Field;
 use field::lent::Arithmetic;
+use shifts::negative;
 
 // n ones added up.
 pub fn ones(field: Arithmetic, n: usize) -> u32
@@ -22,15 +23,15 @@ pub fn ones(field: Arithmetic, n: usize) -> u32
     sum
 }
 
-// Sums n, n − 1, .., n − k + 1 of a spectrum, sum n being sum 0, and zeros after them.
-pub fn coefficients(n: usize, k: usize, spectrum: &[u16]) -> [u16; 255]
-    requires { (length spectrum.now ≡ n) × (0 < k) × (k ≤ n) × (n ≤ 255) }
-    ensures { result ≡ padded 255 (from (λ c. get_or spectrum.now (negative n c) 0) 0 k) }
+// Sums n, n − 1, .., n − k + 1 of a spectrum of n sums, sum n being sum 0, and zeros after them.
+pub fn coefficients(k: usize, spectrum: &[u16]) -> [u16; 255]
+    requires { (0 < k) × (k ≤ length spectrum.now) × (length spectrum.now ≤ 255) }
+    ensures { result ≡ padded 255 (from (λ c. get_or spectrum.now (negative_of (length spectrum.now) c) 0) 0 k) }
 {
+    let n = spectrum.len();
     let mut out = [0u16; 255];
     for c in 0..k {
-        let e = (n - c) % n;
-        out[c] = spectrum[e];
+        out[c] = spectrum[negative(n, c)];
     }
     out
 }

@@ -44,7 +44,7 @@ coefficients : (c : After-coefficients-coefficients)
     (c.coefficients-coefficients.result ≡ padded 255 (coefficients_of a.self.transform.powers.codec.code.header a.spectrum.now)) × (all_below (size a.self.transform.powers.codec.code.header) (coefficients_of a.self.transform.powers.codec.code.header a.spectrum.now) ≡ true)
 unfolding coefficients_of
 coefficients c =
-    (c.coefficients-coefficients.ensures, coefficients_below c.args.self.transform.powers.codec.code.header c.args.self.transform.powers.codec.code.sound c.args.spectrum.now c.requires.0 c.requires.1)
+    (rw c.requires.0 at c.coefficients-coefficients.ensures, coefficients_below c.args.self.transform.powers.codec.code.header c.args.self.transform.powers.codec.code.sound c.args.spectrum.now c.requires.0 c.requires.1)
 
 -- their sum with the terms
 sum : (c : After-weighted_sum-sum)
