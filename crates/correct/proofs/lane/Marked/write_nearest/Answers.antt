@@ -9,13 +9,9 @@ use Rattle.lists.proofs.Numbers.{at_below}
 use Rattle.layout.specs.Width.{symbols_of}
 use Rattle.generator.specs.Records.{width}
 use Rattle.nearest_word.specs.Nearest.{corrected}
-use Rattle.correct.proofs.LaneSymbols.{lane_short, held_front, word_front, word_fits, word_bytes, marked_stays, far_stays, stays_count, stays_bytes}
+use Rattle.correct.proofs.LaneSymbols.{word_front, word_fits, word_bytes, marked_stays, far_stays, stays_count, stays_bytes}
 use Rattle.correct.proofs.lane.Marked.write_nearest.Goals as goal
-use Rattle.correct.proofs.lane.Marked.write_nearest.Goals.{After-read_symbols-held, Else-self-t-eq0, In-Some}
-
--- the first n places of the array are the lane
-front : (c : After-read_symbols-held) → let h = c.args.self.rows.code.header in take h.n c.read_symbols-held.result ≡ symbols_of (width h) c.args.lane.now
-front c = held_front c.requires.1 _ (rw c.width_of-w.ensures at c.read_symbols-held.ensures)
+use Rattle.correct.proofs.lane.Marked.write_nearest.Goals.{Else-self-t-eq0, In-Some}
 
 pub returns-then-self-t-eq0 : goal.returns-then-self-t-eq0
 returns-then-self-t-eq0 c =
@@ -23,19 +19,15 @@ returns-then-self-t-eq0 c =
     let stays = marked_stays m c.if-self-t-eq0.true in
     (sym (stays_bytes m stays (at_below 256 _ (λ i h. omega (arith, c.type_inv.lane i)))), sym (stays_count m stays))
 
-pub read_symbols-held-requires : goal.read_symbols-held-requires
-read_symbols-held-requires c =
-    rw c.width_of-w.ensures (lane_short c.requires.1 c.args.self.rows.code.sound.byte)
-
-pub correct_lane-requires : goal.correct_lane-requires
-correct_lane-requires c = rw (front (goal.at.correct_lane-requires c).After-read_symbols-held) c.requires.1.symbols
+pub nearest-requires : goal.nearest-requires
+nearest-requires c = (c.requires.1.bytes, c.requires.1.symbols)
 
 -- the word that was found, and how many symbols differ
 decoded : (c : In-Some)
     → let h = c.args.self.rows.code.header in
     let ws = symbols_of (width h) c.args.lane.now in
     (c.in-Some.found.lane ≡ padded 255 (corrected h ws)) × (c.in-Some.found.altered ≡ differ ws (corrected h ws))
-decoded c = let is = rw (front (goal.at.In-Some c).After-read_symbols-held) at c.in-Some.ensures in (is.1, is.2)
+decoded c = (c.in-Some.ensures.1, c.in-Some.ensures.2)
 
 word : (c : In-Some) → let h = c.args.self.rows.code.header in take h.n c.in-Some.found.lane ≡ corrected h (symbols_of (width h) c.args.lane.now)
 word c = word_front c.requires.1 _ (decoded c).0
@@ -54,8 +46,7 @@ overflow_cast-result c =
 pub returns-in-None : goal.returns-in-None
 returns-in-None c =
     let m = c.requires.1 in
-    let far = rw (front (goal.at.returns-in-None c).After-read_symbols-held) at c.in-None.ensures in
-    let stays = far_stays m far in
+    let stays = far_stays m c.in-None.ensures in
     (sym (stays_bytes m stays (at_below 256 _ (λ i h. omega (arith, (goal.at.returns-in-None c).Else-self-t-eq0.type_inv.lane i)))), sym (stays_count m stays))
 
 pub returns-in-Some : goal.returns-in-Some
