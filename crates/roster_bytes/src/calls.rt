@@ -12,6 +12,7 @@ use generator::Refusal;
 use roster::{Listing, Roster};
 
 // The roster that bytes hold. Bytes of another length than 256 meet the record's refusal, else number 8.
+#[tactic(auto, using(generator::proofs::Answered::tests, crate::proofs::Giving::length_none, crate::proofs::Giving::length_some))]
 fn lent_roster(rec: &[u8], bytes: &[u8]) -> Result<Roster, Refusal>
     ensures { MatchResult result (λ r. (length bytes.now ≡ 256) × (r ≡ roster_of bytes.now)) (λ e. (length bytes.now ≢ 256) × (number e ≡ first_of (record_fault rec.now) 8)) }
 {
@@ -23,6 +24,7 @@ fn lent_roster(rec: &[u8], bytes: &[u8]) -> Result<Roster, Refusal>
 }
 
 // All n nodes of the record present; beside the record's refusal no node is, and all bytes are 0. Of what the bytes held the length alone counts.
+#[tactic(auto, using(generator::proofs::Answered::tests, crate::proofs::Giving::some, crate::proofs::Giving::start_empty, crate::proofs::Giving::start_short, crate::proofs::Giving::start_done))]
 pub fn start(rec: &[u8], bytes: &mut [u8]) -> Result<(), Refusal>
     ensures { StartGives rec.now bytes.old bytes.new (fault_in (numbered result)) }
 {
