@@ -37,7 +37,8 @@ impl FieldKind for Gf256 {
         self.add(a, b)
     }
 
-    // The exponents add, modulo 255; 0 times a byte is 0.
+    // The exponents add, modulo 255; 0 times a byte is 0. Two tests: behind `a == 0 || b == 0` what is known of the two is joined, and the proof
+    // would take it apart again.
     fn mul(self, tables: &Tables, a: u32, b: u32) -> u32 {
         if a == Self::ZERO {
             return Self::ZERO;

@@ -48,7 +48,7 @@ pub trait FieldKind: Copy {
                 r = self.mul(tables, r, base);
             }
             base = self.mul(tables, base, base);
-            k = k / 2;
+            k /= 2;
         }
         r
     }

@@ -59,7 +59,7 @@ impl FieldKind for PrimeField {
                 x = r;
             } else {
                 t = self.mul(tables, q + 1, t);
-                x = x - r;
+                x -= r;
             }
         }
         t
