@@ -32,9 +32,8 @@ fn errors_from(points: Points, product: Dividend) -> [u16; 255]
     ensures { let p = modulus points.entry.field.field in result ≡ padded 255 (errors_from p product.entry.polynomial.coefficients.now product.entry.weights.now points.entry.points.now (scales_of p points.entry.points.now)) }
 {
     let mut out = [0u16; 255];
-    for i in 0..points.points.len() {
-        let x = points.points[i] as u32;
-        out[i] = error_at(product, x, points.scale_at(i)) as u16;
+    for (i, &x) in points.points.iter().enumerate() {
+        out[i] = error_at(product, x as u32, points.scale_at(i)) as u16;
     }
     out
 }
