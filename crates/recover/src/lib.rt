@@ -27,6 +27,7 @@ struct Listed<'a> {
 
 impl Listed<'_> {
     // Recovers over a code.
+    #[tactic(auto, using(layout::proofs::LaneParts::lanes_long, generator::proofs::Shifts::shifts_length, generator::proofs::Answered::tests, crate::proofs::Accepts::recover_accepts, crate::proofs::Accepts::recover_refuses, crate::proofs::Recovering::shifts_part, crate::proofs::Products::recovered_lanes), unfolding(generator::specs::Answers::answer_of))]
     fn recover_accepted(self, out: &mut [u8]) -> Result<(), Refusal>
         ensures { let v = self.entry in RecoverPromise share_layout v.lanes v.nodes.now v.shares.now out.old out.new (numbered result) v.code.header (recover_fault v.code.header v.lanes v.nodes.now v.shares.now (length out.old)) }
     {
@@ -45,6 +46,7 @@ impl Listed<'_> {
     }
 
     // Rebuilds over a code.
+    #[tactic(auto, using(generator::proofs::Answered::tests, crate::proofs::Accepts::rebuild_accepts, crate::proofs::Accepts::rebuild_refuses, crate::proofs::Tiles::listed_bytes))]
     fn rebuild_accepted(self, target: u32, out: &mut [u8]) -> Result<(), Refusal>
         ensures { let v = self.entry in RebuildPromise share_layout v.lanes v.nodes.now v.shares.now target out.old out.new (numbered result) v.code.header (rebuild_fault v.code.header v.lanes v.nodes.now v.shares.now target (length out.old)) }
     {

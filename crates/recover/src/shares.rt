@@ -44,6 +44,7 @@ impl Weighted<'_> {
 
     // The sums of all lanes, tile by tile. The lanes are counted here: how many a tile takes depends on how many are left, and `step_by` has
     // one step.
+    #[tactic(auto, using(lists::proofs::Rows::part_length, lists::proofs::Fill::fills_start, generator::proofs::Widths::width_some, tiles::proofs::Parts::fills_whole, crate::proofs::Tiles::length_sums))]
     fn fill_share(self, tile: &mut [u8], out: &mut [u8])
         requires { (self.width.bytes * self.code.header.k ≤ length tile.old) × (length out.old ≡ self.width.bytes * self.lanes) }
         ensures { let v = self.entry in out.new ≡ sum_bytes v.code.header v.width.bytes v.lanes v.weights.now v.shares.now }
@@ -61,6 +62,7 @@ impl Weighted<'_> {
     }
 
     // The same in scratch of its own, of so many bytes, a bound of which stands in the clause: no value holds it.
+    #[tactic(auto, using(crate::proofs::Tiles::row_small))]
     fn fill_in<const TILE: usize>(self, out: &mut [u8])
         requires { (510 ≤ TILE) × (TILE ≤ 32768) × (length out.old ≡ self.width.bytes * self.lanes) }
         ensures { let v = self.entry in out.new ≡ sum_bytes v.code.header v.width.bytes v.lanes v.weights.now v.shares.now }

@@ -1,8 +1,7 @@
 -- `fill_tile` meets its contract: sums over the gathered lanes.
 use mathlib.Core.Path.{ap, ◌∙◌}
 use mathlib.Core.List.{List}
-use Prim.Native.Nat.{ℕ, ◌*◌, ◌≤◌}
-use native.Mathlib.Nat.{mul-one, mul-le-mul, le_refl}
+use Prim.Native.Nat.{ℕ}
 use native.Mathlib.Omega.{arith}
 use Rattle.layout.specs.Layout.{row_after_row}
 use Rattle.layout.specs.Width.{bytes_of}
@@ -13,16 +12,6 @@ use Rattle.row_sums.specs.Inner.Combined.{combined}
 use Rattle.row_sums.proofs.Columns.{rows_ready, combined_symbols}
 use Rattle.row_sums.proofs.FirstWeights.{weighted_front, bytes_front}
 use Rattle.recover.proofs.shares.Weighted.fill_tile.Goals as goal
-
-pub overflow_mul-rows : goal.overflow_mul-rows
-overflow_mul-rows c =
-    let (some, fits, tile, out) = c.requires in
-    let unit = c.args.self.width.bytes * c.args.self.code.header.k in
-    let least : unit * 1 ≤ unit * c.args.count = mul-le-mul (le_refl unit) some in
-    omega (arith, tile, mul-one unit)
-
-pub gather_lanes-requires : goal.gather_lanes-requires
-gather_lanes-requires c = let (some, fits, tile, out) = c.requires in (c.args.self.listed.bytes, fits, tile)
 
 pub combine_symbols-requires : goal.combine_symbols-requires
 combine_symbols-requires c =
