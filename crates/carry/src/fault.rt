@@ -20,7 +20,7 @@ fn long_bad(n: usize) -> bool
 pub fn carried_len_fault(code: Code, n: usize) -> Result<Carrying, Refusal>
     ensures { Tested result code.header (carried_len_fault code.header n) }
 {
-    let carrying = Carrying::of(code)?;
+    let carrying = Carrying::try_from(code)?;
     Refusal::Length.when(long_bad(n))?;
     Ok(carrying)
 }

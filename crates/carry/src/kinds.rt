@@ -15,18 +15,22 @@ pub enum Carrying {
     Words(WordPrime),
 }
 
-impl Carrying {
+impl TryFrom<Code> for Carrying {
+    type Error = Refusal;
+
+    ghost try_from_gives = { λ code r. Tested r code.header (when (carries_none (modulus_of code.header)) 18) };
+
     // Number 18 over a prime with fewer than 34,816 symbols.
-    pub fn of(code: Code) -> Result<Self, Refusal>
-        ensures { Tested result code.header (when (carries_none (modulus_of code.header)) 18) }
-    {
+    fn try_from(code: Code) -> Result<Self, Refusal> {
         match code.header.field {
             Field::Binary(_) => Ok(Carrying::Bytes),
             Field::Prime(f) if f.p < 34816 => Err(Refusal::Carry),
             Field::Prime(f) => Ok(Carrying::Words(WordPrime { p: f.p })),
         }
     }
+}
 
+impl Carrying {
     // How many bytes carry n.
     pub fn carried_length(self, n: usize) -> usize
         requires { n ≤ 4611686018427387904 }

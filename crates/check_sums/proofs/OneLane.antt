@@ -9,8 +9,8 @@ use native.Mathlib.Omega.{arith}
 use borrow.Author.Tests.{ne_eqb, le-ltb}
 use lib.Dec.{eqb, ltb}
 use lib.ListN.{length, get_or}
+use Rattle.std.specs.Int.{w16, to_be_bytes}
 use Rattle.std.specs.List.{list_all}
-use Rattle.lists.specs.Choice.{pick}
 use Rattle.lists.specs.Numbers.{all_below}
 use Rattle.lists.specs.Rows.{from, rows_from}
 use Rattle.lists.proofs.Lanes.{get_d_rows, length_rows}
@@ -43,13 +43,15 @@ next_place j e n =
     let more : j * (1 + e) + j ≡ j * (1 + (e + 1)) = sym (mul-add j (1 + e) 1 ∙ rw (mul-one j)) ∙ ap (λ (x : ℕ). j * x) (omega arith) in
     mod-add-mod (j * (1 + e)) n j ∙ ap (λ (x : ℕ). x % n) more
 
--- byte v of the w bytes of a symbol
-pub byte_at : (w v x : ℕ) → w ≤ 2 → v < w → x < 256 ^ w → pick (eqb (v + 1) w) (x % 256) (x / 256) ≡ get_or (symbol_bytes w x) v 0
+-- byte v of the w bytes of a symbol is byte v of the last w of two
+pub byte_at : (w v x : ℕ) → w ≤ 2 → v < w → x < 256 ^ w → get_or (to_be_bytes w16 x) (v + 2 - w) 0 ≡ get_or (symbol_bytes w x) v 0
 unfolding symbol_bytes
 byte_at zero v x few inside low = absurd (omega arith)
 byte_at (suc zero) zero x few inside low = mod-eq_of_lt low
 byte_at (suc zero) (suc v) x few inside low = absurd (omega arith)
-byte_at (suc (suc zero)) zero x few inside low = refl
+byte_at (suc (suc zero)) zero x few inside low =
+    let high : x / 256 < 256 = omega (arith, low) in
+    mod-eq_of_lt high
 byte_at (suc (suc zero)) (suc zero) x few inside low = refl
 byte_at (suc (suc zero)) (suc (suc v)) x few inside low = absurd (omega arith)
 byte_at (suc (suc (suc w))) v x few inside low = absurd (omega arith)

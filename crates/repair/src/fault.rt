@@ -30,10 +30,7 @@ impl Repair<'_> {
         ensures size { result ≡ packed_size (bits self.entry.code.header (length self.entry.missing.now)) self.entry.lanes }
         ensures fits { result ≤ 4 * 536870912 }
     {
-        match Bits::new(self.code, self.missing.len()) {
-            Some(b) => packing::packed_size(b, self.lanes),
-            None => 0,
-        }
+        Bits::new(self.code, self.missing.len()).map_or(0, |b| packing::packed_size(b, self.lanes))
     }
 
     // A node that sends; `share` and `size` are lengths.

@@ -1,12 +1,11 @@
 -- `fill_power_rows` meets its contract. Invariant: the rows of bytes below i are written.
-use mathlib.Core.Path.{ap, ◌∙◌}
-use Prim.Native.Nat.{ℕ, ◌+◌, ◌-◌, ◌*◌, ◌/◌, ◌%◌, ◌≤◌}
+use mathlib.Core.Path.{◌∙◌}
+use Prim.Native.Nat.{◌+◌, ◌-◌, ◌*◌, ◌/◌, ◌%◌, ◌≤◌}
 use native.Mathlib.Nat.{mul-le-mul, le_refl, add-sub_cancel_left}
 use native.Mathlib.Omega.{arith}
 use lib.ListN.{length}
 use Rattle.lists.proofs.Rows.{rows_next, rows_end, row_after, row_inside, part_length}
 use Rattle.lists.proofs.Fill.{fills_part, fills_all}
-use Rattle.check_sums.specs.Inner.Sums.{power_bytes}
 use Rattle.check_sums.proofs.OneLane.{byte_row, length_power_bytes, power_tile}
 use Rattle.check_sums.proofs.lane.fill_power_rows.Goals as goal
 use Rattle.check_sums.proofs.lane.fill_power_rows.Goals.{In-loop-i}

@@ -24,13 +24,24 @@ place c = rw c.loop-byte.invariant.0 (mod-lt _ (omega arith))
 room : (c : In-loop-byte) → c.loop-byte.byte-index < length c.args.row.now
 room c = omega (arith, c.loop-byte.invariant.1.long)
 
+-- the width is at most 2
+pub overflow_add-place : goal.overflow_add-place
+overflow_add-place c =
+    let few : c.args.w ≤ 2 = rw c.requires.0 (width_range c.args.self.codec.code.header).1 in
+    omega (arith, few)
+
+pub overflow_sub-place : goal.overflow_sub-place
+overflow_sub-place c =
+    let few : c.args.w ≤ 2 = rw c.requires.0 (width_range c.args.self.codec.code.header).1 in
+    omega (arith, few)
+
 pub bounds-powers-i : goal.bounds-powers-i
 bounds-powers-i c = rw c.args.self.are (power_place c.args.self.codec.code.header _ (place (goal.at.bounds-powers-i c).In-loop-byte))
 
 pub loop-byte-preserved : goal.loop-byte-preserved
 loop-byte-preserved c =
     let l = c.loop-byte in
-    let a = c.args in (c.stepped-i.ensures ∙ ap (λ (x : ℕ). (x + a.j) % a.self.codec.code.header.n) l.invariant.0 ∙ next_place a.j l.byte-index a.self.codec.code.header.n, rw (c.byte_of.ensures, l.invariant.0) (fills_put (rw (from_next_at {A = ℕ} (read a.self.list.now a.j a.self.codec.code.header.n _) 1 (length a.row.now) l.byte-index (room (goal.at.loop-byte-preserved c).In-loop-byte)) at l.invariant.1) (room (goal.at.loop-byte-preserved c).In-loop-byte)))
+    let a = c.args in (c.stepped-i.ensures ∙ ap (λ (x : ℕ). (x + a.j) % a.self.codec.code.header.n) l.invariant.0 ∙ next_place a.j l.byte-index a.self.codec.code.header.n, rw (c.to_be_bytes.ensures, l.invariant.0) (fills_put (rw (from_next_at {A = ℕ} (read a.self.list.now a.j a.self.codec.code.header.n _) 1 (length a.row.now) l.byte-index (room (goal.at.loop-byte-preserved c).In-loop-byte)) at l.invariant.1) (room (goal.at.loop-byte-preserved c).In-loop-byte)))
 
 pub returns : goal.returns
 unfolding power_bytes

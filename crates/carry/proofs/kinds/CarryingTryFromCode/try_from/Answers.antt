@@ -1,4 +1,4 @@
--- `Carrying::of` meets its contract: a prime that carries none is turned away.
+-- `Carrying::try_from` meets its contract: a prime that carries none is turned away.
 use mathlib.Core.Path.{refl}
 use native.Mathlib.Omega.{arith}
 use Rattle.field.specs.Kinds.{modulus}
@@ -6,7 +6,7 @@ use Rattle.generator.specs.Answers.{answer_of}
 use Rattle.carrying.specs.Carrying.{carries_none}
 use Rattle.carry.specs.Inner.Kinds.{field_of}
 use Rattle.carry.proofs.Accepts.{modulus_word, few_carry_none, many_carry}
-use Rattle.carry.proofs.kinds.Carrying.of.Goals as goal
+use Rattle.carry.proofs.kinds.CarryingTryFromCode.try_from.Goals as goal
 
 pub returns-in-Binary : goal.returns-in-Binary
 unfolding modulus carries_none field_of answer_of
