@@ -81,39 +81,40 @@ fn fill_lane(generator: &Generator, w: Width, symbols: &[u16], out: &mut [u8])
     );
 }
 
-// The symbols of lane t of a message, and zeros after them.
-// An array with zeros after: there are k of them, as the code says, so no length stands beside them.
-#[tactic(auto, using(lists::proofs::Fill::filled_start, lists::proofs::Fill::filled_end), unfolding(lists::specs::Padded::zeros, layout::specs::Layout::lane_of))]
-fn lane_symbols(message: &Message, t: usize) -> [u16; 255]
-    requires { t < message.now.lanes }
-    ensures { result ≡ padded 255 (lane_of row_after_row (record_header message.now).k message.now.lanes t (message_symbols message.now)) }
-{
-    let k = message.generator.codec.code.header.k as usize;
-    let mut out = [0u16; 255];
-    for r in 0..k {
-        out[r] = message
-            .width
-            .symbol_at(message.bytes, r * message.lanes + t);
+impl Message<'_> {
+    // The symbols of its lane t, and zeros after them.
+    // An array with zeros after: there are k of them, as the code says, so no length stands beside them.
+    #[tactic(auto, using(lists::proofs::Fill::filled_start, lists::proofs::Fill::filled_end), unfolding(lists::specs::Padded::zeros, layout::specs::Layout::lane_of))]
+    fn lane_symbols(self, t: usize) -> [u16; 255]
+        requires { t < self.lanes }
+        ensures { result ≡ padded 255 (lane_of row_after_row (record_header self.entry).k self.entry.lanes t (message_symbols self.entry)) }
+    {
+        let k = self.generator.codec.code.header.k as usize;
+        let mut out = [0u16; 255];
+        for r in 0..k {
+            out[r] = self.width.symbol_at(self.bytes, r * self.lanes + t);
+        }
+        out
     }
-    out
-}
 
-// Fills all lanes, each through its own part, which is cut by its place: after `chunks_mut` a proof knows the length alone (docs/PROOF-NOTES.md).
-pub fn fill_each(message: &Message, out: &mut [u8])
-    requires { length out.old ≡ share_bytes message.now }
-    ensures { out.new ≡ encoded message.now }
-{
-    let Header { n, k, .. } = message.generator.codec.code.header;
-    let size = message.width.bytes * n as usize;
-    for t in 0..message.lanes {
-        let symbols = lane_symbols(message, t);
-        let start = t * size;
-        let end = start + size;
-        fill_lane(
-            message.generator,
-            message.width,
-            &symbols[..k as usize],
-            &mut out[start..end],
-        );
+    // Fills all lanes, each through its own part, which is cut by its place: after `chunks_mut` a proof knows the length alone
+    // (docs/PROOF-NOTES.md).
+    pub fn fill_each(self, out: &mut [u8])
+        requires { length out.old ≡ share_bytes self }
+        ensures { out.new ≡ encoded self.entry }
+    {
+        let Header { n, k, .. } = self.generator.codec.code.header;
+        let size = self.width.bytes * n as usize;
+        for t in 0..self.lanes {
+            let symbols = self.lane_symbols(t);
+            let start = t * size;
+            let end = start + size;
+            fill_lane(
+                self.generator,
+                self.width,
+                &symbols[..k as usize],
+                &mut out[start..end],
+            );
+        }
     }
 }
