@@ -38,7 +38,7 @@ fill_lane-requires c =
     let l = c.loop-t in
     let rows = m.rows.symbol_rows in
     rw (taken (goal.at.fill_lane-requires c).After-lane_symbols-symbols)
-    (m.rows.wide, length_lane row_after_row h.k m.lanes l.t (message_symbols m), lane_symbols by_row h.k m.lanes (size h) l.t (message_symbols m) c.loop-t-test.true rows.long rows.symbols, part_length (l.t * (m.width.bytes * h.n)) (m.width.bytes * h.n) l.out (omega (arith, l.invariant.long, lane_in (goal.at.fill_lane-requires c).In-loop-t)))
+    (length_lane row_after_row h.k m.lanes l.t (message_symbols m), lane_symbols by_row h.k m.lanes (size h) l.t (message_symbols m) c.loop-t-test.true rows.long rows.symbols, part_length (l.t * (m.width.bytes * h.n)) (m.width.bytes * h.n) l.out (omega (arith, l.invariant.long, lane_in (goal.at.fill_lane-requires c).In-loop-t)))
 
 pub loop-t-preserved : goal.loop-t-preserved
 loop-t-preserved c =
