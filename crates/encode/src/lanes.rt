@@ -54,44 +54,46 @@ fn fill_lists(generator: &Generator, lists: &mut [u16], counts: &mut [u8])
     list_columns(generator, codes, &mut column[..k as usize], lists, counts);
 }
 
-// The product of the generator's columns and so many lanes.
-fn product_of(h: Header, lanes: usize) -> Product
-    ensures { result ≡ column_product h lanes }
-{
-    Product {
-        way: Way::RowsToLanes,
-        field: h.field,
-        outputs: h.n as usize,
-        rows: h.k as usize,
-        lanes,
+impl Message<'_> {
+    // The product of the generator's columns and its lanes.
+    fn product(self) -> Product
+        ensures { result ≡ column_product (record_header self.entry) self.entry.lanes }
+    {
+        let Header { field, n, k, .. } = self.generator.codec.code.header;
+        Product {
+            way: Way::RowsToLanes,
+            field,
+            outputs: n as usize,
+            rows: k as usize,
+            lanes: self.lanes,
+        }
     }
-}
 
-// Fills all lanes, as a product of matrices, in scratch for lists of so many elements and so many counts. A bound of a const parameter stands
-// in the clause: no value holds it.
-fn fill_in<const LISTS: usize, const COUNTS: usize>(message: &Message, out: &mut [u8])
-    requires { (LISTS ≤ 130560) × (COUNTS ≤ 2040) × ColumnRoom (record_header message.now) LISTS COUNTS × (length out.old ≡ share_bytes message.now) }
-    ensures { out.new ≡ encoded message.now }
-{
-    let product = product_of(message.generator.codec.code.header, message.lanes);
-    let mut lists = [0u16; LISTS];
-    let mut counts = [0u8; COUNTS];
-    fill_lists(message.generator, &mut lists, &mut counts);
-    block_products::fill(product, message.width, &lists, &counts, message.bytes, out);
-}
+    // Fills all lanes, as a product of matrices, in scratch for lists of so many elements and so many counts. A bound of a const parameter
+    // stands in the clause: no value holds it.
+    fn fill_in<const LISTS: usize, const COUNTS: usize>(self, out: &mut [u8])
+        requires { (LISTS ≤ 130560) × (COUNTS ≤ 2040) × ColumnRoom (record_header self) LISTS COUNTS × (length out.old ≡ share_bytes self) }
+        ensures { out.new ≡ encoded self.entry }
+    {
+        let mut lists = [0u16; LISTS];
+        let mut counts = [0u8; COUNTS];
+        fill_lists(self.generator, &mut lists, &mut counts);
+        block_products::fill(self.product(), self.width, &lists, &counts, self.bytes, out);
+    }
 
-// The same in the smallest scratch that the record's nodes fit. Clearing the largest takes longer than the work of a small record. The arms
-// name const parameters: a choice written once would need a trait for what is done in the scratch.
-pub fn fill_lanes(message: &Message, out: &mut [u8])
-    requires { length out.old ≡ share_bytes message.now }
-    ensures { out.new ≡ encoded message.now }
-{
-    let n = message.generator.codec.code.header.n;
-    if n <= 16 {
-        fill_in::<SMALL_LISTS, SMALL_COUNTS>(message, out)
-    } else if n <= 64 {
-        fill_in::<MIDDLE_LISTS, MIDDLE_COUNTS>(message, out)
-    } else {
-        fill_in::<LARGE_LISTS, LARGE_COUNTS>(message, out)
+    // The same in the smallest scratch that the record's nodes fit. Clearing the largest takes longer than the work of a small record. The
+    // arms name const parameters: a choice written once would need a trait for what is done in the scratch.
+    pub fn fill_lanes(self, out: &mut [u8])
+        requires { length out.old ≡ share_bytes self }
+        ensures { out.new ≡ encoded self.entry }
+    {
+        let n = self.generator.codec.code.header.n;
+        if n <= 16 {
+            self.fill_in::<SMALL_LISTS, SMALL_COUNTS>(out)
+        } else if n <= 64 {
+            self.fill_in::<MIDDLE_LISTS, MIDDLE_COUNTS>(out)
+        } else {
+            self.fill_in::<LARGE_LISTS, LARGE_COUNTS>(out)
+        }
     }
 }

@@ -21,15 +21,17 @@ fn are_few(lanes: usize, n: usize) -> bool {
     lanes == 1 || (lanes <= 6 && lanes <= n / 10)
 }
 
-// Fills all lanes: few lanes one by one, more as a product of matrices.
-fn encode_lanes(message: &Message, out: &mut [u8])
-    requires { length out.old ≡ share_bytes message.now }
-    ensures { out.new ≡ encoded message.now }
-{
-    if are_few(message.lanes, message.generator.codec.code.header.n as usize) {
-        one_lane::fill_each(message, out);
-    } else {
-        lanes::fill_lanes(message, out);
+impl Message<'_> {
+    // Fills all lanes: few lanes one by one, more as a product of matrices.
+    fn encode_lanes(self, out: &mut [u8])
+        requires { length out.old ≡ share_bytes self }
+        ensures { out.new ≡ encoded self.entry }
+    {
+        if are_few(self.lanes, self.generator.codec.code.header.n as usize) {
+            self.fill_each(out);
+        } else {
+            self.fill_lanes(out);
+        }
     }
 }
 
@@ -47,7 +49,7 @@ fn encode_accepted(code: Code, lanes: usize, message: &[u8], out: &mut [u8]) -> 
         lanes,
         bytes: message,
     };
-    encode_lanes(&message, out);
+    message.encode_lanes(out);
     Ok(())
 }
 

@@ -1,23 +1,19 @@
 // Lane by lane, with the base word as it stands in the plan: a lane's symbols are placed at their rows' shifts, two times round, and what
 // node j holds is the sum of the base word's entries times the symbols from place −j on. No row is copied.
-ghost use Rattle.std.specs.Prelude.{◌≡◌, true, ◌*◌, ◌^◌, ◌≤◌, ◌<◌, length};
+ghost use Rattle.std.specs.Prelude.{◌≡◌, true, ◌*◌, ◌<◌, length, take};
 ghost use Rattle.lists.specs.Numbers.{all_below};
 ghost use Rattle.lists.specs.Padded.{zeros, padded};
 ghost use Rattle.layout.specs.Layout.{row_after_row, lane_of};
 ghost use Rattle.layout.specs.Width.{bytes_of};
-ghost use Rattle.field.specs.Fields.{size_of};
-ghost use Rattle.field.specs.Kinds.{modulus, usable};
-ghost use Rattle.generator.specs.Records.{size, width};
+ghost use Rattle.generator.specs.Records.{modulus_of, size, distance};
 ghost use Rattle.generator.specs.Codewords.{encoding};
-ghost use Rattle.sliding_sums.specs.Inner.Windows.{window_sums, Windows};
+ghost use Rattle.sliding_sums.specs.Inner.Windows.{window_sums};
 ghost use Rattle.encode.specs.Inner.OneLane.{placed_from, by_node};
 ghost use Rattle.encode.specs.Inner.Encoded.{record_header, message_symbols, share_bytes, encoded};
 
 use crate::message::Message;
-use field::Field;
 use generator::Header;
 use plan::Generator;
-use symbols::Width;
 
 // The symbols at the places of their rows' shifts, two times round, and zeros elsewhere.
 #[tactic(auto, using(lists::proofs::Front::drop_next, plan::proofs::Plans::shift_below), unfolding(lists::specs::Padded::zeros, crate::specs::Inner::OneLane::placed_from))]
@@ -44,76 +40,60 @@ fn turn(sums: &mut [u16])
     sums[1..].reverse();
 }
 
-// What the nodes hold, as bytes; `sums` is scratch with a place for each node. Two lists and where the sums go are handed on as they are, for
-// the reason at `window_sums`.
-fn write_nodes(
-    field: Field,
-    w: Width,
-    weights: &[u16],
-    row: &[u16],
-    sums: &mut [u16],
-    out: &mut [u8],
-)
-    requires { (usable field ≡ true) × Windows (size_of (modulus field)) weights.now row.now (length sums.old) × (0 < length sums.old) × (size_of (modulus field) ≤ 256 ^ w.bytes) × (length out.old ≡ length sums.old * w.bytes) }
-    ensures { out.new ≡ bytes_of w.bytes (by_node (window_sums (modulus field) weights.now row.now (length sums.old))) }
-{
-    sliding_sums::window_sums(field, weights, row, sums);
-    turn(sums);
-    w.write_symbols(sums, out);
-}
-
-// Fills a lane with the encoding of its k symbols. Of the base word the first d entries are not zero.
-fn fill_lane(generator: &Generator, w: Width, symbols: &[u16], out: &mut [u8])
-    requires { (w.bytes ≡ width generator.now.codec.code.header) × (length symbols.now ≡ generator.now.codec.code.header.k) × (all_below (size generator.now.codec.code.header) symbols.now ≡ true) × (length out.old ≡ w.bytes * generator.now.codec.code.header.n) }
-    ensures { out.new ≡ bytes_of w.bytes (encoding generator.now.codec.code.header symbols.now) }
-{
-    let Header { field, n, k, .. } = generator.codec.code.header;
-    let d = (n - k) as usize + 1;
-    let row = placed(generator, symbols);
-    let mut sums = [0u16; 255];
-    write_nodes(
-        field,
-        w,
-        &generator.base[..d],
-        &row,
-        &mut sums[..n as usize],
-        out,
-    );
-}
-
-// The symbols of lane t of a message, and zeros after them.
-// An array with zeros after: there are k of them, as the code says, so no length stands beside them.
-#[tactic(auto, using(lists::proofs::Fill::filled_start, lists::proofs::Fill::filled_end), unfolding(lists::specs::Padded::zeros, layout::specs::Layout::lane_of))]
-fn lane_symbols(message: &Message, t: usize) -> [u16; 255]
-    requires { t < message.now.lanes }
-    ensures { result ≡ padded 255 (lane_of row_after_row (record_header message.now).k message.now.lanes t (message_symbols message.now)) }
-{
-    let k = message.generator.codec.code.header.k as usize;
-    let mut out = [0u16; 255];
-    for r in 0..k {
-        out[r] = message
-            .width
-            .symbol_at(message.bytes, r * message.lanes + t);
+impl Message<'_> {
+    // What the nodes hold where its symbols are placed in that row, as bytes; `sums` is scratch with a place for each node. Of the base word
+    // the first d entries are not zero. The scratch is handed on as it is, for the reason at `window_sums`.
+    #[tactic(auto, unfolding(generator::specs::Records::distance))]
+    fn write_nodes(self, row: &[u16], sums: &mut [u16], out: &mut [u8])
+        requires { let h = record_header self in (length row.now ≡ 510) × (all_below (size h) row.now ≡ true) × (length sums.old ≡ h.n) × (length out.old ≡ self.width.bytes * h.n) }
+        ensures { let m = self.entry in let h = record_header m in out.new ≡ bytes_of m.width.bytes (by_node (window_sums (modulus_of h) (take (distance h) m.generator.now.base) row.now (length sums.old))) }
+    {
+        let Header { field, n, k, .. } = self.generator.codec.code.header;
+        let d = (n - k) as usize + 1;
+        sliding_sums::window_sums(field, &self.generator.base[..d], row, sums);
+        turn(sums);
+        self.width.write_symbols(sums, out);
     }
-    out
-}
 
-// Fills all lanes, each through its own part, which is cut by its place: after `chunks_mut` a proof knows the length alone (docs/PROOF-NOTES.md).
-pub fn fill_each(message: &Message, out: &mut [u8])
-    requires { length out.old ≡ share_bytes message.now }
-    ensures { out.new ≡ encoded message.now }
-{
-    let Header { n, k, .. } = message.generator.codec.code.header;
-    let size = message.width.bytes * n as usize;
-    for t in 0..message.lanes {
-        let symbols = lane_symbols(message, t);
-        let start = t * size;
-        let end = start + size;
-        fill_lane(
-            message.generator,
-            message.width,
-            &symbols[..k as usize],
-            &mut out[start..end],
-        );
+    // Fills a lane with the encoding of its k symbols.
+    fn fill_lane(self, symbols: &[u16], out: &mut [u8])
+        requires { let h = record_header self in (length symbols.now ≡ h.k) × (all_below (size h) symbols.now ≡ true) × (length out.old ≡ self.width.bytes * h.n) }
+        ensures { let m = self.entry in out.new ≡ bytes_of m.width.bytes (encoding (record_header m) symbols.now) }
+    {
+        let n = self.generator.codec.code.header.n as usize;
+        let row = placed(self.generator, symbols);
+        let mut sums = [0u16; 255];
+        self.write_nodes(&row, &mut sums[..n], out);
+    }
+
+    // The symbols of its lane t, and zeros after them.
+    // An array with zeros after: there are k of them, as the code says, so no length stands beside them.
+    #[tactic(auto, using(lists::proofs::Fill::filled_start, lists::proofs::Fill::filled_end), unfolding(lists::specs::Padded::zeros, layout::specs::Layout::lane_of))]
+    fn lane_symbols(self, t: usize) -> [u16; 255]
+        requires { t < self.lanes }
+        ensures { result ≡ padded 255 (lane_of row_after_row (record_header self.entry).k self.entry.lanes t (message_symbols self.entry)) }
+    {
+        let k = self.generator.codec.code.header.k as usize;
+        let mut out = [0u16; 255];
+        for r in 0..k {
+            out[r] = self.width.symbol_at(self.bytes, r * self.lanes + t);
+        }
+        out
+    }
+
+    // Fills all lanes, each through its own part, which is cut by its place: after `chunks_mut` a proof knows the length alone
+    // (docs/PROOF-NOTES.md).
+    pub fn fill_each(self, out: &mut [u8])
+        requires { length out.old ≡ share_bytes self }
+        ensures { out.new ≡ encoded self.entry }
+    {
+        let Header { n, k, .. } = self.generator.codec.code.header;
+        let size = self.width.bytes * n as usize;
+        for t in 0..self.lanes {
+            let symbols = self.lane_symbols(t);
+            let start = t * size;
+            let end = start + size;
+            self.fill_lane(&symbols[..k as usize], &mut out[start..end]);
+        }
     }
 }
