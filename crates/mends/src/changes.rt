@@ -22,15 +22,13 @@ struct Received<'a, 'b> {
 }
 
 impl Received<'_, '_> {
-    // Whether each check sum is c times the one before it. By a `for`: `all` over a range left two goals here, whose proofs were no shorter.
+    // Whether each check sum is c times the one before it. By a `for`: `all`, over a range of places, left two goals, whose proofs were no shorter.
     fn goes_up(self, c: u32) -> bool
         requires { c < size self.powers.codec.code.header }
         ensures { result ≡ goes_up (modulus_of self.entry.powers.codec.code.header) c self.entry.sums.now }
     {
-        let sums = self.sums;
-        let last = sums.len() - 1;
-        for e in 0..last {
-            if !self.powers.codec.field.is_product(c, sums[e], sums[e + 1]) {
+        for pair in self.sums.windows(2) {
+            if !self.powers.codec.field.is_product(c, pair[0], pair[1]) {
                 return false;
             }
         }
