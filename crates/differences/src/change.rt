@@ -1,20 +1,19 @@
 // A change of one row of a message.
 ghost use Rattle.std.specs.Prelude.{◌≡◌, ◌<◌};
+ghost use Rattle.generator.specs.Records.{width};
 ghost use Rattle.refusals.specs.Inner.Accepted.{SymbolBytes};
 
-use crate::rows::Rows;
 use plan::Generator;
 
-// The row of that symbol before and after.
+// The row of that symbol before and after, in so many lanes.
 #[derive(Clone, Copy)]
 pub struct Change<'a> {
     pub generator: &'a Generator<'a>,
-    pub rows: Rows,
+    pub lanes: usize,
     pub symbol: usize,
     pub old: &'a [u8],
     pub new: &'a [u8],
-    ghost same_code: { rows.code ≡ generator.now.codec.code },
-    ghost row: { symbol < rows.code.header.k },
-    ghost old_row: { SymbolBytes rows.code.header rows.width 1 rows.lanes old.now },
-    ghost new_row: { SymbolBytes rows.code.header rows.width 1 rows.lanes new.now },
+    ghost row: { symbol < generator.now.codec.code.header.k },
+    ghost old_row: { let h = generator.now.codec.code.header in SymbolBytes h (width h) 1 lanes old.now },
+    ghost new_row: { let h = generator.now.codec.code.header in SymbolBytes h (width h) 1 lanes new.now },
 }

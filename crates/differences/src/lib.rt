@@ -30,15 +30,14 @@ fn differences_accepted(
     fault::differences_fault(code, lanes, symbol, old, new, out.len())?;
     let tables = field::constant_tables();
     let generator = Generator::new(code, &tables);
-    let width = symbols::width_of(code.header).bytes;
     let change = Change {
         generator: &generator,
-        rows: Rows { code, width, lanes },
+        lanes,
         symbol,
         old,
         new,
     };
-    nodes::fill_differences(&change, out);
+    change.fill_differences(out);
     Ok(())
 }
 

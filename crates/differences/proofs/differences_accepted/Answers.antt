@@ -1,5 +1,8 @@
 -- `differences_accepted` meets its contract: the change is of the code that the generator holds, and its rows were judged.
-use mathlib.Core.Path.{sym}
+use mathlib.Core.Path.{refl, ap, ◌∙◌}
+use Prim.Native.Nat.{ℕ, ◌*◌}
+use native.Mathlib.Nat.{mul_comm, mul_assoc}
+use Rattle.generator.specs.Records.{width}
 use Rattle.generator.proofs.Answered.{done_is}
 use Rattle.differences.proofs.Accepts.{differences_accepts}
 use Rattle.differences.proofs.Tiles.{judged_row}
@@ -9,10 +12,11 @@ pub invariant_of-change : goal.invariant_of-change
 invariant_of-change c =
     let a = c.args in
     let is = differences_accepts a.code.header a.code.sound a.lanes a.symbol a.old.now a.new.now _ (done_is _ _ c.in_ok-differences_fault.ensures) in
-    let wide = c.width_of-width.ensures in
-    record {
-      same_code = sym c.new-generator.ensures;
-      row = is.row;
-      old_row = judged_row is.old_row _ wide;
-      new_row = judged_row is.new_row _ wide;
-    }
+    rw c.new-generator.ensures record { row = is.row; old_row = judged_row is.old_row _ refl; new_row = judged_row is.new_row _ refl }
+
+pub fill_differences-requires : goal.fill_differences-requires
+fill_differences-requires c =
+    let a = c.args in
+    let h = a.code.header in
+    let is = differences_accepts h a.code.sound a.lanes a.symbol a.old.now a.new.now _ (done_is _ _ c.in_ok-differences_fault.ensures) in
+    rw c.new-generator.ensures (is.room ∙ mul_assoc h.n a.lanes (width h) ∙ ap (λ (x : ℕ). h.n * x) (mul_comm a.lanes (width h)))

@@ -2,10 +2,10 @@
 use Prim.Native.Nat.{◌-◌, ◌*◌}
 use Rattle.lists.specs.Rows.{rows_from}
 use Rattle.lists.proofs.Fill.{Fills}
-use Rattle.differences.specs.Inner.Changes.{told}
-use Rattle.differences.proofs.nodes.fill_nodes.Given as goal
+use Rattle.differences.specs.Inner.Changes.{change_rows, told}
+use Rattle.differences.proofs.change.Change.fill_nodes.Given as goal
 
 abbrev pub invariant-loop-node : goal.invariant-loop-node
 invariant-loop-node l =
-    let row = told l.change.rows l.change.symbol l.tile in
+    let row = told (change_rows l.self) l.self.symbol l.tile in
     Fills l.initial.out l.out (l.node * l.size) (rows_from row l.node (l.n - l.node)) (rows_from row 0 l.n)
