@@ -85,11 +85,9 @@ fn judge(
 
 impl Update {
     // Judges its lane of the shares, which is handed on as the part from its start to the next one's.
-    fn judge_lane(
-        self,
-        generator: &Generator,
-        shares: &[u8],
-    ) -> Result<(), Refusal>
+    // The part's place is computed here and in `rewrite_lane`: `fn lane_bytes(self, w: Width, n: usize) -> Range<usize>` would take three lines
+    // away from each, and be longer than they are, with a clause for the bounds under which its products fit and one for start and end.
+    fn judge_lane(self, generator: &Generator, shares: &[u8]) -> Result<(), Refusal>
         requires { UpdatableLane generator.now.codec.code.header self.lanes self.which self.lane shares.now }
         ensures { let h = generator.now.codec.code.header in numbered result ≡ outcome_of (stale_fault h (lane_of share_layout h.n self.lanes self.lane (symbols_of (width h) shares.now)) self.which self.old) }
     {
