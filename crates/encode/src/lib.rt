@@ -26,7 +26,10 @@ fn encode_lanes(message: &Message, out: &mut [u8])
     requires { length out.old ≡ share_bytes message.now }
     ensures { out.new ≡ encoded message.now }
 {
-    if are_few(message.lanes, message.generator.codec.code.header.n as usize) {
+    if are_few(
+        message.lanes,
+        message.generator.codec.code.header.n as usize,
+    ) {
         one_lane::fill_each(message, out);
     } else {
         lanes::fill_lanes(message, out);

@@ -85,11 +85,7 @@ fn judge(
 
 impl Update {
     // Judges its lane of the shares, which is handed on as the part from its start to the next one's.
-    fn judge_lane(
-        self,
-        generator: &Generator,
-        shares: &[u8],
-    ) -> Result<(), Refusal>
+    fn judge_lane(self, generator: &Generator, shares: &[u8]) -> Result<(), Refusal>
         requires { UpdatableLane generator.now.codec.code.header self.lanes self.which self.lane shares.now }
         ensures { let h = generator.now.codec.code.header in numbered result ≡ outcome_of (stale_fault h (lane_of share_layout h.n self.lanes self.lane (symbols_of (width h) shares.now)) self.which self.old) }
     {
