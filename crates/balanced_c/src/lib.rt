@@ -28,7 +28,7 @@ pub use rosters::{
 };
 pub use version::balanced_version;
 
-// The number that an answer stands for, 0 where the call was accepted. No `From`: or_from _ _ `Result` nor `u8` is a type of this crate.
+// The number that an answer stands for, 0 where the call was accepted. No `From`: neither `Result` nor `u8` is a type of this crate.
 fn number_of(answer: Result<(), Refusal>) -> u8
     ensures { result ≡ fault_in (numbered answer) }
 {

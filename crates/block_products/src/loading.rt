@@ -23,7 +23,7 @@ pub fn pick_bytes<const W: usize, const V: usize>(part: &[u8], out: &mut [u8])
     }
 }
 
-// The same where or_from _ _ is a constant.
+// The same where neither is a constant.
 fn copy_bytes(w: Width, v: usize, part: &[u8], out: &mut [u8])
     requires byte { v < w.bytes }
     requires long { length part.now ≡ length out.old * w.bytes }

@@ -40,7 +40,7 @@ module _ (rec : List ℕ) where
   unfolding kind_bad
   kind_means = or_test (eqb (length rec) 0) _ (equal_test (length rec) 0) (none_of_three first 1 2 3)
 
-  -- a kind that is or_from _ _ 1 nor 3 is 2
+  -- a kind that is neither 1 nor 3 is 2
   two_left : kind_bad rec ≡ false → eqb first 1 ≡ false → eqb first 3 ≡ false → first ≡ 2
   unfolding kind_bad
   two_left good one three =

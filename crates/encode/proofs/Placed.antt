@@ -110,7 +110,7 @@ module _ (h : Header) (s : Sound h) (n j t : ℕ) (ss ws : List ℕ) (leads : Le
   abbrev Free : ℕ → List ℕ → Type 0
   Free r xs = (u : ℕ) → r ≤ u → u < h.k → (get_or xs (get_or ss u 0) 0 ≡ 0) × (get_or xs (get_or ss u 0 + n) 0 ≡ 0)
 
-  -- a place that is or_from _ _ of two keeps what it held
+  -- a place that is neither of two keeps what it held
   kept : (xs : List ℕ) (x y m : ℕ) → (y ≡ x → ⊥) → (y ≡ x + n → ⊥) → get_or xs y 0 ≡ 0 → get_or (set (set xs x m) (x + n) m) y 0 ≡ 0
   kept xs x y m one two z = get_or-set_other (set xs x m) (x + n) y m 0 two ∙ get_or-set_other xs x y m 0 one ∙ z
 

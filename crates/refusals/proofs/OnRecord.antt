@@ -25,7 +25,7 @@ met_number rec g e = go (record_fault rec) refl
         let same : suc f ≡ g = cc in
         (q ∙ same, λ z. omega arith)
 
--- where or_from _ _ the record nor the call has a number
+-- where neither the record nor the call has a number
 pub none_met : (rec : List ℕ) (call : Header → ℕ) → fault_of rec call ≡ 0 → Sound (header_of rec) × (call (header_of rec) ≡ 0)
 unfolding fault_of
 none_met rec call e =

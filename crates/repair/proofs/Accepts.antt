@@ -1,4 +1,4 @@
--- What holds where or_from _ _ call meets a number, and what each says beside one.
+-- What holds where neither call meets a number, and what each says beside one.
 use Rattle.std.specs.Prelude.{Ok, Err}
 use mathlib.Core.Path.{◌≡◌, sym, ◌∙◌}
 use mathlib.Core.Bool.{true, false, not}

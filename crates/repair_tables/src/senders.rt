@@ -1,4 +1,4 @@
-// The nodes that send: or_from _ _ the target nor missing.
+// The nodes that send: neither the target nor missing.
 ghost use Rattle.std.specs.Prelude.{◌≡◌};
 ghost use Rattle.lists.specs.Counting.{passing_from};
 ghost use Rattle.lists.specs.Numbers.{is_in};

@@ -5,7 +5,7 @@ ghost use Rattle.roster_bytes.specs.Bytes.{roster_of, roster_bytes};
 use roster::Roster;
 use std::array;
 
-// The roster of 256 bytes: a mark other than 0 counts as present. No `From`: or_from _ _ `Roster` nor an array is a type of this crate.
+// The roster of 256 bytes: a mark other than 0 counts as present. No `From`: neither `Roster` nor an array is a type of this crate.
 pub fn read_roster(bytes: &[u8; 256]) -> Roster
     ensures { result ≡ roster_of bytes.now }
 {

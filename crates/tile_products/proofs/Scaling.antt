@@ -19,7 +19,7 @@ module _ (p : ℕ) (ws : List ℕ) (size : ℕ) (room : 2 * length ws ≤ size) 
     first_long : length first ≡ size
     first_long = length-set list i w ∙ s.long
 
-    -- a place that is or_from _ _
+    -- a place that is neither
     other : (x : ℕ) → (x ≡ i → ⊥) → (x ≡ length ws + i → ⊥) → get_or (set first (length ws + i) r) x 0 ≡ get_or list x 0
     other x n m = get_or-set_other first (length ws + i) x r 0 m ∙ get_or-set_other list i x w 0 n
 

@@ -20,7 +20,7 @@ bits h count = pick (eqb (modulus_of h) 0) (bits_for (h.n - h.k - count)) 0
 unfoldable pub spare : Header → ℕ → ℕ
 spare h count = h.n - h.k - count - 2 ^ (8 - bits h count)
 
--- a node sends to the target where it is or_from _ _ the target nor missing
+-- a node sends to the target where it is neither the target nor missing
 unfoldable pub sends : ℕ → List ℕ → ℕ → Bool
 sends target missing j = not (is_in j (target ∷ missing))
 
