@@ -17,8 +17,8 @@ pub fn products(field: Arithmetic, xs: &[u16], ys: &[u16]) -> [u16; 255]
     ensures { result ≡ padded 255 (termwise (modulus field.entry.field) xs.now ys.now) }
 {
     let mut out = [0u16; 255];
-    for i in 0..xs.len() {
-        out[i] = field.mul(xs[i] as u32, ys[i] as u32) as u16;
+    for (i, (&x, &y)) in xs.iter().zip(ys).enumerate() {
+        out[i] = field.mul(x as u32, y as u32) as u16;
     }
     out
 }
