@@ -18,8 +18,8 @@ pub fn difference(code: Code, before: &[u16], after: &[u16]) -> [u16; 255]
 {
     let field = code.header.field;
     let mut out = [0u16; 255];
-    for j in 0..before.len() {
-        out[j] = field.sub(after[j] as u32, before[j] as u32) as u16;
+    for (j, (&x, &y)) in after.iter().zip(before).enumerate() {
+        out[j] = field.sub(x as u32, y as u32) as u16;
     }
     out
 }
