@@ -49,7 +49,7 @@ fn fill_power_rows(code: Code, rows: &mut [u8])
     let h = code.header;
     let w = symbols::width_of(h).bytes;
     let count = w * h.n as usize;
-    let checks = (h.n - h.k) as usize;
+    let checks = code.checks();
     let tables = field::constant_tables();
     let codec = Codec::new(code, &tables);
     let list = powers::powers(codec);
@@ -78,7 +78,7 @@ impl<'a> PowerRows<'a> {
         ensures { result.code ≡ code }
     {
         let h = code.header;
-        let size = symbols::width_of(h).bytes * h.n as usize * (h.n - h.k) as usize;
+        let size = symbols::width_of(h).bytes * h.n as usize * code.checks();
         let rows = &mut room[..size];
         fill_power_rows(code, rows);
         PowerRows { code, rows }
@@ -100,9 +100,15 @@ impl Lane<'_, '_> {
         requires { let h = self.rows.code.header in length sums.old ≡ width h * (h.n - h.k) }
         ensures { let h = self.entry.rows.code.header in sums.new ≡ bytes_of (width h) (check_sums h self.entry.symbols.now) }
     {
-        let h = self.rows.code.header;
-        let checks = (h.n - h.k) as usize;
-        row_sums::combine_symbols(h.field, self.symbols, checks, self.rows.rows, sums);
+        let code = self.rows.code;
+        let checks = code.checks();
+        row_sums::combine_symbols(
+            code.header.field,
+            self.symbols,
+            checks,
+            self.rows.rows,
+            sums,
+        );
     }
 
     // The check sums, and zeros after them.
@@ -110,9 +116,9 @@ impl Lane<'_, '_> {
     pub fn sums(self) -> [u16; 255]
         ensures { result ≡ padded 255 (check_sums self.entry.rows.code.header self.entry.symbols.now) }
     {
-        let h = self.rows.code.header;
-        let w = symbols::width_of(h);
-        let size = w.bytes * (h.n - h.k) as usize;
+        let code = self.rows.code;
+        let w = symbols::width_of(code.header);
+        let size = w.bytes * code.checks();
         let mut room = [0u8; 510];
         let sums = &mut room[..size];
         self.fill_sums(sums);
@@ -123,8 +129,7 @@ impl Lane<'_, '_> {
     pub fn is_word(self) -> bool
         ensures { result ≡ is_word self.entry.rows.code.header self.entry.symbols.now }
     {
-        let h = self.rows.code.header;
-        let checks = (h.n - h.k) as usize;
+        let checks = self.rows.code.checks();
         let found = self.sums();
         all_zero(&found[..checks])
     }

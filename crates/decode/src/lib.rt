@@ -60,7 +60,7 @@ fn wrong_nodes(codec: Codec, sums: &[u16; 255]) -> ArrayVec<u8, 255>
     let field = codec.field;
     let root = h.root;
     let n = h.n as usize;
-    let t = ((h.n - h.k) / 2) as usize;
+    let t = codec.code.checks() / 2;
     let size = t + 1;
     let locator = locate(field, sums, t);
     let polynomial = Polynomial {
@@ -77,7 +77,7 @@ pub fn correct_lane(rows: PowerRows, lane: &[u16]) -> Option<Corrected>
 {
     let h = rows.code.header;
     let n = h.n as usize;
-    let t = ((h.n - h.k) / 2) as usize;
+    let t = rows.code.checks() / 2;
     let sums = Lane {
         rows,
         symbols: lane,

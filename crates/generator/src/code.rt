@@ -1,5 +1,5 @@
 // The code that an accepted record stands for, and its dimensions.
-ghost use Rattle.std.specs.Prelude.{◌≡◌, ◌≤◌, ◌<◌};
+ghost use Rattle.std.specs.Prelude.{◌≡◌, ◌≤◌, ◌<◌, ◌-◌};
 ghost use Rattle.generator.specs.Records.{Sound};
 
 use crate::Header;
@@ -29,6 +29,14 @@ impl Code {
     {
         let Header { n, k, .. } = self.header;
         Dimensions { n, k }
+    }
+
+    // How many check sums a word of n symbols has.
+    pub fn checks(self) -> usize
+        ensures { result ≡ self.header.n - self.header.k }
+    {
+        let Dimensions { n, k } = self.dimensions();
+        (n - k) as usize
     }
 }
 

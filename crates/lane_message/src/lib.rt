@@ -50,9 +50,9 @@ impl GeneratorRows<'_, '_> {
         requires { r < self.transform.powers.codec.code.header.k }
         ensures { let t = self.entry.transform in numbered result ≡ outcome_of (stale_fault t.powers.codec.code.header t.lane.now r old) }
     {
-        let h = self.transform.powers.codec.code.header;
-        let n = h.n as usize;
-        let checks = (h.n - h.k) as usize;
+        let code = self.transform.powers.codec.code;
+        let n = code.header.n as usize;
+        let checks = code.checks();
         let spectrum = self.transform.spectrum();
         let word = lane::all_zero(&spectrum[1..=checks]);
         let symbol = self.symbol(&spectrum[..n], r);

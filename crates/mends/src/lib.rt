@@ -20,7 +20,7 @@ fn list_mends(code: Code, lane: &[u16], nodes: &mut [u8], symbols: &mut [u8]) ->
     requires { IsLane code.header lane.now × (length nodes.old ≡ code.header.n) × (length symbols.old ≡ code.header.n * width code.header) }
     ensures { (result ≡ length (mend_nodes code.header lane.now)) × (nodes.new ≡ in_front (mend_nodes code.header lane.now) nodes.old) × (symbols.new ≡ in_front (bytes_of (width code.header) (mend_symbols code.header lane.now)) symbols.old) }
 {
-    let checks = (code.header.n - code.header.k) as usize;
+    let checks = code.checks();
     let mut room: [u8; ROOM] = kernel::filled(0);
     let rows = PowerRows::new(code, &mut room);
     let sums = Lane {

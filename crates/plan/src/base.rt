@@ -51,15 +51,16 @@ impl Recurrence<'_> {
     fn word(self) -> [u16; 255]
         ensures { result ≡ padded 255 (base_word self.entry.codec.code.header) }
     {
-        let h = self.codec.code.header;
-        let last = (h.n - h.k) as usize;
+        let codec = self.codec;
+        let code = codec.code;
+        let last = code.checks();
         let mut out = [0u16; 255];
         let mut x = self.scale;
         let mut entry = self.first();
         out[0] = entry as u16;
         for place in &mut out[1..=last] {
             entry = self.next(x, entry);
-            x = self.codec.field.mul(h.root, x);
+            x = codec.field.mul(code.header.root, x);
             *place = entry as u16;
         }
         out

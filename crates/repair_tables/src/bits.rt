@@ -32,7 +32,7 @@ impl Bits {
     pub fn new(code: Code, missing: usize) -> Option<Self>
         ensures { MatchOption result (bits code.header missing ≡ 0) (λ b. bit_count b ≡ bits code.header missing) }
     {
-        let r = (code.header.n - code.header.k) as usize;
+        let r = code.checks();
         match code.header.field {
             Field::Prime(_) => None,
             Field::Binary(_) => bits_for(r.saturating_sub(missing)),
@@ -51,7 +51,7 @@ impl Bits {
         requires { bit_count self ≡ bits code.header missing }
         ensures { result ≡ spare code.header missing }
     {
-        let r = (code.header.n - code.header.k) as usize;
+        let r = code.checks();
         let needed = 1 << (8 - self.count());
         r.saturating_sub(missing).saturating_sub(needed) as u32
     }

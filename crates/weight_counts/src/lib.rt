@@ -69,7 +69,7 @@ impl SmallCode {
     {
         let h = self.code.header;
         let q = h.field.size();
-        let fixed = (h.n - h.k) as usize;
+        let fixed = self.code.checks();
         let mut x: u32 = 1;
         for (y, count) in counts.iter_mut().enumerate() {
             *count = x;

@@ -41,7 +41,7 @@ fn list_nodes(code: Code, lists: &mut [u16], counts: &mut [u8])
     let h = code.header;
     let n = h.n as usize;
     let k = h.k as usize;
-    let checks = (h.n - h.k) as usize;
+    let checks = code.checks();
     let mut codes: [u64; 256] = kernel::filled(0);
     let codes = WeightCodes::new(h.field, &mut codes);
     let tables = field::constant_tables();
@@ -69,7 +69,7 @@ fn list_sums(code: Code, lists: &mut [u16], counts: &mut [u8])
 {
     let h = code.header;
     let n = h.n as usize;
-    let checks = (h.n - h.k) as usize;
+    let checks = code.checks();
     let mut codes: [u64; 256] = kernel::filled(0);
     let codes = WeightCodes::new(h.field, &mut codes);
     let tables = field::constant_tables();

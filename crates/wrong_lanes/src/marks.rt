@@ -42,7 +42,7 @@ impl Block<'_> {
         Product {
             way: Way::LanesToMarks,
             field: h.field,
-            outputs: (h.n - h.k) as usize,
+            outputs: self.code.checks(),
             rows: h.n as usize,
             lanes: self.lanes,
         }
