@@ -37,10 +37,16 @@ fn rounds_of(n: usize, shifts: &[u8]) -> Option<usize>
     let taken = run(shifts)?;
     let around = shifts[taken] as usize;
     let rounds = n.checked_div(around)?;
-    let whole = rounds * around == n
-        && rounds * taken == shifts.len()
-        && in_rounds(around, taken, shifts);
-    whole.then_some(rounds)
+    if rounds * around != n {
+        return None;
+    }
+    if rounds * taken != shifts.len() {
+        return None;
+    }
+    if !in_rounds(around, taken, shifts) {
+        return None;
+    }
+    Some(rounds)
 }
 
 // Coefficient j of q(x^g).
