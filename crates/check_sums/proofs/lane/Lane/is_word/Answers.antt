@@ -8,5 +8,5 @@ use Rattle.check_sums.proofs.lane.Lane.is_word.Goals as goal
 pub returns : goal.returns
 returns c =
     c.all_zero.ensures
-    ∙ ap (all_below 1) (rw c.sums-found.ensures (take_padded 255 _ _ (length_sums _ _)))
+    ∙ ap (all_below 1) (rw (c.sums-found.ensures, c.checks-checks.ensures) (take_padded 255 _ _ (length_sums _ _)))
     ∙ word_sums _ _
