@@ -1,6 +1,5 @@
 // The product over the points of the rows. Where their shifts come in g rounds it is a polynomial in x^g, the product over the points of one round to the power g.
-ghost use Rattle.std.specs.Prelude.{◌≡◌, ℕ, true, ◌+◌, ◌/◌, ◌%◌, ◌≤◌, ◌<◌, IfSome, eqb, length, get_or};
-ghost use Rattle.lists.specs.Choice.{pick};
+ghost use Rattle.std.specs.Prelude.{◌≡◌, ℕ, true, ◌%◌, ◌≤◌, ◌<◌, IfSome, length, get_or};
 ghost use Rattle.lists.specs.Padded.{padded};
 ghost use Rattle.generator.specs.Records.{modulus_of};
 ghost use Rattle.generator.specs.Shifts.{shifts as shifts_for};
@@ -37,28 +36,26 @@ fn rounds_of(n: usize, shifts: &[u8]) -> Option<usize>
     let taken = run(shifts)?;
     let around = shifts[taken] as usize;
     let rounds = n.checked_div(around)?;
-    let whole = rounds * around == n
-        && rounds * taken == shifts.len()
-        && in_rounds(around, taken, shifts);
-    whole.then_some(rounds)
+    if rounds * around != n {
+        return None;
+    }
+    if rounds * taken != shifts.len() {
+        return None;
+    }
+    if !in_rounds(around, taken, shifts) {
+        return None;
+    }
+    Some(rounds)
 }
 
-// Coefficient j of q(x^g).
-fn spread_at(g: usize, q: &[u16; 256], j: usize) -> u16
-    requires { (0 < g) × (j ≤ 255) × (length q.now ≡ 256) }
-    ensures { result ≡ pick (eqb (j % g) 0) (get_or q.now (j / g) 0) 0 }
-{
-    if j % g == 0 { q[j / g] } else { 0 }
-}
-
-// The first l coefficients of q(x^g), and zeros after them.
+// The first l coefficients of q(x^g), and zeros after them: those of q stand at every g-th place.
 fn spread(g: usize, l: usize, q: &[u16; 256]) -> [u16; 256]
     requires { (0 < g) × (l ≤ 256) × (length q.now ≡ 256) }
     ensures { result ≡ padded 256 (spaced_of g l q.now) }
 {
     let mut out = [0u16; 256];
-    for j in 0..l {
-        out[j] = spread_at(g, q, j);
+    for j in (0..l).step_by(g) {
+        out[j] = q[j / g];
     }
     out
 }

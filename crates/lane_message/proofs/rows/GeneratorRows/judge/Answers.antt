@@ -22,7 +22,7 @@ test : (c : After-all_zero-word) → let a = c.args in c.all_zero-word.result �
 test c =
     let h = c.args.self.transform.powers.codec.code.header in
     c.all_zero-word.ensures
-    ∙ ap (all_below 1) (rw c.spectrum-spectrum.ensures (check_part h c.args.self.transform.lane.now c.args.self.transform.powers.codec.code.sound c.args.self.transform.powers.codec.code.sound.byte))
+    ∙ ap (all_below 1) (rw (c.spectrum-spectrum.ensures, c.checks-checks.ensures) (check_part h c.args.self.transform.lane.now c.args.self.transform.powers.codec.code.sound c.args.self.transform.powers.codec.code.sound.byte))
     ∙ word_sums h c.args.self.transform.lane.now
 
 -- the spectrum, lent as a part
