@@ -71,14 +71,14 @@ def broken_links(path, text):
 
 
 def left_out(text):
-    """The parts of a document that its list of them leaves out. A document that links to most of its parts before the first, or under
+    """The parts of a document that its list of them leaves out. A document that links to three parts in four before the first, or under
     "Contents", lists them."""
     parts = re.split(r"^## (.*)$", text, flags=re.M)
     headings = [heading for heading in parts[1::2] if heading != "Contents"]
     listed = parts[0] + (parts[2] if parts[1:2] == ["Contents"] else "")
     links = {place for target, place in LINK.findall(listed) if not target}
     absent = [heading for heading in headings if anchor(heading) not in links]
-    if 2 * len(absent) < len(headings):
+    if 4 * len(absent) < len(headings):
         yield from (f"the list of parts leaves out {heading}" for heading in absent)
 
 
