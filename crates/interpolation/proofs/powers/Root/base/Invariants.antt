@@ -5,8 +5,8 @@ use Rattle.lists.specs.Padded.{padded}
 use Rattle.field.specs.Fields.{size_of, power}
 use Rattle.field.specs.Kinds.{modulus}
 use Rattle.interpolation.specs.Inner.Polynomials.{base_of}
-use Rattle.interpolation.proofs.polynomials.base.Given as goal
+use Rattle.interpolation.proofs.powers.Root.base.Given as goal
 
 abbrev pub invariant-loop-i : goal.invariant-loop-i
 invariant-loop-i l =
-    (l.y < size_of (modulus l.field.field)) × (l.y ≡ power (modulus l.field.field) l.root l.i) × (l.out ≡ padded 256 (base_of (modulus l.field.field) l.root l.i))
+    (l.y < size_of (modulus l.self.field.field)) × (l.y ≡ power (modulus l.self.field.field) l.self.value l.i) × (l.out ≡ padded 256 (base_of (modulus l.self.field.field) l.self.value l.i))
