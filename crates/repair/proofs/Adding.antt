@@ -20,6 +20,8 @@ use Rattle.kernel.specs.Inner.Lanes.{lanewise}
 use Rattle.kernel.proofs.Lanes.{lanewise_same, lanewise_from}
 use Rattle.traces.specs.Traces.{xor_below}
 use Rattle.traces.specs.Repairs.{bits, senders, sent_digit, part, repaired}
+use Rattle.repair_tables.specs.declared.nodes.Target.{Target}
+use Rattle.repair_tables.specs.Bits.{bit_count}
 use Rattle.repair_tables.specs.Inner.Weights.{bit_weight}
 use Rattle.traces.proofs.Bounds.{offset_below}
 use Rattle.traces.proofs.Claims.{repairable, xor_below_agree}
@@ -29,6 +31,8 @@ use Rattle.repair.specs.Sent.{sent, repaired_share}
 use Rattle.repair.specs.Inner.Sums.{plane_sum, plane_sums, lane_byte}
 use Rattle.repair.specs.Inner.Lanes.{lane_bit}
 use Rattle.repair.proofs.Digits.{byte_ext, byte_inside}
+use Rattle.repair.specs.Inner.Asked.{asked}
+use Rattle.repair.proofs.Judging.{asked_bits}
 use Rattle.repair.proofs.Bits.{bit_sum, byte_sum, repaired_bits}
 
 pub chosen_none : (bit : ℕ) (row acc : List ℕ) → bit < 2 → (bit ≡ 1 → ⊥) → acc ≡ lanewise (λ c y. bit_xor y (bit * get_or row c 0)) acc
@@ -74,6 +78,9 @@ unfolding sent
 sent_table h t missing j b table share w e low =
     ap (λ (b : ℕ). planes b (length share) (λ i. get_or table (get_or share i 0) 0)) w
     ∙ ap (planes (bits h (length missing)) (length share)) (fun_ext (λ i. table_at 256 (sent_digit h t missing j) table e (get_or share i 0) (low i)))
+
+pub sent_asked : (x : Target) (h : Header) (t : ℕ) (missing : List ℕ) → asked x ≡ (h, (t, missing)) → (j : ℕ) (table share : List ℕ) → table ≡ from (sent_digit x.codec.code.header x.node x.missing.now j) 0 256 → ((i : ℕ) → get_or share i 0 < 256) → planes (bit_count x.bits) (length share) (λ i. get_or table (get_or share i 0) 0) ≡ sent h t missing j share
+sent_asked x h t missing is j table share e low = sent_table h t missing j _ table share (asked_bits x h t missing is) (e ∙ ap (λ p. from (sent_digit p.0 p.1.0 p.1.1 j) 0 256) is) low
 
 -- weights are bytes
 weight_byte : (h : Header) → Sound h → modulus_of h ≡ 0 → (b t : ℕ) (js : List ℕ) (q : ℕ) → bit_weight h b t js q < 256

@@ -16,16 +16,16 @@ loop-j-preserved g c =
       | then-test w ↦ record {
         few = rw w.nodes-is (omega (arith, w.push.ensures.len));
         listed = λ q gives.
-          let todo = rw (passing_next _ _ _ c.loop-j-test.true) at (c.loop-j.invariant.listed q gives) in
-          let test = sym (gives _ _ c.loop-j-test.true c.test.ensures) in
-          rw (w.nodes-is, w.push.ensures.items, append_assoc) (rw (test ∙ w.if-test.true) at todo);
+            let todo = rw (passing_next _ _ _ c.loop-j-test.true) at (c.loop-j.invariant.listed q gives) in
+            let test = sym (gives _ _ c.loop-j-test.true c.test.ensures) in
+            rw (w.nodes-is, w.push.ensures.items, append_assoc) (rw (test ∙ w.if-test.true) at todo);
       }
       | else-test w ↦ rw w.nodes-is record {
         few = omega arith;
         listed = λ q gives.
-          let todo = rw (passing_next _ _ _ c.loop-j-test.true) at (c.loop-j.invariant.listed q gives) in
-          let test = sym (gives _ _ c.loop-j-test.true c.test.ensures) in
-          rw (test ∙ w.if-test.false) at todo;
+            let todo = rw (passing_next _ _ _ c.loop-j-test.true) at (c.loop-j.invariant.listed q gives) in
+            let test = sym (gives _ _ c.loop-j-test.true c.test.ensures) in
+            rw (test ∙ w.if-test.false) at todo;
       }
     ]
 
