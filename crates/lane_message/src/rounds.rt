@@ -49,6 +49,7 @@ fn rounds_of(n: usize, shifts: &[u8]) -> Option<usize>
 }
 
 // The first l coefficients of q(x^g), and zeros after them: those of q stand at every g-th place.
+#[tactic(auto, using(lists::proofs::Fill::filled_start, lists::proofs::Fill::filled_end), unfolding(lists::specs::Padded::zeros, crate::specs::Inner::Rows::spaced_of))]
 fn spread(g: usize, l: usize, q: &[u16; 256]) -> [u16; 256]
     requires { (0 < g) × (l ≤ 256) × (length q.now ≡ 256) }
     ensures { result ≡ padded 256 (spaced_of g l q.now) }
@@ -62,6 +63,7 @@ fn spread(g: usize, l: usize, q: &[u16; 256]) -> [u16; 256]
 
 impl GeneratorRows<'_, '_> {
     // The points of one round to the power g, and zeros after them.
+    #[tactic(auto, using(lists::proofs::Fill::filled_start, lists::proofs::Fill::filled_end, lists::proofs::Rows::from_ext, check_sums::proofs::Sums::power_at, crate::proofs::Points::power_modulo), unfolding(lists::specs::Padded::zeros, crate::specs::Inner::Rows::round_points))]
     fn round_points(self, g: usize) -> [u16; 255]
         requires { (0 < g) × (g ≤ 255) }
         ensures { result ≡ padded 255 (round_points self.entry.transform.powers.codec.code.header g) }
@@ -80,6 +82,7 @@ impl GeneratorRows<'_, '_> {
     }
 
     // The product over the points of the rows, where their shifts come in g rounds.
+    #[tactic(auto, using(lists::proofs::Padding::take_padded, lists::proofs::Padding::length_padded, crate::proofs::RowProduct::length_round, crate::proofs::RowProduct::round_symbols, crate::proofs::RowProduct::round_product))]
     fn round_product(self, g: usize) -> [u16; 256]
         requires { (0 < g) × (g ≤ 255) × InRounds self.transform.powers.codec.code.header.n (shifts_for self.transform.powers.codec.code.header) g }
         ensures { let h = self.entry.transform.powers.codec.code.header in result ≡ padded 256 (product_of (modulus_of h) (row_points h)) }
@@ -96,6 +99,7 @@ impl GeneratorRows<'_, '_> {
     }
 
     // The product over the points of the rows, and zeros after it.
+    #[tactic(auto, using(lists::proofs::Padding::take_padded, crate::proofs::Points::length_shifts))]
     pub fn product(self, points: &[u16]) -> [u16; 256]
         requires { points.now ≡ row_points self.transform.powers.codec.code.header }
         ensures { let h = self.entry.transform.powers.codec.code.header in result ≡ padded 256 (product_of (modulus_of h) (row_points h)) }

@@ -3,12 +3,11 @@ use Rattle.std.proofs.lemmas.Nat.{mod-mul-add}
 use mathlib.Core.Path.{◌≡◌, sym, ◌∙◌}
 use mathlib.Core.List.{List}
 use Prim.Native.Nat.{ℕ, zero, suc, ◌+◌, ◌-◌, ◌*◌, ◌/◌, ◌%◌, ◌≤◌, ◌<◌}
-use native.Mathlib.Nat.{add-zero, zero-mul, mul-mod_left}
+use native.Mathlib.Nat.{add-zero, mul-mod_left}
 use native.Mathlib.Omega.{arith}
 use borrow.Author.Tests.{ne_eqb}
 use lib.ListN.{get_or, set}
-use Rattle.lists.specs.Padded.{zeros}
-use Rattle.lists.proofs.Fill.{Filled, fills_keep, filled_start, filled_put, filled_end, length_zeros}
+use Rattle.lists.proofs.Fill.{Filled, fills_keep, filled_put, filled_end, length_zeros}
 use Rattle.lists.proofs.Padding.{get_or_zeros}
 use Rattle.lists.proofs.Rows.{from_next}
 use Rattle.lane_message.specs.Inner.Rows.{spaced_of}
@@ -38,18 +37,10 @@ written {g} {l} {j} {q} s low e above near inside =
     let parts : s.turns * g + (k - j) ≡ k = omega (arith, s.place) in
     rw (rw parts at (mod-mul-add s.turns g (k - j) (omega arith)), ne_eqb (k - j) 0 (λ z. omega arith))))
 
-pub loop-j-init : goal.loop-j-init
-unfolding zeros
-loop-j-init c = record { turns = 0; place = sym (zero-mul _); filled = filled_start 256 _ _ c.requires.1 }
-
 pub loop-j-preserved : goal.loop-j-preserved
 loop-j-preserved c =
     let s = c.loop-j.invariant in
     record { turns = s.turns + 1; place = omega (arith, s.place); filled = written s (omega arith) _ (omega arith) (omega arith) (omega arith) }
-
-pub returns : goal.returns
-unfolding spaced_of
-returns c = filled_end c.loop-j.invariant.filled (omega arith)
 
 -- after the last one
 pub returns-2 : goal.returns-2
