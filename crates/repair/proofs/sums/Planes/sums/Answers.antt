@@ -1,4 +1,6 @@
 -- `Planes::sums` meets its contract. Invariant: the sums below p are made.
+use Prim.Native.Nat.{◌<◌}
+use native.Mathlib.Omega.{arith}
 use Rattle.lists.proofs.Rows.{from_next, from_end}
 use Rattle.lists.proofs.Fill.{fills_start, fills_put, fills_all}
 use Rattle.repair.specs.Inner.Sums.{plane_sums}
@@ -10,7 +12,7 @@ loop-p-init c = fills_start _ _
 
 pub loop-p-preserved : goal.loop-p-preserved
 loop-p-preserved c =
-    let low = c.loop-p-test.true in
+    let low : c.loop-p.p < 8 = omega (arith, c.loop-p-test.true) in
     rw c.padded_sum.ensures (fills_put (rw (from_next _ 8 _ low) at c.loop-p.invariant) low)
 
 pub returns : goal.returns
