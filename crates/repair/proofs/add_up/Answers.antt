@@ -55,5 +55,5 @@ returns c =
     let ws = take (c.senders-senders.result * c.count.result) c.weights-weights.result in
     let are = lent (goal.at.returns c).After-count in
     c.combine.ensures
-    ∙ ap₂ (λ (n size : ℕ). lanewise (λ i y. lane_byte (plane_sums ws n size a.rows.now) size i) a.out.now) (table_long _ _ _ are) c.plane_size.ensures
+    ∙ ap₂ (λ (n size : ℕ). lanewise (λ i y. lane_byte (plane_sums ws n size a.rows.now) i) a.out.now) (table_long _ _ _ are) c.plane_size.ensures
     ∙ share_is t.codec.code.header t.codec.code.sound _ t.node t.missing.now a.rows.now ws t.repairing.some are a.out.now refl
