@@ -67,6 +67,7 @@ impl Inverse<'_> {
     // The lists of the quotients by the linear factors of the nodes' points. Here and below, lists and counts are lent side by side: a value of both
     // arrays, `&mut WeightLists<LISTS, COUNTS>`, would make each function down to `prepare` generic in two sizes, and of a struct of two slices each
     // clause would say what they lead to before and after (tiles/src/scattering.rt).
+    #[tactic(auto, using(lists::proofs::Padding::take_padded, crate::proofs::Rows::length_quotient, crate::proofs::Rows::quotient_below, crate::proofs::Prepared::few))]
     fn list_quotients(self, codes: WeightCodes, lists: &mut [u16], counts: &mut [u8])
         requires { (codes.field ≡ self.code.header.field) × ListRoom self.code.header.k (length lists.old) (length counts.old) }
         ensures { let h = self.entry.code.header in Begun (modulus_of h) h.k (node_quotient h self.entry.nodes.now) h.k lists.new counts.new }
@@ -98,6 +99,7 @@ impl Inverse<'_> {
 
     // Row r: column r of the sums, each times the scale of the row and that of its node, and zeros after it.
     // An array with zeros after: it has k entries, as the code says, so no length stands beside it.
+    #[tactic(auto, using(lists::proofs::Fill::filled_start, crate::proofs::Prepared::few, crate::proofs::Prepared::own_scale_below, crate::proofs::Prepared::row_scale_below, crate::proofs::Prepared::sum_inside, crate::proofs::Prepared::sum_below), unfolding(lists::specs::Padded::zeros))]
     fn row(self, field: Arithmetic, r: usize, sums: &[u8]) -> [u16; 255]
         requires { (field.field ≡ self.code.header.field) × (r < self.code.header.k) × (sums.now ≡ bytes_of (width self.code.header) (inverse_sums self.code.header self.nodes.now)) }
         ensures { result ≡ padded 255 (inverse_row self.entry.code.header self.entry.nodes.now r) }
@@ -115,6 +117,7 @@ impl Inverse<'_> {
     }
 
     // The lists of all rows, from the sums.
+    #[tactic(auto, using(lists::proofs::Padding::take_padded, crate::proofs::Rows::length_row, crate::proofs::Rows::row_below, crate::proofs::Prepared::few))]
     fn list_from(self, sums: &[u8], codes: WeightCodes, lists: &mut [u16], counts: &mut [u8])
         requires { (sums.now ≡ bytes_of (width self.code.header) (inverse_sums self.code.header self.nodes.now)) × (codes.field ≡ self.code.header.field) × ListRoom self.code.header.k (length lists.old) (length counts.old) }
         ensures { let h = self.entry.code.header in Begun (modulus_of h) h.k (inverse_row h self.entry.nodes.now) h.k lists.new counts.new }
