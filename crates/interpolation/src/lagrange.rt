@@ -63,6 +63,7 @@ impl Points<'_, '_> {
     }
 
     // The scales of all basis polynomials, and zeros after them.
+    #[tactic(auto, using(lists::proofs::Fill::filled_start, lists::proofs::Fill::filled_end), unfolding(lists::specs::Padded::zeros, crate::specs::Inner::Lagrange::scales_of))]
     pub fn scales(self) -> [u16; 255]
         ensures { result ≡ padded 255 (scales_of (modulus self.entry.field.field) self.entry.points.now) }
     {
@@ -74,6 +75,7 @@ impl Points<'_, '_> {
     }
 
     // The products of (z − x) over the last m points x, for m = 0, 1, .., and zeros after them.
+    #[tactic(auto, using(lists::proofs::Fill::filled_end, lists::proofs::Numbers::below_at))]
     fn last_products(self, z: u32) -> [u16; 255]
         requires { z < size_of (modulus self.field.field) }
         ensures { let xs = self.entry.points.now in result ≡ padded 255 (from (λ m. product_at (modulus self.entry.field.field) (drop (length xs - m) xs) z) 0 (length xs)) }
@@ -90,6 +92,7 @@ impl Points<'_, '_> {
     }
 
     // The values at z of all basis polynomials from their scales, and zeros after them: four products for each point.
+    #[tactic(auto, using(lists::proofs::Fill::filled_end, lists::proofs::Numbers::below_at, crate::proofs::Values::length_scales), unfolding(crate::specs::Inner::Lagrange::basis_values))]
     pub fn values(self, scales: &[u16], z: u32) -> [u16; 255]
         requires { (scales.now ≡ scales_of (modulus self.field.field) self.points.now) × (z < size_of (modulus self.field.field)) }
         ensures { result ≡ padded 255 (basis_values (modulus self.entry.field.field) self.entry.points.now z) }

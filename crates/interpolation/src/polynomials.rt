@@ -70,6 +70,7 @@ impl Root<'_> {
 
 impl Polynomial<'_, '_> {
     // 1 over each coefficient, and zeros after them.
+    #[tactic(auto, using(lists::proofs::Fill::filled_start, lists::proofs::Numbers::below_at), unfolding(lists::specs::Padded::zeros))]
     pub fn inverses(self) -> [u16; 255]
         ensures { result ≡ padded 255 (inverses_of (modulus self.entry.field.field) self.entry.coefficients.now) }
     {
