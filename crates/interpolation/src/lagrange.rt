@@ -34,6 +34,7 @@ impl Points<'_, '_> {
     }
 
     // The product over the points but number i: over those before it, and over those after it.
+    #[tactic(auto, using(crate::proofs::Points::symbols_drop, lists::proofs::Rows::part_rest), unfolding(crate::specs::Inner::Lagrange::others_at))]
     fn others_at(self, i: usize, z: u32) -> u32
         requires { (i < length self.points.now) × (z < size_of (modulus self.field.field)) }
         ensures is { result ≡ others_at (modulus self.entry.field.field) self.entry.points.now i z }
@@ -53,6 +54,7 @@ impl Points<'_, '_> {
     }
 
     // 1 over that product at point number i itself.
+    #[tactic(auto, using(lists::proofs::Numbers::below_at), unfolding(crate::specs::Inner::Lagrange::scale_at))]
     pub fn scale_at(self, i: usize) -> u32
         requires { i < length self.points.now }
         ensures is { result ≡ scale_at (modulus self.entry.field.field) self.entry.points.now i }

@@ -52,6 +52,7 @@ impl Points<'_, '_> {
 
 impl Root<'_> {
     // The base polynomial, the product of (x − root^i) for i below m, and zeros after it.
+    #[tactic(auto, using(field::proofs::Bounds::one_below, field::proofs::KindLaws::usable_field, crate::proofs::Coefficients::one_padded), unfolding(lists::specs::Padded::zeros, field::specs::Fields::power, crate::specs::Inner::Polynomials::base_of))]
     pub fn base(self, m: usize) -> [u16; 256]
         requires { m < 255 }
         ensures { result ≡ padded 256 (base_of (modulus self.entry.field.field) self.entry.value m) }
