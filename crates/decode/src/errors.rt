@@ -13,6 +13,7 @@ use interpolation::polynomials::Polynomial;
 use interpolation::powers::Root;
 
 // The error at the point x: the sum of the check sums, which are the weights of the product over all points, times the coefficients of that over the other points, times the scale of x, over x.
+#[tactic(auto, unfolding(crate::specs::Inner::Errors::error_of))]
 fn error_at(product: Dividend, x: u32, scale: u32) -> u32
     requires { (x < size_of (modulus product.polynomial.field.field)) × (scale < size_of (modulus product.polynomial.field.field)) }
     ensures is { result ≡ error_of (modulus product.entry.polynomial.field.field) product.entry.polynomial.coefficients.now product.entry.weights.now x scale }
