@@ -25,8 +25,7 @@ pub fn ones(field: Arithmetic, n: usize) -> u32
 }
 
 // Sums n, n − 1, .., n − k + 1 of a spectrum of n sums, sum n being sum 0, and zeros after them.
-// By slices it would be sum 0, a `copy_from_slice` of the others and their `reverse`: three statements for one, and of what a part holds after
-// `reverse` each place is known by itself.
+// By their places: sum 0 stands first and the last one next, so a copy by `iter().rev()` would take the first place apart.
 #[tactic(auto, using(lists::proofs::Fill::filled_start, lists::proofs::Fill::filled_end), unfolding(lists::specs::Padded::zeros))]
 pub fn coefficients(k: usize, spectrum: &[u16]) -> [u16; 255]
     requires { (0 < k) × (k ≤ length spectrum.now) × (length spectrum.now ≤ 255) }

@@ -45,7 +45,7 @@ loop-place-init c =
     let h = r.codec.code.header in (
       rw zero-add r.scale_is,
       c.first-entry.ensures ∙ rw (entry_is h r.codec.code.sound 0, zero-add, r.scale_is),
-      rw add-sub_cancel (begun (h.n - h.k) (entry_at h 0) (omega arith)),
+      rw (c.checks-last.ensures, add-sub_cancel) (begun (h.n - h.k) (entry_at h 0) (omega arith)),
     )
 
 pub next-entry-requires : goal.next-entry-requires
@@ -102,5 +102,5 @@ returns c =
     let r = c.args.self in
     let h = r.codec.code.header in
     let l = c.loop-place in
-    ended (h.n - h.k) _ _ _ (entry_at h 0) _ (add-sub_cancel _ _) c.first-entry.ensures l.invariant.2 (omega (arith, l.invariant.2.long, length_zeros (h.n - h.k)))
+    ended (h.n - h.k) _ _ _ (entry_at h 0) _ (add-sub_cancel _ _ ∙ c.checks-last.ensures) c.first-entry.ensures (rw c.checks-last.ensures at l.invariant.2) (omega (arith, (rw c.checks-last.ensures at l.invariant.2).long, length_zeros (h.n - h.k)))
     ∙ sym (base_padded h r.codec.code.sound 255 (omega arith))
