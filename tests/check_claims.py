@@ -11,8 +11,10 @@ A citation is a path in code type, from crates/ or from the top, and after a col
 
 A name in code type without a path, if it looks like one of these, stands with its path elsewhere in the document.
 Each call of crates/balanced and each function that crates/balanced_c_c exports for C has no `requires` and is named under the heading
-"Index by call".
+"Index by call". Each field of the theorem `demands` is named under the heading "One theorem", and each wrong program that is tried, an edit
+of crates/*/must-fail or of tests/wrong_programs, stands in some table with what it contradicts.
 """
+import glob
 import os
 import re
 import sys
@@ -68,7 +70,7 @@ def antt_names(text):
     return names
 
 
-ITEM = re.compile(r"^(\s*)(?:pub(?:\([^)]*\))?\s+)?(?:extern\s+\"C\"\s+)?(fn|struct|enum|trait|const|static|type|mod)\s+(\w+)")
+ITEM = re.compile(r"^(\s*)(?:pub(?:\([^)]*\))?\s+)?(?:final\s+)?(?:extern\s+\"C\"\s+)?(fn|struct|enum|trait|const|static|type|mod)\s+(\w+)")
 BLOCK = re.compile(r"^(\s*)impl(?:<[^>]*>)?\s+(?:\w+(?:<[^>]*>)?\s+for\s+)?(\w+)")
 MEMBER = re.compile(r"^\s*(?:pub\s+)?(\w+)\s*(?:[:(,{]|$)")
 LABEL = re.compile(r"^\s*ensures\s+([\w-]+)\s*\{")
@@ -185,11 +187,32 @@ def public_calls():
             yield None, f"crates/{crate}", name
 
 
+def named_under(heading, document):
+    """What stands in code type under a heading of the document."""
+    parts = document.split(f"\n## {heading}\n")
+    return set(SPAN.findall(parts[1].split("\n## ")[0])) if len(parts) == 2 else set()
+
+
+def theorem_faults(document):
+    """The fields of the theorem that the document does not name."""
+    file = find("demands/specs/Demands.antt")
+    fields = {name for name in defined(file) if name.startswith("Demands.")} if file else set()
+    if not fields:
+        return ["crates/demands has no fields of Demands"]
+    return [f"One theorem does not name {name}" for name in sorted(fields - named_under("One theorem", document))]
+
+
+def edit_faults(document):
+    """The edits that no row of a table has."""
+    rows = {span for line in document.splitlines() if line.startswith("|") for span in SPAN.findall(line)}
+    told = {os.path.realpath(full) for full in map(find, rows) if full}
+    edits = sorted(glob.glob(f"{TOP}/crates/*/must-fail/*.edit") + glob.glob(f"{TOP}/tests/wrong_programs/*/*.edit"))
+    return [f"no table has {os.path.relpath(edit, TOP)}" for edit in edits if os.path.realpath(edit) not in told]
+
+
 def call_faults(document):
     """The public calls that ask something of their caller, or that the index does not name."""
-    index = document.split("\n## Index by call\n")
-    section = index[1].split("\n## ")[0] if len(index) == 2 else ""
-    named = set(SPAN.findall(section))
+    named = named_under("Index by call", document)
     calls = list(public_calls())
     faults = [f"{file} has no public call {name or ''}".rstrip() for call, file, name in calls if call is None]
     calls = [found for found in calls if found[0] is not None]
@@ -207,6 +230,7 @@ def main():
         document = file.read()
     faults, count = cited_faults(document.splitlines())
     missing, calls = call_faults(document)
+    missing += theorem_faults(document) + edit_faults(document)
     for fault in faults + missing:
         print(f"docs/CLAIMS.md:{fault}" if fault[0].isdigit() else fault)
     print(f"claims: {count} citations, {calls} public calls, {len(faults) + len(missing)} faults")

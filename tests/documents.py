@@ -70,6 +70,18 @@ def broken_links(path, text):
             yield f"no place {place} in {target or 'this file'}"
 
 
+def left_out(text):
+    """The parts of a document that its list of them leaves out. A document that links to three parts in four before the first, or under
+    "Contents", lists them."""
+    parts = re.split(r"^## (.*)$", text, flags=re.M)
+    headings = [heading for heading in parts[1::2] if heading != "Contents"]
+    listed = parts[0] + (parts[2] if parts[1:2] == ["Contents"] else "")
+    links = {place for target, place in LINK.findall(listed) if not target}
+    absent = [heading for heading in headings if anchor(heading) not in links]
+    if 4 * len(absent) < len(headings):
+        yield from (f"the list of parts leaves out {heading}" for heading in absent)
+
+
 def missing(text):
     """The paths and names that a document cites and that are not there."""
     for path in set(re.findall(r"`((?:crates|tests|docs|include|bindings|examples|bench|tools)/[\w./-]+)`", text)):
@@ -99,7 +111,7 @@ def stale_excerpts(text):
 def check(path, write):
     """The faults of one document, and how many blocks were run."""
     text = open(path, encoding="utf-8").read()
-    faults, ran = [*broken_links(path, text), *missing(text), *stale_excerpts(text)], 0
+    faults, ran = [*broken_links(path, text), *left_out(text), *missing(text), *stale_excerpts(text)], 0
 
     def shown(match):
         nonlocal ran

@@ -13,9 +13,11 @@ import sys
 
 top = os.path.dirname(os.path.dirname(os.path.abspath(__file__)))
 sys.path.append(os.path.join(top, "tests"))
+from check_claims import public_calls  # noqa: E402
 from house import declarations, read, short  # noqa: E402
 
-# whose public functions are the library's calls, the calls for C, their exports, and the texts of programs
+# crates whose functions that ask nothing of their callers are read: the library's calls, those for C, their exports, and the texts of programs.
+# What crates/balanced passes on is read besides, so that no new call is forgotten
 PUBLIC = "plan encode update differences rearrange recover repair belongs correct roster weight_counts find_update mends roster_bytes balanced_c balanced_c_c " \
     "sheet_text plain_text compare_text weights_text small_plans_text tables".split()
 STATED = ("demands",)
@@ -78,6 +80,8 @@ def contracts(text):
 
 def main():
     reader = Reader()
+    for call, _, text in public_calls():
+        reader.follow(re.search(rf"(?m)\bfn {call}\b[\s\S]*?^\s*\{{$", text).group(0), imports(text))
     for crate in PUBLIC:
         for path in glob.glob(f"{top}/crates/{crate}/src/*.rt"):
             text = read(path)

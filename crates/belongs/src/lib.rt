@@ -1,4 +1,5 @@
 // Belongs: whether every lane of a block is a word of the code.
+// What the call promises stands in specs/Promise.antt.
 #![tactic(auto)]
 
 ghost use Rattle.layout.specs.Layout.{share_layout};

@@ -1,4 +1,5 @@
 // A record for any number of nodes from 2 to 255 that carries bytes: bytes as symbols where n divides 255, else the largest prime that fits.
+// What the call promises stands in specs/Promise.antt.
 #![tactic(auto)]
 
 ghost use Rattle.std.specs.Prelude.{◌≡◌, ◌++◌, ◌≤◌, length, drop};

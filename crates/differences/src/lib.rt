@@ -1,4 +1,5 @@
 // Where one row of a message changes in every lane: what each node has to add to its share, and a node's share with that added.
+// What both calls promise stands in specs/Promise.antt.
 #![tactic(auto)]
 
 ghost use Rattle.std.specs.Prelude.{length};

@@ -1,4 +1,5 @@
 // Which update was it: the symbol and the amount that lead from one lane to another.
+// What the call promises stands in specs/Promise.antt, what its answer means in specs/Finding.antt.
 #![tactic(auto)]
 
 ghost use Rattle.std.specs.Prelude.{◌≡◌};

@@ -1,4 +1,5 @@
 // Plans: the numbers, the shifts, the first nodes and the base word that a record stands for.
+// What `build_plan` promises stands in specs/Plans.antt.
 #![tactic(auto)]
 
 ghost use Rattle.std.specs.Prelude.{◌≡◌};

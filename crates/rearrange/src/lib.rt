@@ -1,4 +1,5 @@
 // Shares that stand node after node, put lane after lane, and back: those of all nodes, or of k listed ones. Symbols are moved, not judged.
+// What the four calls promise stands in specs/Promise.antt.
 #![tactic(auto)]
 
 ghost use Rattle.std.specs.Prelude.{◌≡◌, length};

@@ -1,4 +1,5 @@
 // Recover and Rebuild: the message, or what one node holds, from the shares of any k nodes.
+// What both calls promise stands in specs/Promise.antt.
 #![tactic(auto)]
 
 ghost use Rattle.std.specs.Prelude.{◌≡◌, true, length};

@@ -1,4 +1,5 @@
 // Update: one symbol of one lane changes, and with it the lane's symbol at the nodes that depend on it.
+// What the call promises stands in specs/Promise.antt.
 #![tactic(auto)]
 
 ghost use Rattle.std.specs.Prelude.{◌≡◌, ◌<◌};

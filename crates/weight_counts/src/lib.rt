@@ -1,5 +1,6 @@
 // How many messages of a record have a word with w nodes that are not zero, w from 0 to n: the Hamming weight w.
 // The words with a given support of w nodes are counted by differences, and each of C(n, w) supports has as many.
+// What the call promises stands in specs/Weights.antt.
 #![tactic(auto)]
 
 ghost use Rattle.std.specs.Prelude.{◌≡◌, ℕ, ◌+◌, ◌-◌, ◌*◌, ◌%◌, ◌^◌, ◌<◌, ◌≤◌, true, length, slice_index};
