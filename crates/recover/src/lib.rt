@@ -67,6 +67,7 @@ impl Listed<'_> {
 }
 
 // Writes the message of the listed nodes' shares, or gives what turns the call away and writes nothing.
+#[tactic(auto, using(lists::proofs::Numbers::at_below))]
 pub fn recover_block(
     rec: &[u8],
     lanes: u32,
@@ -87,6 +88,7 @@ pub fn recover_block(
 }
 
 // Writes the target's share from the listed nodes' shares, or gives what turns the call away and writes nothing.
+#[tactic(auto, using(lists::proofs::Numbers::at_below))]
 pub fn rebuild_share(
     rec: &[u8],
     lanes: u32,

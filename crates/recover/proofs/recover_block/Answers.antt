@@ -1,13 +1,9 @@
 -- `recover_block` meets its contract: the record's number, or what Recover over its header gives.
-use Rattle.std.proofs.Common.{refl, arith}
-use Rattle.lists.proofs.Numbers.{at_below}
+use Rattle.std.proofs.Common.{refl}
 use Rattle.generator.proofs.Answered.{exit}
 use Rattle.refusals.proofs.OnRecord.{on_held, on_met}
 use Rattle.recover.proofs.Accepts.{recover_refuses}
 use Rattle.recover.proofs.recover_block.Goals as goal
-
-pub invariant_of-listed : goal.invariant_of-listed
-invariant_of-listed c = record { bytes = at_below 256 _ (λ i h. omega (arith, c.type_inv.shares i)) }
 
 pub returns : goal.returns
 returns c = on_held c.in_ok-code.ensures refl c.recover_accepted.ensures
