@@ -31,7 +31,7 @@ impl Bits {
         let mut sum: u32 = 0;
         let mut x = a;
         for _ in 0..terms {
-            sum = sum ^ x;
+            sum ^= x;
             x = squarings(tables, b, x);
         }
         sum
