@@ -21,6 +21,7 @@ pub fn length_bad(stated: usize, length: usize) -> bool
 }
 
 // Number 8 of a buffer of so many rows: a product that does not fit is the length of none.
+#[tactic(auto, unfolding(crate::specs::Conditions::length_bad))]
 pub fn buffer_bad(h: Header, rows: u8, lanes: usize, length: usize) -> bool
     requires { usable h.field ≡ true }
     ensures { result ≡ length_bad (rows * lanes * width h) length }
