@@ -2,9 +2,9 @@
 """What stands in crates/*/specs at the top level is what a reader must believe: some public statement leads to each definition there,
 and none leads to a definition of specs/Inner.
 
-Public statements are the contracts of the public functions that callers of the library and of the programs' texts see, all that
+Public statements are the contracts of the calls that crates/balanced passes on, of the functions for C, and of the programs' texts, all that
 crates/demands states, and what docs/CLAIMS.md cites. A statement leads to the names that it uses, and these to those that their
-definitions use.
+definitions use. What only the contracts of functions behind a call speak of may stand in either place.
 """
 import glob
 import os
@@ -16,10 +16,10 @@ sys.path.append(os.path.join(top, "tests"))
 from check_claims import public_calls  # noqa: E402
 from house import declarations, read, short  # noqa: E402
 
-# crates whose functions that ask nothing of their callers are read: the library's calls, those for C, their exports, and the texts of programs.
-# What crates/balanced passes on is read besides, so that no new call is forgotten
-PUBLIC = "plan encode update differences rearrange recover repair belongs correct roster weight_counts find_update mends roster_bytes balanced_c balanced_c_c " \
-    "sheet_text plain_text compare_text weights_text small_plans_text tables".split()
+# whose functions are the programs' texts
+TEXTS = "sheet_text plain_text compare_text weights_text small_plans_text tables".split()
+# whose functions are the library's calls, those for C, and what stands behind them
+CALLS = "plan encode update differences rearrange recover repair belongs correct roster weight_counts find_update mends roster_bytes balanced_c balanced_c_c".split()
 STATED = ("demands",)
 USE = re.compile(r"(?m)^(?:pub |ghost )*use Rattle\.(\w+)\.specs\.([\w.]+?)(?:\.\{([^}]*)\})?(?: as (\w+))?;?$")
 WORD = re.compile(r"[^\s(){}\[\],;.:]+")
@@ -72,6 +72,14 @@ class Reader:
         _, definitions, known = self.specs[home]
         self.follow(definitions[name], known, home)
 
+    def read_functions(self, crates):
+        """the contracts of their functions that ask nothing of their callers"""
+        for crate in crates:
+            for path in glob.glob(f"{top}/crates/{crate}/src/*.rt"):
+                text = read(path)
+                for contract in contracts(text):
+                    self.follow(contract, imports(text))
+
 
 def contracts(text):
     """the contracts of a file's public functions that ask nothing of their callers"""
@@ -82,11 +90,7 @@ def main():
     reader = Reader()
     for call, _, text in public_calls():
         reader.follow(re.search(rf"(?m)\bfn {call}\b[\s\S]*?^\s*\{{$", text).group(0), imports(text))
-    for crate in PUBLIC:
-        for path in glob.glob(f"{top}/crates/{crate}/src/*.rt"):
-            text = read(path)
-            for contract in contracts(text):
-                reader.follow(contract, imports(text))
+    reader.read_functions(TEXTS)
     for home, (_, definitions, _) in reader.specs.items():
         if home[0] in STATED:
             for name in definitions:
@@ -95,14 +99,19 @@ def main():
         for name in re.findall(r"`([^`.]+)", names):
             if not path.startswith("Inner"):
                 reader.reach((crate, path.replace("/", ".")), name)
+    public = set(reader.reached)
+    reader.read_functions(CALLS)
     faults = 0
     for home, (path, definitions, _) in sorted(reader.specs.items()):
         for name in definitions:
-            inner, led = home[1].startswith("Inner"), (home, name) in reader.reached
-            if inner == led:
+            inner = home[1].startswith("Inner")
+            if inner and (home, name) in public:
                 faults += 1
-                print(f"{short(path)}: " + (f"a public statement leads to {name}" if led else f"no public statement leads to {name}"))
-    print(f"public specs: {len(reader.reached)} definitions to believe, {faults} faults")
+                print(f"{short(path)}: a public statement leads to {name}")
+            elif not inner and (home, name) not in reader.reached:
+                faults += 1
+                print(f"{short(path)}: no public statement leads to {name}")
+    print(f"public specs: {len(public)} definitions to believe, {faults} faults")
     sys.exit(1 if faults else 0)
 
 

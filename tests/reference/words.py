@@ -2,7 +2,8 @@
 
 A line is a name and the record's bytes, then words with the numbers that they stand for, in base ten, each after one space. `message`,
 `nodes`, `shares`, `before`, `after`, `symbols`, `missing`, `share` and `rows` stand for up to 64 bytes, `room`, the length of the buffer that is
-written, for a number up to 64, and every other word for a number below 2^32.
+written, for a number up to 64, and every other word for a number below 2^32. A word that stands nowhere is missing; one that stands
+further on has an unknown word before it.
 """
 import re
 
@@ -31,13 +32,13 @@ class Line:
 
     def argument(self, word):
         if self.words[:1] != [word]:
-            raise NotRead("unknown word")
+            raise NotRead("unknown word" if word in self.words[1:] else f"{word} is missing")
         self.words.pop(0)
         if word in LISTS:
             return bytes(self.take(MOST, 255))
         numbers = self.take(1, 2**32 - 1)
         if not numbers:
-            raise NotRead("number missing")
+            raise NotRead(f"{word} has no number")
         if word == "room" and numbers[0] > MOST:
             raise NotRead("too much room")
         return numbers[0]

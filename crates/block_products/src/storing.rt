@@ -64,7 +64,7 @@ impl Part<'_> {
         ensures { let p = self.entry in let j = p.job in (f : ℕ → ℕ → ℕ) → Sums j.w.bytes j.m.outputs p.first p.count f words.now → LanesDone j.w.bytes j.m.outputs j.m.lanes f p.first out.old → LanesDone j.w.bytes j.m.outputs j.m.lanes f (p.first + p.count) out.new }
     {
         let n = self.job.w.bytes * self.job.m.outputs;
-        let size = (n + 15) / 16 * 1024;
+        let size = n.div_ceil(16) * 1024;
         let start = self.first * n;
         let end = start + self.count * n;
         tiles::scatter64(

@@ -8,7 +8,6 @@ use native.Mathlib.Omega.{arith}
 use borrow.Author.Tests.{lt-ltb, ltb-true, ltb-false, leb-true, ne_eqb}
 use lib.Dec.{eqb, ltb, leb}
 use lib.ListN.{length}
-use Rattle.lists.specs.Choice.{first_of, when}
 use Rattle.std.proofs.lemmas.Bool.{and_parts}
 use Rattle.lists.proofs.Cases.{not_both, first_zero, when_zero}
 use Rattle.field.specs.declared.prime.PrimeField.{PrimeField}

@@ -1,21 +1,21 @@
 -- Bytes as words, and words as bytes, one by one.
 use mathlib.Core.Path.{◌≡◌, sym, ap, ap₂, ◌∙◌}
 use mathlib.Core.List.{List, [], ◌∷◌, ◌++◌, append-nil}
-use Prim.Native.Nat.{ℕ, ◌+◌, ◌-◌, ◌*◌, ◌/◌, ◌%◌, ◌≤◌, ◌<◌}
+use Prim.Native.Nat.{ℕ, zero, suc, ◌+◌, ◌-◌, ◌*◌, ◌/◌, ◌%◌, ◌≤◌, ◌<◌}
+use native.Mathlib.Numerals.{add-one}
 use native.Mathlib.Omega.{arith}
-use lib.Bits.{bit_xor}
-use lib.ListN.{length, get_or, take, drop, take-append-drop, length-append, drop_of_length-le}
-use lib.Seq.{length-take-le, take-take, take-append-add, take_at, drop_at}
+use lib.Bits.{bit_xor, xor_shr, xor_mod}
+use lib.ListN.{length, get_or, take, drop, length-append, drop_of_length-le}
+use lib.Seq.{take_at, drop_at}
 use Rattle.lists.specs.Padded.{zeros, padded}
-use Rattle.lists.specs.Rows.{from}
 use Rattle.std.proofs.lemmas.List.{get_or-map}
-use Rattle.lists.proofs.Front.{drop_next}
 use Rattle.lists.proofs.Padding.{get_or_padded, padded_past}
-use Rattle.layout.specs.Width.{value_from, symbol_at, symbols_of, symbol_bytes, bytes_of}
-use Rattle.layout.proofs.Widths.{get_or_symbols, length_symbol}
-use Rattle.layout.proofs.Readings.{symbol_pair, symbols_append}
-use Rattle.carrying.specs.Masks.{masked}
+use Rattle.layout.specs.Width.{symbol_at, symbols_of, symbol_bytes, bytes_of}
+use Rattle.layout.proofs.Widths.{get_or_symbols, length_symbols}
+use Rattle.layout.proofs.Readings.{symbol_pair, get_or_bytes}
+use Rattle.carrying.specs.Masks.{masked, opened}
 use Rattle.carrying.specs.Carrying.{word_count, words_of}
+use Rattle.carrying.proofs.Carried.{length_opened}
 use Rattle.carrying.proofs.Bytes.{evened, length_evened, words_even}
 
 -- word i of bytes
@@ -53,44 +53,59 @@ words_symbols s even = ap (symbols_of 2) (ap (λ (n : ℕ). padded n s) (words_e
         let none : length s - length s ≡ 0 = omega arith in
         ap (λ (n : ℕ). s ++ zeros n) none ∙ append-nil s
 
--- the first word, and the others
-one_word : (s : List ℕ) → length (take 2 s) ≡ 2 → symbols_of 2 (take 2 s) ≡ symbol_at 2 s 0 ∷ []
-unfolding symbols_of symbol_at from
-one_word s size = rw size (ap (λ (l : List ℕ). value_from 0 l ∷ []) (take-take 2 2 s (omega arith)))
-
-pub first_word : (s : List ℕ) → 2 ≤ length s → symbols_of 2 s ≡ symbol_at 2 s 0 ∷ symbols_of 2 (drop 2 s)
-first_word s h =
-    let size : length (take 2 s) ≡ 2 = length-take-le 2 s h in
-    ap (symbols_of 2) (sym (take-append-drop 2 s))
-    ∙ symbols_append 2 1 (take 2 s) (drop 2 s) (omega arith) size
-    ∙ ap (λ (l : List ℕ). l ++ symbols_of 2 (drop 2 s)) (one_word s size)
-
 -- a word under a mask
 pub masked_at : (c : ℕ) (ws : List ℕ) (i : ℕ) → i < length ws → get_or (masked c ws) i 0 ≡ bit_xor (get_or ws i 0) c
 unfolding masked
 masked_at c ws i h = get_or-map (λ w. bit_xor w c) ws i 0 0 h
 
--- as many bytes of words as there is room for: what is left at word i
-module _ (n : ℕ) (ws : List ℕ) (i : ℕ) where
-  abbrev pub bytes_left : List ℕ
-  bytes_left = take (n - i * 2) (bytes_of 2 (drop i ws))
+opened_at : (xs : List ℕ) (i : ℕ) → i + 1 < length xs → get_or (opened xs) i 0 ≡ bit_xor (get_or xs (i + 1) 0) (get_or xs 0 0)
+unfolding opened
+opened_at [] i h = absurd (omega arith)
+opened_at (c ∷ ws) i h = rw add-one (masked_at c ws i (omega arith))
 
-  pub bytes_next : i < n / 2 → i < length ws → bytes_left ≡ symbol_bytes 2 (get_or ws i 0) ++ take (n - (i * 2 + 2)) (bytes_of 2 (drop (i + 1) ws))
-  unfolding bytes_of
-  bytes_next room h =
-      let size = length_symbol 2 (get_or ws i 0) in
-      let left : n - i * 2 ≡ length (symbol_bytes 2 (get_or ws i 0)) + (n - (i * 2 + 2)) = omega arith in
-      ap₂ (λ (x : ℕ) (l : List ℕ). take x (bytes_of 2 l)) left (drop_next ws i 0 h)
-      ∙ take-append-add (symbol_bytes 2 (get_or ws i 0)) (bytes_of 2 (drop (i + 1) ws)) (n - (i * 2 + 2))
+-- the bytes of a word under a mask are its bytes under those of the mask
+masked_bytes : (a b d e : ℕ) → b < 256 → e < 256 → symbol_bytes 2 (bit_xor (a * 256 + b) (d * 256 + e)) ≡ bit_xor a d ∷ bit_xor b e ∷ []
+unfolding symbol_bytes
+masked_bytes a b d e hb he =
+    let x = a * 256 + b in
+    let y = d * 256 + e in
+    let first : x / 256 ≡ a = omega arith in
+    let second : y / 256 ≡ d = omega arith in
+    let first_low : x % 256 ≡ b = omega arith in
+    let second_low : y % 256 ≡ e = omega arith in
+    ap₂ (λ (u v : ℕ). u ∷ v ∷ []) (xor_shr x y 8 ∙ ap₂ bit_xor first second) (xor_mod x y 8 ∙ ap₂ bit_xor first_low second_low)
 
-  pub bytes_last : n ≡ i * 2 + 1 → i < length ws → bytes_left ≡ get_or ws i 0 / 256 ∷ []
-  unfolding bytes_of symbol_bytes
-  bytes_last room h =
-      let left : n - i * 2 ≡ 1 = omega arith in
-      ap₂ (λ (x : ℕ) (l : List ℕ). take x (bytes_of 2 l)) left (drop_next ws i 0 h)
+-- .. so a byte of an opened group is one of the group's under one of its first two
+module _ (s : List ℕ) (low : (i : ℕ) → get_or s i 0 < 256) where
+  opened_word : (q : ℕ) → q * 2 + 4 ≤ length s → symbol_bytes 2 (get_or (opened (symbols_of 2 s)) q 0) ≡ bit_xor (get_or s (q * 2 + 2) 0) (get_or s 0 0) ∷ bit_xor (get_or s (q * 2 + 3) 0) (get_or s 1 0) ∷ []
+  opened_word q h =
+      let count = length_symbols 2 s in
+      let next : (q + 1) * 2 ≡ q * 2 + 2 = omega arith in
+      let last : (q + 1) * 2 + 1 ≡ q * 2 + 3 = omega arith in
+      let word : get_or (symbols_of 2 s) (q + 1) 0 ≡ get_or s (q * 2 + 2) 0 * 256 + get_or s (q * 2 + 3) 0 =
+      get_or_symbols 2 s (q + 1) (omega arith)
+      ∙ symbol_pair s (q + 1) (omega arith)
+      ∙ ap₂ (λ (x y : ℕ). get_or s x 0 * 256 + get_or s y 0) next last in
+      let mask : get_or (symbols_of 2 s) 0 0 ≡ get_or s 0 0 * 256 + get_or s 1 0 = get_or_symbols 2 s 0 (omega arith) ∙ symbol_pair s 0 (omega arith) in
+      ap (symbol_bytes 2) (opened_at (symbols_of 2 s) q (omega arith) ∙ ap₂ bit_xor word mask)
+      ∙ masked_bytes (get_or s (q * 2 + 2) 0) (get_or s (q * 2 + 3) 0) (get_or s 0 0) (get_or s 1 0) (low _) (low _)
 
-  pub bytes_none : n ≤ i * 2 → bytes_left ≡ []
-  bytes_none room = let left : n - i * 2 ≡ 0 = omega arith in ap (λ (x : ℕ). take x (bytes_of 2 (drop i ws))) left
+  of_two : (q v : ℕ) → v < 2 → get_or (bit_xor (get_or s (q * 2 + 2) 0) (get_or s 0 0) ∷ bit_xor (get_or s (q * 2 + 3) 0) (get_or s 1 0) ∷ []) v 0 ≡ bit_xor (get_or s (q * 2 + v + 2) 0) (get_or s v 0)
+  of_two q zero h = let e : q * 2 + 2 ≡ q * 2 + 0 + 2 = omega arith in ap (λ (x : ℕ). bit_xor (get_or s x 0) (get_or s 0 0)) e
+  of_two q (suc zero) h = let e : q * 2 + 3 ≡ q * 2 + 1 + 2 = omega arith in ap (λ (x : ℕ). bit_xor (get_or s x 0) (get_or s 1 0)) e
+  of_two q (suc (suc v)) h = absurd (omega arith)
+
+  pub opened_byte : (i : ℕ) → length s % 2 ≡ 0 → i + 2 < length s → get_or (bytes_of 2 (opened (symbols_of 2 s))) i 0 ≡ bit_xor (get_or s (i + 2) 0) (get_or s (i % 2) 0)
+  opened_byte i even h =
+      let q = i / 2 in
+      let xs = symbols_of 2 s in
+      let place : i ≡ q * 2 + i % 2 = omega arith in
+      let more : q < length (opened xs) = omega (arith, length_symbols 2 s, length_opened xs (omega (arith, length_symbols 2 s))) in
+      ap (λ (x : ℕ). get_or (bytes_of 2 (opened xs)) x 0) place
+      ∙ get_or_bytes 2 (opened xs) q (i % 2) more (omega arith)
+      ∙ ap (λ (l : List ℕ). get_or l (i % 2) 0) (opened_word q (omega arith))
+      ∙ of_two q (i % 2) (omega arith)
+      ∙ ap (λ (x : ℕ). bit_xor (get_or s (x + 2) 0) (get_or s (i % 2) 0)) (sym place)
 
 -- two bytes in front of others, as code writes them
 pub written_behind : (a b out : List ℕ) → length a ≡ 2 → take 2 (a ++ drop 2 out) ++ (b ++ drop (length (a ++ drop 2 out) - 2) (drop 2 (a ++ drop 2 out))) ≡ a ++ b

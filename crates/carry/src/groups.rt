@@ -34,41 +34,26 @@ fn load_words(s: &[u8]) -> ArrayVec<u16, 255>
     words
 }
 
-// As many bytes of the words under a mask as there is room for. Byte by byte, `*byte = group[i + 2] ^ group[i % 2]`, opening would need no words; that the
-// bytes of words under a mask are these is a law of ⊕ on the digits of base 256 which is not there.
+// The words under a mask, as bytes.
 fn write_masked(c: u16, words: &[u16], out: &mut [u8])
-    requires { length out.old ≤ length words.now * 2 }
-    ensures { out.new ≡ take (length out.old) (bytes_of 2 (masked c words.now)) }
-{
-    let count = out.len() / 2;
-    for i in 0..count {
-        let start = i * 2;
-        let end = start + 2;
-        PAIR.write_symbol(words[i] ^ c, &mut out[start..end]);
-    }
-    if out.len() % 2 == 0 {
-        return;
-    }
-    let [high, _] = (words[count] ^ c).to_be_bytes();
-    out[count * 2] = high;
-}
-
-// All bytes of the words under a mask. With room for all bytes the promise needs no take.
-fn write_all(c: u16, words: &[u16], out: &mut [u8])
     requires { length out.old ≡ length words.now * 2 }
     ensures { out.new ≡ bytes_of 2 (masked c words.now) }
 {
-    write_masked(c, words, out);
+    for (i, word) in words.iter().enumerate() {
+        let start = i * 2;
+        let end = start + 2;
+        PAIR.write_symbol(word ^ c, &mut out[start..end]);
+    }
 }
 
-// As many bytes of one group of at most 255 words as there is room for: its mask stands first, its words are under it.
+// As many bytes of a group as there is room for: its mask stands first, and a byte is under the mask's byte of its place in the word.
 fn open_group(group: &[u8], out: &mut [u8])
-    requires { (length group.now % 2 ≡ 0) × (2 ≤ length group.now) × (length group.now ≤ 512) × (length out.old + 2 ≤ length group.now) }
+    requires { (length group.now % 2 ≡ 0) × (length out.old + 2 ≤ length group.now) }
     ensures { out.new ≡ take (length out.old) (bytes_of 2 (opened (symbols_of 2 group.now))) }
 {
-    let c = PAIR.symbol_at(group, 0);
-    let words = load_words(&group[2..]);
-    write_masked(c, &words, out);
+    for (i, byte) in out.iter_mut().enumerate() {
+        *byte = group[i + 2] ^ group[i % 2];
+    }
 }
 
 impl WordPrime {
@@ -80,7 +65,7 @@ impl WordPrime {
         let words = load_words(s);
         let c = self.find_mask(&words);
         PAIR.write_symbol(c, &mut out[..2]);
-        write_all(c, &words, &mut out[2..]);
+        write_masked(c, &words, &mut out[2..]);
     }
 
     // All groups of bytes.

@@ -110,21 +110,17 @@ module _ (p m : ℕ) (some : 1 ≤ m) (ws : List ℕ) (h : 0 < length ws) where
     groups_none (closed p) m some (drop m ws) (length-drop m ws ∙ omega arith),
   )
 
-  first_again : take (m + 1) (here ++ after) ≡ here
-  first_again =
+  -- both are found again where the group ends
+  parted : (take (m + 1) (here ++ after) ≡ here) × (drop (m + 1) (here ++ after) ≡ after)
+  parted =
       by_test (leb m (length ws))
-      (λ e. take_at here after (m + 1) (full (leb-true m (length ws) e)))
+      (λ e.
+      let long = full (leb-true m (length ws) e) in
+      (take_at here after (m + 1) long, drop_at here after (m + 1) long))
       (λ e.
       let (long, none) = short (leb-false m (length ws) e) in
-      rw (none, append-nil) (take_all (m + 1) here (omega (arith, leb-false m (length ws) e))))
-
-  rest_again : drop (m + 1) (here ++ after) ≡ after
-  rest_again =
-      by_test (leb m (length ws))
-      (λ e. drop_at here after (m + 1) (full (leb-true m (length ws) e)))
-      (λ e.
-      let (long, none) = short (leb-false m (length ws) e) in
-      rw (none, append-nil) (drop_of_length-le here {i = m + 1} (omega (arith, leb-false m (length ws) e))))
+      let most : length here ≤ m + 1 = omega (arith, leb-false m (length ws) e) in
+      rw (none, append-nil) (take_all (m + 1) here most, drop_of_length-le here {i = m + 1} most))
 
   some_here : 0 < length (here ++ after)
   unfolding here
@@ -135,7 +131,7 @@ module _ (p m : ℕ) (some : 1 ≤ m) (ws : List ℕ) (h : 0 < length ws) where
   unfolding here
   again rest =
       groups_next opened (m + 1) (omega arith) (here ++ after) some_here
-      ∙ ap₂ (λ (x y : List ℕ). opened x ++ by_groups opened (m + 1) y) first_again rest_again
+      ∙ ap₂ (λ (x y : List ℕ). opened x ++ by_groups opened (m + 1) y) parted.0 parted.1
       ∙ ap₂ ◌++◌ (opened_closed p (take m ws)) rest
       ∙ take-append-drop m ws
 

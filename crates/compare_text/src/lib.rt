@@ -47,7 +47,7 @@ fn write_comparison(writer: &mut Writer, code: Code)
     write_cost(writer, "bound writes", writes, &[high]);
 }
 
-// Writes the comparison of a record at the front of a page, and gives its length (and no slice: see `len` of `Writer`). The figures are
+// Writes the comparison of a record at the front of a page, and gives its length (and no slice: see `written` of `Writer`). The figures are
 // those of the layouts. The page is lent, for the library has no heap.
 // The texts differ in what reads the record and in what writes it: one function with two closures would be no plainer.
 pub fn comparison(rec: &[u8], out: &mut [u8; 108]) -> usize
@@ -59,5 +59,5 @@ pub fn comparison(rec: &[u8], out: &mut [u8; 108]) -> usize
         Ok(code) => write_comparison(&mut writer, code),
         Err(refusal) => writer.line("refused", &[u8::from(refusal)]),
     }
-    writer.len()
+    writer.written()
 }

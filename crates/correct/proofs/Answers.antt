@@ -1,22 +1,20 @@
 -- What the call answers: the number that turns it away, or the count.
 use Rattle.std.specs.Prelude.{Ok, Err}
-use mathlib.Core.Path.{◌≡◌, refl, sym, ap}
+use mathlib.Core.Path.{◌≡◌, sym, ap}
 use mathlib.Core.Bool.{true, false, not}
 use mathlib.Core.List.{List}
-use Prim.Native.Nat.{ℕ, zero, suc, ◌<◌}
+use Prim.Native.Nat.{ℕ, ◌<◌}
 use native.Mathlib.Omega.{arith}
 use borrow.Author.Tests.{eq-eqb, ne_eqb}
-use Rattle.lists.specs.Choice.{first_of, when}
 use Rattle.layout.specs.Layout.{Arrangement}
 use Rattle.layout.specs.Width.{symbols_of}
 use Rattle.generator.specs.declared.Header.{Header}
 use Rattle.generator.specs.Records.{width}
 use Rattle.generator.specs.Answers.{answer_of}
 use Rattle.generator.proofs.Answered.{answer_refused}
-use Rattle.belongs.specs.Promise.{belongs_fault}
 use Rattle.blocks.proofs.Refused.{refused_value}
 use Rattle.correct.specs.Blocks.{first_far, corrected_bytes, corrected_count, far_bad}
-use Rattle.correct.specs.Promise.{correct_fault, CorrectPromise}
+use Rattle.correct.specs.Promise.{CorrectPromise}
 
 module _ (y : Arrangement) (h : Header) (l : ℕ) (shares : List ℕ) where
   -- a number turns the call away, and nothing is written
@@ -36,16 +34,3 @@ module _ (y : Arrangement) (h : Header) (l : ℕ) (shares : List ℕ) where
   pub far_met : (t : ℕ) → first_far y h l (symbols_of (width h) shares) ≡ t → t < l → far_bad y h l shares ≡ true
   unfolding far_bad
   far_met t is low = rw is (ap not (ne_eqb t l (λ e. omega arith)))
-
-  -- numbers 7, 8 and 11 come first
-  pub fault_first : (number : ℕ) → number ≡ belongs_fault h l shares → (number ≡ 0 → ⊥) → correct_fault y h l shares ≡ number
-  unfolding correct_fault
-  fault_first number is some = rw (← is) (given number (when (far_bad y h l shares) 14) some)
-    where
-      given : (g a : ℕ) → (g ≡ 0 → ⊥) → first_of g a ≡ g
-      given zero a n = absurd (n refl)
-      given (suc g) a n = refl
-
-  pub fault_last : belongs_fault h l shares ≡ 0 → correct_fault y h l shares ≡ when (far_bad y h l shares) 14
-  unfolding correct_fault
-  fault_last none = rw none

@@ -1,5 +1,5 @@
 -- Rows of one size, as chunks.
-use mathlib.Core.Path.{◌≡◌, sym, ap, ◌∙◌}
+use mathlib.Core.Path.{◌≡◌, sym, ap}
 use mathlib.Core.List.{List, ◌++◌}
 use Prim.Native.Nat.{ℕ, ◌+◌, ◌-◌, ◌*◌, min, ◌≤◌, ◌<◌}
 use native.Mathlib.Nat.{add-mul, one-mul, mul_comm, mul-le-mul, le_refl}

@@ -20,7 +20,21 @@ use Rattle.symbols.proofs.Fits.{symbols_fit}
 use Rattle.nearest_word.specs.Nearest.{has_near, corrected}
 use Rattle.nearest_word.proofs.Corrected.{word_near, word_stays, corrected_far, corrected_long, corrected_below}
 use Rattle.decode.specs.declared.Corrected.{Corrected}
+use Rattle.decode.specs.Inner.Candidates.{SoundLane}
 use Rattle.correct.specs.Inner.Marked.{MarkedLane}
+
+-- a lane has at most 255 symbols, which are the first of an array that holds them
+pub lane_short : (h : Header) (lane : List ℕ) → length lane ≡ width h * h.n → h.n ≤ 255 → length lane ≤ 255 * width h
+lane_short h lane bytes few = rw (bytes, mul_comm (width h) h.n) (mul-le-mul few (le_refl (width h)))
+
+held_front : (h : Header) (ws held : List ℕ) → SoundLane h ws → held ≡ padded 255 ws → take h.n held ≡ ws
+held_front h ws held sound is = rw is (take_padded 255 h.n ws sound.long)
+
+pub held_sound : (h : Header) (ws held : List ℕ) → SoundLane h ws → held ≡ padded 255 ws → SoundLane h (take h.n held)
+held_sound h ws held sound is = rw (held_front h ws held sound is) sound
+
+pub held_says : (h : Header) (ws held : List ℕ) (found : Option Corrected) → SoundLane h ws → held ≡ padded 255 ws → let s = take h.n held in MatchOption found (has_near h s ≡ false) (λ x. (has_near h s ≡ true) × (x.lane ≡ padded 255 (corrected h s)) × (x.altered ≡ differ s (corrected h s))) → MatchOption found (has_near h ws ≡ false) (λ x. (has_near h ws ≡ true) × (x.lane ≡ padded 255 (corrected h ws)) × (x.altered ≡ differ ws (corrected h ws)))
+held_says h ws held found sound is says = rw (held_front h ws held sound is) at says
 
 module _ {h : Header} {mark : ℕ} {lane : List ℕ} (m : MarkedLane h mark lane) where
   abbrev w : ℕ
@@ -28,14 +42,6 @@ module _ {h : Header} {mark : ℕ} {lane : List ℕ} (m : MarkedLane h mark lane
 
   abbrev ws : List ℕ
   ws = symbols_of w lane
-
-  -- at most 255 symbols
-  pub lane_short : h.n ≤ 255 → length lane ≤ 255 * w
-  lane_short few = rw (m.bytes, mul_comm w h.n) (mul-le-mul few (le_refl w))
-
-  -- its symbols are the first of the array
-  pub held_front : (held : List ℕ) → held ≡ padded 255 ws → take h.n held ≡ ws
-  held_front held is = rw is (take_padded 255 h.n ws m.symbols.long)
 
   -- the nearest word, from an array that holds it
   pub word_front : (word : List ℕ) → word ≡ padded 255 (corrected h ws) → take h.n word ≡ corrected h ws

@@ -21,6 +21,7 @@ pub struct Marked<'r, 'm> {
 
 impl Marked<'_, '_> {
     // The word near enough to a lane, if there is one.
+    #[tactic(auto, using(crate::proofs::LaneSymbols::lane_short, crate::proofs::LaneSymbols::held_says))]
     fn nearest(self, lane: &[u8]) -> Option<Corrected>
         requires { let h = self.rows.code.header in (length lane.now ≡ width h * h.n) × SoundLane h (symbols_of (width h) lane.now) }
         ensures { let h = self.entry.rows.code.header in let ws = symbols_of (width h) lane.now in MatchOption result (has_near h ws ≡ false) (λ found. (has_near h ws ≡ true) × (found.lane ≡ padded 255 (corrected h ws)) × (found.altered ≡ differ ws (corrected h ws))) }
@@ -32,6 +33,7 @@ impl Marked<'_, '_> {
     }
 
     // Whether a word is near enough to lane t.
+    #[tactic(auto, using(lists::proofs::Tests::tests, crate::proofs::LaneSymbols::marked_near, crate::proofs::LaneSymbols::found_near))]
     pub fn is_near(self, t: usize, lane: &[u8]) -> bool
         requires { (t < length self.marks.now) × MarkedLane self.rows.code.header (get_or self.marks.now t 0) lane.now }
         ensures { let h = self.entry.rows.code.header in result ≡ has_near h (symbols_of (width h) lane.now) }
@@ -40,6 +42,7 @@ impl Marked<'_, '_> {
     }
 
     // Writes the word that is near enough to lane t, where there is one, and gives the number of symbols altered.
+    #[tactic(auto, using(lists::proofs::Differ::differ_most))]
     pub fn write_nearest(self, t: usize, lane: &mut [u8]) -> u32
         requires { (t < length self.marks.now) × MarkedLane self.rows.code.header (get_or self.marks.now t 0) lane.old }
         ensures { let h = self.entry.rows.code.header in let ws = symbols_of (width h) lane.old in (lane.new ≡ bytes_of (width h) (corrected h ws)) × (result ≡ differ ws (corrected h ws)) }

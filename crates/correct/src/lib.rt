@@ -39,6 +39,7 @@ impl Marked<'_, '_> {
 
     // Sets every lane right, and gives the number of symbols altered. Each lane is cut by its place: after `chunks_mut` a proof knows the
     // length alone (docs/PROOF-NOTES.md).
+    #[tactic(auto, using(lists::proofs::Fill::fills_start, generator::proofs::Widths::width_some, tiles::proofs::Parts::fills_whole, crate::proofs::Counting::apart_none, crate::proofs::Counting::apart_all, crate::proofs::LaneBytes::symbols_long, crate::proofs::LaneBytes::part_inside, crate::proofs::LaneBytes::corrected_size), unfolding(crate::specs::Blocks::corrected_count))]
     fn correct_lanes(self, shares: &mut [u8]) -> u32
         requires { MarkedShares self.rows.code.header (length self.marks.now) self.marks.now shares.old }
         ensures { let h = self.entry.rows.code.header in let l = length self.entry.marks.now in (shares.new ≡ corrected_bytes share_layout h l shares.old) × (result ≡ corrected_count share_layout h l shares.old) }
@@ -55,6 +56,7 @@ impl Marked<'_, '_> {
     }
 
     // Sets the lanes right if each has a word near enough; the last lane is judged before the first byte is written.
+    #[tactic(auto, using(generator::proofs::Answered::tests))]
     fn correct(self, shares: &mut [u8]) -> Result<u32, Refusal>
         requires { MarkedShares self.rows.code.header (length self.marks.now) self.marks.now shares.old }
         ensures { let h = self.entry.rows.code.header in let l = length self.entry.marks.now in CorrectPromise share_layout l shares.old shares.new (numbered result) h (when (far_bad share_layout h l shares.old) 14) }
@@ -93,6 +95,7 @@ fn correct_any(code: Code, marks: &[u8], shares: &mut [u8]) -> Result<u32, Refus
 }
 
 // The same for shares of symbols: the lanes that are no word of the code are marked, all at once.
+#[tactic(auto, using(wrong_lanes::proofs::Marking::length_marks, crate::proofs::MarkedBytes::no_marks, crate::proofs::MarkedBytes::marked_all), unfolding(lists::specs::Padded::zeros))]
 fn correct_symbols(code: Code, lanes: usize, shares: &mut [u8]) -> Result<u32, Refusal>
     requires { SymbolBuffer code.header code.header.n lanes shares.old }
     ensures { CorrectPromise share_layout lanes shares.old shares.new (numbered result) code.header (when (far_bad share_layout code.header lanes shares.old) 14) }
@@ -109,6 +112,7 @@ fn correct_symbols(code: Code, lanes: usize, shares: &mut [u8]) -> Result<u32, R
 }
 
 // Sets a block right over a code.
+#[tactic(auto, using(generator::proofs::Answered::giving_tests, belongs::proofs::Accepts::belongs_accepts, crate::proofs::Answers::correct_refuses), unfolding(crate::specs::Promise::correct_fault))]
 fn correct_accepted(code: Code, lanes: usize, shares: &mut [u8]) -> Result<u32, Refusal>
     ensures { CorrectPromise share_layout lanes shares.old shares.new (numbered result) code.header (correct_fault share_layout code.header lanes shares.old) }
 {

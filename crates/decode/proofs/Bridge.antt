@@ -53,7 +53,7 @@ module _ (p : ℕ) (v : is_field p ≡ true) where
       go (no k) = filled_past n m g x (omega arith) ∙ ap (λ (a : Symbol (size_of p)). a.0) (sym (get_or-eq_default W F.0f {n = x} (omega arith)))
 
   -- the sum that the program forms is the discrepancy
-  partial_take : (w s : List ℕ) (W : List (Symbol (size_of p))) → Holds w W → Below (size_of p) s → (e m : ℕ) → partial p w s e m ≡ (discrepancy F (take m W) (term s) e).0
+  pub partial_take : (w s : List ℕ) (W : List (Symbol (size_of p))) → Holds w W → Below (size_of p) s → (e m : ℕ) → partial p w s e m ≡ (discrepancy F (take m W) (term s) e).0
   unfolding partial
   partial_take w s W h b e zero = refl
   partial_take w s W h b e (suc m) =

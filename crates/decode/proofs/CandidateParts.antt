@@ -27,7 +27,7 @@ use Rattle.check_sums.specs.Inner.Sums.{check_sums}
 use Rattle.check_sums.proofs.OneLane.{length_sums}
 use Rattle.nearest_word.specs.Nearest.{radius}
 use Rattle.decode.specs.Inner.Locating.{Below}
-use Rattle.decode.specs.Inner.Errors.{roots_of, errors_of, removed}
+use Rattle.decode.specs.Inner.Errors.{roots_of, errors_of, errors_at, removed}
 use Rattle.decode.specs.Inner.Candidates.{SoundLane, WrongNodes, Candidate}
 use Rattle.decode.proofs.Arrays.{below_everywhere}
 use Rattle.decode.proofs.RootNodes.{few_roots, roots_low}
@@ -42,10 +42,6 @@ sums_below h s ws b =
     let f : ℕ → ℕ = λ e. check_from h e 0 ws in
     at_below (size h) (from f 1 (h.n - h.k))
     (λ i l. rw (get_or_from f 1 (h.n - h.k) i 0 (omega (arith, length_from f 1 (h.n - h.k)))) (check_from_below h s (1 + i) 0 ws b))
-
--- the errors at the listed nodes
-abbrev pub errors_at : Header → List ℕ → List ℕ → List ℕ
-errors_at h nodes sums = errors_of (modulus_of h) (points_of (modulus_of h) h.root 0 nodes) (take (length nodes) sums)
 
 -- what is known of the listed nodes, the check sums, and the errors
 pub record CandidateParts (h : Header) (ws sums nodes : List ℕ) : Type 0 where

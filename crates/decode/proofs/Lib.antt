@@ -3,6 +3,7 @@ pub mod Arrays
 pub mod Differing
 pub mod Bridge
 pub mod Steps
+pub mod Discrepancies
 pub mod Values
 pub mod Removing
 pub mod RootNodes

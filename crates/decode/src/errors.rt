@@ -1,16 +1,16 @@
 // The errors at the nodes where the locator vanishes, from the check sums and Lagrange's basis of the nodes' points.
-ghost use Rattle.std.specs.Prelude.{◌≡◌, ◌<◌, length};
+ghost use Rattle.std.specs.Prelude.{◌≡◌, ◌<◌, ◌≤◌, length};
 ghost use Rattle.lists.specs.Padded.{padded};
 ghost use Rattle.field.specs.Fields.{size_of};
 ghost use Rattle.field.specs.Kinds.{modulus};
-ghost use Rattle.interpolation.specs.Inner.Points.{points_of};
 ghost use Rattle.interpolation.specs.Inner.Lagrange.{scales_of};
-ghost use Rattle.decode.specs.Inner.Errors.{error_of, errors_from, errors_of};
+ghost use Rattle.decode.specs.Inner.Errors.{error_of, errors_from, errors_at};
 
+use crate::Syndrome;
 use interpolation::division::Dividend;
 use interpolation::lagrange::Points;
 use interpolation::polynomials::Polynomial;
-use interpolation::powers;
+use interpolation::powers::Root;
 
 // The error at the point x: the sum of the check sums, which are the weights of the product over all points, times the coefficients of that over the other points, times the scale of x, over x.
 fn error_at(product: Dividend, x: u32, scale: u32) -> u32
@@ -38,26 +38,33 @@ fn errors_from(points: Points, product: Dividend) -> [u16; 255]
     out
 }
 
-// The errors at the listed nodes, and zeros after them; the check sums are a polynomial of as many coefficients as there are nodes.
-pub fn errors(sums: Polynomial, root: u32, nodes: &[u8]) -> [u16; 255]
-    requires { (length sums.coefficients.now ≡ length nodes.now) × (root < size_of (modulus sums.field.field)) }
-    ensures { let p = modulus sums.entry.field.field in result ≡ padded 255 (errors_of p (points_of p root 0 nodes.now) sums.entry.coefficients.now) }
-{
-    let field = sums.field;
-    let count = nodes.len();
-    let list = powers::points(field, root, nodes, 0);
-    let points = Points {
-        field,
-        points: &list[..count],
-    };
-    let product = points.product();
-    let polynomial = Polynomial {
-        field,
-        coefficients: &product[1..=count],
-    };
-    let dividend = Dividend {
-        polynomial,
-        weights: sums.coefficients,
-    };
-    errors_from(points, dividend)
+impl Syndrome<'_, '_> {
+    // The errors at the listed nodes, and zeros after them: from as many check sums as there are nodes.
+    pub fn errors(self, nodes: &[u8]) -> [u16; 255]
+        requires { length nodes.now ≤ 255 }
+        ensures { let h = self.entry.codec.code.header in result ≡ padded 255 (errors_at h nodes.now self.entry.sums.now) }
+    {
+        let Syndrome { codec, sums, .. } = self;
+        let field = codec.field;
+        let root = Root {
+            field,
+            value: codec.code.header.root,
+        };
+        let count = nodes.len();
+        let list = root.points(nodes, 0);
+        let points = Points {
+            field,
+            points: &list[..count],
+        };
+        let product = points.product();
+        let polynomial = Polynomial {
+            field,
+            coefficients: &product[1..=count],
+        };
+        let dividend = Dividend {
+            polynomial,
+            weights: &sums[..count],
+        };
+        errors_from(points, dividend)
+    }
 }

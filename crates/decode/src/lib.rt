@@ -20,7 +20,6 @@ mod lanes;
 mod locator;
 mod roots;
 
-use errors::errors;
 use lanes::{differing, removed};
 use locator::locate;
 use roots::find_roots;
@@ -33,41 +32,41 @@ pub struct Corrected {
     pub altered: usize,
 }
 
+// The check sums of a lane over a code, with zeros after them: from these alone the errors are told.
+#[derive(Clone, Copy)]
+struct Syndrome<'a, 's> {
+    codec: Codec<'a>,
+    sums: &'s [u16; 255],
+    ghost symbols: { Below (size codec.code.header) sums.now },
+}
+
+impl Syndrome<'_, '_> {
+    // The nodes at which the locator of the check sums vanishes: all wrong ones, if a word is near enough.
+    fn wrong_nodes(self) -> ArrayVec<u8, 255>
+        ensures { WrongNodes self.entry.codec.code.header self.entry.sums.now result.items }
+    {
+        let Codec { code, field, .. } = self.codec;
+        let t = code.checks() / 2;
+        let locator = locate(field, self.sums, t);
+        let polynomial = Polynomial {
+            field,
+            coefficients: &locator[..=t],
+        };
+        find_roots(code, polynomial)
+    }
+}
+
 // The only symbols that may be a word near enough, and zeros after them.
 fn candidate(codec: Codec, lane: &[u16], sums: [u16; 255]) -> [u16; 255]
     requires { let h = codec.code.header in SoundLane h lane.now × (sums ≡ padded 255 (check_sums h lane.now)) }
     ensures { Candidate codec.entry.code.header lane.now result }
 {
-    let h = codec.code.header;
-    let field = codec.field;
-    let found = wrong_nodes(codec, &sums);
+    let syndrome = Syndrome { codec, sums: &sums };
+    let found = syndrome.wrong_nodes();
     let nodes = found.as_slice();
     let count = nodes.len();
-    let taken = Polynomial {
-        field,
-        coefficients: &sums[..count],
-    };
-    let wrong = errors(taken, h.root, nodes);
-    removed(field, lane, nodes, &wrong[..count])
-}
-
-// The nodes at which the locator of the check sums vanishes: all wrong ones, if a word is near enough.
-fn wrong_nodes(codec: Codec, sums: &[u16; 255]) -> ArrayVec<u8, 255>
-    requires { Below (size codec.code.header) sums.now }
-    ensures { WrongNodes codec.entry.code.header sums.now result.items }
-{
-    let h = codec.code.header;
-    let field = codec.field;
-    let root = h.root;
-    let n = h.n as usize;
-    let t = codec.code.checks() / 2;
-    let size = t + 1;
-    let locator = locate(field, sums, t);
-    let polynomial = Polynomial {
-        field,
-        coefficients: &locator[..size],
-    };
-    find_roots(polynomial, root, n)
+    let wrong = syndrome.errors(nodes);
+    removed(codec.field, lane, nodes, &wrong[..count])
 }
 
 // The word near enough to a lane, if there is one.

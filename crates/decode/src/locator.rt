@@ -8,21 +8,15 @@ ghost use Rattle.decode.specs.Inner.Locating.{Below, partial, shifted, amended_a
 
 use field::Field;
 use field::lent::Arithmetic;
-
-// Coefficient i as a symbol's number.
-fn entry(c: &[u16; 255], i: usize) -> u32
-    requires { i < 255 }
-    ensures { result ≡ get_or c.now i 0 }
-{
-    c[i] as u32
-}
+use interpolation::sums::weighted_sum;
 
 // Coefficient x of x^i·w.
+#[tactic(auto, using(crate::proofs::Arrays::shifted_low, crate::proofs::Arrays::shifted_high))]
 fn at(w: &[u16; 255], i: usize, x: usize) -> u32
     requires { x < 255 }
     ensures { result ≡ shifted w.now i x }
 {
-    if x < i { 0 } else { entry(w, x - i) }
+    if x < i { 0 } else { w[x - i] as u32 }
 }
 
 // What the algorithm holds after some steps: the sequence s, the locator w at hand, and v, which is w before its degree grew last, times a constant.
@@ -45,12 +39,8 @@ impl Registers<'_, '_> {
         ensures is { result ≡ partial (modulus self.entry.field.field) self.entry.w.now self.entry.s.now e m }
         ensures symbol { result < size_of (modulus self.entry.field.field) }
     {
-        let mut sum = Field::ZERO;
-        for i in 0..m {
-            let term = self.field.mul(entry(self.w, i), entry(self.s, e + i));
-            sum = self.field.add(sum, term);
-        }
-        sum
+        let Registers { field, s, w, .. } = self;
+        weighted_sum(field, &w[..m], &s[e..])
     }
 
     // The first coefficients of x^i·w − d·x^j·v, and zeros after them.
@@ -73,7 +63,7 @@ impl Registers<'_, '_> {
     {
         let mut out = [0u16; 255];
         for x in 0..size {
-            out[x] = self.field.mul(d, entry(self.w, x)) as u16;
+            out[x] = self.field.mul(d, self.w[x] as u32) as u16;
         }
         out
     }

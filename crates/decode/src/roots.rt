@@ -1,13 +1,16 @@
 // The nodes at which a polynomial vanishes; node j has the point root^j.
-ghost use Rattle.std.specs.Prelude.{◌≡◌, ◌<◌, ◌≤◌};
+ghost use Rattle.std.specs.Prelude.{◌≡◌, ◌<◌};
 ghost use Rattle.field.specs.Fields.{size_of};
 ghost use Rattle.field.specs.Kinds.{modulus};
+ghost use Rattle.generator.specs.Records.{modulus_of};
 ghost use Rattle.generator.specs.Codewords.{poly_at};
 ghost use Rattle.decode.specs.Inner.Errors.{roots_of};
 
 use arrayvec::ArrayVec;
 use field::Field;
+use generator::{Code, Header};
 use interpolation::polynomials::Polynomial;
+use interpolation::sums::multiply_add;
 
 // The value at x, by Horner's rule.
 fn value(polynomial: Polynomial, x: u32) -> u32
@@ -18,17 +21,17 @@ fn value(polynomial: Polynomial, x: u32) -> u32
     let field = polynomial.field;
     let mut sum = Field::ZERO;
     for c in polynomial.coefficients.iter().rev() {
-        let product = field.mul(x, sum);
-        sum = field.add(u32::from(*c), product);
+        sum = multiply_add(field, x, sum, u32::from(*c));
     }
     sum
 }
 
-// The nodes below n at which the value is 0, rising.
-pub fn find_roots(polynomial: Polynomial, root: u32, n: usize) -> ArrayVec<u8, 255>
-    requires { (root < size_of (modulus polynomial.field.field)) × (n ≤ 255) }
-    ensures { result.items ≡ roots_of (modulus polynomial.entry.field.field) root n polynomial.entry.coefficients.now }
+// The code's nodes at which the value is 0, rising.
+pub fn find_roots(code: Code, polynomial: Polynomial) -> ArrayVec<u8, 255>
+    requires { polynomial.field.field ≡ code.header.field }
+    ensures { let h = code.header in result.items ≡ roots_of (modulus_of h) h.root h.n polynomial.entry.coefficients.now }
 {
+    let Header { root, n, .. } = code.header;
     let field = polynomial.field;
     let mut nodes = ArrayVec::new();
     let mut x = Field::ONE;
@@ -36,7 +39,7 @@ pub fn find_roots(polynomial: Polynomial, root: u32, n: usize) -> ArrayVec<u8, 2
         let y = value(polynomial, x);
         x = field.mul(root, x);
         if y == Field::ZERO {
-            nodes.push(j as u8);
+            nodes.push(j);
         }
     }
     nodes

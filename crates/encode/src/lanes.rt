@@ -24,7 +24,8 @@ fn fill_column(generator: &Generator, node: usize, column: &mut [u16])
     }
 }
 
-// The lists of every node's column; `column` is scratch.
+// The lists of every node's column; `column` is scratch, lent to all nodes. `prepare_all` takes an array of 255 numbers for each output: to clear
+// and copy it for each node was a fifth of Encode on 64 lanes.
 #[tactic(auto, using(lists::proofs::Rows::row_inside, tile_products::proofs::Beginning::begun_none, crate::proofs::Words::length_column, crate::proofs::Words::column_below))]
 fn list_columns(
     generator: &Generator,

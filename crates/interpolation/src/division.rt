@@ -1,25 +1,15 @@
 // Division of a polynomial by a linear factor; the quotient times factors, and its sum with terms.
 ghost use Rattle.std.specs.Prelude.{◌≡◌, ◌<◌, length};
 ghost use Rattle.lists.specs.Padded.{padded};
-ghost use Rattle.field.specs.Fields.{size_of, add, mul};
+ghost use Rattle.field.specs.Fields.{size_of};
 ghost use Rattle.field.specs.Kinds.{modulus};
 ghost use Rattle.field.specs.Inner.Sums.{dot};
 ghost use Rattle.interpolation.specs.Inner.Points.{SymbolList};
 ghost use Rattle.interpolation.specs.Inner.Polynomials.{quotient_of, termwise};
 
 use crate::polynomials::Polynomial;
-use crate::sums::{products, weighted_sum};
+use crate::sums::{multiply_add, products, weighted_sum};
 use field::Field;
-use field::lent::Arithmetic;
-
-// a·b + c.
-fn multiply_add(field: Arithmetic, a: u32, b: u32, c: u32) -> u32
-    requires { (a < size_of (modulus field.field)) × (b < size_of (modulus field.field)) × (c < size_of (modulus field.field)) }
-    ensures is { result ≡ add (modulus field.entry.field) (mul (modulus field.entry.field) a b) c }
-    ensures symbol { result < size_of (modulus field.entry.field) }
-{
-    field.add(field.mul(a, b), c)
-}
 
 impl Polynomial<'_, '_> {
     // The coefficients of the quotient by x − a of x times the polynomial plus any constant, from the highest down, and zeros after them.

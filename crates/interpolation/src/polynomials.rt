@@ -8,6 +8,7 @@ ghost use Rattle.interpolation.specs.Inner.Points.{SymbolList};
 ghost use Rattle.interpolation.specs.Inner.Polynomials.{carried, product_of, base_of, inverses_of};
 
 use crate::lagrange::Points;
+use crate::powers::Root;
 use field::Field;
 use field::lent::Arithmetic;
 
@@ -49,20 +50,22 @@ impl Points<'_, '_> {
     }
 }
 
-// The base polynomial, the product of (x − root^i) for i below m, and zeros after it.
-pub fn base(field: Arithmetic, root: u32, m: usize) -> [u16; 256]
-    requires { (root < size_of (modulus field.field)) × (m < 255) }
-    ensures { result ≡ padded 256 (base_of (modulus field.entry.field) root m) }
-{
-    let mut out = [0u16; 256];
-    out[0] = 1;
-    let mut y = Field::ONE;
-    for i in 0..m {
-        let size = i + 2;
-        times_linear(field, y, &mut out[..size]);
-        y = field.mul(root, y);
+impl Root<'_> {
+    // The base polynomial, the product of (x − root^i) for i below m, and zeros after it.
+    pub fn base(self, m: usize) -> [u16; 256]
+        requires { m < 255 }
+        ensures { result ≡ padded 256 (base_of (modulus self.entry.field.field) self.entry.value m) }
+    {
+        let mut out = [0u16; 256];
+        out[0] = 1;
+        let mut y = Field::ONE;
+        for i in 0..m {
+            let size = i + 2;
+            times_linear(self.field, y, &mut out[..size]);
+            y = self.field.mul(self.value, y);
+        }
+        out
     }
-    out
 }
 
 impl Polynomial<'_, '_> {

@@ -7,14 +7,24 @@ ghost use Rattle.interpolation.specs.Inner.Points.{points_of};
 
 use field::lent::Arithmetic;
 
-// root^(j + offset) for each j of the list, and zeros after them.
-pub fn points(field: Arithmetic, root: u32, places: &[u8], offset: u32) -> [u16; 255]
-    requires { (root < size_of (modulus field.field)) × (length places.now ≤ 255) × (offset < 256) }
-    ensures { result ≡ padded 255 (points_of (modulus field.entry.field) root offset places.now) }
-{
-    let mut out = [0u16; 255];
-    for (i, &place) in places.iter().enumerate() {
-        out[i] = field.power(root, place as u32 + offset) as u16;
+// A root in its field; the points of nodes and of shifts are its powers.
+#[derive(Clone, Copy)]
+pub struct Root<'f> {
+    pub field: Arithmetic<'f>,
+    pub value: u32,
+    pub ghost symbol: { value < size_of (modulus field.field) },
+}
+
+impl Root<'_> {
+    // root^(j + offset) for each j of the list, and zeros after them.
+    pub fn points(self, places: &[u8], offset: u32) -> [u16; 255]
+        requires { (length places.now ≤ 255) × (offset < 256) }
+        ensures { result ≡ padded 255 (points_of (modulus self.entry.field.field) self.entry.value offset places.now) }
+    {
+        let mut out = [0u16; 255];
+        for (i, &place) in places.iter().enumerate() {
+            out[i] = self.field.power(self.value, place as u32 + offset) as u16;
+        }
+        out
     }
-    out
 }

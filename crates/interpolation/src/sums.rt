@@ -1,8 +1,8 @@
-// The products of two lists of symbols, and their sum.
+// A product and a sum, the products of two lists of symbols, and their sum.
 ghost use Rattle.std.specs.Prelude.{◌≡◌, true, ◌<◌, ◌≤◌, length};
 ghost use Rattle.lists.specs.Numbers.{all_below};
 ghost use Rattle.lists.specs.Padded.{padded};
-ghost use Rattle.field.specs.Fields.{size_of};
+ghost use Rattle.field.specs.Fields.{size_of, add, mul};
 ghost use Rattle.field.specs.Kinds.{modulus};
 ghost use Rattle.field.specs.Inner.Sums.{dot};
 ghost use Rattle.interpolation.specs.Inner.Points.{SymbolList};
@@ -10,6 +10,16 @@ ghost use Rattle.interpolation.specs.Inner.Polynomials.{termwise};
 
 use field::Field;
 use field::lent::Arithmetic;
+
+// a·b + c, the step of sums of products and of Horner's rule.
+// The one product that `renewed` of update adds stands there by itself: update uses no interpolation.
+pub fn multiply_add(field: Arithmetic, a: u32, b: u32, c: u32) -> u32
+    requires { (a < size_of (modulus field.field)) × (b < size_of (modulus field.field)) × (c < size_of (modulus field.field)) }
+    ensures is { result ≡ add (modulus field.entry.field) (mul (modulus field.entry.field) a b) c }
+    ensures symbol { result < size_of (modulus field.entry.field) }
+{
+    field.add(field.mul(a, b), c)
+}
 
 // Each symbol times that of the other list, and zeros after them.
 pub fn products(field: Arithmetic, xs: &[u16], ys: &[u16]) -> [u16; 255]
@@ -31,8 +41,7 @@ pub fn weighted_sum(field: Arithmetic, symbols: &[u16], weights: &[u16]) -> u32
 {
     let mut sum = Field::ZERO;
     for i in (0..symbols.len()).rev() {
-        let term = field.mul(symbols[i] as u32, weights[i] as u32);
-        sum = field.add(term, sum);
+        sum = multiply_add(field, symbols[i] as u32, weights[i] as u32, sum);
     }
     sum
 }

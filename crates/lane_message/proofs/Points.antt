@@ -1,6 +1,6 @@
 -- The points of the rows: powers of the root, whose exponents count modulo n.
 use mathlib.Core.Path.{◌≡◌, sym, ap, ◌∙◌}
-use Prim.Native.Nat.{ℕ, ◌+◌, ◌-◌, ◌%◌, ◌<◌}
+use Prim.Native.Nat.{ℕ, ◌+◌, ◌-◌, ◌%◌, ◌≤◌, ◌<◌}
 use native.Mathlib.Omega.{arith}
 use lib.ListN.{length, get_or}
 use Rattle.lists.specs.Rows.{from}
@@ -22,6 +22,10 @@ use Rattle.interpolation.specs.Inner.Points.{points_of}
 use Rattle.node_weights.specs.Inner.Rows.{row_points}
 
 module _ (h : Header) (s : Sound h) where
+  -- there are few rows
+  pub few : h.k ≤ 255
+  few = omega (arith, s.fits, s.byte)
+
   pub length_shifts : length (shifts h) ≡ h.k
   length_shifts = shifts_length h.n h.k s.some s.fits
 

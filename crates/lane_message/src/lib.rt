@@ -23,6 +23,7 @@ use spectrum::Transform;
 
 impl GeneratorRows<'_, '_> {
     // Symbol r of a word's message: the sum of the coefficients of its polynomial times the row's terms, times the row's scale. The spectrum has n times each coefficient.
+    #[tactic(auto, using(lists::proofs::Padding::take_padded, node_weights::proofs::Parts::row_symbols, node_weights::proofs::Parts::term_symbols))]
     fn symbol(self, spectrum: &[u16], r: usize) -> u32
         requires { (length spectrum.now ≡ self.transform.powers.codec.code.header.n) × (all_below (size self.transform.powers.codec.code.header) spectrum.now ≡ true) × (r < self.transform.powers.codec.code.header.k) }
         ensures { let h = self.entry.transform.powers.codec.code.header in result ≡ symbol_from h r (coefficients_of h spectrum.now) }
@@ -46,6 +47,7 @@ impl GeneratorRows<'_, '_> {
     }
 
     // Judges the lane for an update of symbol r from `old`.
+    #[tactic(auto, using(lists::proofs::Padding::take_padded, generator::proofs::Answered::met, check_sums::proofs::OneLane::word_sums, spectrum::proofs::Spectra::spectrum_below, crate::proofs::Numbers::no_word_is, crate::proofs::SpectrumParts::length_spectrum, crate::proofs::SpectrumParts::check_part), unfolding(refusals::specs::Faults::stale_fault))]
     fn judge(self, r: usize, old: u32) -> Result<(), Refusal>
         requires { r < self.transform.powers.codec.code.header.k }
         ensures { let t = self.entry.transform in numbered result ≡ outcome_of (stale_fault t.powers.codec.code.header t.lane.now r old) }

@@ -1,6 +1,5 @@
 // The product over the points of the rows. Where their shifts come in g rounds it is a polynomial in x^g, the product over the points of one round to the power g.
-ghost use Rattle.std.specs.Prelude.{◌≡◌, ℕ, true, ◌+◌, ◌/◌, ◌%◌, ◌≤◌, ◌<◌, IfSome, eqb, length, get_or};
-ghost use Rattle.lists.specs.Choice.{pick};
+ghost use Rattle.std.specs.Prelude.{◌≡◌, ℕ, true, ◌%◌, ◌≤◌, ◌<◌, IfSome, length, get_or};
 ghost use Rattle.lists.specs.Padded.{padded};
 ghost use Rattle.generator.specs.Records.{modulus_of};
 ghost use Rattle.generator.specs.Shifts.{shifts as shifts_for};
@@ -37,34 +36,34 @@ fn rounds_of(n: usize, shifts: &[u8]) -> Option<usize>
     let taken = run(shifts)?;
     let around = shifts[taken] as usize;
     let rounds = n.checked_div(around)?;
-    let whole = rounds * around == n
-        && rounds * taken == shifts.len()
-        && in_rounds(around, taken, shifts);
-    whole.then_some(rounds)
+    if rounds * around != n {
+        return None;
+    }
+    if rounds * taken != shifts.len() {
+        return None;
+    }
+    if !in_rounds(around, taken, shifts) {
+        return None;
+    }
+    Some(rounds)
 }
 
-// Coefficient j of q(x^g).
-fn spread_at(g: usize, q: &[u16; 256], j: usize) -> u16
-    requires { (0 < g) × (j ≤ 255) × (length q.now ≡ 256) }
-    ensures { result ≡ pick (eqb (j % g) 0) (get_or q.now (j / g) 0) 0 }
-{
-    if j % g == 0 { q[j / g] } else { 0 }
-}
-
-// The first l coefficients of q(x^g), and zeros after them.
+// The first l coefficients of q(x^g), and zeros after them: those of q stand at every g-th place.
+#[tactic(auto, using(lists::proofs::Fill::filled_start, lists::proofs::Fill::filled_end), unfolding(lists::specs::Padded::zeros, crate::specs::Inner::Rows::spaced_of))]
 fn spread(g: usize, l: usize, q: &[u16; 256]) -> [u16; 256]
     requires { (0 < g) × (l ≤ 256) × (length q.now ≡ 256) }
     ensures { result ≡ padded 256 (spaced_of g l q.now) }
 {
     let mut out = [0u16; 256];
-    for j in 0..l {
-        out[j] = spread_at(g, q, j);
+    for j in (0..l).step_by(g) {
+        out[j] = q[j / g];
     }
     out
 }
 
 impl GeneratorRows<'_, '_> {
     // The points of one round to the power g, and zeros after them.
+    #[tactic(auto, using(lists::proofs::Fill::filled_start, lists::proofs::Fill::filled_end, lists::proofs::Rows::from_ext, check_sums::proofs::Sums::power_at, crate::proofs::Points::power_modulo), unfolding(lists::specs::Padded::zeros, crate::specs::Inner::Rows::round_points))]
     fn round_points(self, g: usize) -> [u16; 255]
         requires { (0 < g) × (g ≤ 255) }
         ensures { result ≡ padded 255 (round_points self.entry.transform.powers.codec.code.header g) }
@@ -83,6 +82,7 @@ impl GeneratorRows<'_, '_> {
     }
 
     // The product over the points of the rows, where their shifts come in g rounds.
+    #[tactic(auto, using(lists::proofs::Padding::take_padded, lists::proofs::Padding::length_padded, crate::proofs::RowProduct::length_round, crate::proofs::RowProduct::round_symbols, crate::proofs::RowProduct::round_product))]
     fn round_product(self, g: usize) -> [u16; 256]
         requires { (0 < g) × (g ≤ 255) × InRounds self.transform.powers.codec.code.header.n (shifts_for self.transform.powers.codec.code.header) g }
         ensures { let h = self.entry.transform.powers.codec.code.header in result ≡ padded 256 (product_of (modulus_of h) (row_points h)) }
@@ -99,6 +99,7 @@ impl GeneratorRows<'_, '_> {
     }
 
     // The product over the points of the rows, and zeros after it.
+    #[tactic(auto, using(lists::proofs::Padding::take_padded, crate::proofs::Points::length_shifts))]
     pub fn product(self, points: &[u16]) -> [u16; 256]
         requires { points.now ≡ row_points self.transform.powers.codec.code.header }
         ensures { let h = self.entry.transform.powers.codec.code.header in result ≡ padded 256 (product_of (modulus_of h) (row_points h)) }

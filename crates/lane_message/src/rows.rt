@@ -21,6 +21,7 @@ pub struct GeneratorRows<'p, 'a> {
 }
 
 // The step from a coefficient's inverse to that of the one below it: (root^k − y) / (root^(k−1)·(1 − y)), where y is root^c for coefficient c.
+#[tactic(auto, using(field::proofs::Bounds::one_below, field::proofs::KindLaws::usable_field), unfolding(crate::specs::Inner::Rows::step_ratio))]
 fn step_ratio(field: Arithmetic, top: u32, scale: u32, y: u32) -> u32
     requires { (top < size_of (modulus field.field)) × (scale < size_of (modulus field.field)) × (y < size_of (modulus field.field)) }
     ensures is { result ≡ step_ratio (modulus field.entry.field) top scale y }
@@ -34,6 +35,7 @@ fn step_ratio(field: Arithmetic, top: u32, scale: u32, y: u32) -> u32
 impl GeneratorRows<'_, '_> {
     // The points root^(shift + k − 1) of the rows, and zeros after them.
     // An array with zeros after: there is one for each row, so no length stands beside it.
+    #[tactic(auto, using(lists::proofs::Fill::filled_start, crate::proofs::Points::shift_at), unfolding(lists::specs::Padded::zeros))]
     pub fn points(self) -> [u16; 255]
         ensures { result ≡ padded 255 (row_points self.entry.transform.powers.codec.code.header) }
     {
@@ -50,6 +52,7 @@ impl GeneratorRows<'_, '_> {
     }
 
     // 1 over the coefficients of the base polynomial, from the highest down, and zeros after them.
+    #[tactic(auto, using(field::proofs::Bounds::power_below, check_sums::proofs::Sums::power_at, crate::proofs::Points::power_modulo, crate::proofs::BaseInverses::inverses_below, crate::proofs::BaseInverses::written_next, crate::proofs::BaseInverses::written_all))]
     fn base_inverses(self) -> [u16; 255]
         ensures { result ≡ padded 255 (base_inverses self.entry.transform.powers.codec.code.header) }
     {
@@ -71,6 +74,7 @@ impl GeneratorRows<'_, '_> {
     }
 
     // The terms of row r: the coefficients of the product over the points of the other rows, each over that of the base polynomial; and zeros after them.
+    #[tactic(auto, using(lists::proofs::Numbers::below_at, node_weights::proofs::Parts::row_symbols), unfolding(node_weights::specs::Inner::Rows::row_terms))]
     pub fn terms(self, points: &[u16], r: usize) -> [u16; 255]
         requires { (points.now ≡ row_points self.transform.powers.codec.code.header) × (r < self.transform.powers.codec.code.header.k) }
         ensures { result ≡ padded 255 (row_terms self.entry.transform.powers.codec.code.header r) }

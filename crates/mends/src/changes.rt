@@ -3,6 +3,7 @@
 ghost use Rattle.std.specs.Prelude.{◌≡◌, true, map, ◌*◌, ◌≤◌, ◌<◌, length};
 ghost use Rattle.lists.specs.Numbers.{all_below};
 ghost use Rattle.layout.specs.Width.{bytes_of};
+ghost use Rattle.field.specs.Fields.{power};
 ghost use Rattle.generator.specs.Records.{modulus_of, size, width};
 ghost use Rattle.mends.specs.Inner.BySums.{LaneSums, goes_up, up_nodes, mended_at};
 ghost use Rattle.mends.specs.Promise.{in_front};
@@ -10,6 +11,7 @@ ghost use Rattle.mends.specs.Promise.{in_front};
 use arrayvec::ArrayVec;
 use check_sums::powers::{self, RootPowers};
 use generator::{Code, Codec};
+use node_lists::nodes_where;
 use shifts::negative;
 
 // A lane that was received and is no word: the powers of the code's root, and the lane with its check sums.
@@ -35,18 +37,20 @@ impl Received<'_, '_> {
         true
     }
 
+    // Whether they go up by root^j.
+    fn goes_up_at(self, j: u8) -> bool
+        requires { j < self.powers.codec.code.header.n }
+        ensures { let h = self.entry.powers.codec.code.header in result ≡ goes_up (modulus_of h) (power (modulus_of h) h.root j) self.entry.sums.now }
+    {
+        self.goes_up(self.powers.list[j as usize] as u32)
+    }
+
     // The nodes j for which the check sums go up by root^j, rising.
     fn up_nodes(self) -> ArrayVec<u8, 255>
         ensures { result.items ≡ up_nodes self.entry.powers.codec.code.header self.entry.sums.now }
     {
         let n = self.powers.codec.code.header.n;
-        let mut nodes = ArrayVec::new();
-        for j in 0..n {
-            if self.goes_up(self.powers.list[j as usize] as u32) {
-                nodes.push(j);
-            }
-        }
-        nodes
+        nodes_where(n, |j| self.goes_up_at(j))
     }
 
     // The new symbol of node j: what it holds less the first check sum over root^j.

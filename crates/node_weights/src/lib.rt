@@ -3,7 +3,6 @@
 #![tactic(auto)]
 
 ghost use Rattle.std.specs.Prelude.{◌≡◌, true, ◌<◌, ◌≤◌, length};
-ghost use Rattle.field.specs.Fields.{size_of};
 ghost use Rattle.field.specs.Kinds.{modulus};
 ghost use Rattle.lists.specs.Padded.{padded};
 ghost use Rattle.generator.specs.Records.{modulus_of, size};
@@ -19,7 +18,7 @@ use generator::{Code, Codec};
 use interpolation::division::Dividend;
 use interpolation::lagrange::Points;
 use interpolation::polynomials::Polynomial;
-use interpolation::{polynomials, powers};
+use interpolation::powers::Root;
 
 // Lagrange's basis of listed points: the points, the scales of the basis polynomials, and the coefficients of the product polynomial; zeros after each list.
 #[derive(Clone, Copy)]
@@ -43,12 +42,15 @@ pub fn rebuild_weights(code: Code, nodes: &[u8], target: u32) -> [u16; 255]
     ensures { Rebuilds code.header nodes.now target result }
 {
     let h = code.header;
-    let root = h.root;
     let k = h.k as usize;
     let tables = field::constant_tables();
     let field = Arithmetic::new(h.field, &tables);
-    let z = field.power(root, target);
-    let list = powers::points(field, root, nodes, 0);
+    let root = Root {
+        field,
+        value: h.root,
+    };
+    let z = field.power(h.root, target);
+    let list = root.points(nodes, 0);
     let points = Points {
         field,
         points: &list[..k],
@@ -58,14 +60,14 @@ pub fn rebuild_weights(code: Code, nodes: &[u8], target: u32) -> [u16; 255]
 }
 
 // The basis of the points root^(j + offset).
-pub fn lagrange_basis(field: Arithmetic, root: u32, places: &[u8], offset: u32) -> Basis
-    requires { (root < size_of (modulus field.field)) × (length places.now ≤ 255) × (offset < 256) }
-    ensures { result ≡ basis_of (modulus field.entry.field) (points_of (modulus field.entry.field) root offset places.now) }
+pub fn lagrange_basis(root: Root, places: &[u8], offset: u32) -> Basis
+    requires { (length places.now ≤ 255) × (offset < 256) }
+    ensures { let p = modulus root.entry.field.field in result ≡ basis_of p (points_of p root.entry.value offset places.now) }
 {
     let count = places.len();
-    let list = powers::points(field, root, places, offset);
+    let list = root.points(places, offset);
     let points = Points {
-        field,
+        field: root.field,
         points: &list[..count],
     };
     let scales = points.scales();
@@ -83,19 +85,22 @@ pub fn prepare(code: Code, nodes: &[u8], shifts: &[u8]) -> Setup
     ensures { result ≡ setup_of code.header nodes.now }
 {
     let h = code.header;
-    let root = h.root;
     let k = h.k as usize;
     let m = k - 1;
     let tables = field::constant_tables();
     let field = Arithmetic::new(h.field, &tables);
-    let base = polynomials::base(field, root, m);
+    let root = Root {
+        field,
+        value: h.root,
+    };
+    let base = root.base(m);
     let inverses = Polynomial {
         field,
         coefficients: &base[..k],
     }
     .inverses();
-    let own = lagrange_basis(field, root, nodes, 0);
-    let rows = lagrange_basis(field, root, shifts, m as u32);
+    let own = lagrange_basis(root, nodes, 0);
+    let rows = lagrange_basis(root, shifts, m as u32);
     Setup {
         nodes: own,
         shifts: rows,

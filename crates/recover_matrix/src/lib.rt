@@ -50,27 +50,37 @@ impl Inverse<'_> {
         }
     }
 
+    // The quotient of the product polynomial by the linear factor of node i, and zeros after it.
+    fn quotient(self, field: Arithmetic, i: usize) -> [u16; 255]
+        requires { (field.field ≡ self.code.header.field) × (i < self.code.header.k) }
+        ensures { result ≡ padded 255 (node_quotient self.entry.code.header self.entry.nodes.now i) }
+    {
+        let k = self.code.header.k as usize;
+        let nodes = &self.setup.nodes;
+        let product = Polynomial {
+            field,
+            coefficients: &nodes.product[1..=k],
+        };
+        product.quotient(nodes.points[i] as u32)
+    }
+
     // The lists of the quotients by the linear factors of the nodes' points. Here and below, lists and counts are lent side by side: a value of both
     // arrays, `&mut WeightLists<LISTS, COUNTS>`, would make each function down to `prepare` generic in two sizes, and of a struct of two slices each
     // clause would say what they lead to before and after (tiles/src/scattering.rt).
+    #[tactic(auto, using(lists::proofs::Padding::take_padded, crate::proofs::Rows::length_quotient, crate::proofs::Rows::quotient_below, crate::proofs::Prepared::few))]
     fn list_quotients(self, codes: WeightCodes, lists: &mut [u16], counts: &mut [u8])
         requires { (codes.field ≡ self.code.header.field) × ListRoom self.code.header.k (length lists.old) (length counts.old) }
         ensures { let h = self.entry.code.header in Begun (modulus_of h) h.k (node_quotient h self.entry.nodes.now) h.k lists.new counts.new }
     {
         let h = self.code.header;
         let k = h.k as usize;
-        let end = k + 1;
-        let coefficients = &self.setup.nodes.product[..];
         let t = field::constant_tables();
-        let product = Polynomial {
-            field: Arithmetic::new(h.field, &t),
-            coefficients: &coefficients[1..end],
-        };
-        for i in 0..k {
-            let point = self.setup.nodes.points[i] as u32;
-            let q = product.quotient(point);
-            codes.prepare(&q[..k], i, lists, counts);
-        }
+        let field = Arithmetic::new(h.field, &t);
+        let quotient = move |i: usize| -> [u16; 255]
+            requires { (field.field ≡ self.code.header.field) × (i < self.code.header.k) }
+            ensures { result ≡ padded 255 (node_quotient self.entry.code.header self.entry.nodes.now i) }
+        { self.quotient(field, i) };
+        codes.prepare_all(k, k, quotient, lists, counts);
     }
 
     // The product of k sums of k symbols and so many lanes, row after row.
@@ -89,6 +99,7 @@ impl Inverse<'_> {
 
     // Row r: column r of the sums, each times the scale of the row and that of its node, and zeros after it.
     // An array with zeros after: it has k entries, as the code says, so no length stands beside it.
+    #[tactic(auto, using(lists::proofs::Fill::filled_start, crate::proofs::Prepared::few, crate::proofs::Prepared::own_scale_below, crate::proofs::Prepared::row_scale_below, crate::proofs::Prepared::sum_inside, crate::proofs::Prepared::sum_below), unfolding(lists::specs::Padded::zeros))]
     fn row(self, field: Arithmetic, r: usize, sums: &[u8]) -> [u16; 255]
         requires { (field.field ≡ self.code.header.field) × (r < self.code.header.k) × (sums.now ≡ bytes_of (width self.code.header) (inverse_sums self.code.header self.nodes.now)) }
         ensures { result ≡ padded 255 (inverse_row self.entry.code.header self.entry.nodes.now r) }
@@ -106,6 +117,7 @@ impl Inverse<'_> {
     }
 
     // The lists of all rows, from the sums.
+    #[tactic(auto, using(lists::proofs::Padding::take_padded, crate::proofs::Rows::length_row, crate::proofs::Rows::row_below, crate::proofs::Prepared::few))]
     fn list_from(self, sums: &[u8], codes: WeightCodes, lists: &mut [u16], counts: &mut [u8])
         requires { (sums.now ≡ bytes_of (width self.code.header) (inverse_sums self.code.header self.nodes.now)) × (codes.field ≡ self.code.header.field) × ListRoom self.code.header.k (length lists.old) (length counts.old) }
         ensures { let h = self.entry.code.header in Begun (modulus_of h) h.k (inverse_row h self.entry.nodes.now) h.k lists.new counts.new }
@@ -114,10 +126,11 @@ impl Inverse<'_> {
         let k = h.k as usize;
         let t = field::constant_tables();
         let field = Arithmetic::new(h.field, &t);
-        for r in 0..k {
-            let row = self.row(field, r, sums);
-            codes.prepare(&row[..k], r, lists, counts);
-        }
+        let row = move |r: usize| -> [u16; 255]
+            requires { (field.field ≡ self.code.header.field) × (r < self.code.header.k) × (sums.now ≡ bytes_of (width self.code.header) (inverse_sums self.code.header self.nodes.now)) }
+            ensures { result ≡ padded 255 (inverse_row self.entry.code.header self.entry.nodes.now r) }
+        { self.row(field, r, sums) };
+        codes.prepare_all(k, k, row, lists, counts);
     }
 
     // The same, with the sums of all rows' terms with all quotients made in scratch of so many bytes for each of two square matrices.

@@ -1,6 +1,6 @@
 -- Sums of planes that are chosen by the bits of the weights are the target's share; the bytes of a table's digits are what a node sends.
 use mathlib.Core.Path.{◌≡◌, refl, sym, ap, ap₂, fun_ext, ◌∙◌}
-use mathlib.Core.List.{List}
+use mathlib.Core.List.{List, []}
 use Prim.Native.Nat.{ℕ, ◌+◌, ◌-◌, ◌*◌, ◌/◌, ◌%◌, ◌^◌, ◌<◌}
 use native.Mathlib.Nat as Nat
 use native.Mathlib.Numerals.{add-one}
@@ -9,10 +9,10 @@ use lib.Bits.{bit_xor, xor_zero_r}
 use lib.ListN.{length, get_or, take, drop}
 use lib.Seq.{get_or-drop}
 use Rattle.lists.specs.Rows.{from}
-use Rattle.lists.specs.Padded.{zeros}
+use Rattle.lists.specs.Padded.{zeros, padded}
 use Rattle.lists.proofs.Rows.{length_from, get_or_from, from_ext, get_d_part}
 use Rattle.lists.proofs.Fill.{from_zeros}
-use Rattle.lists.proofs.Lanes.{get_d_rows}
+use Rattle.lists.proofs.Padding.{get_or_padded}
 use Rattle.field.proofs.Xor.{digit as low_digit}
 use Rattle.generator.specs.declared.Header.{Header}
 use Rattle.generator.specs.Records.{modulus_of, Sound}
@@ -20,6 +20,8 @@ use Rattle.kernel.specs.Inner.Lanes.{lanewise}
 use Rattle.kernel.proofs.Lanes.{lanewise_same, lanewise_from}
 use Rattle.traces.specs.Traces.{xor_below}
 use Rattle.traces.specs.Repairs.{bits, senders, sent_digit, part, repaired}
+use Rattle.repair_tables.specs.declared.nodes.Target.{Target}
+use Rattle.repair_tables.specs.Bits.{bit_count}
 use Rattle.repair_tables.specs.Inner.Weights.{bit_weight}
 use Rattle.traces.proofs.Bounds.{offset_below}
 use Rattle.traces.proofs.Claims.{repairable, xor_below_agree}
@@ -29,6 +31,8 @@ use Rattle.repair.specs.Sent.{sent, repaired_share}
 use Rattle.repair.specs.Inner.Sums.{plane_sum, plane_sums, lane_byte}
 use Rattle.repair.specs.Inner.Lanes.{lane_bit}
 use Rattle.repair.proofs.Digits.{byte_ext, byte_inside}
+use Rattle.repair.specs.Inner.Asked.{asked}
+use Rattle.repair.proofs.Judging.{asked_bits}
 use Rattle.repair.proofs.Bits.{bit_sum, byte_sum, repaired_bits}
 
 pub chosen_none : (bit : ℕ) (row acc : List ℕ) → bit < 2 → (bit ≡ 1 → ⊥) → acc ≡ lanewise (λ c y. bit_xor y (bit * get_or row c 0)) acc
@@ -75,6 +79,9 @@ sent_table h t missing j b table share w e low =
     ap (λ (b : ℕ). planes b (length share) (λ i. get_or table (get_or share i 0) 0)) w
     ∙ ap (planes (bits h (length missing)) (length share)) (fun_ext (λ i. table_at 256 (sent_digit h t missing j) table e (get_or share i 0) (low i)))
 
+pub sent_asked : (x : Target) (h : Header) (t : ℕ) (missing : List ℕ) → asked x ≡ (h, (t, missing)) → (j : ℕ) (table share : List ℕ) → table ≡ from (sent_digit x.codec.code.header x.node x.missing.now j) 0 256 → ((i : ℕ) → get_or share i 0 < 256) → planes (bit_count x.bits) (length share) (λ i. get_or table (get_or share i 0) 0) ≡ sent h t missing j share
+sent_asked x h t missing is j table share e low = sent_table h t missing j _ table share (asked_bits x h t missing is) (e ∙ ap (λ p. from (sent_digit p.0 p.1.0 p.1.1 j) 0 256) is) low
+
 -- weights are bytes
 weight_byte : (h : Header) → Sound h → modulus_of h ≡ 0 → (b t : ℕ) (js : List ℕ) (q : ℕ) → bit_weight h b t js q < 256
 unfolding bit_weight part
@@ -91,13 +98,13 @@ module _ (h : Header) (s : Sound h) (l t : ℕ) (missing rows ws : List ℕ) (so
   weight = bit_weight h b t (senders h t missing)
 
   -- bit p of lane i of the sums
-  sum_bit : (p i : ℕ) → p < 8 → i < l → get_or (plane_sums ws count (plane_size l) rows) (p * plane_size l + i / 8) 0 / 2 ^ (i % 8) % 2 ≡ xor_below count (λ q. weight q / 2 ^ p % 2 * bit_at (drop (q * plane_size l) rows) i)
+  sum_bit : (p i : ℕ) → p < 8 → i < l → get_or (get_or (plane_sums ws count (plane_size l) rows) p []) (i / 8) 0 / 2 ^ (i % 8) % 2 ≡ xor_below count (λ q. weight q / 2 ^ p % 2 * bit_at (drop (q * plane_size l) rows) i)
   unfolding plane_sums plane_sum bit_at
   sum_bit p i hp hi =
       let P : ℕ = plane_size l in
       ap (λ (x : ℕ). x / 2 ^ (i % 8) % 2)
-      (get_d_rows (plane_sum ws count P rows) P (length_sum ws count P rows) 0 8 p (i / 8) hp (byte_inside l i hi)
-      ∙ ap (λ (x : ℕ). get_or (plane_sum ws count P rows x) (i / 8) 0) (Nat.zero-add p)
+      (ap (λ (xs : List ℕ). get_or xs (i / 8) 0) (get_or_from (λ x. padded 512 (plane_sum ws count P rows x)) 0 8 p [] hp ∙ ap (λ (x : ℕ). padded 512 (plane_sum ws count P rows x)) (Nat.zero-add p))
+      ∙ get_or_padded 512 (plane_sum ws count P rows p) (i / 8) (rw length_sum (byte_inside l i hi))
       ∙ get_or_from (λ c. xor_below count (λ q. get_or ws q 0 / 2 ^ p % 2 * get_or rows (q * P + c) 0)) 0 P (i / 8) 0 (byte_inside l i hi)
       ∙ ap (λ (c : ℕ). xor_below count (λ q. get_or ws q 0 / 2 ^ p % 2 * get_or rows (q * P + c) 0)) (Nat.zero-add (i / 8)))
       ∙ bit_sum count (i % 8) (λ q. get_or ws q 0 / 2 ^ p % 2) (λ q. get_or rows (q * P + i / 8) 0) (λ q. low_digit (get_or ws q 0 / 2 ^ p))
@@ -108,7 +115,7 @@ module _ (h : Header) (s : Sound h) (l t : ℕ) (missing rows ws : List ℕ) (so
       (sym (get_or-drop (q * P) rows (i / 8) 0)))
 
   -- the byte of a lane is the target's symbol
-  lane_is : (i : ℕ) → i < l → lane_byte (plane_sums ws count (plane_size l) rows) (plane_size l) i ≡ repaired h t missing (λ r. byte_from b (λ e. bit_at (drop ((r * b + e) * plane_size l) rows) i) 0)
+  lane_is : (i : ℕ) → i < l → lane_byte (plane_sums ws count (plane_size l) rows) i ≡ repaired h t missing (λ r. byte_from b (λ e. bit_at (drop ((r * b + e) * plane_size l) rows) i) 0)
   unfolding lane_byte bit_at
   lane_is i hi =
       let can = repairable h (length missing) some in
@@ -117,8 +124,8 @@ module _ (h : Header) (s : Sound h) (l t : ℕ) (missing rows ws : List ℕ) (so
       ∙ repaired_bits h t missing (λ q. bit_at (drop (q * plane_size l) rows) i) can.kind can.width (λ q. low_digit _)
 
   -- and all lanes its share
-  pub share_is : (out : List ℕ) → length out ≡ l → lanewise (λ i y. lane_byte (plane_sums ws count (plane_size l) rows) (plane_size l) i) out ≡ repaired_share h l t missing rows
+  pub share_is : (out : List ℕ) → length out ≡ l → lanewise (λ i y. lane_byte (plane_sums ws count (plane_size l) rows) i) out ≡ repaired_share h l t missing rows
   unfolding repaired_share lanewise
   share_is out long =
-      ap (from (λ i. lane_byte (plane_sums ws count (plane_size l) rows) (plane_size l) i) 0) long
+      ap (from (λ i. lane_byte (plane_sums ws count (plane_size l) rows) i) 0) long
       ∙ from_ext _ _ 0 l (λ i a b. lane_is i (omega arith))

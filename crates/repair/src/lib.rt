@@ -1,20 +1,16 @@
 // Repair by traces: a node sends b bits of each symbol of its share, and the target makes its own share of what the other nodes sent. Further nodes may be missing.
 #![tactic(auto)]
 
-ghost use Rattle.std.specs.Prelude.{◌≡◌, true, ◌-◌, ◌*◌, ◌≤◌, length};
-ghost use Rattle.lists.specs.Numbers.{distinct};
+ghost use Rattle.std.specs.Prelude.{◌≡◌, ◌-◌, ◌*◌, ◌≤◌, length};
 ghost use Rattle.generator.specs.Answers.{numbered};
-ghost use Rattle.traces.specs.Repairs.{bits};
-ghost use Rattle.traces.specs.Claims.{Repairing};
 ghost use Rattle.repair_tables.specs.Bits.{bit_count};
 ghost use Rattle.repair.specs.Packing.{packed_size};
 ghost use Rattle.repair.specs.Sent.{repaired_share};
 ghost use Rattle.repair.specs.Promise.{repair_bits_fault, repair_share_fault, repair_plan_fault, RepairBitsPromise, RepairSharePromise, RepairPlanPromise, RepairBitsSays, RepairShareSays, RepairPlanSays};
 
-use generator::{Code, Refusal};
+use generator::{Code, Codec, Refusal};
 use packing::Digits;
-use repair_tables::Bits;
-use repair_tables::tables::{sent_digits, weights};
+use repair_tables::{Bits, Target};
 use sums::Planes;
 
 mod fault;
@@ -31,51 +27,51 @@ pub struct RepairPlan {
 // A repair in so many lanes of a code: its target, and the nodes that are missing beside it. Lanes are a `usize`, as the tests of refusals take
 // them: with `lanes: u32` their bound would not be said, and each of the four tests in `judge_bits` and `judge_share` would cast them.
 #[derive(Clone, Copy)]
-struct Repair<'a> {
-    code: Code,
+struct Repair<'t, 'm> {
+    codec: Codec<'t>,
     lanes: usize,
     target: u32,
-    missing: &'a [u8],
+    missing: &'m [u8],
     ghost counted: { lanes ≤ 4294967295 },
 }
 
-impl Repair<'_> {
+// The target's share from the planes of the nodes that send.
+fn add_up(target: Target, rows: &[u8], out: &mut [u8])
+    requires { let h = target.codec.code.header in (length out.old ≤ 4096) × (length rows.now ≡ (h.n - 1 - length target.missing.now) * packed_size (bit_count target.bits) (length out.old)) }
+    ensures { let h = target.entry.codec.code.header in out.new ≡ repaired_share h (length out.old) target.entry.node target.entry.missing.now rows.now }
+{
+    let senders = fault::senders(target.codec.code, target.missing);
+    let weights = target.weights();
+    let total = senders * target.bits.count() as usize;
+    let planes = Planes {
+        weights: &weights[..total],
+        size: packing::plane_size(out.len()),
+        rows,
+    };
+    planes.combine(out);
+}
+
+impl Repair<'_, '_> {
     // Sends what a node has for the target.
     fn bits_accepted(self, node: u32, share: &[u8], out: &mut [u8]) -> Result<(), Refusal>
-        ensures { RepairBitsPromise node self.entry.target self.entry.missing.now share.now out.old out.new (numbered result) self.entry.code.header (repair_bits_fault self.entry.code.header self.entry.lanes node self.entry.target self.entry.missing.now (length share.now) (length out.old)) }
+        ensures { RepairBitsPromise node self.entry.target self.entry.missing.now share.now out.old out.new (numbered result) self.entry.codec.code.header (repair_bits_fault self.entry.codec.code.header self.entry.lanes node self.entry.target self.entry.missing.now (length share.now) (length out.old)) }
     {
-        let b = self.judge_bits(node, share.len(), out.len())?;
-        let table = sent_digits(self.code, b, self.target, self.missing, node);
+        let target = self.judge_bits(node, share.len(), out.len())?;
+        let table = target.sent_digits(node);
         let digits = Digits {
             table: &table,
             share,
         };
-        digits.pack(b, out);
+        digits.pack(target.bits, out);
         Ok(())
-    }
-
-    // The target's share from the planes of the nodes that send.
-    fn add_up(self, b: Bits, rows: &[u8], out: &mut [u8])
-        requires { (bit_count b ≡ bits self.code.header (length self.missing.now)) × Repairing self.code.header self.target self.missing.now × (distinct self.missing.now ≡ true) × (self.lanes ≤ 4096) × (length out.old ≡ self.lanes) × (length rows.now ≡ (self.code.header.n - 1 - length self.missing.now) * packed_size (bits self.code.header (length self.missing.now)) self.lanes) }
-        ensures { out.new ≡ repaired_share self.entry.code.header self.entry.lanes self.entry.target self.entry.missing.now rows.now }
-    {
-        let senders = self.senders();
-        let weights = weights(self.code, b, self.target, self.missing);
-        let total = senders * b.count() as usize;
-        let planes = Planes {
-            weights: &weights[..total],
-            size: packing::plane_size(self.lanes),
-            rows,
-        };
-        planes.combine(out);
     }
 
     // Repairs the target's share.
     fn share_accepted(self, rows: &[u8], out: &mut [u8]) -> Result<(), Refusal>
-        ensures { RepairSharePromise self.entry.lanes self.entry.target self.entry.missing.now rows.now out.old out.new (numbered result) self.entry.code.header (repair_share_fault self.entry.code.header self.entry.lanes self.entry.target self.entry.missing.now (length rows.now) (length out.old)) }
+        ensures { RepairSharePromise self.entry.lanes self.entry.target self.entry.missing.now rows.now out.old out.new (numbered result) self.entry.codec.code.header (repair_share_fault self.entry.codec.code.header self.entry.lanes self.entry.target self.entry.missing.now (length rows.now) (length out.old)) }
     {
-        let b = self.judge_share(rows.len(), out.len())?;
-        self.add_up(b, rows, out);
+        let target = self.judge_share(rows.len(), out.len())?;
+        add_up(target, rows, out);
         Ok(())
     }
 }
@@ -93,8 +89,10 @@ pub fn repair_bits(
     ensures { RepairBitsSays rec.now lanes node target missing.now share.now out.old out.new (numbered result) }
 {
     let code = records::read_record(rec)?;
+    let tables = field::constant_tables();
+    let codec = Codec::new(code, &tables);
     let repair = Repair {
-        code,
+        codec,
         lanes: lanes as usize,
         target,
         missing,
@@ -114,8 +112,10 @@ pub fn repair_share(
     ensures { RepairShareSays rec.now lanes target missing.now rows.now out.old out.new (numbered result) }
 {
     let code = records::read_record(rec)?;
+    let tables = field::constant_tables();
+    let codec = Codec::new(code, &tables);
     let repair = Repair {
-        code,
+        codec,
         lanes: lanes as usize,
         target,
         missing,

@@ -1,6 +1,7 @@
 // Sums of planes, and the bytes that they make.
 ghost use Rattle.std.specs.Prelude.{◌≡◌, ◌≤◌, ◌<◌, ◌*◌, ◌/◌, length, get_or};
 ghost use Rattle.std.specs.Int.Bits.{bit_xor};
+ghost use Rattle.lists.specs.Padded.{padded};
 ghost use Rattle.kernel.specs.Inner.Lanes.{lanewise};
 ghost use Rattle.repair.specs.Inner.Sums.{plane_sum, plane_sums, lane_byte};
 
@@ -18,9 +19,9 @@ fn add_chosen(bit: u32, row: &[u8], acc: &mut [u8])
 }
 
 // The byte of one lane of eight planes.
-fn gather(acc: &[u8], size: usize, i: usize) -> u8
-    requires { (i / 8 < size) × (size ≤ 512) × (length acc.now ≡ 8 * size) }
-    ensures { result ≡ lane_byte acc.now size i }
+fn gather(planes: &[[u8; 512]; 8], i: usize) -> u8
+    requires { i < 4096 }
+    ensures { result ≡ lane_byte planes.now i }
 {
     let c = i / 8;
     let bit = Bit {
@@ -28,18 +29,18 @@ fn gather(acc: &[u8], size: usize, i: usize) -> u8
     };
     let mut x: u32 = 0;
     for p in (0..8).rev() {
-        x = bit.of(acc[p * size + c]) + 2 * x;
+        x = bit.of(planes[p][c]) + 2 * x;
     }
     x as u8
 }
 
 // The bytes of all lanes of eight planes.
-fn gather_all(acc: &[u8], size: usize, out: &mut [u8])
-    requires { (size ≤ 512) × (length out.old ≤ size * 8) × (length acc.now ≡ 8 * size) }
-    ensures { out.new ≡ lanewise (λ i y. lane_byte acc.now size i) out.old }
+fn gather_all(planes: &[[u8; 512]; 8], out: &mut [u8])
+    requires { length out.old ≤ 4096 }
+    ensures { out.new ≡ lanewise (λ i y. lane_byte planes.now i) out.old }
 {
     for (i, x) in out.iter_mut().enumerate() {
-        *x = gather(acc, size, i);
+        *x = gather(planes, i);
     }
 }
 
@@ -68,33 +69,32 @@ impl Planes<'_> {
         }
     }
 
-    // The sums for all eight bits.
-    fn sums(self, acc: &mut [u8])
-        requires { length acc.old ≡ 8 * self.size }
-        ensures { acc.new ≡ plane_sums self.entry.weights.now (length self.entry.weights.now) self.entry.size self.entry.rows.now }
+    // The sum for bit p, with zeros after it.
+    fn padded_sum(self, p: usize) -> [u8; 512]
+        requires { p < 8 }
+        ensures { result ≡ padded 512 (plane_sum self.entry.weights.now (length self.entry.weights.now) self.entry.size self.entry.rows.now p) }
     {
-        for p in 0..8 {
-            let start = p * self.size;
-            let end = start + self.size;
-            self.sum(Bit { place: p as u32 }, &mut acc[start..end]);
-        }
+        let mut plane = [0u8; 512];
+        self.sum(Bit { place: p as u32 }, &mut plane[..self.size]);
+        plane
     }
 
-    // The sums in a lent buffer, and the bytes that they make.
-    fn combine_in(self, acc: &mut [u8], out: &mut [u8])
-        requires { (length acc.old ≡ 8 * self.size) × (length out.old ≤ self.size * 8) }
-        ensures { out.new ≡ lanewise (λ i y. lane_byte (plane_sums self.entry.weights.now (length self.entry.weights.now) self.entry.size self.entry.rows.now) self.entry.size i) out.old }
+    // The sums for all eight bits.
+    fn sums(self) -> [[u8; 512]; 8]
+        ensures { result ≡ plane_sums self.entry.weights.now (length self.entry.weights.now) self.entry.size self.entry.rows.now }
     {
-        self.sums(acc);
-        gather_all(acc, self.size, out);
+        let mut sums = [[0u8; 512]; 8];
+        for p in 0..8 {
+            sums[p] = self.padded_sum(p);
+        }
+        sums
     }
 
     // The sum of the weights times the bits of the planes, in every lane.
     pub fn combine(self, out: &mut [u8])
         requires { length out.old ≤ self.size * 8 }
-        ensures { out.new ≡ lanewise (λ i y. lane_byte (plane_sums self.entry.weights.now (length self.entry.weights.now) self.entry.size self.entry.rows.now) self.entry.size i) out.old }
+        ensures { out.new ≡ lanewise (λ i y. lane_byte (plane_sums self.entry.weights.now (length self.entry.weights.now) self.entry.size self.entry.rows.now) i) out.old }
     {
-        let mut acc = [0u8; 4096];
-        self.combine_in(&mut acc[..8 * self.size], out);
+        gather_all(&self.sums(), out);
     }
 }

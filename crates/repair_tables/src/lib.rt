@@ -5,7 +5,8 @@ mod bits;
 mod nodes;
 mod senders;
 mod subfields;
-pub mod tables;
+mod tables;
 
 pub use bits::Bits;
+pub use nodes::Target;
 pub use senders::{is_in, sends};

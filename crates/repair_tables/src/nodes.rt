@@ -1,31 +1,41 @@
 // The numbers of one node and one target.
-ghost use Rattle.std.specs.Prelude.{◌≡◌, true, ◌<◌};
-ghost use Rattle.lists.specs.Numbers.{all_below};
-ghost use Rattle.generator.specs.Records.{modulus_of, size};
-ghost use Rattle.traces.specs.Repairs.{ratio, offset, erasing, eraser, factor};
+ghost use Rattle.std.specs.Prelude.{◌≡◌, true, false, ◌<◌, length, MatchOption};
+ghost use Rattle.lists.specs.Numbers.{all_below, distinct, is_in};
+ghost use Rattle.generator.specs.Records.{size};
+ghost use Rattle.traces.specs.Repairs.{bits as bits_of, ratio, offset, erasing, eraser, factor};
+ghost use Rattle.traces.specs.Claims.{Repairing};
+ghost use Rattle.repair_tables.specs.Bits.{bit_count};
 
 use crate::bits::Bits;
 use check_sums::powers::RootPowers;
-use field::{Field, Tables};
-use generator::{Code, Codec};
+use field::Field;
+use generator::Codec;
 
-// The target of a repair, its code, and the bits that a node sends it of a symbol.
+// The target of a repair by traces, its code, the nodes that are missing beside it, and the bits of a symbol that each other node sends it.
 #[derive(Clone, Copy)]
-pub struct Target<'a> {
-    pub codec: Codec<'a>,
-    pub bits: Bits,
+pub struct Target<'t, 'm> {
+    pub codec: Codec<'t>,
     pub node: u32,
-    pub ghost inside: { node < codec.code.header.n },
-    pub ghost binary: { modulus_of codec.code.header ≡ 0 },
+    pub missing: &'m [u8],
+    pub bits: Bits,
+    pub ghost repairing: { Repairing codec.code.header node missing.now },
+    pub ghost different: { distinct missing.now ≡ true },
+    pub ghost needed: { bit_count bits ≡ bits_of codec.code.header (length missing.now) },
 }
 
-impl<'a> Target<'a> {
-    pub fn new(code: Code, bits: Bits, node: u32, tables: &'a Tables) -> Self
-        requires { (modulus_of code.header ≡ 0) × (node < code.header.n) }
-        ensures { (result.codec.code ≡ code) × (result.bits ≡ bits) × (result.node ≡ node) }
+impl<'t, 'm> Target<'t, 'm> {
+    // The target; none where there is no repair by traces with so many nodes missing.
+    pub fn new(codec: Codec<'t>, node: u32, missing: &'m [u8]) -> Option<Self>
+        requires { let h = codec.code.header in (node < h.n) × (all_below h.n missing.now ≡ true) × (is_in node missing.now ≡ false) × (distinct missing.now ≡ true) }
+        ensures { let h = codec.entry.code.header in MatchOption result (bits_of h (length missing.now) ≡ 0) (λ t. (t.codec.code.header ≡ h) × (t.node ≡ node) × (t.missing.now ≡ missing.now)) }
     {
-        let codec = Codec::new(code, tables);
-        Self { codec, bits, node }
+        let bits = Bits::new(codec.code, missing.len())?;
+        Some(Self {
+            codec,
+            node,
+            missing,
+            bits,
+        })
     }
 
     // u = root^(node − target).
@@ -51,7 +61,7 @@ impl<'a> Target<'a> {
 
     // The same by the powers of the root, for the bits of many nodes. Over 255 nodes, timed with the same steps in C: by `offset` all weights take 3 to
     // 7 times as long, and listing the powers takes 19 times as long as the one power that `factor` wants for its node.
-    pub fn offset_from(self, powers: RootPowers, node: usize) -> u32
+    pub(crate) fn offset_from(self, powers: RootPowers, node: usize) -> u32
         requires { (powers.codec.code ≡ self.codec.code) × (node < self.codec.code.header.n) }
         ensures { result ≡ offset self.entry.codec.code.header self.entry.node node }
     {
@@ -73,13 +83,13 @@ impl<'a> Target<'a> {
     }
 
     // The product of these over the missing nodes.
-    fn eraser(self, u: u32, missing: &[u8]) -> u32
-        requires { (u < size self.codec.code.header) × (all_below self.codec.code.header.n missing.now ≡ true) }
-        ensures is { result ≡ eraser self.entry.codec.code.header self.entry.node u missing.now }
+    fn eraser(self, u: u32) -> u32
+        requires { u < size self.codec.code.header }
+        ensures is { result ≡ eraser self.entry.codec.code.header self.entry.node u self.entry.missing.now }
         ensures symbol { result < size self.entry.codec.code.header }
     {
         let mut product = Field::ONE;
-        for &node in missing {
+        for &node in self.missing {
             let x = self.erasing(u, node as u32);
             product = self.codec.field.mul(product, x);
         }
@@ -87,15 +97,15 @@ impl<'a> Target<'a> {
     }
 
     // u / (u − 1), times that product.
-    pub fn factor(self, missing: &[u8], node: u32) -> u32
-        requires { (node < self.codec.code.header.n) × (all_below self.codec.code.header.n missing.now ≡ true) }
-        ensures is { result ≡ factor self.entry.codec.code.header self.entry.node missing.now node }
+    pub(crate) fn factor(self, node: u32) -> u32
+        requires { node < self.codec.code.header.n }
+        ensures is { result ≡ factor self.entry.codec.code.header self.entry.node self.entry.missing.now node }
         ensures symbol { result < size self.entry.codec.code.header }
     {
         let u = self.ratio(node);
         let y = self.codec.field.inverse(self.offset(node));
         let x = self.codec.field.mul(u, y);
-        let z = self.eraser(u, missing);
+        let z = self.eraser(u);
         self.codec.field.mul(x, z)
     }
 }

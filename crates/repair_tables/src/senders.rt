@@ -5,6 +5,7 @@ ghost use Rattle.lists.specs.Numbers.{is_in};
 ghost use Rattle.traces.specs.Repairs.{sends};
 
 use arrayvec::ArrayVec;
+use node_lists::nodes_where;
 
 // Whether a number is in a list.
 pub fn is_in(x: u32, list: &[u8]) -> bool
@@ -27,11 +28,5 @@ pub fn sends(target: u32, missing: &[u8], node: u32) -> bool
 pub fn list_senders(n: u8, target: u32, missing: &[u8]) -> ArrayVec<u8, 255>
     ensures { result.items ≡ passing_from n 0 (sends target missing.now) }
 {
-    let mut nodes = ArrayVec::new();
-    for j in 0..n {
-        if sends(target, missing, j as u32) {
-            nodes.push(j);
-        }
-    }
-    nodes
+    nodes_where(n, |j| sends(target, missing, u32::from(j)))
 }

@@ -7,15 +7,13 @@ ghost use Rattle.lists.specs.Padded.{padded};
 ghost use Rattle.field.specs.Fields.{mul};
 ghost use Rattle.generator.specs.Records.{modulus_of};
 ghost use Rattle.traces.specs.Traces.{trace_of};
-ghost use Rattle.traces.specs.Repairs.{bits, senders, sent_digit};
+ghost use Rattle.traces.specs.Repairs.{senders, sent_digit};
 ghost use Rattle.repair_tables.specs.Bits.{bit_count};
 ghost use Rattle.repair_tables.specs.Inner.Weights.{bit_weight};
 
-use crate::bits::Bits;
 use crate::nodes::Target;
 use crate::senders::list_senders;
 use check_sums::powers::{self, RootPowers};
-use generator::Code;
 use std::array;
 
 // The sums of two rows of 16: of the entry for the lower four bits and the entry for the upper four.
@@ -25,7 +23,7 @@ fn sums(low: &[u8; 16], high: &[u8; 16]) -> [u8; 256]
     array::from_fn(|x| low[x % 16] ^ high[x / 16])
 }
 
-impl Target<'_> {
+impl Target<'_, '_> {
     // The trace of a product, by its lowest bits.
     fn low_trace(self, f: u32, x: u32) -> u8
         requires { (f < 256) × (x < 256) }
@@ -74,28 +72,24 @@ impl Target<'_> {
         }
         table
     }
-}
 
-// The digit that a node sends for each symbol.
-pub fn sent_digits(code: Code, b: Bits, target: u32, missing: &[u8], node: u32) -> [u8; 256]
-    requires { (bit_count b ≡ bits code.header (length missing.now)) × (target < code.header.n) × (all_below code.header.n missing.now ≡ true) × (node < code.header.n) }
-    ensures { result ≡ from (sent_digit code.header target missing.now node) 0 256 }
-{
-    let tables = field::constant_tables();
-    let target = Target::new(code, b, target, &tables);
-    let f = target.factor(missing, node);
-    let low = target.sixteen(f, 1);
-    let high = target.sixteen(f, 16);
-    sums(&low, &high)
-}
+    // The digit that a node sends for each symbol.
+    pub fn sent_digits(self, node: u32) -> [u8; 256]
+        requires { node < self.codec.code.header.n }
+        ensures { result ≡ from (sent_digit self.entry.codec.code.header self.entry.node self.entry.missing.now node) 0 256 }
+    {
+        let f = self.factor(node);
+        let low = self.sixteen(f, 1);
+        let high = self.sixteen(f, 16);
+        sums(&low, &high)
+    }
 
-// The weights of the nodes that send.
-pub fn weights(code: Code, b: Bits, target: u32, missing: &[u8]) -> [u8; 1020]
-    requires { (modulus_of code.header ≡ 0) × (target < code.header.n) }
-    ensures { result ≡ padded 1020 (from (bit_weight code.header (bit_count b) target (senders code.header target missing.now)) 0 (length (senders code.header target missing.now) * bit_count b)) }
-{
-    let nodes = list_senders(code.header.n, target, missing);
-    let tables = field::constant_tables();
-    let target = Target::new(code, b, target, &tables);
-    target.list_weights(nodes.as_slice())
+    // The weights of the nodes that send.
+    pub fn weights(self) -> [u8; 1020]
+        ensures { let h = self.entry.codec.code.header in let b = bit_count self.entry.bits in let js = senders h self.entry.node self.entry.missing.now in result ≡ padded 1020 (from (bit_weight h b self.entry.node js) 0 (length js * b)) }
+    {
+        let n = self.codec.code.header.n;
+        let nodes = list_senders(n, self.node, self.missing);
+        self.list_weights(nodes.as_slice())
+    }
 }

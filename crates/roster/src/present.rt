@@ -5,18 +5,13 @@ ghost use Rattle.lists.specs.Rows.{from};
 ghost use Rattle.roster.specs.Rosters.{present_of};
 
 use arrayvec::ArrayVec;
+use node_lists::nodes_where;
 
 // The present nodes below n, rising.
 pub fn list_present(marks: &[bool; 255], n: u8) -> ArrayVec<u8, 255>
     ensures { result.items ≡ present_of n marks.now }
 {
-    let mut nodes = ArrayVec::new();
-    for j in 0..n {
-        if marks[j as usize] {
-            nodes.push(j);
-        }
-    }
-    nodes
+    nodes_where(n, |j| marks[usize::from(j)])
 }
 
 // Writes the nodes at the places from `first` on, going round.

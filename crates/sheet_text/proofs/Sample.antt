@@ -15,27 +15,21 @@ use Rattle.generator.specs.Generator.{base_from, base_at, entry_at, entry}
 use Rattle.text.specs.Text.{ascii, decimal, field, fields, line}
 use Rattle.sheet_text.specs.Sheet.{roundings, sheet_for}
 
--- a record and the text of its sheet
-pub data Case : Type 0 where
-  prints : (rec : List ℕ) (text : String) → Case
-
-unfoldable pub Says : Case → Type 0
-Says (prints rec text) = sheet_for (record_of rec) ≡ ascii text
-
-unfoldable pub samples : List Case
+-- records, each with the text of its sheet
+unfoldable pub samples : List (List ℕ × String)
 samples =
-    prints (1 ∷ 7 ∷ 3 ∷ 6 ∷ 4 ∷ []) "plan 6 4 3 2\nrow 0 0 0 4 6 3 0 0 0\nrow 1 1 5 6 3 0 0 0 4\nrow 2 3 3 0 0 0 4 6 3\nrow 3 4 2 0 0 4 6 3 0\n"
-    ∷ prints (2 ∷ 214 ∷ 3 ∷ 3 ∷ []) "plan 3 3 1 1\nrow 0 0 0 214 0 0\nrow 1 1 2 0 0 214\nrow 2 2 1 0 214 0\n"
-    ∷ prints (1 ∷ 7 ∷ 3 ∷ 6 ∷ 5 ∷ []) "plan 6 5 2 1 2\nrow 0 0 0 2 4 0 0 0 0\nrow 1 4 2 0 0 2 4 0 0\nrow 2 2 4 0 0 0 0 2 4\nrow 3 5 1 0 2 4 0 0 0\nrow 4 3 3 0 0 0 2 4 0\n"
-    ∷ prints (1 ∷ 7 ∷ 3 ∷ 6 ∷ 2 ∷ []) "plan 6 2 5 1 2\nrow 0 0 0 2 1 5 3 4 0\nrow 1 1 5 1 5 3 4 0 2\n"
-    ∷ prints [] "refused 1\n"
-    ∷ prints (1 ∷ 7 ∷ 3 ∷ 6 ∷ 4 ∷ 0 ∷ []) "refused 2\n"
-    ∷ prints (1 ∷ 9 ∷ 2 ∷ 6 ∷ 3 ∷ []) "refused 3\n"
-    ∷ prints (1 ∷ 7 ∷ 3 ∷ 6 ∷ 7 ∷ []) "refused 4\n"
-    ∷ prints (1 ∷ 7 ∷ 2 ∷ 6 ∷ 3 ∷ []) "refused 5\n"
+    (1 ∷ 7 ∷ 3 ∷ 6 ∷ 4 ∷ [], "plan 6 4 3 2\nrow 0 0 0 4 6 3 0 0 0\nrow 1 1 5 6 3 0 0 0 4\nrow 2 3 3 0 0 0 4 6 3\nrow 3 4 2 0 0 4 6 3 0\n")
+    ∷ (2 ∷ 214 ∷ 3 ∷ 3 ∷ [], "plan 3 3 1 1\nrow 0 0 0 214 0 0\nrow 1 1 2 0 0 214\nrow 2 2 1 0 214 0\n")
+    ∷ (1 ∷ 7 ∷ 3 ∷ 6 ∷ 5 ∷ [], "plan 6 5 2 1 2\nrow 0 0 0 2 4 0 0 0 0\nrow 1 4 2 0 0 2 4 0 0\nrow 2 2 4 0 0 0 0 2 4\nrow 3 5 1 0 2 4 0 0 0\nrow 4 3 3 0 0 0 2 4 0\n")
+    ∷ (1 ∷ 7 ∷ 3 ∷ 6 ∷ 2 ∷ [], "plan 6 2 5 1 2\nrow 0 0 0 2 1 5 3 4 0\nrow 1 1 5 1 5 3 4 0 2\n")
+    ∷ ([], "refused 1\n")
+    ∷ (1 ∷ 7 ∷ 3 ∷ 6 ∷ 4 ∷ 0 ∷ [], "refused 2\n")
+    ∷ (1 ∷ 9 ∷ 2 ∷ 6 ∷ 3 ∷ [], "refused 3\n")
+    ∷ (1 ∷ 7 ∷ 3 ∷ 6 ∷ 7 ∷ [], "refused 4\n")
+    ∷ (1 ∷ 7 ∷ 2 ∷ 6 ∷ 3 ∷ [], "refused 5\n")
     ∷ []
 
 -- every case of the table holds
-pub samples_hold : All Says samples
-unfolding Says samples ascii decimal field fields line roundings sheet_for record_of judged record_fault header_fault kind_bad body_bad field_bad prime_in size_bad root_bad header_of distance low_reads high_reads firsts_of shifts_of is_even even_shifts shifts_from laid_shifts laid_at period negative gcd gcd_from entry entry_at base_at base_from from rows_from modulus size_of add sub mul power order_of order_from product product_from times_x is_prime divides_some
+pub samples_hold : All (λ (c : List ℕ × String). sheet_for (record_of c.0) ≡ ascii c.1) samples
+unfolding samples ascii decimal field fields line roundings sheet_for record_of judged record_fault header_fault kind_bad body_bad field_bad prime_in size_bad root_bad header_of distance low_reads high_reads firsts_of shifts_of is_even even_shifts shifts_from laid_shifts laid_at period negative gcd gcd_from entry entry_at base_at base_from from rows_from modulus size_of add sub mul power order_of order_from product product_from times_x is_prime divides_some
 samples_hold = (refl, (refl, (refl, (refl, (refl, (refl, (refl, (refl, (refl, tt)))))))))

@@ -85,8 +85,8 @@ impl PlanSheet {
     }
 }
 
-// Writes the sheet of a record at the front of a page, and gives its length (and no slice: see `len` of `Writer`). The page is lent, for
-// the library has no heap.
+// Writes the sheet of a record at the front of a page, and gives its length (and no slice: see `written` of `Writer`). The page is lent,
+// for the library has no heap.
 // The texts differ in what reads the record and in what writes it: one function with two closures would be no plainer.
 pub fn sheet(rec: &[u8], out: &mut [u8; 394255]) -> usize
     ensures { OnPage out.old out.new result (sheet_for (record_of rec.now)) }
@@ -96,5 +96,5 @@ pub fn sheet(rec: &[u8], out: &mut [u8; 394255]) -> usize
         Ok(plan) => PlanSheet { plan }.write(&mut writer),
         Err(refusal) => writer.line("refused", &[u8::from(refusal)]),
     }
-    writer.len()
+    writer.written()
 }

@@ -119,12 +119,12 @@ fn write_plans(writer: &mut Writer)
     }
 }
 
-// Writes the lines at the front of a page, and gives their length (and no slice: see `len` of `Writer`). The page is lent, for the library
-// has no heap.
+// Writes the lines at the front of a page, and gives their length (and no slice: see `written` of `Writer`). The page is lent, for the
+// library has no heap.
 pub fn small_plans(out: &mut [u8; 501642]) -> usize
     ensures { OnPage out.old out.new result small_plans }
 {
     let mut writer = Writer::new(out);
     write_plans(&mut writer);
-    writer.len()
+    writer.written()
 }

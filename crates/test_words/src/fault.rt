@@ -9,8 +9,12 @@ pub enum Fault {
     UnknownCall,
     #[error("unknown word")]
     UnknownWord,
-    #[error("number missing")]
-    MissingNumber,
+    // The word that stands nowhere.
+    #[error("{0} is missing")]
+    MissingWord(&'static str),
+    // The word with no number after it.
+    #[error("{0} has no number")]
+    MissingNumber(&'static str),
     #[error("too many numbers")]
     TooManyNumbers,
     #[error("number too large")]

@@ -45,11 +45,20 @@ impl<'a> Words<'a> {
         self.rest.next().unwrap_or("")
     }
 
+    // What is wrong where another word than this one stands: this one is missing, or the other one is unknown there.
+    fn misplaced(&mut self, word: &'static str) -> Fault {
+        if self.rest.any(|next| next == word) {
+            Fault::UnknownWord
+        } else {
+            Fault::MissingWord(word)
+        }
+    }
+
     // Goes past the next word, which must be this one.
-    fn pass(&mut self, word: &str) -> Result<(), Fault> {
+    fn pass(&mut self, word: &'static str) -> Result<(), Fault> {
         match self.rest.next() {
             Some(next) if next == word => Ok(()),
-            _ => Err(Fault::UnknownWord),
+            _ => Err(self.misplaced(word)),
         }
     }
 
@@ -86,7 +95,7 @@ impl<'a> Words<'a> {
     }
 
     // A word and bytes.
-    pub fn bytes(&mut self, word: &str) -> Result<Vec<u8>, Fault>
+    pub fn bytes(&mut self, word: &'static str) -> Result<Vec<u8>, Fault>
         ensures { IfOk result (λ v. vec_len v ≤ 64) }
     {
         self.pass(word)?;
@@ -94,9 +103,9 @@ impl<'a> Words<'a> {
     }
 
     // A word and one number.
-    pub fn number(&mut self, word: &str) -> Result<u32, Fault> {
+    pub fn number(&mut self, word: &'static str) -> Result<u32, Fault> {
         self.pass(word)?;
-        self.numbers(1)?.pop().ok_or(Fault::MissingNumber)
+        self.numbers(1)?.pop().ok_or(Fault::MissingNumber(word))
     }
 
     // The length of a buffer that is written.

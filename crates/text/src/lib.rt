@@ -19,7 +19,7 @@ pub fn page<const N: usize>() -> [u8; N]
     [0; N]
 }
 
-// A page, and how many of its bytes are written. Each method but `len` writes its text behind what is written.
+// A page, and how many of its bytes are written. Each method but `written` writes its text behind what is written.
 // There is no `fmt::Write` here: what `write!` leaves is known only where it succeeds, and these writes cannot fail.
 #[derive(Drop)]
 pub struct Writer<'a> {
@@ -41,7 +41,7 @@ impl<'a> Writer<'a> {
 
     // How many bytes are written. They are not lent as a slice: where a part of a page goes on into the result, no promise about the page
     // after the call gets a proof (`follows_so` does not for a page that is an array), and what the rest holds would be unknown.
-    pub fn len(&self) -> usize
+    pub fn written(&self) -> usize
         ensures { result ≡ self.now.end }
     {
         self.end

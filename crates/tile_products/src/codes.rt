@@ -1,5 +1,5 @@
 // What stands for each weight of a field, and the lists that are made of it.
-ghost use Rattle.std.specs.Prelude.{◌≡◌, ℕ, ◌+◌, ◌*◌, ◌≤◌, true, List, length};
+ghost use Rattle.std.specs.Prelude.{◌≡◌, ℕ, ◌+◌, ◌*◌, ◌≤◌, ◌<◌, true, List, length, take};
 ghost use Rattle.lists.specs.Numbers.{all_below};
 ghost use Rattle.field.specs.Fields.{size_of};
 ghost use Rattle.field.specs.Kinds.{modulus, usable};
@@ -60,5 +60,26 @@ impl<'a> WeightCodes<'a> {
         let at = j * 8;
         let at_end = at + 8;
         self.list(weights, &mut lists[start..end], &mut counts[at..at_end]);
+    }
+
+    // The lists of so many outputs. The first numbers of what `row` gives for an output are its weights, one for each row of the tile.
+    pub fn prepare_all<F: Fn(usize) -> [u16; 255]>(
+        self,
+        rows: usize,
+        outputs: usize,
+        row: F,
+        lists: &mut [u16],
+        counts: &mut [u8],
+    )
+        requires few { (rows ≤ 255) × (outputs ≤ 255) }
+        requires room { (outputs * (8 * groups_of rows) ≤ length lists.old) × (outputs * 8 ≤ length counts.old) }
+        requires called { (j : ℕ) → j < outputs → F.pre row j }
+        requires below { (j : ℕ) (r : _) → j < outputs → F.post row j r → all_below (size_of (modulus self.field)) (take rows r) ≡ true }
+        ensures { (w : ℕ → List ℕ) → ((j : ℕ) → length (w j) ≡ rows) → ((j : ℕ) (r : _) → j < outputs → F.post row j r → take rows r ≡ w j) → Begun (modulus self.entry.field) rows w outputs lists.new counts.new }
+    {
+        for j in 0..outputs {
+            let weights = row(j);
+            self.prepare(&weights[..rows], j, lists, counts);
+        }
     }
 }

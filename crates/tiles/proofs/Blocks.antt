@@ -6,7 +6,7 @@ use Rattle.lists.proofs.Cases.{by_test}
 use Rattle.lists.specs.Rows.{rows_from}
 use Rattle.lists.proofs.Rows.{from_ext, rows_ext, row_inside, part_rest}
 use Rattle.lists.proofs.Lanes.{low_sixteen}
-use Rattle.tiles.specs.Inner.Squares.{turned, square_at, as_lanes, as_rows, Squared, TurnedTo}
+use Rattle.tiles.specs.Inner.Squares.{placed, turned, square_at, as_lanes, as_rows, Squared, TurnedTo}
 use Rattle.layout.specs.Layout.{row_after_row, lane_after_lane, lane_of}
 use Rattle.layout.proofs.Places.{held_by_row, held_by_lane, lanes_whole}
 use Rattle.layout.proofs.Runs.{replaced, length_replaced, replaced_inside, replaced_before}
@@ -159,32 +159,27 @@ module _ (width to count : ℕ) (rows start : List ℕ) where
       size : length xs ≡ k
       size = n.long ∙ rw part_rest (length-drop a old)
 
+-- 1024 bytes in rows of w, turned as a whole into rows of c
+whole_turned : (w c : ℕ) → ((p : ℕ) → p < 1024 → (p / c * c + p % c ≡ p) × (p / c < w) × (p % c < c)) → (source start now : List ℕ) → length start ≡ 1024 → TurnedTo w c 0 w c source start now → now ≡ placed (λ p. p % c * w + p / c) 1024 source
+whole_turned w c split source start now long s =
+    ext_get_or 0 now (placed (λ p. p % c * w + p / c) 1024 source) (s.long ∙ long ∙ sym (length_placed _ 1024 source))
+    (λ p h.
+    let inside : p < 1024 = omega (arith, s.long) in
+    let (parts, column, row) = split p inside in
+    let place : p % c * w + (0 + p / c) ≡ p % c * w + p / c = omega arith in
+    ap (λ (q : ℕ). get_or now q 0) (sym parts)
+    ∙ s.holds (p / c) (p % c) column row row
+    ∙ ap (λ (q : ℕ). get_or source q 0) place
+    ∙ sym (get_or_placed _ 1024 source p inside))
+
 -- a block's rows as lanes, and its lanes as rows
 pub lanes_turned : (tile start now : List ℕ) → length start ≡ 1024 → TurnedTo 64 16 0 64 16 tile start now → now ≡ as_lanes tile
 unfolding as_lanes
-lanes_turned tile start now long s =
-    ext_get_or 0 now (as_lanes tile) (s.long ∙ long ∙ sym (length_placed _ 1024 tile))
-    (λ p h.
-    let inside : p < 1024 = omega (arith, s.long) in
-    let parts : p / 16 * 16 + p % 16 ≡ p = omega arith in
-    let place : p % 16 * 64 + (0 + p / 16) ≡ p % 16 * 64 + p / 16 = omega arith in
-    ap (λ (q : ℕ). get_or now q 0) (sym parts)
-    ∙ s.holds (p / 16) (p % 16) (omega arith) (omega arith) (omega arith)
-    ∙ ap (λ (q : ℕ). get_or tile q 0) place
-    ∙ sym (get_or_placed _ 1024 tile p inside))
+lanes_turned = whole_turned 64 16 (λ p h. (omega arith, omega arith, omega arith))
 
 pub rows_turned : (block start now : List ℕ) → length start ≡ 1024 → TurnedTo 16 64 0 16 64 block start now → now ≡ as_rows block
 unfolding as_rows
-rows_turned block start now long s =
-    ext_get_or 0 now (as_rows block) (s.long ∙ long ∙ sym (length_placed _ 1024 block))
-    (λ p h.
-    let inside : p < 1024 = omega (arith, s.long) in
-    let parts : p / 64 * 64 + p % 64 ≡ p = omega arith in
-    let place : p % 64 * 16 + (0 + p / 64) ≡ p % 64 * 16 + p / 64 = omega arith in
-    ap (λ (q : ℕ). get_or now q 0) (sym parts)
-    ∙ s.holds (p / 64) (p % 64) (omega arith) (omega arith) (omega arith)
-    ∙ ap (λ (q : ℕ). get_or block q 0) place
-    ∙ sym (get_or_placed _ 1024 block p inside))
+rows_turned = whole_turned 16 64 (λ p h. (omega arith, omega arith, omega arith))
 
 -- lanes that were gathered from a list that begins with the part's lanes
 pub turned_in : (rows count columns : ℕ) (source part start now : List ℕ) → rows ≤ columns → count ≤ 64 → ((p : ℕ) → p < count * rows → get_or source p 0 ≡ get_or part p 0) → TurnedTo rows 64 0 columns count source start now → (t : ℕ) → t < count → lane_of row_after_row rows 64 t now ≡ lane_of lane_after_lane rows count t part

@@ -56,7 +56,7 @@ fn write_weights(writer: &mut Writer, rec: &[u8]) -> Result<(), Refusal>
     Ok(())
 }
 
-// Writes the lines of a record at the front of a page, or what turns it away, and gives their length (and no slice: see `len` of
+// Writes the lines of a record at the front of a page, or what turns it away, and gives their length (and no slice: see `written` of
 // `Writer`). The page is lent, for the library has no heap.
 pub fn weights(rec: &[u8], out: &mut [u8; 3072]) -> usize
     ensures { OnPage out.old out.new result (weights_for (record_of rec.now)) }
@@ -65,5 +65,5 @@ pub fn weights(rec: &[u8], out: &mut [u8; 3072]) -> usize
     if let Err(refusal) = write_weights(&mut writer, rec) {
         writer.line("refused", &[u8::from(refusal)]);
     }
-    writer.len()
+    writer.written()
 }

@@ -4,6 +4,7 @@ ghost use Rattle.lists.specs.Padded.{padded};
 ghost use Rattle.field.specs.Fields.{sub};
 ghost use Rattle.generator.specs.Records.{modulus_of};
 ghost use Rattle.interpolation.specs.Inner.Lagrange.{scales_of};
+ghost use Rattle.check_sums.specs.Inner.Powers.{factors_of};
 ghost use Rattle.wrong_lanes.specs.Inner.Checks.{first_points, first_weights, CheckLists, CheckRoom};
 
 use check_sums::powers::{self, RootPowers};
@@ -56,10 +57,12 @@ fn list_nodes(code: Code, lists: &mut [u16], counts: &mut [u8])
         points: &roots[..k],
     };
     let scales = points.scales();
-    for e in 0..checks {
-        let weights = check_weights(powers, &scales[..k], e);
-        codes.prepare(&weights[..n], e, lists, counts);
-    }
+    let scales = &scales[..k];
+    let weights = move |e: usize| -> [u16; 255]
+        requires { let h = powers.codec.code.header in (scales.now ≡ scales_of (modulus_of h) (first_points h)) × (e < h.n - h.k) }
+        ensures { let h = powers.entry.codec.code.header in result ≡ set (padded 255 (first_weights h e)) (h.k + e) (sub (modulus_of h) 0 1) }
+    { check_weights(powers, scales, e) };
+    codes.prepare_all(n, checks, weights, lists, counts);
 }
 
 // The lists of the check sums: n weights each, which are read from the powers of the root.
@@ -76,10 +79,11 @@ fn list_sums(code: Code, lists: &mut [u16], counts: &mut [u8])
     let codec = Codec::new(code, &tables);
     let list = powers::powers(codec);
     let powers = RootPowers { codec, list: &list };
-    for e in 0..checks {
-        let weights = powers.factors(e + 1);
-        codes.prepare(&weights[..n], e, lists, counts);
-    }
+    let weights = move |e: usize| -> [u16; 255]
+        requires { e < 255 }
+        ensures { result ≡ padded 255 (factors_of powers.entry.codec.code.header (e + 1)) }
+    { powers.factors(e + 1) };
+    codes.prepare_all(n, checks, weights, lists, counts);
 }
 
 // The lists of checks for so many lanes: on few lanes making the weights takes longer than the lanes.

@@ -10,8 +10,8 @@ pub returns-clause-text : goal.returns-clause-text
 unfolding comparison_for ascii
 returns-clause-text c =
     elim c.match-read_record.branch [
-      | in-Ok w ↦ rw (c.len.ensures, w.writer-is, ← w.in-Ok.ensures) (written_page c.new-writer.ensures.begins w.write_comparison.ensures)
-      | in-Err w ↦ rw (c.len.ensures, w.writer-is, ← w.in-Err.ensures) (written_page c.new-writer.ensures.begins (rw w.from.ensures at w.line.ensures.text))
+      | in-Ok w ↦ rw (c.written.ensures, w.writer-is, ← w.in-Ok.ensures) (written_page c.new-writer.ensures.begins w.write_comparison.ensures)
+      | in-Err w ↦ rw (c.written.ensures, w.writer-is, ← w.in-Err.ensures) (written_page c.new-writer.ensures.begins (rw w.from.ensures at w.line.ensures.text))
     ]
 
 pub returns-clause-figures : goal.returns-clause-figures

@@ -3,9 +3,9 @@ use mathlib.Core.Path.{◌≡◌, ap, ◌∙◌}
 use mathlib.Core.List.{List}
 use Prim.Native.Nat.{ℕ}
 use lib.ListN.{length, take}
-use Rattle.lists.specs.Padded.{padded}
 use Rattle.lists.proofs.Padding.{take_padded}
-use Rattle.decode.proofs.CandidateParts.{CandidateParts, errors_at, sums_symbols, candidate_parts}
+use Rattle.decode.specs.Inner.Errors.{errors_at}
+use Rattle.decode.proofs.CandidateParts.{CandidateParts, sums_symbols, candidate_parts}
 use Rattle.decode.proofs.candidate.Goals as goal
 use Rattle.decode.proofs.candidate.Goals.{After-as_slice-nodes, After-errors-wrong}
 
@@ -20,16 +20,10 @@ errors-part : (c : After-errors-wrong)
 errors-part c =
     let nodes : List ℕ = c.as_slice-nodes.result.now in
     let wrong : List ℕ = c.errors-wrong.result in
-    let is : wrong ≡ padded 255 (errors_at c.args.codec.code.header nodes c.args.sums) = rw c.args.codec.same at c.errors-wrong.ensures in
-    ap (take (length nodes)) is ∙ take_padded 255 (length nodes) _ (facts (goal.at.After-errors-wrong c).After-as_slice-nodes).errors_count
+    ap (take (length nodes)) c.errors-wrong.ensures ∙ take_padded 255 (length nodes) _ (facts (goal.at.After-errors-wrong c).After-as_slice-nodes).errors_count
 
-pub wrong_nodes-found-requires : goal.wrong_nodes-found-requires
-wrong_nodes-found-requires c = sums_symbols c.args.codec.code.header c.args.lane.now c.requires.0 c.args.sums c.requires.1
-
-pub invariant_of-taken : goal.invariant_of-taken
-invariant_of-taken c =
-    let f = facts (goal.at.invariant_of-taken c).After-as_slice-nodes in
-    record { symbols = rw c.args.codec.same f.terms_symbols }
+pub invariant_of-syndrome : goal.invariant_of-syndrome
+invariant_of-syndrome c = record { symbols = sums_symbols c.args.codec.code.header c.args.lane.now c.requires.0 c.args.sums c.requires.1 }
 
 pub removed-requires : goal.removed-requires
 removed-requires c =

@@ -39,6 +39,6 @@ returns c =
     let k = near (goal.at.returns c).After-candidate-word in
     let d = distance (goal.at.returns c).After-differing-altered in
     rw c.then_some.ensures (elim c.if-altered-t.branch [
-      | then-altered-t w ↦ rw w.then_some-is (says_found h ws array c.requires k _ _ (rw (word (goal.at.returns c).After-candidate-word) at w.is_word.ensures) d w.if-altered-t.true)
-      | else-altered-t w ↦ rw (w.then_some-is, lt-leb _ _ w.if-altered-t.false) (says_far h ws array c.requires k (rw (← d) w.if-altered-t.false))
+      | then-altered-t w ↦ rw w.then_some-is (says_found h ws array c.requires k _ _ (rw (word (goal.at.returns c).After-candidate-word) at w.is_word.ensures) d (rw c.checks-t.ensures at w.if-altered-t.true))
+      | else-altered-t w ↦ rw (w.then_some-is, lt-leb _ _ w.if-altered-t.false) (says_far h ws array c.requires k (rw (← d, ← c.checks-t.ensures) w.if-altered-t.false))
     ])

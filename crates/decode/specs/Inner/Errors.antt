@@ -1,10 +1,13 @@
 -- The nodes at which a locator vanishes, the errors there, and a lane without them, on numbers.
-use Rattle.std.specs.Prelude.{List, [], ◌∷◌, ℕ, eqb, length, get_or, set, drop}
+use Rattle.std.specs.Prelude.{List, [], ◌∷◌, ℕ, eqb, length, get_or, set, take, drop}
 use Rattle.lists.specs.Counting.{passing_from}
 use Rattle.lists.specs.Rows.{from}
 use Rattle.field.specs.Fields.{sub, mul, power, inverse}
 use Rattle.field.specs.Inner.Sums.{dot}
+use Rattle.generator.specs.declared.Header.{Header}
+use Rattle.generator.specs.Records.{modulus_of}
 use Rattle.generator.specs.Codewords.{poly_at}
+use Rattle.interpolation.specs.Inner.Points.{points_of}
 use Rattle.interpolation.specs.Inner.Lagrange.{scales_of}
 use Rattle.interpolation.specs.Inner.Polynomials.{product_of, quotient_of}
 
@@ -22,6 +25,10 @@ errors_from p cs ts xs ds = from (λ i. error_of p cs ts (get_or xs i 0) (get_or
 
 unfoldable pub errors_of : ℕ → List ℕ → List ℕ → List ℕ
 errors_of p xs ts = errors_from p (drop 1 (product_of p xs)) ts xs (scales_of p xs)
+
+-- the errors at the listed nodes, from as many check sums
+abbrev pub errors_at : Header → List ℕ → List ℕ → List ℕ
+errors_at h nodes sums = errors_of (modulus_of h) (points_of (modulus_of h) h.root 0 nodes) (take (length nodes) sums)
 
 -- a lane less the errors es at the nodes js
 unfoldable pub removed : ℕ → List ℕ → List ℕ → List ℕ → List ℕ

@@ -1,6 +1,5 @@
 -- `list_mends` meets its contract: a word has no entry, and the list of another lane comes from its check sums.
 use mathlib.Core.Path.{◌≡◌, sym, ap, ◌∙◌}
-use Prim.Native.Nat.{◌-◌}
 use lib.ListN.{take}
 use Rattle.lists.specs.Numbers.{all_below}
 use Rattle.lists.proofs.Padding.{take_padded}
@@ -15,8 +14,8 @@ use Rattle.mends.proofs.list_mends.Goals.{After-all_zero, After-sums-sums}
 -- the check sums
 part : (c : After-sums-sums)
     → let a = c.args in
-    take (a.code.header.n - a.code.header.k) c.sums-sums.result ≡ check_sums a.code.header a.lane.now
-part c = rw (c.sums-sums.ensures, c.new-rows.ensures) (take_padded 255 _ _ (length_sums _ _))
+    take c.checks-checks.result c.sums-sums.result ≡ check_sums a.code.header a.lane.now
+part c = rw (c.sums-sums.ensures, c.new-rows.ensures, c.checks-checks.ensures) (take_padded 255 _ _ (length_sums _ _))
 
 -- they tell a word
 tested : (c : After-all_zero) → let a = c.args in c.all_zero.result ≡ is_word a.code.header a.lane.now

@@ -13,15 +13,15 @@ use Rattle.node_weights.proofs.lagrange_basis.Goals.{After-points-list}
 -- the part of the array that holds the points
 part : (c : After-points-list)
     → let a = c.args in
-    take (length a.places.now) c.points-list.result ≡ points_of (modulus a.field.field) a.root a.offset a.places.now
+    take (length a.places.now) c.points-list.result ≡ points_of (modulus a.root.field.field) a.root.value a.offset a.places.now
 part c =
     let a = c.args in
-    rw c.points-list.ensures (take_padded 255 (length a.places.now) _ (length_points (modulus a.field.field) a.root a.offset a.places.now))
+    rw c.points-list.ensures (take_padded 255 (length a.places.now) _ (length_points (modulus a.root.field.field) a.root.value a.offset a.places.now))
 
 pub invariant_of-points : goal.invariant_of-points
 invariant_of-points c =
     let s = c.requires in
-    rw (part (goal.at.invariant_of-points c).After-points-list) record { symbols = points_symbols _ _ _ _ (usable_field _ c.args.field.usable) s.0 s.1 }
+    rw (part (goal.at.invariant_of-points c).After-points-list) record { symbols = points_symbols _ _ _ _ (usable_field _ c.args.root.field.usable) c.args.root.symbol s.0 }
 
 pub returns : goal.returns
 unfolding basis_of

@@ -34,7 +34,7 @@ pub lagrange_basis-own-requires : goal.lagrange_basis-own-requires
 lagrange_basis-own-requires c =
     let p = c.requires in
     let t = part (goal.at.lagrange_basis-own-requires c).After-base-base in
-    (rw c.new-field.ensures c.args.code.sound.root_below, omega (arith, (nodes_places _ _ p.0).size, t.2), omega arith)
+    (omega (arith, (nodes_places _ _ p.0).size, t.2), omega arith)
 
 pub lagrange_basis-rows-requires : goal.lagrange_basis-rows-requires
 lagrange_basis-rows-requires c =
@@ -42,7 +42,7 @@ lagrange_basis-rows-requires c =
     let p = c.requires in
     let s = c.args.code.sound in
     let t = part (goal.at.lagrange_basis-rows-requires c).After-base-base in
-    (rw c.new-field.ensures s.root_below, rw (p.1, shifts_length h.n h.k s.some s.fits) t.2, omega (arith, t.2))
+    (rw (p.1, shifts_length h.n h.k s.some s.fits) t.2, omega (arith, t.2))
 
 pub returns : goal.returns
 unfolding setup_of row_points base_inverses

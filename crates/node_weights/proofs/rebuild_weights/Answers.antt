@@ -21,7 +21,7 @@ few c = ((nodes_places _ _ c.requires.0).size, omega (arith, c.args.code.sound.f
 pub points-list-requires : goal.points-list-requires
 points-list-requires c =
     let n = few (goal.at.points-list-requires c).After-power-z in
-    (rw c.new-field.ensures c.args.code.sound.root_below, omega arith, omega arith)
+    (omega arith, omega arith)
 
 -- the part of the array that holds the points
 part : (c : After-points-list)

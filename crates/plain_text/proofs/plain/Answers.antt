@@ -9,6 +9,6 @@ pub returns : goal.returns
 unfolding plain_for ascii
 returns c =
     elim c.match-read_record.branch [
-      | in-Ok w ↦ rw (c.len.ensures, w.writer-is, ← w.in-Ok.ensures, ← w.new.ensures) (written_page c.new-writer.ensures.begins w.write.ensures)
-      | in-Err w ↦ rw (c.len.ensures, w.writer-is, ← w.in-Err.ensures) (written_page c.new-writer.ensures.begins (rw w.from.ensures at w.line.ensures.text))
+      | in-Ok w ↦ rw (c.written.ensures, w.writer-is, ← w.in-Ok.ensures, ← w.new.ensures) (written_page c.new-writer.ensures.begins w.write.ensures)
+      | in-Err w ↦ rw (c.written.ensures, w.writer-is, ← w.in-Err.ensures) (written_page c.new-writer.ensures.begins (rw w.from.ensures at w.line.ensures.text))
     ]

@@ -6,7 +6,7 @@ use Rattle.repair.proofs.Accepts.{bits_refuses}
 use Rattle.repair.proofs.repair_bits.Goals as goal
 
 pub returns : goal.returns
-returns c = on_held c.in_ok-code.ensures refl c.bits_accepted.ensures
+returns c = on_held c.in_ok-code.ensures refl (rw c.new-codec.ensures at c.bits_accepted.ensures)
 
 pub returns-in_err-code : goal.returns-in_err-code
 returns-in_err-code c =

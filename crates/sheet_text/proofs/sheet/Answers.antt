@@ -11,6 +11,6 @@ unfolding ascii
 returns c =
     let rec = c.args.rec.now in
     elim c.match-build_plan.branch [
-      | in-Ok w ↦ rw (c.len.ensures, w.writer-is, ← sheet_is rec _ w.in-Ok.ensures.plan) (written_page c.new-writer.ensures.begins w.write.ensures)
-      | in-Err w ↦ rw (c.len.ensures, w.writer-is, ← sheet_refused (record_of rec) _ w.in-Err.ensures.plan) (written_page c.new-writer.ensures.begins (rw w.from.ensures at w.line.ensures.text))
+      | in-Ok w ↦ rw (c.written.ensures, w.writer-is, ← sheet_is rec _ w.in-Ok.ensures.plan) (written_page c.new-writer.ensures.begins w.write.ensures)
+      | in-Err w ↦ rw (c.written.ensures, w.writer-is, ← sheet_refused (record_of rec) _ w.in-Err.ensures.plan) (written_page c.new-writer.ensures.begins (rw w.from.ensures at w.line.ensures.text))
     ]

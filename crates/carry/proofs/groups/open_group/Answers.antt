@@ -1,34 +1,29 @@
--- `open_group` meets its contract: the first symbol is the mask of the others.
-use mathlib.Core.Path.{◌≡◌, sym, ap, ap₂, ◌∙◌}
-use mathlib.Core.List.{List}
-use Prim.Native.Nat.{ℕ}
+-- `open_group` meets its contract: one byte more.
+use mathlib.Core.Path.{sym, ◌∙◌}
+use Prim.Native.Nat.{◌≤◌}
 use native.Mathlib.Omega.{arith}
-use lib.ListN.{length, take, drop, length-drop}
-use Rattle.lists.proofs.Rows.{part_rest}
-use Rattle.layout.specs.Width.{bytes_of}
-use Rattle.carrying.specs.Masks.{masked, opened}
-use Rattle.carrying.specs.Carrying.{word_count, words_of}
-use Rattle.carrying.proofs.Bytes.{length_words}
-use Rattle.carry.proofs.Words.{first_word, words_symbols}
+use lib.ListN.{length, take}
+use lib.Seq.{get_or-take, length-take-le}
+use Rattle.lists.proofs.Rows.{from_next}
+use Rattle.lists.proofs.Fill.{fills_put}
+use Rattle.lists.proofs.Parts.{from_at, valued_all}
+use Rattle.layout.specs.Width.{symbols_of, bytes_of}
+use Rattle.layout.proofs.Widths.{length_symbols, length_bytes}
+use Rattle.carrying.specs.Masks.{opened}
+use Rattle.carrying.proofs.Carried.{length_opened}
+use Rattle.carry.proofs.Words.{opened_byte}
 use Rattle.carry.proofs.groups.open_group.Goals as goal
 
-pub load_words-words-requires : goal.load_words-words-requires
-unfolding word_count
-load_words-words-requires c = rw (part_rest 2 c.args.group.now) (omega (arith, length-drop 2 c.args.group.now, c.requires))
-
-pub write_masked-requires : goal.write_masked-requires
-unfolding word_count
-write_masked-requires c =
-    let g = c.args.group.now in
-    let long : length c.deref.result.now ≡ word_count (length (drop 2 g)) = rw (c.deref.ensures.0, c.load_words-words.ensures, part_rest 2 g) (length_words (drop 2 g)) in
-    omega (arith, long, length-drop 2 g, c.requires)
+pub loop-i-preserved : goal.loop-i-preserved
+loop-i-preserved c =
+    let l = c.loop-i in fills_put (rw (from_next _ (length c.args.out.now) l.i (omega arith)) at l.invariant) (omega arith)
 
 pub returns : goal.returns
-unfolding opened
 returns c =
     let g = c.args.group.now in
     let n = length c.args.out.now in
-    let ws = c.deref.ensures.0 ∙ c.load_words-words.ensures ∙ ap words_of (part_rest 2 g) ∙ words_symbols (drop 2 g) (omega (arith, length-drop 2 g, c.requires)) in
-    c.write_masked.ensures
-    ∙ ap₂ (λ (x : ℕ) (xs : List ℕ). take n (bytes_of 2 (masked x xs))) c.symbol_at-c.ensures ws
-    ∙ ap (λ (xs : List ℕ). take n (bytes_of 2 (opened xs))) (sym (first_word g (omega (arith, c.requires))))
+    let xs = symbols_of 2 g in
+    let all = bytes_of 2 (opened xs) in
+    let fits : n ≤ length all = omega (arith, length_bytes 2 (opened xs), length_symbols 2 g, length_opened xs (omega (arith, length_symbols 2 g)), c.requires) in
+    valued_all _ _ c.loop-i.invariant (omega arith) (omega arith)
+    ∙ sym (from_at _ (take n all) n (length-take-le n all fits) (λ i h. get_or-take n all i 0 h ∙ opened_byte g (λ j. omega (arith, c.type_inv.group j)) i c.requires.0 (omega (arith, c.requires))))

@@ -16,7 +16,7 @@ use Rattle.decode.proofs.roots.find_roots.Goals as goal
 use Rattle.decode.proofs.roots.find_roots.Goals.{After-mul-x, else-y-eq-ZERO, then-y-eq-ZERO}
 
 -- what the value says of node j
-value_is : (c : After-mul-x) → c.value-y.result ≡ poly_at (modulus c.args.polynomial.field.field) c.args.polynomial.coefficients.now (power (modulus c.args.polynomial.field.field) c.args.root c.loop-j.j)
+value_is : (c : After-mul-x) → c.value-y.result ≡ poly_at (modulus c.args.polynomial.field.field) c.args.polynomial.coefficients.now (power (modulus c.args.polynomial.field.field) c.args.code.header.root c.loop-j.j)
 value_is c = c.value-y.ensures.is ∙ ap (poly_at _ c.args.polynomial.coefficients.now) c.loop-j.invariant.point
 
 pub loop-j-init : goal.loop-j-init
@@ -46,4 +46,4 @@ loop-j-preserved c =
 
 pub returns : goal.returns
 unfolding roots_of
-returns c = sym (append-nil _) ∙ rw (passing_end _ _ _ c.loop-j-test.false) at c.loop-j.invariant.listed
+returns c = sym (append-nil _) ∙ rw (c.requires, passing_end _ _ _ c.loop-j-test.false) at c.loop-j.invariant.listed

@@ -17,7 +17,7 @@ vanishes p root cs j = eqb (poly_at p cs (power p root j)) 0
 
 abbrev pub invariant-loop-j : goal.invariant-loop-j
 invariant-loop-j l =
-    let p = modulus l.polynomial.field.field in
+    let p = modulus l.field.field in
     let is = vanishes p l.root l.polynomial.coefficients.now in
     record {
       few : length l.nodes.items ≤ l.j;

@@ -1,33 +1,12 @@
 -- `row` meets its contract. The loop's invariant: the entries below i are written.
 use mathlib.Core.Path.{ap, ap₂, ◌∙◌}
-use Rattle.lists.specs.Padded.{zeros, padded}
-use Rattle.lists.proofs.Fill.{filled_start, filled_put, filled_end}
+use Rattle.lists.specs.Padded.{padded}
+use Rattle.lists.proofs.Fill.{filled_put, filled_end}
 use Rattle.field.specs.Fields.{mul}
 use Rattle.generator.specs.Records.{modulus_of}
 use Rattle.recover_matrix.proofs.Rows.{column_row}
-use Rattle.recover_matrix.proofs.Prepared.{few, own_scale, row_scale, own_scale_below, row_scale_below, sum_inside, sum_is, sum_below}
+use Rattle.recover_matrix.proofs.Prepared.{few, own_scale, row_scale, sum_is}
 use Rattle.recover_matrix.proofs.Inverse.row.Goals as goal
-
-pub loop-i-init : goal.loop-i-init
-unfolding zeros
-loop-i-init c = filled_start 255 _ _ (few c.args.self.code.sound)
-
-pub mul-own-requires : goal.mul-own-requires
-mul-own-requires c =
-    let v = c.args.self in
-    let s = v.code.sound in
-    rw c.requires.0 (row_scale_below s _ v.different v.prepared _ c.requires.1, own_scale_below s _ v.different v.prepared _ c.loop-i-test.true)
-
-pub symbol_at-sum-requires : goal.symbol_at-sum-requires
-symbol_at-sum-requires c =
-    let v = c.args.self in
-    let wide = c.width_of-w.ensures in
-    sum_inside v.code.sound _ v.different _ wide c.requires.2 _ _ c.loop-i-test.true c.requires.1
-
-pub mul-requires : goal.mul-requires
-mul-requires c =
-    let v = c.args.self in
-    (c.mul-own.ensures.symbol, rw (c.requires.0, c.symbol_at-sum.ensures) (sum_below v.code.sound _ v.different _ c.width_of-w.ensures c.requires.2 _ _ c.loop-i-test.true c.requires.1))
 
 pub loop-i-preserved : goal.loop-i-preserved
 loop-i-preserved c =

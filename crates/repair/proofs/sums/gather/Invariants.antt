@@ -6,4 +6,4 @@ use Rattle.repair.specs.Packing.{byte_from}
 use Rattle.repair.proofs.sums.gather.Given as goal
 
 abbrev pub invariant-loop-p : goal.invariant-loop-p
-invariant-loop-p l = l.x ≡ byte_from (8 - l.p) (gather_bit l.acc l.size l.i) l.p
+invariant-loop-p l = l.x ≡ byte_from (8 - l.p) (gather_bit l.planes l.i) l.p

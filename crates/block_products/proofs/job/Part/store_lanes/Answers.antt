@@ -1,10 +1,9 @@
 -- `store_lanes` meets its contract: the lanes are scattered to their part.
-use Rattle.std.proofs.Common.{◌+◌, ◌*◌, ◌/◌, take, ◌∙◌, arith}
+use Rattle.std.proofs.Common.{◌*◌, ◌≤◌, take, ◌∙◌, arith}
 use native.Mathlib.Nat.{add-sub_cancel_left}
 use Rattle.layout.proofs.Runs.{lanes_inside}
 use Rattle.tile_products.proofs.Lanes.{lane_prefix}
 use Rattle.block_products.specs.Inner.Ways.{Sums}
-use Rattle.block_products.proofs.Lanes.{rows_inside}
 use Rattle.block_products.proofs.Writing.{lanes_step}
 use Rattle.block_products.proofs.job.Part.store_lanes.Goals as goal
 
@@ -17,7 +16,8 @@ returns c =
     let p = c.args.self in
     let j = p.job in
     let n = j.w.bytes * j.m.outputs in
-    let size = (n + 15) / 16 * 1024 in
+    let size = c.div_ceil-size.result * 1024 in
+    let whole : n * 64 ≤ size = omega (arith, c.div_ceil-size.ensures) in
     let words = c.args.words.now in
-    let prefix : Sums j.w.bytes j.m.outputs p.first p.count f (take size words) = λ q lane. lane_prefix n size q words (rows_inside j.w.bytes j.m.outputs) (omega arith) ∙ sums q lane in
+    let prefix : Sums j.w.bytes j.m.outputs p.first p.count f (take size words) = λ q lane. lane_prefix n size q words whole (omega arith) ∙ sums q lane in
     rw (c.scatter64.ensures, add-sub_cancel_left (p.first * n) (p.count * n)) (lanes_step j.w.bytes j.m.outputs j.m.lanes p.first p.count f (take size words) prefix p.inside base)

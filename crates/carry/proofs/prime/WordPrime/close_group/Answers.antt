@@ -29,10 +29,10 @@ left mask out n two long =
     let whole = length-append mask (drop 2 out) in
     rw rest (length-take-le (length (mask ++ drop 2 out) - 2) (drop 2 out) (omega (arith, whole, behind, two)) ∙ omega (arith, whole, behind, two, long))
 
-pub write_all-requires : goal.write_all-requires
-write_all-requires c =
+pub write_masked-requires : goal.write_masked-requires
+write_masked-requires c =
     let s = c.args.s.now in
-    let n : length c.deref-2.result.now ≡ word_count (length s) = rw (again (goal.at.write_all-requires c).After-deref-2) (length_words s) in
+    let n : length c.deref-2.result.now ≡ word_count (length s) = rw (again (goal.at.write_masked-requires c).After-deref-2) (length_words s) in
     left c.write_symbol.new.out c.args.out.now (length c.deref-2.result.now) (rw c.write_symbol.ensures (length_symbol 2 c.find_mask-c.result)) (rw n c.requires.1)
 
 pub returns : goal.returns
@@ -42,5 +42,5 @@ returns c =
     let x = c.find_mask-c.result in
     let out = c.args.out.now in
     let mask : x ≡ mask_of c.args.self.p ws = c.find_mask-c.ensures ∙ ap (mask_of c.args.self.p) (words (goal.at.returns c).After-deref) in
-    rw (c.write_symbol.ensures, c.write_all.ensures, again (goal.at.returns c).After-deref-2)
+    rw (c.write_symbol.ensures, c.write_masked.ensures, again (goal.at.returns c).After-deref-2)
     (written_behind (symbol_bytes 2 x) (bytes_of 2 (masked x ws)) out (length_symbol 2 x) ∙ ap (λ (m : ℕ). symbol_bytes 2 m ++ bytes_of 2 (masked m ws)) mask)

@@ -58,7 +58,7 @@ slice_bounds-open_group-start c = omega (arith, begins (goal.at.slice_bounds-ope
 pub open_group-requires : goal.open_group-requires
 open_group-requires c =
     let here = part (goal.at.open_group-requires c).In-Some in
-    (here.1, here.0, omega (arith, here, c.group_words-size.ensures), omega (arith, here, written (goal.at.open_group-requires c).After-min-end, c.min-end.ensures))
+    (here.1, omega (arith, here, written (goal.at.open_group-requires c).After-min-end, c.min-end.ensures))
 
 pub loop-i-preserved : goal.loop-i-preserved
 loop-i-preserved c =

@@ -1,13 +1,11 @@
 -- `correct_lanes` meets its contract. Invariant: the lanes before t are set right, and the count is of the places at which they differ.
-use mathlib.Core.Path.{◌≡◌, sym, ap, ap₂, ◌∙◌}
+use mathlib.Core.Path.{◌≡◌, sym, ap₂, ◌∙◌}
 use mathlib.Core.List.{List}
 use Prim.Native.Nat.{ℕ, ◌+◌, ◌*◌, ◌≤◌}
-use native.Mathlib.Nat.{zero-mul, mul_comm, mul-le-mul, le_refl}
 use native.Mathlib.Omega.{arith}
 use lib.ListN.{length, drop}
 use Rattle.lists.specs.Counting.{differ}
 use Rattle.lists.proofs.Differ.{differ_most}
-use Rattle.lists.proofs.Fill.{fills_start}
 use Rattle.lists.proofs.Rows.{row_after}
 use Rattle.layout.specs.Layout.{share_layout, lane_of}
 use Rattle.layout.proofs.Buffers.{length_lane}
@@ -15,10 +13,10 @@ use Rattle.layout.proofs.Places.{share_lawful}
 use Rattle.generator.specs.declared.Header.{Header}
 use Rattle.generator.specs.Records.{width}
 use Rattle.generator.proofs.Widths.{width_some}
-use Rattle.tiles.proofs.Parts.{fills_stretch, fills_whole}
-use Rattle.correct.specs.Blocks.{corrected_bytes, corrected_count}
+use Rattle.tiles.proofs.Parts.{fills_stretch}
+use Rattle.correct.specs.Blocks.{corrected_bytes}
 use Rattle.correct.proofs.Shares.{lane_corrected}
-use Rattle.correct.proofs.Counting.{apart_to, apart_none, apart_lane, apart_all}
+use Rattle.correct.proofs.Counting.{apart_to, apart_lane}
 use Rattle.correct.proofs.LaneBytes.{symbols_long, part_inside, part_lane, part_marked, part_corrected, corrected_size}
 use Rattle.correct.proofs.lane.Marked.correct_lanes.Invariants.{after, before}
 use Rattle.correct.proofs.lane.Marked.correct_lanes.Goals as goal
@@ -31,27 +29,8 @@ old_lane h l shares t = lane_of share_layout h.n l t (before h shares)
 abbrev new_lane : Header → ℕ → List ℕ → ℕ → List ℕ
 new_lane h l shares t = lane_of share_layout h.n l t (after h l shares)
 
--- the bytes of lane t, which are as they were
-inside : (c : In-loop-t) → let n = c.args.self.rows.code.header.n in c.loop-t.t * (c.width_of.result.bytes * n) + c.width_of.result.bytes * n ≤ length c.args.shares.now
-inside c = rw c.width_of.ensures (part_inside c.requires (width_some _) c.loop-t.t c.loop-t-test.true)
-
 untouched : (c : In-loop-t) → let h = c.args.self.rows.code.header in let a = c.loop-t.t * (width h * h.n) in drop a c.loop-t.shares ≡ drop a c.args.shares.now
 untouched c = c.loop-t.invariant.2.kept
-
-pub loop-t-init : goal.loop-t-init
-loop-t-init c =
-    let h = c.args.self.rows.code.header in
-    let shares = c.args.shares.now in
-    (omega arith, sym (apart_none h.n (before h shares) (after h (length c.args.self.marks.now) shares)), rw zero-mul (fills_start _ _))
-
-pub overflow_mul-start : goal.overflow_mul-start
-overflow_mul-start c = omega (arith, inside c)
-
-pub overflow_add-end : goal.overflow_add-end
-overflow_add-end c = omega (arith, inside c)
-
-pub slice_bounds-write_nearest-end : goal.slice_bounds-write_nearest-end
-slice_bounds-write_nearest-end c = omega (arith, inside (goal.at.slice_bounds-write_nearest-end c).In-loop-t, c.loop-t.invariant.2.long)
 
 pub write_nearest-count-requires : goal.write_nearest-count-requires
 write_nearest-count-requires c =
@@ -97,19 +76,4 @@ loop-t-preserved c =
       count,
       rw (row_after l.t k, c.width_of.ensures)
           (fills_stretch whole (l.t * k) _ k l.invariant.2 (rw (c.width_of.ensures, untouched (goal.at.loop-t-preserved c).In-loop-t) at c.write_nearest-count.ensures.0 ∙ part_corrected m (width_some _) l.t taken) (corrected_size m (width_some _)) (part_inside m (width_some _) l.t taken)),
-    )
-
-pub returns : goal.returns
-unfolding corrected_count
-returns c =
-    let h = c.args.self.rows.code.header in
-    let lanes = length c.args.self.marks.now in
-    let shares = c.args.shares.now in
-    let m = c.requires in
-    let l = c.loop-t in
-    let k = width h * h.n in
-    let all : length shares ≤ l.t * k = rw (m.bytes, mul_comm k lanes) (mul-le-mul c.loop-t-test.false (le_refl k)) in
-    let end : l.t ≡ lanes = omega (arith, l.auto.t-end, c.loop-t-test.false) in (
-      fills_whole _ (l.t * k) l.invariant.2 (omega (arith, corrected_size m (width_some _))) all,
-      l.invariant.1 ∙ ap (apart_to h.n (before h shares) (after h lanes shares)) end ∙ apart_all h.n lanes (before h shares) (after h lanes shares) (symbols_long m (width_some _)),
     )

@@ -8,7 +8,6 @@ use native.Mathlib.Nat.{mul-le-mul}
 use native.Mathlib.Omega.{arith}
 use borrow.Author.Tests.{not-true, not-false}
 use lib.ListN.{length, take, drop}
-use Rattle.lists.specs.Search.{first_false}
 use Rattle.lists.proofs.Search.{search_next, search_found, search_end}
 use Rattle.generator.specs.Records.{width}
 use Rattle.generator.proofs.Widths.{width_some}

@@ -4,7 +4,6 @@ use native.Mathlib.Omega.{arith}
 use lib.ListN.{take}
 use Rattle.lists.specs.Counting.{differ}
 use Rattle.lists.specs.Padded.{padded}
-use Rattle.lists.proofs.Differ.{differ_most}
 use Rattle.lists.proofs.Numbers.{at_below}
 use Rattle.layout.specs.Width.{symbols_of}
 use Rattle.generator.specs.Records.{width}
@@ -18,9 +17,6 @@ returns-then-self-t-eq0 c =
     let m = c.requires.1 in
     let stays = marked_stays m c.if-self-t-eq0.true in
     (sym (stays_bytes m stays (at_below 256 _ (λ i h. omega (arith, c.type_inv.lane i)))), sym (stays_count m stays))
-
-pub nearest-requires : goal.nearest-requires
-nearest-requires c = (c.requires.1.bytes, c.requires.1.symbols)
 
 -- the word that was found, and how many symbols differ
 decoded : (c : In-Some)
@@ -36,12 +32,6 @@ pub write_symbols-requires : goal.write_symbols-requires
 write_symbols-requires c =
     let w = c.width_of-w.ensures in
     rw (word (goal.at.write_symbols-requires c).In-Some) (rw w (word_fits c.requires.1), rw w (word_bytes c.requires.1))
-
-pub overflow_cast-result : goal.overflow_cast-result
-overflow_cast-result c =
-    let h = c.args.self.rows.code.header in
-    let ws = symbols_of (width h) c.args.lane.now in
-    omega (arith, (decoded (goal.at.overflow_cast-result c).In-Some).1, differ_most ws (corrected h ws), c.requires.1.symbols.long, c.args.self.rows.code.sound.byte)
 
 pub returns-in-None : goal.returns-in-None
 returns-in-None c =

@@ -1,24 +1,18 @@
--- `discrepancy` meets its contract. Invariant: the sum of the first i terms, a symbol.
-use mathlib.Core.Path.{refl, sym, ap, ap₂, ◌∙◌}
-use native.Mathlib.Numerals.{add-one}
-use Rattle.field.specs.Fields.{add, mul}
-use Rattle.field.specs.Kinds.{modulus}
-use Rattle.field.proofs.FieldOf.{size_pos}
+-- `discrepancy` meets its contract: the sum of the products of parts of two arrays.
+use mathlib.Core.Path.{◌≡◌, ◌∙◌}
+use lib.ListN.{length}
 use Rattle.field.proofs.KindLaws.{usable_field}
-use Rattle.decode.specs.Inner.Locating.{partial}
+use Rattle.decode.proofs.Discrepancies.{parts_ready, parts_sum}
 use Rattle.decode.proofs.locator.Registers.discrepancy.Goals as goal
 
-pub loop-i-init : goal.loop-i-init
-unfolding partial
-loop-i-init c = (size_pos _ (usable_field _ c.args.self.field.usable), refl)
+pub weighted_sum-requires : goal.weighted_sum-requires
+weighted_sum-requires c =
+    let a = c.args.self in
+    let long : length a.s.now ≡ 255 = search in
+    parts_ready _ (usable_field _ a.field.usable) a.s.now a.sequence a.w.now a.at_hand c.args.e c.args.m c.requires long
 
-pub loop-i-preserved : goal.loop-i-preserved
-unfolding partial
-loop-i-preserved c =
-    let l = c.loop-i in
-    let p = modulus c.args.self.field.field in (
-      c.add-sum.ensures.symbol,
-      c.add-sum.ensures.is
-          ∙ ap₂ (add p) l.invariant.1 (c.mul-term.ensures.is ∙ ap₂ (mul p) c.entry.ensures c.entry-in-loop-i.ensures)
-          ∙ sym (ap (partial p c.args.self.w.now c.args.self.s.now c.args.e) (add-one l.i)),
-    )
+pub returns-clause-is : goal.returns-clause-is
+returns-clause-is c =
+    let a = c.args.self in
+    let long : length a.s.now ≡ 255 = search in
+    c.weighted_sum.ensures.is ∙ parts_sum _ (usable_field _ a.field.usable) a.s.now a.sequence a.w.now a.at_hand c.args.e c.args.m c.requires long

@@ -6,11 +6,10 @@ use Rattle.lists.specs.Numbers.{all_below}
 use Rattle.lists.proofs.Padding.{take_padded}
 use Rattle.generator.specs.Codewords.{is_word}
 use Rattle.generator.specs.Messages.{message_of}
-use Rattle.generator.proofs.Answered.{met, passed, last}
+use Rattle.generator.proofs.Answered.{passed, last}
 use Rattle.refusals.specs.Faults.{stale_fault}
 use Rattle.check_sums.proofs.OneLane.{word_sums}
 use Rattle.spectrum.specs.Inner.Spectrum.{spectrum_of}
-use Rattle.spectrum.proofs.Spectra.{spectrum_below}
 use Rattle.lane_message.proofs.Formula.{word_symbol}
 use Rattle.lane_message.proofs.Numbers.{no_word_is, other_symbol_is}
 use Rattle.lane_message.proofs.SpectrumParts.{length_spectrum, check_part, coefficients_are}
@@ -22,7 +21,7 @@ test : (c : After-all_zero-word) → let a = c.args in c.all_zero-word.result �
 test c =
     let h = c.args.self.transform.powers.codec.code.header in
     c.all_zero-word.ensures
-    ∙ ap (all_below 1) (rw c.spectrum-spectrum.ensures (check_part h c.args.self.transform.lane.now c.args.self.transform.powers.codec.code.sound c.args.self.transform.powers.codec.code.sound.byte))
+    ∙ ap (all_below 1) (rw (c.spectrum-spectrum.ensures, c.checks-checks.ensures) (check_part h c.args.self.transform.lane.now c.args.self.transform.powers.codec.code.sound c.args.self.transform.powers.codec.code.sound.byte))
     ∙ word_sums h c.args.self.transform.lane.now
 
 -- the spectrum, lent as a part
@@ -39,19 +38,6 @@ symbol c word =
     let h = c.args.self.transform.powers.codec.code.header in
     let ws = c.args.self.transform.lane.now in
     c.symbol-symbol.ensures ∙ rw (part (goal.at.After-symbol-symbol c).After-spectrum-spectrum, coefficients_are h c.args.self.transform.powers.codec.code.sound ws) (word_symbol h c.args.self.transform.powers.codec.code.sound ws c.args.self.transform.long c.args.self.transform.below word c.args.r c.requires)
-
-pub slice_bounds-symbol-end : goal.slice_bounds-symbol-end
-slice_bounds-symbol-end c = rw (part (goal.at.slice_bounds-symbol-end c).After-spectrum-spectrum) (sym (length_spectrum _ _))
-
-pub symbol-symbol-requires : goal.symbol-symbol-requires
-symbol-symbol-requires c =
-    let h = c.args.self.transform.powers.codec.code.header in
-    (rw (part (goal.at.symbol-symbol-requires c).After-spectrum-spectrum) (length_spectrum h c.args.self.transform.lane.now), rw (part (goal.at.symbol-symbol-requires c).After-spectrum-spectrum) (spectrum_below h c.args.self.transform.powers.codec.code.sound c.args.self.transform.lane.now c.args.self.transform.below), c.requires)
-
-pub returns-in_err-when : goal.returns-in_err-when
-unfolding stale_fault
-returns-in_err-when c =
-    met _ (no_word_is _ _ _ (test (goal.at.returns-in_err-when c).After-all_zero-word)) c.in_err-when.ensures c.from_residual.ensures.1 _
 
 pub returns : goal.returns
 unfolding stale_fault

@@ -1,7 +1,6 @@
 -- `symbol` meets its contract.
 use mathlib.Core.Path.{◌≡◌, sym, ap, ap₂, ◌∙◌}
 use mathlib.Core.Bool.{true}
-use Prim.Native.Nat.{◌≤◌}
 use native.Mathlib.Omega.{arith}
 use lib.ListN.{length, take}
 use Rattle.lists.specs.Numbers.{all_below}
@@ -16,18 +15,16 @@ use Rattle.node_weights.proofs.Parts.{Symbols, row_symbols, term_symbols}
 use Rattle.lane_message.specs.Inner.Symbols.{coefficients_of, symbol_from}
 use Rattle.interpolation.proofs.PaddedSums.{dot_padded}
 use Rattle.lane_message.proofs.Reading.{length_coefficients, coefficients_below}
+use Rattle.lane_message.proofs.Points.{few}
 use Rattle.lane_message.proofs.rows.GeneratorRows.symbol.Goals as goal
 use Rattle.lane_message.proofs.rows.GeneratorRows.symbol.Goals.{After-coefficients-coefficients, After-points-points, After-terms-terms, After-weighted_sum-sum, Start}
-
-few : (c : Start) → c.args.self.transform.powers.codec.code.header.k ≤ 255
-few c = omega (arith, c.args.self.transform.powers.codec.code.sound.fits, c.args.self.transform.powers.codec.code.sound.byte)
 
 -- the points of the rows, lent as a part
 points : (c : After-points-points)
     → let h = c.args.self.transform.powers.codec.code.header in
     (take h.k c.points-points.result ≡ row_points h) × Symbols (modulus_of h) h.k (row_points h)
 points c =
-    let s = row_symbols c.args.self.transform.powers.codec.code.header c.args.self.transform.powers.codec.code.sound (few (goal.at.After-points-points c).Start) in
+    let s = row_symbols c.args.self.transform.powers.codec.code.header c.args.self.transform.powers.codec.code.sound (few _ c.args.self.transform.powers.codec.code.sound) in
     (rw c.points-points.ensures (take_padded 255 _ _ s.size), s)
 
 -- the terms of the row
@@ -35,7 +32,7 @@ terms : (c : After-terms-terms)
     → let a = c.args in
     (take a.self.transform.powers.codec.code.header.k c.terms-terms.result ≡ row_terms a.self.transform.powers.codec.code.header a.r) × Symbols (modulus_of a.self.transform.powers.codec.code.header) a.self.transform.powers.codec.code.header.k (row_terms a.self.transform.powers.codec.code.header a.r)
 terms c =
-    let s = term_symbols c.args.self.transform.powers.codec.code.header c.args.self.transform.powers.codec.code.sound (few (goal.at.After-terms-terms c).Start) c.args.r c.requires.2 in
+    let s = term_symbols c.args.self.transform.powers.codec.code.header c.args.self.transform.powers.codec.code.sound (few _ c.args.self.transform.powers.codec.code.sound) c.args.r c.requires.2 in
     (rw c.terms-terms.ensures (take_padded 255 _ _ s.size), s)
 
 -- the coefficients
@@ -59,34 +56,20 @@ sum c =
     ∙ rw c.args.self.transform.powers.codec.same
     (ap₂ (dot (modulus_of h)) t.0 k.0 ∙ dot_padded (modulus_of h) 255 (row_terms h c.args.r) cs (t.1.size ∙ sym (length_coefficients h c.args.spectrum.now)))
 
-pub slice_bounds-terms-end : goal.slice_bounds-terms-end
-slice_bounds-terms-end c = let q = points (goal.at.slice_bounds-terms-end c).After-points-points in rw q.0 (sym q.1.size)
-
 pub terms-terms-requires : goal.terms-terms-requires
 terms-terms-requires c =
     ((points (goal.at.terms-terms-requires c).After-points-points).0, c.requires.2)
-
-pub slice_bounds-weighted_sum-end : goal.slice_bounds-weighted_sum-end
-slice_bounds-weighted_sum-end c = let t = terms (goal.at.slice_bounds-weighted_sum-end c).After-terms-terms in rw t.0 (sym t.1.size)
 
 pub weighted_sum-sum-requires : goal.weighted_sum-sum-requires
 weighted_sum-sum-requires c =
     let t = terms (goal.at.weighted_sum-sum-requires c).After-terms-terms in
     let k = coefficients (goal.at.weighted_sum-sum-requires c).After-coefficients-coefficients in
-    (rw (c.args.self.transform.powers.codec.same, t.0) t.1.are.below, rw (c.args.self.transform.powers.codec.same, k.0) (below_padded _ 255 _ (size_pos _ c.args.self.transform.powers.codec.code.sound.field) k.1), omega (arith, ap length t.0, t.1.size, ap length k.0, length_padded 255 (coefficients_of c.args.self.transform.powers.codec.code.header c.args.spectrum.now) (omega (arith, length_coefficients c.args.self.transform.powers.codec.code.header c.args.spectrum.now, few (goal.at.weighted_sum-sum-requires c).Start)), few (goal.at.weighted_sum-sum-requires c).Start))
+    (rw (c.args.self.transform.powers.codec.same, t.0) t.1.are.below, rw (c.args.self.transform.powers.codec.same, k.0) (below_padded _ 255 _ (size_pos _ c.args.self.transform.powers.codec.code.sound.field) k.1), omega (arith, ap length t.0, t.1.size, ap length k.0, length_padded 255 (coefficients_of c.args.self.transform.powers.codec.code.header c.args.spectrum.now) (omega (arith, length_coefficients c.args.self.transform.powers.codec.code.header c.args.spectrum.now, few _ c.args.self.transform.powers.codec.code.sound)), few _ c.args.self.transform.powers.codec.code.sound))
 
 pub invariant_of-scale_at : goal.invariant_of-scale_at
 invariant_of-scale_at c =
     let q = points (goal.at.invariant_of-scale_at c).After-points-points in
     record { symbols = rw (c.args.self.transform.powers.codec.same, q.0) q.1.are }
-
-pub scale_at-scale-requires : goal.scale_at-scale-requires
-scale_at-scale-requires c =
-    let q = points (goal.at.scale_at-scale-requires c).After-points-points in
-    rw q.0 (rw q.1.size c.requires.2)
-
-pub inverse-over-requires : goal.inverse-over-requires
-inverse-over-requires c = c.ones.ensures.symbol
 
 pub returns : goal.returns
 unfolding symbol_from

@@ -24,4 +24,4 @@ returns-in-Prime c =
 
 pub returns-in-Binary : goal.returns-in-Binary
 unfolding bits modulus
-returns-in-Binary c = rw (c.in-Binary.is, ← c.saturating_sub.ensures) c.bits_for.ensures
+returns-in-Binary c = rw c.in-Binary.is (rw (c.saturating_sub.ensures, c.checks-r.ensures) at c.bits_for.ensures)

@@ -10,4 +10,4 @@ use Rattle.repair_tables.proofs.nodes.Target.eraser.Given as goal
 abbrev pub invariant-loop-node : goal.invariant-loop-node
 invariant-loop-node l =
     let h = l.self.codec.code.header in
-    (l.product < size h) × (mul (modulus_of h) l.product (eraser h l.self.node l.u (drop l.node-index l.missing)) ≡ eraser h l.self.node l.u l.missing)
+    (l.product < size h) × (mul (modulus_of h) l.product (eraser h l.self.node l.u (drop l.node-index l.self.missing.now)) ≡ eraser h l.self.node l.u l.self.missing.now)
