@@ -36,7 +36,7 @@ use Rattle.demands.proofs.Coding.{code_demands}
 use Rattle.demands.proofs.Updates.{update_demands}
 
 -- rows of symbols that no number turned away
-rows_are : (h : Header) (rows l : ℕ) (s : List ℕ) → SymbolRows h rows l s → Symbols h rows l s
+pub rows_are : (h : Header) (rows l : ℕ) (s : List ℕ) → SymbolRows h rows l s → Symbols h rows l s
 rows_are h rows l s r = record { long = r.long; symbols = r.symbols }
 
 -- a buffer that was written as the bytes of symbols is read as these

@@ -1,8 +1,11 @@
 -- Demand 1 of the interface for C, from what each function promises.
+use Rattle.std.specs.Prelude.{◌≢◌}
 use mathlib.Core.Path.{◌≡◌, refl, sym}
+use mathlib.Core.Logic.{◌↔◌}
 use mathlib.Core.Bool.{Bool, true, false, ◌&&◌, not}
 use mathlib.Core.List.{List, ◌++◌}
-use Prim.Native.Nat.{ℕ}
+use Prim.Native.Nat.{ℕ, ◌<◌}
+use native.Mathlib.Omega.{arith}
 use borrow.Author.Tests.{ne_eqb}
 use lib.Dec.{eqb}
 use lib.ListN.{length}
@@ -15,11 +18,15 @@ use Rattle.generator.proofs.Accepts.{faultless_sound}
 use Rattle.rearrange.specs.Promise.{rearrange_fault}
 use Rattle.differences.specs.Promise.{differences_fault, add_fault}
 use Rattle.belongs.specs.Promise.{belongs_fault}
+use Rattle.belongs.proofs.Accepts.{belongs_accepts}
 use Rattle.recover.specs.Promise.{recover_fault, rebuild_fault}
 use Rattle.update.specs.Promise.{update_fault}
 use Rattle.encode.specs.Promise.{encode_fault}
 use Rattle.refusals.specs.Faults.{fault_of}
 use Rattle.refusals.proofs.OnRecord.{none_met}
+use Rattle.blocks.specs.Blocks.{first_wrong}
+use Rattle.blocks.specs.Bytes.{wrong_lane}
+use Rattle.blocks.proofs.Words.{wrong_most}
 use Rattle.plan.specs.Plans.{plan_of, plan_for}
 use Rattle.correct.specs.Promise.{correct_fault}
 use Rattle.find_update.specs.Promise.{find_fault}
@@ -31,13 +38,15 @@ use Rattle.balanced_c.specs.Calls.{plan_room_fault, numbers_of, PlanGives, Encod
 use Rattle.balanced_c.specs.Corrections.{CorrectGives}
 use Rattle.balanced_c.specs.RowChanges.{DifferencesGives, AddGives}
 use Rattle.balanced_c.specs.Lanes.{found_in, FindGives, MendsGive}
-use Rattle.demands.specs.Calls.{read}
+use Rattle.demands.specs.Calls.{read, AllWords, SmallestWrong}
 use Rattle.demands.specs.Findings.{InNumbers}
 use Rattle.demands.specs.Judging.{Judged, Returns}
 use Rattle.demands.specs.Numbers.{record_numbers, encode_numbers, update_numbers, recover_numbers, rebuild_numbers, belongs_numbers, correct_numbers, rearrange_numbers, differences_numbers, add_numbers, find_numbers, mends_numbers, weights_numbers}
 use Rattle.demands.specs.Interface.{plan_numbers, PlanWritten, Interface}
 use Rattle.demands.proofs.Judging.{Tells, line, last, by_number}
 use Rattle.demands.proofs.Conditions.{other_test}
+use Rattle.demands.proofs.Calls.{rows_are}
+use Rattle.demands.proofs.Coding.{code_demands}
 use Rattle.demands.proofs.Findings.{in_numbers}
 use Rattle.demands.proofs.Numbers.{own_after, encode_tells, update_tells, recover_tells, rebuild_tells, belongs_tells, correct_tells, rearrange_tells, differences_tells, add_tells, find_tells, mends_tells, weights_tells}
 
@@ -107,6 +116,21 @@ module _ (rec : List ℕ) where
           by_number g.number (own_after rec _ (λ h. belongs_fault h l shares) refl (λ none. belongs_tells h l shares))
           (λ some. rw (ne_eqb r 0 some) at g.first_is)
 
+      belongs_done : (first first' : ℕ) → BelongsGives rec l shares first first' 0 → ((first' ≡ l) ↔ AllWords h l shares) × (first' ≢ l → SmallestWrong h l shares first')
+      unfolding wrong_lane
+      belongs_done first first' g =
+          let (sound, own) = none_met rec (λ h. belongs_fault h l shares) (sym g.number) in
+          let symbols = rows_are h h.n l (read h shares) (belongs_accepts h sound l shares own).symbol_rows in
+          let code = code_demands h sound in
+          let most = wrong_most share_layout h l (read h shares) in
+          rw g.first_is (
+            code.passes l (read h shares) symbols,
+            λ other.
+                let inside : first_wrong share_layout h l (read h shares) < l = omega (arith, most) in
+                let (no_such_word, smaller) = code.names l (read h shares) symbols inside in
+                record { lane = inside; no_such_word = no_such_word; smaller = smaller },
+          )
+
       correct : (altered : ℕ) (shares' : List ℕ) (altered' r : ℕ) → CorrectGives rec l shares altered shares' altered' r → Judged (record_numbers rec ++ correct_numbers h l shares) (Returns r) ((shares' ≡ shares) × (altered' ≡ altered))
       correct altered shares' altered' r g =
           by_number g.number (own_after rec _ (λ h. correct_fault share_layout h l shares) refl (λ none. correct_tells h (faultless_sound rec none) l shares))
@@ -159,6 +183,7 @@ interface =
       recover = recover;
       rebuild = rebuild;
       belongs = belongs;
+      belongs_done = belongs_done;
       correct = correct;
       into_lanes = λ rec l. rearrange rec l (λ h. h.n);
       into_nodes = λ rec l. rearrange rec l (λ h. h.n);

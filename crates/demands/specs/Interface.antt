@@ -1,5 +1,5 @@
 -- Demand 1 of the interface for C: which number each function returns, and that beside it no byte and no number that the caller lent is altered. 0 is done.
-use Rattle.std.specs.Prelude.{◌≡◌, ◌≢◌, Ok, List, [], ◌∷◌, ◌++◌, ℕ, length}
+use Rattle.std.specs.Prelude.{◌≡◌, ◌≢◌, ◌↔◌, Ok, List, [], ◌∷◌, ◌++◌, ℕ, length}
 use Rattle.generator.specs.Records.{header_of}
 use Rattle.plan.specs.declared.Plan.{Plan}
 use Rattle.plan.specs.Plans.{PlanSays}
@@ -7,7 +7,7 @@ use Rattle.balanced_c.specs.Calls.{PlanGives, EncodeGives, UpdateGives, RecoverG
 use Rattle.balanced_c.specs.Corrections.{CorrectGives}
 use Rattle.balanced_c.specs.RowChanges.{DifferencesGives, AddGives}
 use Rattle.balanced_c.specs.Lanes.{FindGives, MendsGive}
-use Rattle.demands.specs.Calls.{read}
+use Rattle.demands.specs.Calls.{read, AllWords, SmallestWrong}
 use Rattle.demands.specs.Findings.{InNumbers}
 use Rattle.demands.specs.Judging.{Table, Judged, Returns}
 use Rattle.demands.specs.Numbers.{record_numbers, encode_numbers, update_numbers, recover_numbers, rebuild_numbers, belongs_numbers, correct_numbers, rearrange_numbers, differences_numbers, add_numbers, find_numbers, mends_numbers, weights_numbers}
@@ -46,6 +46,9 @@ pub record Interface : Type 0 where
   -- balanced_belongs: `first_wrong` is left
   pub belongs : (rec : List ℕ) (l : ℕ) (shares : List ℕ) (first first' r : ℕ) → BelongsGives rec l shares first first' r
       → Judged (record_numbers rec ++ belongs_numbers (header_of rec) l shares) (Returns r) (first' ≡ first)
+  -- where it returns 0, `first_wrong` is the number of lanes exactly if every lane is a word of the code, and else the smallest lane that is none
+  pub belongs_done : (rec : List ℕ) (l : ℕ) (shares : List ℕ) (first first' : ℕ) → BelongsGives rec l shares first first' 0
+      → ((first' ≡ l) ↔ AllWords (header_of rec) l shares) × (first' ≢ l → SmallestWrong (header_of rec) l shares first')
   -- balanced_correct: `altered` is left too
   pub correct : (rec : List ℕ) (l : ℕ) (shares : List ℕ) (altered : ℕ) (shares' : List ℕ) (altered' r : ℕ) → CorrectGives rec l shares altered shares' altered' r
       → Judged (record_numbers rec ++ correct_numbers (header_of rec) l shares) (Returns r) ((shares' ≡ shares) × (altered' ≡ altered))
