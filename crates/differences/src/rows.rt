@@ -7,6 +7,7 @@ ghost use Rattle.refusals.specs.Inner.Accepted.{SymbolBytes, SymbolTile};
 ghost use Rattle.differences.specs.Differences.{added_symbols};
 ghost use Rattle.differences.specs.Inner.Rows.{row_tile, pair_tile, row_less, row_times};
 
+use field::Field;
 use generator::Code;
 
 // Rows in so many lanes, of symbols of `width` bytes each. The width stands beside the code that gives it: rows are stated in it, and nothing is
@@ -61,7 +62,7 @@ impl Rows {
         ensures { out.new ≡ bytes_of self.width (row_less self.code.header self.lanes (symbols_of self.width row.now) (symbols_of self.width less.now)) }
     {
         let field = self.code.header.field;
-        let minus_one = field.sub(0, 1) as u16;
+        let minus_one = field.sub(Field::ZERO, Field::ONE) as u16;
         let mut pair = [0u8; 16384];
         let pair = &mut pair[..2 * row.len()];
         self.load_pair(row, less, pair);

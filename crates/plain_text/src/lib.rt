@@ -66,7 +66,7 @@ impl PlainLayout {
 
 // Writes the plain layout of a record's code at the front of a page, and gives its length (and no slice: see `written` of `Writer`). The
 // page is lent, for the library has no heap.
-// The texts differ in what reads the record and in what writes it: one function with two closures would be no plainer.
+// As in sheet_text, one function for what answers a record would be no plainer.
 pub fn plain(rec: &[u8], out: &mut [u8; 392459]) -> usize
     ensures { OnPage out.old out.new result (plain_for (record_of rec.now)) }
 {

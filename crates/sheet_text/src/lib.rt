@@ -87,7 +87,8 @@ impl PlanSheet {
 
 // Writes the sheet of a record at the front of a page, and gives its length (and no slice: see `written` of `Writer`). The page is lent,
 // for the library has no heap.
-// The texts differ in what reads the record and in what writes it: one function with two closures would be no plainer.
+// The texts differ in what reads the record and in what writes it: `text::answered(out, build_plan(rec), |plan, writer| ..)` would be these lines
+// with a bound of both, and another crate's word for a refusal.
 pub fn sheet(rec: &[u8], out: &mut [u8; 394255]) -> usize
     ensures { OnPage out.old out.new result (sheet_for (record_of rec.now)) }
 {

@@ -7,8 +7,8 @@ use crate::logarithms::write_logarithms;
 use crate::powers::Powers;
 use text::Writer;
 
-// Writes the tables at the front of a page, and gives their length (and no slice: see `written` of `Writer`). The page is lent: fixed
-// memory is enough for 510 lines.
+// Writes the tables at the front of a page, and gives their length (and no slice: see `written` of `Writer`). The page is lent, as
+// each text's is.
 pub fn tables(out: &mut [u8; 3060]) -> usize
     ensures { OnPage out.old out.new result tables_text }
 {

@@ -8,6 +8,7 @@ ghost use Rattle.check_sums.specs.Inner.Powers.{factors_of};
 ghost use Rattle.wrong_lanes.specs.Inner.Checks.{first_points, first_weights, CheckLists, CheckRoom};
 
 use check_sums::powers::{self, RootPowers};
+use field::Field;
 use generator::{Code, Codec};
 use interpolation::lagrange::Points;
 use tile_products::WeightCodes;
@@ -28,7 +29,7 @@ fn check_weights(powers: RootPowers, scales: &[u16], e: usize) -> [u16; 255]
         points: &roots[..k],
     };
     let mut weights = points.values(scales, z);
-    weights[at] = field.sub(0, 1) as u16;
+    weights[at] = field.sub(Field::ZERO, Field::ONE) as u16;
     weights
 }
 

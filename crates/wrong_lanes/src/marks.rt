@@ -61,8 +61,8 @@ impl Block<'_> {
         block_products::fill(self.product(), w, &lists, &counts, self.shares, marks);
     }
 
-    // Marks all lanes, which have the mark 0 before, in the smallest scratch that the record's nodes fit: clearing the largest takes longer than the work of a small record.
-    // The arms name const parameters: a choice written once would need a trait for what is done in the scratch.
+    // Marks all lanes, which have the mark 0 before, in the smallest scratch that the record's nodes fit: clearing the largest takes four times as
+    // long as Encode of 64 lanes at (15, 10), and of the choice written once encode/src/lanes.rt says the same.
     pub fn mark_lanes(self, marks: &mut [u8])
         requires { marks.old ≡ zeros self.lanes }
         ensures { let b = self.entry in marks.new ≡ word_marks share_layout b.code.header b.lanes (symbols_of (width b.code.header) b.shares.now) }
