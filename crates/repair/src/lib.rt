@@ -3,7 +3,7 @@
 
 ghost use Rattle.std.specs.Prelude.{◌≡◌, ◌-◌, ◌*◌, ◌≤◌, length};
 ghost use Rattle.generator.specs.Answers.{numbered};
-ghost use Rattle.repair_tables.specs.Bits.{bit_count};
+ghost use Rattle.repair_tables.specs.Inner.Bits.{bit_count};
 ghost use Rattle.repair.specs.Packing.{packed_size};
 ghost use Rattle.repair.specs.Sent.{repaired_share};
 ghost use Rattle.repair.specs.Promise.{repair_bits_fault, repair_share_fault, repair_plan_fault, RepairBitsPromise, RepairSharePromise, RepairPlanPromise, RepairBitsSays, RepairShareSays, RepairPlanSays};

@@ -1,7 +1,7 @@
 // Traces of bytes onto the subfields of 2^b elements.
 ghost use Rattle.std.specs.Prelude.{◌≡◌, ◌<◌};
 ghost use Rattle.traces.specs.Traces.{squarings, trace_of, element};
-ghost use Rattle.repair_tables.specs.Bits.{bit_count};
+ghost use Rattle.repair_tables.specs.Inner.Bits.{bit_count};
 
 use crate::bits::Bits;
 use field::{FieldKind, Gf256, Tables};
