@@ -21,7 +21,7 @@ use Rattle.kernel.proofs.Lanes.{lanewise_same, lanewise_from}
 use Rattle.traces.specs.Traces.{xor_below}
 use Rattle.traces.specs.Repairs.{bits, senders, sent_digit, part, repaired}
 use Rattle.repair_tables.specs.declared.nodes.Target.{Target}
-use Rattle.repair_tables.specs.Bits.{bit_count}
+use Rattle.repair_tables.specs.Inner.Bits.{bit_count}
 use Rattle.repair_tables.specs.Inner.Weights.{bit_weight}
 use Rattle.traces.proofs.Bounds.{offset_below}
 use Rattle.traces.proofs.Claims.{repairable, xor_below_agree}
@@ -31,7 +31,7 @@ use Rattle.repair.specs.Sent.{sent, repaired_share}
 use Rattle.repair.specs.Inner.Sums.{plane_sum, plane_sums, lane_byte}
 use Rattle.repair.specs.Inner.Lanes.{lane_bit}
 use Rattle.repair.proofs.Digits.{byte_ext, byte_inside}
-use Rattle.repair.specs.Inner.Asked.{asked}
+use Rattle.repair.specs.Asked.{asked}
 use Rattle.repair.proofs.Judging.{asked_bits}
 use Rattle.repair.proofs.Bits.{bit_sum, byte_sum, repaired_bits}
 

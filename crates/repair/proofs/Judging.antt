@@ -10,11 +10,11 @@ use Rattle.generator.specs.declared.refusal.Refusal.TheVariants as R
 use Rattle.generator.specs.Answers.{numbered_by, answer_of}
 use Rattle.traces.specs.Repairs.{bits}
 use Rattle.repair_tables.specs.declared.bits.Bits.{Bits}
-use Rattle.repair_tables.specs.Bits.{bit_count}
+use Rattle.repair_tables.specs.Inner.Bits.{bit_count}
 use Rattle.repair_tables.proofs.Steps.{width_some}
 use Rattle.repair_tables.specs.declared.nodes.Target.{Target}
 use Rattle.repair.specs.Promise.{traces_bad}
-use Rattle.repair.specs.Inner.Asked.{asked}
+use Rattle.repair.specs.Asked.{asked}
 
 -- the bits, or number 17 where there are none
 pub judged : (h : Header) (m : ℕ) (o : Option Bits) → MatchOption o (bits h m ≡ 0) (λ b. bit_count b ≡ bits h m) → numbered_by bit_count (ok_or o R.Traces) ≡ answer_of (when (traces_bad h m) 17) (bits h m)

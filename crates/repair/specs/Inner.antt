@@ -2,4 +2,3 @@
 pub mod Rows
 pub mod Sums
 pub mod Lanes
-pub mod Asked

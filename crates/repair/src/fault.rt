@@ -4,7 +4,7 @@ ghost use Rattle.generator.specs.Answers.{numbered_by, answer_of};
 ghost use Rattle.traces.specs.Repairs.{bits};
 ghost use Rattle.repair.specs.Packing.{packed_size};
 ghost use Rattle.repair.specs.Promise.{target_fault, repair_bits_fault, repair_share_fault};
-ghost use Rattle.repair.specs.Inner.Asked.{asked};
+ghost use Rattle.repair.specs.Asked.{asked};
 
 use crate::{Repair, packing};
 use generator::{Code, Refusal};

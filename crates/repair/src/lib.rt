@@ -3,7 +3,7 @@
 
 ghost use Rattle.std.specs.Prelude.{◌≡◌, ◌-◌, ◌*◌, ◌≤◌, length};
 ghost use Rattle.generator.specs.Answers.{numbered};
-ghost use Rattle.repair_tables.specs.Bits.{bit_count};
+ghost use Rattle.repair_tables.specs.Inner.Bits.{bit_count};
 ghost use Rattle.repair.specs.Packing.{packed_size};
 ghost use Rattle.repair.specs.Sent.{repaired_share};
 ghost use Rattle.repair.specs.Promise.{repair_bits_fault, repair_share_fault, repair_plan_fault, RepairBitsPromise, RepairSharePromise, RepairPlanPromise, RepairBitsSays, RepairShareSays, RepairPlanSays};
@@ -36,6 +36,7 @@ struct Repair<'t, 'm> {
 }
 
 // The target's share from the planes of the nodes that send.
+#[tactic(auto, using(crate::proofs::Digits::plane_covers))]
 fn add_up(target: Target, rows: &[u8], out: &mut [u8])
     requires { let h = target.codec.code.header in (length out.old ≤ 4096) × (length rows.now ≡ (h.n - 1 - length target.missing.now) * packed_size (bit_count target.bits) (length out.old)) }
     ensures { let h = target.entry.codec.code.header in out.new ≡ repaired_share h (length out.old) target.entry.node target.entry.missing.now rows.now }

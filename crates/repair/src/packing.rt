@@ -1,7 +1,7 @@
 // Bits packed into planes, and digits into planes of their bits.
 ghost use Rattle.std.specs.Prelude.{◌≡◌, ◌≤◌, ◌<◌, ◌*◌, ◌/◌, ◌%◌, ◌^◌, length, get_or};
 ghost use Rattle.kernel.specs.Inner.Lanes.{lanewise};
-ghost use Rattle.repair_tables.specs.Bits.{bit_count};
+ghost use Rattle.repair_tables.specs.Inner.Bits.{bit_count};
 ghost use Rattle.repair.specs.Inner.Lanes.{lane_bit};
 ghost use Rattle.repair.specs.Packing.{plane_size, packed_size, byte_from, planes};
 

@@ -35,6 +35,7 @@ fn gather(planes: &[[u8; 512]; 8], i: usize) -> u8
 }
 
 // The bytes of all lanes of eight planes.
+#[tactic(auto, using(kernel::proofs::Filling::changed_none, kernel::proofs::Filling::changed_all))]
 fn gather_all(planes: &[[u8; 512]; 8], out: &mut [u8])
     requires { length out.old ≤ 4096 }
     ensures { out.new ≡ lanewise (λ i y. lane_byte planes.now i) out.old }
@@ -81,6 +82,7 @@ impl Planes<'_> {
 
     // The sums for all eight bits. By the index: of `array::from_fn(|p| self.padded_sum(p))`, whose closure gives an array, `search` finds nothing,
     // and after `sums.iter_mut()` over a local array of arrays an invariant knows no `sums`.
+    #[tactic(auto, using(lists::proofs::Fill::fills_start, lists::proofs::Fill::fills_all, lists::proofs::Rows::from_end), unfolding(crate::specs::Inner::Sums::plane_sums))]
     fn sums(self) -> [[u8; 512]; 8]
         ensures { result ≡ plane_sums self.entry.weights.now (length self.entry.weights.now) self.entry.size self.entry.rows.now }
     {

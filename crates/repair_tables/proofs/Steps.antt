@@ -33,7 +33,7 @@ use Rattle.traces.proofs.Claims.{repairable}
 use Rattle.traces.proofs.Words.{byte_size}
 use Rattle.repair_tables.specs.declared.bits.Bits.{Bits}
 use Rattle.repair_tables.specs.declared.bits.Bits.TheVariants as B
-use Rattle.repair_tables.specs.Bits.{bit_count}
+use Rattle.repair_tables.specs.Inner.Bits.{bit_count}
 
 pub mul_byte : (a b : ℕ) → a < 256 → mul 0 a b < 256
 unfolding mul

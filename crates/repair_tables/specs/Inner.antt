@@ -1,2 +1,3 @@
--- What the tables of a repair hold.
+-- How many bits a node sends, and what the tables of a repair hold.
+pub mod Bits
 pub mod Weights

@@ -1,3 +1,2 @@
 -- How many bits a node sends; what inner functions give.
-pub mod Bits
 pub mod Inner

@@ -1,7 +1,7 @@
 // How many bits of a symbol a node sends.
 ghost use Rattle.std.specs.Prelude.{◌≡◌, MatchOption};
 ghost use Rattle.traces.specs.Repairs.{bits_for, bits, spare};
-ghost use Rattle.repair_tables.specs.Bits.{bit_count};
+ghost use Rattle.repair_tables.specs.Inner.Bits.{bit_count};
 
 use field::Field;
 use generator::Code;

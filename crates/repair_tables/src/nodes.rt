@@ -4,7 +4,7 @@ ghost use Rattle.lists.specs.Numbers.{all_below, distinct, is_in};
 ghost use Rattle.generator.specs.Records.{size};
 ghost use Rattle.traces.specs.Repairs.{bits as bits_of, ratio, offset, erasing, eraser, factor};
 ghost use Rattle.traces.specs.Claims.{Repairing};
-ghost use Rattle.repair_tables.specs.Bits.{bit_count};
+ghost use Rattle.repair_tables.specs.Inner.Bits.{bit_count};
 
 use crate::bits::Bits;
 use check_sums::powers::RootPowers;

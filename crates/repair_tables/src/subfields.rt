@@ -2,7 +2,7 @@
 // be cast twice.
 ghost use Rattle.std.specs.Prelude.{◌≡◌, ◌<◌};
 ghost use Rattle.traces.specs.Traces.{squarings, trace_of, element};
-ghost use Rattle.repair_tables.specs.Bits.{bit_count};
+ghost use Rattle.repair_tables.specs.Inner.Bits.{bit_count};
 
 use crate::bits::Bits;
 use field::{FieldKind, Gf256, Tables};

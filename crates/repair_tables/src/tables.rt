@@ -8,7 +8,7 @@ ghost use Rattle.field.specs.Fields.{mul};
 ghost use Rattle.generator.specs.Records.{modulus_of};
 ghost use Rattle.traces.specs.Traces.{trace_of};
 ghost use Rattle.traces.specs.Repairs.{senders, sent_digit};
-ghost use Rattle.repair_tables.specs.Bits.{bit_count};
+ghost use Rattle.repair_tables.specs.Inner.Bits.{bit_count};
 ghost use Rattle.repair_tables.specs.Inner.Weights.{bit_weight};
 
 use crate::nodes::Target;

@@ -16,7 +16,7 @@ use Rattle.traces.proofs.Claims.{senders_many}
 use Rattle.repair_tables.proofs.Steps.{bits_fit}
 use Rattle.repair.specs.Packing.{packed_size}
 use Rattle.repair.specs.Inner.Sums.{plane_sums, lane_byte}
-use Rattle.repair.proofs.Digits.{plane_small, plane_covers}
+use Rattle.repair.proofs.Digits.{plane_small}
 use Rattle.repair.proofs.Adding.{table_long, share_is}
 use Rattle.repair.proofs.add_up.Goals as goal
 use Rattle.repair.proofs.add_up.Goals.{After-count}
@@ -44,9 +44,6 @@ invariant_of-planes c =
       whole = rows ∙ rw (long, c.count.ensures, size, c.senders-senders.ensures) (sym (mul_assoc _ _ _));
       small = rw size (plane_small _ few);
     }
-
-pub combine-requires : goal.combine-requires
-combine-requires c = rw c.plane_size.ensures (plane_covers _)
 
 pub returns : goal.returns
 returns c =

@@ -4,7 +4,7 @@ use Rattle.std.proofs.Common.{refl, ap, ◌∙◌}
 use Rattle.generator.specs.Answers.{numbered_by, answer_of}
 use Rattle.generator.proofs.Answered.{exit, done_is, value_is, refused_is}
 use Rattle.traces.specs.Repairs.{bits}
-use Rattle.repair_tables.specs.Bits.{bit_count}
+use Rattle.repair_tables.specs.Inner.Bits.{bit_count}
 use Rattle.repair.specs.Promise.{repair_plan_fault}
 use Rattle.repair.proofs.Accepts.{plan_refuses}
 use Rattle.repair.proofs.Judging.{judged}

@@ -7,7 +7,7 @@ use native.Mathlib.Omega.{arith}
 use lib.ListN.{length}
 use Rattle.repair.specs.Packing.{packed_size}
 use Rattle.repair.proofs.Accepts.{BitsAccepted, bits_accepts, bits_refuses, bits_done}
-use Rattle.repair.specs.Inner.Asked.{asked}
+use Rattle.repair.specs.Asked.{asked}
 use Rattle.repair.proofs.Judging.{asked_bits}
 use Rattle.repair.proofs.Adding.{sent_asked}
 use Rattle.repair.proofs.Repair.bits_accepted.Goals as goal

@@ -6,7 +6,7 @@ use native.Mathlib.Omega.{arith}
 use Rattle.std.specs.Prelude.{Option, None, Some, MatchOption}
 use Rattle.std.proofs.Common.{rules}
 use Rattle.repair_tables.specs.declared.bits.Bits.{Bits}
-use Rattle.repair_tables.specs.Bits.{bit_count}
+use Rattle.repair_tables.specs.Inner.Bits.{bit_count}
 use Rattle.repair_tables.proofs.Steps.{width_some}
 use Rattle.repair.specs.Packing.{packed_size}
 use Rattle.repair.proofs.Digits.{size_fits}

@@ -4,7 +4,7 @@ use Prim.Native.Nat.{◌-◌, ◌*◌}
 use lib.ListN.{length}
 use Rattle.repair.specs.Packing.{packed_size}
 use Rattle.repair.specs.Sent.{repaired_share}
-use Rattle.repair.specs.Inner.Asked.{asked}
+use Rattle.repair.specs.Asked.{asked}
 use Rattle.repair.proofs.Judging.{asked_bits}
 use Rattle.repair.proofs.Accepts.{ShareAccepted, share_accepts, share_refuses, share_done}
 use Rattle.repair.proofs.Repair.share_accepted.Goals as goal

@@ -1,6 +1,6 @@
 -- `list_weights` meets its contract.
 use Rattle.lists.proofs.Fill.{Filled}
-use Rattle.repair_tables.specs.Bits.{bit_count}
+use Rattle.repair_tables.specs.Inner.Bits.{bit_count}
 use Rattle.repair_tables.specs.Inner.Weights.{bit_weight}
 use Rattle.repair_tables.proofs.nodes.Target.list_weights.Given as goal
 

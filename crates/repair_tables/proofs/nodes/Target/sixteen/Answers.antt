@@ -4,7 +4,7 @@ use Prim.Native.Nat.{◌*◌}
 use Rattle.std.proofs.Common.{rules}
 use Rattle.lists.proofs.Made.{made_by_index}
 use Rattle.generator.specs.Records.{modulus_of}
-use Rattle.repair_tables.specs.Bits.{bit_count}
+use Rattle.repair_tables.specs.Inner.Bits.{bit_count}
 use Rattle.repair_tables.proofs.Steps.{digit_of}
 use Rattle.repair_tables.proofs.nodes.Target.sixteen.Goals as goal
 
