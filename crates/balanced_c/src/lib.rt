@@ -59,6 +59,7 @@ fn room_bad(numbers: usize, shifts: usize, firsts: usize, base: usize) -> bool
 }
 
 // Writes the parts of a plan where the record gives one and there is room for each.
+#[tactic(auto, using(generator::proofs::Answered::tests, crate::proofs::Plans::lengths, crate::proofs::Plans::room_refused))]
 fn write_plan(
     rec: &[u8],
     numbers: &mut [u8],

@@ -30,6 +30,7 @@ pub fn balanced_roster_rejoin(rec: &[u8], roster: &mut [u8], node: u32) -> u8
 }
 
 // The number of an answer; `enough` receives 1 where the list was written, 0 where too few nodes are present.
+#[tactic(auto, unfolding(roster_bytes::specs::Calls::told_of))]
 fn tell(answer: Result<Listing, Refusal>, enough: &mut u32) -> u8
     ensures { (result ≡ fault_in (numbered answer)) × (enough.new ≡ told_of (numbered answer) enough.old) }
 {

@@ -7,7 +7,7 @@ ghost use Rattle.belongs.specs.Promise.{belongs_fault};
 use generator::{Header, Refusal};
 use refusals::{buffer_bad, lanes_bad, shares_bad};
 
-// Belongs. A usable field is enough: a `Code` would ask for more.
+// Belongs. A usable field is enough: a `Code` would ask more of callers than they are asked.
 #[tactic(auto, using(generator::proofs::Answered::tests), unfolding(crate::specs::Promise::belongs_fault))]
 pub fn belongs_fault(h: Header, lanes: usize, shares: &[u8]) -> Result<(), Refusal>
     requires { usable h.field ≡ true }

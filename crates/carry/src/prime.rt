@@ -15,7 +15,7 @@ impl WordPrime {
         ensures { (result ≡ group_words self.p) × (1 ≤ result) × (result ≤ 255) }
     {
         let most = 61440 / (65536 - self.p);
-        if most < 256 { (most - 1) as usize } else { 255 }
+        (most - 1).min(255) as usize
     }
 
     // How many bytes carry n.

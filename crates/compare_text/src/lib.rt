@@ -9,7 +9,7 @@ ghost use Rattle.text.specs.Inner.Writer.{room, Writes};
 ghost use Rattle.compare_text.specs.Comparison.{cost_line, comparison_for};
 
 use generator::{Code, Header};
-use records::{distance_of, high_reads, low_reads, read_record};
+use records::{high_reads, low_reads, read_record};
 use text::Writer;
 pub use text::page;
 
@@ -39,7 +39,7 @@ fn write_comparison(writer: &mut Writer, code: Code)
     ensures { Writes writer.old writer.new (comparison_for (Ok code.header)) }
 {
     let h = code.header;
-    let writes = distance_of(code.dimensions());
+    let writes = code.dimensions().distance();
     let high = high_reads(code);
     writer.line("compare", &[h.n, h.k]);
     write_cost(writer, "plain writes", writes, &[1, plain_greatest(h)]);

@@ -5,7 +5,6 @@ use mathlib.Core.List.{List}
 use Prim.Native.Nat.{ℕ, ◌+◌, ◌-◌, ◌≤◌}
 use native.Mathlib.Omega.{arith}
 use lib.ListN.{length, take, drop}
-use lib.Seq.{length-take-le}
 use Rattle.lists.specs.Numbers.{all_below}
 use Rattle.lists.specs.Padded.{padded}
 use Rattle.lists.specs.Rows.{from}
@@ -43,13 +42,9 @@ sums_below h s ws b =
     at_below (size h) (from f 1 (h.n - h.k))
     (λ i l. rw (get_or_from f 1 (h.n - h.k) i 0 (omega (arith, length_from f 1 (h.n - h.k)))) (check_from_below h s (1 + i) 0 ws b))
 
--- what is known of the listed nodes, the check sums, and the errors
+-- what is known of the listed nodes, the lane, and the errors
 pub record CandidateParts (h : Header) (ws sums nodes : List ℕ) : Type 0 where
-  pub few : length nodes ≤ 255
   pub nodes_low : all_below (length ws) nodes ≡ true
-  pub sums_long : length sums ≡ 255
-  pub terms_long : length (take (length nodes) sums) ≡ length nodes
-  pub terms_symbols : SymbolList (modulus_of h) (take (length nodes) sums)
   pub lane_symbols : SymbolList (modulus_of h) ws
   pub errors_count : length (errors_at h nodes sums) ≡ length nodes
   pub errors_symbols : SymbolList (modulus_of h) (errors_at h nodes sums)
@@ -85,9 +80,6 @@ module _ (h : Header) (ws : List ℕ) (lane : SoundLane h ws) (sums : List ℕ) 
     few_nodes : length roots ≤ 255
     few_nodes = omega (arith, few_roots p h.root h.n front, w.few)
 
-    long_terms : length (take (length roots) sums) ≡ length roots
-    long_terms = length-take-le (length roots) sums (omega (arith, long_sums, few_nodes))
-
     -- the points are symbols, and so are the parts of their basis and the errors
     points_are : SymbolList (modulus_of h) points
     points_are = points_symbols p h.root 0 roots lane.sound.field lane.sound.root_below few_nodes
@@ -108,11 +100,7 @@ module _ (h : Header) (ws : List ℕ) (lane : SoundLane h ws) (sums : List ℕ) 
     candidate_parts =
         rw w.listed
         record {
-          few = few_nodes;
           nodes_low = rw lane.long (roots_low p h.root h.n front);
-          sums_long = long_sums;
-          terms_long = long_terms;
-          terms_symbols = record { below = below_take (size h) (length roots) sums array_below; short = omega (arith, long_terms, few_nodes) };
           lane_symbols = record { below = lane.below; short = omega (arith, lane.long, w.few) };
           errors_count = long_errors;
           errors_symbols = record { below = errors_below; short = omega (arith, long_errors, few_nodes) };

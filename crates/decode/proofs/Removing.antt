@@ -23,11 +23,6 @@ set_padded : (n : ℕ) (ws : List ℕ) (j x : ℕ) → j < length ws → set (pa
 unfolding padded
 set_padded n ws j x low = rw (length-set ws j x) (set-append_left ws (zeros _) j x low)
 
--- a list that is copied into zeros
-pub copied_is : (n : ℕ) (ws : List ℕ) → ws ++ drop (length ws) (replicate n 0) ≡ padded n ws
-unfolding zeros padded
-copied_is n ws = ap (λ (l : List ℕ). ws ++ l) (drop_zeros (length ws) n)
-
 module _ (p : ℕ) where
   -- one node more
   pub removed_next : (js es ws : List ℕ) (i : ℕ) → i < length js → i < length es → removed p (drop i js) (drop i es) ws ≡ removed p (drop (i + 1) js) (drop (i + 1) es) (set ws (get_or js i 0) (sub p (get_or ws (get_or js i 0) 0) (get_or es i 0)))

@@ -13,6 +13,7 @@ use interpolation::polynomials::Polynomial;
 use interpolation::powers::Root;
 
 // The error at the point x: the sum of the check sums, which are the weights of the product over all points, times the coefficients of that over the other points, times the scale of x, over x.
+#[tactic(auto, unfolding(crate::specs::Inner::Errors::error_of))]
 fn error_at(product: Dividend, x: u32, scale: u32) -> u32
     requires { (x < size_of (modulus product.polynomial.field.field)) × (scale < size_of (modulus product.polynomial.field.field)) }
     ensures is { result ≡ error_of (modulus product.entry.polynomial.field.field) product.entry.polynomial.coefficients.now product.entry.weights.now x scale }
@@ -27,6 +28,7 @@ fn error_at(product: Dividend, x: u32, scale: u32) -> u32
 
 // The errors at all points, and zeros after them.
 // An array with zeros after: it is as long as the list that it is made from, so no length stands beside it.
+#[tactic(auto, using(lists::proofs::Fill::filled_start, lists::proofs::Fill::filled_end), unfolding(lists::specs::Padded::zeros, crate::specs::Inner::Errors::errors_from))]
 fn errors_from(points: Points, product: Dividend) -> [u16; 255]
     requires { product.polynomial.field.field ≡ points.field.field }
     ensures { let p = modulus points.entry.field.field in result ≡ padded 255 (errors_from p product.entry.polynomial.coefficients.now product.entry.weights.now points.entry.points.now (scales_of p points.entry.points.now)) }

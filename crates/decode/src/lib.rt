@@ -57,6 +57,7 @@ impl Syndrome<'_, '_> {
 }
 
 // The only symbols that may be a word near enough, and zeros after them.
+#[tactic(auto, using(crate::proofs::CandidateParts::sums_symbols))]
 fn candidate(codec: Codec, lane: &[u16], sums: [u16; 255]) -> [u16; 255]
     requires { let h = codec.code.header in SoundLane h lane.now × (sums ≡ padded 255 (check_sums h lane.now)) }
     ensures { Candidate codec.entry.code.header lane.now result }

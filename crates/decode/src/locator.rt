@@ -44,6 +44,7 @@ impl Registers<'_, '_> {
     }
 
     // The first coefficients of x^i·w − d·x^j·v, and zeros after them.
+    #[tactic(auto, using(lists::proofs::Fill::filled_start, lists::proofs::Fill::filled_end), unfolding(lists::specs::Padded::zeros))]
     fn amended(self, d: u32, i: usize, j: usize, size: usize) -> [u16; 255]
         requires { (d < size_of (modulus self.field.field)) × (size ≤ 255) }
         ensures { result ≡ padded 255 (from (amended_at (modulus self.entry.field.field) d self.entry.w.now i self.entry.v.now j) 0 size) }
@@ -57,6 +58,7 @@ impl Registers<'_, '_> {
     }
 
     // The first coefficients of d·w, and zeros after them.
+    #[tactic(auto, using(lists::proofs::Fill::filled_start, lists::proofs::Fill::filled_end), unfolding(lists::specs::Padded::zeros))]
     fn scaled(self, d: u32, size: usize) -> [u16; 255]
         requires { (d < size_of (modulus self.field.field)) × (size ≤ 255) }
         ensures { result ≡ padded 255 (from (λ x. mul (modulus self.entry.field.field) d (get_or self.entry.w.now x 0)) 0 size) }

@@ -48,9 +48,9 @@ impl Message<'_> {
         requires { let h = record_header self in (length row.now ≡ 510) × (all_below (size h) row.now ≡ true) × (length sums.old ≡ h.n) × (length out.old ≡ self.width.bytes * h.n) }
         ensures { let m = self.entry in let h = record_header m in out.new ≡ bytes_of m.width.bytes (by_node (window_sums (modulus_of h) (take (distance h) m.generator.now.base) row.now (length sums.old))) }
     {
-        let Header { field, n, k, .. } = self.generator.codec.code.header;
-        let d = (n - k) as usize + 1;
-        sliding_sums::window_sums(field, &self.generator.base[..d], row, sums);
+        let code = self.generator.codec.code;
+        let d = code.dimensions().distance() as usize;
+        sliding_sums::window_sums(code.header.field, &self.generator.base[..d], row, sums);
         turn(sums);
         self.width.write_symbols(sums, out);
     }

@@ -23,10 +23,7 @@ impl<'a> Arithmetic<'a> {
         requires { usable field ≡ true }
         ensures { result.field ≡ field }
     {
-        Self {
-            field: field,
-            tables: tables,
-        }
+        Self { field, tables }
     }
 
     #[tactic(auto, using(crate::proofs::KindLaws::add_symbol))]

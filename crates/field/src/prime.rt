@@ -20,7 +20,7 @@ impl PrimeField {
     pub fn new(p: u32) -> Self
         ensures { result ≡ prime_of p }
     {
-        Self { p: p }
+        Self { p }
     }
 }
 

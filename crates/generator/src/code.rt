@@ -1,5 +1,5 @@
 // The code that an accepted record stands for, and its dimensions.
-ghost use Rattle.std.specs.Prelude.{◌≡◌, ◌≤◌, ◌<◌, ◌-◌};
+ghost use Rattle.std.specs.Prelude.{◌≡◌, ◌≤◌, ◌<◌, ◌+◌, ◌-◌};
 ghost use Rattle.generator.specs.Records.{Sound};
 
 use crate::Header;
@@ -20,6 +20,15 @@ pub struct Dimensions {
     pub k: u8,
     pub ghost some: { 0 < k },
     pub ghost fits: { k ≤ n },
+}
+
+impl Dimensions {
+    // d, the number of nodes that a changed symbol writes.
+    pub fn distance(self) -> u8
+        ensures { result ≡ self.n - self.k + 1 }
+    {
+        self.n - self.k + 1
+    }
 }
 
 impl Code {

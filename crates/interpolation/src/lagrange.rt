@@ -34,6 +34,7 @@ impl Points<'_, '_> {
     }
 
     // The product over the points but number i: over those before it, and over those after it.
+    #[tactic(auto, using(crate::proofs::Points::symbols_drop, lists::proofs::Rows::part_rest), unfolding(crate::specs::Inner::Lagrange::others_at))]
     fn others_at(self, i: usize, z: u32) -> u32
         requires { (i < length self.points.now) × (z < size_of (modulus self.field.field)) }
         ensures is { result ≡ others_at (modulus self.entry.field.field) self.entry.points.now i z }
@@ -53,6 +54,7 @@ impl Points<'_, '_> {
     }
 
     // 1 over that product at point number i itself.
+    #[tactic(auto, using(lists::proofs::Numbers::below_at), unfolding(crate::specs::Inner::Lagrange::scale_at))]
     pub fn scale_at(self, i: usize) -> u32
         requires { i < length self.points.now }
         ensures is { result ≡ scale_at (modulus self.entry.field.field) self.entry.points.now i }
@@ -63,6 +65,7 @@ impl Points<'_, '_> {
     }
 
     // The scales of all basis polynomials, and zeros after them.
+    #[tactic(auto, using(lists::proofs::Fill::filled_start, lists::proofs::Fill::filled_end), unfolding(lists::specs::Padded::zeros, crate::specs::Inner::Lagrange::scales_of))]
     pub fn scales(self) -> [u16; 255]
         ensures { result ≡ padded 255 (scales_of (modulus self.entry.field.field) self.entry.points.now) }
     {
@@ -74,6 +77,7 @@ impl Points<'_, '_> {
     }
 
     // The products of (z − x) over the last m points x, for m = 0, 1, .., and zeros after them.
+    #[tactic(auto, using(lists::proofs::Fill::filled_end, lists::proofs::Numbers::below_at))]
     fn last_products(self, z: u32) -> [u16; 255]
         requires { z < size_of (modulus self.field.field) }
         ensures { let xs = self.entry.points.now in result ≡ padded 255 (from (λ m. product_at (modulus self.entry.field.field) (drop (length xs - m) xs) z) 0 (length xs)) }
@@ -90,6 +94,7 @@ impl Points<'_, '_> {
     }
 
     // The values at z of all basis polynomials from their scales, and zeros after them: four products for each point.
+    #[tactic(auto, using(lists::proofs::Fill::filled_end, lists::proofs::Numbers::below_at, crate::proofs::Values::length_scales), unfolding(crate::specs::Inner::Lagrange::basis_values))]
     pub fn values(self, scales: &[u16], z: u32) -> [u16; 255]
         requires { (scales.now ≡ scales_of (modulus self.field.field) self.points.now) × (z < size_of (modulus self.field.field)) }
         ensures { result ≡ padded 255 (basis_values (modulus self.entry.field.field) self.entry.points.now z) }

@@ -52,6 +52,7 @@ impl Points<'_, '_> {
 
 impl Root<'_> {
     // The base polynomial, the product of (x − root^i) for i below m, and zeros after it.
+    #[tactic(auto, using(field::proofs::Bounds::one_below, field::proofs::KindLaws::usable_field, crate::proofs::Coefficients::one_padded), unfolding(lists::specs::Padded::zeros, field::specs::Fields::power, crate::specs::Inner::Polynomials::base_of))]
     pub fn base(self, m: usize) -> [u16; 256]
         requires { m < 255 }
         ensures { result ≡ padded 256 (base_of (modulus self.entry.field.field) self.entry.value m) }
@@ -70,6 +71,7 @@ impl Root<'_> {
 
 impl Polynomial<'_, '_> {
     // 1 over each coefficient, and zeros after them.
+    #[tactic(auto, using(lists::proofs::Fill::filled_start, lists::proofs::Numbers::below_at), unfolding(lists::specs::Padded::zeros))]
     pub fn inverses(self) -> [u16; 255]
         ensures { result ≡ padded 255 (inverses_of (modulus self.entry.field.field) self.entry.coefficients.now) }
     {

@@ -17,6 +17,7 @@ pub struct Root<'f> {
 
 impl Root<'_> {
     // root^(j + offset) for each j of the list, and zeros after them.
+    #[tactic(auto, using(lists::proofs::Fill::filled_start), unfolding(lists::specs::Padded::zeros))]
     pub fn points(self, places: &[u8], offset: u32) -> [u16; 255]
         requires { (length places.now ≤ 255) × (offset < 256) }
         ensures { result ≡ padded 255 (points_of (modulus self.entry.field.field) self.entry.value offset places.now) }

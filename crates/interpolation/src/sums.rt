@@ -34,6 +34,7 @@ pub fn products(field: Arithmetic, xs: &[u16], ys: &[u16]) -> [u16; 255]
 }
 
 // The sum of the symbols times their weights.
+#[tactic(auto, using(lists::proofs::Numbers::below_at, field::proofs::FieldOf::size_pos, field::proofs::KindLaws::usable_field, crate::proofs::Dots::dot_none))]
 pub fn weighted_sum(field: Arithmetic, symbols: &[u16], weights: &[u16]) -> u32
     requires { (all_below (size_of (modulus field.field)) symbols.now ≡ true) × (all_below (size_of (modulus field.field)) weights.now ≡ true) × (length symbols.now ≤ length weights.now) }
     ensures is { result ≡ dot (modulus field.entry.field) symbols.now weights.now }

@@ -5,6 +5,8 @@ ghost use Rattle.lists.specs.Padded.{zeros};
 ghost use Rattle.lists.specs.Rows.{from};
 ghost use Rattle.kernel.specs.Inner.Halves.{pair_product, wrapped, DigitSums, total_of, rest_of};
 
+use std::array;
+
 pub fn product(weight: u16, first: u8, second: u8) -> u32
     ensures { (result ≡ (first * 256 + second) * weight) × (result < 4294967296) }
 {
@@ -110,10 +112,6 @@ impl Halves {
         requires { 0 < p }
         ensures { result ≡ from (λ t. rest_of p (slice_index self.now.low.rest t) (slice_index self.now.low.upper t) (slice_index self.now.high.rest t) (slice_index self.now.high.upper t)) 0 16 }
     {
-        let mut out = [0u16; 16];
-        for (t, rest) in out.iter_mut().enumerate() {
-            *rest = self.remainder(p, t);
-        }
-        out
+        array::from_fn(|t| self.remainder(p, t))
     }
 }

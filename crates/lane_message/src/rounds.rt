@@ -63,6 +63,8 @@ fn spread(g: usize, l: usize, q: &[u16; 256]) -> [u16; 256]
 
 impl GeneratorRows<'_, '_> {
     // The points of one round to the power g, and zeros after them.
+    // The exponents go up by g: with `step_by` and `enumerate` the place and the exponent are two numbers that an iterator holds, and the invariant
+    // says of that iterator what is left of it.
     #[tactic(auto, using(lists::proofs::Fill::filled_start, lists::proofs::Fill::filled_end, lists::proofs::Rows::from_ext, check_sums::proofs::Sums::power_at, crate::proofs::Points::power_modulo), unfolding(lists::specs::Padded::zeros, crate::specs::Inner::Rows::round_points))]
     fn round_points(self, g: usize) -> [u16; 255]
         requires { (0 < g) × (g ≤ 255) }

@@ -4,16 +4,21 @@ use mathlib.Core.Bool.{true}
 use mathlib.Core.List.{List, [], ◌∷◌, ◌++◌}
 use Prim.Native.Nat.{ℕ, zero, suc, ◌-◌, ◌≤◌, ◌<◌}
 use native.Mathlib.Omega.{arith}
-use lib.ListN.{length, get_or, take, drop, length-append, length-drop, get_or-append}
+use lib.ListN.{length, get_or, take, drop, replicate, length-append, length-drop, get_or-append}
 use lib.Seq.{take_at, drop_at, drop-append-le}
 use Rattle.lists.specs.Numbers.{all_below}
 use Rattle.lists.specs.Padded.{zeros, padded}
-use Rattle.lists.proofs.Fill.{length_zeros}
+use Rattle.lists.proofs.Fill.{length_zeros, drop_zeros}
 use Rattle.lists.proofs.Numbers.{cons_below, below_append}
 
 pub length_padded : (n : ℕ) (xs : List ℕ) → length xs ≤ n → length (padded n xs) ≡ n
 unfolding padded
 length_padded n xs h = length-append xs (zeros (n - length xs)) ∙ omega (arith, length_zeros (n - length xs))
+
+-- a list that is copied into zeros
+pub copied_is : (n : ℕ) (xs : List ℕ) → xs ++ drop (length xs) (replicate n 0) ≡ padded n xs
+unfolding zeros padded
+copied_is n xs = ap (λ (l : List ℕ). xs ++ l) (drop_zeros (length xs) n)
 
 -- padding changes no element
 pub get_or_padded : (n : ℕ) (xs : List ℕ) (i : ℕ) → i < length xs → get_or (padded n xs) i 0 ≡ get_or xs i 0

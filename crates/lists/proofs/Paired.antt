@@ -10,8 +10,7 @@ use lib.Seq.{get_or-drop, drop-drop}
 -- the element in front is the one at place i
 at_front : (xs left : List ℕ) (i x : ℕ) → x ∷ left ≡ drop i xs → (i < length xs) × (x ≡ get_or xs i 0) × (left ≡ drop (i + 1) xs)
 at_front xs left i x front =
-    let none : i + 0 ≡ i = omega arith in
-    (
+    let none : i + 0 ≡ i = omega arith in (
       omega (arith, ap length front, length-drop i xs),
       ap (λ (l : List ℕ). get_or l 0 0) front ∙ get_or-drop i xs 0 0 ∙ ap (λ (n : ℕ). get_or xs n 0) none,
       ap (drop 1) front ∙ drop-drop 1 i xs,

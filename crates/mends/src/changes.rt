@@ -46,6 +46,7 @@ impl Received<'_, '_> {
     }
 
     // The nodes j for which the check sums go up by root^j, rising.
+    #[tactic(auto, unfolding(crate::specs::Inner::BySums::up_nodes))]
     fn up_nodes(self) -> ArrayVec<u8, 255>
         ensures { result.items ≡ up_nodes self.entry.powers.codec.code.header self.entry.sums.now }
     {

@@ -80,6 +80,7 @@ pub fn lagrange_basis(root: Root, places: &[u8], offset: u32) -> Basis
 }
 
 // What the inverse of the encoding at the nodes is made from; the shifts are those of the generator's k rows.
+#[tactic(auto, using(generator::proofs::Shifts::shifts_length))]
 pub fn prepare(code: Code, nodes: &[u8], shifts: &[u8]) -> Setup
     requires { (are_nodes code.header nodes.now ≡ true) × (shifts.now ≡ shifts_for code.header) }
     ensures { result ≡ setup_of code.header nodes.now }

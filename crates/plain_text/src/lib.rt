@@ -24,6 +24,7 @@ struct PlainLayout {
 }
 
 impl PlainLayout {
+    // Of the first k nodes. By `nodes_where` (node_lists) they would be those that pass a test that all pass.
     #[tactic(auto, using(lists::proofs::Places::range_append), unfolding(lists::specs::Rows::from))]
     fn new(code: Code) -> Self
         ensures { result.code ≡ code }

@@ -5,7 +5,7 @@ ghost use Rattle.plan.specs.Plans.{entry_in};
 use crate::Plan;
 
 // Node j's entry of the row with that shift: the row is the base word turned left. The place is `stepped(j, shift, n)` of check_sums,
-// which stands on more than plan does: for this one line plan would stand on it too.
+// which stands on more than plan does: for this one line plan would stand on it too, or the step and its proof in another crate.
 pub fn entry_at(n: usize, shift: usize, base: &[u16], j: usize) -> u16
     requires { (n ≤ 255) × (shift < n) × (j < n) × (n ≤ length base.now) }
     ensures { result ≡ get_or base.now ((j + shift) % n) 0 }

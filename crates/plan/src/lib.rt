@@ -44,7 +44,7 @@ pub fn plan_of(code: Code) -> Plan
     Plan {
         n,
         k,
-        d: records::distance_of(dimensions),
+        d: dimensions.distance(),
         low: records::low_reads(code),
         high: records::high_reads(code),
         shifts,

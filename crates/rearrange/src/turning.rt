@@ -7,7 +7,8 @@ ghost use Rattle.layout.specs.Width.{symbols_of, bytes_of};
 
 use symbols::Width;
 
-// Fills one lane: column t of a table whose rows have `width` symbols.
+// Fills one lane: column t of a table whose rows have `width` symbols. Here and below a part that is written is cut by its place: after
+// `chunks_mut` a proof knows the length alone (docs/PROOF-NOTES.md).
 #[tactic(auto, using(lists::proofs::Fill::fills_start, lists::proofs::Rows::row_inside), unfolding(layout::specs::Layout::lane_of))]
 fn fill_lane(w: Width, rows: usize, width: usize, t: usize, table: &[u8], lane: &mut [u8])
     requires { (t < width) × (length table.now ≡ rows * width * w.bytes) × (length lane.old ≡ rows * w.bytes) }

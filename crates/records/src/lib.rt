@@ -12,7 +12,7 @@ mod sizes;
 
 use field::{Field, Gf256, PrimeField, is_prime};
 use generator::{Code, Header, Refusal};
-pub use sizes::{distance_of, high_reads, low_reads};
+pub use sizes::{high_reads, low_reads};
 
 // A prime from `low` to `high`.
 #[tactic(auto, unfolding(generator::specs::Records::prime_in))]

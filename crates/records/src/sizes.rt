@@ -1,16 +1,8 @@
-// The numbers of a plan: d, and k·d / n rounded down and up.
+// The numbers of a plan: k·d / n rounded down and up.
 ghost use Rattle.std.specs.Prelude.{◌≡◌, ◌+◌, ◌-◌, ◌*◌, ◌/◌, ◌≤◌, ◌<◌};
 ghost use Rattle.generator.specs.Records.{distance, low_reads, high_reads};
 
-use generator::{Code, Dimensions};
-
-// d, the number of nodes that a changed symbol writes.
-pub fn distance_of(dimensions: Dimensions) -> u8
-    ensures { result ≡ dimensions.n - dimensions.k + 1 }
-{
-    let Dimensions { n, k, .. } = dimensions;
-    n - k + 1
-}
+use generator::Code;
 
 // k·d, the number of entries of the generator that are not zero.
 #[tactic(auto, unfolding(generator::specs::Records::distance))]
@@ -18,17 +10,8 @@ fn entries(code: Code) -> u32
     ensures { (result ≡ code.header.k * distance code.header) × (result ≤ code.header.n * 255) }
 {
     let k = code.header.k as u32;
-    let d = distance_of(code.dimensions()) as u32;
+    let d = code.dimensions().distance() as u32;
     k * d
-}
-
-// A number over n, rounded down.
-fn over_nodes(code: Code, x: u32) -> u8
-    requires { x < 256 * code.header.n }
-    ensures { result ≡ x / code.header.n }
-{
-    let n = code.header.n as u32;
-    (x / n) as u8
 }
 
 // The least number of symbols that a node depends on.
@@ -36,7 +19,8 @@ fn over_nodes(code: Code, x: u32) -> u8
 pub fn low_reads(code: Code) -> u8
     ensures { result ≡ low_reads code.header }
 {
-    over_nodes(code, entries(code))
+    let n = code.header.n as u32;
+    (entries(code) / n) as u8
 }
 
 // The greatest.
@@ -45,5 +29,5 @@ pub fn high_reads(code: Code) -> u8
     ensures { result ≡ high_reads code.header }
 {
     let n = code.header.n as u32;
-    over_nodes(code, entries(code) + (n - 1))
+    entries(code).div_ceil(n) as u8
 }

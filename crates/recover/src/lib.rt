@@ -87,7 +87,8 @@ pub fn recover_block(
     listed.recover_accepted(out)
 }
 
-// Writes the target's share from the listed nodes' shares, or gives what turns the call away and writes nothing.
+// Writes the target's share from the listed nodes' shares, or gives what turns the call away and writes nothing. Each call of the interface
+// is a function of its own.
 #[tactic(auto, using(lists::proofs::Numbers::at_below))]
 pub fn rebuild_share(
     rec: &[u8],

@@ -1,6 +1,5 @@
 -- The first number that is met, what the conditions say, what holds where no number is met, and promises over records from promises over headers.
 pub mod Order
-pub mod Lengths
 pub mod OneByte
 pub mod NotMet
 pub mod Walks

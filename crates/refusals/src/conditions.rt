@@ -20,17 +20,15 @@ pub fn length_bad(stated: usize, length: usize) -> bool
     length != stated
 }
 
-// Number 8 of a buffer of so many rows: the length is divided, since the product might not fit for so many lanes as a caller may name.
+// Number 8 of a buffer of so many rows: a product that does not fit is the length of none.
+#[tactic(auto, unfolding(crate::specs::Conditions::length_bad))]
 pub fn buffer_bad(h: Header, rows: u8, lanes: usize, length: usize) -> bool
     requires { usable h.field ≡ true }
     ensures { result ≡ length_bad (rows * lanes * width h) length }
 {
     let w = symbols::width_of(h);
     let size = w.bytes * rows as usize;
-    if size == 0 {
-        return length != 0;
-    }
-    length / size != lanes || !length.is_multiple_of(size)
+    size.checked_mul(lanes).is_none_or(|whole| whole != length)
 }
 
 // Number 8 of one lane.

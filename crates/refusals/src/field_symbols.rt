@@ -1,5 +1,5 @@
 // The condition of number 11 on a number, on a buffer, on the lanes of a buffer one after the other, and on one lane. Here and in the other
-// files a usable field is enough: a `Code` would ask for more.
+// files a usable field is enough: a `Code` would ask more of callers than they are asked.
 ghost use Rattle.std.specs.Prelude.{◌≡◌, true, ◌*◌, ◌<◌, length};
 ghost use Rattle.layout.specs.Layout.{share_layout};
 ghost use Rattle.field.specs.Kinds.{usable};

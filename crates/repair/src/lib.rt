@@ -100,7 +100,7 @@ pub fn repair_bits(
     repair.bits_accepted(node, share, out)
 }
 
-// Writes the target's share from what the other nodes sent, in their order. `missing` lists the nodes that are missing beside the target. Or gives what turns the call away and writes nothing.
+// Writes the target's share from what the other nodes sent, in their order. `missing` lists the nodes that are missing beside the target. Or gives what turns the call away and writes nothing. Each call of the interface is a function of its own.
 pub fn repair_share(
     rec: &[u8],
     lanes: u32,

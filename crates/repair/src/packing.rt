@@ -82,7 +82,7 @@ impl Digits<'_> {
         }
     }
 
-    // The planes of all b bits.
+    // The planes of all b bits. Each is cut by its place: after `chunks_mut` a proof knows the length alone (docs/PROOF-NOTES.md).
     pub fn pack(self, b: Bits, out: &mut [u8])
         requires { (length self.share.now ≤ 4096) × (length out.old ≡ packed_size (bit_count b) (length self.share.now)) }
         ensures { out.new ≡ planes (bit_count b) (length self.entry.share.now) (λ i. get_or self.entry.table.now (get_or self.entry.share.now i 0) 0) }

@@ -79,7 +79,8 @@ impl Planes<'_> {
         plane
     }
 
-    // The sums for all eight bits.
+    // The sums for all eight bits. By the index: of `array::from_fn(|p| self.padded_sum(p))`, whose closure gives an array, `search` finds nothing,
+    // and after `sums.iter_mut()` over a local array of arrays an invariant knows no `sums`.
     fn sums(self) -> [[u8; 512]; 8]
         ensures { result ≡ plane_sums self.entry.weights.now (length self.entry.weights.now) self.entry.size self.entry.rows.now }
     {

@@ -12,6 +12,7 @@ use field::Field;
 use generator::Codec;
 
 // The target of a repair by traces, its code, the nodes that are missing beside it, and the bits of a symbol that each other node sends it.
+// A node of the code stands beside it as a number: a type for it would hold the code once more, and say that both are one.
 #[derive(Clone, Copy)]
 pub struct Target<'t, 'm> {
     pub codec: Codec<'t>,

@@ -1,4 +1,5 @@
-// Traces of bytes onto the subfields of 2^b elements.
+// Traces of bytes onto the subfields of 2^b elements. Bytes are u32 here, as the products of `FieldKind` take and give them: of u8 each would
+// be cast twice.
 ghost use Rattle.std.specs.Prelude.{◌≡◌, ◌<◌};
 ghost use Rattle.traces.specs.Traces.{squarings, trace_of, element};
 ghost use Rattle.repair_tables.specs.Bits.{bit_count};
@@ -31,7 +32,7 @@ impl Bits {
         let mut sum: u32 = 0;
         let mut x = a;
         for _ in 0..terms {
-            sum = sum ^ x;
+            sum ^= x;
             x = squarings(tables, b, x);
         }
         sum

@@ -8,6 +8,7 @@ use arrayvec::ArrayVec;
 use node_lists::nodes_where;
 
 // The present nodes below n, rising.
+#[tactic(auto, unfolding(crate::specs::Rosters::present_of))]
 pub fn list_present(marks: &[bool; 255], n: u8) -> ArrayVec<u8, 255>
     ensures { result.items ≡ present_of n marks.now }
 {

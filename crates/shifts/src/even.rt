@@ -5,21 +5,17 @@ ghost use Rattle.generator.specs.Shifts.{shifts_from, even_shifts};
 
 use crate::gcd;
 use generator::Dimensions;
+use node_lists::nodes_where;
 
 // The numbers below n on rounds that take and then skip so many, rising, and zeros after them.
-// An `ArrayVec` would count for itself, and want two lines more: one that makes it, and `out[..chosen.len()].copy_from_slice(&chosen)`.
 fn rounds(n: u8, taken: u32, skipped: u32) -> [u8; 255]
     requires { (0 < taken + skipped) × (taken + skipped ≤ 255) }
     ensures { result ≡ padded 255 (shifts_from n 0 taken skipped 0) }
 {
+    let chosen = nodes_where(n, |i| u32::from(i) % (taken + skipped) < taken);
+    let list = chosen.as_slice();
     let mut out = [0u8; 255];
-    let mut count: usize = 0;
-    for i in 0..n {
-        if i as u32 % (taken + skipped) < taken {
-            out[count] = i;
-            count += 1;
-        }
-    }
+    out[..list.len()].copy_from_slice(list);
     out
 }
 

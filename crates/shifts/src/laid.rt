@@ -30,7 +30,7 @@ pub fn laid_shifts(dimensions: Dimensions) -> [u8; 255]
 {
     let Dimensions { n, k, .. } = dimensions;
     let nodes = n as u32;
-    let d = nodes - k as u32 + 1;
+    let d = dimensions.distance() as u32;
     let m = period(nodes, d);
     let mut out = [0u8; 255];
     for (r, shift) in out[..k as usize].iter_mut().enumerate() {

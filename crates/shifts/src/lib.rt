@@ -46,7 +46,8 @@ fn is_even(dimensions: Dimensions) -> bool
 {
     let n = dimensions.n as u32;
     let k = dimensions.k as u32;
-    (k * (n - k + 1)).is_multiple_of(n)
+    let d = dimensions.distance() as u32;
+    (k * d).is_multiple_of(n)
 }
 
 // The k shifts in the order of the rows, and zeros after them.

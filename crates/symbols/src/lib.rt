@@ -18,7 +18,7 @@ pub struct Width {
     pub ghost most: { bytes ≤ 2 },
 }
 
-// The width of a record's symbols. A usable field is enough: a `Code` would ask for more.
+// The width of a record's symbols. A usable field is enough: a `Code` would ask more of callers than they are asked.
 pub fn width_of(h: Header) -> Width
     requires { usable h.field ≡ true }
     ensures { result.bytes ≡ width h }

@@ -1,5 +1,5 @@
 // Tiles of 64 lanes filled: row i of lane t stands at i·64 + t. Lanes from `count` on hold anything. At most 64 lanes are asked for each
-// time: `Lanes` hold any number where they are cut into parts.
+// time: a type that holds this would be `Lanes` once more, with the same methods, for the parts that these are cut into.
 ghost use Rattle.std.specs.Prelude.{◌≡◌, ℕ, ◌+◌, ◌*◌, ◌/◌, ◌≤◌, ◌<◌, length};
 ghost use Rattle.layout.specs.Layout.{row_after_row, lane_after_lane, lane_of};
 ghost use Rattle.tiles.specs.Inner.Tiles.{Read, BlockOf, LanesIn};

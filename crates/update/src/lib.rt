@@ -41,7 +41,8 @@ fn renewed(codec: Codec, x: u32, entry: u16, before: u16) -> u16
     field.add(before as u32, term) as u16
 }
 
-// Adds x times a row of the generator to a lane: rewrites the nodes whose symbol becomes another one, and counts them.
+// Adds x times a row of the generator to a lane: rewrites the nodes whose symbol becomes another one, and counts them. Each symbol is cut by
+// its place: after `chunks_mut` a proof knows the length alone (docs/PROOF-NOTES.md).
 fn rewrite(generator: &Generator, w: Width, which: usize, x: u32, lane: &mut [u8]) -> u32
     requires { UpdatableWord generator.now.codec.code.header w.bytes which lane.old × (x < size generator.now.codec.code.header) }
     ensures { let added = word_added generator.now.codec.code.header which x (symbols_of w.bytes lane.old) in (lane.new ≡ bytes_of w.bytes added) × (result ≡ differ (symbols_of w.bytes lane.old) added) }

@@ -35,25 +35,16 @@ fn check_weights(powers: RootPowers, scales: &[u16], e: usize) -> [u16; 255]
 // The lists of the checks of the other nodes: k weights each, which take k products each to make. Here and below, lists and counts are lent side
 // by side: a value of both arrays, `&mut WeightLists<LISTS, COUNTS>`, would make each function down to `prepare` generic in two sizes, and of a
 // struct of two slices each clause would say what they lead to before and after (tiles/src/scattering.rt).
-fn list_nodes(code: Code, lists: &mut [u16], counts: &mut [u8])
-    requires { CheckRoom code.header (length lists.old) (length counts.old) }
-    ensures { CheckLists code.header lists.new counts.new }
+fn list_nodes(powers: RootPowers, codes: WeightCodes, lists: &mut [u16], counts: &mut [u8])
+    requires { (codes.field ≡ powers.codec.code.header.field) × CheckRoom powers.codec.code.header (length lists.old) (length counts.old) }
+    ensures { CheckLists powers.entry.codec.code.header lists.new counts.new }
 {
-    let h = code.header;
-    let n = h.n as usize;
-    let k = h.k as usize;
-    let checks = code.checks();
-    let mut codes: [u64; 256] = kernel::filled(0);
-    let codes = WeightCodes::new(h.field, &mut codes);
-    let tables = field::constant_tables();
-    let codec = Codec::new(code, &tables);
-    let roots = powers::powers(codec);
-    let powers = RootPowers {
-        codec,
-        list: &roots,
-    };
+    let code = powers.codec.code;
+    let n = code.header.n as usize;
+    let k = code.header.k as usize;
+    let roots = powers.list;
     let points = Points {
-        field: codec.field,
+        field: powers.codec.field,
         points: &roots[..k],
     };
     let scales = points.scales();
@@ -62,28 +53,21 @@ fn list_nodes(code: Code, lists: &mut [u16], counts: &mut [u8])
         requires { let h = powers.codec.code.header in (scales.now ≡ scales_of (modulus_of h) (first_points h)) × (e < h.n - h.k) }
         ensures { let h = powers.entry.codec.code.header in result ≡ set (padded 255 (first_weights h e)) (h.k + e) (sub (modulus_of h) 0 1) }
     { check_weights(powers, scales, e) };
-    codes.prepare_all(n, checks, weights, lists, counts);
+    codes.prepare_all(n, code.checks(), weights, lists, counts);
 }
 
 // The lists of the check sums: n weights each, which are read from the powers of the root.
-fn list_sums(code: Code, lists: &mut [u16], counts: &mut [u8])
-    requires { CheckRoom code.header (length lists.old) (length counts.old) }
-    ensures { CheckLists code.header lists.new counts.new }
+fn list_sums(powers: RootPowers, codes: WeightCodes, lists: &mut [u16], counts: &mut [u8])
+    requires { (codes.field ≡ powers.codec.code.header.field) × CheckRoom powers.codec.code.header (length lists.old) (length counts.old) }
+    ensures { CheckLists powers.entry.codec.code.header lists.new counts.new }
 {
-    let h = code.header;
-    let n = h.n as usize;
-    let checks = code.checks();
-    let mut codes: [u64; 256] = kernel::filled(0);
-    let codes = WeightCodes::new(h.field, &mut codes);
-    let tables = field::constant_tables();
-    let codec = Codec::new(code, &tables);
-    let list = powers::powers(codec);
-    let powers = RootPowers { codec, list: &list };
+    let code = powers.codec.code;
+    let n = code.header.n as usize;
     let weights = move |e: usize| -> [u16; 255]
         requires { e < 255 }
         ensures { result ≡ padded 255 (factors_of powers.entry.codec.code.header (e + 1)) }
     { powers.factors(e + 1) };
-    codes.prepare_all(n, checks, weights, lists, counts);
+    codes.prepare_all(n, code.checks(), weights, lists, counts);
 }
 
 // The lists of checks for so many lanes: on few lanes making the weights takes longer than the lanes.
@@ -91,9 +75,15 @@ pub fn list_checks(code: Code, lanes: usize, lists: &mut [u16], counts: &mut [u8
     requires { CheckRoom code.header (length lists.old) (length counts.old) }
     ensures { CheckLists code.header lists.new counts.new }
 {
+    let mut codes: [u64; 256] = kernel::filled(0);
+    let codes = WeightCodes::new(code.header.field, &mut codes);
+    let tables = field::constant_tables();
+    let codec = Codec::new(code, &tables);
+    let list = powers::powers(codec);
+    let powers = RootPowers { codec, list: &list };
     if lanes <= 256 {
-        list_sums(code, lists, counts)
+        list_sums(powers, codes, lists, counts)
     } else {
-        list_nodes(code, lists, counts)
+        list_nodes(powers, codes, lists, counts)
     }
 }

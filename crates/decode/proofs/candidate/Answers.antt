@@ -5,7 +5,7 @@ use Prim.Native.Nat.{ℕ}
 use lib.ListN.{length, take}
 use Rattle.lists.proofs.Padding.{take_padded}
 use Rattle.decode.specs.Inner.Errors.{errors_at}
-use Rattle.decode.proofs.CandidateParts.{CandidateParts, sums_symbols, candidate_parts}
+use Rattle.decode.proofs.CandidateParts.{CandidateParts, candidate_parts}
 use Rattle.decode.proofs.candidate.Goals as goal
 use Rattle.decode.proofs.candidate.Goals.{After-as_slice-nodes, After-errors-wrong}
 
@@ -21,9 +21,6 @@ errors-part c =
     let nodes : List ℕ = c.as_slice-nodes.result.now in
     let wrong : List ℕ = c.errors-wrong.result in
     ap (take (length nodes)) c.errors-wrong.ensures ∙ take_padded 255 (length nodes) _ (facts (goal.at.After-errors-wrong c).After-as_slice-nodes).errors_count
-
-pub invariant_of-syndrome : goal.invariant_of-syndrome
-invariant_of-syndrome c = record { symbols = sums_symbols c.args.codec.code.header c.args.lane.now c.requires.0 c.args.sums c.requires.1 }
 
 pub removed-requires : goal.removed-requires
 removed-requires c =

@@ -18,9 +18,6 @@ near c = rw c.new-codec.ensures at c.candidate-word.ensures
 word : (c : After-candidate-word) → take c.args.rows.code.header.n c.candidate-word.result ≡ (near c).word
 word c = let k = near c in ap (take c.args.rows.code.header.n) k.array_is ∙ take_padded 255 _ k.word k.long
 
-pub invariant_of-sums : goal.invariant_of-sums
-invariant_of-sums c = record { long = c.requires.long; below = c.requires.below }
-
 -- at how many nodes the candidate differs
 distance : (c : After-differing-altered) → c.differing-altered.result ≡ differ c.args.lane.now (near (goal.at.After-differing-altered c).After-candidate-word).word
 distance c = rw (word (goal.at.After-differing-altered c).After-candidate-word) at c.differing-altered.ensures

@@ -1,14 +1,10 @@
 -- `nodes_where` meets its contract. Invariant: the nodes below j that pass are listed, and those from j on are to come.
-use mathlib.Core.Path.{refl, sym, ◌∙◌}
+use mathlib.Core.Path.{sym, ◌∙◌}
 use mathlib.Core.List.{append-nil, append_assoc}
-use native.Mathlib.Nat.{sub-zero}
 use native.Mathlib.Omega.{arith}
 use Rattle.lists.proofs.Passing.{passing_next, passing_end}
 use Rattle.node_lists.proofs.nodes_where.Goals as goal
 use Rattle.node_lists.proofs.nodes_where.Goals.{else-test, then-test}
-
-pub loop-j-init : goal.loop-j-init
-loop-j-init g c = rw (c.new-nodes.ensures, sub-zero) record { few = omega arith; listed = λ q gives. refl }
 
 pub loop-j-preserved : goal.loop-j-preserved
 loop-j-preserved g c =

@@ -5,7 +5,6 @@ use native.Mathlib.Omega.{arith}
 use lib.ListN.{length, take}
 use Rattle.lists.proofs.Padding.{take_padded}
 use Rattle.generator.specs.Records.{modulus_of}
-use Rattle.generator.proofs.Shifts.{shifts_length}
 use Rattle.generator.proofs.Recovery.{nodes_places}
 use Rattle.interpolation.specs.Inner.Polynomials.{base_of}
 use Rattle.node_weights.specs.Inner.Rows.{row_points, base_inverses, setup_of}
@@ -35,14 +34,6 @@ lagrange_basis-own-requires c =
     let p = c.requires in
     let t = part (goal.at.lagrange_basis-own-requires c).After-base-base in
     (omega (arith, (nodes_places _ _ p.0).size, t.2), omega arith)
-
-pub lagrange_basis-rows-requires : goal.lagrange_basis-rows-requires
-lagrange_basis-rows-requires c =
-    let h = c.args.code.header in
-    let p = c.requires in
-    let s = c.args.code.sound in
-    let t = part (goal.at.lagrange_basis-rows-requires c).After-base-base in
-    (rw (p.1, shifts_length h.n h.k s.some s.fits) t.2, omega (arith, t.2))
 
 pub returns : goal.returns
 unfolding setup_of row_points base_inverses

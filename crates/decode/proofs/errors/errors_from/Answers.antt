@@ -1,16 +1,11 @@
 -- `errors_from` meets its contract. Invariant: the errors at the first i points are written.
 use mathlib.Core.Path.{sym, ap, ◌∙◌}
-use Rattle.lists.specs.Padded.{zeros}
-use Rattle.lists.proofs.Fill.{filled_start, filled_put, filled_end}
+use Rattle.lists.proofs.Fill.{filled_put}
 use Rattle.lists.proofs.Numbers.{below_at}
 use Rattle.field.specs.Kinds.{modulus}
 use Rattle.interpolation.proofs.Values.{get_or_scales}
-use Rattle.decode.specs.Inner.Errors.{error_of, errors_from}
+use Rattle.decode.specs.Inner.Errors.{error_of}
 use Rattle.decode.proofs.errors.errors_from.Goals as goal
-
-pub loop-i-init : goal.loop-i-init
-unfolding zeros
-loop-i-init c = filled_start 255 _ _ c.args.points.symbols.short
 
 pub error_at-requires : goal.error_at-requires
 error_at-requires c =
@@ -24,7 +19,3 @@ loop-i-preserved c =
     let scale = c.scale_at.ensures.is ∙ sym (get_or_scales p xs c.loop-i.i c.loop-i-test.true) in
     let is = rw c.requires at c.error_at.ensures.is in
     filled_put c.loop-i.invariant c.loop-i-test.true (is ∙ ap (error_of p _ _ _) scale)
-
-pub returns : goal.returns
-unfolding errors_from
-returns c = filled_end c.loop-i.invariant c.loop-i-test.false

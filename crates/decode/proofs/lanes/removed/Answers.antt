@@ -6,10 +6,10 @@ use lib.ListN.{length, get_or, length-set}
 use Rattle.std.proofs.lemmas.List.{length_push}
 use Rattle.std.proofs.lemmas.Slice.Zip.{zip_turn, zip_end}
 use Rattle.lists.proofs.Numbers.{below_at, below_get_or, below_set}
-use Rattle.lists.proofs.Padding.{length_padded, below_padded}
+use Rattle.lists.proofs.Padding.{copied_is, length_padded, below_padded}
 use Rattle.field.proofs.FieldOf.{size_pos}
 use Rattle.field.proofs.KindLaws.{usable_field}
-use Rattle.decode.proofs.Removing.{copied_is, removed_next, removed_end, removed_padded}
+use Rattle.decode.proofs.Removing.{removed_next, removed_end, removed_padded}
 use Rattle.decode.proofs.lanes.removed.Goals as goal
 use Rattle.decode.proofs.lanes.removed.Goals.{In-Some}
 

@@ -29,7 +29,7 @@ loop-r-init c = begun c.args.dimensions.k _ (omega arith)
 
 pub loop-r-preserved : goal.loop-r-preserved
 loop-r-preserved c =
-    filled_put c.loop-r.invariant (omega (arith, c.loop-r.invariant.fills.long, length_zeros c.args.dimensions.k)) (c.negative.ensures.0 ∙ ap (negative _) c.laid_at-first.ensures.0)
+    filled_put c.loop-r.invariant (omega (arith, c.loop-r.invariant.fills.long, length_zeros c.args.dimensions.k)) (c.negative.ensures.0 ∙ ap (negative _) (rw c.distance-d.ensures at c.laid_at-first.ensures.0))
 
 pub returns : goal.returns
 unfolding laid_shifts zeros

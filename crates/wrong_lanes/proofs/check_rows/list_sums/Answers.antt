@@ -7,11 +7,11 @@ use Rattle.wrong_lanes.proofs.check_rows.list_sums.Goals as goal
 
 pub prepare_all-requires-clause-below : goal.prepare_all-requires-clause-below
 prepare_all-requires-clause-below c =
-    let h = c.args.code.header in
-    λ j r low is. rw (is, c.new-codes.ensures, c.new-codec.ensures, take_padded 255 _ _ (length_factors h (j + 1))) (factors_below h (j + 1) c.args.code.sound)
+    let code = c.args.powers.codec.code in
+    λ j r low is. rw (is, c.requires.0, take_padded 255 _ _ (length_factors code.header (j + 1))) (factors_below code.header (j + 1) code.sound)
 
 pub returns : goal.returns
 returns c =
-    let h = c.args.code.header in
-    let all = c.prepare_all.ensures (λ i. factors_of h (i + 1)) (λ i. length_factors h (i + 1)) (λ j r low is. rw (is, c.new-codec.ensures) (take_padded 255 _ _ (length_factors h (j + 1)))) in
-    record { weights = λ i. factors_of h (i + 1); tell = λ ws long below. factors_word h ws long; begun = rw (c.new-codes.ensures, c.checks-checks.ensures) at all }
+    let h = c.args.powers.codec.code.header in
+    let all = c.prepare_all.ensures (λ i. factors_of h (i + 1)) (λ i. length_factors h (i + 1)) (λ j r low is. rw is (take_padded 255 _ _ (length_factors h (j + 1)))) in
+    record { weights = λ i. factors_of h (i + 1); tell = λ ws long below. factors_word h ws long; begun = rw (c.requires.0, c.checks.ensures) at all }

@@ -1,7 +1,6 @@
 -- `amended` meets its contract. Invariant: the first x coefficients are written.
 use mathlib.Core.Path.{ap, ap₂, ◌∙◌}
-use Rattle.lists.specs.Padded.{zeros}
-use Rattle.lists.proofs.Fill.{filled_start, filled_put, filled_end}
+use Rattle.lists.proofs.Fill.{filled_put}
 use Rattle.field.specs.Fields.{mul, sub}
 use Rattle.field.specs.Kinds.{modulus}
 use Rattle.field.proofs.FieldOf.{size_pos}
@@ -9,10 +8,6 @@ use Rattle.field.proofs.KindLaws.{usable_field}
 use Rattle.decode.specs.Inner.Locating.{amended_at}
 use Rattle.decode.proofs.Arrays.{shifted_below}
 use Rattle.decode.proofs.locator.Registers.amended.Goals as goal
-
-pub loop-x-init : goal.loop-x-init
-unfolding zeros
-loop-x-init c = filled_start 255 _ _ c.requires.1
 
 pub mul-product-requires : goal.mul-product-requires
 mul-product-requires c =
@@ -31,6 +26,3 @@ loop-x-preserved c =
     let p = modulus a.self.field.field in
     filled_put c.loop-x.invariant c.loop-x-test.true
     (c.sub.ensures.is ∙ ap₂ (sub p) c.at-in-loop-x.ensures (c.mul-product.ensures.is ∙ ap (mul p a.d) c.at.ensures))
-
-pub returns : goal.returns
-returns c = filled_end c.loop-x.invariant c.loop-x-test.false

@@ -5,8 +5,7 @@ use native.Mathlib.Nat.{sub-zero}
 use native.Mathlib.Omega.{arith}
 use lib.ListN.{length, drop}
 use Rattle.lists.specs.Padded.{zeros}
-use Rattle.lists.proofs.Fill.{filled_start, filled_put, filled_end}
-use Rattle.lists.proofs.Numbers.{below_at}
+use Rattle.lists.proofs.Fill.{filled_start, filled_put}
 use Rattle.field.specs.Kinds.{modulus}
 use Rattle.field.proofs.Bounds.{one_below}
 use Rattle.field.proofs.KindLaws.{usable_field}
@@ -20,9 +19,6 @@ loop-m-init c =
     let v = c.args.self in
     (one_below _ (usable_field _ v.field.usable), rw sub-zero (sym (product_at_end (modulus v.field.field) v.points.now c.args.z)), filled_start 255 _ _ v.symbols.short)
 
-pub sub-factor-requires : goal.sub-factor-requires
-sub-factor-requires c = (c.requires, below_at _ _ c.args.self.symbols.below _ (omega (arith, c.loop-m-test.true)))
-
 pub loop-m-preserved : goal.loop-m-preserved
 loop-m-preserved c =
     let a = c.args in
@@ -35,6 +31,3 @@ loop-m-preserved c =
       c.mul-product.ensures.is ∙ rw (c.sub-factor.ensures.is, l.invariant.1) (sym (product_at_next p xs a.z (length xs - l.m) (omega (arith, test)) (omega arith))) ∙ ap (λ (x : ℕ). product_at p (drop x xs) a.z) one,
       filled_put l.invariant.2 test l.invariant.1,
     )
-
-pub returns : goal.returns
-returns c = filled_end c.loop-m.invariant.2 c.loop-m-test.false

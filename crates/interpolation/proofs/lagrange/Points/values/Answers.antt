@@ -1,17 +1,16 @@
 -- `values` meets its contract. Invariant: the product over the points before number i, a symbol, and the values below i are written.
 use mathlib.Core.Path.{◌≡◌, sym, ◌∙◌}
 use Prim.Native.Nat.{◌+◌, ◌-◌, ◌<◌}
-use native.Mathlib.Omega.{arith}
 use lib.ListN.{length, get_or, drop}
 use Rattle.lists.specs.Padded.{zeros}
-use Rattle.lists.proofs.Fill.{filled_start, filled_put, filled_end}
-use Rattle.lists.proofs.Numbers.{below_at, below_drop}
+use Rattle.lists.proofs.Fill.{filled_start, filled_put}
+use Rattle.lists.proofs.Numbers.{below_drop}
 use Rattle.field.specs.Fields.{size_of}
 use Rattle.field.specs.Kinds.{modulus}
 use Rattle.field.proofs.Bounds.{one_below}
 use Rattle.field.proofs.KindLaws.{usable_field}
-use Rattle.interpolation.specs.Inner.Lagrange.{product_at, scale_at, basis_at, basis_values}
-use Rattle.interpolation.proofs.Values.{length_scales, get_or_scales, product_at_below, scale_at_below}
+use Rattle.interpolation.specs.Inner.Lagrange.{product_at, scale_at, basis_at}
+use Rattle.interpolation.proofs.Values.{get_or_scales, product_at_below, scale_at_below}
 use Rattle.interpolation.proofs.Basis.{product_last, product_none, after_at, basis_is}
 use Rattle.interpolation.proofs.lagrange.Points.values.Goals as goal
 use Rattle.interpolation.proofs.lagrange.Points.values.Goals.{In-loop-i}
@@ -40,14 +39,8 @@ loop-i-init c =
 pub mul-others-requires : goal.mul-others-requires
 mul-others-requires c = (c.loop-i.invariant.0, after-low c)
 
-pub bounds-scales-i : goal.bounds-scales-i
-bounds-scales-i c = let v = c.args.self in rw c.requires.0 (omega (arith, length_scales (modulus v.field.field) v.points.now, c.loop-i-test.true))
-
 pub mul-requires : goal.mul-requires
 mul-requires c = (scale-low (goal.at.mul-requires c).In-loop-i, c.mul-others.ensures.symbol)
-
-pub sub-factor-requires : goal.sub-factor-requires
-sub-factor-requires c = (c.requires.1, below_at _ _ c.args.self.symbols.below _ c.loop-i-test.true)
 
 pub loop-i-preserved : goal.loop-i-preserved
 loop-i-preserved c =
@@ -61,7 +54,3 @@ loop-i-preserved c =
       c.mul-before.ensures.is ∙ rw (c.sub-factor.ensures.is, l.invariant.1) (sym (product_last p (usable_field _ v.field.usable) c.args.z c.requires.1 v.points.now l.i v.symbols.below test)),
       filled_put l.invariant.2 test value,
     )
-
-pub returns : goal.returns
-unfolding basis_values
-returns c = filled_end c.loop-i.invariant.2 c.loop-i-test.false

@@ -1,21 +1,12 @@
 -- `inverses` meets its contract. Invariant: the first i inverses are written.
 use mathlib.Core.Path.{sym, ap, ◌∙◌}
-use Rattle.lists.specs.Padded.{zeros, padded}
-use Rattle.lists.proofs.Fill.{filled_start, filled_put, filled_end}
-use Rattle.lists.proofs.Numbers.{below_at}
+use Rattle.lists.specs.Padded.{padded}
+use Rattle.lists.proofs.Fill.{filled_put, filled_end}
 use Rattle.lists.proofs.Places.{map_from}
 use Rattle.field.specs.Fields.{inverse}
 use Rattle.field.specs.Kinds.{modulus}
 use Rattle.interpolation.specs.Inner.Polynomials.{inverses_of}
 use Rattle.interpolation.proofs.polynomials.Polynomial.inverses.Goals as goal
-
-pub loop-i-init : goal.loop-i-init
-unfolding zeros
-loop-i-init c = filled_start 255 _ _ c.args.self.symbols.short
-
--- the coefficient is a symbol
-pub inverse-requires : goal.inverse-requires
-inverse-requires c = below_at _ _ c.args.self.symbols.below _ c.loop-i-test.true
 
 pub loop-i-preserved : goal.loop-i-preserved
 loop-i-preserved c = filled_put c.loop-i.invariant c.loop-i-test.true c.inverse.ensures.is

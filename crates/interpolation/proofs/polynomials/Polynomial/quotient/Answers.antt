@@ -5,7 +5,6 @@ use native.Mathlib.Omega.{arith}
 use lib.ListN.{length}
 use Rattle.lists.specs.Padded.{zeros}
 use Rattle.lists.proofs.Fill.{back_start, back_put, back_done}
-use Rattle.lists.proofs.Numbers.{below_at}
 use Rattle.field.proofs.FieldOf.{size_pos}
 use Rattle.field.proofs.KindLaws.{usable_field}
 use Rattle.field.specs.Kinds.{modulus}
@@ -20,9 +19,6 @@ loop-i-init c =
     let cs = a.self.coefficients.now in
     let none = quotient_of_end (modulus a.self.field.field) a.a cs in
     (size_pos _ (usable_field _ a.self.field.usable), rw none refl, rw none (back_start 255 (length cs) c.args.self.symbols.short))
-
-pub multiply_add-q-requires : goal.multiply_add-q-requires
-multiply_add-q-requires c = (c.requires, c.loop-i.invariant.0, below_at _ _ c.args.self.symbols.below _ (omega arith))
 
 pub loop-i-preserved : goal.loop-i-preserved
 loop-i-preserved c =

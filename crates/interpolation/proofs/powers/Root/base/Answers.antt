@@ -1,16 +1,14 @@
 -- `base` meets its contract. Invariant: y is root^i, a symbol, and the product has the factors below i.
-use mathlib.Core.Path.{◌≡◌, refl, sym, ap, ◌∙◌}
+use mathlib.Core.Path.{◌≡◌, sym, ap, ◌∙◌}
 use Prim.Native.Nat.{◌+◌}
 use native.Mathlib.Omega.{arith}
 use lib.ListN.{length}
-use Rattle.lists.specs.Padded.{zeros, padded}
-use Rattle.field.specs.Fields.{power}
+use Rattle.lists.specs.Padded.{padded}
 use Rattle.field.specs.Kinds.{modulus}
-use Rattle.field.proofs.Bounds.{one_below}
 use Rattle.field.proofs.KindLaws.{usable_field}
 use Rattle.field.proofs.Powers.{power_next}
 use Rattle.interpolation.specs.Inner.Polynomials.{times_linear, base_of}
-use Rattle.interpolation.proofs.Coefficients.{Grows, grows, one_padded, base_of_next, length_base_of, base_of_below}
+use Rattle.interpolation.proofs.Coefficients.{Grows, grows, base_of_next, length_base_of, base_of_below}
 use Rattle.interpolation.proofs.powers.Root.base.Goals as goal
 use Rattle.interpolation.proofs.powers.Root.base.Goals.{In-loop-i}
 
@@ -30,10 +28,6 @@ more c =
 -- as code has it: i + 2 places
 places : (c : In-loop-i) → c.loop-i.i + 2 ≡ c.loop-i.i + 1 + 1
 places c = omega arith
-
-pub loop-i-init : goal.loop-i-init
-unfolding zeros power base_of
-loop-i-init c = (one_below _ (usable_field _ c.args.self.field.usable), refl, one_padded)
 
 pub times_linear-requires : goal.times_linear-requires
 times_linear-requires c =

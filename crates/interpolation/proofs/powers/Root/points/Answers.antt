@@ -1,17 +1,13 @@
 -- `points` meets its contract. Invariant: the first i points are written.
 use mathlib.Core.Path.{sym, ap, ◌∙◌}
 use Prim.Native.Nat.{◌+◌}
-use Rattle.lists.specs.Padded.{zeros, padded}
-use Rattle.lists.proofs.Fill.{filled_start, filled_put, filled_end}
+use Rattle.lists.specs.Padded.{padded}
+use Rattle.lists.proofs.Fill.{filled_put, filled_end}
 use Rattle.lists.proofs.Places.{map_from}
 use Rattle.field.specs.Fields.{power}
 use Rattle.field.specs.Kinds.{modulus}
 use Rattle.interpolation.specs.Inner.Points.{points_of}
 use Rattle.interpolation.proofs.powers.Root.points.Goals as goal
-
-pub loop-i-init : goal.loop-i-init
-unfolding zeros
-loop-i-init c = filled_start 255 _ _ c.requires.0
 
 pub loop-i-preserved : goal.loop-i-preserved
 loop-i-preserved c = filled_put c.loop-i.invariant c.loop-i-test.true c.power.ensures.is

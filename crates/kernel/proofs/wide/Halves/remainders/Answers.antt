@@ -1,17 +1,12 @@
--- `Halves::remainders` meets its contract. The loop's invariant: the lanes below t are written.
-use Rattle.std.proofs.Common.{arith}
-use Rattle.lists.specs.Rows.{from}
-use Rattle.lists.specs.Padded.{zeros, padded}
-use Rattle.lists.proofs.Fill.{filled_start, filled_put, filled_end}
+-- `Halves::remainders` meets its contract.
+use mathlib.Core.Path.{◌≡◌, refl}
+use Rattle.std.proofs.Common.{rules, get_or}
+use Rattle.lists.proofs.Made.{made_by_index}
+use Rattle.kernel.specs.Inner.Halves.{rest_of}
 use Rattle.kernel.proofs.wide.Halves.remainders.Goals as goal
 
-pub loop-t-init : goal.loop-t-init
-unfolding zeros
-loop-t-init c = filled_start 16 16 _ (omega arith)
-
-pub loop-t-preserved : goal.loop-t-preserved
-loop-t-preserved c = filled_put c.loop-t.invariant (omega arith) c.remainder.ensures
-
 pub returns : goal.returns
-unfolding from padded zeros
-returns c = filled_end c.loop-t.invariant (omega arith)
+returns c =
+    let a = c.args in
+    let s = a.self.now in
+    made_by_index _ (λ f. (f.0.now ≡ s) × (f.1.now ≡ a.p)) (λ t. rest_of a.p (get_or s.low.rest t 0) (get_or s.low.upper t 0) (get_or s.high.rest t 0) (get_or s.high.upper t 0)) (λ f q i y held called. let (s, t) = held in (search rules, (search rules, search rules))) _ _ 16 0 (refl, refl) c.from_fn.ensures.items
