@@ -1,6 +1,6 @@
 -- The demands and the change requests, proved for every record, every scheme and every call.
 use Rattle.scheme.proofs.Bounds.{price}
-use Rattle.generator.specs.Records.{header_of}
+use Rattle.generator.specs.Records.{header_of, modulus_of}
 use Rattle.generator.proofs.Accepts.{faultless_sound}
 use Rattle.generator.proofs.Claims.{ours}
 use Rattle.generator.proofs.Pinned.{pinned}
@@ -8,6 +8,7 @@ use Rattle.generator.proofs.SchemeOf.{our_scheme, scheme_least}
 use Rattle.demands.proofs.LaneAfterLane.{lane_after_lane_lem}
 use Rattle.demands.proofs.Corrections.{corrections}
 use Rattle.demands.specs.Demands.{Demands}
+use Rattle.demands.proofs.FieldLaws.{field_laws}
 use Rattle.demands.proofs.Refusals.{refusals}
 use Rattle.demands.proofs.RosterRefusals.{roster_refusals}
 use Rattle.demands.proofs.Interface.{interface}
@@ -35,6 +36,7 @@ demands =
       roster_refusals = roster_refusals;
       interface = interface;
       code = λ rec none. code_demands (header_of rec) (faultless_sound rec none);
+      laws = λ rec none. field_laws (modulus_of (header_of rec)) (faultless_sound rec none).field;
       pins = pinned;
       price = λ k n S C s. price s;
       ours = λ rec none. record { code = ours (header_of rec) (faultless_sound rec none); scheme = our_scheme (header_of rec) (faultless_sound rec none) };

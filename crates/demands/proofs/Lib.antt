@@ -1,4 +1,5 @@
 -- The demands and the change requests, proved. Judging and Conditions are what the tables of numbers rest on; RecordNumbers and Numbers hold a call's number to its table.
+pub mod FieldLaws
 pub mod Coding
 pub mod Judging
 pub mod Conditions

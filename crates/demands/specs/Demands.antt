@@ -3,11 +3,12 @@ use Rattle.std.specs.Prelude.{◌≡◌, ◌≢◌, List}
 use Prim.Native.Nat.{ℕ, ◌≤◌, Fin}
 use Rattle.scheme.specs.Schemes.{Scheme}
 use Rattle.scheme.specs.Costs.{Price, CostsAtLeast}
-use Rattle.generator.specs.Records.{header_of, record_fault}
+use Rattle.generator.specs.Records.{header_of, record_fault, modulus_of}
 use Rattle.generator.specs.Claims.{Accepted}
 use Rattle.generator.specs.Pinned.{Pinned}
 use Rattle.demands.specs.LaneAfterLane.{LaneAfterLane}
 use Rattle.demands.specs.Corrections.{Corrections}
+use Rattle.demands.specs.FieldLaws.{FieldLaws}
 use Rattle.demands.specs.Refusals.{Refusals}
 use Rattle.demands.specs.RosterRefusals.{RosterRefusals}
 use Rattle.demands.specs.Interface.{Interface}
@@ -36,6 +37,8 @@ pub record Demands : Type 1 where
   pub interface : Interface
   -- demand 2
   pub code : (rec : List ℕ) → record_fault rec ≡ 0 → CodeDemands (header_of rec)
+  -- the field of every accepted record, of whatever kind, meets the same laws
+  pub laws : (rec : List ℕ) → record_fault rec ≡ 0 → FieldLaws (modulus_of (header_of rec))
   -- what the documents fix of records and rows
   pub pins : Pinned
   -- demand 3: the least writes and reads of any scheme
