@@ -1,11 +1,11 @@
 -- The demands and the change requests, as statements over what the calls promise. What is where:
 --   Demands         all of it in one statement
+--   FieldLaws       what every kind of field meets
 --   Judging         tables of numbers, and what it is that the lowest number met is given
 --   Numbers         the table of each call: what each number is given for, in plain terms
 --   Refusals, RosterRefusals, Interface    demand 1 of each call, of a roster's calls, and of the interface for C
 --   Coding          demand 2 of the definitions; Updates  demand 3's sentence on updates; Calls  both of the calls themselves; RoundTrips  one call after the other
---   FieldLaws, Plans, Widths, Tables, Findings, Rosters, BadReads, Differences, Weights, SmallPlans, Mending, Repairs    a subject each
-pub mod FieldLaws
+--   Plans, Widths, Tables, Findings, Rosters, BadReads, Differences, Weights, SmallPlans, Mending, Repairs    a subject each
 pub mod Coding
 pub mod Updates
 pub mod Calls
@@ -16,6 +16,7 @@ pub mod Refusals
 pub mod RosterRefusals
 pub mod Plans
 pub mod Widths
+pub mod FieldLaws
 pub mod Tables
 pub mod Findings
 pub mod Rosters
