@@ -1,5 +1,6 @@
 // Any bytes carried in the symbols of a record, and read again. Symbols of the field of 256 elements are bytes. In symbols of two bytes
 // below p words of 16 binary digits go in groups, each group behind a mask under which all of them are symbols.
+// What the three calls promise stands in specs/Promise.antt.
 #![tactic(auto)]
 
 ghost use Rattle.std.specs.Prelude.{length};

@@ -1,4 +1,5 @@
 // Setting a block right: each lane becomes the word of the code that differs from it at no more than (n - k) / 2 nodes.
+// What the call promises stands in specs/Promise.antt, in plain terms in specs/Meaning.antt.
 #![tactic(auto)]
 
 ghost use Rattle.std.specs.Prelude.{◌≡◌, ℕ, true, ◌<◌, length, get_or};

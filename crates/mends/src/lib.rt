@@ -1,4 +1,5 @@
 // The single changes that make a lane a word of the code.
+// What the call promises stands in specs/Promise.antt, what it means in specs/Mends.antt.
 #![tactic(auto)]
 
 ghost use Rattle.std.specs.Prelude.{◌≡◌, ◌*◌, length};

@@ -1,4 +1,5 @@
 // Repair by traces: a node sends b bits of each symbol of its share, and the target makes its own share of what the other nodes sent. Further nodes may be missing.
+// What the three calls promise stands in specs/Promise.antt.
 #![tactic(auto)]
 
 ghost use Rattle.std.specs.Prelude.{◌≡◌, ◌-◌, ◌*◌, ◌≤◌, length};

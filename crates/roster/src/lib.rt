@@ -1,4 +1,5 @@
 // Rosters: which nodes are present, as nodes leave and return, the lowest of them, and the nodes that rebuild jobs read in turn.
+// What the calls promise stands in specs/Rosters.antt.
 #![tactic(auto)]
 
 ghost use Rattle.std.specs.Prelude.{◌≡◌, MatchResult};
