@@ -49,7 +49,7 @@ impl Message<'_> {
         ensures { let m = self.entry in let h = record_header m in out.new ≡ bytes_of m.width.bytes (by_node (window_sums (modulus_of h) (take (distance h) m.generator.now.base) row.now (length sums.old))) }
     {
         let code = self.generator.codec.code;
-        let d = code.dimensions().distance() as usize;
+        let d = code.checks() + 1;
         sliding_sums::window_sums(code.header.field, &self.generator.base[..d], row, sums);
         turn(sums);
         self.width.write_symbols(sums, out);

@@ -43,7 +43,7 @@ of_start : (start : Start) → let h = record_header start.args.self in Windows 
 of_start start = windows start.args.self.generator.now.planned start.requires.0 start.requires.1 start.requires.2
 
 pub window_sums-requires : goal.window_sums-requires
-window_sums-requires c = (c.args.self.generator.now.planned.sound.usable_field, of_start (goal.at.window_sums-requires c).Start)
+window_sums-requires c = (c.args.self.generator.now.planned.sound.usable_field, rw c.checks-d.ensures (of_start (goal.at.window_sums-requires c).Start))
 
 pub write_symbols-requires : goal.write_symbols-requires
 write_symbols-requires c =
@@ -51,5 +51,5 @@ write_symbols-requires c =
     let sound = m.generator.now.planned.sound in
     let made = of_start (goal.at.write_symbols-requires c).Start in
     let low = nodes_below _ sound.field _ c.args.row.now (length c.args.sums.now) made.weights made.symbols in
-    rw (c.turn.ensures, c.window_sums.ensures)
+    rw (c.turn.ensures, c.window_sums.ensures, c.checks-d.ensures)
     (at_below (256 ^ m.width.bytes) _ (λ i inside. lt_of_lt_of_le (below_at _ _ low i inside) (rw m.rows.wide (size_fits_width _ sound))), c.requires.3 ∙ mul_comm m.width.bytes (record_header m).n ∙ ap (λ (x : ℕ). x * m.width.bytes) (sym (length_by_node _ ∙ length_windows _ _ _ _ ∙ c.requires.2)))
