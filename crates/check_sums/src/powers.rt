@@ -22,8 +22,8 @@ pub fn powers(codec: Codec) -> [u16; 255]
     let mut x1 = root;
     let mut x2 = square;
     let mut x3 = field.mul(root, square);
-    for i in 0..n {
-        out[i] = x as u16;
+    for place in &mut out[..n] {
+        *place = x as u16;
         let x4 = field.mul(fourth, x);
         x = x1;
         x1 = x2;
@@ -54,8 +54,8 @@ impl RootPowers<'_> {
         let step = e % n;
         let mut out = [0u16; 255];
         let mut i: usize = 0;
-        for j in 0..n {
-            out[j] = powers[i];
+        for place in &mut out[..n] {
+            *place = powers[i];
             i = stepped(i, step, n);
         }
         out

@@ -8,7 +8,7 @@ ghost use Rattle.nearest_word.specs.Nearest.{has_near, corrected};
 ghost use Rattle.decode.specs.Inner.Candidates.{SoundLane};
 ghost use Rattle.correct.specs.Inner.Marked.{MarkedLane};
 
-use check_sums::lane::PowerRows;
+use check_sums::lane::{Lane, PowerRows};
 use decode::Corrected;
 
 // A mark for each lane, and the rows of powers by which lanes are decoded.
@@ -29,7 +29,11 @@ impl Marked<'_, '_> {
         let h = self.rows.code.header;
         let n = h.n as usize;
         let held = symbols::width_of(h).read_symbols(lane);
-        decode::correct_lane(self.rows, &held[..n])
+        let received = Lane {
+            rows: self.rows,
+            symbols: &held[..n],
+        };
+        decode::correct_lane(received)
     }
 
     // Whether a word is near enough to lane t.

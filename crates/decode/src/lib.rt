@@ -4,14 +4,13 @@
 ghost use Rattle.std.specs.Prelude.{◌≡◌, true, false, MatchOption};
 ghost use Rattle.lists.specs.Counting.{differ};
 ghost use Rattle.lists.specs.Padded.{padded};
-ghost use Rattle.check_sums.specs.Inner.Sums.{check_sums};
 ghost use Rattle.nearest_word.specs.Nearest.{has_near, corrected};
 ghost use Rattle.generator.specs.Records.{size};
 ghost use Rattle.decode.specs.Inner.Locating.{Below};
-ghost use Rattle.decode.specs.Inner.Candidates.{SoundLane, WrongNodes, Candidate};
+ghost use Rattle.decode.specs.Inner.Candidates.{WrongNodes, Candidate};
 
 use arrayvec::ArrayVec;
-use check_sums::lane::{Lane, PowerRows};
+use check_sums::lane::Lane;
 use generator::Codec;
 use interpolation::polynomials::Polynomial;
 
@@ -57,36 +56,29 @@ impl Syndrome<'_, '_> {
 }
 
 // The only symbols that may be a word near enough, and zeros after them.
-#[tactic(auto, using(crate::proofs::CandidateParts::sums_symbols))]
-fn candidate(codec: Codec, lane: &[u16], sums: [u16; 255]) -> [u16; 255]
-    requires { let h = codec.code.header in SoundLane h lane.now × (sums ≡ padded 255 (check_sums h lane.now)) }
-    ensures { Candidate codec.entry.code.header lane.now result }
+fn candidate(lane: Lane) -> [u16; 255]
+    ensures { Candidate lane.entry.rows.code.header lane.entry.symbols.now result }
 {
+    let sums = lane.sums();
+    let tables = field::constant_tables();
+    let codec = Codec::new(lane.rows.code, &tables);
     let syndrome = Syndrome { codec, sums: &sums };
     let found = syndrome.wrong_nodes();
     let nodes = found.as_slice();
     let count = nodes.len();
     let wrong = syndrome.errors(nodes);
-    removed(codec.field, lane, nodes, &wrong[..count])
+    removed(codec.field, lane.symbols, nodes, &wrong[..count])
 }
 
 // The word near enough to a lane, if there is one.
-pub fn correct_lane(rows: PowerRows, lane: &[u16]) -> Option<Corrected>
-    requires { SoundLane rows.code.header lane.now }
-    ensures { let h = rows.entry.code.header in MatchOption result (has_near h lane.now ≡ false) (λ found. (has_near h lane.now ≡ true) × (found.lane ≡ padded 255 (corrected h lane.now)) × (found.altered ≡ differ lane.now (corrected h lane.now))) }
+pub fn correct_lane(lane: Lane) -> Option<Corrected>
+    ensures { let h = lane.entry.rows.code.header in let ws = lane.entry.symbols.now in MatchOption result (has_near h ws ≡ false) (λ found. (has_near h ws ≡ true) × (found.lane ≡ padded 255 (corrected h ws)) × (found.altered ≡ differ ws (corrected h ws))) }
 {
-    let h = rows.code.header;
-    let n = h.n as usize;
+    let rows = lane.rows;
+    let n = rows.code.header.n as usize;
     let t = rows.code.checks() / 2;
-    let sums = Lane {
-        rows,
-        symbols: lane,
-    }
-    .sums();
-    let tables = field::constant_tables();
-    let codec = Codec::new(rows.code, &tables);
-    let word = candidate(codec, lane, sums);
-    let altered = differing(lane, &word[..n]);
+    let word = candidate(lane);
+    let altered = differing(lane.symbols, &word[..n]);
     let nearest = Lane {
         rows,
         symbols: &word[..n],

@@ -57,7 +57,8 @@ impl Registers<'_, '_> {
         out
     }
 
-    // The first coefficients of d·w, and zeros after them.
+    // The first coefficients of d·w, and zeros after them. By index, as in `amended`: a loop over `w[..size]` was tried, and at its end a proof does not
+    // know that the array behind w has so many places.
     #[tactic(auto, using(lists::proofs::Fill::filled_start, lists::proofs::Fill::filled_end), unfolding(lists::specs::Padded::zeros))]
     fn scaled(self, d: u32, size: usize) -> [u16; 255]
         requires { (d < size_of (modulus self.field.field)) × (size ≤ 255) }

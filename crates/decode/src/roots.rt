@@ -26,7 +26,8 @@ fn value(polynomial: Polynomial, x: u32) -> u32
     sum
 }
 
-// The code's nodes at which the value is 0, rising.
+// The code's nodes at which the value is 0, rising. Not by `nodes_where`: x goes on from node to node, and a test that is lent can change nothing; it
+// would read root^j from `RootPowers`, which would be made, and lent here, for this alone.
 pub fn find_roots(code: Code, polynomial: Polynomial) -> ArrayVec<u8, 255>
     requires { polynomial.field.field ≡ code.header.field }
     ensures { let h = code.header in result.items ≡ roots_of (modulus_of h) h.root h.n polynomial.entry.coefficients.now }

@@ -2,9 +2,10 @@
 use mathlib.Core.Path.{◌≡◌, sym, ap, ◌∙◌}
 use mathlib.Core.Bool.{true}
 use mathlib.Core.List.{List, [], ◌∷◌, ◌++◌, append-nil, append_assoc}
-use Prim.Native.Nat.{ℕ, ◌+◌, ◌<◌}
+use Prim.Native.Nat.{ℕ, ◌+◌, ◌-◌, ◌≤◌, ◌<◌}
 use native.Mathlib.Omega.{arith}
-use lib.ListN.{length, length-append}
+use lib.ListN.{length, drop, length-append}
+use lib.Seq.{drop_at}
 use Rattle.std.specs.List.{push}
 use Rattle.lists.specs.Numbers.{all_below}
 use Rattle.lists.proofs.Numbers.{below_cons}
@@ -39,5 +40,13 @@ module _ {xs before : List ℕ} (after : List ℕ) (x : ℕ) {Holds : List ℕ �
   pub done_short : length now.done + 1 + length after ≡ length xs
   done_short = omega (arith, ap length parts_next, length-append after (x ∷ now.done))
 
+  -- the numbers that are done are the last of all
+  pub done_last : (m : ℕ) → m ≡ length now.done → now.done ≡ drop (length xs - m) xs
+  done_last m is = sym (drop_at before now.done (length xs - m) (omega (arith, is, ap length now.parts, length-append before now.done))) ∙ ap (drop (length xs - m)) now.parts
+
   pub from_end_next : (Next : List ℕ → Type 0) → Next (x ∷ now.done) → FromEnd xs after Next
   from_end_next Next h = record { done = x ∷ now.done; parts = parts_next; holds = h }
+
+-- nothing is left
+pub done_all : {xs rest : List ℕ} {Holds : List ℕ → Type 0} (now : FromEnd xs rest Holds) (m : ℕ) → m ≡ length now.done → length rest ≡ 0 → length xs ≤ m
+done_all {rest = rest} now m is none = omega (arith, is, none, ap length now.parts, length-append rest now.done)

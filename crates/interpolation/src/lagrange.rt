@@ -77,17 +77,15 @@ impl Points<'_, '_> {
     }
 
     // The products of (z − x) over the last m points x, for m = 0, 1, .., and zeros after them.
-    #[tactic(auto, using(lists::proofs::Fill::filled_end, lists::proofs::Numbers::below_at))]
     fn last_products(self, z: u32) -> [u16; 255]
         requires { z < size_of (modulus self.field.field) }
         ensures { let xs = self.entry.points.now in result ≡ padded 255 (from (λ m. product_at (modulus self.entry.field.field) (drop (length xs - m) xs) z) 0 (length xs)) }
     {
         let mut out = [0u16; 255];
         let mut product = Field::ONE;
-        for m in 0..self.points.len() {
+        for (m, point) in self.points.iter().rev().enumerate() {
             out[m] = product as u16;
-            let last = self.points.len() - m - 1;
-            let factor = self.field.sub(z, self.points[last] as u32);
+            let factor = self.field.sub(z, u32::from(*point));
             product = self.field.mul(factor, product);
         }
         out

@@ -41,9 +41,8 @@ impl Points<'_, '_> {
     {
         let mut out = [0u16; 256];
         out[0] = 1;
-        let mut size: usize = 1;
-        for a in self.points.iter().rev() {
-            size += 1;
+        for (i, a) in self.points.iter().rev().enumerate() {
+            let size = i + 2;
             times_linear(self.field, u32::from(*a), &mut out[..size]);
         }
         out

@@ -6,7 +6,6 @@ ghost use Rattle.std.specs.Prelude.{◌≡◌, ◌*◌, length};
 ghost use Rattle.generator.specs.Records.{width};
 ghost use Rattle.generator.specs.Answers.{numbered, outcome_of};
 ghost use Rattle.layout.specs.Width.{bytes_of};
-ghost use Rattle.refusals.specs.Accepted.{IsLane};
 ghost use Rattle.mends.specs.Mends.{mend_nodes, mend_symbols};
 ghost use Rattle.mends.specs.Promise.{in_front, mends_fault, MendsPromise, MendsSay};
 
@@ -17,22 +16,17 @@ use refusals::{lane_length_bad, length_bad, symbols_bad};
 mod changes;
 
 // Lists the nodes and their new symbols, none where the lane is a word; gives how many.
-fn list_mends(code: Code, lane: &[u16], nodes: &mut [u8], symbols: &mut [u8]) -> usize
-    requires { IsLane code.header lane.now × (length nodes.old ≡ code.header.n) × (length symbols.old ≡ code.header.n * width code.header) }
-    ensures { (result ≡ length (mend_nodes code.header lane.now)) × (nodes.new ≡ in_front (mend_nodes code.header lane.now) nodes.old) × (symbols.new ≡ in_front (bytes_of (width code.header) (mend_symbols code.header lane.now)) symbols.old) }
+fn list_mends(lane: Lane, nodes: &mut [u8], symbols: &mut [u8]) -> usize
+    requires { let h = lane.rows.code.header in (length nodes.old ≡ h.n) × (length symbols.old ≡ h.n * width h) }
+    ensures { let h = lane.entry.rows.code.header in let ws = lane.entry.symbols.now in (result ≡ length (mend_nodes h ws)) × (nodes.new ≡ in_front (mend_nodes h ws) nodes.old) × (symbols.new ≡ in_front (bytes_of (width h) (mend_symbols h ws)) symbols.old) }
 {
+    let code = lane.rows.code;
     let checks = code.checks();
-    let mut room: [u8; ROOM] = kernel::filled(0);
-    let rows = PowerRows::new(code, &mut room);
-    let sums = Lane {
-        rows,
-        symbols: lane,
-    }
-    .sums();
+    let sums = lane.sums();
     if lane::all_zero(&sums[..checks]) {
         return 0;
     }
-    changes::list(code, lane, &sums[..checks], nodes, symbols)
+    changes::list(code, lane.symbols, &sums[..checks], nodes, symbols)
 }
 
 // Numbers 8 and 11; `nodes` and `symbols` are the lengths of the written buffers.
@@ -60,7 +54,13 @@ fn mends_accepted(
     let n = code.header.n as usize;
     let w = symbols::width_of(code.header);
     let ws = w.read_symbols(lane);
-    let count = list_mends(code, &ws[..n], nodes, symbols) as u32;
+    let mut room: [u8; ROOM] = kernel::filled(0);
+    let rows = PowerRows::new(code, &mut room);
+    let received = Lane {
+        rows,
+        symbols: &ws[..n],
+    };
+    let count = list_mends(received, nodes, symbols) as u32;
     Ok(count)
 }
 

@@ -1,13 +1,16 @@
 -- Arrays that are filled to their end, and the exponents T(x).
-use mathlib.Core.Path.{◌≡◌, ap, ◌∙◌}
-use mathlib.Core.List.{List, ◌++◌, append-nil}
+use mathlib.Core.Path.{◌≡◌, sym, ap, ◌∙◌}
+use mathlib.Core.List.{List, [], ◌++◌, append-nil}
+use mathlib.Core.Logic.{◌⊎◌, inl, inr}
 use Prim.Native.Nat.{ℕ, ◌+◌, ◌%◌, ◌≤◌, ◌<◌}
 use native.Mathlib.Nat.{zero-add, sub_self, mod-add-mod, add-mod-mod}
 use native.Mathlib.Numerals.{add-one}
-use lib.ListN.{get_or}
+use native.Mathlib.Omega.{arith}
+use lib.ListN.{length, get_or, drop, length-drop}
 use Rattle.lists.specs.Rows.{from}
 use Rattle.lists.specs.Padded.{zeros, padded}
 use Rattle.lists.proofs.Fill.{Filled, filled_end}
+use Rattle.lists.proofs.Paired.{Paired}
 use Rattle.lists.proofs.Rows.{length_from, get_or_from}
 use Rattle.spectrum.specs.Inner.Spectrum.{triangle}
 
@@ -26,3 +29,8 @@ triangle_next n x = mod-add-mod (triangle x) n (x % n) ∙ add-mod-mod (triangle
 
 pub next_modulo : (n x : ℕ) → (x % n + 1) % n ≡ (x + 1) % n
 next_modulo n x = mod-add-mod x n 1
+
+-- nothing is left of one of two lists side by side: the first, where it is no longer than the other, is done
+pub shorter_end : {xs ys left right : List ℕ} {i : ℕ} → Paired xs ys i left right → length xs ≤ length ys → (left ≡ []) ⊎ (right ≡ []) → length xs ≤ i
+shorter_end {xs} {i = i} now less (inl none) = omega (arith, ap length (sym none ∙ now.first), length-drop i xs)
+shorter_end {ys = ys} {i = i} now less (inr none) = omega (arith, less, ap length (sym none ∙ now.second), length-drop i ys)

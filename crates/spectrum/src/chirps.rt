@@ -44,13 +44,10 @@ impl Transform<'_, '_> {
         let n = self.powers.codec.code.header.n as usize;
         let powers = self.powers.list;
         let mut out = [0u16; 255];
-        for j in 0..symbols.len() {
-            let e = negative(n, exponents[j] as usize);
-            out[j] = self
-                .powers
-                .codec
-                .field
-                .mul(symbols[j] as u32, powers[e] as u32) as u16;
+        let field = self.powers.codec.field;
+        for (j, (&x, &exponent)) in symbols.iter().zip(exponents).enumerate() {
+            let e = negative(n, exponent as usize);
+            out[j] = field.mul(x as u32, powers[e] as u32) as u16;
         }
         out
     }

@@ -34,19 +34,24 @@ read_symbols-ws-requires c =
     let few : c.args.code.header.n ≤ 255 = omega arith in
     few_bytes _ _ _ few (rw c.width_of-w.ensures (given (goal.at.read_symbols-ws-requires c).In_ok-mends_fault).lane_long)
 
+pub invariant_of-received : goal.invariant_of-received
+invariant_of-received c =
+    let lane = (given (goal.at.invariant_of-received c).In_ok-mends_fault).lane_is in
+    rw (c.new-rows.ensures, part (goal.at.invariant_of-received c).After-read_symbols-ws) record { long = lane.long; below = lane.symbols }
+
 pub list_mends-count-requires : goal.list_mends-count-requires
 list_mends-count-requires c =
     let g = given (goal.at.list_mends-count-requires c).In_ok-mends_fault in
-    (rw (part (goal.at.list_mends-count-requires c).After-read_symbols-ws) g.lane_is, g.nodes_long, g.symbols_long)
+    rw c.new-rows.ensures (g.nodes_long, g.symbols_long)
 
 pub overflow_cast-count : goal.overflow_cast-count
 overflow_cast-count c =
     let few : c.args.code.header.n ≤ 255 = omega arith in
-    omega (arith, c.list_mends-count.ensures.0, mends_few c.args.code.header (take c.args.code.header.n c.read_symbols-ws.result))
+    omega (arith, rw c.new-rows.ensures at c.list_mends-count.ensures.0, mends_few c.args.code.header (take c.args.code.header.n c.read_symbols-ws.result))
 
 pub returns : goal.returns
 unfolding answer_of
 returns c =
     let none = done_is _ _ c.in_ok-mends_fault.ensures in
-    let e = rw (part (goal.at.returns c).After-read_symbols-ws) at c.list_mends-count.ensures in
+    let e = rw (c.new-rows.ensures, part (goal.at.returns c).After-read_symbols-ws) at c.list_mends-count.ensures in
     record { answer = rw none (ap Ok e.0); nodes_written = rw none e.1; symbols_written = rw none e.2 }

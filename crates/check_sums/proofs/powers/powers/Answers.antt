@@ -1,26 +1,27 @@
--- `powers` meets its contract. Invariant: x to x3 are the powers of the root from i on, and the powers below i are written.
+-- `powers` meets its contract. Invariant: x to x3 are the powers of the root from place-index on, and the powers below it are written.
 use mathlib.Core.Path.{◌≡◌, refl, sym, ap, ap₂, ◌∙◌}
 use Prim.Native.Nat.{◌+◌, ◌<◌}
 use native.Mathlib.Omega.{arith}
 use Rattle.lists.specs.Padded.{zeros}
-use Rattle.lists.proofs.Fill.{filled_start, filled_put, filled_end}
+use Rattle.lists.proofs.Fill.{filled_put}
 use Rattle.field.specs.Fields.{size_of, mul, power}
 use Rattle.field.specs.Kinds.{modulus}
 use Rattle.field.proofs.Bounds.{power_below}
 use Rattle.field.proofs.KindLaws.{usable_field}
 use Rattle.check_sums.specs.Inner.Powers.{powers_of}
+use Rattle.check_sums.proofs.Front.{front_start, front_inside, front_end}
 use Rattle.check_sums.proofs.FirstPowers.{power_one, power_two, power_three, power_four, fourth_after}
 use Rattle.check_sums.proofs.powers.powers.Goals as goal
-use Rattle.check_sums.proofs.powers.powers.Goals.{After-mul-fourth, Start, In-loop-i}
+use Rattle.check_sums.proofs.powers.powers.Goals.{After-mul-fourth, Start, In-loop-place}
 
 -- the root and x are symbols
 root-symbol : (c : Start) → c.args.codec.code.header.root < size_of (modulus c.args.codec.field.field)
 root-symbol c = rw c.args.codec.same c.args.codec.code.sound.root_below
 
-symbol : (c : In-loop-i) → c.loop-i.x < size_of (modulus c.args.codec.field.field)
+symbol : (c : In-loop-place) → c.loop-place.x < size_of (modulus c.args.codec.field.field)
 symbol c =
     let f = c.args.codec.field in
-    rw c.loop-i.invariant.0 (power_below _ (usable_field _ f.usable) c.loop-i.i (root-symbol (goal.at.In-loop-i c).Start))
+    rw c.loop-place.invariant.0 (power_below _ (usable_field _ f.usable) c.loop-place.place-index (root-symbol (goal.at.In-loop-place c).Start))
 
 -- the fourth power
 fourth : (c : After-mul-fourth) → c.mul-fourth.result ≡ power (modulus c.args.codec.field.field) c.args.codec.code.header.root 4
@@ -28,38 +29,38 @@ fourth c =
     let v = usable_field _ c.args.codec.field.usable in
     c.mul-fourth.ensures.is ∙ ap₂ (mul _) c.mul-square.ensures.is c.mul-square.ensures.is ∙ sym (power_four _ v _ (root-symbol (goal.at.After-mul-fourth c).Start))
 
-pub loop-i-init : goal.loop-i-init
+pub loop-place-init : goal.loop-place-init
 unfolding zeros power
-loop-i-init c =
+loop-place-init c =
     let v = usable_field _ c.args.codec.field.usable in
-    let low = root-symbol (goal.at.loop-i-init c).Start in (
+    let low = root-symbol (goal.at.loop-place-init c).Start in (
       refl,
       sym (power_one _ v _ low),
       c.mul-square.ensures.is ∙ sym (power_two _ v _ low),
       c.mul-x3.ensures.is ∙ ap (mul _ _) c.mul-square.ensures.is ∙ sym (power_three _ v _ low),
-      filled_start 255 _ _ (omega (arith, c.args.codec.code.sound.byte)),
+      front_start 255 c.args.codec.code.header.n _ (omega (arith, c.args.codec.code.sound.byte)),
     )
 
-pub overflow_cast-out : goal.overflow_cast-out
-overflow_cast-out c = omega (arith, symbol c, c.args.codec.field.small)
+pub overflow_cast-place : goal.overflow_cast-place
+overflow_cast-place c = omega (arith, symbol (goal.at.overflow_cast-place c).In-loop-place, c.args.codec.field.small)
 
 pub mul-x4-requires : goal.mul-x4-requires
-mul-x4-requires c = (c.mul-fourth.ensures.symbol, symbol c)
+mul-x4-requires c = (c.mul-fourth.ensures.symbol, symbol (goal.at.mul-x4-requires c).In-loop-place)
 
-pub loop-i-preserved : goal.loop-i-preserved
-loop-i-preserved c =
+pub loop-place-preserved : goal.loop-place-preserved
+loop-place-preserved c =
     let v = usable_field _ c.args.codec.field.usable in
-    let low = root-symbol (goal.at.loop-i-preserved c).Start in
-    let l = c.loop-i in
-    let second : l.i + 2 ≡ l.i + 1 + 1 = omega arith in
-    let third : l.i + 3 ≡ l.i + 1 + 2 = omega arith in (
+    let low = root-symbol (goal.at.loop-place-preserved c).Start in
+    let l = c.loop-place in
+    let second : l.place-index + 2 ≡ l.place-index + 1 + 1 = omega arith in
+    let third : l.place-index + 3 ≡ l.place-index + 1 + 2 = omega arith in (
       l.invariant.1,
       l.invariant.2 ∙ ap (power _ _) second,
       l.invariant.3 ∙ ap (power _ _) third,
-      c.mul-x4.ensures.is ∙ ap₂ (mul _) (fourth (goal.at.loop-i-preserved c).After-mul-fourth) l.invariant.0 ∙ fourth_after _ v _ low l.i,
-      filled_put l.invariant.4 c.loop-i-test.true l.invariant.0,
+      c.mul-x4.ensures.is ∙ ap₂ (mul _) (fourth (goal.at.loop-place-preserved c).After-mul-fourth) l.invariant.0 ∙ fourth_after _ v _ low l.place-index,
+      filled_put l.invariant.4 (front_inside 255 _ _ l.invariant.4 (omega arith)) l.invariant.0,
     )
 
 pub returns : goal.returns
-unfolding powers_of
-returns c = rw c.args.codec.same at (filled_end c.loop-i.invariant.4 c.loop-i-test.false)
+unfolding powers_of zeros
+returns c = rw c.args.codec.same at (front_end 255 _ _ c.loop-place.invariant.4 (omega arith))

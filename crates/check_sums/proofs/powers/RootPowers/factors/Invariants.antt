@@ -1,4 +1,4 @@
--- `factors` meets its contract. Invariant: i is the place of node j's factor, and the factors of the nodes below j are written.
+-- `factors` meets its contract. Invariant: i is the place of the next node's factor, and the factors of the nodes before it are written.
 use mathlib.Core.Path.{◌≡◌}
 use mathlib.Core.List.{List}
 use Prim.Native.Nat.{ℕ, ◌*◌, ◌%◌}
@@ -10,5 +10,5 @@ use Rattle.check_sums.proofs.powers.RootPowers.factors.Given as goal
 abbrev pub read : List ℕ → ℕ → ℕ → ℕ → ℕ
 read powers e n j = get_or powers (j * e % n) 0
 
-abbrev pub invariant-loop-j : goal.invariant-loop-j
-invariant-loop-j l = (l.i ≡ l.j * l.e % l.n) × Filled 255 l.n (read l.powers l.e l.n) l.j l.out
+abbrev pub invariant-loop-place : goal.invariant-loop-place
+invariant-loop-place l = (l.i ≡ l.place-index * l.e % l.n) × Filled l.n l.n (read l.powers l.e l.n) l.place-index l.place-items

@@ -2,5 +2,7 @@
 use Rattle.correct.proofs.LaneSymbols.{held_sound}
 use Rattle.correct.proofs.lane.Marked.nearest.Goals as goal
 
-pub correct_lane-requires : goal.correct_lane-requires
-correct_lane-requires c = held_sound _ _ _ c.requires.1 (rw c.width_of.ensures at c.read_symbols-held.ensures)
+pub invariant_of-received : goal.invariant_of-received
+invariant_of-received c =
+    let s = held_sound _ _ _ c.requires.1 (rw c.width_of.ensures at c.read_symbols-held.ensures) in
+    record { long = s.long; below = s.below }
