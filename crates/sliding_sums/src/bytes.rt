@@ -98,17 +98,12 @@ fn load(row: &[u16], tab: &mut [u8; 8192])
     fill_table(&bytes, tab);
 }
 
-// A table of a row, and the slices of it that the sums add. The eight lists stand in one buffer with their lengths beside it, as `Listed` has
-// them.
+// The table of a row, and the slices of it that the sums add, from each of its first 193 places on.
 #[derive(Clone, Copy)]
 struct Sliding<'a> {
-    groups: usize,
-    tab: &'a [u8],
-    list: &'a [u16],
-    counts: &'a [u8],
-    ghost few: { groups ≤ 64 },
-    ghost whole: { length tab.now ≡ 8192 },
-    ghost slices: { (at : ℕ) → at ≤ 192 → Slices groups (drop at tab.now) list.now counts.now },
+    listed: Listed<'a>,
+    ghost whole: { length listed.tab.now ≡ 8192 },
+    ghost slices: { (at : ℕ) → at ≤ 192 → Slices listed.groups (drop at listed.tab.now) listed.list.now listed.counts.now },
 }
 
 impl<'a> Sliding<'a> {
@@ -117,16 +112,17 @@ impl<'a> Sliding<'a> {
     // The slices that make the sums from place `at` on.
     fn from_place(self, at: usize) -> Listed<'a>
         requires { at ≤ 192 }
-        ensures groups { result.groups ≡ self.entry.groups }
-        ensures tab { result.tab.now ≡ drop at self.entry.tab.now }
-        ensures list { result.list.now ≡ self.entry.list.now }
-        ensures counts { result.counts.now ≡ self.entry.counts.now }
+        ensures groups { result.groups ≡ self.entry.listed.groups }
+        ensures tab { result.tab.now ≡ drop at self.entry.listed.tab.now }
+        ensures list { result.list.now ≡ self.entry.listed.list.now }
+        ensures counts { result.counts.now ≡ self.entry.listed.counts.now }
     {
+        let listed = self.listed;
         Listed {
-            groups: self.groups,
-            tab: &self.tab[at..],
-            list: self.list,
-            counts: self.counts,
+            groups: listed.groups,
+            tab: &listed.tab[at..],
+            list: listed.list,
+            counts: listed.counts,
         }
     }
 
@@ -169,11 +165,12 @@ pub fn window_sums(weights: &[u16], row: &[u16], sums: &mut [u16])
     let list = &mut lists[..size];
     prepare(weights, groups, list, &mut counts);
     load(row, &mut tab);
-    let sliding = Sliding {
+    let listed = Listed {
         groups,
         tab: &tab,
         list,
         counts: &counts,
     };
+    let sliding = Sliding { listed };
     sliding.fill_sums(sums);
 }

@@ -6,8 +6,8 @@ use Rattle.sliding_sums.specs.Inner.Tables.{sum_at}
 
 -- 64 places from place `at` on after b digits
 abbrev pub part_sums : Sliding → ℕ → ℕ → List ℕ
-part_sums s at b = turns_of b s.groups (drop at s.tab.now) s.list.now s.counts.now
+part_sums s at b = turns_of b s.listed.groups (drop at s.listed.tab.now) s.listed.list.now s.listed.counts.now
 
 -- the sum from a place on
 abbrev pub sum_from : Sliding → ℕ → ℕ
-sum_from s = sum_at s.groups s.tab.now s.list.now s.counts.now
+sum_from s = sum_at s.listed.groups s.listed.tab.now s.listed.list.now s.listed.counts.now
