@@ -32,7 +32,7 @@ impl<'a> LoadedTile<'a> {
     {
         match matrix.shape.field {
             Field::Prime(_) => {}
-            Field::Binary(_) => subset_sums::fill_table(tile, groups_of(matrix.shape.rows), table),
+            Field::Binary(_) => subset_sums::fill_table(tile, table),
         }
         LoadedTile {
             matrix,
