@@ -67,14 +67,14 @@ fn place_slices(list: &mut [u16])
     }
 }
 
-// The lists for the weights. How many groups is a number here too: see subset_sums/src/table.rt.
-fn prepare(weights: &[u16], groups: usize, list: &mut [u16], counts: &mut [u8; 8])
-    requires { (all_below 256 weights.now ≡ true) × (groups ≤ 64) × (length list.old ≡ 8 * groups) }
-    ensures { Placed groups weights.now list.new counts.new }
+// The lists for the weights.
+fn prepare(weights: &[u16], list: &mut [u16], counts: &mut [u8; 8])
+    requires { (all_below 256 weights.now ≡ true) × (length list.old ≤ 512) × (length list.old % 8 ≡ 0) }
+    ensures { Placed (length list.old / 8) weights.now list.new counts.new }
 {
     let mut codes = [0u64; 256];
     subset_sums::fill_spread(&mut codes);
-    subset_sums::list_output(&codes, weights, groups, list, counts);
+    subset_sums::list_output(&codes, weights, list, counts);
     place_slices(list);
 }
 
@@ -103,7 +103,7 @@ fn load(row: &[u16], tab: &mut [u8; 8192])
 struct Sliding<'a> {
     listed: Listed<'a>,
     ghost whole: { length listed.tab.now ≡ 8192 },
-    ghost slices: { (at : ℕ) → at ≤ 192 → Slices listed.groups (drop at listed.tab.now) listed.list.now listed.counts.now },
+    ghost slices: { (at : ℕ) → at ≤ 192 → Slices (length listed.list.now / 8) (drop at listed.tab.now) listed.list.now listed.counts.now },
 }
 
 impl<'a> Sliding<'a> {
@@ -112,14 +112,12 @@ impl<'a> Sliding<'a> {
     // The slices that make the sums from place `at` on.
     fn from_place(self, at: usize) -> Listed<'a>
         requires { at ≤ 192 }
-        ensures groups { result.groups ≡ self.entry.listed.groups }
         ensures tab { result.tab.now ≡ drop at self.entry.listed.tab.now }
         ensures list { result.list.now ≡ self.entry.listed.list.now }
         ensures counts { result.counts.now ≡ self.entry.listed.counts.now }
     {
         let listed = self.listed;
         Listed {
-            groups: listed.groups,
             tab: &listed.tab[at..],
             list: listed.list,
             counts: listed.counts,
@@ -157,16 +155,14 @@ pub fn window_sums(weights: &[u16], row: &[u16], sums: &mut [u16])
     requires { Windows 256 weights.now row.now (length sums.old) }
     ensures { sums.new ≡ window_sums 0 weights.now row.now (length sums.old) }
 {
-    let groups = weights.len().div_ceil(4);
-    let size = 8 * groups;
+    let size = 8 * weights.len().div_ceil(4);
     let mut lists = [0u16; 512];
     let mut counts = [0u8; 8];
     let mut tab = [0u8; 8192];
     let list = &mut lists[..size];
-    prepare(weights, groups, list, &mut counts);
+    prepare(weights, list, &mut counts);
     load(row, &mut tab);
     let listed = Listed {
-        groups,
         tab: &tab,
         list,
         counts: &counts,

@@ -51,7 +51,6 @@ impl<'a> LoadedTile<'a> {
         match self.matrix.shape.field {
             Field::Prime(f) => Prime::new(f.p).output(rows, list, self.tile, out),
             Field::Binary(_) => Listed {
-                groups: groups_of(rows),
                 tab: self.table,
                 list,
                 counts,
