@@ -6,7 +6,7 @@ use kernel::gf256;
 
 // A table of sums of subsets, and the slices of it that an output adds: for digit 7 − b of its weights those that `list` names from place
 // b·groups on, as many as `counts` says. The eight lists stand in one lent buffer with their lengths beside it: vectors of fixed room would
-// be as long for few rows as for many, and clearing them takes longer than a small product.
+// be as long for few rows as for many, and clearing those of 255 outputs takes 8 µs.
 #[derive(Clone, Copy)]
 pub struct Listed<'a> {
     pub tab: &'a [u8],

@@ -124,7 +124,7 @@ impl<'a> Writer<'a> {
         self.bytes_line(word.as_bytes(), xs);
     }
 
-    // The same with any bytes for the word: a `&str` asks callers for characters, and the word of a line may be any bytes, as those of `bytes`.
+    // The same with any bytes for the word. It stands beside `line`, since a `&str` asks more of callers: that the bytes are UTF-8.
     pub fn bytes_line<N: Number>(&mut self, bytes: &[u8], xs: &[N])
         requires { length bytes.now + (N.digits + 1) * length xs.now + 1 ≤ room self.old }
         ensures text { Writes self.old self.new (line bytes.now (map N.value xs.now)) }
