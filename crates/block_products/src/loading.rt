@@ -36,21 +36,21 @@ fn copy_bytes(w: Width, v: usize, part: &[u8], out: &mut [u8])
     }
 }
 
-// The bytes of `count` symbols as rows of a tile, those of the high bytes first.
-fn load_row(w: Width, count: usize, part: &[u8], rows: &mut [u8])
-    requires few { count ≤ 64 }
-    requires part_long { length part.now ≡ count * w.bytes }
-    requires rows_long { length rows.old ≡ w.bytes * 64 }
-    ensures { TileOf w.bytes w.bytes count (λ v q. get_or part.now (q * w.bytes + v) 0) rows.new }
-{
-    for v in 0..w.bytes {
-        let start = v * 64;
-        let end = start + count;
-        copy_bytes(w, v, part, &mut rows[start..end]);
-    }
-}
-
 impl Part<'_> {
+    // The bytes of these lanes of a row of symbols as rows of a tile, those of the high bytes first.
+    fn load_row(self, part: &[u8], rows: &mut [u8])
+        requires part_long { length part.now ≡ self.count * self.job.w.bytes }
+        requires rows_long { length rows.old ≡ self.job.w.bytes * 64 }
+        ensures { let p = self.entry in let w = p.job.w.bytes in TileOf w w p.count (λ v q. get_or part.now (q * w + v) 0) rows.new }
+    {
+        let w = self.job.w;
+        for v in 0..w.bytes {
+            let start = v * 64;
+            let end = start + self.count;
+            copy_bytes(w, v, part, &mut rows[start..end]);
+        }
+    }
+
     // The lanes of rows of symbols that stand one after the other.
     fn load_rows(self, tile: &mut [u8])
         requires { self.job.w.bytes * self.job.m.rows * 64 ≤ length tile.old }
@@ -65,7 +65,7 @@ impl Part<'_> {
             let to = from + self.count * w.bytes;
             let start = r * size;
             let end = start + size;
-            load_row(w, self.count, &job.source[from..to], &mut tile[start..end]);
+            self.load_row(&job.source[from..to], &mut tile[start..end]);
         }
     }
 

@@ -6,36 +6,34 @@ ghost use Rattle.block_products.specs.Inner.Ways.{out_bytes, Sums, LanesDone, Ro
 use crate::job::Part;
 use crate::loading::pick_bytes;
 use crate::{Way, marking};
-use symbols::Width;
-
-// The symbols of a row of high bytes and a row of low bytes.
-fn join(count: usize, part: &[u8], out: &mut [u8])
-    requires few { count ≤ 64 }
-    requires part_long { length part.now ≡ 128 }
-    requires out_long { length out.old ≡ count * 2 }
-    ensures { (q v : ℕ) → q < count → v < 2 → get_or out.new (q * 2 + v) 0 ≡ get_or part.now (v * 64 + q) 0 }
-{
-    for q in 0..count {
-        out[q * 2] = part[q];
-        out[q * 2 + 1] = part[64 + q];
-    }
-}
-
-// The symbols of an output's rows of bytes. With `copy_from_slice`, a call for each 64 bytes, lanes took 7 % longer to become rows.
-fn store_row(w: Width, count: usize, part: &[u8], out: &mut [u8])
-    requires few { count ≤ 64 }
-    requires part_long { length part.now ≡ w.bytes * 64 }
-    requires out_long { length out.old ≡ count * w.bytes }
-    ensures { (q v : ℕ) → q < count → v < w.bytes → get_or out.new (q * w.bytes + v) 0 ≡ get_or part.now (v * 64 + q) 0 }
-{
-    if w.bytes == 1 {
-        pick_bytes::<1, 0>(&part[..count], out);
-        return;
-    }
-    join(count, part, out);
-}
 
 impl Part<'_> {
+    // The symbols of a row of high bytes and a row of low bytes.
+    fn join(self, part: &[u8], out: &mut [u8])
+        requires part_long { length part.now ≡ 128 }
+        requires out_long { length out.old ≡ self.count * 2 }
+        ensures { (q v : ℕ) → q < self.entry.count → v < 2 → get_or out.new (q * 2 + v) 0 ≡ get_or part.now (v * 64 + q) 0 }
+    {
+        for q in 0..self.count {
+            out[q * 2] = part[q];
+            out[q * 2 + 1] = part[64 + q];
+        }
+    }
+
+    // The symbols of an output's rows of bytes. With `copy_from_slice`, a call for each 64 bytes, lanes took 7 % longer to become rows.
+    fn store_row(self, part: &[u8], out: &mut [u8])
+        requires part_long { length part.now ≡ self.job.w.bytes * 64 }
+        requires out_long { length out.old ≡ self.count * self.job.w.bytes }
+        ensures { let w = self.entry.job.w.bytes in (q v : ℕ) → q < self.entry.count → v < w → get_or out.new (q * w + v) 0 ≡ get_or part.now (v * 64 + q) 0 }
+    {
+        let w = self.job.w;
+        if w.bytes == 1 {
+            pick_bytes::<1, 0>(&part[..self.count], out);
+            return;
+        }
+        self.join(part, out);
+    }
+
     // These lanes of the rows of a buffer.
     fn store_rows(self, words: &[u8], out: &mut [u8])
         requires words_long { self.job.w.bytes * self.job.m.outputs * 64 ≤ length words.now }
@@ -52,7 +50,7 @@ impl Part<'_> {
             let to = from + size;
             let start = i * row + at;
             let end = start + part;
-            store_row(w, self.count, &words[from..to], &mut out[start..end]);
+            self.store_row(&words[from..to], &mut out[start..end]);
         }
     }
 

@@ -16,8 +16,8 @@ pub mod wide;
 use field_terms::FieldTerms;
 use terms::Terms;
 
-// In each lane the sum of the rows' symbols times the weights, as symbols one after the other. A function, so that terms and what is known of
-// them stay in this crate.
+// In each lane the sum of the rows' symbols times the weights, as symbols one after the other. A function over what terms are made of: a public
+// `FieldTerms` would be no plainer, as each caller would write two literals, of it and of `Terms`, for one call.
 pub fn combine_symbols(field: Field, weights: &[u16], lanes: usize, rows: &[u8], out: &mut [u8])
     requires { WeightedRows field (length weights.now) lanes weights.now rows.now (length out.old) }
     ensures { out.new ≡ combined_bytes (modulus field) (length weights.now) lanes weights.now rows.now }

@@ -6,7 +6,7 @@ ghost use Rattle.row_sums.specs.Inner.Combined.{Weighted};
 use crate::terms::Terms;
 use kernel::prime;
 
-// Terms over the field of p elements.
+// Terms over the field of p elements. The length of the lent buffer for the sums stands in the clause: see `ByteTerms`.
 #[derive(Clone, Copy)]
 pub struct PrimeTerms<'a> {
     pub p: u16,

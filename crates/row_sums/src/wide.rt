@@ -10,7 +10,8 @@ ghost use Rattle.row_sums.specs.Inner.WideSums.{WideRows, pairs_put};
 use crate::terms::Terms;
 use kernel::wide::{Halves, product};
 
-// Terms whose symbols have two bytes, and the modulus of their sums.
+// Terms whose symbols have two bytes, and the modulus of their sums. The buffer for the sums, two places for each lane, is lent at each call, and
+// its length stands in the clauses: no field can hold it.
 #[derive(Clone, Copy)]
 pub(crate) struct WideTerms<'a> {
     pub(crate) p: u16,
@@ -108,7 +109,7 @@ fn put(lanes: usize, at: usize, symbols: &[u16], acc: &mut [u8])
     }
 }
 
-// In each lane the sum of the rows' symbols times the weights.
+// In each lane the sum of the rows' symbols times the weights. A function over what terms are made of, as `combine_symbols` is.
 pub fn combine(p: u16, weights: &[u16], lanes: usize, rows: &[u8], acc: &mut [u8])
     requires { (0 < p) × (lanes ≤ 4096) × WideRows (length weights.now) lanes weights.now rows.now × (length acc.old ≡ 2 * lanes) }
     ensures { acc.new ≡ tile_bytes 2 1 lanes (combined row_after_row p (length weights.now) lanes weights.now (tile_symbols 2 (length weights.now) lanes rows.now)) }

@@ -67,14 +67,14 @@ fn place_slices(list: &mut [u16])
     }
 }
 
-// The lists for the weights. How many groups is a number here too: see subset_sums/src/table.rt.
-fn prepare(weights: &[u16], groups: usize, list: &mut [u16], counts: &mut [u8; 8])
-    requires { (all_below 256 weights.now ≡ true) × (groups ≤ 64) × (length list.old ≡ 8 * groups) }
-    ensures { Placed groups weights.now list.new counts.new }
+// The lists for the weights.
+fn prepare(weights: &[u16], list: &mut [u16], counts: &mut [u8; 8])
+    requires { (all_below 256 weights.now ≡ true) × (length list.old ≤ 512) × (length list.old % 8 ≡ 0) }
+    ensures { Placed (length list.old / 8) weights.now list.new counts.new }
 {
     let mut codes = [0u64; 256];
     subset_sums::fill_spread(&mut codes);
-    subset_sums::list_output(&codes, weights, groups, list, counts);
+    subset_sums::list_output(&codes, weights, list, counts);
     place_slices(list);
 }
 
@@ -98,17 +98,12 @@ fn load(row: &[u16], tab: &mut [u8; 8192])
     fill_table(&bytes, tab);
 }
 
-// A table of a row, and the slices of it that the sums add. The eight lists stand in one buffer with their lengths beside it, as `Listed` has
-// them.
+// The table of a row, and the slices of it that the sums add, from each of its first 193 places on.
 #[derive(Clone, Copy)]
 struct Sliding<'a> {
-    groups: usize,
-    tab: &'a [u8],
-    list: &'a [u16],
-    counts: &'a [u8],
-    ghost few: { groups ≤ 64 },
-    ghost whole: { length tab.now ≡ 8192 },
-    ghost slices: { (at : ℕ) → at ≤ 192 → Slices groups (drop at tab.now) list.now counts.now },
+    listed: Listed<'a>,
+    ghost whole: { length listed.tab.now ≡ 8192 },
+    ghost slices: { (at : ℕ) → at ≤ 192 → Slices (length listed.list.now / 8) (drop at listed.tab.now) listed.list.now listed.counts.now },
 }
 
 impl<'a> Sliding<'a> {
@@ -117,16 +112,15 @@ impl<'a> Sliding<'a> {
     // The slices that make the sums from place `at` on.
     fn from_place(self, at: usize) -> Listed<'a>
         requires { at ≤ 192 }
-        ensures groups { result.groups ≡ self.entry.groups }
-        ensures tab { result.tab.now ≡ drop at self.entry.tab.now }
-        ensures list { result.list.now ≡ self.entry.list.now }
-        ensures counts { result.counts.now ≡ self.entry.counts.now }
+        ensures tab { result.tab.now ≡ drop at self.entry.listed.tab.now }
+        ensures list { result.list.now ≡ self.entry.listed.list.now }
+        ensures counts { result.counts.now ≡ self.entry.listed.counts.now }
     {
+        let listed = self.listed;
         Listed {
-            groups: self.groups,
-            tab: &self.tab[at..],
-            list: self.list,
-            counts: self.counts,
+            tab: &listed.tab[at..],
+            list: listed.list,
+            counts: listed.counts,
         }
     }
 
@@ -161,19 +155,18 @@ pub fn window_sums(weights: &[u16], row: &[u16], sums: &mut [u16])
     requires { Windows 256 weights.now row.now (length sums.old) }
     ensures { sums.new ≡ window_sums 0 weights.now row.now (length sums.old) }
 {
-    let groups = weights.len().div_ceil(4);
-    let size = 8 * groups;
+    let size = 8 * weights.len().div_ceil(4);
     let mut lists = [0u16; 512];
     let mut counts = [0u8; 8];
     let mut tab = [0u8; 8192];
     let list = &mut lists[..size];
-    prepare(weights, groups, list, &mut counts);
+    prepare(weights, list, &mut counts);
     load(row, &mut tab);
-    let sliding = Sliding {
-        groups,
+    let listed = Listed {
         tab: &tab,
         list,
         counts: &counts,
     };
+    let sliding = Sliding { listed };
     sliding.fill_sums(sums);
 }

@@ -120,10 +120,9 @@ unfolding group_of
 length_group rows = length_from (group_byte rows) 0 1024
 
 -- a group of the table
-pub table_group : (rows : List ℕ) (g p : ℕ) → p < 1024 → get_or (group_of (take (g * 256 + 256 - g * 256) (drop (g * 256) rows))) p 0 ≡ table_byte rows (g * 1024 + p)
+pub table_group : (rows part : List ℕ) (g p : ℕ) → p < 1024 → ((j : ℕ) → j < 256 → get_or part j 0 ≡ get_or rows (g * 256 + j) 0) → get_or (group_of part) p 0 ≡ table_byte rows (g * 1024 + p)
 unfolding group_of group_byte table_byte subset
-table_group rows g p h =
-    let part : List ℕ = take (g * 256 + 256 - g * 256) (drop (g * 256) rows) in
+table_group rows part g p h same =
     let group : (g * 1024 + p) / 1024 ≡ g = omega arith in
     let lane : (g * 1024 + p) % 64 ≡ p % 64 = omega arith in
     let slices : (g * 1024 + p) / 64 ≡ g * 16 + p / 64 = omega arith in
@@ -132,7 +131,7 @@ table_group rows g p h =
     rw zero-add at (get_or_from (group_byte part) 0 1024 p 0 h)
     ∙ rw (group, lane, slices, slice)
     (subset_ext 4 (λ i. get_or part (i * 64 + p % 64) 0) (λ i. get_or rows (g * 256 + (i * 64 + p % 64)) 0) 0 (p / 64)
-    (λ i low high. get_d_part (g * 256) 256 rows (i * 64 + p % 64) (omega arith)))
+    (λ i low high. same (i * 64 + p % 64) (omega arith)))
 
 pub first_long : (tab : List ℕ) → length tab ≡ 1024 → length (zeros 64 ++ drop 64 tab) ≡ 1024
 first_long tab long = simp (length-append, length-drop) (omega (arith, length_zeros 64))

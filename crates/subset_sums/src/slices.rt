@@ -48,14 +48,15 @@ impl Weights<'_> {
 
     // Group g's slices, one for each digit, after those of the groups before it. By the index: over `counts.iter_mut().enumerate()`, whose
     // length the compiler does not know, lists take three fifths more time.
-    fn list_group(self, groups: usize, g: usize, list: &mut [u16], counts: &mut [u8])
-        requires { (groups ≤ 64) × (g < groups) × Streams groups (λ b. g) self.weights.now list.old counts.old }
-        ensures { Streams groups (λ b. g + 1) self.entry.weights.now list.new counts.new }
+    fn list_group(self, g: usize, list: &mut [u16], counts: &mut [u8])
+        requires { (length list.old ≤ 512) × (g < length list.old / 8) × Streams (length list.old / 8) (λ b. g) self.weights.now list.old counts.old }
+        ensures { Streams (length list.old / 8) (λ b. g + 1) self.entry.weights.now list.new counts.new }
     {
         let subsets = self.subsets(g);
         if subsets == 0 {
             return;
         }
+        let groups = list.len() / 8;
         for b in 0..8 {
             let v = (subsets >> (56 - 8 * b)) % 16;
             let count = counts[b];
@@ -73,18 +74,17 @@ fn entry(g: usize, v: u64) -> u16
     (g * 1024) as u16 + (v * 64) as u16
 }
 
-// The slices for the weights of an output: those of digit 7 − b from place b·groups on, and how many they are. Groups are counted by who
-// lends the list.
-pub fn list_output(sp: &[u64], w: &[u16], groups: usize, list: &mut [u16], counts: &mut [u8])
-    requires { (sp.now ≡ spreads) × (all_below 256 w.now ≡ true) × (groups ≤ 64) × (length list.old ≡ 8 * groups) × (length counts.old ≡ 8) }
-    ensures { Listing groups w.now list.new counts.new }
+// The slices for the weights of an output: those of digit 7 − b from place b·groups on, and how many they are.
+pub fn list_output(sp: &[u64], w: &[u16], list: &mut [u16], counts: &mut [u8])
+    requires { (sp.now ≡ spreads) × (all_below 256 w.now ≡ true) × (length list.old ≤ 512) × (length list.old % 8 ≡ 0) × (length counts.old ≡ 8) }
+    ensures { Listing (length list.old / 8) w.now list.new counts.new }
 {
     let weights = Weights {
         spread: sp,
         weights: w,
     };
     counts.fill(0);
-    for g in 0..groups {
-        weights.list_group(groups, g, list, counts);
+    for g in 0..list.len() / 8 {
+        weights.list_group(g, list, counts);
     }
 }

@@ -1,6 +1,6 @@
 // The table: of each group of four rows the sums of all 16 subsets, slices of 64 bytes. Subset v has the rows whose binary digit of v
 // is 1; its slice stands at g·1024 + v·64.
-ghost use Rattle.std.specs.Prelude.{◌≡◌, ◌+◌, ◌*◌, ◌^◌, ◌≤◌, ◌<◌, length};
+ghost use Rattle.std.specs.Prelude.{◌≡◌, ◌+◌, ◌*◌, ◌/◌, ◌^◌, ◌≤◌, ◌<◌, length};
 ghost use Rattle.subset_sums.specs.Inner.Subsets.{group_of, table_of, summed, FirstSums};
 
 use kernel::gf256;
@@ -18,8 +18,8 @@ fn sum(row: &[u8], a: usize, to: usize, tab: &mut [u8])
 }
 
 // Row i doubles the sums: the row added to each of the subsets of lower rows.
-fn double(rows: &[u8], i: usize, tab: &mut [u8])
-    requires { (length rows.now ≡ 256) × (i < 4) × FirstSums rows.now (2 ^ i) tab.old }
+fn double(rows: &[u8; 256], i: usize, tab: &mut [u8])
+    requires { (i < 4) × FirstSums rows.now (2 ^ i) tab.old }
     ensures { FirstSums rows.now (2 ^ (i + 1)) tab.new }
 {
     let count = 1 << i;
@@ -30,8 +30,8 @@ fn double(rows: &[u8], i: usize, tab: &mut [u8])
 }
 
 // The sums of all subsets of four rows.
-fn fill_group(rows: &[u8], tab: &mut [u8])
-    requires { (length rows.now ≡ 256) × (length tab.old ≡ 1024) }
+fn fill_group(rows: &[u8; 256], tab: &mut [u8])
+    requires { length tab.old ≡ 1024 }
     ensures { tab.new ≡ group_of rows.now }
 {
     tab[..64].fill(0);
@@ -40,15 +40,14 @@ fn fill_group(rows: &[u8], tab: &mut [u8])
     }
 }
 
-// The same for group after group of rows. `groups` is a number, at most 64: a type for it would be made from the number of rows by each caller,
-// and be turned into a number at each length and place.
-pub fn fill_table(rows: &[u8], groups: usize, tab: &mut [u8])
-    requires { (groups ≤ 64) × (length rows.now ≡ groups * 256) × (length tab.old ≡ groups * 1024) }
-    ensures { tab.new ≡ table_of groups rows.now }
+// The same for group after group of rows.
+pub fn fill_table(rows: &[u8], tab: &mut [u8])
+    requires { length tab.old ≡ length rows.now / 256 * 1024 }
+    ensures { tab.new ≡ table_of (length rows.now / 256) rows.now }
 {
-    for g in 0..groups {
-        let start = g * 256;
+    let (groups, _) = rows.as_chunks::<256>();
+    for (g, four) in groups.iter().enumerate() {
         let to = g * 1024;
-        fill_group(&rows[start..start + 256], &mut tab[to..to + 1024]);
+        fill_group(four, &mut tab[to..to + 1024]);
     }
 }

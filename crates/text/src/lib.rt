@@ -8,7 +8,7 @@ ghost use Rattle.text.specs.Text.{decimal, field, fields, line};
 mod number;
 
 use itoa::Buffer;
-pub use number::Number;
+pub use number::{FewDigits, Number};
 
 // An empty page: zeros. A caller lends it, for the library has no heap.
 #[tactic(auto, unfolding(lists::specs::Padded::zeros))]
@@ -92,16 +92,6 @@ impl<'a> Writer<'a> {
         self.digits(x.to_u32());
     }
 
-    // Any number below 100,000.
-    pub fn decimal(&mut self, x: u32)
-        requires small { x < 100000 }
-        requires room { 5 ≤ room self.old }
-        ensures text { Writes self.old self.new (decimal x) }
-        ensures room { room self.old ≤ room self.new + 5 }
-    {
-        self.digits(x);
-    }
-
     // A space and a number.
     pub fn field<N: Number>(&mut self, x: N)
         requires { N.digits + 1 ≤ room self.old }
@@ -110,17 +100,6 @@ impl<'a> Writer<'a> {
     {
         self.byte(b' ');
         self.number(x);
-    }
-
-    // A space and any number below 100,000.
-    pub fn decimal_field(&mut self, x: u32)
-        requires small { x < 100000 }
-        requires room { 6 ≤ room self.old }
-        ensures text { Writes self.old self.new (field x) }
-        ensures room { room self.old ≤ room self.new + 6 }
-    {
-        self.word(" ");
-        self.decimal(x);
     }
 
     // The fields of a line, and its line feed.
@@ -145,7 +124,7 @@ impl<'a> Writer<'a> {
         self.bytes_line(word.as_bytes(), xs);
     }
 
-    // The same with any bytes for the word.
+    // The same with any bytes for the word. It stands beside `line`, since a `&str` asks more of callers: that the bytes are UTF-8.
     pub fn bytes_line<N: Number>(&mut self, bytes: &[u8], xs: &[N])
         requires { length bytes.now + (N.digits + 1) * length xs.now + 1 ≤ room self.old }
         ensures text { Writes self.old self.new (line bytes.now (map N.value xs.now)) }

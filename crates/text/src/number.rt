@@ -37,3 +37,21 @@ impl Number for u16 {
         u32::from(self)
     }
 }
+
+// Any number below 100,000.
+#[derive(Clone, Copy)]
+pub struct FewDigits {
+    pub value: u32,
+    pub ghost small: { value < 100000 },
+}
+
+impl Number for FewDigits {
+    ghost value = { λ x. x.value };
+
+    ghost digits = { 5 };
+
+    #[tactic(auto, using(crate::proofs::Digits::decimal_short))]
+    fn to_u32(self) -> u32 {
+        self.value
+    }
+}

@@ -1,5 +1,5 @@
 -- What each kind of field makes of the lists, the tables and the outputs.
-use Rattle.std.proofs.Common.{◌≡◌, ℕ, ◌*◌, ◌<◌, ◌≤◌, true, List, ◌++◌, length, refl, ap, ◌∙◌, arith, length-append}
+use Rattle.std.proofs.Common.{◌≡◌, ℕ, ◌*◌, ◌/◌, ◌<◌, ◌≤◌, true, List, ◌++◌, length, refl, ap, ◌∙◌, arith, length-append}
 use Rattle.std.proofs.Props.{props}
 use mathlib.Core.Logic.{by_cases, ∥∥₁_elim}
 use native.Mathlib.Decide.{dec_lt}
@@ -49,6 +49,11 @@ module _ (p : ℕ) (prime : is_prime p ≡ true) where
 -- a list that begins with the weights
 pub plain_list : {ws list : List ℕ} (rest : List ℕ) → list ≡ ws ++ rest → InFrontOf ws list
 plain_list {ws} {list} rest e = rw e record { long = omega (arith, length-append ws rest); weights = λ i h. get_or-append ws rest 0 i h }
+
+-- the groups of lists that are made
+pub lists_groups : {p rows : ℕ} {list counts : List ℕ} → ∥ Lists p rows list counts ∥₁ → length list / 8 ≡ groups_of rows
+lists_groups {p} {rows} {list} {counts} made =
+    ∥∥₁_elim made (hlevel props) (λ l. let long : length list ≡ 8 * groups_of rows = rw l.size at l.prepared.long in omega (arith, long))
 
 module _ (f : PrimeField) (u : usable (Prime f) ≡ true) {rows : ℕ} {list counts : List ℕ} where
   -- what the sums of a prime need

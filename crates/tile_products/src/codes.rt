@@ -42,10 +42,7 @@ impl<'a> WeightCodes<'a> {
     {
         match self.field {
             Field::Prime(f) => Prime::new(f.p).list_weights(self.codes, weights, list),
-            Field::Binary(_) => {
-                let groups = groups_of(weights.len());
-                subset_sums::list_output(self.codes, weights, groups, list, counts)
-            }
+            Field::Binary(_) => subset_sums::list_output(self.codes, weights, list, counts),
         }
     }
 

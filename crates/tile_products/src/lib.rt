@@ -25,7 +25,8 @@ pub struct Shape {
     pub rows: usize,
 }
 
-// How many groups of four rows there are, the last one filled up.
+// How many groups of four rows there are, the last one filled up. `plane_size` of repair rounds up too: what the two share is the library's
+// `div_ceil`, and each has another divisor, another bound and a law of its own.
 pub fn groups_of(rows: usize) -> usize
     requires { rows ≤ 255 }
     ensures value { result ≡ groups_of rows }

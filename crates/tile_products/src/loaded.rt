@@ -32,7 +32,7 @@ impl<'a> LoadedTile<'a> {
     {
         match matrix.shape.field {
             Field::Prime(_) => {}
-            Field::Binary(_) => subset_sums::fill_table(tile, groups_of(matrix.shape.rows), table),
+            Field::Binary(_) => subset_sums::fill_table(tile, table),
         }
         LoadedTile {
             matrix,
@@ -51,7 +51,6 @@ impl<'a> LoadedTile<'a> {
         match self.matrix.shape.field {
             Field::Prime(f) => Prime::new(f.p).output(rows, list, self.tile, out),
             Field::Binary(_) => Listed {
-                groups: groups_of(rows),
                 tab: self.table,
                 list,
                 counts,

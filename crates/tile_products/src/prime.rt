@@ -1,12 +1,12 @@
 // Sums of rows times weights over a prime field whose symbols are bytes, for tiles of 64 lanes. A product fits 16 binary digits. Two sums
 // of 16 digits are made of the products, modulo 65536 and of the upper bytes alone, and each sum is reduced once.
-ghost use Rattle.std.specs.Prelude.{◌≡◌, ◌*◌, ◌/◌, ◌%◌, ◌≤◌, true, length, slice_index};
+ghost use Rattle.std.specs.Prelude.{◌≡◌, ◌*◌, ◌/◌, ◌%◌, ◌≤◌, ◌<◌, ℕ, true, length, slice_index};
 ghost use Rattle.lists.specs.Numbers.{all_below};
 ghost use Rattle.lists.specs.Rows.{from};
 ghost use Rattle.layout.specs.Layout.{row_after_row};
 ghost use Rattle.kernel.specs.Inner.Halves.{wrapped, total_of};
 ghost use Rattle.row_sums.specs.Inner.Combined.{combined};
-ghost use Rattle.tile_products.specs.Inner.Ratios.{Ratios, Scaled, InScale};
+ghost use Rattle.tile_products.specs.Inner.Ratios.{ratio_of, Ratios, InScale};
 
 use kernel::wide::{self, Sums};
 
@@ -69,18 +69,15 @@ impl Modulus {
         }
     }
 
-    // The list of an output: its weights, and after them their ratios.
-    pub fn scale(self, codes: &[u64], weights: &[u16], list: &mut [u16])
+    // The ratios of an output's weights.
+    pub fn scale(self, codes: &[u64], weights: &[u16], out: &mut [u16])
         requires known { Ratios self.p codes.now }
         requires below { all_below self.p weights.now ≡ true }
-        requires few { length weights.now ≤ 255 }
-        requires room { 2 * length weights.now ≤ length list.old }
-        ensures { Scaled self.p weights.now list.new }
+        requires room { length weights.now ≤ length out.old }
+        ensures { (i : ℕ) → i < length weights.now → slice_index out.new i ≡ ratio_of self.p (slice_index weights.now i) }
     {
-        let rows = weights.len();
         for (i, w) in weights.iter().enumerate() {
-            list[i] = *w;
-            list[rows + i] = codes[*w as usize] as u16;
+            out[i] = codes[*w as usize] as u16;
         }
     }
 

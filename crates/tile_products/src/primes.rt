@@ -43,7 +43,7 @@ impl Prime {
         }
     }
 
-    // The list for the weights of an output.
+    // The list for the weights of an output: the weights, and after weights of bytes their ratios.
     pub fn list_weights(self, codes: &[u64], weights: &[u16], list: &mut [u16])
         requires known { Codes self.p codes.now }
         requires few { length weights.now ≤ 255 }
@@ -51,12 +51,11 @@ impl Prime {
         requires long { length list.old ≡ 8 * groups_of (length weights.now) }
         ensures { (counts : List ℕ) → length counts ≡ 8 → Prepared self.p weights.now list.new counts }
     {
-        if self.has_bytes() {
-            Modulus::new(self.p).scale(codes, weights, list);
-            return;
-        }
         let rows = weights.len();
         list[..rows].copy_from_slice(weights);
+        if self.has_bytes() {
+            Modulus::new(self.p).scale(codes, weights, &mut list[rows..]);
+        }
     }
 
     // In each lane the sum of the rows' symbols times the list's weights.

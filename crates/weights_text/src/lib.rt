@@ -12,20 +12,18 @@ ghost use Rattle.weights_text.specs.Weights.{count_line, count_lines, weights_fo
 
 use generator::Refusal;
 use records::read_record;
-use text::Writer;
 pub use text::page;
+use text::{FewDigits, Writer};
 use weight_counts::counts_accepted;
 
 // The line of one weight: two numbers of at most five digits, a space and a line feed.
-fn write_count(writer: &mut Writer, w: u32, count: u32)
-    requires weight { w < 100000 }
-    requires count { count < 100000 }
-    requires room { 12 ≤ room writer.old }
-    ensures text { Writes writer.old writer.new (count_line w count) }
+fn write_count(writer: &mut Writer, w: FewDigits, count: FewDigits)
+    requires { 12 ≤ room writer.old }
+    ensures text { Writes writer.old writer.new (count_line w.value count.value) }
     ensures room { room writer.old ≤ room writer.new + 12 }
 {
-    writer.decimal(w);
-    writer.decimal_field(count);
+    writer.number(w);
+    writer.field(count);
     writer.byte(b'\n');
 }
 
@@ -38,7 +36,9 @@ fn write_counts(writer: &mut Writer, counts: &[u32])
     ensures { Writes writer.old writer.new (count_lines counts.now) }
 {
     for (w, count) in counts.iter().enumerate() {
-        write_count(writer, w as u32, *count);
+        let w = FewDigits { value: w as u32 };
+        let count = FewDigits { value: *count };
+        write_count(writer, w, count);
     }
 }
 

@@ -6,4 +6,4 @@ use Rattle.weights_text.proofs.write_count.Goals as goal
 
 pub returns-clause-text : goal.returns-clause-text
 unfolding count_line line fields
-returns-clause-text c = writes_then c.decimal.ensures.text (writes_then c.decimal_field.ensures.text c.byte.ensures)
+returns-clause-text c = writes_then c.number.ensures.text (writes_then c.field.ensures.text c.byte.ensures)

@@ -13,7 +13,7 @@ pub loop-i-init : goal.loop-i-init
 unfolding zeros
 loop-i-init c =
     let tab = c.args.tab.now in
-    rw (c.fill.ensures.after (λ y e. e), length-take-le 64 tab (omega arith)) (sums_first c.args.rows.now tab c.requires.1)
+    rw (c.fill.ensures.after (λ y e. e), length-take-le 64 tab (omega arith)) (sums_first c.args.rows.now tab c.requires)
 
 pub returns : goal.returns
 unfolding group_of

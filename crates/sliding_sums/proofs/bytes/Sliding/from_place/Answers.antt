@@ -5,4 +5,4 @@ use Rattle.sliding_sums.proofs.bytes.Sliding.from_place.Goals as goal
 pub invariant_of-result : goal.invariant_of-result
 invariant_of-result c =
     let s = c.args.self in
-    record { few = s.few; slices = rw (part_rest c.args.at s.tab.now) (s.slices c.args.at c.requires) }
+    record { slices = rw (part_rest c.args.at s.listed.tab.now) (s.slices c.args.at c.requires) }

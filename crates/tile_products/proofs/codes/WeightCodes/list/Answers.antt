@@ -1,7 +1,8 @@
 -- `list` meets its contract: each arm makes the lists of its kind.
-use Rattle.std.proofs.Common.{arith}
+use Rattle.std.proofs.Common.{length, arith}
 use Rattle.field.specs.Kinds.{modulus}
 use Rattle.field.proofs.KindLaws.{usable_prime}
+use Rattle.tile_products.proofs.Fitting.{groups_few}
 use Rattle.tile_products.proofs.Arms.{list_ready, byte_lists}
 use Rattle.tile_products.proofs.codes.WeightCodes.list.Goals as goal
 
@@ -20,9 +21,9 @@ pub list_output-requires : goal.list_output-requires
 list_output-requires c =
     let e = c.in-Binary.is in
     let pre = c.requires in
-    let g = c.groups_of-groups.ensures in
+    let few = groups_few (length c.args.weights.now) 64 (omega (arith, pre.few)) in
     let r = list_ready _ c.args.weights.now (rw e at c.args.self.made) (rw e at pre.below) in
-    (r.0, r.1, g.few, omega (arith, pre.long, g.value), pre.counted)
+    (r.0, r.1, omega (arith, pre.long, few), omega (arith, pre.long), pre.counted)
 
 pub returns-in-Prime : goal.returns-in-Prime
 unfolding modulus
@@ -32,4 +33,4 @@ pub returns-in-Binary : goal.returns-in-Binary
 returns-in-Binary c =
     let e = c.in-Binary.is in
     let pre = c.requires in
-    rw e (byte_lists _ _ c.groups_of-groups.ensures.value pre.few (rw e at pre.below) c.list_output.ensures)
+    rw e (byte_lists _ _ (omega (arith, pre.long)) pre.few (rw e at pre.below) c.list_output.ensures)

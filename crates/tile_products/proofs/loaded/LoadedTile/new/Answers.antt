@@ -1,5 +1,5 @@
 -- `new` meets its contract: over a prime field there is nothing to do.
-use Rattle.std.proofs.Common.{◌≡◌, ℕ, ◌*◌, ◌≤◌, length, ap, ◌∙◌, arith}
+use Rattle.std.proofs.Common.{◌≡◌, ℕ, ◌*◌, ◌/◌, ◌≤◌, List, length, ap, ◌∙◌, arith}
 use Rattle.lists.proofs.Numbers.{at_below}
 use Rattle.field.specs.Kinds.{modulus}
 use Rattle.field.specs.Widths.{bytes_for}
@@ -13,11 +13,15 @@ use Rattle.tile_products.proofs.loaded.LoadedTile.new.Goals.{Start, in-Prime, in
 few : (c : Start) → groups_of c.args.matrix.shape.rows ≤ 64
 few c = groups_few c.args.matrix.shape.rows 64 (omega (arith, c.args.matrix.few))
 
+-- a tile of symbols of one byte
+tile_groups : (b g : ℕ) (tile : List ℕ) → b ≡ 1 → length tile ≡ g * (b * 256) → length tile / 256 ≡ g
+tile_groups b g tile one long = let all : length tile ≡ g * (1 * 256) = long ∙ ap (λ (x : ℕ). g * (x * 256)) one in omega (arith, all)
+
 pub fill_table-requires : goal.fill_table-requires
 fill_table-requires c =
     let m = c.args.matrix.shape in
     let one : bytes_for (modulus m.field) ≡ 1 = rw c.in-Binary.is (byte_one _) in
-    rw c.groups_of.ensures.value (few (goal.at.fill_table-requires c).Start, c.requires.tile_long ∙ ap (λ (x : ℕ). groups_of m.rows * (x * 256)) one, c.requires.table_long)
+    rw (tile_groups _ (groups_of m.rows) c.args.tile.now one c.requires.tile_long) c.requires.table_long
 
 pub invariant_of-result : goal.invariant_of-result
 invariant_of-result c =
@@ -30,6 +34,7 @@ invariant_of-result c =
           record { bytes = bytes; loaded = rw (w.table-is, e) (prime_loaded _ (rw e at m.usable_field) less (rw e at c.requires.tile_long) c.requires.table_long) }
       | in-Binary w ↦
           let e = w.in-Binary.is in
-          let made = rw w.groups_of.ensures.value at w.fill_table.ensures in
+          let one : bytes_for (modulus m.shape.field) ≡ 1 = rw e (byte_one _) in
+          let made = rw (tile_groups _ (groups_of m.shape.rows) c.args.tile.now one c.requires.tile_long) at w.fill_table.ensures in
           record { bytes = bytes; loaded = rw (w.table-is, e) (byte_loaded _ less (rw e at c.requires.tile_long) (ap length made ∙ length_table _ _) made) }
     ]

@@ -3,7 +3,7 @@ use Rattle.std.proofs.Common.{◌≡◌, ℕ, ◌*◌, ap, ◌∙◌}
 use Rattle.field.specs.Kinds.{modulus}
 use Rattle.field.specs.Widths.{bytes_for}
 use Rattle.field.proofs.KindLaws.{usable_prime}
-use Rattle.tile_products.proofs.Arms.{prime_ready, prime_output, byte_one, byte_ready, byte_output}
+use Rattle.tile_products.proofs.Arms.{lists_groups, prime_ready, prime_output, byte_one, byte_ready, byte_output}
 use Rattle.tile_products.proofs.loaded.LoadedTile.output.Goals as goal
 
 pub new-requires : goal.new-requires
@@ -20,8 +20,8 @@ output-requires c =
 pub invariant_of-output : goal.invariant_of-output
 invariant_of-output c =
     let e = c.in-Binary.is in
-    let g = c.groups_of.ensures in
-    record { few = g.few; slices = byte_ready _ g.value (rw e at c.args.self.loaded) (rw e at c.requires.made) }
+    let made = rw e at c.requires.made in
+    record { slices = byte_ready _ (lists_groups made) (rw e at c.args.self.loaded) made }
 
 pub output-requires-in-Binary : goal.output-requires-in-Binary
 output-requires-in-Binary c =
@@ -37,4 +37,4 @@ pub returns-in-Binary : goal.returns-in-Binary
 returns-in-Binary c =
     let e = c.in-Binary.is in
     let s = c.args.self in
-    rw e (byte_output _ c.groups_of.ensures.value (rw e at s.loaded) s.matrix.few s.bytes c.output-in-Binary.ensures)
+    rw e (byte_output _ (lists_groups (rw e at c.requires.made)) (rw e at s.loaded) s.matrix.few s.bytes c.output-in-Binary.ensures)
