@@ -2,15 +2,13 @@
 use mathlib.Core.Path.{◌≡◌, ap, ◌∙◌}
 use mathlib.Core.Bool.{true}
 use mathlib.Core.List.{List, [], ◌∷◌}
-use Prim.Native.Nat.{ℕ, ◌+◌, ◌-◌, ◌≤◌, ◌<◌}
+use Prim.Native.Nat.{ℕ, ◌+◌, ◌<◌}
 use native.Mathlib.Nat.{zero-add}
 use lib.ListN.{length, get_or, take, drop}
-use lib.Seq.{drop-length}
 use Rattle.lists.specs.Numbers.{all_below}
-use Rattle.lists.proofs.Front.{drop_before}
 use Rattle.lists.proofs.Numbers.{below_cons, below_take, below_drop, below_at}
 use Rattle.lists.proofs.Rows.{length_from, get_or_from}
-use Rattle.field.specs.Fields.{is_field, size_of, sub, mul}
+use Rattle.field.specs.Fields.{is_field, size_of}
 use Rattle.field.proofs.Bounds.{one_below, sub_below, mul_below}
 use Rattle.field.proofs.Inverse.{inverse_below}
 use Rattle.interpolation.specs.Inner.Lagrange.{product_at, others_at, scale_at, basis_at, basis_values, scales_of}
@@ -32,16 +30,6 @@ length_values p xs z = length_from (λ i. basis_at p xs i z) 0 (length xs)
 pub get_or_values : (p : ℕ) (xs : List ℕ) (z i : ℕ) → i < length xs → get_or (basis_values p xs z) i 0 ≡ basis_at p xs i z
 unfolding basis_values
 get_or_values p xs z i l = get_or_from (λ i. basis_at p xs i z) 0 (length xs) i 0 l ∙ ap (λ (j : ℕ). basis_at p xs j z) (zero-add i)
-
--- the product over what is left at the end
-pub product_at_end : (p : ℕ) (xs : List ℕ) (z : ℕ) → product_at p (drop (length xs) xs) z ≡ 1
-unfolding product_at
-product_at_end p xs z = ap (λ (l : List ℕ). product_at p l z) (drop-length xs)
-
--- and one point before that
-pub product_at_next : (p : ℕ) (xs : List ℕ) (z i : ℕ) → 0 < i → i ≤ length xs → product_at p (drop (i - 1) xs) z ≡ mul p (sub p z (get_or xs (i - 1) 0)) (product_at p (drop i xs) z)
-unfolding product_at
-product_at_next p xs z i pos h = ap (λ (l : List ℕ). product_at p l z) (drop_before xs i 0 pos h)
 
 module _ (p : ℕ) (v : is_field p ≡ true) where
   pub product_at_below : (xs : List ℕ) (z : ℕ) → all_below (size_of p) xs ≡ true → z < size_of p → product_at p xs z < size_of p
