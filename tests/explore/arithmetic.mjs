@@ -50,12 +50,24 @@ function sheet(record) {
 const ends = ({ least, greatest }) => (least === greatest ? `${least}` : `${least}..${greatest}`);
 const costs = (name, { writes, reads }) => `${name} writes ${ends(writes)} reads ${reads.least} ${reads.greatest}`;
 
+// the bits that are moved for a symbol of a lost node, where k is below n: k whole symbols; by traces, b of each other node; and for bytes the
+// fewest bits that are worth 255·k, where each node's first is worth 128 and every further one half as much
+function rebuild(record, { n, k }) {
+  if (k === n) return [];
+  const bytes = record[0] === 2;
+  const b = bytes && [1, 2, 4].find((b) => n - k >= 2 ** (8 - b));
+  const worths = [128, 64, 32, 16, 8, 4, 2, 1].flatMap((worth) => Array(n - 1).fill(worth));
+  let owed = 255 * k, least = 0;
+  while (owed > 0) owed -= worths[least++];
+  return [`rebuild bits ${8 * (record[0] === 3 ? 2 : 1) * k}${b ? ` traces ${b * (n - 1)}` : ""}${bytes ? ` least ${least}` : ""}`];
+}
+
 function comparison(record) {
   const header = A.readRecord(record);
   if (header.number) return [`refused ${header.number}`];
   const plan = A.planOf(header), { writes, reads } = A.bound(plan.n, plan.k);
   const plain = A.figures(A.plainRows(plan)), ours = A.figures(plan.rows);
-  return [`compare ${plan.n} ${plan.k}`, costs("plain", plain), costs("balanced", ours), `bound writes ${writes} reads ${reads}`];
+  return [`compare ${plan.n} ${plan.k}`, costs("plain", plain), costs("balanced", ours), `bound writes ${writes} reads ${reads}`, ...rebuild(record, plan)];
 }
 
 function checkSheets() {

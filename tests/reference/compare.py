@@ -2,10 +2,12 @@
 """compare.py RECORD..: prints the comparison of the plain and the balanced layout of each record, in the order given.
 
 A record is one argument, as for sheet.py. The figures of the layouts are counted in their generators: a changed symbol writes
-the nodes where its row is not zero, and a node reads the symbols where its column is not zero.
+the nodes where its row is not zero, and a node reads the symbols where its column is not zero. The last line, where k is below n, has
+the bits that are moved for a symbol of a lost node.
 """
 import sys
 from balanced import build_plan, combine
+from traces import bits
 
 
 def plain_generator(plan):
@@ -36,6 +38,27 @@ def bound(n, k):
     return f"bound writes {d} reads {-(-k * d // n)}"
 
 
+def least_bits(d, k):
+    """The fewest bits of d nodes that are worth 255·k, where bit c of a node, from 0 on, is worth 2^(7 - c)."""
+    owed, total = 255 * k, 0
+    for worth in (128, 64, 32, 16, 8, 4, 2, 1):
+        taken = min(d, -(-owed // worth))
+        owed, total = max(0, owed - taken * worth), total + taken
+    return total
+
+
+def rebuild(plan):
+    """k whole symbols; by traces, where there is such a repair; the least, which is known of bytes."""
+    if plan.k == plan.n:
+        return []
+    parts = [f"rebuild bits {(8 if plan.field.size <= 256 else 16) * plan.k}"]
+    if bits(plan, 0):
+        parts.append(f"traces {bits(plan, 0) * (plan.n - 1)}")
+    if plan.field.size == 256:
+        parts.append(f"least {least_bits(plan.n - 1, plan.k)}")
+    return [" ".join(parts)]
+
+
 def comparison(record):
     number, plan = build_plan(record)
     if number:
@@ -45,6 +68,7 @@ def comparison(record):
         costs("plain", plain_generator(plan)),
         costs("balanced", plan.entries),
         bound(plan.n, plan.k),
+        *rebuild(plan),
     ]
 
 

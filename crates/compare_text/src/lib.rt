@@ -1,13 +1,17 @@
 // The comparison of the plain and the balanced layout as text.
 #![tactic(auto)]
 
-ghost use Rattle.std.specs.Prelude.{◌≡◌, ◌+◌, ◌*◌, ◌≤◌, length, Ok};
+mod bits;
+
+ghost use Rattle.std.specs.Prelude.{◌≡◌, ◌+◌, ◌*◌, ◌≤◌, ◌<◌, length, Ok};
 ghost use Rattle.generator.specs.Records.{record_of, distance};
 ghost use Rattle.generator.specs.Comparison.{plain_greatest, ComparedRecord};
 ghost use Rattle.text.specs.Writing.{OnPage};
 ghost use Rattle.text.specs.Inner.Writer.{room, Writes};
-ghost use Rattle.compare_text.specs.Comparison.{cost_line, comparison_for};
+ghost use Rattle.compare_text.specs.Comparison.{cost_line, whole_part, traces_part, least_part, rebuild_line, RebuildPriced, comparison_for};
 
+use bits::{least_bits, trace_bits};
+use field::Field;
 use generator::{Code, Header};
 use records::{high_reads, low_reads, read_record};
 use text::Writer;
@@ -33,9 +37,59 @@ fn write_cost(writer: &mut Writer, words: &str, writes: u8, reads: &[u8])
     writer.line(" reads", reads);
 }
 
-// The comparison of a code: its lines have at most 16, 31, 34 and 27 bytes. The writes are the distance in each.
+// The bits of k whole symbols.
+#[tactic(auto, using(field::proofs::Widths::bytes_range))]
+fn write_whole(writer: &mut Writer, code: Code)
+    requires { 18 ≤ room writer.old }
+    ensures text { Writes writer.old writer.new (whole_part code.header) }
+    ensures room { room writer.old ≤ room writer.new + 18 }
+{
+    let Header { field, k, .. } = code.header;
+    writer.word("rebuild bits");
+    writer.decimal_field(8 * field.width() as u32 * u32::from(k));
+}
+
+// The bits of a repair by traces, where there is one.
+fn write_traces(writer: &mut Writer, code: Code)
+    requires { 13 ≤ room writer.old }
+    ensures text { Writes writer.old writer.new (traces_part code.header) }
+    ensures room { room writer.old ≤ room writer.new + 13 }
+{
+    if let Some(b) = trace_bits(code) {
+        writer.word(" traces");
+        writer.decimal_field(b * u32::from(code.header.n - 1));
+    }
+}
+
+// The least bits, over the field of 256 elements.
+fn write_least(writer: &mut Writer, code: Code)
+    requires { 12 ≤ room writer.old }
+    ensures text { Writes writer.old writer.new (least_part code.header) }
+    ensures room { room writer.old ≤ room writer.new + 12 }
+{
+    let Header { field, n, k, .. } = code.header;
+    if let Field::Binary(_) = field {
+        writer.word(" least");
+        writer.decimal_field(least_bits(u32::from(n - 1), u32::from(k)));
+    }
+}
+
+// The line of a rebuild, where the other nodes give a node back.
+fn write_rebuild(writer: &mut Writer, code: Code)
+    requires { 44 ≤ room writer.old }
+    ensures { Writes writer.old writer.new (rebuild_line code.header) }
+{
+    if code.header.k < code.header.n {
+        write_whole(writer, code);
+        write_traces(writer, code);
+        write_least(writer, code);
+        writer.byte(b'\n');
+    }
+}
+
+// The comparison of a code: its lines have at most 16, 31, 34, 27 and 44 bytes. The writes are the distance in each.
 fn write_comparison(writer: &mut Writer, code: Code)
-    requires { 108 ≤ room writer.old }
+    requires { 152 ≤ room writer.old }
     ensures { Writes writer.old writer.new (comparison_for (Ok code.header)) }
 {
     let h = code.header;
@@ -45,14 +99,16 @@ fn write_comparison(writer: &mut Writer, code: Code)
     write_cost(writer, "plain writes", writes, &[1, plain_greatest(h)]);
     write_cost(writer, "balanced writes", writes, &[low_reads(code), high]);
     write_cost(writer, "bound writes", writes, &[high]);
+    write_rebuild(writer, code);
 }
 
 // Writes the comparison of a record at the front of a page, and gives its length (and no slice: see `written` of `Writer`). The figures are
-// those of the layouts. The page is lent, for the library has no heap.
+// those of the layouts, the bits those of repairs. The page is lent, for the library has no heap.
 // The texts differ in what reads the record and in what writes it: one function with two closures would be no plainer.
-pub fn comparison(rec: &[u8], out: &mut [u8; 108]) -> usize
+pub fn comparison(rec: &[u8], out: &mut [u8; 152]) -> usize
     ensures text { OnPage out.old out.new result (comparison_for (record_of rec.now)) }
     ensures figures { ComparedRecord (record_of rec.now) }
+    ensures bits { RebuildPriced rec.now }
 {
     let mut writer = Writer::new(out);
     match read_record(rec) {

@@ -2,8 +2,9 @@
 use std::alloc::AllocError;
 use thiserror::Error;
 
-// The first fault from the left; or there is no memory to read the line.
-#[derive(Clone, Copy, Debug, PartialEq, Eq, Error)]
+// The first fault from the left; or there is no memory to read the line. A word is a text of its own here: with a lent one, `&'static str`, the
+// borrow checker does not cover the calls that take a closure and answer with a fault.
+#[derive(Debug, Drop, Error)]
 pub enum Fault {
     #[error("unknown call")]
     UnknownCall,
@@ -11,10 +12,10 @@ pub enum Fault {
     UnknownWord,
     // The word that stands nowhere.
     #[error("{0} is missing")]
-    MissingWord(&'static str),
+    MissingWord(String),
     // The word with no number after it.
     #[error("{0} has no number")]
-    MissingNumber(&'static str),
+    MissingNumber(String),
     #[error("too many numbers")]
     TooManyNumbers,
     #[error("number too large")]

@@ -2,7 +2,7 @@
 ghost use Rattle.std.specs.Prelude.{◌≡◌, ◌≤◌, ◌↔◌, IsTrue, IfSome, IfOk, slice_get, vec_len};
 
 use crate::Fault;
-use std::alloc::Global;
+use std::alloc::{AllocError, Global};
 use std::iter::Peekable;
 use std::str::{FromStr, Split};
 
@@ -46,19 +46,19 @@ impl<'a> Words<'a> {
     }
 
     // What is wrong where another word than this one stands: this one is missing, or the other one is unknown there.
-    fn misplaced(&mut self, word: &'static str) -> Fault {
+    fn misplaced(&mut self, word: &str) -> Result<Fault, AllocError> {
         if self.rest.any(|next| next == word) {
-            Fault::UnknownWord
+            Ok(Fault::UnknownWord)
         } else {
-            Fault::MissingWord(word)
+            Ok(Fault::MissingWord(String::from_str(self.alloc, word)?))
         }
     }
 
     // Goes past the next word, which must be this one.
-    fn pass(&mut self, word: &'static str) -> Result<(), Fault> {
+    fn pass(&mut self, word: &str) -> Result<(), Fault> {
         match self.rest.next() {
             Some(next) if next == word => Ok(()),
-            _ => Err(self.misplaced(word)),
+            _ => Err(self.misplaced(word)?),
         }
     }
 
@@ -95,7 +95,7 @@ impl<'a> Words<'a> {
     }
 
     // A word and bytes.
-    pub fn bytes(&mut self, word: &'static str) -> Result<Vec<u8>, Fault>
+    pub fn bytes(&mut self, word: &str) -> Result<Vec<u8>, Fault>
         ensures { IfOk result (λ v. vec_len v ≤ 64) }
     {
         self.pass(word)?;
@@ -103,9 +103,12 @@ impl<'a> Words<'a> {
     }
 
     // A word and one number.
-    pub fn number(&mut self, word: &'static str) -> Result<u32, Fault> {
+    pub fn number(&mut self, word: &str) -> Result<u32, Fault> {
         self.pass(word)?;
-        self.numbers(1)?.pop().ok_or(Fault::MissingNumber(word))
+        match self.numbers(1)?.pop() {
+            Some(number) => Ok(number),
+            None => Err(Fault::MissingNumber(String::from_str(self.alloc, word)?)),
+        }
     }
 
     // The length of a buffer that is written.

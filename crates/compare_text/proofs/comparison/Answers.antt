@@ -1,5 +1,7 @@
 -- `comparison` meets its contract: the lines of the code that was read, or the number.
 use Rattle.generator.proofs.Comparison.{compared}
+use Rattle.repair_bound.proofs.Bound.{repair_bound}
+use Rattle.repair_bound.proofs.Prices.{trace_price}
 use Rattle.text.specs.Text.{ascii}
 use Rattle.text.proofs.Written.{written_page}
 use Rattle.compare_text.specs.Comparison.{comparison_for}
@@ -16,3 +18,6 @@ returns-clause-text c =
 
 pub returns-clause-figures : goal.returns-clause-figures
 returns-clause-figures c = compared _
+
+pub returns-clause-bits : goal.returns-clause-bits
+returns-clause-bits c = record { least = repair_bound _; traces = trace_price _ }
