@@ -6,7 +6,7 @@ use native.Mathlib.Omega.{arith}
 use lib.ListN.{length, drop}
 use Rattle.lists.specs.Padded.{zeros}
 use Rattle.lists.proofs.Fill.{filled_start, filled_put, filled_end}
-use Rattle.field.specs.Fields.{sub, mul}
+use Rattle.field.specs.Fields.{size_of, sub, mul}
 use Rattle.field.specs.Kinds.{modulus}
 use Rattle.field.proofs.Bounds.{one_below}
 use Rattle.field.proofs.KindLaws.{usable_field}
@@ -25,7 +25,8 @@ loop-m-init c =
 
 pub sub-factor-requires : goal.sub-factor-requires
 sub-factor-requires c =
-    (c.requires, rw c.from.ensures (next_below _ _ c.in-Some.ensures.steps.0 c.loop-m.invariant.1 _ c.args.self.symbols.below))
+    let low : c.from.result < size_of (modulus c.args.self.field.field) = rw c.from.ensures (next_below _ _ c.in-Some.ensures.steps.0 c.loop-m.invariant.1 _ c.args.self.symbols.below) in
+    (search, search)
 
 pub loop-m-preserved : goal.loop-m-preserved
 unfolding product_at
