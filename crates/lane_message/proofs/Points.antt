@@ -1,12 +1,13 @@
 -- The points of the rows: powers of the root, whose exponents count modulo n.
 use mathlib.Core.Path.{◌≡◌, sym, ap, ◌∙◌}
+use mathlib.Core.List.{List}
 use Prim.Native.Nat.{ℕ, ◌+◌, ◌-◌, ◌%◌, ◌≤◌, ◌<◌}
 use native.Mathlib.Omega.{arith}
 use lib.ListN.{length, get_or}
 use Rattle.lists.specs.Rows.{from}
 use Rattle.lists.specs.Padded.{padded}
 use Rattle.lists.proofs.Numbers.{below_at}
-use Rattle.lists.proofs.Padding.{get_or_padded}
+use Rattle.lists.proofs.Padding.{get_or_padded, length_padded}
 use Rattle.lists.proofs.Places.{map_from}
 use Rattle.algebra.proofs.Powers.{pow_mod}
 use Rattle.field.specs.Fields.{power}
@@ -28,6 +29,10 @@ module _ (h : Header) (s : Sound h) where
 
   pub length_shifts : length (shifts h) ≡ h.k
   length_shifts = shifts_length h.n h.k s.some s.fits
+
+  -- the padded list has a place for each row
+  pub rooms : (ss : List ℕ) → ss ≡ padded 255 (shifts h) → h.k ≤ length ss
+  rooms ss are = omega (arith, few, ap length are, length_padded 255 (shifts h) (omega (arith, length_shifts, few)))
 
   -- the shift of row r, read from the padded list
   pub shift_at : (r : ℕ) → r < h.k → (get_or (padded 255 (shifts h)) r 0 ≡ get_or (shifts h) r 0) × (get_or (padded 255 (shifts h)) r 0 < h.n)

@@ -43,9 +43,10 @@ impl GeneratorRows<'_, '_> {
         let powers = self.transform.powers.list;
         let n = h.n as usize;
         let k = h.k as usize;
+        let shifts = self.shifts;
         let mut out = [0u16; 255];
-        for r in 0..k {
-            let e = stepped(self.shifts[r] as usize, k - 1, n);
+        for (r, &shift) in shifts[..k].iter().enumerate() {
+            let e = stepped(shift as usize, k - 1, n);
             out[r] = powers[e];
         }
         out
