@@ -8,7 +8,7 @@ ghost use Rattle.layout.specs.Layout.{share_layout};
 ghost use Rattle.generator.specs.Answers.{numbered};
 ghost use Rattle.recover.specs.Promise.{recover_fault, rebuild_fault, RecoverPromise, RebuildPromise, RecoverSays, RebuildSays};
 
-use generator::{Code, Refusal};
+use generator::{Code, Codec, Refusal};
 use recover_matrix::Inverse;
 use shares::Weighted;
 
@@ -37,8 +37,9 @@ impl Listed<'_> {
         let k = h.k as usize;
         let shifts = shifts::shifts_of(self.code.dimensions());
         let setup = node_weights::prepare(self.code, self.nodes, &shifts[..k]);
+        let tables = field::constant_tables();
         let inverse = Inverse {
-            code: self.code,
+            codec: Codec::new(self.code, &tables),
             nodes: self.nodes,
             setup: &setup,
         };

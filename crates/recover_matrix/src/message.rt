@@ -15,7 +15,7 @@ const MIDDLE_SQUARE: usize = 8192;
 
 const LARGE_SQUARE: usize = 130050;
 
-impl Inverse<'_> {
+impl Inverse<'_, '_> {
     // The message in scratch for lists of so many elements, so many counts, and square matrices of so many bytes. A bound of a const parameter
     // stands in the clause: no value holds it.
     fn fill_in<const LISTS: usize, const COUNTS: usize, const SQUARE: usize>(
@@ -24,22 +24,23 @@ impl Inverse<'_> {
         shares: &[u8],
         out: &mut [u8],
     )
-        requires { (LISTS ≤ 130560) × (COUNTS ≤ 2040) × (SQUARE ≤ 130050) × ListRoom self.code.header.k LISTS COUNTS × (square_bytes self.code.header ≤ SQUARE) × (lanes ≤ 4096) × (length shares.now ≡ width self.code.header * self.code.header.k * lanes) × (length out.old ≡ width self.code.header * self.code.header.k * lanes) }
-        ensures { out.new ≡ inverse_product self.entry.code.header self.entry.nodes.now lanes shares.now }
+        requires { (LISTS ≤ 130560) × (COUNTS ≤ 2040) × (SQUARE ≤ 130050) × ListRoom self.codec.code.header.k LISTS COUNTS × (square_bytes self.codec.code.header ≤ SQUARE) × (lanes ≤ 4096) × (length shares.now ≡ width self.codec.code.header * self.codec.code.header.k * lanes) × (length out.old ≡ width self.codec.code.header * self.codec.code.header.k * lanes) }
+        ensures { out.new ≡ inverse_product self.entry.codec.code.header self.entry.nodes.now lanes shares.now }
     {
-        let w = symbols::width_of(self.code.header);
+        let w = symbols::width_of(self.codec.code.header);
         let mut lists = [0u16; LISTS];
         let mut counts = [0u8; COUNTS];
         self.list_rows::<SQUARE>(&mut lists, &mut counts);
         block_products::fill(self.product(lanes), w, &lists, &counts, shares, out);
     }
 
-    // The message of the nodes' shares, row after row, in the smallest scratch that the nodes fit: at most 16, at most 64, or any. Clearing the largest takes longer than the work of a small code. The arms name const parameters: a choice written once would need a trait for what is done in the scratch.
+    // The message of the nodes' shares, row after row, in the smallest scratch that the nodes fit: at most 16, at most 64, or any.
+    // Of clearing the largest and of the choice written once encode/src/lanes.rt says the same.
     pub fn fill_message(self, lanes: usize, shares: &[u8], out: &mut [u8])
-        requires { (lanes ≤ 4096) × (length shares.now ≡ width self.code.header * self.code.header.k * lanes) × (length out.old ≡ width self.code.header * self.code.header.k * lanes) }
-        ensures { out.new ≡ inverse_product self.entry.code.header self.entry.nodes.now lanes shares.now }
+        requires { (lanes ≤ 4096) × (length shares.now ≡ width self.codec.code.header * self.codec.code.header.k * lanes) × (length out.old ≡ width self.codec.code.header * self.codec.code.header.k * lanes) }
+        ensures { out.new ≡ inverse_product self.entry.codec.code.header self.entry.nodes.now lanes shares.now }
     {
-        let k = self.code.header.k;
+        let k = self.codec.code.header.k;
         if k <= 16 {
             self.fill_in::<SMALL_LISTS, SMALL_COUNTS, SMALL_SQUARE>(lanes, shares, out)
         } else if k <= 64 {

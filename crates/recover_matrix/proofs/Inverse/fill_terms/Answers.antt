@@ -20,37 +20,37 @@ use Rattle.recover_matrix.proofs.Inverse.fill_terms.Goals as goal
 use Rattle.recover_matrix.proofs.Inverse.fill_terms.Goals.{After-row_terms-row, In-loop-r}
 
 -- a row lies within the buffer
-row_in : (c : In-loop-r) → let h = c.args.self.code.header in c.loop-r.r * (width h * h.k) + width h * h.k ≤ length c.args.out.now
+row_in : (c : In-loop-r) → let h = c.args.self.codec.code.header in c.loop-r.r * (width h * h.k) + width h * h.k ≤ length c.args.out.now
 row_in c =
-    let h = c.args.self.code.header in
+    let h = c.args.self.codec.code.header in
     omega (arith, c.requires, mul_comm (width h * h.k) h.k, row_inside h.k c.loop-r.r (width h * h.k) c.loop-r-test.true)
 
 -- the row's terms, k symbols
-terms : (c : In-loop-r) → let h = c.args.self.code.header in Symbols (modulus_of h) h.k (row_terms h c.loop-r.r)
-terms c = let s = c.args.self.code.sound in term_symbols c.args.self.code.header s (few s) c.loop-r.r c.loop-r-test.true
+terms : (c : In-loop-r) → let h = c.args.self.codec.code.header in Symbols (modulus_of h) h.k (row_terms h c.loop-r.r)
+terms c = let s = c.args.self.codec.code.sound in term_symbols c.args.self.codec.code.header s (few s) c.loop-r.r c.loop-r-test.true
 
 -- they are what is lent
-taken : (c : After-row_terms-row) → let h = c.args.self.code.header in take h.k c.row_terms-row.result ≡ row_terms h c.loop-r.r
-taken c = rw (c.row_terms-row.ensures, c.new-codec.ensures) (take_padded 255 _ _ (terms (goal.at.After-row_terms-row c).In-loop-r).size)
+taken : (c : After-row_terms-row) → let h = c.args.self.codec.code.header in take h.k c.row_terms-row.result ≡ row_terms h c.loop-r.r
+taken c = rw c.row_terms-row.ensures (take_padded 255 _ _ (terms (goal.at.After-row_terms-row c).In-loop-r).size)
 
 pub row_terms-row-requires : goal.row_terms-row-requires
 unfolding setup_of
 row_terms-row-requires c =
     let v = c.args.self in
-    rw c.new-codec.ensures (ap (λ (t : Setup). t.shifts) v.prepared, ap (λ (t : Setup). t.base) v.prepared, c.loop-r-test.true)
+    (ap (λ (t : Setup). t.shifts) v.prepared, ap (λ (t : Setup). t.base) v.prepared, c.loop-r-test.true)
 
 pub write_symbols-requires : goal.write_symbols-requires
 write_symbols-requires c =
-    let h = c.args.self.code.header in
+    let h = c.args.self.codec.code.header in
     let wide = c.width_of-w.ensures in
     let l = c.loop-r in
     let row = terms (goal.at.write_symbols-requires c).In-loop-r in
     rw (taken (goal.at.write_symbols-requires c).After-row_terms-row, wide)
-    (symbols_fit h c.args.self.code.sound (row_terms h l.r) row.are.below, part_length (l.r * (width h * h.k)) (width h * h.k) l.out (omega (arith, l.invariant.long, row_in (goal.at.write_symbols-requires c).In-loop-r)) ∙ mul_comm (width h) h.k ∙ ap (λ (x : ℕ). x * width h) (sym row.size))
+    (symbols_fit h c.args.self.codec.code.sound (row_terms h l.r) row.are.below, part_length (l.r * (width h * h.k)) (width h * h.k) l.out (omega (arith, l.invariant.long, row_in (goal.at.write_symbols-requires c).In-loop-r)) ∙ mul_comm (width h) h.k ∙ ap (λ (x : ℕ). x * width h) (sym row.size))
 
 pub loop-r-preserved : goal.loop-r-preserved
 loop-r-preserved c =
-    let h = c.args.self.code.header in
+    let h = c.args.self.codec.code.header in
     let w = width h in
     let l = c.loop-r in
     let row = row_terms h l.r in
@@ -60,6 +60,6 @@ loop-r-preserved c =
 
 pub returns : goal.returns
 returns c =
-    let h = c.args.self.code.header in
+    let h = c.args.self.codec.code.header in
     fills_all (rw (rows_end _ _ _ c.loop-r-test.false) at c.loop-r.invariant) (rw (c.requires, mul_comm (width h * h.k) h.k) (mul-le-mul c.loop-r-test.false (le_refl _)))
     ∙ bytes_rows (width h) (row_terms h) 0 h.k

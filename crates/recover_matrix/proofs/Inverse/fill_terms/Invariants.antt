@@ -9,5 +9,5 @@ use Rattle.recover_matrix.proofs.Inverse.fill_terms.Given as goal
 
 abbrev pub invariant-loop-r : goal.invariant-loop-r
 invariant-loop-r l =
-    let h = l.self.code.header in
+    let h = l.self.codec.code.header in
     Fills l.initial.out l.out (l.r * (width h * h.k)) (rows_from (λ r. bytes_of (width h) (row_terms h r)) l.r (h.k - l.r)) (rows_from (λ r. bytes_of (width h) (row_terms h r)) 0 h.k)

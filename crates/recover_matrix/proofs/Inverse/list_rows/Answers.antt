@@ -17,8 +17,8 @@ square h w room wide fits = rw wide (length-take-le _ _ (omega (arith, length-re
 
 pub fill-requires : goal.fill-requires
 fill-requires g c =
-    let h = c.args.self.code.header in
-    let s = c.args.self.code.sound in
+    let h = c.args.self.codec.code.header in
+    let s = c.args.self.codec.code.sound in
     let wide = c.width_of-w.ensures in
     let part = square h c.width_of-w.result.bytes g.row.SQUARE wide c.requires.1 in
     rw c.product.ensures
@@ -28,5 +28,5 @@ pub list_from-requires : goal.list_from-requires
 list_from-requires g c =
     let v = c.args.self in
     let product = c.product.ensures in
-    let made = rw product at (c.fill.ensures (node_quotient v.code.header v.nodes.now) (rw product c.list_quotients.ensures)) in
-    (sums_written v.code.header v.nodes.now c.width_of-w.ensures c.fill_terms.ensures made, c.new-codes.ensures, rw (c.list_quotients.auto.lists, c.list_quotients.auto.counts) c.requires.2)
+    let made = rw product at (c.fill.ensures (node_quotient v.codec.code.header v.nodes.now) (rw product c.list_quotients.ensures)) in
+    (sums_written v.codec.code.header v.nodes.now c.width_of-w.ensures c.fill_terms.ensures made, c.new-codes.ensures, rw (c.list_quotients.auto.lists, c.list_quotients.auto.counts) c.requires.2)

@@ -5,16 +5,16 @@ use Rattle.recover_matrix.proofs.Inverse.quotient.Goals as goal
 pub invariant_of-product : goal.invariant_of-product
 invariant_of-product c =
     let v = c.args.self in
-    let own = own_parts v.code.sound v.nodes.now v.different v.prepared in
-    rw (c.requires.0, own.product) record { symbols = own.some_product.are }
+    let own = own_parts v.codec.code.sound v.nodes.now v.different v.prepared in
+    rw (v.codec.same, own.product) record { symbols = own.some_product.are }
 
 pub quotient-requires : goal.quotient-requires
 quotient-requires c =
     let v = c.args.self in
-    rw c.requires.0 (point_below v.code.sound v.nodes.now v.different v.prepared _ c.requires.1)
+    rw v.codec.same (point_below v.codec.code.sound v.nodes.now v.different v.prepared _ c.requires)
 
 pub returns : goal.returns
 returns c =
     let v = c.args.self in
-    let own = own_parts v.code.sound v.nodes.now v.different v.prepared in
-    rw (c.quotient.ensures, c.requires.0, own.product, own.point c.args.i c.requires.1)
+    let own = own_parts v.codec.code.sound v.nodes.now v.different v.prepared in
+    rw (c.quotient.ensures, v.codec.same, own.product, own.point c.args.i c.requires)

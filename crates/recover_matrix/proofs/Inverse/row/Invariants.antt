@@ -11,7 +11,7 @@ use Rattle.recover_matrix.proofs.Inverse.row.Given as goal
 
 abbrev pub invariant-loop-i : goal.invariant-loop-i
 invariant-loop-i l =
-    let h = l.self.code.header in
+    let h = l.self.codec.code.header in
     let js = l.self.nodes.now in
     let p = modulus_of h in
     Filled 255 h.k (λ j. mul p (mul p (get_or (scales_of p (row_points h)) l.r 0) (get_or (scales_of p (node_points h js)) j 0)) (get_or (inverse_sums h js) (j * h.k + l.r) 0)) l.i l.out
