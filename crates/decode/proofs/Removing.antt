@@ -1,15 +1,14 @@
 -- A lane less the errors at some nodes: one node after the other, and what it holds at each.
 use mathlib.Core.Path.{◌≡◌, refl, sym, ap, ◌∙◌}
 use mathlib.Core.Bool.{true}
-use mathlib.Core.List.{List, [], ◌∷◌, ◌++◌}
+use mathlib.Core.List.{List, [], ◌∷◌}
 use Prim.Native.Nat.{ℕ, zero, suc, ◌+◌, ◌≤◌, ◌<◌}
 use native.Mathlib.Omega.{arith}
-use lib.ListN.{length, get_or, set, drop, replicate, length-set, drop_of_length-le}
+use lib.ListN.{length, get_or, set, drop, length-set, drop_of_length-le}
 use lib.Seq.{get_or-set_same, get_or-set_other, set-append_left}
 use Rattle.lists.specs.Numbers.{all_below}
 use Rattle.lists.specs.Padded.{padded, zeros}
 use Rattle.lists.proofs.All.{All, All-at, Distinct}
-use Rattle.lists.proofs.Fill.{drop_zeros}
 use Rattle.lists.proofs.Front.{drop_next}
 use Rattle.lists.proofs.Numbers.{below_cons, below_get_or, below_set}
 use Rattle.lists.proofs.Padding.{get_or_padded}

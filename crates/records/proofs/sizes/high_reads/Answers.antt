@@ -1,5 +1,5 @@
 -- `high_reads` meets its contract: a quotient rounded up is that of the number with n − 1 more.
-use Rattle.std.proofs.Common.{ℕ, ◌≡◌, ◌+◌, ◌-◌, ◌*◌, ◌/◌, ◌%◌, ◌<◌, ◌≤◌, min, sym, refl, ◌∙◌, arith}
+use Rattle.std.proofs.Common.{ℕ, ◌≡◌, ◌+◌, ◌-◌, ◌/◌, ◌%◌, ◌<◌, min, sym, refl, ◌∙◌, arith}
 use Rattle.std.proofs.Math.Nat.{div-eq_of_lt-le, div-lt_iff_lt-mul}
 use Rattle.std.proofs.lemmas.Grind.{div_ceil_times}
 use Rattle.generator.specs.Records.{high_reads}
