@@ -105,8 +105,9 @@ impl Job<'_> {
         self.fill_lanes(&mut tile, &mut table, &mut words, out);
     }
 
-    // In scratch for at most 16 rows of bytes, for at most 64, or for any: clearing the largest takes longer than the work of a small product.
-    // The arms name const parameters: a choice written once would need a trait for what is done in the scratch.
+    // In scratch for at most 16 rows of bytes, for at most 64, or for any: clearing the largest takes longer than all of
+    // Encode of 64 lanes at (15, 10). The arms name const parameters: a choice written once would be a trait with a generic method and an `impl` for
+    // each of the four crates that choose so, in place of two `if`s in each.
     pub fn fill(self, out: &mut [u8])
         requires { length out.old ≡ out_bytes self.m.way self.w.bytes self.m.outputs self.m.lanes }
         ensures { let j = self.entry in (ws : ℕ → List ℕ) → Begun (modulus j.m.field) j.m.rows ws j.m.outputs j.lists.now j.counts.now → out.new ≡ result_bytes j.m.way j.w.bytes j.m.outputs j.m.lanes (lane_sum j.m j.w.bytes ws j.source.now) }

@@ -19,7 +19,7 @@ fn bits_for(checks: usize) -> Option<u32>
 }
 
 // The bits that a node sends in a repair by traces; none where there is none. `Bits` of repair_tables is a type for them, above sums of rows
-// and check sums, which the program that prints would wait for.
+// and check sums: for these few lines this crate would stand on them too.
 pub fn trace_bits(code: Code) -> Option<u32>
     ensures { MatchOption result (bits code.header 0 ≡ 0) (λ b. (b ≡ bits code.header 0) × (0 < b) × (b ≤ 4)) }
 {

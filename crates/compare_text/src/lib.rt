@@ -14,8 +14,8 @@ use bits::{least_bits, trace_bits};
 use field::Field;
 use generator::{Code, Header};
 use records::{high_reads, low_reads, read_record};
-use text::Writer;
 pub use text::page;
+use text::{FewDigits, Writer};
 
 // The greatest reads of a node of the plain layout.
 fn plain_greatest(h: Header) -> u8
@@ -46,7 +46,10 @@ fn write_whole(writer: &mut Writer, code: Code)
 {
     let Header { field, k, .. } = code.header;
     writer.word("rebuild bits");
-    writer.decimal_field(8 * field.width() as u32 * u32::from(k));
+    let bits = FewDigits {
+        value: 8 * field.width() as u32 * u32::from(k),
+    };
+    writer.field(bits);
 }
 
 // The bits of a repair by traces, where there is one.
@@ -57,7 +60,10 @@ fn write_traces(writer: &mut Writer, code: Code)
 {
     if let Some(b) = trace_bits(code) {
         writer.word(" traces");
-        writer.decimal_field(b * u32::from(code.header.n - 1));
+        let bits = FewDigits {
+            value: b * u32::from(code.header.n - 1),
+        };
+        writer.field(bits);
     }
 }
 
@@ -70,7 +76,10 @@ fn write_least(writer: &mut Writer, code: Code)
     let Header { field, n, k, .. } = code.header;
     if let Field::Binary(_) = field {
         writer.word(" least");
-        writer.decimal_field(least_bits(u32::from(n - 1), u32::from(k)));
+        let bits = FewDigits {
+            value: least_bits(u32::from(n - 1), u32::from(k)),
+        };
+        writer.field(bits);
     }
 }
 
@@ -104,7 +113,7 @@ fn write_comparison(writer: &mut Writer, code: Code)
 
 // Writes the comparison of a record at the front of a page, and gives its length (and no slice: see `written` of `Writer`). The figures are
 // those of the layouts, the bits those of repairs. The page is lent, for the library has no heap.
-// The texts differ in what reads the record and in what writes it: one function with two closures would be no plainer.
+// As in sheet_text, one function for what answers a record would be no plainer.
 pub fn comparison(rec: &[u8], out: &mut [u8; 152]) -> usize
     ensures text { OnPage out.old out.new result (comparison_for (record_of rec.now)) }
     ensures figures { ComparedRecord (record_of rec.now) }

@@ -83,8 +83,7 @@ impl Message<'_> {
     }
 
     // The same in the smallest scratch that the record's nodes fit. Clearing the largest takes 9 µs, all of
-    // Encode of 64 lanes at (15, 10) 2. The arms name const parameters: a choice written once would be a trait with a generic method and an `impl`
-    // for each of the three crates that choose so, in place of two `if`s in each.
+    // Encode of 64 lanes at (15, 10) 2. Of the choice written once block_products (src/job.rt) says what it would be.
     pub fn fill_lanes(self, out: &mut [u8])
         requires { length out.old ≡ share_bytes self }
         ensures { out.new ≡ encoded self.entry }

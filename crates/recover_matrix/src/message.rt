@@ -35,7 +35,7 @@ impl Inverse<'_, '_> {
     }
 
     // The message of the nodes' shares, row after row, in the smallest scratch that the nodes fit: at most 16, at most 64, or any.
-    // Of clearing the largest and of the choice written once encode/src/lanes.rt says the same.
+    // Clearing what 64 nodes take was 6 % of Recover of 64 lanes at (15, 10). Of the choice written once block_products (src/job.rt) says what it would be.
     pub fn fill_message(self, lanes: usize, shares: &[u8], out: &mut [u8])
         requires { (lanes ≤ 4096) × (length shares.now ≡ width self.codec.code.header * self.codec.code.header.k * lanes) × (length out.old ≡ width self.codec.code.header * self.codec.code.header.k * lanes) }
         ensures { out.new ≡ inverse_product self.entry.codec.code.header self.entry.nodes.now lanes shares.now }

@@ -62,7 +62,7 @@ impl Block<'_> {
     }
 
     // Marks all lanes, which have the mark 0 before, in the smallest scratch that the record's nodes fit: clearing the largest takes four times as
-    // long as Encode of 64 lanes at (15, 10), and of the choice written once encode/src/lanes.rt says the same.
+    // long as Encode of 64 lanes at (15, 10), and of the choice written once block_products (src/job.rt) says what it would be.
     pub fn mark_lanes(self, marks: &mut [u8])
         requires { marks.old ≡ zeros self.lanes }
         ensures { let b = self.entry in marks.new ≡ word_marks share_layout b.code.header b.lanes (symbols_of (width b.code.header) b.shares.now) }

@@ -12,7 +12,7 @@ use Rattle.compare_text.proofs.write_least.Goals as goal
 pub returns-in-Binary-clause-text : goal.returns-in-Binary-clause-text
 unfolding least_part modulus ascii
 returns-in-Binary-clause-text c =
-    rw c.in-Binary.is (writes_then c.word.ensures (rw (c.least_bits.ensures.is, c.from.ensures, c.from-in-Binary.ensures) at c.decimal_field.ensures.text))
+    rw c.in-Binary.is (writes_then c.word.ensures (rw (c.least_bits.ensures.is, c.from.ensures, c.from-in-Binary.ensures) at c.field.ensures.text))
 
 pub returns-in_default-clause-text : goal.returns-in_default-clause-text
 unfolding least_part modulus

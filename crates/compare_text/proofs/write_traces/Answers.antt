@@ -11,7 +11,7 @@ pub returns-in-Some-clause-text : goal.returns-in-Some-clause-text
 unfolding traces_part moved_by_traces ascii
 returns-in-Some-clause-text c =
     let (is, some, few) = c.in-Some.ensures in
-    rw (← is, ne_eqb c.in-Some.b 0 (λ z. omega (arith, some))) (writes_then c.word.ensures (rw c.from.ensures at c.decimal_field.ensures.text))
+    rw (← is, ne_eqb c.in-Some.b 0 (λ z. omega (arith, some))) (writes_then c.word.ensures (rw c.from.ensures at c.field.ensures.text))
 
 pub returns-in_default-clause-text : goal.returns-in_default-clause-text
 unfolding traces_part

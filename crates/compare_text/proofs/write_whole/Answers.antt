@@ -7,4 +7,4 @@ use Rattle.compare_text.proofs.write_whole.Goals as goal
 
 pub returns-clause-text : goal.returns-clause-text
 unfolding whole_part ascii width
-returns-clause-text c = writes_then c.word.ensures (rw (c.width.ensures, c.from.ensures) at c.decimal_field.ensures.text)
+returns-clause-text c = writes_then c.word.ensures (rw (c.width.ensures, c.from.ensures) at c.field.ensures.text)
