@@ -1,16 +1,20 @@
 # The commands that people expect. `make help` lists them.
 # The scripts read these variables from the environment, as they were typed: neither make nor a shell ever reads their text.
 RECORD ?= 1 7 3 6 4
+N ?= 6
+K ?= 5
 override RECORD := $(value RECORD)
+override N := $(value N)
+override K := $(value K)
 override LIBRARY := $(value LIBRARY)
 override PREFIX := $(value PREFIX)
 override LIBDIR := $(value LIBDIR)
 override DESTDIR := $(value DESTDIR)
-export RECORD LIBRARY PREFIX LIBDIR DESTDIR
+export RECORD N K LIBRARY PREFIX LIBDIR DESTDIR
 # started by make, too, the programs' output is all that stands on standard output
 MAKEFLAGS += --no-print-directory
 
-.PHONY: help build test wrong sheet plain compare weights plans programs library install demo explore bench docs
+.PHONY: help build test wrong sheet plain compare weights record plans programs library install demo explore bench docs
 
 help: ## this list
 	@awk -F ':.*## ' '/^[a-z]+:.*## / { printf "make %-8s %s\n", $$1, $$2 }' Makefile
@@ -27,12 +31,15 @@ compare: ## the costs of the plain layout and of ours: make compare RECORD='2 2 
 weights: ## a record's messages by their nodes that are not zero: make weights RECORD='1 7 3 6 3'
 	@tools/run_program.py weights
 
+record: ## a record for n nodes of which k are needed that carries bytes, and what it costs: make record N=6 K=5
+	@tools/run_program.py record
+
 plans: ## every accepted record of kind 1 with p up to 31, a line `p α n k` for each
 	@tools/prove.py small_plans
 	@crates/small_plans/out/small_plans
 
 programs: ## prove and compile all programs that the documents use, `cases` among them: crates/NAME/out/NAME
-	@tools/prove.py sheet plain compare weights small_plans cases
+	@tools/prove.py sheet plain compare weights record small_plans cases
 
 library: ## prove the calls and make the library, static and shared, for every x86-64 and for newer processors, in target/lib
 	@tools/build_library.sh

@@ -33,3 +33,6 @@ target/bench/wide "${1:-15}"
 
 gcc -std=gnu11 -O2 -Wall -Wextra -Iinclude -o target/bench/traces bench/traces.c target/lib/libbalanced.a
 target/bench/traces "${1:-15}"
+
+gcc -std=gnu11 -O2 -Wall -Wextra -Iinclude -o target/bench/carry bench/carry.c target/lib/libbalanced.a
+target/bench/carry "${1:-15}"

@@ -1,5 +1,6 @@
 #!/usr/bin/env bash
-# The image store at work, in a folder of its own that is removed at the end: 15 nodes, an image of 5 MB, six faults, an update.
+# The image store at work, in a folder of its own that is removed at the end: 15 nodes, an image of 5 MB, six faults, an update; the same
+# image on six nodes, and on 51 nodes, one of which is made anew from a few bits of each symbol of the others.
 #
 #     make demo
 set -euo pipefail
@@ -57,3 +58,19 @@ try imagestore check
 into firmware.bin 1234567 <patch.bin
 try imagestore get firmware copy.bin
 same firmware.bin copy.bin
+
+say "Any number of nodes from 2 to 255 will do. The image on six nodes, any five of which give it back:"
+imagestore init six.toml --needed 5 six{0..5} >/dev/null
+echo '$ imagestore init six.toml --needed 5 six{0..5}'
+try imagestore --store six.toml put firmware firmware.bin
+try rm -r six2
+try imagestore --store six.toml get firmware copy.bin
+same firmware.bin copy.bin
+
+say "On 51 nodes, any 30 of which give it back, a lost node is made anew from 4 bits of each symbol of 45 others:"
+imagestore init many.toml --needed 30 many{00..50} >/dev/null
+echo '$ imagestore init many.toml --needed 30 many{00..50}'
+imagestore --store many.toml put firmware firmware.bin >/dev/null
+echo '$ imagestore --store many.toml put firmware firmware.bin'
+try rm -r many07
+try imagestore --store many.toml rebuild 7

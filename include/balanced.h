@@ -50,7 +50,7 @@
  *   so many bytes that may be read and, where it is not `const`, written. Bytes that are read have been initialised;
  *   a buffer that is only written need not be. A length that is not what the call asks for meets BALANCED_LENGTH.
  * - Null. No pointer is null, not even with the length 0.
- * - Alignment. Byte buffers may start anywhere. What has the type uint16_t or uint32_t is aligned as that type is.
+ * - Alignment. Byte buffers may start anywhere. What has the type uint16_t, uint32_t or size_t is aligned as that type is.
  * - Aliasing. What a call writes overlaps nothing else that is lent to the same call. Buffers that are only read may
  *   overlap, or be one.
  * - Threads. There is no state outside the buffers. Calls may run at the same time in any number of threads as long as
@@ -451,6 +451,76 @@ uint8_t balanced_listed_to_nodes(const uint8_t *record, size_t record_len,
  */
 uint8_t balanced_weights(const uint8_t *record, size_t record_len,
                          uint32_t *counts, size_t counts_len);
+
+/*
+ * Bytes on any number of nodes: any bytes, carried in the symbols of a record.
+ *
+ * A record of kind 2 has bytes for symbols, and there n is 3, 5, 15, 17, 51, 85 or 255. Every n from 2 to 255 can be had with symbols of
+ * two bytes, which are the numbers below a prime. These calls carry any bytes in such symbols, in little more room: 1/255 more with a
+ * prime from 65,296 on. Bytes are taken two by two as words of 16 bits, the last of an odd number with a zero behind it. Each group of up
+ * to 255 words, with lesser primes fewer, becomes a mask, which is a symbol, and then the words, each the exclusive or of the word and
+ * the mask. So what is carried is a list of symbols, which balanced_encode and every other call take; where it does not fill the
+ * k * lanes symbols of a block, zeros fill it up.
+ *
+ * Records of kind 2 carry bytes as they are. Records of kind 1, and those of kind 3 with a prime below 34,816, carry none: BALANCED_CARRY,
+ * which is tested right after 1 to 5, for the lengths depend on it.
+ */
+
+/*
+ * How many bytes the symbols take that carry so many bytes.
+ *
+ *   bytes_len    how many bytes are to be carried; up to 2 to the power 62
+ *   carried_len  receives how many bytes the symbols take
+ *
+ * Returns 0 or one of 1 to 5, 8, 18.
+ */
+uint8_t balanced_carried_len(const uint8_t *record, size_t record_len,
+                             size_t bytes_len,
+                             size_t *carried_len);
+
+/*
+ * Carries bytes in symbols.
+ *
+ *   bytes    any bytes, read
+ *   symbols  written; symbols_len is what balanced_carried_len says for bytes_len
+ *
+ * Returns 0 or one of 1 to 5, 8, 18.
+ */
+uint8_t balanced_carry_in(const uint8_t *record, size_t record_len,
+                          const uint8_t *bytes, size_t bytes_len,
+                          uint8_t *symbols, size_t symbols_len);
+
+/*
+ * Reads the bytes that symbols carry.
+ *
+ *   symbols  read; symbols_len is what balanced_carried_len says for bytes_len
+ *   bytes    written: of symbols that balanced_carry_in wrote, the bytes that it read
+ *
+ * A group is read under whatever mask stands before it: a program may change one word of a group, as one symbol, where the new word under
+ * the mask is a symbol.
+ *
+ * Returns 0 or one of 1 to 5, 8, 11, 18.
+ */
+uint8_t balanced_carry_out(const uint8_t *record, size_t record_len,
+                           const uint8_t *symbols, size_t symbols_len,
+                           uint8_t *bytes, size_t bytes_len);
+
+/* The length of the longest record. */
+#define BALANCED_RECORD 7
+
+/*
+ * A record with n nodes, any k of which give a message back, that carries bytes: kind 2 where n divides 255, else kind 3 with the largest
+ * prime that fits. Every n from 2 to 255 and every k from 1 to n has one.
+ *
+ *   record      BALANCED_RECORD bytes: the first *record_len are written, the others are left as they are
+ *   room        BALANCED_RECORD, which is 7
+ *   record_len  receives the length of the record, 4 or 7
+ *
+ * Returns 0 or one of 4, 8.
+ */
+uint8_t balanced_choose(uint32_t n, uint32_t k,
+                        uint8_t *record, size_t room,
+                        uint32_t *record_len);
 
 /*
  * Rosters: which nodes are present.

@@ -105,6 +105,10 @@ def statuses():
             (["tools/run_program.py", "sheet", "1", "7", "2", "6", "3"], 1, "refused 5\n", "root: 2 has order 3 modulo 7"),
             (["tools/run_program.py", "weights", "1", "7", "3", "6", "6"], 1, "refused 16\n", "many: "),
             (["tools/run_program.py", "sheet", "x"], 2, "", "is not a number"),
+            (["tools/run_program.py", "record", "15", "10"], 0, program("record", bytes([15, 10])), ""),
+            (["tools/run_program.py", "record", "15", "16"], 1, "refused 4\n", "size: n is from 2 to 255"),
+            (["tools/run_program.py", "record", "15"], 2, "", "write n and k"),
+            (["tools/run_program.py", "record", "256", "1"], 2, "", "write n and k"),
             (["tools/run_program.py", "cases", "1"], 2, "", "usage: "),
             (["tools/run_program.py"], 2, "", "usage: "),
             (["tools/prove.py"], 2, "", "usage: "),
@@ -121,6 +125,14 @@ def cutting():
 
 
 # ---------------------------------------------------------------- make
+
+def asking():
+    """n and k come from make's variables."""
+    for n, k in ((6, 5), (15, 10), (255, 1)):
+        for words, variables in [(["make", "record", f"N={n}", f"K={k}"], {}), (["make", "record"], {"N": str(n), "K": str(k)})]:
+            ended = command(words, **variables)
+            expect(ended.stdout == program("record", bytes([n, k])) and ended.returncode == 0, f"{' '.join(words)}: {ended}")
+
 
 def making():
     """make's targets give the programs' output and nothing else, also where this Makefile's make starts make."""
@@ -154,6 +166,10 @@ def keeping_out():
                     ended = command(["make", target, *given], **variables)
                     expect(ended.returncode and not ended.stdout and "is not a number" in ended.stderr, f"make {target} RECORD={text!r}: {ended}")
                     expect(not os.path.exists(file), f"make {target} ran the text {text!r}")
+            for given in (f"N={text}", f"K={text}"):
+                ended = command(["make", "record", given])
+                expect(ended.returncode and not ended.stdout and "is not a number" in ended.stderr, f"make record {given!r}: {ended}")
+                expect(not os.path.exists(file), f"make record ran the text {text!r}")
             command(["make", "help", f"LIBRARY={text}"])
             expect(not os.path.exists(file), f"make ran the text {text!r} of LIBRARY")
 
@@ -198,7 +214,7 @@ def waiting():
 
 
 def main():
-    for part in (reading, refusing, statuses, cutting, making, keeping_out, waiting):
+    for part in (reading, refusing, statuses, cutting, asking, making, keeping_out, waiting):
         part()
     for fault in faults:
         print(fault)

@@ -93,6 +93,10 @@ static uint8_t run_add_share(const struct argument *a) {
     return balanced_add_share(a[0].at, a[1].value, u32(a + 2), a[3].at, a[4].value, a[5].at, a[6].value);
 }
 static uint8_t run_weights(const struct argument *a) { return balanced_weights(a[0].at, a[1].value, a[2].at, a[3].value); }
+static uint8_t run_carried_len(const struct argument *a) { return balanced_carried_len(a[0].at, a[1].value, a[2].value, a[3].at); }
+static uint8_t run_carry_in(const struct argument *a) { return balanced_carry_in(a[0].at, a[1].value, a[2].at, a[3].value, a[4].at, a[5].value); }
+static uint8_t run_carry_out(const struct argument *a) { return balanced_carry_out(a[0].at, a[1].value, a[2].at, a[3].value, a[4].at, a[5].value); }
+static uint8_t run_choose(const struct argument *a) { return balanced_choose(u32(a), u32(a + 1), a[2].at, a[3].value, a[4].at); }
 static uint8_t run_start(const struct argument *a) { return balanced_roster_start(a[0].at, a[1].value, a[2].at, a[3].value); }
 static uint8_t run_leave(const struct argument *a) { return balanced_roster_leave(a[0].at, a[1].value, a[2].at, a[3].value, u32(a + 4)); }
 static uint8_t run_rejoin(const struct argument *a) { return balanced_roster_rejoin(a[0].at, a[1].value, a[2].at, a[3].value, u32(a + 4)); }
@@ -157,6 +161,18 @@ static void set_damaged(void) { damage(LANE * N + 3); }
 static void set_one_damaged(void) { damage(3); }
 /* a message of one symbol: few enough messages to count */
 static void set_small(void) { lent.record[RECORD_LEN - 1] = 1; }
+/* a prime that carries bytes, an odd number of bytes of which some are no symbols, and the symbols that carry them */
+enum { CARRIED = 41, CARRYING = 44 };
+static void set_carried_bytes(void) {
+    static const uint8_t record[RECORD_LEN] = { 3, 255, 241, 15, 41, 16, 8 };
+    memcpy(lent.record, record, sizeof record);
+    for (unsigned i = 0; i < CARRIED; i++) lent.one[i] = (uint8_t)(i % 7 < 2 ? 255 : 37 * i + 5);
+}
+static void set_carrying_symbols(void) {
+    set_carried_bytes();
+    balanced_carry_in(lent.record, RECORD_LEN, lent.one, CARRIED, lent.two, CARRYING);
+    memset(lent.one, 0, ROOM);
+}
 static void set_roster(void) {
     balanced_roster_start(lent.record, RECORD_LEN, lent.one, BALANCED_ROSTER);
     balanced_roster_leave(lent.record, RECORD_LEN, lent.one, BALANCED_ROSTER, 1);
@@ -193,6 +209,10 @@ static const struct call calls[] = {
     { "differences", run_differences, set_change, { RECORD, VALUE(LANES), VALUE(SYMBOL), READ(one, W * LANES), READ(two, W * LANES), WRITTEN(BYTES, three, W * N * LANES, "differences") } },
     { "add_share", run_add_share, set_change, { RECORD, VALUE(LANES), READ(one, W * LANES), WRITTEN(BYTES, two, W * LANES, "share") } },
     { "weights", run_weights, set_small, { RECORD, WRITTEN(WORDS, first, N + 1, "counts") } },
+    { "carried_len", run_carried_len, set_carried_bytes, { RECORD, { LENGTH, NULL, CARRIED, NULL }, { SIZES, &lent.size, 0, "carried_len" } } },
+    { "carry_in", run_carry_in, set_carried_bytes, { RECORD, READ(one, CARRIED), WRITTEN(BYTES, two, CARRYING, "symbols") } },
+    { "carry_out", run_carry_out, set_carrying_symbols, { RECORD, READ(two, CARRYING), WRITTEN(BYTES, one, CARRIED, "bytes") } },
+    { "choose", run_choose, NULL, { VALUE(N + 1), VALUE(K), WRITTEN(BYTES, one, BALANCED_RECORD, "record"), GIVES(first, "record_len") } },
     { "roster_start", run_start, NULL, { RECORD, WRITTEN(BYTES, one, BALANCED_ROSTER, "roster") } },
     { "roster_leave", run_leave, set_roster, { RECORD, WRITTEN(BYTES, one, BALANCED_ROSTER, "roster"), VALUE(LANE) } },
     { "roster_rejoin", run_rejoin, set_roster, { RECORD, WRITTEN(BYTES, one, BALANCED_ROSTER, "roster"), VALUE(TARGET) } },

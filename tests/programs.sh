@@ -1,6 +1,7 @@
 #!/usr/bin/env bash
 # The programs that read a record take eight bytes of it: `sheet`, `plain`, `compare` and `weights` on records of every kind and length, held to what
 # the Python reference prints. A record of kind 3 has seven bytes; longer ones, and those of kind 1 that are too long, meet number 2.
+# And `record`, on n and k.
 # Needs the proved programs (`make programs`, or `rt ci`) and Python.
 set -euo pipefail
 cd "$(dirname "$0")/.."
@@ -16,4 +17,8 @@ for program in sheet plain compare weights; do
         diff <(bytes "$record" | "crates/$program/out/$program") <(python3 "tests/reference/$program.py" "$record") || { echo "$program of the record '$record' differs"; exit 1; }
     done
 done
-echo "${#records[@]} records by four programs: as the reference prints them"
+asked=("" "6" "6 5" "6 5 0" "0 0" "1 1" "2 1" "2 2" "3 2" "6 0" "6 7" "15 10" "16 3" "51 30" "100 60" "251 125" "253 84" "254 127" "255 120" "255 255" "255 0")
+for sizes in "${asked[@]}"; do
+    diff <(bytes "$sizes" | crates/record/out/record) <(python3 tests/reference/record.py "$sizes") || { echo "record of '$sizes' differs"; exit 1; }
+done
+echo "${#records[@]} records by four programs, and ${#asked[@]} that were asked for: as the reference prints them"

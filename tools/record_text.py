@@ -1,4 +1,4 @@
-"""A record as people write it: its numbers in base ten, parted by spaces, to its bytes."""
+"""A record as people write it, its numbers in base ten, parted by spaces, to its bytes; and n and k, which ask for one."""
 import re
 
 FORM = "write its numbers in base ten, parted by spaces, as in RECORD='1 7 3 6 4'."
@@ -36,3 +36,11 @@ def bytes_of(text):
     if numbers[0] == 3:
         return wide_bytes(numbers)
     raise NoRecord(f"{max(numbers)} is above 255, and a number of a record is one byte. A prime above a byte has kind 3: {WIDE_FORM}")
+
+
+def counts_of(text):
+    """The two bytes that ask for a record: n and k."""
+    numbers = numbers_of(text)
+    if len(numbers) != 2 or max(numbers) > 255:
+        raise NoRecord("write n and k, two numbers up to 255, as in N=6 K=5.")
+    return bytes(numbers)

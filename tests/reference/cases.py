@@ -7,6 +7,8 @@ import sys
 from balanced import (
     belongs, build_plan, correct, encode, find_update, rebuild, recover, single_mends, to_lanes, to_nodes, update, weights,
 )
+from carry import carried_len, carry_in, carry_out
+from choose import choose
 from data import block, refused
 from differences import add_share, differences
 from rearranged import listed_to_lanes, listed_to_nodes
@@ -39,11 +41,16 @@ CALLS = {
     "repair_plan": ["count"],
     "differences": ["lanes", "symbol", "before", "after", "room"],
     "add_share": ["lanes", "symbols", "shares"],
+    "carried_len": ["count"],
+    "carry_in": ["bytes", "room"],
+    "carry_out": ["symbols", "room"],
+    "choose": ["n", "k", "room"],
 }
+NO_RECORD = {"choose"}
 WRITERS = {
     "encode": encode, "recover": recover, "rebuild": rebuild, "to_lanes": to_lanes, "to_nodes": to_nodes,
     "listed_to_lanes": listed_to_lanes, "listed_to_nodes": listed_to_nodes, "repair_bits": repair_bits, "repair_share": repair_share,
-    "differences": differences, "add_share": add_share,
+    "differences": differences, "add_share": add_share, "carry_in": carry_in, "carry_out": carry_out,
 }
 HISTORY = History()  # of the roster that the calls on a roster share
 
@@ -96,6 +103,12 @@ def answer(name, record, arguments):
     if name == "repair_plan":
         number, plan = repair_plan(record, *arguments)
         return f"refused {number}" if number else f"bits {plan[0]} spare {plan[1]}"
+    if name == "carried_len":
+        number, length = carried_len(record, *arguments)
+        return f"refused {number}" if number else f"length {length}"
+    if name == "choose":
+        number, chosen = choose(*arguments)
+        return refused(number) if number else f"length {len(chosen)} record{block(chosen.ljust(arguments[2], bytes([170])))}"
     if name == "weights":
         number, counts = weights(record, *arguments)
         return refused(number) if number else "done" + "".join(f" {count}" for count in counts)
@@ -107,7 +120,7 @@ def answered(line):
     if is_comment(line):
         return line
     try:
-        return f"{line}: {answer(*read_line(line, CALLS))}"
+        return f"{line}: {answer(*read_line(line, CALLS, NO_RECORD))}"
     except NotRead as fault:
         return f"{line}: no call, {fault}"
 

@@ -1,13 +1,13 @@
 """Calls in words, read strictly.
 
 A line is a name and the record's bytes, then words with the numbers that they stand for, in base ten, each after one space. `message`,
-`nodes`, `shares`, `before`, `after`, `symbols`, `missing`, `share` and `rows` stand for up to 64 bytes, `room`, the length of the buffer that is
+`nodes`, `shares`, `before`, `after`, `symbols`, `missing`, `share`, `rows` and `bytes` stand for up to 64 bytes, `room`, the length of the buffer that is
 written, for a number up to 64, and every other word for a number below 2^32. A word that stands nowhere is missing; one that stands
 further on has an unknown word before it.
 """
 import re
 
-LISTS = {"message", "nodes", "shares", "before", "after", "symbols", "missing", "share", "rows"}
+LISTS = {"message", "nodes", "shares", "before", "after", "symbols", "missing", "share", "rows", "bytes"}
 MOST = 64
 
 
@@ -44,13 +44,13 @@ class Line:
         return numbers[0]
 
 
-def read_line(line, calls):
-    """The call's name, the record, and the arguments in the order of calls[name]."""
+def read_line(line, calls, no_record=()):
+    """The call's name, the record, and the arguments in the order of calls[name]. Lines of calls in `no_record` have no record."""
     rest = Line(line)
     name = rest.words.pop(0)
     if name not in calls:
         raise NotRead("unknown call")
-    record = rest.take(MOST, 255)
+    record = [] if name in no_record else rest.take(MOST, 255)
     arguments = [rest.argument(word) for word in calls[name]]
     if rest.words:
         raise NotRead("unknown word")

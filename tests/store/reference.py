@@ -19,18 +19,16 @@ def image_of(paths):
     for head, data in zip(headers, shares):
         if head["writes"][head["node"]] == newest["writes"][head["node"]]:
             held[head["node"]] = share_reader.blocks(data)
-    k, image = newest["k"], b""
-    nodes = sorted(held)[:k]
-    assert len(nodes) == k, "fewer than k share files belong together"
-    plan = code.plan_of(*code.read(list(newest["record"])))
-    for block in range(len(held[nodes[0]])):
-        image += message(plan, nodes, [held[node][block] for node in nodes])
-    image = image[:newest["size"]]
-    assert share_reader.digest(image, k, newest["lanes"]).to_bytes(32, "big") == newest["digest"]
-    return image
-
-
-def message(plan, nodes, rows):
-    """The message whose encoding has these rows at these nodes, by the inverse of the generator's columns."""
+    record, image = newest["record"], b""
+    nodes = sorted(held)[:newest["k"]]
+    assert len(nodes) == newest["k"], "fewer than k share files belong together"
+    plan = code.plan_of(*code.read(list(record)))
+    # what takes the symbols of these nodes to the message
     matrix = code.inverse_matrix(plan.field, [plan.column(node) for node in nodes])
-    return b"".join(code.combine(plan.field, line, rows) for line in matrix)
+    for block in range(len(held[nodes[0]])):
+        size = min(share_reader.capacity(record, newest["lanes"]), newest["size"] - len(image))
+        rows = [plan.symbols(held[node][block]) for node in nodes]
+        message = [symbol for line in matrix for symbol in code.combine(plan.field, line, rows)]
+        image += share_reader.carried(record, message, size)
+    assert share_reader.digest(image, record, newest["lanes"]).to_bytes(32, "big") == newest["digest"]
+    return image

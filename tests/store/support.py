@@ -62,7 +62,7 @@ class StoreCase(unittest.TestCase):
         """A new store of folders."""
         self.n, self.k, self.lanes = n, k, lanes
         self.places = [self.top / self.store.stem / f"n{node:03}" for node in range(n)]
-        self.right("init", self.store, "--needed", k, "--lanes", lanes, *self.places)
+        self.record = bytes(self.right("init", self.store, "--needed", k, "--lanes", lanes, *self.places)["record"])
 
     def bytes(self, count):
         return self.random.randbytes(count)
@@ -126,6 +126,10 @@ class StoreCase(unittest.TestCase):
         return sorted(str(path.relative_to(self.top)) for place in self.places if place.is_dir() for path in place.iterdir()
                       if path.suffix != ".share" and path.name != ".imagestore")
 
+    def digest(self, data):
+        """The digest of an image in this store, by the reader that was written from the document."""
+        return share_reader.digest(data, self.record, self.lanes).to_bytes(32, "big").hex()
+
     def all_right(self, *images):
         """Every node is there and right, and nothing is left over; the only image is one of these, or of none there is any."""
         result = self.right("check")
@@ -133,5 +137,5 @@ class StoreCase(unittest.TestCase):
         self.assertEqual(self.left_over(), [])
         seen = [one["digest"] for one in result["images"]]
         if images:
-            digests = [share_reader.digest(data, self.k, self.lanes).to_bytes(32, "big").hex() if data is not None else "" for data in images]
+            digests = [self.digest(data) if data is not None else "" for data in images]
             self.assertIn("".join(seen), digests)

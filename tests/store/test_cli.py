@@ -61,30 +61,32 @@ class CommandLine(StoreCase):
         self.make(3, 2, 16)
         for words in ([], ["nothing"], ["put"], ["put", "a"], ["get", "a"], ["rebuild"], ["rebuild", "x"], ["update", "a", "--at", "x", "f"],
                       ["plan"], ["leave"], ["put", "a/b", self.file(b"")], ["rebuild", 3], ["rebuild", -1], ["leave", 9], ["--wait", -1, "list"],
-                      ["--threads", 0, "list"], ["plan", "--nodes", 6, "--needed", 5], ["plan", "--nodes", 300, "--needed", 5],
+                      ["--threads", 0, "list"], ["plan", "--nodes", 1, "--needed", 1], ["plan", "--nodes", 256, "--needed", 5],
                       ["plan", "--nodes", 15, "--needed", 0], ["plan", "--nodes", 15, "--needed", 16]):
             status, out, err = command("--store", self.store, *words)
             self.assertEqual((status, out), (2, ""), words)
             self.assertTrue(err, words)
 
     def test_plan(self):
-        for n in (3, 5, 15, 17, 51, 85, 255):
+        for n in (2, 3, 4, 5, 6, 15, 17, 51, 85, 100, 253, 254, 255):
             for k in (1, n // 2, n):
                 figures = init.plan(n, k)
                 self.assertEqual((figures["nodes"], figures["needed"], figures["nodes_written_by_a_change"]), (n, k, n - k + 1))
         _, out, _ = command("plan", "--nodes", 15, "--needed", 10)
         self.assertIn("record 2 11 15 10\n", out)
         self.assertIn("a changed byte writes 6 nodes; a node depends on 4 of 10 symbols", out)
-        with self.assertRaisesRegex(UsageError, "on 3, 5, 15, 17, 51, 85 or 255 nodes, not on 6"):
-            init.plan(6, 5)
+        _, out, _ = command("plan", "--nodes", 6, "--needed", 5)
+        self.assertIn("storage: 1.20 bytes for each byte\n", out)
+        self.assertAlmostEqual(init.plan(6, 5)["storage"], 1.2 * 256 / 255, 3)
 
     def test_init(self):
         self.make(3, 2, 16)
         folders = [self.top / f"m{i}" for i in range(3)]
         for status, words in ((1, [self.store, "--needed", 2, *folders]), (2, [self.top / "s", "--needed", 0, *folders]),
                               (2, [self.top / "s", "--needed", 4, *folders]), (2, [self.top / "s", "--needed", 2, folders[0], *folders[:2]]),
-                              (1, [self.top / "s", "--needed", 2, *self.places]), (2, [self.top / "s", "--needed", 1, *folders[:2]]),
+                              (1, [self.top / "s", "--needed", 2, *self.places]), (2, [self.top / "s", "--needed", 1, *folders[:1]]),
                               (2, [self.top / "s", "--needed", 2, "--lanes", 4097, *folders]),
+                              (2, [self.top / "s", "--needed", 1, "--lanes", 1, *folders[:2]]),
                               (2, [self.top / "s", "--needed", 2, "-oProxyCommand=x:/y", "a:/b", "c:/d"]),
                               (2, [self.top / "s", "--needed", 2, "--", "-oProxyCommand=x:/y", "a:/b", "c:/d"]),
                               (2, [self.top / "s", "--needed", 2, "a:relative", "b:/b", "c:/d"]),

@@ -122,7 +122,14 @@ class Crashes(CrashCase):
 
 
 class OtherRecords(CrashCase):
-    """51 nodes, where a share is made anew by traces."""
+    """Six nodes, on which words are carried behind masks; 51 nodes, where a share is made anew by traces."""
+
+    def test_update_of_carried_bytes(self):
+        self.make(6, 5, 16)
+        self.old = self.bytes(70)
+        self.put(self.old)
+        self.new = self.old[:20] + b"thirty bytes that are new now." + self.old[50:]
+        self.every_stop(self.old_or_new, "update", "image", "--at", "20", self.file(self.new[20:50], "part"))
 
     def test_rebuild_by_traces(self):
         self.make(51, 33, 2)

@@ -3,10 +3,10 @@ import io
 import threading
 import time
 import unittest
-from types import SimpleNamespace
 
 import support  # noqa: F401
 import balanced
+import share_reader
 from imagestore import carrier, layout, pipeline, progress
 from imagestore.errors import UsageError
 
@@ -69,33 +69,28 @@ class Pipeline(unittest.TestCase):
 
 
 class Carrying(unittest.TestCase):
-    def test_records_that_carry_no_bytes_yet(self):
-        plan = balanced.Plan([3, 1, 1, 0, 16, 4, 2])
-        if not hasattr(plan, "carry_in"):
-            with self.assertRaisesRegex(UsageError, "kind 2 alone"):
-                carrier.check(plan)
+    def test_records_that_carry_no_bytes(self):
+        for record in ([3, 1, 1, 0, 16, 4, 2], [1, 7, 3, 6, 3]):
+            with self.assertRaisesRegex(UsageError, "do not carry bytes"):
+                carrier.check(balanced.Plan(record))
 
-    def test_a_record_of_another_kind(self):
-        """By calls that stand in for the library's: for each 10 bytes there is one word of 2 bytes more."""
-        def carried_len(size):
-            return 2 * (-(-size // 2) + -(-size // 10))
-
-        plan = SimpleNamespace(
-            record=b"\3", k=3, symbol_len=2, message_len=lambda lanes: 3 * lanes * 2, carried_len=carried_len,
-            carry_in=lambda data: bytes(data).ljust(carried_len(len(data)), b"\0"), carry_out=lambda symbols, size: bytes(symbols[:size]))
-        for lanes in (1, 2, 5, 100):
-            most = carrier.capacity(plan, lanes)
-            self.assertLessEqual(carried_len(most), plan.message_len(lanes))
-            self.assertGreater(carried_len(most + 1), plan.message_len(lanes))
-            for size in {1, 2, most // 2 or 1, most}:
-                fewest = carrier.fewest_lanes(plan, size)
-                self.assertLessEqual(carried_len(size), plan.message_len(fewest))
-                self.assertTrue(fewest == 1 or carried_len(size) > plan.message_len(fewest - 1))
-                data = bytes(range(size % 256)) * (size // max(1, size % 256)) + bytes(size % max(1, size % 256))
-                data = data[:size].ljust(size, b"x")
-                message = carrier.carry(plan, lanes, data)
-                self.assertEqual(len(message), plan.message_len(lanes))
-                self.assertEqual(carrier.uncarry(plan, message, size), data)
+    def test_blocks(self):
+        """A block holds as many bytes as fit, the last one has as few lanes as hold the rest, and all of them come back."""
+        for n, k in ((15, 10), (2, 1), (6, 5), (253, 100), (12, 4)):
+            plan = balanced.Plan(carrier.choose(n, k))
+            for lanes in (1, 2, 5, 100):
+                most = carrier.capacity(plan, lanes)
+                self.assertEqual(most, share_reader.capacity(plan.record, lanes))
+                self.assertLessEqual(plan.carried_len(most), plan.message_len(lanes))
+                self.assertGreater(plan.carried_len(most + 1), plan.message_len(lanes))
+                for size in {size for size in (1, 2, most // 2, most - 1, most) if 0 < size <= most}:
+                    fewest = carrier.fewest_lanes(plan, size)
+                    self.assertLessEqual(plan.carried_len(size), plan.message_len(fewest))
+                    self.assertTrue(fewest == 1 or plan.carried_len(size) > plan.message_len(fewest - 1))
+                    data = bytes(i * i % 256 for i in range(size))
+                    message = carrier.carry(plan, lanes, data)
+                    self.assertEqual(len(message), plan.message_len(lanes))
+                    self.assertEqual(carrier.uncarry(plan, message, size), data)
 
 
 class Layouts(unittest.TestCase):

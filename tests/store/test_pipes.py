@@ -27,7 +27,8 @@ class PipeCase(StoreCase):
         self.places = [self.top / self.store.stem / f"n{node:03}" for node in range(n)]
         wanted = [f"h{node}:{place}" for node, place in enumerate(self.places)]
         ssh = " ".join(f"'{word}'" for word in self.ssh)
-        self.right("init", self.store, "--needed", k, "--lanes", lanes, "--ssh", ssh, "--program", self.program, *wanted)
+        words = ["--needed", k, "--lanes", lanes, "--ssh", ssh, "--program", self.program]
+        self.record = bytes(self.right("init", self.store, *words, *wanted)["record"])
 
 
 class Served(PipeCase):

@@ -6,7 +6,7 @@ from support import StoreCase
 from test_pipes import CountedCase
 
 import balanced
-from imagestore import arithmetic, carrier, repair, share
+from imagestore import arithmetic, repair, share
 
 
 class Repairs(StoreCase):
@@ -118,8 +118,8 @@ class Repairs(StoreCase):
     def test_when(self):
         """Where bits of the others are less than k whole shares, and nowhere else."""
         for n, k, wanted in ((17, 1, None), (51, 1, None), (51, 26, 9), (51, 30, 5), (51, 35, 0), (51, 36, None), (15, 1, None), (85, 30, 39),
-                             (85, 21, None), (255, 120, 7), (255, 51, 76), (255, 10, None), (255, 239, 0), (255, 240, None)):
-            plan = balanced.Plan(carrier.choose(n, k))
+                             (85, 21, None), (255, 120, 7), (255, 51, 76), (255, 10, None), (255, 239, 0), (255, 240, None), (254, 120, None)):
+            plan = balanced.Plan(balanced.choose(n, k))
             self.assertEqual(repair.spare(plan, 4096, 0), wanted, (n, k))
 
 

@@ -52,10 +52,11 @@ class Headers(unittest.TestCase):
 class Files(StoreCase):
     def test_read_without_the_program(self):
         """Images of every sort of length, put and updated, from k share files of each store by the document and the reference."""
-        for n, k, lanes in ((3, 2, 4), (5, 2, 8), (15, 10, 16), (17, 9, 4)):
+        for n, k, lanes in ((3, 2, 4), (5, 2, 8), (15, 10, 16), (17, 9, 4), (2, 1, 9), (6, 5, 16), (12, 4, 150), (23, 3, 8)):
             self.store = self.top / f"s{n}.toml"
             self.make(n, k, lanes)
-            for length in (0, 1, k, k + 1, k * lanes - 1, k * lanes, k * lanes + 1, 3 * k * lanes, 3 * k * lanes + 5):
+            block = share_reader.capacity(self.record, lanes)
+            for length in (0, 1, k, k + 1, block - 1, block, block + 1, 3 * block, 3 * block + 5):
                 data = bytearray(self.bytes(length))
                 self.put(data)
                 self.compare(data)

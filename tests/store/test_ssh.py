@@ -57,7 +57,8 @@ class OverSsh(PipeCase):
         self.n, self.k, self.lanes = n, k, lanes
         self.places = [self.top / self.store.stem / f"n {node:03}" for node in range(n)]  # a blank in the name, for the far shell
         wanted = [f"127.0.0.1:{place}" for place in self.places]
-        self.right("init", self.store, "--needed", k, "--lanes", lanes, "--ssh", " ".join(self.ssh), "--program", PROGRAM, *wanted)
+        words = ["--needed", k, "--lanes", lanes, "--ssh", " ".join(self.ssh), "--program", PROGRAM]
+        self.record = bytes(self.right("init", self.store, *words, *wanted)["record"])
 
     def test_an_image(self):
         """put, update, get with a node lost, rebuild, rm: as on folders."""

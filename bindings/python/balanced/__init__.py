@@ -29,6 +29,7 @@ A record of kind 3 has symbols of two bytes, high byte first:
 >>> balanced.symbols_from_bytes(plan.encode(1, balanced.symbols_to_bytes([1, 256])))
 [17, 15, 240, 242]
 """
+from .carrying import choose
 from .errors import (
     ERRORS,
     AlreadyError,
@@ -64,5 +65,5 @@ __all__ = [
     "ERRORS", "MAX_LANES", "MAX_NODES", "ROSTER_LEN", "Added", "AlreadyError", "BodyError", "CarryError", "Error", "FarError",
     "FieldError", "Finding", "KindError", "LanesError", "LengthError", "ManyError", "NoSingleUpdate", "Plan", "RangeError", "RootError",
     "Roster", "SizeError", "StaleError", "SymbolError", "TracesError", "TwiceError", "Unchanged", "UnevenError", "WordError",
-    "library_path", "symbols_from_bytes", "symbols_to_bytes",
+    "choose", "library_path", "symbols_from_bytes", "symbols_to_bytes",
 ]

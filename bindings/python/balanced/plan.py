@@ -8,6 +8,7 @@ from operator import index
 from typing import TYPE_CHECKING
 
 from .calls import call
+from .carrying import Carrying
 from .changes import Changes
 from .findings import Finding, finding
 from .rearranged import Rearranged
@@ -20,7 +21,7 @@ if TYPE_CHECKING:
 
 
 @dataclass(frozen=True, init=False)
-class Plan(Changes, Rearranged, Repairs):
+class Plan(Changes, Carrying, Rearranged, Repairs):
     """A record that was accepted, the plan that it stands for, and the calls on its blocks.
 
     A record is a buffer of bytes or a list of them; one that is not accepted raises an error from `KindError` to `RootError`.

@@ -5,7 +5,7 @@ where the call was accepted. A new call is one entry here and one method of `Pla
 """
 from __future__ import annotations
 
-from ctypes import c_uint8, c_uint16, c_uint32
+from ctypes import c_size_t, c_uint8, c_uint16, c_uint32
 from typing import Any, NamedTuple, Union
 
 
@@ -64,6 +64,10 @@ CALLS: dict[str, tuple[Parameter, ...]] = {
     "listed_to_nodes": (RECORD, LANES, read("by_lane"), written("by_node")),
     "differences": (RECORD, LANES, Number("symbol"), read("old_symbols"), read("new_symbols"), written("differences")),
     "add_share": (RECORD, LANES, read("difference"), written("share")),
+    "carried_len": (RECORD, Number("bytes_len", c_size_t), Result("carried_len", c_size_t)),
+    "carry_in": (RECORD, read("bytes"), written("symbols")),
+    "carry_out": (RECORD, read("symbols"), written("bytes")),
+    "choose": (Number("n"), Number("k"), written("record"), Result("record_len")),
     "weights": (RECORD, written("counts", c_uint32)),
     "repair_plan": (RECORD, Number("missing"), Result("bits"), Result("spare")),
     "repair_bits": (RECORD, LANES, Number("node"), Number("target"), read("missing"), read("share"), written("bits")),

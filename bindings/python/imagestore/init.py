@@ -4,7 +4,7 @@ import os
 import balanced
 
 from . import carrier, repair, settings
-from .errors import StoreError, UsageError
+from .errors import StoreError
 from .node import FREE, MAKE
 from .session import Session
 
@@ -12,9 +12,10 @@ from .session import Session
 def figures(record):
     """What a record means for who runs a store by it."""
     plan = balanced.Plan(record)
+    storage = plan.n * plan.share_len(balanced.MAX_LANES) / carrier.capacity(plan, balanced.MAX_LANES)
     return {
         "record": list(plan.record), "nodes": plan.n, "needed": plan.k, "may_be_lost": plan.n - plan.k,
-        "wrong_set_right": (plan.n - plan.k) // 2, "storage": plan.n / plan.k, "nodes_written_by_a_change": plan.d,
+        "wrong_set_right": (plan.n - plan.k) // 2, "storage": storage, "nodes_written_by_a_change": plan.d,
         "symbols_a_node_depends_on": [plan.low_reads, plan.high_reads], **reading(plan)}
 
 
@@ -28,8 +29,6 @@ def reading(plan):
 
 
 def plan(n, k):
-    if not (2 <= n <= 255 and 1 <= k <= n):
-        raise UsageError(f"a store has 2 to 255 nodes, and from 1 to all of them are needed; not {n} and {k}")
     return figures(carrier.choose(n, k))
 
 

@@ -68,6 +68,8 @@ def checked(settings):
         raise UsageError(f"{settings.path}: the record has {plan.n} nodes, and {len(settings.nodes)} are listed")
     if not 1 <= settings.lanes <= balanced.MAX_LANES:
         raise UsageError(f"{settings.path}: lanes is from 1 to {balanced.MAX_LANES}, not {settings.lanes}")
+    if carrier.capacity(plan, settings.lanes) == 0:
+        raise UsageError(f"{settings.path}: a block of {settings.lanes} lanes holds no bytes: take more")
     for place in settings.nodes:
         check_place(place)
     return settings

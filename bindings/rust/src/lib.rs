@@ -38,9 +38,9 @@
 //! # Storage and stack
 //!
 //! A block of k·L symbols is stored as n·L. A symbol is a byte in kind 2, and there n is 3, 5, 15, 17, 51, 85 or 255: an image
-//! takes n/k times its size on all nodes together. Kind 3 has every n from 2 to 255; a symbol there is two bytes and carries
-//! one byte, or 15 bits with a prime from 32,768 on, so that an image takes 2·n/k or 16/15·n/k times its size. Putting bits
-//! into symbols is the caller's work.
+//! takes n/k times its size on all nodes together. Kind 3 has every n from 2 to 255; a symbol there is two bytes, and [`carry_in`]
+//! carries any bytes in such symbols, at 1/255 more room where the prime is 65,296 or above, and 1/6 more at most. [`Plan::choose`]
+//! gives a plan that carries bytes for any n and k.
 //!
 //! No call allocates. A call takes less than 664 KiB of stack ([`Plan::recover`] the most): threads of Rust's standard library,
 //! which have 2 MiB, are large enough; a thread that is made with another size ([`std::thread::Builder::stack_size`]) needs
@@ -166,6 +166,7 @@
 //! ```
 
 mod calls;
+mod carry;
 mod differences;
 mod error;
 mod lanes;
@@ -178,6 +179,7 @@ pub mod sys;
 pub use calls::{
     belongs, correct, encode, listed_to_lanes, listed_to_nodes, rebuild, recover, to_lanes, to_nodes, update, weights,
 };
+pub use carry::{carried_len, carry_in, carry_out, choose};
 pub use differences::{add_share, differences};
 pub use error::Error;
 pub use lanes::{find_update, mends, Finding};

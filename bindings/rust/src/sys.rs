@@ -228,5 +228,27 @@ extern "C" {
         count: *mut u32,
     ) -> u8;
 
+    pub fn balanced_carried_len(record: *const u8, record_len: usize, bytes_len: usize, carried_len: *mut usize) -> u8;
+
+    pub fn balanced_carry_in(
+        record: *const u8,
+        record_len: usize,
+        bytes: *const u8,
+        bytes_len: usize,
+        symbols: *mut u8,
+        symbols_len: usize,
+    ) -> u8;
+
+    pub fn balanced_carry_out(
+        record: *const u8,
+        record_len: usize,
+        symbols: *const u8,
+        symbols_len: usize,
+        bytes: *mut u8,
+        bytes_len: usize,
+    ) -> u8;
+
+    pub fn balanced_choose(n: u32, k: u32, record: *mut u8, room: usize, record_len: *mut u32) -> u8;
+
     pub fn balanced_weights(record: *const u8, record_len: usize, counts: *mut u32, counts_len: usize) -> u8;
 }

@@ -5,3 +5,4 @@ mod Lanes
 mod Corrections
 mod RowChanges
 mod Repairing
+mod BytesCarried

@@ -5,3 +5,4 @@ pub mod Corrections
 pub mod RowChanges
 pub mod Version
 pub mod Repairs
+pub mod BytesCarried

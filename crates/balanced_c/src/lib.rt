@@ -6,6 +6,7 @@ ghost use Rattle.std.specs.Result.{result_unwrap_or};
 ghost use Rattle.generator.specs.Answers.{numbered, fault_in};
 ghost use Rattle.balanced_c.specs.Calls.{plan_room_bad, PlanGives, EncodeGives, UpdateGives, RecoverGives, RebuildGives, BelongsGives, WeightsGive};
 
+mod bytes_carried;
 mod changes;
 mod correction;
 mod one_lane;
@@ -14,6 +15,9 @@ mod repairs;
 mod rosters;
 mod version;
 
+pub use bytes_carried::{
+    balanced_carried_len, balanced_carry_in, balanced_carry_out, balanced_choose,
+};
 pub use changes::{balanced_add_share, balanced_differences};
 pub use correction::balanced_correct;
 use generator::Refusal;

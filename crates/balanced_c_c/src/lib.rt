@@ -8,6 +8,7 @@ ghost use Rattle.balanced_c.specs.RowChanges.{DifferencesGives, AddGives};
 ghost use Rattle.balanced_c.specs.Corrections.{CorrectGives};
 ghost use Rattle.balanced_c.specs.Lanes.{FindGives, MendsGive};
 ghost use Rattle.balanced_c.specs.Repairs.{RepairPlanGives, RepairBitsGives, RepairShareGives};
+ghost use Rattle.balanced_c.specs.BytesCarried.{CarriedLenGives, CarryInGives, CarryOutGives, ChooseGives};
 ghost use Rattle.roster.specs.Events.{leaves, returns};
 ghost use Rattle.roster_bytes.specs.Calls.{StartGives, EventGives, LowestGives, JobGives};
 ghost use Rattle.balanced_c.specs.Version.{version_number};
@@ -265,6 +266,38 @@ pub extern "C" fn balanced_repair_share(
     ensures { RepairShareGives rec.now lanes target missing.now rows.now share.old share.new result }
 {
     balanced_c::balanced_repair_share(rec, lanes, target, missing, rows, share)
+}
+
+// How many bytes of symbols carry `length` bytes: `carried` receives it.
+#[unsafe(no_mangle)]
+pub extern "C" fn balanced_carried_len(rec: &[u8], length: usize, carried: &mut usize) -> u8
+    ensures { CarriedLenGives rec.now length carried.old carried.new result }
+{
+    balanced_c::balanced_carried_len(rec, length, carried)
+}
+
+// Bytes written as symbols.
+#[unsafe(no_mangle)]
+pub extern "C" fn balanced_carry_in(rec: &[u8], bytes: &[u8], symbols: &mut [u8]) -> u8
+    ensures { CarryInGives rec.now bytes.now symbols.old symbols.new result }
+{
+    balanced_c::balanced_carry_in(rec, bytes, symbols)
+}
+
+// The bytes that symbols carry, as many as there is room for.
+#[unsafe(no_mangle)]
+pub extern "C" fn balanced_carry_out(rec: &[u8], symbols: &[u8], bytes: &mut [u8]) -> u8
+    ensures { CarryOutGives rec.now symbols.now bytes.old bytes.new result }
+{
+    balanced_c::balanced_carry_out(rec, symbols, bytes)
+}
+
+// A record with n nodes, any k of which give a message back, that carries bytes; `len` receives how many bytes it has.
+#[unsafe(no_mangle)]
+pub extern "C" fn balanced_choose(n: u32, k: u32, rec: &mut [u8], len: &mut u32) -> u8
+    ensures { ChooseGives n k rec.old len.old rec.new len.new result }
+{
+    balanced_c::balanced_choose(n, k, rec, len)
 }
 
 // All nodes present; beside the record's number 256 zeros.

@@ -1,6 +1,6 @@
 // The calls by their names.
 use crate::arranging::arrange;
-use crate::{block_calls, repairs, shares};
+use crate::{block_calls, bytes, repairs, shares};
 use balanced::Roster;
 use std::alloc::Global;
 use test_calls::{counts, lanes, plans, rosters};
@@ -37,6 +37,10 @@ pub fn call(alloc: Global, line: &str, roster: &mut Roster) -> Result<String, Fa
         "repair_bits" => repairs::bits(words),
         "repair_share" => repairs::share(words),
         "repair_plan" => repairs::plan(words),
+        "carried_len" => bytes::carried_len(words),
+        "carry_in" => bytes::carry(words, "bytes", balanced::carry_in),
+        "carry_out" => bytes::carry(words, "symbols", balanced::carry_out),
+        "choose" => bytes::choose(words),
         _ => Err(Fault::UnknownCall),
     }
 }

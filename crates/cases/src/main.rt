@@ -12,6 +12,7 @@ use test_words::is_comment;
 mod arranging;
 mod block_calls;
 mod block_words;
+mod bytes;
 mod calls;
 mod repairs;
 mod shares;

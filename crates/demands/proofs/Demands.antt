@@ -27,6 +27,7 @@ use Rattle.demands.proofs.Weights.{weights}
 use Rattle.demands.proofs.SmallPlans.{all_small_plans}
 use Rattle.demands.proofs.Mending.{single_mends}
 use Rattle.demands.proofs.Repairs.{repairs_all}
+use Rattle.demands.proofs.BytesInSymbols.{bytes_in_symbols}
 
 pub demands : Demands
 unfolding our_scheme
@@ -57,4 +58,5 @@ demands =
       all_small_plans = all_small_plans;
       mends = single_mends;
       repairs = repairs_all;
+      bytes = bytes_in_symbols;
     }

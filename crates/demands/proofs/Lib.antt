@@ -30,4 +30,5 @@ pub mod FaultsAgreement
 pub mod Changes
 pub mod Rebuilding
 pub mod Repairs
+pub mod BytesInSymbols
 pub mod Examples

@@ -65,7 +65,7 @@ module _ (h : Header) where
   unfolding symbol_bad
   symbol_means x = most_test (size h) x
 
-  symbols_mean : (s : List ℕ) → (symbols_bad h s ≡ true) ↔ OtherSymbols h s
+  pub symbols_mean : (s : List ℕ) → (symbols_bad h s ≡ true) ↔ OtherSymbols h s
   unfolding symbols_bad
   symbols_mean s = some_from (size h) _
 

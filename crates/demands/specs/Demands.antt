@@ -27,6 +27,7 @@ use Rattle.demands.specs.Weights.{Weights}
 use Rattle.demands.specs.SmallPlans.{SmallPlans}
 use Rattle.demands.specs.Mending.{SingleMends}
 use Rattle.demands.specs.Repairs.{Repairs}
+use Rattle.demands.specs.BytesInSymbols.{BytesInSymbols}
 
 pub record Demands : Type 1 where
   -- demand 1: which number turns a call away, that it then alters nothing, and that every other call is accepted
@@ -79,3 +80,5 @@ pub record Demands : Type 1 where
   pub mends : SingleMends
   -- one node from a few bits of each other node
   pub repairs : Repairs
+  -- bytes on any number of nodes
+  pub bytes : BytesInSymbols

@@ -1,5 +1,6 @@
 //! Every call of the interface against an independent implementation, on random inputs: short and long, valid and damaged.
 mod calls;
+mod carry;
 mod compare;
 mod corrections;
 mod damage;

@@ -1,6 +1,7 @@
 //! The calls of the store once more, written from the description of the product alone, as plainly as possible: powers and
 //! logarithms for the field of 256 elements, every entry of the generator as a product, messages by elimination, words by
 //! interpolation, near words by Euclid's algorithm. Nothing here is shared with the library.
+mod carry;
 mod code;
 mod differences;
 mod field;
@@ -9,6 +10,7 @@ mod nearest;
 mod repair;
 mod roster;
 
+pub use carry::{carried_len, carry_in, carry_out, mask_of};
 pub use code::{bytes_of, width, Code};
 pub use differences::{add_share, differences};
 pub use field::{is_prime, Field};

@@ -1,0 +1,52 @@
+// Calls that carry bytes in symbols, and the one that gives a record for n nodes of which k are needed.
+use balanced::Refusal;
+use std::alloc::{AllocError, Global};
+use test_calls::{Refused, last_buffer, turned_away, written};
+use test_tools::{List, MARK, untouched};
+use test_words::{Fault, Words};
+
+// How many bytes of symbols carry so many, or what turned the call away.
+fn length(alloc: Global, answer: Result<usize, Refusal>) -> Result<String, AllocError> {
+    match answer {
+        Ok(length) => format!(in alloc; "length {length}"),
+        Err(refusal) => format!(in alloc; "{}", Refused(refusal)),
+    }
+}
+
+pub fn carried_len(words: &mut Words) -> Result<String, Fault> {
+    let record = words.record()?;
+    let count = words.number("count")?;
+    words.end()?;
+    let answer = balanced::carried_len(&record, count as usize);
+    Ok(length(words.alloc(), answer)?)
+}
+
+// Bytes written as symbols, or bytes that symbols carry: the list that is read has this word.
+pub fn carry<F: FnOnce(&[u8], &[u8], &mut [u8]) -> Result<(), Refusal>>(
+    words: &mut Words,
+    word: &'static str,
+    call: F,
+) -> Result<String, Fault>
+    requires { F.IsAlwaysCallable call }
+{
+    let record = words.record()?;
+    let given = words.bytes(word)?;
+    written(words, MARK, |out| call(&record, &given, out))
+}
+
+// How many bytes the record has, and the room with it in front; or what turned the call away and whether every byte is as it was.
+fn chosen(alloc: Global, answer: Result<u8, Refusal>, out: &[u8]) -> Result<String, Fault> {
+    match answer {
+        Ok(length) => Ok(format!(in alloc; "length {length} record{}", List(out))?),
+        Err(refusal) => turned_away(alloc, refusal, untouched(MARK, out)),
+    }
+}
+
+// The line has no record.
+pub fn choose(words: &mut Words) -> Result<String, Fault> {
+    let n = words.number("n")?;
+    let k = words.number("k")?;
+    let mut out = last_buffer(words, MARK)?;
+    let answer = balanced::choose_record(n, k, &mut out);
+    chosen(words.alloc(), answer, &out)
+}

@@ -1,0 +1,2 @@
+-- The text of a record for n nodes of which k are needed.
+pub mod Records
