@@ -18,6 +18,7 @@ use Rattle.demands.proofs.Calls.{call_demands}
 use Rattle.demands.proofs.RoundTrips.{round_trips}
 use Rattle.demands.proofs.Plans.{plans}
 use Rattle.demands.proofs.Widths.{widths}
+use Rattle.demands.proofs.Sheets.{sheets}
 use Rattle.demands.proofs.Tables.{tables}
 use Rattle.demands.proofs.Findings.{findings}
 use Rattle.demands.proofs.Rosters.{rosters}
@@ -47,6 +48,7 @@ demands =
       trips = round_trips;
       plans = plans;
       widths = widths;
+      sheets = sheets;
       tables = tables;
       findings = findings;
       corrections = corrections;

@@ -12,6 +12,7 @@ pub mod Refusals
 pub mod RosterRefusals
 pub mod Plans
 pub mod Widths
+pub mod Sheets
 pub mod Tables
 pub mod Findings
 pub mod Rosters

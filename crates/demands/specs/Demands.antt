@@ -25,6 +25,7 @@ use Rattle.demands.specs.BadReads.{BadReads}
 use Rattle.demands.specs.Differences.{RowChanges}
 use Rattle.demands.specs.Weights.{Weights}
 use Rattle.demands.specs.SmallPlans.{SmallPlans}
+use Rattle.demands.specs.Sheets.{Sheets}
 use Rattle.demands.specs.Mending.{SingleMends}
 use Rattle.demands.specs.Repairs.{Repairs}
 use Rattle.demands.specs.BytesInSymbols.{BytesInSymbols}
@@ -58,6 +59,8 @@ pub record Demands : Type 1 where
   pub plans : Plans
   -- the bytes of symbols in lent buffers
   pub widths : (rec : List ℕ) → record_fault rec ≡ 0 → Widths rec
+  -- plan sheets
+  pub sheets : Sheets
   -- the tables of the field of 256 elements
   pub tables : Tables
   -- which update it was
