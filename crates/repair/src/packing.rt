@@ -48,37 +48,38 @@ pub struct Digits<'a> {
 }
 
 impl Digits<'_> {
-    // The bit of the digit of one lane; 0 after the last lane.
-    fn bit(self, bit: Bit, i: usize) -> u32
-        ensures { result ≡ lane_bit bit.place self.entry.table.now self.entry.share.now i }
+    // The bit of the digit of one symbol.
+    fn bit(self, bit: Bit, symbol: u8) -> u32
+        ensures { result ≡ get_or self.entry.table.now symbol 0 / 2 ^ bit.place % 2 }
     {
-        if i < self.share.len() {
-            bit.of(self.table[self.share[i] as usize])
-        } else {
-            0
-        }
+        bit.of(self.table[symbol as usize])
     }
 
-    // The byte of the bits of the 8 lanes from `start` on. The same loop as in `gather`: `byte_of(|z| self.bit(bit, start + z))` would be a line in
-    // both, and `byte_of<F: Fn(usize) -> u32>` this loop once more, with a bound and with clauses of what F asks and gives.
-    fn byte(self, bit: Bit, start: usize) -> u8
-        requires { start ≤ 65536 }
-        ensures { result ≡ byte_from 8 (lane_bit bit.place self.entry.table.now self.entry.share.now) start }
+    // The byte of the bits of up to 8 lanes, with zeros after the last. The same loop as in `gather`: `byte_of(|z| self.bit(bit, lanes[z]))` would be a
+    // line in both, and `byte_of<F: Fn(usize) -> u32>` this loop once more, with a bound and with clauses of what F asks and gives.
+    fn byte(self, bit: Bit, lanes: &[u8]) -> u8
+        requires { length lanes.now ≤ 8 }
+        ensures { result ≡ byte_from 8 (lane_bit bit.place self.entry.table.now lanes.entry.now) 0 }
     {
         let mut x: u32 = 0;
-        for z in (0..8).rev() {
-            x = self.bit(bit, start + z) + 2 * x;
+        for z in (0..lanes.len()).rev() {
+            x = self.bit(bit, lanes[z]) + 2 * x;
         }
         x as u8
     }
 
-    // The plane of one bit.
+    // The plane of one bit: a byte for each eight lanes, and one for the rest. Bytes of lanes that are asked one by one whether the share has them
+    // take twice the time.
     fn pack_plane(self, bit: Bit, out: &mut [u8])
-        requires { length out.old ≤ 512 }
+        requires { (length self.share.now ≤ 4096) × (length out.old ≡ plane_size (length self.share.now)) }
         ensures { out.new ≡ lanewise (λ c y. byte_from 8 (lane_bit bit.place self.entry.table.now self.entry.share.now) (c * 8)) out.old }
     {
-        for (c, x) in out.iter_mut().enumerate() {
-            *x = self.byte(bit, c * 8);
+        let (eights, rest) = self.share.as_chunks::<8>();
+        for (c, lanes) in eights.iter().enumerate() {
+            out[c] = self.byte(bit, lanes);
+        }
+        if !rest.is_empty() {
+            out[eights.len()] = self.byte(bit, rest);
         }
     }
 

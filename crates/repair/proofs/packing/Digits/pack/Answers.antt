@@ -7,7 +7,7 @@ use lib.ListN.{length, get_or, take, drop}
 use Rattle.lists.proofs.Rows.{rows_next, rows_end, row_after, row_inside, part_length}
 use Rattle.lists.proofs.Fill.{fills_start, fills_part, fills_all}
 use Rattle.repair.specs.Packing.{packed_size, plane, planes}
-use Rattle.repair.proofs.Digits.{length_plane, plane_small}
+use Rattle.repair.proofs.Digits.{length_plane}
 use Rattle.repair.proofs.Adding.{plane_table}
 use Rattle.repair.proofs.packing.Digits.pack.Goals as goal
 use Rattle.repair.proofs.packing.Digits.pack.Goals.{In-loop-e}
@@ -33,8 +33,7 @@ pack_plane-requires c =
     let l = c.loop-e in
     let size = c.plane_size-size.result in
     let part = part_length (l.e * size) size l.out (omega (arith, l.invariant.long, row_in (goal.at.pack_plane-requires c).In-loop-e)) in
-    let small : size ≤ 512 = rw c.plane_size-size.ensures (plane_small _ c.requires.0) in
-    rw part small
+    (c.requires.0, part ∙ c.plane_size-size.ensures)
 
 pub loop-e-preserved : goal.loop-e-preserved
 loop-e-preserved c =
