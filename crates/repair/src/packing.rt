@@ -1,11 +1,13 @@
 // Bits packed into planes, and digits into planes of their bits.
-ghost use Rattle.std.specs.Prelude.{◌≡◌, ◌≤◌, ◌<◌, ◌*◌, ◌/◌, ◌%◌, ◌^◌, length, get_or};
+ghost use Rattle.std.specs.Prelude.{ℕ, ◌≡◌, ◌≤◌, ◌<◌, ◌*◌, ◌/◌, ◌%◌, ◌^◌, length, get_or};
+ghost use Rattle.lists.specs.Rows.{from};
 ghost use Rattle.kernel.specs.Inner.Lanes.{lanewise};
 ghost use Rattle.repair_tables.specs.Inner.Bits.{bit_count};
 ghost use Rattle.repair.specs.Inner.Lanes.{lane_bit};
-ghost use Rattle.repair.specs.Packing.{plane_size, packed_size, byte_from, planes};
+ghost use Rattle.repair.specs.Packing.{plane_size, packed_size, byte_from, within, planes};
 
 use repair_tables::Bits;
+use std::array;
 
 // How many bytes a plane of a bit for each lane takes.
 pub fn plane_size(lanes: usize) -> usize
@@ -40,46 +42,49 @@ impl Bit {
     }
 }
 
+// The byte of the bits of up to 8 lanes, with zeros after the last; `bits` has the bit of each symbol. The same loop as in `gather`:
+// `byte_of(|z| bits[lanes[z] as usize])` would be a line in both, and `byte_of<F: Fn(usize) -> u32>` this loop once more, with a bound and with
+// clauses of what F asks and gives.
+fn byte(bits: &[u8; 256], lanes: &[u8]) -> u8
+    requires { (length lanes.now ≤ 8) × ((x : ℕ) → get_or bits.now x 0 < 2) }
+    ensures { result ≡ byte_from 8 (within (length lanes.now) (λ z. get_or bits.now (get_or lanes.now z 0) 0)) 0 }
+{
+    let mut x: u32 = 0;
+    for z in (0..lanes.len()).rev() {
+        x = bits[lanes[z] as usize] as u32 + 2 * x;
+    }
+    x as u8
+}
+
 // The digits of a share's symbols, by the table of all 256.
 #[derive(Clone, Copy)]
 pub struct Digits<'a> {
     pub table: &'a [u8; 256],
     pub share: &'a [u8],
+    pub ghost whole: { length table.now ≡ 256 },
 }
 
 impl Digits<'_> {
-    // The bit of the digit of one symbol.
-    fn bit(self, bit: Bit, symbol: u8) -> u32
-        ensures { result ≡ get_or self.entry.table.now symbol 0 / 2 ^ bit.place % 2 }
+    // One bit of each digit of the table. With it a lane takes one look-up; with the shift of each digit all lanes take half as long again.
+    fn bits(self, bit: Bit) -> [u8; 256]
+        ensures { result ≡ from (λ x. get_or self.entry.table.now x 0 / 2 ^ bit.place % 2) 0 256 }
     {
-        bit.of(self.table[symbol as usize])
+        array::from_fn(|x| bit.of(self.table[x]) as u8)
     }
 
-    // The byte of the bits of up to 8 lanes, with zeros after the last. The same loop as in `gather`: `byte_of(|z| self.bit(bit, lanes[z]))` would be a
-    // line in both, and `byte_of<F: Fn(usize) -> u32>` this loop once more, with a bound and with clauses of what F asks and gives.
-    fn byte(self, bit: Bit, lanes: &[u8]) -> u8
-        requires { length lanes.now ≤ 8 }
-        ensures { result ≡ byte_from 8 (lane_bit bit.place self.entry.table.now lanes.entry.now) 0 }
-    {
-        let mut x: u32 = 0;
-        for z in (0..lanes.len()).rev() {
-            x = self.bit(bit, lanes[z]) + 2 * x;
-        }
-        x as u8
-    }
-
-    // The plane of one bit: a byte for each eight lanes, and one for the rest. Bytes of lanes that are asked one by one whether the share has them
-    // take twice the time.
+    // The plane of one bit: a byte for each eight lanes, and one for the rest. Where each lane is asked whether the share has it, it takes twice
+    // the time.
     fn pack_plane(self, bit: Bit, out: &mut [u8])
         requires { (length self.share.now ≤ 4096) × (length out.old ≡ plane_size (length self.share.now)) }
         ensures { out.new ≡ lanewise (λ c y. byte_from 8 (lane_bit bit.place self.entry.table.now self.entry.share.now) (c * 8)) out.old }
     {
+        let bits = self.bits(bit);
         let (eights, rest) = self.share.as_chunks::<8>();
         for (c, lanes) in eights.iter().enumerate() {
-            out[c] = self.byte(bit, lanes);
+            out[c] = byte(&bits, lanes);
         }
         if !rest.is_empty() {
-            out[eights.len()] = self.byte(bit, rest);
+            out[eights.len()] = byte(&bits, rest);
         }
     }
 

@@ -11,7 +11,7 @@ use Rattle.kernel.proofs.Chunks.{chunk_element}
 use Rattle.kernel.proofs.Filling.{changed_none, changed_lane, changed_all}
 use Rattle.repair.specs.Packing.{plane_size, byte_from}
 use Rattle.repair.specs.Inner.Lanes.{lane_bit}
-use Rattle.repair.proofs.Digits.{byte_lanes}
+use Rattle.repair.proofs.Digits.{bits_low, byte_lanes}
 use Rattle.repair.proofs.packing.Digits.pack_plane.Goals as goal
 use Rattle.repair.proofs.packing.Digits.pack_plane.Goals.{After-byte, After-byte-then-not-is_empty}
 
@@ -22,7 +22,7 @@ eight c =
     let i = c.loop-c.c in
     let long : length (get_or c.as_chunks.result.0.now i []) ≡ 8 = search rules in
     let inside : i < length share / 8 = omega (arith, c.as_chunks.ensures.front_len) in
-    c.byte.ensures ∙ byte_lanes _ _ share _ (i * 8) (λ z h. rw c.as_chunks.ensures.front (chunk_element 8 _ i z share inside h)) (λ z h. (λ l. omega arith, λ l. omega (arith, long)))
+    c.byte.ensures ∙ byte_lanes _ _ _ c.args.self.whole c.bits-bits.ensures share _ (i * 8) (λ z h. rw c.as_chunks.ensures.front (chunk_element 8 _ i z share inside h)) (λ z h. (λ l. omega arith, λ l. omega (arith, long)))
 
 last : (c : After-byte-then-not-is_empty) → c.byte-then-not-is_empty.result ≡ byte_from 8 (lane_bit c.args.bit.place c.args.self.table.now c.args.self.share.now) (length c.as_chunks.result.0.now * 8)
 last c =
@@ -30,7 +30,7 @@ last c =
     let start = length share / 8 * 8 in
     let long = length-drop start share in
     rw (c.byte-then-not-is_empty.ensures, c.as_chunks.ensures.back, c.as_chunks.ensures.front_len)
-    (byte_lanes _ _ share _ start (λ z h. get_or-drop start share z 0) (λ z h. (λ l. omega (arith, long), λ l. omega (arith, long))))
+    (byte_lanes _ _ _ c.args.self.whole c.bits-bits.ensures share _ start (λ z h. get_or-drop start share z 0) (λ z h. (λ l. omega (arith, long), λ l. omega (arith, long))))
 
 pub loop-c-init : goal.loop-c-init
 loop-c-init c = changed_none _ _
@@ -38,6 +38,12 @@ loop-c-init c = changed_none _ _
 pub bounds-out-c : goal.bounds-out-c
 unfolding plane_size
 bounds-out-c c = omega (arith, c.requires.1, c.loop-c.auto.out, c.as_chunks.ensures.front_len)
+
+pub byte-requires : goal.byte-requires
+byte-requires c = (search rules, bits_low _ _ _ c.args.self.whole c.bits-bits.ensures)
+
+pub byte-requires-then-not-is_empty : goal.byte-requires-then-not-is_empty
+byte-requires-then-not-is_empty c = (omega (arith, c.as_chunks.ensures.back_len), bits_low _ _ _ c.args.self.whole c.bits-bits.ensures)
 
 pub loop-c-preserved : goal.loop-c-preserved
 unfolding plane_size

@@ -6,4 +6,4 @@ use Rattle.repair.specs.Inner.Lanes.{lane_bit}
 use Rattle.repair.proofs.packing.Digits.pack_plane.Given as goal
 
 abbrev pub invariant-loop-c : goal.invariant-loop-c
-invariant-loop-c l = Changed (λ c y. byte_from 8 (lane_bit l.bit.place l.self.table.now l.self.share.now) (c * 8)) l.initial.out l.out l.c
+invariant-loop-c l = Changed (λ c y. byte_from 8 (lane_bit l.fn.bit.place l.self.table.now l.self.share.now) (c * 8)) l.initial.out l.out l.c
