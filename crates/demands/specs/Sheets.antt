@@ -13,7 +13,7 @@ pub record Sheets : Type 0 where
   -- .. and of every other one a line of n, k, d and k·d / n rounded down and up, then a line for each row: its number, its shift, its first node
   -- and its entries, node after node
   pub accepted : (rec : List ℕ) → record_fault rec ≡ 0 →
-    let h = header_of rec in
-    sheet_for (record_of rec)
-    ≡ line (ascii "plan") (h.n ∷ h.k ∷ distance h ∷ roundings (low_reads h) (high_reads h))
-    ++ rows_from (λ r. line (ascii "row") (r ∷ get_or (shifts h) r 0 ∷ get_or (firsts h) r 0 ∷ from (entry h r) 0 h.n)) 0 h.k
+      let h = header_of rec in
+      sheet_for (record_of rec)
+      ≡ line (ascii "plan") (h.n ∷ h.k ∷ distance h ∷ roundings (low_reads h) (high_reads h))
+      ++ rows_from (λ r. line (ascii "row") (r ∷ get_or (shifts h) r 0 ∷ get_or (firsts h) r 0 ∷ from (entry h r) 0 h.n)) 0 h.k

@@ -44,7 +44,7 @@ impl Bit {
 
 // The byte of the bits of up to 8 lanes, with zeros after the last; `bits` has the bit of each symbol. The same loop as in `gather`:
 // `byte_of(|z| bits[lanes[z] as usize])` would be a line in both, and `byte_of<F: Fn(usize) -> u32>` this loop once more, with a bound and with
-// clauses of what F asks and gives.
+// clauses of what F asks and gives. The lanes are read by their places, which number the bits from the front (interpolation/src/lib.rt).
 fn byte(bits: &[u8; 256], lanes: &[u8]) -> u8
     requires { (length lanes.now ≤ 8) × ((x : ℕ) → get_or bits.now x 0 < 2) }
     ensures { result ≡ byte_from 8 (within (length lanes.now) (λ z. get_or bits.now (get_or lanes.now z 0) 0)) 0 }
@@ -72,8 +72,8 @@ impl Digits<'_> {
         array::from_fn(|x| bit.of(self.table[x]) as u8)
     }
 
-    // The plane of one bit: a byte for each eight lanes, and one for the rest. Where each lane is asked whether the share has it, it takes twice
-    // the time.
+    // The plane of one bit: a byte for each eight lanes, and one for the rest. Where each lane is asked whether the share has it, it takes three
+    // times as long.
     fn pack_plane(self, bit: Bit, out: &mut [u8])
         requires { (length self.share.now ≤ 4096) × (length out.old ≡ plane_size (length self.share.now)) }
         ensures { out.new ≡ lanewise (λ c y. byte_from 8 (lane_bit bit.place self.entry.table.now self.entry.share.now) (c * 8)) out.old }
