@@ -5,7 +5,6 @@ pub mod Counting
 pub mod LaneSymbols
 pub mod Answered
 pub mod Answers
-pub mod Chunks
 pub mod MarkedBytes
 pub mod Clean
 pub mod Meaning

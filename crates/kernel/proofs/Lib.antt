@@ -5,4 +5,3 @@ pub mod Digits
 pub mod Ratio
 pub mod Maximum
 pub mod Halves
-pub mod Chunks

@@ -9,6 +9,7 @@ pub mod Lanes  -- rows of one length end to end: length, and place t of row j
 pub mod Images  -- a list and its images by `from`
 pub mod Fill  -- a loop that fills a list, by elements or parts; zeros
 pub mod Made  -- an array that calls of a closure make
+pub mod Chunks  -- a list in chunks of one size
 pub mod Parts  -- a loop that fills a list of values by parts
 pub mod Paired  -- a loop over two lists side by side, by `zip` under `enumerate`
 pub mod Padding  -- lists padded with zeros

@@ -9,7 +9,7 @@ use Rattle.std.specs.Simd.{first_chunks}
 use Rattle.layout.specs.Width.{symbol_at}
 use Rattle.layout.proofs.Widths.{symbol_byte}
 use Rattle.layout.proofs.Readings.{symbol_pair}
-use Rattle.kernel.proofs.Chunks.{chunk_element}
+use Rattle.lists.proofs.Chunks.{chunk_element}
 
 module _ (w i n : ℕ) (inside : i < n / w) where
   pub byte_inside : w ≡ 1 → i < n

@@ -15,7 +15,7 @@ use Rattle.lists.proofs.Rows.{length_from, get_or_from}
 use Rattle.lists.proofs.Padding.{length_padded, get_or_padded, padded_past}
 use Rattle.generator.specs.Shifts.{negative, shifts_of, firsts_of}
 use Rattle.generator.proofs.Shifts.{shifts_length, shifts_below, firsts_length, firsts_at}
-use Rattle.shifts.proofs.Mapped.{Each, serves, mapped}
+use Rattle.lists.proofs.Made.{Each, serves, mapped}
 use Rattle.shifts.proofs.firsts_of.Goals as goal
 
 module _ (n k : ℕ) (some : 0 < k) (fits : k ≤ n) where
@@ -52,5 +52,5 @@ map-requires c =
 pub returns : goal.returns
 returns c =
     let d = c.args.dimensions in
-    mapped _ (λ f. f.0.now ≡ d.n) (λ x. x < d.n) (negative d.n) (λ f q x y held called. (search rules, search rules)) _ _ _ 255 0 0 refl c.map.ensures.items
+    mapped _ (λ f. f.0.now ≡ d.n) (negative d.n) (λ f q x y held called. (search rules, search rules)) _ _ _ 255 0 0 refl c.map.ensures.items
     ∙ rw c.requires (negatives d.n d.k d.some d.fits (omega arith))

@@ -11,7 +11,7 @@ use Rattle.lists.proofs.Rows.{from_ext, length_from}
 use Rattle.generator.specs.declared.Header.{Header}
 use Rattle.check_sums.specs.Inner.Powers.{powers_of}
 use Rattle.check_sums.proofs.Sums.{power_place, power_at}
-use Rattle.shifts.proofs.Mapped.{Each, serves, mapped}
+use Rattle.lists.proofs.Made.{Each, serves, mapped}
 use Rattle.spectrum.specs.Inner.Spectrum.{triangle, chirp_at}
 use Rattle.spectrum.proofs.Arrays.{value_at}
 use Rattle.spectrum.proofs.Transform.chirps.Goals as goal
@@ -34,6 +34,6 @@ unfolding chirp_at
 returns c =
     let a = c.args in
     let h = a.self.powers.codec.code.header in
-    mapped _ (λ f. f.0.now ≡ a.self.powers.list.now) (λ x. x < length a.self.powers.list.now) (λ e. get_or a.self.powers.list.now e 0) (λ f q x y held called. (search rules, search rules)) _ _ _ 510 0 0 refl c.map.ensures.items
+    mapped _ (λ f. f.0.now ≡ a.self.powers.list.now) (λ e. get_or a.self.powers.list.now e 0) (λ f q x y held called. (search rules, search rules)) _ _ _ 510 0 0 refl c.map.ensures.items
     ∙ from_ext (λ x. get_or a.self.powers.list.now (get_or a.exponents.now x 0) 0) (chirp_at h) 0 510
     (λ x low high. rw (a.self.powers.are, c.requires, value_at (λ x. triangle x % h.n) 510 x (omega arith)) (power_at h _ (mod-lt _ (omega (arith, a.self.powers.codec.code.sound.two)))))

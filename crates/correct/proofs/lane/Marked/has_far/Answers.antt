@@ -13,7 +13,7 @@ use Rattle.generator.specs.Records.{width}
 use Rattle.generator.proofs.Widths.{width_some}
 use Rattle.correct.specs.Blocks.{first_far}
 use Rattle.correct.proofs.Answers.{far_met, far_none}
-use Rattle.correct.proofs.Chunks.{chunk_inside, chunk_is, chunks_left, chunks_end}
+use Rattle.lists.proofs.Chunks.{chunk_inside, chunk_is, chunks_left, chunks_end}
 use Rattle.correct.proofs.LaneBytes.{part_lane, part_marked}
 use Rattle.correct.proofs.lane.Marked.has_far.Invariants.{near}
 use Rattle.correct.proofs.lane.Marked.has_far.Goals as goal

@@ -5,7 +5,7 @@ use Prim.Native.Nat.{ℕ, ◌+◌, ◌*◌, ◌/◌, ◌<◌}
 use native.Mathlib.Nat.{add-zero}
 use native.Mathlib.Omega.{arith}
 use lib.ListN.{length, get_or}
-use Rattle.kernel.proofs.Chunks.{chunk_element}
+use Rattle.lists.proofs.Chunks.{chunk_element}
 use Rattle.row_sums.proofs.Adding.{added_none, added_pair}
 use Rattle.row_sums.proofs.gf256.ByteTerms.add_pairs.Goals as goal
 use Rattle.row_sums.proofs.gf256.ByteTerms.add_pairs.Goals.{In-loop-one}

@@ -1,14 +1,26 @@
--- Rows of one size, as chunks.
-use mathlib.Core.Path.{◌≡◌, sym, ap}
-use mathlib.Core.List.{List, ◌++◌}
-use Prim.Native.Nat.{ℕ, ◌+◌, ◌-◌, ◌*◌, min, ◌≤◌, ◌<◌}
-use native.Mathlib.Nat.{add-mul, one-mul, mul_comm, mul-le-mul, le_refl}
+-- A list cut into chunks of n elements: where each element stands, and rows of one size that are taken one after the other.
+use Rattle.std.specs.Simd.{first_chunks}
+use mathlib.Core.Path.{◌≡◌, sym, ap, ◌∙◌}
+use mathlib.Core.List.{List, [], ◌++◌}
+use Prim.Native.Nat.{ℕ, zero, suc, ◌+◌, ◌-◌, ◌*◌, min, ◌≤◌, ◌<◌}
+use native.Mathlib.Nat.{add_comm, zero-mul, suc-mul, add-mul, one-mul, mul_comm, mul-le-mul, le_refl}
 use native.Mathlib.Omega.{arith}
 use borrow.Author.Tests.{leb-true, leb-false}
 use lib.Dec.{leb}
-use lib.ListN.{length, take, drop, length-drop}
-use lib.Seq.{take_at, drop_at, drop-drop}
+use lib.ListN.{length, get_or, take, drop, length-drop}
+use lib.Seq.{take_at, drop_at, drop-drop, get_or-take, get_or-drop}
 use Rattle.lists.proofs.Cases.{by_test}
+
+-- the first k chunks, and the elements of each
+chunk_at : (n k i : ℕ) (s : List ℕ) → i < k → get_or (first_chunks n k s) i [] ≡ take n (drop (i * n) s)
+chunk_at n zero i s h = absurd (omega arith)
+chunk_at n (suc k) zero s h = rw zero-mul
+chunk_at n (suc k) (suc i) s h =
+    let next : n + i * n ≡ suc i * n = rw suc-mul (add_comm n (i * n)) in
+    chunk_at n k i (drop n s) (omega arith) ∙ ap (take n) (drop-drop (i * n) n s) ∙ ap (λ (m : ℕ). take n (drop m s)) next
+
+pub chunk_element : (n k i j : ℕ) (s : List ℕ) → i < k → j < n → get_or (get_or (first_chunks n k s) i []) j 0 ≡ get_or s (i * n + j) 0
+chunk_element n k i j s h inside = rw (chunk_at n k i s h) (get_or-take n (drop (i * n) s) j 0 inside ∙ get_or-drop (i * n) s j 0)
 
 -- none is left of l rows where t are gone
 pub chunks_end : (size l t : ℕ) (s rest : List ℕ) → length s ≡ size * l → rest ≡ drop (t * size) s → 0 < size → length rest ≡ 0 → l ≤ t
