@@ -1,8 +1,9 @@
 """Shares that are not as they should be: flipped, cut, swapped, stale, foreign; found, named, left out, and set right."""
+import itertools
 import shutil
 import unittest
 
-from support import StoreCase
+from support import StoreCase, command
 
 
 class Damage(StoreCase):
@@ -211,6 +212,76 @@ class Damage(StoreCase):
         self.share(0).symlink_to(secret)
         self.found(0)
         self.assertEqual(secret.read_bytes(), b"secret")
+
+
+class NoSymbols(StoreCase):
+    """Two bytes may be no symbol where the field is a prime's: a block that holds such a pair is damaged, whatever its checksum says."""
+
+    def setUp(self):
+        super().setUp()
+        self.make(6, 3, 16)
+        self.data = self.bytes(300)
+        self.put(self.data)
+
+    def forge(self, node):
+        """The last symbol of the first block is none, and the checksum is right."""
+        from imagestore import share
+        data = bytearray(self.share(node).read_bytes())
+        start = share.unpack_header(data)
+        place = share.block_place(start.record, start.name, start.lanes, 0)
+        end = place + 2 * start.lanes
+        data[end - 2:end] = b"\xff\xff"
+        data[end:end + 4] = share.checksum(share.seed(0), data[place:end])
+        self.share(node).write_bytes(data)
+
+    def named(self, *nodes):
+        """A check names just these nodes, and block 0 of each."""
+        status, result = self.command("check")
+        wrong = result["images"][0]["wrong"]
+        self.assertEqual((status, sorted(map(int, wrong))), (1, sorted(nodes)), result)
+        for said in wrong.values():
+            self.assertIn("block 0 is damaged", said)
+
+    def test_any_three_of_six(self):
+        kept = [self.share(node).read_bytes() for node in range(6)]
+        for nodes in itertools.combinations(range(6), 3):
+            for node in nodes:
+                self.forge(node)
+            self.assertEqual(self.got(), self.data)
+            self.named(*nodes)
+            for node in nodes:
+                self.share(node).write_bytes(kept[node])
+
+    def test_one_wrong_and_two_away(self):
+        self.forge(1)
+        with self.without(0, 2):
+            self.assertEqual(self.got(), self.data)
+
+    def test_too_many(self):
+        for node in range(4):
+            self.forge(node)
+        self.assertIn("is right at 2 nodes, and 3 are needed", self.refused(3, "get", "image", self.top / "x"))
+
+    def test_set_right(self):
+        self.forge(0)
+        self.forge(5)
+        self.assertEqual(self.right("check", "--correct")["images"][0]["corrected"], [0, 5])
+        self.all_right(self.data)
+
+    def test_rebuild_and_update_go_round_it(self):
+        self.forge(4)
+        self.share(5).unlink()
+        self.right("rebuild", 5)
+        self.right("update", "image", "--at", 0, self.file(b"news"))
+        self.data = b"news" + self.data[4:]
+        self.assertEqual(self.got(), self.data)
+
+    def test_blocks_without_room(self):
+        """Three words behind a mask do not fit two symbols: a store whose blocks hold nothing is refused."""
+        places = [self.top / f"small{node}" for node in range(6)]
+        status, _, said = command("init", self.top / "small.toml", "--needed", 1, "--lanes", 1, *places)
+        self.assertEqual(status, 2)
+        self.assertIn("holds no bytes", said)
 
 
 if __name__ == "__main__":

@@ -2,7 +2,7 @@
 computed by the library alone."""
 import threading
 
-from balanced import MAX_LANES
+from balanced import MAX_LANES, SymbolError
 
 from . import carrier, digest, share
 
@@ -76,12 +76,23 @@ def spans(layout, batch):
     return [(block, at, at + layout.share_len(block), share.seed(block)) for block, at in places]
 
 
-def blocks_in(data, cuts):
-    """Cuts what a node has sent of some blocks: the symbols of those whose checksums are right."""
+def are_symbols(plan, symbols):
+    """Whether a row of a share holds symbols: each byte is one, but a number of two bytes may be none. The library judges them."""
+    if plan.symbol_len == 1:
+        return True
+    try:
+        plan.add_share(len(symbols) // plan.symbol_len, symbols, bytearray(len(symbols)))
+    except SymbolError:
+        return False
+    return True
+
+
+def blocks_in(plan, data, cuts):
+    """Cuts what a node has sent of some blocks: the symbols of those whose checksums are right, and that hold symbols."""
     data, right = memoryview(data), {}
     for block, at, end, block_seed in cuts:
         symbols = data[at:end]
-        if share.checksum(block_seed, symbols) == data[end:end + share.CHECKSUM.size]:
+        if share.checksum(block_seed, symbols) == data[end:end + share.CHECKSUM.size] and are_symbols(plan, symbols):
             right[block] = symbols
     return right
 

@@ -1,4 +1,5 @@
-"""Shares read from nodes, block by block from nodes whose checksums are right: what fails is read elsewhere, and named."""
+"""Shares read from nodes, block by block from nodes whose checksums are right and that hold symbols: what fails is read
+elsewhere, and named."""
 from . import coding, frames
 from .errors import TooFewNodes
 from .frames import Request
@@ -30,7 +31,7 @@ class Reader:
         answers = self.session.try_ask(nodes, lambda node: Request(frames.READ, self.layout.name, place, count))
         held, cuts = {block: {} for block in batch}, coding.spans(self.layout, batch)
         for node, data in answers.items():
-            right = coding.blocks_in(data, cuts)
+            right = coding.blocks_in(self.store.plan, data, cuts)
             for block in batch:
                 if block in right:
                     held[block][node] = right[block]
