@@ -16,7 +16,8 @@ use records::{high_reads, low_reads, read_record};
 use text::Writer;
 pub use text::page;
 
-// The words that go behind one mask over a prime.
+// The words that go behind one mask over a prime. `WordPrime` of carry has it too; for this one number the program would stand on all that
+// carries.
 #[tactic(auto, unfolding(carrying::specs::Carrying::group_words))]
 fn group_words(p: u32) -> u16
     requires { p < 65536 }
