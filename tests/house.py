@@ -1,6 +1,6 @@
 #!/usr/bin/env python3
-"""Order in crates/: each spec name is defined once, no proof counts more than five steps back, no law is proved in two files,
-and none stands that nobody cites.
+"""Order in crates/: each spec name is defined once, a letter of the public specs has one meaning, no proof counts more than five steps
+back, no law is proved in two files, and none stands that nobody cites.
 
 A law is a declaration of a proofs/ file that is no function's own proof. It is cited by another declaration or by docs/CLAIMS.md; a law
 `.._agrees` or `..-agrees` says that two definitions are the same, and is a statement by itself. Two laws are the same if their
@@ -17,6 +17,17 @@ MOST_STEPS = 5
 # a function's own proof stands in a folder of its own
 OWN = ("Answers.antt", "Invariants.antt")
 WORD = re.compile(r"[^\s(){}\[\],;.]+")
+NAME = r"[^\s(){}\[\],;.:λ→]+"
+# the types that the letters of docs/MAP.md's glossary have in specs/ at the top level; a letter with a prime has its letter's
+NUMBER, LIST = "ℕ", r"List (ℕ|\(Symbol q\))"
+LETTERS = {
+    **dict.fromkeys("n k d l t f w e p q u".split(), NUMBER),
+    **dict.fromkeys("r j i".split(), rf"{NUMBER}|Fin .*"),
+    **dict.fromkeys("rec s out us vs ws ms js ys cs".split(), LIST),
+    **dict.fromkeys("y z".split(), "Arrangement"),
+    **{"h": "Header", "m": "List ℕ|Message .*", "answer": "Answer .*", "g": ".*→.*", "roster": "Roster", "plan": "(Small)?Plan"},
+    **{"ev": "Event", "evs": "List Event", "call": r"Call|Header → ℕ", "calls": "List Call"},
+}
 IMPORT = re.compile(r"(?m)^(?:pub |ghost |unfoldable )*use [^{;\n]*(?:\{[^}]*\})?.*$")
 HEAD = re.compile(r"(?:abbrev |unfoldable )*(?:pub )?(?:record |data )?([^\s(){}]+)")
 faults = []
@@ -79,6 +90,44 @@ def names_once():
             faults.append(f"{name} is defined in {' and in '.join(where)}")
 
 
+def parted(text, mark):
+    """text at each mark that stands in no parentheses, up to one that closes what was open before"""
+    parts, depth = [""], 0
+    for sign in text:
+        depth += (sign in "({[") - (sign in ")}]")
+        if depth < 0:
+            break
+        if sign == mark and depth == 0:
+            parts.append("")
+        else:
+            parts[-1] += sign
+    return [part.strip() for part in parts if part.strip()]
+
+
+def bound(name, lines):
+    """(variable, type) of what a declaration binds with a type, and of the arguments of its equations"""
+    text = " ".join(lines)
+    for found in re.finditer(rf"[({{]((?:{NAME} )+): ", text):
+        yield from ((variable, parted(text[found.end() :], "\0")[0]) for variable in found.group(1).split())
+    kinds = [kind for line in lines for kind in re.findall(rf"^\s*(?:abbrev |unfoldable |pub )*{re.escape(name)}(?: {{.*?}})* : (.*)$", line)]
+    for line in lines if kinds else ():
+        arguments = re.match(rf"\s*{re.escape(name)} ([^=]*) =(?:\s|$)", line)
+        types = []
+        for kind in filter(None, (re.sub(r"^(\{[^}]*\} ?)*", "", kind) for kind in parted(kinds[0], "→"))):
+            named = re.fullmatch(rf"\(((?:{NAME} )+): (.*)\)", kind)
+            types += [named.group(2) for _ in named.group(1).split()] if named else [re.sub(r"^\((.*→.*)\)$", r"\1", kind)]
+        yield from zip(parted(arguments.group(1), " ") if arguments else (), types)
+
+
+def letters():
+    for path in glob.glob(f"{top}/crates/*/specs/*.antt"):
+        for name, lines, _ in declarations(read(path)):
+            for variable, kind in bound(name, lines):
+                wanted = LETTERS.get(variable.rstrip("'"))
+                if wanted and not re.fullmatch(wanted, kind):
+                    faults.append(f"{short(path)}: {variable} of {name} is of the type {kind}")
+
+
 def steps():
     for path in proofs():
         for number, line in enumerate(read(path).split("\n"), 1):
@@ -135,7 +184,7 @@ def cited():
 
 
 def main():
-    for check in (names_once, steps, said_once, cited):
+    for check in (names_once, letters, steps, said_once, cited):
         check()
     for fault in faults:
         print(fault)

@@ -33,18 +33,18 @@ by_number a r f e answer = e ∙ ap fault_in answer ∙ answer_number f tt
 
 pub encode_gives : (rec : List ℕ) (l : ℕ) (message shares shares' : List ℕ) (a : Answer (Unit {0})) (r : ℕ) → r ≡ fault_in a → EncodeSays rec l message shares shares' a → EncodeGives rec l message shares shares' r
 encode_gives rec l message shares shares' a r e says =
-    let number = by_number a r (fault_of rec (λ h. encode_fault h l (length shares) message)) e says.promise.answer in
-    record { number = number; says = record { promise = record { answer = ap outcome_of number; written = says.promise.written } } }
+    let number = by_number a r (fault_of rec (λ h. encode_fault h l (length shares) message)) e says.promise.answered in
+    record { number = number; says = record { promise = record { answered = ap outcome_of number; written = says.promise.written } } }
 
 pub recover_gives : (rec : List ℕ) (l : ℕ) (nodes shares message message' : List ℕ) (a : Answer (Unit {0})) (r : ℕ) → r ≡ fault_in a → RecoverSays rec l nodes shares message message' a → RecoverGives rec l nodes shares message message' r
 recover_gives rec l nodes shares message message' a r e says =
-    let number = by_number a r (fault_of rec (λ h. recover_fault h l nodes shares (length message))) e says.promise.answer in
-    record { number = number; says = record { promise = record { answer = ap outcome_of number; written = says.promise.written } } }
+    let number = by_number a r (fault_of rec (λ h. recover_fault h l nodes shares (length message))) e says.promise.answered in
+    record { number = number; says = record { promise = record { answered = ap outcome_of number; written = says.promise.written } } }
 
 pub rebuild_gives : (rec : List ℕ) (l : ℕ) (nodes shares : List ℕ) (target : ℕ) (share share' : List ℕ) (a : Answer (Unit {0})) (r : ℕ) → r ≡ fault_in a → RebuildSays rec l nodes shares target share share' a → RebuildGives rec l nodes shares target share share' r
 rebuild_gives rec l nodes shares target share share' a r e says =
-    let number = by_number a r (fault_of rec (λ h. rebuild_fault h l nodes shares target (length share))) e says.promise.answer in
-    record { number = number; says = record { promise = record { answer = ap outcome_of number; written = says.promise.written } } }
+    let number = by_number a r (fault_of rec (λ h. rebuild_fault h l nodes shares target (length share))) e says.promise.answered in
+    record { number = number; says = record { promise = record { answered = ap outcome_of number; written = says.promise.written } } }
 
 pub rearrange_gives : (y z : Arrangement) (rows : Header → ℕ) (rec : List ℕ) (l : ℕ) (source out out' : List ℕ) (a : Answer (Unit {0})) (r : ℕ) → r ≡ fault_in a → RearrangeSays y z rows rec l source out out' a → RearrangeGives y z rows rec l source out out' r
 rearrange_gives y z rows rec l source out out' a r e says =
@@ -53,8 +53,8 @@ rearrange_gives y z rows rec l source out out' a r e says =
 
 pub weights_give : (rec counts counts' : List ℕ) (a : Answer (Unit {0})) (r : ℕ) → r ≡ fault_in a → WeightsSay rec counts counts' a → WeightsGive rec counts counts' r
 weights_give rec counts counts' a r e says =
-    let number = by_number a r (fault_of rec (λ h. weights_fault h (length counts))) e says.counted.promise.answer in
-    record { number = number; says = record { counted = record { promise = record { answer = ap outcome_of number; written = says.counted.promise.written } }; claims = says.claims } }
+    let number = by_number a r (fault_of rec (λ h. weights_fault h (length counts))) e says.counted.promise.answered in
+    record { number = number; says = record { counted = record { promise = record { answered = ap outcome_of number; written = says.counted.promise.written } }; claims = says.claims } }
 
 -- an answer with another value in its place
 abbrev pub with_value : {A B : Type 0} → (A → B) → Answer A → Answer B
@@ -94,11 +94,11 @@ module _ (rec : List ℕ) (l symbol lane old new : ℕ) (shares : List ℕ) (alt
 
   pub update_gives : (altered' r : ℕ) → r ≡ fault_in a → altered' ≡ result_unwrap_or a altered → UpdateSays rec l symbol lane old new shares shares' a → UpdateGives rec l symbol lane old new shares altered shares' altered' r
   update_gives altered' r e v says =
-      let number : r ≡ update_number = e ∙ ap fault_in says.promise.answer ∙ answer_number update_number count in
-      let value : altered' ≡ pick (eqb update_number 0) count altered = v ∙ ap (λ (x : Answer ℕ). result_unwrap_or x altered) says.promise.answer ∙ counted_value count altered update_number in
+      let number : r ≡ update_number = e ∙ ap fault_in says.promise.answered ∙ answer_number update_number count in
+      let value : altered' ≡ pick (eqb update_number 0) count altered = v ∙ ap (λ (x : Answer ℕ). result_unwrap_or x altered) says.promise.answered ∙ counted_value count altered update_number in
       record {
         number = number;
-        says = record { promise = record { answer = ap₂ answer_of number value ∙ counted_again count altered update_number; written = says.promise.written } };
+        says = record { promise = record { answered = ap₂ answer_of number value ∙ counted_again count altered update_number; written = says.promise.written } };
         altered_is = rw number (value ∙ handed update_number altered (λ none. altered_symbols (header_of rec) share_layout l symbol lane old new shares shares' (rw none at says.promise.written)));
       }
 
@@ -116,8 +116,8 @@ module _ (rec : List ℕ) (l : ℕ) (shares : List ℕ) (first : ℕ) where
 
   pub belongs_gives : (a : Answer (Option ℕ)) (first' r : ℕ) → r ≡ fault_in (with_value (λ w. unwrap_or w l) a) → first' ≡ result_unwrap_or (with_value (λ w. unwrap_or w l) a) first → BelongsSays rec l shares a → BelongsGives rec l shares first first' r
   belongs_gives (Ok w) first' r e v says =
-      let (none, at) = named belongs_number w says.promise.answer in
+      let (none, at) = named belongs_number w says.promise.answered in
       rw (e, v) record { number = sym none; first_is = at }
   belongs_gives (Err g) first' r e v says =
-      let (same, some) = refused_is belongs_number _ g says.promise.answer in
+      let (same, some) = refused_is belongs_number _ g says.promise.answered in
       rw (e, v) record { number = same; first_is = sym (refused_value g _ first some) }

@@ -27,14 +27,14 @@ module _ (rec : List ℕ) (l : ℕ) (shares : List ℕ) (altered : ℕ) (shares'
   -- a block that was set right
   done : f ≡ 0 → CorrectSays rec l shares shares' (Ok count)
   unfolding answer_of
-  done none = record { promise = record { answer = rw none; written = says.promise.written } }
+  done none = record { promise = record { answered = rw none; written = says.promise.written } }
 
   pub correct_gives : (altered' r : ℕ) → r ≡ fault_in a → altered' ≡ result_unwrap_or a altered → CorrectGives rec l shares altered shares' altered' r
   correct_gives altered' r e v =
-      let number : r ≡ f = e ∙ ap fault_in says.promise.answer ∙ answer_number f count in
-      let value : altered' ≡ pick (eqb f 0) count altered = v ∙ ap (λ (x : Answer ℕ). result_unwrap_or x altered) says.promise.answer ∙ counted_value count altered f in
+      let number : r ≡ f = e ∙ ap fault_in says.promise.answered ∙ answer_number f count in
+      let value : altered' ≡ pick (eqb f 0) count altered = v ∙ ap (λ (x : Answer ℕ). result_unwrap_or x altered) says.promise.answered ∙ counted_value count altered f in
       record {
         number = number;
-        says = record { promise = record { answer = ap₂ answer_of number value ∙ counted_again count altered f; written = says.promise.written } };
+        says = record { promise = record { answered = ap₂ answer_of number value ∙ counted_again count altered f; written = says.promise.written } };
         altered_is = rw number (value ∙ handed f altered (λ none. counted rec l shares shares' count (done none)));
       }

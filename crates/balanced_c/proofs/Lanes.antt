@@ -21,11 +21,11 @@ module _ (rec before after : List ℕ) (answer symbol amount : ℕ) where
   pub find_done : {r s : Finding} → r ≡ s → FindSays rec before after (Ok r) → FindGives rec before after answer symbol amount (case_of s) (found_symbol s) (found_amount s) 0
   unfolding found_in
   find_done {r} is says =
-      let none = done_is (fault_of rec (λ h. find_fault h before after)) _ says.found.promise.answer in
-      let same = value_is _ _ says.found.promise.answer in
+      let none = done_is (fault_of rec (λ h. find_fault h before after)) _ says.found.promise.answered in
+      let same = value_is _ _ says.found.promise.answered in
       record {
         number = sym none;
-        answer_is = ap case_of (sym is ∙ same);
+        found_is = ap case_of (sym is ∙ same);
         symbol_is = ap found_symbol (sym is ∙ same);
         amount_is = ap found_amount (sym is ∙ same);
         claims = says.claims;
@@ -34,10 +34,10 @@ module _ (rec before after : List ℕ) (answer symbol amount : ℕ) where
   pub find_refuses : (g : ℕ) → FindSays rec before after (Err g) → FindGives rec before after answer symbol amount answer symbol amount g
   unfolding found_in
   find_refuses g says =
-      let (same, some) = refused_is (fault_of rec (λ h. find_fault h before after)) _ g says.found.promise.answer in
+      let (same, some) = refused_is (fault_of rec (λ h. find_fault h before after)) _ g says.found.promise.answered in
       record {
         number = same;
-        answer_is = sym (refused_value g _ answer some);
+        found_is = sym (refused_value g _ answer some);
         symbol_is = sym (refused_value g _ symbol some);
         amount_is = sym (refused_value g _ amount some);
         claims = says.claims;
@@ -53,10 +53,10 @@ module _ (rec lane nodes symbols nodes' symbols' : List ℕ) (a : Answer ℕ) (c
   mends_give count' r e v says =
       let promise = says.listed.promise in
       let listed : ℕ = length (mended_nodes rec lane) in
-      let number : r ≡ fault = e ∙ ap fault_in promise.answer ∙ answer_number fault listed in
+      let number : r ≡ fault = e ∙ ap fault_in promise.answered ∙ answer_number fault listed in
       record {
         number = number;
-        count_is = rw number (v ∙ ap (λ (x : Answer ℕ). result_unwrap_or x count) promise.answer ∙ counted_value listed count fault);
+        count_is = rw number (v ∙ ap (λ (x : Answer ℕ). result_unwrap_or x count) promise.answered ∙ counted_value listed count fault);
         nodes_are = rw number promise.nodes_written;
         symbols_are = rw number promise.symbols_written;
         claims = says.claims;

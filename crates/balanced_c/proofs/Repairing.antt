@@ -15,13 +15,13 @@ use Rattle.balanced_c.proofs.Answers.{by_number}
 
 pub bits_give : (rec : List ℕ) (l j target : ℕ) (missing share out out' : List ℕ) (a : Answer (Unit {0})) (r : ℕ) → r ≡ fault_in a → RepairBitsSays rec l j target missing share out out' a → RepairBitsGives rec l j target missing share out out' r
 bits_give rec l j target missing share out out' a r e says =
-    let number = by_number a r (fault_of rec (λ h. repair_bits_fault h l j target missing (length share) (length out))) e says.promise.answer in
-    record { number = number; says = record { promise = record { answer = ap outcome_of number; written = says.promise.written } } }
+    let number = by_number a r (fault_of rec (λ h. repair_bits_fault h l j target missing (length share) (length out))) e says.promise.answered in
+    record { number = number; says = record { promise = record { answered = ap outcome_of number; written = says.promise.written } } }
 
 pub share_gives : (rec : List ℕ) (l target : ℕ) (missing rows share share' : List ℕ) (a : Answer (Unit {0})) (r : ℕ) → r ≡ fault_in a → RepairShareSays rec l target missing rows share share' a → RepairShareGives rec l target missing rows share share' r
 share_gives rec l target missing rows share share' a r e says =
-    let number = by_number a r (fault_of rec (λ h. repair_share_fault h l target missing (length rows) (length share))) e says.promise.answer in
-    record { number = number; says = record { promise = record { answer = ap outcome_of number; written = says.promise.written } } }
+    let number = by_number a r (fault_of rec (λ h. repair_share_fault h l target missing (length rows) (length share))) e says.promise.answered in
+    record { number = number; says = record { promise = record { answered = ap outcome_of number; written = says.promise.written } } }
 
 module _ (rec : List ℕ) (count b more : ℕ) where
   abbrev fault : ℕ
@@ -30,11 +30,11 @@ module _ (rec : List ℕ) (count b more : ℕ) where
   -- the plan
   pub plan_sends : (p : RepairPlan) → RepairPlanSays rec count (Ok p) → RepairPlanGives rec count b more p.bits p.spare 0
   plan_sends p says =
-      let plan = value_is _ _ says.promise.answer in
-      record { number = sym (done_is fault _ says.promise.answer); bits_are = ap (λ (q : RepairPlan). q.bits) plan; spare_is = ap (λ (q : RepairPlan). q.spare) plan }
+      let plan = value_is _ _ says.promise.answered in
+      record { number = sym (done_is fault _ says.promise.answered); bits_are = ap (λ (q : RepairPlan). q.bits) plan; spare_is = ap (λ (q : RepairPlan). q.spare) plan }
 
   -- the number: both are as they were
   pub plan_refuses : (g : ℕ) → RepairPlanSays rec count (Err g) → RepairPlanGives rec count b more b more g
   plan_refuses g says =
-      let (same, some) = refused_is fault _ g says.promise.answer in
+      let (same, some) = refused_is fault _ g says.promise.answered in
       record { number = same; bits_are = sym (refused_value g _ b some); spare_is = sym (refused_value g _ more some) }

@@ -8,23 +8,23 @@ use Rattle.carrying.specs.Carrying.{carried_length}
 use Rattle.carry.specs.Promise.{carried_len_fault, carry_in_fault, carry_out_fault, CarryInSays, CarryOutSays}
 use Rattle.choose.specs.Promise.{chosen_record, choose_fault, ChooseSays}
 
--- `balanced_carried_len`: the number, and how many bytes carry n where there is none
-pub record CarriedLenGives (rec : List ℕ) (n carried carried' r : ℕ) : Type 0 where
-  pub number : r ≡ fault_of rec (λ h. carried_len_fault h n)
-  pub carried_is : carried' ≡ pick (eqb r 0) (carried_length (modulus_of (header_of rec)) n) carried
+-- `balanced_carried_len`: the number, and how many bytes carry `count` where there is none
+pub record CarriedLenGives (rec : List ℕ) (count carried carried' f : ℕ) : Type 0 where
+  pub number : f ≡ fault_of rec (λ h. carried_len_fault h count)
+  pub carried_is : carried' ≡ pick (eqb f 0) (carried_length (modulus_of (header_of rec)) count) carried
 
 -- `balanced_carry_in`: the number, and what the call says of the symbols
-pub record CarryInGives (rec bytes out out' : List ℕ) (r : ℕ) : Type 0 where
-  pub number : r ≡ fault_of rec (λ h. carry_in_fault h (length bytes) (length out))
-  pub says : CarryInSays rec bytes out out' (outcome_of r)
+pub record CarryInGives (rec bytes out out' : List ℕ) (f : ℕ) : Type 0 where
+  pub number : f ≡ fault_of rec (λ h. carry_in_fault h (length bytes) (length out))
+  pub says : CarryInSays rec bytes out out' (outcome_of f)
 
 -- `balanced_carry_out`: the number, and what the call says of the bytes
-pub record CarryOutGives (rec symbols out out' : List ℕ) (r : ℕ) : Type 0 where
-  pub number : r ≡ fault_of rec (λ h. carry_out_fault h (length out) symbols)
-  pub says : CarryOutSays rec symbols out out' (outcome_of r)
+pub record CarryOutGives (rec symbols out out' : List ℕ) (f : ℕ) : Type 0 where
+  pub number : f ≡ fault_of rec (λ h. carry_out_fault h (length out) symbols)
+  pub says : CarryOutSays rec symbols out out' (outcome_of f)
 
 -- `balanced_choose`: the number, what the call says of the record, and how many bytes it has
-pub record ChooseGives (n k : ℕ) (out : List ℕ) (len : ℕ) (out' : List ℕ) (len' r : ℕ) : Type 0 where
-  pub number : r ≡ choose_fault n k (length out)
-  pub says : ChooseSays n k out out' (answer_of r len')
-  pub len_is : len' ≡ pick (eqb r 0) (length (chosen_record n k)) len
+pub record ChooseGives (n k : ℕ) (out : List ℕ) (len : ℕ) (out' : List ℕ) (len' f : ℕ) : Type 0 where
+  pub number : f ≡ choose_fault n k (length out)
+  pub says : ChooseSays n k out out' (answer_of f len')
+  pub len_is : len' ≡ pick (eqb f 0) (length (chosen_record n k)) len

@@ -10,7 +10,7 @@ use Rattle.refusals.specs.Faults.{fault_of}
 use Rattle.correct.specs.Promise.{correct_fault, CorrectSays}
 
 -- `balanced_correct`: the number, what the call says of the shares, and how many of their symbols differ afterwards
-pub record CorrectGives (rec : List ℕ) (l : ℕ) (shares : List ℕ) (altered : ℕ) (shares' : List ℕ) (altered' r : ℕ) : Type 0 where
-  pub number : r ≡ fault_of rec (λ h. correct_fault share_layout h l shares)
-  pub says : CorrectSays rec l shares shares' (answer_of r altered')
-  pub altered_is : altered' ≡ pick (eqb r 0) (let w = width (header_of rec) in differ (symbols_of w shares) (symbols_of w shares')) altered
+pub record CorrectGives (rec : List ℕ) (l : ℕ) (shares : List ℕ) (altered : ℕ) (shares' : List ℕ) (altered' f : ℕ) : Type 0 where
+  pub number : f ≡ fault_of rec (λ h. correct_fault share_layout h l shares)
+  pub says : CorrectSays rec l shares shares' (answer_of f altered')
+  pub altered_is : altered' ≡ pick (eqb f 0) (let w = width (header_of rec) in differ (symbols_of w shares) (symbols_of w shares')) altered

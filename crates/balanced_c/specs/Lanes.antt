@@ -16,11 +16,11 @@ unfoldable pub found_in : List ℕ → List ℕ → List ℕ → Finding
 found_in rec before after = let h = header_of rec in finding_of h (symbols_of (width h) before) (symbols_of (width h) after)
 
 -- `balanced_find_update`: the number, and the finding in numbers where there is none
-pub record FindGives (rec before after : List ℕ) (answer symbol amount answer' symbol' amount' r : ℕ) : Type 0 where
-  pub number : r ≡ fault_of rec (λ h. find_fault h before after)
-  pub answer_is : answer' ≡ pick (eqb r 0) (case_of (found_in rec before after)) answer
-  pub symbol_is : symbol' ≡ pick (eqb r 0) (found_symbol (found_in rec before after)) symbol
-  pub amount_is : amount' ≡ pick (eqb r 0) (found_amount (found_in rec before after)) amount
+pub record FindGives (rec before after : List ℕ) (found symbol amount found' symbol' amount' f : ℕ) : Type 0 where
+  pub number : f ≡ fault_of rec (λ h. find_fault h before after)
+  pub found_is : found' ≡ pick (eqb f 0) (case_of (found_in rec before after)) found
+  pub symbol_is : symbol' ≡ pick (eqb f 0) (found_symbol (found_in rec before after)) symbol
+  pub amount_is : amount' ≡ pick (eqb f 0) (found_amount (found_in rec before after)) amount
   pub claims : Found (record_of rec)
 
 -- the list of a lane in a lent buffer: its nodes, and its symbols as bytes
@@ -31,9 +31,9 @@ unfoldable pub mended_bytes : List ℕ → List ℕ → List ℕ
 mended_bytes rec lane = let h = header_of rec in bytes_of (width h) (mend_symbols h (symbols_of (width h) lane))
 
 -- `balanced_mends`: the number, and the count and the list where there is none
-pub record MendsGive (rec lane nodes symbols : List ℕ) (count : ℕ) (nodes' symbols' : List ℕ) (count' r : ℕ) : Type 0 where
-  pub number : r ≡ fault_of rec (λ h. mends_fault h lane (length nodes) (length symbols))
-  pub count_is : count' ≡ pick (eqb r 0) (length (mended_nodes rec lane)) count
-  pub nodes_are : nodes' ≡ pick (eqb r 0) (in_front (mended_nodes rec lane) nodes) nodes
-  pub symbols_are : symbols' ≡ pick (eqb r 0) (in_front (mended_bytes rec lane) symbols) symbols
+pub record MendsGive (rec lane nodes symbols : List ℕ) (count : ℕ) (nodes' symbols' : List ℕ) (count' f : ℕ) : Type 0 where
+  pub number : f ≡ fault_of rec (λ h. mends_fault h lane (length nodes) (length symbols))
+  pub count_is : count' ≡ pick (eqb f 0) (length (mended_nodes rec lane)) count
+  pub nodes_are : nodes' ≡ pick (eqb f 0) (in_front (mended_nodes rec lane) nodes) nodes
+  pub symbols_are : symbols' ≡ pick (eqb f 0) (in_front (mended_bytes rec lane) symbols) symbols
   pub claims : Mended (record_of rec)

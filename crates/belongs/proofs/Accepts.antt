@@ -26,4 +26,4 @@ module _ (h : Header) (sound : Sound h) (l : ℕ) where
 -- beside a number g: the number, and nothing is written
 module _ {y : Arrangement} (h : Header) (g : ℕ) (some : g ≡ 0 → ⊥) (l : ℕ) where
   pub belongs_refuses : (shares : List ℕ) → BelongsPromise y l shares (Err g) h g
-  belongs_refuses shares = record { answer = sym (answer_refused g _ some) }
+  belongs_refuses shares = record { answered = sym (answer_refused g _ some) }

@@ -19,11 +19,11 @@ belongs_fault h l shares =
     (when (symbols_bad h shares) 11))
 
 -- Belongs: yes, or the smallest lane that is no word
-pub record BelongsPromise (y : Arrangement) (l : ℕ) (shares : List ℕ) (r : Answer (Option ℕ)) (h : Header) (f : ℕ) : Type 0 where
-  pub answer : r ≡ membership_of f l (wrong_lane y h l shares)
+pub record BelongsPromise (y : Arrangement) (l : ℕ) (shares : List ℕ) (answer : Answer (Option ℕ)) (h : Header) (f : ℕ) : Type 0 where
+  pub answered : answer ≡ membership_of f l (wrong_lane y h l shares)
 
 abbrev pub BelongsSaysIn : Arrangement → List ℕ → ℕ → List ℕ → Answer (Option ℕ) → Type 0
-BelongsSaysIn y rec l shares r = OnRecord rec (λ h. belongs_fault h l shares) (BelongsPromise y l shares r)
+BelongsSaysIn y rec l shares answer = OnRecord rec (λ h. belongs_fault h l shares) (BelongsPromise y l shares answer)
 
 abbrev pub BelongsSays : List ℕ → ℕ → List ℕ → Answer (Option ℕ) → Type 0
 BelongsSays = BelongsSaysIn share_layout

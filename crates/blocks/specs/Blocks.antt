@@ -39,7 +39,7 @@ row_added y h l r t x s = with_lane y h.n l t (added_at y h l r t x s) s
 
 -- x times row r added to a word by itself
 unfoldable pub word_added : Header → ℕ → ℕ → List ℕ → List ℕ
-word_added h r x w = from (λ j. add (modulus_of h) (get_or w j 0) (mul (modulus_of h) x (entry h r j))) 0 h.n
+word_added h r x us = from (λ j. add (modulus_of h) (get_or us j 0) (mul (modulus_of h) x (entry h r j))) 0 h.n
 
 -- (new − old) times row r added to lane t
 unfoldable pub updated : Arrangement → Header → ℕ → ℕ → ℕ → ℕ → ℕ → List ℕ → List ℕ

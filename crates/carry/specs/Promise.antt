@@ -11,23 +11,23 @@ use Rattle.carrying.specs.Carrying.{carries_none, carried_bytes, bytes_back, car
 
 -- number 8: more bytes than 2^62, of which no buffer has so many
 unfoldable pub long_bad : ℕ → Bool
-long_bad n = ltb 4611686018427387904 n
+long_bad count = ltb 4611686018427387904 count
 
--- the length that carries n bytes: 18 for a record that carries none stands before the lengths, which it settles
+-- the length that carries `count` bytes: 18 for a record that carries none stands before the lengths, which it settles
 unfoldable pub carried_len_fault : Header → ℕ → ℕ
-carried_len_fault h n = first_of (when (carries_none (modulus_of h)) 18) (when (long_bad n) 8)
+carried_len_fault h count = first_of (when (carries_none (modulus_of h)) 18) (when (long_bad count) 8)
 
--- n bytes carried in so many
+-- `count` bytes carried in so many
 unfoldable pub carry_in_fault : Header → ℕ → ℕ → ℕ
-carry_in_fault h n long = first_of (carried_len_fault h n) (when (length_bad (carried_length (modulus_of h) n) long) 8)
+carry_in_fault h count out_len = first_of (carried_len_fault h count) (when (length_bad (carried_length (modulus_of h) count) out_len) 8)
 
--- n bytes read from symbols
+-- `count` bytes read from symbols
 unfoldable pub carry_out_fault : Header → ℕ → List ℕ → ℕ
-carry_out_fault h n symbols = first_of (carry_in_fault h n (length symbols)) (when (symbols_bad h symbols) 11)
+carry_out_fault h count symbols = first_of (carry_in_fault h count (length symbols)) (when (symbols_bad h symbols) 11)
 
 -- so many bytes, or the number
-pub record CarriedLenPromise (n : ℕ) (answer : Answer ℕ) (h : Header) (f : ℕ) : Type 0 where
-  pub answered : answer ≡ answer_of f (carried_length (modulus_of h) n)
+pub record CarriedLenPromise (count : ℕ) (answer : Answer ℕ) (h : Header) (f : ℕ) : Type 0 where
+  pub answered : answer ≡ answer_of f (carried_length (modulus_of h) count)
 
 -- the bytes as they are carried; nothing is written beside a number
 pub record CarryInPromise (bytes out out' : List ℕ) (answer : Answer (Unit {0})) (h : Header) (f : ℕ) : Type 0 where
@@ -41,7 +41,7 @@ pub record CarryOutPromise (symbols out out' : List ℕ) (answer : Answer (Unit 
 
 -- over the record as it is read
 abbrev pub CarriedLenSays : List ℕ → ℕ → Answer ℕ → Type 0
-CarriedLenSays rec n answer = OnRecord rec (λ h. carried_len_fault h n) (CarriedLenPromise n answer)
+CarriedLenSays rec count answer = OnRecord rec (λ h. carried_len_fault h count) (CarriedLenPromise count answer)
 
 abbrev pub CarryInSays : List ℕ → List ℕ → List ℕ → List ℕ → Answer (Unit {0}) → Type 0
 CarryInSays rec bytes out out' answer = OnRecord rec (λ h. carry_in_fault h (length bytes) (length out)) (CarryInPromise bytes out out' answer)

@@ -21,7 +21,7 @@ asked_bad n k = ((ltb n 2 || ltb 255 n) || eqb k 0) || ltb n k
 
 -- then the room, 7 bytes
 unfoldable pub choose_fault : ℕ → ℕ → ℕ → ℕ
-choose_fault n k room = first_of (when (asked_bad n k) 4) (when (length_bad 7 room) 8)
+choose_fault n k out_len = first_of (when (asked_bad n k) 4) (when (length_bad 7 out_len) 8)
 
 -- how many bytes the record has, or the number; the record, at the front of the room, and nothing is written beside a number
 pub record ChoosePromise (n k : ℕ) (out out' : List ℕ) (answer : Answer ℕ) (f : ℕ) : Type 0 where
@@ -38,4 +38,4 @@ pub record ChosenWell (n k : ℕ) (rec : List ℕ) : Type 0 where
   pub needed : (header_of rec).k ≡ k
   pub carries : carries_none (modulus_of (header_of rec)) ≡ false
   pub bytes : 255 % n ≡ 0 → modulus_of (header_of rec) ≡ 0
-  pub best : (255 % n ≡ 0 → ⊥) → (q : ℕ) → is_prime q ≡ true → q % n ≡ 1 → q < 65536 → q ≤ modulus_of (header_of rec)
+  pub best : (255 % n ≡ 0 → ⊥) → (p : ℕ) → is_prime p ≡ true → p % n ≡ 1 → p < 65536 → p ≤ modulus_of (header_of rec)

@@ -21,7 +21,7 @@ module _ (rec : List ℕ) (l : ℕ) (shares shares' : List ℕ) (count : ℕ) (s
   h = header_of rec
 
   no_number : fault_of rec (λ h. correct_fault share_layout h l shares) ≡ 0
-  no_number = done_is _ _ says.promise.answer
+  no_number = done_is _ _ says.promise.answered
 
   pub symbols_written : symbols_of (width h) shares' ≡ corrected_shares share_layout h l (symbols_of (width h) shares)
   unfolding corrected_bytes
@@ -29,4 +29,4 @@ module _ (rec : List ℕ) (l : ℕ) (shares shares' : List ℕ) (count : ℕ) (s
 
   pub counted : count ≡ differ (symbols_of (width h) shares) (symbols_of (width h) shares')
   unfolding corrected_count
-  counted = value_is _ _ says.promise.answer ∙ ap (differ (symbols_of (width h) shares)) (sym symbols_written)
+  counted = value_is _ _ says.promise.answered ∙ ap (differ (symbols_of (width h) shares)) (sym symbols_written)

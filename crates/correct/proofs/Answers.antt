@@ -19,12 +19,12 @@ use Rattle.correct.specs.Promise.{CorrectPromise}
 module _ (y : Arrangement) (h : Header) (l : ℕ) (shares : List ℕ) where
   -- a number turns the call away, and nothing is written
   pub correct_refuses : (g : ℕ) → (g ≡ 0 → ⊥) → CorrectPromise y l shares shares (Err g) h g
-  correct_refuses g some = record { answer = sym (answer_refused g _ some); written = sym (refused_value g _ shares some) }
+  correct_refuses g some = record { answered = sym (answer_refused g _ some); written = sym (refused_value g _ shares some) }
 
   -- no number does
   pub correct_done : (count : ℕ) (shares' : List ℕ) → shares' ≡ corrected_bytes y h l shares → count ≡ corrected_count y h l shares → CorrectPromise y l shares shares' (Ok count) h 0
   unfolding answer_of
-  correct_done count shares' is number = record { answer = ap Ok number; written = is }
+  correct_done count shares' is number = record { answered = ap Ok number; written = is }
 
   -- no lane is too far from every word, or one is
   pub far_none : first_far y h l (symbols_of (width h) shares) ≡ l → far_bad y h l shares ≡ false

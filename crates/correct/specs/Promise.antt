@@ -13,12 +13,12 @@ unfoldable pub correct_fault : Arrangement → Header → ℕ → List ℕ → �
 correct_fault y h l shares = first_of (belongs_fault h l shares) (when (far_bad y h l shares) 14)
 
 -- every lane as the word nearest to it, and how many symbols differ afterwards; beside a number nothing is written
-pub record CorrectPromise (y : Arrangement) (l : ℕ) (shares shares' : List ℕ) (r : Answer ℕ) (h : Header) (f : ℕ) : Type 0 where
-  pub answer : r ≡ answer_of f (corrected_count y h l shares)
+pub record CorrectPromise (y : Arrangement) (l : ℕ) (shares shares' : List ℕ) (answer : Answer ℕ) (h : Header) (f : ℕ) : Type 0 where
+  pub answered : answer ≡ answer_of f (corrected_count y h l shares)
   pub written : shares' ≡ pick (eqb f 0) (corrected_bytes y h l shares) shares
 
 abbrev pub CorrectSaysIn : Arrangement → List ℕ → ℕ → List ℕ → List ℕ → Answer ℕ → Type 0
-CorrectSaysIn y rec l shares shares' r = OnRecord rec (λ h. correct_fault y h l shares) (CorrectPromise y l shares shares' r)
+CorrectSaysIn y rec l shares shares' answer = OnRecord rec (λ h. correct_fault y h l shares) (CorrectPromise y l shares shares' answer)
 
 -- with shares as they stand in buffers
 abbrev pub CorrectSays : List ℕ → ℕ → List ℕ → List ℕ → Answer ℕ → Type 0

@@ -51,7 +51,7 @@ module _ (rec : List ℕ) (l : ℕ) where
   encode : (message out out' : List ℕ) → EncodeSays rec l message out out' (Ok tt) → EncodeDone h l message out'
   unfolding encoded_bytes
   encode message out out' says =
-      let none = done_is (fault_of rec (λ h. encode_fault h l (length out) message)) _ says.promise.answer in
+      let none = done_is (fault_of rec (λ h. encode_fault h l (length out) message)) _ says.promise.answered in
       let (sound, own) = none_met rec (λ h. encode_fault h l (length out) message) none in
       let (rows, long) = encode_accepts h sound l (length out) message own in
       let now : read h out' ≡ shares_of share_layout h l (read h message) = read_written h out' _ (rw none at says.promise.written) in
@@ -65,7 +65,7 @@ module _ (rec : List ℕ) (l : ℕ) where
     recover : (out out' : List ℕ) → RecoverSays rec l nodes shares out out' (Ok tt) → RecoverDone h l nodes shares out'
     unfolding RecoveredBytes
     recover out out' says =
-        let none = done_is (fault_of rec (λ h. recover_fault h l nodes shares (length out))) _ says.promise.answer in
+        let none = done_is (fault_of rec (λ h. recover_fault h l nodes shares (length out))) _ says.promise.answered in
         let (sound, own) = none_met rec (λ h. recover_fault h l nodes shares (length out)) none in
         let (listed, long) = recover_accepts h sound l nodes shares (length out) own in
         let (m, is, written) = rw none at (recover_law share_lawful rec l nodes shares out out' (Ok tt) says) in
@@ -80,7 +80,7 @@ module _ (rec : List ℕ) (l : ℕ) where
     rebuild : (target : ℕ) (out out' : List ℕ) → RebuildSays rec l nodes shares target out out' (Ok tt) → RebuildDone h l nodes shares target out'
     unfolding RebuiltBytes
     rebuild target out out' says =
-        let none = done_is (fault_of rec (λ h. rebuild_fault h l nodes shares target (length out))) _ says.promise.answer in
+        let none = done_is (fault_of rec (λ h. rebuild_fault h l nodes shares target (length out))) _ says.promise.answered in
         let (sound, own) = none_met rec (λ h. rebuild_fault h l nodes shares target (length out)) none in
         let (listed, node, long) = rebuild_accepts h sound l nodes shares target (length out) own in
         let (m, is, written) = rw none at (rebuild_law share_lawful rec l nodes shares out out' (Ok tt) target says) in
@@ -98,7 +98,7 @@ module _ (rec : List ℕ) (l : ℕ) where
     passes : BelongsSays rec l shares (Ok None) → AllWords h l shares
     unfolding wrong_lane
     passes says =
-        let (none, all) = yes_means (fault_of rec (λ h. belongs_fault h l shares)) l (wrong_lane share_layout h l shares) says.promise.answer in
+        let (none, all) = yes_means (fault_of rec (λ h. belongs_fault h l shares)) l (wrong_lane share_layout h l shares) says.promise.answered in
         let (sound, own) = none_met rec (λ h. belongs_fault h l shares) none in
         let rows = belongs_accepts h sound l shares own in
         λ t inside. ((code_demands h sound).passes l (read h shares) (rows_are h h.n l (read h shares) rows.symbol_rows)).0 all t inside
@@ -106,7 +106,7 @@ module _ (rec : List ℕ) (l : ℕ) where
     names : (wrong : ℕ) → BelongsSays rec l shares (Ok (Some wrong)) → SmallestWrong h l shares wrong
     unfolding wrong_lane
     names wrong says =
-        let (none, at, other) = no_means (fault_of rec (λ h. belongs_fault h l shares)) l (wrong_lane share_layout h l shares) wrong says.promise.answer in
+        let (none, at, other) = no_means (fault_of rec (λ h. belongs_fault h l shares)) l (wrong_lane share_layout h l shares) wrong says.promise.answered in
         let (sound, own) = none_met rec (λ h. belongs_fault h l shares) none in
         let rows = belongs_accepts h sound l shares own in
         let is : first_wrong share_layout h l (read h shares) ≡ wrong = at in
@@ -121,13 +121,13 @@ module _ (rec : List ℕ) (l : ℕ) where
   update : (r t old new : ℕ) (shares shares' : List ℕ) (count : ℕ) → UpdateSays rec l r t old new shares shares' (Ok count) → UpdateDone h shares shares' l r t old new count
   unfolding updated_bytes
   update r t old new shares shares' count says =
-      let none = done_is (fault_of rec (λ h. update_fault share_layout h l r t old new shares)) _ says.promise.answer in
+      let none = done_is (fault_of rec (λ h. update_fault share_layout h l r t old new shares)) _ says.promise.answered in
       let (sound, own) = none_met rec (λ h. update_fault share_layout h l r t old new shares) none in
       let written = rw none at says.promise.written in
       let now : read h shares' ≡ updated share_layout h l r t old new (read h shares) = read_written h shares' _ written in
       record {
         change = rw now ((update_demands h sound).updates shares l r t old new own);
-        reports = value_is _ _ says.promise.answer ∙ altered_symbols h share_layout l r t old new shares shares' written;
+        reports = value_is _ _ says.promise.answered ∙ altered_symbols h share_layout l r t old new shares shares' written;
       }
 
 pub call_demands : CallDemands

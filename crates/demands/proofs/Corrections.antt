@@ -130,7 +130,7 @@ module _ (rec : List ℕ) (l : ℕ) (shares : List ℕ) where
   -- what is known of a call that was done
   module _ (shares' : List ℕ) (count : ℕ) (says : CorrectSays rec l shares shares' (Ok count)) where
     no_number : number ≡ 0
-    no_number = done_is number _ says.promise.answer
+    no_number = done_is number _ says.promise.answered
 
     accepted : Sound h × (belongs_fault h l shares ≡ 0)
     accepted = own (none_earlier no_number)
@@ -193,7 +193,7 @@ module _ (rec : List ℕ) (l : ℕ) (shares : List ℕ) where
     unfolding fault_of answer_of
     belongs r promised =
         let (fine, rest) = first_zero (record_fault rec) (belongs_fault h l shares) (none_earlier no_number) in
-        promised.promise.answer ∙ rw (fine, belongs_none, no_wrong, eq-eqb l l refl)
+        promised.promise.answered ∙ rw (fine, belongs_none, no_wrong, eq-eqb l l refl)
 
     -- for k = n and k = n − 1 only words pass
     exactly : h.n ≤ h.k + 1 → ((t : ℕ) → t < l → Codeword h (lane_in h l shares t)) × (symbols_of (width h) shares' ≡ symbols_of (width h) shares) × (count ≡ 0)
@@ -209,7 +209,7 @@ module _ (rec : List ℕ) (l : ℕ) (shares : List ℕ) where
   module _ (shares' : List ℕ) where
     untouched : (g : ℕ) → CorrectSays rec l shares shares' (Err g) → shares' ≡ shares
     untouched g says =
-        let (same, some) = refused_is number _ g says.promise.answer in
+        let (same, some) = refused_is number _ g says.promise.answered in
         says.promise.written ∙ refused_value number _ shares (λ e. some (same ∙ e))
 
     -- no earlier number is 14
@@ -234,7 +234,7 @@ module _ (rec : List ℕ) (l : ℕ) (shares : List ℕ) where
       where
         to : r ≡ Err 14 → (earlier ≡ 0) × ((t : ℕ) × (t < l) × ((us : List ℕ) → NearWord h (lane_in h l shares t) us → ⊥))
         to e =
-            let is : 14 ≡ number = (refused_is number _ 14 (sym e ∙ says.promise.answer)).0 in
+            let is : 14 ≡ number = (refused_is number _ 14 (sym e ∙ says.promise.answered)).0 in
             let none : earlier ≡ 0 = by_cases (ℕ_discrete earlier 0) (λ z. z) (λ some. absurd (not_earlier (sym (first some) ∙ sym is))) in
             let (sound, fine) = own none in
             let bad : far_bad share_layout h l shares ≡ true = by_test (far_bad share_layout h l shares) (λ b. b) (λ b. absurd (omega (arith, is, later none ∙ ap (λ (x : Bool). when x 14) b))) in
@@ -247,7 +247,7 @@ module _ (rec : List ℕ) (l : ℕ) (shares : List ℕ) where
             let ws = lane_in h l shares t in
             let far : has_near h ws ≡ false = by_test (has_near h ws) (λ b. absurd (no_word _ (has_near_lem h sound ws (length_lane share_layout h.n l t (symbols_of (width h) shares)) b))) (λ b. b) in
             let is : number ≡ 14 = later none ∙ ap (λ (x : Bool). when x 14) (one_bad h sound l shares fine t inside far) in
-            says.promise.answer ∙ ap (λ (f : ℕ). answer_of f (corrected_count share_layout h l shares)) is ∙ answer_refused 14 _ (λ z. omega arith)
+            says.promise.answered ∙ ap (λ (f : ℕ). answer_of f (corrected_count share_layout h l shares)) is ∙ answer_refused 14 _ (λ z. omega arith)
 
 -- with shares rearranged
 module _ {y z : Arrangement} (a : Lawful y) (b : Lawful z) (h : Header) (l : ℕ) (shares : List ℕ) (full : length shares ≡ h.n * l * width h) where
@@ -281,7 +281,7 @@ module _ {y z : Arrangement} (a : Lawful y) (b : Lawful z) (h : Header) (l : ℕ
 module _ {y z : Arrangement} (a : Lawful y) (b : Lawful z) (rec : List ℕ) (l : ℕ) (shares : List ℕ) (full : Full (header_of rec) (header_of rec).n l shares) where
   lanes : (shares' now : List ℕ) (before after : Answer ℕ) → CorrectSaysIn y rec l shares shares' before → CorrectSaysIn z rec l (rearranged_bytes y z (header_of rec) (header_of rec).n l shares) now after → (after ≡ before) × (now ≡ rearranged_bytes y z (header_of rec) (header_of rec).n l shares')
   lanes shares' now before after was is = (
-    is.promise.answer ∙ ap₂ answer_of same (counts_turned a b h' l shares full) ∙ sym was.promise.answer,
+    is.promise.answered ∙ ap₂ answer_of same (counts_turned a b h' l shares full) ∙ sym was.promise.answered,
     by_cases (ℕ_discrete given 0)
         (λ none.
         rw (same ∙ none) at is.promise.written ∙ bytes_turned a b h' l shares full ∙ ap (rearranged_bytes y z h' h'.n l) (sym (rw none at was.promise.written)))

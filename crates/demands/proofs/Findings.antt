@@ -38,10 +38,10 @@ call : (rec before after : List ℕ) (r : Answer Finding) → FindSays rec befor
 call rec before after (Err g) says never = absurd (never g refl)
 call rec before after (Ok r) says never =
     let h = header_of rec in
-    let none = done_is (fault_of rec (λ h. find_fault h before after)) _ says.found.promise.answer in
+    let none = done_is (fault_of rec (λ h. find_fault h before after)) _ says.found.promise.answered in
     let (sound, own) = none_met rec (λ h. find_fault h before after) none in
     let lanes = find_accepts h before after own in
-    (ap Ok (value_is _ _ says.found.promise.answer), finds h sound (read h before) (read h after) lanes.first lanes.second)
+    (ap Ok (value_is _ _ says.found.promise.answered), finds h sound (read h before) (read h after) lanes.first lanes.second)
 
 -- a difference that is zero is of equal symbols
 same_symbols : (h : Header) → Sound h → (a b : ℕ) → a < size h → b < size h → sub (modulus_of h) a b ≡ 0 → a ≡ b

@@ -154,14 +154,14 @@ module _ (rec : List ℕ) where
   find : (before after : List ℕ) (answer symbol amount answer' symbol' amount' r : ℕ) → FindGives rec before after answer symbol amount answer' symbol' amount' r → Judged (record_numbers rec ++ find_numbers h before after) (Returns r) ((answer' ≡ answer) × (symbol' ≡ symbol) × (amount' ≡ amount))
   find before after answer symbol amount answer' symbol' amount' r g =
       by_number g.number (own_after rec _ (λ h. find_fault h before after) refl (λ none. find_tells h before after))
-      (λ some. let other = ne_eqb r 0 some in (rw other at g.answer_is, rw other at g.symbol_is, rw other at g.amount_is))
+      (λ some. let other = ne_eqb r 0 some in (rw other at g.found_is, rw other at g.symbol_is, rw other at g.amount_is))
 
   find_done : (before after : List ℕ) (answer symbol amount answer' symbol' amount' : ℕ) → FindGives rec before after answer symbol amount answer' symbol' amount' 0 → InNumbers h (read h before) (read h after) answer' symbol' amount'
   unfolding found_in
   find_done before after answer symbol amount answer' symbol' amount' g =
       let (sound, own) = none_met rec (λ h. find_fault h before after) (sym g.number) in
       let lanes = find_accepts h before after own in
-      rw (g.answer_is, g.symbol_is, g.amount_is) (in_numbers h (read h before) (read h after) (finds h sound (read h before) (read h after) lanes.first lanes.second))
+      rw (g.found_is, g.symbol_is, g.amount_is) (in_numbers h (read h before) (read h after) (finds h sound (read h before) (read h after) lanes.first lanes.second))
 
   mends : (lane nodes symbols : List ℕ) (count : ℕ) (nodes' symbols' : List ℕ) (count' r : ℕ) → MendsGive rec lane nodes symbols count nodes' symbols' count' r → Judged (record_numbers rec ++ mends_numbers h lane (length nodes) (length symbols)) (Returns r) ((nodes' ≡ nodes) × (symbols' ≡ symbols) × (count' ≡ count))
   mends lane nodes symbols count nodes' symbols' count' r g =

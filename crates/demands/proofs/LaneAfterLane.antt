@@ -49,10 +49,10 @@ module _ {y z : Arrangement} (a : Lawful y) (b : Lawful z) (rec : List ℕ) (l :
   encode : (message out out' new new' : List ℕ) (r u : Answer (Unit {0})) → length new ≡ length out → EncodeSaysIn y rec l message out out' r → EncodeSaysIn z rec l message new new' u → (u ≡ r) × (u ≡ Ok tt → new' ≡ rearranged_bytes y z h h.n l out')
   encode message out out' new new' r u size old now =
       let same : fault_of rec (λ h. encode_fault h l (length new) message) ≡ fault_of rec (λ h. encode_fault h l (length out) message) = rw size in
-      let answer : u ≡ r = now.promise.answer ∙ ap outcome_of same ∙ sym old.promise.answer in (
+      let answer : u ≡ r = now.promise.answered ∙ ap outcome_of same ∙ sym old.promise.answered in (
         answer,
         λ done.
-            let none = done_is (fault_of rec (λ h. encode_fault h l (length new) message)) _ (sym done ∙ now.promise.answer) in
+            let none = done_is (fault_of rec (λ h. encode_fault h l (length new) message)) _ (sym done ∙ now.promise.answered) in
             let before = sym same ∙ none in
             rw none at now.promise.written ∙ encoded_turned a b h l message ∙ ap (rearranged_bytes y z h h.n l) (sym (rw before at old.promise.written)),
       )
@@ -67,16 +67,16 @@ module _ {y z : Arrangement} (a : Lawful y) (b : Lawful z) (rec : List ℕ) (l :
         by_cases (ℕ_discrete number 0)
         (λ none.
         let inside = update_inside y h l r t old new shares (none_met rec (λ h. update_fault y h l r t old new shares) none).1 in (
-          is.promise.answer ∙ ap₂ answer_of same (altered_turned a b h l shares full r t old new inside) ∙ sym was.promise.answer,
+          is.promise.answered ∙ ap₂ answer_of same (altered_turned a b h l shares full r t old new inside) ∙ sym was.promise.answered,
           rw (same ∙ none) at is.promise.written
               ∙ updated_turned a b h l shares full r t old new inside
               ∙ ap (rearranged_bytes y z h h.n l) (sym (rw none at was.promise.written)),
         ))
         (λ some. (
-          is.promise.answer
+          is.promise.answered
               ∙ ap (λ (f : ℕ). answer_of f (altered_count z h l r t old new turned)) same
               ∙ answer_refused number _ some
-              ∙ sym (was.promise.answer ∙ answer_refused number _ some),
+              ∙ sym (was.promise.answered ∙ answer_refused number _ some),
           (rw same at is.promise.written) ∙ refused_value number _ turned some ∙ ap (rearranged_bytes y z h h.n l) (sym (was.promise.written ∙ refused_value number _ shares some)),
         ))
       where
@@ -88,9 +88,9 @@ module _ {y z : Arrangement} (a : Lawful y) (b : Lawful z) (rec : List ℕ) (l :
 
     belongs : (r u : Answer (Option ℕ)) → BelongsSaysIn y rec l shares r → BelongsSaysIn z rec l turned u → u ≡ r
     belongs r u was is =
-        is.promise.answer
+        is.promise.answered
         ∙ ap₂ (λ (f w : ℕ). membership_of f l w) (same_number (λ h. belongs_fault h l shares) (λ h. belongs_fault h l turned) (belongs_turned a b h l shares full)) (wrong_turned a b h l shares full)
-        ∙ sym was.promise.answer
+        ∙ sym was.promise.answered
 
   module _ (nodes shares : List ℕ) (full : Full h h.k l shares) where
     -- the listed shares, rearranged
@@ -100,14 +100,14 @@ module _ {y z : Arrangement} (a : Lawful y) (b : Lawful z) (rec : List ℕ) (l :
     recover : (out out' now : List ℕ) (r u : Answer (Unit {0})) → RecoverSaysIn y rec l nodes shares out out' r → RecoverSaysIn z rec l nodes listed out now u → (u ≡ r) × (now ≡ out')
     recover out out' now r u was is =
         let same = same_number (λ h. recover_fault h l nodes shares (length out)) (λ h. recover_fault h l nodes listed (length out)) (recover_turned a b h l nodes shares full (length out)) in (
-          is.promise.answer ∙ ap outcome_of same ∙ sym was.promise.answer,
+          is.promise.answered ∙ ap outcome_of same ∙ sym was.promise.answered,
           is.promise.written ∙ ap₂ (λ (f : ℕ) (m : List ℕ). pick (eqb f 0) m out) same (recovered_turned a b h l nodes shares full) ∙ sym was.promise.written,
         )
 
     rebuild : (target : ℕ) (out out' now : List ℕ) (r u : Answer (Unit {0})) → RebuildSaysIn y rec l nodes shares target out out' r → RebuildSaysIn z rec l nodes listed target out now u → (u ≡ r) × (now ≡ out')
     rebuild target out out' now r u was is =
         let same = same_number (λ h. rebuild_fault h l nodes shares target (length out)) (λ h. rebuild_fault h l nodes listed target (length out)) (rebuild_turned a b h l nodes shares full target (length out)) in (
-          is.promise.answer ∙ ap outcome_of same ∙ sym was.promise.answer,
+          is.promise.answered ∙ ap outcome_of same ∙ sym was.promise.answered,
           is.promise.written ∙ ap₂ (λ (f : ℕ) (m : List ℕ). pick (eqb f 0) m out) same (rebuilt_turned a b h l nodes shares full target) ∙ sym was.promise.written,
         )
 

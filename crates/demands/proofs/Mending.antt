@@ -26,9 +26,9 @@ call rec lane nodes symbols nodes' symbols' r says other =
     let h = header_of rec in
     let promise = says.listed.promise in
     let number = fault_of rec (λ h. mends_fault h lane (length nodes) (length symbols)) in
-    let none = by_cases (ℕ_discrete number 0) (λ z. z) (λ some. absurd (other number (promise.answer ∙ answer_refused number _ some))) in
+    let none = by_cases (ℕ_discrete number 0) (λ z. z) (λ some. absurd (other number (promise.answered ∙ answer_refused number _ some))) in
     let (sound, own) = none_met rec (λ h. mends_fault h lane (length nodes) (length symbols)) none in
-    (rw none at promise.answer, rw none at promise.nodes_written, rw none at promise.symbols_written, mends h sound (read h lane) (mends_accepts h lane (length nodes) (length symbols) own).lane_is)
+    (rw none at promise.answered, rw none at promise.nodes_written, rw none at promise.symbols_written, mends h sound (read h lane) (mends_accepts h lane (length nodes) (length symbols) own).lane_is)
 
 pub single_mends : SingleMends
 single_mends =

@@ -93,7 +93,7 @@ module _ (h : Header) (l i t : ℕ) (shares wrong : List ℕ) (off : OneOff h l 
 -- what a call that is done relied on and gave
 done_call : (rec : List ℕ) (l : ℕ) (nodes shares : List ℕ) (target : ℕ) (out out' : List ℕ) → RebuildSays rec l nodes shares target out out' (Ok tt) → Sound (header_of rec) × (are_nodes (header_of rec) nodes ≡ true) × (target < (header_of rec).n) × RebuiltBytes share_layout (header_of rec) l nodes shares target out'
 done_call rec l nodes shares target out out' says =
-    let none = done_is (fault_of rec (λ h. rebuild_fault h l nodes shares target (length out))) _ says.promise.answer in
+    let none = done_is (fault_of rec (λ h. rebuild_fault h l nodes shares target (length out))) _ says.promise.answered in
     let (s, own) = none_met rec (λ h. rebuild_fault h l nodes shares target (length out)) none in
     let (listed, low, size_is) = rebuild_accepts (header_of rec) s l nodes shares target (length out) own in
     (s, listed.different, low, rw none at (rebuild_law share_lawful rec l nodes shares out out' (Ok tt) target says))

@@ -39,32 +39,32 @@ module _ (rec : List ℕ) where
   module _ (l : ℕ) where
     encode : (message out out' : List ℕ) (r : Answer (Unit {0})) → EncodeSays rec l message out out' r → Judged (record_numbers rec ++ encode_numbers h l message (length out)) (λ f. r ≡ Err f) (out' ≡ out)
     encode message out out' r says =
-        by_outcome _ (own_after rec _ (λ h. encode_fault h l (length out) message) refl (λ none. encode_tells h l message (length out))) says.promise.answer
+        by_outcome _ (own_after rec _ (λ h. encode_fault h l (length out) message) refl (λ none. encode_tells h l message (length out))) says.promise.answered
         (λ some. rw (ne_eqb _ 0 some) at says.promise.written)
 
     update : (r t old new : ℕ) (shares shares' : List ℕ) (a : Answer ℕ) → UpdateSays rec l r t old new shares shares' a → Judged (record_numbers rec ++ update_numbers h l r t old new shares) (λ f. a ≡ Err f) (shares' ≡ shares)
     update r t old new shares shares' a says =
-        by_outcome _ (own_after rec _ (λ h. update_fault share_layout h l r t old new shares) refl (λ none. update_tells h (faultless_sound rec none) l r t old new shares)) says.promise.answer
+        by_outcome _ (own_after rec _ (λ h. update_fault share_layout h l r t old new shares) refl (λ none. update_tells h (faultless_sound rec none) l r t old new shares)) says.promise.answered
         (λ some. rw (ne_eqb _ 0 some) at says.promise.written)
 
     module _ (nodes shares : List ℕ) where
       recover : (out out' : List ℕ) (r : Answer (Unit {0})) → RecoverSays rec l nodes shares out out' r → Judged (record_numbers rec ++ recover_numbers h l nodes shares (length out)) (λ f. r ≡ Err f) (out' ≡ out)
       recover out out' r says =
-          by_outcome _ (own_after rec _ (λ h. recover_fault h l nodes shares (length out)) refl (λ none. recover_tells h l nodes shares (length out))) says.promise.answer
+          by_outcome _ (own_after rec _ (λ h. recover_fault h l nodes shares (length out)) refl (λ none. recover_tells h l nodes shares (length out))) says.promise.answered
           (λ some. rw (ne_eqb _ 0 some) at says.promise.written)
 
       rebuild : (target : ℕ) (out out' : List ℕ) (r : Answer (Unit {0})) → RebuildSays rec l nodes shares target out out' r → Judged (record_numbers rec ++ rebuild_numbers h l nodes shares target (length out)) (λ f. r ≡ Err f) (out' ≡ out)
       rebuild target out out' r says =
-          by_outcome _ (own_after rec _ (λ h. rebuild_fault h l nodes shares target (length out)) refl (λ none. rebuild_tells h l nodes shares target (length out))) says.promise.answer
+          by_outcome _ (own_after rec _ (λ h. rebuild_fault h l nodes shares target (length out)) refl (λ none. rebuild_tells h l nodes shares target (length out))) says.promise.answered
           (λ some. rw (ne_eqb _ 0 some) at says.promise.written)
 
     module _ (shares : List ℕ) where
       belongs : (r : Answer (Option ℕ)) → BelongsSays rec l shares r → Judged (record_numbers rec ++ belongs_numbers h l shares) (λ f. r ≡ Err f) (Unit {0})
-      belongs r says = by_outcome _ (own_after rec _ (λ h. belongs_fault h l shares) refl (λ none. belongs_tells h l shares)) says.promise.answer (λ some. tt)
+      belongs r says = by_outcome _ (own_after rec _ (λ h. belongs_fault h l shares) refl (λ none. belongs_tells h l shares)) says.promise.answered (λ some. tt)
 
       correct : (shares' : List ℕ) (r : Answer ℕ) → CorrectSays rec l shares shares' r → Judged (record_numbers rec ++ correct_numbers h l shares) (λ f. r ≡ Err f) (shares' ≡ shares)
       correct shares' r says =
-          by_outcome _ (own_after rec _ (λ h. correct_fault share_layout h l shares) refl (λ none. correct_tells h (faultless_sound rec none) l shares)) says.promise.answer
+          by_outcome _ (own_after rec _ (λ h. correct_fault share_layout h l shares) refl (λ none. correct_tells h (faultless_sound rec none) l shares)) says.promise.answered
           (λ some. rw (ne_eqb _ 0 some) at says.promise.written)
 
     rearrange : {y z : Arrangement} (rows : Header → ℕ) (source out out' : List ℕ) (r : Answer (Unit {0})) → RearrangeSays y z rows rec l source out out' r → Judged (record_numbers rec ++ rearrange_numbers h (rows h) l (length source) (length out)) (λ f. r ≡ Err f) (out' ≡ out)
@@ -83,17 +83,17 @@ module _ (rec : List ℕ) where
         (λ some. rw (ne_eqb _ 0 some) at says.promise.written)
 
   find : (before after : List ℕ) (r : Answer Finding) → FindSays rec before after r → Judged (record_numbers rec ++ find_numbers h before after) (λ f. r ≡ Err f) (Unit {0})
-  find before after r says = by_outcome _ (own_after rec _ (λ h. find_fault h before after) refl (λ none. find_tells h before after)) says.found.promise.answer (λ some. tt)
+  find before after r says = by_outcome _ (own_after rec _ (λ h. find_fault h before after) refl (λ none. find_tells h before after)) says.found.promise.answered (λ some. tt)
 
   mends : (lane nodes symbols nodes' symbols' : List ℕ) (r : Answer ℕ) → MendsSay rec lane nodes symbols nodes' symbols' r → Judged (record_numbers rec ++ mends_numbers h lane (length nodes) (length symbols)) (λ f. r ≡ Err f) ((nodes' ≡ nodes) × (symbols' ≡ symbols))
   mends lane nodes symbols nodes' symbols' r says =
       let promise = says.listed.promise in
-      by_outcome _ (own_after rec _ (λ h. mends_fault h lane (length nodes) (length symbols)) refl (λ none. mends_tells h lane (length nodes) (length symbols))) promise.answer
+      by_outcome _ (own_after rec _ (λ h. mends_fault h lane (length nodes) (length symbols)) refl (λ none. mends_tells h lane (length nodes) (length symbols))) promise.answered
       (λ some. (rw (ne_eqb _ 0 some) at promise.nodes_written, rw (ne_eqb _ 0 some) at promise.symbols_written))
 
   weights : (counts counts' : List ℕ) (r : Answer (Unit {0})) → WeightsSay rec counts counts' r → Judged (record_numbers rec ++ weights_numbers h (length counts)) (λ f. r ≡ Err f) (counts' ≡ counts)
   weights counts counts' r says =
-      by_outcome _ (own_after rec _ (λ h. weights_fault h (length counts)) refl (λ none. weights_tells h (length counts))) says.counted.promise.answer
+      by_outcome _ (own_after rec _ (λ h. weights_fault h (length counts)) refl (λ none. weights_tells h (length counts))) says.counted.promise.answered
       (λ some. rw (ne_eqb _ 0 some) at says.counted.promise.written)
 
 pub refusals : Refusals

@@ -108,7 +108,7 @@ module _ (rec : List ℕ) where
     bits_number = own_after rec _ (λ h. repair_bits_fault h l j target missing (length share) (length out)) refl (λ none. bits_tells h l j target missing (length share) (length out))
 
     bits_judged : (r : Answer (Unit {0})) → RepairBitsSays rec l j target missing share out out' r → Judged (record_numbers rec ++ repair_bits_numbers h l j target missing (length share) (length out)) (λ f. r ≡ Err f) (out' ≡ out)
-    bits_judged r says = by_outcome _ bits_number says.promise.answer (λ some. rw (ne_eqb _ 0 some) at says.promise.written)
+    bits_judged r says = by_outcome _ bits_number says.promise.answered (λ some. rw (ne_eqb _ 0 some) at says.promise.written)
 
     bits_returns : (r : ℕ) → RepairBitsGives rec l j target missing share out out' r → Judged (record_numbers rec ++ repair_bits_numbers h l j target missing (length share) (length out)) (Returns r) (out' ≡ out)
     bits_returns r g = by_number g.number bits_number (λ some. rw (← g.number, ne_eqb r 0 some) at g.says.promise.written)
@@ -118,7 +118,7 @@ module _ (rec : List ℕ) where
     share_number = own_after rec _ (λ h. repair_share_fault h l target missing (length rows) (length out)) refl (λ none. share_tells h l target missing (length rows) (length out))
 
     share_judged : (r : Answer (Unit {0})) → RepairShareSays rec l target missing rows out out' r → Judged (record_numbers rec ++ repair_share_numbers h l target missing (length rows) (length out)) (λ f. r ≡ Err f) (out' ≡ out)
-    share_judged r says = by_outcome _ share_number says.promise.answer (λ some. rw (ne_eqb _ 0 some) at says.promise.written)
+    share_judged r says = by_outcome _ share_number says.promise.answered (λ some. rw (ne_eqb _ 0 some) at says.promise.written)
 
     share_returns : (r : ℕ) → RepairShareGives rec l target missing rows out out' r → Judged (record_numbers rec ++ repair_share_numbers h l target missing (length rows) (length out)) (Returns r) (out' ≡ out)
     share_returns r g = by_number g.number share_number (λ some. rw (← g.number, ne_eqb r 0 some) at g.says.promise.written)
@@ -128,7 +128,7 @@ module _ (rec : List ℕ) where
     plan_number = own_after rec _ (λ h. repair_plan_fault h count) refl (λ none. plan_tells h count)
 
     plan_judged : (r : Answer RepairPlan) → RepairPlanSays rec count r → Judged (record_numbers rec ++ repair_plan_numbers h count) (λ f. r ≡ Err f) (Unit {0})
-    plan_judged r says = by_outcome _ plan_number says.promise.answer (λ some. tt)
+    plan_judged r says = by_outcome _ plan_number says.promise.answered (λ some. tt)
 
     plan_returns : (b more b' more' r : ℕ) → RepairPlanGives rec count b more b' more' r → Judged (record_numbers rec ++ repair_plan_numbers h count) (Returns r) ((b' ≡ b) × (more' ≡ more))
     plan_returns b more b' more' r g = by_number g.number plan_number (λ some. (rw (ne_eqb r 0 some) at g.bits_are, rw (ne_eqb r 0 some) at g.spare_is))
@@ -141,8 +141,8 @@ module _ (rec : List ℕ) where
     plan_done : (b more : ℕ) → RepairPlanSays rec count (Ok (record { bits = b; spare = more })) → PlanDone h count b more
     unfolding spare
     plan_done b more says =
-        let none = done_is (fault_of rec (λ h. repair_plan_fault h count)) _ says.promise.answer in
-        let plan = value_is _ _ says.promise.answer in
+        let none = done_is (fault_of rec (λ h. repair_plan_fault h count)) _ says.promise.answered in
+        let plan = value_is _ _ says.promise.answered in
         let same : b ≡ bits h count = ap (λ (p : RepairPlan). p.bits) plan in
         let rest : more ≡ spare h count = ap (λ (p : RepairPlan). p.spare) plan in
         let some = plan_some (none_met rec (λ h. repair_plan_fault h count) none).1 in
@@ -155,7 +155,7 @@ module _ (rec : List ℕ) where
   sends_done : (l j target : ℕ) (missing share out out' : List ℕ) → RepairBitsSays rec l j target missing share out out' (Ok tt) → BitsDone h l j target missing share out'
   unfolding packed_size plane_size
   sends_done l j target missing share out out' says =
-      let none = done_is (fault_of rec (λ h. repair_bits_fault h l j target missing (length share) (length out))) _ says.promise.answer in
+      let none = done_is (fault_of rec (λ h. repair_bits_fault h l j target missing (length share) (length out))) _ says.promise.answered in
       let (sound, own) = none_met rec (λ h. repair_bits_fault h l j target missing (length share) (length out)) none in
       let is = bits_accepts h l j target missing (length share) (length out) own in
       let written : out' ≡ sent h target missing j share = rw none at says.promise.written in
@@ -180,7 +180,7 @@ module _ (rec : List ℕ) (l : ℕ) (message out shares : List ℕ) (says : Enco
   wrote i _ inside =
       let j : ℕ = get_or js i 0 in
       let (o, done) = all i (omega arith) in
-      let none = done_is (fault_of rec (λ h. repair_bits_fault h l j target missing (length (cut_of hd l (j ∷ []) shares)) (length o))) _ done.promise.answer in
+      let none = done_is (fault_of rec (λ h. repair_bits_fault h l j target missing (length (cut_of hd l (j ∷ []) shares)) (length o))) _ done.promise.answered in
       rw none at done.promise.written ∙ ap (sent hd target missing j) (cut_share (encoded rec l message out shares says) j (sender_below hd target missing i (omega arith)))
 
   repairs : (back back' : List ℕ) → RepairShareSays rec l target missing (in_order rec target missing by) back back' (Ok tt) → back' ≡ cut_of hd l (target ∷ []) shares
@@ -188,7 +188,7 @@ module _ (rec : List ℕ) (l : ℕ) (message out shares : List ℕ) (says : Enco
   repairs back back' done =
       let rows = in_order rec target missing by in
       let e = encoded rec l message out shares says in
-      let none = done_is (fault_of rec (λ h. repair_share_fault h l target missing (length rows) (length back))) _ done.promise.answer in
+      let none = done_is (fault_of rec (λ h. repair_share_fault h l target missing (length rows) (length back))) _ done.promise.answered in
       let (sound, own) = none_met rec (λ h. repair_share_fault h l target missing (length rows) (length back)) none in
       let r = (share_accepts hd l target missing (length rows) (length back) own).repairing in
       let held = e.buffer_is.symbol_rows in

@@ -63,7 +63,7 @@ pub encoded : (rec : List ℕ) (l : ℕ) (message out shares : List ℕ) → Enc
 unfolding encoded_bytes
 encoded rec l message out shares says =
     let h = header_of rec in
-    let none = done_is (fault_of rec (λ h. encode_fault h l (length out) message)) _ says.promise.answer in
+    let none = done_is (fault_of rec (λ h. encode_fault h l (length out) message)) _ says.promise.answered in
     let (sound, own) = none_met rec (λ h. encode_fault h l (length out) message) none in
     let (rows, long) = encode_accepts h sound l (length out) message own in
     let written : shares ≡ bytes_of (width h) (shares_of share_layout h l (read h message)) = rw none at says.promise.written in
@@ -176,7 +176,7 @@ module _ (rec : List ℕ) (l : ℕ) (message out shares : List ℕ) (says : Enco
   unfolding recovered_bytes
   recover nodes back back' done =
       let listed = cut_of h l nodes shares in
-      let none = done_is (fault_of rec (λ h. recover_fault h l nodes listed (length back))) _ done.promise.answer in
+      let none = done_is (fault_of rec (λ h. recover_fault h l nodes listed (length back))) _ done.promise.answered in
       let (sound, own) = none_met rec (λ h. recover_fault h l nodes listed (length back)) none in
       let different = (recover_accepts h sound l nodes listed (length back) own).0.different in
       rw none at done.promise.written ∙ ap (bytes_of (width h)) (recovered_back e nodes different)
@@ -186,7 +186,7 @@ module _ (rec : List ℕ) (l : ℕ) (message out shares : List ℕ) (says : Enco
   unfolding rebuilt_bytes
   rebuild nodes target back back' done =
       let listed = cut_of h l nodes shares in
-      let none = done_is (fault_of rec (λ h. rebuild_fault h l nodes listed target (length back))) _ done.promise.answer in
+      let none = done_is (fault_of rec (λ h. rebuild_fault h l nodes listed target (length back))) _ done.promise.answered in
       let (sound, own) = none_met rec (λ h. rebuild_fault h l nodes listed target (length back)) none in
       let (is, node, long) = rebuild_accepts h sound l nodes listed target (length back) own in
       (node, rw none at done.promise.written ∙ ap (λ (u : List ℕ). bytes_of (width h) (share_of h l u target)) (recovered_back e nodes is.different))
@@ -195,7 +195,7 @@ module _ (rec : List ℕ) (l : ℕ) (message out shares : List ℕ) (says : Enco
   correct : (wrong wrong' : List ℕ) (count : ℕ) → FewWrong h l shares wrong → CorrectSays rec l wrong wrong' (Ok count) → wrong' ≡ shares
   unfolding corrected_bytes corrected_shares
   correct wrong wrong' count few done =
-      let none = done_is (fault_of rec (λ h. correct_fault share_layout h l wrong)) _ done.promise.answer in
+      let none = done_is (fault_of rec (λ h. correct_fault share_layout h l wrong)) _ done.promise.answered in
       let written = rw none at done.promise.written in
       let now = read_written h wrong' _ written in
       let same : read h wrong' ≡ read h shares =
@@ -209,7 +209,7 @@ module _ (rec : List ℕ) (l : ℕ) (message out shares : List ℕ) (says : Enco
   update : (r t old new : ℕ) (shares' : List ℕ) (count : ℕ) → UpdateSays rec l r t old new shares shares' (Ok count) → shares' ≡ bytes_of (width h) (shares_of share_layout h l (set (read h message) (r * l + t) new))
   unfolding updated_bytes
   update r t old new shares' count done =
-      let none = done_is (fault_of rec (λ h. update_fault share_layout h l r t old new shares)) _ done.promise.answer in
+      let none = done_is (fault_of rec (λ h. update_fault share_layout h l r t old new shares)) _ done.promise.answered in
       let (sound, own) = none_met rec (λ h. update_fault share_layout h l r t old new shares) none in
       let (lane, old_symbol, new_symbol, fresh) = update_accepts h sound l r t old new shares own in
       let rows = e.buffer_is.symbol_rows in

@@ -23,7 +23,7 @@ unfolding weight_counts
 call rec counts counts' says =
     let h = header_of rec in
     let promise = says.counted.promise in
-    let none = done_is (fault_of rec (λ h. weights_fault h (length counts))) _ promise.answer in
+    let none = done_is (fault_of rec (λ h. weights_fault h (length counts))) _ promise.answered in
     let is : counts' ≡ weight_counts h = rw none at promise.written in (
       ap length is ∙ length_from (weight_count_of h) 0 (h.n + 1),
       λ w low. ap (λ (x : List ℕ). get_or x w 0) is ∙ get_or_from (weight_count_of h) 0 (h.n + 1) w 0 (omega arith) ∙ ap (weight_count_of h) (zero-add w),

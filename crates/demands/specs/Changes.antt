@@ -9,8 +9,8 @@ use Rattle.generator.specs.Claims.{is_message, are_nodes, at_nodes}
 
 pub record Reaches (h : Header) : Type 0 where
   -- one symbol of those that k listed nodes hold for a message is replaced by another: the message that holds these has another symbol at every node outside the list
-  pub elsewhere : (js ms us : List ℕ) (i x t : ℕ) → are_nodes h js ≡ true → is_message h ms ≡ true → is_message h us ≡ true → i < h.k → (x ≡ get_or (at_nodes h ms js) i 0 → ⊥) → at_nodes h us js ≡ set (at_nodes h ms js) i x → t < h.n → is_in t js ≡ false → node_of h us t ≡ node_of h ms t → ⊥
+  pub elsewhere : (js ms ms' : List ℕ) (i x j : ℕ) → are_nodes h js ≡ true → is_message h ms ≡ true → is_message h ms' ≡ true → i < h.k → (x ≡ get_or (at_nodes h ms js) i 0 → ⊥) → at_nodes h ms' js ≡ set (at_nodes h ms js) i x → j < h.n → is_in j js ≡ false → node_of h ms' j ≡ node_of h ms j → ⊥
   -- one symbol of a message changes, or more: the encoding changes at n − k + 1 nodes or more
-  pub least : (ms us : List ℕ) → is_message h ms ≡ true → is_message h us ≡ true → 1 ≤ differ ms us → distance h ≤ differ (encoding h ms) (encoding h us)
+  pub least : (ms ms' : List ℕ) → is_message h ms ≡ true → is_message h ms' ≡ true → 1 ≤ differ ms ms' → distance h ≤ differ (encoding h ms) (encoding h ms')
   -- and at no more than n nodes, or n − k + 1 for each changed symbol
-  pub most : (ms us : List ℕ) → is_message h ms ≡ true → is_message h us ≡ true → differ (encoding h ms) (encoding h us) ≤ min h.n (differ ms us * distance h)
+  pub most : (ms ms' : List ℕ) → is_message h ms ≡ true → is_message h ms' ≡ true → differ (encoding h ms) (encoding h ms') ≤ min h.n (differ ms ms' * distance h)

@@ -23,7 +23,7 @@ pub record CodeDemands (h : Header) : Type 0 where
   pub returns : (l : ℕ) (nodes m out : List ℕ) → are_nodes h nodes ≡ true → Symbols h h.k l m → MessageFor share_layout h l nodes (gathered share_layout h l nodes m) out → out ≡ m
   -- any k symbols on k nodes, in each lane, are of a message, and of one only
   pub some : (l : ℕ) (nodes shares : List ℕ) → are_nodes h nodes ≡ true → Symbols h h.k l shares → (m : List ℕ) × MessageFor share_layout h l nodes shares m
-  pub one : (l : ℕ) (nodes shares m u : List ℕ) → are_nodes h nodes ≡ true → MessageFor share_layout h l nodes shares m → MessageFor share_layout h l nodes shares u → m ≡ u
+  pub one : (l : ℕ) (nodes shares m m' : List ℕ) → are_nodes h nodes ≡ true → MessageFor share_layout h l nodes shares m → MessageFor share_layout h l nodes shares m' → m ≡ m'
   -- which is the one that Recover writes
   pub recovers : (l : ℕ) (nodes shares : List ℕ) → are_nodes h nodes ≡ true → Symbols h h.k l shares → MessageFor share_layout h l nodes shares (recovered share_layout h l nodes shares)
   -- rebuilding gives the node's share of that encoding: its symbol in each lane

@@ -24,15 +24,15 @@ pub record Corrections : Type 0 where
   -- a block that was set right: each lane is that word, the count is of the places where the buffers differ, a word stays
   pub done : (rec : List ℕ) (l : ℕ) (shares shares' : List ℕ) (count : ℕ) → CorrectSays rec l shares shares' (Ok count) → CorrectDone (header_of rec) l shares shares' count
   -- and Belongs says yes
-  pub belongs : (rec : List ℕ) (l : ℕ) (shares shares' : List ℕ) (count : ℕ) → CorrectSays rec l shares shares' (Ok count) → (r : Answer (Option ℕ)) → BelongsSays rec l shares' r → r ≡ Ok None
+  pub belongs : (rec : List ℕ) (l : ℕ) (shares shares' : List ℕ) (count : ℕ) → CorrectSays rec l shares shares' (Ok count) → (answer : Answer (Option ℕ)) → BelongsSays rec l shares' answer → answer ≡ Ok None
   -- number 14 is given exactly if no number before it is, and some lane has no word that near
-  pub refused : (rec : List ℕ) (l : ℕ) (shares shares' : List ℕ) (r : Answer ℕ) → CorrectSays rec l shares shares' r →
-      (r ≡ Err 14) ↔ ((fault_of rec (λ h. belongs_fault h l shares) ≡ 0) × ((t : ℕ) × (t < l) × ((us : List ℕ) → NearWord (header_of rec) (lane_in (header_of rec) l shares t) us → ⊥)))
+  pub refused : (rec : List ℕ) (l : ℕ) (shares shares' : List ℕ) (answer : Answer ℕ) → CorrectSays rec l shares shares' answer →
+      (answer ≡ Err 14) ↔ ((fault_of rec (λ h. belongs_fault h l shares) ≡ 0) × ((t : ℕ) × (t < l) × ((us : List ℕ) → NearWord (header_of rec) (lane_in (header_of rec) l shares t) us → ⊥)))
   -- beside any number no lane is touched
-  pub untouched : (rec : List ℕ) (l : ℕ) (shares shares' : List ℕ) (g : ℕ) → CorrectSays rec l shares shares' (Err g) → shares' ≡ shares
+  pub untouched : (rec : List ℕ) (l : ℕ) (shares shares' : List ℕ) (f : ℕ) → CorrectSays rec l shares shares' (Err f) → shares' ≡ shares
   -- for k = n and k = n − 1 only words of the code pass
   pub exact : (rec : List ℕ) (l : ℕ) (shares shares' : List ℕ) (count : ℕ) → (header_of rec).n ≤ (header_of rec).k + 1 → CorrectSays rec l shares shares' (Ok count) → ((t : ℕ) → t < l → Codeword (header_of rec) (lane_in (header_of rec) l shares t)) × (symbols_of (width (header_of rec)) shares' ≡ symbols_of (width (header_of rec)) shares) × (count ≡ 0)
   -- lane after lane beside node after node: the same answer with its count, and the old shares rearranged
-  pub lanes : (rec : List ℕ) (l : ℕ) (s s' now : List ℕ) (a b : Answer ℕ) → Full (header_of rec) (header_of rec).n l s
-      → CorrectSaysIn row_after_row rec l s s' a → CorrectSays rec l (to_lanes (header_of rec) (header_of rec).n l s) now b
-      → (b ≡ a) × (now ≡ to_lanes (header_of rec) (header_of rec).n l s')
+  pub lanes : (rec : List ℕ) (l : ℕ) (s s' now : List ℕ) (answer answer' : Answer ℕ) → Full (header_of rec) (header_of rec).n l s
+      → CorrectSaysIn row_after_row rec l s s' answer → CorrectSays rec l (to_lanes (header_of rec) (header_of rec).n l s) now answer'
+      → (answer' ≡ answer) × (now ≡ to_lanes (header_of rec) (header_of rec).n l s')

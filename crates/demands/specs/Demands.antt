@@ -44,11 +44,11 @@ pub record Demands : Type 1 where
   -- what the documents fix of records and rows
   pub pins : Pinned
   -- demand 3: the least writes and reads of any scheme
-  pub price : (k n : ℕ) (S : Type 0) (C : Fin n → Type 0) (s : Scheme k n S C) → 1 ≤ k → k ≤ n → Price s
+  pub price : (k n : ℕ) (S : Type 0) (C : Fin n → Type 0) (scheme : Scheme k n S C) → 1 ≤ k → k ≤ n → Price scheme
   -- every accepted plan is a scheme at that price ..
   pub ours : (rec : List ℕ) → record_fault rec ≡ 0 → Accepted (header_of rec)
   -- .. and every other scheme for the same k and n costs at least as much
-  pub least : (rec : List ℕ) (accepted : record_fault rec ≡ 0) (S : Type 0) (C : Fin (header_of rec).n → Type 0) (s : Scheme (header_of rec).k (header_of rec).n S C) (x y : S) → x ≢ y → CostsAtLeast s (ours rec accepted).scheme.scheme
+  pub least : (rec : List ℕ) (accepted : record_fault rec ≡ 0) (S : Type 0) (C : Fin (header_of rec).n → Type 0) (scheme : Scheme (header_of rec).k (header_of rec).n S C) (x x' : S) → x ≢ x' → CostsAtLeast scheme (ours rec accepted).scheme.scheme
   -- demand 3: updates
   pub updating : (rec : List ℕ) → record_fault rec ≡ 0 → UpdateDemands (header_of rec)
   -- both of the calls themselves

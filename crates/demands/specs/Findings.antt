@@ -16,13 +16,13 @@ use Rattle.find_update.specs.Promise.{FindSays}
 use Rattle.demands.specs.Calls.{read}
 
 -- a finding in numbers, as the interface for C gives it: 0 for equal lanes, 1 for an update that was found, 2 where there is none
-pub record InNumbers (h : Header) (us vs : List ℕ) (answer symbol amount : ℕ) : Type 0 where
-  pub unchanged : (answer ≡ 0) ↔ (us ≡ vs)
-  pub one : (answer ≡ 1) ↔ ((us ≢ vs) × ((r : ℕ) × (x : ℕ) × (r < h.k) × (x < size h) × (word_added h r x us ≡ vs)))
-  pub none : (answer ≡ 2) ↔ ((us ≢ vs) × ((r x : ℕ) → r < h.k → x < size h → word_added h r x us ≡ vs → ⊥))
+pub record InNumbers (h : Header) (us vs : List ℕ) (found symbol amount : ℕ) : Type 0 where
+  pub unchanged : (found ≡ 0) ↔ (us ≡ vs)
+  pub one : (found ≡ 1) ↔ ((us ≢ vs) × ((r : ℕ) × (x : ℕ) × (r < h.k) × (x < size h) × (word_added h r x us ≡ vs)))
+  pub none : (found ≡ 2) ↔ ((us ≢ vs) × ((r x : ℕ) → r < h.k → x < size h → word_added h r x us ≡ vs → ⊥))
   -- the symbol and the amount; 0 where none was found
-  pub update : answer ≡ 1 → (symbol < h.k) × (amount < size h) × (word_added h symbol amount us ≡ vs)
-  pub zeros : answer ≢ 1 → (symbol ≡ 0) × (amount ≡ 0)
+  pub update : found ≡ 1 → (symbol < h.k) × (amount < size h) × (word_added h symbol amount us ≡ vs)
+  pub zeros : found ≢ 1 → (symbol ≡ 0) × (amount ≡ 0)
 
 pub record Findings : Type 0 where
   -- of every two lanes of an accepted record
@@ -31,9 +31,9 @@ pub record Findings : Type 0 where
       let found = finding_of (header_of rec) us vs in
       InNumbers (header_of rec) us vs (case_of found) (found_symbol found) (found_amount found)
   -- of the two lanes of a call that no number turned away
-  pub call : (rec before after : List ℕ) (r : Answer Finding) → FindSays rec before after r → ((g : ℕ) → r ≡ Err g → ⊥) →
+  pub call : (rec before after : List ℕ) (answer : Answer Finding) → FindSays rec before after answer → ((f : ℕ) → answer ≡ Err f → ⊥) →
       let h = header_of rec in
-      (r ≡ Ok (finding_of h (read h before) (read h after))) × Finds h (read h before) (read h after)
+      (answer ≡ Ok (finding_of h (read h before) (read h after))) × Finds h (read h before) (read h after)
   -- an update of a lane of symbols to another symbol is found again
   pub again : (rec : List ℕ) → record_fault rec ≡ 0 → (l r t old new : ℕ) (s : List ℕ) →
       let h = header_of rec in

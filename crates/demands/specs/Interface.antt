@@ -14,7 +14,7 @@ use Rattle.demands.specs.Numbers.{record_numbers, encode_numbers, update_numbers
 
 -- `balanced_plan`: the lengths of its four buffers
 abbrev pub plan_numbers : ℕ → ℕ → ℕ → ℕ → Table
-plan_numbers numbers shifts firsts base = (8, numbers ≢ 5) ∷ (8, shifts ≢ 255) ∷ (8, firsts ≢ 255) ∷ (8, base ≢ 255) ∷ []
+plan_numbers numbers_len shifts_len firsts_len base_len = (8, numbers_len ≢ 5) ∷ (8, shifts_len ≢ 255) ∷ (8, firsts_len ≢ 255) ∷ (8, base_len ≢ 255) ∷ []
 
 -- it wrote the parts of a plan
 pub record PlanWritten (rec numbers shifts firsts base : List ℕ) : Type 0 where
@@ -27,31 +27,31 @@ pub record PlanWritten (rec numbers shifts firsts base : List ℕ) : Type 0 wher
 
 pub record Interface : Type 0 where
   -- balanced_plan, from the lengths of its four buffers
-  pub plan : (rec numbers shifts firsts base numbers' shifts' firsts' base' : List ℕ) (r : ℕ) → PlanGives rec numbers shifts firsts base numbers' shifts' firsts' base' r
-      → Judged (record_numbers rec ++ plan_numbers (length numbers) (length shifts) (length firsts) (length base)) (Returns r) ((numbers' ≡ numbers) × (shifts' ≡ shifts) × (firsts' ≡ firsts) × (base' ≡ base))
+  pub plan : (rec numbers shifts firsts base numbers' shifts' firsts' base' : List ℕ) (f : ℕ) → PlanGives rec numbers shifts firsts base numbers' shifts' firsts' base' f
+      → Judged (record_numbers rec ++ plan_numbers (length numbers) (length shifts) (length firsts) (length base)) (Returns f) ((numbers' ≡ numbers) × (shifts' ≡ shifts) × (firsts' ≡ firsts) × (base' ≡ base))
   -- where it returns 0, the buffers hold the plan of the record
   pub plan_done : (rec numbers shifts firsts base numbers' shifts' firsts' base' : List ℕ) → PlanGives rec numbers shifts firsts base numbers' shifts' firsts' base' 0 → PlanWritten rec numbers' shifts' firsts' base'
   -- balanced_encode
-  pub encode : (rec : List ℕ) (l : ℕ) (message shares shares' : List ℕ) (r : ℕ) → EncodeGives rec l message shares shares' r
-      → Judged (record_numbers rec ++ encode_numbers (header_of rec) l message (length shares)) (Returns r) (shares' ≡ shares)
+  pub encode : (rec : List ℕ) (l : ℕ) (message shares shares' : List ℕ) (f : ℕ) → EncodeGives rec l message shares shares' f
+      → Judged (record_numbers rec ++ encode_numbers (header_of rec) l message (length shares)) (Returns f) (shares' ≡ shares)
   -- balanced_update: `altered` is left too
-  pub update : (rec : List ℕ) (l symbol lane old new : ℕ) (shares : List ℕ) (altered : ℕ) (shares' : List ℕ) (altered' r : ℕ) → UpdateGives rec l symbol lane old new shares altered shares' altered' r
-      → Judged (record_numbers rec ++ update_numbers (header_of rec) l symbol lane old new shares) (Returns r) ((shares' ≡ shares) × (altered' ≡ altered))
+  pub update : (rec : List ℕ) (l r t old new : ℕ) (shares : List ℕ) (altered : ℕ) (shares' : List ℕ) (altered' f : ℕ) → UpdateGives rec l r t old new shares altered shares' altered' f
+      → Judged (record_numbers rec ++ update_numbers (header_of rec) l r t old new shares) (Returns f) ((shares' ≡ shares) × (altered' ≡ altered))
   -- balanced_recover
-  pub recover : (rec : List ℕ) (l : ℕ) (nodes shares message message' : List ℕ) (r : ℕ) → RecoverGives rec l nodes shares message message' r
-      → Judged (record_numbers rec ++ recover_numbers (header_of rec) l nodes shares (length message)) (Returns r) (message' ≡ message)
+  pub recover : (rec : List ℕ) (l : ℕ) (nodes shares message message' : List ℕ) (f : ℕ) → RecoverGives rec l nodes shares message message' f
+      → Judged (record_numbers rec ++ recover_numbers (header_of rec) l nodes shares (length message)) (Returns f) (message' ≡ message)
   -- balanced_rebuild
-  pub rebuild : (rec : List ℕ) (l : ℕ) (nodes shares : List ℕ) (target : ℕ) (share share' : List ℕ) (r : ℕ) → RebuildGives rec l nodes shares target share share' r
-      → Judged (record_numbers rec ++ rebuild_numbers (header_of rec) l nodes shares target (length share)) (Returns r) (share' ≡ share)
+  pub rebuild : (rec : List ℕ) (l : ℕ) (nodes shares : List ℕ) (target : ℕ) (share share' : List ℕ) (f : ℕ) → RebuildGives rec l nodes shares target share share' f
+      → Judged (record_numbers rec ++ rebuild_numbers (header_of rec) l nodes shares target (length share)) (Returns f) (share' ≡ share)
   -- balanced_belongs: `first_wrong` is left
-  pub belongs : (rec : List ℕ) (l : ℕ) (shares : List ℕ) (first first' r : ℕ) → BelongsGives rec l shares first first' r
-      → Judged (record_numbers rec ++ belongs_numbers (header_of rec) l shares) (Returns r) (first' ≡ first)
+  pub belongs : (rec : List ℕ) (l : ℕ) (shares : List ℕ) (first first' f : ℕ) → BelongsGives rec l shares first first' f
+      → Judged (record_numbers rec ++ belongs_numbers (header_of rec) l shares) (Returns f) (first' ≡ first)
   -- where it returns 0, `first_wrong` is the number of lanes exactly if every lane is a word of the code, and else the smallest lane that is none
   pub belongs_done : (rec : List ℕ) (l : ℕ) (shares : List ℕ) (first first' : ℕ) → BelongsGives rec l shares first first' 0
       → ((first' ≡ l) ↔ AllWords (header_of rec) l shares) × (first' ≢ l → SmallestWrong (header_of rec) l shares first')
   -- balanced_correct: `altered` is left too
-  pub correct : (rec : List ℕ) (l : ℕ) (shares : List ℕ) (altered : ℕ) (shares' : List ℕ) (altered' r : ℕ) → CorrectGives rec l shares altered shares' altered' r
-      → Judged (record_numbers rec ++ correct_numbers (header_of rec) l shares) (Returns r) ((shares' ≡ shares) × (altered' ≡ altered))
+  pub correct : (rec : List ℕ) (l : ℕ) (shares : List ℕ) (altered : ℕ) (shares' : List ℕ) (altered' f : ℕ) → CorrectGives rec l shares altered shares' altered' f
+      → Judged (record_numbers rec ++ correct_numbers (header_of rec) l shares) (Returns f) ((shares' ≡ shares) × (altered' ≡ altered))
   -- balanced_to_lanes
   pub into_lanes : (rec : List ℕ) (l : ℕ) (source out out' : List ℕ) (f : ℕ) → ToLanesGives rec l source out out' f
       → Judged (record_numbers rec ++ rearrange_numbers (header_of rec) (header_of rec).n l (length source) (length out)) (Returns f) (out' ≡ out)
@@ -71,14 +71,14 @@ pub record Interface : Type 0 where
   pub add_share : (rec : List ℕ) (l : ℕ) (difference share share' : List ℕ) (f : ℕ) → AddGives rec l difference share share' f
       → Judged (record_numbers rec ++ add_numbers (header_of rec) l difference share) (Returns f) (share' ≡ share)
   -- balanced_find_update: all three numbers are left
-  pub find : (rec before after : List ℕ) (answer symbol amount answer' symbol' amount' r : ℕ) → FindGives rec before after answer symbol amount answer' symbol' amount' r
-      → Judged (record_numbers rec ++ find_numbers (header_of rec) before after) (Returns r) ((answer' ≡ answer) × (symbol' ≡ symbol) × (amount' ≡ amount))
+  pub find : (rec before after : List ℕ) (found symbol amount found' symbol' amount' f : ℕ) → FindGives rec before after found symbol amount found' symbol' amount' f
+      → Judged (record_numbers rec ++ find_numbers (header_of rec) before after) (Returns f) ((found' ≡ found) × (symbol' ≡ symbol) × (amount' ≡ amount))
   -- where it returns 0, the finding in numbers
-  pub find_done : (rec before after : List ℕ) (answer symbol amount answer' symbol' amount' : ℕ) → FindGives rec before after answer symbol amount answer' symbol' amount' 0
-      → InNumbers (header_of rec) (read (header_of rec) before) (read (header_of rec) after) answer' symbol' amount'
+  pub find_done : (rec before after : List ℕ) (found symbol amount found' symbol' amount' : ℕ) → FindGives rec before after found symbol amount found' symbol' amount' 0
+      → InNumbers (header_of rec) (read (header_of rec) before) (read (header_of rec) after) found' symbol' amount'
   -- balanced_mends: `count` is left too
-  pub mends : (rec lane nodes symbols : List ℕ) (count : ℕ) (nodes' symbols' : List ℕ) (count' r : ℕ) → MendsGive rec lane nodes symbols count nodes' symbols' count' r
-      → Judged (record_numbers rec ++ mends_numbers (header_of rec) lane (length nodes) (length symbols)) (Returns r) ((nodes' ≡ nodes) × (symbols' ≡ symbols) × (count' ≡ count))
+  pub mends : (rec lane nodes symbols : List ℕ) (count : ℕ) (nodes' symbols' : List ℕ) (count' f : ℕ) → MendsGive rec lane nodes symbols count nodes' symbols' count' f
+      → Judged (record_numbers rec ++ mends_numbers (header_of rec) lane (length nodes) (length symbols)) (Returns f) ((nodes' ≡ nodes) × (symbols' ≡ symbols) × (count' ≡ count))
   -- balanced_weights
-  pub weights : (rec counts counts' : List ℕ) (r : ℕ) → WeightsGive rec counts counts' r
-      → Judged (record_numbers rec ++ weights_numbers (header_of rec) (length counts)) (Returns r) (counts' ≡ counts)
+  pub weights : (rec counts counts' : List ℕ) (f : ℕ) → WeightsGive rec counts counts' f
+      → Judged (record_numbers rec ++ weights_numbers (header_of rec) (length counts)) (Returns f) (counts' ≡ counts)

@@ -13,7 +13,7 @@ Met (x ∷ xs) f = ((x.0 ≡ f) × x.1) ⊎ Met xs f
 -- of a call: `gives f` says that it gives number f, `kept` that all that was lent to it is as it was
 pub record Judged (table : Table) (gives : ℕ → Type 0) (kept : Type 0) : Type 0 where
   -- a number is given exactly if it is met and no lower one is
-  pub number : (f : ℕ) → gives f ↔ (Met table f × ((g : ℕ) → g < f → Met table g → ⊥))
+  pub number : (f : ℕ) → gives f ↔ (Met table f × ((f' : ℕ) → f' < f → Met table f' → ⊥))
   -- a call is accepted exactly if no number is met
   pub accepted : ((f : ℕ) → gives f → ⊥) ↔ ((f : ℕ) → Met table f → ⊥)
   -- a call that is turned away alters nothing
@@ -21,4 +21,4 @@ pub record Judged (table : Table) (gives : ℕ → Type 0) (kept : Type 0) : Typ
 
 -- a number that is returned; 0 is none
 abbrev pub Returns : ℕ → ℕ → Type 0
-Returns r f = (r ≡ f) × (f ≢ 0)
+Returns returned f = (returned ≡ f) × (f ≢ 0)

@@ -26,25 +26,25 @@ Full h rows l s = length s ≡ rows * l * width h
 
 pub record LaneAfterLane : Type 0 where
   -- Encode into two buffers of one length, whatever they held
-  pub encode : (rec : List ℕ) (l : ℕ) (message out out' new new' : List ℕ) (r u : Answer (Unit {0})) → length new ≡ length out
-      → EncodeSaysIn row_after_row rec l message out out' r → EncodeSays rec l message new new' u
-      → (u ≡ r) × (u ≡ Ok tt → new' ≡ to_lanes (header_of rec) (header_of rec).n l out')
+  pub encode : (rec : List ℕ) (l : ℕ) (message out out' new new' : List ℕ) (answer answer' : Answer (Unit {0})) → length new ≡ length out
+      → EncodeSaysIn row_after_row rec l message out out' answer → EncodeSays rec l message new new' answer'
+      → (answer' ≡ answer) × (answer' ≡ Ok tt → new' ≡ to_lanes (header_of rec) (header_of rec).n l out')
   -- Update: the answer with its count, and the shares
-  pub update : (rec : List ℕ) (l r t old new : ℕ) (s s' now : List ℕ) (a b : Answer ℕ) → Full (header_of rec) (header_of rec).n l s
-      → UpdateSaysIn row_after_row rec l r t old new s s' a → UpdateSays rec l r t old new (to_lanes (header_of rec) (header_of rec).n l s) now b
-      → (b ≡ a) × (now ≡ to_lanes (header_of rec) (header_of rec).n l s')
+  pub update : (rec : List ℕ) (l r t old new : ℕ) (s s' now : List ℕ) (answer answer' : Answer ℕ) → Full (header_of rec) (header_of rec).n l s
+      → UpdateSaysIn row_after_row rec l r t old new s s' answer → UpdateSays rec l r t old new (to_lanes (header_of rec) (header_of rec).n l s) now answer'
+      → (answer' ≡ answer) × (now ≡ to_lanes (header_of rec) (header_of rec).n l s')
   -- Recover: the answer and the message
-  pub recover : (rec : List ℕ) (l : ℕ) (nodes s out out' now : List ℕ) (r u : Answer (Unit {0})) → Full (header_of rec) (header_of rec).k l s
-      → RecoverSaysIn row_after_row rec l nodes s out out' r → RecoverSays rec l nodes (to_lanes (header_of rec) (header_of rec).k l s) out now u
-      → (u ≡ r) × (now ≡ out')
+  pub recover : (rec : List ℕ) (l : ℕ) (nodes s out out' now : List ℕ) (answer answer' : Answer (Unit {0})) → Full (header_of rec) (header_of rec).k l s
+      → RecoverSaysIn row_after_row rec l nodes s out out' answer → RecoverSays rec l nodes (to_lanes (header_of rec) (header_of rec).k l s) out now answer'
+      → (answer' ≡ answer) × (now ≡ out')
   -- Rebuild: the answer and the share
-  pub rebuild : (rec : List ℕ) (l : ℕ) (nodes s : List ℕ) (target : ℕ) (out out' now : List ℕ) (r u : Answer (Unit {0})) → Full (header_of rec) (header_of rec).k l s
-      → RebuildSaysIn row_after_row rec l nodes s target out out' r → RebuildSays rec l nodes (to_lanes (header_of rec) (header_of rec).k l s) target out now u
-      → (u ≡ r) × (now ≡ out')
+  pub rebuild : (rec : List ℕ) (l : ℕ) (nodes s : List ℕ) (target : ℕ) (out out' now : List ℕ) (answer answer' : Answer (Unit {0})) → Full (header_of rec) (header_of rec).k l s
+      → RebuildSaysIn row_after_row rec l nodes s target out out' answer → RebuildSays rec l nodes (to_lanes (header_of rec) (header_of rec).k l s) target out now answer'
+      → (answer' ≡ answer) × (now ≡ out')
   -- Belongs: yes, the smallest wrong lane, or the number
-  pub belongs : (rec : List ℕ) (l : ℕ) (s : List ℕ) (r u : Answer (Option ℕ)) → Full (header_of rec) (header_of rec).n l s
-      → BelongsSaysIn row_after_row rec l s r → BelongsSays rec l (to_lanes (header_of rec) (header_of rec).n l s) u
-      → u ≡ r
+  pub belongs : (rec : List ℕ) (l : ℕ) (s : List ℕ) (answer answer' : Answer (Option ℕ)) → Full (header_of rec) (header_of rec).n l s
+      → BelongsSaysIn row_after_row rec l s answer → BelongsSays rec l (to_lanes (header_of rec) (header_of rec).n l s) answer'
+      → answer' ≡ answer
   -- the two rearrangements of bytes undo each other
   pub back : (h : Header) (rows l : ℕ) (s : List ℕ) → Full h rows l s → all_below 256 s ≡ true → to_nodes h rows l (to_lanes h rows l s) ≡ s
   pub forth : (h : Header) (rows l : ℕ) (s : List ℕ) → Full h rows l s → all_below 256 s ≡ true → to_lanes h rows l (to_nodes h rows l s) ≡ s
@@ -55,6 +55,6 @@ pub record LaneAfterLane : Type 0 where
   pub listed_back : (rec : List ℕ) (l : ℕ) (s out out' end end' : List ℕ) → all_below 256 s ≡ true → ListedToLanesSays rec l s out out' (Ok tt) → ListedToNodesSays rec l out' end end' (Ok tt) → end' ≡ s
   pub listed_forth : (rec : List ℕ) (l : ℕ) (s out out' end end' : List ℕ) → all_below 256 s ≡ true → ListedToNodesSays rec l s out out' (Ok tt) → ListedToLanesSays rec l out' end end' (Ok tt) → end' ≡ s
   -- Recover of listed shares that stood node after node: `listed_to_lanes` first gives the message that Recover of that arrangement would
-  pub listed_recover : (rec : List ℕ) (l : ℕ) (nodes s moved moved' out out' now : List ℕ) (answer other : Answer (Unit {0})) → ListedToLanesSays rec l s moved moved' (Ok tt)
-      → RecoverSaysIn row_after_row rec l nodes s out out' answer → RecoverSays rec l nodes moved' out now other
-      → (other ≡ answer) × (now ≡ out')
+  pub listed_recover : (rec : List ℕ) (l : ℕ) (nodes s moved moved' out out' now : List ℕ) (answer answer' : Answer (Unit {0})) → ListedToLanesSays rec l s moved moved' (Ok tt)
+      → RecoverSaysIn row_after_row rec l nodes s out out' answer → RecoverSays rec l nodes moved' out now answer'
+      → (answer' ≡ answer) × (now ≡ out')

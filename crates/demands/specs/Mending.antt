@@ -13,10 +13,10 @@ pub record SingleMends : Type 0 where
   -- of every lane of an accepted record
   pub accepted : (rec : List ℕ) → record_fault rec ≡ 0 → (ws : List ℕ) → IsLane (header_of rec) ws → Mends (header_of rec) ws
   -- of the lane of a call that no number turned away: how many entries, both buffers afterwards, and what the list means
-  pub call : (rec lane nodes symbols nodes' symbols' : List ℕ) (r : Answer ℕ) → MendsSay rec lane nodes symbols nodes' symbols' r → ((g : ℕ) → r ≡ Err g → ⊥) →
+  pub call : (rec lane nodes symbols nodes' symbols' : List ℕ) (answer : Answer ℕ) → MendsSay rec lane nodes symbols nodes' symbols' answer → ((f : ℕ) → answer ≡ Err f → ⊥) →
       let h = header_of rec in
       let ws = read h lane in
-      (r ≡ Ok (length (mend_nodes h ws)))
+      (answer ≡ Ok (length (mend_nodes h ws)))
       × (nodes' ≡ in_front (mend_nodes h ws) nodes)
       × (symbols' ≡ in_front (bytes_of (width h) (mend_symbols h ws)) symbols)
       × Mends h ws

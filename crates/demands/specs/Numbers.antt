@@ -9,13 +9,13 @@ use Rattle.correct.specs.Meaning.{NearWord, lane_in}
 use Rattle.demands.specs.Judging.{Table}
 use Rattle.demands.specs.Calls.{read}
 
--- some number of a list is m or more
+-- some number of a list is a or more
 abbrev pub SomeFrom : ℕ → List ℕ → Type 0
-SomeFrom m s = (i : ℕ) × (i < length s) × (m ≤ get_or s i 0)
+SomeFrom a xs = (i : ℕ) × (i < length xs) × (a ≤ get_or xs i 0)
 
 -- some number stands at two places of a list
 abbrev pub SomeTwice : List ℕ → Type 0
-SomeTwice s = (i : ℕ) × (j : ℕ) × (i < j) × (j < length s) × (get_or s i 0 ≡ get_or s j 0)
+SomeTwice xs = (i : ℕ) × (i' : ℕ) × (i < i') × (i' < length xs) × (get_or xs i 0 ≡ get_or xs i' 0)
 
 -- the kind of a record: its first byte
 abbrev pub kind : List ℕ → ℕ
@@ -42,10 +42,10 @@ OtherSymbols h s = SomeFrom (size h) (read h s)
 
 -- Encode
 abbrev pub encode_numbers : Header → ℕ → List ℕ → ℕ → Table
-encode_numbers h l message out =
+encode_numbers h l message out_len =
     (7, OtherLanes l)
     ∷ (8, length message ≢ h.k * l * width h)
-    ∷ (8, out ≢ h.n * l * width h)
+    ∷ (8, out_len ≢ h.n * l * width h)
     ∷ (11, OtherSymbols h message)
     ∷ []
 
@@ -72,11 +72,11 @@ update_numbers h l r t old new shares = given_numbers h l r t old new shares ++ 
 
 -- Recover
 abbrev pub recover_numbers : Header → ℕ → List ℕ → List ℕ → ℕ → Table
-recover_numbers h l nodes shares out =
+recover_numbers h l nodes shares out_len =
     (7, OtherLanes l)
     ∷ (8, length nodes ≢ h.k)
     ∷ (8, length shares ≢ h.k * l * width h)
-    ∷ (8, out ≢ h.k * l * width h)
+    ∷ (8, out_len ≢ h.k * l * width h)
     ∷ (9, SomeFrom h.n nodes)
     ∷ (10, SomeTwice nodes)
     ∷ (11, OtherSymbols h shares)
@@ -84,11 +84,11 @@ recover_numbers h l nodes shares out =
 
 -- Rebuild
 abbrev pub rebuild_numbers : Header → ℕ → List ℕ → List ℕ → ℕ → ℕ → Table
-rebuild_numbers h l nodes shares target out =
+rebuild_numbers h l nodes shares target out_len =
     (7, OtherLanes l)
     ∷ (8, length nodes ≢ h.k)
     ∷ (8, length shares ≢ h.k * l * width h)
-    ∷ (8, out ≢ l * width h)
+    ∷ (8, out_len ≢ l * width h)
     ∷ (9, h.n ≤ target)
     ∷ (9, SomeFrom h.n nodes)
     ∷ (10, SomeTwice nodes)
@@ -109,21 +109,21 @@ correct_numbers h l shares =
     belongs_numbers h l shares
     ++ ((14, (t : ℕ) × (t < l) × ((us : List ℕ) → NearWord h (lane_in h l shares t) us → ⊥)) ∷ [])
 
--- rows of shares rearranged: of all n nodes, or of k listed ones; `source` is a length too
+-- rows of shares rearranged: of all n nodes, or of k listed ones
 abbrev pub rearrange_numbers : Header → ℕ → ℕ → ℕ → ℕ → Table
-rearrange_numbers h rows l source out =
+rearrange_numbers h rows l source_len out_len =
     (7, OtherLanes l)
-    ∷ (8, source ≢ rows * l * width h)
-    ∷ (8, out ≢ rows * l * width h)
+    ∷ (8, source_len ≢ rows * l * width h)
+    ∷ (8, out_len ≢ rows * l * width h)
     ∷ []
 
 -- differences: rows of symbols of one symbol number
 abbrev pub differences_numbers : Header → ℕ → ℕ → List ℕ → List ℕ → ℕ → Table
-differences_numbers h l r old new out =
+differences_numbers h l r old new out_len =
     (7, OtherLanes l)
     ∷ (8, length old ≢ l * width h)
     ∷ (8, length new ≢ l * width h)
-    ∷ (8, out ≢ h.n * l * width h)
+    ∷ (8, out_len ≢ h.n * l * width h)
     ∷ (9, h.k ≤ r)
     ∷ (11, OtherSymbols h old)
     ∷ (11, OtherSymbols h new)
@@ -150,13 +150,13 @@ find_numbers h before after =
 
 -- single_mends
 abbrev pub mends_numbers : Header → List ℕ → ℕ → ℕ → Table
-mends_numbers h lane nodes symbols =
+mends_numbers h lane nodes_len symbols_len =
     (8, length lane ≢ h.n * width h)
-    ∷ (8, nodes ≢ h.n)
-    ∷ (8, symbols ≢ h.n * width h)
+    ∷ (8, nodes_len ≢ h.n)
+    ∷ (8, symbols_len ≢ h.n * width h)
     ∷ (11, OtherSymbols h lane)
     ∷ []
 
 -- weight_counts: more than 65,536 messages
 abbrev pub weights_numbers : Header → ℕ → Table
-weights_numbers h out = (8, out ≢ h.n + 1) ∷ (16, 65536 < size h ^ h.k) ∷ []
+weights_numbers h out_len = (8, out_len ≢ h.n + 1) ∷ (16, 65536 < size h ^ h.k) ∷ []

@@ -17,16 +17,16 @@ pub record OneOff (h : Header) (l i t : ℕ) (shares wrong : List ℕ) : Type 0 
   pub place : i < h.k
   pub lane : t < l
   pub there : read_at h l wrong i t ≡ read_at h l shares i t → ⊥
-  pub elsewhere : (e q : ℕ) → e < h.k → q < l → ((e ≡ i) × (q ≡ t) → ⊥) → read_at h l wrong e q ≡ read_at h l shares e q
+  pub elsewhere : (i' t' : ℕ) → i' < h.k → t' < l → ((i' ≡ i) × (t' ≡ t) → ⊥) → read_at h l wrong i' t' ≡ read_at h l shares i' t'
 
--- what two rebuilt shares have in lane q
+-- what a rebuilt share has in lane t
 unfoldable pub rebuilt_at : Header → List ℕ → ℕ → ℕ
-rebuilt_at h out q = get_or (symbols_of (width h) out) q 0
+rebuilt_at h out t = get_or (symbols_of (width h) out) t 0
 
 -- the rebuilt share of a node outside the list has another symbol in that lane, and the same symbol in every other lane
 pub record OneLaneOff (h : Header) (l t : ℕ) (out wrong : List ℕ) : Type 0 where
   pub there : rebuilt_at h wrong t ≡ rebuilt_at h out t → ⊥
-  pub elsewhere : (q : ℕ) → q < l → (q ≡ t → ⊥) → rebuilt_at h wrong q ≡ rebuilt_at h out q
+  pub elsewhere : (t' : ℕ) → t' < l → (t' ≡ t → ⊥) → rebuilt_at h wrong t' ≡ rebuilt_at h out t'
 
 -- of two calls of Rebuild that are done
 abbrev pub BadRead : Type 0

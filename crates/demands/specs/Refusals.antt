@@ -19,23 +19,23 @@ use Rattle.demands.specs.Numbers.{record_numbers, encode_numbers, update_numbers
 
 pub record Refusals : Type 0 where
   -- Encode: no byte of the shares is written
-  pub encode : (rec : List ℕ) (l : ℕ) (message out out' : List ℕ) (r : Answer (Unit {0})) → EncodeSays rec l message out out' r
-      → Judged (record_numbers rec ++ encode_numbers (header_of rec) l message (length out)) (λ f. r ≡ Err f) (out' ≡ out)
+  pub encode : (rec : List ℕ) (l : ℕ) (message out out' : List ℕ) (answer : Answer (Unit {0})) → EncodeSays rec l message out out' answer
+      → Judged (record_numbers rec ++ encode_numbers (header_of rec) l message (length out)) (λ f. answer ≡ Err f) (out' ≡ out)
   -- Update: its lane is as it was, and so is every other
-  pub update : (rec : List ℕ) (l r t old new : ℕ) (shares shares' : List ℕ) (a : Answer ℕ) → UpdateSays rec l r t old new shares shares' a
-      → Judged (record_numbers rec ++ update_numbers (header_of rec) l r t old new shares) (λ f. a ≡ Err f) (shares' ≡ shares)
+  pub update : (rec : List ℕ) (l r t old new : ℕ) (shares shares' : List ℕ) (answer : Answer ℕ) → UpdateSays rec l r t old new shares shares' answer
+      → Judged (record_numbers rec ++ update_numbers (header_of rec) l r t old new shares) (λ f. answer ≡ Err f) (shares' ≡ shares)
   -- Recover: no byte of the message is written
-  pub recover : (rec : List ℕ) (l : ℕ) (nodes shares out out' : List ℕ) (r : Answer (Unit {0})) → RecoverSays rec l nodes shares out out' r
-      → Judged (record_numbers rec ++ recover_numbers (header_of rec) l nodes shares (length out)) (λ f. r ≡ Err f) (out' ≡ out)
+  pub recover : (rec : List ℕ) (l : ℕ) (nodes shares out out' : List ℕ) (answer : Answer (Unit {0})) → RecoverSays rec l nodes shares out out' answer
+      → Judged (record_numbers rec ++ recover_numbers (header_of rec) l nodes shares (length out)) (λ f. answer ≡ Err f) (out' ≡ out)
   -- Rebuild: no byte of the share is written
-  pub rebuild : (rec : List ℕ) (l : ℕ) (nodes shares : List ℕ) (target : ℕ) (out out' : List ℕ) (r : Answer (Unit {0})) → RebuildSays rec l nodes shares target out out' r
-      → Judged (record_numbers rec ++ rebuild_numbers (header_of rec) l nodes shares target (length out)) (λ f. r ≡ Err f) (out' ≡ out)
+  pub rebuild : (rec : List ℕ) (l : ℕ) (nodes shares : List ℕ) (target : ℕ) (out out' : List ℕ) (answer : Answer (Unit {0})) → RebuildSays rec l nodes shares target out out' answer
+      → Judged (record_numbers rec ++ rebuild_numbers (header_of rec) l nodes shares target (length out)) (λ f. answer ≡ Err f) (out' ≡ out)
   -- Belongs only reads
-  pub belongs : (rec : List ℕ) (l : ℕ) (shares : List ℕ) (r : Answer (Option ℕ)) → BelongsSays rec l shares r
-      → Judged (record_numbers rec ++ belongs_numbers (header_of rec) l shares) (λ f. r ≡ Err f) (Unit {0})
+  pub belongs : (rec : List ℕ) (l : ℕ) (shares : List ℕ) (answer : Answer (Option ℕ)) → BelongsSays rec l shares answer
+      → Judged (record_numbers rec ++ belongs_numbers (header_of rec) l shares) (λ f. answer ≡ Err f) (Unit {0})
   -- setting right: no lane is touched
-  pub correct : (rec : List ℕ) (l : ℕ) (shares shares' : List ℕ) (r : Answer ℕ) → CorrectSays rec l shares shares' r
-      → Judged (record_numbers rec ++ correct_numbers (header_of rec) l shares) (λ f. r ≡ Err f) (shares' ≡ shares)
+  pub correct : (rec : List ℕ) (l : ℕ) (shares shares' : List ℕ) (answer : Answer ℕ) → CorrectSays rec l shares shares' answer
+      → Judged (record_numbers rec ++ correct_numbers (header_of rec) l shares) (λ f. answer ≡ Err f) (shares' ≡ shares)
   -- to_lanes and to_nodes, of all nodes and of k listed ones: no byte is moved
   pub into_lanes : (rec : List ℕ) (l : ℕ) (source out out' : List ℕ) (answer : Answer (Unit {0})) → ToLanesSays rec l source out out' answer
       → Judged (record_numbers rec ++ rearrange_numbers (header_of rec) (header_of rec).n l (length source) (length out)) (λ f. answer ≡ Err f) (out' ≡ out)
@@ -52,11 +52,11 @@ pub record Refusals : Type 0 where
   pub add_share : (rec : List ℕ) (l : ℕ) (difference share share' : List ℕ) (answer : Answer (Unit {0})) → AddSays rec l difference share share' answer
       → Judged (record_numbers rec ++ add_numbers (header_of rec) l difference share) (λ f. answer ≡ Err f) (share' ≡ share)
   -- find_update only reads
-  pub find : (rec before after : List ℕ) (r : Answer Finding) → FindSays rec before after r
-      → Judged (record_numbers rec ++ find_numbers (header_of rec) before after) (λ f. r ≡ Err f) (Unit {0})
+  pub find : (rec before after : List ℕ) (answer : Answer Finding) → FindSays rec before after answer
+      → Judged (record_numbers rec ++ find_numbers (header_of rec) before after) (λ f. answer ≡ Err f) (Unit {0})
   -- single_mends: both buffers are as they were
-  pub mends : (rec lane nodes symbols nodes' symbols' : List ℕ) (r : Answer ℕ) → MendsSay rec lane nodes symbols nodes' symbols' r
-      → Judged (record_numbers rec ++ mends_numbers (header_of rec) lane (length nodes) (length symbols)) (λ f. r ≡ Err f) ((nodes' ≡ nodes) × (symbols' ≡ symbols))
+  pub mends : (rec lane nodes symbols nodes' symbols' : List ℕ) (answer : Answer ℕ) → MendsSay rec lane nodes symbols nodes' symbols' answer
+      → Judged (record_numbers rec ++ mends_numbers (header_of rec) lane (length nodes) (length symbols)) (λ f. answer ≡ Err f) ((nodes' ≡ nodes) × (symbols' ≡ symbols))
   -- weight_counts: no count is written
-  pub weights : (rec counts counts' : List ℕ) (r : Answer (Unit {0})) → WeightsSay rec counts counts' r
-      → Judged (record_numbers rec ++ weights_numbers (header_of rec) (length counts)) (λ f. r ≡ Err f) (counts' ≡ counts)
+  pub weights : (rec counts counts' : List ℕ) (answer : Answer (Unit {0})) → WeightsSay rec counts counts' answer
+      → Judged (record_numbers rec ++ weights_numbers (header_of rec) (length counts)) (λ f. answer ≡ Err f) (counts' ≡ counts)

@@ -21,7 +21,7 @@ use Rattle.demands.specs.RoundTrips.{cut_of}
 
 -- a number stands in a list
 abbrev pub Listed : ℕ → List ℕ → Type 0
-Listed x s = (i : ℕ) × (i < length s) × (get_or s i 0 ≡ x)
+Listed x xs = (i : ℕ) × (i < length xs) × (get_or xs i 0 ≡ x)
 
 -- number 17: the field has no 256 elements, or n − k is below 16 and the missing nodes
 abbrev pub NoTraces : Header → ℕ → Type 0
@@ -37,22 +37,22 @@ target_numbers h target missing =
     ∷ (17, NoTraces h (length missing))
     ∷ []
 
--- repair_bits; `share` and `out` are lengths
+-- repair_bits
 abbrev pub repair_bits_numbers : Header → ℕ → ℕ → ℕ → List ℕ → ℕ → ℕ → Table
-repair_bits_numbers h l j target missing share out =
+repair_bits_numbers h l j target missing share_len out_len =
     (7, OtherLanes l)
-    ∷ (8, share ≢ l * width h)
-    ∷ (8, out ≢ bits h (length missing) * ((l + 7) / 8))
+    ∷ (8, share_len ≢ l * width h)
+    ∷ (8, out_len ≢ bits h (length missing) * ((l + 7) / 8))
     ∷ (9, h.n ≤ j)
     ∷ (9, (j ≡ target) ⊎ Listed j missing)
     ∷ target_numbers h target missing
 
--- repair_share; `rows` and `out` are lengths
+-- repair_share
 abbrev pub repair_share_numbers : Header → ℕ → ℕ → List ℕ → ℕ → ℕ → Table
-repair_share_numbers h l target missing rows out =
+repair_share_numbers h l target missing rows_len out_len =
     (7, OtherLanes l)
-    ∷ (8, rows ≢ (h.n - 1 - length missing) * (bits h (length missing) * ((l + 7) / 8)))
-    ∷ (8, out ≢ l * width h)
+    ∷ (8, rows_len ≢ (h.n - 1 - length missing) * (bits h (length missing) * ((l + 7) / 8)))
+    ∷ (8, out_len ≢ l * width h)
     ∷ target_numbers h target missing
 
 -- repair_plan
@@ -64,7 +64,7 @@ pub record PlanDone (h : Header) (count b more : ℕ) : Type 0 where
   pub field : modulus_of h ≡ 0
   pub bits : TraceBits b
   pub uses : 2 ^ (8 - b) + count + more ≡ h.n - h.k
-  pub least : (c : ℕ) → TraceBits c → 2 ^ (8 - c) + count ≤ h.n - h.k → b ≤ c
+  pub least : (b' : ℕ) → TraceBits b' → 2 ^ (8 - b') + count ≤ h.n - h.k → b ≤ b'
 
 -- what a node wrote that sends: bit e of the digit of lane t stands at bit t mod 8 of byte t / 8 of plane e
 pub record BitsDone (h : Header) (l j target : ℕ) (missing share out : List ℕ) : Type 0 where
@@ -84,19 +84,19 @@ in_order rec target missing by = rows_from by 0 (length (senders (header_of rec)
 
 pub record Repairs : Type 0 where
   -- which number turns each call away; no byte is written then
-  pub bits_judged : (rec : List ℕ) (l j target : ℕ) (missing share out out' : List ℕ) (r : Answer (Unit {0})) → RepairBitsSays rec l j target missing share out out' r
-      → Judged (record_numbers rec ++ repair_bits_numbers (header_of rec) l j target missing (length share) (length out)) (λ f. r ≡ Err f) (out' ≡ out)
-  pub share_judged : (rec : List ℕ) (l target : ℕ) (missing rows out out' : List ℕ) (r : Answer (Unit {0})) → RepairShareSays rec l target missing rows out out' r
-      → Judged (record_numbers rec ++ repair_share_numbers (header_of rec) l target missing (length rows) (length out)) (λ f. r ≡ Err f) (out' ≡ out)
-  pub plan_judged : (rec : List ℕ) (count : ℕ) (r : Answer RepairPlan) → RepairPlanSays rec count r
-      → Judged (record_numbers rec ++ repair_plan_numbers (header_of rec) count) (λ f. r ≡ Err f) (Unit {0})
+  pub bits_judged : (rec : List ℕ) (l j target : ℕ) (missing share out out' : List ℕ) (answer : Answer (Unit {0})) → RepairBitsSays rec l j target missing share out out' answer
+      → Judged (record_numbers rec ++ repair_bits_numbers (header_of rec) l j target missing (length share) (length out)) (λ f. answer ≡ Err f) (out' ≡ out)
+  pub share_judged : (rec : List ℕ) (l target : ℕ) (missing rows out out' : List ℕ) (answer : Answer (Unit {0})) → RepairShareSays rec l target missing rows out out' answer
+      → Judged (record_numbers rec ++ repair_share_numbers (header_of rec) l target missing (length rows) (length out)) (λ f. answer ≡ Err f) (out' ≡ out)
+  pub plan_judged : (rec : List ℕ) (count : ℕ) (answer : Answer RepairPlan) → RepairPlanSays rec count answer
+      → Judged (record_numbers rec ++ repair_plan_numbers (header_of rec) count) (λ f. answer ≡ Err f) (Unit {0})
   -- the same of the functions for C; no lent number is altered either
-  pub bits_returns : (rec : List ℕ) (l j target : ℕ) (missing share out out' : List ℕ) (r : ℕ) → RepairBitsGives rec l j target missing share out out' r
-      → Judged (record_numbers rec ++ repair_bits_numbers (header_of rec) l j target missing (length share) (length out)) (Returns r) (out' ≡ out)
-  pub share_returns : (rec : List ℕ) (l target : ℕ) (missing rows share share' : List ℕ) (r : ℕ) → RepairShareGives rec l target missing rows share share' r
-      → Judged (record_numbers rec ++ repair_share_numbers (header_of rec) l target missing (length rows) (length share)) (Returns r) (share' ≡ share)
-  pub plan_returns : (rec : List ℕ) (count b more b' more' r : ℕ) → RepairPlanGives rec count b more b' more' r
-      → Judged (record_numbers rec ++ repair_plan_numbers (header_of rec) count) (Returns r) ((b' ≡ b) × (more' ≡ more))
+  pub bits_returns : (rec : List ℕ) (l j target : ℕ) (missing share out out' : List ℕ) (f : ℕ) → RepairBitsGives rec l j target missing share out out' f
+      → Judged (record_numbers rec ++ repair_bits_numbers (header_of rec) l j target missing (length share) (length out)) (Returns f) (out' ≡ out)
+  pub share_returns : (rec : List ℕ) (l target : ℕ) (missing rows share share' : List ℕ) (f : ℕ) → RepairShareGives rec l target missing rows share share' f
+      → Judged (record_numbers rec ++ repair_share_numbers (header_of rec) l target missing (length rows) (length share)) (Returns f) (share' ≡ share)
+  pub plan_returns : (rec : List ℕ) (count b more b' more' f : ℕ) → RepairPlanGives rec count b more b' more' f
+      → Judged (record_numbers rec ++ repair_plan_numbers (header_of rec) count) (Returns f) ((b' ≡ b) × (more' ≡ more))
   -- the plan
   pub plan : (rec : List ℕ) (count b more : ℕ) → RepairPlanSays rec count (Ok (record { bits = b; spare = more })) → PlanDone (header_of rec) count b more
   -- what a node sends

@@ -11,7 +11,7 @@ use Rattle.demands.specs.Numbers.{record_numbers}
 
 -- an event: its node is none of the n, or already is what the event says
 abbrev pub event_numbers : Header → Event → Roster → Table
-event_numbers h e r = (9, h.n ≤ named e) ∷ (15, is_present r.marks (named e) ≡ says e) ∷ []
+event_numbers h ev roster = (9, h.n ≤ named ev) ∷ (15, is_present roster.marks (named ev) ≡ says ev) ∷ []
 
 -- the query and a job: a list of another length than k
 abbrev pub list_numbers : Header → List ℕ → Table
@@ -27,7 +27,7 @@ Already bytes (leaves j) = get_or bytes j 0 ≡ 0
 Already bytes (returns j) = get_or bytes j 0 ≢ 0
 
 abbrev pub event_bytes_numbers : Header → Event → List ℕ → Table
-event_bytes_numbers h e bytes = (8, length bytes ≢ 256) ∷ (9, h.n ≤ named e) ∷ (15, Already bytes e) ∷ []
+event_bytes_numbers h ev bytes = (8, length bytes ≢ 256) ∷ (9, h.n ≤ named ev) ∷ (15, Already bytes ev) ∷ []
 
 abbrev pub list_bytes_numbers : Header → List ℕ → List ℕ → Table
 list_bytes_numbers h bytes list = (8, length bytes ≢ 256) ∷ (8, length list ≢ h.k) ∷ []
@@ -42,16 +42,16 @@ pub record RosterRefusals : Type 0 where
   -- a start that is turned away gives a roster with no node present
   pub start : (rec : List ℕ) → Judged (record_numbers rec) (Returns (start_of (record_of rec)).number) ((j : ℕ) → is_present (start_of (record_of rec)).roster.marks j ≡ false)
   -- an event that is turned away leaves the roster equal
-  pub event : (rec : List ℕ) (e : Event) (r : Roster) → Judged (record_numbers rec ++ event_numbers (header_of rec) e r) (Returns (step_of (record_of rec) e r).number) ((step_of (record_of rec) e r).roster ≡ r)
+  pub event : (rec : List ℕ) (ev : Event) (roster : Roster) → Judged (record_numbers rec ++ event_numbers (header_of rec) ev roster) (Returns (step_of (record_of rec) ev roster).number) ((step_of (record_of rec) ev roster).roster ≡ roster)
   -- a query that is turned away leaves the list
-  pub query : (rec : List ℕ) (r : Roster) (list : List ℕ) → Judged (record_numbers rec ++ list_numbers (header_of rec) list) (λ f. lowest_of (record_of rec) r list ≡ Err f) (lowest_list (record_of rec) r list ≡ list)
+  pub query : (rec : List ℕ) (roster : Roster) (list : List ℕ) → Judged (record_numbers rec ++ list_numbers (header_of rec) list) (λ f. lowest_of (record_of rec) roster list ≡ Err f) (lowest_list (record_of rec) roster list ≡ list)
   -- and so does a job, which leaves the roster too
-  pub job : (rec : List ℕ) (r : Roster) (list : List ℕ) → Judged (record_numbers rec ++ list_numbers (header_of rec) list) (λ f. (job_of (record_of rec) r list).listing ≡ Err f) (((job_of (record_of rec) r list).roster ≡ r) × (job_list (record_of rec) r list ≡ list))
+  pub job : (rec : List ℕ) (roster : Roster) (list : List ℕ) → Judged (record_numbers rec ++ list_numbers (header_of rec) list) (λ f. (job_of (record_of rec) roster list).listing ≡ Err f) (((job_of (record_of rec) roster list).roster ≡ roster) × (job_list (record_of rec) roster list ≡ list))
   -- the same on lent bytes: a start writes zeros
-  pub start_bytes : (rec bytes bytes' : List ℕ) (r : ℕ) → StartGives rec bytes bytes' r → Judged (record_numbers rec ++ bytes_numbers bytes) (Returns r) (NoNode bytes bytes')
+  pub start_bytes : (rec bytes bytes' : List ℕ) (f : ℕ) → StartGives rec bytes bytes' f → Judged (record_numbers rec ++ bytes_numbers bytes) (Returns f) (NoNode bytes bytes')
   -- an event leaves the bytes
-  pub bytes_of_event : (rec bytes : List ℕ) (e : Event) (bytes' : List ℕ) (r : ℕ) → EventGives rec bytes e bytes' r → Judged (record_numbers rec ++ event_bytes_numbers (header_of rec) e bytes) (Returns r) (bytes' ≡ bytes)
+  pub bytes_of_event : (rec bytes : List ℕ) (ev : Event) (bytes' : List ℕ) (f : ℕ) → EventGives rec bytes ev bytes' f → Judged (record_numbers rec ++ event_bytes_numbers (header_of rec) ev bytes) (Returns f) (bytes' ≡ bytes)
   -- a query leaves the list and `enough`
-  pub query_bytes : (rec bytes list : List ℕ) (enough : ℕ) (list' : List ℕ) (enough' r : ℕ) → LowestGives rec bytes list enough list' enough' r → Judged (record_numbers rec ++ list_bytes_numbers (header_of rec) bytes list) (Returns r) ((list' ≡ list) × (enough' ≡ enough))
+  pub query_bytes : (rec bytes list : List ℕ) (enough : ℕ) (list' : List ℕ) (enough' f : ℕ) → LowestGives rec bytes list enough list' enough' f → Judged (record_numbers rec ++ list_bytes_numbers (header_of rec) bytes list) (Returns f) ((list' ≡ list) × (enough' ≡ enough))
   -- a job leaves all three
-  pub job_bytes : (rec bytes list : List ℕ) (enough : ℕ) (bytes' list' : List ℕ) (enough' r : ℕ) → JobGives rec bytes list enough bytes' list' enough' r → Judged (record_numbers rec ++ list_bytes_numbers (header_of rec) bytes list) (Returns r) ((bytes' ≡ bytes) × (list' ≡ list) × (enough' ≡ enough))
+  pub job_bytes : (rec bytes list : List ℕ) (enough : ℕ) (bytes' list' : List ℕ) (enough' f : ℕ) → JobGives rec bytes list enough bytes' list' enough' f → Judged (record_numbers rec ++ list_bytes_numbers (header_of rec) bytes list) (Returns f) ((bytes' ≡ bytes) × (list' ≡ list) × (enough' ≡ enough))

@@ -31,8 +31,8 @@ pub record RoundTrips : Type 0 where
   -- what is cut out has each listed node's symbol of each lane ..
   pub cut_long : (h : Header) (l : ℕ) (nodes shares : List ℕ) → length (cut_of h l nodes shares) ≡ length nodes * l * width h
   -- .. and byte by byte, that of the node at place i of k stands in lane t at t·k + i, as it stands at t·n + the node in the shares
-  pub cut : (h : Header) (l : ℕ) (nodes shares : List ℕ) → Full h h.n l shares → all_below 256 shares ≡ true → (i t v : ℕ) → i < length nodes → get_or nodes i 0 < h.n → t < l → v < width h
-      → get_or (cut_of h l nodes shares) ((t * length nodes + i) * width h + v) 0 ≡ get_or shares ((t * h.n + get_or nodes i 0) * width h + v) 0
+  pub cut : (h : Header) (l : ℕ) (nodes shares : List ℕ) → Full h h.n l shares → all_below 256 shares ≡ true → (i t byte : ℕ) → i < length nodes → get_or nodes i 0 < h.n → t < l → byte < width h
+      → get_or (cut_of h l nodes shares) ((t * length nodes + i) * width h + byte) 0 ≡ get_or shares ((t * h.n + get_or nodes i 0) * width h + byte) 0
   -- Recover from listed nodes' symbols of what Encode wrote: the bytes that were encoded
   pub recover : (rec : List ℕ) (l : ℕ) (message out shares nodes back back' : List ℕ) → all_below 256 message ≡ true
       → EncodeSays rec l message out shares (Ok tt) → RecoverSays rec l nodes (cut_of (header_of rec) l nodes shares) back back' (Ok tt)

@@ -22,7 +22,7 @@ pub record Afterwards (h : Header) (ms s s' : List ℕ) (l r t new : ℕ) : Type
   -- n − k + 1, or none where old and new are equal
   pub count : differ s s' ≡ pick (eqb new (get_or ms r 0)) 0 (distance h)
   -- no other lane is altered
-  pub others : (q : ℕ) → q < l → (q ≡ t → ⊥) → lane_of share_layout h.n l q s' ≡ lane_of share_layout h.n l q s
+  pub others : (t' : ℕ) → t' < l → (t' ≡ t → ⊥) → lane_of share_layout h.n l t' s' ≡ lane_of share_layout h.n l t' s
 
 -- an update that was accepted, with nothing asked beside that
 pub record Updated (h : Header) (s s' : List ℕ) (l r t old new : ℕ) : Type 0 where

@@ -10,9 +10,9 @@ pub record Weights : Type 0 where
   pub accepted : (rec : List ℕ) → record_fault rec ≡ 0 → Distribution (header_of rec)
   -- C(a, b) in it is the number of ways to choose b out of a
   pub choosing : (a b : ℕ) → Choosing a b
-  -- of a call that is done: n + 1 counts, for w from 0 to n
+  -- of a call that is done: n + 1 counts, for the weights from 0 to n
   pub call : (rec counts counts' : List ℕ) → WeightsSay rec counts counts' (Ok tt) →
       let h = header_of rec in
-      (length counts' ≡ h.n + 1) × ((w : ℕ) → w ≤ h.n → get_or counts' w 0 ≡ weight_count_of h w) × Distribution h
+      (length counts' ≡ h.n + 1) × ((weight : ℕ) → weight ≤ h.n → get_or counts' weight 0 ≡ weight_count_of h weight) × Distribution h
   -- the counts of 1 7 3 6 3
   pub sample : weight_counts (header_of (1 ∷ 7 ∷ 3 ∷ 6 ∷ 3 ∷ [])) ≡ 1 ∷ 0 ∷ 0 ∷ 0 ∷ 90 ∷ 108 ∷ 144 ∷ []

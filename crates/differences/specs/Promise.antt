@@ -10,11 +10,11 @@ use Rattle.differences.specs.Differences.{difference_bytes, added_bytes}
 
 -- differences reads two rows of symbols and writes a row for each node
 unfoldable pub differences_fault : Header → ℕ → ℕ → List ℕ → List ℕ → ℕ → ℕ
-differences_fault h l r old new out =
+differences_fault h l r old new out_len =
     first_of (when (lanes_bad l) 7)
     (first_of (when (length_bad (l * width h) (length old)) 8)
     (first_of (when (length_bad (l * width h) (length new)) 8)
-    (first_of (when (length_bad (h.n * l * width h) out) 8)
+    (first_of (when (length_bad (h.n * l * width h) out_len) 8)
     (first_of (when (number_bad h.k r) 9)
     (first_of (when (symbols_bad h old) 11)
     (when (symbols_bad h new) 11))))))

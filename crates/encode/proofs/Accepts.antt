@@ -29,4 +29,4 @@ module _ (h : Header) (sound : Sound h) (l : ℕ) where
 -- beside a number g: the number, and nothing is written
 module _ {y : Arrangement} (h : Header) (g : ℕ) (some : g ≡ 0 → ⊥) (l : ℕ) where
   pub encode_refuses : (message out : List ℕ) → EncodePromise y l message out out (Err g) h g
-  encode_refuses message out = record { answer = sym (answer_refused g _ some); written = sym (refused_value g _ out some) }
+  encode_refuses message out = record { answered = sym (answer_refused g _ some); written = sym (refused_value g _ out some) }

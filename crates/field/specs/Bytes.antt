@@ -6,10 +6,10 @@ use Rattle.std.specs.Int.Bits.{bit_xor}
 unfoldable pub times_x : ℕ → ℕ
 times_x a = bit_xor (a * 2) (285 * (a / 128))
 
--- a times the f low digits of b
+-- a times the `left` low digits of b
 unfoldable pub product_from : ℕ → ℕ → ℕ → ℕ
 product_from zero a b = 0
-product_from (suc f) a b = bit_xor (a * (b % 2)) (product_from f (times_x a) (b / 2))
+product_from (suc left) a b = bit_xor (a * (b % 2)) (product_from left (times_x a) (b / 2))
 
 unfoldable pub product : ℕ → ℕ → ℕ
 product a b = product_from 8 a b

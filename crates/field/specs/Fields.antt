@@ -26,19 +26,19 @@ unfoldable pub power : ℕ → ℕ → ℕ → ℕ
 power p a zero = 1
 power p a (suc e) = mul p a (power p a e)
 
--- of the f numbers from x on, the first whose product with a is 1; 0 where there is none
+-- of the `left` numbers from x on, the first whose product with a is 1; 0 where there is none
 unfoldable pub inverse_from : ℕ → ℕ → ℕ → ℕ → ℕ
 inverse_from zero x p a = 0
-inverse_from (suc f) x p a = pick (eqb (mul p a x) 1) x (inverse_from f (x + 1) p a)
+inverse_from (suc left) x p a = pick (eqb (mul p a x) 1) x (inverse_from left (x + 1) p a)
 
 -- the symbol whose product with a is 1; 0 for 0
 unfoldable pub inverse : ℕ → ℕ → ℕ
 inverse p a = inverse_from (size_of p) 0 p a
 
--- of the f exponents from e on, the first whose power of a is 1, x being the power at e; 0 where there is none
+-- of the `left` exponents from e on, the first whose power of a is 1, x being the power at e; 0 where there is none
 unfoldable pub order_from : ℕ → ℕ → ℕ → ℕ → ℕ → ℕ
 order_from zero e p a x = 0
-order_from (suc f) e p a x = pick (eqb x 1) e (order_from f (e + 1) p a (mul p a x))
+order_from (suc left) e p a x = pick (eqb x 1) e (order_from left (e + 1) p a (mul p a x))
 
 -- the order of a, where it is at most 256
 unfoldable pub order_of : ℕ → ℕ → ℕ

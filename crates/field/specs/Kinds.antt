@@ -14,10 +14,10 @@ gf256 = record {}
 
 -- the prime, or 0 for the field of 256 elements
 unfoldable pub modulus : Field → ℕ
-modulus (Prime f) = f.p
-modulus (Binary g) = 0
+modulus (Prime field) = field.p
+modulus (Binary field) = 0
 
 -- a prime whose products fit 32 bits, or the field of 256 elements
 unfoldable pub usable : Field → Bool
-usable (Prime f) = leb f.p 65521 && is_prime f.p
-usable (Binary g) = true
+usable (Prime field) = leb field.p 65521 && is_prime field.p
+usable (Binary field) = true

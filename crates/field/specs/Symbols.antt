@@ -6,4 +6,4 @@ Symbol q = (x : ℕ) × (ltb x q ≡ true)
 
 -- the numbers of a list of symbols
 abbrev pub numbers : (q : ℕ) → List (Symbol q) → List ℕ
-numbers q s = map (λ a. a.0) s
+numbers q us = map (λ x. x.0) us

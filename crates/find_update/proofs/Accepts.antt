@@ -36,7 +36,7 @@ find_accepts h before after e =
 
 -- beside a number
 pub find_refuses : (h : Header) (g : ℕ) → (g ≡ 0 → ⊥) → (before after : List ℕ) → FindPromise before after (Err g) h g
-find_refuses h g some before after = record { answer = sym (answer_refused g _ some) }
+find_refuses h g some before after = record { answered = sym (answer_refused g _ some) }
 
 -- what holds of every two lanes of a record
 pub found_lanes : (rec : List ℕ) (r : Answer Header) → record_of rec ≡ r → Found r

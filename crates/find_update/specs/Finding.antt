@@ -40,4 +40,4 @@ pub record Finds (h : Header) (us vs : List ℕ) : Type 0 where
   -- the amount leads from the first to the second and back, and no other symbol and amount do
   pub there : (r x : ℕ) → finding_of h us vs ≡ Added r x → (r < h.k) × (x < size h) × (word_added h r x us ≡ vs)
   pub back : (r x : ℕ) → finding_of h us vs ≡ Added r x → taken_away h r x vs ≡ us
-  pub only : (r x q y : ℕ) → finding_of h us vs ≡ Added r x → q < h.k → y < size h → word_added h q y us ≡ vs → (q ≡ r) × (y ≡ x)
+  pub only : (r x r' x' : ℕ) → finding_of h us vs ≡ Added r x → r' < h.k → x' < size h → word_added h r' x' us ≡ vs → (r' ≡ r) × (x' ≡ x)

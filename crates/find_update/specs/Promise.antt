@@ -26,10 +26,10 @@ Found (Ok h) = (us vs : List ℕ) → IsLane h us → IsLane h vs → Finds h us
 Found (Err f) = Unit {0}
 
 -- over a header and the number that turns the call away, 0 where none does
-pub record FindPromise (before after : List ℕ) (r : Answer Finding) (h : Header) (f : ℕ) : Type 0 where
-  pub answer : r ≡ answer_of f (finding_of h (symbols_of (width h) before) (symbols_of (width h) after))
+pub record FindPromise (before after : List ℕ) (answer : Answer Finding) (h : Header) (f : ℕ) : Type 0 where
+  pub answered : answer ≡ answer_of f (finding_of h (symbols_of (width h) before) (symbols_of (width h) after))
 
 -- what `find_update` promises over the record as it is read, and what the answer means
-pub record FindSays (rec before after : List ℕ) (r : Answer Finding) : Type 0 where
-  pub found : OnRecord rec (λ h. find_fault h before after) (FindPromise before after r)
+pub record FindSays (rec before after : List ℕ) (answer : Answer Finding) : Type 0 where
+  pub found : OnRecord rec (λ h. find_fault h before after) (FindPromise before after answer)
   pub claims : Found (record_of rec)

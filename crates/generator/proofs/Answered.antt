@@ -7,7 +7,8 @@ use native.Mathlib.Omega.{arith}
 use Rattle.lists.specs.Choice.{first_of, when}
 use Rattle.generator.specs.declared.refusal.Refusal.{Refusal}
 use Rattle.generator.specs.declared.refusal.Refusal.TheVariants as R
-use Rattle.generator.specs.Answers.{Answer, number, numbered, numbered_by, answer_of, outcome_of, fault_in}
+use Rattle.generator.specs.Answers.{Answer, number, numbered, answer_of, outcome_of, fault_in}
+use Rattle.generator.specs.Inner.Answers.{numbered_by}
 
 -- the number of a refusal is not 0
 some : (s : Refusal) → number s ≡ suc (pred (number s))

@@ -30,12 +30,7 @@ number R.Carry = 18
 -- a result with the refusal's number in its place
 abbrev pub numbered : {A : Type 0} → Result A Refusal → Answer A
 numbered (Ok v) = Ok v
-numbered (Err e) = Err (number e)
-
--- the same with what g gives of the value
-abbrev pub numbered_by : {A B : Type 0} → (A → B) → Result A Refusal → Answer B
-numbered_by g (Ok v) = Ok (g v)
-numbered_by g (Err e) = Err (number e)
+numbered (Err refusal) = Err (number refusal)
 
 -- the answer of a call: its value, or the number that turned it away where that is not 0
 unfoldable pub answer_of : {A : Type 0} → ℕ → A → Answer A

@@ -41,7 +41,7 @@ Codeword h ws = (cs : List ℕ) × (length cs ≡ h.k) × (all_below (size h) cs
 pub record Ours (h : Header) : Type 0 where
   -- any k symbols on k nodes are of exactly one message
   pub some_message : (js ys : List ℕ) → are_nodes h js ≡ true → length ys ≡ h.k → all_below (size h) ys ≡ true → (ms : List ℕ) × (is_message h ms ≡ true) × (at_nodes h ms js ≡ ys)
-  pub one_message : (js ms us : List ℕ) → are_nodes h js ≡ true → is_message h ms ≡ true → is_message h us ≡ true → at_nodes h ms js ≡ at_nodes h us js → ms ≡ us
+  pub one_message : (js ms ms' : List ℕ) → are_nodes h js ≡ true → is_message h ms ≡ true → is_message h ms' ≡ true → at_nodes h ms js ≡ at_nodes h ms' js → ms ≡ ms'
   -- words are the values of polynomials of degree below k, and the encodings of messages
   pub words_poly : (ws : List ℕ) → length ws ≡ h.n → all_below (size h) ws ≡ true → (is_word h ws ≡ true) ↔ Codeword h ws
   pub words_encode : (ws : List ℕ) → length ws ≡ h.n → all_below (size h) ws ≡ true → (is_word h ws ≡ true) ↔ ((ms : List ℕ) × (is_message h ms ≡ true) × (encoding h ms ≡ ws))
@@ -62,7 +62,7 @@ pub record Ours (h : Header) : Type 0 where
   pub total : sum h.n (reads h) ≡ h.k * distance h
   pub upper_node : (j : ℕ) × (j < h.n) × (reads h j ≡ high_reads h)
   -- a node depends on a symbol exactly where the entry is not zero
-  pub depends_means : (r j : ℕ) → r < h.k → j < h.n → (eqb (entry h r j) 0 ≡ false) ↔ ((ms : List ℕ) × (z : ℕ) × (is_message h ms ≡ true) × (z < size h) × (eqb (node_of h ms j) (node_of h (set ms r z) j) ≡ false))
+  pub depends_means : (r j : ℕ) → r < h.k → j < h.n → (eqb (entry h r j) 0 ≡ false) ↔ ((ms : List ℕ) × (x : ℕ) × (is_message h ms ≡ true) × (x < size h) × (eqb (node_of h ms j) (node_of h (set ms r x) j) ≡ false))
   -- the shifts are k different numbers below n, the first of them 0
   pub shifts_many : length (shifts h) ≡ h.k
   pub shifts_below : all_below h.n (shifts h) ≡ true
@@ -70,7 +70,7 @@ pub record Ours (h : Header) : Type 0 where
   pub first_shift : get_or (shifts h) 0 0 ≡ 0
   -- row r begins at its first node, (−shift) modulo n: an entry is not zero exactly at the d nodes from there on, going round
   pub firsts_negative : (r : ℕ) → r < h.k → get_or (firsts h) r 0 ≡ negative h.n (get_or (shifts h) r 0)
-  pub begins : (r j : ℕ) → r < h.k → j < h.n → (eqb (entry h r j) 0 ≡ false) ↔ ((x : ℕ) × (x < distance h) × ((get_or (firsts h) r 0 + x) % h.n ≡ j))
+  pub begins : (r j : ℕ) → r < h.k → j < h.n → (eqb (entry h r j) 0 ≡ false) ↔ ((i : ℕ) × (i < distance h) × ((get_or (firsts h) r 0 + i) % h.n ≡ j))
   -- row r at j is the base word at (j + shift) modulo n
   pub rows_base : (r j : ℕ) → r < h.k → j < h.n → entry h r j ≡ get_or (base_word h) ((j + get_or (shifts h) r 0) % h.n) 0
 
@@ -81,7 +81,7 @@ pub record OurScheme (h : Header) : Type 0 where
   -- each change alters exactly d nodes, each node depends on exactly k·d / n symbols, rounded down or up
   pub tight : Tight scheme
   -- every scheme of numbers for the same k and n costs at least as much
-  pub least : (s : Scheme h.k h.n ℕ (λ j. ℕ)) → CostsAtLeast s scheme
+  pub least : (other : Scheme h.k h.n ℕ (λ j. ℕ)) → CostsAtLeast other scheme
 
 -- what is promised of a record that was read
 pub record Accepted (h : Header) : Type 0 where

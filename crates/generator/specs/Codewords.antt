@@ -9,7 +9,7 @@ use Rattle.generator.specs.Generator.{entry}
 -- the sum over the symbols, the first being number r, of symbol times entry (r, j)
 unfoldable pub node_from : ℕ → Header → List ℕ → ℕ → ℕ
 node_from r h [] j = 0
-node_from r h (m ∷ ms) j = add (modulus_of h) (mul (modulus_of h) m (entry h r j)) (node_from (r + 1) h ms j)
+node_from r h (x ∷ ms) j = add (modulus_of h) (mul (modulus_of h) x (entry h r j)) (node_from (r + 1) h ms j)
 
 -- what node j holds for a message
 unfoldable pub node_of : Header → List ℕ → ℕ → ℕ
@@ -31,7 +31,7 @@ values_of h cs = from (λ j. poly_at (modulus_of h) cs (power (modulus_of h) h.r
 -- check sum e of the symbols, the first being that of node j: each times root^(j·e)
 unfoldable pub check_from : Header → ℕ → ℕ → List ℕ → ℕ
 check_from h e j [] = 0
-check_from h e j (w ∷ ws) = add (modulus_of h) (mul (modulus_of h) w (power (modulus_of h) h.root (j * e % h.n))) (check_from h e (j + 1) ws)
+check_from h e j (x ∷ ws) = add (modulus_of h) (mul (modulus_of h) x (power (modulus_of h) h.root (j * e % h.n))) (check_from h e (j + 1) ws)
 
 -- the check sums from e down to 1 are zero
 unfoldable pub checks_from : ℕ → Header → List ℕ → Bool

@@ -34,9 +34,9 @@ pub record Compared (h : Header) : Type 0 where
   pub plain : PlainScheme h
   pub plain_figures : HasFigures plain.scheme (distance h) 1 (plain_greatest h)
   -- every plain layout of numbers has these figures
-  pub every_plain : (s : Scheme h.k h.n ℕ (λ j. ℕ)) → Plain s → HasFigures s (distance h) 1 (plain_greatest h)
+  pub every_plain : (other : Scheme h.k h.n ℕ (λ j. ℕ)) → Plain other → HasFigures other (distance h) 1 (plain_greatest h)
   -- no scheme of numbers alters fewer nodes, or has a lesser greatest number of symbols
-  pub bound : (s : Scheme h.k h.n ℕ (λ j. ℕ)) (w l g : ℕ) → HasFigures s w l g → (distance h ≤ w) × (high_reads h ≤ g)
+  pub bound : (other : Scheme h.k h.n ℕ (λ j. ℕ)) (writes low high : ℕ) → HasFigures other writes low high → (distance h ≤ writes) × (high_reads h ≤ high)
 
 -- the same of a record that was read
 unfoldable pub ComparedRecord : Answer Header → Type 0

@@ -15,9 +15,9 @@ base_from (suc i) h x = mul (modulus_of h) (sub (modulus_of h) x (power (modulus
 unfoldable pub base_at : Header → ℕ → ℕ
 base_at h x = base_from (h.k - 1) h x
 
--- p(root^(j + s − d)), the exponent modulo n: the entry at node j of a row with the shift s
+-- p(root^(j + shift − d)), the exponent modulo n: the entry at node j of a row with that shift
 unfoldable pub entry_at : Header → ℕ → ℕ → ℕ
-entry_at h s j = base_at h (power (modulus_of h) h.root ((j + s + (h.n - distance h)) % h.n))
+entry_at h shift j = base_at h (power (modulus_of h) h.root ((j + shift + (h.n - distance h)) % h.n))
 
 -- entry (r, j) of the generator
 unfoldable pub entry : Header → ℕ → ℕ → ℕ

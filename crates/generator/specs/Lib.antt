@@ -9,3 +9,4 @@ pub mod Comparison
 pub mod Pinned
 pub mod Answers
 pub mod Reading
+pub mod Inner

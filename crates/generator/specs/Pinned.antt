@@ -24,21 +24,21 @@ pub record HasOrder (q p a n : ℕ) : Type 0 where
   pub returns : power p a n ≡ 1
   pub least : (e : ℕ) → 0 < e → e < n → power p a e ≡ 1 → ⊥
 
--- g is the greatest common divisor of a and b
-pub record GreatestDivisor (a b g : ℕ) : Type 0 where
-  pub left : g ∣ a
-  pub right : g ∣ b
-  pub greatest : (e : ℕ) → e ∣ a → e ∣ b → e ≤ g
+-- the greatest common divisor of a and b
+pub record GreatestDivisor (a b divisor : ℕ) : Type 0 where
+  pub left : divisor ∣ a
+  pub right : divisor ∣ b
+  pub greatest : (c : ℕ) → c ∣ a → c ∣ b → c ≤ divisor
 
 -- the rows of an accepted plan
 pub record PinnedRows (h : Header) : Type 0 where
-  -- Lemma 2, where n divides k·d: with g = gcd(k, n), k = t·g and n = c·g, of each c numbers the first t are shifts, rising
-  pub taken : h.k * (h.n - h.k + 1) % h.n ≡ 0 → (g c t : ℕ) → GreatestDivisor h.k h.n g → c * g ≡ h.n → t * g ≡ h.k → (i : ℕ) → i < h.n → is_in i (shifts h) ≡ ltb (i % c) t
+  -- Lemma 2, where n divides k·d: with g = gcd(k, n), of each round of n / g numbers the first k / g, which are `many`, are shifts, rising
+  pub taken : h.k * (h.n - h.k + 1) % h.n ≡ 0 → (divisor round many : ℕ) → GreatestDivisor h.k h.n divisor → round * divisor ≡ h.n → many * divisor ≡ h.k → (i : ℕ) → i < h.n → is_in i (shifts h) ≡ ltb (i % round) many
   pub rising : h.k * (h.n - h.k + 1) % h.n ≡ 0 → (r : ℕ) → r + 1 < h.k → get_or (shifts h) r 0 < get_or (shifts h) (r + 1) 0
-  -- rows laid end to end, where it does not: with g = gcd(n, d) and n = m·g, row c·m + i begins at node (c + i·d) mod n, and its shift is that node's negative
-  pub laid : (h.k * (h.n - h.k + 1) % h.n ≡ 0 → ⊥) → (g m : ℕ) → GreatestDivisor h.n (h.n - h.k + 1) g → m * g ≡ h.n → (c i : ℕ) → i < m → c * m + i < h.k →
-      let node = (c + i * (h.n - h.k + 1)) % h.n in
-      (get_or (firsts h) (c * m + i) 0 ≡ node) × ((get_or (shifts h) (c * m + i) 0 + node) % h.n ≡ 0)
+  -- rows laid end to end, where it does not: with g = gcd(n, d) and rounds of n / g rows, row i of a turn begins at node (turn + i·d) mod n, and its shift is that node's negative
+  pub laid : (h.k * (h.n - h.k + 1) % h.n ≡ 0 → ⊥) → (divisor round : ℕ) → GreatestDivisor h.n (h.n - h.k + 1) divisor → round * divisor ≡ h.n → (turn i : ℕ) → i < round → turn * round + i < h.k →
+      let node = (turn + i * (h.n - h.k + 1)) % h.n in
+      (get_or (firsts h) (turn * round + i) 0 ≡ node) × ((get_or (shifts h) (turn * round + i) 0 + node) % h.n ≡ 0)
 
 -- n = 6 with k = 5: where the rows begin, and how many symbols each node depends on
 pub record SixFive : Type 0 where

@@ -8,4 +8,4 @@ use Rattle.generator.specs.Answers.{Answer, number}
 -- what the code's record holds, or the number of the refusal
 abbrev pub read_of : Result Code Refusal → Answer Header
 read_of (Ok code) = Ok code.header
-read_of (Err e) = Err (number e)
+read_of (Err refusal) = Err (number refusal)

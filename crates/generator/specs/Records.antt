@@ -13,16 +13,16 @@ use Rattle.generator.specs.declared.Header.{Header}
 
 -- a number of two bytes, high byte first
 abbrev pub pair_at : List ℕ → ℕ → ℕ
-pair_at s i = get_or s i 0 * 256 + get_or s (i + 1) 0
+pair_at rec i = get_or rec i 0 * 256 + get_or rec (i + 1) 0
 
 -- kind 1: p, root, n, k; kind 2: root, n, k; kind 3: p and root in two bytes each, n, k
 unfoldable pub header_of : List ℕ → Header
-header_of s =
-    pick (eqb (get_or s 0 0) 1)
-    (record { field = Prime (prime_of (get_or s 1 0)); root = get_or s 2 0; n = get_or s 3 0; k = get_or s 4 0 })
-    (pick (eqb (get_or s 0 0) 3)
-    (record { field = Prime (prime_of (pair_at s 1)); root = pair_at s 3; n = get_or s 5 0; k = get_or s 6 0 })
-    (record { field = Binary gf256; root = get_or s 1 0; n = get_or s 2 0; k = get_or s 3 0 }))
+header_of rec =
+    pick (eqb (get_or rec 0 0) 1)
+    (record { field = Prime (prime_of (get_or rec 1 0)); root = get_or rec 2 0; n = get_or rec 3 0; k = get_or rec 4 0 })
+    (pick (eqb (get_or rec 0 0) 3)
+    (record { field = Prime (prime_of (pair_at rec 1)); root = pair_at rec 3; n = get_or rec 5 0; k = get_or rec 6 0 })
+    (record { field = Binary gf256; root = get_or rec 1 0; n = get_or rec 2 0; k = get_or rec 3 0 }))
 
 -- the prime of the record's field, or 0 for the field of 256 elements
 abbrev pub modulus_of : Header → ℕ
@@ -49,11 +49,11 @@ high_reads h = ceil (h.k * distance h) h.n
 
 -- number 1: empty, or of none of the three kinds
 unfoldable pub kind_bad : List ℕ → Bool
-kind_bad s = eqb (length s) 0 || not (eqb (get_or s 0 0) 1 || (eqb (get_or s 0 0) 2 || eqb (get_or s 0 0) 3))
+kind_bad rec = eqb (length rec) 0 || not (eqb (get_or rec 0 0) 1 || (eqb (get_or rec 0 0) 2 || eqb (get_or rec 0 0) 3))
 
 -- number 2: a body of another length than the kind's
 unfoldable pub body_bad : List ℕ → Bool
-body_bad s = not (eqb (length s) (pick (eqb (get_or s 0 0) 1) 5 (pick (eqb (get_or s 0 0) 3) 7 4)))
+body_bad rec = not (eqb (length rec) (pick (eqb (get_or rec 0 0) 1) 5 (pick (eqb (get_or rec 0 0) 3) 7 4)))
 
 -- p is a prime from `low` to `high`
 unfoldable pub prime_in : ℕ → ℕ → ℕ → Bool
@@ -61,9 +61,9 @@ prime_in low high p = leb low p && (leb p high && is_prime p)
 
 -- number 3: kind 1, and p is no prime from 3 to 251, or kind 3, and p is none from 257 to 65,521
 unfoldable pub field_bad : List ℕ → Bool
-field_bad s =
-    pick (eqb (get_or s 0 0) 1) (not (prime_in 3 251 (get_or s 1 0)))
-    (pick (eqb (get_or s 0 0) 3) (not (prime_in 257 65521 (pair_at s 1))) false)
+field_bad rec =
+    pick (eqb (get_or rec 0 0) 1) (not (prime_in 3 251 (get_or rec 1 0)))
+    (pick (eqb (get_or rec 0 0) 3) (not (prime_in 257 65521 (pair_at rec 1))) false)
 
 -- number 4: n below 2 or no byte, k zero, or k above n
 unfoldable pub size_bad : Header → Bool
@@ -79,10 +79,10 @@ header_fault h = first_of (when (size_bad h) 4) (when (root_bad h) 5)
 
 -- the lowest number that holds, or 0
 unfoldable pub record_fault : List ℕ → ℕ
-record_fault s =
-    first_of (when (kind_bad s) 1)
-    (first_of (when (body_bad s) 2)
-    (first_of (when (field_bad s) 3) (header_fault (header_of s))))
+record_fault rec =
+    first_of (when (kind_bad rec) 1)
+    (first_of (when (body_bad rec) 2)
+    (first_of (when (field_bad rec) 3) (header_fault (header_of rec))))
 
 -- a header where the number is 0, else the number
 unfoldable pub judged : ℕ → Header → Answer Header
@@ -91,7 +91,7 @@ judged (suc f) h = Err (suc f)
 
 -- a record as it is read
 unfoldable pub record_of : List ℕ → Answer Header
-record_of s = judged (record_fault s) (header_of s)
+record_of rec = judged (record_fault rec) (header_of rec)
 
 -- what is known of a header that numbers 3 to 5 pass
 pub record Sound (h : Header) : Type 0 where

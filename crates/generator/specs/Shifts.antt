@@ -4,10 +4,10 @@ use Rattle.lists.specs.Choice.{pick}
 use Rattle.lists.specs.Rows.{from}
 use Rattle.generator.specs.declared.Header.{Header}
 
--- the greatest common divisor, by at most f steps of Euclid's algorithm
+-- the greatest common divisor, by at most `left` steps of Euclid's algorithm
 unfoldable pub gcd_from : ℕ → ℕ → ℕ → ℕ
 gcd_from zero a b = a
-gcd_from (suc f) a b = pick (eqb b 0) a (gcd_from f b (a % b))
+gcd_from (suc left) a b = pick (eqb b 0) a (gcd_from left b (a % b))
 
 unfoldable pub gcd : ℕ → ℕ → ℕ
 gcd a b = gcd_from (suc b) a b
@@ -16,10 +16,10 @@ gcd a b = gcd_from (suc b) a b
 abbrev pub next_place : ℕ → ℕ → ℕ
 next_place round place = pick (eqb (place + 1) round) 0 (place + 1)
 
--- of the f numbers from i on, going round: t are taken, s skipped, and so again; `place` is the place in the round
+-- of the `left` numbers from i on, going round: so many are taken, so many skipped, and so again; `place` is the place in the round
 unfoldable pub shifts_from : ℕ → ℕ → ℕ → ℕ → ℕ → List ℕ
-shifts_from zero i t s place = []
-shifts_from (suc f) i t s place = pick (ltb place t) (i ∷ []) [] ++ shifts_from f (i + 1) t s (next_place (t + s) place)
+shifts_from zero i taken skipped place = []
+shifts_from (suc left) i taken skipped place = pick (ltb place taken) (i ∷ []) [] ++ shifts_from left (i + 1) taken skipped (next_place (taken + skipped) place)
 
 -- the rule of Lemma 2, with g = gcd(k, n) and d − 1 = n − k: k / g taken, (d − 1) / g skipped
 unfoldable pub even_shifts : ℕ → ℕ → List ℕ

@@ -29,9 +29,9 @@ held y rows l s i t = get_or s ((y rows l).place i t) 0
 unfoldable pub lane_of : Arrangement → ℕ → ℕ → ℕ → List ℕ → List ℕ
 lane_of y rows l t s = from (λ i. held y rows l s i t) 0 rows
 
--- the buffer with f i t in row i of lane t
+-- the buffer with g i t in row i of lane t
 unfoldable pub buffer : Arrangement → ℕ → ℕ → (ℕ → ℕ → ℕ) → List ℕ
-buffer y rows l f = from (λ x. f ((y rows l).row x) ((y rows l).lane x)) 0 (rows * l)
+buffer y rows l g = from (λ x. g ((y rows l).row x) ((y rows l).lane x)) 0 (rows * l)
 
 -- a buffer arranged as y says, arranged as z says
 unfoldable pub rearranged : Arrangement → Arrangement → ℕ → ℕ → List ℕ → List ℕ
@@ -39,7 +39,7 @@ rearranged y z rows l s = buffer z rows l (held y rows l s)
 
 -- a buffer with g i in row i of lane t, and its other lanes as they are
 unfoldable pub with_lane : Arrangement → ℕ → ℕ → ℕ → (ℕ → ℕ) → List ℕ → List ℕ
-with_lane y rows l t g s = buffer y rows l (λ i q. pick (eqb q t) (g i) (held y rows l s i q))
+with_lane y rows l t g s = buffer y rows l (λ i t'. pick (eqb t' t) (g i) (held y rows l s i t'))
 
 -- how shares stand in a buffer; a message stands row after row
 unfoldable pub share_layout : Arrangement

@@ -5,7 +5,7 @@ use Rattle.lists.specs.Rows.{from}
 -- the number whose digits to the base 256 are those of a and then the listed
 unfoldable pub value_from : ℕ → List ℕ → ℕ
 value_from a [] = a
-value_from a (b ∷ bs) = value_from (a * 256 + b) bs
+value_from a (x ∷ xs) = value_from (a * 256 + x) xs
 
 -- symbol i of a buffer
 unfoldable pub symbol_at : ℕ → List ℕ → ℕ → ℕ

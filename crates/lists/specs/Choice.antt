@@ -11,7 +11,7 @@ abbrev pub first_of : ℕ → ℕ → ℕ
 first_of zero b = b
 first_of (suc a) b = suc a
 
--- n where the test passes, else 0
+-- a where the test passes, else 0
 abbrev pub when : Bool → ℕ → ℕ
-when true n = n
-when false n = 0
+when true a = a
+when false a = 0

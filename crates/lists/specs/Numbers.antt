@@ -1,15 +1,15 @@
 -- Tests of lists of numbers.
 use Rattle.std.specs.Prelude.{Bool, true, false, ◌&&◌, ◌||◌, not, List, [], ◌∷◌, ℕ, eqb, ltb}
 
--- every number is below m
+-- every number is below a
 unfoldable pub all_below : ℕ → List ℕ → Bool
-all_below m [] = true
-all_below m (x ∷ xs) = ltb x m && all_below m xs
+all_below a [] = true
+all_below a (x ∷ xs) = ltb x a && all_below a xs
 
 -- x is in the list
 unfoldable pub is_in : ℕ → List ℕ → Bool
 is_in x [] = false
-is_in x (y ∷ ys) = eqb x y || is_in x ys
+is_in x (x' ∷ xs) = eqb x x' || is_in x xs
 
 -- no number stands twice
 unfoldable pub distinct : List ℕ → Bool

@@ -2,7 +2,7 @@
 use Rattle.std.specs.Prelude.{Bool, ℕ, zero, suc, ◌+◌}
 use Rattle.lists.specs.Choice.{pick}
 
--- of the f numbers from t on the first that fails, or t + f
+-- of the `left` numbers from i on the first that fails, or i + left
 unfoldable pub first_false : ℕ → ℕ → (ℕ → Bool) → ℕ
-first_false zero t p = t
-first_false (suc f) t p = pick (p t) (first_false f (t + 1) p) t
+first_false zero i test = i
+first_false (suc left) i test = pick (test i) (first_false left (i + 1) test) i

@@ -38,7 +38,7 @@ mends_accepts h lane nodes symbols e =
 -- beside a number
 pub mends_refuses : (h : Header) (g : ℕ) → (g ≡ 0 → ⊥) → (lane nodes symbols : List ℕ) → MendsPromise lane nodes symbols nodes symbols (Err g) h g
 mends_refuses h g some lane nodes symbols =
-    let other = ne_eqb g 0 some in record { answer = sym (answer_refused g _ some); nodes_written = rw other; symbols_written = rw other }
+    let other = ne_eqb g 0 some in record { answered = sym (answer_refused g _ some); nodes_written = rw other; symbols_written = rw other }
 
 -- what holds of every lane of a record
 pub mended_lanes : (rec : List ℕ) (r : Answer Header) → record_of rec ≡ r → Mended r

@@ -43,9 +43,9 @@ pub record Mends (h : Header) (ws : List ℕ) : Type 0 where
   -- so a node is listed exactly if some symbol there makes the lane a word ..
   pub listed : (Codeword h ws → ⊥) → (j : ℕ) → (is_in j (mend_nodes h ws) ≡ true) ↔ ((x : ℕ) × MendedBy h ws j x)
   -- .. and there is at most one such symbol at each node
-  pub one : (Codeword h ws → ⊥) → (j x y : ℕ) → MendedBy h ws j x → MendedBy h ws j y → x ≡ y
+  pub one : (Codeword h ws → ⊥) → (j x x' : ℕ) → MendedBy h ws j x → MendedBy h ws j x' → x ≡ x'
   -- the nodes rise
-  pub rises : (a b : ℕ) → a < b → b < length (mend_nodes h ws) → get_or (mend_nodes h ws) a 0 < get_or (mend_nodes h ws) b 0
+  pub rises : (i i' : ℕ) → i < i' → i' < length (mend_nodes h ws) → get_or (mend_nodes h ws) i 0 < get_or (mend_nodes h ws) i' 0
   -- with two check sums or more there is at most one entry in all
   pub single : 2 ≤ h.n - h.k → length (mend_nodes h ws) ≤ 1
   -- with one check sum every node has one

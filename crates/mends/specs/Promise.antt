@@ -11,12 +11,12 @@ use Rattle.refusals.specs.Promise.{OnRecord}
 use Rattle.refusals.specs.Accepted.{IsLane}
 use Rattle.mends.specs.Mends.{mend_nodes, mend_symbols, Mends}
 
--- numbers 8 and 11: the lane has n symbols; `nodes` and `symbols` are the lengths of the written buffers, n bytes and n symbols
+-- numbers 8 and 11: the lane has n symbols, and the written buffers have n bytes and n symbols
 unfoldable pub mends_fault : Header → List ℕ → ℕ → ℕ → ℕ
-mends_fault h lane nodes symbols =
+mends_fault h lane nodes_len symbols_len =
     first_of (when (length_bad (h.n * width h) (length lane)) 8)
-    (first_of (when (length_bad h.n nodes) 8)
-    (first_of (when (length_bad (h.n * width h) symbols) 8)
+    (first_of (when (length_bad h.n nodes_len) 8)
+    (first_of (when (length_bad (h.n * width h) symbols_len) 8)
     (when (symbols_bad h lane) 11)))
 
 -- a buffer with a list at its front: the places after it hold what they held
@@ -29,12 +29,12 @@ Mended (Ok h) = (ws : List ℕ) → IsLane h ws → Mends h ws
 Mended (Err f) = Unit {0}
 
 -- over a header and the number that turns the call away, 0 where none does: the answer, and both buffers afterwards
-pub record MendsPromise (lane nodes symbols nodes' symbols' : List ℕ) (r : Answer ℕ) (h : Header) (f : ℕ) : Type 0 where
-  pub answer : r ≡ answer_of f (length (mend_nodes h (symbols_of (width h) lane)))
+pub record MendsPromise (lane nodes symbols nodes' symbols' : List ℕ) (answer : Answer ℕ) (h : Header) (f : ℕ) : Type 0 where
+  pub answered : answer ≡ answer_of f (length (mend_nodes h (symbols_of (width h) lane)))
   pub nodes_written : nodes' ≡ pick (eqb f 0) (in_front (mend_nodes h (symbols_of (width h) lane)) nodes) nodes
   pub symbols_written : symbols' ≡ pick (eqb f 0) (in_front (bytes_of (width h) (mend_symbols h (symbols_of (width h) lane))) symbols) symbols
 
 -- what `single_mends` promises over the record as it is read, and what the list means
-pub record MendsSay (rec lane nodes symbols nodes' symbols' : List ℕ) (r : Answer ℕ) : Type 0 where
-  pub listed : OnRecord rec (λ h. mends_fault h lane (length nodes) (length symbols)) (MendsPromise lane nodes symbols nodes' symbols' r)
+pub record MendsSay (rec lane nodes symbols nodes' symbols' : List ℕ) (answer : Answer ℕ) : Type 0 where
+  pub listed : OnRecord rec (λ h. mends_fault h lane (length nodes) (length symbols)) (MendsPromise lane nodes symbols nodes' symbols' answer)
   pub claims : Mended (record_of rec)

@@ -32,9 +32,9 @@ plan_for (Ok h) = Ok (plan_of h)
 
 -- entry (r, j) of a plan, read from its base word by the shift of row r; 0 where r is not below k or j not below n
 unfoldable pub entry_in : Plan → ℕ → ℕ → ℕ
-entry_in p r j = pick (ltb r p.k && ltb j p.n) (get_or p.base ((j + get_or p.shifts r 0) % p.n) 0) 0
+entry_in plan r j = pick (ltb r plan.k && ltb j plan.n) (get_or plan.base ((j + get_or plan.shifts r 0) % plan.n) 0) 0
 
 -- what `build_plan` promises: the plan of the record, and everything claimed of an accepted one
-pub record PlanSays (rec : List ℕ) (r : Answer Plan) : Type 0 where
-  pub plan : r ≡ plan_for (record_of rec)
+pub record PlanSays (rec : List ℕ) (answer : Answer Plan) : Type 0 where
+  pub plan : answer ≡ plan_for (record_of rec)
   pub claims : Promised (record_of rec)

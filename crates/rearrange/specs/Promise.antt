@@ -9,12 +9,12 @@ use Rattle.refusals.specs.Promise.{OnRecord}
 use Rattle.refusals.specs.Conditions.{lanes_bad, length_bad}
 use Rattle.blocks.specs.Bytes.{rearranged_bytes}
 
--- so many rows are read and written in another arrangement; `source` is the length of the buffer that is read
+-- so many rows are read and written in another arrangement
 unfoldable pub rearrange_fault : Header → ℕ → ℕ → ℕ → ℕ → ℕ
-rearrange_fault h rows l source out =
+rearrange_fault h rows l source_len out_len =
     first_of (when (lanes_bad l) 7)
-    (first_of (when (length_bad (rows * l * width h) source) 8)
-    (when (length_bad (rows * l * width h) out) 8))
+    (first_of (when (length_bad (rows * l * width h) source_len) 8)
+    (when (length_bad (rows * l * width h) out_len) 8))
 
 -- the rows of the source, rearranged; nothing is written beside a number
 pub record RearrangePromise (y z : Arrangement) (rows l : ℕ) (source out out' : List ℕ) (answer : Answer (Unit {0})) (h : Header) (f : ℕ) : Type 0 where

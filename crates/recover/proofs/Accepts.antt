@@ -40,7 +40,7 @@ module _ (h : Header) (sound : Sound h) (l : ℕ) (nodes shares : List ℕ) wher
 -- beside a number g: the number, and nothing is written
 module _ {y : Arrangement} (h : Header) (g : ℕ) (some : g ≡ 0 → ⊥) (l : ℕ) where
   pub recover_refuses : (nodes shares out : List ℕ) → RecoverPromise y l nodes shares out out (Err g) h g
-  recover_refuses nodes shares out = record { answer = sym (answer_refused g _ some); written = sym (refused_value g _ out some) }
+  recover_refuses nodes shares out = record { answered = sym (answer_refused g _ some); written = sym (refused_value g _ out some) }
 
   pub rebuild_refuses : (nodes shares : List ℕ) (target : ℕ) (out : List ℕ) → RebuildPromise y l nodes shares target out out (Err g) h g
-  rebuild_refuses nodes shares target out = record { answer = sym (answer_refused g _ some); written = sym (refused_value g _ out some) }
+  rebuild_refuses nodes shares target out = record { answered = sym (answer_refused g _ some); written = sym (refused_value g _ out some) }

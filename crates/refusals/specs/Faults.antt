@@ -1,4 +1,4 @@
--- What turns a call away: the lowest of numbers 7 to 13 whose condition holds, or 0. `out` is the length of a written buffer; a symbol has `width` bytes.
+-- What turns a call away: the lowest of numbers 7 to 13 whose condition holds, or 0. A symbol has `width` bytes.
 use Rattle.std.specs.Prelude.{List, ℕ}
 use Rattle.lists.specs.Choice.{first_of, when}
 use Rattle.generator.specs.declared.Header.{Header}

@@ -93,20 +93,20 @@ module _ (h : Header) where
   -- beside a number
   module _ (g : ℕ) (some : g ≡ 0 → ⊥) where
     pub bits_refuses : (j t : ℕ) (missing share out : List ℕ) → RepairBitsPromise j t missing share out out (Err g) h g
-    bits_refuses j t missing share out = record { answer = sym (answer_refused g _ some); written = sym (refused_value g _ out some) }
+    bits_refuses j t missing share out = record { answered = sym (answer_refused g _ some); written = sym (refused_value g _ out some) }
 
     pub share_refuses : (l t : ℕ) (missing rows out : List ℕ) → RepairSharePromise l t missing rows out out (Err g) h g
-    share_refuses l t missing rows out = record { answer = sym (answer_refused g _ some); written = sym (refused_value g _ out some) }
+    share_refuses l t missing rows out = record { answered = sym (answer_refused g _ some); written = sym (refused_value g _ out some) }
 
   -- where none is met
   pub bits_done : (f : ℕ) → f ≡ 0 → (j t : ℕ) (missing share out out' : List ℕ) → out' ≡ sent h t missing j share → RepairBitsPromise j t missing share out out' (Ok tt) h f
   unfolding answer_of
-  bits_done f none j t missing share out out' e = record { answer = rw none; written = rw none e }
+  bits_done f none j t missing share out out' e = record { answered = rw none; written = rw none e }
 
   pub share_done : (f : ℕ) → f ≡ 0 → (l t : ℕ) (missing rows out out' : List ℕ) → out' ≡ repaired_share h l t missing rows → RepairSharePromise l t missing rows out out' (Ok tt) h f
   unfolding answer_of
-  share_done f none l t missing rows out out' e = record { answer = rw none; written = rw none e }
+  share_done f none l t missing rows out out' e = record { answered = rw none; written = rw none e }
 
 -- beside a number the plan gives that number
 pub plan_refuses : (h : Header) (f : ℕ) → (f ≡ 0 → ⊥) → (count : ℕ) → RepairPlanPromise count (Err f) h f
-plan_refuses h f some count = record { answer = sym (answer_refused f _ some) }
+plan_refuses h f some count = record { answered = sym (answer_refused f _ some) }

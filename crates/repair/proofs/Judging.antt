@@ -7,7 +7,8 @@ use borrow.Author.Tests.{ne_eqb}
 use Rattle.lists.specs.Choice.{when}
 use Rattle.generator.specs.declared.Header.{Header}
 use Rattle.generator.specs.declared.refusal.Refusal.TheVariants as R
-use Rattle.generator.specs.Answers.{numbered_by, answer_of}
+use Rattle.generator.specs.Answers.{answer_of}
+use Rattle.generator.specs.Inner.Answers.{numbered_by}
 use Rattle.traces.specs.Repairs.{bits}
 use Rattle.repair_tables.specs.declared.bits.Bits.{Bits}
 use Rattle.repair_tables.specs.Inner.Bits.{bit_count}

@@ -5,4 +5,4 @@ use Rattle.repair_tables.specs.declared.nodes.Target.{Target}
 
 -- its code, its number, and the nodes that are missing beside it
 abbrev pub asked : Target → Header × (ℕ × List ℕ)
-asked t = (t.codec.code.header, (t.node, t.missing.now))
+asked target = (target.codec.code.header, (target.node, target.missing.now))

@@ -25,22 +25,22 @@ target_fault h target missing =
     (first_of (when (twice_bad missing) 10)
     (when (traces_bad h (length missing)) 17))))
 
--- a node reads its share and writes what it sends; `share` and `out` are lengths
+-- a node reads its share and writes what it sends
 unfoldable pub repair_bits_fault : Header → ℕ → ℕ → ℕ → List ℕ → ℕ → ℕ → ℕ
-repair_bits_fault h l j target missing share out =
+repair_bits_fault h l j target missing share_len out_len =
     first_of (when (lanes_bad l) 7)
-    (first_of (when (length_bad (l * width h) share) 8)
-    (first_of (when (length_bad (packed_size (bits h (length missing)) l) out) 8)
+    (first_of (when (length_bad (l * width h) share_len) 8)
+    (first_of (when (length_bad (packed_size (bits h (length missing)) l) out_len) 8)
     (first_of (when (number_bad h.n j) 9)
     (first_of (when (not (sends target missing j)) 9)
     (target_fault h target missing)))))
 
--- the target reads what the n − 1 others sent that are not missing, and writes its share; `rows` and `out` are lengths
+-- the target reads what the n − 1 others sent that are not missing, and writes its share
 unfoldable pub repair_share_fault : Header → ℕ → ℕ → List ℕ → ℕ → ℕ → ℕ
-repair_share_fault h l target missing rows out =
+repair_share_fault h l target missing rows_len out_len =
     first_of (when (lanes_bad l) 7)
-    (first_of (when (length_bad ((h.n - 1 - length missing) * packed_size (bits h (length missing)) l) rows) 8)
-    (first_of (when (length_bad (l * width h) out) 8)
+    (first_of (when (length_bad ((h.n - 1 - length missing) * packed_size (bits h (length missing)) l) rows_len) 8)
+    (first_of (when (length_bad (l * width h) out_len) 8)
     (target_fault h target missing)))
 
 -- a planner asks with so many nodes missing beside the target
@@ -48,24 +48,24 @@ unfoldable pub repair_plan_fault : Header → ℕ → ℕ
 repair_plan_fault h count = when (traces_bad h count) 17
 
 -- what a node sends of its share: a digit of b bits for each lane, as b planes
-pub record RepairBitsPromise (j target : ℕ) (missing share out out' : List ℕ) (r : Answer (Unit {0})) (h : Header) (f : ℕ) : Type 0 where
-  pub answer : r ≡ outcome_of f
+pub record RepairBitsPromise (j target : ℕ) (missing share out out' : List ℕ) (answer : Answer (Unit {0})) (h : Header) (f : ℕ) : Type 0 where
+  pub answered : answer ≡ outcome_of f
   pub written : out' ≡ pick (eqb f 0) (sent h target missing j share) out
 
 -- the target's share: in every lane the sum of the parts of what came
-pub record RepairSharePromise (l target : ℕ) (missing rows out out' : List ℕ) (r : Answer (Unit {0})) (h : Header) (f : ℕ) : Type 0 where
-  pub answer : r ≡ outcome_of f
+pub record RepairSharePromise (l target : ℕ) (missing rows out out' : List ℕ) (answer : Answer (Unit {0})) (h : Header) (f : ℕ) : Type 0 where
+  pub answered : answer ≡ outcome_of f
   pub written : out' ≡ pick (eqb f 0) (repaired_share h l target missing rows) out
 
 -- the plan of a repair: the bits of a symbol that each node sends, and how many further nodes may be missing
-pub record RepairPlanPromise (count : ℕ) (r : Answer RepairPlan) (h : Header) (f : ℕ) : Type 0 where
-  pub answer : r ≡ answer_of f (record { bits = bits h count; spare = spare h count })
+pub record RepairPlanPromise (count : ℕ) (answer : Answer RepairPlan) (h : Header) (f : ℕ) : Type 0 where
+  pub answered : answer ≡ answer_of f (record { bits = bits h count; spare = spare h count })
 
 abbrev pub RepairBitsSays : List ℕ → ℕ → ℕ → ℕ → List ℕ → List ℕ → List ℕ → List ℕ → Answer (Unit {0}) → Type 0
-RepairBitsSays rec l j target missing share out out' r = OnRecord rec (λ h. repair_bits_fault h l j target missing (length share) (length out)) (RepairBitsPromise j target missing share out out' r)
+RepairBitsSays rec l j target missing share out out' answer = OnRecord rec (λ h. repair_bits_fault h l j target missing (length share) (length out)) (RepairBitsPromise j target missing share out out' answer)
 
 abbrev pub RepairShareSays : List ℕ → ℕ → ℕ → List ℕ → List ℕ → List ℕ → List ℕ → Answer (Unit {0}) → Type 0
-RepairShareSays rec l target missing rows out out' r = OnRecord rec (λ h. repair_share_fault h l target missing (length rows) (length out)) (RepairSharePromise l target missing rows out out' r)
+RepairShareSays rec l target missing rows out out' answer = OnRecord rec (λ h. repair_share_fault h l target missing (length rows) (length out)) (RepairSharePromise l target missing rows out out' answer)
 
 abbrev pub RepairPlanSays : List ℕ → ℕ → Answer RepairPlan → Type 0
-RepairPlanSays rec count r = OnRecord rec (λ h. repair_plan_fault h count) (RepairPlanPromise count r)
+RepairPlanSays rec count answer = OnRecord rec (λ h. repair_plan_fault h count) (RepairPlanPromise count answer)

@@ -1,6 +1,7 @@
 // What turns a call away, the lowest of numbers 7 to 17 first; else the target of the repair.
 ghost use Rattle.std.specs.Prelude.{◌≡◌, ◌-◌, ◌*◌, ◌≤◌, length};
-ghost use Rattle.generator.specs.Answers.{numbered_by, answer_of};
+ghost use Rattle.generator.specs.Answers.{answer_of};
+ghost use Rattle.generator.specs.Inner.Answers.{numbered_by};
 ghost use Rattle.traces.specs.Repairs.{bits};
 ghost use Rattle.repair.specs.Packing.{packed_size};
 ghost use Rattle.repair.specs.Promise.{target_fault, repair_bits_fault, repair_share_fault};

@@ -81,7 +81,7 @@ pub jobs : (h : Header) → 0 < h.k → Jobs h
 unfolding job_of job_list job_nodes lowest_of
 jobs h some =
     record {
-      answer = λ r list. refl;
+      answered = λ r list. refl;
       nodes = λ r list e. rw (job_around h r list e) (around_nodes h r.marks some (enough_are h r list e) (r.job % present_count h r * h.k));
       here = λ r list e j is. around_here h r.marks some (enough_are h r list e) (r.job % present_count h r * h.k) j (rw (job_around h r list e) at is);
       idle = job_idle h;

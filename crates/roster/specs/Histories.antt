@@ -10,19 +10,19 @@ use Rattle.roster.specs.Rosters.{step_of}
 
 -- the roster after events one after the other, accepted or refused
 unfoldable pub after_events : Answer Header → List Event → Roster → Roster
-after_events rec [] r = r
-after_events rec (e ∷ es) r = after_events rec es (step_of rec e r).roster
+after_events code [] roster = roster
+after_events code (ev ∷ evs) roster = after_events code evs (step_of code ev roster).roster
 
 -- from the events alone: whether the last event that names node j says that it is present; `first` where none names it
 unfoldable pub last_says : ℕ → List Event → Bool → Bool
 last_says j [] first = first
-last_says j (e ∷ es) first = last_says j es (pick (eqb (named e) j) (says e) first)
+last_says j (ev ∷ evs) first = last_says j evs (pick (eqb (named ev) j) (says ev) first)
 
 -- the nodes below n that are present by the events alone: all are at first
 unfoldable pub present_by : ℕ → List Event → List ℕ
-present_by n es = passing_from n 0 (λ j. last_says j es true)
+present_by n evs = passing_from n 0 (λ j. last_says j evs true)
 
 -- no event names node j
 unfoldable pub NoneNames : ℕ → List Event → Type 0
 NoneNames j [] = Unit {0}
-NoneNames j (e ∷ es) = (named e ≡ j → ⊥) × NoneNames j es
+NoneNames j (ev ∷ evs) = (named ev ≡ j → ⊥) × NoneNames j evs

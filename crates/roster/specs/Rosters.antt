@@ -50,29 +50,29 @@ event_fault n node here marks = first_of (when (leb n node) 9) (when (beq (is_pr
 
 -- the roster with a node marked and the jobs counted from 0 where the number is 0, else the roster as it was
 unfoldable pub marked : ℕ → ℕ → Bool → Roster → Step
-marked zero node here r = record { roster = record { marks = set r.marks node here; job = 0 }; number = 0 }
-marked (suc f) node here r = record { roster = r; number = suc f }
+marked zero node here roster = record { roster = record { marks = set roster.marks node here; job = 0 }; number = 0 }
+marked (suc f) node here roster = record { roster = roster; number = suc f }
 
 unfoldable pub step_with : ℕ → ℕ → Bool → Roster → Step
-step_with n node here r = marked (event_fault n node here r.marks) node here r
+step_with n node here roster = marked (event_fault n node here roster.marks) node here roster
 
 -- the same for a record
 unfoldable pub step_by : Answer Header → ℕ → Bool → Roster → Step
-step_by (Err f) node here r = record { roster = r; number = f }
-step_by (Ok h) node here r = step_with h.n node here r
+step_by (Err f) node here roster = record { roster = roster; number = f }
+step_by (Ok h) node here roster = step_with h.n node here roster
 
 -- an event
 abbrev pub step_of : Answer Header → Event → Roster → Step
-step_of rec e r = step_by rec (named e) (says e) r
+step_of code ev roster = step_by code (named ev) (says ev) roster
 
 unfoldable pub wrote : Answer Listing → Bool
 wrote (Ok Written) = true
 wrote (Ok TooFew) = false
 wrote (Err f) = false
 
--- what becomes of a list of l bytes where s nodes are present: number 8 for another length than k, too few for s below k
+-- what becomes of a list of so many bytes where so many nodes are present: number 8 for another length than k, too few for fewer than k
 unfoldable pub listing : ℕ → ℕ → ℕ → Answer Listing
-listing k s l = answer_of (when (not (eqb l k)) 8) (pick (leb k s) Written TooFew)
+listing k present long = answer_of (when (not (eqb long k)) 8) (pick (leb k present) Written TooFew)
 
 -- the list afterwards: the nodes where they are written, else the list as it was
 unfoldable pub listed : Answer Listing → List ℕ → List ℕ → List ℕ
@@ -86,36 +86,36 @@ lowest_nodes n k marks = take k (present_of n marks)
 
 -- what the query answers, and the list afterwards
 unfoldable pub lowest_of : Answer Header → Roster → List ℕ → Answer Listing
-lowest_of (Err f) r list = Err f
-lowest_of (Ok h) r list = listing h.k (length (present_of h.n r.marks)) (length list)
+lowest_of (Err f) roster list = Err f
+lowest_of (Ok h) roster list = listing h.k (length (present_of h.n roster.marks)) (length list)
 
 unfoldable pub lowest_list : Answer Header → Roster → List ℕ → List ℕ
-lowest_list (Err f) r list = list
-lowest_list (Ok h) r list = listed (lowest_of (Ok h) r list) (lowest_nodes h.n h.k r.marks) list
+lowest_list (Err f) roster list = list
+lowest_list (Ok h) roster list = listed (lowest_of (Ok h) roster list) (lowest_nodes h.n h.k roster.marks) list
 
 -- the nodes that job i reads: the present nodes at places i·k + t, going round, for t from 0 to k − 1
 unfoldable pub nodes_at : List ℕ → ℕ → ℕ → List ℕ
-nodes_at ps k i = from (around ps) (i * k) k
+nodes_at present k i = from (around present) (i * k) k
 
 -- the job number is held modulo the number of present nodes
 unfoldable pub job_nodes : ℕ → ℕ → Roster → List ℕ
-job_nodes n k r = nodes_at (present_of n r.marks) k (r.job % length (present_of n r.marks))
+job_nodes n k roster = nodes_at (present_of n roster.marks) k (roster.job % length (present_of n roster.marks))
 
 -- a job that writes moves the job number on by one
 unfoldable pub moved_on : ℕ → Roster → Roster
-moved_on n r = record { marks = r.marks; job = (r.job + 1) % length (present_of n r.marks) }
+moved_on n roster = record { marks = roster.marks; job = (roster.job + 1) % length (present_of n roster.marks) }
 
 -- the roster after a job
 unfoldable pub after : Answer Listing → ℕ → Roster → Roster
-after (Ok Written) n r = moved_on n r
-after (Ok TooFew) n r = r
-after (Err f) n r = r
+after (Ok Written) n roster = moved_on n roster
+after (Ok TooFew) n roster = roster
+after (Err f) n roster = roster
 
 -- what a job answers, which is what the query would, with the roster after it; and the list afterwards
 unfoldable pub job_of : Answer Header → Roster → List ℕ → Job
-job_of (Err f) r list = record { roster = r; listing = Err f }
-job_of (Ok h) r list = record { roster = after (lowest_of (Ok h) r list) h.n r; listing = lowest_of (Ok h) r list }
+job_of (Err f) roster list = record { roster = roster; listing = Err f }
+job_of (Ok h) roster list = record { roster = after (lowest_of (Ok h) roster list) h.n roster; listing = lowest_of (Ok h) roster list }
 
 unfoldable pub job_list : Answer Header → Roster → List ℕ → List ℕ
-job_list (Err f) r list = list
-job_list (Ok h) r list = listed (lowest_of (Ok h) r list) (job_nodes h.n h.k r) list
+job_list (Err f) roster list = list
+job_list (Ok h) roster list = listed (lowest_of (Ok h) roster list) (job_nodes h.n h.k roster) list

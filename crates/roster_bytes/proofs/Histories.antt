@@ -108,7 +108,7 @@ module _ (rec : List ℕ) where
   pub history_back : {s t : List ℕ} {cs : List Call} → History rec s cs t → length s ≡ 256 → Traced s cs t
   unfolding after_calls next
   history_back (no_call s) long = record { roster = refl; long = long; clean = λ is. is }
-  history_back (then_event {s = s} {u = u} {cs = cs} {e = e} {r = r} g later) long =
+  history_back (then_event {bytes = s} {bytes' = u} {calls = cs} {ev = e} {f = r} g later) long =
       let now = event_given s e u r g long in
       let end = history_back later now.long in
       record {
@@ -116,7 +116,7 @@ module _ (rec : List ℕ) where
         long = end.long;
         clean = λ is. end.clean (now.clean is);
       }
-  history_back (then_job {s = s} {u = u} {list = list} {list' = list'} {cs = cs} {enough = enough} {enough' = enough'} {r = r} g later) long =
+  history_back (then_job {bytes = s} {bytes' = u} {list = list} {list' = list'} {calls = cs} {enough = enough} {enough' = enough'} {f = r} g later) long =
       let now = job_given s list u list' enough enough' r g long in
       let end = history_back later now.long in
       record {
@@ -187,12 +187,12 @@ module _ (rec : List ℕ) where
   pub run_back : {s t reads : List ℕ} {jobs : ℕ} → Run rec s reads jobs t → length s ≡ 256 → Ran R s reads jobs t
   unfolding after_calls Quiet reads_of jobs_in
   run_back (no_job s) long = record { calls = []; quiet = tt; read = refl; count = refl; end = refl; long = long }
-  run_back (refused_event {s = s} {u = u} {t = t} {reads = reads} {jobs = jobs} {r = r} {e = e} g some later) long =
+  run_back (refused_event {bytes = s} {bytes' = u} {last = t} {reads = reads} {jobs = jobs} {f = r} {ev = e} g some later) long =
       let now = event_given rec s e u r g long in
       ran_event s u t reads jobs r e now some (run_back later now.long)
-  run_back (idle_job {s = s} {u = u} {t = t} {reads = reads} {list = list} {list' = list'} {jobs = jobs} {enough = enough} {enough' = enough'} {r = r} g other later) long =
+  run_back (idle_job {bytes = s} {bytes' = u} {last = t} {reads = reads} {list = list} {list' = list'} {jobs = jobs} {enough = enough} {enough' = enough'} {f = r} g other later) long =
       let now = job_given rec s list u list' enough enough' r g long in
       ran_idle s list u list' t reads enough enough' r jobs now (wrote_told s enough enough' r g.enough_is other) (run_back later now.long)
-  run_back (written_job {s = s} {u = u} {t = t} {reads = reads} {list = list} {list' = list'} {jobs = jobs} {enough = enough} g later) long =
+  run_back (written_job {bytes = s} {bytes' = u} {last = t} {reads = reads} {list = list} {list' = list'} {jobs = jobs} {enough = enough} g later) long =
       let now = job_given rec s list u list' enough 1 0 g long in
       ran_wrote s list u list' t reads enough jobs now (told_wrote s g.enough_is) g.list_is (run_back later now.long)

@@ -11,21 +11,21 @@ use Rattle.roster_bytes.specs.Bytes.{roster_of, roster_bytes, event_bytes}
 
 -- number 8: the roster has another length than 256
 unfoldable pub roster_room_fault : ℕ → ℕ
-roster_room_fault l = when (not (eqb l 256)) 8
+roster_room_fault bytes_len = when (not (eqb bytes_len 256)) 8
 
 -- the start: the bytes are written beside a number too, and are then those of a roster with no node
-pub record StartGives (rec bytes bytes' : List ℕ) (r : ℕ) : Type 0 where
-  pub number : r ≡ first_of (record_fault rec) (roster_room_fault (length bytes))
+pub record StartGives (rec bytes bytes' : List ℕ) (f : ℕ) : Type 0 where
+  pub number : f ≡ first_of (record_fault rec) (roster_room_fault (length bytes))
   pub bytes_are : bytes' ≡ pick (eqb (length bytes) 256) (roster_bytes (start_of (record_of rec)).roster) bytes
 
 -- an event: the bytes of the next roster, or the same beside a number
-pub record EventGives (rec bytes : List ℕ) (e : Event) (bytes' : List ℕ) (r : ℕ) : Type 0 where
-  pub number : r ≡ first_of (record_fault rec) (first_of (roster_room_fault (length bytes)) (event_fault (header_of rec).n (named e) (says e) (roster_of bytes).marks))
-  pub bytes_are : bytes' ≡ pick (eqb (length bytes) 256) (event_bytes rec e bytes) bytes
+pub record EventGives (rec bytes : List ℕ) (ev : Event) (bytes' : List ℕ) (f : ℕ) : Type 0 where
+  pub number : f ≡ first_of (record_fault rec) (first_of (roster_room_fault (length bytes)) (event_fault (header_of rec).n (named ev) (says ev) (roster_of bytes).marks))
+  pub bytes_are : bytes' ≡ pick (eqb (length bytes) 256) (event_bytes rec ev bytes) bytes
 
 -- the number of the query and of a job: the record's, then 8 for the roster or the list
 unfoldable pub listing_fault : List ℕ → ℕ → ℕ → ℕ
-listing_fault rec bytes list = first_of (record_fault rec) (when (not (eqb bytes 256 && eqb list (header_of rec).k)) 8)
+listing_fault rec bytes_len list_len = first_of (record_fault rec) (when (not (eqb bytes_len 256 && eqb list_len (header_of rec).k)) 8)
 
 -- whether k nodes are present on the roster that bytes hold
 unfoldable pub is_enough : List ℕ → List ℕ → Bool
@@ -38,14 +38,14 @@ told_of (Ok TooFew) enough = 0
 told_of (Err f) enough = enough
 
 -- the query: whether k nodes are present, and the list afterwards; both as they were beside a number
-pub record LowestGives (rec bytes list : List ℕ) (enough : ℕ) (list' : List ℕ) (enough' r : ℕ) : Type 0 where
-  pub number : r ≡ listing_fault rec (length bytes) (length list)
-  pub list_is : list' ≡ pick (eqb r 0) (lowest_list (record_of rec) (roster_of bytes) list) list
-  pub enough_is : enough' ≡ pick (eqb r 0) (when (is_enough rec bytes) 1) enough
+pub record LowestGives (rec bytes list : List ℕ) (enough : ℕ) (list' : List ℕ) (enough' f : ℕ) : Type 0 where
+  pub number : f ≡ listing_fault rec (length bytes) (length list)
+  pub list_is : list' ≡ pick (eqb f 0) (lowest_list (record_of rec) (roster_of bytes) list) list
+  pub enough_is : enough' ≡ pick (eqb f 0) (when (is_enough rec bytes) 1) enough
 
 -- a job: the same with its list; the roster moves on where the list is written, else its bytes are the same
-pub record JobGives (rec bytes list : List ℕ) (enough : ℕ) (bytes' list' : List ℕ) (enough' r : ℕ) : Type 0 where
-  pub number : r ≡ listing_fault rec (length bytes) (length list)
-  pub list_is : list' ≡ pick (eqb r 0) (job_list (record_of rec) (roster_of bytes) list) list
-  pub enough_is : enough' ≡ pick (eqb r 0) (when (is_enough rec bytes) 1) enough
-  pub bytes_are : bytes' ≡ pick (eqb r 0 && is_enough rec bytes) (roster_bytes (job_of (record_of rec) (roster_of bytes) list).roster) bytes
+pub record JobGives (rec bytes list : List ℕ) (enough : ℕ) (bytes' list' : List ℕ) (enough' f : ℕ) : Type 0 where
+  pub number : f ≡ listing_fault rec (length bytes) (length list)
+  pub list_is : list' ≡ pick (eqb f 0) (job_list (record_of rec) (roster_of bytes) list) list
+  pub enough_is : enough' ≡ pick (eqb f 0) (when (is_enough rec bytes) 1) enough
+  pub bytes_are : bytes' ≡ pick (eqb f 0 && is_enough rec bytes) (roster_bytes (job_of (record_of rec) (roster_of bytes) list).roster) bytes

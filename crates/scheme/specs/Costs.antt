@@ -20,46 +20,46 @@ AtMost c n P = (is : List ℕ) → all_below n is ≡ true → distinct is ≡ t
 abbrev pub Exactly {ℓ} : (c n : ℕ) → (Fin n → Type ℓ) → Type ℓ
 Exactly c n P = AtLeast c n P × AtMost c n P
 
--- a / n rounded down and up
+-- a / b rounded down and up
 abbrev pub floor : ℕ → ℕ → ℕ
-floor a n = a / n
+floor a b = a / b
 
 abbrev pub ceil : ℕ → ℕ → ℕ
-ceil a n = (a + (n - 1)) / n
+ceil a b = (a + (b - 1)) / b
 
--- c is a / n, rounded down or up
+-- c is a / b, rounded down or up
 abbrev pub Rounded : ℕ → ℕ → ℕ → Type 0
-Rounded a n c = (c ≡ floor a n) ⊎ (c ≡ ceil a n)
+Rounded a b c = (c ≡ floor a b) ⊎ (c ≡ ceil a b)
 
-module _ {ℓ κ} {k n : ℕ} {S : Type ℓ} {C : Fin n → Type κ} (s : Scheme k n S C) where
+module _ {ℓ κ} {k n : ℕ} {S : Type ℓ} {C : Fin n → Type κ} (scheme : Scheme k n S C) where
   -- what no scheme can spare
   pub record Price : Type (ℓ ⊔ κ) where
     -- each change of one symbol alters at least d nodes
-    pub writes : (r : Fin k) (m u : Message S k) → Change r m u → AtLeast (n - k + 1) n (Altered s m u)
+    pub writes : (r : Fin k) (m m' : Message S k) → Change r m m' → AtLeast (n - k + 1) n (Altered scheme m m')
     -- some node depends on at least k · d / n symbols, if the alphabet has two
-    pub reads : (x y : S) → x ≢ y → (j : Fin n) × (b : ℕ) × (k * (n - k + 1) ≤ n * b) × AtLeast b k (DependsOn s j)
+    pub reads : (x x' : S) → x ≢ x' → (j : Fin n) × (c : ℕ) × (k * (n - k + 1) ≤ n * c) × AtLeast c k (DependsOn scheme j)
     -- so, a count being whole, on at least k · d / n rounded up
-    pub reads_up : (x y : S) → x ≢ y → (j : Fin n) × AtLeast (ceil (k * (n - k + 1)) n) k (DependsOn s j)
+    pub reads_up : (x x' : S) → x ≢ x' → (j : Fin n) × AtLeast (ceil (k * (n - k + 1)) n) k (DependsOn scheme j)
 
   -- a scheme at the least price, shared out as evenly as whole numbers allow
   pub record Tight : Type (ℓ ⊔ κ) where
     -- each change of one symbol alters exactly d nodes
-    pub writes : (r : Fin k) (m u : Message S k) → Change r m u → Exactly (n - k + 1) n (Altered s m u)
+    pub writes : (r : Fin k) (m m' : Message S k) → Change r m m' → Exactly (n - k + 1) n (Altered scheme m m')
     -- each node depends on exactly k · d / n symbols, rounded down or up
-    pub reads : (j : Fin n) → Exactly (floor (k * (n - k + 1)) n) k (DependsOn s j) ⊎ Exactly (ceil (k * (n - k + 1)) n) k (DependsOn s j)
+    pub reads : (j : Fin n) → Exactly (floor (k * (n - k + 1)) n) k (DependsOn scheme j) ⊎ Exactly (ceil (k * (n - k + 1)) n) k (DependsOn scheme j)
     -- some node has the lower number, and some node the upper
-    pub lower_node : (j : Fin n) × Exactly (floor (k * (n - k + 1)) n) k (DependsOn s j)
-    pub upper_node : (j : Fin n) × Exactly (ceil (k * (n - k + 1)) n) k (DependsOn s j)
+    pub lower_node : (j : Fin n) × Exactly (floor (k * (n - k + 1)) n) k (DependsOn scheme j)
+    pub upper_node : (j : Fin n) × Exactly (ceil (k * (n - k + 1)) n) k (DependsOn scheme j)
 
   -- a scheme that costs no more than the least price
   pub record Frugal : Type (ℓ ⊔ κ) where
     -- each change of one symbol alters at most d nodes
-    pub writes : (r : Fin k) (m u : Message S k) → Change r m u → AtMost (n - k + 1) n (Altered s m u)
+    pub writes : (r : Fin k) (m m' : Message S k) → Change r m m' → AtMost (n - k + 1) n (Altered scheme m m')
     -- each node depends on at most k · d / n symbols, rounded up
-    pub reads : (j : Fin n) → AtMost (ceil (k * (n - k + 1)) n) k (DependsOn s j)
+    pub reads : (j : Fin n) → AtMost (ceil (k * (n - k + 1)) n) k (DependsOn scheme j)
 
--- s costs at least as much as t: each change of s alters at least as many nodes as any change of t does,
--- and some node of s depends on at least as many symbols as any node of t does
-pub record CostsAtLeast {ℓ κ ℓ' κ'} {k n : ℕ} {S : Type ℓ} {C : Fin n → Type κ} {S' : Type ℓ'} {C' : Fin n → Type κ'} (s : Scheme k n S C) (t : Scheme k n S' C') : Type (ℓ ⊔ κ ⊔ ℓ' ⊔ κ') where
-  pub writes : (r i : Fin k) (m u : Message S k) (m' u' : Message S' k) → Change r m u → Change i m' u' → (c : ℕ) → AtLeast c n (Altered t m' u') → AtLeast c n (Altered s m u)
-  pub reads : (j : Fin n) × ((i : Fin n) (c : ℕ) → AtLeast c k (DependsOn t i) → AtLeast c k (DependsOn s j))
+-- a scheme costs at least as much as another: each of its changes alters at least as many nodes as any change of the other does,
+-- and some node of it depends on at least as many symbols as any node of the other does
+pub record CostsAtLeast {ℓ κ ℓ' κ'} {k n : ℕ} {S : Type ℓ} {C : Fin n → Type κ} {S' : Type ℓ'} {C' : Fin n → Type κ'} (scheme : Scheme k n S C) (scheme' : Scheme k n S' C') : Type (ℓ ⊔ κ ⊔ ℓ' ⊔ κ') where
+  pub writes : (r r' : Fin k) (m m' : Message S k) (m₂ m₂' : Message S' k) → Change r m m' → Change r' m₂ m₂' → (c : ℕ) → AtLeast c n (Altered scheme' m₂ m₂') → AtLeast c n (Altered scheme m m')
+  pub reads : (j : Fin n) × ((j' : Fin n) (c : ℕ) → AtLeast c k (DependsOn scheme' j') → AtLeast c k (DependsOn scheme j))

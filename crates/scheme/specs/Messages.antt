@@ -12,6 +12,6 @@ symbols zero m = []
 symbols (suc k) m = m (zero, suc-le-suc zero-le) ∷ symbols k (λ i. m (native.Mathlib.Fin.succ i))
 
 -- a change of symbol r: two messages that differ at that symbol alone
-pub record Change {ℓ} {S : Type ℓ} {k : ℕ} (r : Fin k) (m u : Message S k) : Type ℓ where
-  pub there : m r ≢ u r
-  pub elsewhere : (i : Fin k) → i ≢ r → m i ≡ u i
+pub record Change {ℓ} {S : Type ℓ} {k : ℕ} (r : Fin k) (m m' : Message S k) : Type ℓ where
+  pub there : m r ≢ m' r
+  pub elsewhere : (i : Fin k) → i ≢ r → m i ≡ m' i

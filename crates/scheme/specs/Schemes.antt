@@ -9,15 +9,15 @@ use Rattle.scheme.specs.Messages.{Message, Change}
 pub record Scheme {ℓ κ} (k n : ℕ) (S : Type ℓ) (C : Fin n → Type κ) : Type (ℓ ⊔ κ) where
   pub holds : Message S k → (j : Fin n) → C j
   -- any two contents of one node are equal or different
-  pub same : (j : Fin n) (c e : C j) → Dec (c ≡ e)
+  pub same : (j : Fin n) (a b : C j) → Dec (a ≡ b)
   -- any k nodes fix the message: if each of some k different nodes holds the same for two messages, the two are equal
-  pub fixes : (m u : Message S k) (js : List ℕ) → length js ≡ k → all_below n js ≡ true → distinct js ≡ true → ((j : Fin n) → is_in j.0 js ≡ true → holds m j ≡ holds u j) → m ≡ u
+  pub fixes : (m m' : Message S k) (js : List ℕ) → length js ≡ k → all_below n js ≡ true → distinct js ≡ true → ((j : Fin n) → is_in j.0 js ≡ true → holds m j ≡ holds m' j) → m ≡ m'
 
-module _ {ℓ κ} {k n : ℕ} {S : Type ℓ} {C : Fin n → Type κ} (s : Scheme k n S C) where
+module _ {ℓ κ} {k n : ℕ} {S : Type ℓ} {C : Fin n → Type κ} (scheme : Scheme k n S C) where
   -- two messages alter node j: it holds different things for the two
   abbrev pub Altered : Message S k → Message S k → Fin n → Type κ
-  Altered m u j = s.holds m j ≢ s.holds u j
+  Altered m m' j = scheme.holds m j ≢ scheme.holds m' j
 
   -- node j depends on symbol r: for some message, changing that symbol alone changes what the node holds
   abbrev pub DependsOn : Fin n → Fin k → Type (ℓ ⊔ κ)
-  DependsOn j r = (m : Message S k) × (u : Message S k) × Change r m u × Altered m u j
+  DependsOn j r = (m : Message S k) × (m' : Message S k) × Change r m m' × Altered m m' j

@@ -1,7 +1,7 @@
--- Sums over the numbers below n.
+-- Sums over the numbers below a count.
 use Rattle.std.specs.Prelude.{ℕ, zero, suc, ◌+◌}
 
--- f 0 + … + f (n − 1)
+-- g 0 + … + g (count − 1)
 unfoldable pub sum : ℕ → (ℕ → ℕ) → ℕ
-sum zero f = 0
-sum (suc n) f = f n + sum n f
+sum zero g = 0
+sum (suc count) g = g count + sum count g

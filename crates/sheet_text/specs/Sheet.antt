@@ -18,11 +18,11 @@ roundings low high = pick (eqb low high) (low ∷ []) (low ∷ high ∷ [])
 
 -- the line of a plan's numbers
 unfoldable pub numbers_line : Plan → List ℕ
-numbers_line p = line (ascii "plan") (p.n ∷ p.k ∷ p.d ∷ roundings p.low p.high)
+numbers_line plan = line (ascii "plan") (plan.n ∷ plan.k ∷ plan.d ∷ roundings plan.low plan.high)
 
 -- the line of row r: its number, its shift, its first node, its n entries
 unfoldable pub row_line : Plan → ℕ → List ℕ
-row_line p r = line (ascii "row") (r ∷ get_or p.shifts r 0 ∷ get_or p.firsts r 0 ∷ from (entry_in p r) 0 p.n)
+row_line plan r = line (ascii "row") (r ∷ get_or plan.shifts r 0 ∷ get_or plan.firsts r 0 ∷ from (entry_in plan r) 0 plan.n)
 
 -- the sheet of a record, by the definitions of the generator
 unfoldable pub sheet_for : Answer Header → List ℕ

@@ -7,10 +7,10 @@ use Rattle.lists.specs.Choice.{pick}
 -- the codes of a text's characters
 unfoldable pub ascii : String → List ℕ
 ascii [] = []
-ascii (c ∷ s) = code c ∷ ascii s
+ascii (x ∷ xs) = code x ∷ ascii xs
 
 abbrev pub digit : ℕ → ℕ
-digit d = 48 + d
+digit x = 48 + x
 
 -- a number below 100,000 in base ten, with no zeros in front
 unfoldable pub decimal : ℕ → List ℕ

@@ -11,7 +11,7 @@ use Rattle.traces.specs.Repairs.{bits, spare, senders, sent_digit, repaired}
 
 -- the trace of a byte
 pub record TraceLaws : Type 0 where
-  pub additive : (b x y : ℕ) → x < 256 → y < 256 → trace_of b (bit_xor x y) ≡ bit_xor (trace_of b x) (trace_of b y)
+  pub additive : (b x x' : ℕ) → x < 256 → x' < 256 → trace_of b (bit_xor x x') ≡ bit_xor (trace_of b x) (trace_of b x')
   -- its lowest b bits name it
   pub named : (b x : ℕ) → TraceBits b → x < 256 → element b (trace_of b x % 2 ^ b) ≡ trace_of b x
   -- onto two elements it is bit 5

@@ -13,10 +13,10 @@ unfoldable pub squarings : ℕ → ℕ → ℕ
 squarings zero a = a
 squarings (suc b) a = squarings b (mul 0 a a)
 
--- f terms of a + a^(2^b) + a^(2^(2b)) + ..
+-- `left` terms of a + a^(2^b) + a^(2^(2b)) + ..
 unfoldable pub trace_from : ℕ → ℕ → ℕ → ℕ
 trace_from zero b a = 0
-trace_from (suc f) b a = bit_xor a (trace_from f b (squarings b a))
+trace_from (suc left) b a = bit_xor a (trace_from left b (squarings b a))
 
 -- the trace onto the subfield of 2^b elements: 8/b terms
 unfoldable pub trace_of : ℕ → ℕ → ℕ
@@ -29,7 +29,7 @@ element b v =
     (pick (eqb b 2) (bit_xor (v % 2) (214 * (v / 2 % 2)))
     (bit_xor (bit_xor (v % 2) (146 * (v / 2 % 2))) (bit_xor (68 * (v / 4 % 2)) (152 * (v / 8 % 2)))))
 
--- the sum of f i over the numbers i below n
+-- the sum of g i over the numbers i below `count`
 unfoldable pub xor_below : ℕ → (ℕ → ℕ) → ℕ
-xor_below zero f = 0
-xor_below (suc n) f = bit_xor (xor_below n f) (f n)
+xor_below zero g = 0
+xor_below (suc count) g = bit_xor (xor_below count g) (g count)

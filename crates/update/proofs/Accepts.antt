@@ -60,4 +60,4 @@ module _ (h : Header) (sound : Sound h) (l : ℕ) where
 -- beside a number g: the number, and nothing is written
 module _ {y : Arrangement} (h : Header) (g : ℕ) (some : g ≡ 0 → ⊥) (l : ℕ) where
   pub update_refuses : (r t old new : ℕ) (shares : List ℕ) → UpdatePromise y l r t old new shares shares (Err g) h g
-  update_refuses r t old new shares = record { answer = sym (answer_refused g _ some); written = sym (refused_value g _ shares some) }
+  update_refuses r t old new shares = record { answered = sym (answer_refused g _ some); written = sym (refused_value g _ shares some) }

@@ -15,4 +15,4 @@ use Rattle.update.specs.Promise.{UpdatePromise}
 
 pub altered_says : (h : Header) (l r t old new : ℕ) (s s' : List ℕ) (f count : ℕ) → f ≡ 0 → s' ≡ bytes_of (width h) (updated share_layout h l r t old new (symbols_of (width h) s)) → count ≡ differ (symbols_of (width h) s) (updated share_layout h l r t old new (symbols_of (width h) s)) → UpdatePromise share_layout l r t old new s s' (Ok count) h f
 unfolding answer_of updated_bytes altered_count
-altered_says h l r t old new s s' f count none done counted = record { answer = rw (none, counted); written = rw (none, done) }
+altered_says h l r t old new s s' f count none done counted = record { answered = rw (none, counted); written = rw (none, done) }

@@ -27,12 +27,12 @@ unfoldable pub update_fault : Arrangement → Header → ℕ → ℕ → ℕ →
 update_fault y h l r t old new shares = first_of (input_fault y h l r t old new shares) (stale_fault h (lane_of y h.n l t (symbols_of (width h) shares)) r old)
 
 -- Update: the row added to the lane, and how many symbols differ afterwards
-pub record UpdatePromise (y : Arrangement) (l r t old new : ℕ) (shares shares' : List ℕ) (a : Answer ℕ) (h : Header) (f : ℕ) : Type 0 where
-  pub answer : a ≡ answer_of f (altered_count y h l r t old new shares)
+pub record UpdatePromise (y : Arrangement) (l r t old new : ℕ) (shares shares' : List ℕ) (answer : Answer ℕ) (h : Header) (f : ℕ) : Type 0 where
+  pub answered : answer ≡ answer_of f (altered_count y h l r t old new shares)
   pub written : shares' ≡ pick (eqb f 0) (updated_bytes y h l r t old new shares) shares
 
 abbrev pub UpdateSaysIn : Arrangement → List ℕ → ℕ → ℕ → ℕ → ℕ → ℕ → List ℕ → List ℕ → Answer ℕ → Type 0
-UpdateSaysIn y rec l r t old new shares shares' a = OnRecord rec (λ h. update_fault y h l r t old new shares) (UpdatePromise y l r t old new shares shares' a)
+UpdateSaysIn y rec l r t old new shares shares' answer = OnRecord rec (λ h. update_fault y h l r t old new shares) (UpdatePromise y l r t old new shares shares' answer)
 
 abbrev pub UpdateSays : List ℕ → ℕ → ℕ → ℕ → ℕ → ℕ → List ℕ → List ℕ → Answer ℕ → Type 0
 UpdateSays = UpdateSaysIn share_layout

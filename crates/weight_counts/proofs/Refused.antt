@@ -7,4 +7,4 @@ use Rattle.blocks.proofs.Refused.{refused_value}
 use Rattle.weight_counts.specs.Weights.{WeightsPromise}
 
 pub weights_refuses : (h : Header) (g : ℕ) → (g ≡ 0 → ⊥) → (counts : List ℕ) → WeightsPromise counts counts (Err g) h g
-weights_refuses h g some counts = record { answer = sym (answer_refused g _ some); written = sym (refused_value g _ counts some) }
+weights_refuses h g some counts = record { answered = sym (answer_refused g _ some); written = sym (refused_value g _ counts some) }

@@ -6,7 +6,7 @@ use Rattle.weight_distribution.specs.Counts.{binomial}
 pub record Rising (a b : ℕ) (js : List ℕ) : Type 0 where
   pub long : length js ≡ b
   pub below : (i : ℕ) → i < b → get_or js i 0 < a
-  pub rises : (i j : ℕ) → i < j → j < b → get_or js i 0 < get_or js j 0
+  pub rises : (i i' : ℕ) → i < i' → i' < b → get_or js i 0 < get_or js i' 0
 
 -- all such lists: first those that end in the last number, then those without it
 unfoldable pub choices : ℕ → ℕ → List (List ℕ)
@@ -20,4 +20,4 @@ pub record Choosing (a b : ℕ) : Type 0 where
   pub count : length (choices a b) ≡ binomial a b
   pub each : (js : List ℕ) → Rising a b js → (i : ℕ) × (i < length (choices a b)) × (get_or (choices a b) i [] ≡ js)
   pub other : (i : ℕ) → i < length (choices a b) → Rising a b (get_or (choices a b) i [])
-  pub once : (i j : ℕ) → i < length (choices a b) → j < length (choices a b) → get_or (choices a b) i [] ≡ get_or (choices a b) j [] → i ≡ j
+  pub once : (i i' : ℕ) → i < length (choices a b) → i' < length (choices a b) → get_or (choices a b) i [] ≡ get_or (choices a b) i' [] → i ≡ i'

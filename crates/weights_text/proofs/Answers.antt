@@ -35,7 +35,7 @@ module _ (h : Header) (counts counts' : List ℕ) where
   pub done_text : WeightsPromise counts counts' (Ok tt) h (weights_fault h (length counts)) → length counts ≡ h.n + 1 → (weights_for (Ok h) ≡ count_lines counts') × (counts' ≡ weight_counts h) × (size h ^ h.k ≤ 65536)
   unfolding weights_for
   done_text made long =
-      let none : weights_fault h (length counts) ≡ 0 = done_is _ _ made.answer in
+      let none : weights_fault h (length counts) ≡ 0 = done_is _ _ made.answered in
       let is : counts' ≡ weight_counts h = rw none at made.written in
       by_test (messages_bad h)
       (λ t. never (let met : ◌≡◌ {A = ℕ} 16 0 = rw (by_messages h counts long, t) at none in absurd (omega arith)))
@@ -44,7 +44,7 @@ module _ (h : Header) (counts counts' : List ℕ) where
   pub refused_text : (g : ℕ) → WeightsPromise counts counts' (Err g) h (weights_fault h (length counts)) → length counts ≡ h.n + 1 → weights_for (Ok h) ≡ line (ascii "refused") (g ∷ [])
   unfolding weights_for
   refused_text g made long =
-      let (met, some) = refused_is _ _ g made.answer in
+      let (met, some) = refused_is _ _ g made.answered in
       by_test (messages_bad h)
       (λ t. let same : g ≡ 16 = rw (by_messages h counts long, t) at met in rw (t, same))
       (λ t. absurd (some (rw (by_messages h counts long, t) at met)))

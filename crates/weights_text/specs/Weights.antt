@@ -8,13 +8,13 @@ use Rattle.lists.specs.Rows.{rows_from}
 use Rattle.text.specs.Text.{ascii, decimal, line}
 use Rattle.weight_counts.specs.Weights.{weight_counts, messages_bad}
 
--- the line of the weight w: w, and how many messages have it
+-- the line of a weight: itself, and how many messages have it
 unfoldable pub count_line : ℕ → ℕ → List ℕ
-count_line w count = line (decimal w) (count ∷ [])
+count_line weight count = line (decimal weight) (count ∷ [])
 
 -- the lines of a list of counts
 unfoldable pub count_lines : List ℕ → List ℕ
-count_lines counts = rows_from (λ w. count_line w (get_or counts w 0)) 0 (length counts)
+count_lines counts = rows_from (λ weight. count_line weight (get_or counts weight 0)) 0 (length counts)
 
 -- the lines of a record: its counts, or the number that turns the call away
 unfoldable pub weights_for : Answer Header → List ℕ

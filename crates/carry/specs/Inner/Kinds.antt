@@ -3,7 +3,8 @@ use Rattle.std.specs.Prelude.{◌≡◌, ℕ, Result}
 use Rattle.generator.specs.declared.Header.{Header}
 use Rattle.generator.specs.declared.refusal.Refusal.{Refusal}
 use Rattle.generator.specs.Records.{modulus_of}
-use Rattle.generator.specs.Answers.{numbered_by, answer_of}
+use Rattle.generator.specs.Answers.{answer_of}
+use Rattle.generator.specs.Inner.Answers.{numbered_by}
 use Rattle.carry.specs.declared.kinds.Carrying.{Carrying}
 use Rattle.carry.specs.declared.kinds.Carrying.TheVariants.{Bytes, Words}
 

@@ -31,4 +31,4 @@ pub returns : goal.returns
 unfolding answer_of
 returns c =
     let none = done_is _ _ c.in_ok-find_fault.ensures in
-    record { answer = rw none (ap Ok (c.find.ensures ∙ ap₂ (finding_of _) (first (goal.at.returns c).After-read_symbols-us) (second (goal.at.returns c).After-read_symbols-vs))) }
+    record { answered = rw none (ap Ok (c.find.ensures ∙ ap₂ (finding_of _) (first (goal.at.returns c).After-read_symbols-us) (second (goal.at.returns c).After-read_symbols-vs))) }

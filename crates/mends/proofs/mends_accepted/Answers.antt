@@ -54,4 +54,4 @@ unfolding answer_of
 returns c =
     let none = done_is _ _ c.in_ok-mends_fault.ensures in
     let e = rw (c.new-rows.ensures, part (goal.at.returns c).After-read_symbols-ws) at c.list_mends-count.ensures in
-    record { answer = rw none (ap Ok e.0); nodes_written = rw none e.1; symbols_written = rw none e.2 }
+    record { answered = rw none (ap Ok e.0); nodes_written = rw none e.1; symbols_written = rw none e.2 }

@@ -1,7 +1,8 @@
 -- `plan_accepted` meets its contract: number 17, or the bits and how many further nodes may be missing.
 use Rattle.std.specs.Prelude.{◌≡◌, Ok}
 use Rattle.std.proofs.Common.{refl, ap, ◌∙◌}
-use Rattle.generator.specs.Answers.{numbered_by, answer_of}
+use Rattle.generator.specs.Answers.{answer_of}
+use Rattle.generator.specs.Inner.Answers.{numbered_by}
 use Rattle.generator.proofs.Answered.{exit, done_is, value_is, refused_is}
 use Rattle.traces.specs.Repairs.{bits}
 use Rattle.repair_tables.specs.Inner.Bits.{bit_count}
@@ -26,4 +27,4 @@ pub returns : goal.returns
 unfolding answer_of
 returns c =
     let is = found (goal.at.returns c).In_ok-b in
-    record { answer = rw (done_is _ _ is, c.count-bits.ensures ∙ value_is _ _ is, c.spare-spare.ensures) refl }
+    record { answered = rw (done_is _ _ is, c.count-bits.ensures ∙ value_is _ _ is, c.spare-spare.ensures) refl }

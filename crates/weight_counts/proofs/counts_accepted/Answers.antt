@@ -20,4 +20,4 @@ pub returns : goal.returns
 unfolding answer_of
 returns c =
     let none = done_is _ _ c.in_ok-weights_fault.ensures in
-    record { answer = rw none; written = rw none c.fill_counts.ensures }
+    record { answered = rw none; written = rw none c.fill_counts.ensures }

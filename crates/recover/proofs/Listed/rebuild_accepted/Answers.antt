@@ -27,6 +27,6 @@ returns c =
     let v = c.args.self in
     let none = done_is _ _ c.in_ok-rebuild_fault.ensures in
     record {
-      answer = rw none refl;
+      answered = rw none refl;
       written = rw none (rebuilt_lanes (accepted (goal.at.returns c).In_ok-rebuild_fault).0 c.args.target _ c.rebuild_weights-weights.ensures (rw wide at c.fill.ensures));
     }
