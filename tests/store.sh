@@ -4,7 +4,10 @@
 # and the last lines say so.
 set -euo pipefail
 cd "$(dirname "$0")/store"
+apt() { DEBIAN_FRONTEND=noninteractive timeout 300 apt-get -qq -o Acquire::Retries=0 -o Acquire::http::Timeout=20 "$@" >/dev/null 2>&1; }
+install() { apt install -y --no-install-recommends openssh-server; }
+# where no list of packages is there, as on a new machine, it is fetched first
 if ! PATH=$PATH:/usr/sbin command -v sshd >/dev/null; then
-    apt-get install -y --no-install-recommends openssh-server >/dev/null 2>&1 || true
+    install || { apt update && install; } || true
 fi
 exec python3 -B run.py "$@"

@@ -1,4 +1,5 @@
-"""Makes the wheel for `pip install .` (PEP 517): the packages' modules, the command imagestore, and the shared libraries in balanced/lib.
+"""Makes the wheel for `pip install .` (PEP 517): the packages' modules, the command imagestore with its manual page, and the shared
+libraries in balanced/lib.
 
 The libraries are those of the folder that BALANCED_LIB_DIR names, or of target/lib of the repository (`make build`).
 """
@@ -12,6 +13,7 @@ from pathlib import Path
 HERE = Path(__file__).resolve().parent
 PACKAGES = ["balanced", "imagestore"]
 LIBRARIES = ["libbalanced.so.1", "libbalanced_any.so", "glibc-hwcaps/x86-64-v3/libbalanced.so.1", "glibc-hwcaps/x86-64-v4/libbalanced.so.1"]
+MANUAL = HERE.parents[1] / "docs" / "man" / "imagestore.1"
 WHEEL = "Wheel-Version: 1.0\nGenerator: wheel_of_package\nRoot-Is-Purelib: false\nTag: py3-none-linux_x86_64\n"
 
 
@@ -51,6 +53,7 @@ def build_wheel(wheel_directory, config_settings=None, metadata_directory=None):
     files = {name: path.read_bytes() for name, path in package_files()}
     files[f"{stem}.dist-info/METADATA"] = metadata(project).encode()
     files[f"{stem}.dist-info/WHEEL"] = WHEEL.encode()
+    files[f"{stem}.data/data/share/man/man1/{MANUAL.name}"] = MANUAL.read_bytes()
     scripts = "".join(f"{name} = {function}\n" for name, function in project["scripts"].items())
     files[f"{stem}.dist-info/entry_points.txt"] = f"[console_scripts]\n{scripts}".encode()
     record = f"{stem}.dist-info/RECORD"

@@ -38,8 +38,11 @@ class Cut:
 
 
 class Child:
-    """A child of this process that serves a folder, in the place of subprocess.Popen. `budgets` has for a folder how many bytes it lasts."""
-    budgets = {}
+    """A child of this process that serves a folder, in the place of subprocess.Popen.
+
+    `budgets` has for a folder how many bytes the child lasts, and `stops` at which change of its disk it ends, and in which mode.
+    """
+    budgets, stops = {}, {}
 
     def __init__(self, command, **_):
         folder = command[-1].split()[-1]
@@ -67,6 +70,10 @@ class Child:
         if folder in cls.budgets:
             budget = [cls.budgets[folder]]
             requests, answers = Cut(requests, budget), Cut(answers, budget)
+        if folder in cls.stops:
+            from disk import Disk
+            stop, mode = cls.stops[folder]
+            Disk(stop, mode, stop).install()
         os._exit(remote.serve(folder, requests, answers))
 
     def wait(self, timeout=None):

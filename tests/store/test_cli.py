@@ -1,7 +1,9 @@
 """The command line: exit statuses, --json, help, usage, the store that is meant, and interrupts."""
 import json
 import os
+import pty
 import re
+import shlex
 import signal
 import subprocess
 import sys
@@ -12,7 +14,7 @@ from support import PROGRAM, TOP, StoreCase, command, in_child
 
 from disk import Disk
 from imagestore import cli, init, settings
-from imagestore.errors import UsageError
+from imagestore.examples import EXAMPLES, SHOWN
 
 COMMANDS = ["plan", "init", "put", "get", "list", "check", "rm", "update", "rebuild", "leave", "return", "nodes", "serve", "completion"]
 
@@ -35,7 +37,7 @@ class CommandLine(StoreCase):
         self.assertIn(b"there is no store store.toml", nowhere.stderr)
 
     def test_installed(self):
-        """`pip install .` has the command, which needs no repository."""
+        """`pip install .` has the command, which needs no repository, and its manual page."""
         if subprocess.run([sys.executable, "-m", "pip", "--version"], capture_output=True).returncode:
             self.skipTest("there is no pip: the installed command is not tested")
         words = [sys.executable, "-m", "pip", "install", "--quiet", "--no-index", "--disable-pip-version-check", "--no-cache-dir", "--target"]
@@ -43,6 +45,8 @@ class CommandLine(StoreCase):
         seen = subprocess.run([self.top / "installed" / "bin" / "imagestore", "plan", "--nodes", "15", "--needed", "10"], cwd="/",
                               env={**os.environ, "PYTHONPATH": str(self.top / "installed")}, capture_output=True, text=True, check=True)
         self.assertIn("record 2 11 15 10\n", seen.stdout)
+        page = self.top / "installed" / "share" / "man" / "man1" / "imagestore.1"
+        self.assertEqual(page.read_bytes(), (TOP / "docs" / "man" / "imagestore.1").read_bytes())
 
     def test_every_command_says_what_it_did_in_json(self):
         self.make(3, 2, 16)
@@ -56,6 +60,18 @@ class CommandLine(StoreCase):
         status, out, err = command("--store", self.store, "--json", "get", "image", self.top / "got")
         self.assertEqual((status, json.loads(out)), (1, {"status": 1, "error": "there is no image image"}))
         self.assertEqual(err, "imagestore: there is no image image\n")
+
+    def test_help_has_examples(self):
+        """Each command's --help has examples, and each of them is read as a command line of that command."""
+        self.assertEqual(sorted(EXAMPLES), sorted(COMMANDS))
+        _, overview, _ = command("--help")
+        for word in COMMANDS:
+            _, out, _ = command(word, "--help")
+            for example in EXAMPLES[word]:
+                self.assertIn(f"\n  imagestore {example}\n", out)
+                words = shlex.split(re.split(r" [|>]", example)[0])
+                self.assertEqual(cli.parser().parse_args(words).command, word)
+            self.assertEqual(f"  imagestore {EXAMPLES[word][0]}\n" in overview, word in SHOWN)
 
     def test_usage(self):
         self.make(3, 2, 16)
@@ -197,6 +213,49 @@ class Interrupts(StoreCase):
             ends.add(status)
         self.assertEqual(ends, {0, 1})
 
+    def every_change(self, restore, judge, *words):
+        """Interrupts a command at each change of a disk; `judge` is told whether it was done all the same."""
+        for stop in range(1, 60):
+            restore()
+            status = self.interrupted(stop, *words)
+            self.assertIn(status, (0, 1))
+            with self.subTest(stop=stop):
+                judge(status == 0)
+                self.assertEqual(self.left_over(), [])
+
+    def test_rm_and_a_new_length_at_every_change(self):
+        data, longer = self.bytes(70), self.bytes(101)
+        path, old = self.file(longer, "longer"), self.file(data, "old")
+
+        def restore():
+            self.command("rm", "image")
+            self.right("put", "image", old)
+
+        self.every_change(restore, lambda done: self.all_right(None if done else data), "rm", "image")
+        self.every_change(restore, lambda done: self.all_right(longer if done else data), "update", "image", path)
+
+    def test_rebuild_and_check_that_sets_right_at_every_change(self):
+        data = self.bytes(70)
+        self.put(data)
+
+        def judge(done):
+            self.assertEqual(self.got(), data)
+            if done:
+                self.all_right(data)
+
+        for words in (["rebuild", 1], ["check", "--correct"]):
+            self.every_change(lambda: self.share(1).unlink(missing_ok=True), judge, *words)
+
+    def test_get_at_every_change(self):
+        data, target = self.bytes(70), self.top / "got"
+        self.put(data)
+
+        def judge(done):
+            self.assertEqual(target.read_bytes(), data if done else b"old")
+            self.assertEqual([name for name in os.listdir(self.top) if name.endswith(".tmp")], [])
+
+        self.every_change(lambda: target.write_bytes(b"old"), judge, "get", "image", target)
+
     def test_the_program(self):
         """A signal from outside, in the middle of a put and of a get, if it comes in time."""
         path = self.file(bytes(500_000), "large")
@@ -214,6 +273,34 @@ class Interrupts(StoreCase):
                 self.assertFalse((self.top / "got").exists())
             self.assertEqual(self.left_over(), [])
             self.assertEqual([name for name in os.listdir(self.top) if name.endswith(".tmp")], [])
+
+
+class OnATerminal(StoreCase):
+    """A bar shows what is done, and goes away."""
+
+    def shown(self, *words):
+        """What a command writes to a terminal as standard error."""
+        near, far = pty.openpty()
+        program = subprocess.Popen([PROGRAM, "--store", self.store, "--threads", "1", *map(str, words)], stdout=subprocess.DEVNULL, stderr=far)
+        os.close(far)
+        text = b""
+        try:
+            while part := os.read(near, 1 << 16):
+                text += part
+        except OSError:
+            pass  # the other side is closed
+        os.close(near)
+        self.assertEqual(program.wait(), 0, text)
+        return text.decode()
+
+    def test_a_bar_for_every_command_that_takes_long(self):
+        self.make(5, 3, 4096)
+        path, other = self.file(self.bytes(8_000_000)), self.file(self.bytes(8_000_000), "other")
+        for word, words in (("sent", ["put", "image", path]), ("read", ["get", "image", self.top / "got"]),
+                            ("changed", ["update", "image", other]), ("node 2, image", ["rebuild", 2]), ("check image", ["check"])):
+            text = self.shown(*words)
+            self.assertRegex(text, rf"\r{word} \[#*\.+\]  ?\d+ %")
+            self.assertTrue(text.endswith("\r") and not text.rstrip("\r").rpartition("\r")[2].strip(), "the bar is left there")
 
 
 if __name__ == "__main__":

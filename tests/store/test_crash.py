@@ -1,10 +1,12 @@
 """A stop at every change of a disk, in put, update, rebuild, rm and check: afterwards every image is the old one or the new one, whole."""
 import shutil
 import unittest
+from unittest import mock
 
 from support import StoreCase, command, in_child  # first: it finds the program
 
 from disk import STOPPED, STOPPED_AT_A_WRITE, Disk
+from imagestore import changes
 
 
 class CrashCase(StoreCase):
@@ -81,6 +83,12 @@ class Crashes(CrashCase):
         self.new = self.old[:20] + b"thirty bytes that are new now." + self.old[50:]
         self.every_stop(self.old_or_new, "update", "image", "--at", "20", self.file(self.new[20:50], "part"))
 
+    def test_update_by_new_symbols(self):
+        """As where many rows of a block change."""
+        self.put(self.old)
+        with mock.patch.object(changes, "FEW_ROWS", 0):
+            self.every_stop(self.old_or_new, "update", "image", self.file(self.new, "new"))
+
     def test_update_to_another_length(self):
         self.put(self.old)
         self.new = self.bytes(101)
@@ -119,6 +127,64 @@ class Crashes(CrashCase):
         """Whether one node has committed and another has not."""
         kinds = [{path.suffix for path in place.iterdir()} for place in self.places]
         return any(".redo" in found for found in kinds) and any(".next" in found for found in kinds)
+
+
+class Beside(CrashCase):
+    """What is written beside the nodes: the file that `get` writes, the roster, store.toml and the folders of a new store."""
+
+    def stops(self, before, judge, *words):
+        """A stop at each change, in each mode; `judge` is told whether the command ended."""
+        for mode in ("stop", "torn", "power"):
+            stop, status = 0, None
+            while status != 0:
+                stop += 1
+                before()
+                status = self.stopped(stop, mode, *words)
+                with self.subTest(mode=mode, stop=stop):
+                    judge(status == 0)
+            self.assertGreater(stop, 4, "the command makes few changes: is the disk followed?")
+
+    def test_get(self):
+        self.make(3, 2, 16)
+        data, target = self.bytes(70), self.top / "got"
+        self.put(data)
+
+        def judge(done):
+            self.assertIn(target.read_bytes(), [data] if done else [data, b"old"])
+            self.all_right(data)
+
+        self.stops(lambda: target.write_bytes(b"old"), judge, "get", "image", target)
+
+    def test_leave_and_return(self):
+        self.make(3, 2, 16)
+        roster = self.top / "store.roster"
+        self.right("leave", 0)
+        kept = roster.read_bytes()
+        for word, node, before, after in (("leave", 1, [1, 2], [2]), ("return", 0, [1, 2], [0, 1, 2])):
+            def judge(done):
+                states = [one["node"] for one in self.right("nodes")["nodes"] if one["state"] != "left"]
+                self.assertIn(states, [after] if done else [before, after])
+
+            self.stops(lambda: roster.write_bytes(kept), judge, word, node)
+
+    def test_init(self):
+        """No store, and then it can be made; or a store, to which `rebuild` adds the nodes that are missing."""
+        places = [self.top / "nodes" / f"n{node}" for node in range(3)]
+
+        def before():
+            shutil.rmtree(self.top / "nodes", ignore_errors=True)
+            self.store.unlink(missing_ok=True)
+
+        def judge(done):
+            if not self.store.exists():
+                self.right("init", self.store, "--needed", 2, *places)
+            self.right("rebuild", 0, 1, 2)
+            self.assertEqual([one["state"] for one in self.right("nodes")["nodes"]], ["here"] * 3)
+            data = self.bytes(10)
+            self.put(data)
+            self.assertEqual(self.got(), data)
+
+        self.stops(before, judge, "init", self.store, "--needed", 2, *places)
 
 
 class OtherRecords(CrashCase):

@@ -32,8 +32,22 @@ class Full(StoreCase):
             self.assertIn(self.with_room(room, "put", "other", large), (1, 3), room)
             self.assertIn(self.with_room(room, "update", "image", large), (1, 3), room)
             self.assertIn(self.with_room(room, "update", "image", "--at", 0, part), (1, 3), room)
-            self.assertEqual([self.share(node).read_bytes() for node in range(5)], before)
+            self.assertEqual(([self.share(node).read_bytes() for node in range(5)], self.left_over()), (before, []))
             self.assertEqual([one["image"] for one in self.right("list")["images"]], ["image"])
+        self.all_right(self.data)
+
+    def test_no_room_for_what_is_made_anew(self):
+        """A rebuild, a check that sets right, a removal and the roster: what was there is there."""
+        self.share(2).unlink()
+        self.flip(4, -7)
+        for room in (0, 1, 100, 1000):
+            self.assertEqual(self.with_room(room, "rebuild", 2), 1, room)
+            self.assertEqual(self.with_room(room, "check", "--correct"), 1, room)
+            self.assertIn(self.with_room(min(room, 100), "rm", "image"), (1, 3), room)
+            self.assertEqual(self.with_room(min(room, 100), "leave", 1), 1, room)
+            self.assertEqual((self.got(), self.left_over()), (self.data, []))
+            self.assertEqual(self.right("nodes")["nodes"][1]["state"], "here")
+        self.right("check", "--correct")
         self.all_right(self.data)
 
     def test_no_room_for_what_is_got(self):
@@ -93,8 +107,10 @@ class SmallDisk(StoreCase):
         self.make(3, 2, 4096)
         data = self.bytes(100_000)
         self.put(data)
+        room = os.statvfs(disk).f_bavail
         self.refused(3, "put", "other", self.file(self.bytes(300_000)))
         self.refused(3, "update", "image", self.file(self.bytes(300_000)))
+        self.assertEqual((os.statvfs(disk).f_bavail, self.left_over()), (room, []), "what was begun still takes room")
         self.all_right(data)
         self.assertEqual([one["image"] for one in self.right("list")["images"]], ["image"])
 

@@ -72,6 +72,20 @@ class Locks(StoreCase):
         self.all_right(self.data)
         self.assertEqual(self.right("list")["images"][0]["generation"], 5)
 
+    def test_two_that_change_the_roster(self):
+        """Nodes that leave at once, each by a command of its own: all of them have left."""
+        self.store = self.top / "many.toml"
+        self.make(15, 3, 16)
+        children = []
+        for node in range(0, 12, 2):
+            child = os.fork()
+            if child == 0:
+                os._exit(in_child(lambda: command("--store", self.store, "leave", node)[0]))
+            children.append(child)
+        self.assertEqual([os.waitstatus_to_exitcode(os.waitpid(child, 0)[1]) for child in children], [0] * 6)
+        left = [one["node"] for one in self.right("nodes")["nodes"] if one["state"] == "left"]
+        self.assertEqual(left, list(range(0, 12, 2)))
+
     def test_a_writer_in_another_thread(self):
         """A lock is the link's, not the process': two threads of one program keep each other out too."""
         done = []

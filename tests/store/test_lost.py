@@ -82,6 +82,32 @@ class Lost(StoreCase):
             self.right("rebuild", target)
         self.all_right(self.data)
 
+    def test_a_whole_new_file_of_the_same_length(self):
+        for _ in range(4):
+            with self.without(*self.lost(2)):
+                self.data = self.bytes(100)
+                self.right("update", "image", self.file(self.data))
+                self.assertEqual(self.got(), self.data)
+            self.brought_back(self.data)
+
+    def test_check_that_sets_right(self):
+        """One node is away and another is damaged: this one is set right, and a check then ends with 1 for the first alone."""
+        for _ in range(4):
+            away, wrong = self.lost(2)
+            self.flip(wrong, -10)
+            with self.without(away):
+                status, result = self.command("check", "--correct")
+                self.assertEqual((status, result["images"][0]["corrected"], result["images"][0]["wrong"]), (1, [wrong], {}))
+            self.all_right(self.data)
+
+    def test_leave_and_return(self):
+        """With n-k nodes away, and with more: the roster is kept beside the store, and no node is asked."""
+        for count in (2, 3, 5):
+            with self.without(*self.lost(count)):
+                self.right("leave", 4)
+                self.right("return", 4)
+        self.all_right(self.data)
+
     def test_one_too_many(self):
         before = [self.share(node).read_bytes() for node in range(5)]
         for words in (["get", "image", self.top / "x"], ["put", "other", self.file(b"x")], ["update", "image", "--at", 0, self.file(b"x")],

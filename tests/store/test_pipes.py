@@ -31,7 +31,7 @@ class PipeCase(StoreCase):
         self.record = bytes(self.right("init", self.store, *words, *wanted)["record"])
 
 
-class Served(PipeCase):
+class ServedCase(PipeCase):
     """Children of this process serve the folders."""
 
     def setUp(self):
@@ -39,7 +39,14 @@ class Served(PipeCase):
         patch = mock.patch.object(remote, "subprocess", pipes.Children)
         patch.start()
         self.addCleanup(patch.stop)
-        self.addCleanup(pipes.Child.budgets.clear)
+        self.addCleanup(self.last)
+
+    def last(self):
+        """The children last as long as they are asked."""
+        pipes.Child.budgets, pipes.Child.stops = {}, {}
+
+
+class Served(ServedCase):
 
     def test_images(self):
         self.make(5, 3, 16)

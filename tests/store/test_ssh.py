@@ -1,5 +1,6 @@
 """Nodes over a real sshd on this machine. Where there is none, tests/store.sh tries to install it; the tests are left out, with a
 line that says so, where that fails."""
+import json
 import os
 import shutil
 import signal
@@ -86,29 +87,80 @@ class OverSsh(PipeCase):
         with self.without(0):
             self.assertEqual(self.got(), data)
 
+    def test_lengths(self):
+        """No bytes, one, an odd number, whole blocks and one byte more and less, 5 MB; with a node lost."""
+        self.make(lanes=4096)
+        for length in (0, 1, 777, 8191, 8192, 8193, 3 * 8192, 5_000_001):
+            data = self.bytes(length)
+            self.put(data, f"image{length}")
+            with self.without(self.random.randrange(3)):
+                self.assertEqual(self.got(f"image{length}"), data)
+        self.assertEqual(self.right("check")["absent"], {})
+
     def test_the_connection_drops(self):
-        """A connection is cut in the middle of a put: the process that serves one node is ended while a large share is sent."""
+        """One node's connection is cut in the middle of put, update, get and rebuild: the command goes on without the node."""
         self.make(lanes=4096)
         data = self.bytes(8_000_000)
-        path = self.file(data)
-        put = subprocess.Popen([PROGRAM, "--store", self.store, "--json", "put", "image", path], stdout=subprocess.PIPE)
-        self.assertTrue(self.end_server(self.places[2], put), "the put ended before its connection could be cut")
-        out, _ = put.communicate()
-        self.assertEqual(put.returncode, 0, out)
-        self.assertIn(b"was lost", out)
+        for ended in ("serve", "sshd"):
+            result = self.dropped(0, [2], ended, self.draft(2), "put", "image", self.file(data))
+            self.back(result, data)
+            data = self.bytes(8_000_000)
+            result = self.dropped(0, [2], ended, self.draft(2), "update", "image", self.file(data))
+            self.back(result, data)
+            result = self.dropped(0, [1], ended, lambda: list(self.top.glob(".got.*.tmp")), "get", "image", self.top / "got")
+            self.assertEqual((self.top / "got").read_bytes(), data)
+            self.share(0).unlink()
+            result = self.dropped(3, [2], ended, self.draft(0), "rebuild", 0)  # the node that is made anew and one other are not enough
+            self.assertIn("was lost", result["lost"]["image"])
+            self.right("check", "--correct")
+            self.all_right(data)
+            self.right("rm", "image")
+
+    def test_every_connection_drops(self):
+        """Then too few nodes are here: the command says so, and the image is what it was."""
+        self.make(lanes=4096)
+        data = self.bytes(8_000_000)
+        error = self.dropped(3, [0, 1, 2], "sshd", self.draft(2), "put", "image", self.file(data))["error"]
+        self.assertEqual(error.count("was lost"), 3, error)
+        self.all_right(None)
+        self.put(data)
+        error = self.dropped(3, [0, 1, 2], "sshd", self.draft(2), "update", "image", self.file(self.bytes(8_000_000)))["error"]
+        self.assertEqual(error.count("was lost"), 3, error)
+        self.all_right(data)
+
+    def back(self, result, data):
+        """The node that was lost is named, the image is right without it, and it is set right."""
+        self.assertIn("was lost", result["absent"]["2"])
         self.assertEqual(self.got(), data)
         self.right("check", "--correct")
         self.all_right(data)
 
-    def end_server(self, place, put):
-        """Ends the sshd of one node's connection, by its number, once a draft is there."""
-        while put.poll() is None:
-            if (place / "image.tmp").exists():
-                for number in self.serving(place):
-                    os.kill(number, signal.SIGKILL)
-                    return True
+    def draft(self, node):
+        """Whether a node has a draft of the image."""
+        return (self.places[node] / "image.tmp").exists
+
+    def dropped(self, status, nodes, ended, begun, *words):
+        """The result of a command that loses its connections to these nodes once it has begun: that of the process that serves the folder,
+        or that of sshd."""
+        program = subprocess.Popen([PROGRAM, "--store", self.store, "--json", *map(str, words)], stdout=subprocess.PIPE, stderr=subprocess.DEVNULL)
+        while not begun() and program.poll() is None:
             time.sleep(0.001)
-        return False
+        numbers = {number if ended == "serve" else self.sshd_of(number) for node in nodes for number in self.serving(self.places[node])}
+        for number in numbers:
+            os.kill(number, signal.SIGKILL)
+        out, _ = program.communicate()
+        self.assertTrue(numbers, "the command ended before its connections could be cut")
+        self.assertEqual(program.returncode, status, out)
+        return json.loads(out)
+
+    def sshd_of(self, number):
+        """The process of sshd that has the connection of a process."""
+        while True:
+            with open(f"/proc/{number}/stat", encoding="utf-8") as file:
+                name, _, rest = file.read().partition("(")[2].rpartition(")")
+            if name.startswith("sshd"):
+                return number
+            number = int(rest.split()[1])
 
     def serving(self, place):
         """The processes that serve a folder."""

@@ -26,16 +26,17 @@ def declared(library: CDLL, name: str) -> Any:
 
 
 FUNCTIONS = {name: declared(library, name) for name in CALLS}
+# for each call its parameters, and of each the bytes of an item, as a number of this kind has them
+STEPS = {name: [(type(parameter), parameter, sizeof(parameter.kind)) for parameter in CALLS[name]] for name in CALLS}
 
 
-def number_of(parameter: Number, given: Any) -> int:
+def number_of(parameter: Number, size: int, given: Any) -> int:
     """A number for the call. One that its type does not hold becomes the greatest that it holds: neither is in a range."""
     try:
         number = index(given)
     except TypeError:
         raise TypeError(f"{parameter.name} is a number, not {type(given).__name__}") from None
-    most = (1 << 8 * sizeof(parameter.kind)) - 1
-    return number if 0 <= number <= most else most
+    return number if 0 <= number < 1 << 8 * size else (1 << 8 * size) - 1
 
 
 def call(name: str, *given: Any) -> tuple[int, ...]:
@@ -49,12 +50,12 @@ def call(name: str, *given: Any) -> tuple[int, ...]:
     words: list[Any] = []
     results: list[Any] = []
     with Loans() as loans:
-        for parameter in CALLS[name]:
-            if isinstance(parameter, Number):
-                words.append(number_of(parameter, next(values)))
-            elif isinstance(parameter, Buffer):
+        for sort, parameter, size in STEPS[name]:
+            if sort is Buffer:
                 start, length = loans.lend(parameter.name, next(values), parameter.written)
-                words += start, length // sizeof(parameter.kind)
+                words += start, length // size
+            elif sort is Number:
+                words.append(number_of(parameter, size, next(values)))
             else:
                 results.append(parameter.kind())
                 words.append(byref(results[-1]))

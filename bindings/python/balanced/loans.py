@@ -36,47 +36,68 @@ NO_BYTES = c_uint8()  # stands where a buffer has no bytes
 
 
 class Loan:
-    """The bytes of an object: so many as `length`, from `address` on, until `end`. As a word of a call it is the address."""
+    """The bytes of an object: so many as `length`, from `address` on, until `end`. As a word of a call it is the address.
 
-    __slots__ = ("address", "length", "written", "has_gaps", "_view", "_copy")
+    Bytes that can be written and stand in one piece are held by an object of ctypes, which takes a fifth of the time; others by a view.
+    """
 
-    address: int
+    __slots__ = ("_as_parameter_", "length", "written", "has_gaps", "_owner", "_held", "_view", "_copy")
+
+    _as_parameter_: int  # what ctypes takes for the object
     length: int
     _copy: Any
 
     def __init__(self, name: str, owner: object, written: bool) -> None:
-        self._view, self._copy, self.written = View(), None, written
+        self.written, self.has_gaps, self._owner, self._view, self._copy = written, False, owner, None, None
         try:
-            self.has_gaps = self._hold(owner)
-        except TypeError:
-            raise TypeError(f"{name} is a buffer of bytes, not {type(owner).__name__}") from None
-        if written and self._view.readonly:
-            self.end()
-            raise TypeError(f"{name} is written to, and this {type(owner).__name__} is read-only")
-        self.length = self._view.len
-        self.address = self._view.buf if self.length else addressof(NO_BYTES)
-
-    def _hold(self, owner: object) -> bool:
-        """Holds the object's bytes, and says whether there are gaps between them."""
-        try:
-            get(owner, byref(self._view), IN_ONE_PIECE)
-            return False
-        except BufferError:
-            get(owner, byref(self._view), WITH_GAPS)
-            return True
+            self._held: Any = c_char.from_buffer(owner)  # type: ignore[arg-type]
+        except (TypeError, ValueError, BufferError):
+            self._held = None
+            self._see(name)
+            return
+        self._as_parameter_, self.length = addressof(self._held), memoryview(owner).nbytes  # type: ignore[arg-type]
 
     @property
-    def _as_parameter_(self) -> int:
-        return self.address
+    def address(self) -> int:
+        return self._as_parameter_
 
-    def overlaps(self, other: Loan) -> bool:
-        return self.address < other.address + other.length and other.address < self.address + self.length
+    def _see(self, name: str) -> None:
+        """Holds the bytes by a view, whatever they are."""
+        self._view = View()
+        try:
+            self.has_gaps = self._hold()
+        except TypeError:
+            raise TypeError(f"{name} is a buffer of bytes, not {type(self._owner).__name__}") from None
+        if self.written and self._view.readonly:
+            self.end()
+            raise TypeError(f"{name} is written to, and this {type(self._owner).__name__} is read-only")
+        self.length = self._view.len
+        self._as_parameter_ = self._view.buf if self.length else addressof(NO_BYTES)
+
+    def _hold(self) -> bool:
+        """Holds the object's bytes, and says whether there are gaps between them."""
+        try:
+            get(self._owner, byref(self._view), IN_ONE_PIECE)
+            return False
+        except BufferError:
+            get(self._owner, byref(self._view), WITH_GAPS)
+            return True
+
+    def overlaps_one_of(self, others: list[Loan]) -> bool:
+        start, end = self._as_parameter_, self._as_parameter_ + self.length
+        for other in others:
+            if other is not self and start < other._as_parameter_ + other.length and other._as_parameter_ < end:
+                return True
+        return False
 
     def copy(self) -> None:
         """Lends a copy in the object's place."""
+        if self._view is None:
+            self._view = View()
+            self._hold()
         self._copy = (c_uint8 * max(self.length, 1))()
         copy_from(self._copy, byref(self._view), self.length, ROWS)
-        self.address = addressof(self._copy)
+        self._as_parameter_ = addressof(self._copy)
 
     def settle(self) -> None:
         """Puts what was written to a copy into the object."""
@@ -84,7 +105,9 @@ class Loan:
             copy_to(byref(self._view), self._copy, self.length, ROWS)
 
     def end(self) -> None:
-        release(byref(self._view))
+        self._held = None
+        if self._view is not None:
+            release(byref(self._view))
 
 
 class Loans(list[Loan]):
@@ -101,13 +124,14 @@ class Loans(list[Loan]):
         """The words of a call for an object: where its bytes stand, and how many they are."""
         if type(owner) is bytes and not written:
             return owner, len(owner)  # they never move or change, and nothing that is written overlaps them
-        self.append(Loan(name, owner, written))
-        return self[-1], self[-1].length
+        loan = Loan(name, owner, written)
+        self.append(loan)
+        return loan, loan.length
 
     def set_apart(self) -> None:
         """Copies what has gaps between its bytes, and what is written and overlaps something else."""
         for loan in self:
-            if loan.has_gaps or loan.written and any(loan.overlaps(other) for other in self if other is not loan):
+            if loan.has_gaps or loan.written and loan.overlaps_one_of(self):
                 loan.copy()
 
     def settle(self) -> None:

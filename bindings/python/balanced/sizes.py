@@ -16,6 +16,11 @@ MAX_NODES = 255
 
 def node_list(nodes: Iterable[int]) -> bytes:
     """A list of nodes as bytes. A number that no byte holds becomes 255, which is no node either, for n is at most 255."""
+    if isinstance(nodes, (list, tuple)):
+        try:
+            return bytes(nodes)
+        except ValueError:
+            pass  # one of them no byte holds
     return bytes(node if 0 <= node <= MAX_NODES else MAX_NODES for node in map(index, nodes))
 
 

@@ -6,24 +6,13 @@ import os
 import resource
 import sys
 
-from . import interrupts, report
-from .errors import StoreError, UsageError
+from . import examples, interrupts, report
+from .errors import StoreError, UsageError, of_disk
 from .progress import Bar
 
-EXAMPLES = """examples:
-  imagestore plan --nodes 15 --needed 9
-  imagestore init store.toml --needed 9 /srv/disk{00..14}
-  imagestore init store.toml --needed 9 host{00..14}:/srv/store
-  imagestore put firmware-1.2 firmware.bin
-  imagestore update firmware-1.2 --at 4096 patch.bin
-  imagestore get firmware-1.2 copy.bin
-  imagestore check --correct
-  imagestore leave 3; imagestore rebuild 3; imagestore return 3
-  source <(imagestore completion)
-
-exit status: 0 done; 1 something is wrong or refused, and a sentence says what; 2 usage; 3 fewer nodes than are needed.
+STATUSES = """exit status: 0 done; 1 something is wrong or refused, and a sentence says what; 2 usage; 3 fewer nodes than are needed.
 store.toml in this folder is the store, unless --store or the variable IMAGESTORE names another.
-"""
+`imagestore COMMAND --help` has a command's options and examples. docs/STORE.md says what is kept when, and what survives what."""
 
 
 def common():
@@ -40,12 +29,14 @@ def common():
 def parser():
     shared = common()
     top = argparse.ArgumentParser(
-        prog="imagestore", description="Keeps images on n nodes, any k of which give them back.", parents=[shared], epilog=EXAMPLES,
-        formatter_class=argparse.RawDescriptionHelpFormatter)
+        prog="imagestore", description="Keeps images on n nodes, any k of which give them back.", parents=[shared],
+        epilog=f"{examples.overview()}\n\n{STATUSES}", formatter_class=argparse.RawDescriptionHelpFormatter)
     commands = top.add_subparsers(dest="command", required=True, metavar="COMMAND")
 
     def command(name, what):
-        return commands.add_parser(name, help=what, description=what, parents=[shared])
+        return commands.add_parser(
+            name, help=what, description=what, parents=[shared], epilog=examples.epilog(name),
+            formatter_class=argparse.RawDescriptionHelpFormatter)
 
     one = command("plan", "print the record of a store of so many nodes, and what it costs")
     one.add_argument("--nodes", type=int, required=True, metavar="N")
@@ -183,7 +174,7 @@ def carry_out(options):
         return say(options, error.status, str(error))
     except OSError as error:
         bar.clear()
-        return say(options, 1, str(error))
+        return say(options, 1, of_disk(error))
     except KeyboardInterrupt:
         bar.clear()
         return say(options, 1, "interrupted: what was begun is undone, what was done is whole")

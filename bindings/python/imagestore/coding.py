@@ -45,9 +45,9 @@ def shares_of(plan, layout, batch, data, room):
     return pieces, total
 
 
-def listed(plan, lanes, parts):
+def listed(plan, lanes, parts, room=None):
     """The shares of k listed nodes lane after lane, as the library takes them."""
-    return plan.listed_to_lanes(lanes, b"".join(parts))
+    return plan.listed_to_lanes(lanes, b"".join(parts), room and room.buffer("lanes", plan.message_len(lanes)))
 
 
 def add(plan, difference, symbols):
@@ -58,9 +58,10 @@ def add(plan, difference, symbols):
         plan.add_share(len(part) // plan.symbol_len, difference[at:at + step], part)
 
 
-def recover(plan, lanes, held):
-    """The message from the shares of k nodes, by node."""
-    return plan.recover(lanes, list(held), listed(plan, lanes, held.values()))
+def recover(plan, lanes, held, room=None, name=None):
+    """The message from the shares of k nodes, by node: in a new buffer, or in one of a room."""
+    into = room and room.buffer(name, plan.message_len(lanes))
+    return plan.recover(lanes, list(held), listed(plan, lanes, held.values(), room), into)
 
 
 def recover_and_rebuild(plan, lanes, held, target):

@@ -35,6 +35,16 @@ class NodesFailed(StoreError):
         super().__init__("; ".join(f"node {node}: {sentence}" for node, sentence in sorted(why.items())))
         self.why = why
 
+    def __reduce__(self):
+        return NodesFailed, (self.why,)
+
+
+def of_disk(error):
+    """What the system says of an error, in words: the file, where one is named, and the reason."""
+    if not isinstance(error, OSError) or not error.strerror:
+        return str(error)
+    return f"{error.filename}: {error.strerror}" if error.filename is not None else error.strerror
+
 
 def sentence(data):
     """What another side says, as a line that can be printed."""

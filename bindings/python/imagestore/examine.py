@@ -1,5 +1,6 @@
 """What is wrong with an image, from all blocks of all nodes that are here."""
 from . import carrier, coding, compare, digest, pipeline
+from .family import Family
 from .reader import Reader
 
 
@@ -62,7 +63,8 @@ def examine(store, session, seen):
     """What is wrong with an image: every block of every node is read and compared."""
     reader, found, done = Reader(store, session, seen), Findings(seen.faults), 0
     batches = list(seen.layout.batches(pipeline.batch_blocks(seen.layout)))
-    for batch, part in zip(batches, pipeline.in_order(lambda batch: examine_batch(store, reader, batch), batches, store.threads)):
+    parts = pipeline.in_order(lambda batch: examine_batch(store, reader, batch), batches, store.threads, Family(session, reader))
+    for batch, part in zip(batches, parts):
         found.add(part)
         done += len(batch)
         store.progress(f"check {seen.name}", done, seen.layout.blocks)

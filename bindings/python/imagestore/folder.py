@@ -11,7 +11,7 @@ import os
 
 from . import arithmetic, blocks, entries, files, redo, share
 from .drafts import PatchDraft, WholeDraft
-from .errors import Refused
+from .errors import Refused, of_disk
 from .names import is_name
 
 
@@ -58,11 +58,11 @@ class Folder:
                 raise share.BadShare("a committed update could not be finished")
             parts["header"], parts["size"] = self.header(name + ".share")
         except (share.BadShare, OSError) as error:
-            parts["damage"] = str(error)
+            parts["damage"] = of_disk(error)
         try:
             parts["pending"], _ = self.header(name + ".next")
         except (share.BadShare, OSError) as error:
-            parts["pending_damage"] = str(error)
+            parts["pending_damage"] = of_disk(error)
         return entries.Entry(**parts)
 
     def read(self, name, place, count):
@@ -106,12 +106,9 @@ class Folder:
         return PatchDraft(files.create(self.descriptor, name + ".tmp"), shared, share.unpack_header(data))
 
     def prepare(self, name, draft, header):
-        """Ends a draft with its header, and closes it: from now on it survives a crash."""
-        try:
-            draft.end(header)
-            files.sync(draft.file)
-        finally:
-            draft.close()
+        """Ends a draft with its header: from now on it survives a crash."""
+        draft.end(header)
+        files.sync(draft.file)
         files.rename(self.descriptor, name + ".tmp", name + ".next")
         files.sync(self.descriptor)
 
@@ -154,6 +151,13 @@ class Folder:
         # not synced: a redo that comes back is applied once more, and every later write syncs the folder before it changes a share
         files.remove(self.descriptor, name + ".redo")
 
+    def remove_draft(self, name):
+        """Removes a draft. One that a disk does not let go of is removed by the next writer."""
+        try:
+            files.remove(self.descriptor, name + ".tmp")
+        except OSError:
+            pass
+
     def drop(self, name):
         """Gives up a write that was begun or prepared."""
         if any([files.remove(self.descriptor, name + kind) for kind in (".tmp", ".next")]):
@@ -180,4 +184,4 @@ class Folder:
 
     def remove_drafts(self):
         for name in self.names("tmp"):
-            files.remove(self.descriptor, name + ".tmp")
+            self.remove_draft(name)

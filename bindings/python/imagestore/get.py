@@ -2,45 +2,55 @@
 from . import carrier, coding, digest, lock, pipeline
 from .errors import StoreError
 from .examine import examine
+from .family import Family
 from .names import check_name
 from .reader import Reader
 from .target import open_target
 
 
-def blocks_of(store, reader, batch):
-    """The bytes of a batch of blocks, and their part of the digest."""
+def blocks_of(store, reader, batch, room):
+    """The bytes of a batch of blocks, and their part of the digest. With a room they stand in its buffers, until the thread's next batch."""
     layout, parts, total = reader.layout, [], 0
     for block, held in reader.read(batch):
-        message = coding.recover(store.plan, layout.lanes_of(block), held)
+        message = coding.recover(store.plan, layout.lanes_of(block), held, room, block - batch[0])
         data = carrier.uncarry(store.plan, message, layout.size(block))
         total += digest.of_block(block, data)
         parts.append(data)
     return parts, total
 
 
-def copy_out(store, session, seen, write, exclude=()):
-    """Hands the image to `write`, part after part; gives the reader, and whether the digest is that of the header."""
-    reader, total, done = Reader(store, session, seen, exclude), 0, 0
-    batches = seen.layout.batches(pipeline.batch_blocks(seen.layout))
-    for parts, part in pipeline.in_order(lambda batch: blocks_of(store, reader, batch), batches, store.threads):
-        total += part
-        for data in parts:
-            write(data)
-            done += len(data)
-        store.progress("read", done, seen.layout.length)
+def copy_out(store, session, seen, target, exclude=()):
+    """Writes the image to a target; gives the reader, and whether the digest is that of the header."""
+    reader, layout, total, done = Reader(store, session, seen, exclude), seen.layout, 0, 0
+    room = coding.Room() if target.anywhere else None
+
+    def work(batch):
+        parts, part = blocks_of(store, reader, batch, room)
+        size = sum(map(len, parts))
+        if target.anywhere:
+            target.write(layout.start(batch[0]), parts)
+            parts = []
+        return parts, part, size
+
+    family = Family(session, reader) if target.anywhere else None
+    for parts, part, size in pipeline.in_order(work, layout.batches(pipeline.batch_blocks(layout)), store.threads, family):
+        if parts:
+            target.write(done, parts)
+        total, done = total + part, done + size
+        store.progress("read", done, layout.length)
     return reader, digest.to_bytes(total) == seen.header.digest
 
 
 def read_right(store, session, seen, target):
     """Reads the image; where every checksum is right and the image is not, once more without the nodes that are found wrong."""
-    reader, right = copy_out(store, session, seen, target.write)
+    reader, right = copy_out(store, session, seen, target)
     wrong = {node: reader.said(node) for node in reader.faults}
     if right:
         return wrong
     target.again()
     found = examine(store, session, seen)
     if found.untold and not found.doubts and not found.lost:
-        _, right = copy_out(store, session, seen, target.write, found.untold)
+        _, right = copy_out(store, session, seen, target, found.untold)
     if not right:
         reasons = "".join(f"; {why}" for why in found.doubts + found.lost)
         raise StoreError(f"{seen.name}: the checksums are right, and the image is not{reasons}")

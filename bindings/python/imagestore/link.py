@@ -6,7 +6,7 @@ import threading
 from concurrent.futures import ThreadPoolExecutor
 
 from . import frames
-from .errors import Busy, Refused, StoreError, sentence
+from .errors import Busy, Refused, StoreError, of_disk, sentence
 from .node import Node
 
 # requests that wait for the disk: on folders of this machine they run side by side
@@ -25,6 +25,14 @@ class Link:
     def __init__(self, place):
         self.place, self.turn, self.delay = place, threading.Lock(), 0.0
         self.sent = self.received = self.shares_sent = self.shares_received = 0
+
+    def waits(self, request):
+        """Whether other nodes are to be asked while this one works."""
+        return True
+
+    def ask(self, request):
+        self.start(request)
+        return self.finish()
 
     def start(self, request):
         self.turn.acquire()
@@ -53,6 +61,13 @@ class Link:
             raise Refused(sentence(data))
         return data
 
+    def figures(self):
+        return self.sent, self.received, self.shares_sent, self.shares_received
+
+    def add(self, figures):
+        """Counts what was sent and received by a child of this process, too."""
+        self.sent, self.received, self.shares_sent, self.shares_received = map(sum, zip(self.figures(), figures))
+
     def close(self):
         """Closes the link once no thread has a request under way, or after a minute. A request that comes later is refused."""
         free = self.turn.acquire(timeout=60)
@@ -70,7 +85,7 @@ def answer_of(node, request):
     except Busy as error:
         return frames.BUSY, str(error).encode()
     except (OSError, StoreError) as error:
-        return frames.REFUSED, str(error).encode()
+        return frames.REFUSED, of_disk(error).encode("utf-8", "replace")
     except Exception as error:  # whatever a request brings about, it has an answer
         return frames.REFUSED, f"{type(error).__name__}: {error}".encode()
 
@@ -81,6 +96,9 @@ class FolderLink(Link):
     def __init__(self, place):
         super().__init__(place)
         self.node, self.waiting = Node(place), None
+
+    def waits(self, request):
+        return request.op in SLOW
 
     def _send(self, request):
         self.waiting = POOL.submit(answer_of, self.node, request) if request.op in SLOW else None

@@ -117,9 +117,9 @@ class Node:
         return b""
 
     def forget_drafts(self):
-        for draft in self.drafts.values():
-            draft.close()
-        self.drafts.clear()
+        """Gives up the drafts that were not ended, and the room that they take."""
+        for name in list(self.drafts):
+            self.forget_draft(name)
 
     # what is there
 
@@ -156,6 +156,7 @@ class Node:
     def forget_draft(self, name):
         if name in self.drafts:
             self.drafts.pop(name).close()
+            self.folder.remove_draft(name)
 
     def draft(self, name):
         if name not in self.drafts:
@@ -173,7 +174,12 @@ class Node:
         header, _ = share.unpack_header(request.data), self.draft(request.name)
         if (header.name, header.node, header.store.hex()) != (request.name, self.marker["node"], self.marker["store"]):
             raise Refused("the header is of another image, node or store")
-        self.folder.prepare(request.name, self.drafts.pop(request.name), bytes(request.data))
+        try:
+            self.folder.prepare(request.name, self.drafts[request.name], bytes(request.data))
+        except BaseException:
+            self.forget_draft(request.name)
+            raise
+        self.drafts.pop(request.name).close()
 
     def commit(self, request):
         self.folder.commit(request.name, request.place)

@@ -2,6 +2,7 @@
 from . import carrier, coding, digest, frames, image, lock, pipeline, repair, roster, share, twophase
 from .errors import NodesFailed, StoreError, TooFewNodes, UsageError
 from .examine import examine
+from .family import Family
 from .frames import Request
 from .reader import Reader
 
@@ -50,7 +51,7 @@ def send(store, session, reader, target, jobs, whole):
         session.ask([target], lambda node: Request(frames.WRITE, layout.name, layout.place(batch[0]), data=parts))
         return batch[-1] + 1, part
 
-    for done, part in pipeline.in_order(work, batches(), store.threads):
+    for done, part in pipeline.in_order(work, batches(), store.threads, Family(session, reader)):
         total = None if part is None or total is None else total + part
         store.progress(f"node {target}, {layout.name}", done, layout.blocks)
     return None if total is None else digest.to_bytes(total)

@@ -22,18 +22,21 @@ class Draft:
 
     def __init__(self, file):
         self.file, self.place, self.sum = file, 0, 0
-        self._add(MAGIC)
 
-    def _add(self, data):
+    def _write(self, data):
         files.write(self.file, self.place, data)
         self.place, self.sum = self.place + len(data), zlib.crc32(data, self.sum)
 
+    def _begun(self):
+        """What stands first, where nothing was written yet."""
+        return MAGIC if self.place == 0 else b""
+
     def add(self, place, data):
-        self._add(RANGE.pack(place, len(data)) + data)
+        self._write(self._begun() + RANGE.pack(place, len(data)) + data)
 
     def end(self, header):
-        tail = header + struct.pack(">I", len(header))
-        self._add(tail + struct.pack(">I", zlib.crc32(tail, self.sum)))
+        tail = self._begun() + header + struct.pack(">I", len(header))
+        self._write(tail + struct.pack(">I", zlib.crc32(tail, self.sum)))
 
 
 def is_redo(start):

@@ -127,7 +127,10 @@ def rebuild(result):
 
 def event(result):
     present, needed = result["present"], result["needed"]
-    return 0, [f"{several(len(present), 'node')} present, {needed} needed: {listed(present)}"]
+    lines = [f"{several(len(present), 'node')} present, {needed} needed: {listed(present)}"]
+    if len(present) < needed:
+        lines.append("  these are too few: no image can be had or put until another returns")
+    return 0, lines
 
 
 def nodes(result):

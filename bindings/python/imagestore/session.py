@@ -6,9 +6,10 @@ import os
 import random
 import selectors
 import time
+from functools import partial
 
 from . import frames, interrupts, lock
-from .errors import Busy, NodesFailed, Refused, StoreError, TooFewNodes
+from .errors import Busy, NodesFailed, Refused, StoreError, TooFewNodes, of_disk
 from .frames import Request
 from .link import FolderLink
 from .node import MAKE
@@ -38,7 +39,7 @@ class Session:
             try:
                 self.links[node] = self.link(settings.nodes[node])
             except OSError as error:
-                self.down[node] = str(error)
+                self.down[node] = of_disk(error)
         head = frames.GREETING + frames.PROTOCOL.to_bytes(2, "big")
         self.try_ask(self.up(), lambda node: Request(
             frames.HELLO, count=how if node in make else 0, data=head + settings.marker(node)), timed=True)
@@ -61,21 +62,25 @@ class Session:
 
     def gather(self, nodes, request, timed=False):
         """Asks the nodes side by side: the answers, and what the others say instead."""
-        answers, failures, asked = {}, {}, []
+        answers, failures, asked, at_once = {}, {}, [], []
         for node in sorted(nodes):  # in one order in all threads, so that no two wait for each other
-            link = self.links.get(node)
-            try:
-                if link is None:
-                    raise Refused(self.down.get(node, "the node is not here"))
-                link.start(request(node))
-                asked.append((node, link))
-            except Refused as error:
-                failures[node] = error
+            link, wanted = self.links.get(node), request(node)
+            if link is None:
+                failures[node] = Refused(self.down.get(node, "the node is not here"))
+            elif not link.waits(wanted):
+                at_once.append((node, link, wanted))
+            else:
+                try:
+                    link.start(wanted)
+                    asked.append((node, link))
+                except Refused as error:
+                    failures[node] = error
         if timed:
             note_delays([link for _, link in asked])
-        for node, link in asked:
+        for node, work in [*((node, partial(link.ask, wanted)) for node, link, wanted in at_once),
+                           *((node, link.finish) for node, link in asked)]:
             try:
-                answers[node] = link.finish()
+                answers[node] = work()
             except Refused as error:
                 failures[node] = error
         return answers, failures
@@ -122,11 +127,14 @@ class Session:
             reasons = "".join(f"\n  node {node}: {why}" for node, why in sorted(self.down.items()))
             raise TooFewNodes(f"{what}: {len(self.links)} nodes are here, and {count} are needed{reasons}")
 
+    def everyone(self):
+        """The links by their nodes, of those that are down too."""
+        return dict(sorted([*self.past, *self.links.items()], key=lambda pair: pair[0]))
+
     def traffic(self):
         """The bytes that each node was sent and has sent, on the pipe, and of these what is share."""
-        links = sorted([*self.past, *self.links.items()], key=lambda pair: pair[0])
-        return {node: {"sent": link.sent, "received": link.received, "shares_sent": link.shares_sent,
-                       "shares_received": link.shares_received} for node, link in links}
+        return {node: dict(zip(("sent", "received", "shares_sent", "shares_received"), link.figures()))
+                for node, link in self.everyone().items()}
 
     def close(self):
         for link in self.links.values():

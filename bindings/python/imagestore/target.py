@@ -10,13 +10,16 @@ from .errors import StoreError
 
 
 class Stream:
-    """Something that takes bytes and cannot give them back."""
+    """Something that takes bytes one after the other, and cannot give them back."""
+
+    anywhere = False
 
     def __init__(self, file, own):
         self.file, self.own = file, own
 
-    def write(self, data):
-        self.file.write(data)
+    def write(self, place, parts):
+        for data in parts:
+            self.file.write(data)
 
     def keep(self):
         self.file.flush()
@@ -30,16 +33,17 @@ class Stream:
 
 
 class NewFile:
-    """A file under another name until it is kept."""
+    """A file under another name until it is kept. Threads write to it side by side, each where its bytes belong."""
+
+    anywhere = True
 
     def __init__(self, path):
         folder, self.name = os.path.split(os.path.realpath(path))
-        self.folder, self.place, self.draft_name = files.open_folder(folder), 0, f".{self.name}.{os.getpid()}.tmp"
+        self.folder, self.draft_name = files.open_folder(folder), f".{self.name}.{os.getpid()}.tmp"
         self.draft = files.create(self.folder, self.draft_name)
 
-    def write(self, data):
-        files.write(self.draft, self.place, data)
-        self.place += len(data)
+    def write(self, place, parts):
+        files.write(self.draft, place, parts)
 
     def keep(self):
         files.sync(self.draft)
@@ -47,8 +51,7 @@ class NewFile:
         files.sync(self.folder)
 
     def again(self):
-        """Begins anew: an image has the same length each time."""
-        self.place = 0
+        """Begins anew: an image has the same length each time, so nothing is left of what was written."""
 
     def close(self):
         os.close(self.draft)

@@ -3,6 +3,7 @@ import secrets
 
 from . import coding, digest, frames, pipeline, share, twophase
 from .errors import NodesFailed
+from .family import Family
 from .frames import Request
 from .layout import Layout
 
@@ -24,7 +25,7 @@ def send(store, session, nodes, layout, source):
         return part, end
 
     total = 0
-    for part, done in pipeline.in_order(work, layout.batches(pipeline.batch_blocks(layout)), store.threads):
+    for part, done in pipeline.in_order(work, layout.batches(pipeline.batch_blocks(layout)), store.threads, Family(session)):
         total += part
         store.progress("sent", done, layout.length)
     return digest.to_bytes(total)
