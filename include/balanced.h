@@ -496,14 +496,30 @@ uint8_t balanced_carry_in(const uint8_t *record, size_t record_len,
  *   symbols  read; symbols_len is what balanced_carried_len says for bytes_len
  *   bytes    written: of symbols that balanced_carry_in wrote, the bytes that it read
  *
- * A group is read under whatever mask stands before it: a program may change one word of a group, as one symbol, where the new word under
- * the mask is a symbol.
+ * A group is read under whatever mask stands before it, so it reads what balanced_carry_change has changed, too.
  *
  * Returns 0 or one of 1 to 5, 8, 11, 18.
  */
 uint8_t balanced_carry_out(const uint8_t *record, size_t record_len,
                            const uint8_t *symbols, size_t symbols_len,
                            uint8_t *bytes, size_t bytes_len);
+
+/*
+ * Changes bytes where symbols carry them: those from `at` on.
+ *
+ *   bytes_len  of how many bytes the symbols carry
+ *   new_bytes  read: what the bytes from `at` on become; the last of them is one of the bytes_len bytes
+ *   symbols    read, and written: symbols_len is what balanced_carried_len says for bytes_len
+ *
+ * A group that holds no changed byte is not written. One that does keeps its mask while all its words are symbols under it, so that a
+ * byte that changes changes one symbol; else the group is carried anew.
+ *
+ * Returns 0 or one of 1 to 5, 8, 9, 11, 18.
+ */
+uint8_t balanced_carry_change(const uint8_t *record, size_t record_len,
+                              size_t bytes_len, size_t at,
+                              const uint8_t *new_bytes, size_t new_len,
+                              uint8_t *symbols, size_t symbols_len);
 
 /* The length of the longest record. */
 #define BALANCED_RECORD 7

@@ -96,6 +96,9 @@ static uint8_t run_weights(const struct argument *a) { return balanced_weights(a
 static uint8_t run_carried_len(const struct argument *a) { return balanced_carried_len(a[0].at, a[1].value, a[2].value, a[3].at); }
 static uint8_t run_carry_in(const struct argument *a) { return balanced_carry_in(a[0].at, a[1].value, a[2].at, a[3].value, a[4].at, a[5].value); }
 static uint8_t run_carry_out(const struct argument *a) { return balanced_carry_out(a[0].at, a[1].value, a[2].at, a[3].value, a[4].at, a[5].value); }
+static uint8_t run_carry_change(const struct argument *a) {
+    return balanced_carry_change(a[0].at, a[1].value, a[2].value, a[3].value, a[4].at, a[5].value, a[6].at, a[7].value);
+}
 static uint8_t run_choose(const struct argument *a) { return balanced_choose(u32(a), u32(a + 1), a[2].at, a[3].value, a[4].at); }
 static uint8_t run_start(const struct argument *a) { return balanced_roster_start(a[0].at, a[1].value, a[2].at, a[3].value); }
 static uint8_t run_leave(const struct argument *a) { return balanced_roster_leave(a[0].at, a[1].value, a[2].at, a[3].value, u32(a + 4)); }
@@ -173,6 +176,10 @@ static void set_carrying_symbols(void) {
     balanced_carry_in(lent.record, RECORD_LEN, lent.one, CARRIED, lent.two, CARRYING);
     memset(lent.one, 0, ROOM);
 }
+static void set_changed_bytes(void) {
+    set_carrying_symbols();
+    for (unsigned i = 0; i < 3; i++) lent.one[i] = (uint8_t)i;
+}
 static void set_roster(void) {
     balanced_roster_start(lent.record, RECORD_LEN, lent.one, BALANCED_ROSTER);
     balanced_roster_leave(lent.record, RECORD_LEN, lent.one, BALANCED_ROSTER, 1);
@@ -212,6 +219,7 @@ static const struct call calls[] = {
     { "carried_len", run_carried_len, set_carried_bytes, { RECORD, { LENGTH, NULL, CARRIED, NULL }, { SIZES, &lent.size, 0, "carried_len" } } },
     { "carry_in", run_carry_in, set_carried_bytes, { RECORD, READ(one, CARRIED), WRITTEN(BYTES, two, CARRYING, "symbols") } },
     { "carry_out", run_carry_out, set_carrying_symbols, { RECORD, READ(two, CARRYING), WRITTEN(BYTES, one, CARRIED, "bytes") } },
+    { "carry_change", run_carry_change, set_changed_bytes, { RECORD, { LENGTH, NULL, CARRIED, NULL }, { LENGTH, NULL, 7, NULL }, READ(one, 3), WRITTEN(BYTES, two, CARRYING, "symbols") } },
     { "choose", run_choose, NULL, { VALUE(N + 1), VALUE(K), WRITTEN(BYTES, one, BALANCED_RECORD, "record"), GIVES(first, "record_len") } },
     { "roster_start", run_start, NULL, { RECORD, WRITTEN(BYTES, one, BALANCED_ROSTER, "roster") } },
     { "roster_leave", run_leave, set_roster, { RECORD, WRITTEN(BYTES, one, BALANCED_ROSTER, "roster"), VALUE(LANE) } },

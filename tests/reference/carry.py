@@ -1,10 +1,12 @@
-"""Bytes carried in the symbols of a record, and back.
+"""Bytes carried in the symbols of a record, back, and changed there.
 
 A record of kind 2 has bytes as symbols: they are carried as they are. With a prime p from 34,816 on, two bytes are a word of 16
 binary digits, the last of an odd number with a zero behind it. Each group of words goes as a mask, which is a symbol, and the words
 under it by exclusive or, which are symbols too. The mask is found digit by digit, the highest first: of the two halves of the masks
 that are left it is the one in which fewer pairs of a mask and a word give no symbol, and the lower one if they are as many; 0 counts
 as a word, so that the mask is a symbol. Any other record carries no bytes (18).
+
+A group of which bytes are changed keeps its mask while all its words are symbols under it, and else is carried anew.
 """
 from balanced import call, pairs
 
@@ -105,5 +107,32 @@ def carry_out(record, symbols, room):
             return bytes(symbols)
         size = group_words(plan.field.size) + 1
         return plan.bytes([word for group in groups(plan.symbols(symbols), size) for word in opened(group)])[:room]
+
+    return call(record, faults, work)
+
+
+def carry_change(record, count, at, data, symbols):
+    """(number, the symbols with the bytes from `at` on changed, of so many)"""
+
+    def faults(plan):
+        yield 18, not carries(plan)
+        yield 8, count > MOST_BYTES or len(symbols) != plan.size(carried_symbols(plan, count))
+        yield 9, at + len(data) > count
+        yield 11, any(symbol >= plan.field.size for symbol in plan.symbols(symbols))
+
+    def work(plan):
+        if is_bytes(plan):
+            return bytes(symbols[:at] + data + symbols[at + len(data):])
+        p, size = plan.field.size, group_words(plan.field.size)
+        parts, changed = groups(plan.symbols(symbols), size + 1), {}
+        for place, byte in enumerate(data, at):
+            part, word = divmod(place // 2, size)
+            words = changed.setdefault(part, opened(parts[part]))
+            words[word] = words[word] & 0xFF00 | byte if place % 2 else words[word] & 0xFF | byte << 8
+        for part, words in changed.items():
+            mask = parts[part][0]
+            served = all(word ^ mask < p for word in words)
+            parts[part] = [mask, *(word ^ mask for word in words)] if served else closed(p, words)
+        return plan.bytes([symbol for part in parts for symbol in part])
 
     return call(record, faults, work)

@@ -7,7 +7,7 @@ import sys
 from balanced import (
     belongs, build_plan, correct, encode, find_update, rebuild, recover, single_mends, to_lanes, to_nodes, update, weights,
 )
-from carry import carried_len, carry_in, carry_out
+from carry import carried_len, carry_change, carry_in, carry_out
 from choose import choose
 from data import block, refused
 from differences import add_share, differences
@@ -44,6 +44,7 @@ CALLS = {
     "carried_len": ["count"],
     "carry_in": ["bytes", "room"],
     "carry_out": ["symbols", "room"],
+    "carry_change": ["count", "at", "bytes", "symbols"],
     "choose": ["n", "k", "room"],
 }
 NO_RECORD = {"choose"}
@@ -51,6 +52,7 @@ WRITERS = {
     "encode": encode, "recover": recover, "rebuild": rebuild, "to_lanes": to_lanes, "to_nodes": to_nodes,
     "listed_to_lanes": listed_to_lanes, "listed_to_nodes": listed_to_nodes, "repair_bits": repair_bits, "repair_share": repair_share,
     "differences": differences, "add_share": add_share, "carry_in": carry_in, "carry_out": carry_out,
+    "carry_change": carry_change,
 }
 HISTORY = History()  # of the roster that the calls on a roster share
 

@@ -5,7 +5,7 @@ import re
 from collections import Counter
 
 from balanced import belongs, build_plan, correct, encode, find_update, rebuild, recover, single_mends, to_lanes, to_nodes, update, weights
-from carry import carried_len, carry_in, carry_out
+from carry import carried_len, carry_change, carry_in, carry_out
 from choose import choose
 from differences import add_share, differences, update_lanes
 from listed import correct_listed
@@ -138,6 +138,8 @@ def show_carried():
     show("carry_in", number, ("symbols", symbols))
     number, back = carry_out(record, symbols, len(data))
     show("carry_out", number, ("bytes", back))
+    number, symbols = carry_change(record, len(data), 7, bytes(range(3)), symbols)
+    show("carry_change", number, ("symbols", symbols))
     number, record = choose(N + 1, K, 7)
     show("choose", number, ("record", padded(record, 7)), ("record_len", [len(record)]))
 

@@ -189,6 +189,31 @@ class Carry(Numbers):
         for number in (-2, -1, 1, 2):
             self.refused(8, carry.carry_in(record, data, length + number))
 
+    def test_changed(self):
+        """Byte by byte as in one step; the bytes are those that were asked for; a group without a changed byte is as it was; a mask is kept while it serves."""
+        random = Random(11)
+        for record in self.RECORDS:
+            p = read(record)[0]
+            size = 2 * carry.group_words(p)
+            for count in (1, 2, 3, size - 1, size, size + 1, 2 * size + 3):
+                data = bytearray(random.choice([bytes(count), b"\xff" * count, random.randbytes(count)]))
+                symbols = self.result(carry.carry_in(record, bytes(data), self.result(carry.carried_len(record, count))))
+                for _ in range(5):
+                    at = random.randrange(count)
+                    part = random.choice([b"\xff", b"\xff\xff", random.randbytes(random.randrange(size))])[:count - at]
+                    data[at:at + len(part)] = part
+                    after = self.result(carry.carry_change(record, count, at, part, symbols))
+                    self.assertEqual(self.result(carry.carry_out(record, after, count)), data)
+                    for group in range(0, len(symbols), size + 2):
+                        first, old, new = group // (size + 2) * size, symbols[group:group + size + 2], after[group:group + size + 2]
+                        touched = at < first + size and first < at + len(part)
+                        words = carry.opened([int.from_bytes(new[i:i + 2], "big") for i in range(0, len(new), 2)])
+                        served = all(word ^ int.from_bytes(old[:2], "big") < p for word in words)
+                        self.assertEqual(old[:2] == new[:2] if served else touched, True)
+                        self.assertTrue(touched or old == new)
+                    symbols = after
+        self.met(0)
+
     def test_masks_by_counting(self):
         """Each half of the masks is gone through: the mask is in the one with fewer pairs that give no symbol, the lower if as many."""
         random = Random(9)
@@ -230,7 +255,11 @@ class Carry(Numbers):
         self.refused(8, carry.carry_out(record, b"\xff\xff", 2))
         self.refused(11, carry.carry_out(record, b"\xff\xf1\0\0", 2))
         self.refused(11, carry.carry_out(record, b"\0\0\xff\xff", 2))
-        self.met(5, 8, 11, 18)
+        self.refused(18, carry.carry_change([1, 7, 3, 6, 3], 2, 9, b"a", bytes(3)))
+        self.refused(8, carry.carry_change(record, 2, 9, b"a", bytes(3)))
+        self.refused(9, carry.carry_change(record, 1, 1, b"a", b"\xff\xff\0\0"))
+        self.refused(11, carry.carry_change(record, 2, 0, b"a", b"\0\0\xff\xff"))
+        self.met(5, 8, 9, 11, 18)
 
 
 class Choose(Numbers):

@@ -45,6 +45,27 @@ class Updates(StoreCase):
             self.assertEqual((len(changed), result["symbols_sent"], result["plain_sent"], result["told"]), (6, 6, 6, []))
         self.all_right(data)
 
+    def test_one_byte_in_symbols_of_two(self):
+        """On six nodes a byte changes one symbol, at n-k+1 nodes; where its word is no symbol under the mask its group is carried anew."""
+        self.make(6, 4, 64)
+        data = bytearray(1200)
+        self.put(data)
+
+        def update(place, part):
+            before = [self.share(node).read_bytes() for node in range(6)]
+            data[place:place + len(part)] = part
+            result = self.right("update", "image", "--at", place, self.file(part))
+            changed = [node for node in range(6) if self.share(node).read_bytes() != before[node]]
+            self.assertEqual(changed, result["nodes"])
+            return len(changed), result["symbols_sent"], result["plain_sent"], result["told"]
+
+        for place in (0, 1, 300, 509, 510, 777, 1199):
+            self.assertEqual(update(place, b"a"), (3, 6, 6, []))
+        self.assertGreater(update(0, b"\xff\xff")[1], 6)
+        for place in (3, 301, 508):
+            self.assertEqual(update(place, b"b"), (3, 6, 6, []))
+        self.all_right(data)
+
     def test_what_is_sent_is_added(self):
         """The nodes of the row are sent what they have to add, and no other node is sent anything; the library says what that is."""
         self.make(15, 10, 8)

@@ -7,7 +7,7 @@ from .calls import call
 from .sizes import Into, Sizes
 
 if TYPE_CHECKING:
-    from _typeshed import ReadableBuffer
+    from _typeshed import ReadableBuffer, WriteableBuffer
 
 RECORD_LEN = 7
 
@@ -65,3 +65,18 @@ class Carrying(Sizes):
         data = bytearray(count) if into is None else into
         call("carry_out", self.record, symbols, data)
         return data
+
+    def carry_change(self, symbols: WriteableBuffer, count: int, at: int, data: ReadableBuffer) -> None:
+        """Changes bytes where symbols carry them: of `count` bytes those from `at` on become these.
+
+        A group of words keeps its mask while all its words are symbols under it, so that one byte changes one symbol; else it
+        is carried anew.
+
+        >>> from balanced import Plan
+        >>> plan = Plan(choose(6, 5))
+        >>> symbols = plan.carry_in(b"any \\xff\\xff")
+        >>> plan.carry_change(symbols, 6, 4, b"!")
+        >>> symbols.hex(" ", 2), bytes(plan.carry_out(symbols, 6))
+        ('4000 216e 3920 61ff', b'any !\\xff')
+        """
+        call("carry_change", self.record, count, at, data, symbols)

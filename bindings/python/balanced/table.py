@@ -67,6 +67,7 @@ CALLS: dict[str, tuple[Parameter, ...]] = {
     "carried_len": (RECORD, Number("bytes_len", c_size_t), Result("carried_len", c_size_t)),
     "carry_in": (RECORD, read("bytes"), written("symbols")),
     "carry_out": (RECORD, read("symbols"), written("bytes")),
+    "carry_change": (RECORD, Number("bytes_len", c_size_t), Number("at", c_size_t), read("new_bytes"), written("symbols")),
     "choose": (Number("n"), Number("k"), written("record"), Result("record_len")),
     "weights": (RECORD, written("counts", c_uint32)),
     "repair_plan": (RECORD, Number("missing"), Result("bits"), Result("spare")),

@@ -97,10 +97,11 @@ def change_block(store, layout, block, held, place, source):
     old = coding.recover(plan, lanes, held)
     before = bytes(carrier.uncarry(plan, old, size))
     first, end = max(start, place), min(start + size, place + source.length)
-    after = before[:first - start] + source.read(first - place, bytearray(end - first)) + before[end - start:]
+    part = source.read(first - place, bytearray(end - first))
+    after = before[:first - start] + part + before[end - start:]
     if after == before:
         return Changes()
-    new = carrier.carry(plan, lanes, after)
+    new = carrier.change(plan, old, size, first - start, part)
     op, found = for_nodes(plan, lanes, old, new)
     plain, nodes = in_plain_layout(plan, lanes, old, new)
     return Changes(

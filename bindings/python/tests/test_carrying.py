@@ -43,6 +43,34 @@ class Carrying(CallCase):
         self.same((8, None), Plan([2, 11, 15, 10]).carried_len, 2**62 + 1)
         self.met(0, 8, 11, 18)
 
+    def test_changed(self):
+        """A part of the bytes changed, beside the reference; also behind them, and in what is no symbol."""
+        random = Random(33)
+        for record in [*self.records(random), bytes([1, 7, 3, 6, 3]), bytes([3, 1, 1, 0, 16, 4, 2])]:
+            plan = Plan(record)
+            for count in random.sample(COUNTS, 6):
+                data = self.data(random, record, count)
+                number, symbols = carry.carry_in(record, data, carry.carried_len(record, count)[1] or 0)
+                symbols = symbols or bytes(4)
+                if symbols and random.random() < 0.2:
+                    symbols = b"\xff\xff" + symbols[2:]
+                at = random.randrange(count + 2)
+                new = random.choice([b"", b"\xff", random.randbytes(random.randrange(40))])
+                number, _, lent = self.outcome(plan.carry_change, bytearray(symbols), count, at, new)
+                expect, after = carry.carry_change(record, count, at, new, symbols)
+                self.assertEqual((number, bytes(lent[0])), (expect, symbols if expect else after), (record, count, at, new))
+        self.met(0, 9, 11, 18)
+
+    def test_one_symbol(self):
+        plan = Plan(choose(6, 5))
+        symbols = plan.carry_in(bytes(1000))
+        before = bytes(symbols)
+        plan.carry_change(symbols, 1000, 777, b"x")
+        self.assertEqual(sum(old != new for old, new in zip(before, symbols)), 1)
+        for wrong in (None, "text", 5):
+            self.assertRaises(TypeError, plan.carry_change, symbols, 1000, 0, wrong)
+        self.assertRaises(TypeError, plan.carry_change, before, 1000, 0, b"x")
+
     def out(self, random, record, plan, symbols, count):
         """What was carried comes back; also what is too short, too long, or no symbol."""
         wrong = bytearray(symbols)

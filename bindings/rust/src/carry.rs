@@ -67,6 +67,42 @@ pub fn carry_out(record: &[u8], symbols: &[u8], bytes: &mut [u8]) -> Result<(), 
     Error::check(number)
 }
 
+/// Changes bytes where symbols carry them: those from `at` on, of `bytes` bytes that the symbols carry, become `new_bytes`.
+///
+/// A group of words that holds one of them keeps its mask while all its words are symbols under it, so that a byte that changes changes one
+/// symbol; else it is carried anew. No other group is written. A part that ends behind the bytes meets [`Error::Range`].
+///
+/// ```
+/// use balanced::{Error, Plan};
+///
+/// let plan = Plan::choose(6, 5)?;
+/// let mut symbols = vec![0; plan.carried_len(9)?];
+/// plan.carry_in(b"any bytes", &mut symbols)?;
+/// let before = symbols.clone();
+/// plan.carry_change(9, 4, b"B", &mut symbols)?;
+/// assert_eq!(before.chunks(2).zip(symbols.chunks(2)).filter(|(old, new)| old != new).count(), 1);
+///
+/// let mut back = vec![0; 9];
+/// plan.carry_out(&symbols, &mut back)?;
+/// assert_eq!(back, b"any Bytes");
+/// # Ok::<(), Error>(())
+/// ```
+pub fn carry_change(record: &[u8], bytes: usize, at: usize, new_bytes: &[u8], symbols: &mut [u8]) -> Result<(), Error> {
+    let number = unsafe {
+        sys::balanced_carry_change(
+            record.as_ptr(),
+            record.len(),
+            bytes,
+            at,
+            new_bytes.as_ptr(),
+            new_bytes.len(),
+            symbols.as_mut_ptr(),
+            symbols.len(),
+        )
+    };
+    Error::check(number)
+}
+
 /// Writes a record with n nodes, any k of which give a message back, that carries bytes, and gives its length. `record` has seven bytes; those
 /// behind the record are left as they are. Every n from 2 to 255 and k from 1 to n has one; others meet [`Error::Size`].
 pub fn choose(n: u32, k: u32, record: &mut [u8]) -> Result<usize, Error> {
@@ -96,5 +132,10 @@ impl Plan {
     /// [`carry_out`](crate::carry_out) with this plan's record.
     pub fn carry_out(&self, symbols: &[u8], bytes: &mut [u8]) -> Result<(), Error> {
         carry_out(self.record(), symbols, bytes)
+    }
+
+    /// [`carry_change`](crate::carry_change) with this plan's record.
+    pub fn carry_change(&self, bytes: usize, at: usize, new_bytes: &[u8], symbols: &mut [u8]) -> Result<(), Error> {
+        carry_change(self.record(), bytes, at, new_bytes, symbols)
     }
 }

@@ -179,7 +179,7 @@ pub mod sys;
 pub use calls::{
     belongs, correct, encode, listed_to_lanes, listed_to_nodes, rebuild, recover, to_lanes, to_nodes, update, weights,
 };
-pub use carry::{carried_len, carry_in, carry_out, choose};
+pub use carry::{carried_len, carry_change, carry_in, carry_out, choose};
 pub use differences::{add_share, differences};
 pub use error::Error;
 pub use lanes::{find_update, mends, Finding};

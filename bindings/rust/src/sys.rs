@@ -248,6 +248,17 @@ extern "C" {
         bytes_len: usize,
     ) -> u8;
 
+    pub fn balanced_carry_change(
+        record: *const u8,
+        record_len: usize,
+        bytes_len: usize,
+        at: usize,
+        new_bytes: *const u8,
+        new_len: usize,
+        symbols: *mut u8,
+        symbols_len: usize,
+    ) -> u8;
+
     pub fn balanced_choose(n: u32, k: u32, record: *mut u8, room: usize, record_len: *mut u32) -> u8;
 
     pub fn balanced_weights(record: *const u8, record_len: usize, counts: *mut u32, counts_len: usize) -> u8;

@@ -2,7 +2,7 @@
 #![tactic(auto)]
 
 pub use belongs::block_belongs;
-pub use carry::{carried_len, carry_in, carry_out};
+pub use carry::{carried_len, carry_change, carry_in, carry_out};
 pub use choose::choose_record;
 pub use correct::correct_block;
 pub use differences::{add_share, differences};

@@ -11,9 +11,9 @@ use Rattle.lists.specs.Choice.{pick}
 use Rattle.generator.proofs.Answered.{done_is, value_is, refused_is, answer_number}
 use Rattle.refusals.specs.Faults.{fault_of}
 use Rattle.blocks.proofs.Refused.{refused_value}
-use Rattle.carry.specs.Promise.{carried_len_fault, carry_in_fault, carry_out_fault, CarriedLenSays, CarryInSays, CarryOutSays}
+use Rattle.carry.specs.Promise.{carried_len_fault, carry_in_fault, carry_out_fault, carry_change_fault, CarriedLenSays, CarryInSays, CarryOutSays, CarryChangeSays}
 use Rattle.choose.specs.Promise.{chosen_record, choose_fault, ChooseSays}
-use Rattle.balanced_c.specs.BytesCarried.{CarriedLenGives, CarryInGives, CarryOutGives, ChooseGives}
+use Rattle.balanced_c.specs.BytesCarried.{CarriedLenGives, CarryInGives, CarryOutGives, CarryChangeGives, ChooseGives}
 use Rattle.balanced_c.proofs.Answers.{by_number, with_value, counted_value, counted_again}
 
 pub carry_in_gives : (rec bytes out out' : List ℕ) (a : Answer (Unit {0})) (r : ℕ) → r ≡ fault_in a → CarryInSays rec bytes out out' a → CarryInGives rec bytes out out' r
@@ -24,6 +24,11 @@ carry_in_gives rec bytes out out' a r e says =
 pub carry_out_gives : (rec symbols out out' : List ℕ) (a : Answer (Unit {0})) (r : ℕ) → r ≡ fault_in a → CarryOutSays rec symbols out out' a → CarryOutGives rec symbols out out' r
 carry_out_gives rec symbols out out' a r e says =
     let number = by_number a r (fault_of rec (λ h. carry_out_fault h (length out) symbols)) e says.promise.answered in
+    record { number = number; says = record { promise = record { answered = ap outcome_of number; written = says.promise.written } } }
+
+pub carry_change_gives : (rec : List ℕ) (n at : ℕ) (bytes symbols symbols' : List ℕ) (a : Answer (Unit {0})) (r : ℕ) → r ≡ fault_in a → CarryChangeSays rec n at bytes symbols symbols' a → CarryChangeGives rec n at bytes symbols symbols' r
+carry_change_gives rec n at bytes symbols symbols' a r e says =
+    let number = by_number a r (fault_of rec (λ h. carry_change_fault h n at (length bytes) symbols)) e says.promise.answered in
     record { number = number; says = record { promise = record { answered = ap outcome_of number; written = says.promise.written } } }
 
 module _ (rec : List ℕ) (n carried : ℕ) where

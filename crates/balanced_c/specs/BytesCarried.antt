@@ -5,7 +5,7 @@ use Rattle.generator.specs.Answers.{answer_of, outcome_of}
 use Rattle.generator.specs.Records.{header_of, modulus_of}
 use Rattle.refusals.specs.Faults.{fault_of}
 use Rattle.carrying.specs.Carrying.{carried_length}
-use Rattle.carry.specs.Promise.{carried_len_fault, carry_in_fault, carry_out_fault, CarryInSays, CarryOutSays}
+use Rattle.carry.specs.Promise.{carried_len_fault, carry_in_fault, carry_out_fault, carry_change_fault, CarryInSays, CarryOutSays, CarryChangeSays}
 use Rattle.choose.specs.Promise.{chosen_record, choose_fault, ChooseSays}
 
 -- `balanced_carried_len`: the number, and how many bytes carry `count` where there is none
@@ -22,6 +22,11 @@ pub record CarryInGives (rec bytes out out' : List ℕ) (f : ℕ) : Type 0 where
 pub record CarryOutGives (rec symbols out out' : List ℕ) (f : ℕ) : Type 0 where
   pub number : f ≡ fault_of rec (λ h. carry_out_fault h (length out) symbols)
   pub says : CarryOutSays rec symbols out out' (outcome_of f)
+
+-- `balanced_carry_change`: the number, and what the call says of the symbols
+pub record CarryChangeGives (rec : List ℕ) (n at : ℕ) (bytes symbols symbols' : List ℕ) (r : ℕ) : Type 0 where
+  pub number : r ≡ fault_of rec (λ h. carry_change_fault h n at (length bytes) symbols)
+  pub says : CarryChangeSays rec n at bytes symbols symbols' (outcome_of r)
 
 -- `balanced_choose`: the number, what the call says of the record, and how many bytes it has
 pub record ChooseGives (n k : ℕ) (out : List ℕ) (len : ℕ) (out' : List ℕ) (len' f : ℕ) : Type 0 where

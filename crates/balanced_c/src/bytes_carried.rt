@@ -1,5 +1,5 @@
-// Any bytes carried in the symbols of a record, and read again; and a record for n and k that carries them.
-ghost use Rattle.balanced_c.specs.BytesCarried.{CarriedLenGives, CarryInGives, CarryOutGives, ChooseGives};
+// Any bytes carried in the symbols of a record, read again, and changed there; and a record for n and k that carries them.
+ghost use Rattle.balanced_c.specs.BytesCarried.{CarriedLenGives, CarryInGives, CarryOutGives, CarryChangeGives, ChooseGives};
 
 use crate::{hand_over, number_of};
 
@@ -28,6 +28,19 @@ pub fn balanced_carry_out(rec: &[u8], symbols: &[u8], bytes: &mut [u8]) -> u8
     ensures { CarryOutGives rec.now symbols.now bytes.old bytes.new result }
 {
     number_of(balanced::carry_out(rec, symbols, bytes))
+}
+
+// The bytes from `at` on changed, of `length` bytes that symbols carry.
+pub fn balanced_carry_change(
+    rec: &[u8],
+    length: usize,
+    at: usize,
+    bytes: &[u8],
+    symbols: &mut [u8],
+) -> u8
+    ensures { CarryChangeGives rec.now length at bytes.now symbols.old symbols.new result }
+{
+    number_of(balanced::carry_change(rec, length, at, bytes, symbols))
 }
 
 // A record with n nodes, any k of which give a message back, that carries bytes; `len` receives how many bytes it has.

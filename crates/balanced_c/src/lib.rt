@@ -16,7 +16,8 @@ mod rosters;
 mod version;
 
 pub use bytes_carried::{
-    balanced_carried_len, balanced_carry_in, balanced_carry_out, balanced_choose,
+    balanced_carried_len, balanced_carry_change, balanced_carry_in, balanced_carry_out,
+    balanced_choose,
 };
 pub use changes::{balanced_add_share, balanced_differences};
 pub use correction::balanced_correct;

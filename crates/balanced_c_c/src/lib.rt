@@ -8,7 +8,7 @@ ghost use Rattle.balanced_c.specs.RowChanges.{DifferencesGives, AddGives};
 ghost use Rattle.balanced_c.specs.Corrections.{CorrectGives};
 ghost use Rattle.balanced_c.specs.Lanes.{FindGives, MendsGive};
 ghost use Rattle.balanced_c.specs.Repairs.{RepairPlanGives, RepairBitsGives, RepairShareGives};
-ghost use Rattle.balanced_c.specs.BytesCarried.{CarriedLenGives, CarryInGives, CarryOutGives, ChooseGives};
+ghost use Rattle.balanced_c.specs.BytesCarried.{CarriedLenGives, CarryInGives, CarryOutGives, CarryChangeGives, ChooseGives};
 ghost use Rattle.roster.specs.Events.{leaves, returns};
 ghost use Rattle.roster_bytes.specs.Calls.{StartGives, EventGives, LowestGives, JobGives};
 ghost use Rattle.balanced_c.specs.Version.{version_number};
@@ -290,6 +290,20 @@ pub extern "C" fn balanced_carry_out(rec: &[u8], symbols: &[u8], bytes: &mut [u8
     ensures { CarryOutGives rec.now symbols.now bytes.old bytes.new result }
 {
     balanced_c::balanced_carry_out(rec, symbols, bytes)
+}
+
+// The bytes from `at` on changed, of `length` bytes that symbols carry.
+#[unsafe(no_mangle)]
+pub extern "C" fn balanced_carry_change(
+    rec: &[u8],
+    length: usize,
+    at: usize,
+    bytes: &[u8],
+    symbols: &mut [u8],
+) -> u8
+    ensures { CarryChangeGives rec.now length at bytes.now symbols.old symbols.new result }
+{
+    balanced_c::balanced_carry_change(rec, length, at, bytes, symbols)
 }
 
 // A record with n nodes, any k of which give a message back, that carries bytes; `len` receives how many bytes it has.

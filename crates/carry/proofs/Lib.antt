@@ -3,4 +3,5 @@ pub mod Accepts
 pub mod Words
 pub mod Digits
 pub mod Parts
+pub mod Changes
 pub mod Back

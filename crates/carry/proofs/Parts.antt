@@ -1,27 +1,27 @@
 -- One group after the other, as code goes through them.
 use Rattle.std.proofs.lemmas.Grind.{div_ceil_times}
 use Rattle.std.proofs.lemmas.List.{nil_from_length}
-use mathlib.Core.Path.{◌≡◌, refl, sym, ap, ap₂, ◌∙◌}
+use mathlib.Core.Path.{◌≡◌, refl, sym, ap, ◌∙◌}
 use mathlib.Core.List.{List, [], ◌++◌, append-nil, append_assoc}
 use Prim.Native.Nat.{ℕ, ◌+◌, ◌-◌, ◌*◌, ◌/◌, ◌%◌, min, ◌≤◌, ◌<◌}
 use native.Mathlib.Nat.{add-mul, one-mul, zero-mul, sub-zero, div-eq_of_lt-le}
 use native.Mathlib.Omega.{arith}
 use borrow.Author.Tests.{leb-true, leb-false}
 use lib.Dec.{leb}
-use lib.ListN.{length, take, drop, length-append, length-drop, drop_of_length-le}
-use lib.Seq.{take-nil, take_all, take_at, drop_at, length-take-le, take-append-le, take-append-add}
+use lib.ListN.{length, take, drop, length-append, length-drop}
+use lib.Seq.{take-nil, take_all, length-take-le, take-append-le, take-append-add}
 use Rattle.lists.specs.Padded.{zeros, padded}
 use Rattle.lists.proofs.Cases.{by_test}
 use Rattle.lists.proofs.Fill.{Fills, fills_start, fills_part, fills_all, filled_length}
 use Rattle.layout.specs.Width.{symbols_of, bytes_of}
-use Rattle.layout.proofs.LaneParts.{bytes_replaced}
 use Rattle.layout.proofs.Readings.{symbols_append}
 use Rattle.layout.proofs.Widths.{length_symbols, length_bytes}
 use Rattle.carrying.specs.Groups.{by_groups, group_count}
 use Rattle.carrying.specs.Masks.{closed, opened}
 use Rattle.carrying.specs.Carrying.{group_words, word_count, words_of, carried_symbols, carried_words, words_back, word_bytes_back, words_length}
 use Rattle.carrying.proofs.Carried.{length_closed, length_opened}
-use Rattle.carrying.proofs.Grouping.{groups_none, groups_next, count_none, count_short, count_next}
+use Rattle.carrying.proofs.Changing.{bytes_joined}
+use Rattle.carrying.proofs.Grouping.{groups_none, groups_joined, count_none, count_short, count_next}
 use Rattle.carrying.proofs.Bytes.{evened, length_words}
 use Rattle.carry.proofs.Words.{words_symbols}
 
@@ -33,28 +33,10 @@ groups_ceil m n some =
     let (most, least) = div_ceil_times n m some in
     div-eq_of_lt-le {k = k} m {m = n + (m - 1)} (omega arith) (omega (arith, add-mul k 1 m, one-mul m))
 
--- bytes of joined symbols
-pub bytes_joined : (xs ys : List ℕ) → bytes_of 2 (xs ++ ys) ≡ bytes_of 2 xs ++ bytes_of 2 ys
-bytes_joined xs ys = sym (bytes_replaced 2 0 0 xs ys)
-
--- a group, and those behind it: there are none unless it is whole
+-- a group, and those behind it
 module _ (g : List ℕ → List ℕ) (m : ℕ) (xs ys : List ℕ) (some : 0 < length xs) (most : length xs ≤ m) (whole : 0 < length ys → length xs ≡ m) where
-  first_group : take m (xs ++ ys) ≡ xs
-  first_group =
-      by_test (leb (length ys) 0)
-      (λ e. ap (λ (l : List ℕ). take m (xs ++ l)) (nil_from_length ys (omega (arith, leb-true (length ys) 0 e))) ∙ ap (take m) (append-nil xs) ∙ take_all m xs most)
-      (λ e. take_at xs ys m (whole (leb-false (length ys) 0 e)))
-
-  other_groups : drop m (xs ++ ys) ≡ ys
-  other_groups =
-      by_test (leb (length ys) 0)
-      (λ e. drop_of_length-le (xs ++ ys) {i = m} (omega (arith, length-append xs ys, leb-true (length ys) 0 e)) ∙ sym (nil_from_length ys (omega (arith, leb-true (length ys) 0 e))))
-      (λ e. drop_at xs ys m (whole (leb-false (length ys) 0 e)))
-
   pub groups_turn : bytes_of 2 (by_groups g m (xs ++ ys)) ≡ bytes_of 2 (g xs) ++ bytes_of 2 (by_groups g m ys)
-  groups_turn =
-      ap (bytes_of 2) (groups_next g m (omega arith) (xs ++ ys) (omega (arith, length-append xs ys)) ∙ ap₂ (λ (x y : List ℕ). g x ++ by_groups g m y) first_group other_groups)
-      ∙ bytes_joined (g xs) (by_groups g m ys)
+  groups_turn = ap (bytes_of 2) (groups_joined g m xs ys some most whole) ∙ bytes_joined (g xs) (by_groups g m ys)
 
 -- .. and nothing where no number is left
 pub groups_end : (g : List ℕ → List ℕ) (m : ℕ) (xs : List ℕ) → 0 < m → length xs ≡ 0 → bytes_of 2 (by_groups g m xs) ≡ []

@@ -8,14 +8,13 @@ use lib.Bits.{bit_xor, xor_shr, xor_mod}
 use lib.ListN.{length, get_or, take, drop, length-append, drop_of_length-le}
 use lib.Seq.{take_at, drop_at}
 use Rattle.lists.specs.Padded.{zeros, padded}
-use Rattle.std.proofs.lemmas.List.{get_or-map}
 use Rattle.lists.proofs.Padding.{get_or_padded, padded_past}
 use Rattle.layout.specs.Width.{symbol_at, symbols_of, symbol_bytes, bytes_of}
 use Rattle.layout.proofs.Widths.{get_or_symbols, length_symbols}
 use Rattle.layout.proofs.Readings.{symbol_pair, get_or_bytes}
-use Rattle.carrying.specs.Masks.{masked, opened}
+use Rattle.carrying.specs.Masks.{opened}
 use Rattle.carrying.specs.Carrying.{word_count, words_of}
-use Rattle.carrying.proofs.Carried.{length_opened}
+use Rattle.carrying.proofs.Carried.{masked_at, length_opened}
 use Rattle.carrying.proofs.Bytes.{evened, length_evened, words_even}
 
 -- word i of bytes
@@ -53,11 +52,7 @@ words_symbols s even = ap (symbols_of 2) (ap (λ (n : ℕ). padded n s) (words_e
         let none : length s - length s ≡ 0 = omega arith in
         ap (λ (n : ℕ). s ++ zeros n) none ∙ append-nil s
 
--- a word under a mask
-pub masked_at : (c : ℕ) (ws : List ℕ) (i : ℕ) → i < length ws → get_or (masked c ws) i 0 ≡ bit_xor (get_or ws i 0) c
-unfolding masked
-masked_at c ws i h = get_or-map (λ w. bit_xor w c) ws i 0 0 h
-
+-- a word of an opened group
 opened_at : (xs : List ℕ) (i : ℕ) → i + 1 < length xs → get_or (opened xs) i 0 ≡ bit_xor (get_or xs (i + 1) 0) (get_or xs 0 0)
 unfolding opened
 opened_at [] i h = absurd (omega arith)

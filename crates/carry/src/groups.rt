@@ -1,7 +1,7 @@
 // Groups of words behind their masks, in symbols of two bytes, and read again.
 ghost use Rattle.std.specs.Prelude.{◌≡◌, ◌+◌, ◌*◌, ◌%◌, ◌≤◌, ◌<◌, length, take, slice_index_or};
 ghost use Rattle.layout.specs.Width.{symbols_of, bytes_of};
-ghost use Rattle.carrying.specs.Masks.{masked, closed, opened};
+ghost use Rattle.carrying.specs.Masks.{masked, covered, closed, opened};
 ghost use Rattle.carrying.specs.Carrying.{word_count, words_of, carried_words, word_bytes_back, words_length};
 
 use crate::prime::WordPrime;
@@ -9,7 +9,7 @@ use arrayvec::ArrayVec;
 use symbols::Width;
 
 // A word has two bytes.
-const PAIR: Width = Width { bytes: 2 };
+pub const PAIR: Width = Width { bytes: 2 };
 
 // Word i of bytes; behind an odd number of them stands a zero.
 fn word_at(s: &[u8], i: usize) -> u16
@@ -23,7 +23,7 @@ fn word_at(s: &[u8], i: usize) -> u16
 }
 
 // The words of bytes.
-fn load_words(s: &[u8]) -> ArrayVec<u16, 255>
+pub fn load_words(s: &[u8]) -> ArrayVec<u16, 255>
     requires { word_count (length s.now) ≤ 255 }
     ensures { result.items ≡ words_of s.now }
 {
@@ -46,8 +46,17 @@ fn write_masked(c: u16, words: &[u16], out: &mut [u8])
     }
 }
 
+// A mask, and words under it.
+pub fn write_covered(c: u16, words: &[u16], out: &mut [u8])
+    requires { length out.old ≡ length words.now * 2 + 2 }
+    ensures { out.new ≡ bytes_of 2 (covered c words.now) }
+{
+    PAIR.write_symbol(c, &mut out[..2]);
+    write_masked(c, words, &mut out[2..]);
+}
+
 // As many bytes of a group as there is room for: its mask stands first, and a byte is under the mask's byte of its place in the word.
-fn open_group(group: &[u8], out: &mut [u8])
+pub fn open_group(group: &[u8], out: &mut [u8])
     requires { (length group.now % 2 ≡ 0) × (length out.old + 2 ≤ length group.now) }
     ensures { out.new ≡ take (length out.old) (bytes_of 2 (opened (symbols_of 2 group.now))) }
 {
@@ -63,9 +72,7 @@ impl WordPrime {
         ensures { out.new ≡ bytes_of 2 (closed self.p (words_of s.now)) }
     {
         let words = load_words(s);
-        let c = self.find_mask(&words);
-        PAIR.write_symbol(c, &mut out[..2]);
-        write_masked(c, &words, &mut out[2..]);
+        write_covered(self.find_mask(&words), &words, out);
     }
 
     // All groups of bytes.

@@ -1,10 +1,16 @@
 // What carries the bytes of a record: its symbols, as they are or as words.
-ghost use Rattle.std.specs.Prelude.{◌≡◌, ◌≤◌, length};
+ghost use Rattle.std.specs.Prelude.{◌≡◌, true, ◌+◌, ◌≤◌, length};
 ghost use Rattle.lists.specs.Choice.{when};
+ghost use Rattle.lists.specs.Numbers.{all_below};
+ghost use Rattle.layout.specs.Width.{symbols_of};
+ghost use Rattle.field.specs.Fields.{size_of};
+ghost use Rattle.field.specs.Widths.{bytes_for};
 ghost use Rattle.generator.specs.Records.{modulus_of};
 ghost use Rattle.carrying.specs.Carrying.{carries_none, carried_bytes, bytes_back, carried_length};
+ghost use Rattle.carrying.specs.Changing.{changed_bytes};
 ghost use Rattle.carry.specs.Inner.Kinds.{field_of, Tested};
 
+use crate::change::replace;
 use crate::prime::WordPrime;
 use field::Field;
 use generator::{Code, Refusal};
@@ -62,6 +68,17 @@ impl Carrying {
         match self {
             Carrying::Bytes => out.copy_from_slice(symbols),
             Carrying::Words(prime) => prime.open_groups(symbols, out),
+        }
+    }
+
+    // A part of n bytes changed where symbols carry them.
+    pub fn change(self, n: usize, at: usize, bytes: &[u8], symbols: &mut [u8])
+        requires { (length symbols.old ≡ carried_length (field_of self) n) × (at + length bytes.now ≤ n) × (all_below (size_of (field_of self)) (symbols_of (bytes_for (field_of self)) symbols.old) ≡ true) }
+        ensures { symbols.new ≡ changed_bytes (field_of self) at bytes.now symbols.old }
+    {
+        match self {
+            Carrying::Bytes => replace(at, bytes, symbols),
+            Carrying::Words(prime) => prime.change_groups(at, bytes, symbols),
         }
     }
 }

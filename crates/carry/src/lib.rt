@@ -1,14 +1,15 @@
-// Any bytes carried in the symbols of a record, and read again. Symbols of the field of 256 elements are bytes. In symbols of two bytes
+// Any bytes carried in the symbols of a record, read again, and changed there. Symbols of the field of 256 elements are bytes. In symbols of two bytes
 // below p words of 16 binary digits go in groups, each group behind a mask under which all of them are symbols.
-// What the three calls promise stands in specs/Promise.antt.
+// What the four calls promise stands in specs/Promise.antt.
 #![tactic(auto)]
 
 ghost use Rattle.std.specs.Prelude.{length};
 ghost use Rattle.generator.specs.Answers.{numbered};
-ghost use Rattle.carry.specs.Promise.{carried_len_fault, carry_in_fault, carry_out_fault, CarriedLenPromise, CarryInPromise, CarryOutPromise, CarriedLenSays, CarryInSays, CarryOutSays};
+ghost use Rattle.carry.specs.Promise.{carried_len_fault, carry_in_fault, carry_out_fault, carry_change_fault, CarriedLenPromise, CarryInPromise, CarryOutPromise, CarryChangePromise, CarriedLenSays, CarryInSays, CarryOutSays, CarryChangeSays};
 
 use generator::{Code, Refusal};
 
+mod change;
 mod fault;
 mod groups;
 mod kinds;
@@ -40,6 +41,21 @@ fn read_accepted(code: Code, symbols: &[u8], out: &mut [u8]) -> Result<(), Refus
     Ok(())
 }
 
+// A part of n bytes changed there. `n` tells how many bytes the symbols carry, an odd number or an even one.
+fn change_accepted(
+    code: Code,
+    n: usize,
+    at: usize,
+    bytes: &[u8],
+    symbols: &mut [u8],
+) -> Result<(), Refusal>
+    ensures { CarryChangePromise at bytes.now symbols.old symbols.new (numbered result) code.header (carry_change_fault code.header n at (length bytes.now) symbols.old) }
+{
+    let carrying = fault::carry_change_fault(code, n, at, bytes.len(), symbols)?;
+    carrying.change(n, at, bytes, symbols);
+    Ok(())
+}
+
 // How many bytes of symbols carry so many bytes, or what turns the call away.
 pub fn carried_len(rec: &[u8], length: usize) -> Result<usize, Refusal>
     ensures { CarriedLenSays rec.now length (numbered result) }
@@ -62,4 +78,18 @@ pub fn carry_out(rec: &[u8], symbols: &[u8], bytes: &mut [u8]) -> Result<(), Ref
 {
     let code = records::read_record(rec)?;
     read_accepted(code, symbols, bytes)
+}
+
+// Changes the bytes from `at` on, of `length` bytes that symbols carry, or gives what turns the call away and changes nothing.
+pub fn carry_change(
+    rec: &[u8],
+    length: usize,
+    at: usize,
+    bytes: &[u8],
+    symbols: &mut [u8],
+) -> Result<(), Refusal>
+    ensures { CarryChangeSays rec.now length at bytes.now symbols.old symbols.new (numbered result) }
+{
+    let code = records::read_record(rec)?;
+    change_accepted(code, length, at, bytes, symbols)
 }

@@ -1,8 +1,8 @@
--- Bytes over either kind of field: read again, in symbols, and how many.
+-- Bytes over either kind of field: read again, in symbols, how many, and changed.
 use mathlib.Core.Path.{◌≡◌}
 use mathlib.Core.Bool.{true, false}
 use mathlib.Core.List.{List}
-use Prim.Native.Nat.{ℕ, ◌<◌}
+use Prim.Native.Nat.{ℕ, ◌+◌, ◌≤◌, ◌<◌}
 use native.Mathlib.Omega.{arith}
 use borrow.Author.Tests.{eqb-false, lt-leb}
 use lib.Dec.{eqb}
@@ -14,7 +14,9 @@ use Rattle.layout.proofs.Widths.{symbols_one}
 use Rattle.field.specs.Fields.{size_of}
 use Rattle.field.specs.Widths.{bytes_for}
 use Rattle.carrying.specs.Carrying.{carries_none, words_length, carried_bytes, bytes_back, carried_length}
+use Rattle.carrying.specs.Changing.{part_replaced, changed_bytes}
 use Rattle.carrying.proofs.Carried.{Carrier, carrier_good}
+use Rattle.carrying.proofs.Replaced.{length_replaced, below_replaced}
 use Rattle.carrying.proofs.Bytes as words
 
 -- a field that carries: bytes, or a prime
@@ -46,3 +48,37 @@ module _ (p : ℕ) (word : p < 65536) (good : carries_none p ≡ false) where
       by_kind
       (λ e. rw (e, symbols_one s) low)
       (λ e carrier. rw (e, lt-leb p 256 (omega (arith, carrier.large))) (words.words_carried_below p carrier s low))
+
+  -- bytes that are changed: as many symbols, symbols, and what is read
+  pub record ChangedBytes (n at : ℕ) (bs s : List ℕ) : Type 0 where
+    pub size : length (changed_bytes p at bs s) ≡ length s
+    pub below : all_below (size_of p) (symbols_of (bytes_for p) (changed_bytes p at bs s)) ≡ true
+    pub back : bytes_back p n (changed_bytes p at bs s) ≡ part_replaced at bs (bytes_back p n s)
+
+  module _ (n at : ℕ) (bs s : List ℕ) (bytes : all_below 256 bs ≡ true) (inside : at + length bs ≤ n) where
+    of_bytes : eqb p 0 ≡ true → length s ≡ carried_length p n → all_below (size_of p) (symbols_of (bytes_for p) s) ≡ true → ChangedBytes n at bs s
+    unfolding changed_bytes bytes_back carried_length bytes_for size_of
+    of_bytes e long low =
+        let same : length s ≡ n = rw e at long in
+        let byte : all_below 256 s ≡ true = rw (e, symbols_one s) at low in
+        record {
+          size = rw e (length_replaced at bs s (omega (arith, same)));
+          below = rw (e, symbols_one (part_replaced at bs s)) (below_replaced 256 at bs s bytes byte);
+          back = rw e;
+        }
+
+    of_prime : eqb p 0 ≡ false → Carrier p → length s ≡ carried_length p n → all_below (size_of p) (symbols_of (bytes_for p) s) ≡ true → ChangedBytes n at bs s
+    unfolding changed_bytes bytes_back carried_length bytes_for size_of
+    of_prime e carrier long low =
+        let two = lt-leb p 256 (omega (arith, carrier.large)) in
+        let same : length s ≡ words_length p n = rw e at long in
+        let good : all_below p (symbols_of 2 s) ≡ true = rw (e, two) at low in
+        let changed = words.words_changed p carrier n at bs s bytes inside same good in
+        record {
+          size = rw e changed.size;
+          below = rw (e, two) changed.below;
+          back = rw e changed.back;
+        }
+
+    pub changed_bytes_lem : length s ≡ carried_length p n → all_below (size_of p) (symbols_of (bytes_for p) s) ≡ true → ChangedBytes n at bs s
+    changed_bytes_lem long low = by_kind (λ e. of_bytes e long low) (λ e carrier. of_prime e carrier long low)

@@ -10,10 +10,13 @@ use Rattle.lists.specs.Numbers.{all_below}
 use Rattle.lists.specs.Padded.{padded}
 use Rattle.lists.proofs.Padding.{length_padded, take_padded, below_padded}
 use Rattle.layout.specs.Width.{symbols_of, bytes_of}
-use Rattle.layout.proofs.Widths.{length_bytes, symbols_bytes}
+use Rattle.layout.proofs.Widths.{length_symbols, length_bytes, symbols_bytes}
 use Rattle.layout.proofs.Readings.{count_symbols, symbols_below, bytes_symbols}
 use Rattle.carrying.specs.Groups.{group_count}
 use Rattle.carrying.specs.Carrying.{group_words, word_count, words_of, carried_symbols, words_back, carried_words, word_bytes_back, words_length}
+use Rattle.carrying.specs.Changing.{part_replaced, changed_symbols}
+use Rattle.carrying.proofs.Replaced.{front_replaced}
+use Rattle.carrying.proofs.Changing.{changed_lem}
 use Rattle.carrying.proofs.Carried as symbols
 use Rattle.carrying.proofs.Carried.{Carrier}
 
@@ -87,3 +90,24 @@ module _ (p : ℕ) (carrier : Carrier p) where
   pub length_back : (n : ℕ) (s : List ℕ) → length s ≡ words_length p n → length (word_bytes_back p n s) ≡ n
   unfolding word_bytes_back
   length_back n s long = length-take-le n (bytes_of 2 (words_back p (symbols_of 2 s))) (omega (arith, length_read n s long, words_enough n))
+
+  -- bytes that are changed in the symbols of n bytes: as many, symbols, and what is read
+  pub record WordsChanged (n at : ℕ) (bs s : List ℕ) : Type 0 where
+    pub size : length (bytes_of 2 (changed_symbols p at bs (symbols_of 2 s))) ≡ length s
+    pub below : all_below p (symbols_of 2 (bytes_of 2 (changed_symbols p at bs (symbols_of 2 s)))) ≡ true
+    pub back : word_bytes_back p n (bytes_of 2 (changed_symbols p at bs (symbols_of 2 s))) ≡ part_replaced at bs (word_bytes_back p n s)
+
+  pub words_changed : (n at : ℕ) (bs s : List ℕ) → all_below 256 bs ≡ true → at + length bs ≤ n → length s ≡ words_length p n → all_below p (symbols_of 2 s) ≡ true → WordsChanged n at bs s
+  unfolding word_bytes_back words_length
+  words_changed n at bs s bytes inside long low =
+      let xs = symbols_of 2 s in
+      let whole = bytes_of 2 (words_back p xs) in
+      let read = length_read n s long in
+      let all : n ≤ length whole = omega (arith, read, words_enough n) in
+      let again = symbols_bytes 2 (changed_symbols p at bs xs) (omega arith) in
+      let changed = changed_lem p carrier xs at bs bytes low (omega (arith, length_bytes 2 (words_back p xs), all)) in
+      record {
+        size = length_bytes 2 (changed_symbols p at bs xs) ∙ omega (arith, changed.size, length_symbols 2 s, long);
+        below = rw again changed.below;
+        back = ap (λ (ys : List ℕ). take n (bytes_of 2 (words_back p ys))) again ∙ ap (take n) changed.back ∙ front_replaced n at bs whole inside all;
+      }

@@ -8,8 +8,9 @@ use native.Mathlib.Omega.{arith}
 use borrow.Author.Tests.{leb-true, leb-false, ltb-false, ne_eqb}
 use lib.Bits.{bit_xor}
 use lib.Dec.{leb, ltb}
-use lib.ListN.{length, take, drop, length-append, length-drop, drop_of_length-le, take-append-drop, length-map}
+use lib.ListN.{length, get_or, take, drop, length-append, length-drop, drop_of_length-le, take-append-drop, length-map}
 use lib.Seq.{take_all, length-take-le, take_at, drop_at}
+use Rattle.std.proofs.lemmas.List.{get_or-map}
 use Rattle.lists.specs.Numbers.{all_below}
 use Rattle.lists.specs.Padded.{zeros}
 use Rattle.lists.proofs.Cases.{by_test}
@@ -55,6 +56,11 @@ carrier_good p e some word = is_carrier p (ltb-false p 34816 (ap (λ (b : Bool).
 pub length_masked : (c : ℕ) (ws : List ℕ) → length (masked c ws) ≡ length ws
 unfolding masked
 length_masked c ws = length-map ws (λ w. bit_xor w c)
+
+-- a word under a mask
+pub masked_at : (c : ℕ) (ws : List ℕ) (i : ℕ) → i < length ws → get_or (masked c ws) i 0 ≡ bit_xor (get_or ws i 0) c
+unfolding masked
+masked_at c ws i h = get_or-map (λ w. bit_xor w c) ws i 0 0 h
 
 pub masked_twice : (c : ℕ) (ws : List ℕ) → masked c (masked c ws) ≡ ws
 unfolding masked

@@ -1,7 +1,8 @@
 // Calls that carry bytes in symbols, and the one that gives a record for n nodes of which k are needed.
+use crate::shares::lend;
 use balanced::Refusal;
 use std::alloc::{AllocError, Global};
-use test_calls::{Refused, last_buffer, turned_away, written};
+use test_calls::{Refused, done, last_buffer, turned_away, written};
 use test_tools::{List, MARK, untouched};
 use test_words::{Fault, Words};
 
@@ -32,6 +33,18 @@ pub fn carry<F: FnOnce(&[u8], &[u8], &mut [u8]) -> Result<(), Refusal>>(
     let record = words.record()?;
     let given = words.bytes(word)?;
     written(words, MARK, |out| call(&record, &given, out))
+}
+
+// Bytes changed where symbols carry them.
+pub fn carry_change(words: &mut Words) -> Result<String, Fault> {
+    let record = words.record()?;
+    let count = words.number("count")?;
+    let at = words.number("at")?;
+    let bytes = words.bytes("bytes")?;
+    let (answer, after, kept) = lend(words, "symbols", |symbols| {
+        balanced::carry_change(&record, count as usize, at as usize, &bytes, symbols)
+    })?;
+    done(words.alloc(), answer, &after, kept)
 }
 
 // How many bytes the record has, and the room with it in front; or what turned the call away and whether every byte is as it was.

@@ -40,6 +40,7 @@ pub fn call(alloc: Global, line: &str, roster: &mut Roster) -> Result<String, Fa
         "carried_len" => bytes::carried_len(words),
         "carry_in" => bytes::carry(words, "bytes", balanced::carry_in),
         "carry_out" => bytes::carry(words, "symbols", balanced::carry_out),
+        "carry_change" => bytes::carry_change(words),
         "choose" => bytes::choose(words),
         _ => Err(Fault::UnknownCall),
     }

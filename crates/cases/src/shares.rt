@@ -13,15 +13,17 @@ fn last_shares(words: &mut Words) -> Result<Vec<u8>, Fault> {
     Ok(shares)
 }
 
-// Lends the shares of the last word to a call that may change them: its answer, the shares afterwards, and whether they are as they were.
-// A struct of these three would be made here and taken apart at once in both callers, `let Lent { answer, after, kept } = lend(words, call)?`.
-fn lend<T: Copy, F: FnOnce(&mut [u8]) -> Result<T, Refusal>>(
+// Lends what the last word gives, shares or symbols, to a call that may change it: its answer, the bytes afterwards, and whether they are as they were.
+// A struct of these three would be made here and taken apart at once in both callers, `let Lent { answer, after, kept } = lend(words, word, call)?`.
+pub fn lend<T: Copy, F: FnOnce(&mut [u8]) -> Result<T, Refusal>>(
     words: &mut Words,
+    word: &'static str,
     call: F,
 ) -> Result<(Result<T, Refusal>, Vec<u8>, bool), Fault>
     requires { F.IsAlwaysCallable call }
 {
-    let before = last_shares(words)?;
+    let before = words.bytes(word)?;
+    words.end()?;
     let mut after = before.clone()?;
     let answer = call(&mut after);
     let kept = after == before;
@@ -35,7 +37,7 @@ fn altered<F: FnOnce(&mut [u8]) -> Result<u32, Refusal>>(
 ) -> Result<String, Fault>
     requires { F.IsAlwaysCallable call }
 {
-    let (answer, after, kept) = lend(words, call)?;
+    let (answer, after, kept) = lend(words, "shares", call)?;
     match answer {
         Ok(count) => Ok(format!(in words.alloc(); "altered {count} shares{}", List(&after))?),
         Err(refusal) => turned_away(words.alloc(), refusal, kept),
@@ -80,7 +82,7 @@ pub fn belongs(words: &mut Words) -> Result<String, Fault> {
 pub fn add_share(words: &mut Words) -> Result<String, Fault> {
     let (record, lanes) = block(words)?;
     let difference = words.bytes("symbols")?;
-    let (answer, after, kept) = lend(words, |share| {
+    let (answer, after, kept) = lend(words, "shares", |share| {
         balanced::add_share(&record, lanes, &difference, share)
     })?;
     done(words.alloc(), answer, &after, kept)

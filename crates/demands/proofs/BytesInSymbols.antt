@@ -10,7 +10,8 @@ use Prim.Native.Nat.{ℕ, suc, ◌+◌, ◌≤◌, ◌<◌}
 use native.Mathlib.Omega.{arith}
 use borrow.Author.Tests.{ne_eqb}
 use lib.Dec.{eqb, ltb}
-use lib.ListN.{length, take, drop}
+use lib.ListN.{length, set, take, drop}
+use Rattle.layout.specs.Width.{symbols_of}
 use Rattle.std.proofs.lemmas.Bool.{and_parts, and_from}
 use Rattle.lists.specs.Numbers.{all_below}
 use Rattle.generator.specs.declared.Header.{Header}
@@ -21,16 +22,18 @@ use Rattle.refusals.specs.Faults.{fault_of}
 use Rattle.encode.specs.Promise.{EncodeSays}
 use Rattle.recover.specs.Promise.{RecoverSays}
 use Rattle.carrying.specs.Groups.{group_count}
-use Rattle.carrying.specs.Carrying.{carries_none, group_words, word_count, words_length, carried_length}
-use Rattle.carry.specs.Promise.{long_bad, carried_len_fault, carry_in_fault, carry_out_fault, CarriedLenSays, CarryInSays, CarryOutSays}
-use Rattle.carry.proofs.Back.{carries}
+use Rattle.lists.specs.Choice.{pick}
+use Rattle.carrying.specs.Carrying.{carries_none, group_words, word_count, words_length, bytes_back, carried_length}
+use Rattle.carrying.specs.Changing.{part_replaced}
+use Rattle.carry.specs.Promise.{long_bad, carried_len_fault, part_bad, carry_in_fault, carry_out_fault, carry_change_fault, CarriedLenSays, CarryInSays, CarryOutSays, CarryChangeSays}
+use Rattle.carry.proofs.Back.{carries, carries_changed, one_changed}
 use Rattle.choose.specs.Promise.{chosen_record, asked_bad, choose_fault, ChooseSays, ChosenWell}
 use Rattle.choose.proofs.Accepted.{chosen_well}
-use Rattle.balanced_c.specs.BytesCarried.{CarriedLenGives, CarryInGives, CarryOutGives, ChooseGives}
+use Rattle.balanced_c.specs.BytesCarried.{CarriedLenGives, CarryInGives, CarryOutGives, CarryChangeGives, ChooseGives}
 use Rattle.demands.specs.Judging.{Table, Met, Judged, Returns}
 use Rattle.demands.specs.Numbers.{record_numbers, OtherSymbols}
 use Rattle.demands.specs.RoundTrips.{cut_of}
-use Rattle.demands.specs.BytesInSymbols.{CarriesNone, unless, length_for, carried_len_numbers, carry_in_numbers, carry_out_numbers, choose_numbers, BytesInSymbols}
+use Rattle.demands.specs.BytesInSymbols.{CarriesNone, unless, length_for, carried_len_numbers, carry_in_numbers, carry_out_numbers, carry_change_numbers, word_place, symbol_then, choose_numbers, BytesInSymbols}
 use Rattle.demands.proofs.Judging.{Tells, line, last, then, by_number}
 use Rattle.demands.proofs.Conditions.{equal_test, less_test, other_test, or_test}
 use Rattle.demands.proofs.Numbers.{length_means, symbols_mean, own_after}
@@ -124,6 +127,22 @@ module _ (h : Header) where
       (λ _. last 10 (symbols_bad h symbols) (symbols_mean h symbols))
       ))
 
+  part_means : (n at count : ℕ) → (part_bad n at count ≡ true) ↔ (n < at + count)
+  unfolding part_bad
+  part_means n at count = less_test n (at + count)
+
+  change_tells : (n at count : ℕ) (symbols : List ℕ) → Tells (carry_change_numbers h n at count symbols) (carry_change_fault h n at count symbols)
+  unfolding carried_len_fault carry_in_fault carry_change_fault
+  change_tells n at count symbols =
+      first_asked (CarriesNone h) 17 none ((8, 4611686018427387904 < n) ∷ (8, length symbols ≢ length_for (modulus_of h) n) ∷ (9, n < at + count) ∷ (11, OtherSymbols h symbols) ∷ []) none_means
+      (λ e. rw e refl)
+      (λ e. rw e (
+      then 8 ((8, 4611686018427387904 < n) ∷ (8, length symbols ≢ length_for (modulus_of h) n) ∷ []) ((9, n < at + count) ∷ (11, OtherSymbols h symbols) ∷ []) refl refl
+      (line 7 (long_bad n) refl (long_means n)
+      (λ _. last 7 (length_bad (carried_length (modulus_of h) n) (length symbols)) (fits_means n (length symbols))))
+      (λ _. line 8 (part_bad n at count) refl (part_means n at count) (λ _. last 10 (symbols_bad h symbols) (symbols_mean h symbols)))
+      ))
+
 -- those of a record for n and k
 asked_means : (n k : ℕ) → (asked_bad n k ≡ true) ↔ ((((n < 2) ⊎ (255 < n)) ⊎ (k ≡ 0)) ⊎ (n < k))
 unfolding asked_bad
@@ -173,6 +192,33 @@ module _ (rec : List ℕ) where
     out_returns : (r : ℕ) → CarryOutGives rec symbols out out' r → Judged (record_numbers rec ++ carry_out_numbers hd symbols (length out)) (Returns r) (out' ≡ out)
     out_returns r g = by_number g.number out_number (λ some. rw (← g.number, ne_eqb r 0 some) at g.says.promise.written)
 
+  module _ (n at : ℕ) (bytes symbols symbols' : List ℕ) where
+    change_number : Tells (record_numbers rec ++ carry_change_numbers hd n at (length bytes) symbols) (fault_of rec (λ h. carry_change_fault h n at (length bytes) symbols))
+    change_number = own_after rec _ (λ h. carry_change_fault h n at (length bytes) symbols) refl (λ none. change_tells hd n at (length bytes) symbols)
+
+    change_judged : (r : Answer (Unit {0})) → CarryChangeSays rec n at bytes symbols symbols' r → Judged (record_numbers rec ++ carry_change_numbers hd n at (length bytes) symbols) (λ f. r ≡ Err f) (symbols' ≡ symbols)
+    change_judged r says = by_outcome _ change_number says.promise.answered (λ some. rw (ne_eqb _ 0 some) at says.promise.written)
+
+    change_returns : (r : ℕ) → CarryChangeGives rec n at bytes symbols symbols' r → Judged (record_numbers rec ++ carry_change_numbers hd n at (length bytes) symbols) (Returns r) (symbols' ≡ symbols)
+    change_returns r g = by_number g.number change_number (λ some. rw (← g.number, ne_eqb r 0 some) at g.says.promise.written)
+
+    -- what was changed
+    module _ (low : all_below 256 bytes ≡ true) (says : CarryChangeSays rec n at bytes symbols symbols' (Ok tt)) where
+      changed_symbols : (OtherSymbols hd symbols' → ⊥) × (length symbols' ≡ length symbols)
+      changed_symbols =
+          let after = carries_changed rec n at bytes symbols symbols' low says in (λ other. true≢false (sym ((symbols_mean hd symbols').1 other) ∙ after.symbols_good), after.as_many)
+
+      changed_back : (before before' room room' : List ℕ) (r : Answer (Unit {0})) → length before ≡ n → CarryOutSays rec symbols before before' (Ok tt) → length room ≡ n → CarryOutSays rec symbols' room room' r
+          → (r ≡ Ok tt) × (room' ≡ take at before' ++ (bytes ++ drop (length bytes) (drop at before')))
+      unfolding part_replaced
+      changed_back before before' room room' r many first fits second =
+          let p = modulus_of hd in
+          let zero = done_is _ _ first.promise.answered in
+          let was : before' ≡ bytes_back p n symbols =
+          first.promise.written ∙ ap (λ (f : ℕ). pick (eqb f 0) (bytes_back p (length before) symbols) before) zero ∙ ap (λ (m : ℕ). bytes_back p m symbols) many in
+          let (done, is) = (carries_changed rec n at bytes symbols symbols' low says).back room room' r fits second in
+          (done, is ∙ ap (part_replaced at bytes) (sym was))
+
   -- what was carried
   module _ (bytes out out' : List ℕ) (low : all_below 256 bytes ≡ true) (says : CarryInSays rec bytes out out' (Ok tt)) where
     symbols : OtherSymbols hd out' → ⊥
@@ -188,6 +234,12 @@ module _ (rec : List ℕ) where
       let whole = round_trips.recover rec l (symbols ++ rest) old shares nodes back back' message_low encoded recovering in
       let front : take (length symbols) back' ≡ symbols = ap (take (length symbols)) whole ∙ take-append_seam symbols rest in
       bytes_back bytes out symbols low carried room room' r fits (rw front at says)
+
+one_symbol : (rec : List ℕ) (n at b : ℕ) (symbols symbols' : List ℕ) → modulus_of (header_of rec) ≢ 0 → CarryChangeSays rec n at (b ∷ []) symbols symbols' (Ok tt)
+    → let p = modulus_of (header_of rec) in let xs = symbols_of 2 symbols in symbol_then p at b xs < p
+    → symbols_of 2 symbols' ≡ set xs (word_place p at) (symbol_then p at b xs)
+unfolding group_words
+one_symbol rec n at b symbols symbols' prime says good = one_changed rec n at b symbols symbols' prime says good
 
 module _ (n k : ℕ) where
   choose_judged : (out out' : List ℕ) (r : Answer ℕ) → ChooseSays n k out out' r → Judged (choose_numbers n k (length out)) (λ f. r ≡ Err f) (out' ≡ out)
@@ -213,14 +265,19 @@ bytes_in_symbols =
       length_judged = length_judged;
       in_judged = in_judged;
       out_judged = out_judged;
+      change_judged = change_judged;
       choose_judged = choose_judged;
       length_returns = length_returns;
       in_returns = in_returns;
       out_returns = out_returns;
+      change_returns = change_returns;
       choose_returns = choose_returns;
       lengths = lengths;
       symbols = λ rec bytes out out' low says. symbols rec bytes out out' low says;
       bytes_back = λ rec bytes out out' room room' r low says fits read. bytes_back rec bytes out out' low says room room' r fits read;
+      changed_symbols = λ rec n at bytes symbols symbols' low says. changed_symbols rec n at bytes symbols symbols' low says;
+      changed_back = λ rec n at bytes symbols symbols' before before' room room' r low says many first fits second. changed_back rec n at bytes symbols symbols' low says before before' room room' r many first fits second;
+      one_symbol = one_symbol;
       recovered = recovered;
       chosen = chosen;
     }

@@ -36,6 +36,15 @@ fn carry_out(record: &[u8], symbols: &[u8], before: &[u8]) -> u8 {
     got
 }
 
+fn carry_change(record: &[u8], count: usize, at: usize, new: &[u8], before: &[u8]) -> u8 {
+    let (expect, after) = expected(reference::carry_change(record, count, at, new, before), before.to_vec());
+    let mut symbols = Lent::new(before);
+    let (got, _) = number(balanced::carry_change(record, count, at, new, symbols.slice()));
+    assert_eq!(got, expect, "carry_change {record:?} {count} {at} {}", new.len());
+    assert!(symbols.holds(&after), "carry_change {record:?} {count} {at} {}", new.len());
+    got
+}
+
 /// The prime of a record of kind 3.
 fn prime_of(record: &[u8]) -> u32 {
     u32::from(record[1]) * 256 + u32::from(record[2])
@@ -111,6 +120,45 @@ fn every_n() {
         }
     }
     println!("{trips} trips of bytes over every number of nodes");
+}
+
+/// Every n once more with a change, of one byte and of a part: the bytes that are read afterwards, and how many symbols a byte changes.
+#[test]
+fn every_n_changed() {
+    let mut random = Random::new(96);
+    let (mut one, mut anew) = (0, 0);
+    for n in 2..=255 {
+        let plan = carrying(n, 1);
+        let some = 1 + random.below(2000);
+        let len = *random.pick(&[1, 2, 509, 510, 511, 512, 1021, some]);
+        let sorts = sorts(&mut random, plan.record(), len);
+        let mut symbols = vec![0; plan.carried_len(len).unwrap()];
+        let mut bytes = random.pick(&sorts).clone();
+        plan.carry_in(&bytes, &mut symbols).unwrap();
+        for turn in 0..6 {
+            let at = random.below(len);
+            let count = if turn < 4 { 1 } else { random.below(len - at + 1) };
+            let new = random.pick(&sorts)[at..at + count].to_vec();
+            assert_eq!(carry_change(plan.record(), len, at, &new, &symbols), 0);
+            let before = symbols.clone();
+            plan.carry_change(len, at, &new, &mut symbols).unwrap();
+            bytes[at..at + count].copy_from_slice(&new);
+            let mut back = vec![0; len];
+            plan.carry_out(&symbols, &mut back).unwrap();
+            assert!(back == bytes);
+            let w = plan.symbol_len();
+            let changed = before
+                .chunks(w)
+                .zip(symbols.chunks(w))
+                .filter(|(old, new)| old != new)
+                .count();
+            if count == 1 {
+                *if changed < 2 { &mut one } else { &mut anew } += 1;
+            }
+        }
+    }
+    assert!(one > 0 && anew > 0, "{one} {anew}");
+    println!("a byte changed one symbol or none {one} times, a group {anew} times");
 }
 
 /// The message from k random nodes, block by block of at most 4,096 lanes.
@@ -258,7 +306,7 @@ fn chosen() {
 fn damaged() {
     let mut random = Random::new(95);
     let (shapes, carriers): (_, Vec<Plan>) = (shapes(20), (2..22).map(|n| carrying(n, 1)).collect());
-    let mut seen = [[0; 19]; 3];
+    let mut seen = [[0; 19]; 4];
     for _ in 0..20_000 {
         // records of every kind, most of which carry no bytes
         let shape = random.pick(&shapes);
@@ -282,10 +330,16 @@ fn damaged() {
         seen[0][carried_len(&record, len) as usize] += 1;
         seen[1][carry_in(&record, &bytes, &symbols) as usize] += 1;
         seen[2][carry_out(&record, &symbols, &bytes) as usize] += 1;
+        let (near, few, many) = (random.below(700), random.below(9), random.below(900));
+        let at = *random.pick(&[0, 0, near, len, usize::MAX]);
+        let count = *random.pick(&[0, 1, few, many]);
+        let new = random.bytes(count);
+        seen[3][carry_change(&record, len, at, &new, &symbols) as usize] += 1;
     }
     damage::judge("carried_len", &seen[0], &[0, 1, 2, 3, 4, 5, 8, 18]);
     damage::judge("carry_in", &seen[1], &[0, 1, 2, 3, 4, 5, 8, 18]);
     damage::judge("carry_out", &seen[2], &[0, 1, 2, 3, 4, 5, 8, 11, 18]);
+    damage::judge("carry_change", &seen[3], &[0, 1, 2, 3, 4, 5, 8, 9, 11, 18]);
 }
 
 /// A mask of the reference serves, and is the one that the words leave: tried by hand.

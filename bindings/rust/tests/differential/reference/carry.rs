@@ -83,3 +83,47 @@ pub fn carry_out(record: &[u8], symbols: &[u8], out: usize) -> Result<Vec<u8>, u
     bytes.truncate(out);
     Ok(bytes)
 }
+
+/// Bytes changed one by one in the words; then each group that holds one of them is written, under its mask if that still serves.
+pub fn carry_change(record: &[u8], count: usize, at: usize, new: &[u8], symbols: &[u8]) -> Result<Vec<u8>, u8> {
+    if carried_len(record, count)? != symbols.len() {
+        return Err(8);
+    }
+    if at.checked_add(new.len()).is_none_or(|end| end > count) {
+        return Err(9);
+    }
+    let code = Code::of(record)?;
+    let p = carrier(&code)?;
+    if p == 0 {
+        let mut after = symbols.to_vec();
+        new.iter().zip(at..).for_each(|(&byte, place)| after[place] = byte);
+        return Ok(after);
+    }
+    let mut symbols = code.symbols(symbols);
+    code.symbols_fault(&symbols)?;
+    let size = group_words(p);
+    for (i, group) in symbols.chunks_mut(size + 1).enumerate() {
+        let mut words: Vec<u16> = group[1..].iter().map(|symbol| symbol ^ group[0]).collect();
+        let mut touched = false;
+        for (j, word) in words.iter_mut().enumerate() {
+            for half in 0..2 {
+                let place = (i * size + j) * 2 + half;
+                if (at..at + new.len()).contains(&place) {
+                    let mut bytes = word.to_be_bytes();
+                    bytes[half] = new[place - at];
+                    (*word, touched) = (u16::from_be_bytes(bytes), true);
+                }
+            }
+        }
+        if touched {
+            let kept = words.iter().all(|word| u32::from(word ^ group[0]) < p);
+            let mask = if kept { group[0] } else { mask_of(p, &words) };
+            group[0] = mask;
+            group[1..]
+                .iter_mut()
+                .zip(&words)
+                .for_each(|(symbol, word)| *symbol = word ^ mask);
+        }
+    }
+    Ok(symbols.iter().flat_map(|symbol| symbol.to_be_bytes()).collect())
+}

@@ -10,7 +10,7 @@ mod nearest;
 mod repair;
 mod roster;
 
-pub use carry::{carried_len, carry_in, carry_out, mask_of};
+pub use carry::{carried_len, carry_change, carry_in, carry_out, mask_of};
 pub use code::{bytes_of, width, Code};
 pub use differences::{add_share, differences};
 pub use field::{is_prime, Field};

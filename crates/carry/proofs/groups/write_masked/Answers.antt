@@ -8,8 +8,7 @@ use Rattle.layout.specs.Width.{symbol_bytes}
 use Rattle.layout.proofs.Widths.{length_symbol}
 use Rattle.symbols.proofs.Written.{bytes_next, bytes_none}
 use Rattle.carrying.specs.Masks.{masked}
-use Rattle.carrying.proofs.Carried.{length_masked}
-use Rattle.carry.proofs.Words.{masked_at}
+use Rattle.carrying.proofs.Carried.{length_masked, masked_at}
 use Rattle.carry.proofs.groups.write_masked.Goals as goal
 
 pub loop-i-preserved : goal.loop-i-preserved
